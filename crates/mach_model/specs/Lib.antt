@@ -1,0 +1,17 @@
+pub mod State
+pub mod SentMeans
+pub mod ReceivedMeans
+pub mod NotYet
+pub mod CopyIn
+pub mod CopyOut
+pub mod Dying
+pub mod Notices
+pub mod Settles
+pub mod Making
+pub mod Status
+pub mod Sending
+pub mod Receiving
+pub mod Refusals
+pub mod Machine
+pub mod Carried
+pub mod Lawful

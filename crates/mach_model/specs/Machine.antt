@@ -1,0 +1,59 @@
+-- The machine: what each event may be answered, and the states before and after; runs.
+use Rattle.std.specs.Prelude.{◌≡◌, ℕ, ◌+◌, ◌⊎◌, List, [], ◌∷◌, map}
+use Rattle.mach_types.specs.declared.calls.Event.{Event}
+use Rattle.mach_types.specs.declared.calls.Reply.{Reply}
+use Rattle.mach_types.specs.declared.calls.Waited.{Waited}
+use Rattle.mach_types.specs.Guards.{NoneHolds}
+use Rattle.mach_model.specs.State.{State, opening, IsFresh}
+use Rattle.mach_model.specs.Making.{CreatesTask, AllocatesPort}
+use Rattle.mach_model.specs.Status.{TellsStatus}
+use Rattle.mach_model.specs.Sending.{Sends}
+use Rattle.mach_model.specs.Receiving.{Owed, waits_for, Receipt}
+use Rattle.mach_model.specs.Settles.{Settles}
+use Rattle.mach_model.specs.Refusals.{Refuses, guards}
+
+-- What an event that isn't refused does, up to the death of ports.
+abbrev pub Does : (now : ℕ) → State → Event → Reply → State → Owed → Type 0
+Does now old Event.TaskCreate (Reply.Task task) mid owed = CreatesTask old task mid × (owed ≡ [])
+Does now old (Event.Allocate task right) (Reply.Name name) mid owed = IsFresh (old.naming task) name × AllocatesPort task name old mid × (owed ≡ [])
+Does now old (Event.ReceiveStatus task name) (Reply.Status status) mid owed = TellsStatus old task name status × (mid ≡ old) × (owed ≡ [])
+Does now old (Event.Send task bytes) (Reply.Code code) mid owed = (code ≡ 0) × Sends now task bytes old mid × (owed ≡ [])
+Does now old (Event.Receive task name room large) reply mid owed =
+    (waited : Waited) × waits_for task name old waited × Receipt old task waited room large reply mid owed
+Does now old event reply mid owed = ⊥
+
+pub record Refused (old : State) (event : Event) (reply : Reply) (new : State) : Type 0 where
+  pub code : ℕ
+  pub told : reply ≡ Reply.Code code
+  pub refuses : Refuses old event code
+  pub same : new ≡ old
+
+pub record Done (now : ℕ) (old : State) (event : Event) (reply : Reply) (new : State) : Type 0 where
+  pub unrefused : NoneHolds (guards old event)
+  pub mid : State
+  pub owed : Owed
+  pub does : Does now old event reply mid owed
+  pub settles : Settles now old mid owed new
+
+-- Step number now: from the old state the event may be answered so, and leads to the new state.
+abbrev pub Step : (now : ℕ) → State → Event → Reply → State → Type 0
+Step now old event reply new = Refused old event reply new ⊎ Done now old event reply new
+
+abbrev pub RunFrom : (now : ℕ) → State → List Event → List Reply → State → Type 0
+RunFrom now old [] [] new = new ≡ old
+RunFrom now old (e ∷ es) (r ∷ rs) new = (mid : State) × Step now old e r mid × RunFrom (now + 1) mid es rs new
+RunFrom now old [] (r ∷ rs) new = ⊥
+RunFrom now old (e ∷ es) [] new = ⊥
+
+-- These replies to these events lead from nothing to this state.
+abbrev pub Run : List Event → List Reply → State → Type 0
+Run events replies new = RunFrom 0 opening events replies new
+
+-- A call as it was recorded.
+pub record Entered : Type 0 where
+  pub caller : ℕ
+  pub event : Event
+  pub reply : Reply
+
+abbrev pub IsLegal : List Entered → Type 0
+IsLegal history = (new : State) × Run (map (λ x. x.event) history) (map (λ x. x.reply) history) new

@@ -1,0 +1,7 @@
+pub mod Tokens
+pub mod Messages
+pub mod Numbers
+pub mod Grammar
+pub mod Guards
+pub mod NotYet
+pub mod TextGuards

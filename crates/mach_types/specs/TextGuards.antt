@@ -1,0 +1,82 @@
+-- Which texts are no messages, and the code that says so. The whole text is judged before any right.
+use Rattle.std.specs.Prelude.{◌≡◌, ◌≢◌, ℕ, ◌+◌, ◌*◌, ◌/◌, ◌%◌, ◌^◌, ◌<◌, ◌≤◌, ◌⊎◌, List, [], ◌∷◌, ◌++◌, length, slice_index, All}
+use Rattle.mach_types.specs.Numbers.{most_bytes, msg_number}
+use Rattle.mach_types.specs.declared.codes.MsgReturn.TheVariants.{SendMsgTooSmall, SendInvalidData, SendInvalidHeader, SendInvalidType}
+use Rattle.mach_types.specs.Grammar.{Wire, wires_text, IsWire, NamesPorts}
+use Rattle.mach_types.specs.Guards.{Guards, FirstIs}
+use Rattle.mach_types.specs.NotYet.{IsNotYetBody}
+
+-- the little-endian word at an offset
+abbrev pub word_at : List ℕ → ℕ → ℕ
+word_at bytes i = slice_index bytes i + slice_index bytes (i + 1) * 2 ^ 8 + slice_index bytes (i + 2) * 2 ^ 16 + slice_index bytes (i + 3) * 2 ^ 24
+
+abbrev pub is_bit : ℕ → ℕ → Type 0
+is_bit n k = n / 2 ^ k % 2 ≡ 1
+
+-- The dispositions by which a message may be sent, or answered.
+abbrev pub IsSendable : ℕ → Type 0
+IsSendable disposition = (17 ≤ disposition) × (disposition ≤ 21)
+
+-- bits and local word of a header that no message has
+abbrev pub BadHeader : (bits local : ℕ) → Type 0
+BadHeader bits local =
+    (bits / 2 ^ 16 % 2 ^ 15 ≢ 0)
+    ⊎ ¬ (IsSendable (bits % 2 ^ 8))
+    ⊎ (bits / 2 ^ 8 % 2 ^ 8 ≢ 0) × ¬ (IsSendable (bits / 2 ^ 8 % 2 ^ 8))
+    ⊎ (bits / 2 ^ 8 % 2 ^ 8 ≡ 0) × (local ≢ 0)
+
+abbrev pub header_guards : List ℕ → Guards
+header_guards bytes =
+    ((length bytes < 24) ⊎ (length bytes % 4 ≢ 0), msg_number SendMsgTooSmall)
+    ∷ (most_bytes < length bytes, msg_number SendInvalidData)
+    ∷ (BadHeader (word_at bytes 0) (word_at bytes 12), msg_number SendInvalidHeader)
+    ∷ []
+
+-- A descriptor at the front of these bytes: its fields are those of the first word, or of the two after it.
+abbrev pub DescriptorFields : (bytes : List ℕ) → (name size number : ℕ) → Type 0
+DescriptorFields bytes name size number =
+    (¬ (is_bit (word_at bytes 0) 29) × (name ≡ word_at bytes 0 % 2 ^ 8) × (size ≡ word_at bytes 0 / 2 ^ 8 % 2 ^ 8) × (number ≡ word_at bytes 0 / 2 ^ 16 % 2 ^ 12))
+    ⊎ (is_bit (word_at bytes 0) 29 × (name ≡ word_at bytes 4 % 2 ^ 16) × (size ≡ word_at bytes 4 / 2 ^ 16) × (number ≡ word_at bytes 8))
+
+-- how long the descriptor at the front of these bytes is
+abbrev pub IsDescriptorLength : (bytes : List ℕ) → ℕ → Type 0
+IsDescriptorLength bytes n = (is_bit (word_at bytes 0) 29 → n ≡ 12) × (¬ (is_bit (word_at bytes 0) 29) → n ≡ 4)
+
+-- Data of so many bits, padded to whole bytes.
+abbrev pub data_length : (size number : ℕ) → ℕ
+data_length size number = (number * size + 7) / 8
+
+abbrev pub descriptor_guards : (bytes : List ℕ) → (name size number : ℕ) → Guards
+descriptor_guards bytes name size number =
+    (is_bit (word_at bytes 0) 29 × (length bytes < 12), msg_number SendMsgTooSmall)
+    ∷ (
+      (¬ (is_bit (word_at bytes 0) 28) ⊎ is_bit (word_at bytes 0) 30 ⊎ is_bit (word_at bytes 0) 31
+          ⊎ (is_bit (word_at bytes 0) 29 × (word_at bytes 0 % 2 ^ 28 ≢ 0))
+          ⊎ (NamesPorts name × (size ≢ 32)) ⊎ (2 ^ 8 ≤ name)),
+      msg_number SendInvalidType,
+    )
+    ∷ []
+
+-- the descriptor's data ends within these bytes, or doesn't
+abbrev pub item_guards : (bytes : List ℕ) → (name size number before : ℕ) → Guards
+item_guards bytes name size number before =
+    descriptor_guards bytes name size number ++ (length bytes < before + data_length size number, msg_number SendMsgTooSmall) ∷ []
+
+-- After some whole items comes one that is refused with this code.
+pub record ItemsRefuse (bytes : List ℕ) (code : ℕ) : Type 0 where
+  pub front : List Wire
+  pub rest : List ℕ
+  pub parts : bytes ≡ wires_text front ++ rest
+  pub front_fits : All IsWire front
+  pub more : 0 < length rest
+  pub name : ℕ
+  pub size : ℕ
+  pub number : ℕ
+  pub fields : DescriptorFields rest name size number
+  pub before : ℕ
+  pub before_is : IsDescriptorLength rest before
+  pub refused : FirstIs (item_guards rest name size number before) code
+
+-- The bytes are no message that the kernel takes, and this is the code that says so.
+abbrev pub text_guards : List ℕ → Guards
+text_guards bytes = header_guards bytes ++ (IsNotYetBody (word_at bytes 0), msg_number SendInvalidHeader) ∷ []

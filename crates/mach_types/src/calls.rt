@@ -1,0 +1,83 @@
+//! Calls of tasks and their answers.
+use crate::bytes::{Bytes, NameList, NameTypes};
+use crate::identities::{Name, PortId, SetId, TaskId};
+
+/// What a receive waited for, by identity: what a name stood for when the receive found no message.
+#[derive(Clone, Copy, Debug, PartialEq, Eq)]
+pub enum Waited {
+    /// One port.
+    Port(PortId),
+    /// The members of a port set.
+    Set(SetId),
+}
+
+/// The status of a receive right (Port Manipulation Interface, `mach_port_status_t`).
+#[derive(Clone, Copy, Debug, PartialEq, Eq)]
+pub struct Status {
+    /// The task's name of a set that the port is in, or 0.
+    pub set: Name,
+    /// The sequence number of the next message received, modulo 2^32.
+    pub sequence: u32,
+    /// How many send rights were made from the receive right, modulo 2^32.
+    pub make_send: u32,
+    /// The queue limit, 0 to 16.
+    pub limit: u32,
+    /// The messages queued.
+    pub queued: u32,
+    /// The port's send-once rights, anywhere.
+    pub send_once: u32,
+    /// 1 where the port has a send right anywhere, else 0.
+    pub has_send: u32,
+    /// 1 where a port-destroyed request stands, else 0.
+    pub port_destroyed: u32,
+    /// 1 where a no-senders request stands, else 0.
+    pub no_senders: u32,
+}
+
+/// One call of a task, with its arguments in the order in which a script writes them.
+#[derive(Drop)]
+pub enum Event {
+    /// Makes a task.
+    TaskCreate,
+    /// Makes a right of this number for the task, under a fresh name.
+    Allocate(TaskId, u32),
+    /// Asks for the status of the receive right under the name.
+    ReceiveStatus(TaskId, Name),
+    /// Sends the message.
+    Send(TaskId, Bytes),
+    /// Receives by the name, into so many bytes of room; whether a longer message is to stay.
+    Receive(TaskId, Name, u32, bool),
+}
+
+/// What the kernel answers.
+#[derive(Drop)]
+pub enum Reply {
+    /// A return code: of a kernel call, of a send or of a receive.
+    Code(u32),
+    /// The task made.
+    Task(TaskId),
+    /// The name given.
+    Name(Name),
+    /// How many references.
+    Refs(u32),
+    /// The type of a name.
+    NameType(u32),
+    /// The task's names with their types.
+    Names(NameTypes),
+    /// The status of a receive right.
+    Status(Status),
+    /// The names of a set's members.
+    Members(NameList),
+    /// A right's new name, and the number of its kind.
+    Right(Name, u8),
+    /// The right that a request kept before.
+    Previous(Name),
+    /// The bytes received.
+    Message(Bytes),
+    /// No message was there (`MACH_RCV_TIMED_OUT`); what was waited for.
+    Empty(Waited),
+    /// The message is longer than the room (`MACH_RCV_TOO_LARGE`); its length in bytes.
+    TooLarge(u32),
+    /// The call could not be recorded, and was not made.
+    NoRecord,
+}

@@ -1,0 +1,20 @@
+//! The numbers, names, codes, calls and answers of Mach 3 port IPC.
+//!
+//! What stands in `specs/` is what every other crate's contracts speak in: numbers (`Numbers`),
+//! rights as tokens (`Tokens`), messages as they lie in a queue (`Messages`), the texts of messages
+//! (`Grammar`) and the order of refusals (`Guards`, `TextGuards`).
+#![tactic(auto)]
+
+pub mod bits;
+pub mod bytes;
+pub mod calls;
+pub mod codes;
+pub mod identities;
+pub mod rights;
+
+pub use bits::{HeaderBits, Options};
+pub use bytes::{Bytes, NameList, NameTypes};
+pub use calls::{Event, Reply, Status, Waited};
+pub use codes::{KernReturn, MsgReturn};
+pub use identities::{Name, PortId, SetId, TaskId};
+pub use rights::{Disposition, Right};
