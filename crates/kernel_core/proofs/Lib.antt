@@ -1,0 +1,14 @@
+pub mod Gets
+pub mod Told
+pub mod PortChange
+pub mod Texts
+pub mod MessageSent
+pub mod Taking
+pub mod MessageTaken
+pub mod TaskMade
+pub mod PortMade
+pub mod Stepping
+pub mod AnswersMaking
+pub mod AnswersStatus
+pub mod AnswersSending
+pub mod AnswersReceiving

@@ -1,0 +1,4 @@
+pub mod View
+pub mod Shows
+pub mod Answers
+pub mod Steps

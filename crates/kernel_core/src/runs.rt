@@ -1,0 +1,27 @@
+//! Whole runs.
+ghost use Rattle.std.specs.Prelude.{IfOk};
+ghost use Rattle.mach_model.specs.State.{State};
+ghost use Rattle.mach_model.specs.Machine.{Run};
+ghost use Rattle.kernel_core.specs.View.{tables};
+ghost use Rattle.kernel_core.specs.Shows.{Shows};
+
+use crate::kernel::Kernel;
+use mach_types::{Event, Reply};
+use std::alloc::{AllocError, Global};
+
+/// Makes these calls on a new kernel, one after another, and gives the kernel that they leave with
+/// their answers in order.
+///
+/// An error means that memory for the list of answers was refused. Where a step is refused memory,
+/// that is its answer, and the run goes on.
+pub fn run(alloc: Global, events: Vec<Event>) -> Result<(Kernel, Vec<Reply>), AllocError>
+    ensures { IfOk result (λ done. (s : State) × Run events.items done.1.items s × Shows (tables done.0) s) }
+{
+    let mut kernel = Kernel::new(alloc);
+    let mut replies = Vec::new(alloc);
+    for event in &events {
+        let reply = kernel.step(event);
+        replies.push(reply)?;
+    }
+    Ok((kernel, replies))
+}

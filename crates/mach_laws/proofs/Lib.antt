@@ -1,0 +1,9 @@
+mod Meanings
+mod Receiving
+mod Apart
+mod Steps
+mod Walking
+mod Told
+mod Ordered
+mod First
+mod Answered

@@ -1,0 +1,5 @@
+pub mod Paths
+pub mod Sent
+pub mod Received
+pub mod Order
+pub mod FirstMessage
