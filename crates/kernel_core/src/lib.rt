@@ -7,6 +7,8 @@
 mod kernel;
 mod port;
 mod runs;
+#[cfg(test)]
+mod tests;
 
 pub use kernel::Kernel;
 pub use runs::run;

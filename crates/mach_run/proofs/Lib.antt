@@ -1,0 +1,4 @@
+pub mod NumberLemmas
+pub mod HexLemmas
+pub mod FieldLemmas
+pub mod CallLemmas

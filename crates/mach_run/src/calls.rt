@@ -1,0 +1,100 @@
+//! The text of calls.
+ghost use Rattle.std.specs.Prelude.{◌≡◌, ◌<◌, ◌^◌, ℕ, Bool, List, ◌++◌, All, IfOk, IsOkUnless, codes, decimal};
+ghost use Rattle.mach_types.specs.declared.calls.Event.{Event as AnyEvent};
+ghost use Rattle.mach_run.specs.Fields.{IsBehind, IsRead};
+ghost use Rattle.mach_run.specs.Text.{Fits, field, bytes_text, flag_text, call_word, call_arguments, call_text};
+ghost use Rattle.mach_run.specs.declared.calls.CallFault.TheVariants.{OutOfMemory};
+
+use crate::fields::Fields;
+use mach_types::Event;
+use std::alloc::{AllocFailed, Global};
+
+/// Why the text of a call was not read.
+#[derive(Clone, Copy, Debug, PartialEq, Eq)]
+pub enum CallFault {
+    /// It is the text of no call.
+    Bad,
+    /// Memory was refused.
+    OutOfMemory,
+}
+
+impl<T: Drop> From<AllocFailed<T>> for CallFault {
+    ghost from_gives = { λ _ fault. fault ≡ OutOfMemory };
+
+    fn from(_error: AllocFailed<T>) -> CallFault {
+        CallFault::OutOfMemory
+    }
+}
+
+/// The call that the text says: the call's word, and its arguments, each after one space.
+///
+/// `Bad` comes where the text is that of no call, `OutOfMemory` where memory for a message is
+/// refused. Time and memory grow with the length of the text.
+pub fn read_call(alloc: Global, text: &[u8]) -> Result<Event, CallFault>
+    ensures ok { IfOk result (λ event. call_text event ≡ text.now) }
+    ensures each { (event : AnyEvent) → Fits event → call_text event ≡ text.now → IsOkUnless result CallFault.OutOfMemory }
+{
+    let (word, mut fields) = Fields::split(text);
+    let event = read_arguments(alloc, word, &mut fields)?;
+    fields.end()?;
+    Ok(event)
+}
+
+/// The call of this word, with its arguments from `fields`. Faults are as for [`read_call`].
+fn read_arguments(alloc: Global, word: &[u8], fields: &mut Fields<'_>) -> Result<Event, CallFault>
+    ensures word { IfOk result (λ event. call_word event ≡ word.now) }
+    ensures arguments { IfOk result (λ event. call_arguments event ++ fields.new ≡ fields.old) }
+    ensures read { (event : AnyEvent) (behind : List ℕ) → Fits event → IsBehind behind → call_word event ≡ word.now
+        → call_arguments event ++ behind ≡ fields.old → IsRead result fields.new behind }
+{
+    match word {
+        b"task" => Ok(Event::TaskCreate),
+        b"alloc" => read_alloc(fields),
+        b"status" => read_status(fields),
+        b"send" => read_send(alloc, fields),
+        b"recv" => read_recv(fields),
+        _ => Err(CallFault::Bad),
+    }
+}
+
+/// The arguments of `alloc`: a task and the number of a right.
+fn read_alloc(fields: &mut Fields<'_>) -> Result<Event, CallFault>
+    ensures word { IfOk result (λ event. call_word event ≡ codes "alloc") }
+    ensures arguments { IfOk result (λ event. call_arguments event ++ fields.new ≡ fields.old) }
+    ensures read { (task right : ℕ) (behind : List ℕ) → task < 2 ^ 32 → right < 2 ^ 32 → IsBehind behind
+        → field (decimal task) ++ field (decimal right) ++ behind ≡ fields.old → IsRead result fields.new behind }
+{
+    Ok(Event::Allocate(fields.task()?, fields.number()?))
+}
+
+/// The arguments of `status`: a task and a name.
+fn read_status(fields: &mut Fields<'_>) -> Result<Event, CallFault>
+    ensures word { IfOk result (λ event. call_word event ≡ codes "status") }
+    ensures arguments { IfOk result (λ event. call_arguments event ++ fields.new ≡ fields.old) }
+    ensures read { (task name : ℕ) (behind : List ℕ) → task < 2 ^ 32 → name < 2 ^ 32 → IsBehind behind
+        → field (decimal task) ++ field (decimal name) ++ behind ≡ fields.old → IsRead result fields.new behind }
+{
+    Ok(Event::ReceiveStatus(fields.task()?, fields.name()?))
+}
+
+/// The arguments of `send`: a task and a message's bytes.
+fn read_send(alloc: Global, fields: &mut Fields<'_>) -> Result<Event, CallFault>
+    ensures word { IfOk result (λ event. call_word event ≡ codes "send") }
+    ensures arguments { IfOk result (λ event. call_arguments event ++ fields.new ≡ fields.old) }
+    ensures read { (task : ℕ) (bytes : List ℕ) (behind : List ℕ) → task < 2 ^ 32 → All (λ byte. byte < 256) bytes → IsBehind behind
+        → field (decimal task) ++ field (bytes_text bytes) ++ behind ≡ fields.old → IsRead result fields.new behind }
+{
+    Ok(Event::Send(fields.task()?, fields.bytes(alloc)?))
+}
+
+/// The arguments of `recv`: a task, a name, how many bytes there is room for, and whether a longer
+/// message is to stay.
+fn read_recv(fields: &mut Fields<'_>) -> Result<Event, CallFault>
+    ensures word { IfOk result (λ event. call_word event ≡ codes "recv") }
+    ensures arguments { IfOk result (λ event. call_arguments event ++ fields.new ≡ fields.old) }
+    ensures read { (task name room : ℕ) (large : Bool) (behind : List ℕ) → task < 2 ^ 32 → name < 2 ^ 32 → room < 2 ^ 32 → IsBehind behind
+        → field (decimal task) ++ field (decimal name) ++ field (decimal room) ++ field (flag_text large) ++ behind ≡ fields.old → IsRead result fields.new behind }
+{
+    let (task, name) = (fields.task()?, fields.name()?);
+    Ok(Event::Receive(task, name, fields.number()?, fields.flag()?))
+}

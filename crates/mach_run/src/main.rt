@@ -1,0 +1,100 @@
+//! The program `mach_run`: runs scripts of calls of Mach 3 port IPC, and prints the replies.
+//!
+//! `main` reads the words and opens the file; all else is done by [`perform`], over any reader and
+//! writers.
+#![tactic(auto)]
+
+mod calls;
+mod command_line;
+mod fields;
+mod hexadecimal;
+mod numbers;
+mod perform;
+mod replies;
+mod script;
+#[cfg(test)]
+mod tests;
+
+use clap::error::ErrorKind;
+use command_line::{Request, read_words};
+use perform::{Fault, Job, perform, report};
+use std::alloc::Global;
+use std::fs::File;
+use std::io::{BufWriter, Read, Write};
+use std::process::ExitCode;
+use std::rt::{Env, Files};
+use std::{env, io};
+
+/// The status where the command line has no such words.
+const USAGE: u8 = 2;
+
+fn main(rt: HostRuntime) -> ExitCode {
+    let mut errors = rt.stderr();
+    ExitCode::from(answer(&rt, rt.stdout(), &mut errors))
+}
+
+/// Does what the words of the command line ask for, and answers the status.
+///
+/// Words that do not name a job are told of on `err`, with the program's usage: status 2.
+fn answer<R: Env + Files + Input + AllocGlobal, W: Write + Drop, E: Write>(
+    rt: &R,
+    out: W,
+    err: &mut E,
+) -> u8 {
+    let words: Vec<String> = match words_of(rt) {
+        Ok(words) => words,
+        Err(error) if error.kind() == io::ErrorKind::OutOfMemory => {
+            return report(Fault::OutOfMemory, "", err);
+        }
+        Err(_) => {
+            let _ = err.write_all(b"error: a word is not UTF-8\n\nUsage: mach_run <COMMAND>\n");
+            return USAGE;
+        }
+    };
+    match read_words(rt.alloc(), words.as_slice()) {
+        Ok(request) => open(rt, &request, out, err),
+        Err(error) if error.kind() == ErrorKind::OutOfMemory => {
+            report(Fault::OutOfMemory, "", err)
+        }
+        Err(error) => {
+            let _ = write!(err, "{error}");
+            USAGE
+        }
+    }
+}
+
+/// The words of the command line, the program's own name first.
+fn words_of<R: Env + AllocGlobal>(rt: &R) -> io::Result<Vec<String>> {
+    Ok(env::args(rt)?.collect(rt.alloc())?)
+}
+
+/// Opens what the request names, standard input where it names no file, and does its job.
+fn open<R: Files + Input + AllocGlobal, W: Write + Drop, E: Write>(
+    rt: &R,
+    request: &Request<'_>,
+    out: W,
+    err: &mut E,
+) -> u8 {
+    let Some(name) = request.file else {
+        return start(rt.alloc(), request.job, "-", &mut rt.reader(), out, err);
+    };
+    match File::open(rt, name) {
+        Ok(mut file) => start(rt.alloc(), request.job, name, &mut file, out, err),
+        Err(_) => report(Fault::CannotRead, name, err),
+    }
+}
+
+/// Does the job, with `out` behind a buffer.
+fn start<R: Read, W: Write + Drop, E: Write>(
+    alloc: Global,
+    job: Job,
+    name: &str,
+    file: &mut R,
+    out: W,
+    err: &mut E,
+) -> u8 {
+    match BufWriter::new(alloc, out) {
+        Ok(mut out) => perform(alloc, job, name, file, &mut out, err),
+        Err(_) => report(Fault::OutOfMemory, name, err),
+    }
+}

@@ -1,0 +1,114 @@
+//! The jobs of the program, over any reader and writers.
+ghost use Rattle.std.specs.Prelude.{◌≡◌, ◌≤◌};
+
+use crate::replies::write_reply;
+use crate::script::{ScriptFault, read_script};
+use kernel_core::Kernel;
+use mach_types::Event;
+use std::alloc::Global;
+use std::io;
+use std::io::{ErrorKind, Read, Write};
+
+/// What the program can do.
+#[derive(Clone, Copy, Debug, PartialEq, Eq)]
+pub enum Job {
+    /// Runs a script, and prints a reply for each of its calls.
+    Run,
+}
+
+/// What stops a job.
+#[derive(Clone, Copy, Debug, PartialEq, Eq)]
+pub enum Fault {
+    /// The file can't be opened or read.
+    CannotRead,
+    /// The line of this number, from 1, is no call.
+    BadCall(u64),
+    /// The replies can't be written.
+    CannotWrite,
+    /// Memory was refused.
+    OutOfMemory,
+}
+
+impl From<ScriptFault> for Fault {
+    fn from(fault: ScriptFault) -> Fault {
+        match fault {
+            ScriptFault::BadCall(line) => Fault::BadCall(line),
+            ScriptFault::OutOfMemory => Fault::OutOfMemory,
+        }
+    }
+}
+
+/// Does the job on the file of this name, and answers the program's status: 0 where it is done, 1
+/// where a fault stopped it.
+///
+/// What the job makes goes to `out`. A fault is told of on `err`, in one line: `cannot read NAME`
+/// where `file` can't be read, `line N: bad call` for the first line of a script that is no call,
+/// `out of memory` where memory is refused, and `cannot write` where `out` refuses what is written.
+/// The whole file is read before anything runs, and after a fault of the first three kinds nothing
+/// was written to `out`. Time grows with the length of the file and the cost of its calls.
+pub fn perform<R: Read, W: Write, E: Write>(
+    alloc: Global,
+    job: Job,
+    name: &str,
+    file: &mut R,
+    out: &mut W,
+    err: &mut E,
+) -> u8
+    ensures { result ≤ 1 }
+{
+    let done = match job {
+        Job::Run => run(alloc, file, out),
+    };
+    match done {
+        Ok(()) => 0,
+        Err(fault) => report(fault, name, err),
+    }
+}
+
+/// Tells on `err` what the fault is, as one line, and answers its status, 1. `name` is the file's.
+///
+/// Where `err` refuses the line, nothing is left to tell of it.
+pub fn report<E: Write>(fault: Fault, name: &str, err: &mut E) -> u8
+    ensures { result ≡ 1 }
+{
+    let _ = match fault {
+        Fault::CannotRead => writeln!(err, "cannot read {name}"),
+        Fault::BadCall(line) => writeln!(err, "line {line}: bad call"),
+        Fault::CannotWrite => writeln!(err, "cannot write"),
+        Fault::OutOfMemory => writeln!(err, "out of memory"),
+    };
+    1
+}
+
+/// Reads a script, and then makes its calls in turn on a new kernel, with one reply a line on `out`.
+fn run<R: Read, W: Write>(alloc: Global, file: &mut R, out: &mut W) -> Result<(), Fault> {
+    let text = read_all(alloc, file)?;
+    let events = read_script(alloc, text.as_slice())?;
+    match answer_all(alloc, events.as_slice(), out) {
+        Ok(()) => Ok(()),
+        Err(_) => Err(Fault::CannotWrite),
+    }
+}
+
+/// All that the file holds from here on.
+fn read_all<R: Read>(alloc: Global, file: &mut R) -> Result<Vec<u8>, Fault> {
+    let mut text = Vec::new(alloc);
+    match file.read_to_end(&mut text) {
+        Ok(_) => Ok(text),
+        Err(error) if error.kind() == ErrorKind::OutOfMemory => Err(Fault::OutOfMemory),
+        Err(_) => Err(Fault::CannotRead),
+    }
+}
+
+/// Makes the calls in turn on a new kernel, and writes their replies, one a line.
+///
+/// An error is that of `out`; the calls after it are not made.
+fn answer_all<W: Write>(alloc: Global, events: &[Event], out: &mut W) -> io::Result<()> {
+    let mut kernel = Kernel::new(alloc);
+    for event in events {
+        let reply = kernel.step(event);
+        write_reply(&reply, out)?;
+        out.write_all(b"\n")?;
+    }
+    out.flush()
+}
