@@ -51,3 +51,7 @@ Fits (Allocate task right) = (task < 2 ^ 32) × (right < 2 ^ 32)
 Fits (ReceiveStatus task name) = (task < 2 ^ 32) × (name < 2 ^ 32)
 Fits (Send task bytes) = (task < 2 ^ 32) × All (λ byte. byte < 256) bytes
 Fits (Receive task name room large) = (task < 2 ^ 32) × (name < 2 ^ 32) × (room < 2 ^ 32)
+
+-- a line of a script: a call, and a line feed
+abbrev pub line_text : Event → List ℕ
+line_text event = call_text event ++ 10 ∷ []

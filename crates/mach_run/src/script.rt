@@ -1,4 +1,9 @@
 //! Scripts: calls, one a line.
+ghost use Rattle.std.specs.Prelude.{◌≡◌, ℕ, ◌+◌, List, length, ◌++◌, ◌∷◌, [], IfOk, IfSome, Err, flat_map};
+ghost use Rattle.mach_types.specs.declared.calls.Event.{Event as AnyEvent};
+ghost use Rattle.mach_run.specs.declared.script.ScriptFault.TheVariants.{OutOfMemory};
+ghost use Rattle.mach_run.specs.Text.{line_text};
+
 use crate::calls::{CallFault, read_call};
 use mach_types::Event;
 use std::alloc::{AllocFailed, Global};
@@ -13,6 +18,8 @@ pub enum ScriptFault {
 }
 
 impl<T: Drop> From<AllocFailed<T>> for ScriptFault {
+    ghost from_gives = { λ _ fault. fault ≡ OutOfMemory };
+
     fn from(_error: AllocFailed<T>) -> ScriptFault {
         ScriptFault::OutOfMemory
     }
@@ -22,23 +29,43 @@ impl<T: Drop> From<AllocFailed<T>> for ScriptFault {
 ///
 /// `BadCall` comes at the first line that is no call, or that ends without its line feed. Time and
 /// memory grow with the length of the text.
-pub fn read_script(alloc: Global, text: &[u8]) -> Result<Vec<Event>, ScriptFault> {
+pub fn read_script(alloc: Global, text: &[u8]) -> Result<Vec<Event>, ScriptFault>
+    ensures ok { IfOk result (λ events. flat_map line_text events.items ≡ text.now) }
+
+    // The lines before the one that is named are calls.
+    ensures bad { (n : ℕ) → result ≡ Err (ScriptFault.BadCall n) → (events : List AnyEvent) × (rest : List ℕ)
+        × (length events + 1 ≡ n) × (flat_map line_text events ++ rest ≡ text.now) }
+{
     let mut events = Vec::new(alloc);
-    for (index, line) in text.split_inclusive(|byte| *byte == b'\n').enumerate() {
-        let number = index as u64 + 1;
-        events.push(read_line(alloc, line, number)?)?;
+    let mut rest = text;
+    while !rest.is_empty() {
+        let number = events.len() as u64 + 1;
+        let (event, others) = read_line(alloc, rest, number)?;
+        events.push(event)?;
+        rest = others;
     }
     Ok(events)
 }
 
-/// The call of the line of this number, which has its line feed still.
-fn read_line(alloc: Global, line: &[u8], number: u64) -> Result<Event, ScriptFault> {
-    let [call @ .., b'\n'] = line else {
+/// The call of the first line, which has this number, and what stands behind its line feed.
+fn read_line(alloc: Global, text: &[u8], number: u64) -> Result<(Event, &[u8]), ScriptFault>
+    ensures ok { IfOk result (λ read. line_text read.0 ++ read.1.now ≡ text.now) }
+    ensures bad { (n : ℕ) → result ≡ Err (ScriptFault.BadCall n) → n ≡ number }
+{
+    let Some((line, rest)) = split_line(text) else {
         return Err(ScriptFault::BadCall(number));
     };
-    match read_call(alloc, call) {
-        Ok(event) => Ok(event),
+    match read_call(alloc, line) {
+        Ok(event) => Ok((event, rest)),
         Err(CallFault::Bad) => Err(ScriptFault::BadCall(number)),
         Err(CallFault::OutOfMemory) => Err(ScriptFault::OutOfMemory),
     }
+}
+
+/// The first line, without its line feed, and what stands behind it; `None` where no line feed is.
+fn split_line(text: &[u8]) -> Option<(&[u8], &[u8])>
+    ensures { IfSome result (λ parts. parts.0.now ++ (10 ∷ parts.1.now) ≡ text.now) }
+{
+    let end = text.iter().position(|byte| *byte == b'\n')?;
+    Some((&text[..end], &text[end + 1..]))
 }
