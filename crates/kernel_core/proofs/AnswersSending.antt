@@ -14,8 +14,8 @@ use Rattle.mach_model.specs.CopyIn.{IsLegal}
 use Rattle.mach_model.specs.Status.{NamesReceive}
 use Rattle.mach_model.specs.Sending.{IsBadDestination, RightsRefuse}
 use Rattle.mach_model.specs.NotYet.{IsNotYetSent}
-use Rattle.message_codec.specs.declared.header.Parsed.{Parsed}
-use Rattle.message_codec.specs.Parses.{Parses}
+use Rattle.message_codec.specs.declared.plain.PlainText.{PlainText}
+use Rattle.message_codec.specs.PlainTexts.{ParsesPlain}
 use Rattle.kernel_core.specs.View.{KernelView, message_of, tables}
 use Rattle.kernel_core.specs.Shows.{Shows}
 use Rattle.kernel_core.specs.Answers.{Answers}
@@ -29,7 +29,7 @@ send_no_task k task bytes past now s sh = refused k s sh now (Event.Send task by
 pub send_no_text : (k : KernelView) (task : ℕ) (bytes : List ℕ) (code : ℕ) → task < length k.spaces → FirstIs (text_guards bytes) code → Answers k (Event.Send task bytes) (Reply.Code code) k
 send_no_text k task bytes code below first now s sh = refused k s sh now (Event.Send task bytes) code (inl (inr (among_tasks k s sh task below, first)))
 
-module _ (k : KernelView) (task : ℕ) (below : task < length k.spaces) (bytes : List ℕ) (parsed : Parsed) (text : Parses bytes parsed) where
+module _ (k : KernelView) (task : ℕ) (below : task < length k.spaces) (bytes : List ℕ) (parsed : PlainText) (text : ParsesPlain bytes parsed) where
   later : (s : State) → Shows (tables k) s → (now code : ℕ) →
       ((code ≡ msg_number SendNoBuffer) ⊎ IsNotYetSent text.header × (code ≡ msg_number SendInvalidHeader) ⊎ ¬ (IsNotYetSent text.header) × RightsRefuse s task text.header text.written code) →
       Goes now s (Event.Send task bytes) (Reply.Code code) k

@@ -17,8 +17,8 @@ use Rattle.mach_model.specs.Sending.{Sends, Copied, ClosesLoop, sent_guards, pla
 use Rattle.mach_model.specs.Lawful.{IsLawful}
 use Rattle.mach_model.proofs.Weigh.{both_test}
 use Rattle.mach_model.proofs.At.{at_other, at_own}
-use Rattle.message_codec.specs.declared.header.Parsed.{Parsed}
-use Rattle.message_codec.specs.Parses.{Parses}
+use Rattle.message_codec.specs.declared.plain.PlainText.{PlainText}
+use Rattle.message_codec.specs.PlainTexts.{ParsesPlain}
 use Rattle.kernel_core.specs.View.{entry_at, longer, KernelView, PortView, Kept, tables, port_table, message_of}
 use Rattle.kernel_core.specs.Shows.{Shows, ShowsPort}
 use Rattle.kernel_core.proofs.Told.{found, holds_receive, shows_port}
@@ -75,11 +75,11 @@ module _ (k : KernelView) (s : State) (sh : Shows (tables k) s) (now task name p
       let none = sh.lawful.no_entry p (length (s.log p)) (omega arith) receive loop.0 in
       omega (arith, none, loop.1)
 
-  not_refused : (parsed : Parsed) → (text : Parses bytes parsed) → parsed.remote_kind ≡ 20 → parsed.local_kind ≡ 0 → ¬ (IsNotYetSent text.header)
+  not_refused : (parsed : PlainText) → (text : ParsesPlain bytes parsed) → parsed.remote_kind ≡ 20 → parsed.local_kind ≡ 0 → ¬ (IsNotYetSent text.header)
   not_refused parsed text remote local (inl other) = other (sym text.remote_kind ∙ remote)
   not_refused parsed text remote local (inr answer) = answer (sym text.local_kind ∙ local)
 
-  copied : (parsed : Parsed) → (text : Parses bytes parsed) → parsed.remote_kind ≡ 20 → parsed.local_kind ≡ 0 → parsed.remote ≡ name → parsed.id ≡ id →
+  copied : (parsed : PlainText) → (text : ParsesPlain bytes parsed) → parsed.remote_kind ≡ 20 → parsed.local_kind ≡ 0 → parsed.remote ≡ name → parsed.id ≡ id →
       Copied task text.header text.written s m (rights_for s p)
   copied parsed text remote local is_name is_id = record {
     first = rights_for s p;
@@ -95,7 +95,7 @@ module _ (k : KernelView) (s : State) (sh : Shows (tables k) s) (now task name p
   limit_is : v.limit ≡ s.limit p
   limit_is = (shows_port k s sh p v there).limit
 
-  pub sends : (parsed : Parsed) → (text : Parses bytes parsed) → parsed.remote_kind ≡ 20 → parsed.local_kind ≡ 0 → parsed.remote ≡ name → parsed.id ≡ id →
+  pub sends : (parsed : PlainText) → (text : ParsesPlain bytes parsed) → parsed.remote_kind ≡ 20 → parsed.local_kind ≡ 0 → parsed.remote ≡ name → parsed.id ≡ id →
       length v.waiting < v.limit → k.total < most_rights → Sends now task bytes s t
   sends parsed text remote local is_name is_id room few = record {
     header = text.header;
@@ -110,7 +110,7 @@ module _ (k : KernelView) (s : State) (sh : Shows (tables k) s) (now task name p
   }
 
   -- such a message is refused where its port's queue is at its limit
-  pub refused_at_limit : (parsed : Parsed) → (text : Parses bytes parsed) → parsed.remote_kind ≡ 20 → parsed.local_kind ≡ 0 → parsed.remote ≡ name → parsed.id ≡ id →
+  pub refused_at_limit : (parsed : PlainText) → (text : ParsesPlain bytes parsed) → parsed.remote_kind ≡ 20 → parsed.local_kind ≡ 0 → parsed.remote ≡ name → parsed.id ≡ id →
       v.limit ≤ length v.waiting → (code : ℕ) → code ≡ msg_number SendTimedOut →
       (w : Message) × (mid : State) × Copied task text.header text.written s w mid × FirstIs (sent_guards w (place_of s w) mid) code
   refused_at_limit parsed text remote local is_name is_id full code is =

@@ -8,7 +8,7 @@ use Rattle.mach_types.specs.declared.codes.MsgReturn.TheVariants.{SendInvalidDes
 use Rattle.mach_types.specs.Numbers.{kern_number, msg_number, most_names, most_rights, most_identities, most_bytes}
 use Rattle.name_space.specs.declared.Entry.{Entry}
 use Rattle.name_space.specs.Names.{IsFreshName}
-use Rattle.message_codec.specs.declared.header.Parsed.{Parsed}
+use Rattle.message_codec.specs.declared.plain.PlainText.{PlainText}
 use Rattle.kernel_core.specs.View.{KernelView, Space, PortView, Kept, Dequeues, FindsReceive, fresh_port, longer}
 
 -- ---- a port is made
@@ -39,10 +39,10 @@ pub record CannotMake (old : KernelView) (task code : ℕ) : Type 0 where
 -- ---- a message is queued
 
 -- It goes by a send right that is made for it, and has no reply right.
-abbrev pub IsPlainText : Parsed → Type 0
+abbrev pub IsPlainText : PlainText → Type 0
 IsPlainText parsed = (parsed.remote_kind ≡ 20) × (parsed.local_kind ≡ 0)
 
-pub record Delivers (old : KernelView) (task : ℕ) (parsed : Parsed) (bytes : List ℕ) (new : KernelView) : Type 0 where
+pub record Delivers (old : KernelView) (task : ℕ) (parsed : PlainText) (bytes : List ℕ) (new : KernelView) : Type 0 where
   pub plain : IsPlainText parsed
   pub p : ℕ
   pub finds : FindsReceive old task parsed.remote p
@@ -63,7 +63,7 @@ pub record IsAtLimit (k : KernelView) (task name : ℕ) : Type 0 where
   pub there : slice_get k.ports p ≡ Some v
   pub full : v.limit ≤ length v.waiting
 
-abbrev pub CannotDeliver : (old : KernelView) → (task : ℕ) → Parsed → (code : ℕ) → Type 0
+abbrev pub CannotDeliver : (old : KernelView) → (task : ℕ) → PlainText → (code : ℕ) → Type 0
 CannotDeliver old task parsed code =
     ¬ (IsPlainText parsed) × (code ≡ msg_number SendInvalidHeader)
     ⊎ IsPlainText parsed × ((p : ℕ) → ¬ (FindsReceive old task parsed.remote p)) × (code ≡ msg_number SendInvalidDest)

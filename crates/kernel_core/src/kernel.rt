@@ -4,7 +4,7 @@ ghost use Rattle.std.specs.FinMap as names;
 ghost use Rattle.mach_types.specs.Numbers.{kern_number, msg_number, most_names, most_rights, most_identities};
 ghost use Rattle.mach_model.specs.State.{opening};
 ghost use Rattle.name_space.specs.declared.Entry.{Entry as EntryOf};
-ghost use Rattle.message_codec.specs.Parses.{Parses};
+ghost use Rattle.message_codec.specs.PlainTexts.{ParsesPlain};
 ghost use Rattle.kernel_core.specs.View.{Space as SpaceView, tables, entry_at, FindsReceive};
 ghost use Rattle.kernel_core.specs.Shows.{Shows};
 ghost use Rattle.kernel_core.specs.Answers.{Answers};
@@ -15,7 +15,7 @@ use mach_types::{
     Bytes, Disposition, Event, KernReturn, MsgReturn, Name, PortId, Reply, Right, SetId, TaskId,
     Waited,
 };
-use message_codec::{Parsed, parse};
+use message_codec::{PlainText, parse_plain};
 use name_space::{Entry, Space};
 use std::alloc::{AllocError, Global};
 use std::marker::Model;
@@ -264,7 +264,7 @@ impl Kernel {
             return Reply::Code(KernReturn::InvalidTask.number());
         }
         let bytes = bytes.as_slice();
-        let parsed = match parse(bytes) {
+        let parsed = match parse_plain(bytes) {
             Ok(parsed) => parsed,
             Err(code) => return Reply::Code(code.number()),
         };
@@ -275,8 +275,8 @@ impl Kernel {
     }
 
     /// Queues a message whose text was read.
-    fn deliver(&mut self, task: TaskId, parsed: &Parsed, bytes: &[u8]) -> Result<(), MsgReturn>
-        requires { Parses bytes.now parsed.now }
+    fn deliver(&mut self, task: TaskId, parsed: &PlainText, bytes: &[u8]) -> Result<(), MsgReturn>
+        requires { ParsesPlain bytes.now parsed.now }
         ensures ok { IfOk result (λ _. Delivers self.old task parsed.now bytes.now self.new) }
         ensures err { IfErr result (λ code. (self.new ≡ self.old) × CannotDeliver self.old task parsed.now (msg_number code)) }
     {

@@ -3,7 +3,7 @@ ghost use Rattle.std.specs.Prelude.{◌≡◌, ℕ, ◌+◌, ◌%◌, ◌^◌, �
 ghost use Rattle.kernel_core.specs.View.{Kept, PortView, fresh_port, received_text, tells_port, longer, Dequeues};
 
 use mach_types::{Bytes, Name, Status};
-use message_codec::{Header, put_received};
+use message_codec::{Header, put_header};
 use std::alloc::{AllocError, Global};
 use std::collections::VecDeque;
 use std::marker::Model;
@@ -66,7 +66,7 @@ impl Message {
             sequence,
             id,
         };
-        put_received(bytes.as_mut_slice(), &header);
+        put_header(bytes.as_mut_slice(), &header);
         Bytes::from_vec(bytes)
     }
 }
