@@ -1,0 +1,13 @@
+//! Messages as bytes: what a sender's bytes say, and the bytes that a receiver gets.
+//!
+//! A message's text is a header of six little-endian words and a body (IPC Interface,
+//! `mach_msg_header_t`). `mach_types/specs/Grammar` has the texts, and `mach_types/specs/TextGuards`
+//! the faults with their codes, in the order in which they are judged.
+#![tactic(auto)]
+
+mod header;
+#[cfg(test)]
+mod tests;
+mod words;
+
+pub use header::{Header, Parsed, parse, put_received};
