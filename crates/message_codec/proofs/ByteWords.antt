@@ -1,7 +1,7 @@
 -- Words in a list of bytes: what is read, and what is written.
-use Rattle.std.proofs.Common.{◌≡◌, ℕ, ◌+◌, ◌-◌, ◌*◌, ◌/◌, ◌%◌, ◌^◌, ◌<◌, ◌≤◌, List, [], ◌∷◌, ◌++◌, length, get_or, take, drop, refl, sym, ap, ◌∙◌, arith}
+use Rattle.std.proofs.Common.{◌≡◌, ℕ, ◌+◌, ◌-◌, ◌*◌, ◌/◌, ◌%◌, ◌^◌, ◌<◌, ◌≤◌, List, [], ◌∷◌, ◌++◌, length, get_or, take, drop, refl, sym, ap, arith}
 use Rattle.std.proofs.lemmas.List.{drop_more, drop-drop, take_all, drop_all, append-nil, append_assoc, length-drop}
-use borrow.Rule.Slice.PartMut.{put_mid, mid_of, post_of}
+use borrow.Rule.Slice.PartMut.{put_mid, mid_of}
 use Rattle.mach_types.specs.Grammar.{word}
 use Rattle.mach_types.specs.TextGuards.{word_at}
 

@@ -1,5 +1,5 @@
 -- The bytes that are written when a message is received are a text.
-use Rattle.std.proofs.Common.{◌≡◌, ℕ, ◌+◌, ◌*◌, ◌/◌, ◌%◌, ◌^◌, ◌<◌, List, ◌++◌, length, refl, sym, ap, ◌∙◌, arith}
+use Rattle.std.proofs.Common.{◌≡◌, ℕ, ◌%◌, List, ◌++◌, length, refl}
 use Rattle.mach_types.specs.Grammar as wire
 use Rattle.mach_types.specs.Grammar.{word, raw, Spells, IsHeader}
 use Rattle.message_codec.specs.declared.header.Header.{Header}

@@ -1,4 +1,4 @@
-use Rattle.std.proofs.Common.{ℕ, IsTrue, false, List, ◌≡◌, ◌%◌, ◌/◌, ◌^◌, drop, refl, ap, ◌∙◌, arith, inl, inr}
+use Rattle.std.proofs.Common.{ℕ, IsTrue, false, List, ◌≡◌, ◌%◌, ◌/◌, ◌^◌, drop, refl, ap, ◌∙◌, arith}
 use Rattle.mach_types.specs.Grammar.{raw}
 use Rattle.mach_types.specs.NotYet.{IsNotYetBody}
 use Rattle.mach_types.specs.TextGuards.{word_at, BadHeader}
