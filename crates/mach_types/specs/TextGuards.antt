@@ -66,6 +66,16 @@ abbrev pub item_guards : (bytes : List ℕ) → (name size number before : ℕ) 
 item_guards bytes name size number before =
     descriptor_guards bytes name size ++ (length bytes < before + data_length size number, msg_number SendMsgTooSmall) ∷ []
 
+-- The bytes begin with no item, and this is the code that says so.
+pub record ItemRefuses (bytes : List ℕ) (code : ℕ) : Type 0 where
+  pub name : ℕ
+  pub size : ℕ
+  pub number : ℕ
+  pub fields : DescriptorFields bytes name size number
+  pub before : ℕ
+  pub before_is : IsDescriptorLength bytes before
+  pub refused : FirstIs (item_guards bytes name size number before) code
+
 -- After some whole items comes one that is refused with this code.
 pub record ItemsRefuse (bytes : List ℕ) (code : ℕ) : Type 0 where
   pub front : List Wire
@@ -73,13 +83,7 @@ pub record ItemsRefuse (bytes : List ℕ) (code : ℕ) : Type 0 where
   pub parts : bytes ≡ wires_text front ++ rest
   pub front_fits : All IsWire front
   pub more : 0 < length rest
-  pub name : ℕ
-  pub size : ℕ
-  pub number : ℕ
-  pub fields : DescriptorFields rest name size number
-  pub before : ℕ
-  pub before_is : IsDescriptorLength rest before
-  pub refused : FirstIs (item_guards rest name size number before) code
+  pub refused : ItemRefuses rest code
 
 -- The bytes are no message that the kernel takes, and this is the code that says so.
 abbrev pub TextRefuses : List ℕ → (code : ℕ) → Type 0

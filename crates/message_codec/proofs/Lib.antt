@@ -1,3 +1,3 @@
-pub mod ByteWords
-pub mod HeaderText
-pub mod Spelling
+pub mod Fronts
+pub mod Shapes
+pub mod ItemTexts
