@@ -1,3 +1,4 @@
 pub mod Fronts
 pub mod Shapes
 pub mod ItemTexts
+pub mod Walking
