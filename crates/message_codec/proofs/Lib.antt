@@ -2,3 +2,4 @@ pub mod Fronts
 pub mod Shapes
 pub mod ItemTexts
 pub mod Walking
+pub mod Messages

@@ -1,7 +1,8 @@
 -- What is read of a message's text.
-use Rattle.std.specs.Prelude.{◌≡◌, ℕ, ◌<◌, Bool, true, false, List, length, drop}
+use Rattle.std.specs.Prelude.{◌≡◌, ℕ, ◌/◌, ◌%◌, ◌^◌, ◌<◌, Bool, true, false, List, length, drop}
 use Rattle.mach_types.specs.Grammar.{Header, WireBody, raw, items, body_text, Spells}
-use Rattle.mach_types.specs.TextGuards.{TextRefuses}
+use Rattle.mach_types.specs.TextGuards.{TextRefuses, is_bit, word_at}
+use Rattle.message_codec.specs.declared.spans.Span.{Span}
 use Rattle.message_codec.specs.declared.text.Parsed.{Parsed}
 use Rattle.message_codec.specs.Spans.{body_spans}
 
@@ -13,6 +14,26 @@ is_items (items xs) = true
 pub record IsMessage (bytes : List ℕ) (header : Header) (written : WireBody) : Type 0 where
   pub spells : Spells bytes header written
   pub unrefused : (code : ℕ) → ¬ (TextRefuses bytes code)
+
+-- the header that stands in front
+abbrev pub header_at : List ℕ → Header
+header_at bytes = record {
+  remote_kind = word_at bytes 0 % 2 ^ 8;
+  local_kind = word_at bytes 0 / 2 ^ 8 % 2 ^ 8;
+  size = word_at bytes 4;
+  remote = word_at bytes 8;
+  local = word_at bytes 12;
+  sequence = word_at bytes 16;
+  id = word_at bytes 20;
+}
+
+-- The bytes are such a text, and its port words stand at these places.
+pub record ReadsBody (bytes : List ℕ) (spans : List Span) : Type 0 where
+  pub written : WireBody
+  pub message : IsMessage bytes (header_at bytes) written
+  pub spans_are : spans ≡ body_spans written
+  pub if_complex : is_bit (word_at bytes 0) 31 → is_items written ≡ true
+  pub if_plain : ¬ (is_bit (word_at bytes 0) 31) → is_items written ≡ false
 
 -- The bytes are a whole text within the limits, and this is what it says.
 pub record Parses (bytes : List ℕ) (parsed : Parsed) : Type 0 where

@@ -2,12 +2,13 @@
 ghost use Rattle.std.specs.Prelude.{◌≡◌, ◌⊎◌, IfOk, IfErr};
 ghost use Rattle.mach_types.specs.declared.codes.MsgReturn.TheVariants.{SendNoBuffer};
 ghost use Rattle.mach_types.specs.Numbers.{msg_number};
-ghost use Rattle.mach_types.specs.TextGuards.{TextRefuses};
-ghost use Rattle.message_codec.specs.Parses.{Parses, IsCrowded};
+ghost use Rattle.mach_types.specs.Guards.{NoneHolds};
+ghost use Rattle.mach_types.specs.TextGuards.{TextRefuses, header_guards};
+ghost use Rattle.message_codec.specs.Parses.{Parses, ReadsBody, IsCrowded};
 
 use crate::header::{check_header, is_complex, local_kind, remote_kind};
 use crate::items::read_spans;
-use crate::spans::Spans;
+use crate::spans::{Span, Spans};
 use mach_types::{MsgReturn, Name};
 use smallvec::SmallVec;
 use std::alloc::Global;
@@ -33,6 +34,20 @@ pub struct Parsed {
     pub spans: Spans,
 }
 
+/// The spans of a body whose header is judged already.
+fn read_body(alloc: Global, bytes: &[u8]) -> Result<SmallVec<Span, 8>, MsgReturn>
+    requires { NoneHolds (header_guards bytes.now) }
+    ensures ok { IfOk result (λ spans. ReadsBody bytes.now spans.items) }
+    ensures err { IfErr result (λ code. TextRefuses bytes.now (msg_number code)
+        ⊎ (code ≡ SendNoBuffer) × IsCrowded bytes.now) }
+{
+    if is_complex(read_word(bytes, 0)) {
+        read_spans(alloc, bytes)
+    } else {
+        Ok(SmallVec::new(alloc))
+    }
+}
+
 /// What these bytes say, as far as the kernel needs it (IPC Interface, `mach_msg`). The bytes are a
 /// whole text, and nothing follows it.
 ///
@@ -56,20 +71,15 @@ pub fn parse(alloc: Global, bytes: &[u8]) -> Result<Parsed, MsgReturn>
         ⊎ (code ≡ SendNoBuffer) × IsCrowded bytes.now) }
 {
     check_header(bytes)?;
+    let spans = read_body(alloc, bytes)?;
     let bits = read_word(bytes, 0);
-    let is_complex = is_complex(bits);
-    let spans = if is_complex {
-        read_spans(alloc, bytes)?
-    } else {
-        SmallVec::new(alloc)
-    };
     Ok(Parsed {
         remote_kind: remote_kind(bits),
         local_kind: local_kind(bits),
         remote: Name::new(read_word(bytes, 8)),
         local: Name::new(read_word(bytes, 12)),
         id: read_word(bytes, 20),
-        is_complex,
+        is_complex: is_complex(bits),
         spans: Spans::from_small_vec(spans),
     })
 }
