@@ -3,3 +3,5 @@ pub mod Shapes
 pub mod ItemTexts
 pub mod Walking
 pub mod Messages
+pub mod PutWords
+pub mod PutSpans

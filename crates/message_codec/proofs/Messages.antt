@@ -1,5 +1,5 @@
 -- Whole texts: what a judged header and a judged body make.
-use Rattle.std.proofs.Common.{◌≡◌, ◌≢◌, ℕ, ◌+◌, ◌-◌, ◌*◌, ◌/◌, ◌%◌, ◌^◌, ◌<◌, ◌≤◌, ◌⊎◌, IsTrue, Bool, true, false, Result, Ok, Err, IfOk, IfErr, List, [], ◌∷◌, ◌++◌, length, drop, refl, sym, ap, ◌∙◌, inl, inr, arith, All}
+use Rattle.std.proofs.Common.{◌≡◌, ◌≢◌, ℕ, ◌+◌, ◌-◌, ◌*◌, ◌/◌, ◌%◌, ◌^◌, ◌<◌, ◌≤◌, ◌⊎◌, IsTrue, Bool, true, false, Result, Ok, Err, IfOk, IfErr, List, [], ◌∷◌, ◌++◌, length, drop, refl, sym, ap, ◌∙◌, inl, inr, arith, All, subst}
 use Rattle.std.proofs.lemmas.Bool.{cases_eq}
 use Rattle.std.proofs.lemmas.List.{length-drop}
 use Rattle.std.specs.Prelude.{◌↔◌}
@@ -9,7 +9,7 @@ use Rattle.mach_types.specs.declared.codes.MsgReturn.{MsgReturn}
 use Rattle.mach_types.specs.declared.codes.MsgReturn.TheVariants.{SendNoBuffer}
 use Rattle.mach_types.specs.Numbers.{msg_number}
 use Rattle.mach_types.specs.TextGuards.{word_at, is_bit, BadHeader, header_guards, TextRefuses, ItemsRefuse}
-use Rattle.type_descriptor.proofs.ByteWords.{AreBytes, word-word_at, word_at-lt}
+use Rattle.type_descriptor.proofs.ByteWords.{AreBytes, word-word_at, word_at-lt, word_at-word}
 use Rattle.message_codec.specs.declared.spans.Span.{Span}
 use Rattle.message_codec.specs.Parses.{header_at, is_items, IsMessage, ReadsBody, IsCrowded}
 use Rattle.message_codec.specs.Reading.{ReadsItems, HasMany}
@@ -163,4 +163,43 @@ body-refused (Ok v) bytes are none complex refused = tt
 body-refused (Err e) bytes are none complex refused = elim refused [
   | inl h ↦ inl (inr (none, complex, h))
   | inr h ↦ inr (h.0, items-crowded bytes are none complex h.1)
+]
+
+-- ---- texts of the grammar
+
+no_flag_in : (remote local : ℕ) → remote < 2 ^ 8 → local < 2 ^ 8 → (remote + local * 2 ^ 8 + 0) / 2 ^ 31 % 2 ≡ 1 → ⊥
+no_flag_in remote local r l h = omega arith
+
+word_at-first : (n : ℕ) (rest : List ℕ) → n < 2 ^ 32 → word_at (word n ++ rest) 0 ≡ n
+word_at-first n rest fits = word_at-word n rest fits
+
+raw_bits : (h : Header) (body : List ℕ) → IsHeader h → ¬ (is_bit (word_at (text h (raw body)) 0) 31)
+raw_bits h body fits set =
+    let n = h.remote_kind + h.local_kind * 2 ^ 8 + 0 in
+    let small : n < 2 ^ 32 = omega (arith, fits.remote_kind, fits.local_kind) in
+    let e : word_at (text h (raw body)) 0 ≡ n = word_at-first n (word h.size ++ word h.remote ++ word h.local ++ word h.sequence ++ word h.id ++ body) small in
+    no_flag_in h.remote_kind h.local_kind fits.remote_kind fits.local_kind (subst (λ (m : ℕ). is_bit m 31) e set)
+
+text-not_refused : (h : Header) (written : WireBody) (code : ℕ) → IsHeader h → IsWireBody written → NoneHolds (header_guards (text h written))
+    → ¬ (TextRefuses (text h written) code)
+text-not_refused h (raw body) code fits body_fits none refused =
+    raw_not_refused (text h (raw body)) code none (raw_bits h body fits) refused
+text-not_refused h (items xs) code fits body_fits none refused =
+    items_are_not_refused (text h (items xs)) xs code none refl body_fits refused
+
+-- a text whose header is lawful isn't refused
+pub message_not_refused : (bytes : List ℕ) (h : Header) (written : WireBody) (code : ℕ) → Spells bytes h written → NoneHolds (header_guards bytes)
+    → ¬ (TextRefuses bytes code)
+message_not_refused bytes h written code spells none refused =
+    text-not_refused h written code spells.header_fits spells.body_fits
+    (subst (λ (t : List ℕ). NoneHolds (header_guards t)) spells.is_text none)
+    (subst (λ (t : List ℕ). TextRefuses t code) spells.is_text refused)
+
+pub only_crowded : {A : Type 0} (r : Result A MsgReturn) (bytes : List ℕ) (h : Header) (written : WireBody) → Spells bytes h written → NoneHolds (header_guards bytes)
+    → IfErr r (λ code. TextRefuses bytes (msg_number code) ⊎ (code ≡ SendNoBuffer) × IsCrowded bytes)
+    → IfErr r (λ code. (code ≡ SendNoBuffer) × IsCrowded bytes)
+only_crowded (Ok v) bytes h written spells none refused = tt
+only_crowded (Err e) bytes h written spells none refused = elim refused [
+  | inl r ↦ absurd (message_not_refused bytes h written (msg_number e) spells none r)
+  | inr r ↦ r
 ]

@@ -2,6 +2,7 @@
 ghost use Rattle.std.specs.Prelude.{◌≡◌, ◌⊎◌, IfOk, IfErr};
 ghost use Rattle.mach_types.specs.declared.codes.MsgReturn.TheVariants.{SendNoBuffer};
 ghost use Rattle.mach_types.specs.Numbers.{msg_number};
+ghost use Rattle.mach_types.specs.Grammar.{Header as AnyHeader, WireBody, Spells};
 ghost use Rattle.mach_types.specs.Guards.{NoneHolds};
 ghost use Rattle.mach_types.specs.TextGuards.{TextRefuses, header_guards};
 ghost use Rattle.message_codec.specs.Parses.{Parses, ReadsBody, IsCrowded};
@@ -69,6 +70,11 @@ pub fn parse(alloc: Global, bytes: &[u8]) -> Result<Parsed, MsgReturn>
     ensures ok { IfOk result (λ parsed. Parses bytes.now parsed) }
     ensures err { IfErr result (λ code. TextRefuses bytes.now (msg_number code)
         ⊎ (code ≡ SendNoBuffer) × IsCrowded bytes.now) }
+
+    // Each text of the grammar whose header is lawful is read, unless memory is refused.
+    ensures whole { (header : AnyHeader) (written : WireBody) → Spells bytes.now header written
+        → NoneHolds (header_guards bytes.now)
+        → IfErr result (λ code. (code ≡ SendNoBuffer) × IsCrowded bytes.now) }
 {
     check_header(bytes)?;
     let spans = read_body(alloc, bytes)?;
