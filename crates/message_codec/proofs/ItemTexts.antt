@@ -104,11 +104,11 @@ data_item-reads bytes at d start count end more whole r start_is data_is room en
       wire = wire;
       fits = (r.lawful.fits, plain, len_data ∙ data_is, omega arith, rw (len_data, len_pad) (omega arith));
       parts =
-        after_descriptor bytes at d r
-        ∙ ap (λ (n : ℕ). text_of d ++ drop n bytes) (sym start_is)
-        ∙ ap (λ (t : List ℕ). text_of d ++ t) split
-        ∙ sym (append_assoc (text_of d) (take count rest) (take pad (drop count rest) ++ drop end bytes))
-        ∙ sym (append_assoc (text_of d ++ take count rest) (take pad (drop count rest)) (drop end bytes));
+          after_descriptor bytes at d r
+          ∙ ap (λ (n : ℕ). text_of d ++ drop n bytes) (sym start_is)
+          ∙ ap (λ (t : List ℕ). text_of d ++ t) split
+          ∙ sym (append_assoc (text_of d) (take count rest) (take pad (drop count rest) ++ drop end bytes))
+          ∙ sym (append_assoc (text_of d ++ take count rest) (take pad (drop count rest)) (drop end bytes));
       end_is = omega (arith, length-append (text_of d ++ take count rest) (take pad (drop count rest)), length-append (text_of d) (take count rest));
       within = fits_end;
       span_is = refl;
@@ -138,15 +138,15 @@ port_item-reads bytes at d s start count end are more r start_is data_is room en
       wire = port_item (form_of d.long) d.name words;
       fits = (rw (← size, len_words) r.lawful.fits, span.0, words_of-fit d.number rest (AreBytes-drop start bytes are));
       parts =
-        after_descriptor bytes at d r
-        ∙ ap (λ (n : ℕ). text_of d ++ drop n bytes) (sym start_is)
-        ∙ ap (λ (t : List ℕ). text_of d ++ t) split
-        ∙ sym (append_assoc (text_of d) (words_text words) (drop end bytes))
-        ∙ ap (λ (t : List ℕ). (t ++ words_text words) ++ drop end bytes) same_text;
+          after_descriptor bytes at d r
+          ∙ ap (λ (n : ℕ). text_of d ++ drop n bytes) (sym start_is)
+          ∙ ap (λ (t : List ℕ). text_of d ++ t) split
+          ∙ sym (append_assoc (text_of d) (words_text words) (drop end bytes))
+          ∙ ap (λ (t : List ℕ). (t ++ words_text words) ++ drop end bytes) same_text;
       end_is = omega (arith, length-append (descriptor_text (form_of d.long) d.name 32 (length words)) (words_text words), ap length same_text, length-words_text words);
       within = fits_end;
       span_is = ap (λ (t : Span). t ∷ []) (same_span s (record { at = at; long = is_long (form_of d.long); disposition = d.name; number = length words })
-        span.1 (span.2 ∙ sym (is_long-form_of d.long)) span.3 (span.4 ∙ sym len_words));
+          span.1 (span.2 ∙ sym (is_long-form_of d.long)) span.3 (span.4 ∙ sym len_words));
     }
 
 pub item-reads : (bytes : List ℕ) (at : ℕ) (d : Descriptor) (span : Option Span) (start count end : ℕ) → AreBytes bytes → at < length bytes → (length bytes - at) % 4 ≡ 0

@@ -5,3 +5,4 @@ pub mod Walking
 pub mod Messages
 pub mod PutWords
 pub mod PutSpans
+pub mod Spelling

@@ -61,9 +61,9 @@ header-spells bytes written are none body fits flag =
     let rest : List ℕ → List ℕ = λ r. word (word_at bytes 4) ++ word (word_at bytes 8) ++ word (word_at bytes 12) ++ word (word_at bytes 16) ++ word (word_at bytes 20) ++ r in
     record {
       is_text =
-        six_words bytes are (long_enough bytes none)
-        ∙ ap (λ (n : ℕ). word n ++ rest (drop 24 bytes)) first
-        ∙ ap (λ (r : List ℕ). word (bits (header_at bytes) written) ++ rest r) body;
+          six_words bytes are (long_enough bytes none)
+          ∙ ap (λ (n : ℕ). word n ++ rest (drop 24 bytes)) first
+          ∙ ap (λ (r : List ℕ). word (bits (header_at bytes) written) ++ rest r) body;
       header_fits = record {
         remote_kind = omega arith;
         local_kind = omega arith;

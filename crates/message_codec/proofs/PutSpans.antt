@@ -20,7 +20,7 @@ words_place-is : (f : Form) (at d n : ℕ) → words_place (record { at = at; lo
 words_place-is short at d n = refl
 words_place-is long at d n = refl
 
-fits-kind : (f : Form) (d k n : ℕ) → FitsForm f d 32 n → k < 2 ^ 8 → FitsForm f k 32 n
+pub fits-kind : (f : Form) (d k n : ℕ) → FitsForm f d 32 n → k < 2 ^ 8 → FitsForm f k 32 n
 fits-kind short d k n fits small = (small, fits.1, fits.2)
 fits-kind long d k n fits small = (small, fits.1, fits.2)
 
@@ -53,8 +53,15 @@ with_span-at f front tail words names d at fits ports same len =
 length-received : (f : Form) (d k : ℕ) (words names : List ℕ) → length names ≡ length words
     → length (wire_text (port_item f k names)) ≡ length (wire_text (port_item f d words))
 length-received f d k words names same =
-    omega (arith, length-append (descriptor_text f k 32 (length names)) (words_text names), length-append (descriptor_text f d 32 (length words)) (words_text words),
-      length-descriptor_text f k 32 (length names), length-descriptor_text f d 32 (length words), length-words_text names, length-words_text words)
+    omega (
+      arith,
+      length-append (descriptor_text f k 32 (length names)) (words_text names),
+      length-append (descriptor_text f d 32 (length words)) (words_text words),
+      length-descriptor_text f k 32 (length names),
+      length-descriptor_text f d 32 (length words),
+      length-words_text names,
+      length-words_text words,
+    )
 
 -- all items' kinds and words
 with_spans-at : (xs : List Wire) (front names : List ℕ) (at : ℕ) → All IsWire xs → length front ≡ at → length names ≡ word_count (spans_at at xs)

@@ -82,17 +82,17 @@ grown bytes at end span spans capacity lacks w item =
     record {
       all = w.xs ++ item.wire ∷ [];
       parts =
-        w.parts
-        ∙ ap (λ (t : List ℕ). wires_text w.xs ++ t) item.parts
-        ∙ sym (append_assoc (wires_text w.xs) (wire_text item.wire) (drop end bytes))
-        ∙ ap (λ (t : List ℕ). t ++ drop end bytes) (sym text);
+          w.parts
+          ∙ ap (λ (t : List ℕ). wires_text w.xs ++ t) item.parts
+          ∙ sym (append_assoc (wires_text w.xs) (wire_text item.wire) (drop end bytes))
+          ∙ ap (λ (t : List ℕ). t ++ drop end bytes) (sym text);
       fits = All-push IsWire w.xs item.wire w.fits item.fits;
       end_is = omega (arith, w.at_is, ap length text, length-append (wires_text w.xs) (wire_text item.wire));
       whole = omega arith;
       spans =
-        spans_at-push 24 w.xs item.wire
-        ∙ ap (λ (n : ℕ). spans_at 24 w.xs ++ wire_spans n item.wire) (sym w.at_is)
-        ∙ ap (λ (t : List Span). spans_at 24 w.xs ++ t) (sym item.span_is);
+          spans_at-push 24 w.xs item.wire
+          ∙ ap (λ (n : ℕ). spans_at 24 w.xs ++ wire_spans n item.wire) (sym w.at_is)
+          ∙ ap (λ (t : List Span). spans_at 24 w.xs ++ t) (sym item.span_is);
     }
 
 -- the item's span was kept

@@ -13,7 +13,7 @@ use crate::spans::Span;
 use mach_types::MsgReturn;
 use smallvec::SmallVec;
 use std::alloc::{AllocError, Global};
-use type_descriptor::{data_len, descriptor_len, read_descriptor, Descriptor};
+use type_descriptor::{Descriptor, data_len, descriptor_len, read_descriptor};
 
 /// An item that was read.
 #[derive(Clone, Copy)]

@@ -9,10 +9,11 @@ mod header;
 mod items;
 mod received;
 mod spans;
+#[cfg(test)]
+mod tests;
 mod text;
-
 
 pub use header::Header;
 pub use received::put_received;
 pub use spans::{Span, Spans};
-pub use text::{parse, Parsed};
+pub use text::{Parsed, parse};

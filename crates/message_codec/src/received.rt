@@ -5,9 +5,9 @@ ghost use Rattle.message_codec.specs.Received.{header_text, received_body, recei
 ghost use Rattle.message_codec.specs.Spans.{words_place, word_count, SpansFit};
 ghost use Rattle.message_codec.specs.Putting.{with_span, with_spans};
 
-use crate::header::{put_header, Header};
-use crate::text::Parsed;
+use crate::header::{Header, put_header};
 use crate::spans::Span;
+use crate::text::Parsed;
 use mach_types::Name;
 use type_descriptor::write_word;
 

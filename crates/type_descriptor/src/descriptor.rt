@@ -155,7 +155,11 @@ pub fn read_descriptor(bytes: &[u8], at: usize) -> Result<Descriptor, MsgReturn>
 pub fn descriptor_len(descriptor: &Descriptor) -> usize
     ensures { result ≡ form_length (form_of descriptor.now.long) }
 {
-    if descriptor.long { LONG_BYTES } else { SHORT_BYTES }
+    if descriptor.long {
+        LONG_BYTES
+    } else {
+        SHORT_BYTES
+    }
 }
 
 /// How many bytes of data follow the descriptor, padding not counted. Takes no memory.
@@ -179,6 +183,10 @@ pub fn write_descriptor(descriptor: &Descriptor, bytes: &mut [u8], at: usize)
         write_word(bytes, at + 4, name + size * 0x1_0000);
         write_word(bytes, at + 8, descriptor.number);
     } else {
-        write_word(bytes, at, name + size * 0x100 + descriptor.number * 0x1_0000 + INLINE);
+        write_word(
+            bytes,
+            at,
+            name + size * 0x100 + descriptor.number * 0x1_0000 + INLINE,
+        );
     }
 }

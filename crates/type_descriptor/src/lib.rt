@@ -6,7 +6,9 @@
 #![tactic(auto)]
 
 mod descriptor;
+#[cfg(test)]
+mod tests;
 mod words;
 
-pub use descriptor::{data_len, descriptor_len, read_descriptor, write_descriptor, Descriptor};
+pub use descriptor::{Descriptor, data_len, descriptor_len, read_descriptor, write_descriptor};
 pub use words::{read_word, write_word};

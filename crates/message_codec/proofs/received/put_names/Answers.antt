@@ -11,5 +11,5 @@ loop-name-preserved c =
     record {
       next = omega (arith, c.loop-name.invariant.next);
       bytes = names-step c.args.at c.loop-name.name-index c.name-item.result next c.args.names.now c.args.bytes.now c.loop-name.bytes c.write_word.new.bytes
-      c.requires c.loop-name-test.true c.name-item.is c.loop-name.invariant.next c.loop-name.invariant.bytes wrote;
+          c.requires c.loop-name-test.true c.name-item.is c.loop-name.invariant.next c.loop-name.invariant.bytes wrote;
     }

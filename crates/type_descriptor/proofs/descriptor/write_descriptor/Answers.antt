@@ -17,4 +17,4 @@ returns-then-descriptor c =
     three_words at (2 ^ 28 + 2 ^ 29) (c.from-name.result + c.from-size.result * 2 ^ 16) d.number bytes c.write_word.new.bytes c.write_word-then-descriptor.new.bytes c.write_word-then-descriptor-2.new.bytes
     room c.write_word.ensures c.write_word-then-descriptor.ensures c.write_word-then-descriptor-2.ensures
     ∙ rw (c.from-name.ensures, c.from-size.ensures, is_long)
-      (ap (λ (r : List ℕ). take at bytes ++ r ++ drop (at + 12) bytes) (long_words d.name d.size d.number (omega (arith, fits.0))))
+    (ap (λ (r : List ℕ). take at bytes ++ r ++ drop (at + 12) bytes) (long_words d.name d.size d.number (omega (arith, fits.0))))
