@@ -4,9 +4,6 @@ ghost use Rattle.std.specs.Prelude.{◌≡◌};
 use smallvec::SmallVec;
 use std::marker::Model;
 
-/// How many items with port words are kept without an allocation.
-pub(crate) const INLINE_SPANS: usize = 8;
-
 /// Where an item's port words stand, and what its descriptor says of them.
 #[derive(Clone, Copy, Debug, Default, PartialEq, Eq)]
 pub struct Span {
@@ -38,7 +35,8 @@ impl Span {
     }
 }
 
-/// The port words of a message, item by item from the front. Items of plain data have none.
+/// The port words of a message, item by item from the front. Items of plain data have none. Up to 8
+/// spans take no memory.
 #[derive(Debug, Drop)]
 pub struct Spans {
     spans: SmallVec<Span, 8>,
