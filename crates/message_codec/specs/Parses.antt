@@ -1,6 +1,6 @@
 -- What is read of a message's text.
-use Rattle.std.specs.Prelude.{◌≡◌, ℕ, ◌/◌, ◌%◌, ◌^◌, ◌<◌, Bool, true, false, List, length, drop}
-use Rattle.mach_types.specs.Grammar.{Header, WireBody, raw, items, body_text, Spells}
+use Rattle.std.specs.Prelude.{◌≡◌, ℕ, ◌/◌, ◌%◌, ◌^◌, ◌<◌, Bool, true, false, List, length}
+use Rattle.mach_types.specs.Grammar.{Header, WireBody, raw, items, Spells}
 use Rattle.mach_types.specs.TextGuards.{TextRefuses, is_bit, word_at}
 use Rattle.message_codec.specs.declared.spans.Span.{Span}
 use Rattle.message_codec.specs.declared.text.Parsed.{Parsed}

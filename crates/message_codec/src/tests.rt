@@ -28,6 +28,18 @@ fn with_items(rt: &impl Abort, alloc: Global, body: &[u8]) -> Vec<u8> {
     bytes
 }
 
+/// Makes the message the one that a receiver gets, where it has as many port words as names.
+fn receive(alloc: Global, bytes: &mut [u8], header: &Header, names: &[Name]) -> bool {
+    let Ok(parsed) = parse(alloc, bytes) else {
+        return false;
+    };
+    if parsed.spans.as_slice().len() > 100 || parsed.spans.word_count() != names.len() as u64 {
+        return false;
+    }
+    put_received(bytes, &parsed, header, names);
+    true
+}
+
 #[test]
 fn parses_headers(rt: HostRuntime) {
     let parsed = parse(rt.alloc(), &SMALLEST).ok().expect(&rt, "a message");
@@ -145,8 +157,7 @@ fn receives_items(rt: HostRuntime) {
         id: 7,
     };
     let names = [Name::null(), Name::dead(), Name::new(2)];
-    assert!(rt; parsed.spans.as_slice().len() == 2 && parsed.spans.word_count() == 3);
-    put_received(&mut bytes, &parsed, &header, &names);
+    assert!(rt; receive(rt.alloc(), &mut bytes, &header, &names));
     let received = [
         0, 0x11, 0, 0x80, 0x40, 0, 0, 0, 0, 0, 0, 0, 4, 3, 2, 1, 5, 0, 0, 0, 7, 0, 0, 0, 0x11,
         0x20, 2, 0x10, 0, 0, 0, 0, 0xff, 0xff, 0xff, 0xff, 8, 8, 5, 0x10, 1, 2, 3, 4, 5, 0xaa,
