@@ -1,5 +1,5 @@
 -- A finite map at a key, and at another.
-use Rattle.std.proofs.Common.{◌≡◌, ◌≢◌, ◌⊎◌, inl, inr, ℕ, ◌+◌, ◌-◌, ◌<◌, ◌≤◌, Bool, true, false, cond, refl, ap, sym, ◌∙◌, Option, Some, None, eqb, arith}
+use Rattle.std.proofs.Common.{◌≡◌, ◌≢◌, ◌⊎◌, inl, inr, ℕ, ◌+◌, ◌-◌, ◌<◌, ◌≤◌, Bool, true, false, cond, refl, ap, sym, ◌∙◌, Option, Some, None, is_some, eqb, arith}
 use Rattle.std.proofs.lemmas.Bool.{ne_eqb}
 use Rattle.std.proofs.lemmas.Bool.Decides.{eqb_tells}
 use Rattle.std.specs.Ordering.{nat_cmp, eq_by_cmp}
@@ -16,7 +16,7 @@ some_or_none x o a b = let e : Some x ≡ None = sym a ∙ b in cc
 pub equal_or_not : (q k : ℕ) → (q ≡ k) ⊎ (q ≢ k)
 equal_or_not q k = elim (eqb_tells q k) [ inl h ↦ inl h.1 | inr h ↦ inr h.1 ]
 
-eqb-same : (k : ℕ) → eqb k k ≡ true
+pub eqb-same : (k : ℕ) → eqb k k ≡ true
 eqb-same k = elim (eqb_tells k k) [ inl h ↦ h.0 | inr h ↦ absurd (h.1 refl) ]
 
 pub is_or_not : (o : Option ℕ) (k : ℕ) → (o ≡ Some k) ⊎ (o ≢ Some k)
@@ -69,3 +69,27 @@ len-out m k {most} h = told (map.contains_key m k) (map.len (map.remove m k)) (m
     told : (b : Bool) (a : ℕ) → a ≡ cond b (map.len m - 1) (map.len m) → a ≤ most
     told true a e = omega arith
     told false a e = omega arith
+
+-- one key less
+pub fewer : (m : map.FinMap nat_cmp ℕ) (k v : ℕ) {most : ℕ} → map.get m k ≡ Some v → map.len m ≤ most → map.len (map.remove m k) < most
+fewer m k v {most} here h =
+    let out : map.len (map.remove m k) ≡ map.len m - 1 = map.len-remove nat_cmp_total m k ∙ ap (λ o. cond (is_some o) (map.len m - 1) (map.len m)) here in
+    let some : (map.len m ≡ 0 → ⊥) = λ none. some_or_none v _ here (ap (λ (a : map.FinMap nat_cmp ℕ). map.get a k) (map.empty_of_len m none) ∙ map.get-empty nat_cmp k) in
+    omega arith
+
+-- a key put back, and a key put over what it was taken from
+pub put_back : (m : map.FinMap nat_cmp ℕ) (k v : ℕ) → map.get m k ≡ Some v → map.insert (map.remove m k) k v ≡ m
+put_back m k v here = same_gets _ _ (λ q. elim (equal_or_not q k) [
+  | inl e ↦ ap (map.get (map.insert (map.remove m k) k v)) e ∙ put_here (map.remove m k) k v ∙ sym here ∙ ap (map.get m) (sym e)
+  | inr d ↦ put_other (map.remove m k) k v q d ∙ out_other m k q d
+])
+
+pub put_over : {X : Type 0} (m : map.FinMap nat_cmp X) (k : ℕ) (v : X) → map.insert (map.remove m k) k v ≡ map.insert m k v
+put_over m k v = same_gets _ _ (λ q. elim (equal_or_not q k) [
+  | inl e ↦ ap (map.get (map.insert (map.remove m k) k v)) e ∙ put_here (map.remove m k) k v ∙ sym (put_here m k v) ∙ ap (map.get (map.insert m k v)) (sym e)
+  | inr d ↦ put_other (map.remove m k) k v q d ∙ out_other m k q d ∙ sym (put_other m k v q d)
+])
+
+pub relinked : (o : Option ℕ) (key : ℕ) (m : map.FinMap nat_cmp ℕ) → ((k : ℕ) → o ≡ Some k → map.get m k ≡ Some key) → linked o key (unlinked o m) ≡ m
+relinked None key m h = refl
+relinked (Some k) key m h = put_back m k key (h k refl)

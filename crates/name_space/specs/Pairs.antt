@@ -9,6 +9,9 @@ Pairs = List (ℕ × ℕ)
 abbrev pub key_at : Pairs → ℕ → ℕ
 key_at l i = let pair = slice_index_or l i (0, 0) in pair.0
 
+abbrev pub value_at : Pairs → ℕ → ℕ
+value_at l i = let pair = slice_index_or l i (0, 0) in pair.1
+
 -- the keys rise, so no key comes twice
 abbrev pub IsStrictlySorted : Pairs → Type 0
 IsStrictlySorted l = (i j : ℕ) → i < j → j < length l → key_at l i < key_at l j

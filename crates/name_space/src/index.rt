@@ -1,8 +1,8 @@
 //! A map from numbers to numbers: pairs in a vector, by rising keys.
-ghost use Rattle.std.specs.Prelude.{◌≡◌, ◌≢◌, ◌+◌, ◌<◌, ◌≤◌, ℕ, None, IfOk, IfErr, OnOk, OnErr};
+ghost use Rattle.std.specs.Prelude.{◌≡◌, ◌≢◌, ◌+◌, ◌<◌, ◌≤◌, ℕ, length, Some, None, IfOk, IfErr, OnOk, OnErr};
 ghost use Rattle.std.specs.FinMap as map;
 ghost use Rattle.name_space.specs.Names.{IsFreshName};
-ghost use Rattle.name_space.specs.Pairs.{IsStrictlySorted, IsAt, IsGapFor};
+ghost use Rattle.name_space.specs.Pairs.{IsStrictlySorted, IsAt, IsGapFor, key_at, value_at};
 
 use std::alloc::{AllocError, Global};
 use std::marker::Model;
@@ -118,7 +118,8 @@ impl Index {
 
     // The pairs, keys rising.
     pub(crate) fn pairs(&self) -> &[(u64, usize)]
-        ensures { result.now ≡ map.entries self.now.map }
+        ensures entries { result.now ≡ map.entries self.now.map }
+        ensures found { (i : ℕ) → i < length result.now → map.get self.now.map (key_at result.now i) ≡ Some (value_at result.now i) }
     {
         &self.pairs
     }
