@@ -1,5 +1,7 @@
 -- What the names are, and what becomes of them and of the indexes when a record comes or goes.
-use Rattle.std.proofs.Common.{◌≡◌, ◌≢◌, ◌⊎◌, inl, inr, ℕ, ◌+◌, ◌-◌, ◌<◌, ◌≤◌, ◌^◌, true, refl, ap, sym, subst, ◌∙◌, Option, Some, None, is_some, false, IfSome, OnSome, List, [], count_by, slice_index_or, if◌then◌else◌, ◌==◌, arith}
+use Rattle.std.proofs.Common.{◌≡◌, ◌≢◌, ◌⊎◌, inl, inr, ℕ, ◌+◌, ◌-◌, ◌<◌, ◌≤◌, ◌^◌, true, refl, ap, sym, subst, ◌∙◌, Option, Some, None, is_some, false, IfSome, OnSome, List, [], count_by, slice_index_or, if◌then◌else◌, ◌==◌, length, get_or, map as map_list, arith}
+use Rattle.std.proofs.lemmas.List.{get_or-map}
+use Rattle.name_space.specs.Pairs.{Pairs, key_at, value_at}
 use Rattle.std.proofs.lemmas.Bool.{ne_eqb}
 use Rattle.std.specs.Option.{option_map, option_and_then}
 use Rattle.std.specs.Ordering.{nat_cmp}
@@ -49,6 +51,7 @@ module _ (at : At) (n : Keyed) where
     where
       no_true : false ≡ true → ⊥
       no_true e = cc
+
       some_of : (o : Option ℕ) → is_some (option_map (λ k. entry_in (at k)) o) ≡ true → (k : ℕ) × (o ≡ Some k)
       some_of None e = absurd (no_true e)
       some_of (Some k) e = (k, refl)
@@ -83,7 +86,7 @@ module _ (at : At) (n p : Keyed) (x : IsIndexed at n p) where
 -- ---- a record comes
 
 module _ (at new : At) (n p : Keyed) (x : IsIndexed at n p) (name : ℕ) (entry : Entry) (key : ℕ) (vacant : at key ≡ None)
-  (turns : Turns at new key (Some record { name = name; entry = entry })) (absent : map.get n name ≡ None) where
+    (turns : Turns at new key (Some record { name = name; entry = entry })) (absent : map.get n name ≡ None) where
   alive : (k : ℕ) (r : Record) → at k ≡ Some r → k ≢ key
   alive k r h e = some_or_none r (at k) h (ap at e ∙ vacant)
 
@@ -107,10 +110,10 @@ module _ (at new : At) (n p : Keyed) (x : IsIndexed at n p) (name : ℕ) (entry 
   pub names-inserted : names_of new (map.insert n name key) ≡ map.insert (names_of at n) name entry
   names-inserted = same_gets _ _ (λ q. elim (equal_or_not q name) [
     | inl e ↦ get-names new (map.insert n name key) q ∙ ap (λ a. option_map (λ k. entry_in (new k)) (map.get (map.insert n name key) a)) e
-      ∙ ap (option_map (λ k. entry_in (new k))) (put_here n name key) ∙ ap (λ o. Some (entry_in o)) turns.changed ∙ sym (put_here (names_of at n) name entry)
-      ∙ ap (map.get (map.insert (names_of at n) name entry)) (sym e)
+        ∙ ap (option_map (λ k. entry_in (new k))) (put_here n name key) ∙ ap (λ o. Some (entry_in o)) turns.changed ∙ sym (put_here (names_of at n) name entry)
+        ∙ ap (map.get (map.insert (names_of at n) name entry)) (sym e)
     | inr d ↦ get-names new (map.insert n name key) q ∙ ap (option_map (λ k. entry_in (new k))) (put_other n name key q d) ∙ same_at q
-      ∙ sym (get-names at n q) ∙ sym (put_other (names_of at n) name entry q d)
+        ∙ sym (get-names at n q) ∙ sym (put_other (names_of at n) name entry q d)
   ])
 
   pub port_absent : HasNoOther (names_of at n) entry → (port : ℕ) → port_named entry ≡ Some port → map.get p port ≡ None
@@ -124,8 +127,8 @@ module _ (at new : At) (n p : Keyed) (x : IsIndexed at n p) (name : ℕ) (entry 
     named' : (q k : ℕ) → map.get (map.insert n name key) q ≡ Some k → (e : Entry) × (new k ≡ Some record { name = q; entry = e })
     named' q k h = elim (equal_or_not q name) [
       | inl e ↦
-        let same : key ≡ k = same_some key k (sym (put_here n name key) ∙ ap (map.get (map.insert n name key)) (sym e) ∙ h) in
-        (entry, ap new (sym same) ∙ turns.changed ∙ ap (λ a. Some (let r : Record = record { name = a; entry = entry } in r)) (sym e))
+          let same : key ≡ k = same_some key k (sym (put_here n name key) ∙ ap (map.get (map.insert n name key)) (sym e) ∙ h) in
+          (entry, ap new (sym same) ∙ turns.changed ∙ ap (λ a. Some (let r : Record = record { name = a; entry = entry } in r)) (sym e))
       | inr d ↦ let found = x.named q k (sym (put_other n name key q d) ∙ h) in (found.0, stays k _ found.1)
     ]
 
@@ -138,8 +141,8 @@ module _ (at new : At) (n p : Keyed) (x : IsIndexed at n p) (name : ℕ) (entry 
     ported' : (port k : ℕ) → map.get (linked (port_named entry) key p) port ≡ Some k → (r : Record) × (new k ≡ Some r) × (port_named r.entry ≡ Some port)
     ported' port k h = elim (is_or_not (port_named entry) port) [
       | inl is ↦
-        let same : key ≡ k = same_some key k (sym (linked_here (port_named entry) key p port is) ∙ h) in
-        (record { name = name; entry = entry }, ap new (sym same) ∙ turns.changed, is)
+          let same : key ≡ k = same_some key k (sym (linked_here (port_named entry) key p port is) ∙ h) in
+          (record { name = name; entry = entry }, ap new (sym same) ∙ turns.changed, is)
       | inr other ↦ let found = x.ported port k (sym (linked_other (port_named entry) key p port other) ∙ h) in (found.0, stays k found.0 found.1, found.2)
     ]
 
@@ -164,7 +167,7 @@ module _ (at new : At) (n p : Keyed) (x : IsIndexed at n p) (name : ℕ) (entry 
 -- ---- a record goes
 
 module _ (at new : At) (n p : Keyed) (x : IsIndexed at n p) (name : ℕ) (entry : Entry) (key : ℕ) (was : at key ≡ Some record { name = name; entry = entry })
-  (turns : Turns at new key None) where
+    (turns : Turns at new key None) where
   -- what is there was there, and is another
   left_there : (k : ℕ) (r : Record) → new k ≡ Some r → (k ≢ key) × (at k ≡ Some r)
   left_there k r h = let d : k ≢ key = λ e. some_or_none r (new k) h (ap new e ∙ turns.changed) in (d, sym (turns.others k d) ∙ h)
@@ -189,32 +192,32 @@ module _ (at new : At) (n p : Keyed) (x : IsIndexed at n p) (name : ℕ) (entry 
   names-removed = same_gets _ _ (λ q. elim (equal_or_not q name) [
     | inl e ↦ no_entry_at new (map.remove n name) q (ap (map.get (map.remove n name)) e ∙ out_here n name) ∙ sym (ap (map.get (map.remove (names_of at n) name)) e ∙ out_here (names_of at n) name)
     | inr d ↦ get-names new (map.remove n name) q ∙ ap (option_map (λ k. entry_in (new k))) (out_other n name q d) ∙ same_after q d
-      ∙ sym (get-names at n q) ∙ sym (out_other (names_of at n) name q d)
+        ∙ sym (get-names at n q) ∙ sym (out_other (names_of at n) name q d)
   ])
 
   pub indexed-removed : IsIndexed new (map.remove n name) (unlinked (port_named entry) p)
   indexed-removed = record {
     named = λ q k h.
-      let d : q ≢ name = λ e. some_or_none k _ h (ap (map.get (map.remove n name)) e ∙ out_here n name) in
-      let there : map.get n q ≡ Some k = sym (out_other n name q d) ∙ h in
-      ((x.named q k there).0, turns.others k (kept q k d there) ∙ (x.named q k there).1);
+        let d : q ≢ name = λ e. some_or_none k _ h (ap (map.get (map.remove n name)) e ∙ out_here n name) in
+        let there : map.get n q ≡ Some k = sym (out_other n name q d) ∙ h in
+        ((x.named q k there).0, turns.others k (kept q k d there) ∙ (x.named q k there).1);
     held = λ k r h.
-      let there = left_there k r h in
-      out_other n name r.name (λ e. there.0 (same_some k key (sym (x.held k r there.1) ∙ ap (map.get n) e ∙ found))) ∙ x.held k r there.1;
+        let there = left_there k r h in
+        out_other n name r.name (λ e. there.0 (same_some k key (sym (x.held k r there.1) ∙ ap (map.get n) e ∙ found))) ∙ x.held k r there.1;
     ported = λ port k h.
-      let d : port_named entry ≢ Some port = λ is. some_or_none k _ h (unlinked_here (port_named entry) p port is) in
-      let at_port = x.ported port k (sym (unlinked_other (port_named entry) p port d) ∙ h) in
-      let other : k ≢ key = λ e. d (ap (λ (r : Record). port_named r.entry) (same_some _ _ (sym was ∙ ap at (sym e) ∙ at_port.1)) ∙ at_port.2) in
-      (at_port.0, turns.others k other ∙ at_port.1, at_port.2);
+        let d : port_named entry ≢ Some port = λ is. some_or_none k _ h (unlinked_here (port_named entry) p port is) in
+        let at_port = x.ported port k (sym (unlinked_other (port_named entry) p port d) ∙ h) in
+        let other : k ≢ key = λ e. d (ap (λ (r : Record). port_named r.entry) (same_some _ _ (sym was ∙ ap at (sym e) ∙ at_port.1)) ∙ at_port.2) in
+        (at_port.0, turns.others k other ∙ at_port.1, at_port.2);
     port_held = λ k r port h is.
-      let there = left_there k r h in
-      let here : map.get p port ≡ Some k = x.port_held k r port there.1 is in
-      unlinked_other (port_named entry) p port (λ e. there.0 (same_some k key (sym here ∙ x.port_held key _ port was e))) ∙ here;
+        let there = left_there k r h in
+        let here : map.get p port ≡ Some k = x.port_held k r port there.1 is in
+        unlinked_other (port_named entry) p port (λ e. there.0 (same_some k key (sym here ∙ x.port_held key _ port was e))) ∙ here;
     not_null = gone 0 x.not_null;
     not_dead = gone dead_word x.not_dead;
     fits = λ q k h.
-      let d : q ≢ name = λ e. some_or_none k _ h (ap (map.get (map.remove n name)) e ∙ out_here n name) in
-      x.fits q k (sym (out_other n name q d) ∙ h);
+        let d : q ≢ name = λ e. some_or_none k _ h (ap (map.get (map.remove n name)) e ∙ out_here n name) in
+        x.fits q k (sym (out_other n name q d) ∙ h);
     few = len-out n name x.few;
   }
     where
@@ -242,17 +245,17 @@ sound-empty s n p e f g =
     let ports : map.len p.map ≡ 0 = ap (λ (m : Keyed). map.len m) g ∙ none in
     let held : slab_len s ≡ 0 = ap (λ (l : List (Option Record)). count_by is_some l) e in
     sound s n p 0 map.empty map.empty f g
-      record {
-        named = λ q k h. absurd (nothing_in q k h);
-        held = λ k r h. absurd (nothing_at s e k r h);
-        ported = λ q k h. absurd (nothing_in q k h);
-        port_held = λ k r q h is. absurd (nothing_at s e k r h);
-        not_null = map.get-empty nat_cmp 0;
-        not_dead = map.get-empty nat_cmp dead_word;
-        fits = λ q k h. absurd (nothing_in q k h);
-        few = omega arith;
-      }
-      record { names_fit = omega arith; ports_fit = omega arith; records_fit = omega arith }
+    record {
+      named = λ q k h. absurd (nothing_in q k h);
+      held = λ k r h. absurd (nothing_at s e k r h);
+      ported = λ q k h. absurd (nothing_in q k h);
+      port_held = λ k r q h is. absurd (nothing_at s e k r h);
+      not_null = map.get-empty nat_cmp 0;
+      not_dead = map.get-empty nat_cmp dead_word;
+      fits = λ q k h. absurd (nothing_in q k h);
+      few = omega arith;
+    }
+    record { names_fit = omega arith; ports_fit = omega arith; records_fit = omega arith }
 
 pub names-empty : (at : At) (n : Keyed) → n ≡ map.empty → names_of at n ≡ map.empty
 names-empty at n e = map.empty_of_len _ (len-with_values (λ k. entry_in (at k)) n ∙ ap (λ (m : Keyed). map.len m) e ∙ map.len-empty nat_cmp ℕ)
@@ -276,9 +279,9 @@ on_some (Some k) P h = h
 -- ---- a space with one record more
 
 module _ (s t : Slab Record) (n m p q : IndexView) (room : ℕ) (v : SpaceView) (view_is : record { names = names_of (get s) n.map; room = room } ≡ v) (so : IsSound s n p room)
-  (name key : ℕ) (entry : Entry) (vacant : get s key ≡ None) (changed : get t key ≡ Some record { name = name; entry = entry }) (others : (other : ℕ) → other ≢ key → get t other ≡ get s other)
-  (long : slab_len t ≡ slab_len s + 1) (wide : t.capacity ≡ s.capacity) (unused : map.get v.names name ≡ None)
-  (came : m ≡ record { map = map.insert n.map name key; capacity = n.capacity }) (linking : q ≡ record { map = linked (port_named entry) key p.map; capacity = p.capacity }) where
+    (name key : ℕ) (entry : Entry) (vacant : get s key ≡ None) (changed : get t key ≡ Some record { name = name; entry = entry }) (others : (other : ℕ) → other ≢ key → get t other ≡ get s other)
+    (long : slab_len t ≡ slab_len s + 1) (wide : t.capacity ≡ s.capacity) (unused : map.get v.names name ≡ None)
+    (came : m ≡ record { map = map.insert n.map name key; capacity = n.capacity }) (linking : q ≡ record { map = linked (port_named entry) key p.map; capacity = p.capacity }) where
   turns : Turns (get s) (get t) key (Some record { name = name; entry = entry })
   turns = record { changed = changed; others = others }
 
@@ -310,8 +313,8 @@ module _ (s t : Slab Record) (n m p q : IndexView) (room : ℕ) (v : SpaceView) 
       let h2 = so.has_room.ports_fit in
       let h3 = so.has_room.records_fit in
       sound t m q (room - 1) _ _ names-came (ap (λ (a : IndexView). a.map) linking)
-        (indexed-inserted (get s) (get t) n.map p.map so.indexed name entry key vacant turns absent_key own_apart not_null not_dead fits (omega arith))
-        record { names_fit = omega arith; ports_fit = omega arith; records_fit = omega arith }
+      (indexed-inserted (get s) (get t) n.map p.map so.indexed name entry key vacant turns absent_key own_apart not_null not_dead fits (omega arith))
+      record { names_fit = omega arith; ports_fit = omega arith; records_fit = omega arith }
 
   pub no_port_key : HasNoOther v.names entry → (port : ℕ) → port_named entry ≡ Some port → map.get p.map port ≡ None
   no_port_key apart =
@@ -320,9 +323,9 @@ module _ (s t : Slab Record) (n m p q : IndexView) (room : ℕ) (v : SpaceView) 
 -- ---- a space with one record less
 
 module _ (s t : Slab Record) (n m p q : IndexView) (room : ℕ) (v : SpaceView) (view_is : record { names = names_of (get s) n.map; room = room } ≡ v) (so : IsSound s n p room)
-  (name key : ℕ) (entry : Entry) (was : get s key ≡ Some record { name = name; entry = entry }) (changed : get t key ≡ None) (others : (other : ℕ) → other ≢ key → get t other ≡ get s other)
-  (long : slab_len t + 1 ≡ slab_len s) (wide : t.capacity ≡ s.capacity)
-  (went : m ≡ record { map = map.remove n.map name; capacity = n.capacity }) (unlinking : q ≡ record { map = unlinked (port_named entry) p.map; capacity = p.capacity }) where
+    (name key : ℕ) (entry : Entry) (was : get s key ≡ Some record { name = name; entry = entry }) (changed : get t key ≡ None) (others : (other : ℕ) → other ≢ key → get t other ≡ get s other)
+    (long : slab_len t + 1 ≡ slab_len s) (wide : t.capacity ≡ s.capacity)
+    (went : m ≡ record { map = map.remove n.map name; capacity = n.capacity }) (unlinking : q ≡ record { map = unlinked (port_named entry) p.map; capacity = p.capacity }) where
   turns_out : Turns (get s) (get t) key None
   turns_out = record { changed = changed; others = others }
 
@@ -348,8 +351,8 @@ module _ (s t : Slab Record) (n m p q : IndexView) (room : ℕ) (v : SpaceView) 
       let h2 = so.has_room.ports_fit in
       let h3 = so.has_room.records_fit in
       sound t m q room _ _ names-went (ap (λ (a : IndexView). a.map) unlinking)
-        (indexed-removed (get s) (get t) n.map p.map so.indexed name entry key was turns_out)
-        record { names_fit = omega arith; ports_fit = omega arith; records_fit = omega arith }
+      (indexed-removed (get s) (get t) n.map p.map so.indexed name entry key was turns_out)
+      record { names_fit = omega arith; ports_fit = omega arith; records_fit = omega arith }
 
 -- ---- a record in the place of another
 
@@ -363,8 +366,8 @@ one_name at n p x a b port h g =
     ap (λ (r : Record). r.name) same
 
 module _ (at new : At) (n p : Keyed) (x : IsIndexed at n p) (name : ℕ) (before : Entry) (key : ℕ) (was : at key ≡ Some record { name = name; entry = before })
-  (to : ℕ) (entry : Entry) (turns : Turns at new key (Some record { name = to; entry = entry }))
-  (unused : map.get (map.remove n name) to ≡ None) (same : (port : ℕ) → port_named entry ≡ Some port → port_named before ≡ Some port) where
+    (to : ℕ) (entry : Entry) (turns : Turns at new key (Some record { name = to; entry = entry }))
+    (unused : map.get (map.remove n name) to ≡ None) (same : (port : ℕ) → port_named entry ≡ Some port → port_named before ≡ Some port) where
   abbrev gone : At
   gone k = if k == key then None else at k
 
@@ -426,10 +429,10 @@ len-relinked (Some k) b key m h =
 -- ---- a space with another entry under a name
 
 module _ (s t : Slab Record) (n p q : IndexView) (room : ℕ) (v : SpaceView) (view_is : record { names = names_of (get s) n.map; room = room } ≡ v) (so : IsSound s n p room)
-  (name key : ℕ) (r : Record) (entry : Entry) (found : map.get n.map name ≡ Some key) (here : get s key ≡ Some r)
-  (changed : get t key ≡ Some record { name = name; entry = entry }) (others : (other : ℕ) → other ≢ key → get t other ≡ get s other)
-  (long : slab_len t ≡ slab_len s) (wide : t.capacity ≡ s.capacity) (keeps : (port : ℕ) → port_named entry ≡ Some port → port_at v.names name ≡ Some port)
-  (linking : q ≡ record { map = linked (port_named entry) key (unlinked (port_named r.entry) p.map); capacity = p.capacity }) where
+    (name key : ℕ) (r : Record) (entry : Entry) (found : map.get n.map name ≡ Some key) (here : get s key ≡ Some r)
+    (changed : get t key ≡ Some record { name = name; entry = entry }) (others : (other : ℕ) → other ≢ key → get t other ≡ get s other)
+    (long : slab_len t ≡ slab_len s) (wide : t.capacity ≡ s.capacity) (keeps : (port : ℕ) → port_named entry ≡ Some port → port_at v.names name ≡ Some port)
+    (linking : q ≡ record { map = linked (port_named entry) key (unlinked (port_named r.entry) p.map); capacity = p.capacity }) where
   x : IsIndexed (get s) n.map p.map
   x = so.indexed
 
@@ -468,9 +471,9 @@ module _ (s t : Slab Record) (n p q : IndexView) (room : ℕ) (v : SpaceView) (v
   pub sound-replaced : IsSound t n q room
   sound-replaced =
       let new : IsIndexed (get t) (map.insert (map.remove n.map name) name key) (linked (port_named entry) key (unlinked (port_named r.entry) p.map)) =
-        indexed-renewed (get s) (get t) n.map p.map x name r.entry key was name entry turns_to (out_here n.map name) same_port (used_name 0 x.not_null) (used_name dead_word x.not_dead) (x.fits name key found) in
+      indexed-renewed (get s) (get t) n.map p.map x name r.entry key was name entry turns_to (out_here n.map name) same_port (used_name 0 x.not_null) (used_name dead_word x.not_dead) (x.fits name key found) in
       let few : map.len (linked (port_named entry) key (unlinked (port_named r.entry) p.map)) ≤ map.len p.map =
-        len-relinked (port_named entry) (port_named r.entry) key p.map (λ k is. (same_port k is, x.port_held key r k here (same_port k is))) in
+      len-relinked (port_named entry) (port_named r.entry) key p.map (λ k is. (same_port k is, x.port_held key r k here (same_port k is))) in
       let qa : map.len q.map ≡ map.len (linked (port_named entry) key (unlinked (port_named r.entry) p.map)) = ap (λ (a : IndexView). map.len a.map) linking in
       let qc : q.capacity ≡ p.capacity = ap (λ (a : IndexView). a.capacity) linking in
       let h1 = so.has_room.names_fit in
@@ -491,10 +494,10 @@ less_than_all n name key room found h =
     omega arith
 
 module _ (s t : Slab Record) (n m p : IndexView) (room : ℕ) (v : SpaceView) (view_is : record { names = names_of (get s) n.map; room = room } ≡ v) (so : IsSound s n p room)
-  (name key to : ℕ) (r : Record) (found : map.get n.map name ≡ Some key) (here : get s key ≡ Some r)
-  (changed : get t key ≡ Some record { name = to; entry = r.entry }) (others : (other : ℕ) → other ≢ key → get t other ≡ get s other)
-  (long : slab_len t ≡ slab_len s) (wide : t.capacity ≡ s.capacity) (unused : map.get v.names to ≡ None)
-  (renamed : m ≡ record { map = map.insert (map.remove n.map name) to key; capacity = n.capacity }) where
+    (name key to : ℕ) (r : Record) (found : map.get n.map name ≡ Some key) (here : get s key ≡ Some r)
+    (changed : get t key ≡ Some record { name = to; entry = r.entry }) (others : (other : ℕ) → other ≢ key → get t other ≡ get s other)
+    (long : slab_len t ≡ slab_len s) (wide : t.capacity ≡ s.capacity) (unused : map.get v.names to ≡ None)
+    (renamed : m ≡ record { map = map.insert (map.remove n.map name) to key; capacity = n.capacity }) where
   was_so : get s key ≡ Some record { name = name; entry = r.entry }
   was_so = record_there (get s) n.map p.map so.indexed name key r found here
 
@@ -514,7 +517,7 @@ module _ (s t : Slab Record) (n m p : IndexView) (room : ℕ) (v : SpaceView) (v
   pub sound-renamed : to ≢ 0 → to ≢ dead_word → to < 2 ^ 32 → IsSound t m p room
   sound-renamed not_null not_dead fits =
       let new : IsIndexed (get t) (map.insert (map.remove n.map name) to key) (linked (port_named r.entry) key (unlinked (port_named r.entry) p.map)) =
-        indexed-renewed (get s) (get t) n.map p.map so.indexed name r.entry key was_so to r.entry turns_name no_key_yet (λ port is. is) not_null not_dead fits in
+      indexed-renewed (get s) (get t) n.map p.map so.indexed name r.entry key was_so to r.entry turns_name no_key_yet (λ port is. is) not_null not_dead fits in
       let same_ports : linked (port_named r.entry) key (unlinked (port_named r.entry) p.map) ≡ p.map = relinked (port_named r.entry) key p.map (λ k is. so.indexed.port_held key r k here is) in
       let less : map.len (map.remove n.map name) < map.len n.map = fewer n.map name key found (omega arith) in
       let one : map.len (map.insert (map.remove n.map name) to key) ≤ map.len n.map = len-put (map.remove n.map name) to key less in
@@ -524,3 +527,12 @@ module _ (s t : Slab Record) (n m p : IndexView) (room : ℕ) (v : SpaceView) (v
       let h2 = so.has_room.ports_fit in
       let h3 = so.has_room.records_fit in
       sound t m p room _ _ (ap (λ (a : IndexView). a.map) renamed) (sym same_ports) new record { names_fit = omega arith; ports_fit = h2; records_fit = omega arith }
+
+-- the record that the pair at place i leads to has the key at place i as its name
+pub key_in_turn : (at : At) (n p : Keyed) → IsIndexed at n p → (l : Pairs) → l ≡ map.entries n → (i : ℕ) → i < length l → map.get n (key_at l i) ≡ Some (value_at l i) →
+    (k : ℕ) (r : Record) → k ≡ value_at l i → at k ≡ Some r → r.name ≡ get_or (map.keys n) i 0
+key_in_turn at n p x l is i h found k r e here =
+    let there = x.named (key_at l i) (value_at l i) found in
+    let same : ◌≡◌ {A = Record} r record { name = key_at l i; entry = there.0 } = same_some _ _ (sym here ∙ ap at e ∙ there.1) in
+    let first : ℕ × ℕ → ℕ = λ a. a.0 in
+    ap (λ (a : Record). a.name) same ∙ sym (get_or-map first l i (0, 0) 0 h) ∙ ap (λ (a : Pairs). get_or (map_list first a) i 0) is

@@ -4,6 +4,7 @@
 //! receive or send rights, and the name is found by the port. Room for names to come is made by
 //! [`Space::reserve`]; nothing else but [`Space::names`] takes memory.
 #![tactic(auto)]
+
 ghost use Rattle.std.specs.Prelude.{◌≡◌, ◌≢◌, ℕ, ◌+◌, ◌-◌, ◌<◌, ◌≤◌, ◌↔◌, IsTrue, true, Some, None, IfOk, IfSome, IfNone, OnSome, OnOk};
 ghost use Rattle.std.specs.FinMap as map;
 ghost use Rattle.slab.specs.Slab.{ContainsKey, Updates, slab_len};
@@ -44,7 +45,9 @@ impl Entry {
         ensures { result ≡ port_named self.now }
     {
         match self {
-            Entry::Receive(port) | Entry::Send(port, _) | Entry::ReceiveAndSend(port, _) => Some(*port),
+            Entry::Receive(port) | Entry::Send(port, _) | Entry::ReceiveAndSend(port, _) => Some(
+                *port,
+            ),
             Entry::SendOnce(_) | Entry::DeadName(_) | Entry::Set(_) => None,
         }
     }
@@ -171,6 +174,13 @@ impl Space {
         self.len() >= 65_535
     }
 
+    /// For how many more names there is room. Constant time.
+    pub fn room(&self) -> usize
+        ensures { result ≡ self.now.room }
+    {
+        self.room
+    }
+
     /// What stands under the name, if it is in use. Logarithmic in the number of names.
     pub fn lookup(&self, name: Name) -> Option<Entry>
         ensures { result ≡ map.get self.now.names name }
@@ -291,12 +301,74 @@ impl Space {
         Ok(names)
     }
 
-    /// The greatest name in use, if there is one. Constant time.
-    pub fn greatest(&self) -> Option<Name>
+    /// A name in use, if there is one: so all names can be taken out in turn. Constant time.
+    pub fn any_name(&self) -> Option<Name>
         ensures none { IfNone result (map.len self.now.names ≡ 0) }
         ensures found { IfSome result (λ name. map.contains_key self.now.names name ≡ true) }
     {
         let (_, key) = self.by_name.pairs().last()?;
         Some(self.records[*key].name)
+    }
+}
+
+#[cfg(test)]
+mod tests {
+    use super::*;
+    use std::test::Fail;
+
+    // Puts an entry under a name, if the space can take it.
+    fn put(space: &mut Space, name: u32, entry: Entry) -> bool {
+        let name = Name::new(name);
+        let is_new = entry.port().is_none() && name.is_usable() && space.lookup(name).is_none();
+        if !is_new || space.is_full() || space.room() == 0 {
+            return false;
+        }
+        space.insert(name, entry);
+        true
+    }
+
+    #[test]
+    fn names_come_and_go(rt: HostRuntime) -> Result<(), Fail> {
+        let mut space = Space::new(rt.alloc());
+        assert!(rt; space.is_empty());
+        space.reserve(3)?;
+        assert!(rt; put(&mut space, 1, Entry::SendOnce(PortId::new(7))));
+        assert!(rt; put(&mut space, 0xffff_fffe, Entry::DeadName(UserRefs::one())));
+        assert!(rt; put(&mut space, 3, Entry::Set(SetId::new(0))));
+        assert!(rt; !put(&mut space, 0, Entry::Set(SetId::new(0))));
+        assert_eq!(rt; space.room(), 0);
+        assert_eq!(rt; space.len(), 3);
+        assert_eq!(rt; space.fresh().number(), 2);
+        let names = space.names(rt.alloc())?;
+        assert_eq!(rt; names.len(), 3);
+        assert_eq!(rt; names[0].number(), 1);
+        assert_eq!(rt; names[1].number(), 3);
+        assert_eq!(rt; names[2].number(), 0xffff_fffe);
+        let gone = Some(Entry::DeadName(UserRefs::one()));
+        assert_eq!(rt; space.remove(Name::new(0xffff_fffe)), gone);
+        assert!(rt; space.remove(Name::new(2)).is_none());
+        assert_eq!(rt; space.len(), 2);
+        Ok(())
+    }
+
+    #[test]
+    fn a_port_is_found_by_its_name(rt: HostRuntime) -> Result<(), Fail> {
+        let mut space = Space::new(rt.alloc());
+        let port = PortId::new(7);
+        assert!(rt; space.name_of_port(port).is_none());
+        space.reserve(1)?;
+        space.insert(Name::new(9), Entry::Receive(port));
+        assert_eq!(rt; space.name_of_port(port).ok_or("named")?.number(), 9);
+        space.replace(Name::new(9), Entry::ReceiveAndSend(port, UserRefs::one()));
+        let entry = space.lookup(Name::new(9)).ok_or("used")?;
+        assert!(rt; entry.has_receive());
+        assert_eq!(rt; entry.send_references(), 1);
+        space.rename(Name::new(9), Name::new(4));
+        assert_eq!(rt; space.name_of_port(port).ok_or("named")?.number(), 4);
+        assert_eq!(rt; space.any_name().ok_or("named")?.number(), 4);
+        assert!(rt; space.lookup(Name::new(9)).is_none());
+        space.replace(Name::new(4), Entry::DeadName(UserRefs::one()));
+        assert!(rt; space.name_of_port(port).is_none());
+        Ok(())
     }
 }

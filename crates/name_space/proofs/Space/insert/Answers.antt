@@ -23,26 +23,26 @@ insert-requires-clause-absent c =
 
 pub link-requires-clause-absent : goal.link-requires-clause-absent
 link-requires-clause-absent c = if_some c.port.result _ (λ port h. no_port_key
-      c.self.inside.records c.insert_reserved-key.new.self c.self.inside.by_name c.insert.new.self c.self.inside.by_port _ c.self.inside.room c.args.self.now c.self.view_is c.self.invariant
-      c.args.name c.insert_reserved-key.result c.args.entry c.insert_reserved-key.ensures.was_vacant c.insert_reserved-key.ensures.updates.changed c.insert_reserved-key.ensures.updates.others
-      c.insert_reserved-key.ensures.len c.insert_reserved-key.ensures.capacity c.requires.unused
-      (c.insert.ensures ∙ ap (λ a. with_map c.self.inside.by_name (map.insert c.self.inside.by_name.map a c.insert_reserved-key.result)) c.number.ensures)
-      refl
-      c.requires.apart port (sym c.port.ensures ∙ h))
+    c.self.inside.records c.insert_reserved-key.new.self c.self.inside.by_name c.insert.new.self c.self.inside.by_port _ c.self.inside.room c.args.self.now c.self.view_is c.self.invariant
+    c.args.name c.insert_reserved-key.result c.args.entry c.insert_reserved-key.ensures.was_vacant c.insert_reserved-key.ensures.updates.changed c.insert_reserved-key.ensures.updates.others
+    c.insert_reserved-key.ensures.len c.insert_reserved-key.ensures.capacity c.requires.unused
+    (c.insert.ensures ∙ ap (λ a. with_map c.self.inside.by_name (map.insert c.self.inside.by_name.map a c.insert_reserved-key.result)) c.number.ensures)
+    refl
+    c.requires.apart port (sym c.port.ensures ∙ h))
 
 pub invariant_of-self : goal.invariant_of-self
 invariant_of-self c = sound-inserted
-      c.self.inside.records c.insert_reserved-key.new.self c.self.inside.by_name c.insert.new.self c.self.inside.by_port c.link.new.ports c.self.inside.room c.args.self.now c.self.view_is c.self.invariant
-      c.args.name c.insert_reserved-key.result c.args.entry c.insert_reserved-key.ensures.was_vacant c.insert_reserved-key.ensures.updates.changed c.insert_reserved-key.ensures.updates.others
-      c.insert_reserved-key.ensures.len c.insert_reserved-key.ensures.capacity c.requires.unused
-      (c.insert.ensures ∙ ap (λ a. with_map c.self.inside.by_name (map.insert c.self.inside.by_name.map a c.insert_reserved-key.result)) c.number.ensures)
-      (c.link.ensures ∙ ap (λ o. with_map c.self.inside.by_port (linked o c.insert_reserved-key.result c.self.inside.by_port.map)) c.port.ensures)
-      c.requires.apart c.requires.usable.not_null c.requires.usable.not_dead (subst (λ a. a < 2 ^ 32) c.number.ensures c.number.type_inv) c.requires.not_full (subst (λ (v : SpaceView). 0 < v.room) (sym c.self.view_is) c.requires.room)
+    c.self.inside.records c.insert_reserved-key.new.self c.self.inside.by_name c.insert.new.self c.self.inside.by_port c.link.new.ports c.self.inside.room c.args.self.now c.self.view_is c.self.invariant
+    c.args.name c.insert_reserved-key.result c.args.entry c.insert_reserved-key.ensures.was_vacant c.insert_reserved-key.ensures.updates.changed c.insert_reserved-key.ensures.updates.others
+    c.insert_reserved-key.ensures.len c.insert_reserved-key.ensures.capacity c.requires.unused
+    (c.insert.ensures ∙ ap (λ a. with_map c.self.inside.by_name (map.insert c.self.inside.by_name.map a c.insert_reserved-key.result)) c.number.ensures)
+    (c.link.ensures ∙ ap (λ o. with_map c.self.inside.by_port (linked o c.insert_reserved-key.result c.self.inside.by_port.map)) c.port.ensures)
+    c.requires.apart c.requires.usable.not_null c.requires.usable.not_dead (subst (λ a. a < 2 ^ 32) c.number.ensures c.number.type_inv) c.requires.not_full (subst (λ (v : SpaceView). 0 < v.room) (sym c.self.view_is) c.requires.room)
 
 pub returns : goal.returns
 returns c = view-inserted
-      c.self.inside.records c.insert_reserved-key.new.self c.self.inside.by_name c.insert.new.self c.self.inside.by_port c.link.new.ports c.self.inside.room c.args.self.now c.self.view_is c.self.invariant
-      c.args.name c.insert_reserved-key.result c.args.entry c.insert_reserved-key.ensures.was_vacant c.insert_reserved-key.ensures.updates.changed c.insert_reserved-key.ensures.updates.others
-      c.insert_reserved-key.ensures.len c.insert_reserved-key.ensures.capacity c.requires.unused
-      (c.insert.ensures ∙ ap (λ a. with_map c.self.inside.by_name (map.insert c.self.inside.by_name.map a c.insert_reserved-key.result)) c.number.ensures)
-      (c.link.ensures ∙ ap (λ o. with_map c.self.inside.by_port (linked o c.insert_reserved-key.result c.self.inside.by_port.map)) c.port.ensures)
+    c.self.inside.records c.insert_reserved-key.new.self c.self.inside.by_name c.insert.new.self c.self.inside.by_port c.link.new.ports c.self.inside.room c.args.self.now c.self.view_is c.self.invariant
+    c.args.name c.insert_reserved-key.result c.args.entry c.insert_reserved-key.ensures.was_vacant c.insert_reserved-key.ensures.updates.changed c.insert_reserved-key.ensures.updates.others
+    c.insert_reserved-key.ensures.len c.insert_reserved-key.ensures.capacity c.requires.unused
+    (c.insert.ensures ∙ ap (λ a. with_map c.self.inside.by_name (map.insert c.self.inside.by_name.map a c.insert_reserved-key.result)) c.number.ensures)
+    (c.link.ensures ∙ ap (λ o. with_map c.self.inside.by_port (linked o c.insert_reserved-key.result c.self.inside.by_port.map)) c.port.ensures)

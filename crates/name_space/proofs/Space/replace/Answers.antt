@@ -25,30 +25,30 @@ pub link-requires : goal.link-requires
 link-requires c =
     let key : map.get c.self.inside.by_name.map c.args.name ≡ Some c.unwrap-key.result = ap (map.get c.self.inside.by_name.map) (sym c.number.ensures) ∙ sym c.get.ensures ∙ c.unwrap-key.ensures in
     let out : c.unlink.new.ports ≡ with_map c.self.inside.by_port (unlinked (port_named c.index.result.now.entry) c.self.inside.by_port.map) =
-      c.unlink.ensures ∙ ap (λ o. with_map c.self.inside.by_port (unlinked o c.self.inside.by_port.map)) c.port-port.ensures in
+    c.unlink.ensures ∙ ap (λ o. with_map c.self.inside.by_port (unlinked o c.self.inside.by_port.map)) c.port-port.ensures in
     record {
       absent = if_some c.port.result _ (λ port h. ap (λ (a : IndexView). map.get a.map port) out ∙ port_key_gone
-      c.self.inside.records c.store.new.records c.self.inside.by_name c.self.inside.by_port _ c.self.inside.room c.args.self.now c.self.view_is c.self.invariant
-      c.args.name c.unwrap-key.result c.index.result.now c.args.entry key c.index.ensures c.store.ensures.updates.changed c.store.ensures.updates.others c.store.ensures.len c.store.ensures.capacity c.requires.same
-      refl port (sym c.port.ensures ∙ h));
+          c.self.inside.records c.store.new.records c.self.inside.by_name c.self.inside.by_port _ c.self.inside.room c.args.self.now c.self.view_is c.self.invariant
+          c.args.name c.unwrap-key.result c.index.result.now c.args.entry key c.index.ensures c.store.ensures.updates.changed c.store.ensures.updates.others c.store.ensures.len c.store.ensures.capacity c.requires.same
+          refl port (sym c.port.ensures ∙ h));
       room = on_some_of c.port.result _ (λ port h. subst (λ (a : IndexView). map.len a.map < a.capacity) (sym out) (port_has_room
-      c.self.inside.records c.store.new.records c.self.inside.by_name c.self.inside.by_port _ c.self.inside.room c.args.self.now c.self.view_is c.self.invariant
-      c.args.name c.unwrap-key.result c.index.result.now c.args.entry key c.index.ensures c.store.ensures.updates.changed c.store.ensures.updates.others c.store.ensures.len c.store.ensures.capacity c.requires.same
-      refl port (sym c.port.ensures ∙ h)));
+          c.self.inside.records c.store.new.records c.self.inside.by_name c.self.inside.by_port _ c.self.inside.room c.args.self.now c.self.view_is c.self.invariant
+          c.args.name c.unwrap-key.result c.index.result.now c.args.entry key c.index.ensures c.store.ensures.updates.changed c.store.ensures.updates.others c.store.ensures.len c.store.ensures.capacity c.requires.same
+          refl port (sym c.port.ensures ∙ h)));
     }
 
 pub invariant_of-self : goal.invariant_of-self
 invariant_of-self c =
     let key : map.get c.self.inside.by_name.map c.args.name ≡ Some c.unwrap-key.result = ap (map.get c.self.inside.by_name.map) (sym c.number.ensures) ∙ sym c.get.ensures ∙ c.unwrap-key.ensures in
     sound-replaced
-      c.self.inside.records c.store.new.records c.self.inside.by_name c.self.inside.by_port c.link.new.ports c.self.inside.room c.args.self.now c.self.view_is c.self.invariant
-      c.args.name c.unwrap-key.result c.index.result.now c.args.entry key c.index.ensures c.store.ensures.updates.changed c.store.ensures.updates.others c.store.ensures.len c.store.ensures.capacity c.requires.same
-      (c.link.ensures ∙ ap (λ (a : IndexView). with_map a (linked c.port.result c.unwrap-key.result a.map)) c.unlink.ensures ∙ ap (λ o. with_map c.self.inside.by_port (linked o c.unwrap-key.result (unlinked c.port-port.result c.self.inside.by_port.map))) c.port.ensures ∙ ap (λ o. with_map c.self.inside.by_port (linked (port_named c.args.entry) c.unwrap-key.result (unlinked o c.self.inside.by_port.map))) c.port-port.ensures)
+    c.self.inside.records c.store.new.records c.self.inside.by_name c.self.inside.by_port c.link.new.ports c.self.inside.room c.args.self.now c.self.view_is c.self.invariant
+    c.args.name c.unwrap-key.result c.index.result.now c.args.entry key c.index.ensures c.store.ensures.updates.changed c.store.ensures.updates.others c.store.ensures.len c.store.ensures.capacity c.requires.same
+    (c.link.ensures ∙ ap (λ (a : IndexView). with_map a (linked c.port.result c.unwrap-key.result a.map)) c.unlink.ensures ∙ ap (λ o. with_map c.self.inside.by_port (linked o c.unwrap-key.result (unlinked c.port-port.result c.self.inside.by_port.map))) c.port.ensures ∙ ap (λ o. with_map c.self.inside.by_port (linked (port_named c.args.entry) c.unwrap-key.result (unlinked o c.self.inside.by_port.map))) c.port-port.ensures)
 
 pub returns : goal.returns
 returns c =
     let key : map.get c.self.inside.by_name.map c.args.name ≡ Some c.unwrap-key.result = ap (map.get c.self.inside.by_name.map) (sym c.number.ensures) ∙ sym c.get.ensures ∙ c.unwrap-key.ensures in
     view-replaced
-      c.self.inside.records c.store.new.records c.self.inside.by_name c.self.inside.by_port c.link.new.ports c.self.inside.room c.args.self.now c.self.view_is c.self.invariant
-      c.args.name c.unwrap-key.result c.index.result.now c.args.entry key c.index.ensures c.store.ensures.updates.changed c.store.ensures.updates.others c.store.ensures.len c.store.ensures.capacity c.requires.same
-      (c.link.ensures ∙ ap (λ (a : IndexView). with_map a (linked c.port.result c.unwrap-key.result a.map)) c.unlink.ensures ∙ ap (λ o. with_map c.self.inside.by_port (linked o c.unwrap-key.result (unlinked c.port-port.result c.self.inside.by_port.map))) c.port.ensures ∙ ap (λ o. with_map c.self.inside.by_port (linked (port_named c.args.entry) c.unwrap-key.result (unlinked o c.self.inside.by_port.map))) c.port-port.ensures)
+    c.self.inside.records c.store.new.records c.self.inside.by_name c.self.inside.by_port c.link.new.ports c.self.inside.room c.args.self.now c.self.view_is c.self.invariant
+    c.args.name c.unwrap-key.result c.index.result.now c.args.entry key c.index.ensures c.store.ensures.updates.changed c.store.ensures.updates.others c.store.ensures.len c.store.ensures.capacity c.requires.same
+    (c.link.ensures ∙ ap (λ (a : IndexView). with_map a (linked c.port.result c.unwrap-key.result a.map)) c.unlink.ensures ∙ ap (λ o. with_map c.self.inside.by_port (linked o c.unwrap-key.result (unlinked c.port-port.result c.self.inside.by_port.map))) c.port.ensures ∙ ap (λ o. with_map c.self.inside.by_port (linked (port_named c.args.entry) c.unwrap-key.result (unlinked o c.self.inside.by_port.map))) c.port-port.ensures)

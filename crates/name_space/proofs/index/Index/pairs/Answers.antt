@@ -13,5 +13,5 @@ pub returns-clause-found : goal.returns-clause-found
 returns-clause-found c =
     let l : Pairs = c.self.inside.pairs.items in
     let found : (i : ℕ) → i < length l → map.get c.args.self.now.map (key_at l i) ≡ Some (value_at l i) = λ i h.
-      sym (ap (λ (v : IndexView). map.get v.map (key_at l i)) c.self.view_is) ∙ get-pairs l c.self.invariant (key_at l i) ∙ get_at l c.self.invariant (key_at l i) i record { in_range = h; has_key = λ _. key_at l i } in
+    sym (ap (λ (v : IndexView). map.get v.map (key_at l i)) c.self.view_is) ∙ get-pairs l c.self.invariant (key_at l i) ∙ get_at l c.self.invariant (key_at l i) i record { in_range = h; has_key = λ _. key_at l i } in
     subst (λ (p : Pairs). (i : ℕ) → i < length p → map.get c.args.self.now.map (key_at p i) ≡ Some (value_at p i)) (sym c.deref.ensures.value) found
