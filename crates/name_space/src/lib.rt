@@ -357,17 +357,21 @@ mod tests {
         let port = PortId::new(7);
         assert!(rt; space.name_of_port(port).is_none());
         space.reserve(1)?;
-        space.insert(Name::new(9), Entry::Receive(port));
+        let name = Name::new(9);
+        assert!(rt; !space.is_full() && space.lookup(name).is_none());
+        space.insert(name, Entry::Receive(port));
         assert_eq!(rt; space.name_of_port(port).ok_or("named")?.number(), 9);
-        space.replace(Name::new(9), Entry::ReceiveAndSend(port, UserRefs::one()));
-        let entry = space.lookup(Name::new(9)).ok_or("used")?;
+        space.replace(name, Entry::ReceiveAndSend(port, UserRefs::one()));
+        let entry = space.lookup(name).ok_or("used")?;
         assert!(rt; entry.has_receive());
         assert_eq!(rt; entry.send_references(), 1);
-        space.rename(Name::new(9), Name::new(4));
+        let other = Name::new(4);
+        assert!(rt; space.lookup(other).is_none());
+        space.rename(name, other);
         assert_eq!(rt; space.name_of_port(port).ok_or("named")?.number(), 4);
         assert_eq!(rt; space.any_name().ok_or("named")?.number(), 4);
-        assert!(rt; space.lookup(Name::new(9)).is_none());
-        space.replace(Name::new(4), Entry::DeadName(UserRefs::one()));
+        assert!(rt; space.lookup(name).is_none());
+        space.replace(other, Entry::DeadName(UserRefs::one()));
         assert!(rt; space.name_of_port(port).is_none());
         Ok(())
     }
