@@ -48,10 +48,10 @@ module _ {M : Type 0} where
   -- ---- with one port more
 
   module _ (s t : Slab (Record M)) (es fs : List (ℕ × ℕ)) (next then : Option ℕ) (spare : List M) (slots : ℕ) (so : IsSound s es next spare slots)
-    (v : PortsView M) (view_is : record { ports = ports_of (get s) (map.from_sorted es); made = made_of next; spare = length spare } ≡ v)
-    (key : ℕ) (a : Record M) (vacant : get s key ≡ None) (changed : get t key ≡ Some a) (others : (other : ℕ) → other ≢ key → get t other ≡ get s other)
-    (id : a.id ≡ made_of next) (quiet : length a.queue ≡ 0) (ordered : IsStrictlySortedBy nat_cmp (keys_of fs))
-    (put : map.from_sorted {R = nat_cmp} fs ≡ map.insert (map.from_sorted es) (made_of next) key) (more : made_of then ≡ made_of next + 1) (fits : (n : ℕ) → then ≡ Some n → n < 2 ^ 64) where
+      (v : PortsView M) (view_is : record { ports = ports_of (get s) (map.from_sorted es); made = made_of next; spare = length spare } ≡ v)
+      (key : ℕ) (a : Record M) (vacant : get s key ≡ None) (changed : get t key ≡ Some a) (others : (other : ℕ) → other ≢ key → get t other ≡ get s other)
+      (id : a.id ≡ made_of next) (quiet : length a.queue ≡ 0) (ordered : IsStrictlySortedBy nat_cmp (keys_of fs))
+      (put : map.from_sorted {R = nat_cmp} fs ≡ map.insert (map.from_sorted es) (made_of next) key) (more : made_of then ≡ made_of next + 1) (fits : (n : ℕ) → then ≡ Some n → n < 2 ^ 64) where
     turns-came : Turns (get s) (get t) key (Some a)
     turns-came = record { changed = changed; others = others }
 
@@ -59,7 +59,7 @@ module _ {M : Type 0} where
     sound-came = record {
       ordered = ordered;
       indexed = subst (λ n. IsIndexed (get t) (map.from_sorted fs) n) (sym more) (subst (λ (m : Keyed). IsIndexed (get t) m (made_of next + 1)) (sym put)
-        (indexed-came (get s) (get t) (map.from_sorted es) (made_of next) so.indexed key a vacant turns-came id));
+          (indexed-came (get s) (get t) (map.from_sorted es) (made_of next) so.indexed key a vacant turns-came id));
       counted = ap (λ n. n + length spare) (sum_same t.slots s.slots (λ k. elim (equal_or_not k key) [
         | inl e ↦ ap (λ b. queued_in (get t b)) e ∙ ap queued_in changed ∙ quiet ∙ sym (ap (λ b. queued_in (get s b)) e ∙ ap queued_in vacant)
         | inr d ↦ ap queued_in (others k d)
@@ -80,10 +80,10 @@ module _ {M : Type 0} where
   -- ---- with one port less
 
   module _ (s t : Slab (Record M)) (es fs : List (ℕ × ℕ)) (next : Option ℕ) (spare : List M) (slots : ℕ) (so : IsSound s es next spare slots)
-    (v : PortsView M) (view_is : record { ports = ports_of (get s) (map.from_sorted es); made = made_of next; spare = length spare } ≡ v)
-    (id key : ℕ) (r : Record M) (found : map.get (map.from_sorted {R = nat_cmp} es) id ≡ Some key) (here : get s key ≡ Some r) (quiet : length r.queue ≡ 0)
-    (changed : get t key ≡ None) (others : (other : ℕ) → other ≢ key → get t other ≡ get s other) (ordered : IsStrictlySortedBy nat_cmp (keys_of fs))
-    (out : map.from_sorted {R = nat_cmp} fs ≡ map.remove (map.from_sorted es) id) where
+      (v : PortsView M) (view_is : record { ports = ports_of (get s) (map.from_sorted es); made = made_of next; spare = length spare } ≡ v)
+      (id key : ℕ) (r : Record M) (found : map.get (map.from_sorted {R = nat_cmp} es) id ≡ Some key) (here : get s key ≡ Some r) (quiet : length r.queue ≡ 0)
+      (changed : get t key ≡ None) (others : (other : ℕ) → other ≢ key → get t other ≡ get s other) (ordered : IsStrictlySortedBy nat_cmp (keys_of fs))
+      (out : map.from_sorted {R = nat_cmp} fs ≡ map.remove (map.from_sorted es) id) where
     turns-went : Turns (get s) (get t) key None
     turns-went = record { changed = changed; others = others }
 
@@ -91,7 +91,7 @@ module _ {M : Type 0} where
     sound-went = record {
       ordered = ordered;
       indexed = subst (λ (m : Keyed). IsIndexed (get t) m (made_of next)) (sym out)
-        (indexed-went (get s) (get t) (map.from_sorted es) (made_of next) so.indexed id key found turns-went);
+          (indexed-went (get s) (get t) (map.from_sorted es) (made_of next) so.indexed id key found turns-went);
       counted = ap (λ n. n + length spare) (sum_same t.slots s.slots (λ k. elim (equal_or_not k key) [
         | inl e ↦ ap (λ b. queued_in (get t b)) e ∙ ap queued_in changed ∙ sym (ap (λ b. queued_in (get s b)) e ∙ ap queued_in here ∙ quiet)
         | inr d ↦ ap queued_in (others k d)

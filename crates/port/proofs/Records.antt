@@ -40,6 +40,7 @@ module _ {M : Type 0} where
       where
         no_true : false ≡ true → ⊥
         no_true e = cc
+
         some_of : (o : Option ℕ) → is_some (option_map (λ k. port_in (at k)) o) ≡ true → (k : ℕ) × (o ≡ Some k)
         some_of None e = absurd (no_true e)
         some_of (Some k) e = (k, refl)
@@ -47,7 +48,7 @@ module _ {M : Type 0} where
   -- ---- a record changes
 
   module _ (at new : ℕ → Option (Record M)) (n : Keyed) (made : ℕ) (x : IsIndexed at n made) (id key : ℕ) (r s : Record M) (found : map.get n id ≡ Some key) (here : at key ≡ Some r)
-    (turns : Turns at new key (Some s)) (same : s.id ≡ r.id) where
+      (turns : Turns at new key (Some s)) (same : s.id ≡ r.id) where
     only_key : (q : ℕ) → q ≢ id → (k : ℕ) → map.get n q ≡ Some k → k ≢ key
     only_key q d k h e =
         let there = x.found q k h in
@@ -72,8 +73,8 @@ module _ {M : Type 0} where
       ];
       held = λ k a h. elim (equal_or_not k key) [
         | inl e ↦
-          let is : a ≡ s = same_some a s (sym h ∙ ap new e ∙ turns.changed) in
-          ap (λ (b : Record M). map.get n b.id) is ∙ ap (map.get n) same ∙ x.held key r here ∙ ap (λ b. Some b) (sym e)
+            let is : a ≡ s = same_some a s (sym h ∙ ap new e ∙ turns.changed) in
+            ap (λ (b : Record M). map.get n b.id) is ∙ ap (map.get n) same ∙ x.held key r here ∙ ap (λ b. Some b) (sym e)
         | inr d ↦ x.held k a (sym (turns.others k d) ∙ h)
       ];
       given = x.given;
@@ -82,7 +83,7 @@ module _ {M : Type 0} where
   -- ---- a record comes
 
   module _ (at new : ℕ → Option (Record M)) (n : Keyed) (made : ℕ) (x : IsIndexed at n made) (key : ℕ) (s : Record M) (vacant : at key ≡ None)
-    (turns : Turns at new key (Some s)) (is_next : s.id ≡ made) where
+      (turns : Turns at new key (Some s)) (is_next : s.id ≡ made) where
     absent : map.get n made ≡ None
     absent = from (map.get n made) refl
       where
@@ -96,9 +97,9 @@ module _ {M : Type 0} where
     pub ports-came : ports_of new (map.insert n made key) ≡ map.insert (ports_of at n) made (port_of s)
     ports-came = same_gets _ _ (λ q. elim (equal_or_not q made) [
       | inl e ↦ ap (map.get (ports_of new (map.insert n made key))) e ∙ port_at new (map.insert n made key) made key s (put_here n made key) turns.changed
-        ∙ sym (put_here (ports_of at n) made (port_of s)) ∙ ap (map.get (map.insert (ports_of at n) made (port_of s))) (sym e)
+          ∙ sym (put_here (ports_of at n) made (port_of s)) ∙ ap (map.get (map.insert (ports_of at n) made (port_of s))) (sym e)
       | inr d ↦ get-ports new (map.insert n made key) q ∙ ap (option_map (λ k. port_in (new k))) (put_other n made key q d) ∙ same_at q (map.get n q) refl
-        ∙ sym (get-ports at n q) ∙ sym (put_other (ports_of at n) made (port_of s) q d)
+          ∙ sym (get-ports at n q) ∙ sym (put_other (ports_of at n) made (port_of s) q d)
     ])
       where
         same_at : (q : ℕ) (o : Option ℕ) → map.get n q ≡ o → option_map (λ k. port_in (new k)) o ≡ option_map (λ k. port_in (at k)) o
@@ -109,17 +110,17 @@ module _ {M : Type 0} where
     indexed-came = record {
       found = λ q k h. elim (equal_or_not q made) [
         | inl e ↦
-          let is : key ≡ k = same_some key k (sym (put_here n made key) ∙ ap (map.get (map.insert n made key)) (sym e) ∙ h) in
-          (s, ap new (sym is) ∙ turns.changed, is_next ∙ sym e)
+            let is : key ≡ k = same_some key k (sym (put_here n made key) ∙ ap (map.get (map.insert n made key)) (sym e) ∙ h) in
+            (s, ap new (sym is) ∙ turns.changed, is_next ∙ sym e)
         | inr d ↦ let there = x.found q k (sym (put_other n made key q d) ∙ h) in (there.0, turns.others k (alive k there.0 there.1) ∙ there.1, there.2)
       ];
       held = λ k a h. elim (equal_or_not k key) [
         | inl e ↦
-          let is : a ≡ s = same_some a s (sym h ∙ ap new e ∙ turns.changed) in
-          ap (λ (b : Record M). map.get (map.insert n made key) b.id) is ∙ ap (map.get (map.insert n made key)) is_next ∙ put_here n made key ∙ ap (λ b. Some b) (sym e)
+            let is : a ≡ s = same_some a s (sym h ∙ ap new e ∙ turns.changed) in
+            ap (λ (b : Record M). map.get (map.insert n made key) b.id) is ∙ ap (map.get (map.insert n made key)) is_next ∙ put_here n made key ∙ ap (λ b. Some b) (sym e)
         | inr d ↦
-          let there : map.get n a.id ≡ Some k = x.held k a (sym (turns.others k d) ∙ h) in
-          put_other n made key a.id (λ e. some_or_none k _ there (ap (map.get n) e ∙ absent)) ∙ there
+            let there : map.get n a.id ≡ Some k = x.held k a (sym (turns.others k d) ∙ h) in
+            put_other n made key a.id (λ e. some_or_none k _ there (ap (map.get n) e ∙ absent)) ∙ there
       ];
       given = λ q k h. elim (equal_or_not q made) [
         | inl e ↦ omega arith
@@ -140,7 +141,7 @@ module _ {M : Type 0} where
     ports-went = same_gets _ _ (λ q. elim (equal_or_not q id) [
       | inl e ↦ no_port_at new (map.remove n id) q (ap (map.get (map.remove n id)) e ∙ out_here n id) ∙ sym (ap (map.get (map.remove (ports_of at n) id)) e ∙ out_here (ports_of at n) id)
       | inr d ↦ get-ports new (map.remove n id) q ∙ ap (option_map (λ k. port_in (new k))) (out_other n id q d) ∙ same_at q d (map.get n q) refl
-        ∙ sym (get-ports at n q) ∙ sym (out_other (ports_of at n) id q d)
+          ∙ sym (get-ports at n q) ∙ sym (out_other (ports_of at n) id q d)
     ])
       where
         same_at : (q : ℕ) → q ≢ id → (o : Option ℕ) → map.get n q ≡ o → option_map (λ k. port_in (new k)) o ≡ option_map (λ k. port_in (at k)) o
@@ -150,15 +151,15 @@ module _ {M : Type 0} where
     pub indexed-went : IsIndexed new (map.remove n id) made
     indexed-went = record {
       found = λ q k h.
-        let d : q ≢ id = λ e. some_or_none k _ h (ap (map.get (map.remove n id)) e ∙ out_here n id) in
-        let was : map.get n q ≡ Some k = sym (out_other n id q d) ∙ h in
-        let there = x.found q k was in
-        (there.0, turns.others k (other_key q d k was) ∙ there.1, there.2);
+          let d : q ≢ id = λ e. some_or_none k _ h (ap (map.get (map.remove n id)) e ∙ out_here n id) in
+          let was : map.get n q ≡ Some k = sym (out_other n id q d) ∙ h in
+          let there = x.found q k was in
+          (there.0, turns.others k (other_key q d k was) ∙ there.1, there.2);
       held = λ k a h.
-        let d : k ≢ key = λ e. some_or_none a _ h (ap new e ∙ turns.changed) in
-        let there : map.get n a.id ≡ Some k = x.held k a (sym (turns.others k d) ∙ h) in
-        out_other n id a.id (λ e. d (same_some k key (sym there ∙ ap (map.get n) e ∙ found))) ∙ there;
+          let d : k ≢ key = λ e. some_or_none a _ h (ap new e ∙ turns.changed) in
+          let there : map.get n a.id ≡ Some k = x.held k a (sym (turns.others k d) ∙ h) in
+          out_other n id a.id (λ e. d (same_some k key (sym there ∙ ap (map.get n) e ∙ found))) ∙ there;
       given = λ q k h.
-        let d : q ≢ id = λ e. some_or_none k _ h (ap (map.get (map.remove n id)) e ∙ out_here n id) in
-        x.given q k (sym (out_other n id q d) ∙ h);
+          let d : q ≢ id = λ e. some_or_none k _ h (ap (map.get (map.remove n id)) e ∙ out_here n id) in
+          x.given q k (sym (out_other n id q d) ∙ h);
     }

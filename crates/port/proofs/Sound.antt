@@ -39,9 +39,9 @@ module _ {M : Type 0} where
         omega arith
 
   module _ (s : Slab (Record M)) (es : List (ℕ × ℕ)) (next : Option ℕ) (spare left : List M) (slots : ℕ) (so : IsSound s es next spare slots)
-    (v : PortsView M) (view_is : record { ports = ports_of (get s) (map.from_sorted es); made = made_of next; spare = length spare } ≡ v)
-    (id key : ℕ) (r a : Record M) (found : map.get (map.from_sorted {R = nat_cmp} es) id ≡ Some key) (here : get s key ≡ Some r) (same : a.id ≡ r.id)
-    (balance : length a.queue + length left ≡ length r.queue + length spare) where
+      (v : PortsView M) (view_is : record { ports = ports_of (get s) (map.from_sorted es); made = made_of next; spare = length spare } ≡ v)
+      (id key : ℕ) (r a : Record M) (found : map.get (map.from_sorted {R = nat_cmp} es) id ≡ Some key) (here : get s key ≡ Some r) (same : a.id ≡ r.id)
+      (balance : length a.queue + length left ≡ length r.queue + length spare) where
     pub is_port : (p : PortView M) → map.get v.ports id ≡ Some p → p ≡ port_of r
     is_port p h = same_some p (port_of r) (sym h ∙ sym (ap (λ (b : PortsView M). map.get b.ports id) view_is) ∙ port_at (get s) (map.from_sorted es) id key r found here)
 
@@ -87,7 +87,7 @@ module _ {M : Type 0} where
   -- ---- a port by its identity
 
   module _ (s : Slab (Record M)) (es : List (ℕ × ℕ)) (next : Option ℕ) (spare : List M) (slots : ℕ) (so : IsSound s es next spare slots)
-    (v : PortsView M) (view_is : record { ports = ports_of (get s) (map.from_sorted es); made = made_of next; spare = length spare } ≡ v) (id : ℕ) where
+      (v : PortsView M) (view_is : record { ports = ports_of (get s) (map.from_sorted es); made = made_of next; spare = length spare } ≡ v) (id : ℕ) where
     pub keyed : (o : Option ℕ) → o ≡ lookup (is_at (nat_cmp id)) es → map.get (map.from_sorted {R = nat_cmp} es) id ≡ o
     keyed o e = get-from_ordered es id so.ordered ∙ sym e
 

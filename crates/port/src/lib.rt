@@ -365,3 +365,83 @@ impl<M: Message> Ports<M> {
         Some(pop_at(&mut self.records, key, &mut self.spare, blank))
     }
 }
+
+#[cfg(test)]
+mod tests {
+    use super::*;
+    use std::test::Fail;
+
+    #[derive(Drop)]
+    struct Note(u32);
+
+    impl Message for Note {
+        fn blank(_alloc: Global) -> Note {
+            Note(0)
+        }
+    }
+
+    // Queues a note, if the port is there and a slot is spare.
+    fn post(ports: &mut Ports<Note>, port: PortId, number: u32) -> bool {
+        if ports.attributes(port).is_none() || ports.spare() == 0 {
+            return false;
+        }
+        ports.enqueue(port, Note(number));
+        true
+    }
+
+    fn front_number(ports: &Ports<Note>, port: PortId) -> Option<u32> {
+        let note = ports.front(port)?;
+        Some(note.0)
+    }
+
+    fn take_number(ports: &mut Ports<Note>, port: PortId) -> Option<u32> {
+        let note = ports.dequeue(port)?;
+        Some(note.0)
+    }
+
+    #[test]
+    fn messages_come_out_in_order(rt: HostRuntime) -> Result<(), Fail> {
+        let mut ports = Ports::<Note>::new(rt.alloc());
+        assert!(rt; !ports.is_exhausted());
+        let first = ports.allocate(Holder::Task(TaskId::new(0)))?;
+        assert!(rt; !ports.is_exhausted());
+        let second = ports.allocate(Holder::Nowhere)?;
+        assert_eq!(rt; first.number(), 0);
+        assert_eq!(rt; second.number(), 1);
+        assert!(rt; !post(&mut ports, first, 1));
+        ports.reserve_slots(2)?;
+        assert!(rt; post(&mut ports, first, 7));
+        assert!(rt; post(&mut ports, first, 8));
+        assert!(rt; !post(&mut ports, second, 9));
+        assert_eq!(rt; ports.queued(first), 2);
+        assert_eq!(rt; ports.queued(second), 0);
+        assert_eq!(rt; front_number(&ports, first), Some(7));
+        assert_eq!(rt; take_number(&mut ports, first), Some(7));
+        assert_eq!(rt; ports.spare(), 1);
+        assert!(rt; post(&mut ports, second, 9));
+        assert_eq!(rt; take_number(&mut ports, first), Some(8));
+        assert_eq!(rt; take_number(&mut ports, first), None);
+        assert_eq!(rt; take_number(&mut ports, second), Some(9));
+        assert_eq!(rt; ports.spare(), 2);
+        Ok(())
+    }
+
+    #[test]
+    fn a_gone_port_is_not_found(rt: HostRuntime) -> Result<(), Fail> {
+        let mut ports = Ports::<Note>::new(rt.alloc());
+        assert!(rt; !ports.is_exhausted());
+        let port = ports.allocate(Holder::Nowhere)?;
+        let mut attributes = ports.attributes(port).ok_or("made")?;
+        assert_eq!(rt; attributes.limit, 5);
+        attributes.limit = 16;
+        ports.set_attributes(port, attributes);
+        assert_eq!(rt; ports.attributes(port).ok_or("made")?.limit, 16);
+        ports.remove(port);
+        assert!(rt; ports.attributes(port).is_none());
+        assert!(rt; !ports.is_exhausted());
+        let other = ports.allocate(Holder::Nowhere)?;
+        assert_eq!(rt; other.number(), 1);
+        assert!(rt; ports.attributes(port).is_none());
+        Ok(())
+    }
+}

@@ -13,6 +13,9 @@ ghost use Rattle.std.specs.Map.{set_value};
 ghost use Rattle.mach_types.specs.Numbers.{most_rights};
 ghost use Rattle.mach_types.specs.declared.codes.KernReturn.TheVariants.{NoSpace};
 
+#[cfg(test)]
+mod tests;
+
 use mach_types::{KernReturn, PortId};
 use std::alloc::{AllocError, Global};
 use std::collections::BTreeMap;
@@ -288,40 +291,5 @@ impl Ledger {
         let unused = self.unused - from.unused_of(number) + to.unused_of(number);
         let total = self.total;
         self.store(port, counts, total, unused);
-    }
-}
-
-#[cfg(test)]
-mod tests {
-    use super::*;
-    use std::test::Fail;
-
-    #[test]
-    fn rights_are_counted(rt: HostRuntime) -> Result<(), Fail> {
-        let mut ledger = Ledger::new(rt.alloc());
-        let port = PortId::new(3);
-        ledger.enter(port)?;
-        ledger.make(port, RightKind::Receive, 1).ok().ok_or("room")?;
-        ledger
-            .make(port, RightKind::SendOnce, 2)
-            .ok()
-            .ok_or("room")?;
-        assert_eq!(rt;
-            ledger.make(port, RightKind::Send, u32::MAX - 2).err(),
-            Some(KernReturn::NoSpace)
-        );
-        ledger
-            .make(port, RightKind::Send, u32::MAX - 3)
-            .ok()
-            .ok_or("room")?;
-        assert_eq!(rt; ledger.total(), u32::MAX);
-        ledger.shift(port, RightKind::SendOnce, RightKind::Destination, 1);
-        assert_eq!(rt; ledger.unused(), 1);
-        ledger.take(port, RightKind::Destination, 1);
-        let counts = ledger.leave(port);
-        assert_eq!(rt; counts.number_of(RightKind::SendOnce), 1);
-        assert_eq!(rt; ledger.total(), 0);
-        assert!(rt; ledger.counts(port).is_none());
-        Ok(())
     }
 }

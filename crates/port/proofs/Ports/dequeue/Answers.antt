@@ -44,7 +44,7 @@ invariant_of-self g c =
     let longer : length r.queue ≡ length (c.pop_at.result ∷ popped.0) = ap length popped.1 in
     let more = c.pop_at.ensures.spare in
     subst (λ (t : Slab (Record g.row.M.Denot)). IsSound t c.self.inside.by_id.entries c.self.inside.next c.pop_at.new.spare c.self.inside.slots) (sym popped.2)
-      (sound-set c.self.inside.records c.self.inside.by_id.entries c.self.inside.next c.self.inside.spare c.pop_at.new.spare c.self.inside.slots c.self.invariant c.args.self.now c.self.view_is c.args.port c.in_ok-key.key r a found there.1 refl (omega arith))
+    (sound-set c.self.inside.records c.self.inside.by_id.entries c.self.inside.next c.self.inside.spare c.pop_at.new.spare c.self.inside.slots c.self.invariant c.args.self.now c.self.view_is c.args.port c.in_ok-key.key r a found there.1 refl (omega arith))
 
 pub returns-clause-front : goal.returns-clause-front
 returns-clause-front g c =
@@ -70,7 +70,10 @@ returns-clause-taken g c p h =
     let is : p ≡ port_of r = is_port c.self.inside.records c.self.inside.by_id.entries c.self.inside.next c.self.inside.spare c.pop_at.new.spare c.self.inside.slots c.self.invariant c.args.self.now c.self.view_is c.args.port c.in_ok-key.key r a found there.1 refl (omega arith) p h in
     let view : Slab (Record g.row.M.Denot) → PortsView g.row.M.Denot = λ t. record { ports = ports_of (get t) (map.from_sorted c.self.inside.by_id.entries); made = made_of c.self.inside.next; spare = length c.pop_at.new.spare } in
     let after : List g.row.M.Denot → Attributes → ℕ → PortsView g.row.M.Denot = λ l b n. record {
-      ports = map.insert c.args.self.now.ports c.args.port (let q : PortView g.row.M.Denot = record { queue = l; attributes = b } in q); made = c.args.self.now.made; spare = n } in
+      ports = map.insert c.args.self.now.ports c.args.port (let q : PortView g.row.M.Denot = record { queue = l; attributes = b } in q);
+      made = c.args.self.now.made;
+      spare = n;
+    } in
     let was : length c.self.inside.spare ≡ c.args.self.now.spare = ap (λ (b : PortsView g.row.M.Denot). b.spare) c.self.view_is in
     let rest : popped.0 ≡ drop 1 p.queue = ap (λ (l : List g.row.M.Denot). drop 1 l) (sym popped.1 ∙ ap (λ (q : PortView g.row.M.Denot). q.queue) (sym is)) in
     ap view popped.2

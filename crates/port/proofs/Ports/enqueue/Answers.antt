@@ -31,7 +31,7 @@ invariant_of-self g c =
     let longer : length (r.queue ++ c.args.message ∷ []) ≡ length r.queue + 1 = length-append r.queue (c.args.message ∷ []) in
     let less = c.push_at.ensures.spare in
     subst (λ (t : Slab (Record g.row.M.Denot)). IsSound t c.self.inside.by_id.entries c.self.inside.next c.push_at.new.spare c.self.inside.slots) (sym (c.push_at.ensures.after r there.1))
-      (sound-set c.self.inside.records c.self.inside.by_id.entries c.self.inside.next c.self.inside.spare c.push_at.new.spare c.self.inside.slots c.self.invariant c.args.self.now c.self.view_is c.args.port c.unwrap-key.result r a found there.1 refl (omega arith))
+    (sound-set c.self.inside.records c.self.inside.by_id.entries c.self.inside.next c.self.inside.spare c.push_at.new.spare c.self.inside.slots c.self.invariant c.args.self.now c.self.view_is c.args.port c.unwrap-key.result r a found there.1 refl (omega arith))
 
 pub returns : goal.returns
 returns g c p h =

@@ -26,20 +26,20 @@ invariant_of-self g c =
     let found : map.get (map.from_sorted {R = nat_cmp} c.self.inside.by_id.entries) c.args.port ≡ Some c.in-Some.key = keyed c.self.inside.records c.self.inside.by_id.entries c.self.inside.next c.self.inside.spare c.self.inside.slots c.self.invariant c.args.self.now c.self.view_is c.args.port (Some c.in-Some.key) (c.in-Some.ensures.value ∙ ap (λ k. lookup (is_at (nat_cmp k)) c.self.inside.by_id.entries) c.number.ensures) in
     let quiet : length c.remove-in-Some.result.queue ≡ 0 = ap length (c.requires (port_of c.remove-in-Some.result) (live_port c.self.inside.records c.self.inside.by_id.entries c.self.inside.next c.self.inside.spare c.self.inside.slots c.self.invariant c.args.self.now c.self.view_is c.args.port c.in-Some.key c.remove-in-Some.result found c.remove-in-Some.ensures.value)) in
     let out : map.from_sorted {R = nat_cmp} c.remove.new.self.entries ≡ map.remove (map.from_sorted c.self.inside.by_id.entries) c.args.port =
-      remove-from_ordered c.self.inside.by_id.entries c.remove.new.self.entries c.number.result c.self.invariant.ordered c.remove.ensures.ordered c.remove.ensures.updates.0
-      ∙ ap (map.remove (map.from_sorted c.self.inside.by_id.entries)) c.number.ensures in
+    remove-from_ordered c.self.inside.by_id.entries c.remove.new.self.entries c.number.result c.self.invariant.ordered c.remove.ensures.ordered c.remove.ensures.updates.0
+    ∙ ap (map.remove (map.from_sorted c.self.inside.by_id.entries)) c.number.ensures in
     sound-went c.self.inside.records c.remove-in-Some.new.self c.self.inside.by_id.entries c.remove.new.self.entries c.self.inside.next c.self.inside.spare c.self.inside.slots c.self.invariant c.args.self.now c.self.view_is
-      c.args.port c.in-Some.key c.remove-in-Some.result found c.remove-in-Some.ensures.value quiet c.remove-in-Some.ensures.updates.changed c.remove-in-Some.ensures.updates.others c.remove.ensures.ordered out
+    c.args.port c.in-Some.key c.remove-in-Some.result found c.remove-in-Some.ensures.value quiet c.remove-in-Some.ensures.updates.changed c.remove-in-Some.ensures.updates.others c.remove.ensures.ordered out
 
 pub returns-in-Some : goal.returns-in-Some
 returns-in-Some g c =
     let found : map.get (map.from_sorted {R = nat_cmp} c.self.inside.by_id.entries) c.args.port ≡ Some c.in-Some.key = keyed c.self.inside.records c.self.inside.by_id.entries c.self.inside.next c.self.inside.spare c.self.inside.slots c.self.invariant c.args.self.now c.self.view_is c.args.port (Some c.in-Some.key) (c.in-Some.ensures.value ∙ ap (λ k. lookup (is_at (nat_cmp k)) c.self.inside.by_id.entries) c.number.ensures) in
     let quiet : length c.remove-in-Some.result.queue ≡ 0 = ap length (c.requires (port_of c.remove-in-Some.result) (live_port c.self.inside.records c.self.inside.by_id.entries c.self.inside.next c.self.inside.spare c.self.inside.slots c.self.invariant c.args.self.now c.self.view_is c.args.port c.in-Some.key c.remove-in-Some.result found c.remove-in-Some.ensures.value)) in
     let out : map.from_sorted {R = nat_cmp} c.remove.new.self.entries ≡ map.remove (map.from_sorted c.self.inside.by_id.entries) c.args.port =
-      remove-from_ordered c.self.inside.by_id.entries c.remove.new.self.entries c.number.result c.self.invariant.ordered c.remove.ensures.ordered c.remove.ensures.updates.0
-      ∙ ap (map.remove (map.from_sorted c.self.inside.by_id.entries)) c.number.ensures in
+    remove-from_ordered c.self.inside.by_id.entries c.remove.new.self.entries c.number.result c.self.invariant.ordered c.remove.ensures.ordered c.remove.ensures.updates.0
+    ∙ ap (map.remove (map.from_sorted c.self.inside.by_id.entries)) c.number.ensures in
     view-went c.self.inside.records c.remove-in-Some.new.self c.self.inside.by_id.entries c.remove.new.self.entries c.self.inside.next c.self.inside.spare c.self.inside.slots c.self.invariant c.args.self.now c.self.view_is
-      c.args.port c.in-Some.key c.remove-in-Some.result found c.remove-in-Some.ensures.value quiet c.remove-in-Some.ensures.updates.changed c.remove-in-Some.ensures.updates.others c.remove.ensures.ordered out
+    c.args.port c.in-Some.key c.remove-in-Some.result found c.remove-in-Some.ensures.value quiet c.remove-in-Some.ensures.updates.changed c.remove-in-Some.ensures.updates.others c.remove.ensures.ordered out
 
 pub returns-in-None : goal.returns-in-None
 returns-in-None g c =

@@ -29,7 +29,7 @@ invariant_of-self g c =
     let r : Record g.row.M.Denot = there.0 in
     let a : Record g.row.M.Denot = record { id = r.id; queue = r.queue; attributes = c.args.attributes } in
     subst (λ (t : Slab (Record g.row.M.Denot)). IsSound t c.self.inside.by_id.entries c.self.inside.next c.self.inside.spare c.self.inside.slots) (sym (c.set_at.ensures r there.1))
-      (sound-set c.self.inside.records c.self.inside.by_id.entries c.self.inside.next c.self.inside.spare c.self.inside.spare c.self.inside.slots c.self.invariant c.args.self.now c.self.view_is c.args.port c.unwrap-key.result r a found there.1 refl refl)
+    (sound-set c.self.inside.records c.self.inside.by_id.entries c.self.inside.next c.self.inside.spare c.self.inside.spare c.self.inside.slots c.self.invariant c.args.self.now c.self.view_is c.args.port c.unwrap-key.result r a found there.1 refl refl)
 
 pub returns : goal.returns
 returns g c p h =
