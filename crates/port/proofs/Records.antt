@@ -1,16 +1,12 @@
 -- What the ports are, and what becomes of them when a record comes, changes or goes.
-use Rattle.std.proofs.Common.{◌≡◌, ◌≢◌, ◌⊎◌, inl, inr, ℕ, suc, zero, ◌+◌, ◌-◌, ◌<◌, ◌≤◌, ◌^◌, Bool, true, false, refl, ap, sym, subst, ◌∙◌, Option, Some, None, is_some, IfSome, List, [], ◌∷◌, length, get_or, set, arith}
+use Rattle.std.proofs.Common.{◌≡◌, ◌≢◌, inl, inr, ℕ, ◌+◌, ◌<◌, true, false, refl, ap, sym, ◌∙◌, Option, Some, None, is_some, arith}
 use Rattle.std.specs.Option.{option_map}
-use Rattle.std.specs.List.{sum_by}
 use Rattle.std.specs.Ordering.{nat_cmp}
 use Rattle.std.specs.FinMap as map
-use Rattle.std.proofs.lemmas.List.Sums.{sum_by-set, sum_by-cons}
-use Rattle.std.proofs.lemmas.List.{get_or-set_same, get_or-set_other}
-use Rattle.slab.specs.Slab.{Slab, get, with_value}
 use Rattle.port.specs.declared.Record.{Record}
-use Rattle.port.specs.Ports.{PortView, PortsView}
-use Rattle.port.specs.Records.{ports_of, port_in, queued_in, IsIndexed, IsSound, made_of}
-use Rattle.port.proofs.View.{get-with_values, len-with_values}
+use Rattle.port.specs.Ports.{PortView}
+use Rattle.port.specs.Records.{ports_of, port_in, IsIndexed}
+use Rattle.port.proofs.View.{get-with_values}
 use Rattle.port.proofs.Keys.{same_some, some_or_none, equal_or_not, put_here, put_other, out_here, out_other, same_gets}
 
 abbrev pub Keyed : Type 0

@@ -1,17 +1,17 @@
 -- Whole ports after a change of one.
-use Rattle.std.proofs.Common.{◌≡◌, ◌≢◌, ℕ, suc, zero, ◌+◌, ◌-◌, ◌<◌, ◌≤◌, ◌^◌, refl, ap, sym, subst, ◌∙◌, Option, Some, None, is_some, IsSome, IfSome, Bor, slice_get, true, false, List, [], ◌∷◌, length, get_or, set, arith}
+use Rattle.std.proofs.Common.{◌≡◌, ℕ, suc, zero, ◌+◌, ◌<◌, refl, ap, sym, ◌∙◌, Option, Some, None, IsSome, IfSome, Bor, slice_get, true, false, List, [], ◌∷◌, length, get_or, arith}
 use Rattle.std.specs.List.{sum_by}
 use Rattle.std.specs.Option.{option_copied}
 use Rattle.std.specs.Ordering.{nat_cmp}
 use Rattle.std.specs.FinMap as map
 use Rattle.std.proofs.lemmas.List.{get_or-set_same, get_or-set_other}
-use Rattle.std.proofs.lemmas.List.Sums.{sum_by-set, sum_by-cons, get_or-le-sum_by}
+use Rattle.std.proofs.lemmas.List.Sums.{sum_by-set, sum_by-cons}
 use Rattle.slab.specs.Slab.{Slab, get, with_value}
 use Rattle.port.specs.declared.Record.{Record}
-use Rattle.port.specs.Ports.{PortView, PortsView, with_port}
-use Rattle.port.specs.Records.{ports_of, port_in, queued_in, IsIndexed, IsSound, made_of}
+use Rattle.port.specs.Ports.{PortView, PortsView}
+use Rattle.port.specs.Records.{ports_of, queued_in, IsSound, made_of}
 use Rattle.port.proofs.Keys.{same_some, some_or_none}
-use Rattle.port.proofs.Records.{Keyed, port_of, Turns, port_at, no_port_at, live_key, ports-changed, indexed-changed}
+use Rattle.port.proofs.Records.{port_of, Turns, port_at, no_port_at, live_key, ports-changed, indexed-changed}
 use Rattle.std.specs.Map.{lookup}
 use Rattle.std.specs.BTreeMap.{is_at}
 use Rattle.port.proofs.Ordered.{get-from_ordered}

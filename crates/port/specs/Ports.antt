@@ -1,12 +1,11 @@
 -- What contracts see of ports: each live port's queue and attributes, how many were made, and how many slots are spare.
-use Rattle.std.specs.Prelude.{◌≡◌, ℕ, ◌+◌, ◌-◌, List, [], ◌++◌, ◌∷◌, Option, Some, None, true, refl}
+use Rattle.std.specs.Prelude.{◌≡◌, ℕ, List, None, true, refl}
 use Rattle.std.specs.Coded.{Coded, code_by, coded×, coded_ℕ, coded_list}
 use Rattle.std.specs.FinMap as map
 use Rattle.std.specs.Ordering.{nat_cmp}
 use Rattle.mach_types.specs.Numbers.{first_limit}
 use Rattle.port.specs.declared.Attributes.{Attributes}
 use Rattle.port.specs.declared.Holder.{Holder}
-use Rattle.port.specs.declared.Holder.TheVariants.{Nowhere}
 
 pub record PortView (M : Type 0) : Type 0 where
   pub queue : List M

@@ -5,7 +5,7 @@
 //! given from 0 and never again: one whose port is gone finds nothing.
 #![tactic(auto)]
 
-ghost use Rattle.std.specs.Prelude.{◌≡◌, ◌≢◌, ℕ, ◌+◌, ◌-◌, ◌<◌, ◌≤◌, ◌^◌, ◌↔◌, ◌++◌, ◌∷◌, [], List, length, IsTrue, true, Some, None, IsSome, IfSome, IfOk, IfNone, OnOk, OnErr, MatchOption, option_copied, slice_get, drop};
+ghost use Rattle.std.specs.Prelude.{◌≡◌, ◌≢◌, ℕ, ◌+◌, ◌-◌, ◌<◌, ◌≤◌, ◌^◌, ◌↔◌, ◌++◌, ◌∷◌, [], List, length, IsTrue, true, Some, None, IsSome, IfSome, IfOk, IfNone, OnOk, OnErr, option_copied, slice_get, drop};
 ghost use Rattle.std.specs.Option.{option_map, option_and_then};
 ghost use Rattle.std.specs.FinMap as map;
 ghost use Rattle.std.specs.Ordering.{nat_cmp};
@@ -290,7 +290,7 @@ impl<M: Message> Ports<M> {
     /// Removes a port that has no messages; what was allocated for it is freed or kept for others.
     /// Takes no memory. Logarithmic in the number of ports.
     pub fn remove(&mut self, port: PortId)
-        requires { (p : PortView M) → map.get self.old.ports port ≡ Some p → p.queue ≡ [] }
+        requires { (p : PortView M) → map.get self.old.ports port ≡ Some p → length p.queue ≡ 0 }
         ensures { self.new ≡ record self.old { ports = map.remove self.old.ports port } }
     {
         match self.by_id.remove(&port.number()) {
@@ -320,7 +320,8 @@ impl<M: Message> Ports<M> {
 
     /// How many messages a port has, 0 where it is gone. Logarithmic in the number of ports.
     pub fn queued(&self, port: PortId) -> usize
-        ensures { MatchOption (map.get self.now.ports port) (result ≡ 0) (λ p. result ≡ length p.queue) }
+        ensures live { (p : PortView M) → map.get self.now.ports port ≡ Some p → result ≡ length p.queue }
+        ensures gone { map.get self.now.ports port ≡ None → result ≡ 0 }
     {
         match key_of(&self.by_id, port) {
             Some(key) => self.records[key].queue.len(),
@@ -436,6 +437,7 @@ mod tests {
         attributes.limit = 16;
         ports.set_attributes(port, attributes);
         assert_eq!(rt; ports.attributes(port).ok_or("made")?.limit, 16);
+        assert_eq!(rt; ports.queued(port), 0);
         ports.remove(port);
         assert!(rt; ports.attributes(port).is_none());
         assert!(rt; !ports.is_exhausted());

@@ -1,20 +1,15 @@
-use Rattle.std.proofs.Common.{◌≡◌, ◌≢◌, ◌+◌, ◌-◌, ◌<◌, ◌≤◌, ◌^◌, ℕ, Option, Some, None, IsSome, is_some, ap, sym, subst, ◌∙◌, refl, List, ◌∷◌, ◌++◌, [], length, drop, slice_get, arith}
+use Rattle.std.proofs.Common.{◌≡◌, ℕ, Option, Some, None, is_some, ap, sym, subst, ◌∙◌, refl, List, ◌∷◌, length, drop, slice_get, arith}
 use Rattle.std.proofs.lemmas.Bool.{eqb-true}
 use Rattle.std.specs.FinMap as map
-use Rattle.std.specs.Option.{option_map, option_and_then, option_copied}
+use Rattle.std.specs.Option.{option_and_then}
 use Rattle.std.specs.Ordering.{nat_cmp}
-use Rattle.std.specs.Map.{lookup}
-use Rattle.std.specs.BTreeMap.{is_at}
-use Rattle.slab.specs.Slab.{Slab, get, with_value}
+use Rattle.slab.specs.Slab.{Slab, get}
 use Rattle.port.specs.declared.Attributes.{Attributes}
 use Rattle.port.specs.declared.Record.{Record}
-use Rattle.port.specs.Ports.{PortView, PortsView, with_port, first_attributes}
+use Rattle.port.specs.Ports.{PortView, PortsView}
 use Rattle.port.specs.Records.{ports_of, made_of, IsSound}
-use Rattle.port.proofs.Keys.{same_some, some_or_none}
 use Rattle.port.proofs.Records.{port_of}
-use Rattle.port.proofs.Ordered.{insert-from_ordered, remove-from_ordered}
 use Rattle.port.proofs.Sound.{keyed, record_at, live_port, gone_port, is_port, sound-set, view-set, no_front}
-use Rattle.port.proofs.Grown.{remove-absent}
 use Rattle.port.proofs.Ports.dequeue.Goals as goal
 
 pub returns-in_err-key-clause-front : goal.returns-in_err-key-clause-front

@@ -1,14 +1,8 @@
-use Rattle.std.proofs.Common.{◌≡◌, ◌+◌, ◌-◌, ◌<◌, ◌≤◌, ℕ, Option, Some, None, IsSome, is_some, ap, sym, subst, ◌∙◌, refl, List, ◌∷◌, ◌++◌, [], length, drop, slice_get, arith}
+use Rattle.std.proofs.Common.{◌≡◌, Option, Some, None, is_some, ap, sym, ◌∙◌, slice_get}
 use Rattle.std.specs.FinMap as map
-use Rattle.std.specs.Option.{option_map, option_and_then, option_copied}
+use Rattle.std.specs.Option.{option_and_then, option_copied}
 use Rattle.std.specs.Ordering.{nat_cmp}
-use Rattle.slab.specs.Slab.{Slab, get, with_value}
-use Rattle.port.specs.declared.Attributes.{Attributes}
-use Rattle.port.specs.declared.Record.{Record}
-use Rattle.port.specs.Ports.{PortView, PortsView, with_port}
-use Rattle.port.specs.Records.{ports_of, made_of}
-use Rattle.port.proofs.Keys.{same_some, some_or_none}
-use Rattle.port.proofs.Records.{port_of}
+use Rattle.port.specs.Ports.{PortView}
 use Rattle.port.proofs.Sound.{keyed, record_at, live_port, gone_port, front_got}
 use Rattle.port.proofs.Ports.front.Goals as goal
 

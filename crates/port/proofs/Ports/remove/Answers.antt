@@ -1,17 +1,13 @@
-use Rattle.std.proofs.Common.{◌≡◌, ◌≢◌, ◌+◌, ◌-◌, ◌<◌, ◌≤◌, ◌^◌, ℕ, Option, Some, None, IsSome, is_some, ap, sym, subst, ◌∙◌, refl, List, ◌∷◌, ◌++◌, [], length, drop, slice_get, arith}
+use Rattle.std.proofs.Common.{◌≡◌, ℕ, Some, None, is_some, ap, sym, ◌∙◌, List, length}
 use Rattle.std.specs.FinMap as map
-use Rattle.std.specs.Option.{option_map, option_and_then, option_copied}
 use Rattle.std.specs.Ordering.{nat_cmp}
 use Rattle.std.specs.Map.{lookup}
 use Rattle.std.specs.BTreeMap.{is_at}
-use Rattle.slab.specs.Slab.{Slab, get, with_value}
-use Rattle.port.specs.declared.Attributes.{Attributes}
-use Rattle.port.specs.declared.Record.{Record}
-use Rattle.port.specs.Ports.{PortView, PortsView, with_port, first_attributes}
-use Rattle.port.specs.Records.{ports_of, made_of, IsSound}
-use Rattle.port.proofs.Keys.{same_some, some_or_none}
+use Rattle.slab.specs.Slab.{get}
+use Rattle.port.specs.Ports.{PortView, PortsView}
+use Rattle.port.specs.Records.{ports_of, made_of}
 use Rattle.port.proofs.Records.{port_of}
-use Rattle.port.proofs.Ordered.{insert-from_ordered, remove-from_ordered}
+use Rattle.port.proofs.Ordered.{remove-from_ordered}
 use Rattle.port.proofs.Sound.{keyed, record_at, live_port, gone_port}
 use Rattle.port.proofs.Grown.{sound-went, view-went, remove-absent}
 use Rattle.port.proofs.Ports.remove.Goals as goal
@@ -24,7 +20,7 @@ remove-requires-in-Some g c =
 pub invariant_of-self : goal.invariant_of-self
 invariant_of-self g c =
     let found : map.get (map.from_sorted {R = nat_cmp} c.self.inside.by_id.entries) c.args.port ≡ Some c.in-Some.key = keyed c.self.inside.records c.self.inside.by_id.entries c.self.inside.next c.self.inside.spare c.self.inside.slots c.self.invariant c.args.self.now c.self.view_is c.args.port (Some c.in-Some.key) (c.in-Some.ensures.value ∙ ap (λ k. lookup (is_at (nat_cmp k)) c.self.inside.by_id.entries) c.number.ensures) in
-    let quiet : length c.remove-in-Some.result.queue ≡ 0 = ap length (c.requires (port_of c.remove-in-Some.result) (live_port c.self.inside.records c.self.inside.by_id.entries c.self.inside.next c.self.inside.spare c.self.inside.slots c.self.invariant c.args.self.now c.self.view_is c.args.port c.in-Some.key c.remove-in-Some.result found c.remove-in-Some.ensures.value)) in
+    let quiet : length c.remove-in-Some.result.queue ≡ 0 = (c.requires (port_of c.remove-in-Some.result) (live_port c.self.inside.records c.self.inside.by_id.entries c.self.inside.next c.self.inside.spare c.self.inside.slots c.self.invariant c.args.self.now c.self.view_is c.args.port c.in-Some.key c.remove-in-Some.result found c.remove-in-Some.ensures.value)) in
     let out : map.from_sorted {R = nat_cmp} c.remove.new.self.entries ≡ map.remove (map.from_sorted c.self.inside.by_id.entries) c.args.port =
     remove-from_ordered c.self.inside.by_id.entries c.remove.new.self.entries c.number.result c.self.invariant.ordered c.remove.ensures.ordered c.remove.ensures.updates.0
     ∙ ap (map.remove (map.from_sorted c.self.inside.by_id.entries)) c.number.ensures in
@@ -34,7 +30,7 @@ invariant_of-self g c =
 pub returns-in-Some : goal.returns-in-Some
 returns-in-Some g c =
     let found : map.get (map.from_sorted {R = nat_cmp} c.self.inside.by_id.entries) c.args.port ≡ Some c.in-Some.key = keyed c.self.inside.records c.self.inside.by_id.entries c.self.inside.next c.self.inside.spare c.self.inside.slots c.self.invariant c.args.self.now c.self.view_is c.args.port (Some c.in-Some.key) (c.in-Some.ensures.value ∙ ap (λ k. lookup (is_at (nat_cmp k)) c.self.inside.by_id.entries) c.number.ensures) in
-    let quiet : length c.remove-in-Some.result.queue ≡ 0 = ap length (c.requires (port_of c.remove-in-Some.result) (live_port c.self.inside.records c.self.inside.by_id.entries c.self.inside.next c.self.inside.spare c.self.inside.slots c.self.invariant c.args.self.now c.self.view_is c.args.port c.in-Some.key c.remove-in-Some.result found c.remove-in-Some.ensures.value)) in
+    let quiet : length c.remove-in-Some.result.queue ≡ 0 = (c.requires (port_of c.remove-in-Some.result) (live_port c.self.inside.records c.self.inside.by_id.entries c.self.inside.next c.self.inside.spare c.self.inside.slots c.self.invariant c.args.self.now c.self.view_is c.args.port c.in-Some.key c.remove-in-Some.result found c.remove-in-Some.ensures.value)) in
     let out : map.from_sorted {R = nat_cmp} c.remove.new.self.entries ≡ map.remove (map.from_sorted c.self.inside.by_id.entries) c.args.port =
     remove-from_ordered c.self.inside.by_id.entries c.remove.new.self.entries c.number.result c.self.invariant.ordered c.remove.ensures.ordered c.remove.ensures.updates.0
     ∙ ap (map.remove (map.from_sorted c.self.inside.by_id.entries)) c.number.ensures in

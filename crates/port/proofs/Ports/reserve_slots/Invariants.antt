@@ -1,5 +1,4 @@
 use Rattle.std.proofs.Common.{◌≡◌, ◌+◌}
-use Rattle.port.specs.Ports.{PortsView}
 use Rattle.port.proofs.Ports.reserve_slots.Given as goal
 
 abbrev pub invariant-loop : goal.invariant-loop

@@ -1,13 +1,10 @@
-use Rattle.std.proofs.Common.{◌≡◌, ◌+◌, ◌-◌, ◌<◌, ◌≤◌, ℕ, Option, Some, None, IsSome, is_some, ap, sym, subst, ◌∙◌, refl, List, ◌∷◌, ◌++◌, [], length, drop, length-append, arith}
+use Rattle.std.proofs.Common.{◌≡◌, ℕ, Some, is_some, ap, sym, subst, ◌∙◌, refl, length}
 use Rattle.std.specs.FinMap as map
-use Rattle.std.specs.Option.{option_map, option_and_then, option_copied}
 use Rattle.std.specs.Ordering.{nat_cmp}
-use Rattle.slab.specs.Slab.{Slab, get, with_value}
-use Rattle.port.specs.declared.Attributes.{Attributes}
+use Rattle.slab.specs.Slab.{Slab, get}
 use Rattle.port.specs.declared.Record.{Record}
-use Rattle.port.specs.Ports.{PortView, PortsView, with_port}
+use Rattle.port.specs.Ports.{PortView, PortsView}
 use Rattle.port.specs.Records.{ports_of, made_of, IsSound}
-use Rattle.port.proofs.Keys.{same_some, some_or_none}
 use Rattle.port.proofs.Records.{port_of}
 use Rattle.port.proofs.Sound.{keyed, record_at, live_at, is_port, sound-set, view-set}
 use Rattle.port.proofs.Ports.set_attributes.Goals as goal
