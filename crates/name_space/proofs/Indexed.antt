@@ -1,8 +1,8 @@
 -- The finite map of sorted pairs.
-use Rattle.std.proofs.Common.{◌≡◌, ◌≢◌, ℕ, zero, suc, ◌+◌, ◌-◌, ◌<◌, ◌≤◌, Bool, true, false, cond, List, [], ◌∷◌, ◌&&◌, length, T, refl, ap, sym, subst, ◌∙◌, Option, Some, None, is_some, get_or, inl, inr, if◌then◌else◌, eqb, ◌==◌, arith}
+use Rattle.std.proofs.Common.{◌≡◌, ◌≢◌, ℕ, zero, suc, ◌+◌, ◌-◌, ◌<◌, ◌≤◌, Bool, true, false, cond, [], ◌∷◌, ◌&&◌, length, T, refl, ap, sym, subst, ◌∙◌, Option, Some, None, is_some, get_or, inl, inr, if◌then◌else◌, eqb, ◌==◌, arith}
 use Rattle.std.specs.declared.cmp.Ordering.TheVariants.{Less}
 use Rattle.std.specs.Ordering.{nat_cmp, is_lt, eq_by_cmp}
-use Rattle.std.specs.Cmp.{nat_cmp_total, eq_by_cmp_equiv, unsigned_tied, nat_cmp_is}
+use Rattle.std.specs.Cmp.{nat_cmp_total, unsigned_tied, nat_cmp_is}
 use Rattle.std.proofs.lemmas.Bool.{eqb-true, cases_lt}
 use Rattle.std.proofs.lemmas.Bool.Decides.{nat_tests}
 use Rattle.std.proofs.lemmas.List.{get_or_default}
@@ -12,7 +12,7 @@ use Rattle.std.specs.FinMap.Entries.{find, is_sorted, below_all}
 use Rattle.name_space.specs.Names.{IsFreshName}
 use Rattle.name_space.specs.Pairs.{Pairs, key_at, IsStrictlySorted, IsAt, IsGapFor}
 use Rattle.name_space.proofs.Pairs.{get, get_absent}
-use Rattle.name_space.proofs.Place.{get_at, get_in_gap, gets_remove, sorted_remove, gets_insert, sorted_insert}
+use Rattle.name_space.proofs.Place.{get_at, gets_remove, sorted_remove, gets_insert, sorted_insert}
 
 both : (a b : Bool) → T a → T b → T (a && b)
 both true b p q = q

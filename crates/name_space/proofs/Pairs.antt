@@ -1,10 +1,8 @@
 -- What `get` finds in a list of pairs, and what an edit of the list does to it.
-use Rattle.std.proofs.Common.{◌≡◌, ℕ, zero, suc, ◌<◌, ◌≤◌, eqb, ◌≢◌, [], ◌∷◌, length, get_or, set, if◌then◌else◌, ◌==◌, Option, Some, None, IsSome, IsSomeAnd, slice_get, refl, inl, inr, arith}
-use mathlib.Core.Bool.{false≢true}
+use Rattle.std.proofs.Common.{◌≡◌, ℕ, zero, suc, ◌<◌, eqb, ◌≢◌, [], ◌∷◌, length, get_or, if◌then◌else◌, ◌==◌, Option, Some, None, refl, arith}
 use Rattle.std.specs.List.{insert, remove}
-use Rattle.std.proofs.lemmas.Bool.{cases_lt}
 use Rattle.std.proofs.lemmas.Bool.Decides.{nat_tests}
-use Rattle.name_space.specs.Pairs.{Pairs, key_at, IsAt, IsStrictlySorted}
+use Rattle.name_space.specs.Pairs.{Pairs, key_at, IsAt}
 
 -- the value of the first pair that has the key
 abbrev pub get : Pairs → ℕ → Option ℕ

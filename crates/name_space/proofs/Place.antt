@@ -7,7 +7,6 @@ use Rattle.std.proofs.lemmas.Cmp.{ranked}
 use Rattle.std.proofs.lemmas.List.Sorted.{IsNonDecreasingBy-from_default}
 use Rattle.std.proofs.lemmas.List.Edits.{length-insert, get_or-insert_below, get_or-insert_at, get_or-insert_above, length-remove, get_or-remove_below, get_or-remove_above}
 use Rattle.std.proofs.lemmas.Bool.Decides.{nat_tests}
-use Rattle.std.proofs.lemmas.Grind.{common_steps}
 use Rattle.name_space.specs.Pairs.{Pairs, key_at, IsStrictlySorted, IsAt, IsGapFor}
 use Rattle.name_space.proofs.Pairs.{get, NoKeyBefore, GetsAfterSet, get_absent, get_present, get-insert, get-remove}
 

@@ -1,5 +1,5 @@
 -- The map of names, from the keys of the records.
-use Rattle.std.proofs.Common.{◌≡◌, ℕ, suc, Bool, true, false, cond, List, [], ◌∷◌, ◌&&◌, length, T, refl, ap, sym, subst, ◌∙◌, Option, Some, None, is_some, map as map_list}
+use Rattle.std.proofs.Common.{◌≡◌, ℕ, suc, Bool, true, false, cond, List, [], ◌∷◌, ◌&&◌, length, T, refl, ap, sym, subst, ◌∙◌, Option, Some, map as map_list}
 use Rattle.std.specs.Option.{option_map}
 use Rattle.std.specs.Ordering.{nat_cmp, eq_by_cmp, is_lt}
 use Rattle.std.specs.FinMap as map

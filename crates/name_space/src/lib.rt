@@ -5,7 +5,7 @@
 //! [`Space::reserve`]; nothing else but [`Space::names`] takes memory.
 #![tactic(auto)]
 
-ghost use Rattle.std.specs.Prelude.{◌≡◌, ◌≢◌, ℕ, ◌+◌, ◌-◌, ◌<◌, ◌≤◌, ◌↔◌, IsTrue, true, Some, None, IfOk, IfSome, IfNone, OnSome, OnOk};
+ghost use Rattle.std.specs.Prelude.{◌≡◌, ◌≢◌, ℕ, ◌+◌, ◌-◌, ◌<◌, ◌≤◌, ◌↔◌, IsTrue, true, Some, None, IfOk, IfSome, IfNone, IsOk, OnSome, OnOk, OnErr};
 ghost use Rattle.std.specs.FinMap as map;
 ghost use Rattle.slab.specs.Slab.{ContainsKey, Updates, slab_len};
 ghost use Rattle.mach_types.specs.Numbers.{most_names};
@@ -208,13 +208,15 @@ impl Space {
     }
 
     /// Makes room for so many more names, so that as many calls of [`Space::insert`] take no memory.
-    /// Room that is there stays.
+    /// Room that is there stays and counts. Linear in the number of names where memory is taken.
     ///
     /// An error means that memory was refused; the names are then as before, and so is the room.
     pub fn reserve(&mut self, additional: usize) -> Result<(), AllocError>
         ensures names { self.new.names ≡ self.old.names }
         ensures ok { OnOk result (additional ≤ self.new.room) }
         ensures room { self.old.room ≤ self.new.room }
+        ensures err { OnErr result (self.new ≡ self.old) }
+        ensures had_room { additional ≤ self.old.room → IsOk result }
     {
         if additional <= self.room {
             return Ok(());

@@ -1,5 +1,5 @@
 -- What a look-up in std's map says of the finite map, and of the sums.
-use Rattle.std.proofs.Common.{◌≡◌, ℕ, true, ap, sym, ◌∙◌, Option, Some, None, is_some, IsSome, Bor, List, refl, false, subst}
+use Rattle.std.proofs.Common.{◌≡◌, ℕ, true, ap, sym, ◌∙◌, Option, Some, None, is_some, IsSome, Bor, List, refl, false}
 use Rattle.std.specs.Option.{option_copied, unwrap_or}
 use Rattle.std.specs.List.Sorted.{IsStrictlySortedBy}
 use Rattle.std.specs.Ordering.{nat_cmp}

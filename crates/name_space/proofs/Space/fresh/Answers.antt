@@ -1,5 +1,4 @@
-use Rattle.std.proofs.Common.{◌≡◌, Some, None, ap, sym, subst, ◌∙◌, is_some}
-use Rattle.std.specs.FinMap as map
+use Rattle.std.proofs.Common.{sym, subst}
 use Rattle.slab.specs.Slab.{get}
 use Rattle.name_space.specs.Names.{SpaceView, IsFreshName}
 use Rattle.name_space.proofs.Records.{fresh-names}

@@ -1,14 +1,7 @@
-use Rattle.std.proofs.Common.{◌≡◌, ◌≢◌, ◌+◌, ◌-◌, ◌<◌, ◌≤◌, ℕ, Option, Some, None, ap, sym, subst, ◌∙◌, arith}
+use Rattle.std.proofs.Common.{◌≡◌, Some, None, ap, sym, ◌∙◌}
 use Rattle.std.specs.FinMap as map
-use Rattle.slab.specs.Slab.{get, slab_len}
-use Rattle.name_space.specs.declared.Entry.{Entry}
-use Rattle.name_space.specs.declared.Record.{Record}
-use Rattle.name_space.specs.Entry.{port_named}
-use Rattle.name_space.specs.Index.{IndexView}
-use Rattle.name_space.specs.Names.{Names, SpaceView, port_at, HasNoOther}
-use Rattle.name_space.specs.Linked.{linked, unlinked}
-use Rattle.name_space.specs.Records.{names_of, IsIndexed, HasRoom}
-use Rattle.name_space.proofs.Keys.{same_some, some_or_none, put_here, put_other, out_here, out_other, len-put, len-out}
+use Rattle.slab.specs.Slab.{get}
+use Rattle.name_space.specs.Names.{SpaceView}
 use Rattle.name_space.proofs.Records.{entry_at, no_entry_at}
 use Rattle.name_space.proofs.Space.lookup.Goals as goal
 

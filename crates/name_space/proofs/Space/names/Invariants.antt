@@ -1,4 +1,4 @@
-use Rattle.std.proofs.Common.{◌≡◌, ◌≤◌, take, length}
+use Rattle.std.proofs.Common.{◌≡◌, take}
 use Rattle.std.specs.FinMap as map
 use Rattle.name_space.proofs.Space.names.Given as goal
 

@@ -1,4 +1,3 @@
-use Rattle.std.proofs.Common.{ap}
 use Rattle.slab.specs.Slab.{get}
 use Rattle.name_space.proofs.Records.{sound-empty, names-empty}
 use Rattle.name_space.proofs.Space.new.Goals as goal

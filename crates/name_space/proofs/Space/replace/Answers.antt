@@ -1,15 +1,11 @@
-use Rattle.std.proofs.Common.{◌≡◌, ◌≢◌, ◌+◌, ◌-◌, ◌<◌, ◌≤◌, ◌^◌, ℕ, Option, Some, None, IsSome, ap, sym, subst, ◌∙◌, refl, is_some, arith}
+use Rattle.std.proofs.Common.{◌≡◌, ◌<◌, ℕ, Some, ap, sym, subst, ◌∙◌, refl, is_some}
 use Rattle.std.specs.FinMap as map
 use Rattle.std.specs.Ordering.{nat_cmp}
-use Rattle.slab.specs.Slab.{get, slab_len}
-use Rattle.name_space.specs.declared.Entry.{Entry}
-use Rattle.name_space.specs.declared.Record.{Record}
+use Rattle.slab.specs.Slab.{get}
 use Rattle.name_space.specs.Entry.{port_named}
 use Rattle.name_space.specs.Index.{IndexView}
-use Rattle.name_space.specs.Names.{Names, SpaceView, port_at, HasNoOther}
+use Rattle.name_space.specs.Names.{SpaceView}
 use Rattle.name_space.specs.Linked.{linked, unlinked}
-use Rattle.name_space.specs.Records.{names_of, IsIndexed, HasRoom}
-use Rattle.name_space.proofs.Keys.{same_some, some_or_none, put_here, put_other, out_here, out_other, len-put, len-out, fewer, put_back, put_over, relinked}
 use Rattle.name_space.proofs.Records.{used_key, if_some, on_some_of, port_key_gone, port_has_room, view-replaced, sound-replaced}
 use Rattle.name_space.proofs.Space.replace.Goals as goal
 

@@ -1,9 +1,8 @@
-use Rattle.std.proofs.Common.{◌≡◌, ap, sym, ◌∙◌, subst, Some, List, ℕ, get_or}
+use Rattle.std.proofs.Common.{ap, sym, ◌∙◌, subst, Some, ℕ}
 use Rattle.std.specs.FinMap as map
 use Rattle.std.proofs.lemmas.List.{get_or_default}
 use Rattle.name_space.specs.Index.{IndexView}
 use Rattle.name_space.specs.Pairs.{Pairs, IsAt, IsGapFor}
-use Rattle.name_space.proofs.Pairs.{get}
 use Rattle.name_space.proofs.Place.{get_at, get_in_gap}
 use Rattle.name_space.proofs.Indexed.{get-pairs}
 use Rattle.name_space.proofs.index.Index.get.Goals as goal
