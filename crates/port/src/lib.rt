@@ -86,6 +86,10 @@ struct Record<M> {
     attributes: Attributes,
 }
 
+// A port without messages takes its record in the slab, and a pair of numbers in the index, whose
+// nodes are at least five elevenths full: fewer than 200 bytes.
+const _: () = prove!(mem::size_of::<Record<u8>>() <= 112);
+
 /// Ports by identity, and spare message slots. Without ports and slots nothing is allocated.
 #[derive(Drop)]
 pub struct Ports<M: Message> {
@@ -265,7 +269,8 @@ impl<M: Message> Ports<M> {
     }
 
     /// Makes a port whose receive right is with the holder: no messages, limit 5, counts 0, in no
-    /// set. Its identity is the number of ports made before. Logarithmic in the number of ports.
+    /// set (Port Manipulation Interface, `mach_port_allocate`). Its identity is the number of ports
+    /// made before. Logarithmic in the number of ports, but where the records move to a larger place.
     ///
     /// An error means that memory was refused; all is then as before.
     pub fn allocate(&mut self, holder: Holder) -> Result<PortId, AllocError>
