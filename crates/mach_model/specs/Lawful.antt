@@ -1,13 +1,13 @@
 -- What is true of every state that the machine reaches (this project's own). Every step keeps it.
-use Rattle.std.specs.Prelude.{◌≡◌, ◌≢◌, ℕ, ◌+◌, ◌^◌, ◌<◌, ◌≤◌, ◌⊎◌, Bool, true, false, List, [], ◌∷◌, length, slice_get, Some, None, if◌then◌else◌, ◌==◌}
+use Rattle.std.specs.Prelude.{◌≡◌, ◌≢◌, ℕ, ◌+◌, ◌^◌, ◌<◌, ◌≤◌, ◌⊎◌, Bool, true, false, List, [], ◌∷◌, length, slice_get, Some, None, if◌then◌else◌, ◌==◌, Contains}
 use Rattle.std.specs.FinMap as names
 use Rattle.mach_types.specs.Numbers.{null_word, dead_word, most_names, most_references, most_rights, greatest_limit}
 use Rattle.mach_types.specs.Tokens.{Kind, receive, send, send_once, Request, in_message, in_request, count, is_of}
 use Rattle.mach_types.specs.Messages.{Entry}
-use Rattle.mach_model.specs.State.{State, Target, Names, lookup, held, queue}
+use Rattle.mach_model.specs.State.{State, Target, Names, lookup, held, Holds, queue}
 use Rattle.mach_model.specs.Dying.{same_place}
 use Rattle.mach_model.specs.Carried.{message_count, lying}
-use Rattle.mach_model.specs.NotYet.{NoRequests}
+use Rattle.mach_model.specs.NotYet.{NoRequests, IsPlain}
 
 abbrev pub is_once : ℕ → Target → Bool
 is_once p (Target.once q) = q == p
@@ -52,6 +52,8 @@ pub record IsLawful (s : State) : Type 0 where
   pub make_send_fits : (p : ℕ) → s.make_send p < 2 ^ 32
   pub sequence_fits : (p : ℕ) → s.sequence p < 2 ^ 32
   pub no_sets : (p : ℕ) → s.live_port p ≡ false → s.sets_of p ≡ []
+  -- sets: a member's receive right is with the set's task
+  pub members : (p set task : ℕ) → Contains (s.sets_of p) set → s.set_owner set ≡ Some task → Holds s task receive p
   -- logs: an entry is its port's, and goes by a send or send-once right; it speaks of ports that were made
   pub unmade_log : (p : ℕ) → s.ports_made ≤ p → s.log p ≡ []
   pub within : (p : ℕ) → s.taken p ≤ length (s.log p)
@@ -66,4 +68,6 @@ pub record IsLawful (s : State) : Type 0 where
   pub ended : (r : Request) → s.stands r ≡ false → (kind : Kind) (q : ℕ) → lying s kind q (in_request r) ≡ 0
   pub one_kept : (r : Request) → count (λ x. same_place (in_request r) x.place) s.ledger ≤ 1
   pub once_kept : (r : Request) (kind : Kind) (q : ℕ) → kind ≢ send_once → lying s kind q (in_request r) ≡ 0
+  -- as long as the rules of NotYet stand
   pub none_stands : NoRequests s
+  pub plain_messages : (p k : ℕ) (e : Entry) → slice_get (s.log p) k ≡ Some e → IsPlain e.message

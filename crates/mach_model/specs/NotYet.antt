@@ -1,7 +1,8 @@
 -- What the kernel doesn't do yet. Each rule here refuses more, or keeps more, than the machine will in the end; it goes when
 -- the work that it waits for is there.
-use Rattle.std.specs.Prelude.{◌≡◌, ◌≢◌, ℕ, ◌⊎◌, Bool, false}
-use Rattle.mach_types.specs.Tokens.{Request}
+use Rattle.std.specs.Prelude.{◌≡◌, ◌≢◌, ℕ, ◌⊎◌, Bool, false, List}
+use Rattle.mach_types.specs.Tokens.{send, Request}
+use Rattle.mach_types.specs.Messages.{absent, Body, Message}
 use Rattle.mach_types.specs.Grammar.{Header}
 use Rattle.mach_model.specs.State.{State}
 
@@ -20,3 +21,10 @@ LeavesLarge large old mid = mid ≡ old
 -- Nothing can be requested.
 abbrev pub NoRequests : State → Type 0
 NoRequests s = (r : Request) → s.stands r ≡ false
+
+-- So each message is of this kind: sent by a send right, with no right to answer with, and a body of bytes.
+pub record IsPlain (m : Message) : Type 0 where
+  pub kind : m.kind ≡ send
+  pub no_reply : m.reply ≡ absent
+  pub bytes : List ℕ
+  pub is_raw : m.body ≡ Body.raw bytes

@@ -1,0 +1,6 @@
+pub mod Weigh
+pub mod At
+pub mod Names
+pub mod Settling
+pub mod Runs
+pub mod Opening

@@ -1,0 +1,54 @@
+-- The state in which nothing was made is lawful.
+use Rattle.std.proofs.Common.{◌≡◌, ℕ, [], Some, None, refl, sym, arith}
+use Rattle.std.specs.Prelude.{slice_get}
+use Rattle.std.specs.FinMap.{get-empty, len-empty}
+use Rattle.std.specs.Ordering.{nat_cmp}
+use Rattle.mach_model.specs.State.{Target, opening, lookup}
+use Rattle.mach_model.specs.Lawful.{IsLawful}
+use Rattle.mach_model.proofs.Names.{no_values}
+
+unused : (task name : ℕ) → lookup opening task name ≡ None
+unused task name = get-empty nat_cmp name
+
+no_name : (task name : ℕ) (target : Target) → lookup opening task name ≡ Some target → ⊥
+no_name task name target is = let e = unused task name in cc
+
+no_element : {A : Type 0} (k : ℕ) (e : A) → slice_get [] k ≡ Some e → ⊥
+no_element k e is = cc
+
+pub opening-lawful : IsLawful opening
+opening-lawful = record {
+  made_task = λ task is. absurd (cc);
+  no_task = λ task name is. unused task name;
+  not_null = λ task. unused task _;
+  not_dead = λ task. unused task _;
+  name_fits = λ task name target is. absurd (no_name task name target is);
+  few_names = λ task. let e = len-empty nat_cmp Target in omega (arith, e);
+  has_right = λ task name p is. absurd (no_name task name (Target.port p) is);
+  is_named = λ task p some. absurd (omega (arith, some));
+  one_name = λ task n m p is. absurd (no_name task n (Target.port p) is);
+  once_names = λ task p. sym (no_values _);
+  references = λ task name target is. absurd (no_name task name target is);
+  few_references = λ task p. omega arith;
+  made_port = λ p is. absurd (cc);
+  one_receive = λ p is. absurd (cc);
+  no_rights = λ p is kind. refl;
+  few_rights = omega arith;
+  limit_fits = λ p. omega arith;
+  make_send_fits = λ p. omega arith;
+  sequence_fits = λ p. omega arith;
+  no_sets = λ p is. refl;
+  members = λ p set task is owner. absurd (cc);
+  unmade_log = λ p is. refl;
+  within = λ p. omega arith;
+  sent_here = λ p k e is. absurd (no_element k e is);
+  made_marks = λ p k e is. absurd (no_element k e is);
+  carried = λ p i e is. absurd (cc);
+  gone = λ p k is kind q. refl;
+  no_entry = λ p k is kind q. refl;
+  ended = λ r is kind q. refl;
+  one_kept = λ r. omega arith;
+  once_kept = λ r kind q not. refl;
+  none_stands = λ r. refl;
+  plain_messages = λ p k e is. absurd (no_element k e is);
+}
