@@ -4,3 +4,4 @@ pub mod Names
 pub mod Settling
 pub mod Runs
 pub mod Opening
+pub mod Plain
