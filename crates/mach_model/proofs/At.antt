@@ -1,6 +1,6 @@
 -- Functions that were changed at one number, and tests of equal numbers.
-use Rattle.std.proofs.Common.{◌≡◌, ℕ, zero, suc, ◌<◌, List, [], ◌∷◌, ◌++◌, Some, None, refl, ap, arith, false, ◌⊎◌, inl, inr, length}
-use Rattle.std.specs.Prelude.{if◌then◌else◌, ◌==◌, ◌&&◌, slice_get}
+use Rattle.std.proofs.Common.{◌≡◌, ℕ, zero, suc, ◌+◌, ◌<◌, List, [], ◌∷◌, ◌++◌, Some, None, refl, sym, ap, ◌∙◌, arith, false, ◌⊎◌, inl, inr, length}
+use Rattle.std.specs.Prelude.{if◌then◌else◌, ◌==◌, ◌&&◌, slice_get, drop}
 use Rattle.std.proofs.lemmas.Bool.Decides.{eqb_tells}
 use Rattle.std.proofs.lemmas.Bool.{eq-eqb, ne_eqb}
 use Rattle.mach_model.specs.State.{at}
@@ -47,3 +47,11 @@ snoc_cases (z ∷ xs) y (suc i) x e = elim (snoc_cases xs y i x e) [
   | inl h ↦ inl (omega (arith, h.0), h.1)
   | inr h ↦ inr (ap suc h.0, h.1)
 ]
+
+-- an element behind the first n
+pub slice_get_drop : {A : Type 0} (n : ℕ) (xs : List A) (i : ℕ) → slice_get (drop n xs) i ≡ slice_get xs (n + i)
+slice_get_drop zero xs i = ap (slice_get xs) (omega arith)
+slice_get_drop (suc n) [] i = refl
+slice_get_drop (suc n) (x ∷ xs) i =
+    let e : suc n + i ≡ suc (n + i) = omega arith in
+    slice_get_drop n xs i ∙ sym (ap (slice_get (x ∷ xs)) e)

@@ -5,3 +5,5 @@ pub mod Settling
 pub mod Runs
 pub mod Opening
 pub mod Plain
+pub mod CreateLawful
+pub mod AllocateLawful
