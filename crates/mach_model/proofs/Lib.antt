@@ -7,3 +7,5 @@ pub mod Opening
 pub mod Plain
 pub mod CreateLawful
 pub mod AllocateLawful
+pub mod SendLawful
+pub mod ReceiveLawful
