@@ -1,14 +1,14 @@
 -- A new port leaves a lawful state.
-use Rattle.std.proofs.Common.{◌≡◌, ℕ, zero, suc, ◌+◌, ◌^◌, ◌<◌, ◌≤◌, List, [], ◌∷◌, Some, None, refl, sym, ap, subst, ◌∙◌, arith, true, false, Bool, ◌⊎◌, inl, inr, length}
-use Rattle.std.specs.Prelude.{if◌then◌else◌, ◌==◌, ◌&&◌, ◌≢◌, slice_get, drop, Contains, is_some}
+use Rattle.std.proofs.Common.{◌≡◌, ℕ, zero, suc, ◌+◌, ◌^◌, ◌<◌, ◌≤◌, List, [], ◌∷◌, Some, refl, sym, ap, subst, ◌∙◌, arith, true, false, Bool, ◌⊎◌, inl, inr, length}
+use Rattle.std.specs.Prelude.{if◌then◌else◌, ◌==◌, ◌&&◌, ◌≢◌, slice_get, drop, Contains}
 use Rattle.std.specs.FinMap as map
 use Rattle.std.specs.FinMap.{len-insert}
 use Rattle.std.specs.Cmp.{nat_cmp_total}
 use Rattle.std.proofs.lemmas.Bool.Decides.{eqb_tells}
-use Rattle.mach_types.specs.Numbers.{null_word, dead_word, most_names, most_references, most_rights, first_limit, greatest_limit}
-use Rattle.mach_types.specs.Tokens.{Kind, receive, send, send_once, Request, Place, in_task, in_message, in_request, Token, token, count, is_of, is_held, Moves}
+use Rattle.mach_types.specs.Numbers.{null_word, dead_word, most_names, most_rights, first_limit, greatest_limit}
+use Rattle.mach_types.specs.Tokens.{Kind, receive, send, send_once, Request, in_task, in_message, in_request, Token, token, count, is_of, is_held, Moves}
 use Rattle.mach_types.specs.Messages.{Entry}
-use Rattle.mach_model.specs.State.{State, Target, Names, lookup, held, Holds, queue, at, IsFresh}
+use Rattle.mach_model.specs.State.{State, Target, Names, lookup, held, Holds, queue, IsFresh}
 use Rattle.mach_model.specs.Dying.{same_place}
 use Rattle.mach_model.specs.Making.{with_port, AllocatesPort}
 use Rattle.mach_model.specs.Carried.{message_count, lying}

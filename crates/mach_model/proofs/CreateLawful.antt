@@ -1,9 +1,9 @@
 -- A new task leaves a lawful state.
-use Rattle.std.proofs.Common.{◌≡◌, ℕ, ◌+◌, ◌<◌, None, refl, sym, ap, subst, ◌∙◌, arith, true, false, Bool, inl, inr}
+use Rattle.std.proofs.Common.{◌≡◌, ℕ, ◌+◌, refl, sym, ap, subst, ◌∙◌, arith, true, false, Bool, inl, inr}
 use Rattle.std.specs.FinMap as map
 use Rattle.std.proofs.Math.Path.{fun_ext}
 use Rattle.std.proofs.lemmas.Bool.Decides.{eqb_tells}
-use Rattle.mach_model.specs.State.{State, Names, at, lookup}
+use Rattle.mach_model.specs.State.{State, Names, at}
 use Rattle.mach_model.specs.Making.{CreatesTask}
 use Rattle.mach_model.specs.Lawful.{IsLawful}
 use Rattle.mach_model.proofs.At.{at_same, at_other}

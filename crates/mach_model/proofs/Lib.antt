@@ -9,3 +9,4 @@ pub mod CreateLawful
 pub mod AllocateLawful
 pub mod SendLawful
 pub mod ReceiveLawful
+pub mod StepLawful

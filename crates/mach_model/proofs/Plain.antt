@@ -1,28 +1,26 @@
 -- A plain message: one sent by a send right made for it, with no right to answer with and a body of bytes. What sending it and
 -- receiving it do.
-use Rattle.std.proofs.Common.{◌≡◌, ℕ, ◌+◌, ◌/◌, ◌%◌, ◌^◌, ◌<◌, ◌≤◌, List, [], ◌∷◌, ◌++◌, Option, Some, None, refl, sym, ap, subst, ◌∙◌, arith, true, false, Bool, inl, inr, length}
-use Rattle.std.specs.Prelude.{◌≢◌, min, if◌then◌else◌, ◌==◌, ◌&&◌}
+use Rattle.std.proofs.Common.{◌≡◌, ℕ, ◌+◌, ◌%◌, ◌^◌, ◌<◌, ◌≤◌, List, [], ◌∷◌, ◌++◌, Some, refl, sym, ap, subst, ◌∙◌, arith, inl, inr, length}
+use Rattle.std.specs.Prelude.{min}
 use Rattle.std.proofs.lemmas.Bool.Decides.{eqb_tells}
 use Rattle.mach_types.specs.declared.rights.Disposition.{Disposition}
 use Rattle.mach_types.specs.declared.rights.Disposition.TheVariants.{MoveReceive, MoveSend, MoveSendOnce, CopySend, MakeSend, MakeSendOnce}
 use Rattle.mach_types.specs.Numbers.{disposition, kind_sent, kind_number, null_word, most_rights, most_bytes}
-use Rattle.mach_types.specs.Tokens.{Kind, receive, send, Place, in_message, Token, token, count, is_of, Moves}
+use Rattle.mach_types.specs.Tokens.{Kind, receive, send, Place, in_message, Token, token, Moves}
 use Rattle.mach_types.specs.Messages.{to_port, ReplyRight, absent, present, Body, Message, Entry}
 use Rattle.mach_types.specs.Grammar.{Wire, WireBody, Header, Spells, text}
 use Rattle.mach_types.specs.Guards.{NoneHolds}
 use Rattle.mach_types.specs.TextGuards.{text_guards, word_at}
 use Rattle.mach_types.specs.NotYet.{IsNotYetBody}
-use Rattle.mach_model.specs.State.{State, Target, lookup, at, held, Holds, queue}
+use Rattle.mach_model.specs.State.{State, Target, lookup, at, Holds, queue}
 use Rattle.mach_model.specs.SentMeans.{target_mark}
 use Rattle.mach_model.specs.CopyIn.{IsLegal, taken_by, put_by, changed_by, CopyReply, CopyBody}
 use Rattle.mach_model.specs.CopyOut.{GiveReply, GiveBody}
-use Rattle.mach_model.specs.Dying.{same_place}
 use Rattle.mach_model.specs.Carried.{lying}
 use Rattle.mach_model.specs.NotYet.{IsNotYetSent, IsPlain}
 use Rattle.mach_model.specs.Sending.{Sends, place_of, entry}
-use Rattle.mach_model.specs.Receiving.{IsFront, with_taken, Takes, Receives}
+use Rattle.mach_model.specs.Receiving.{IsFront, with_taken, Receives}
 use Rattle.mach_model.specs.Lawful.{IsLawful}
-use Rattle.mach_model.proofs.Weigh.{length-weigh, both_test}
 
 -- ---- sending
 

@@ -1,12 +1,12 @@
 -- A message that is taken by a receipt leaves a lawful state.
-use Rattle.std.proofs.Common.{◌≡◌, ℕ, zero, suc, ◌+◌, ◌%◌, ◌^◌, ◌<◌, ◌≤◌, List, [], ◌∷◌, Some, None, refl, sym, ap, subst, ◌∙◌, arith, true, false, Bool, ◌⊎◌, inl, inr, length}
-use Rattle.std.specs.Prelude.{if◌then◌else◌, ◌==◌, ◌&&◌, ◌≢◌, slice_get, drop}
+use Rattle.std.proofs.Common.{◌≡◌, ℕ, zero, suc, ◌+◌, ◌%◌, ◌^◌, ◌<◌, ◌≤◌, List, [], ◌∷◌, Some, refl, sym, ap, subst, ◌∙◌, arith, true, false, Bool, ◌⊎◌, inl, inr, length}
+use Rattle.std.specs.Prelude.{if◌then◌else◌, ◌==◌, ◌&&◌, slice_get, drop}
 use Rattle.std.proofs.lemmas.Bool.Decides.{eqb_tells}
-use Rattle.std.proofs.lemmas.Bool.{eq-eqb, ne_eqb}
+use Rattle.std.proofs.lemmas.Bool.{eq-eqb}
 use Rattle.std.proofs.lemmas.Option.{slice_get_within}
-use Rattle.mach_types.specs.Tokens.{Kind, receive, send, send_once, Request, Place, in_message, in_request, Token, token, count, is_of, is_held, same_kind, Moves}
-use Rattle.mach_types.specs.Messages.{Message, Entry}
-use Rattle.mach_model.specs.State.{State, held, queue, at}
+use Rattle.mach_types.specs.Tokens.{Kind, receive, send, send_once, Place, in_message, in_request, Token, token, count, is_of, is_held, same_kind, Moves}
+use Rattle.mach_types.specs.Messages.{Entry}
+use Rattle.mach_model.specs.State.{State, held, queue}
 use Rattle.mach_model.specs.Dying.{same_place}
 use Rattle.mach_model.specs.Carried.{message_count, lying}
 use Rattle.mach_model.specs.Receiving.{IsFront, with_taken}

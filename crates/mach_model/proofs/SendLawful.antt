@@ -1,21 +1,20 @@
 -- A plain message that is sent leaves a lawful state.
-use Rattle.std.proofs.Common.{◌≡◌, ℕ, zero, suc, ◌+◌, ◌%◌, ◌^◌, ◌<◌, ◌≤◌, List, [], ◌∷◌, ◌++◌, Some, None, refl, sym, ap, subst, ◌∙◌, arith, true, false, Bool, ◌⊎◌, inl, inr, length}
+use Rattle.std.proofs.Common.{◌≡◌, ℕ, zero, suc, ◌+◌, ◌%◌, ◌^◌, ◌<◌, ◌≤◌, List, [], ◌∷◌, ◌++◌, Some, refl, sym, ap, subst, ◌∙◌, arith, true, false, Bool, ◌⊎◌, inl, inr, length}
 use Rattle.std.specs.Prelude.{if◌then◌else◌, ◌==◌, ◌&&◌, ◌≢◌, slice_get, drop}
 use Rattle.std.proofs.lemmas.Bool.Decides.{eqb_tells}
 use Rattle.std.proofs.lemmas.Bool.{eq-eqb, ne_eqb}
 use Rattle.std.proofs.lemmas.List.{drop-append-le, length-append, length-drop}
-use Rattle.std.proofs.lemmas.Option.{slice_get_within}
 use Rattle.mach_types.specs.Numbers.{most_rights}
-use Rattle.mach_types.specs.Tokens.{Kind, receive, send, send_once, Request, Place, in_task, in_message, in_request, Token, token, count, is_of, is_held, same_kind, Moves}
-use Rattle.mach_types.specs.Messages.{to_port, ReplyRight, absent, Body, Message, Entry}
-use Rattle.mach_model.specs.State.{State, held, Holds, queue, at}
+use Rattle.mach_types.specs.Tokens.{Kind, receive, send, send_once, Request, in_message, in_request, Token, token, count, is_of, is_held, same_kind, Moves}
+use Rattle.mach_types.specs.Messages.{to_port, Message, Entry}
+use Rattle.mach_model.specs.State.{State, held, Holds, queue}
 use Rattle.mach_model.specs.Dying.{same_place}
 use Rattle.mach_model.specs.Sending.{entry}
 use Rattle.mach_model.specs.Carried.{mark_count, reply_count, body_count, message_count, lying}
 use Rattle.mach_model.specs.NotYet.{IsPlain}
 use Rattle.mach_model.specs.Lawful.{IsLawful}
-use Rattle.mach_model.proofs.Weigh.{length-weigh, both_test, lying_le_of, held_le_of}
-use Rattle.mach_model.proofs.At.{at_same, at_other, at_own, at_all, if_same, if_other, elsewhere, snoc_cases, slice_get_drop}
+use Rattle.mach_model.proofs.Weigh.{both_test, held_le_of}
+use Rattle.mach_model.proofs.At.{at_same, at_other, at_own, at_all, elsewhere, snoc_cases}
 use Rattle.mach_model.proofs.Settling.{alive}
 use Rattle.mach_model.proofs.Plain.{with_sent, SendsPlain}
 
