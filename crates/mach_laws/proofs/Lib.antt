@@ -1,0 +1,4 @@
+mod Meanings
+mod Receiving
+mod Apart
+mod Steps

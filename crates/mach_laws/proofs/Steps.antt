@@ -1,0 +1,230 @@
+-- What one step from a lawful state does to the logs, and takes from them.
+use Rattle.std.proofs.Common.{◌≡◌, ℕ, ◌+◌, ◌<◌, ◌≤◌, List, [], ◌∷◌, ◌++◌, Some, refl, sym, ap, subst, ◌∙◌, arith, true, false, Bool, ◌⊎◌, inl, inr, length}
+use Rattle.std.specs.Prelude.{if◌then◌else◌, ◌≢◌, Contains}
+use Rattle.std.proofs.lemmas.Bool.Decides.{eqb_tells}
+use Rattle.mach_types.specs.declared.calls.Event.{Event}
+use Rattle.mach_types.specs.declared.calls.Reply.{Reply}
+use Rattle.mach_types.specs.declared.calls.Waited.{Waited}
+use Rattle.mach_types.specs.Guards.{Guards, FirstIs, NoneHolds}
+use Rattle.mach_types.specs.TextGuards.{text_guards}
+use Rattle.mach_types.specs.Tokens.{Kind, receive, count, is_held}
+use Rattle.mach_types.specs.Messages.{Entry, asof}
+use Rattle.mach_types.specs.Grammar.{Header, WireBody}
+use Rattle.mach_model.specs.State.{State, Target, lookup, held, Holds, at}
+use Rattle.mach_model.specs.Making.{CreatesTask, AllocatesPort}
+use Rattle.mach_model.specs.Sending.{Sends, SendRefuses, RightsRefuse, sent_guards, place_of, entry}
+use Rattle.mach_model.specs.Receiving.{Owed, waits_for, TakesFrom, Receives}
+use Rattle.mach_model.specs.ReceivedMeans.{ReceivedMeans}
+use Rattle.mach_model.specs.Refusals.{guards, Refuses}
+use Rattle.mach_model.specs.Machine.{Does, Refused, Done, Step}
+use Rattle.mach_model.specs.Lawful.{IsLawful}
+use Rattle.mach_model.proofs.At.{at_same, at_other, at_own}
+use Rattle.mach_model.proofs.Settling.{IsReordered}
+use Rattle.mach_model.proofs.Plain.{Sends-plain, Receives-plain, ReceivesPlain}
+use Rattle.mach_model.proofs.StepLawful.{Done-mid, TakesFrom-holds}
+use Rattle.mach_laws.specs.Sent.{Accepts}
+use Rattle.mach_laws.specs.Received.{NamesSource, Delivers}
+use Rattle.mach_laws.proofs.Meanings.{Sends-means}
+use Rattle.mach_laws.proofs.Receiving.{Gives}
+use Rattle.mach_laws.proofs.Apart.{Receives-received, ReceivedMeans-later}
+
+-- ---- refusals are never answered with 0
+
+abbrev NonZero : Guards → Type 0
+NonZero [] = Unit {0}
+NonZero (g ∷ gs) = (0 < g.1) × NonZero gs
+
+FirstIs-code : (gs : Guards) (code : ℕ) → NonZero gs → FirstIs gs code → 0 < code
+FirstIs-code [] code some h = absurd h
+FirstIs-code (g ∷ gs) code some (inl h) = omega (arith, h.1, some.0)
+FirstIs-code (g ∷ gs) code some (inr h) = FirstIs-code gs code some.1 h.1
+
+rights_code : (s : State) (task : ℕ) (header : Header) (written : WireBody) (code : ℕ) → RightsRefuse s task header written code → 0 < code
+rights_code s task header written code (inl h) = omega (arith, h.1)
+rights_code s task header written code (inr (inl h)) = elim h.3 [
+  | inl g ↦ omega (arith, g.1)
+  | inr g ↦ omega (arith, g.4)
+  ]
+rights_code s task header written code (inr (inr h)) = FirstIs-code (sent_guards h.0 (place_of s h.0) h.1) code (omega arith, (omega arith, (omega arith, tt))) h.3
+
+send_code : (s : State) (task : ℕ) (bytes : List ℕ) (code : ℕ) → SendRefuses s task bytes code → 0 < code
+send_code s task bytes code h = elim h.3 [
+  | inl g ↦ omega (arith, g)
+  | inr (inl g) ↦ omega (arith, g.1)
+  | inr (inr g) ↦ rights_code s task h.0 h.1 code g.1
+  ]
+
+refused_send : (s : State) (task : ℕ) (bytes : List ℕ) (code : ℕ) → Refuses s (Event.Send task bytes) code → 0 < code
+refused_send s task bytes code (inl h) = FirstIs-code (guards s (Event.Send task bytes)) code (omega arith, (omega arith, (omega arith, (omega arith, (omega arith, tt))))) h
+refused_send s task bytes code (inr h) = send_code s task bytes code h.1
+
+-- ---- sends
+
+pub Sends-accepts : (now task : ℕ) (bytes : List ℕ) (old mid new : State) → IsLawful old → NoneHolds (text_guards bytes) → Sends now task bytes old mid → IsReordered mid new →
+  Accepts now task bytes old new
+Sends-accepts now task bytes old mid new l good s r =
+    let plain = Sends-plain now task bytes old mid good s in
+    let p = s.m.destination in
+    let log : (q : ℕ) → new.log q ≡ at old.log p (old.log p ++ entry now s.m ∷ []) q = λ q. ap (λ (x : State). x.log q) r.rest ∙ ap (λ (x : State). x.log q) plain.rest in
+    record {
+      m = s.m;
+      means = Sends-means now task bytes old mid (record { no_null = l.not_null task; no_dead = l.not_dead task }) s;
+      appended = log p ∙ at_own old.log p (old.log p ++ entry now s.m ∷ []);
+      others = λ q not. log q ∙ at_other old.log p (old.log p ++ entry now s.m ∷ []) q not;
+    }
+
+-- the next step after a run, where it accepts a send
+pub Step-accepts : (now : ℕ) (old : State) (task : ℕ) (bytes : List ℕ) (new : State) → IsLawful old → Step now old (Event.Send task bytes) (Reply.Code 0) new → Accepts now task bytes old new
+Step-accepts now old task bytes new l (inl r) =
+    absurd (let some = refused_send old task bytes r.code r.refuses in let none : 0 ≡ r.code = code_of 0 r.code r.told in omega (arith, some, none))
+  where
+    code_of : (a b : ℕ) → Reply.Code a ≡ Reply.Code b → a ≡ b
+    code_of a b e = cc
+Step-accepts now old task bytes new l (inr d) =
+    Sends-accepts now task bytes old d.mid new l d.unrefused.1 d.does.1 (Done-mid now old (Event.Send task bytes) (Reply.Code 0) new l d).1
+
+-- A step changes no log, or it accepts a send.
+pub record AcceptsBy (now : ℕ) (old : State) (event : Event) (reply : Reply) (new : State) : Type 0 where
+  pub task : ℕ
+  pub bytes : List ℕ
+  pub is_event : event ≡ Event.Send task bytes
+  pub is_reply : reply ≡ Reply.Code 0
+  pub accepts : Accepts now task bytes old new
+
+abbrev SameLogs : State → State → Type 0
+SameLogs old new = (p : ℕ) → new.log p ≡ old.log p
+
+same_logs : (old mid new : State) → mid ≡ old → IsReordered mid new → SameLogs old new
+same_logs old mid new e r p = ap (λ (x : State). x.log p) r.rest ∙ ap (λ (x : State). x.log p) e
+
+made_log : (old : State) → IsLawful old → (p : ℕ) → at old.log old.ports_made [] p ≡ old.log p
+made_log old l p = elim (eqb_tells p old.ports_made) [
+  | inl h ↦ at_same old.log old.ports_made [] p h.1 ∙ sym (l.unmade_log p (omega (arith, h.1)))
+  | inr h ↦ at_other old.log old.ports_made [] p h.1
+  ]
+
+Does-logs : (now : ℕ) (old : State) (event : Event) (reply : Reply) (mid : State) (owed : Owed) (new : State) → IsLawful old → NoneHolds (guards old event) →
+  Does now old event reply mid owed → IsReordered mid new → SameLogs old new ⊎ AcceptsBy now old event reply new
+Does-logs now old Event.TaskCreate (Reply.Task task) mid owed new l g d r =
+    inl (λ p. ap (λ (x : State). x.log p) r.rest ∙ ap (λ (x : State). x.log p) d.0.rest)
+Does-logs now old (Event.Allocate task right) (Reply.Name name) mid owed new l g d r =
+    inl (λ p. ap (λ (x : State). x.log p) r.rest ∙ ap (λ (x : State). x.log p) d.1.rest ∙ made_log old l p)
+Does-logs now old (Event.ReceiveStatus task name) (Reply.Status status) mid owed new l g d r = inl (same_logs old mid new d.1 r)
+Does-logs now old (Event.Send task bytes) (Reply.Code code) mid owed new l g d r =
+    inr (record { task = task; bytes = bytes; is_event = refl; is_reply = ap Reply.Code d.0; accepts = Sends-accepts now task bytes old mid new l g.1 d.1 r })
+Does-logs now old (Event.Receive task name room large) (Reply.Message bytes) mid owed new l g d r =
+    let x = d.2.2 in
+    let plain = Receives-plain task d.2.0 room bytes old mid x (l.plain_messages d.2.0 (old.taken d.2.0) x.e x.takes.front) in
+    inl (λ p. ap (λ (x : State). x.log p) r.rest ∙ ap (λ (x : State). x.log p) plain.rest)
+Does-logs now old (Event.Receive task name room large) (Reply.Empty told) mid owed new l g d r = inl (same_logs old mid new d.2.2 r)
+Does-logs now old (Event.Receive task name room large) (Reply.TooLarge n) mid owed new l g d r = inl (same_logs old mid new d.2.6 r)
+Does-logs now old (Event.Receive task name room large) reply mid owed new l g d r = absurd d.2
+Does-logs now old event reply mid owed new l g d r = absurd d
+
+pub Step-logs : (now : ℕ) (old : State) (event : Event) (reply : Reply) (new : State) → IsLawful old → Step now old event reply new →
+  ((p : ℕ) → new.log p ≡ old.log p) ⊎ AcceptsBy now old event reply new
+Step-logs now old event reply new l (inl r) = inl (λ p. ap (λ (x : State). x.log p) r.same)
+Step-logs now old event reply new l (inr d) = Does-logs now old event reply d.mid d.owed new l d.unrefused d.does (Done-mid now old event reply new l d).1
+
+-- ---- receipts
+
+source_of : (s : State) (task name p : ℕ) (waited : Waited) → waits_for task name s waited → TakesFrom s task waited p → NamesSource s task name p
+source_of s task name p (Waited.Port q) w t = inl (w.0 ∙ ap (λ (x : ℕ). Some (Target.port x)) (sym t.0))
+source_of s task name p (Waited.Set set) w t = inr (set, w, t.1)
+
+reordered_gives : (task : ℕ) (mid new : State) → IsReordered mid new → Gives task mid new
+reordered_gives task mid new r = record {
+  grows = λ n x e. ap (λ (s : State). lookup s task n) r.rest ∙ e;
+  live = ap (λ (s : State). s.live_port) r.rest;
+  holds = λ k q. let m = r.tokens (λ x. if is_held task k q x then 1 else 0) in omega (arith, m);
+}
+
+pub Receives-delivers : (task name room : ℕ) (bytes : List ℕ) (old mid new : State) (waited : Waited) (p : ℕ) → IsLawful old → waits_for task name old waited → TakesFrom old task waited p →
+  Receives task p room bytes old mid → IsReordered mid new → Delivers task name bytes old new
+Receives-delivers task name room bytes old mid new waited p l w t r o =
+    let plain = Receives-plain task p room bytes old mid r (l.plain_messages p (old.taken p) r.e r.takes.front) in
+    let here = (l.sent_here p (old.taken p) r.e r.takes.front).0 in
+    let some = TakesFrom-holds old l task waited p t in
+    let same = plain.tokens (λ x. if is_held task receive p x then 1 else 0) in
+    let holds : Holds mid task receive p = omega (arith, some, same) in
+    let means = Receives-received task p room bytes old mid r here holds in
+    let live : new.live_port ≡ old.live_port = ap (λ (s : State). s.live_port) o.rest ∙ ap (λ (s : State). s.live_port) plain.rest in
+    let taken : (q : ℕ) → new.taken q ≡ at old.taken p (old.taken p + 1) q = λ q. ap (λ (s : State). s.taken q) o.rest ∙ ap (λ (s : State). s.taken q) plain.rest in
+    record {
+      port = p;
+      source = source_of old task name p waited w t;
+      e = r.e;
+      front = r.takes.front;
+      means = subst (λ (f : ℕ → Bool). ReceivedMeans task old new bytes (asof f r.e.message)) (sym live)
+          (ReceivedMeans-later task old mid new bytes (asof old.live_port r.e.message) (reordered_gives task mid new o) means);
+      taken = taken p ∙ at_own old.taken p (old.taken p + 1);
+      others = λ q not. taken q ∙ at_other old.taken p (old.taken p + 1) q not;
+    }
+
+-- the next step after a run, where it gives a message
+pub Step-delivers : (now : ℕ) (old : State) (task name room : ℕ) (large : Bool) (bytes : List ℕ) (new : State) → IsLawful old →
+  Step now old (Event.Receive task name room large) (Reply.Message bytes) new → Delivers task name bytes old new
+Step-delivers now old task name room large bytes new l (inl r) = absurd (no_code bytes r.code r.told)
+  where
+    no_code : (bytes : List ℕ) (code : ℕ) → Reply.Message bytes ≡ Reply.Code code → ⊥
+    no_code bytes code e = cc
+Step-delivers now old task name room large bytes new l (inr d) =
+    let x = d.does in
+    Receives-delivers task name room bytes old d.mid new x.0 x.2.0 l x.1 x.2.1 x.2.2 (Done-mid now old (Event.Receive task name room large) (Reply.Message bytes) new l d).1
+
+-- A step takes nothing from any port, or it gives a message.
+pub record DeliversBy (old : State) (event : Event) (reply : Reply) (new : State) : Type 0 where
+  pub task : ℕ
+  pub name : ℕ
+  pub room : ℕ
+  pub large : Bool
+  pub bytes : List ℕ
+  pub is_event : event ≡ Event.Receive task name room large
+  pub is_reply : reply ≡ Reply.Message bytes
+  pub delivers : Delivers task name bytes old new
+
+abbrev SameTaken : State → State → Type 0
+SameTaken old new = (p : ℕ) → new.taken p ≡ old.taken p
+
+same_taken : (old mid new : State) → mid ≡ old → IsReordered mid new → SameTaken old new
+same_taken old mid new e r p = ap (λ (x : State). x.taken p) r.rest ∙ ap (λ (x : State). x.taken p) e
+
+made_taken : (old : State) → IsLawful old → (p : ℕ) → at old.taken old.ports_made 0 p ≡ old.taken p
+made_taken old l p = elim (eqb_tells p old.ports_made) [
+  | inl h ↦
+      let w = l.within p in
+      let z : length (old.log p) ≡ 0 = ap length (l.unmade_log p (omega (arith, h.1))) in
+      let none : 0 ≡ old.taken p = omega (arith, w, z) in
+      at_same old.taken old.ports_made 0 p h.1 ∙ none
+  | inr h ↦ at_other old.taken old.ports_made 0 p h.1
+  ]
+
+Does-taken : (now : ℕ) (old : State) (event : Event) (reply : Reply) (mid : State) (owed : Owed) (new : State) → IsLawful old → NoneHolds (guards old event) →
+  Does now old event reply mid owed → IsReordered mid new → SameTaken old new ⊎ DeliversBy old event reply new
+Does-taken now old Event.TaskCreate (Reply.Task task) mid owed new l g d r =
+    inl (λ p. ap (λ (x : State). x.taken p) r.rest ∙ ap (λ (x : State). x.taken p) d.0.rest)
+Does-taken now old (Event.Allocate task right) (Reply.Name name) mid owed new l g d r =
+    inl (λ p. ap (λ (x : State). x.taken p) r.rest ∙ ap (λ (x : State). x.taken p) d.1.rest ∙ made_taken old l p)
+Does-taken now old (Event.ReceiveStatus task name) (Reply.Status status) mid owed new l g d r = inl (same_taken old mid new d.1 r)
+Does-taken now old (Event.Send task bytes) (Reply.Code code) mid owed new l g d r =
+    inl (λ p. ap (λ (x : State). x.taken p) r.rest ∙ ap (λ (x : State). x.taken p) (Sends-plain now task bytes old mid g.1 d.1).rest)
+Does-taken now old (Event.Receive task name room large) (Reply.Message bytes) mid owed new l g d r =
+    inr (record {
+      task = task;
+      name = name;
+      room = room;
+      large = large;
+      bytes = bytes;
+      is_event = refl;
+      is_reply = refl;
+      delivers = Receives-delivers task name room bytes old mid new d.0 d.2.0 l d.1 d.2.1 d.2.2 r;
+    })
+Does-taken now old (Event.Receive task name room large) (Reply.Empty told) mid owed new l g d r = inl (same_taken old mid new d.2.2 r)
+Does-taken now old (Event.Receive task name room large) (Reply.TooLarge n) mid owed new l g d r = inl (same_taken old mid new d.2.6 r)
+Does-taken now old (Event.Receive task name room large) reply mid owed new l g d r = absurd d.2
+Does-taken now old event reply mid owed new l g d r = absurd d
+
+pub Step-taken : (now : ℕ) (old : State) (event : Event) (reply : Reply) (new : State) → IsLawful old → Step now old event reply new →
+  ((p : ℕ) → new.taken p ≡ old.taken p) ⊎ DeliversBy old event reply new
+Step-taken now old event reply new l (inl r) = inl (λ p. ap (λ (x : State). x.taken p) r.same)
+Step-taken now old event reply new l (inr d) = Does-taken now old event reply d.mid d.owed new l d.unrefused d.does (Done-mid now old event reply new l d).1

@@ -1,0 +1,4 @@
+pub mod Paths
+pub mod Sent
+pub mod Received
+pub mod Order
