@@ -30,17 +30,17 @@ same : (task : ℕ) (s : State) → (n : ℕ) (x : Target) → lookup s task n �
 same task s n x e = e
 
 GiveOnce-unused : (task : ℕ) (place : Place) (mark : Mark) (old : State) (w : ℕ) (new : State) (xs : List ℕ) → is_in_task task place ≡ false →
-  GiveMark task place send_once mark old w new → Unused task new xs → Unused task old (once_words send_once (mark_asof old.live_port mark ∷ []) (w ∷ []) ++ xs)
+    GiveMark task place send_once mark old w new → Unused task new xs → Unused task old (once_words send_once (mark_asof old.live_port mark ∷ []) (w ∷ []) ++ xs)
 GiveOnce-unused task place null old w new xs away h u = back task old new xs (Gives-same task old new h.1) u
 GiveOnce-unused task place dead old w new xs away h u = back task old new xs (Gives-same task old new h.1) u
 GiveOnce-unused task place (to_port p) old w new xs away h u =
     either (old.live_port p) _ _ _
-      (λ live r. subst (λ (x : Mark). Unused task old (once_words send_once (x ∷ []) (w ∷ []) ++ xs)) (same_mark (old.live_port p) p live)
-        (more task w (Target.once p) old new xs r.named.fresh.unused (ap (λ (s : State). lookup s task w) r.rest ∙ Named-has task w (Target.once p) old r.named_state r.named)
-          (GiveMark-means task place send_once (to_port p) old old w new away (same task old) h).0 u))
-      (λ gone r. subst (λ (x : Mark). Unused task old (once_words send_once (x ∷ []) (w ∷ []) ++ xs)) (dead_mark (old.live_port p) p gone)
-        (back task old new xs (Gives-same task old new r.1) u))
-      h
+    (λ live r. subst (λ (x : Mark). Unused task old (once_words send_once (x ∷ []) (w ∷ []) ++ xs)) (same_mark (old.live_port p) p live)
+    (more task w (Target.once p) old new xs r.named.fresh.unused (ap (λ (s : State). lookup s task w) r.rest ∙ Named-has task w (Target.once p) old r.named_state r.named)
+    (GiveMark-means task place send_once (to_port p) old old w new away (same task old) h).0 u))
+    (λ gone r. subst (λ (x : Mark). Unused task old (once_words send_once (x ∷ []) (w ∷ []) ++ xs)) (dead_mark (old.live_port p) p gone)
+    (back task old new xs (Gives-same task old new r.1) u))
+    h
 
 once_cons : (m : Mark) (ms : List Mark) (w : ℕ) (ws xs : List ℕ) → once_words send_once (m ∷ ms) (w ∷ ws) ++ xs ≡ once_words send_once (m ∷ []) (w ∷ []) ++ (once_words send_once ms ws ++ xs)
 once_cons (to_port p) ms w ws xs = refl
@@ -48,19 +48,19 @@ once_cons null ms w ws xs = refl
 once_cons dead ms w ws xs = refl
 
 GiveMarks-unused : (task : ℕ) (place : Place) (marks : List Mark) (old : State) (ws : List ℕ) (new : State) (xs : List ℕ) → is_in_task task place ≡ false →
-  GiveMarks task place send_once marks old ws new → Unused task new xs → Unused task old (once_words send_once (list_map (mark_asof old.live_port) marks) ws ++ xs)
+    GiveMarks task place send_once marks old ws new → Unused task new xs → Unused task old (once_words send_once (list_map (mark_asof old.live_port) marks) ws ++ xs)
 GiveMarks-unused task place [] old [] new xs away h u = back task old new xs (Gives-same task old new h) u
 GiveMarks-unused task place (m ∷ ms) old (w ∷ ws) new xs away h u =
     let g = (GiveMark-means task place send_once m old old w h.0 away (same task old) h.1).0 in
     let rest = GiveMarks-unused task place ms h.0 ws new xs away h.2 u in
     let rest' = subst (λ (f : ℕ → Bool). Unused task h.0 (once_words send_once (list_map (mark_asof f) ms) ws ++ xs)) g.live rest in
     subst (Unused task old) (sym (once_cons (mark_asof old.live_port m) (list_map (mark_asof old.live_port) ms) w ws xs))
-      (GiveOnce-unused task place m old w h.0 (once_words send_once (list_map (mark_asof old.live_port) ms) ws ++ xs) away h.1 rest')
+    (GiveOnce-unused task place m old w h.0 (once_words send_once (list_map (mark_asof old.live_port) ms) ws ++ xs) away h.1 rest')
 GiveMarks-unused task place [] old (w ∷ ws) new xs away h u = absurd h
 GiveMarks-unused task place (m ∷ ms) old [] new xs away h u = absurd h
 
 GiveItem-unused : (task : ℕ) (place : Place) (item : Item) (old : State) (w : Wire) (new : State) (xs : List ℕ) → is_in_task task place ≡ false →
-  GiveItem task place item old w new → Unused task new xs → Unused task old (item_once_words (item_asof old.live_port item) w ++ xs)
+    GiveItem task place item old w new → Unused task new xs → Unused task old (item_once_words (item_asof old.live_port item) w ++ xs)
 GiveItem-unused task place (plain f n s c bytes padding) old w new xs away h u = back task old new xs (Gives-same task old new h.1) u
 GiveItem-unused task place (rights f receive marks) old (port_item e number words) new xs away h u =
     back task old new xs (GiveMarks-means task place receive marks old old words new away (same task old) h.2).0 u
@@ -70,14 +70,14 @@ GiveItem-unused task place (rights f send_once marks) old (port_item e number wo
 GiveItem-unused task place (rights f kind marks) old (data_item e n s c bytes padding) new xs away h u = absurd h
 
 GiveItems-unused : (task : ℕ) (place : Place) (items : List Item) (old : State) (ws : List Wire) (new : State) (xs : List ℕ) → is_in_task task place ≡ false →
-  GiveItems task place items old ws new → Unused task new xs → Unused task old (items_once_words (list_map (item_asof old.live_port) items) ws ++ xs)
+    GiveItems task place items old ws new → Unused task new xs → Unused task old (items_once_words (list_map (item_asof old.live_port) items) ws ++ xs)
 GiveItems-unused task place [] old [] new xs away h u = back task old new xs (Gives-same task old new h) u
 GiveItems-unused task place (i ∷ is) old (w ∷ ws) new xs away h u =
     let g = (GiveItem-means task place i old old w h.0 away (same task old) h.1).0 in
     let rest = GiveItems-unused task place is h.0 ws new xs away h.2 u in
     let rest' = subst (λ (f : ℕ → Bool). Unused task h.0 (items_once_words (list_map (item_asof f) is) ws ++ xs)) g.live rest in
     subst (Unused task old) (sym (append_assoc (item_once_words (item_asof old.live_port i) w) (items_once_words (list_map (item_asof old.live_port) is) ws) xs))
-      (GiveItem-unused task place i old w h.0 (items_once_words (list_map (item_asof old.live_port) is) ws ++ xs) away h.1 rest')
+    (GiveItem-unused task place i old w h.0 (items_once_words (list_map (item_asof old.live_port) is) ws ++ xs) away h.1 rest')
 GiveItems-unused task place [] old (w ∷ ws) new xs away h u = absurd h
 GiveItems-unused task place (i ∷ is) old [] new xs away h u = absurd h
 
@@ -88,14 +88,14 @@ no_more : (task : ℕ) (s : State) (xs : List ℕ) → Unused task s (xs ++ []) 
 no_more task s xs u = subst (Unused task s) (append-nil xs) u
 
 GiveBody-unused : (task : ℕ) (place : Place) (body : Body) (old : State) (w : WireBody) (new : State) → is_in_task task place ≡ false →
-  GiveBody task place body old w new → Unused task old (body_once_words (body_asof old.live_port body) w)
+    GiveBody task place body old w new → Unused task old (body_once_words (body_asof old.live_port body) w)
 GiveBody-unused task place (Body.raw bytes) old (WireBody.raw others) new away h = none task old
 GiveBody-unused task place (Body.items is) old (WireBody.items ws) new away h = no_more task old _ (GiveItems-unused task place is old ws new [] away h (none task new))
 GiveBody-unused task place (Body.raw bytes) old (WireBody.items ws) new away h = absurd h
 GiveBody-unused task place (Body.items is) old (WireBody.raw others) new away h = absurd h
 
 GiveReply-unused : (task : ℕ) (place : Place) (reply : ReplyRight) (old : State) (number w : ℕ) (new : State) (xs : List ℕ) → is_in_task task place ≡ false →
-  GiveReply task place reply old number w new → Unused task new xs → Unused task old (reply_once_words (reply_asof old.live_port reply) w ++ xs)
+    GiveReply task place reply old number w new → Unused task new xs → Unused task old (reply_once_words (reply_asof old.live_port reply) w ++ xs)
 GiveReply-unused task place absent old number w new xs away h u = back task old new xs (Gives-same task old new h.2) u
 GiveReply-unused task place (present receive mark) old number w new xs away h u =
     back task old new xs (GiveReply-means task place (present receive mark) old old number w new away (same task old) h).0 u
@@ -112,8 +112,8 @@ GiveReply-unused task place (present send_once mark) old number w new xs away h 
 -- What a receipt gives means the entry's message, read with the ports that are dead. (That the task holds the port's receive
 -- right is a law of the states: a set's members lie with its task.)
 pub Receives-received : (task port room : ℕ) (bytes : List ℕ) (old new : State) (r : Receives task port room bytes old new) →
-  r.e.message.destination ≡ port → Holds new task receive port →
-  ReceivedMeans task old new bytes (asof old.live_port r.e.message)
+    r.e.message.destination ≡ port → Holds new task receive port →
+    ReceivedMeans task old new bytes (asof old.live_port r.e.message)
 Receives-received task port room bytes old new r is holds =
     let m = Receives-means task port room bytes old new r in
     let live : r.taken.live_port ≡ old.live_port = ap (λ (s : State). s.live_port) r.takes.rest in
@@ -137,7 +137,7 @@ Receives-received task port room bytes old new r is holds =
 
 -- bytes that mean a message still do when the task is given more
 pub ReceivedMeans-later : (task : ℕ) (before mid after : State) (bytes : List ℕ) (m : Message) → Gives task mid after →
-  ReceivedMeans task before mid bytes m → ReceivedMeans task before after bytes m
+    ReceivedMeans task before mid bytes m → ReceivedMeans task before after bytes m
 ReceivedMeans-later task before mid after bytes m g r = record {
   header = r.header;
   written = r.written;

@@ -2,3 +2,6 @@ mod Meanings
 mod Receiving
 mod Apart
 mod Steps
+mod Walking
+mod Told
+mod Ordered

@@ -54,12 +54,12 @@ reads_kept true task name s = λ d n mark e. e
 reads_kept false task name s = rw (at_same s.naming task (map.remove (s.naming task) name) task refl) (removed (s.naming task) name)
 
 reads_dead : (b : Bool) (task name k c : ℕ) (s : State) → lookup s task name ≡ Some (Target.dead c) →
-  Reads (s.naming task) ((if b then with_name task name (Target.dead k) s else without_name task name s).naming task)
+    Reads (s.naming task) ((if b then with_name task name (Target.dead k) s else without_name task name s).naming task)
 reads_dead true task name k c s was = rw (at_same s.naming task (map.insert (s.naming task) name (Target.dead k)) task refl) (fewer (s.naming task) name k c was)
 reads_dead false task name k c s was = reads_kept false task name s
 
 reads_changed : (d : Disposition) (target : Target) (task name : ℕ) (s : State) → lookup s task name ≡ Some target →
-  Reads (s.naming task) ((changed_by d target task name s).naming task)
+    Reads (s.naming task) ((changed_by d target task name s).naming task)
 reads_changed MoveReceive (Target.port p) task name s was = reads_kept _ task name s
 reads_changed MoveSend (Target.port p) task name s was = reads_kept _ task name s
 reads_changed MakeSend (Target.port p) task name s was = λ d n mark e. e
@@ -79,24 +79,24 @@ either true P Q R f g h = f h
 either false P Q R f g h = g h
 
 CopyRight-reads : (task : ℕ) (place : Place) (number name : ℕ) (old : State) (mark : Mark) (new : State) →
-  CopyRight task place number name old mark new → Reads (old.naming task) (new.naming task)
+    CopyRight task place number name old mark new → Reads (old.naming task) (new.naming task)
 CopyRight-reads task place number name old mark new r =
     subst (λ (names : Names). Reads (old.naming task) names) (sym (ap (λ (s : State). s.naming task) r.rest)) (reads_changed r.given r.target task name old r.found)
 
 CopyWord-reads : (task : ℕ) (place : Place) (number word : ℕ) (old : State) (mark : Mark) (new : State) →
-  CopyWord task place number word old mark new → Reads (old.naming task) (new.naming task)
+    CopyWord task place number word old mark new → Reads (old.naming task) (new.naming task)
 CopyWord-reads task place number word old mark new =
     either (word == null_word) _ _ _ (λ h. Reads-same task old new h.1)
     (either (word == dead_word) _ _ _ (λ h. Reads-same task old new h.1) (CopyRight-reads task place number word old mark new))
 
 -- the mark that a copied word stands as is what the word means
 CopyRight-mark : (task : ℕ) (place : Place) (number name : ℕ) (old : State) (mark : Mark) (new : State) (r : CopyRight task place number name old mark new) →
-  name_mark r.given (lookup old task name) ≡ Some mark
+    name_mark r.given (lookup old task name) ≡ Some mark
 CopyRight-mark task place number name old mark new r = ap (name_mark r.given) r.found ∙ r.mark_is
 
 -- two readings of a word: as none, dead or a name
 word_cases : (a b : Bool) (d : Disposition) (names : Names) (w : ℕ) (mark : Mark) (P Q : Type 0) → (P → mark ≡ null) → (Q → mark ≡ dead) → (R : Type 0) → (R → name_mark d (map.get names w) ≡ Some mark) →
-  MatchBool a P (MatchBool b Q R) → (if a then Some null else if b then Some dead else name_mark d (map.get names w)) ≡ Some mark
+    MatchBool a P (MatchBool b Q R) → (if a then Some null else if b then Some dead else name_mark d (map.get names w)) ≡ Some mark
 word_cases true b d names w mark P Q f g R k h = ap Some (sym (f h))
 word_cases false true d names w mark P Q f g R k h = ap Some (sym (g h))
 word_cases false false d names w mark P Q f g R k h = k h
@@ -106,26 +106,26 @@ same_given number a b e f = cc
 
 -- a copied word, read through earlier names
 CopyWord-means : (task : ℕ) (place : Place) (number word : ℕ) (given : Disposition) (names : Names) (old : State) (mark : Mark) (new : State) →
-  disposition number ≡ Some given → Reads names (old.naming task) → CopyWord task place number word old mark new →
-  word_mark names given word ≡ Some mark
+    disposition number ≡ Some given → Reads names (old.naming task) → CopyWord task place number word old mark new →
+    word_mark names given word ≡ Some mark
 CopyWord-means task place number word given names old mark new is reads h =
     word_cases (word == null_word) (word == dead_word) given names word mark _ _ (λ x. x.0) (λ x. x.0) _
-      (λ r. reads given word mark (subst (λ (d : Disposition). name_mark d (lookup old task word) ≡ Some mark) (same_given number r.given given r.is_given is) (CopyRight-mark task place number word old mark new r))) h
+    (λ r. reads given word mark (subst (λ (d : Disposition). name_mark d (lookup old task word) ≡ Some mark) (same_given number r.given given r.is_given is) (CopyRight-mark task place number word old mark new r))) h
 
 CopyReply-means : (task : ℕ) (place : Place) (number word : ℕ) (names : Names) (old : State) (reply : ReplyRight) (new : State) →
-  Reads names (old.naming task) → CopyReply task place number word old reply new → ReplyMeans names number word reply
+    Reads names (old.naming task) → CopyReply task place number word old reply new → ReplyMeans names number word reply
 CopyReply-means task place number word names old absent new reads h = (h.0, h.1)
 CopyReply-means task place number word names old (present kind mark) new reads h =
     record { given = h.0; is_given = h.1; kind_is = h.2; mark_is = CopyWord-means task place number word h.0 names old mark new h.1 reads h.3 }
 
 CopyReply-reads : (task : ℕ) (place : Place) (number word : ℕ) (old : State) (reply : ReplyRight) (new : State) →
-  CopyReply task place number word old reply new → Reads (old.naming task) (new.naming task)
+    CopyReply task place number word old reply new → Reads (old.naming task) (new.naming task)
 CopyReply-reads task place number word old absent new h = Reads-same task old new h.2
 CopyReply-reads task place number word old (present kind mark) new h = CopyWord-reads task place number word old mark new h.3
 
 CopyWords-means : (task : ℕ) (place : Place) (number : ℕ) (given : Disposition) (names : Names) (words : List ℕ) (old : State) (marks : List Mark) (new : State) →
-  disposition number ≡ Some given → Reads names (old.naming task) → CopyWords task place number words old marks new →
-  WordsMean names number words (kind_sent given) marks × Reads names (new.naming task)
+    disposition number ≡ Some given → Reads names (old.naming task) → CopyWords task place number words old marks new →
+    WordsMean names number words (kind_sent given) marks × Reads names (new.naming task)
 CopyWords-means task place number given names [] old [] new is reads h = (tt, Reads-trans names _ _ reads (Reads-same task old new h))
 CopyWords-means task place number given names (w ∷ ws) old (m ∷ ms) new is reads h =
     let rest = CopyWords-means task place number given names ws h.0 ms new is (Reads-trans names _ _ reads (CopyWord-reads task place number w old m h.0 h.1)) h.2 in
@@ -134,7 +134,7 @@ CopyWords-means task place number given names [] old (m ∷ ms) new is reads h =
 CopyWords-means task place number given names (w ∷ ws) old [] new is reads h = absurd h
 
 CopyItem-means : (task : ℕ) (place : Place) (names : Names) (w : Wire) (old : State) (item : Item) (new : State) →
-  Reads names (old.naming task) → CopyItem task place w old item new → ItemMeans names w item × Reads names (new.naming task)
+    Reads names (old.naming task) → CopyItem task place w old item new → ItemMeans names w item × Reads names (new.naming task)
 CopyItem-means task place names (data_item f n s c bytes padding) old item new reads h = (h.0, Reads-trans names _ _ reads (Reads-same task old new h.1))
 CopyItem-means task place names (port_item f number words) old (rights g kind marks) new reads h =
     let m = CopyWords-means task place number h.0 names words old marks new h.1 reads h.4 in
@@ -142,7 +142,7 @@ CopyItem-means task place names (port_item f number words) old (rights g kind ma
 CopyItem-means task place names (port_item f number words) old (plain g n s c bytes padding) new reads h = absurd h
 
 CopyItems-means : (task : ℕ) (place : Place) (names : Names) (ws : List Wire) (old : State) (xs : List Item) (new : State) →
-  Reads names (old.naming task) → CopyItems task place ws old xs new → ItemsMean names ws xs
+    Reads names (old.naming task) → CopyItems task place ws old xs new → ItemsMean names ws xs
 CopyItems-means task place names [] old [] new reads h = tt
 CopyItems-means task place names (w ∷ ws) old (x ∷ xs) new reads h =
     let m = CopyItem-means task place names w old x h.0 reads h.1 in (m.0, CopyItems-means task place names ws h.0 xs new m.1 h.2)
@@ -150,7 +150,7 @@ CopyItems-means task place names [] old (x ∷ xs) new reads h = absurd h
 CopyItems-means task place names (w ∷ ws) old [] new reads h = absurd h
 
 CopyBody-means : (task : ℕ) (place : Place) (names : Names) (w : WireBody) (old : State) (body : Body) (new : State) →
-  Reads names (old.naming task) → CopyBody task place w old body new → BodyMeans names w body
+    Reads names (old.naming task) → CopyBody task place w old body new → BodyMeans names w body
 CopyBody-means task place names (WireBody.raw bytes) old (Body.raw others) new reads h = h.0
 CopyBody-means task place names (WireBody.items ws) old (Body.items xs) new reads h = CopyItems-means task place names ws old xs new reads h
 CopyBody-means task place names (WireBody.raw bytes) old (Body.items xs) new reads h = absurd h
@@ -171,8 +171,8 @@ named_word names d w mark good e = elim (eqb_tells w null_word) [
   | inr h ↦ rw h.0 (elim (eqb_tells w dead_word) [
     | inl g ↦ absurd (is_name names dead_word None d mark good.no_dead good.no_dead (sym (ap (name_mark d) good.no_dead) ∙ ap (λ (x : ℕ). name_mark d (map.get names x)) (sym g.1) ∙ e))
     | inr g ↦ rw g.0 e
-    ])
-  ]
+  ])
+]
 
 -- The message that a send appends is what its bytes mean through the sender's names before.
 pub Sends-means : (now task : ℕ) (bytes : List ℕ) (old new : State) → NoBadNames (old.naming task) → (s : Sends now task bytes old new) → SentMeans (old.naming task) bytes s.m

@@ -82,7 +82,7 @@ NamedWord task before mid send p w = lookup mid task w ≡ Some (Target.port p)
 NamedWord task before mid send_once p w = (lookup mid task w ≡ Some (Target.once p)) × (lookup before task w ≡ None)
 
 NamedFor-word : (task : ℕ) (kind : Kind) (w p : ℕ) (before old new : State) → Grows (before.naming task) (old.naming task) → NamedFor kind task w p old new →
-  Gives task old new × NamedWord task before new kind p w
+    Gives task old new × NamedWord task before new kind p w
 unfolding NamedWord
 NamedFor-word task receive w p before old new g h = NamedOnce-gives task w p old new h
 NamedFor-word task send w p before old new g h = NamedOnce-gives task w p old new h
@@ -101,34 +101,35 @@ given_holds send_once p task s = omega (arith, own_token send_once p task)
 given_holds send p task s = go (nat_lt (held s task send p) most_references) refl
   where
     go : (b : Bool) → nat_lt (held s task send p) most_references ≡ b →
-      0 < held s task send p + weigh (λ x. if is_held task send p x then 1 else 0) (if b then token send p (in_task task) ∷ [] else [])
+        0 < held s task send p + weigh (λ x. if is_held task send p x then 1 else 0) (if b then token send p (in_task task) ∷ [] else [])
     go true e = omega (arith, own_token send p task)
     go false e = let f = ltb-false (held s task send p) most_references e in omega (arith, f)
 
 received : (task : ℕ) (kind : Kind) (p w : ℕ) (before mid new : State) → Grows (mid.naming task) (new.naming task) → NamedWord task before mid kind p w → Holds new task kind p →
-  ReceivedWord task before new kind (to_port p) w
+    ReceivedWord task before new kind (to_port p) w
 unfolding NamedWord
 received task receive p w before mid new g n h = (g w _ n, h)
 received task send p w before mid new g n h = (g w _ n, h)
 received task send_once p w before mid new g n h = (g w _ n.0, n.1)
 
 GiveRight-word : (task : ℕ) (place : Place) (kind : Kind) (p : ℕ) (before old : State) (w : ℕ) (new : State) → is_in_task task place ≡ false →
-  Grows (before.naming task) (old.naming task) → GiveRight task place kind p old w new →
-  Gives task old new × ReceivedWord task before new kind (to_port p) w
+    Grows (before.naming task) (old.naming task) → GiveRight task place kind p old w new →
+    Gives task old new × ReceivedWord task before new kind (to_port p) w
 GiveRight-word task place kind p before old w new away g r =
     let m = NamedFor-word task kind w p before old r.named_state g r.named in
-    let more : Grows (r.named_state.naming task) (new.naming task) = λ n x e. ap (λ (s : State). lookup s task n) r.rest ∙ e in
-    (record {
-      grows = Grows-trans (old.naming task) (r.named_state.naming task) (new.naming task) m.0.grows more;
-      live = ap (λ (s : State). s.live_port) r.rest ∙ m.0.live;
-      holds = λ k q.
-          let t = r.tokens (λ x. if is_held task k q x then 1 else 0) in
-          let z = both_test (is_of k q (token kind p place)) (is_in_task task place) (inr away) in omega (arith, t, z);
-    },
-    received task kind p w before r.named_state new more m.1
-      (let t = r.tokens (λ x. if is_held task kind p x then 1 else 0) in
-       let z = both_test (is_of kind p (token kind p place)) (is_in_task task place) (inr away) in
-       omega (arith, t, z, given_holds kind p task old)))
+    let more : Grows (r.named_state.naming task) (new.naming task) = λ n x e. ap (λ (s : State). lookup s task n) r.rest ∙ e in (
+      record {
+        grows = Grows-trans (old.naming task) (r.named_state.naming task) (new.naming task) m.0.grows more;
+        live = ap (λ (s : State). s.live_port) r.rest ∙ m.0.live;
+        holds = λ k q.
+            let t = r.tokens (λ x. if is_held task k q x then 1 else 0) in
+            let z = both_test (is_of k q (token kind p place)) (is_in_task task place) (inr away) in omega (arith, t, z);
+      },
+      received task kind p w before r.named_state new more m.1
+          (let t = r.tokens (λ x. if is_held task kind p x then 1 else 0) in
+          let z = both_test (is_of kind p (token kind p place)) (is_in_task task place) (inr away) in
+          omega (arith, t, z, given_holds kind p task old)),
+    )
 
 -- a word that has its meaning keeps it when more is given
 keeps_word : (task : ℕ) (before mid after : State) (kind : Kind) (mark : Mark) (w : ℕ) → Gives task mid after → ReceivedWord task before mid kind mark w → ReceivedWord task before after kind mark w
@@ -147,40 +148,45 @@ dead_mark false p e = refl
 dead_mark true p e = absurd (cc)
 
 pub GiveMark-means : (task : ℕ) (place : Place) (kind : Kind) (mark : Mark) (before old : State) (w : ℕ) (new : State) → is_in_task task place ≡ false →
-  Grows (before.naming task) (old.naming task) → GiveMark task place kind mark old w new →
-  Gives task old new × ReceivedWord task before new kind (mark_asof old.live_port mark) w
+    Grows (before.naming task) (old.naming task) → GiveMark task place kind mark old w new →
+    Gives task old new × ReceivedWord task before new kind (mark_asof old.live_port mark) w
 GiveMark-means task place kind null before old w new away g h = (Gives-same task old new h.1, h.0)
 GiveMark-means task place kind dead before old w new away g h = (Gives-same task old new h.1, h.0)
 GiveMark-means task place kind (to_port p) before old w new away g h =
     either (old.live_port p) _ _ _
-      (λ live r.
-        let m = GiveRight-word task place kind p before old w new away g r in
-        (m.0, subst (λ (x : Mark). ReceivedWord task before new kind x w) (same_mark (old.live_port p) p live) m.1))
-      (λ gone r. (Gives-same task old new r.1,
-          subst (λ (x : Mark). ReceivedWord task before new kind x w) (dead_mark (old.live_port p) p gone) r.0))
-      h
+    (λ live r.
+    let m = GiveRight-word task place kind p before old w new away g r in
+    (m.0, subst (λ (x : Mark). ReceivedWord task before new kind x w) (same_mark (old.live_port p) p live) m.1))
+    (λ gone r. (
+      Gives-same task old new r.1,
+      subst (λ (x : Mark). ReceivedWord task before new kind x w) (dead_mark (old.live_port p) p gone) r.0,
+    ))
+    h
 
 pub GiveReply-means : (task : ℕ) (place : Place) (reply : ReplyRight) (before old : State) (number w : ℕ) (new : State) → is_in_task task place ≡ false →
-  Grows (before.naming task) (old.naming task) → GiveReply task place reply old number w new →
-  Gives task old new × ReceivedReply task before new (reply_asof old.live_port reply) number w
+    Grows (before.naming task) (old.naming task) → GiveReply task place reply old number w new →
+    Gives task old new × ReceivedReply task before new (reply_asof old.live_port reply) number w
 GiveReply-means task place absent before old number w new away g h = (Gives-same task old new h.2, (h.0, h.1))
 GiveReply-means task place (present kind mark) before old number w new away g h =
     let m = GiveMark-means task place kind mark before old w new away g h.1 in (m.0, (h.0, m.1))
 
 live_marks : (task : ℕ) (before after : State) (kind : Kind) (f g : ℕ → Bool) (ms : List Mark) (ws : List ℕ) → f ≡ g →
-  ReceivedWords task before after kind (list_map (mark_asof f) ms) ws → ReceivedWords task before after kind (list_map (mark_asof g) ms) ws
+    ReceivedWords task before after kind (list_map (mark_asof f) ms) ws → ReceivedWords task before after kind (list_map (mark_asof g) ms) ws
 live_marks task before after kind f g ms ws e h = subst (λ (x : ℕ → Bool). ReceivedWords task before after kind (list_map (mark_asof x) ms) ws) e h
 
 pub GiveMarks-means : (task : ℕ) (place : Place) (kind : Kind) (marks : List Mark) (before old : State) (ws : List ℕ) (new : State) → is_in_task task place ≡ false →
-  Grows (before.naming task) (old.naming task) → GiveMarks task place kind marks old ws new →
-  Gives task old new × ReceivedWords task before new kind (list_map (mark_asof old.live_port) marks) ws
+    Grows (before.naming task) (old.naming task) → GiveMarks task place kind marks old ws new →
+    Gives task old new × ReceivedWords task before new kind (list_map (mark_asof old.live_port) marks) ws
 GiveMarks-means task place kind [] before old [] new away g h = (Gives-same task old new h, tt)
 GiveMarks-means task place kind (m ∷ ms) before old (w ∷ ws) new away g h =
     let a = GiveMark-means task place kind m before old w h.0 away g h.1 in
-    let b = GiveMarks-means task place kind ms before h.0 ws new away (Grows-trans (before.naming task) (old.naming task) (h.0.naming task) g a.0.grows) h.2 in
-    (Gives-trans task old h.0 new a.0 b.0,
-      (keeps_word task before h.0 new kind (mark_asof old.live_port m) w b.0 a.1,
-        live_marks task before new kind h.0.live_port old.live_port ms ws a.0.live b.1))
+    let b = GiveMarks-means task place kind ms before h.0 ws new away (Grows-trans (before.naming task) (old.naming task) (h.0.naming task) g a.0.grows) h.2 in (
+      Gives-trans task old h.0 new a.0 b.0,
+      (
+        keeps_word task before h.0 new kind (mark_asof old.live_port m) w b.0 a.1,
+        live_marks task before new kind h.0.live_port old.live_port ms ws a.0.live b.1,
+      ),
+    )
 GiveMarks-means task place kind [] before old (w ∷ ws) new away g h = absurd h
 GiveMarks-means task place kind (m ∷ ms) before old [] new away g h = absurd h
 
@@ -196,29 +202,32 @@ keeps_item task before mid after (rights f kind marks) (port_item e number words
 keeps_item task before mid after (rights f kind marks) (data_item e n s c bytes padding) g h = absurd h
 
 pub GiveItem-means : (task : ℕ) (place : Place) (item : Item) (before old : State) (w : Wire) (new : State) → is_in_task task place ≡ false →
-  Grows (before.naming task) (old.naming task) → GiveItem task place item old w new →
-  Gives task old new × ReceivedItem task before new (item_asof old.live_port item) w
+    Grows (before.naming task) (old.naming task) → GiveItem task place item old w new →
+    Gives task old new × ReceivedItem task before new (item_asof old.live_port item) w
 GiveItem-means task place (plain f n s c bytes padding) before old w new away g h = (Gives-same task old new h.1, h.0)
 GiveItem-means task place (rights f kind marks) before old (port_item e number words) new away g h =
     let m = GiveMarks-means task place kind marks before old words new away g h.2 in (m.0, (h.0, h.1, m.1))
 GiveItem-means task place (rights f kind marks) before old (data_item e n s c bytes padding) new away g h = absurd h
 
 GiveItems-means : (task : ℕ) (place : Place) (xs : List Item) (before old : State) (ws : List Wire) (new : State) → is_in_task task place ≡ false →
-  Grows (before.naming task) (old.naming task) → GiveItems task place xs old ws new →
-  Gives task old new × ReceivedItems task before new (list_map (item_asof old.live_port) xs) ws
+    Grows (before.naming task) (old.naming task) → GiveItems task place xs old ws new →
+    Gives task old new × ReceivedItems task before new (list_map (item_asof old.live_port) xs) ws
 GiveItems-means task place [] before old [] new away g h = (Gives-same task old new h, tt)
 GiveItems-means task place (x ∷ xs) before old (w ∷ ws) new away g h =
     let a = GiveItem-means task place x before old w h.0 away g h.1 in
-    let b = GiveItems-means task place xs before h.0 ws new away (Grows-trans (before.naming task) (old.naming task) (h.0.naming task) g a.0.grows) h.2 in
-    (Gives-trans task old h.0 new a.0 b.0,
-      (keeps_item task before h.0 new (item_asof old.live_port x) w b.0 a.1,
-        subst (λ (f : ℕ → Bool). ReceivedItems task before new (list_map (item_asof f) xs) ws) a.0.live b.1))
+    let b = GiveItems-means task place xs before h.0 ws new away (Grows-trans (before.naming task) (old.naming task) (h.0.naming task) g a.0.grows) h.2 in (
+      Gives-trans task old h.0 new a.0 b.0,
+      (
+        keeps_item task before h.0 new (item_asof old.live_port x) w b.0 a.1,
+        subst (λ (f : ℕ → Bool). ReceivedItems task before new (list_map (item_asof f) xs) ws) a.0.live b.1,
+      ),
+    )
 GiveItems-means task place [] before old (w ∷ ws) new away g h = absurd h
 GiveItems-means task place (x ∷ xs) before old [] new away g h = absurd h
 
 GiveBody-means : (task : ℕ) (place : Place) (body : Body) (before old : State) (w : WireBody) (new : State) → is_in_task task place ≡ false →
-  Grows (before.naming task) (old.naming task) → GiveBody task place body old w new →
-  Gives task old new × ReceivedBody task before new (body_asof old.live_port body) w
+    Grows (before.naming task) (old.naming task) → GiveBody task place body old w new →
+    Gives task old new × ReceivedBody task before new (body_asof old.live_port body) w
 GiveBody-means task place (Body.raw bytes) before old (WireBody.raw others) new away g h = (Gives-same task old new h.1, h.0)
 GiveBody-means task place (Body.items xs) before old (WireBody.items ws) new away g h = GiveItems-means task place xs before old ws new away g h
 GiveBody-means task place (Body.raw bytes) before old (WireBody.items ws) new away g h = absurd h
@@ -242,14 +251,15 @@ keeps_reply task before mid after (present kind mark) number w g h = (h.0, keeps
 
 -- What was received: the reply and the body mean what was queued, with rights for dead ports dead.
 pub Receives-means : (task port room : ℕ) (bytes : List ℕ) (old new : State) (r : Receives task port room bytes old new) →
-  ReceivedReply task old new (asof old.live_port r.e.message).reply r.header.remote_kind r.header.remote
-  × ReceivedBody task old new (asof old.live_port r.e.message).body r.written
+    ReceivedReply task old new (asof old.live_port r.e.message).reply r.header.remote_kind r.header.remote
+    × ReceivedBody task old new (asof old.live_port r.e.message).body r.written
 Receives-means task port room bytes old new r =
     let grows : Grows (old.naming task) (r.taken.naming task) = λ n x e. ap (λ (s : State). lookup s task n) r.takes.rest ∙ e in
     let live : r.taken.live_port ≡ old.live_port = ap (λ (s : State). s.live_port) r.takes.rest in
     let a = GiveReply-means task (in_message port (old.taken port)) r.e.message.reply old r.taken r.header.remote_kind r.header.remote r.second refl grows r.reply in
     let b = GiveBody-means task (in_message port (old.taken port)) r.e.message.body old r.second r.written new refl
-        (Grows-trans (old.naming task) (r.taken.naming task) (r.second.naming task) grows a.0.grows) r.body in
-    (keeps_reply task old r.second new (reply_asof old.live_port r.e.message.reply) r.header.remote_kind r.header.remote b.0
-        (subst (λ (f : ℕ → Bool). ReceivedReply task old r.second (reply_asof f r.e.message.reply) r.header.remote_kind r.header.remote) live a.1),
-      subst (λ (f : ℕ → Bool). ReceivedBody task old new (body_asof f r.e.message.body) r.written) (a.0.live ∙ live) b.1)
+    (Grows-trans (old.naming task) (r.taken.naming task) (r.second.naming task) grows a.0.grows) r.body in (
+      keeps_reply task old r.second new (reply_asof old.live_port r.e.message.reply) r.header.remote_kind r.header.remote b.0
+          (subst (λ (f : ℕ → Bool). ReceivedReply task old r.second (reply_asof f r.e.message.reply) r.header.remote_kind r.header.remote) live a.1),
+      subst (λ (f : ℕ → Bool). ReceivedBody task old new (body_asof f r.e.message.body) r.written) (a.0.live ∙ live) b.1,
+    )

@@ -1,26 +1,25 @@
 -- What one step from a lawful state does to the logs, and takes from them.
-use Rattle.std.proofs.Common.{◌≡◌, ℕ, ◌+◌, ◌<◌, ◌≤◌, List, [], ◌∷◌, ◌++◌, Some, refl, sym, ap, subst, ◌∙◌, arith, true, false, Bool, ◌⊎◌, inl, inr, length}
-use Rattle.std.specs.Prelude.{if◌then◌else◌, ◌≢◌, Contains}
+use Rattle.std.proofs.Common.{◌≡◌, ℕ, ◌+◌, ◌<◌, List, [], ◌∷◌, ◌++◌, Some, refl, sym, ap, subst, ◌∙◌, arith, Bool, ◌⊎◌, inl, inr, length}
+use Rattle.std.specs.Prelude.{if◌then◌else◌}
 use Rattle.std.proofs.lemmas.Bool.Decides.{eqb_tells}
 use Rattle.mach_types.specs.declared.calls.Event.{Event}
 use Rattle.mach_types.specs.declared.calls.Reply.{Reply}
 use Rattle.mach_types.specs.declared.calls.Waited.{Waited}
 use Rattle.mach_types.specs.Guards.{Guards, FirstIs, NoneHolds}
 use Rattle.mach_types.specs.TextGuards.{text_guards}
-use Rattle.mach_types.specs.Tokens.{Kind, receive, count, is_held}
-use Rattle.mach_types.specs.Messages.{Entry, asof}
+use Rattle.mach_types.specs.Tokens.{receive, is_held}
+use Rattle.mach_types.specs.Messages.{asof}
 use Rattle.mach_types.specs.Grammar.{Header, WireBody}
-use Rattle.mach_model.specs.State.{State, Target, lookup, held, Holds, at}
-use Rattle.mach_model.specs.Making.{CreatesTask, AllocatesPort}
+use Rattle.mach_model.specs.State.{State, Target, lookup, Holds, at}
 use Rattle.mach_model.specs.Sending.{Sends, SendRefuses, RightsRefuse, sent_guards, place_of, entry}
 use Rattle.mach_model.specs.Receiving.{Owed, waits_for, TakesFrom, Receives}
 use Rattle.mach_model.specs.ReceivedMeans.{ReceivedMeans}
 use Rattle.mach_model.specs.Refusals.{guards, Refuses}
-use Rattle.mach_model.specs.Machine.{Does, Refused, Done, Step}
+use Rattle.mach_model.specs.Machine.{Does, Step}
 use Rattle.mach_model.specs.Lawful.{IsLawful}
 use Rattle.mach_model.proofs.At.{at_same, at_other, at_own}
 use Rattle.mach_model.proofs.Settling.{IsReordered}
-use Rattle.mach_model.proofs.Plain.{Sends-plain, Receives-plain, ReceivesPlain}
+use Rattle.mach_model.proofs.Plain.{Sends-plain, Receives-plain}
 use Rattle.mach_model.proofs.StepLawful.{Done-mid, TakesFrom-holds}
 use Rattle.mach_laws.specs.Sent.{Accepts}
 use Rattle.mach_laws.specs.Received.{NamesSource, Delivers}
@@ -44,7 +43,7 @@ rights_code s task header written code (inl h) = omega (arith, h.1)
 rights_code s task header written code (inr (inl h)) = elim h.3 [
   | inl g ↦ omega (arith, g.1)
   | inr g ↦ omega (arith, g.4)
-  ]
+]
 rights_code s task header written code (inr (inr h)) = FirstIs-code (sent_guards h.0 (place_of s h.0) h.1) code (omega arith, (omega arith, (omega arith, tt))) h.3
 
 send_code : (s : State) (task : ℕ) (bytes : List ℕ) (code : ℕ) → SendRefuses s task bytes code → 0 < code
@@ -52,7 +51,7 @@ send_code s task bytes code h = elim h.3 [
   | inl g ↦ omega (arith, g)
   | inr (inl g) ↦ omega (arith, g.1)
   | inr (inr g) ↦ rights_code s task h.0 h.1 code g.1
-  ]
+]
 
 refused_send : (s : State) (task : ℕ) (bytes : List ℕ) (code : ℕ) → Refuses s (Event.Send task bytes) code → 0 < code
 refused_send s task bytes code (inl h) = FirstIs-code (guards s (Event.Send task bytes)) code (omega arith, (omega arith, (omega arith, (omega arith, (omega arith, tt))))) h
@@ -61,7 +60,7 @@ refused_send s task bytes code (inr h) = send_code s task bytes code h.1
 -- ---- sends
 
 pub Sends-accepts : (now task : ℕ) (bytes : List ℕ) (old mid new : State) → IsLawful old → NoneHolds (text_guards bytes) → Sends now task bytes old mid → IsReordered mid new →
-  Accepts now task bytes old new
+    Accepts now task bytes old new
 Sends-accepts now task bytes old mid new l good s r =
     let plain = Sends-plain now task bytes old mid good s in
     let p = s.m.destination in
@@ -101,10 +100,10 @@ made_log : (old : State) → IsLawful old → (p : ℕ) → at old.log old.ports
 made_log old l p = elim (eqb_tells p old.ports_made) [
   | inl h ↦ at_same old.log old.ports_made [] p h.1 ∙ sym (l.unmade_log p (omega (arith, h.1)))
   | inr h ↦ at_other old.log old.ports_made [] p h.1
-  ]
+]
 
 Does-logs : (now : ℕ) (old : State) (event : Event) (reply : Reply) (mid : State) (owed : Owed) (new : State) → IsLawful old → NoneHolds (guards old event) →
-  Does now old event reply mid owed → IsReordered mid new → SameLogs old new ⊎ AcceptsBy now old event reply new
+    Does now old event reply mid owed → IsReordered mid new → SameLogs old new ⊎ AcceptsBy now old event reply new
 Does-logs now old Event.TaskCreate (Reply.Task task) mid owed new l g d r =
     inl (λ p. ap (λ (x : State). x.log p) r.rest ∙ ap (λ (x : State). x.log p) d.0.rest)
 Does-logs now old (Event.Allocate task right) (Reply.Name name) mid owed new l g d r =
@@ -122,7 +121,7 @@ Does-logs now old (Event.Receive task name room large) reply mid owed new l g d 
 Does-logs now old event reply mid owed new l g d r = absurd d
 
 pub Step-logs : (now : ℕ) (old : State) (event : Event) (reply : Reply) (new : State) → IsLawful old → Step now old event reply new →
-  ((p : ℕ) → new.log p ≡ old.log p) ⊎ AcceptsBy now old event reply new
+    ((p : ℕ) → new.log p ≡ old.log p) ⊎ AcceptsBy now old event reply new
 Step-logs now old event reply new l (inl r) = inl (λ p. ap (λ (x : State). x.log p) r.same)
 Step-logs now old event reply new l (inr d) = Does-logs now old event reply d.mid d.owed new l d.unrefused d.does (Done-mid now old event reply new l d).1
 
@@ -140,7 +139,7 @@ reordered_gives task mid new r = record {
 }
 
 pub Receives-delivers : (task name room : ℕ) (bytes : List ℕ) (old mid new : State) (waited : Waited) (p : ℕ) → IsLawful old → waits_for task name old waited → TakesFrom old task waited p →
-  Receives task p room bytes old mid → IsReordered mid new → Delivers task name bytes old new
+    Receives task p room bytes old mid → IsReordered mid new → Delivers task name bytes old new
 Receives-delivers task name room bytes old mid new waited p l w t r o =
     let plain = Receives-plain task p room bytes old mid r (l.plain_messages p (old.taken p) r.e r.takes.front) in
     let here = (l.sent_here p (old.taken p) r.e r.takes.front).0 in
@@ -163,7 +162,7 @@ Receives-delivers task name room bytes old mid new waited p l w t r o =
 
 -- the next step after a run, where it gives a message
 pub Step-delivers : (now : ℕ) (old : State) (task name room : ℕ) (large : Bool) (bytes : List ℕ) (new : State) → IsLawful old →
-  Step now old (Event.Receive task name room large) (Reply.Message bytes) new → Delivers task name bytes old new
+    Step now old (Event.Receive task name room large) (Reply.Message bytes) new → Delivers task name bytes old new
 Step-delivers now old task name room large bytes new l (inl r) = absurd (no_code bytes r.code r.told)
   where
     no_code : (bytes : List ℕ) (code : ℕ) → Reply.Message bytes ≡ Reply.Code code → ⊥
@@ -197,10 +196,10 @@ made_taken old l p = elim (eqb_tells p old.ports_made) [
       let none : 0 ≡ old.taken p = omega (arith, w, z) in
       at_same old.taken old.ports_made 0 p h.1 ∙ none
   | inr h ↦ at_other old.taken old.ports_made 0 p h.1
-  ]
+]
 
 Does-taken : (now : ℕ) (old : State) (event : Event) (reply : Reply) (mid : State) (owed : Owed) (new : State) → IsLawful old → NoneHolds (guards old event) →
-  Does now old event reply mid owed → IsReordered mid new → SameTaken old new ⊎ DeliversBy old event reply new
+    Does now old event reply mid owed → IsReordered mid new → SameTaken old new ⊎ DeliversBy old event reply new
 Does-taken now old Event.TaskCreate (Reply.Task task) mid owed new l g d r =
     inl (λ p. ap (λ (x : State). x.taken p) r.rest ∙ ap (λ (x : State). x.taken p) d.0.rest)
 Does-taken now old (Event.Allocate task right) (Reply.Name name) mid owed new l g d r =
@@ -225,6 +224,6 @@ Does-taken now old (Event.Receive task name room large) reply mid owed new l g d
 Does-taken now old event reply mid owed new l g d r = absurd d
 
 pub Step-taken : (now : ℕ) (old : State) (event : Event) (reply : Reply) (new : State) → IsLawful old → Step now old event reply new →
-  ((p : ℕ) → new.taken p ≡ old.taken p) ⊎ DeliversBy old event reply new
+    ((p : ℕ) → new.taken p ≡ old.taken p) ⊎ DeliversBy old event reply new
 Step-taken now old event reply new l (inl r) = inl (λ p. ap (λ (x : State). x.taken p) r.same)
 Step-taken now old event reply new l (inr d) = Does-taken now old event reply d.mid d.owed new l d.unrefused d.does (Done-mid now old event reply new l d).1

@@ -1,18 +1,69 @@
-//! Laws of the machine: what holds after every run.
+//! Laws of the machine: what holds after every run, whatever the events.
 //!
-//! Each function here does nothing: its contract is a law, and the check proves it.
+//! Each function here does nothing: its contract is a law, and the check proves it. A reader who believes the
+//! machine's definitions (`mach_model/specs`) and the few words of `specs/` here need believe nothing else.
 #![tactic(auto)]
 
-ghost use Rattle.std.specs.Prelude.{◌≡◌, ℕ, List, true};
+ghost use Rattle.std.specs.Prelude.{◌≡◌, ℕ, Bool, true, List, Some, length, map, slice_get};
 ghost use Rattle.mach_types.specs.declared.calls.Event.{Event};
 ghost use Rattle.mach_types.specs.declared.calls.Reply.{Reply};
 ghost use Rattle.mach_types.specs.Tokens.{count, is_of, receive as receive_kind};
 ghost use Rattle.mach_model.specs.State.{State};
-ghost use Rattle.mach_model.specs.Machine.{Run};
+ghost use Rattle.mach_model.specs.Machine.{Step, Run};
+ghost use Rattle.mach_model.specs.Lawful.{IsLawful};
+ghost use Rattle.mach_laws.specs.Paths.{Stage, Path};
+ghost use Rattle.mach_laws.specs.Sent.{Accepts};
+ghost use Rattle.mach_laws.specs.Received.{Delivers, WasSent};
+ghost use Rattle.mach_laws.specs.Order.{InOrder};
+
+/// Every run leads to a lawful state: rights, names, logs and places agree.
+pub fn every_run_is_lawful()
+    ensures { (events : List Event) (replies : List Reply) (s : State) → Run events replies s → IsLawful s }
+{}
 
 /// After every run each live port has exactly one receive right, over all tasks and all messages.
 pub fn one_receive_right()
     ensures { (events : List Event) (replies : List Reply) (s : State) → Run events replies s →
         (p : ℕ) → s.live_port p ≡ true → count (is_of receive_kind p) s.ledger ≡ 1 }
-{
-}
+{}
+
+/// After every run a send that is answered with 0 appends one message, which is what its bytes mean
+/// through the sender's names before the send (IPC Interface, `mach_msg`).
+pub fn sent_messages_mean()
+    ensures { (events : List Event) (replies : List Reply) (s : State) → Run events replies s →
+        (task : ℕ) (bytes : List ℕ) (new : State) → Step (length events) s (Event.Send task bytes) (Reply.Code 0) new →
+        Accepts (length events) task bytes s new }
+{}
+
+/// After every run a receive that is answered with bytes takes one message, the one in front of a port
+/// that the receiver named, and the bytes mean it through the receiver's names after the receive
+/// (IPC Interface, `mach_msg`).
+pub fn received_messages_mean()
+    ensures { (events : List Event) (replies : List Reply) (s : State) → Run events replies s →
+        (task name room : ℕ) (large : Bool) (bytes : List ℕ) (new : State) →
+        Step (length events) s (Event.Receive task name room large) (Reply.Message bytes) new →
+        Delivers task name bytes s new }
+{}
+
+/// Runs are paths: each run has its stages, and stages that fit together are a run.
+pub fn runs_are_paths()
+    ensures stages { (events : List Event) (replies : List Reply) (s : State) → Run events replies s →
+        (path : List Stage) × Path path s × (map (λ x. x.event) path ≡ events) × (map (λ x. x.reply) path ≡ replies) }
+    ensures run { (path : List Stage) (s : State) → Path path s → Run (map (λ x. x.event) path) (map (λ x. x.reply) path) s }
+{}
+
+/// In every run each message that is received is one that was sent: what the sender's bytes meant
+/// through the sender's names before the send, the received bytes mean through the receiver's names
+/// after the receive, where rights for ports that are dead by then are dead.
+pub fn received_means_what_was_sent()
+    ensures { (path : List Stage) (s : State) → Path path s →
+        (k task name room : ℕ) (large : Bool) (bytes : List ℕ) (x : Stage) → slice_get path k ≡ Some x →
+        x.event ≡ Event.Receive task name room large → x.reply ≡ Reply.Message bytes →
+        WasSent path k task name bytes x }
+{}
+
+/// In every run, of each port: what was received from it, and then what is queued, is what was accepted
+/// for it, each message once and in the same order.
+pub fn order()
+    ensures { (path : List Stage) (s : State) → Path path s → (p : ℕ) → InOrder p path s }
+{}

@@ -1,4 +1,3 @@
-use Rattle.std.proofs.Common.{◌≡◌, ℕ, List}
 use Rattle.mach_model.proofs.StepLawful.{Run-lawful}
 use Rattle.mach_laws.proofs.one_receive_right.Goals as goal
 
