@@ -5,3 +5,5 @@ mod Steps
 mod Walking
 mod Told
 mod Ordered
+mod First
+mod Answered

@@ -2,3 +2,4 @@ pub mod Paths
 pub mod Sent
 pub mod Received
 pub mod Order
+pub mod FirstMessage

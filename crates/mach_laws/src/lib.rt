@@ -4,17 +4,19 @@
 //! machine's definitions (`mach_model/specs`) and the few words of `specs/` here need believe nothing else.
 #![tactic(auto)]
 
-ghost use Rattle.std.specs.Prelude.{◌≡◌, ℕ, Bool, true, List, Some, length, map, slice_get};
+ghost use Rattle.std.specs.Prelude.{◌≡◌, ◌≢◌, ℕ, Bool, true, List, [], Some, length, map, slice_get};
 ghost use Rattle.mach_types.specs.declared.calls.Event.{Event};
 ghost use Rattle.mach_types.specs.declared.calls.Reply.{Reply};
+ghost use Rattle.mach_types.specs.declared.calls.Waited.{Waited};
 ghost use Rattle.mach_types.specs.Tokens.{count, is_of, receive as receive_kind};
-ghost use Rattle.mach_model.specs.State.{State};
+ghost use Rattle.mach_model.specs.State.{State, Target, lookup, queue};
 ghost use Rattle.mach_model.specs.Machine.{Step, Run};
 ghost use Rattle.mach_model.specs.Lawful.{IsLawful};
 ghost use Rattle.mach_laws.specs.Paths.{Stage, Path};
 ghost use Rattle.mach_laws.specs.Sent.{Accepts};
 ghost use Rattle.mach_laws.specs.Received.{Delivers, WasSent};
 ghost use Rattle.mach_laws.specs.Order.{InOrder};
+ghost use Rattle.mach_laws.specs.FirstMessage.{first_events, first_replies};
 
 /// Every run leads to a lawful state: rights, names, logs and places agree.
 pub fn every_run_is_lawful()
@@ -66,4 +68,21 @@ pub fn received_means_what_was_sent()
 /// for it, each message once and in the same order.
 pub fn order()
     ensures { (path : List Stage) (s : State) → Path path s → (p : ℕ) → InOrder p path s }
+{}
+
+/// A call that is answered with another code than 0 changes nothing.
+pub fn refusals_change_nothing()
+    ensures { (now : ℕ) (old new : State) (event : Event) (code : ℕ) → Step now old event (Reply.Code code) new → code ≢ 0 → new ≡ old }
+{}
+
+/// A receive by a port's name is answered that there is no message only where none is queued.
+pub fn empty_means_empty()
+    ensures { (now : ℕ) (old new : State) (task name room : ℕ) (large : Bool) (told : Waited) →
+        Step now old (Event.Receive task name room large) (Reply.Empty told) new →
+        (p : ℕ) → lookup old task name ≡ Some (Target.port p) → queue old p ≡ [] }
+{}
+
+/// The laws speak of something: a task that makes a port, sends a message to it and receives it is a run.
+pub fn first_message()
+    ensures { (s : State) × Run first_events first_replies s }
 {}

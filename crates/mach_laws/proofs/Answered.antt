@@ -1,0 +1,55 @@
+-- What a refusal leaves, and when a receive may answer that there is no message.
+use Rattle.std.proofs.Common.{◌≡◌, ℕ, List, [], ◌∷◌, Some, refl, sym, ◌∙◌, Bool, inl, inr}
+use Rattle.std.specs.Prelude.{◌≢◌}
+use Rattle.mach_types.specs.declared.calls.Event.{Event}
+use Rattle.mach_types.specs.declared.calls.Reply.{Reply}
+use Rattle.mach_types.specs.declared.calls.Waited.{Waited}
+use Rattle.mach_model.specs.State.{State, Target, lookup, queue}
+use Rattle.mach_model.specs.Receiving.{Owed, waits_for, IsEmptyFor}
+use Rattle.mach_model.specs.Machine.{Does, Step}
+
+does_code : (now : ℕ) (old : State) (event : Event) (code : ℕ) (mid : State) (owed : Owed) → Does now old event (Reply.Code code) mid owed → code ≡ 0
+does_code now old (Event.Send task bytes) code mid owed d = d.0
+does_code now old (Event.Receive task name room large) code mid owed d = absurd d.2
+does_code now old event code mid owed d = absurd d
+
+-- A step that is answered with another code than 0 leaves the state.
+pub refusal_leaves : (now : ℕ) (old : State) (event : Event) (code : ℕ) (new : State) → Step now old event (Reply.Code code) new → code ≢ 0 → new ≡ old
+refusal_leaves now old event code new (inl r) some = r.same
+refusal_leaves now old event code new (inr d) some = absurd (some (does_code now old event code d.mid d.owed d.does))
+
+port_of : (p q : ℕ) → Target.port p ≡ Target.port q → p ≡ q
+port_of p q e = cc
+
+same_port : (s : State) (task name p q : ℕ) → lookup s task name ≡ Some (Target.port p) → lookup s task name ≡ Some (Target.port q) → p ≡ q
+same_port s task name p q e f = some_port (sym e ∙ f)
+  where
+    some_port : Some (Target.port p) ≡ Some (Target.port q) → p ≡ q
+    some_port g = cc
+
+not_set : (s : State) (task name p set : ℕ) → lookup s task name ≡ Some (Target.port p) → lookup s task name ≡ Some (Target.set set) → ⊥
+not_set s task name p set e f = go (sym e ∙ f)
+  where
+    go : Some (Target.port p) ≡ Some (Target.set set) → ⊥
+    go g = cc
+
+no_sets : (xs : List ℕ) → ¬ (xs ≢ []) → xs ≡ []
+no_sets [] f = refl
+no_sets (x ∷ xs) f = absurd (f (λ e. cc))
+
+nothing_waits : (s : State) (task name p : ℕ) (waited : Waited) → lookup s task name ≡ Some (Target.port p) → s.sets_of p ≡ [] → waits_for task name s waited → IsEmptyFor s task waited → queue s p ≡ []
+nothing_waits s task name p (Waited.Port q) is alone waits empty =
+    let same = same_port s task name p q is waits.0 in
+    empty p (same, rw same waits.1, alone)
+nothing_waits s task name p (Waited.Set set) is alone waits empty = absurd (not_set s task name p set is waits)
+
+-- A receive by a port's name is answered that there is none only where none is queued.
+pub empty_is_empty : (now : ℕ) (old : State) (task name room : ℕ) (large : Bool) (told : Waited) (new : State) → Step now old (Event.Receive task name room large) (Reply.Empty told) new →
+    (p : ℕ) → lookup old task name ≡ Some (Target.port p) → queue old p ≡ []
+empty_is_empty now old task name room large told new (inl r) p is = absurd (no_code told r.code r.told)
+  where
+    no_code : (told : Waited) (code : ℕ) → Reply.Empty told ≡ Reply.Code code → ⊥
+    no_code told code e = cc
+empty_is_empty now old task name room large told new (inr d) p is =
+    let x = d.does in
+    nothing_waits old task name p x.0 is (no_sets (old.sets_of p) (λ some. d.unrefused.1.1.0 (p, is, some))) x.1 x.2.1
