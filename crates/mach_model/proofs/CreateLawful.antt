@@ -10,9 +10,6 @@ use Rattle.mach_model.proofs.At.{at_same, at_other}
 use Rattle.mach_model.proofs.Names.{all_unused}
 
 module _ (s : State) (l : IsLawful s) where
-  task : ℕ
-  task = s.tasks_made
-
   not_live : s.live_task s.tasks_made ≡ false
   not_live = go (s.live_task s.tasks_made) refl
     where
