@@ -4,9 +4,5 @@ pub mod Names
 pub mod Settling
 pub mod Runs
 pub mod Opening
-pub mod Plain
 pub mod CreateLawful
 pub mod AllocateLawful
-pub mod SendLawful
-pub mod ReceiveLawful
-pub mod StepLawful
