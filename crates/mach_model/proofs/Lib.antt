@@ -1,7 +1,9 @@
 pub mod Weigh
 pub mod At
 pub mod Names
+pub mod Spaces
 pub mod Settling
+pub mod Moving
 pub mod Runs
 pub mod Opening
 pub mod CreateLawful
