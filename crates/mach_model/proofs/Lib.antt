@@ -4,6 +4,8 @@ pub mod Names
 pub mod Spaces
 pub mod Settling
 pub mod Moving
+pub mod CopyingIn
+pub mod CopyingWords
 pub mod Runs
 pub mod Opening
 pub mod CreateLawful

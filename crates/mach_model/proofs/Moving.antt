@@ -183,8 +183,22 @@ near_task task o k kind p test a b = rw (a kind p) refl
 pub near_entry : (task o k : ℕ) (kind : Kind) (p : ℕ) → AreNear task o k (token kind p (in_message o k) ∷ [])
 near_entry task o k kind p test a b = rw (b kind p) refl
 
-same_naming : (m : Names) (r t o r' t' o' : ℕ → ℕ) → IsNaming m r t o → ((q : ℕ) → r' q ≡ r q) → ((q : ℕ) → t' q ≡ t q) → ((q : ℕ) → o' q ≡ o q) → IsNaming m r' t' o'
+pub same_naming : (m : Names) (r t o r' t' o' : ℕ → ℕ) → IsNaming m r t o → ((q : ℕ) → r' q ≡ r q) → ((q : ℕ) → t' q ≡ t q) → ((q : ℕ) → o' q ≡ o q) → IsNaming m r' t' o'
 same_naming m r t o r' t' o' l a b c = stay_named m r t o r' t' o' l (λ q. inl (a q, b q)) (λ q. let h = l.few_references q in omega (arith, h, b q)) c
+
+-- what is left to see, where the rights that go and come are with the task and at the entry
+pub record Leaves (s new : State) (task : ℕ) : Type 0 where
+  pub rest : new ≡ shape s new
+  pub is_task : s.live_task task ≡ true
+  pub others : (t : ℕ) → (t ≡ task → ⊥) → new.naming t ≡ s.naming t
+  pub own : TaskNaming new task
+  pub receives : (q : ℕ) → count (is_of receive q) new.ledger ≡ count (is_of receive q) s.ledger
+  pub dead : (q : ℕ) → s.live_port q ≡ false → (kind : Kind) → count (is_of kind q) new.ledger ≡ 0
+  pub stands : NoRequests new
+  pub make_send : (q : ℕ) → new.make_send q < 2 ^ 32
+  pub sequence : (q : ℕ) → new.sequence q < 2 ^ 32
+  pub no_sets : (q : ℕ) → s.live_port q ≡ false → new.sets_of q ≡ []
+  pub members : (p set t : ℕ) → Contains (new.sets_of p) set → s.set_owner set ≡ Some t → Holds new t receive p
 
 module _ (s new : State) (task o k : ℕ) (l : IsMoving s o k) (gone come : List Token) (moves : Moves s.ledger new.ledger gone come)
     (near_gone : AreNear task o k gone) (near_come : AreNear task o k come) where
@@ -208,21 +222,7 @@ module _ (s new : State) (task o k : ℕ) (l : IsMoving s o k) (gone come : List
   kept_far : (r : Request) → count (λ x. same_place (in_request r) x.place) new.ledger ≡ count (λ x. same_place (in_request r) x.place) s.ledger
   kept_far r = far (λ x. same_place (in_request r) x.place) (λ c p. refl) (λ c p. refl)
 
-  -- what is left to see, where the rights that go and come are with the task and at the entry
-  pub record Leaves : Type 0 where
-    pub rest : new ≡ shape s new
-    pub is_task : s.live_task task ≡ true
-    pub others : (t : ℕ) → (t ≡ task → ⊥) → new.naming t ≡ s.naming t
-    pub own : TaskNaming new task
-    pub receives : (q : ℕ) → count (is_of receive q) new.ledger ≡ count (is_of receive q) s.ledger
-    pub dead : (q : ℕ) → s.live_port q ≡ false → (kind : Kind) → count (is_of kind q) new.ledger ≡ 0
-    pub stands : NoRequests new
-    pub make_send : (q : ℕ) → new.make_send q < 2 ^ 32
-    pub sequence : (q : ℕ) → new.sequence q < 2 ^ 32
-    pub no_sets : (q : ℕ) → s.live_port q ≡ false → new.sets_of q ≡ []
-    pub members : (p set t : ℕ) → Contains (new.sets_of p) set → s.set_owner set ≡ Some t → Holds new t receive p
-
-  moved_shape : Leaves → IsMoving (shape s new) o k
+  moved_shape : Leaves s new task → IsMoving (shape s new) o k
   moved_shape v = record {
     made_task = l.made_task;
     no_task = λ t n not. ap (λ (m : Names). lookup (record s { naming = λ x. m }) t n) (v.others t (λ e. is_other t not e)) ∙ l.no_task t n not;
@@ -256,5 +256,5 @@ module _ (s new : State) (task o k : ℕ) (l : IsMoving s o k) (gone come : List
       is_other : (t : ℕ) → s.live_task t ≡ false → t ≡ task → ⊥
       is_other t not e = let a = v.is_task in let b : s.live_task task ≡ false = subst (λ (x : ℕ). s.live_task x ≡ false) e not in cc
 
-  pub moved : Leaves → IsMoving new o k
+  pub moved : Leaves s new task → IsMoving new o k
   moved v = subst (λ (x : State). IsMoving x o k) (sym v.rest) (moved_shape v)
