@@ -8,5 +8,6 @@ pub mod CopyingIn
 pub mod CopyingWords
 pub mod Runs
 pub mod Opening
+pub mod SendLawful
 pub mod CreateLawful
 pub mod AllocateLawful

@@ -1,0 +1,210 @@
+-- A message that is sent leaves a lawful state, whatever rights it carries.
+use Rattle.std.proofs.Common.{◌≡◌, ℕ, zero, suc, ◌+◌, ◌%◌, ◌^◌, ◌<◌, ◌≤◌, List, [], ◌∷◌, ◌++◌, Some, refl, sym, ap, subst, ◌∙◌, arith, true, false, Bool, None, ◌⊎◌, inl, inr, length}
+use Rattle.std.specs.Prelude.{if◌then◌else◌, ◌==◌, ◌&&◌, ◌≢◌, slice_get, drop}
+use Rattle.std.proofs.lemmas.Bool.Decides.{eqb_tells}
+use Rattle.std.proofs.lemmas.Bool.{eq-eqb}
+use Rattle.std.proofs.lemmas.List.{drop-append-le, length-append, length-drop}
+use Rattle.mach_types.specs.declared.rights.Disposition.{Disposition}
+use Rattle.mach_types.specs.declared.rights.Disposition.TheVariants.{MoveReceive, MoveSend, MoveSendOnce, CopySend, MakeSend, MakeSendOnce}
+use Rattle.mach_types.specs.Numbers.{disposition, kind_sent, most_rights}
+use Rattle.mach_types.specs.Tokens.{Kind, receive, same_kind, in_message}
+use Rattle.mach_types.specs.Messages.{Message, Entry}
+use Rattle.mach_types.specs.Grammar.{WireBody, Header, text}
+use Rattle.mach_types.specs.Guards.{NoneHolds}
+use Rattle.mach_types.specs.TextGuards.{header_guards, word_at, BadHeader, IsSendable}
+use Rattle.mach_model.specs.State.{State, at, queue}
+use Rattle.mach_model.specs.Sending.{Sends, entry}
+use Rattle.mach_model.specs.Carried.{message_count, lying}
+use Rattle.mach_model.specs.Lawful.{IsLawful}
+use Rattle.mach_model.proofs.Weigh.{lying_le_of}
+use Rattle.mach_model.proofs.At.{at_same, at_other, at_own, at_all, snoc_cases}
+use Rattle.mach_model.proofs.Settling.{kind_refl}
+use Rattle.mach_model.proofs.Moving.{IsMoving, moving}
+use Rattle.mach_model.proofs.CopyingIn.{alive}
+use Rattle.mach_model.proofs.CopyingWords.{Adds, Copied-adds}
+
+-- ---- no message goes by a receive right
+
+receive_number : (n : ℕ) → disposition n ≡ Some MoveReceive → n ≡ 16
+receive_number n is = elim (eqb_tells n 16) [
+  | inl h ↦ h.1
+  | inr h ↦ absurd (others (n == 17) (n == 18) (n == 19) (n == 20) (n == 21) (rw h.0 at is))
+]
+  where
+    others : (a b c d e : Bool) → (if a then Some MoveSend else if b then Some MoveSendOnce else if c then Some CopySend else if d then Some MakeSend else if e then Some MakeSendOnce else None) ≡ Some MoveReceive → ⊥
+    others true b c d e is = cc
+    others false true c d e is = cc
+    others false false true d e is = cc
+    others false false false true e is = cc
+    others false false false false true is = cc
+    others false false false false false is = cc
+
+-- the first word of a text begins with the destination's disposition
+first_word : (h : Header) (w : WireBody) → h.remote_kind < 2 ^ 8 → h.local_kind < 2 ^ 8 → word_at (text h w) 0 % 2 ^ 8 ≡ h.remote_kind
+first_word h (WireBody.raw bytes) a b = omega arith
+first_word h (WireBody.items ws) a b = omega arith
+
+not_receive : (n : ℕ) (given : Disposition) → 17 ≤ n → disposition n ≡ Some given → kind_sent given ≢ receive
+not_receive n MoveReceive above is e = let h = receive_number n is in omega (arith, h, above)
+not_receive n MoveSend above is e = cc
+not_receive n MoveSendOnce above is e = cc
+not_receive n CopySend above is e = cc
+not_receive n MakeSend above is e = cc
+not_receive n MakeSendOnce above is e = cc
+
+at_least : (n m : ℕ) → n ≡ m → ((m < 17) → ⊥) → 17 ≤ n
+at_least n m e not = omega (arith, e, not)
+
+pub by_a_send : (now task : ℕ) (bytes : List ℕ) (old mid : State) → NoneHolds (header_guards bytes) → (s : Sends now task bytes old mid) → s.m.kind ≢ receive
+by_a_send now task bytes old mid good s e =
+    let fits = s.spells.header_fits in
+    let first : word_at bytes 0 % 2 ^ 8 ≡ s.header.remote_kind =
+    ap (λ (xs : List ℕ). word_at xs 0 % 2 ^ 8) s.spells.is_text ∙ first_word s.header s.written fits.remote_kind fits.local_kind in
+    let not : ¬ (BadHeader (word_at bytes 0) (word_at bytes 12)) = good.1.1.0 in
+    let above : 17 ≤ s.header.remote_kind =
+    at_least s.header.remote_kind (word_at bytes 0 % 2 ^ 8) (sym first) (λ below. not (inr (inl (λ (sendable : IsSendable (word_at bytes 0 % 2 ^ 8)). below_least _ below sendable.0)))) in
+    not_receive s.header.remote_kind s.copied.destination.given above s.copied.destination.is_given (sym s.copied.kind ∙ e)
+  where
+    below_least : (n : ℕ) → n < 17 → 17 ≤ n → ⊥
+    below_least n a b = omega (arith, a, b)
+
+-- ---- the message is appended
+
+module _ (s : State) (now : ℕ) (m : Message) (l : IsMoving s m.destination (length (s.log m.destination))) (not_receive : m.kind ≢ receive) (few : length s.ledger ≤ most_rights)
+    (lies : (kind : Kind) (q : ℕ) → lying s kind q (in_message m.destination (length (s.log m.destination))) ≡ message_count kind q m) where
+  abbrev p : ℕ
+  p = m.destination
+
+  abbrev end : ℕ
+  end = length (s.log p)
+
+  abbrev new : State
+  new = record s { log = at s.log p (s.log p ++ entry now m ∷ []) }
+
+  live : s.live_port p ≡ true
+  live =
+      let own : (if same_kind m.kind m.kind && p == p then suc zero else zero) ≡ suc zero = rw (kind_refl m.kind, eq-eqb p p refl) refl in
+      let e = lies m.kind p in
+      let le = lying_le_of s m.kind p (in_message p end) in
+      alive s p end l m.kind p (omega (arith, own, e, le))
+
+  below_made : p < s.ports_made
+  below_made = l.made_port p live
+
+  log_other : (q : ℕ) → (q ≡ p → ⊥) → new.log q ≡ s.log q
+  log_other q not = at_other s.log p (s.log p ++ entry now m ∷ []) q not
+
+  queue_is : queue new p ≡ queue s p ++ entry now m ∷ []
+  queue_is = ap (drop (s.taken p)) (at_own s.log p (s.log p ++ entry now m ∷ [])) ∙ drop-append-le (s.taken p) (s.log p) (entry now m ∷ []) (l.within p)
+
+  -- what is true of each entry before, and of the new one
+  entries : (P : ℕ → Entry → Type 0) → P p (entry now m) → ((q k : ℕ) (e : Entry) → slice_get (s.log q) k ≡ Some e → P q e) →
+      (q k : ℕ) (e : Entry) → slice_get (new.log q) k ≡ Some e → P q e
+  entries P own all q k e = at_all (λ q log. slice_get log k ≡ Some e → P q e) s.log p (s.log p ++ entry now m ∷ [])
+      (λ is. elim (snoc_cases (s.log p) (entry now m) k e is) [
+        | inl h ↦ all p k e h.1
+        | inr h ↦ subst (P p) (sym h.1) own
+      ])
+      (λ q not is. all q k e is) q
+
+  made_marks : (kind : Kind) (r : ℕ) → s.ports_made ≤ r → message_count kind r m ≡ 0
+  made_marks kind r above = go (s.live_port r) refl
+    where
+      go : (b : Bool) → s.live_port r ≡ b → message_count kind r m ≡ 0
+      go true e = absurd (let h = l.made_port r e in omega (arith, h, above))
+      go false e = let a = lies kind r in let b = lying_le_of s kind r (in_message p end) in let c = l.no_rights r e kind in omega (arith, a, b, c)
+
+  carried : (q i : ℕ) (e : Entry) → s.live_port q ≡ true → slice_get (queue new q) i ≡ Some e → (kind : Kind) (r : ℕ) → s.live_port r ≡ true →
+      lying s kind r (in_message q (s.taken q + i)) ≡ message_count kind r e.message
+  carried q i e live_q is kind r live_r = elim (eqb_tells q p) [
+    | inr h ↦ l.carried q i e (λ x y. h.1 x) live_q (subst (λ (xs : List Entry). slice_get (drop (s.taken q) xs) i ≡ Some e) (log_other q h.1) is) kind r live_r
+    | inl h ↦
+        let is' : slice_get (queue s p ++ entry now m ∷ []) i ≡ Some e =
+        subst (λ (xs : List Entry). slice_get xs i ≡ Some e) queue_is (subst (λ (x : ℕ). slice_get (queue new x) i ≡ Some e) h.1 is) in
+        let long = length-drop (s.taken p) (s.log p) in
+        subst (λ (x : ℕ). lying s kind r (in_message x (s.taken x + i)) ≡ message_count kind r e.message) (sym h.1)
+        (elim (snoc_cases (queue s p) (entry now m) i e is') [
+          | inl g ↦ l.carried p i e (λ x y. omega (arith, y, g.0, long)) live g.1 kind r live_r
+          | inr g ↦
+              let within = l.within p in
+              let at_end : s.taken p + i ≡ end = omega (arith, g.0, long, within) in
+              rw at_end (lies kind r ∙ ap (λ (x : Entry). message_count kind r x.message) (sym g.1))
+        ])
+  ]
+
+  not_end : (q k : ℕ) → (k < s.taken q) ⊎ (s.live_port q ≡ false) → q ≡ p → k ≡ end → ⊥
+  not_end q k (inl below) x y =
+      let within = l.within q in
+      let same : length (s.log q) ≡ end = ap (λ (o : ℕ). length (s.log o)) x in omega (arith, within, below, y, same)
+  not_end q k (inr dead) x y = let a = live in let b : s.live_port p ≡ false = subst (λ (o : ℕ). s.live_port o ≡ false) x dead in cc
+
+  no_entry : (q k : ℕ) → length (new.log q) ≤ k → (kind : Kind) (r : ℕ) → lying s kind r (in_message q k) ≡ 0
+  no_entry q k above kind r = elim (eqb_tells q p) [
+    | inl h ↦
+        let long : length (new.log q) ≡ length (s.log p ++ entry now m ∷ []) = ap length (at_same s.log p (s.log p ++ entry now m ∷ []) q h.1) in
+        let more = length-append (s.log p) (entry now m ∷ []) in
+        let same : length (s.log q) ≡ end = ap (λ (o : ℕ). length (s.log o)) h.1 in
+        l.no_entry q k (λ x y. omega (arith, long, more, above, y)) (omega (arith, long, more, above, same)) kind r
+    | inr h ↦
+        let long : length (new.log q) ≡ length (s.log q) = ap length (log_other q h.1) in
+        l.no_entry q k (λ x y. h.1 x) (omega (arith, long, above)) kind r
+  ]
+
+  sent_lawful : IsLawful new
+  sent_lawful = record {
+    made_task = l.made_task;
+    no_task = l.no_task;
+    not_null = λ t. (l.naming t).not_null;
+    not_dead = λ t. (l.naming t).not_dead;
+    name_fits = λ t. (l.naming t).name_fits;
+    few_names = λ t. (l.naming t).few_names;
+    has_right = λ t. (l.naming t).has_right;
+    is_named = λ t. (l.naming t).is_named;
+    one_name = λ t. (l.naming t).one_name;
+    once_names = λ t. (l.naming t).once_names;
+    references = λ t. (l.naming t).references;
+    few_references = λ t. (l.naming t).few_references;
+    made_port = l.made_port;
+    one_receive = l.one_receive;
+    no_rights = l.no_rights;
+    few_rights = few;
+    limit_fits = l.limit_fits;
+    make_send_fits = l.make_send_fits;
+    sequence_fits = l.sequence_fits;
+    no_sets = l.no_sets;
+    members = l.members;
+    unmade_log = λ q above. let b = below_made in log_other q (λ x. omega (arith, b, above, x)) ∙ l.unmade_log q above;
+    within = λ q. at_all (λ q log. s.taken q ≤ length log) s.log p (s.log p ++ entry now m ∷ [])
+        (let w = l.within p in let more = length-append (s.log p) (entry now m ∷ []) in omega (arith, w, more)) (λ q not. l.within q) q;
+    sent_here = entries (λ q e. (e.message.destination ≡ q) × (e.message.kind ≢ receive)) (refl, not_receive) l.sent_here;
+    made_marks = entries (λ q e. (kind : Kind) (r : ℕ) → s.ports_made ≤ r → message_count kind r e.message ≡ 0) made_marks l.made_marks;
+    carried = carried;
+    gone = λ q k is kind r. l.gone q k (not_end q k is) is kind r;
+    no_entry = no_entry;
+    ended = l.ended;
+    one_kept = l.one_kept;
+    once_kept = l.once_kept;
+    none_stands = l.none_stands;
+  }
+
+-- ---- a send
+
+not_above : (a b : ℕ) → (b < a → ⊥) → a ≤ b
+not_above a b not = omega (arith, not)
+
+pub Sends-adds : (now task : ℕ) (bytes : List ℕ) (old mid : State) → IsLawful old → (s : Sends now task bytes old mid) →
+    Adds old s.copied_state s.m.destination (length (old.log s.m.destination)) (λ c q. message_count c q s.m)
+Sends-adds now task bytes old mid l s = Copied-adds task s.header s.written old s.m s.copied_state (moving old s.m.destination (length (old.log s.m.destination)) l) s.copied
+
+pub Sends-lawful : (now task : ℕ) (bytes : List ℕ) (old mid : State) → NoneHolds (header_guards bytes) → IsLawful old → Sends now task bytes old mid → IsLawful mid
+Sends-lawful now task bytes old mid good l s =
+    let o = s.m.destination in
+    let a = Sends-adds now task bytes old mid l s in
+    let log : s.copied_state.log ≡ old.log = ap (λ (x : State). x.log) a.rest in
+    let long : length (old.log o) ≡ length (s.copied_state.log o) = ap (λ (f : ℕ → List Entry). length (f o)) (sym log) in
+    let keeps = subst (IsMoving s.copied_state o) long a.keeps in
+    let lies : (kind : Kind) (q : ℕ) → lying s.copied_state kind q (in_message o (length (old.log o))) ≡ message_count kind q s.m =
+    λ kind q. let e = a.lies kind q in let z = l.no_entry o (length (old.log o)) (omega arith) kind q in omega (arith, e, z) in
+    let lies' = subst (λ (k : ℕ). (kind : Kind) (q : ℕ) → lying s.copied_state kind q (in_message o k) ≡ message_count kind q s.m) long lies in
+    subst IsLawful (sym s.rest)
+    (sent_lawful s.copied_state now s.m keeps (by_a_send now task bytes old mid good s) (not_above (length s.copied_state.ledger) most_rights s.unrefused.1.1.0) lies')
