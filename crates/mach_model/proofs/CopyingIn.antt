@@ -62,10 +62,10 @@ without_stands task name s none r = ends_more s.stands (dead_name task name) non
 -- ---- tests of a token at one place
 
 -- how the tests of a task's rights see a right that it has
-own_right : (task : ℕ) (kind : Kind) (p : ℕ) → same_kind kind kind ≡ true → (if is_held task kind p (token kind p (in_task task)) then suc zero else zero) ≡ suc zero
+pub own_right : (task : ℕ) (kind : Kind) (p : ℕ) → same_kind kind kind ≡ true → (if is_held task kind p (token kind p (in_task task)) then suc zero else zero) ≡ suc zero
 own_right task kind p e = rw (e, eq-eqb p p refl, eq-eqb task task refl) refl
 
-other_port : (t task : ℕ) (c kind : Kind) (q p : ℕ) → (q ≡ p → ⊥) → (if is_held t c q (token kind p (in_task task)) then suc zero else zero) ≡ zero
+pub other_port : (t task : ℕ) (c kind : Kind) (q p : ℕ) → (q ≡ p → ⊥) → (if is_held t c q (token kind p (in_task task)) then suc zero else zero) ≡ zero
 other_port t task c kind q p not = go (same_kind c kind)
   where
     go : (b : Bool) → (if (b && p == q) && task == t then suc zero else zero) ≡ zero
@@ -200,7 +200,7 @@ kept_stands : (b : Bool) (task name : ℕ) (s : State) → NoRequests s → NoRe
 kept_stands true task name s none = none
 kept_stands false task name s none = without_stands task name s none
 
-own_naming : (task : ℕ) (s new : State) (m : Names) → new.naming task ≡ m → IsNaming m (held new task receive) (held new task send) (held new task send_once) → TaskNaming new task
+pub own_naming : (task : ℕ) (s new : State) (m : Names) → new.naming task ≡ m → IsNaming m (held new task receive) (held new task send) (held new task send_once) → TaskNaming new task
 own_naming task s new m e n = subst (λ (x : Names). IsNaming x (held new task receive) (held new task send) (held new task send_once)) (sym e) n
 
 -- ---- a send right is moved

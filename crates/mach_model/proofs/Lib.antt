@@ -6,6 +6,7 @@ pub mod Settling
 pub mod Moving
 pub mod CopyingIn
 pub mod CopyingWords
+pub mod CopyingOut
 pub mod Runs
 pub mod Opening
 pub mod SendLawful

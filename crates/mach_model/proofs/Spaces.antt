@@ -77,6 +77,13 @@ pub record IsNaming (m : Names) (receives sends once : ℕ → ℕ) : Type 0 whe
   pub references : (name : ℕ) (target : Target) → map.get m name ≡ Some target → HasReferences target
   pub few_references : (p : ℕ) → sends p ≤ most_references
 
+-- what is asked of a name that comes
+pub record IsNew (m : Names) (name : ℕ) : Type 0 where
+  pub unused : map.get m name ≡ None
+  pub some : 0 < name
+  pub fits : name < dead_word
+  pub room : map.len m < most_names
+
 -- the rights of every port but one are the same
 pub record SameBut (p : ℕ) (r s o r' s' o' : ℕ → ℕ) : Type 0 where
   pub receives : (q : ℕ) → (q ≡ p → ⊥) → r' q ≡ r q
@@ -227,32 +234,25 @@ module _ (m : Names) (receives sends once receives' sends' once' : ℕ → ℕ) 
       no_dead : (n q : ℕ) → Target.dead n ≡ Target.port q → ⊥
       no_dead n q e = cc
 
-  -- what is asked of a name that comes
-  pub record IsNew (name : ℕ) : Type 0 where
-    pub unused : map.get m name ≡ None
-    pub some : 0 < name
-    pub fits : name < dead_word
-    pub room : map.len m < most_names
-
-  new_length : (name : ℕ) (v : Target) → IsNew name → map.len (map.insert m name v) ≤ most_names
+  new_length : (name : ℕ) (v : Target) → IsNew m name → map.len (map.insert m name v) ≤ most_names
   new_length name v new =
       let e : map.len (map.insert m name v) ≡ map.len m + 1 = len-insert nat_cmp_total m name v ∙ rw new.unused refl in
       let r = new.room in omega (arith, e, r)
 
-  new_null : (name : ℕ) (v : Target) → IsNew name → map.get (map.insert m name v) null_word ≡ None
+  new_null : (name : ℕ) (v : Target) → IsNew m name → map.get (map.insert m name v) null_word ≡ None
   new_null name v new = get_other m name v null_word (λ e. let h = new.some in omega (arith, e, h)) ∙ l.not_null
 
-  new_dead : (name : ℕ) (v : Target) → IsNew name → map.get (map.insert m name v) dead_word ≡ None
+  new_dead : (name : ℕ) (v : Target) → IsNew m name → map.get (map.insert m name v) dead_word ≡ None
   new_dead name v new = get_other m name v dead_word (λ e. let h = new.fits in omega (arith, e, h)) ∙ l.not_dead
 
-  new_each : (name : ℕ) (v : Target) → IsNew name → HasReferences v → (n : ℕ) (x : Target) → map.get (map.insert m name v) n ≡ Some x → (n < 2 ^ 32) × HasReferences x
+  new_each : (name : ℕ) (v : Target) → IsNew m name → HasReferences v → (n : ℕ) (x : Target) → map.get (map.insert m name v) n ≡ Some x → (n < 2 ^ 32) × HasReferences x
   new_each name v new has n x e = elim (inserted m name v n x e) [
     | inl h ↦ (let f = new.fits in omega (arith, h.0, f), subst HasReferences h.1 has)
     | inr h ↦ (l.name_fits n x h, l.references n x h)
   ]
 
   -- A send-once right comes under a name of its own.
-  pub once_named : (name p : ℕ) → IsNew name → Same → ((q : ℕ) → once' q ≡ once q + (if p == q then 1 else 0)) → New (map.insert m name (Target.once p))
+  pub once_named : (name p : ℕ) → IsNew m name → Same → ((q : ℕ) → once' q ≡ once q + (if p == q then 1 else 0)) → New (map.insert m name (Target.once p))
   once_named name p new same more = others_named (map.insert m name (Target.once p)) same (new_null name (Target.once p) new) (new_dead name (Target.once p) new)
       (new_each name (Target.once p) new tt) (new_length name (Target.once p) new)
       (λ n q e. elim (inserted m name (Target.once p) n (Target.port q) e) [
@@ -266,7 +266,7 @@ module _ (m : Names) (receives sends once receives' sends' once' : ℕ → ℕ) 
       no_once q e = cc
 
   -- A receive or send right comes for a port of which the task had neither, under a name of its own.
-  pub port_named : (name p : ℕ) → IsNew name → receives p + sends p ≡ 0 → 0 < receives' p + sends' p → sends' p ≤ most_references →
+  pub port_named : (name p : ℕ) → IsNew m name → receives p + sends p ≡ 0 → 0 < receives' p + sends' p → sends' p ≤ most_references →
       SameBut p receives sends once receives' sends' once' → once' p ≡ once p → New (map.insert m name (Target.port p))
   port_named name p new none some few same same_once = record {
     not_null = new_null name (Target.port p) new;
