@@ -28,7 +28,7 @@ pub record Removes (s new : State) (o k : ℕ) (less : Kind → ℕ → ℕ) : T
 -- a right that comes to the task
 module _ (task o k : ℕ) (old new : State) (kind : Kind) (p : ℕ) (l : IsMoving old o k) (is_task : old.live_task task ≡ true)
     (tokens : Moves old.ledger new.ledger (token kind p (in_message o k) ∷ []) (token kind p (in_task task) ∷ [])) where
-  come_held : (c : Kind) (q : ℕ) → held new task c q ≡ held old task c q + (if is_held task c q (token kind p (in_task task)) then suc zero else zero)
+  pub come_held : (c : Kind) (q : ℕ) → held new task c q ≡ held old task c q + (if is_held task c q (token kind p (in_task task)) then suc zero else zero)
   come_held c q = let m = tokens (λ x. if is_held task c q x then 1 else 0) in let z = not_held c q o k kind p task in omega (arith, m, z)
 
   come_other : (c : Kind) (q : ℕ) → (q ≡ p → ⊥) → held new task c q ≡ held old task c q

@@ -7,6 +7,7 @@ pub mod Moving
 pub mod CopyingIn
 pub mod CopyingWords
 pub mod CopyingOut
+pub mod CopyingMarks
 pub mod Runs
 pub mod Opening
 pub mod SendLawful
