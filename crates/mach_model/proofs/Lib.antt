@@ -11,5 +11,6 @@ pub mod CopyingMarks
 pub mod Runs
 pub mod Opening
 pub mod SendLawful
+pub mod ReceiveLawful
 pub mod CreateLawful
 pub mod AllocateLawful
