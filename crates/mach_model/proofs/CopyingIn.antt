@@ -42,7 +42,7 @@ has_task s o k l task name x is = go (s.live_task task) refl
     go true e = e
     go false e = absurd (let z = l.no_task task name e in cc)
 
-once_held : (s : State) (o k : ℕ) → IsMoving s o k → (task name p : ℕ) → lookup s task name ≡ Some (Target.once p) → 0 < held s task send_once p
+pub once_held : (s : State) (o k : ℕ) → IsMoving s o k → (task name p : ℕ) → lookup s task name ≡ Some (Target.once p) → 0 < held s task send_once p
 once_held s o k l task name p is =
     let some = some_tally (is_once p) (s.naming task) name (Target.once p) is (eq-eqb p p refl) in
     let e = (l.naming task).once_names p in omega (arith, some, e)

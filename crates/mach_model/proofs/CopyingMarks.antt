@@ -47,7 +47,7 @@ named_new task name x old new n = record {
 onward : (old s new : State) (ledger : List Token) → new ≡ record s { ledger = ledger } → s ≡ old → new ≡ record old { ledger = ledger }
 onward old s new ledger e f = e ∙ ap (λ (x : State). record x { ledger = ledger }) f
 
-GiveRight-removes : (task o k : ℕ) (kind : Kind) (p : ℕ) (old : State) (name : ℕ) (new named : State) → IsMoving old o k → old.live_task task ≡ true → NamedFor kind task name p old named →
+pub GiveRight-removes : (task o k : ℕ) (kind : Kind) (p : ℕ) (old : State) (name : ℕ) (new named : State) → IsMoving old o k → old.live_task task ≡ true → NamedFor kind task name p old named →
     new ≡ record named { ledger = new.ledger } → Moves old.ledger new.ledger (token kind p (in_message o k) ∷ []) (given_to kind p task old) → Removes old new o k (λ c q. mark_count c q kind (to_port p))
 GiveRight-removes task o k receive p old name new named l is_task n rest tokens = go n
   where

@@ -12,5 +12,6 @@ pub mod Runs
 pub mod Opening
 pub mod SendLawful
 pub mod ReceiveLawful
+pub mod HandLawful
 pub mod CreateLawful
 pub mod AllocateLawful
