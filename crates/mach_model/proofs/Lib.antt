@@ -15,3 +15,5 @@ pub mod ReceiveLawful
 pub mod HandLawful
 pub mod CreateLawful
 pub mod AllocateLawful
+pub mod StepLawful
+pub mod Plain

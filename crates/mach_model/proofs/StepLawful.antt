@@ -1,0 +1,163 @@
+-- Every step keeps a lawful state lawful, so each state that a run reaches is lawful.
+use Rattle.std.proofs.Common.{◌≡◌, ℕ, ◌+◌, ◌<◌, ◌≤◌, List, [], ◌∷◌, refl, sym, subst, ◌∙◌, arith, true, false, Bool, inl, inr}
+use Rattle.std.specs.Prelude.{if◌then◌else◌, ◌≢◌, ◌&&◌}
+use Rattle.std.proofs.lemmas.Bool.Decides.{eqb_tells}
+use Rattle.mach_types.specs.declared.calls.Event.{Event}
+use Rattle.mach_types.specs.declared.calls.Reply.{Reply}
+use Rattle.mach_types.specs.declared.calls.Waited.{Waited}
+use Rattle.mach_types.specs.Guards.{NoneHolds}
+use Rattle.mach_types.specs.Tokens.{Kind, receive, send, send_once, in_message, in_request, Token, count, is_of, is_held, Moves}
+use Rattle.mach_model.specs.State.{State, opening, held}
+use Rattle.mach_model.specs.Dying.{same_place}
+use Rattle.mach_model.specs.Refusals.{guards}
+use Rattle.mach_model.specs.Receiving.{Owed, TakesFrom}
+use Rattle.mach_model.specs.Settles.{Settles}
+use Rattle.mach_model.specs.Machine.{Does, Done, Step, RunFrom, Run}
+use Rattle.mach_model.specs.Lawful.{IsLawful}
+use Rattle.mach_model.proofs.Weigh.{length-weigh, held_le_of}
+use Rattle.mach_model.proofs.Settling.{IsReordered, quiet_settles, settles_quietly, alive}
+use Rattle.mach_model.proofs.Opening.{opening-lawful}
+use Rattle.mach_model.proofs.CreateLawful.{CreatesTask-lawful}
+use Rattle.mach_model.proofs.AllocateLawful.{AllocatesPort-lawful}
+use Rattle.mach_model.proofs.SendLawful.{Sends-lawful}
+use Rattle.mach_model.proofs.ReceiveLawful.{Receives-lawful}
+use Rattle.mach_model.proofs.HandLawful.{Inserts-lawful, Extracts-lawful}
+
+-- ---- the order of the tokens is of no account
+
+module _ (s : State) (ledger : List Token) (l : IsLawful s) (moves : Moves s.ledger ledger [] []) where
+  abbrev reordered : State
+  reordered = record s { ledger = ledger }
+
+  same : (test : Token → Bool) → count test ledger ≡ count test s.ledger
+  same test = let m = moves (λ x. if test x then 1 else 0) in omega (arith, m)
+
+  held_same : (t : ℕ) (kind : Kind) (q : ℕ) → held reordered t kind q ≡ held s t kind q
+  held_same t kind q = same (is_held t kind q)
+
+  reordered_lawful : IsLawful reordered
+  reordered_lawful = record {
+    made_task = l.made_task;
+    no_task = l.no_task;
+    not_null = l.not_null;
+    not_dead = l.not_dead;
+    name_fits = l.name_fits;
+    few_names = l.few_names;
+    has_right = λ t n q is. let h = l.has_right t n q is in omega (arith, h, held_same t receive q, held_same t send q);
+    is_named = λ t q some. l.is_named t q (omega (arith, some, held_same t receive q, held_same t send q));
+    one_name = l.one_name;
+    once_names = λ t q. held_same t send_once q ∙ l.once_names t q;
+    references = l.references;
+    few_references = λ t q. let h = l.few_references t q in omega (arith, h, held_same t send q);
+    made_port = l.made_port;
+    one_receive = λ q is. same (is_of receive q) ∙ l.one_receive q is;
+    no_rights = λ q dead kind. same (is_of kind q) ∙ l.no_rights q dead kind;
+    few_rights = let m = moves (λ x. 1) in let h = l.few_rights in omega (arith, m, h, length-weigh s.ledger, length-weigh ledger);
+    limit_fits = l.limit_fits;
+    make_send_fits = l.make_send_fits;
+    sequence_fits = l.sequence_fits;
+    no_sets = l.no_sets;
+    members = λ q set t in_it owner. let h = l.members q set t in_it owner in omega (arith, h, held_same t receive q);
+    unmade_log = l.unmade_log;
+    within = l.within;
+    sent_here = l.sent_here;
+    made_marks = l.made_marks;
+    carried = λ p i e live is kind q live_q. same (λ x. is_of kind q x && same_place (in_message p (s.taken p + i)) x.place) ∙ l.carried p i e live is kind q live_q;
+    gone = λ p k is kind q. same (λ x. is_of kind q x && same_place (in_message p k) x.place) ∙ l.gone p k is kind q;
+    no_entry = λ p k above kind q. same (λ x. is_of kind q x && same_place (in_message p k) x.place) ∙ l.no_entry p k above kind q;
+    ended = λ r not kind q. same (λ x. is_of kind q x && same_place (in_request r) x.place) ∙ l.ended r not kind q;
+    one_kept = λ r. let m = same (λ x. same_place (in_request r) x.place) in let h = l.one_kept r in omega (arith, m, h);
+    once_kept = λ r kind q not. same (λ x. is_of kind q x && same_place (in_request r) x.place) ∙ l.once_kept r kind q not;
+    none_stands = l.none_stands;
+  }
+
+pub IsReordered-lawful : (mid new : State) → IsLawful mid → IsReordered mid new → IsLawful new
+IsReordered-lawful mid new l r = subst IsLawful (sym r.rest) (reordered_lawful mid new.ledger l r.tokens)
+
+-- ---- a step's own part
+
+pub not_false : (b : Bool) → ¬ (b ≡ false) → b ≡ true
+not_false true f = refl
+not_false false f = absurd (f refl)
+
+is_one : (n : ℕ) → ¬ (n ≢ 1) → n ≡ 1
+is_one n not = elim (eqb_tells n 1) [ inl h ↦ h.1 | inr h ↦ absurd (not h.1) ]
+
+-- a port that a receipt takes from lives, and its receive right is with the task
+pub TakesFrom-holds : (s : State) → IsLawful s → (task : ℕ) (waited : Waited) (p : ℕ) → TakesFrom s task waited p → 0 < held s task receive p
+TakesFrom-holds s l task (Waited.Port q) p t = t.1
+TakesFrom-holds s l task (Waited.Set set) p t = l.members p set task t.1 t.0
+
+pub TakesFrom-live : (s : State) → IsLawful s → (task : ℕ) (waited : Waited) (p : ℕ) → TakesFrom s task waited p → s.live_port p ≡ true
+TakesFrom-live s l task waited p t =
+    let some = TakesFrom-holds s l task waited p t in
+    let le = held_le_of task receive p s.ledger in alive s l receive p (omega (arith, some, le))
+
+pub Does-lawful : (now : ℕ) (old : State) (event : Event) (reply : Reply) (mid : State) (owed : Owed) →
+    NoneHolds (guards old event) → Does now old event reply mid owed → IsLawful old → IsLawful mid
+Does-lawful now old Event.TaskCreate (Reply.Task task) mid owed g d l = CreatesTask-lawful old l task mid d.0
+Does-lawful now old (Event.Allocate task right) (Reply.Name name) mid owed g d l =
+    AllocatesPort-lawful task name old mid l (not_false (old.live_task task) g.0) d.0
+    (let not = g.1.1.1.0 in above _ _ (λ h. not (inl h)))
+    (let not = g.1.1.1.0 in above _ _ (λ h. not (inr (inl (is_one right g.1.1.0, inl h))))) d.1
+  where
+    above : (a b : ℕ) → (a ≤ b → ⊥) → b < a
+    above a b not = omega (arith, not)
+Does-lawful now old (Event.GetRefs task name right) (Reply.Refs n) mid owed g d l = subst IsLawful (sym d.1) l
+Does-lawful now old (Event.NameType task name) (Reply.NameType n) mid owed g d l = subst IsLawful (sym d.1) l
+Does-lawful now old (Event.ReceiveStatus task name) (Reply.Status status) mid owed g d l = subst IsLawful (sym d.1) l
+Does-lawful now old (Event.InsertRight task name from poly number) (Reply.Code code) mid owed g d l =
+    Inserts-lawful task name from poly number old mid l (not_false (old.live_task task) (λ e. g.0 (inl e))) (λ e. g.1.0 (inl e)) d.1
+Does-lawful now old (Event.ExtractRight task name number to) (Reply.Right new_name kind) mid owed g d l =
+    Extracts-lawful task name number to new_name kind old mid l (not_false (old.live_task to) (λ e. g.0 (inr e))) d.0
+Does-lawful now old (Event.Send task bytes) (Reply.Code code) mid owed g d l = Sends-lawful now task bytes old mid g.1 l d.1
+Does-lawful now old (Event.Receive task name room large) (Reply.Message bytes) mid owed g d l =
+    Receives-lawful task d.2.0 room bytes old mid l (TakesFrom-live old l task d.0 d.2.0 d.2.1) (not_false (old.live_task task) g.0) d.2.2
+Does-lawful now old (Event.Receive task name room large) (Reply.Empty told) mid owed g d l = subst IsLawful (sym d.2.2) l
+Does-lawful now old (Event.Receive task name room large) (Reply.TooLarge n) mid owed g d l = subst IsLawful (sym d.2.6) l
+Does-lawful now old (Event.Receive task name room large) reply mid owed g d l = absurd d.2
+Does-lawful now old event reply mid owed g d l = absurd d
+
+pub Does-owed : (now : ℕ) (old : State) (event : Event) (reply : Reply) (mid : State) (owed : Owed) → Does now old event reply mid owed → owed ≡ []
+Does-owed now old Event.TaskCreate (Reply.Task task) mid owed d = d.1
+Does-owed now old (Event.Allocate task right) (Reply.Name name) mid owed d = d.2
+Does-owed now old (Event.GetRefs task name right) (Reply.Refs n) mid owed d = d.2
+Does-owed now old (Event.NameType task name) (Reply.NameType n) mid owed d = d.2
+Does-owed now old (Event.ReceiveStatus task name) (Reply.Status status) mid owed d = d.2
+Does-owed now old (Event.InsertRight task name from poly number) (Reply.Code code) mid owed d = d.2
+Does-owed now old (Event.ExtractRight task name number to) (Reply.Right new_name kind) mid owed d = d.1
+Does-owed now old (Event.Send task bytes) (Reply.Code code) mid owed d = d.2
+Does-owed now old (Event.Receive task name room large) (Reply.Message bytes) mid owed d = d.2.3
+Does-owed now old (Event.Receive task name room large) (Reply.Empty told) mid owed d = d.2.3
+Does-owed now old (Event.Receive task name room large) (Reply.TooLarge n) mid owed d = d.2.7
+Does-owed now old (Event.Receive task name room large) reply mid owed d = absurd d.2
+Does-owed now old event reply mid owed d = absurd d
+
+-- ---- steps and runs
+
+-- a step that is not refused ends with the state after its own part, but for the order of the tokens
+pub Done-mid : (now : ℕ) (old : State) (event : Event) (reply : Reply) (new : State) → IsLawful old → (d : Done now old event reply new) → IsLawful d.mid × IsReordered d.mid new
+Done-mid now old event reply new l d =
+    let mid = Does-lawful now old event reply d.mid d.owed d.unrefused d.does l in
+    let none = Does-owed now old event reply d.mid d.owed d.does in
+    (mid, settles_quietly now old d.mid new mid (subst (λ (owed : Owed). Settles now old d.mid owed new) none d.settles))
+
+pub Step-lawful : (now : ℕ) (old : State) (event : Event) (reply : Reply) (new : State) → Step now old event reply new → IsLawful old → IsLawful new
+Step-lawful now old event reply new (inl r) l = subst IsLawful (sym r.same) l
+Step-lawful now old event reply new (inr d) l = let m = Done-mid now old event reply new l d in IsReordered-lawful d.mid new m.0 m.1
+
+-- What an event may do in a lawful state makes a step, with no more to settle.
+pub quiet_step : (now : ℕ) (old : State) (event : Event) (reply : Reply) (mid : State) → IsLawful old → NoneHolds (guards old event) → Does now old event reply mid [] →
+    Step now old event reply mid × IsLawful mid
+quiet_step now old event reply mid l good does =
+    let lawful = Does-lawful now old event reply mid [] good does l in
+    (inr (record { unrefused = good; mid = mid; owed = []; does = does; settles = quiet_settles now old mid lawful }), lawful)
+
+pub RunFrom-lawful : (now : ℕ) (old : State) (events : List Event) (replies : List Reply) (new : State) → RunFrom now old events replies new → IsLawful old → IsLawful new
+RunFrom-lawful now old [] [] new r l = subst IsLawful (sym r) l
+RunFrom-lawful now old (e ∷ es) (x ∷ xs) new r l = RunFrom-lawful (now + 1) r.0 es xs new r.2 (Step-lawful now old e x r.0 r.1 l)
+RunFrom-lawful now old [] (x ∷ xs) new r l = absurd r
+RunFrom-lawful now old (e ∷ es) [] new r l = absurd r
+
+pub Run-lawful : (events : List Event) (replies : List Reply) (s : State) → Run events replies s → IsLawful s
+Run-lawful events replies s r = RunFrom-lawful 0 opening events replies s r opening-lawful
