@@ -22,7 +22,7 @@ use Rattle.mach_model.specs.Lawful.{IsLawful}
 use Rattle.mach_model.proofs.Weigh.{length-weigh, both_test, left_of, right_of, lying_le_of}
 use Rattle.mach_model.proofs.Settling.{kind_refl}
 use Rattle.mach_model.proofs.Spaces.{IsNew}
-use Rattle.mach_model.proofs.Moving.{IsMoving, moving, arrived}
+use Rattle.mach_model.proofs.Moving.{IsMoving, moving, arrived, shape, shape-trans}
 use Rattle.mach_model.proofs.CopyingIn.{Copies, CopyRight-copies, once_held, own_right}
 use Rattle.mach_model.proofs.CopyingOut.{Removes, come_same, come_port, come_once}
 use Rattle.mach_model.proofs.CopyingMarks.{GiveRight-removes}
@@ -133,23 +133,23 @@ pub record Halfway (s copied : State) (o k to : ℕ) (kind : Kind) (p : ℕ) : T
   pub moves : Moves ledger copied.ledger (token kind p (in_message o k) ∷ []) (token kind p (in_task to) ∷ [])
 
 module _ (from to number name p o k : ℕ) (s copied : State) (l : IsMoving s o k) (r : CopyRight from (in_task to) number name s (to_port p) copied) where
-  abbrev kind : Kind
-  kind = kind_sent r.given
+  abbrev sent_kind : Kind
+  sent_kind = kind_sent r.given
 
-  some : 0 < count (is_held to kind p) copied.ledger
+  some : 0 < count (is_held to sent_kind p) copied.ledger
   some =
-      let a = r.tokens (λ x. if is_held to kind p x then 1 else 0) in
-      let b = taken_less s o k l from to name kind p r.given r.target r.found r.legal in
-      let c = ap (weigh (λ x. if is_held to kind p x then 1 else 0)) (put_is r.given r.target p r.mark_is (in_task to)) in
-      let d = own_right to kind p (kind_refl kind) in omega (arith, a, b, c, d)
+      let a = r.tokens (λ x. if is_held to sent_kind p x then 1 else 0) in
+      let b = taken_less s o k l from to name sent_kind p r.given r.target r.found r.legal in
+      let c = ap (weigh (λ x. if is_held to sent_kind p x then 1 else 0)) (put_is r.given r.target p r.mark_is (in_task to)) in
+      let d = own_right to sent_kind p (kind_refl sent_kind) in omega (arith, a, b, c, d)
 
-  taken : (ys : List Token) × Moves copied.ledger ys (token kind p (in_task to) ∷ []) []
-  taken = one_taken to kind p copied.ledger some
+  taken : (ys : List Token) × Moves copied.ledger ys (token sent_kind p (in_task to) ∷ []) []
+  taken = one_taken to sent_kind p copied.ledger some
 
   abbrev ledger : List Token
-  ledger = token kind p (in_message o k) ∷ taken.0
+  ledger = token sent_kind p (in_message o k) ∷ taken.0
 
-  pub halfway : Halfway s copied o k to kind p
+  pub halfway : Halfway s copied o k to sent_kind p
   halfway = record {
     ledger = ledger;
     copies = CopyRight-copies from o k number name s (to_port p) (record copied { ledger = ledger }) l (record {
@@ -259,13 +259,32 @@ same_ledger : (task name : ℕ) (x : Target) (copied mid : State) → (lookup co
 same_ledger task name x copied mid (inl h) = ap (λ (s : State). s.ledger) h.1
 same_ledger task name x copied mid (inr h) = ap (λ (s : State). s.ledger) h.1
 
-pub Inserts-lawful : (task name from poly number : ℕ) (old mid : State) → IsLawful old → old.live_task task ≡ true → ¬ (IsNoName name) → Inserts task name from poly number old mid → IsLawful mid
-Inserts-lawful task name from poly number old mid l is_task fits i =
+-- What handing a right on does, by way of an entry that no log has.
+pub record Hands (old mid : State) (o k : ℕ) (kind : Kind) (p : ℕ) : Type 0 where
+  pub on_its_way : State
+  pub copies : Copies old on_its_way o k kind (to_port p)
+  pub removes : Removes on_its_way mid o k (λ c q. mark_count c q kind (to_port p))
+
+-- names, sets, counts and rights change, and nothing else
+pub hands_shape : (old mid : State) (o k : ℕ) (kind : Kind) (p : ℕ) → Hands old mid o k kind p → mid ≡ shape old mid
+hands_shape old mid o k kind p h = shape-trans old h.on_its_way mid h.copies.rest h.removes.rest
+
+pub Inserts-hands : (task name from poly number : ℕ) (old mid : State) → IsLawful old → old.live_task task ≡ true → ¬ (IsNoName name) → (i : Inserts task name from poly number old mid) →
+    Hands old mid 0 (length (old.log 0)) (kind_sent i.copy.given) i.p
+Inserts-hands task name from poly number old mid l is_task fits i =
     let k = length (old.log 0) in
     let h = halfway from task number poly i.p 0 k old i.copied (moving old 0 k l) i.copy in
     let live : i.copied.live_task task ≡ true = ap (λ (x : State). x.live_task task) h.copies.rest ∙ is_task in
-    let r = inserted task name i.p 0 k i.copied h.ledger (kind_sent i.copy.given) h.copies.keeps live h.moves i.unrefused fits mid i.named in
-    arrives 0 k old (record i.copied { ledger = h.ledger }) mid (kind_sent i.copy.given) i.p l (omega arith) h.copies r
+    record {
+      on_its_way = record i.copied { ledger = h.ledger };
+      copies = h.copies;
+      removes = inserted task name i.p 0 k i.copied h.ledger (kind_sent i.copy.given) h.copies.keeps live h.moves i.unrefused fits mid i.named;
+    }
+
+pub Inserts-lawful : (task name from poly number : ℕ) (old mid : State) → IsLawful old → old.live_task task ≡ true → ¬ (IsNoName name) → Inserts task name from poly number old mid → IsLawful mid
+Inserts-lawful task name from poly number old mid l is_task fits i =
+    let h = Inserts-hands task name from poly number old mid l is_task fits i in
+    arrives 0 (length (old.log 0)) old h.on_its_way mid (kind_sent i.copy.given) i.p l (omega arith) h.copies h.removes
     (let e = ap length (same_ledger task name (target_for (kind_sent i.copy.given) i.p) i.copied mid i.named) in
     let f = above_not (length i.copied.ledger) most_rights (λ many. i.unrefused.1.1.1.0 (inr many)) in omega (arith, e, f))
 
@@ -342,12 +361,21 @@ module _ (task name p o k : ℕ) (copied named mid : State) (ledger : List Token
   extracted : NamedFor kind task name p copied named → Removes w mid o k (λ c q. mark_count c q kind (to_port p))
   extracted n = GiveRight-removes task o k kind p w name mid (record named { ledger = ledger }) l is_task (named_for kind n) rest (given kind refl)
 
-pub Extracts-lawful : (task name number to new_name shown : ℕ) (old mid : State) → IsLawful old → old.live_task to ≡ true → Extracts task name number to new_name shown old mid → IsLawful mid
-Extracts-lawful task name number to new_name shown old mid l is_task x =
+pub Extracts-hands : (task name number to new_name shown : ℕ) (old mid : State) → IsLawful old → old.live_task to ≡ true → (x : Extracts task name number to new_name shown old mid) →
+    Hands old mid 0 (length (old.log 0)) (kind_sent x.copy.given) x.p
+Extracts-hands task name number to new_name shown old mid l is_task x =
     let k = length (old.log 0) in
     let h = halfway task to number name x.p 0 k old x.copied (moving old 0 k l) x.copy in
     let live : x.copied.live_task to ≡ true = ap (λ (s : State). s.live_task to) h.copies.rest ∙ is_task in
-    let r = extracted to new_name x.p 0 k x.copied x.named_state mid h.ledger (kind_sent x.copy.given) h.copies.keeps live h.moves x.rest x.tokens x.named in
-    arrives 0 k old (record x.copied { ledger = h.ledger }) mid (kind_sent x.copy.given) x.p l (omega arith) h.copies r
+    record {
+      on_its_way = record x.copied { ledger = h.ledger };
+      copies = h.copies;
+      removes = extracted to new_name x.p 0 k x.copied x.named_state mid h.ledger (kind_sent x.copy.given) h.copies.keeps live h.moves x.rest x.tokens x.named;
+    }
+
+pub Extracts-lawful : (task name number to new_name shown : ℕ) (old mid : State) → IsLawful old → old.live_task to ≡ true → Extracts task name number to new_name shown old mid → IsLawful mid
+Extracts-lawful task name number to new_name shown old mid l is_task x =
+    let h = Extracts-hands task name number to new_name shown old mid l is_task x in
+    arrives 0 (length (old.log 0)) old h.on_its_way mid (kind_sent x.copy.given) x.p l (omega arith) h.copies h.removes
     (let e = x.tokens (λ y. 1) in
     let f = above_not (length x.copied.ledger) most_rights (λ many. x.unrefused.0 (inr many)) in omega (arith, e, f, length-weigh x.copied.ledger, length-weigh mid.ledger))
