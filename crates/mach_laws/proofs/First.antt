@@ -66,7 +66,7 @@ sent_header : Header
 sent_header = record { remote_kind = 20; local_kind = 0; size = 24; remote = 1; local = 0; sequence = 0; id = 7 }
 
 third_guards : NoneHolds (guards s2 (Event.Send 0 sent_text))
-third_guards = ((λ h. cc), ((λ h. elim h [ inl g ↦ omega (arith, g) | inr g ↦ g refl ]), ((λ h. omega (arith, h)), (good_header, ((λ h. omega (arith, h)), tt)))))
+third_guards = ((λ h. cc), ((λ h. elim h [ inl g ↦ omega (arith, g) | inr g ↦ g refl ]), ((λ h. omega (arith, h)), (good_header, tt))))
 
 third : Step 2 s2 (Event.Send 0 sent_text) (Reply.Code 0) s3 × IsLawful s3
 unfolding sent_header
