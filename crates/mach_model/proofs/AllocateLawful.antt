@@ -267,6 +267,7 @@ module _ (s : State) (task name : ℕ) (ledger : List Token) (l : IsLawful s) (i
     one_kept = λ r. let t = tokens_for (λ x. same_place (in_request r) x.place) in let h = l.one_kept r in omega (arith, t, h);
     once_kept = λ r kind q not. lying_kept kind q r ∙ l.once_kept r kind q not;
     none_stands = l.none_stands;
+    none_carried = λ p k q. lying_same receive q p k ∙ l.none_carried p k q;
   }
 
 pub AllocatesPort-lawful : (task name : ℕ) (old mid : State) → IsLawful old → old.live_task task ≡ true → IsFresh (old.naming task) name → map.len (old.naming task) < most_names →

@@ -3,6 +3,7 @@ pub mod At
 pub mod Names
 pub mod Spaces
 pub mod Settling
+pub mod Receivers
 pub mod Moving
 pub mod CopyingIn
 pub mod CopyingWords
@@ -10,6 +11,7 @@ pub mod CopyingOut
 pub mod CopyingMarks
 pub mod Runs
 pub mod Opening
+pub mod Carrying
 pub mod SendLawful
 pub mod ReceiveLawful
 pub mod HandLawful

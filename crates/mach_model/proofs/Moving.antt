@@ -49,6 +49,7 @@ pub record IsMoving (s : State) (o k : ℕ) : Type 0 where
   pub one_kept : (r : Request) → count (λ x. same_place (in_request r) x.place) s.ledger ≤ 1
   pub once_kept : (r : Request) (kind : Kind) (q : ℕ) → kind ≢ send_once → lying s kind q (in_request r) ≡ 0
   pub none_stands : NoRequests s
+  pub none_carried : (p j q : ℕ) → (p ≡ o → j ≡ k → ⊥) → lying s receive q (in_message p j) ≡ 0
 
 -- ---- to and from lawful states
 
@@ -91,6 +92,7 @@ moving s o k l = record {
   one_kept = l.one_kept;
   once_kept = l.once_kept;
   none_stands = l.none_stands;
+  none_carried = λ p j q not. l.none_carried p j q;
 }
 
 -- The place is no queued entry's.
@@ -132,6 +134,7 @@ arrived s o k l outside none few = record {
   one_kept = l.one_kept;
   once_kept = l.once_kept;
   none_stands = l.none_stands;
+  none_carried = λ p j q. elsewhere_too p j receive q (λ not. l.none_carried p j q not);
 }
   where
     queued : (p i : ℕ) (e : Entry) → slice_get (queue s p) i ≡ Some e → p ≡ o → s.taken p + i ≡ k → ⊥
@@ -251,6 +254,7 @@ module _ (s new : State) (task o k : ℕ) (l : IsMoving s o k) (gone come : List
     one_kept = λ r. let a = kept_far r in let b = l.one_kept r in omega (arith, a, b);
     once_kept = λ r kind q not. lying_kept kind q r ∙ l.once_kept r kind q not;
     none_stands = v.stands;
+    none_carried = λ p j q not. lying_far receive q p j not ∙ l.none_carried p j q not;
   }
     where
       is_other : (t : ℕ) → s.live_task t ≡ false → t ≡ task → ⊥

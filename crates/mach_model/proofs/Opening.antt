@@ -50,4 +50,5 @@ opening-lawful = record {
   one_kept = λ r. omega arith;
   once_kept = λ r kind q not. refl;
   none_stands = λ r. refl;
+  none_carried = λ p k q. refl;
 }

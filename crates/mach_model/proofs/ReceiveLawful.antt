@@ -131,6 +131,7 @@ module _ (s : State) (p : ℕ) (e : Entry) (ledger : List Token) (l : IsLawful s
     one_kept = λ r. let m = tokens_for (λ x. same_place (in_request r) x.place) in let h = l.one_kept r in omega (arith, m, h);
     once_kept = λ r kind q not. let a = lying_less kind q (in_request r) in let b = l.once_kept r kind q not in omega (arith, a, b);
     none_stands = l.none_stands;
+    none_carried = λ q j r not. let a = lying_less receive r (in_message q j) in let b = l.none_carried q j r in omega (arith, a, b);
   }
 
 -- ---- a receipt

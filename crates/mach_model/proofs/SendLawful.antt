@@ -1,17 +1,14 @@
 -- A message that is sent leaves a lawful state, whatever rights it carries.
-use Rattle.std.proofs.Common.{◌≡◌, ℕ, zero, suc, ◌+◌, ◌%◌, ◌^◌, ◌<◌, ◌≤◌, List, [], ◌∷◌, ◌++◌, Some, refl, sym, ap, subst, ◌∙◌, arith, true, false, Bool, None, ◌⊎◌, inl, inr, length}
+use Rattle.std.proofs.Common.{◌≡◌, ℕ, zero, suc, ◌+◌, ◌<◌, ◌≤◌, List, [], ◌∷◌, ◌++◌, Some, refl, sym, ap, subst, ◌∙◌, arith, true, false, Bool, ◌⊎◌, inl, inr, length}
 use Rattle.std.specs.Prelude.{if◌then◌else◌, ◌==◌, ◌&&◌, ◌≢◌, slice_get, drop}
 use Rattle.std.proofs.lemmas.Bool.Decides.{eqb_tells}
 use Rattle.std.proofs.lemmas.Bool.{eq-eqb}
 use Rattle.std.proofs.lemmas.List.{drop-append-le, length-append, length-drop}
-use Rattle.mach_types.specs.declared.rights.Disposition.{Disposition}
-use Rattle.mach_types.specs.declared.rights.Disposition.TheVariants.{MoveReceive, MoveSend, MoveSendOnce, CopySend, MakeSend, MakeSendOnce}
-use Rattle.mach_types.specs.Numbers.{disposition, kind_sent, most_rights}
+use Rattle.mach_types.specs.Numbers.{most_rights}
 use Rattle.mach_types.specs.Tokens.{Kind, receive, same_kind, in_message}
 use Rattle.mach_types.specs.Messages.{Message, Entry}
-use Rattle.mach_types.specs.Grammar.{WireBody, Header, text}
 use Rattle.mach_types.specs.Guards.{NoneHolds}
-use Rattle.mach_types.specs.TextGuards.{header_guards, word_at, BadHeader, IsSendable}
+use Rattle.mach_types.specs.TextGuards.{header_guards}
 use Rattle.mach_model.specs.State.{State, at, queue}
 use Rattle.mach_model.specs.Sending.{Sends, entry}
 use Rattle.mach_model.specs.Carried.{message_count, lying}
@@ -22,56 +19,13 @@ use Rattle.mach_model.proofs.Settling.{kind_refl}
 use Rattle.mach_model.proofs.Moving.{IsMoving, moving}
 use Rattle.mach_model.proofs.CopyingIn.{alive}
 use Rattle.mach_model.proofs.CopyingWords.{Adds, Copied-adds}
-
--- ---- no message goes by a receive right
-
-receive_number : (n : ℕ) → disposition n ≡ Some MoveReceive → n ≡ 16
-receive_number n is = elim (eqb_tells n 16) [
-  | inl h ↦ h.1
-  | inr h ↦ absurd (others (n == 17) (n == 18) (n == 19) (n == 20) (n == 21) (rw h.0 at is))
-]
-  where
-    others : (a b c d e : Bool) → (if a then Some MoveSend else if b then Some MoveSendOnce else if c then Some CopySend else if d then Some MakeSend else if e then Some MakeSendOnce else None) ≡ Some MoveReceive → ⊥
-    others true b c d e is = cc
-    others false true c d e is = cc
-    others false false true d e is = cc
-    others false false false true e is = cc
-    others false false false false true is = cc
-    others false false false false false is = cc
-
--- the first word of a text begins with the destination's disposition
-first_word : (h : Header) (w : WireBody) → h.remote_kind < 2 ^ 8 → h.local_kind < 2 ^ 8 → word_at (text h w) 0 % 2 ^ 8 ≡ h.remote_kind
-first_word h (WireBody.raw bytes) a b = omega arith
-first_word h (WireBody.items ws) a b = omega arith
-
-not_receive : (n : ℕ) (given : Disposition) → 17 ≤ n → disposition n ≡ Some given → kind_sent given ≢ receive
-not_receive n MoveReceive above is e = let h = receive_number n is in omega (arith, h, above)
-not_receive n MoveSend above is e = cc
-not_receive n MoveSendOnce above is e = cc
-not_receive n CopySend above is e = cc
-not_receive n MakeSend above is e = cc
-not_receive n MakeSendOnce above is e = cc
-
-at_least : (n m : ℕ) → n ≡ m → ((m < 17) → ⊥) → 17 ≤ n
-at_least n m e not = omega (arith, e, not)
-
-pub by_a_send : (now task : ℕ) (bytes : List ℕ) (old mid : State) → NoneHolds (header_guards bytes) → (s : Sends now task bytes old mid) → s.m.kind ≢ receive
-by_a_send now task bytes old mid good s e =
-    let fits = s.spells.header_fits in
-    let first : word_at bytes 0 % 2 ^ 8 ≡ s.header.remote_kind =
-    ap (λ (xs : List ℕ). word_at xs 0 % 2 ^ 8) s.spells.is_text ∙ first_word s.header s.written fits.remote_kind fits.local_kind in
-    let not : ¬ (BadHeader (word_at bytes 0) (word_at bytes 12)) = good.1.1.0 in
-    let above : 17 ≤ s.header.remote_kind =
-    at_least s.header.remote_kind (word_at bytes 0 % 2 ^ 8) (sym first) (λ below. not (inr (inl (λ (sendable : IsSendable (word_at bytes 0 % 2 ^ 8)). below_least _ below sendable.0)))) in
-    not_receive s.header.remote_kind s.copied.destination.given above s.copied.destination.is_given (sym s.copied.kind ∙ e)
-  where
-    below_least : (n : ℕ) → n < 17 → 17 ≤ n → ⊥
-    below_least n a b = omega (arith, a, b)
+use Rattle.mach_model.proofs.Carrying.{by_a_send, carries_none}
 
 -- ---- the message is appended
 
 module _ (s : State) (now : ℕ) (m : Message) (l : IsMoving s m.destination (length (s.log m.destination))) (not_receive : m.kind ≢ receive) (few : length s.ledger ≤ most_rights)
-    (lies : (kind : Kind) (q : ℕ) → lying s kind q (in_message m.destination (length (s.log m.destination))) ≡ message_count kind q m) where
+    (lies : (kind : Kind) (q : ℕ) → lying s kind q (in_message m.destination (length (s.log m.destination))) ≡ message_count kind q m)
+    (none : (q : ℕ) → message_count receive q m ≡ 0) where
   abbrev p : ℕ
   p = m.destination
 
@@ -185,6 +139,13 @@ module _ (s : State) (now : ℕ) (m : Message) (l : IsMoving s m.destination (le
     one_kept = l.one_kept;
     once_kept = l.once_kept;
     none_stands = l.none_stands;
+    none_carried = λ q k r. elim (eqb_tells q p) [
+      | inl h ↦ elim (eqb_tells k end) [
+        | inl g ↦ subst (λ (x : ℕ). lying s receive r (in_message x k) ≡ 0) (sym h.1) (subst (λ (x : ℕ). lying s receive r (in_message p x) ≡ 0) (sym g.1) (lies receive r ∙ none r))
+        | inr g ↦ l.none_carried q k r (λ x y. g.1 y)
+      ]
+      | inr h ↦ l.none_carried q k r (λ x y. h.1 x)
+    ];
   }
 
 -- ---- a send
@@ -207,4 +168,5 @@ Sends-lawful now task bytes old mid good l s =
     λ kind q. let e = a.lies kind q in let z = l.no_entry o (length (old.log o)) (omega arith) kind q in omega (arith, e, z) in
     let lies' = subst (λ (k : ℕ). (kind : Kind) (q : ℕ) → lying s.copied_state kind q (in_message o k) ≡ message_count kind q s.m) long lies in
     subst IsLawful (sym s.rest)
-    (sent_lawful s.copied_state now s.m keeps (by_a_send now task bytes old mid good s) (not_above (length s.copied_state.ledger) most_rights s.unrefused.1.1.0) lies')
+    (sent_lawful s.copied_state now s.m keeps (by_a_send now task bytes old mid good s) (not_above (length s.copied_state.ledger) most_rights s.unrefused.1.1.0) lies'
+    (carries_none now task bytes old mid good s))

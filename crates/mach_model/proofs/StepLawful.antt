@@ -69,6 +69,7 @@ module _ (s : State) (ledger : List Token) (l : IsLawful s) (moves : Moves s.led
     one_kept = λ r. let m = same (λ x. same_place (in_request r) x.place) in let h = l.one_kept r in omega (arith, m, h);
     once_kept = λ r kind q not. same (λ x. is_of kind q x && same_place (in_request r) x.place) ∙ l.once_kept r kind q not;
     none_stands = l.none_stands;
+    none_carried = λ p k q. same (λ x. is_of receive q x && same_place (in_message p k) x.place) ∙ l.none_carried p k q;
   }
 
 pub IsReordered-lawful : (mid new : State) → IsLawful mid → IsReordered mid new → IsLawful new

@@ -7,7 +7,7 @@ use Rattle.mach_types.specs.Messages.{Entry}
 use Rattle.mach_model.specs.State.{State, Target, Names, lookup, held, Holds, queue}
 use Rattle.mach_model.specs.Dying.{same_place}
 use Rattle.mach_model.specs.Carried.{message_count, lying}
-use Rattle.mach_model.specs.NotYet.{NoRequests}
+use Rattle.mach_model.specs.NotYet.{NoRequests, NoneCarried}
 
 abbrev pub is_once : ℕ → Target → Bool
 is_once p (Target.once q) = q == p
@@ -68,5 +68,6 @@ pub record IsLawful (s : State) : Type 0 where
   pub ended : (r : Request) → s.stands r ≡ false → (kind : Kind) (q : ℕ) → lying s kind q (in_request r) ≡ 0
   pub one_kept : (r : Request) → count (λ x. same_place (in_request r) x.place) s.ledger ≤ 1
   pub once_kept : (r : Request) (kind : Kind) (q : ℕ) → kind ≢ send_once → lying s kind q (in_request r) ≡ 0
-  -- as long as nothing can be requested
+  -- as long as the rules of NotYet stand
   pub none_stands : NoRequests s
+  pub none_carried : NoneCarried s

@@ -3,8 +3,9 @@
 use Rattle.std.specs.Prelude.{◌≡◌, ◌≢◌, ℕ, Bool, false}
 use Rattle.mach_types.specs.declared.rights.Disposition.TheVariants.{MoveReceive}
 use Rattle.mach_types.specs.Numbers.{disposition_number, null_word, dead_word}
-use Rattle.mach_types.specs.Tokens.{Request}
+use Rattle.mach_types.specs.Tokens.{receive, in_message, Request}
 use Rattle.mach_model.specs.State.{State}
+use Rattle.mach_model.specs.Carried.{lying}
 
 -- Only receive rights can be allocated.
 abbrev pub IsNotYetMaking : (right : ℕ) → Type 0
@@ -13,6 +14,10 @@ IsNotYetMaking right = right ≢ 1
 -- No message carries a receive right: a word of a body that would move one is refused where it stands.
 abbrev pub IsNotYetCarried : (number word : ℕ) → Type 0
 IsNotYetCarried number word = (number ≡ disposition_number MoveReceive) × (word ≢ null_word) × (word ≢ dead_word)
+
+-- So no receive right lies in a message.
+abbrev pub NoneCarried : State → Type 0
+NoneCarried s = (p k q : ℕ) → lying s receive q (in_message p k) ≡ 0
 
 -- A message that is longer than the room stays, whether that was asked for or not: no right can be lost yet.
 abbrev pub LeavesLarge : (large : Bool) → (old mid : State) → Type 0
