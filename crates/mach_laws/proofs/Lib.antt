@@ -7,3 +7,4 @@ mod Told
 mod Ordered
 mod First
 mod Answered
+mod Answering

@@ -17,6 +17,7 @@ ghost use Rattle.mach_laws.specs.Sent.{Accepts};
 ghost use Rattle.mach_laws.specs.Received.{Delivers, WasSent};
 ghost use Rattle.mach_laws.specs.Order.{InOrder};
 ghost use Rattle.mach_laws.specs.FirstMessage.{first_events, first_replies};
+ghost use Rattle.mach_laws.specs.Answering.{answering_events, answering_replies};
 
 /// Every run leads to a lawful state: rights, names, logs and places agree.
 pub fn every_run_is_lawful()
@@ -85,4 +86,10 @@ pub fn empty_means_empty()
 /// The laws speak of something: a task that makes a port, sends a message to it and receives it is a run.
 pub fn first_message()
     ensures { (s : State) × Run first_events first_replies s }
+{}
+
+/// They speak of rights in messages: a task that sends a right to answer with, receives it under a fresh
+/// name and answers by it is a run, and afterwards the name is unused.
+pub fn answered_message()
+    ensures { (s : State) × Run answering_events answering_replies s }
 {}
