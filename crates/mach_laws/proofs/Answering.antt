@@ -146,16 +146,21 @@ asks = record {
       tokens = λ h. omega arith;
     };
     kind = refl;
-    reply = (MakeSendOnce, refl, refl, record {
-      given = MakeSendOnce;
-      is_given = refl;
-      target = Target.port 1;
-      found = grind (gets, rules);
-      legal = omega arith;
-      mark_is = refl;
-      rest = refl;
-      tokens = λ h. omega arith;
-    });
+    reply = (
+      MakeSendOnce,
+      refl,
+      refl,
+      record {
+        given = MakeSendOnce;
+        is_given = refl;
+        target = Target.port 1;
+        found = grind (gets, rules);
+        legal = omega arith;
+        mark_is = refl;
+        rest = refl;
+        tokens = λ h. omega arith;
+      },
+    );
     id = refl;
     body = (refl, refl);
   };
@@ -188,12 +193,15 @@ asked = record {
   header = asked_header;
   written = WireBody.raw [];
   second = a5;
-  reply = (refl, record {
-    named_state = with_name 0 3 (Target.once 1) asked_taken;
-    named = record { room = few_two; fresh = fresh_three; rest = refl };
-    rest = refl;
-    tokens = λ h. omega arith;
-  });
+  reply = (
+    refl,
+    record {
+      named_state = with_name 0 3 (Target.once 1) asked_taken;
+      named = record { room = few_two; fresh = fresh_three; rest = refl };
+      rest = refl;
+      tokens = λ h. omega arith;
+    },
+  );
   body = (refl, refl);
   kind = refl;
   local = grind (gets, rules);

@@ -8,3 +8,4 @@ mod Ordered
 mod First
 mod Answered
 mod Answering
+mod Gathering

@@ -4,3 +4,4 @@ pub mod Received
 pub mod Order
 pub mod FirstMessage
 pub mod Answering
+pub mod Gathering

@@ -18,6 +18,7 @@ ghost use Rattle.mach_laws.specs.Received.{Delivers, WasSent};
 ghost use Rattle.mach_laws.specs.Order.{InOrder};
 ghost use Rattle.mach_laws.specs.FirstMessage.{first_events, first_replies};
 ghost use Rattle.mach_laws.specs.Answering.{answering_events, answering_replies};
+ghost use Rattle.mach_laws.specs.Gathering.{gathering_events, gathering_replies};
 
 /// Every run leads to a lawful state: rights, names, logs and places agree.
 pub fn every_run_is_lawful()
@@ -92,4 +93,10 @@ pub fn first_message()
 /// name and answers by it is a run, and afterwards the name is unused.
 pub fn answered_message()
     ensures { (s : State) × Run answering_events answering_replies s }
+{}
+
+/// They speak of rights handed from task to task, by name and in a message's body: send rights for one
+/// port gather under one name, whose references count them.
+pub fn gathered_references()
+    ensures { (s : State) × Run gathering_events gathering_replies s }
 {}
