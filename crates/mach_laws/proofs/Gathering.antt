@@ -30,10 +30,10 @@ use Rattle.mach_laws.proofs.First.{s1, first}
 
 -- ---- the states
 
-abbrev b2 : State
+abbrev pub b2 : State
 b2 = record s1 { live_task = at s1.live_task 1 true; tasks_made = 2; naming = at s1.naming 1 map.empty }
 
-abbrev b3 : State
+abbrev pub b3 : State
 b3 = record (with_port 0 1 b2) { ledger = token receive 0 (in_task 0) ∷ [] }
 
 abbrev b4 : State
@@ -62,7 +62,7 @@ of_one = map.insert map.empty 1 (Target.port 1)
 fresh_one : IsFresh map.empty 1
 fresh_one = record { unused = get-empty nat_cmp 1; not_null = omega arith; least = λ n a b. absurd (omega arith) }
 
-few_empty : map.len (map.empty {K = ℕ} {X = Target} {R = nat_cmp}) < 65535
+pub few_empty : map.len (map.empty {K = ℕ} {X = Target} {R = nat_cmp}) < 65535
 few_empty = rw len-empty (omega arith)
 
 few_zero : map.len of_zero < 65535
@@ -83,10 +83,10 @@ only p q n not e = elim (inserted map.empty 1 (Target.port p) n (Target.port q) 
 
 -- ---- two tasks with a port each
 
-second : Step 1 s1 Event.TaskCreate (Reply.Task 1) b2 × IsLawful b2
+pub second : Step 1 s1 Event.TaskCreate (Reply.Task 1) b2 × IsLawful b2
 second = quiet_step 1 s1 Event.TaskCreate (Reply.Task 1) b2 first.1 ((λ h. omega arith), tt) (record { task_is = refl; rest = refl }, refl)
 
-third : Step 2 b2 (Event.Allocate 0 1) (Reply.Name 1) b3 × IsLawful b3
+pub third : Step 2 b2 (Event.Allocate 0 1) (Reply.Name 1) b3 × IsLawful b3
 third = quiet_step 2 b2 (Event.Allocate 0 1) (Reply.Name 1) b3 second.1 ((λ h. cc), ((λ h. h.0 refl), ((λ h. h refl), (not_full, tt))))
     (fresh_one, record { rest = refl; tokens = λ h. omega arith }, refl)
   where
@@ -106,7 +106,7 @@ fourth = quiet_step 3 b3 (Event.Allocate 1 1) (Reply.Name 1) b4 third.1 ((λ h. 
 
 -- ---- each inserts a send right into the other
 
-zero_found : map.get of_zero 1 ≡ Some (Target.port 0)
+pub zero_found : map.get of_zero 1 ≡ Some (Target.port 0)
 zero_found = grind (gets, rules)
 
 one_found : map.get of_one 1 ≡ Some (Target.port 1)

@@ -9,3 +9,4 @@ mod First
 mod Answered
 mod Answering
 mod Gathering
+mod Handed

@@ -5,3 +5,4 @@ pub mod Order
 pub mod FirstMessage
 pub mod Answering
 pub mod Gathering
+pub mod Handed

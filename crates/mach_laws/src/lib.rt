@@ -19,6 +19,7 @@ ghost use Rattle.mach_laws.specs.Order.{InOrder};
 ghost use Rattle.mach_laws.specs.FirstMessage.{first_events, first_replies};
 ghost use Rattle.mach_laws.specs.Answering.{answering_events, answering_replies};
 ghost use Rattle.mach_laws.specs.Gathering.{gathering_events, gathering_replies};
+ghost use Rattle.mach_laws.specs.Handed.{handing_events, handing_replies};
 
 /// Every run leads to a lawful state: rights, names, logs and places agree.
 pub fn every_run_is_lawful()
@@ -99,4 +100,10 @@ pub fn answered_message()
 /// port gather under one name, whose references count them.
 pub fn gathered_references()
     ensures { (s : State) × Run gathering_events gathering_replies s }
+{}
+
+/// They speak of receive rights handed on: the right comes under the name that the other task has for the
+/// port, and the name that it came from is unused.
+pub fn handed_receive_right()
+    ensures { (s : State) × Run handing_events handing_replies s }
 {}
