@@ -10,3 +10,4 @@ mod Answered
 mod Answering
 mod Gathering
 mod Handed
+mod OnceTaken

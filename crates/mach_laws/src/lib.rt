@@ -9,6 +9,7 @@ ghost use Rattle.mach_types.specs.declared.calls.Event.{Event};
 ghost use Rattle.mach_types.specs.declared.calls.Reply.{Reply};
 ghost use Rattle.mach_types.specs.declared.calls.Waited.{Waited};
 ghost use Rattle.mach_types.specs.Tokens.{count, is_of, receive as receive_kind};
+ghost use Rattle.mach_types.specs.Grammar.{Header, WireBody, Spells};
 ghost use Rattle.mach_model.specs.State.{State, Target, lookup, queue};
 ghost use Rattle.mach_model.specs.Machine.{Step, Run};
 ghost use Rattle.mach_model.specs.Lawful.{IsLawful};
@@ -76,6 +77,13 @@ pub fn order()
 /// A call that is answered with another code than 0 changes nothing.
 pub fn refusals_change_nothing()
     ensures { (now : ℕ) (old new : State) (event : Event) (code : ℕ) → Step now old event (Reply.Code code) new → code ≢ 0 → new ≡ old }
+{}
+
+/// A message to a send-once right is never told that the queue is full (`MACH_SEND_TIMED_OUT`): only a
+/// destination by a send right is.
+pub fn once_is_never_full()
+    ensures { (now : ℕ) (old new : State) (task : ℕ) (bytes : List ℕ) → Step now old (Event.Send task bytes) (Reply.Code 0x10000004) new →
+        (header : Header) (written : WireBody) → Spells bytes header written → (header.remote_kind ≢ 18) × (header.remote_kind ≢ 21) }
 {}
 
 /// A receive by a port's name is answered that there is no message only where none is queued.

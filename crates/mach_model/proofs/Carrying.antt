@@ -37,7 +37,7 @@ receive_number n is = elim (eqb_tells n 16) [
     others false false false false false is = cc
 
 -- the first word of a text begins with the destination's disposition
-first_byte : (h : Header) (w : WireBody) → h.remote_kind < 2 ^ 8 → h.local_kind < 2 ^ 8 → word_at (text h w) 0 % 2 ^ 8 ≡ h.remote_kind
+pub first_byte : (h : Header) (w : WireBody) → h.remote_kind < 2 ^ 8 → h.local_kind < 2 ^ 8 → word_at (text h w) 0 % 2 ^ 8 ≡ h.remote_kind
 first_byte h (WireBody.raw bytes) a b = omega arith
 first_byte h (WireBody.items ws) a b = omega arith
 
