@@ -1,2 +1,6 @@
+pub mod Spans
+pub mod Reading
 pub mod Parses
 pub mod Received
+pub mod Putting
+pub mod Words

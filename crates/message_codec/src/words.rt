@@ -1,22 +1,50 @@
-//! Little-endian words in a list of bytes.
-ghost use Rattle.std.specs.Prelude.{◌≡◌, ◌≤◌, ◌+◌, ◌++◌, length, take, drop};
-ghost use Rattle.mach_types.specs.Grammar.{word};
-ghost use Rattle.mach_types.specs.TextGuards.{word_at};
+//! The port words of a message.
+ghost use Rattle.std.specs.Prelude.{◌≡◌, ℕ, ◌+◌, ◌*◌, ◌≤◌, ◌++◌, List, length, IfOk, OnOk};
+ghost use Rattle.mach_types.specs.Grammar.{WireBody};
+ghost use Rattle.message_codec.specs.Received.{IsLaidOut};
+ghost use Rattle.message_codec.specs.Spans.{words_place};
+ghost use Rattle.message_codec.specs.Words.{body_words, named, StandsAt};
 
-use byteorder::{ByteOrder, LittleEndian};
+use crate::spans::Span;
+use mach_types::Name;
+use std::alloc::{AllocError, Global};
+use type_descriptor::read_word;
 
-/// The word at an offset in bytes.
-pub(crate) fn read_word(bytes: &[u8], at: usize) -> u32
-    requires { at + 4 ≤ length bytes.now }
-    ensures { result ≡ word_at bytes.now at }
-{
-    LittleEndian::read_u32(&bytes[at..])
+/// A port word as it was sent.
+#[derive(Clone, Copy, Debug, PartialEq, Eq)]
+pub struct PortWord {
+    /// The disposition of its item, 16 to 21; of a header's word, 17 to 21.
+    pub disposition: u8,
+    /// The sender's name of the right.
+    pub name: Name,
 }
 
-/// Writes a word at an offset in bytes, and leaves all other bytes.
-pub(crate) fn write_word(bytes: &mut [u8], at: usize, value: u32)
-    requires { at + 4 ≤ length bytes.old }
-    ensures { bytes.new ≡ take at bytes.old ++ word value ++ drop (at + 4) bytes.old }
+// Adds the words of one item.
+fn read_words(words: &mut Vec<PortWord>, bytes: &[u8], span: &Span) -> Result<(), AllocError>
+    requires room { words_place span.now + 4 * span.now.number ≤ length bytes.now }
+    ensures { OnOk result ((names : List ℕ) → StandsAt bytes.now (words_place span.now) names → length names ≡ span.now.number
+        → words.new.items ≡ words.old.items ++ named span.now.disposition names) }
 {
-    LittleEndian::write_u32(&mut bytes[at..], value);
+    let disposition = span.disposition;
+    let start = span.words_at();
+    for index in 0..span.number as usize {
+        let name = Name::new(read_word(bytes, start + 4 * index));
+        words.push(PortWord { disposition, name })?;
+    }
+    Ok(())
+}
+
+/// The port words of a message's body, from the front, each with the disposition of its item. Linear in
+/// their number.
+///
+/// An error means that memory was refused.
+pub fn port_words(alloc: Global, bytes: &[u8], spans: &[Span]) -> Result<Vec<PortWord>, AllocError>
+    requires laid_out { (written : WireBody) × IsLaidOut bytes.now spans.now written }
+    ensures { IfOk result (λ words. (written : WireBody) → IsLaidOut bytes.now spans.now written → words.items ≡ body_words written) }
+{
+    let mut words = Vec::new(alloc);
+    for span in spans {
+        read_words(&mut words, bytes, span)?;
+    }
+    Ok(words)
 }
