@@ -9,6 +9,7 @@ use Rattle.mach_model.specs.Receiving.{Owed, waits_for, IsEmptyFor}
 use Rattle.mach_model.specs.Machine.{Does, Step}
 
 does_code : (now : ℕ) (old : State) (event : Event) (code : ℕ) (mid : State) (owed : Owed) → Does now old event (Reply.Code code) mid owed → code ≡ 0
+does_code now old (Event.InsertRight task name from poly number) code mid owed d = d.0
 does_code now old (Event.Send task bytes) code mid owed d = d.0
 does_code now old (Event.Receive task name room large) code mid owed d = absurd d.2
 does_code now old event code mid owed d = absurd d

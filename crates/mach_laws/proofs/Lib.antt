@@ -7,3 +7,7 @@ mod Told
 mod Ordered
 mod First
 mod Answered
+mod Answering
+mod Gathering
+mod Handed
+mod OnceTaken

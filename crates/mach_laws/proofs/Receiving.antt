@@ -225,7 +225,7 @@ GiveItems-means task place (x ∷ xs) before old (w ∷ ws) new away g h =
 GiveItems-means task place [] before old (w ∷ ws) new away g h = absurd h
 GiveItems-means task place (x ∷ xs) before old [] new away g h = absurd h
 
-GiveBody-means : (task : ℕ) (place : Place) (body : Body) (before old : State) (w : WireBody) (new : State) → is_in_task task place ≡ false →
+pub GiveBody-means : (task : ℕ) (place : Place) (body : Body) (before old : State) (w : WireBody) (new : State) → is_in_task task place ≡ false →
     Grows (before.naming task) (old.naming task) → GiveBody task place body old w new →
     Gives task old new × ReceivedBody task before new (body_asof old.live_port body) w
 GiveBody-means task place (Body.raw bytes) before old (WireBody.raw others) new away g h = (Gives-same task old new h.1, h.0)

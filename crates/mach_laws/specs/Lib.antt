@@ -3,3 +3,6 @@ pub mod Sent
 pub mod Received
 pub mod Order
 pub mod FirstMessage
+pub mod Answering
+pub mod Gathering
+pub mod Handed

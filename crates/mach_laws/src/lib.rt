@@ -9,6 +9,7 @@ ghost use Rattle.mach_types.specs.declared.calls.Event.{Event};
 ghost use Rattle.mach_types.specs.declared.calls.Reply.{Reply};
 ghost use Rattle.mach_types.specs.declared.calls.Waited.{Waited};
 ghost use Rattle.mach_types.specs.Tokens.{count, is_of, receive as receive_kind};
+ghost use Rattle.mach_types.specs.Grammar.{Header, WireBody, Spells};
 ghost use Rattle.mach_model.specs.State.{State, Target, lookup, queue};
 ghost use Rattle.mach_model.specs.Machine.{Step, Run};
 ghost use Rattle.mach_model.specs.Lawful.{IsLawful};
@@ -17,6 +18,9 @@ ghost use Rattle.mach_laws.specs.Sent.{Accepts};
 ghost use Rattle.mach_laws.specs.Received.{Delivers, WasSent};
 ghost use Rattle.mach_laws.specs.Order.{InOrder};
 ghost use Rattle.mach_laws.specs.FirstMessage.{first_events, first_replies};
+ghost use Rattle.mach_laws.specs.Answering.{answering_events, answering_replies};
+ghost use Rattle.mach_laws.specs.Gathering.{gathering_events, gathering_replies};
+ghost use Rattle.mach_laws.specs.Handed.{handing_events, handing_replies};
 
 /// Every run leads to a lawful state: rights, names, logs and places agree.
 pub fn every_run_is_lawful()
@@ -75,6 +79,13 @@ pub fn refusals_change_nothing()
     ensures { (now : ℕ) (old new : State) (event : Event) (code : ℕ) → Step now old event (Reply.Code code) new → code ≢ 0 → new ≡ old }
 {}
 
+/// A message to a send-once right is never told that the queue is full (`MACH_SEND_TIMED_OUT`): only a
+/// destination by a send right is.
+pub fn once_is_never_full()
+    ensures { (now : ℕ) (old new : State) (task : ℕ) (bytes : List ℕ) → Step now old (Event.Send task bytes) (Reply.Code 0x10000004) new →
+        (header : Header) (written : WireBody) → Spells bytes header written → (header.remote_kind ≢ 18) × (header.remote_kind ≢ 21) }
+{}
+
 /// A receive by a port's name is answered that there is no message only where none is queued.
 pub fn empty_means_empty()
     ensures { (now : ℕ) (old new : State) (task name room : ℕ) (large : Bool) (told : Waited) →
@@ -85,4 +96,22 @@ pub fn empty_means_empty()
 /// The laws speak of something: a task that makes a port, sends a message to it and receives it is a run.
 pub fn first_message()
     ensures { (s : State) × Run first_events first_replies s }
+{}
+
+/// They speak of rights in messages: a task that sends a right to answer with, receives it under a fresh
+/// name and answers by it is a run, and afterwards the name is unused.
+pub fn answered_message()
+    ensures { (s : State) × Run answering_events answering_replies s }
+{}
+
+/// They speak of rights handed from task to task, by name and in a message's body: send rights for one
+/// port gather under one name, whose references count them.
+pub fn gathered_references()
+    ensures { (s : State) × Run gathering_events gathering_replies s }
+{}
+
+/// They speak of receive rights handed on: the right comes under the name that the other task has for the
+/// port, and the name that it came from is unused.
+pub fn handed_receive_right()
+    ensures { (s : State) × Run handing_events handing_replies s }
 {}

@@ -8,7 +8,9 @@ pub mod Dying
 pub mod Notices
 pub mod Settles
 pub mod Making
+pub mod Telling
 pub mod Status
+pub mod Handing
 pub mod Sending
 pub mod Receiving
 pub mod Refusals

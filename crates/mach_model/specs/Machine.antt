@@ -6,7 +6,9 @@ use Rattle.mach_types.specs.declared.calls.Waited.{Waited}
 use Rattle.mach_types.specs.Guards.{NoneHolds}
 use Rattle.mach_model.specs.State.{State, opening, IsFresh}
 use Rattle.mach_model.specs.Making.{CreatesTask, AllocatesPort}
+use Rattle.mach_model.specs.Telling.{TellsReferences, TellsType}
 use Rattle.mach_model.specs.Status.{TellsStatus}
+use Rattle.mach_model.specs.Handing.{Inserts, Extracts}
 use Rattle.mach_model.specs.Sending.{Sends}
 use Rattle.mach_model.specs.Receiving.{Owed, waits_for, Receipt}
 use Rattle.mach_model.specs.Settles.{Settles}
@@ -16,7 +18,13 @@ use Rattle.mach_model.specs.Refusals.{Refuses, guards}
 abbrev pub Does : (now : ℕ) → State → Event → Reply → State → Owed → Type 0
 Does now old Event.TaskCreate (Reply.Task task) mid owed = CreatesTask old task mid × (owed ≡ [])
 Does now old (Event.Allocate task right) (Reply.Name name) mid owed = IsFresh (old.naming task) name × AllocatesPort task name old mid × (owed ≡ [])
+Does now old (Event.GetRefs task name right) (Reply.Refs n) mid owed = TellsReferences old task name right n × (mid ≡ old) × (owed ≡ [])
+Does now old (Event.NameType task name) (Reply.NameType n) mid owed = TellsType old task name n × (mid ≡ old) × (owed ≡ [])
 Does now old (Event.ReceiveStatus task name) (Reply.Status status) mid owed = TellsStatus old task name status × (mid ≡ old) × (owed ≡ [])
+Does now old (Event.InsertRight task name from poly number) (Reply.Code code) mid owed =
+    (code ≡ 0) × Inserts task name from poly number old mid × (owed ≡ [])
+Does now old (Event.ExtractRight task name number to) (Reply.Right new_name kind) mid owed =
+    Extracts task name number to new_name kind old mid × (owed ≡ [])
 Does now old (Event.Send task bytes) (Reply.Code code) mid owed = (code ≡ 0) × Sends now task bytes old mid × (owed ≡ [])
 Does now old (Event.Receive task name room large) reply mid owed =
     (waited : Waited) × waits_for task name old waited × Receipt old task waited room large reply mid owed

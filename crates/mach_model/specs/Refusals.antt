@@ -1,21 +1,47 @@
 -- Which code refuses an event: the first guard that holds, from left to right (the order is this project's own).
-use Rattle.std.specs.Prelude.{◌≡◌, ◌≢◌, ℕ, ◌≤◌, ◌⊎◌, [], ◌∷◌, Option, Some, None}
+use Rattle.std.specs.Prelude.{◌≡◌, ◌≢◌, ℕ, ◌<◌, ◌≤◌, ◌⊎◌, [], ◌∷◌, Option, Some, None}
 use Rattle.mach_types.specs.declared.calls.Event.{Event}
 use Rattle.mach_types.specs.declared.calls.Waited.{Waited}
-use Rattle.mach_types.specs.declared.codes.KernReturn.TheVariants.{NoSpace, ResourceShortage, InvalidName, InvalidTask, InvalidRight, InvalidValue}
+use Rattle.mach_types.specs.declared.codes.KernReturn.TheVariants.{NoSpace, ResourceShortage, InvalidName, InvalidTask, InvalidRight, InvalidValue, InvalidCapability}
 use Rattle.mach_types.specs.declared.codes.MsgReturn.TheVariants.{ReceiveInvalidName, ReceiveInSet}
-use Rattle.mach_types.specs.Numbers.{kern_number, msg_number, most_tasks}
+use Rattle.mach_types.specs.Numbers.{null_word, dead_word, kern_number, msg_number, most_tasks}
+use Rattle.mach_types.specs.Tokens.{in_task}
 use Rattle.mach_types.specs.Guards.{Guards, FirstIs, NoneHolds}
-use Rattle.mach_types.specs.TextGuards.{text_guards}
+use Rattle.mach_types.specs.TextGuards.{header_guards}
 use Rattle.mach_model.specs.State.{State, Target, lookup}
 use Rattle.mach_model.specs.Making.{IsNoTask, IsNoMaking, IsFull}
 use Rattle.mach_model.specs.Status.{NamesReceive}
-use Rattle.mach_model.specs.Sending.{SendRefuses}
+use Rattle.mach_model.specs.Handing.{inserted_guards, extracted_guards, CopyRefuses}
+use Rattle.mach_model.specs.Sending.{IsLegalName, IsDeadName, SendRefuses}
 use Rattle.mach_model.specs.Receiving.{IsSet, waits_for, ReceiptRefuses}
 use Rattle.mach_model.specs.NotYet.{IsNotYetMaking}
 
 abbrev pub IsUnused : State → (task name : ℕ) → Type 0
 IsUnused s task name = lookup s task name ≡ None
+
+-- numbers that are no names
+abbrev pub IsNoName : ℕ → Type 0
+IsNoName name = (name ≡ null_word) ⊎ (dead_word ≤ name)
+
+abbrev pub IsDisposition : ℕ → Type 0
+IsDisposition number = (16 ≤ number) × (number ≤ 21)
+
+abbrev pub insert_guards : State → (task name from poly number : ℕ) → Guards
+insert_guards s task name from poly number =
+    (IsNoTask s task ⊎ IsNoTask s from, kern_number InvalidTask)
+    ∷ (IsNoName name ⊎ ¬ (IsDisposition number), kern_number InvalidValue)
+    ∷ (IsNoName poly ⊎ IsDeadName s from poly × (17 ≤ number) × (number ≤ 19), kern_number InvalidCapability)
+    ∷ (IsUnused s from poly, kern_number InvalidName)
+    ∷ (¬ (IsLegalName s from poly number), kern_number InvalidRight)
+    ∷ []
+
+abbrev pub extract_guards : State → (task name number to : ℕ) → Guards
+extract_guards s task name number to =
+    (IsNoTask s task ⊎ IsNoTask s to, kern_number InvalidTask)
+    ∷ (¬ (IsDisposition number), kern_number InvalidValue)
+    ∷ (IsUnused s task name, kern_number InvalidName)
+    ∷ (¬ (IsLegalName s task name number) ⊎ IsDeadName s task name, kern_number InvalidRight)
+    ∷ []
 
 -- the guards that are judged in the state before
 abbrev pub guards : State → Event → Guards
@@ -26,12 +52,23 @@ guards s (Event.Allocate task right) =
     ∷ (IsNotYetMaking right, kern_number InvalidValue)
     ∷ (IsFull s task right, kern_number NoSpace)
     ∷ []
+guards s (Event.GetRefs task name right) =
+    (IsNoTask s task, kern_number InvalidTask)
+    ∷ (4 < right, kern_number InvalidValue)
+    ∷ (IsUnused s task name, kern_number InvalidName)
+    ∷ []
+guards s (Event.NameType task name) =
+    (IsNoTask s task, kern_number InvalidTask)
+    ∷ (IsUnused s task name, kern_number InvalidName)
+    ∷ []
 guards s (Event.ReceiveStatus task name) =
     (IsNoTask s task, kern_number InvalidTask)
     ∷ (IsUnused s task name, kern_number InvalidName)
     ∷ (¬ (NamesReceive s task name), kern_number InvalidRight)
     ∷ []
-guards s (Event.Send task bytes) = (IsNoTask s task, kern_number InvalidTask) ∷ text_guards bytes
+guards s (Event.InsertRight task name from poly number) = insert_guards s task name from poly number
+guards s (Event.ExtractRight task name number to) = extract_guards s task name number to
+guards s (Event.Send task bytes) = (IsNoTask s task, kern_number InvalidTask) ∷ header_guards bytes
 guards s (Event.Receive task name room large) =
     (IsNoTask s task, kern_number InvalidTask)
     ∷ (¬ (NamesReceive s task name ⊎ IsSet (lookup s task name)), msg_number ReceiveInvalidName)
@@ -46,6 +83,10 @@ memory_refusal event = None
 
 -- refusals that come after those guards
 abbrev pub RefusesLater : State → Event → (code : ℕ) → Type 0
+RefusesLater s (Event.InsertRight task name from poly number) code =
+    CopyRefuses from (in_task task) number poly s (λ p kind copied. inserted_guards copied task name p kind) code
+RefusesLater s (Event.ExtractRight task name number to) code =
+    CopyRefuses task (in_task to) number name s (λ p kind copied. extracted_guards copied to p kind) code
 RefusesLater s (Event.Send task bytes) code = SendRefuses s task bytes code
 RefusesLater s (Event.Receive task name room large) code =
     (waited : Waited) × waits_for task name s waited × ReceiptRefuses s task waited room code

@@ -41,8 +41,19 @@ pub enum Event {
     TaskCreate,
     /// Makes a right of this number for the task, under a fresh name.
     Allocate(TaskId, u32),
+    /// Asks how many references of the right of this number the task has under the name
+    /// (Port Manipulation Interface, `mach_port_get_refs`).
+    GetRefs(TaskId, Name, u32),
+    /// Asks for the type of the name: which rights it stands for (`mach_port_type`).
+    NameType(TaskId, Name),
     /// Asks for the status of the receive right under the name.
     ReceiveStatus(TaskId, Name),
+    /// Gives the task, under the name, a right that another task has under a name, by the disposition of
+    /// this number (`mach_port_insert_right`).
+    InsertRight(TaskId, Name, TaskId, Name, u32),
+    /// Takes a right that the task has under the name, by the disposition of this number, to another task
+    /// (`mach_port_extract_right`).
+    ExtractRight(TaskId, Name, u32, TaskId),
     /// Sends the message.
     Send(TaskId, Bytes),
     /// Receives by the name, into so many bytes of room; whether a longer message is to stay.
