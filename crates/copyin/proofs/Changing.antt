@@ -1,0 +1,138 @@
+-- One name of a task has changed, in the tables and in the machine alike.
+use Rattle.std.proofs.Common.{◌≡◌, ℕ, Option, Some, None, refl, sym, ap, subst, ◌∙◌, ◌⊎◌, inl, inr, length}
+use Rattle.std.specs.Prelude.{slice_get, slice_set, is_some}
+use Rattle.std.specs.Option.{option_map}
+use Rattle.std.specs.FinMap as map
+use Rattle.std.proofs.lemmas.Bool.Decides.{eqb_tells}
+use Rattle.mach_types.specs.Tokens.{Kind, receive, send, Request, in_request}
+use Rattle.mach_model.specs.State.{State, Target, Names, lookup, held}
+use Rattle.mach_model.specs.Status.{one_if}
+use Rattle.mach_model.specs.Carried.{lying}
+use Rattle.mach_model.proofs.Moving.{shape, TaskNaming}
+use Rattle.name_space.specs.declared.Entry.{Entry}
+use Rattle.name_space.specs.declared.Entry.TheVariants as entry_of
+use Rattle.name_space.specs.Entry.{port_named, has_receive, send_references}
+use Rattle.name_space.specs.Names.{SpaceView}
+use Rattle.name_space.specs.Names.{Names as TableNames}
+use Rattle.port.specs.Ports.{PortView, PortsView}
+use Rattle.rights.specs.Ledger.{LedgerView}
+use Rattle.copyin.specs.Kept.{Kept}
+use Rattle.copyin.specs.Worlds.{WorldView, entry_in, entry_at, port_at, put}
+use Rattle.copyin.specs.Shows.{target_of, HasCount, ShowsCounts, Agrees}
+use Rattle.copyin.proofs.Agreeing.{KeepsPort, Near, near_agrees}
+use Rattle.copyin.proofs.Putting.{put_in, put_own, put_other, same_len}
+
+pub same_put : (m : TableNames) (name : ℕ) (o : Option Entry) → put m name o ≡ put_in m name o
+same_put m name (Some e) = refl
+same_put m name None = refl
+
+-- an entry by receive or send rights stands for its port
+pub target_named : (e : Entry) (p : ℕ) → port_named e ≡ Some p → target_of e ≡ Target.port p
+target_named (entry_of.Receive q) p is = cc
+target_named (entry_of.Send q n) p is = cc
+target_named (entry_of.ReceiveAndSend q n) p is = cc
+target_named (entry_of.SendOnce q) p is = absurd (cc)
+target_named (entry_of.DeadName n) p is = absurd (cc)
+target_named (entry_of.Set n) p is = absurd (cc)
+
+same_port : (o : Option ℕ) (p : ℕ) → (o ≡ Some p) ⊎ (o ≡ Some p → ⊥)
+same_port None p = inr (λ e. cc)
+same_port (Some q) p = elim (eqb_tells q p) [
+  | inl h ↦ inl (ap Some h.1)
+  | inr h ↦ inr (λ e. h.1 (let f : Some q ≡ Some p = e in cc))
+]
+
+-- The rest of what is to be known of a change: the ports, the counts, and the rights that the task has now.
+pub record Rest (w w2 : WorldView) (s t : State) (task : ℕ) (entry : Entry) (left : Option Entry) : Type 0 where
+  pub rest : t ≡ shape s t
+  pub naming_others : (u : ℕ) → (u ≡ task → ⊥) → t.naming u ≡ s.naming u
+  pub held_others : (u : ℕ) → (u ≡ task → ⊥) → (kind : Kind) (q : ℕ) → held t u kind q ≡ held s u kind q
+  pub own_references : (e : Entry) (q : ℕ) → left ≡ Some e → port_named e ≡ Some q → (held t task receive q ≡ one_if (has_receive e)) × (held t task send q ≡ send_references e)
+  pub other_references : (q : ℕ) → (port_named entry ≡ Some q → ⊥) → (held t task receive q ≡ held s task receive q) × (held t task send q ≡ held s task send q)
+  pub own_count : (e : Entry) → left ≡ Some e → HasCount e
+  pub made : w2.ports.made ≡ w.ports.made
+  pub live : (p : ℕ) → is_some (port_at w2 p) ≡ is_some (port_at w p)
+  pub ports : (p : ℕ) (v2 : PortView Kept) → port_at w2 p ≡ Some v2 → (v : PortView Kept) × (port_at w p ≡ Some v) × KeepsPort v v2 s t p
+  pub counts : (p : ℕ) → ShowsCounts w2 t p
+  pub total : w2.ledger.total ≡ length t.ledger
+  pub requests : (r : Request) (kind : Kind) (q : ℕ) → lying t kind q (in_request r) ≡ lying s kind q (in_request r)
+
+module _ (w : WorldView) (s : State) (a : Agrees w s) (task name : ℕ) (naming : TaskNaming s task) (space : SpaceView) (there : slice_get w.spaces task ≡ Some space)
+    (entry : Entry) (found : map.get space.names name ≡ Some entry) where
+  pub entry_found : (n : ℕ) → entry_at w task n ≡ map.get space.names n
+  entry_found n = ap (λ (o : Option SpaceView). entry_in o n) there
+
+  pub target_found : lookup s task name ≡ Some (target_of entry)
+  target_found = a.naming task name ∙ ap (option_map target_of) (entry_found name ∙ found)
+
+  -- what the task has by this entry
+  pub held_by : (p : ℕ) → port_named entry ≡ Some p → (held s task receive p ≡ one_if (has_receive entry)) × (held s task send p ≡ send_references entry)
+  held_by p is = a.references task name entry p (entry_found name ∙ found) is
+
+  pub has_count : HasCount entry
+  has_count = a.counted task name entry (entry_found name ∙ found)
+
+  module _ (left : Option Entry) (room : ℕ) (ports : PortsView Kept) (ledger : LedgerView) (t : State)
+      (own : t.naming task ≡ put_in (s.naming task) name (option_map target_of left)) where
+    abbrev space2 : SpaceView
+    space2 = record { names = put space.names name left; room = room }
+
+    abbrev w2 : WorldView
+    w2 = record { spaces = slice_set w.spaces task space2; ports = ports; ledger = ledger }
+
+    at_name : map.get (put space.names name left) name ≡ left
+    at_name = ap (λ (m : TableNames). map.get m name) (same_put space.names name left) ∙ put_own space.names name left
+
+    at_other : (n : ℕ) → (n ≡ name → ⊥) → map.get (put space.names name left) n ≡ map.get space.names n
+    at_other n not = ap (λ (m : TableNames). map.get m n) (same_put space.names name left) ∙ put_other space.names name left n not
+
+    named : (n : ℕ) → map.get (t.naming task) n ≡ option_map target_of (map.get (put space.names name left) n)
+    named n = elim (eqb_tells n name) [
+      | inl h ↦ subst (λ (x : ℕ). map.get (t.naming task) x ≡ option_map target_of (map.get (put space.names name left) x)) (sym h.1)
+          (ap (λ (m : Names). map.get m name) own ∙ put_own (s.naming task) name (option_map target_of left) ∙ sym (ap (option_map target_of) at_name))
+      | inr h ↦ ap (λ (m : Names). map.get m n) own ∙ put_other (s.naming task) name (option_map target_of left) n h.1
+          ∙ a.naming task n ∙ ap (option_map target_of) (entry_found n) ∙ sym (ap (option_map target_of) (at_other n h.1))
+    ]
+
+    -- another name isn't of the same port
+    not_same : (n : ℕ) (e : Entry) (p : ℕ) → (n ≡ name → ⊥) → map.get space.names n ≡ Some e → port_named e ≡ Some p → port_named entry ≡ Some p → ⊥
+    not_same n e p not is en own_named =
+        let x : lookup s task n ≡ Some (Target.port p) = a.naming task n ∙ ap (option_map target_of) (entry_found n ∙ is) ∙ ap Some (target_named e p en) in
+        let y : lookup s task name ≡ Some (Target.port p) = target_found ∙ ap Some (target_named entry p own_named) in
+        not (naming.one_name n name p x y)
+
+    references : Rest w w2 s t task entry left → (n : ℕ) (e : Entry) (p : ℕ) → map.get (put space.names name left) n ≡ Some e → port_named e ≡ Some p →
+        (held t task receive p ≡ one_if (has_receive e)) × (held t task send p ≡ send_references e)
+    references r n e p is en = elim (eqb_tells n name) [
+      | inl h ↦ r.own_references e p (sym at_name ∙ subst (λ (x : ℕ). map.get (put space.names name left) x ≡ Some e) h.1 is) en
+      | inr h ↦
+          let is_old : map.get space.names n ≡ Some e = sym (at_other n h.1) ∙ is in
+          let o = r.other_references p (λ same. not_same n e p h.1 is_old en same) in
+          let b = a.references task n e p (entry_found n ∙ is_old) en in
+          (o.0 ∙ b.0, o.1 ∙ b.1)
+    ]
+
+    counted : Rest w w2 s t task entry left → (n : ℕ) (e : Entry) → map.get (put space.names name left) n ≡ Some e → HasCount e
+    counted r n e is = elim (eqb_tells n name) [
+      | inl h ↦ r.own_count e (sym at_name ∙ subst (λ (x : ℕ). map.get (put space.names name left) x ≡ Some e) h.1 is)
+      | inr h ↦ a.counted task n e (entry_found n ∙ sym (at_other n h.1) ∙ is)
+    ]
+
+    pub changed_agrees : Rest w w2 s t task entry left → Agrees w2 t
+    changed_agrees r = near_agrees w w2 s t a task space space2 there record {
+      spaces = refl;
+      rest = r.rest;
+      naming_others = r.naming_others;
+      naming = named;
+      names_kept = ap map.len (same_put space.names name left)
+          ∙ same_len space.names (s.naming task) name entry (target_of entry) target_of left found target_found (a.names_kept task space there) ∙ sym (ap map.len own);
+      held_others = r.held_others;
+      references = references r;
+      counted = counted r;
+      made = r.made;
+      live = r.live;
+      ports = r.ports;
+      counts = r.counts;
+      total = r.total;
+      requests = r.requests;
+    }

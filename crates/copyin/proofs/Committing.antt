@@ -1,0 +1,246 @@
+-- A plan that is carried out.
+use Rattle.std.proofs.Common.{◌≡◌, ℕ, ◌+◌, ◌-◌, ◌≤◌, ◌<◌, Bool, true, false, Option, Some, None, List, [], ◌∷◌, ◌++◌, zero, suc, length, refl, sym, ap, subst, ◌∙◌, inl, inr, ◌⊎◌, arith}
+use Rattle.std.specs.Prelude.{◌≢◌, ◌==◌, slice_get, is_some}
+use Rattle.std.specs.Option.{option_to_list}
+use Rattle.std.proofs.lemmas.Bool.Decides.{eqb_tells}
+use Rattle.std.specs.FinMap as map
+use Rattle.mach_types.specs.Grammar.{WireBody}
+use Rattle.mach_types.specs.Numbers.{null_word, dead_word, most_rights}
+use Rattle.message_codec.specs.declared.text.Parsed.{Parsed}
+use Rattle.message_codec.specs.declared.words.PortWord.{PortWord}
+use Rattle.message_codec.specs.Words.{body_words}
+use Rattle.name_space.specs.Names.{Names, SpaceView}
+use Rattle.port.specs.Ports.{PortView, PortsView, IsLive, with_port}
+use Rattle.rights.specs.Ledger.{LedgerView}
+use Rattle.copyin.specs.declared.judge.Plan.{Plan}
+use Rattle.copyin.specs.declared.message.Carried.{Carried}
+use Rattle.copyin.specs.Judging.{CopiesName, CopiesWord, CopiesReply, CopiesBody, made_by, made_by_reply, made_by_all}
+use Rattle.copyin.specs.Kept.{Kept}
+use Rattle.copyin.specs.Planned.{CanGo, CopiesAll, IsPlan}
+use Rattle.copyin.specs.Plans.{destination_word, reply_words, Judged, ChangesWord, ChangesWords, Commits, option_list, message_for, made_in}
+use Rattle.copyin.specs.Stands.{AreTied, IsTied}
+use Rattle.copyin.specs.Worlds.{WorldView, port_at, ports_copied, CopiesRight}
+use Rattle.copyin.proofs.Going.{go_on, three}
+use Rattle.copyin.proofs.Judging.{goes_by_name}
+use Rattle.copyin.proofs.Keeping.{keeps, live_copied, spare_copied}
+
+-- ---- the rights of a plan, in one list
+
+body_all : (names : Names) (ws : List PortWord) (cs : List Carried) (after : Names) → CopiesBody names ws cs after → CopiesAll names ws cs after
+body_all names [] [] after so = so
+body_all names [] (c ∷ cs) after so = absurd so
+body_all names (w ∷ ws) [] after so = absurd so
+body_all names (w ∷ ws) (c ∷ cs) after so = (so.0, so.1, body_all so.0 ws cs after so.2)
+
+reply_all : (names : Names) (ws : List PortWord) (reply : Option Carried) (after : Names) → CopiesReply names ws reply after → CopiesAll names ws (option_to_list reply) after
+reply_all names [] None after so = so
+reply_all names [] (Some c) after so = absurd so
+reply_all names (w ∷ []) None after so = absurd so
+reply_all names (w ∷ []) (Some c) after so = (after, so, refl)
+reply_all names (w ∷ v ∷ ws) None after so = absurd so
+reply_all names (w ∷ v ∷ ws) (Some c) after so = absurd so
+
+all_append : (a b d : Names) (ws vs : List PortWord) (cs ds : List Carried) → CopiesAll a ws cs b → CopiesAll b vs ds d → CopiesAll a (ws ++ vs) (cs ++ ds) d
+all_append a b d [] vs [] ds x y = subst (λ (n : Names). CopiesAll n vs ds d) x y
+all_append a b d [] vs (c ∷ cs) ds x y = absurd x
+all_append a b d (w ∷ ws) vs [] ds x y = absurd x
+all_append a b d (w ∷ ws) vs (c ∷ cs) ds x y = (x.0, x.1, all_append x.0 b d ws vs cs ds x.2 y)
+
+all_length : (a b : Names) (ws : List PortWord) (cs : List Carried) → CopiesAll a ws cs b → length ws ≡ length cs
+all_length a b [] [] x = refl
+all_length a b [] (c ∷ cs) x = absurd x
+all_length a b (w ∷ ws) [] x = absurd x
+all_length a b (w ∷ ws) (c ∷ cs) x = ap suc (all_length x.0 b ws cs x.2)
+
+made_append : (cs ds : List Carried) → made_by_all (cs ++ ds) ≡ made_by_all cs + made_by_all ds
+made_append [] ds = omega arith
+made_append (c ∷ cs) ds = let e = made_append cs ds in omega arith
+
+made_option : (reply : Option Carried) → made_by_all (option_to_list reply) ≡ made_by_reply reply
+made_option None = refl
+made_option (Some c) = omega arith
+
+not_none : {X : Type 0} (o : Option X) (x : X) → o ≡ None → o ≡ Some x → ⊥
+not_none o x a b = let e : None ≡ Some x = sym a ∙ b in cc
+
+module _ (w : WorldView) (task : ℕ) (parsed : Parsed) (written : WireBody) (bytes : List ℕ) (plan : Plan) (p : IsPlan w task parsed written bytes plan) (is_tied : IsTied w task) where
+  tied : AreTied p.plans.judged.space.names w.ports w.ledger
+  tied = is_tied.tied p.plans.judged.space p.plans.judged.there
+
+  reply_is : plan.message.reply ≡ p.plans.judged.reply
+  reply_is = ap (λ (m : Kept). m.reply) p.message
+
+  rights_are : plan.message.rights ≡ p.plans.judged.rights
+  rights_are = ap (λ (m : Kept). m.rights) p.message
+
+  first_word : CopiesWord p.plans.judged.space.names (destination_word parsed) p.plans.judged.destination p.plans.judged.first
+  first_word =
+      let d = p.plans.judged.copies_destination in
+      goes_by_name p.plans.judged.space.names (destination_word parsed) p.plans.judged.destination p.plans.judged.first
+      (λ e. not_none _ d.entry (ap (λ (n : ℕ). map.get p.plans.judged.space.names n) e ∙ tied.not_null) d.found)
+      (λ e. not_none _ d.entry (ap (λ (n : ℕ). map.get p.plans.judged.space.names n) e ∙ tied.not_dead) d.found) d
+
+  judged_go : CanGo w task (destination_word parsed ∷ (reply_words parsed ++ body_words written))
+      (p.plans.judged.destination ∷ (option_to_list p.plans.judged.reply ++ p.plans.judged.rights))
+  judged_go = record {
+    space = p.plans.judged.space;
+    there = p.plans.judged.there;
+    last = p.plans.judged.last;
+    copies = (
+      p.plans.judged.first,
+      first_word,
+      all_append p.plans.judged.first p.plans.judged.second p.plans.judged.last (reply_words parsed) (body_words written) (option_to_list p.plans.judged.reply) p.plans.judged.rights
+          (reply_all p.plans.judged.first (reply_words parsed) p.plans.judged.reply p.plans.judged.second p.plans.judged.copies_reply)
+          (body_all p.plans.judged.second (body_words written) p.plans.judged.rights p.plans.judged.last p.plans.judged.copies_body),
+    );
+    few =
+        let few : w.ledger.total + made_in p.plans.judged ≤ most_rights = p.plans.few in
+        let a = made_append (option_to_list p.plans.judged.reply) p.plans.judged.rights in
+        let b = made_option p.plans.judged.reply in
+        omega (arith, few, a, b);
+    tied = tied;
+  }
+
+  pub plan_goes : CanGo w task (plan.words.destination ∷ (option_to_list plan.words.reply ++ plan.words.body.items)) (plan.destination ∷ (option_to_list plan.message.reply ++ plan.message.rights))
+  plan_goes = rw (p.words.destination, p.words.reply, p.words.body, p.destination, reply_is, rights_are) judged_go
+
+  pub plan_pairs : length (option_to_list plan.words.reply) ≡ length (option_to_list plan.message.reply)
+  plan_pairs = rw (p.words.reply, reply_is)
+      (all_length p.plans.judged.first p.plans.judged.second (reply_words parsed) (option_to_list p.plans.judged.reply) (reply_all p.plans.judged.first (reply_words parsed) p.plans.judged.reply p.plans.judged.second p.plans.judged.copies_reply))
+
+  pub plan_lives : IsLive w.ports plan.port
+  plan_lives =
+      let d = p.plans.judged.copies_destination in
+      subst (λ (q : ℕ). IsLive w.ports q) (sym p.port)
+      (tied.live parsed.remote d.entry p.plans.judged.port d.found ((keeps p.plans.judged.destination.given d.entry d.copied d.is).mark p.plans.judged.port (sym d.mark ∙ p.plans.judged.to_port)))
+
+-- A plan is of its own task.
+pub own_task : (w : WorldView) (task : ℕ) (parsed : Parsed) (written : WireBody) (bytes : List ℕ) (plan : Plan) → IsPlan w task parsed written bytes plan
+    → IsPlan w plan.task parsed written bytes plan
+own_task w task parsed written bytes plan p = subst (λ (t : ℕ). IsPlan w t parsed written bytes plan) (sym p.task_is) p
+
+-- ---- a part of the words
+
+front_all : (a d : Names) (ws vs : List PortWord) (cs ds : List Carried) → length ws ≡ length cs → CopiesAll a (ws ++ vs) (cs ++ ds) d → (b : Names) × CopiesAll a ws cs b
+front_all a d [] vs [] ds e x = (a, refl)
+front_all a d [] vs (c ∷ cs) ds e x = absurd (omega arith)
+front_all a d (w ∷ ws) vs [] ds e x = absurd (omega arith)
+front_all a d (w ∷ ws) vs (c ∷ cs) ds e x = let f = front_all x.0 d ws vs cs ds (omega arith) x.2 in (f.0, (x.0, x.1, f.1))
+
+pub front_goes : (w : WorldView) (task : ℕ) (ws vs : List PortWord) (cs ds : List Carried) → length ws ≡ length cs → CanGo w task (ws ++ vs) (cs ++ ds) → CanGo w task ws cs
+front_goes w task ws vs cs ds e go =
+    let f = front_all go.space.names go.last ws vs cs ds e go.copies in
+    record {
+      space = go.space;
+      there = go.there;
+      last = f.0;
+      copies = f.1;
+      few = let few = go.few in let a = made_append cs ds in omega arith;
+      tied = go.tied;
+    }
+
+pub rest_goes : (old new : WorldView) (task : ℕ) (ws vs : List PortWord) (cs ds : List Carried) → CanGo old task (ws ++ vs) (cs ++ ds) → ChangesWords old task ws cs new → CanGo new task vs ds
+rest_goes old new task [] vs [] ds go ch = subst (λ (x : WorldView). CanGo x task vs ds) (sym ch) go
+rest_goes old new task [] vs (c ∷ cs) ds go ch = absurd ch
+rest_goes old new task (w ∷ ws) vs [] ds go ch = absurd ch
+rest_goes old new task (w ∷ ws) vs (c ∷ cs) ds go ch = rest_goes ch.0 new task ws vs cs ds (go_on old ch.0 task w (ws ++ vs) c (cs ++ ds) go ch.1) ch.2
+
+changes_append : (a b d : WorldView) (task : ℕ) (ws vs : List PortWord) (cs ds : List Carried) → ChangesWords a task ws cs b → ChangesWords b task vs ds d → ChangesWords a task (ws ++ vs) (cs ++ ds) d
+changes_append a b d task [] vs [] ds x y = subst (λ (n : WorldView). ChangesWords n task vs ds d) x y
+changes_append a b d task [] vs (c ∷ cs) ds x y = absurd x
+changes_append a b d task (w ∷ ws) vs [] ds x y = absurd x
+changes_append a b d task (w ∷ ws) vs (c ∷ cs) ds x y = (x.0, x.1, changes_append x.0 b d task ws vs cs ds x.2 y)
+
+-- ---- ports stay, and so do spare slots
+
+record PortsStay (old new : WorldView) : Type 0 where
+  live : (p : ℕ) → IsLive old.ports p → IsLive new.ports p
+  spare : new.ports.spare ≡ old.ports.spare
+
+stay_same : (old new : WorldView) → new ≡ old → PortsStay old new
+stay_same old new e = record { live = λ p h. subst (λ (x : WorldView). IsLive x.ports p) (sym e) h; spare = ap (λ (x : WorldView). x.ports.spare) e }
+
+stay_word : (old new : WorldView) (task : ℕ) (w : PortWord) (c : Carried) → ChangesWord old task w c new → PortsStay old new
+stay_word old new task w c ch = elim (eqb_tells w.name null_word) [
+  | inl n ↦ stay_same old new (rw n.0 at ch)
+  | inr n ↦ elim (eqb_tells w.name dead_word) [ inl d ↦ stay_same old new (rw (n.0, d.0) at ch) | inr d ↦ right (rw (n.0, d.0) at ch) ]
+]
+  where
+    right : CopiesRight old task c.given w.name c.mark new → PortsStay old new
+    right r =
+        let is : new.ports ≡ ports_copied c.given r.copied.mark old.ports = ap (λ (x : WorldView). x.ports) r.rest in
+        record {
+          live = λ p h. subst (λ (ports : PortsView Kept). IsLive ports p) (sym is) (live_copied c.given r.copied.mark old.ports p h);
+          spare = ap (λ (ports : PortsView Kept). ports.spare) is ∙ spare_copied c.given r.copied.mark old.ports;
+        }
+
+stay_words : (old new : WorldView) (task : ℕ) (ws : List PortWord) (cs : List Carried) → ChangesWords old task ws cs new → PortsStay old new
+stay_words old new task [] [] ch = stay_same old new ch
+stay_words old new task [] (c ∷ cs) ch = absurd ch
+stay_words old new task (w ∷ ws) [] ch = absurd ch
+stay_words old new task (w ∷ ws) (c ∷ cs) ch =
+    let a = stay_word old ch.0 task w c ch.1 in
+    let b = stay_words ch.0 new task ws cs ch.2 in
+    record { live = λ p h. b.live p (a.live p h); spare = b.spare ∙ a.spare }
+
+-- ---- the whole
+
+-- The destination's right went, then the reply's, then the body's.
+pub record Carries (old : WorldView) (task : ℕ) (plan : Plan) (mid : WorldView) : Type 0 where
+  pub one : WorldView
+  pub destination : ChangesWord old task plan.words.destination plan.destination one
+  pub two : WorldView
+  pub reply : ChangesWords one task (option_to_list plan.words.reply) (option_to_list plan.message.reply) two
+  pub body : ChangesWords two task plan.words.body.items plan.message.rights mid
+
+stay_all : (old mid : WorldView) (task : ℕ) (plan : Plan) → Carries old task plan mid → PortsStay old mid
+stay_all old mid task plan ca =
+    let a = stay_word old ca.one task plan.words.destination plan.destination ca.destination in
+    let b = stay_words ca.one ca.two task (option_to_list plan.words.reply) (option_to_list plan.message.reply) ca.reply in
+    let d = stay_words ca.two mid task plan.words.body.items plan.message.rights ca.body in
+    record { live = λ p h. d.live p (b.live p (a.live p h)); spare = d.spare ∙ b.spare ∙ a.spare }
+
+pub carries_live : (old mid : WorldView) (task : ℕ) (plan : Plan) (p : ℕ) → Carries old task plan mid → IsLive old.ports p → IsLive mid.ports p
+carries_live old mid task plan p ca h = (stay_all old mid task plan ca).live p h
+
+pub carries_spare : (old mid : WorldView) (task : ℕ) (plan : Plan) → Carries old task plan mid → mid.ports.spare ≡ old.ports.spare
+carries_spare old mid task plan ca = (stay_all old mid task plan ca).spare
+
+same_options : (o : Option Carried) → option_to_list o ≡ option_list o
+same_options None = refl
+same_options (Some c) = refl
+
+some_of : {X : Type 0} (o : Option X) → is_some o ≡ true → (x : X) × (o ≡ Some x)
+some_of None h = absurd (let e : false ≡ true = h in cc)
+some_of (Some x) h = (x, refl)
+
+abbrev with_queued : PortsView Kept → ℕ → PortView Kept → Kept → (spare : ℕ) → PortsView Kept
+with_queued ports p v m spare = record (with_port ports p (record v { queue = v.queue ++ m ∷ [] })) { spare = spare }
+
+same_queued : (a b : PortsView Kept) (p q : ℕ) (v : PortView Kept) (m k : Kept) (spare : ℕ) → a ≡ b → p ≡ q → m ≡ k → with_queued a p v m spare ≡ with_queued b q v k spare
+same_queued a b p q v m k spare x y z = rw (x, y, z) refl
+
+pub commits : (old mid : WorldView) (task : ℕ) (parsed : Parsed) (written : WireBody) (bytes : List ℕ) (plan : Plan) (p : IsPlan old task parsed written bytes plan)
+    (spaces : List SpaceView) (ports new_ports : PortsView Kept) (ledger : LedgerView) → Carries old task plan mid → IsLive ports plan.port
+    → ◌≡◌ {A = WorldView} (record { spaces = spaces; ports = ports; ledger = ledger }) mid
+    → ((v : PortView Kept) → map.get ports.ports plan.port ≡ Some v → new_ports ≡ record (with_port ports plan.port (record v { queue = v.queue ++ plan.message ∷ [] })) { spare = ports.spare - 1 })
+    → Commits old task parsed written p.plans.judged bytes (record { spaces = spaces; ports = new_ports; ledger = ledger })
+commits old mid task parsed written bytes plan p spaces ports new_ports ledger ca live view queued =
+    let found = some_of (map.get ports.ports plan.port) live in
+    let v : PortView Kept = found.0 in
+    let all = changes_append ca.one ca.two mid task (option_to_list plan.words.reply) plan.words.body.items (option_to_list plan.message.reply) plan.message.rights ca.reply ca.body in
+    let whole : ChangesWords old task (plan.words.destination ∷ (option_to_list plan.words.reply ++ plan.words.body.items)) (plan.destination ∷ (option_to_list plan.message.reply ++ plan.message.rights)) mid =
+    (ca.one, ca.destination, all) in
+    let e : ports ≡ mid.ports = ap (λ (w : WorldView). w.ports) view in
+    let s : spaces ≡ mid.spaces = ap (λ (w : WorldView). w.spaces) view in
+    let l : ledger ≡ mid.ledger = ap (λ (w : WorldView). w.ledger) view in
+    let reply : option_to_list plan.message.reply ≡ option_list p.plans.judged.reply = ap (λ (m : Kept). option_to_list m.reply) p.message ∙ same_options p.plans.judged.reply in
+    let rights : plan.message.rights ≡ p.plans.judged.rights = ap (λ (m : Kept). m.rights) p.message in
+    record {
+      mid = mid;
+      changes = rw (p.words.destination, p.words.reply, p.words.body, p.destination, reply, rights) at whole;
+      v = v;
+      there = ap (λ (ps : PortsView Kept). map.get ps.ports p.plans.judged.port) (sym e) ∙ ap (λ (q : ℕ). map.get ports.ports q) (sym p.port) ∙ found.1;
+      spare = ports.spare - 1;
+      rest = three _ _ _ _ _ _ s (queued v found.1 ∙ same_queued ports mid.ports plan.port p.plans.judged.port v plan.message (message_for bytes p.plans.judged) (ports.spare - 1) e p.port p.message) l;
+    }

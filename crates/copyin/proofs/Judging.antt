@@ -1,0 +1,124 @@
+-- Words judged one after the other.
+use Rattle.std.proofs.Common.{◌≡◌, ℕ, ◌+◌, ◌<◌, Option, Some, None, List, [], ◌∷◌, ◌++◌, length, take, drop, get_or, refl, sym, ap, subst, ◌∙◌, ◌⊎◌, inl, inr, arith, Bool, true, false, Result, Ok, Err, IfOk, IfErr}
+use Rattle.std.specs.Prelude.{◌≢◌, ◌==◌}
+use Rattle.std.proofs.lemmas.Bool.Decides.{eqb_tells}
+use Rattle.std.specs.BTreeMap.{BTreeMap}
+use Rattle.std.specs.FinMap as map
+use Rattle.std.proofs.lemmas.List.{take_more, take-append-drop, drop_more}
+use Rattle.mach_types.specs.declared.rights.Disposition.{Disposition}
+use Rattle.mach_types.specs.Numbers.{disposition, null_word, dead_word}
+use Rattle.message_codec.specs.declared.words.PortWord.{PortWord}
+use Rattle.name_space.specs.declared.Entry.{Entry}
+use Rattle.name_space.specs.Names.{Names}
+use Rattle.copyin.specs.declared.copies.Copied.{Copied}
+use Rattle.copyin.specs.declared.message.Carried.{Carried}
+use Rattle.copyin.specs.declared.message.Mark.{Mark}
+use Rattle.copyin.specs.declared.message.Mark.TheVariants as mark
+use Rattle.copyin.specs.Copies.{copied_from}
+use Rattle.copyin.specs.Goes.{LeadsNowhere}
+use Rattle.copyin.specs.Judging.{CopiesName, CopiesWord, CopiesBody, IsBad, IsLeft, BodyIsBad}
+use Rattle.copyin.specs.Overlays.{Overlays}
+
+same_value : {X : Type 0} (o : Option X) (x y : X) → o ≡ Some x → o ≡ Some y → x ≡ y
+same_value o x y a b = let e : Some x ≡ Some y = sym a ∙ b in cc
+
+-- What stands under the name and the disposition decide what goes.
+pub same_copied : (names : Names) (w : PortWord) (c : Carried) (after : Names) (d : Disposition) (e : Entry) (k : Copied) → CopiesName names w c after
+    → disposition w.disposition ≡ Some d → map.get names w.name ≡ Some e → copied_from d e ≡ Some k → (c.given ≡ d) × (c.mark ≡ k.mark)
+same_copied names w c after d e k is given found copied =
+    let dd : c.given ≡ d = same_value _ _ _ is.is_given given in
+    let ee : is.entry ≡ e = same_value _ _ _ is.found found in
+    let at : copied_from d e ≡ Some is.copied = subst (λ (x : Disposition). copied_from x e ≡ Some is.copied) dd (subst (λ (x : Entry). copied_from c.given x ≡ Some is.copied) ee is.is) in
+    let kk : is.copied ≡ k = same_value _ _ _ at copied in
+    (dd, is.mark ∙ ap (λ (x : Copied). x.mark) kk)
+
+pub same_mark : (names : Names) (w : PortWord) (a b : Carried) (x y : Names) → CopiesName names w a x → CopiesName names w b y → b.mark ≡ a.mark
+same_mark names w a b x y ca cb =
+    let s = same_copied names w b y a.given ca.entry ca.copied cb ca.is_given ca.found ca.is in
+    s.1 ∙ sym ca.mark
+
+pub leads_nowhere : (names : Names) (w : PortWord) (a : Carried) (x : Names) → CopiesName names w a x → ((p : ℕ) → ¬ (a.mark ≡ mark.Port p)) → LeadsNowhere names w
+leads_nowhere names w a x ca not = λ p c after is cc'. not p (sym (same_mark names w a c x after ca cc') ∙ is)
+
+-- nothing stands there, or nothing can go from it
+pub none_found : (names : Names) (w : PortWord) → map.get names w.name ≡ None → (c : Carried) (after : Names) → ¬ (CopiesName names w c after)
+none_found names w none c after is = let f = is.found in cc
+
+pub none_copied : (names : Names) (w : PortWord) (d : Disposition) (e : Entry) → disposition w.disposition ≡ Some d → map.get names w.name ≡ Some e → copied_from d e ≡ None
+    → (c : Carried) (after : Names) → ¬ (CopiesName names w c after)
+none_copied names w d e given found none c after is =
+    let dd : c.given ≡ d = same_value _ _ _ is.is_given given in
+    let ee : is.entry ≡ e = same_value _ _ _ is.found found in
+    let at : copied_from d e ≡ Some is.copied = subst (λ (x : Disposition). copied_from x e ≡ Some is.copied) dd (subst (λ (x : Entry). copied_from c.given x ≡ Some is.copied) ee is.is) in
+    let no : None ≡ Some is.copied = sym none ∙ at in
+    cc
+
+-- ---- a body, word by word
+
+body-push : (names mid after : Names) (ws : List PortWord) (cs : List Carried) (w : PortWord) (c : Carried) → CopiesBody names ws cs mid → CopiesWord mid w c after → ¬ (IsLeft w)
+    → CopiesBody names (ws ++ w ∷ []) (cs ++ c ∷ []) after
+body-push names mid after [] [] w c so word not = (after, subst (λ (n : Names). CopiesWord n w c after) so word, refl, not)
+body-push names mid after [] (d ∷ cs) w c so word not = absurd so
+body-push names mid after (v ∷ ws) [] w c so word not = absurd so
+body-push names mid after (v ∷ ws) (d ∷ cs) w c so word not = (so.0, so.1, body-push so.0 mid after ws cs w c so.2 word not, so.3)
+
+body-bad : (names mid : Names) (ws : List PortWord) (cs : List Carried) (w : PortWord) (rest : List PortWord) → CopiesBody names ws cs mid → IsBad mid w ⊎ IsLeft w
+    → BodyIsBad names (ws ++ w ∷ rest)
+body-bad names mid [] [] w rest so (inl bad) = inl (subst (λ (n : Names). IsBad n w) so bad)
+body-bad names mid [] [] w rest so (inr is) = inr (inl is)
+body-bad names mid [] (d ∷ cs) w rest so h = absurd so
+body-bad names mid (v ∷ ws) [] w rest so h = absurd so
+body-bad names mid (v ∷ ws) (d ∷ cs) w rest so h = inr (inr (d, so.0, so.1, body-bad so.0 mid ws cs w rest so.2 h))
+
+-- The words so far go, and leave what is over the names.
+pub record IsJudged (old new : BTreeMap ℕ (Option Entry)) (names : Names) (ws : List PortWord) (cs : List Carried) : Type 0 where
+  pub so : (now : Names) → Overlays old names now → (mid : Names) × CopiesBody now ws cs mid × Overlays new names mid
+
+pub judged-none : (old : BTreeMap ℕ (Option Entry)) (names : Names) → IsJudged old old names [] []
+judged-none old names = record { so = λ now o. (now, refl, o) }
+
+pub judged-more : (old mid new : BTreeMap ℕ (Option Entry)) (names : Names) (words : List PortWord) (i : ℕ) (w : PortWord) (cs : List Carried) (c : Carried) → i < length words
+    → w ≡ get_or words i w → IsJudged old mid names (take i words) cs → ¬ (IsLeft w)
+    → ((now : Names) → Overlays mid names now → (after : Names) × CopiesWord now w c after × Overlays new names after)
+    → IsJudged old new names (take (i + 1) words) (cs ++ c ∷ [])
+judged-more old mid new names words i w cs c h is j not goes = record {
+  so = λ now o.
+      let a = j.so now o in
+      let b = goes a.0 a.2 in
+      let more : take (i + 1) words ≡ take i words ++ w ∷ [] = take_more words i w h ∙ ap (λ (x : PortWord). take i words ++ x ∷ []) (sym is) in
+      (b.0, subst (λ (ws : List PortWord). CopiesBody now ws (cs ++ c ∷ []) b.0) (sym more) (body-push now a.0 b.0 (take i words) cs w c a.1 b.1 not), b.2);
+}
+
+pub judged-bad : (old mid : BTreeMap ℕ (Option Entry)) (names : Names) (words : List PortWord) (i : ℕ) (w : PortWord) (cs : List Carried) → i < length words
+    → w ≡ get_or words i w → IsJudged old mid names (take i words) cs
+    → ((now : Names) → Overlays mid names now → IsBad now w ⊎ IsLeft w)
+    → (now : Names) → Overlays old names now → BodyIsBad now words
+judged-bad old mid names words i w cs h is j bad now o =
+    let a = j.so now o in
+    let rest : drop i words ≡ w ∷ drop (i + 1) words = drop_more words i w h ∙ ap (λ (x : PortWord). x ∷ drop (i + 1) words) (sym is) in
+    let whole : take i words ++ w ∷ drop (i + 1) words ≡ words = ap (λ (ws : List PortWord). take i words ++ ws) (sym rest) ∙ take-append-drop i words in
+    subst (λ (ws : List PortWord). BodyIsBad now ws) whole (body-bad now a.0 (take i words) cs w (drop (i + 1) words) a.1 (bad a.0 a.2))
+
+-- ---- words that are no names, and names
+
+pub passes : (names : Names) (w : PortWord) (d : Disposition) (m : Mark) → disposition w.disposition ≡ Some d
+    → (w.name ≡ null_word) × (m ≡ mark.Null) ⊎ (w.name ≡ dead_word) × (m ≡ mark.Dead) → CopiesWord names w (record { given = d; mark = m }) names
+passes names w d m given (inl h) = rw h.0 (given, h.1, refl)
+passes names w d m given (inr h) = rw h.0 (given, h.1, refl)
+
+not_equal : (a b : ℕ) → a ≢ b → (a == b) ≡ false
+not_equal a b not = elim (eqb_tells a b) [ inl h ↦ absurd (not h.1) | inr h ↦ h.0 ]
+
+pub goes_by_name : (names : Names) (w : PortWord) (c : Carried) (after : Names) → w.name ≢ null_word → w.name ≢ dead_word → CopiesName names w c after → CopiesWord names w c after
+goes_by_name names w c after null dead is = rw (not_equal w.name null_word null, not_equal w.name dead_word dead) is
+
+pub by_name : (names : Names) (w : PortWord) (c : Carried) (after : Names) → w.name ≢ null_word → w.name ≢ dead_word → CopiesWord names w c after → CopiesName names w c after
+by_name names w c after null dead is = rw (not_equal w.name null_word null, not_equal w.name dead_word dead) at is
+
+pub ok_as : {A B : Type 0} (r : Result A B) (P Q : A → Type 0) → ((a : A) → P a → Q a) → IfOk r P → IfOk r Q
+ok_as (Ok a) P Q f p = f a p
+ok_as (Err e) P Q f p = tt
+
+pub err_as : {A B : Type 0} (r : Result A B) (P Q : B → Type 0) → ((b : B) → P b → Q b) → IfErr r P → IfErr r Q
+err_as (Ok a) P Q f p = tt
+err_as (Err e) P Q f p = f e p

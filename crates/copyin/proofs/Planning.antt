@@ -1,0 +1,228 @@
+-- What judging the words of a text says of the plan.
+use Rattle.std.proofs.Common.{◌≡◌, ℕ, ◌+◌, ◌/◌, ◌%◌, ◌^◌, ◌<◌, ◌≤◌, Bool, true, false, Option, Some, None, IsSome, IfSome, List, [], ◌∷◌, ◌++◌, zero, suc, refl, sym, ap, subst, ◌∙◌, inl, inr, ◌⊎◌, arith, All}
+use Rattle.std.specs.Prelude.{◌≢◌, slice_get}
+use Rattle.std.specs.Option.{option_to_list}
+use Rattle.std.proofs.lemmas.Bool.Decides.{eqb_tells, leb_tells}
+use Rattle.std.proofs.lemmas.List.Elements.{All-append, All-map}
+use Rattle.mach_types.specs.declared.codes.MsgReturn.{MsgReturn}
+use Rattle.mach_types.specs.declared.codes.MsgReturn.TheVariants.{SendMsgTooSmall, SendInvalidData, SendInvalidHeader, SendInvalidDest, SendInvalidReply, SendInvalidRight, SendTimedOut, SendNoBuffer}
+use Rattle.mach_types.specs.declared.rights.Disposition.{Disposition}
+use Rattle.mach_types.specs.declared.rights.Disposition.TheVariants.{MoveSend, MoveSendOnce, CopySend, MakeSend, MakeSendOnce}
+use Rattle.mach_types.specs.Grammar.{Header, Wire, data_item, port_item, WireBody, raw, items, IsWire, IsWireBody, NamesPorts, text}
+use Rattle.mach_types.specs.Numbers.{disposition, kind_sent, msg_number, most_rights}
+use Rattle.mach_types.specs.TextGuards.{TextRefuses, BadHeader, IsSendable, word_at}
+use Rattle.mach_types.specs.Tokens.{Kind, receive, send, send_once, same_kind}
+use Rattle.message_codec.specs.declared.text.Parsed.{Parsed}
+use Rattle.message_codec.specs.declared.words.PortWord.{PortWord}
+use Rattle.message_codec.specs.Parses.{Parses}
+use Rattle.message_codec.specs.Words.{items_words, body_words}
+use Rattle.message_codec.proofs.PutWords.{six}
+use Rattle.message_codec.proofs.Shapes.{All-head, All-tail}
+use Rattle.name_space.specs.Names.{Names, SpaceView}
+use Rattle.port.specs.Ports.{PortsView, IsLive}
+use Rattle.rights.specs.Ledger.{LedgerView}
+use Rattle.copyin.specs.declared.judge.Rights.{Rights}
+use Rattle.copyin.specs.declared.judge.Words.{Words}
+use Rattle.copyin.specs.declared.message.Carried.{Carried}
+use Rattle.copyin.specs.Goes.{AreGiven, LeadsNowhere, GoAll, CannotGo, made_by_rights}
+use Rattle.copyin.specs.Judging.{CopiesName, CopiesReply, CopiesBody, BodyIsBad}
+use Rattle.copyin.specs.Kept.{Kept}
+use Rattle.copyin.specs.Planned.{AreWords}
+use Rattle.copyin.specs.Plans.{destination_word, reply_words, Judged, HasSlot, HasNoSlot, CannotPlan, message_for}
+use Rattle.copyin.specs.Stands.{AreTied}
+use Rattle.copyin.specs.Worlds.{WorldView}
+use Rattle.copyin.proofs.Keeping.{keeps}
+
+-- ---- the words of a text have dispositions
+
+ports_given : (n : ℕ) → NamesPorts n → IsSome (disposition n)
+ports_given n ports = elim (six n ports) [
+  | inl h ↦ rw h refl
+  | inr a ↦ elim a [
+    | inl h ↦ rw h refl
+    | inr b ↦ elim b [
+      | inl h ↦ rw h refl
+      | inr c ↦ elim c [
+        | inl h ↦ rw h refl
+        | inr d ↦ elim d [ inl h ↦ rw h refl | inr h ↦ rw h refl ]
+      ]
+    ]
+  ]
+]
+
+-- no receive right goes by such a disposition
+sends : (n : ℕ) (given d : Disposition) → disposition n ≡ Some given → kind_sent given ≢ receive → disposition n ≡ Some d → kind_sent d ≢ receive
+sends n given d e not e' is = let same : Some given ≡ Some d = sym e ∙ e' in not (let g : given ≡ d = cc in ap kind_sent g ∙ is)
+
+not_send : send ≢ receive
+not_send e = cc
+
+not_once : send_once ≢ receive
+not_once e = cc
+
+pub sendable_sends : (n : ℕ) (d : Disposition) → IsSendable n → disposition n ≡ Some d → kind_sent d ≢ receive
+sendable_sends n d able e = elim (six n (omega (arith, able.0), able.1)) [
+  | inl h ↦ absurd (omega (arith, h, able.0))
+  | inr a ↦ elim a [
+    | inl h ↦ sends n MoveSend d (rw h refl) not_send e
+    | inr b ↦ elim b [
+      | inl h ↦ sends n MoveSendOnce d (rw h refl) not_once e
+      | inr c ↦ elim c [
+        | inl h ↦ sends n CopySend d (rw h refl) not_send e
+        | inr f ↦ elim f [ inl h ↦ sends n MakeSend d (rw h refl) not_send e | inr h ↦ sends n MakeSendOnce d (rw h refl) not_once e ]
+      ]
+    ]
+  ]
+]
+
+header_good : (bytes : List ℕ) → ((code : ℕ) → ¬ (TextRefuses bytes code)) → ¬ (BadHeader (word_at bytes 0) (word_at bytes 12))
+header_good bytes un bad =
+    un (msg_number SendInvalidHeader) (inl (inr (
+      λ h. un (msg_number SendMsgTooSmall) (inl (inl (h, refl))),
+      inr (λ h. un (msg_number SendInvalidData) (inl (inr (λ g. un (msg_number SendMsgTooSmall) (inl (inl (g, refl))), inl (h, refl)))), inl (bad, refl)),
+    )))
+
+sendable : (n : ℕ) → ¬ (¬ (IsSendable n)) → IsSendable n
+sendable n not = elim (leb_tells 17 n) [
+  | inl a ↦ elim (leb_tells n 21) [ inl b ↦ (a.1, b.1) | inr b ↦ absurd (not (λ s. absurd (omega (arith, s.1, b.1)))) ]
+  | inr a ↦ absurd (not (λ s. absurd (omega (arith, s.0, a.1))))
+]
+
+remote_of_text : (h : Header) (w : WireBody) → h.remote_kind < 2 ^ 8 → h.local_kind < 2 ^ 8 → word_at (text h w) 0 % 2 ^ 8 ≡ h.remote_kind
+remote_of_text h (raw bytes) fits small = omega arith
+remote_of_text h (items xs) fits small = omega arith
+
+local_of_text : (h : Header) (w : WireBody) → h.remote_kind < 2 ^ 8 → h.local_kind < 2 ^ 8 → word_at (text h w) 0 / 2 ^ 8 % 2 ^ 8 ≡ h.local_kind
+local_of_text h (raw bytes) fits small = omega arith
+local_of_text h (items xs) fits small = omega arith
+
+module _ (bytes : List ℕ) (parsed : Parsed) (p : Parses bytes parsed) where
+  good : ¬ (BadHeader (word_at bytes 0) (word_at bytes 12))
+  good = header_good bytes p.message.unrefused
+
+  remote_is : word_at bytes 0 % 2 ^ 8 ≡ parsed.remote_kind
+  remote_is = ap (λ (bs : List ℕ). word_at bs 0 % 2 ^ 8) p.message.spells.is_text
+      ∙ remote_of_text p.header p.written p.message.spells.header_fits.remote_kind p.message.spells.header_fits.local_kind ∙ sym p.remote_kind
+
+  local_is : word_at bytes 0 / 2 ^ 8 % 2 ^ 8 ≡ parsed.local_kind
+  local_is = ap (λ (bs : List ℕ). word_at bs 0 / 2 ^ 8 % 2 ^ 8) p.message.spells.is_text
+      ∙ local_of_text p.header p.written p.message.spells.header_fits.remote_kind p.message.spells.header_fits.local_kind ∙ sym p.local_kind
+
+  pub remote_sendable : IsSendable parsed.remote_kind
+  remote_sendable = subst IsSendable remote_is (sendable _ (λ n. good (inr (inl n))))
+
+  pub local_sendable : parsed.local_kind ≢ 0 → IsSendable parsed.local_kind
+  local_sendable some = subst IsSendable local_is (sendable _ (λ n. good (inr (inr (inl ((λ e. some (sym local_is ∙ e)), n))))))
+
+abbrev IsGiven : PortWord → Type 0
+IsGiven w = IsSome (disposition w.disposition)
+
+sendable_given : (n : ℕ) → IsSendable n → IsSome (disposition n)
+sendable_given n able = ports_given n (omega (arith, able.0), able.1)
+
+items_given : (xs : List Wire) → All IsWire xs → All IsGiven (items_words xs)
+items_given [] are = λ k d h. absurd (omega arith)
+items_given (data_item f n s c bytes padding ∷ xs) are = items_given xs (All-tail IsWire (data_item f n s c bytes padding) xs are)
+items_given (port_item f d words ∷ xs) are =
+    let is : IsWire (port_item f d words) = All-head IsWire (port_item f d words) xs are in
+    All-append IsGiven _ (items_words xs) (All-map IsGiven (λ w. record { disposition = d; name = w }) words (λ k e h. ports_given d is.1))
+    (items_given xs (All-tail IsWire (port_item f d words) xs are))
+
+body_given : (written : WireBody) → IsWireBody written → All IsGiven (body_words written)
+body_given (raw bytes) is = λ k d h. absurd (omega arith)
+body_given (items xs) is = items_given xs is
+
+reply_given : (o : Option PortWord) (parsed : Parsed) → option_to_list o ≡ reply_words parsed → (parsed.local_kind ≢ 0 → IsSome (disposition parsed.local_kind)) → IfSome o IsGiven
+reply_given None parsed e able = tt
+reply_given (Some w) parsed e able = elim (eqb_tells parsed.local_kind 0) [
+  | inl h ↦ absurd (let no : w ∷ [] ≡ [] = rw h.0 at e in cc)
+  | inr h ↦
+      let only : w ∷ [] ≡ record { disposition = parsed.local_kind; name = parsed.local } ∷ [] = rw h.0 at e in
+      let same : w ≡ record { disposition = parsed.local_kind; name = parsed.local } = cc in
+      subst IsGiven (sym same) (able h.1)
+]
+
+pub words_given : (bytes : List ℕ) (parsed : Parsed) (p : Parses bytes parsed) (words : Words) → AreWords parsed p.written words → AreGiven words
+words_given bytes parsed p words a = record {
+  destination = subst IsGiven (sym a.destination) (sendable_given parsed.remote_kind (remote_sendable bytes parsed p));
+  reply = reply_given words.reply parsed a.reply (λ some. sendable_given parsed.local_kind (local_sendable bytes parsed p some));
+  body = subst (λ (ws : List PortWord). All IsGiven ws) (sym a.body) (body_given p.written p.message.spells.body_fits);
+}
+
+-- ---- the rights that go
+
+module _ (w : WorldView) (task : ℕ) (parsed : Parsed) (written : WireBody) (space : SpaceView) (words : Words) (there : slice_get w.spaces task ≡ Some space)
+    (a : AreWords parsed written words) where
+  pub cannot_judge : (code : MsgReturn) → (code ≡ SendNoBuffer) ⊎ CannotGo space.names words code → CannotPlan w task parsed written (msg_number code)
+  cannot_judge code (inl h) = inr (inr (inr (ap msg_number h)))
+  cannot_judge code (inr (inl h)) =
+      let nowhere : LeadsNowhere space.names (destination_word parsed) = subst (λ (x : PortWord). LeadsNowhere space.names x) a.destination h.1 in
+      inl (space, there, nowhere, ap msg_number h.0)
+  cannot_judge code (inr (inr (inl h))) =
+      let st = h.1.1 in
+      let bad = h.1.2 in
+      inr (inl (
+        space,
+        there,
+        st.port,
+        st.destination,
+        st.to_port,
+        h.1.0,
+        subst (λ (x : PortWord). CopiesName space.names x st.destination h.1.0) a.destination st.copies,
+        inl (bad.0, sym a.reply ∙ bad.1, bad.2, ap msg_number h.0),
+      ))
+  cannot_judge code (inr (inr (inr h))) =
+      let st = h.1.1 in
+      inr (inl (
+        space,
+        there,
+        st.port,
+        st.destination,
+        st.to_port,
+        h.1.0,
+        subst (λ (x : PortWord). CopiesName space.names x st.destination h.1.0) a.destination st.copies,
+        inr (
+          h.1.2,
+          h.1.3,
+          subst (λ (ws : List PortWord). CopiesReply h.1.0 ws h.1.2 h.1.3) a.reply h.1.4,
+          subst (λ (ws : List PortWord). BodyIsBad h.1.3 ws) a.body h.1.5,
+          ap msg_number h.0,
+        ),
+      ))
+
+  module _ (rights : Rights) (g : GoAll space.names words rights) where
+    abbrev pub judged_of : Judged w task parsed written
+    judged_of = record {
+      space = space;
+      there = there;
+      destination = rights.destination;
+      port = rights.port;
+      to_port = g.to_port;
+      first = g.first;
+      copies_destination = subst (λ (x : PortWord). CopiesName space.names x rights.destination g.first) a.destination g.destination;
+      reply = rights.reply;
+      second = g.second;
+      copies_reply = subst (λ (ws : List PortWord). CopiesReply g.first ws rights.reply g.second) a.reply g.reply;
+      rights = rights.body.items;
+      last = g.last;
+      copies_body = subst (λ (ws : List PortWord). CopiesBody g.second ws rights.body.items g.last) a.body g.body;
+    }
+
+    pub cannot_admit : (code : MsgReturn) → HasNoSlot w rights.port rights.destination × (code ≡ SendTimedOut)
+        ⊎ HasSlot w rights.port rights.destination × (most_rights < w.ledger.total + made_by_rights rights) × (code ≡ SendNoBuffer) → CannotPlan w task parsed written (msg_number code)
+    cannot_admit code (inl h) = inr (inr (inl (judged_of, inl (h.0, ap msg_number h.1))))
+    cannot_admit code (inr h) = inr (inr (inl (judged_of, inr (h.0, h.1, ap msg_number h.2))))
+
+    pub message_is : (bytes kept : List ℕ) (once : Bool) → kept ≡ bytes → once ≡ same_kind (kind_sent rights.destination.given) send_once
+        → ◌≡◌ {A = Kept} (record { bytes = kept; id = parsed.id; is_complex = parsed.is_complex; spans = parsed.spans; by_once = once; reply = rights.reply; rights = rights.body.items })
+        (message_for bytes judged_of)
+    message_is bytes kept once e o = rw (e, o) refl
+
+    pub port_lives : AreTied space.names w.ports w.ledger → IsLive w.ports rights.port
+    port_lives tied =
+        let d = g.destination in
+        tied.live words.destination.name d.entry rights.port d.found ((keeps rights.destination.given d.entry d.copied d.is).mark rights.port (sym d.mark ∙ g.to_port))
+
+    pub destination_sends : IsSendable parsed.remote_kind → kind_sent rights.destination.given ≢ receive
+    destination_sends able =
+        sendable_sends parsed.remote_kind rights.destination.given able (ap (λ (x : PortWord). disposition x.disposition) (sym a.destination) ∙ g.destination.is_given)

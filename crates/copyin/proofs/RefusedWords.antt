@@ -1,0 +1,219 @@
+-- Words that can't be copied in, one after the other: the machine refuses them too.
+use Rattle.std.proofs.Common.{◌≡◌, ℕ, List, [], ◌∷◌, ◌++◌, Option, Some, None, refl, sym, ap, subst, ◌∙◌, arith, Bool, true, false, ◌⊎◌, inl, inr, length, All}
+use Rattle.std.specs.Prelude.{◌≢◌, ◌==◌, if◌then◌else◌, slice_get}
+use Rattle.std.proofs.lemmas.Bool.{eqb-true}
+use Rattle.std.proofs.lemmas.Bool.Decides.{eqb_tells}
+use Rattle.mach_types.specs.declared.rights.Disposition.{Disposition}
+use Rattle.mach_types.specs.declared.rights.Disposition.TheVariants.{MoveReceive}
+use Rattle.mach_types.specs.declared.codes.MsgReturn.TheVariants.{SendInvalidDest, SendInvalidReply, SendInvalidRight, SendTimedOut, SendNoBuffer}
+use Rattle.mach_types.specs.Numbers.{disposition, disposition_number, kind_sent, null_word, dead_word, msg_number}
+use Rattle.mach_types.specs.Tokens.{in_message}
+use Rattle.mach_types.specs.Messages.{to_port, dead, Item, rights, ReplyRight}
+use Rattle.mach_types.specs.Messages.{Mark as MachineMark}
+use Rattle.mach_types.specs.Grammar.{Wire, data_item, port_item, WireBody, IsWire, IsWireBody}
+use Rattle.mach_model.specs.State.{State, Target, lookup}
+use Rattle.mach_model.specs.SentMeans.{target_mark}
+use Rattle.mach_model.specs.CopyIn.{CopyRight, CopyWord, CopyWords, CopyItem, CopyReply}
+use Rattle.mach_model.specs.NotYet.{IsNotYetCarried}
+use Rattle.mach_model.specs.Sending.{IsLegalName, IsDeadName, IsBadWord, WordsRefuse, ItemsRefuse, BodyRefuses, IsBadDestination, ReplyRefuses, RightsRefuse, sent_guards, place_of}
+use Rattle.mach_types.specs.Guards.{FirstIs}
+use Rattle.mach_model.proofs.Moving.{moving}
+use Rattle.message_codec.specs.declared.text.Parsed.{Parsed}
+use Rattle.message_codec.specs.declared.words.PortWord.{PortWord}
+use Rattle.message_codec.specs.Parses.{Parses}
+use Rattle.message_codec.specs.Words.{items_words, body_words}
+use Rattle.message_codec.proofs.Shapes.{All-head, All-tail}
+use Rattle.name_space.specs.Names.{Names, SpaceView}
+use Rattle.copyin.specs.declared.message.Carried.{Carried}
+use Rattle.copyin.specs.declared.message.Mark.{Mark}
+use Rattle.copyin.specs.declared.message.Mark.TheVariants as mark
+use Rattle.copyin.specs.Kept.{mark_of, reply_of}
+use Rattle.copyin.specs.Worlds.{WorldView}
+use Rattle.copyin.specs.Shows.{Shows}
+use Rattle.copyin.specs.Judging.{CopiesName, CopiesWord, CopiesReply, IsBad, IsLeft, BodyIsBad}
+use Rattle.copyin.specs.Plans.{destination_word, reply_words, Judged, HasSlot, HasNoSlot, CannotPlan}
+use Rattle.copyin.proofs.Stepping.{Along, Went, went, Stepped, stepped}
+use Rattle.copyin.proofs.Bodies.{words_of}
+use Rattle.copyin.proofs.Numbering.{given_ports}
+use Rattle.copyin.proofs.Texts.{no_answer}
+use Rattle.copyin.proofs.Planned.{Replied, replied, third, copied}
+use Rattle.copyin.proofs.Planned.{message as planned_message}
+use Rattle.copyin.proofs.Sent.{refused_full}
+use Rattle.copyin.proofs.Refused.{legal_copies}
+
+module _ (w : WorldView) (s : State) (o k task : ℕ) (names : Names) (at : Along w s o k task names) where
+  pub bad_word : (word : PortWord) → IsBad names word → IsBadWord s task word.disposition word.name
+  bad_word word bad = (bad.0, bad.1, λ legal. let x = legal_copies w s o k task names at word.name word.disposition legal in bad.2 x.0 x.1 x.2)
+
+-- whether a word is one that isn't taken yet
+is_left : (word : PortWord) → IsLeft word ⊎ ¬ (IsLeft word)
+is_left word = elim (eqb_tells word.disposition (disposition_number MoveReceive)) [
+  | inl a ↦ elim (eqb_tells word.name null_word) [
+    | inl b ↦ inr (λ h. h.1 b.1)
+    | inr b ↦ elim (eqb_tells word.name dead_word) [
+      | inl c ↦ inr (λ h. h.2 c.1)
+      | inr c ↦ inl (a.1, b.1, c.1)
+    ]
+  ]
+  | inr a ↦ inr (λ h. a.1 h.0)
+]
+
+-- ---- the words of one item, and what comes after them
+
+pub record Later (w : WorldView) (s : State) (o k task number : ℕ) (ws : List ℕ) (more : List PortWord) : Type 0 where
+  pub w2 : WorldView
+  pub t : State
+  pub names : Names
+  pub along : Along w2 t o k task names
+  pub marks : List MachineMark
+  pub copy : CopyWords task (in_message o k) number ws s marks t
+  pub bad : BodyIsBad names more
+
+pub bad_part : (w : WorldView) (s : State) (o k task : ℕ) (names : Names) (number : ℕ) (ws : List ℕ) (more : List PortWord) → Along w s o k task names →
+    BodyIsBad names (words_of number ws ++ more) → WordsRefuse task (in_message o k) number ws s ⊎ Later w s o k task number ws more
+bad_part w s o k task names number [] more at bad = inr record { w2 = w; t = s; names = names; along = at; marks = []; copy = refl; bad = bad }
+bad_part w s o k task names number (v ∷ ws) more at (inl bad) = inl (inl (bad_word w s o k task names at (record { disposition = number; name = v }) bad))
+bad_part w s o k task names number (v ∷ ws) more at (inr (inl left)) = inl (inr (inl left))
+bad_part w s o k task names number (v ∷ ws) more at (inr (inr h)) =
+    let word : PortWord = record { disposition = number; name = v } in
+    let x = stepped w s o k task names word h.0 h.1 at h.2 in
+    elim (is_left word) [
+      | inl left ↦ inl (inr (inl left))
+      | inr not ↦ elim (bad_part x.w2 x.t o k task h.1 number ws more x.along h.3) [
+        | inl r ↦ inl (inr (inr (mark_of h.0.mark, x.t, x.copy, r)))
+        | inr y ↦ inr record { w2 = y.w2; t = y.t; names = y.names; along = y.along; marks = mark_of h.0.mark ∷ y.marks; copy = (x.t, x.copy, y.copy, not); bad = y.bad }
+      ]
+    ]
+
+pub bad_items : (w : WorldView) (s : State) (o k task : ℕ) (names : Names) (xs : List Wire) → Along w s o k task names → All IsWire xs → BodyIsBad names (items_words xs) →
+    ItemsRefuse task (in_message o k) xs s
+bad_items w s o k task names [] at are bad = bad
+bad_items w s o k task names (data_item f n z c bytes padding ∷ xs) at are bad = bad_items w s o k task names xs at (All-tail IsWire (data_item f n z c bytes padding) xs are) bad
+bad_items w s o k task names (port_item f number ws ∷ xs) at are bad =
+    let i = port_item f number ws in
+    let is = All-head IsWire i xs are in
+    let d = given_ports number is.1 in
+    elim (bad_part w s o k task names number ws (items_words xs) at bad) [
+      | inl r ↦ inl r
+      | inr y ↦ inr (
+        rights f (kind_sent d.0) y.marks,
+        y.t,
+        (d.0, d.1, refl, refl, y.copy),
+        bad_items y.w2 y.t o k task y.names xs y.along (All-tail IsWire i xs are) y.bad,
+      )
+    ]
+
+pub bad_body : (w : WorldView) (s : State) (o k task : ℕ) (names : Names) (written : WireBody) → Along w s o k task names → IsWireBody written → BodyIsBad names (body_words written) →
+    BodyRefuses task (in_message o k) written s
+bad_body w s o k task names (WireBody.raw bytes) at fits bad = bad
+bad_body w s o k task names (WireBody.items xs) at fits bad = bad_items w s o k task names xs at fits bad
+
+-- ---- the whole message
+
+module _ (w : WorldView) (s : State) (sh : Shows w s) (task : ℕ) (bytes : List ℕ) (parsed : Parsed) (text : Parses bytes parsed) where
+  start_at : (p : ℕ) (space : SpaceView) → slice_get w.spaces task ≡ Some space → Along w s p (length (s.log p)) task space.names
+  start_at p space there = record { agrees = sh.agrees; moving = moving s p (length (s.log p)) sh.lawful; space = space; there = there; names_are = refl }
+
+  -- ---- the destination
+
+  dead_mark : (d : Disposition) (t : Target) → target_mark d t ≡ Some dead → (n : ℕ) × (t ≡ Target.dead n)
+  dead_mark d (Target.dead n) e = (n, refl)
+  dead_mark d (Target.port p) e = absurd (let f : Some (to_port p) ≡ Some dead = e in cc)
+  dead_mark d (Target.once p) e = absurd (let f : Some (to_port p) ≡ Some dead = e in cc)
+  dead_mark d (Target.set n) e = absurd (let f : None ≡ Some dead = e in cc)
+
+  no_null : (d : Disposition) (t : Target) → target_mark d t ≡ Some MachineMark.null → ⊥
+  no_null MoveReceive (Target.dead n) e = let f : None ≡ Some MachineMark.null = e in cc
+  no_null d (Target.dead n) e = cc
+  no_null d (Target.port p) e = cc
+  no_null d (Target.once p) e = cc
+  no_null d (Target.set n) e = let f : None ≡ Some MachineMark.null = e in cc
+
+  module _ (space : SpaceView) (there : slice_get w.spaces task ≡ Some space)
+      (bad : (p : ℕ) (c : Carried) (after : Names) → c.mark ≡ mark.Port p → ¬ (CopiesName space.names (destination_word parsed) c after)) where
+    module _ (l : IsLegalName s task parsed.remote parsed.remote_kind) where
+      -- a destination that could be copied in is dead
+      would_be : (c : Carried) (after : Names) → CopiesName space.names (destination_word parsed) c after → (m : Mark) → c.mark ≡ m → target_mark l.0 l.1 ≡ Some (mark_of m) → IsDeadName s task parsed.remote
+      would_be c after n (mark.Port p) e is = absurd (bad p c after e n)
+      would_be c after n mark.Null e is = absurd (no_null l.0 l.1 is)
+      would_be c after n mark.Dead e is = let d = dead_mark l.0 l.1 is in (d.0, l.3 ∙ ap Some d.1)
+
+      would_be_dead : IsDeadName s task parsed.remote
+      would_be_dead =
+          let x = legal_copies w s 0 (length (s.log 0)) task space.names (start_at 0 space there) parsed.remote parsed.remote_kind l in
+          would_be x.0 x.1 x.2 x.0.mark refl x.3
+
+    decided : (o : Option Target) → lookup s task parsed.remote ≡ o → IsBadDestination s task parsed.remote_kind parsed.remote
+    decided (Some (Target.dead n)) e = inr (n, e)
+    decided None e = inl (λ l. let d = would_be_dead l in let f : None ≡ Some (Target.dead d.0) = sym e ∙ d.1 in cc)
+    decided (Some (Target.port p)) e = inl (λ l. let d = would_be_dead l in let f : Some (Target.port p) ≡ Some (Target.dead d.0) = sym e ∙ d.1 in cc)
+    decided (Some (Target.once p)) e = inl (λ l. let d = would_be_dead l in let f : Some (Target.once p) ≡ Some (Target.dead d.0) = sym e ∙ d.1 in cc)
+    decided (Some (Target.set n)) e = inl (λ l. let d = would_be_dead l in let f : Some (Target.set n) ≡ Some (Target.dead d.0) = sym e ∙ d.1 in cc)
+
+    bad_destination : IsBadDestination s task text.header.remote_kind text.header.remote
+    bad_destination =
+        subst (λ (n : ℕ). IsBadDestination s task n text.header.remote) text.remote_kind
+        (subst (λ (n : ℕ). IsBadDestination s task parsed.remote_kind n) text.remote (decided (lookup s task parsed.remote) refl))
+
+  -- ---- what comes after the destination
+
+  module _ (space : SpaceView) (there : slice_get w.spaces task ≡ Some space) (p : ℕ) (c : Carried) (to : c.mark ≡ mark.Port p) (first : Names)
+      (n : CopiesName space.names (destination_word parsed) c first) where
+    abbrev end : ℕ
+    end = length (s.log p)
+
+    x1 : Went w s p (length (s.log p)) task (destination_word parsed) c first
+    x1 = went w s p (length (s.log p)) task space.names (destination_word parsed) c first (start_at p space there) n
+
+    to_header : CopyRight task (in_message p (length (s.log p))) text.header.remote_kind text.header.remote s (to_port p) x1.t
+    to_header =
+        subst (λ (m : ℕ). CopyRight task (in_message p (length (s.log p))) text.header.remote_kind m s (to_port p) x1.t) text.remote
+        (subst (λ (m : ℕ). CopyRight task (in_message p (length (s.log p))) m parsed.remote s (to_port p) x1.t) text.remote_kind
+        (subst (λ (m : MachineMark). CopyRight task (in_message p (length (s.log p))) parsed.remote_kind parsed.remote s m x1.t) (ap mark_of to) x1.copy))
+
+    not_none : (b : Bool) → parsed.local_kind == 0 ≡ b → (r : PortWord) → (if b then [] else record { disposition = parsed.local_kind; name = parsed.local } ∷ []) ≡ r ∷ [] →
+        (parsed.local_kind ≢ 0) × (r ≡ record { disposition = parsed.local_kind; name = parsed.local })
+    not_none true e r is = absurd (let f : [] ≡ r ∷ [] = is in cc)
+    not_none false e r is = ((λ z. let f : parsed.local_kind == 0 ≡ true = ap (λ (m : ℕ). m == 0) z in cc), (let f : record { disposition = parsed.local_kind; name = parsed.local } ∷ [] ≡ r ∷ [] = is in cc))
+
+    bad_reply : (r : PortWord) → reply_words parsed ≡ r ∷ [] → IsBad first r → ReplyRefuses x1.t task text.header.local_kind text.header.local
+    bad_reply r is bad =
+        let y = not_none (parsed.local_kind == 0) refl r is in
+        let z = bad_word x1.w2 x1.t p (length (s.log p)) task first x1.along (record { disposition = parsed.local_kind; name = parsed.local }) (subst (IsBad first) y.1 bad) in
+        subst (λ (m : ℕ). ReplyRefuses x1.t task text.header.local_kind m) text.local
+        (subst (λ (m : ℕ). ReplyRefuses x1.t task m parsed.local) text.local_kind (y.0, z))
+
+    module _ (reply : Option Carried) (second : Names) (r : CopiesReply first (reply_words parsed) reply second) where
+      x2 : Replied x1.w2 x1.t p (length (s.log p)) task parsed.local_kind parsed.local (reply_words parsed) reply second
+      x2 = replied x1.w2 x1.t p (length (s.log p)) task first x1.along parsed (λ e. text.local ∙ no_answer bytes parsed text (sym text.local_kind ∙ e)) reply second r
+
+      reply_header : CopyReply task (in_message p (length (s.log p))) text.header.local_kind text.header.local x1.t (reply_of reply) x2.t
+      reply_header =
+          subst (λ (m : ℕ). CopyReply task (in_message p (length (s.log p))) text.header.local_kind m x1.t (reply_of reply) x2.t) text.local
+          (subst (λ (m : ℕ). CopyReply task (in_message p (length (s.log p))) m parsed.local x1.t (reply_of reply) x2.t) text.local_kind x2.copy)
+
+      bad_rights : BodyIsBad second (body_words text.written) → BodyRefuses task (in_message p (length (s.log p))) text.written x2.t
+      bad_rights bad = bad_body x2.w2 x2.t p (length (s.log p)) task second text.written x2.along text.message.spells.body_fits bad
+
+  -- What the tables refuse for a cause in the message, the machine does.
+  pub cannot : (code : ℕ) → CannotPlan w task parsed text.written code → (code ≡ msg_number SendNoBuffer) ⊎ RightsRefuse s task text.header text.written code
+  cannot code (inl h) = inr (inl (bad_destination h.0 h.1 h.2, h.3))
+  cannot code (inr (inl (space, there, p, c, to, first, n, inl r))) =
+      inr (inr (inl (p, (x1 space there p c to first n).t, to_header space there p c to first n, inl (bad_reply space there p c to first n r.0 r.1 r.2, r.3))))
+  cannot code (inr (inl (space, there, p, c, to, first, n, inr b))) =
+      inr (inr (inl (
+        p,
+        (x1 space there p c to first n).t,
+        to_header space there p c to first n,
+        inr (reply_of b.0, (x2 space there p c to first n b.0 b.1 b.2).t, reply_header space there p c to first n b.0 b.1 b.2, bad_rights space there p c to first n b.0 b.1 b.2 b.3, b.4),
+      )))
+  cannot code (inr (inr (inl (j, inl h)))) =
+      inr (inr (inr (
+        planned_message w s sh task bytes parsed text j,
+        (third w s sh task bytes parsed text j).t,
+        copied w s sh task bytes parsed text j,
+        subst (FirstIs (sent_guards (planned_message w s sh task bytes parsed text j) (place_of s (planned_message w s sh task bytes parsed text j)) (third w s sh task bytes parsed text j).t)) (sym h.1)
+            (refused_full w s sh 0 task bytes parsed text j h.0),
+      )))
+  cannot code (inr (inr (inl (j, inr h)))) = inl h.2
+  cannot code (inr (inr (inr e))) = inl e

@@ -1,0 +1,203 @@
+-- A message that is sent: the machine's step, and tables that agree with the state after it.
+use Rattle.std.proofs.Common.{◌≡◌, ℕ, ◌+◌, ◌<◌, ◌≤◌, List, [], ◌∷◌, ◌++◌, Option, Some, None, refl, sym, ap, subst, ◌∙◌, arith, Bool, true, false, ◌⊎◌, inl, inr, length, drop}
+use Rattle.std.specs.Prelude.{◌≢◌, ◌^◌, is_some}
+use Rattle.std.specs.FinMap as map
+use Rattle.std.proofs.lemmas.Bool.Decides.{eqb_tells}
+use Rattle.std.proofs.lemmas.List.{drop-append-le}
+use Rattle.mach_types.specs.Numbers.{kind_sent, most_rights, msg_number}
+use Rattle.mach_types.specs.declared.codes.MsgReturn.TheVariants.{SendTimedOut, SendNoBuffer}
+use Rattle.mach_types.specs.Tokens.{send, send_once}
+use Rattle.mach_types.specs.Messages.{Message, Entry}
+use Rattle.mach_types.specs.Guards.{FirstIs, NoneHolds}
+use Rattle.mach_model.specs.State.{State, at, queue}
+use Rattle.mach_model.specs.Sending.{Sends, ClosesLoop, sent_guards, place_of}
+use Rattle.mach_model.specs.Sending.{entry as logged}
+use Rattle.mach_model.proofs.At.{at_own, at_other}
+use Rattle.mach_model.proofs.Names.{get_own, get_other}
+use Rattle.mach_model.proofs.Moving.{shape}
+use Rattle.mach_model.proofs.Carrying.{never_loops}
+use Rattle.message_codec.specs.declared.text.Parsed.{Parsed}
+use Rattle.message_codec.specs.Parses.{Parses}
+use Rattle.message_codec.specs.Words.{body_words}
+use Rattle.message_codec.proofs.Spelling.{laid_out-parsed}
+use Rattle.port.specs.Ports.{PortView, with_port}
+use Rattle.copyin.specs.Kept.{Kept, Keeps}
+use Rattle.copyin.specs.Worlds.{WorldView, port_at}
+use Rattle.copyin.specs.Shows.{AllKept, ShowsPort, Agrees, Shows}
+use Rattle.copyin.specs.Plans.{destination_word, reply_words, option_list, Judged, made_in, message_for, HasSlot, HasNoSlot, Plans, Commits}
+use Rattle.copyin.proofs.Stepping.{words_once}
+use Rattle.copyin.proofs.Texts.{few_bytes}
+use Rattle.copyin.proofs.Planned.{message, third, none_receives, kind_is, copied, shape_is, total_is, all_changes}
+
+-- ---- as many messages are kept as the queue has
+
+pub all_kept_length : (p : ℕ) (ms : List Kept) (es : List Entry) → AllKept p ms es → length ms ≡ length es
+all_kept_length p [] [] h = refl
+all_kept_length p (m ∷ ms) (e ∷ es) h = let n = all_kept_length p ms es h.1 in omega (arith, n)
+all_kept_length p [] (e ∷ es) h = absurd h
+all_kept_length p (m ∷ ms) [] h = absurd h
+
+all_kept_append : (p : ℕ) (ms : List Kept) (es : List Entry) (m : Kept) (e : Entry) → AllKept p ms es → Keeps p m e.message → AllKept p (ms ++ m ∷ []) (es ++ e ∷ [])
+all_kept_append p [] [] m e h k = (k, tt)
+all_kept_append p (x ∷ ms) (y ∷ es) m e h k = (h.0, all_kept_append p ms es m e h.1 k)
+all_kept_append p [] (y ∷ es) m e h k = absurd h
+all_kept_append p (x ∷ ms) [] m e h k = absurd h
+
+the_same : (x y : PortView Kept) → Some x ≡ Some y → x ≡ y
+the_same x y e = cc
+
+-- ---- a message is appended
+
+module _ (w : WorldView) (s : State) (a : Agrees w s) (p : ℕ) (v : PortView Kept) (there : port_at w p ≡ Some v) (m : Kept) (now : ℕ) (x : Message) (keeps : Keeps p m x)
+    (within : s.taken p ≤ length (s.log p)) (spare : ℕ) where
+  abbrev pub longer : PortView Kept
+  longer = record v { queue = v.queue ++ m ∷ [] }
+
+  abbrev pub appended : WorldView
+  appended = record w { ports = record (with_port w.ports p longer) { spare = spare } }
+
+  abbrev pub with_entry : State
+  with_entry = record s { log = at s.log p (s.log p ++ logged now x ∷ []) }
+
+  queue_is : queue with_entry p ≡ queue s p ++ logged now x ∷ []
+  queue_is = ap (drop (s.taken p)) (at_own s.log p (s.log p ++ logged now x ∷ [])) ∙ drop-append-le (s.taken p) (s.log p) (logged now x ∷ []) within
+
+  queue_other : (q : ℕ) → (q ≡ p → ⊥) → queue with_entry q ≡ queue s q
+  queue_other q not = ap (drop (s.taken q)) (at_other s.log p (s.log p ++ logged now x ∷ []) q not)
+
+  live : (q : ℕ) → is_some (port_at appended q) ≡ is_some (port_at w q)
+  live q = elim (eqb_tells q p) [
+    | inl h ↦ subst (λ (i : ℕ). is_some (port_at appended i) ≡ is_some (port_at w i)) (sym h.1) (ap is_some (get_own w.ports.ports p longer) ∙ sym (ap is_some there))
+    | inr h ↦ ap is_some (get_other w.ports.ports p longer q h.1)
+  ]
+
+  own_port : ShowsPort longer with_entry p
+  own_port = let b = a.ports p v there in record {
+    waiting = subst (AllKept p (v.queue ++ m ∷ [])) (sym queue_is) (all_kept_append p v.queue (queue s p) m (logged now x) b.waiting keeps);
+    limit = b.limit;
+    make_send = b.make_send;
+    sequence = b.sequence;
+    sets = b.sets;
+  }
+
+  ports : (q : ℕ) (y : PortView Kept) → port_at appended q ≡ Some y → ShowsPort y with_entry q
+  ports q y is = elim (eqb_tells q p) [
+    | inl h ↦ subst (λ (i : ℕ). ShowsPort y with_entry i) (sym h.1)
+        (subst (λ (z : PortView Kept). ShowsPort z with_entry p) (the_same longer y (sym (get_own w.ports.ports p longer) ∙ subst (λ (i : ℕ). port_at appended i ≡ Some y) h.1 is)) own_port)
+    | inr h ↦ let b = a.ports q y (sym (get_other w.ports.ports p longer q h.1) ∙ is) in record {
+      waiting = subst (AllKept q y.queue) (sym (queue_other q h.1)) b.waiting;
+      limit = b.limit;
+      make_send = b.make_send;
+      sequence = b.sequence;
+      sets = b.sets;
+    }
+  ]
+
+  pub appended_agrees : Agrees appended with_entry
+  appended_agrees = record {
+    live_task = a.live_task;
+    tasks_made = a.tasks_made;
+    naming = a.naming;
+    names_kept = a.names_kept;
+    references = a.references;
+    counted = a.counted;
+    live_port = λ q. live q ∙ a.live_port q;
+    ports_made = a.ports_made;
+    ports = ports;
+    counts = λ q. let c = a.counts q in record { entered = c.entered; senders = c.senders; once_rights = c.once_rights };
+    total = a.total;
+    set_owner = a.set_owner;
+    sets_made = a.sets_made;
+    requests = a.requests;
+  }
+
+-- ---- the message of a text
+
+module _ (w : WorldView) (s : State) (sh : Shows w s) (now task : ℕ) (bytes : List ℕ) (parsed : Parsed) (text : Parses bytes parsed) (j : Judged w task parsed text.written) where
+  abbrev copied_state : State
+  copied_state = (third w s sh task bytes parsed text j).t
+
+  abbrev m : Message
+  m = message w s sh task bytes parsed text j
+
+  shaped : copied_state ≡ shape s copied_state
+  shaped = shape_is w s sh task bytes parsed text j
+
+  no_loop : ¬ (ClosesLoop copied_state j.port (place_of s m))
+  no_loop = never_loops task text.header text.written s m copied_state sh.lawful (none_receives w s sh task bytes parsed text j) (copied w s sh task bytes parsed text j)
+
+  -- the port that it goes to, and its queue
+  queue_same : queue copied_state j.port ≡ queue s j.port
+  queue_same = ap (λ (x : State). queue x j.port) shaped
+
+  limit_same : copied_state.limit j.port ≡ s.limit j.port
+  limit_same = ap (λ (x : State). x.limit j.port) shaped
+
+  not_full : HasSlot w j.port j.destination → ¬ ((m.kind ≡ send) × (copied_state.limit j.port ≤ length (queue copied_state j.port)))
+  not_full (inl once) full = let k = kind_is w s sh task bytes parsed text j in differ (sym full.0 ∙ k ∙ once)
+    where
+      differ : send ≡ send_once → ⊥
+      differ e = cc
+  not_full (inr slot) full =
+      let b = sh.agrees.ports j.port slot.0 slot.1 in
+      let n = all_kept_length j.port slot.0.queue (queue s j.port) b.waiting in
+      let q = ap length queue_same in
+      omega (arith, full.1, slot.2, n, q, limit_same, b.limit)
+
+  is_full : HasNoSlot w j.port j.destination → (m.kind ≡ send) × (copied_state.limit j.port ≤ length (queue copied_state j.port))
+  is_full h =
+      let v = h.1.0 in
+      let b = sh.agrees.ports j.port v h.1.1 in
+      let n = all_kept_length j.port v.queue (queue s j.port) b.waiting in
+      let q = ap length queue_same in
+      let full = h.1.2 in
+      (kind_is w s sh task bytes parsed text j ∙ h.0, omega (arith, full, n, q, limit_same, b.limit))
+
+  rights_are : length copied_state.ledger ≡ w.ledger.total + made_in j
+  rights_are = let t = (third w s sh task bytes parsed text j).along.agrees.total in let n = total_is w s sh task bytes parsed text j in omega (arith, t, n)
+
+  pub unrefused : HasSlot w j.port j.destination → w.ledger.total + made_in j ≤ most_rights → NoneHolds (sent_guards m (place_of s m) copied_state)
+  unrefused slot few = (no_loop, (not_full slot, ((λ many. let r = rights_are in omega (arith, many, r, few)), tt)))
+
+  pub refused_full : HasNoSlot w j.port j.destination → FirstIs (sent_guards m (place_of s m) copied_state) (msg_number SendTimedOut)
+  refused_full h = inr (no_loop, inl (is_full h, refl))
+
+  pub refused_many : HasSlot w j.port j.destination → most_rights < w.ledger.total + made_in j → FirstIs (sent_guards m (place_of s m) copied_state) (msg_number SendNoBuffer)
+  refused_many slot many = inr (no_loop, inr (not_full slot, inl (let r = rights_are in omega (arith, many, r), refl)))
+
+  abbrev pub sent_state : State
+  sent_state = record copied_state { log = at copied_state.log j.port (copied_state.log j.port ++ logged now m ∷ []) }
+
+  pub sends : HasSlot w j.port j.destination → w.ledger.total + made_in j ≤ most_rights → Sends now task bytes s sent_state
+  sends slot few = record {
+    header = text.header;
+    written = text.written;
+    spells = text.message.spells;
+    m = m;
+    copied_state = copied_state;
+    copied = copied w s sh task bytes parsed text j;
+    unrefused = unrefused slot few;
+    rest = refl;
+  }
+
+  keeps : Keeps j.port (message_for bytes j) m
+  keeps = record {
+    written = text.written;
+    laid_out = laid_out-parsed bytes parsed text;
+    is_complex = text.is_complex;
+    given = (third w s sh task bytes parsed text j).given;
+    few = few_bytes bytes parsed text;
+    id_fits = subst (λ (n : ℕ). n < 2 ^ 32) (sym text.id) text.message.spells.header_fits.id;
+    message_is = refl;
+  }
+
+  pub sent_agrees : (new : WorldView) → Commits w task parsed text.written j bytes new → Agrees new sent_state
+  sent_agrees new c =
+      let x = third w s sh task bytes parsed text j in
+      let mid_is : c.mid ≡ x.w2 = words_once w task (destination_word parsed ∷ reply_words parsed ++ body_words text.written) (j.destination ∷ option_list j.reply ++ j.rights) c.mid x.w2 c.changes (all_changes w s sh task bytes parsed text j) in
+      let there : port_at x.w2 j.port ≡ Some c.v = ap (λ (y : WorldView). port_at y j.port) (sym mid_is) ∙ c.there in
+      let within : copied_state.taken j.port ≤ length (copied_state.log j.port) =
+      subst (λ (y : State). y.taken j.port ≤ length (y.log j.port)) (sym shaped) (sh.lawful.within j.port) in
+      subst (λ (y : WorldView). Agrees y sent_state)
+      (ap (λ (y : WorldView). record y { ports = record (with_port y.ports j.port (record c.v { queue = c.v.queue ++ message_for bytes j ∷ [] })) { spare = c.spare } }) (sym mid_is) ∙ sym c.rest)
+      (appended_agrees x.w2 copied_state x.along.agrees j.port c.v there (message_for bytes j) now m keeps within c.spare)

@@ -1,0 +1,123 @@
+use Rattle.std.proofs.Common.{◌≡◌, ℕ, ◌+◌, ◌<◌, ◌++◌, ◌∷◌, [], List, Option, Some, sym, ap, ◌∙◌, subst, arith}
+use Rattle.std.specs.Option.{option_to_list}
+use Rattle.message_codec.specs.declared.words.PortWord.{PortWord}
+use Rattle.port.specs.Ports.{PortsView, IsLive}
+use Rattle.copyin.specs.declared.message.Carried.{Carried}
+use Rattle.copyin.specs.Kept.{Kept}
+use Rattle.copyin.specs.Planned.{CanGo}
+use Rattle.copyin.specs.Plans.{ChangesWords}
+use Rattle.copyin.specs.Worlds.{WorldView}
+use Rattle.copyin.proofs.Going.{go_on, first_goes}
+use Rattle.copyin.proofs.Committing.{Carries, own_task, plan_goes, plan_pairs, plan_lives, front_goes, rest_goes, carries_live, carries_spare, commits}
+use Rattle.copyin.proofs.carry_out.commit.Goals as goal
+
+pub copy_word-requires : goal.copy_word-requires
+copy_word-requires c =
+    let q = c.requires.planned in
+    let own = own_task c.args.world.now q.0 q.1 q.2 q.3 c.args.plan q.4 in
+    let plan = c.args.plan in
+    first_goes c.args.world.now plan.task plan.words.destination (option_to_list plan.words.reply ++ plan.words.body.items) plan.destination (option_to_list plan.message.reply ++ plan.message.rights)
+    (plan_goes c.args.world.now plan.task q.1 q.2 q.3 plan own c.requires.tied)
+
+pub copy_reply-requires : goal.copy_reply-requires
+copy_reply-requires c =
+    let q = c.requires.planned in
+    let own = own_task c.args.world.now q.0 q.1 q.2 q.3 c.args.plan q.4 in
+    let plan = c.args.plan in
+    let one = c.copy_word.new.world in
+    let words = option_to_list plan.words.reply in
+    let rights = option_to_list plan.message.reply in
+    let go = go_on c.args.world.now one plan.task plan.words.destination (words ++ plan.words.body.items) plan.destination (rights ++ plan.message.rights)
+    (plan_goes c.args.world.now plan.task q.1 q.2 q.3 plan own c.requires.tied) c.copy_word.ensures in
+    let same : plan.message.reply ≡ c.message.inside.reply = ap (λ (m : Kept). m.reply) (sym c.message.view_is) in
+    subst (λ (o : Option Carried). CanGo one plan.task words (option_to_list o)) same
+    (front_goes one plan.task words plan.words.body.items rights plan.message.rights (plan_pairs c.args.world.now plan.task q.1 q.2 q.3 plan own c.requires.tied) go)
+
+pub copy_words-requires : goal.copy_words-requires
+copy_words-requires c =
+    let q = c.requires.planned in
+    let own = own_task c.args.world.now q.0 q.1 q.2 q.3 c.args.plan q.4 in
+    let plan = c.args.plan in
+    let one = c.copy_word.new.world in
+    let two = c.copy_reply.new.world in
+    let words = option_to_list plan.words.reply in
+    let rights = option_to_list plan.message.reply in
+    let go = go_on c.args.world.now one plan.task plan.words.destination (words ++ plan.words.body.items) plan.destination (rights ++ plan.message.rights)
+    (plan_goes c.args.world.now plan.task q.1 q.2 q.3 plan own c.requires.tied) c.copy_word.ensures in
+    let same : c.message.inside.reply ≡ plan.message.reply = ap (λ (m : Kept). m.reply) c.message.view_is in
+    let went : ChangesWords one plan.task words rights two = subst (λ (o : Option Carried). ChangesWords one plan.task words (option_to_list o) two) same c.copy_reply.ensures in
+    let last = rest_goes one two plan.task words plan.words.body.items rights plan.message.rights go went in
+    let words_are : plan.words.body.items ≡ c.as_slice.result.now = sym c.as_slice.ensures.value in
+    let rights_are : plan.message.rights ≡ c.as_slice-2.result.now = ap (λ (m : Kept). m.rights) (sym c.message.view_is) ∙ sym c.as_slice-2.ensures.value in
+    subst (λ (ws : List PortWord). CanGo two plan.task ws c.as_slice-2.result.now) words_are (subst (λ (cs : List Carried). CanGo two plan.task plan.words.body.items cs) rights_are last)
+
+pub enqueue-requires-clause-live : goal.enqueue-requires-clause-live
+enqueue-requires-clause-live c =
+    let plan = c.args.plan in
+    let one = c.copy_word.new.world in
+    let two = c.copy_reply.new.world in
+    let mid = c.copy_words.new.world in
+    let same : c.message.inside.reply ≡ plan.message.reply = ap (λ (m : Kept). m.reply) c.message.view_is in
+    let words_are : c.as_slice.result.now ≡ plan.words.body.items = c.as_slice.ensures.value in
+    let rights_are : c.as_slice-2.result.now ≡ plan.message.rights = c.as_slice-2.ensures.value ∙ ap (λ (m : Kept). m.rights) c.message.view_is in
+    let ca : Carries c.args.world.now plan.task plan mid = record {
+      one = one;
+      destination = c.copy_word.ensures;
+      two = two;
+      reply = subst (λ (o : Option Carried). ChangesWords one plan.task (option_to_list plan.words.reply) (option_to_list o) two) same c.copy_reply.ensures;
+      body = subst (λ (ws : List PortWord). ChangesWords two plan.task ws plan.message.rights mid) words_are
+          (subst (λ (cs : List Carried). ChangesWords two plan.task c.as_slice.result.now cs mid) rights_are c.copy_words.ensures);
+    } in
+    let q = c.requires.planned in
+    let own = own_task c.args.world.now q.0 q.1 q.2 q.3 c.args.plan q.4 in
+    let old_live = plan_lives c.args.world.now plan.task q.1 q.2 q.3 plan own c.requires.tied in
+    let live : IsLive c.world.inside.ports plan.port =
+    subst (λ (w : WorldView). IsLive w.ports plan.port) (sym c.world.view_is) (carries_live c.args.world.now mid plan.task plan plan.port ca old_live) in
+    live
+
+pub enqueue-requires-clause-spare : goal.enqueue-requires-clause-spare
+enqueue-requires-clause-spare c =
+    let plan = c.args.plan in
+    let one = c.copy_word.new.world in
+    let two = c.copy_reply.new.world in
+    let mid = c.copy_words.new.world in
+    let same : c.message.inside.reply ≡ plan.message.reply = ap (λ (m : Kept). m.reply) c.message.view_is in
+    let words_are : c.as_slice.result.now ≡ plan.words.body.items = c.as_slice.ensures.value in
+    let rights_are : c.as_slice-2.result.now ≡ plan.message.rights = c.as_slice-2.ensures.value ∙ ap (λ (m : Kept). m.rights) c.message.view_is in
+    let ca : Carries c.args.world.now plan.task plan mid = record {
+      one = one;
+      destination = c.copy_word.ensures;
+      two = two;
+      reply = subst (λ (o : Option Carried). ChangesWords one plan.task (option_to_list plan.words.reply) (option_to_list o) two) same c.copy_reply.ensures;
+      body = subst (λ (ws : List PortWord). ChangesWords two plan.task ws plan.message.rights mid) words_are
+          (subst (λ (cs : List Carried). ChangesWords two plan.task c.as_slice.result.now cs mid) rights_are c.copy_words.ensures);
+    } in
+    let same_spare = carries_spare c.args.world.now mid plan.task plan ca in
+    let view : c.world.inside.ports.spare ≡ mid.ports.spare = ap (λ (w : WorldView). w.ports.spare) c.world.view_is in
+    let some = c.requires.spare in
+    omega (arith, same_spare, view, some)
+
+pub returns : goal.returns
+returns c =
+    let plan = c.args.plan in
+    let one = c.copy_word.new.world in
+    let two = c.copy_reply.new.world in
+    let mid = c.copy_words.new.world in
+    let same : c.message.inside.reply ≡ plan.message.reply = ap (λ (m : Kept). m.reply) c.message.view_is in
+    let words_are : c.as_slice.result.now ≡ plan.words.body.items = c.as_slice.ensures.value in
+    let rights_are : c.as_slice-2.result.now ≡ plan.message.rights = c.as_slice-2.ensures.value ∙ ap (λ (m : Kept). m.rights) c.message.view_is in
+    let ca : Carries c.args.world.now plan.task plan mid = record {
+      one = one;
+      destination = c.copy_word.ensures;
+      two = two;
+      reply = subst (λ (o : Option Carried). ChangesWords one plan.task (option_to_list plan.words.reply) (option_to_list o) two) same c.copy_reply.ensures;
+      body = subst (λ (ws : List PortWord). ChangesWords two plan.task ws plan.message.rights mid) words_are
+          (subst (λ (cs : List Carried). ChangesWords two plan.task c.as_slice.result.now cs mid) rights_are c.copy_words.ensures);
+    } in
+    let q = c.requires.planned in
+    let own = own_task c.args.world.now q.0 q.1 q.2 q.3 c.args.plan q.4 in
+    let old_live = plan_lives c.args.world.now plan.task q.1 q.2 q.3 plan own c.requires.tied in
+    let live : IsLive c.world.inside.ports plan.port =
+    subst (λ (w : WorldView). IsLive w.ports plan.port) (sym c.world.view_is) (carries_live c.args.world.now mid plan.task plan plan.port ca old_live) in
+    λ task parsed written bytes p. commits c.args.world.now mid task parsed written bytes plan p c.world.inside.spaces.items c.world.inside.ports c.enqueue.new.self c.world.inside.ledger
+    (subst (λ (t : ℕ). Carries c.args.world.now t plan mid) p.task_is ca) live c.world.view_is c.enqueue.ensures

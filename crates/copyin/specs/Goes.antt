@@ -1,0 +1,52 @@
+-- How the words of a message are judged in a task's names. No public clause cites this module.
+use Rattle.std.specs.Prelude.{◌≡◌, ℕ, ◌+◌, ◌⊎◌, List, [], ◌∷◌, Option, Some, None, IsSome, IfSome, All}
+use Rattle.std.specs.Option.{option_to_list}
+use Rattle.mach_types.specs.Numbers.{disposition}
+use Rattle.mach_types.specs.declared.codes.MsgReturn.{MsgReturn}
+use Rattle.mach_types.specs.declared.codes.MsgReturn.TheVariants.{SendInvalidDest, SendInvalidReply, SendInvalidRight}
+use Rattle.message_codec.specs.declared.words.PortWord.{PortWord}
+use Rattle.name_space.specs.Names.{Names}
+use Rattle.copyin.specs.declared.judge.Rights.{Rights}
+use Rattle.copyin.specs.declared.judge.Words.{Words}
+use Rattle.copyin.specs.declared.message.Carried.{Carried}
+use Rattle.copyin.specs.declared.message.Mark.TheVariants as mark
+use Rattle.copyin.specs.Judging.{CopiesName, CopiesReply, CopiesBody, IsBad, BodyIsBad, made_by, made_by_reply, made_by_all}
+
+-- Each word has a disposition.
+pub record AreGiven (words : Words) : Type 0 where
+  pub destination : IsSome (disposition words.destination.disposition)
+  pub reply : IfSome words.reply (λ w. IsSome (disposition w.disposition))
+  pub body : All (λ w. IsSome (disposition w.disposition)) words.body.items
+
+abbrev pub RepliesBadly : Names → List PortWord → Type 0
+RepliesBadly names ws = (w : PortWord) × (ws ≡ w ∷ []) × IsBad names w
+
+abbrev pub LeadsNowhere : Names → PortWord → Type 0
+LeadsNowhere names w = (p : ℕ) (c : Carried) (after : Names) → c.mark ≡ mark.Port p → ¬ (CopiesName names w c after)
+
+-- All rights go, the destination's to a port.
+pub record GoAll (names : Names) (words : Words) (rights : Rights) : Type 0 where
+  pub to_port : rights.destination.mark ≡ mark.Port rights.port
+  pub first : Names
+  pub destination : CopiesName names words.destination rights.destination first
+  pub second : Names
+  pub reply : CopiesReply first (option_to_list words.reply) rights.reply second
+  pub last : Names
+  pub body : CopiesBody second words.body.items rights.body.items last
+
+-- The destination may go, and leaves these names.
+pub record Starts (names : Names) (words : Words) (first : Names) : Type 0 where
+  pub port : ℕ
+  pub destination : Carried
+  pub to_port : destination.mark ≡ mark.Port port
+  pub copies : CopiesName names words.destination destination first
+
+abbrev pub CannotGo : Names → Words → MsgReturn → Type 0
+CannotGo names words code =
+    (code ≡ SendInvalidDest) × LeadsNowhere names words.destination
+    ⊎ (code ≡ SendInvalidReply) × ((first : Names) × Starts names words first × RepliesBadly first (option_to_list words.reply))
+    ⊎ (code ≡ SendInvalidRight) × ((first : Names) × Starts names words first × (reply : Option Carried) × (second : Names)
+    × CopiesReply first (option_to_list words.reply) reply second × BodyIsBad second words.body.items)
+
+abbrev pub made_by_rights : Rights → ℕ
+made_by_rights rights = made_by rights.destination + made_by_reply rights.reply + made_by_all rights.body.items

@@ -1,0 +1,110 @@
+-- What is decided of a message before anything changes, and what is then done.
+use Rattle.std.specs.Prelude.{◌≡◌, ℕ, ◌+◌, ◌-◌, ◌<◌, ◌≤◌, ◌⊎◌, true, List, [], ◌∷◌, ◌++◌, length, slice_get, Option, Some, None, if◌then◌else◌, ◌==◌, MatchBool}
+use Rattle.std.specs.FinMap as map
+use Rattle.mach_types.specs.declared.codes.MsgReturn.TheVariants.{SendInvalidDest, SendTimedOut, SendInvalidReply, SendInvalidRight, SendNoBuffer}
+use Rattle.mach_types.specs.Numbers.{disposition_number, kind_sent, msg_number, most_rights, null_word, dead_word}
+use Rattle.mach_types.specs.Tokens.{send, send_once, same_kind}
+use Rattle.mach_types.specs.Grammar.{WireBody}
+use Rattle.message_codec.specs.declared.text.Parsed.{Parsed}
+use Rattle.message_codec.specs.declared.words.PortWord.{PortWord}
+use Rattle.message_codec.specs.Words.{body_words}
+use Rattle.name_space.specs.Names.{Names, SpaceView}
+use Rattle.port.specs.Ports.{PortView, with_port}
+use Rattle.copyin.specs.declared.message.Carried.{Carried}
+use Rattle.copyin.specs.declared.message.Mark.TheVariants as mark
+use Rattle.copyin.specs.Kept.{Kept}
+use Rattle.copyin.specs.Worlds.{WorldView, port_at, CopiesRight}
+use Rattle.copyin.specs.Judging.{CopiesName, CopiesReply, CopiesBody, IsBad, BodyIsBad, made_by, made_by_reply, made_by_all}
+
+abbrev pub destination_word : Parsed → PortWord
+destination_word parsed = record { disposition = parsed.remote_kind; name = parsed.remote }
+
+abbrev pub reply_words : Parsed → List PortWord
+reply_words parsed = if parsed.local_kind == 0 then [] else record { disposition = parsed.local_kind; name = parsed.local } ∷ []
+
+-- The rights of the text can be copied in one after the other.
+pub record Judged (w : WorldView) (task : ℕ) (parsed : Parsed) (written : WireBody) : Type 0 where
+  pub space : SpaceView
+  pub there : slice_get w.spaces task ≡ Some space
+  pub destination : Carried
+  pub port : ℕ
+  pub to_port : destination.mark ≡ mark.Port port
+  pub first : Names
+  pub copies_destination : CopiesName space.names (destination_word parsed) destination first
+  pub reply : Option Carried
+  pub second : Names
+  pub copies_reply : CopiesReply first (reply_words parsed) reply second
+  pub rights : List Carried
+  pub last : Names
+  pub copies_body : CopiesBody second (body_words written) rights last
+
+abbrev pub made_in : {w : WorldView} {task : ℕ} {parsed : Parsed} {written : WireBody} → Judged w task parsed written → ℕ
+made_in j = made_by j.destination + made_by_reply j.reply + made_by_all j.rights
+
+-- There is a slot in the queue: for a message by a send-once right always.
+abbrev pub HasSlot : (w : WorldView) → (port : ℕ) → Carried → Type 0
+HasSlot w p c = (kind_sent c.given ≡ send_once) ⊎ ((v : PortView Kept) × (port_at w p ≡ Some v) × (length v.queue < v.attributes.limit))
+
+abbrev pub HasNoSlot : (w : WorldView) → (port : ℕ) → Carried → Type 0
+HasNoSlot w p c = (kind_sent c.given ≡ send) × ((v : PortView Kept) × (port_at w p ≡ Some v) × (v.attributes.limit ≤ length v.queue))
+
+-- what is queued
+abbrev pub message_for : {w : WorldView} {task : ℕ} {parsed : Parsed} {written : WireBody} → (bytes : List ℕ) → Judged w task parsed written → Kept
+message_for {w} {task} {parsed} bytes j = record {
+  bytes = bytes;
+  id = parsed.id;
+  is_complex = parsed.is_complex;
+  spans = parsed.spans;
+  by_once = same_kind (kind_sent j.destination.given) send_once;
+  reply = j.reply;
+  rights = j.rights;
+}
+
+-- The message may be sent so.
+pub record Plans (w : WorldView) (task : ℕ) (parsed : Parsed) (written : WireBody) : Type 0 where
+  pub judged : Judged w task parsed written
+  pub slot : HasSlot w judged.port judged.destination
+  pub few : w.ledger.total + made_in judged ≤ most_rights
+
+-- It is refused with this code.
+abbrev pub CannotPlan : (w : WorldView) → (task : ℕ) → Parsed → WireBody → (code : ℕ) → Type 0
+CannotPlan w task parsed written code =
+    ((space : SpaceView) × (slice_get w.spaces task ≡ Some space)
+    × ((p : ℕ) (c : Carried) (after : Names) → c.mark ≡ mark.Port p → ¬ (CopiesName space.names (destination_word parsed) c after)) × (code ≡ msg_number SendInvalidDest))
+    ⊎ ((space : SpaceView) × (slice_get w.spaces task ≡ Some space)
+    × (p : ℕ) × (c : Carried) × (c.mark ≡ mark.Port p) × (first : Names) × CopiesName space.names (destination_word parsed) c first
+    × (((r : PortWord) × (reply_words parsed ≡ r ∷ []) × IsBad first r × (code ≡ msg_number SendInvalidReply))
+    ⊎ ((reply : Option Carried) × (second : Names) × CopiesReply first (reply_words parsed) reply second × BodyIsBad second (body_words written) × (code ≡ msg_number SendInvalidRight))))
+    ⊎ ((j : Judged w task parsed written)
+    × (HasNoSlot w j.port j.destination × (code ≡ msg_number SendTimedOut)
+    ⊎ HasSlot w j.port j.destination × (most_rights < w.ledger.total + made_in j) × (code ≡ msg_number SendNoBuffer)))
+    ⊎ (code ≡ msg_number SendNoBuffer)
+
+-- ---- what is done
+
+-- A word changes the tables as its right goes; two words change nothing.
+abbrev pub ChangesWord : WorldView → (task : ℕ) → PortWord → Carried → WorldView → Type 0
+ChangesWord old task w c new =
+    MatchBool (w.name == null_word) (new ≡ old)
+    (MatchBool (w.name == dead_word) (new ≡ old)
+    (CopiesRight old task c.given w.name c.mark new))
+
+abbrev pub ChangesWords : WorldView → (task : ℕ) → List PortWord → List Carried → WorldView → Type 0
+ChangesWords old task [] [] new = new ≡ old
+ChangesWords old task (w ∷ ws) (c ∷ cs) new = (mid : WorldView) × ChangesWord old task w c mid × ChangesWords mid task ws cs new
+ChangesWords old task [] (c ∷ cs) new = ⊥
+ChangesWords old task (w ∷ ws) [] new = ⊥
+
+abbrev pub option_list : Option Carried → List Carried
+option_list None = []
+option_list (Some c) = c ∷ []
+
+-- The rights go, and the message stands at the end of its port's queue.
+pub record Commits (old : WorldView) (task : ℕ) (parsed : Parsed) (written : WireBody) (j : Judged old task parsed written) (bytes : List ℕ) (new : WorldView) : Type 0 where
+  pub mid : WorldView
+  pub changes : ChangesWords old task (destination_word parsed ∷ reply_words parsed ++ body_words written) (j.destination ∷ option_list j.reply ++ j.rights) mid
+  pub v : PortView Kept
+  pub there : port_at mid j.port ≡ Some v
+  -- the number of spare slots is of no account here
+  pub spare : ℕ
+  pub rest : new ≡ record mid { ports = record (with_port mid.ports j.port (record v { queue = v.queue ++ message_for bytes j ∷ [] })) { spare = spare } }

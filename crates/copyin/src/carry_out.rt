@@ -1,0 +1,186 @@
+//! Carrying out a plan.
+ghost use Rattle.std.specs.Prelude.{◌≡◌, ℕ, ◌<◌, ◌≤◌, ◌+◌, List, [], ◌∷◌, true, Some, IfSome, OnOk, length};
+ghost use Rattle.std.specs.Option.{option_to_list};
+ghost use Rattle.std.specs.FinMap as map;
+ghost use Rattle.mach_types.specs.Grammar.{WireBody};
+ghost use Rattle.mach_types.specs.Numbers.{most_rights};
+ghost use Rattle.message_codec.specs.declared.text.Parsed.{Parsed as AnyParsed};
+ghost use Rattle.name_space.specs.declared.Entry.{Entry as AnyEntry};
+ghost use Rattle.name_space.specs.Entry.{port_named};
+ghost use Rattle.name_space.specs.Names.{port_at};
+ghost use Rattle.rights.specs.Ledger.{IsEntered};
+ghost use Rattle.copyin.specs.declared.message.Mark.TheVariants as mark_of;
+ghost use Rattle.copyin.specs.Judging.{made_by_mark};
+ghost use Rattle.copyin.specs.Planned.{IsPlan, CanGo, CanCopy};
+ghost use Rattle.copyin.specs.Plans.{ChangesWord, ChangesWords, Commits};
+ghost use Rattle.copyin.specs.Stands.{IsTied};
+ghost use Rattle.copyin.specs.Worlds.{put, ports_copied, ledger_copied, CopiesRight};
+
+use crate::copies::copy_right;
+use crate::judge::Plan;
+use crate::message::{Carried, Mark, Message};
+use crate::world::World;
+use mach_types::{Disposition, Name, TaskId};
+use message_codec::PortWord;
+use name_space::{Entry, Space};
+use port::{Attributes, Ports};
+use rights::{Ledger, RightKind};
+use std::alloc::AllocError;
+
+impl World {
+    /// Makes a spare message slot, if there is none. All else is as before.
+    ///
+    /// An error means that memory was refused.
+    pub fn reserve_slot(&mut self) -> Result<(), AllocError>
+        ensures rest { self.new ≡ record self.old { ports = record self.old.ports { spare = self.new.ports.spare } } }
+        ensures ok { OnOk result (0 < self.new.ports.spare) }
+        ensures room { self.old.ports.spare ≤ self.new.ports.spare }
+    {
+        if self.ports.spare() > 0 {
+            return Ok(());
+        }
+        self.ports.reserve_slots(1)
+    }
+}
+
+// Puts what is left under a name that is in use.
+fn put_left(space: &mut Space, name: Name, left: Option<Entry>)
+    requires used { map.contains_key space.old.names name ≡ true }
+    requires same { IfSome left (λ entry. (port : ℕ) → port_named entry ≡ Some port → port_at space.old.names name ≡ Some port) }
+    ensures { space.new ≡ record space.old { names = put space.old.names name left } }
+{
+    match left {
+        Some(entry) => space.replace(name, entry),
+        None => {
+            space.remove(name);
+        }
+    }
+}
+
+// Sets what a right changes of its port when it goes.
+fn renew_port(ports: &mut Ports<Message>, given: Disposition, mark: Mark)
+    ensures { ports.new ≡ ports_copied given mark ports.old }
+{
+    let Mark::Port(port) = &mark else {
+        return;
+    };
+    let Some(attributes) = ports.attributes(*port) else {
+        return;
+    };
+    match given {
+        Disposition::MakeSend => ports.set_attributes(
+            *port,
+            Attributes {
+                make_send: attributes.make_send.wrapping_add(1),
+                ..attributes
+            },
+        ),
+        Disposition::MoveReceive => ports.set_attributes(
+            *port,
+            Attributes {
+                make_send: 0,
+                sequence: 0,
+                set: None,
+                ..attributes
+            },
+        ),
+        _ => {}
+    }
+}
+
+// Counts the right that is made, if one is.
+fn count_right(ledger: &mut Ledger, given: Disposition, mark: Mark)
+    requires entered { (port : ℕ) → mark ≡ mark_of.Port port → IsEntered ledger.old port }
+    requires room { ledger.old.total + made_by_mark given mark ≤ most_rights }
+    ensures { ledger.new ≡ ledger_copied given mark ledger.old }
+{
+    let Mark::Port(port) = &mark else {
+        return;
+    };
+    match given {
+        Disposition::CopySend | Disposition::MakeSend => {
+            ledger.make(*port, RightKind::Send, 1).unwrap();
+        }
+        Disposition::MakeSendOnce => {
+            ledger.make(*port, RightKind::SendOnce, 1).unwrap();
+        }
+        _ => {}
+    }
+}
+
+/// The right under the name goes by its disposition: what is left stays under the name, the port
+/// changes as the disposition says, and a right that is made is counted.
+///
+/// Takes no memory. Logarithmic in the names of the task and in the ports, but for a move of 16 bytes
+/// for each greater name where the name goes.
+pub fn copy_name(world: &mut World, task: TaskId, name: Name, carried: Carried)
+    requires { CanCopy world.old task name carried }
+    ensures { CopiesRight world.old task carried.given name carried.mark world.new }
+{
+    let entry = world.lookup(task, name).unwrap();
+    let copied = copy_right(carried.given, &entry).unwrap();
+    put_left(&mut world.spaces[task.number() as usize], name, copied.left);
+    renew_port(&mut world.ports, carried.given, copied.mark);
+    count_right(&mut world.ledger, carried.given, copied.mark);
+}
+
+// A word's right goes, if the word is a name.
+fn copy_word(world: &mut World, task: TaskId, word: PortWord, carried: Carried)
+    requires { CanGo world.old task (word ∷ []) (carried ∷ []) }
+    ensures { ChangesWord world.old task word carried world.new }
+{
+    if word.name.is_usable() {
+        copy_name(world, task, word.name, carried);
+    }
+}
+
+// The rights of words go, one after the other.
+fn copy_words(world: &mut World, task: TaskId, words: &[PortWord], rights: &[Carried])
+    requires { CanGo world.old task words.now rights.now }
+    ensures { ChangesWords world.old task words.now rights.now world.new }
+{
+    let mut left = rights;
+    for word in words {
+        let (carried, rest) = left.split_first().unwrap();
+        copy_word(world, task, *word, *carried);
+        left = rest;
+    }
+}
+
+// The right to answer with goes, if there is one.
+fn copy_reply(world: &mut World, task: TaskId, word: Option<PortWord>, reply: Option<Carried>)
+    requires { CanGo world.old task (option_to_list word) (option_to_list reply) }
+    ensures { ChangesWords world.old task (option_to_list word) (option_to_list reply) world.new }
+{
+    if let (Some(word), Some(carried)) = (word, reply) {
+        copy_word(world, task, word, carried);
+    }
+}
+
+/// Sends a message by its plan: its rights go from the sender, and it joins the end of its port's
+/// queue, in a spare slot. Takes no memory. Logarithmic in the names of the task and in the ports for
+/// each right, but for a move of 16 bytes for each greater name where a name goes.
+pub fn commit(world: &mut World, plan: Plan)
+    requires planned { (task : ℕ) × (parsed : AnyParsed) × (written : WireBody) × (bytes : List ℕ) × IsPlan world.old task parsed written bytes plan }
+    requires spare { 0 < world.old.ports.spare }
+    requires tied { IsTied world.old plan.task }
+    ensures { (task : ℕ) (parsed : AnyParsed) (written : WireBody) (bytes : List ℕ) (p : IsPlan world.old task parsed written bytes plan)
+        → Commits world.old task parsed written p.plans.judged bytes world.new }
+{
+    let Plan {
+        task,
+        words,
+        destination,
+        port,
+        message,
+    } = plan;
+    copy_word(world, task, words.destination, destination);
+    copy_reply(world, task, words.reply, message.reply);
+    copy_words(
+        world,
+        task,
+        words.body.as_slice(),
+        message.rights.as_slice(),
+    );
+    world.ports.enqueue(port, message);
+}

@@ -1,0 +1,478 @@
+//! Judging a message before anything changes.
+ghost use Rattle.std.specs.Prelude.{◌≡◌, ◌≢◌, ℕ, ◌<◌, ◌≤◌, ◌+◌, ◌⊎◌, ◌↔◌, All, IsSome, IsTrue, Some, None, MatchBool, MatchOption, [], ◌∷◌, ◌++◌, IfSome, IfOk, IfErr, OnOk, length, slice_get};
+ghost use Rattle.std.specs.Option.{option_to_list};
+ghost use Rattle.std.specs.FinMap as map;
+ghost use Rattle.mach_types.specs.declared.codes.MsgReturn.TheVariants.{SendNoBuffer, SendInvalidDest, SendInvalidReply, SendInvalidRight, SendTimedOut};
+ghost use Rattle.mach_types.specs.Grammar.{WireBody};
+ghost use Rattle.mach_types.specs.Tokens.{receive, send_once, same_kind};
+ghost use Rattle.port.specs.Ports.{IsLive};
+ghost use Rattle.mach_types.specs.Numbers.{disposition, kind_sent, most_rights, msg_number, null_word, dead_word};
+ghost use Rattle.message_codec.specs.Parses.{Parses};
+ghost use Rattle.name_space.specs.Names.{Names};
+ghost use Rattle.copyin.specs.declared.message.Carried.{Carried as AnyCarried};
+ghost use Rattle.copyin.specs.declared.message.Mark.TheVariants as mark_of;
+ghost use Rattle.copyin.specs.Judging.{CopiesName, CopiesWord, CopiesReply, CopiesBody, IsBad, IsLeft, BodyIsBad, made_by, made_by_all};
+ghost use Rattle.copyin.specs.Overlays.{Overlays};
+ghost use Rattle.copyin.specs.Goes.{AreGiven, RepliesBadly, LeadsNowhere, GoAll, CannotGo, made_by_rights};
+ghost use Rattle.copyin.specs.Planned.{AreWords, IsPlan};
+ghost use Rattle.copyin.specs.Plans.{CannotPlan, HasSlot, HasNoSlot, reply_words};
+ghost use Rattle.copyin.specs.Stands.{IsTied};
+ghost use Rattle.copyin.specs.Worlds.{put};
+
+use crate::copies::copy_right;
+use crate::message::{Carried, Mark, Message};
+use crate::world::World;
+use mach_types::{Disposition, MsgReturn, Name, PortId, Right, TaskId};
+use message_codec::{Parsed, PortWord, port_words};
+use name_space::{Entry, Space};
+use std::alloc::{AllocError, Global};
+use std::collections::BTreeMap;
+
+// What stands under each name that was touched; nothing, where it is no name any more.
+type Touched = BTreeMap<u32, Option<Entry>>;
+
+/// The port words of a message.
+#[derive(Drop)]
+pub struct Words {
+    /// The destination's.
+    pub destination: PortWord,
+    /// The word of the right to answer with, where there is one.
+    pub reply: Option<PortWord>,
+    /// The body's, from the front.
+    pub body: Vec<PortWord>,
+}
+
+/// What is done when the message is sent: every right that goes, and the message that is queued. It
+/// holds all memory that sending takes, but for the slot in the queue.
+#[derive(Drop)]
+pub struct Plan {
+    /// The sender.
+    pub task: TaskId,
+    /// The words by which rights go.
+    pub words: Words,
+    /// The destination right.
+    pub destination: Carried,
+    /// The port whose queue the message joins.
+    pub port: PortId,
+    /// The message, with its other rights.
+    pub message: Message,
+}
+
+// What stands under the name now.
+fn standing(space: &Space, touched: &Touched, name: Name) -> Option<Entry>
+    ensures { (now : Names) → Overlays touched.now space.now.names now → result ≡ map.get now name }
+{
+    match touched.get(&name.number()) {
+        Some(entry) => *entry,
+        None => space.lookup(name),
+    }
+}
+
+// Puts what is left under a name over what stood there.
+fn touch(touched: &mut Touched, name: Name, left: Option<Entry>) -> Result<(), MsgReturn>
+    ensures ok { OnOk result ((names now : Names) → Overlays touched.old names now → Overlays touched.new names (put now name left)) }
+    ensures err { IfErr result (λ code. code ≡ SendNoBuffer) }
+{
+    match touched.insert(name.number(), left) {
+        Ok(_) => Ok(()),
+        Err(_) => Err(MsgReturn::SendNoBuffer),
+    }
+}
+
+// Judges the right that goes from what stands under the word's name, which is refused with this code.
+fn judge_name(
+    space: &Space,
+    touched: &mut Touched,
+    word: PortWord,
+    refusal: MsgReturn,
+) -> Result<Carried, MsgReturn>
+    requires { IsSome (disposition word.disposition) }
+    ensures ok { IfOk result (λ c. (now : Names) → Overlays touched.old space.now.names now
+        → (after : Names) × CopiesName now word c after × Overlays touched.new space.now.names after) }
+    ensures err { IfErr result (λ code. (code ≡ SendNoBuffer)
+        ⊎ (code ≡ refusal) × ((now : Names) → Overlays touched.old space.now.names now → (c : AnyCarried) (after : Names) → ¬ (CopiesName now word c after))) }
+{
+    let given = Disposition::from_u8(word.disposition).unwrap();
+    let Some(entry) = standing(space, touched, word.name) else {
+        return Err(refusal);
+    };
+    let Some(copied) = copy_right(given, &entry) else {
+        return Err(refusal);
+    };
+    touch(touched, word.name, copied.left)?;
+    let mark = copied.mark;
+    Ok(Carried { given, mark })
+}
+
+// What stands for a word that is no name.
+fn mark_of_word(word: Name) -> Option<Mark>
+    ensures { MatchOption result ((word ≢ null_word) × (word ≢ dead_word)) (λ m. (word ≡ null_word) × (m ≡ mark_of.Null) ⊎ (word ≡ dead_word) × (m ≡ mark_of.Dead)) }
+{
+    match word.number() {
+        0 => Some(Mark::Null),
+        0xffff_ffff => Some(Mark::Dead),
+        _ => None,
+    }
+}
+
+// Judges a word: two words are no names and pass.
+fn judge_word(
+    space: &Space,
+    touched: &mut Touched,
+    word: PortWord,
+    refusal: MsgReturn,
+) -> Result<Carried, MsgReturn>
+    requires { IsSome (disposition word.disposition) }
+    ensures ok { IfOk result (λ c. (now : Names) → Overlays touched.old space.now.names now
+        → (after : Names) × CopiesWord now word c after × Overlays touched.new space.now.names after) }
+    ensures err { IfErr result (λ code. (code ≡ SendNoBuffer)
+        ⊎ (code ≡ refusal) × ((now : Names) → Overlays touched.old space.now.names now → IsBad now word)) }
+{
+    let given = Disposition::from_u8(word.disposition).unwrap();
+    match mark_of_word(word.name) {
+        Some(mark) => Ok(Carried { given, mark }),
+        None => judge_name(space, touched, word, refusal),
+    }
+}
+
+// Whether the word would take a receive right.
+fn takes_receive(word: &PortWord) -> bool
+    ensures { MatchBool result (IsLeft word.now) (¬ (IsLeft word.now)) }
+{
+    word.disposition == 16 && word.name.is_usable()
+}
+
+// Judges a word of the body: no receive right goes in a message yet.
+fn judge_body_word(
+    space: &Space,
+    touched: &mut Touched,
+    word: &PortWord,
+) -> Result<Carried, MsgReturn>
+    requires { IsSome (disposition word.now.disposition) }
+    ensures ok { IfOk result (λ c. ¬ (IsLeft word.now) × ((now : Names) → Overlays touched.old space.now.names now
+        → (after : Names) × CopiesWord now word.now c after × Overlays touched.new space.now.names after)) }
+    ensures err { IfErr result (λ code. (code ≡ SendNoBuffer)
+        ⊎ (code ≡ SendInvalidRight) × ((now : Names) → Overlays touched.old space.now.names now → IsBad now word.now ⊎ IsLeft word.now)) }
+{
+    if takes_receive(word) {
+        return Err(MsgReturn::SendInvalidRight);
+    }
+    judge_word(space, touched, *word, MsgReturn::SendInvalidRight)
+}
+
+// Adds a right to those that go.
+fn keep(rights: &mut Vec<Carried>, given: Disposition, mark: Mark) -> Result<(), AllocError>
+    ensures { OnOk result (rights.new.items ≡ rights.old.items ++ record { given = given; mark = mark } ∷ []) }
+{
+    rights.push(Carried { given, mark })?;
+    Ok(())
+}
+
+// Judges a word of the body, and adds its right to those that go.
+fn judge_next(
+    space: &Space,
+    touched: &mut Touched,
+    rights: &mut Vec<Carried>,
+    word: &PortWord,
+) -> Result<(), MsgReturn>
+    requires { IsSome (disposition word.now.disposition) }
+    ensures ok { OnOk result ((c : AnyCarried) × (rights.new.items ≡ rights.old.items ++ c ∷ []) × ¬ (IsLeft word.now)
+        × ((now : Names) → Overlays touched.old space.now.names now → (after : Names) × CopiesWord now word.now c after × Overlays touched.new space.now.names after)) }
+    ensures err { IfErr result (λ code. (code ≡ SendNoBuffer)
+        ⊎ (code ≡ SendInvalidRight) × ((now : Names) → Overlays touched.old space.now.names now → IsBad now word.now ⊎ IsLeft word.now)) }
+{
+    let Carried { given, mark } = judge_body_word(space, touched, word)?;
+    match keep(rights, given, mark) {
+        Ok(()) => Ok(()),
+        Err(_) => Err(MsgReturn::SendNoBuffer),
+    }
+}
+
+// Judges the words of the body, each in what the one before left.
+fn judge_body(
+    alloc: Global,
+    space: &Space,
+    touched: &mut Touched,
+    words: &[PortWord],
+) -> Result<Vec<Carried>, MsgReturn>
+    requires { All (λ w. IsSome (disposition w.disposition)) words.now }
+    ensures ok { IfOk result (λ rights. (now : Names) → Overlays touched.old space.now.names now
+        → (after : Names) × CopiesBody now words.now rights.items after) }
+    ensures err { IfErr result (λ code. (code ≡ SendNoBuffer)
+        ⊎ (code ≡ SendInvalidRight) × ((now : Names) → Overlays touched.old space.now.names now → BodyIsBad now words.now)) }
+{
+    let mut rights = Vec::new(alloc);
+    for word in words {
+        if let Err(code) = judge_next(space, touched, &mut rights, word) {
+            return Err(code);
+        }
+    }
+    Ok(rights)
+}
+
+// Judges the word of the right to answer with.
+fn judge_reply(
+    space: &Space,
+    touched: &mut Touched,
+    word: Option<PortWord>,
+) -> Result<Option<Carried>, MsgReturn>
+    requires { IfSome word (λ w. IsSome (disposition w.disposition)) }
+    ensures ok { IfOk result (λ reply. (now : Names) → Overlays touched.old space.now.names now
+        → (after : Names) × CopiesReply now (option_to_list word) reply after × Overlays touched.new space.now.names after) }
+    ensures err { IfErr result (λ code. (code ≡ SendNoBuffer)
+        ⊎ (code ≡ SendInvalidReply) × ((now : Names) → Overlays touched.old space.now.names now → RepliesBadly now (option_to_list word))) }
+{
+    match word {
+        None => Ok(None),
+        Some(word) => {
+            let carried = judge_word(space, touched, word, MsgReturn::SendInvalidReply)?;
+            Ok(Some(carried))
+        }
+    }
+}
+
+// The port for which the right is.
+fn marked_port(carried: &Carried) -> Option<PortId>
+    ensures { MatchOption result ((p : ℕ) → carried.now.mark ≢ mark_of.Port p) (λ p. carried.now.mark ≡ mark_of.Port p) }
+{
+    match &carried.mark {
+        Mark::Port(port) => Some(*port),
+        Mark::Null | Mark::Dead => None,
+    }
+}
+
+// Judges the word of the destination: only a right for a port will do.
+fn judge_destination(
+    space: &Space,
+    touched: &mut Touched,
+    word: PortWord,
+) -> Result<(Carried, PortId), MsgReturn>
+    requires { IsSome (disposition word.disposition) }
+    ensures ok { IfOk result (λ d. (d.0.mark ≡ mark_of.Port d.1) × ((now : Names) → Overlays touched.old space.now.names now
+        → (after : Names) × CopiesName now word d.0 after × Overlays touched.new space.now.names after)) }
+    ensures err { IfErr result (λ code. (code ≡ SendNoBuffer)
+        ⊎ (code ≡ SendInvalidDest) × ((now : Names) → Overlays touched.old space.now.names now → LeadsNowhere now word)) }
+{
+    let destination = match judge_name(space, touched, word, MsgReturn::SendInvalidDest) {
+        Ok(destination) => destination,
+        Err(code) => return Err(code),
+    };
+    match marked_port(&destination) {
+        Some(port) => Ok((destination, port)),
+        None => Err(MsgReturn::SendInvalidDest),
+    }
+}
+
+// The rights that go with a message.
+#[derive(Drop)]
+struct Rights {
+    destination: Carried,
+    port: PortId,
+    reply: Option<Carried>,
+    body: Vec<Carried>,
+}
+
+// Judges all words of a message: the destination, the reply and the body.
+fn judge_all(alloc: Global, space: &Space, words: &Words) -> Result<Rights, MsgReturn>
+    requires { AreGiven words.now }
+    ensures ok { IfOk result (λ rights. GoAll space.now.names words.now rights) }
+    ensures err { IfErr result (λ code. (code ≡ SendNoBuffer) ⊎ CannotGo space.now.names words.now code) }
+{
+    let mut touched = BTreeMap::new(alloc);
+    let (destination, port) = match judge_destination(space, &mut touched, words.destination) {
+        Ok(right) => right,
+        Err(code) => return Err(code),
+    };
+    let reply = match judge_reply(space, &mut touched, words.reply) {
+        Ok(reply) => reply,
+        Err(code) => return Err(code),
+    };
+    let body = match judge_body(alloc, space, &mut touched, words.body.as_slice()) {
+        Ok(body) => body,
+        Err(code) => return Err(code),
+    };
+    Ok(Rights {
+        destination,
+        port,
+        reply,
+        body,
+    })
+}
+
+// Whether a message under this destination right goes by a send-once right.
+fn goes_once(destination: Carried) -> bool
+    ensures { result ≡ same_kind (kind_sent destination.given) send_once }
+{
+    matches!(
+        &destination.given,
+        Disposition::MoveSendOnce | Disposition::MakeSendOnce
+    )
+}
+
+// Whether the port's queue takes a message under this destination right.
+fn has_slot(world: &World, port: PortId, destination: Carried) -> bool
+    requires live { IsLive world.now.ports port }
+    requires sends { kind_sent destination.given ≢ receive }
+    ensures { MatchBool result (HasSlot world.now port destination) (HasNoSlot world.now port destination) }
+{
+    if goes_once(destination) {
+        return true;
+    }
+    match world.ports.attributes(port) {
+        Some(attributes) => world.ports.queued(port) < attributes.limit as usize,
+        None => unreachable!(),
+    }
+}
+
+// How many rights are made by this one: one, or none.
+fn count_made(carried: Carried) -> u64
+    ensures value { result ≡ made_by carried }
+    ensures few { result ≤ 1 }
+{
+    let Mark::Port(_) = &carried.mark else {
+        return 0;
+    };
+    match &carried.given {
+        Disposition::CopySend | Disposition::MakeSend | Disposition::MakeSendOnce => 1,
+        Disposition::MoveReceive | Disposition::MoveSend | Disposition::MoveSendOnce => 0,
+    }
+}
+
+// How many rights are made by all of these.
+fn count_all_made(rights: &[Carried]) -> u64
+    ensures value { result ≡ made_by_all rights.now }
+    ensures few { result ≤ length rights.now }
+{
+    let mut made = 0;
+    for carried in rights {
+        made += count_made(*carried);
+    }
+    made
+}
+
+// Whether there may be as many rights as the message makes.
+fn has_room(world: &World, rights: &Rights) -> bool
+    ensures { IsTrue result ↔ (world.now.ledger.total + made_by_rights rights.now ≤ most_rights) }
+{
+    let reply = match rights.reply {
+        Some(carried) => count_made(carried),
+        None => 0,
+    };
+    let made = count_made(rights.destination) + reply + count_all_made(rights.body.as_slice());
+    world.ledger.total() as u64 + made <= u32::MAX as u64
+}
+
+// Judges the queue, and the limit of rights.
+fn admit(world: &World, rights: &Rights) -> Result<(), MsgReturn>
+    requires live { IsLive world.now.ports rights.now.port }
+    requires sends { kind_sent rights.now.destination.given ≢ receive }
+    ensures ok { IfOk result (λ _. HasSlot world.now rights.now.port rights.now.destination × (world.now.ledger.total + made_by_rights rights.now ≤ most_rights)) }
+    ensures err { IfErr result (λ code. HasNoSlot world.now rights.now.port rights.now.destination × (code ≡ SendTimedOut)
+        ⊎ HasSlot world.now rights.now.port rights.now.destination × (most_rights < world.now.ledger.total + made_by_rights rights.now) × (code ≡ SendNoBuffer)) }
+{
+    if !has_slot(world, rights.port, rights.destination) {
+        return Err(MsgReturn::SendTimedOut);
+    }
+    if !has_room(world, rights) {
+        return Err(MsgReturn::SendNoBuffer);
+    }
+    Ok(())
+}
+
+// The word of the right to answer with, if the header has one.
+fn reply_word(parsed: &Parsed) -> Option<PortWord>
+    ensures { option_to_list result ≡ reply_words parsed.now }
+{
+    if parsed.local_kind == 0 {
+        return None;
+    }
+    Some(PortWord {
+        disposition: parsed.local_kind,
+        name: parsed.local,
+    })
+}
+
+// The words of a message.
+fn read_words(alloc: Global, parsed: &Parsed, bytes: &[u8]) -> Result<Words, MsgReturn>
+    requires { Parses bytes.now parsed.now }
+    ensures ok { IfOk result (λ words. (p : Parses bytes.now parsed.now) → AreWords parsed.now p.written words) }
+    ensures err { IfErr result (λ code. code ≡ SendNoBuffer) }
+{
+    let Ok(body) = port_words(alloc, bytes, parsed.spans.as_slice()) else {
+        return Err(MsgReturn::SendNoBuffer);
+    };
+    Ok(Words {
+        destination: PortWord {
+            disposition: parsed.remote_kind,
+            name: parsed.remote,
+        },
+        reply: reply_word(parsed),
+        body,
+    })
+}
+
+/// Judges a message of the task, of which this was read, and makes the plan by which [`commit`] sends
+/// it. Nothing changes. Each right is judged in what the ones before it left: the destination's, the
+/// reply's, and the body's from the front (IPC Interface, `mach_msg`).
+///
+/// # Errors
+/// - [`MsgReturn::SendInvalidDest`]: the destination is no right for a port by its disposition.
+/// - [`MsgReturn::SendInvalidReply`]: the right to answer with can't go by its disposition.
+/// - [`MsgReturn::SendInvalidRight`]: a right of the body can't go by its disposition, or is a receive
+///   right, which no message takes yet.
+/// - [`MsgReturn::SendTimedOut`]: the queue is at its limit, and the message goes by a send right.
+/// - [`MsgReturn::SendNoBuffer`]: there would be more than 4,294,967,295 rights; or memory was refused,
+///   whatever else is wrong.
+///
+/// Linear in the bytes, and logarithmic in the names of the task and the words so far for each word.
+///
+/// [`commit`]: crate::commit
+pub fn check(
+    world: &World,
+    alloc: Global,
+    task: TaskId,
+    parsed: Parsed,
+    bytes: &[u8],
+) -> Result<Plan, MsgReturn>
+    requires there { task < length world.now.spaces }
+    requires parses { Parses bytes.now parsed }
+    requires tied { IsTied world.now task }
+    ensures ok { IfOk result (λ plan. (p : Parses bytes.now parsed) → IsPlan world.now task parsed p.written bytes.now plan) }
+    ensures err { IfErr result (λ code. (p : Parses bytes.now parsed) → CannotPlan world.now task parsed p.written (msg_number code)) }
+{
+    let words = match read_words(alloc, &parsed, bytes) {
+        Ok(words) => words,
+        Err(code) => return Err(code),
+    };
+    let rights = match judge_all(alloc, world.space(task), &words) {
+        Ok(rights) => rights,
+        Err(code) => return Err(code),
+    };
+    if let Err(code) = admit(world, &rights) {
+        return Err(code);
+    }
+    let Ok(bytes) = Vec::from_slice(alloc, bytes) else {
+        return Err(MsgReturn::SendNoBuffer);
+    };
+    let by_once = goes_once(rights.destination);
+    let Rights {
+        destination,
+        port,
+        reply,
+        body,
+    } = rights;
+    let message = Message {
+        bytes,
+        parsed,
+        by_once,
+        reply,
+        rights: body,
+    };
+    Ok(Plan {
+        task,
+        words,
+        destination,
+        port,
+        message,
+    })
+}

@@ -1,0 +1,192 @@
+-- What stays when a right was given, and what is ready for the next.
+use Rattle.std.proofs.Common.{◌≡◌, ◌≢◌, ℕ, ◌+◌, ◌-◌, ◌<◌, ◌≤◌, List, [], ◌∷◌, Option, Some, None, refl, sym, ap, subst, ◌∙◌, arith, true, false, Bool, inl, inr, ◌⊎◌, length, drop, get_or}
+use Rattle.std.specs.Prelude.{slice_get, is_some, MatchBool, if◌then◌else◌, ◌==◌}
+use Rattle.std.proofs.lemmas.Bool.{cases_lt}
+use Rattle.std.proofs.lemmas.List.{at_drop_more, at_drop_all}
+use Rattle.std.proofs.lemmas.Bool.Decides.{eqb_tells}
+use Rattle.std.specs.FinMap as map
+use Rattle.mach_types.specs.Numbers.{kind_sent, most_names, most_references}
+use Rattle.mach_types.specs.Tokens.{Kind, receive, send, send_once}
+use Rattle.name_space.specs.declared.Entry.{Entry}
+use Rattle.name_space.specs.Entry.{send_references}
+use Rattle.name_space.specs.Names.{SpaceView, port_at as port_named_at}
+use Rattle.name_space.proofs.Keys.{put_here, put_other, equal_or_not}
+use Rattle.port.specs.Ports.{PortView, PortsView}
+use Rattle.rights.specs.declared.RightKind.TheVariants as right
+use Rattle.rights.specs.declared.Counts.{Counts}
+use Rattle.rights.specs.Counts.{no_rights, with_fewer}
+use Rattle.rights.specs.Ledger.{LedgerView, IsEntered, counts_of, taken}
+use Rattle.std.specs.Option.{unwrap_or}
+use Rattle.copyin.specs.declared.message.Carried.{Carried}
+use Rattle.copyin.specs.declared.message.Mark.{Mark}
+use Rattle.copyin.specs.declared.message.Mark.TheVariants as mark
+use Rattle.copyin.specs.Kept.{Kept}
+use Rattle.copyin.specs.Worlds.{WorldView, port_at}
+use Rattle.copyin.proofs.Gets.{get-set_same}
+use Rattle.copyout.specs.Giving.{ledger_joined, holder_given, GivesPort, GivesMark, MarkLacks}
+use Rattle.copyout.specs.Ready.{send_for, CanGive, CanGivePort, CanTakeName, UsesOneRoom}
+
+pub kind_cases : (kind : Kind) → (kind ≡ send_once) ⊎ (kind ≢ send_once)
+kind_cases send = inr (λ h. cc)
+kind_cases receive = inr (λ h. cc)
+kind_cases send_once = inl refl
+
+-- ---- ledgers
+
+pub entered-put : (m : LedgerView) (p q : ℕ) (c : Counts) → IsEntered m q → map.contains_key (map.insert m.counts p c) q ≡ true
+entered-put m p q c h = elim (equal_or_not q p) [
+  | inl e ↦ subst (λ (k : ℕ). map.contains_key (map.insert m.counts p c) k ≡ true) (sym e) (ap is_some (put_here m.counts p c))
+  | inr n ↦ ap is_some (put_other m.counts p c q n) ∙ h
+]
+
+pub entered-taken : (m : LedgerView) (p q : ℕ) → IsEntered m q → IsEntered (taken m p right.Send 1) q
+entered-taken m p q h = entered-put m p q (with_fewer right.Send 1 (counts_of m p)) h
+
+pub sends-taken : (m : LedgerView) (p q : ℕ) → (counts_of m q).send ≤ (counts_of (taken m p right.Send 1) q).send + (if p == q then 1 else 0)
+sends-taken m p q = elim (eqb_tells p q) [
+  | inl h ↦ let e : (counts_of (taken m p right.Send 1) q).send ≡ (counts_of m p).send - 1 = subst (λ (k : ℕ). (counts_of (taken m p right.Send 1) k).send ≡ (counts_of m p).send - 1) h.1
+      (ap (λ (o : Option Counts). (unwrap_or o no_rights).send) (put_here m.counts p (with_fewer right.Send 1 (counts_of m p)))) in
+      let f : (counts_of m q).send ≡ (counts_of m p).send = ap (λ (k : ℕ). (counts_of m k).send) (sym h.1) in
+      rw (h.0, e, f) (omega arith)
+  | inr h ↦ let e : (counts_of (taken m p right.Send 1) q).send ≡ (counts_of m q).send =
+      ap (λ (o : Option Counts). (unwrap_or o no_rights).send) (put_other m.counts p (with_fewer right.Send 1 (counts_of m p)) q (λ x. h.1 (sym x))) in
+      rw (h.0, e) (omega arith)
+]
+
+entered-if : (b : Bool) (m : LedgerView) (p q : ℕ) → IsEntered m q → IsEntered (if b then taken m p right.Send 1 else m) q
+entered-if true m p q h = entered-taken m p q h
+entered-if false m p q h = h
+
+sends-if : (b : Bool) (m : LedgerView) (p q : ℕ) → (counts_of m q).send ≤ (counts_of (if b then taken m p right.Send 1 else m) q).send + (if p == q then 1 else 0)
+sends-if true m p q = sends-taken m p q
+sends-if false m p q = omega arith
+
+entered-joined : (kind : Kind) (p : ℕ) (x : Entry) (m : LedgerView) (q : ℕ) → IsEntered m q → IsEntered (ledger_joined kind p x m) q
+entered-joined send p x m q h = entered-if (send_references x == most_references) m p q h
+entered-joined receive p x m q h = h
+entered-joined send_once p x m q h = h
+
+sends-joined : (kind : Kind) (p : ℕ) (x : Entry) (m : LedgerView) (q : ℕ) → (counts_of m q).send ≤ (counts_of (ledger_joined kind p x m) q).send + send_for kind (mark.Port p) q
+sends-joined send p x m q = sends-if (send_references x == most_references) m p q
+sends-joined receive p x m q = omega arith
+sends-joined send_once p x m q = omega arith
+
+-- ---- ports
+
+pub live-put : (ports : PortsView Kept) (p q : ℕ) (o : Option (PortView Kept)) (v2 : PortView Kept) → map.get ports.ports p ≡ o → is_some o ≡ true →
+    is_some (map.get (map.insert ports.ports p v2) q) ≡ is_some (map.get ports.ports q)
+live-put ports p q o v2 e h = elim (equal_or_not q p) [
+  | inl f ↦ subst (λ (k : ℕ). is_some (map.get (map.insert ports.ports p v2) k) ≡ is_some (map.get ports.ports k)) (sym f) (ap is_some (put_here ports.ports p v2) ∙ sym (ap is_some e ∙ h))
+  | inr n ↦ ap is_some (put_other ports.ports p v2 q n)
+]
+
+pub live-held : (kind : Kind) (p task : ℕ) (ports : PortsView Kept) (q : ℕ) (o : Option (PortView Kept)) → map.get ports.ports p ≡ o →
+    is_some (map.get (holder_given kind p task ports o).ports q) ≡ is_some (map.get ports.ports q)
+live-held receive p task ports q (Some v) e = live-put ports p q (Some v) _ e refl
+live-held receive p task ports q None e = refl
+live-held send p task ports q o e = refl
+live-held send_once p task ports q o e = refl
+
+-- ---- what stays
+
+pub record After (w mid : WorldView) (task : ℕ) (kind : Kind) (one : Mark) : Type 0 where
+  pub space : SpaceView
+  pub there : slice_get mid.spaces task ≡ Some space
+  pub live : (p : ℕ) → is_some (port_at mid p) ≡ is_some (port_at w p)
+  pub entered : (p : ℕ) → IsEntered w.ledger p → IsEntered mid.ledger p
+  pub sends : (p : ℕ) → (counts_of w.ledger p).send ≤ (counts_of mid.ledger p).send + send_for kind one p
+
+after_same : (w mid : WorldView) (task : ℕ) (kind : Kind) (one : Mark) (space : SpaceView) → slice_get w.spaces task ≡ Some space → mid ≡ w → After w mid task kind one
+after_same w mid task kind one space there e = subst (λ (x : WorldView). After w x task kind one) (sym e)
+    (record { space = space; there = there; live = λ p. refl; entered = λ p h. h; sends = λ p. omega arith })
+
+after_port : (w mid : WorldView) (task : ℕ) (kind : Kind) (port word : ℕ) → GivesPort w task kind port word mid → After w mid task kind (mark.Port port)
+after_port w mid task kind port word g = subst (λ (x : WorldView). After w x task kind (mark.Port port)) (sym g.rest) (record {
+  space = record { names = g.after; room = g.room };
+  there = get-set_same w.spaces task (record { names = g.after; room = g.room }) g.space g.there;
+  live = λ p. live-held kind port task w.ports p (map.get w.ports.ports port) refl;
+  entered = λ p h. elim g.given [
+    | inl j ↦ subst (λ (m : LedgerView). IsEntered m p) (sym j.1) (entered-joined kind port j.0.entry w.ledger p h)
+    | inr t ↦ subst (λ (m : LedgerView). IsEntered m p) (sym t.1) h
+  ];
+  sends = λ p. elim g.given [
+    | inl j ↦ subst (λ (m : LedgerView). (counts_of w.ledger p).send ≤ (counts_of m p).send + send_for kind (mark.Port port) p) (sym j.1) (sends-joined kind port j.0.entry w.ledger p)
+    | inr t ↦ subst (λ (m : LedgerView). (counts_of w.ledger p).send ≤ (counts_of m p).send + send_for kind (mark.Port port) p) (sym t.1) (omega arith)
+  ];
+})
+
+after_if : (b : Bool) (w mid : WorldView) (task : ℕ) (kind : Kind) (port word dead : ℕ) (space : SpaceView) → slice_get w.spaces task ≡ Some space →
+    MatchBool b (GivesPort w task kind port word mid) ((word ≡ dead) × (mid ≡ w)) → After w mid task kind (mark.Port port)
+after_if true w mid task kind port word dead space there h = after_port w mid task kind port word h
+after_if false w mid task kind port word dead space there h = after_same w mid task kind (mark.Port port) space there h.1
+
+pub after_mark : (w mid : WorldView) (task : ℕ) (kind : Kind) (one : Mark) (word : ℕ) (space : SpaceView) → slice_get w.spaces task ≡ Some space →
+    GivesMark w task kind one word mid → After w mid task kind one
+after_mark w mid task kind (mark.Port p) word space there h = after_if (is_some (map.get w.ports.ports p)) w mid task kind p word _ space there h
+after_mark w mid task kind mark.Null word space there h = after_same w mid task kind mark.Null space there h.1
+after_mark w mid task kind mark.Dead word space there h = after_same w mid task kind mark.Dead space there h.1
+
+-- ---- what is ready
+
+pub can_give_one : (w : WorldView) (task : ℕ) (c : Carried) (cs : List Carried) → CanGive w task (c ∷ cs) → CanGive w task (c ∷ [])
+can_give_one w task c cs g = record {
+  space = g.space;
+  there = g.there;
+  room = let h = g.room in omega arith;
+  enough = λ h. elim h [ inl a ↦ g.enough (inl a) | inr b ↦ absurd b.3 ];
+  entered = g.entered;
+  counted = λ p live. let h = g.counted p live in omega arith;
+}
+
+pub can_give_rest : (w mid : WorldView) (task : ℕ) (c : Carried) (cs : List Carried) (word : ℕ) → CanGive w task (c ∷ cs) →
+    GivesMark w task (kind_sent c.given) c.mark word mid → UsesOneRoom w mid task → CanGive mid task cs
+can_give_rest w mid task c cs word g gives room =
+    let a = after_mark w mid task (kind_sent c.given) c.mark word g.space g.there gives in
+    record {
+      space = a.space;
+      there = a.there;
+      room = let h = g.room in let k = room g.space a.space g.there a.there in omega arith;
+      enough = λ h. g.enough (inr (word, mid, gives, h));
+      entered = λ p live. a.entered p (g.entered p (sym (a.live p) ∙ live));
+      counted = λ p live. let h = g.counted p (sym (a.live p) ∙ live) in let k = a.sends p in omega arith;
+    }
+
+send_own : (kind : Kind) (one : Mark) (p : ℕ) → kind ≡ send → one ≡ mark.Port p → send_for kind one p ≡ 1
+send_own kind one p e f = subst (λ (k : Kind). send_for k one p ≡ 1) (sym e) (subst (λ (m : Mark). send_for send m p ≡ 1) (sym f) (own p))
+  where
+    own : (p : ℕ) → send_for send (mark.Port p) p ≡ 1
+    own p = elim (eqb_tells p p) [ inl h ↦ rw h.0 | inr h ↦ absurd (h.1 refl) ]
+
+pub can_give_port : (w : WorldView) (task : ℕ) (c : Carried) (p : ℕ) → c.mark ≡ mark.Port p → is_some (map.get w.ports.ports p) ≡ true → CanGive w task (c ∷ []) →
+    CanGivePort w task (kind_sent c.given) p
+can_give_port w task c p is live g = record {
+  space = g.space;
+  there = g.there;
+  room = let h = g.room in omega arith;
+  enough = λ h. g.enough (inl (subst (λ (m : Mark). MarkLacks w task (kind_sent c.given) m) (sym is) (live, h.0, h.1)));
+  live = live;
+  entered = g.entered p live;
+  counted = λ e. let h = g.counted p live in let k = send_own (kind_sent c.given) c.mark p e is in omega arith;
+}
+
+pub can_take : (w : WorldView) (task : ℕ) (kind : Kind) (port : ℕ) (g : CanGivePort w task kind port) →
+    (kind ≢ send_once → (name : ℕ) → port_named_at g.space.names name ≢ Some port) → CanTakeName w task kind port
+can_take w task kind port g lone = record {
+  space = g.space;
+  there = g.there;
+  room = g.room;
+  not_full = elim (cases_lt (map.len g.space.names) most_names) [
+    | inl h ↦ h
+    | inr h ↦ absurd (g.enough ((g.space, g.there, h), elim (kind_cases kind) [ inl e ↦ inl e | inr n ↦ inr (g.space, g.there, lone n) ]))
+  ];
+  lone = lone;
+  live = g.live;
+}
+
+-- ---- one element after another
+
+pub next_item : {X : Type 0} (xs : List X) (i : ℕ) (x : X) → i < length xs → x ≡ get_or xs i x → drop i xs ≡ x ∷ drop (i + 1) xs
+next_item {X} xs i x h is = at_drop_more (λ (ys : List X). ys) xs i x h ∙ ap (λ (y : X). y ∷ drop (i + 1) xs) (sym is)
+
+pub no_item : {X : Type 0} (xs : List X) (i : ℕ) → length xs ≤ i → drop i xs ≡ []
+no_item {X} xs i h = at_drop_all (λ (ys : List X). ys) xs i h

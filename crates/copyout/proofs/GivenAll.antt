@@ -1,0 +1,109 @@
+-- Rights that the tables give one after the other are given so by the machine.
+use Rattle.std.proofs.Common.{◌≡◌, ℕ, ◌+◌, ◌<◌, ◌≤◌, List, [], ◌∷◌, refl, sym, ap, subst, ◌∙◌, arith, true, false, Bool}
+use Rattle.std.specs.Prelude.{is_some, MatchBool}
+use Rattle.std.proofs.lemmas.Bool.{eq-eqb}
+use Rattle.mach_types.specs.Numbers.{kind_sent, kind_number, dead_word}
+use Rattle.mach_types.specs.Tokens.{Kind, receive, send, send_once, Place, in_message, same_kind}
+use Rattle.mach_types.specs.Messages.{to_port, present}
+use Rattle.mach_types.specs.Messages.{Mark as MachineMark}
+use Rattle.mach_model.specs.State.{State}
+use Rattle.mach_model.specs.CopyOut.{GiveRight, GiveMark}
+use Rattle.mach_model.specs.Carried.{mark_count, lying}
+use Rattle.mach_model.proofs.Moving.{IsMoving}
+use Rattle.mach_model.proofs.CopyingOut.{Removes}
+use Rattle.mach_model.proofs.CopyingMarks.{GiveReply-removes}
+use Rattle.copyin.specs.declared.message.Carried.{Carried}
+use Rattle.copyin.specs.declared.message.Mark.{Mark}
+use Rattle.copyin.specs.declared.message.Mark.TheVariants as mark
+use Rattle.copyin.specs.Kept.{mark_of}
+use Rattle.copyin.specs.Worlds.{WorldView, port_at}
+use Rattle.copyin.specs.Shows.{Agrees}
+use Rattle.copyout.specs.Giving.{GivesPort, GivesMark, GivesAll}
+use Rattle.copyout.proofs.Given.{port_given}
+
+-- The machine gives these rights, from the front.
+abbrev pub GiveEach : (task : ℕ) → Place → List Carried → State → List ℕ → State → Type 0
+GiveEach task place [] old [] new = new ≡ old
+GiveEach task place (c ∷ cs) old (w ∷ ws) new = (mid : State) × GiveMark task place (kind_sent c.given) (mark_of c.mark) old w mid × GiveEach task place cs mid ws new
+GiveEach task place [] old (w ∷ ws) new = ⊥
+GiveEach task place (c ∷ cs) old [] new = ⊥
+
+-- how many rights of this kind for the port are among them
+abbrev pub each_count : Kind → ℕ → List Carried → ℕ
+each_count k q [] = 0
+each_count k q (c ∷ cs) = mark_count k q (kind_sent c.given) (mark_of c.mark) + each_count k q cs
+
+-- As many rights for live ports lie at the entry, or more.
+abbrev pub AreLying : State → (o k : ℕ) → List Carried → Type 0
+AreLying s o k cs = (kind : Kind) (q : ℕ) → s.live_port q ≡ true → each_count kind q cs ≤ lying s kind q (in_message o k)
+
+-- ---- one
+
+-- The state once a mark was given.
+pub record MarkGiven (task o k : ℕ) (kind : Kind) (m : MachineMark) (s : State) (word : ℕ) (w' : WorldView) : Type 0 where
+  pub t : State
+  pub gives : GiveMark task (in_message o k) kind m s word t
+  pub agrees : Agrees w' t
+
+kind_refl : (kind : Kind) → same_kind kind kind ≡ true
+kind_refl receive = refl
+kind_refl send = refl
+kind_refl send_once = refl
+
+pub own_mark : (kind : Kind) (p : ℕ) → mark_count kind p kind (to_port p) ≡ 1
+own_mark kind p = rw (kind_refl kind, eq-eqb p p refl) refl
+
+by_port : (b c : Bool) (P Q P' Q' R : Type 0) → b ≡ c → (c ≡ true → P → P' → R) → (Q → Q' → R) → MatchBool b P Q → (P → P') → (Q → Q') → R
+by_port true true P Q P' Q' R e f g m x y = f refl m (x m)
+by_port false false P Q P' Q' R e f g m x y = g m (y m)
+by_port true false P Q P' Q' R e f g m x y = absurd (cc)
+by_port false true P Q P' Q' R e f g m x y = absurd (cc)
+
+module _ (w : WorldView) (s : State) (a : Agrees w s) (o k : ℕ) (l : IsMoving s o k) (task : ℕ) (kind : Kind) (word : ℕ) (w' : WorldView) where
+  nothing_given : (m : MachineMark) → w' ≡ w → GiveMark task (in_message o k) kind m s word s → MarkGiven task o k kind m s word w'
+  nothing_given m same gives = record { t = s; gives = gives; agrees = subst (λ (x : WorldView). Agrees x s) (sym same) a }
+
+  live_given : (p : ℕ) → s.live_port p ≡ true → 0 < lying s kind p (in_message o k) → GivesPort w task kind p word w' → MarkGiven task o k kind (to_port p) s word w'
+  live_given p live some g =
+      let x = port_given w s a o k l task kind p word w' some g in
+      record { t = x.t; gives = subst (λ (b : Bool). MatchBool b (GiveRight task (in_message o k) kind p s word x.t) ((word ≡ dead_word) × (x.t ≡ s))) (sym live) x.gives; agrees = x.agrees }
+
+  dead_given : (p : ℕ) → s.live_port p ≡ false → word ≡ dead_word → w' ≡ w → MarkGiven task o k kind (to_port p) s word w'
+  dead_given p gone is same = nothing_given (to_port p) same
+      (subst (λ (b : Bool). MatchBool b (GiveRight task (in_message o k) kind p s word s) ((word ≡ dead_word) × (s ≡ s))) (sym gone) (is, refl))
+
+  port_mark : (p : ℕ) (b : Bool) → is_some (port_at w p) ≡ b → (s.live_port p ≡ true → 0 < lying s kind p (in_message o k)) →
+      MatchBool b (GivesPort w task kind p word w') ((word ≡ dead_word) × (w' ≡ w)) → MarkGiven task o k kind (to_port p) s word w'
+  port_mark p true e some g = let live : s.live_port p ≡ true = sym (a.live_port p) ∙ e in live_given p live (some live) g
+  port_mark p false e some g = dead_given p (sym (a.live_port p) ∙ e) g.0 g.1
+
+  pub mark_given : (m : Mark) → ((q : ℕ) → s.live_port q ≡ true → mark_count kind q kind (mark_of m) ≤ lying s kind q (in_message o k)) →
+      GivesMark w task kind m word w' → MarkGiven task o k kind (mark_of m) s word w'
+  mark_given (mark.Port p) some g =
+      port_mark p (is_some (port_at w p)) refl (λ live. let n = some p live in let own = own_mark kind p in omega (arith, n, own)) g
+  mark_given mark.Null some g = nothing_given _ g.1 (g.0, refl)
+  mark_given mark.Dead some g = nothing_given _ g.1 (g.0, refl)
+
+-- ---- each
+
+-- The state once all were given.
+pub record AllGiven (task o k : ℕ) (cs : List Carried) (s : State) (words : List ℕ) (w' : WorldView) : Type 0 where
+  pub t : State
+  pub gives : GiveEach task (in_message o k) cs s words t
+  pub agrees : Agrees w' t
+
+pub all_given : (cs : List Carried) (words : List ℕ) (w : WorldView) (s : State) → Agrees w s → (o k : ℕ) → IsMoving s o k → (task : ℕ) → s.live_task task ≡ true → AreLying s o k cs →
+    (w' : WorldView) → GivesAll w task cs words w' → AllGiven task o k cs s words w'
+all_given [] [] w s a o k l task is_task lie w' g = record { t = s; gives = refl; agrees = subst (λ (x : WorldView). Agrees x s) (sym g) a }
+all_given (c ∷ cs) (n ∷ ns) w s a o k l task is_task lie w' g =
+    let one = mark_given w s a o k l task (kind_sent c.given) n g.0 c.mark (λ q live. let m = lie (kind_sent c.given) q live in omega (arith, m)) g.1 in
+    let less : Removes s one.t o k (λ kind q. mark_count kind q (kind_sent c.given) (mark_of c.mark)) =
+    GiveReply-removes task o k (present (kind_sent c.given) (mark_of c.mark)) s (kind_number (kind_sent c.given)) n one.t l is_task (refl, one.gives) in
+    let rest = all_given cs ns g.0 one.t one.agrees o k less.keeps task (ap (λ (x : State). x.live_task task) less.rest ∙ is_task)
+    (λ kind q live.
+    let live' : s.live_port q ≡ true = sym (ap (λ (x : State). x.live_port q) less.rest) ∙ live in
+    let m = less.lies kind q live' in let n = lie kind q live' in omega (arith, m, n))
+    w' g.2 in
+    record { t = rest.t; gives = (one.t, one.gives, rest.gives); agrees = rest.agrees }
+all_given [] (n ∷ ns) w s a o k l task is_task lie w' g = absurd g
+all_given (c ∷ cs) [] w s a o k l task is_task lie w' g = absurd g

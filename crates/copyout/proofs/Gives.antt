@@ -1,0 +1,109 @@
+-- One right given: the tables after its steps.
+use Rattle.std.proofs.Common.{◌≡◌, ◌≢◌, ℕ, ◌+◌, ◌-◌, ◌<◌, ◌≤◌, List, Option, Some, None, refl, sym, ap, subst, ◌∙◌, arith, inl, inr}
+use Rattle.std.specs.Prelude.{slice_get, slice_set}
+use Rattle.std.specs.Option.{option_and_then}
+use Rattle.std.specs.FinMap as map
+use Rattle.mach_types.specs.Numbers.{most_names}
+use Rattle.mach_types.specs.Tokens.{Kind, receive, send, send_once}
+use Rattle.name_space.specs.declared.Entry.{Entry}
+use Rattle.name_space.specs.declared.Entry.TheVariants as entry_of
+use Rattle.name_space.specs.Entry.{port_named}
+use Rattle.name_space.specs.Names.{Names, SpaceView, IsFreshName, port_at}
+use Rattle.copyin.specs.Worlds.{WorldView, entry_in, entry_at}
+use Rattle.copyin.proofs.Gets.{get-set_same, same_found}
+use Rattle.copyout.specs.Giving.{joined, alone, ledger_joined, holder_given, GivesPort}
+use Rattle.copyout.specs.Ready.{UsesOneRoom}
+
+pub found_in : (w : WorldView) (task name : ℕ) (space : SpaceView) (entry : Entry) → slice_get w.spaces task ≡ Some space → entry_at w task name ≡ Some entry →
+    map.get space.names name ≡ Some entry
+found_in w task name space entry there e = sym (ap (λ (o : Option SpaceView). entry_in o name) there) ∙ e
+
+pub named_in : (names : Names) (name port : ℕ) (entry : Entry) → map.get names name ≡ Some entry → port_at names name ≡ Some port → port_named entry ≡ Some port
+named_in names name port entry found named = sym (ap (option_and_then port_named) found) ∙ named
+
+-- the entry of a name stays that of its port
+pub joined_port : (kind : Kind) (entry : Entry) → port_named (joined kind entry) ≡ port_named entry
+joined_port send (entry_of.Receive p) = refl
+joined_port send (entry_of.Send p n) = refl
+joined_port send (entry_of.ReceiveAndSend p n) = refl
+joined_port send (entry_of.SendOnce p) = refl
+joined_port send (entry_of.DeadName n) = refl
+joined_port send (entry_of.Set n) = refl
+joined_port receive (entry_of.Receive p) = refl
+joined_port receive (entry_of.Send p n) = refl
+joined_port receive (entry_of.ReceiveAndSend p n) = refl
+joined_port receive (entry_of.SendOnce p) = refl
+joined_port receive (entry_of.DeadName n) = refl
+joined_port receive (entry_of.Set n) = refl
+joined_port send_once entry = refl
+
+pub alone_port : (kind : Kind) (port p : ℕ) → port_named (alone kind port) ≡ Some p → (kind ≢ send_once) × (port ≡ p)
+alone_port send port p e = (λ h. cc, cc)
+alone_port receive port p e = (λ h. cc, cc)
+alone_port send_once port p e = absurd (let e' : None ≡ Some p = e in cc)
+
+pub uses_room : (w new : WorldView) (task : ℕ) (space space2 : SpaceView) → slice_get w.spaces task ≡ Some space → new.spaces ≡ slice_set w.spaces task space2 →
+    space.room ≤ space2.room + 1 → UsesOneRoom w new task
+uses_room w new task space space2 there e h a b x y =
+    let ea : space ≡ a = same_found (slice_get w.spaces task) space a there x in
+    let own : slice_get new.spaces task ≡ Some space2 = ap (λ (xs : List SpaceView). slice_get xs task) e ∙ get-set_same w.spaces task space2 space there in
+    let eb : space2 ≡ b = same_found (slice_get new.spaces task) space2 b own y in
+    subst (λ (z : SpaceView). a.room ≤ z.room + 1) eb (subst (λ (z : SpaceView). z.room ≤ space2.room + 1) ea h)
+
+-- under the task's name for the port
+module _ (w w1 w2 w3 : WorldView) (task : ℕ) (kind : Kind) (port name : ℕ) (entry put : Entry) (space : SpaceView)
+    (there : slice_get w.spaces task ≡ Some space) (is : put ≡ joined kind entry)
+    (dropped : w1 ≡ record w { ledger = ledger_joined kind port entry w.ledger })
+    (replaced : w2 ≡ record w1 { spaces = slice_set w1.spaces task (record space { names = map.insert space.names name put }) })
+    (holds : w3 ≡ record w2 { ports = holder_given kind port task w2.ports (map.get w2.ports.ports port) }) where
+  pub rest-joined : w3 ≡ record {
+    spaces = slice_set w.spaces task (record space { names = map.insert space.names name (joined kind entry) });
+    ports = holder_given kind port task w.ports (map.get w.ports.ports port);
+    ledger = ledger_joined kind port entry w.ledger;
+  }
+  rest-joined =
+      let f : WorldView → WorldView = λ x. record x { ports = holder_given kind port task x.ports (map.get x.ports.ports port) } in
+      let g : Entry → WorldView → WorldView = λ e x. record x { spaces = slice_set x.spaces task (record space { names = map.insert space.names name e }) } in
+      holds ∙ ap f replaced ∙ ap (λ (x : WorldView). f (g put x)) dropped ∙ ap (λ (e : Entry). f (g e (record w { ledger = ledger_joined kind port entry w.ledger }))) is
+
+  pub gives-joined : kind ≢ send_once → map.get space.names name ≡ Some entry → port_named entry ≡ Some port → GivesPort w task kind port name w3
+  gives-joined not_once found named = record {
+    space = space;
+    there = there;
+    after = map.insert space.names name (joined kind entry);
+    room = space.room;
+    ledger = ledger_joined kind port entry w.ledger;
+    given = inl (record { not_once = not_once; entry = entry; found = found; named = named; rest = refl }, refl);
+    rest = rest-joined;
+  }
+
+  pub room-joined : UsesOneRoom w w3 task
+  room-joined = uses_room w w3 task space (record space { names = map.insert space.names name (joined kind entry) }) there (ap (λ (x : WorldView). x.spaces) rest-joined) (omega arith)
+
+-- under a fresh name
+module _ (w w1 w2 : WorldView) (task : ℕ) (kind : Kind) (port name : ℕ) (space : SpaceView)
+    (there : slice_get w.spaces task ≡ Some space)
+    (inserted : w1 ≡ record w { spaces = slice_set w.spaces task (record { names = map.insert space.names name (alone kind port); room = space.room - 1 }) })
+    (holds : w2 ≡ record w1 { ports = holder_given kind port task w1.ports (map.get w1.ports.ports port) }) where
+  pub rest-taken : w2 ≡ record {
+    spaces = slice_set w.spaces task (record { names = map.insert space.names name (alone kind port); room = space.room - 1 });
+    ports = holder_given kind port task w.ports (map.get w.ports.ports port);
+    ledger = w.ledger;
+  }
+  rest-taken =
+      let f : WorldView → WorldView = λ x. record x { ports = holder_given kind port task x.ports (map.get x.ports.ports port) } in
+      holds ∙ ap f inserted
+
+  pub gives-taken : IsFreshName space.names name → map.len space.names < most_names → (kind ≢ send_once → (n : ℕ) → port_at space.names n ≢ Some port) → GivesPort w task kind port name w2
+  gives-taken fresh room lone = record {
+    space = space;
+    there = there;
+    after = map.insert space.names name (alone kind port);
+    room = space.room - 1;
+    ledger = w.ledger;
+    given = inr (record { fresh = fresh; room = room; lone = lone; rest = refl }, refl);
+    rest = rest-taken;
+  }
+
+  pub room-taken : UsesOneRoom w w2 task
+  room-taken = uses_room w w2 task space (record { names = map.insert space.names name (alone kind port); room = space.room - 1 }) there (ap (λ (x : WorldView). x.spaces) rest-taken) (omega arith)

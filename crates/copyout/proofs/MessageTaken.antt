@@ -1,0 +1,244 @@
+-- A message that is received in the tables is received by the machine.
+use Rattle.std.proofs.Common.{◌≡◌, ℕ, ◌+◌, ◌*◌, ◌^◌, ◌<◌, ◌≤◌, List, [], ◌∷◌, ◌++◌, Option, Some, None, refl, sym, ap, subst, ◌∙◌, arith, true, false, Bool, length, drop, All, length-append}
+use Rattle.std.specs.Prelude.{if◌then◌else◌, is_some, slice_get, min}
+use Rattle.std.specs.Option.{option_map, option_to_list}
+use Rattle.std.proofs.lemmas.List.{length-drop}
+use Rattle.std.proofs.lemmas.List.Elements.{All-drop}
+use Rattle.mach_types.specs.declared.calls.Waited.{Waited}
+use Rattle.mach_types.specs.Numbers.{kind_sent, kind_number, most_bytes}
+use Rattle.mach_types.specs.Tokens.{Kind, receive, send, send_once, in_message}
+use Rattle.mach_types.specs.Messages.{Message}
+use Rattle.mach_types.specs.Grammar.{WireBody, Spells, IsHeader, body_text}
+use Rattle.mach_types.specs.Grammar as wire
+use Rattle.mach_model.specs.State.{State, Target, lookup, queue}
+use Rattle.mach_model.specs.Status.{one_if}
+use Rattle.mach_model.specs.CopyOut.{GiveReply, GiveBody}
+use Rattle.mach_model.specs.Receiving.{TakesFrom, Receives}
+use Rattle.mach_model.specs.Carried.{reply_count, body_count}
+use Rattle.mach_model.specs.Lawful.{IsLawful}
+use Rattle.mach_model.proofs.Moving.{IsMoving}
+use Rattle.mach_model.proofs.ReceiveLawful.{taken_moving, lies, Receives-lawful}
+use Rattle.message_codec.specs.declared.header.Header.{Header}
+use Rattle.message_codec.specs.Parses.{is_items}
+use Rattle.message_codec.specs.Received.{header_text, received_body}
+use Rattle.message_codec.specs.Spans.{word_count, body_spans}
+use Rattle.message_codec.proofs.Spelling.{received-spells}
+use Rattle.name_space.specs.declared.Entry.{Entry as Named}
+use Rattle.name_space.specs.Entry.{port_named, has_receive}
+use Rattle.name_space.specs.Names.{SpaceView}
+use Rattle.copyin.specs.declared.message.Carried.{Carried}
+use Rattle.copyin.specs.Kept.{Kept, reply_of, body_of, body_given}
+use Rattle.copyin.specs.Plans.{option_list}
+use Rattle.copyin.specs.Worlds.{WorldView, entry_in, entry_at}
+use Rattle.copyin.specs.Shows.{target_of, Agrees, Shows}
+use Rattle.copyout.specs.Takes.{TakesMessage, reversed, reply_number, reply_word, body_names}
+use Rattle.copyin.proofs.Changing.{target_named}
+use Rattle.copyout.proofs.GivenAll.{AreLying, AllGiven, all_given}
+use Rattle.copyout.proofs.GivenBody.{ReplyGiven, reply_given, body_is_given, message_counted}
+use Rattle.copyout.proofs.GivenWords.{each_keeps, IsWord, each_fits, each_length, body_words_count, rights_length, length-body}
+use Rattle.copyout.proofs.Fronts.{HasFront, shown_is_front}
+use Rattle.copyout.proofs.FrontTaken.{kind_by, front, port_lives, kind_of_front, taken_state, taken_moves, front_agrees}
+
+-- ---- words of a reply
+
+names_fit : (reply : Option Carried) (words : List ℕ) → All IsWord words → All IsWord (body_names reply words)
+names_fit None words fit = fit
+names_fit (Some c) words fit = All-drop IsWord 1 words fit
+
+reply_fits : (reply : Option Carried) (words : List ℕ) → All IsWord words → reply_word reply words < 2 ^ 32
+reply_fits None words fit = omega arith
+reply_fits (Some c) [] fit = omega arith
+reply_fits (Some c) (w ∷ ws) fit = fit 0 w (omega arith)
+
+names_length : (reply : Option Carried) (cs : List Carried) (words : List ℕ) → length words ≡ length (option_list reply ++ cs) → length (body_names reply words) ≡ length cs
+names_length None cs words e = e
+names_length (Some c) cs words e = omega (arith, e, length-drop 1 words)
+
+number_fits : (reply : Option Carried) → reply_number reply < 2 ^ 8
+number_fits None = omega arith
+number_fits (Some c) = kind_small (kind_sent c.given)
+  where
+    kind_small : (k : Kind) → kind_number k < 2 ^ 8
+    kind_small receive = omega arith
+    kind_small send = omega arith
+    kind_small send_once = omega arith
+
+abbrev local_number : Bool → ℕ
+local_number b = if b then 18 else 17
+
+local_is : (b : Bool) → local_number b ≡ kind_number (kind_by b)
+local_is true = refl
+local_is false = refl
+
+local_fits : (b : Bool) → local_number b < 2 ^ 8
+local_fits true = omega arith
+local_fits false = omega arith
+
+complex_is : (written : WireBody) (names : List ℕ) (b : Bool) → b ≡ is_items written → (if b then 2 ^ 31 else 0) ≡ wire.complex_bit (received_body written names)
+complex_is (WireBody.raw bytes) names b e = rw e refl
+complex_is (WireBody.items xs) names b e = rw e refl
+
+length-header : (h : Header) → length (header_text h) ≡ 24
+length-header h = refl
+
+some_space : (o : Option SpaceView) (name : ℕ) (x : Named) → entry_in o name ≡ Some x → is_some o ≡ true
+some_space (Some space) name x e = refl
+some_space None name x e = absurd (let e' : None ≡ Some x = e in cc)
+
+-- The machine's receipt, and that the tables agree with what it leaves.
+pub record Received (s : State) (task port room : ℕ) (bytes : List ℕ) (w' : WorldView) : Type 0 where
+  pub t : State
+  pub receives : Receives task port room bytes s t
+  pub shows : Shows w' t
+
+module _ (w : WorldView) (s : State) (sh : Shows w s) (task port local : ℕ) (bytes : List ℕ) (w' : WorldView) (m : TakesMessage w task port local bytes w')
+    (x : Named) (found : entry_at w task local ≡ Some x) (named : port_named x ≡ Some port) where
+  abbrev kept : Kept
+  kept = m.takes.front
+
+  abbrev carried : List Carried
+  carried = option_list kept.reply ++ kept.rights
+
+  abbrev a : Agrees w s
+  a = sh.agrees
+
+  abbrev l : IsLawful s
+  l = sh.lawful
+
+  is_task : s.live_task task ≡ true
+  is_task = sym (a.live_task task) ∙ some_space (slice_get w.spaces task) local x found
+
+  local_name : lookup s task local ≡ Some (Target.port port)
+  local_name = a.naming task local ∙ ap (option_map target_of) found ∙ ap Some (target_named x port named)
+
+  lives : s.live_port port ≡ true
+  lives = port_lives w s a l port m.mid m.takes
+
+  abbrev is : HasFront port kept m.takes.behind (queue s port)
+  is = front w s a l port m.mid m.takes
+
+  abbrev t0 : State
+  t0 = taken_state w s a l port m.mid m.takes
+
+  abbrev written : WireBody
+  written = is.keeps.written
+
+  on_way : IsMoving t0 port (s.taken port)
+  on_way = taken_moving s port is.first t0.ledger l lives (shown_is_front w s a port m.takes.v m.takes.there kept m.takes.behind m.takes.queue) (taken_moves w s a l port m.mid m.takes)
+
+  are_lying : AreLying t0 port (s.taken port) carried
+  are_lying kind q live =
+      let c = lies s port is.first t0.ledger l lives (shown_is_front w s a port m.takes.v m.takes.there kept m.takes.behind m.takes.queue) (taken_moves w s a l port m.mid m.takes) kind q live in
+      let r : reply_count kind q is.first.message.reply ≡ reply_count kind q (reply_of kept.reply) = ap (λ (y : Message). reply_count kind q y.reply) is.keeps.message_is in
+      let b : body_count kind q is.first.message.body ≡ body_count kind q (body_of written kept.rights) = ap (λ (y : Message). body_count kind q y.body) is.keeps.message_is in
+      let n = message_counted kind q kept.reply written kept.rights is.keeps.given in
+      omega (arith, c, r, b, n)
+
+  all : AllGiven task port (s.taken port) carried t0 m.words w'
+  all = all_given carried m.words m.mid t0 (front_agrees w s a l port m.mid m.takes) port (s.taken port) on_way task is_task are_lying w' m.gives
+
+  reply_first : ReplyGiven task (in_message port (s.taken port)) kept.reply kept.rights t0 m.words all.t
+  reply_first = reply_given task (in_message port (s.taken port)) kept.reply kept.rights t0 m.words all.t all.gives
+
+  abbrev names : List ℕ
+  names = body_names kept.reply m.words
+
+  -- ---- the bytes
+
+  words_fit : All IsWord m.words
+  words_fit = each_fits task port (s.taken port) carried t0 m.words all.t on_way is_task all.gives
+
+  names_count : length names ≡ word_count (body_spans written)
+  names_count =
+      names_length kept.reply kept.rights m.words (each_length task (in_message port (s.taken port)) carried t0 m.words all.t all.gives)
+      ∙ rights_length kept.rights (body_given written) is.keeps.given ∙ body_words_count written
+
+  abbrev head : Header
+  head = reversed kept local m.takes.v.attributes.sequence m.words
+
+  abbrev header : wire.Header
+  header = record {
+    remote_kind = reply_number kept.reply;
+    local_kind = local_number kept.by_once;
+    size = length kept.bytes;
+    remote = reply_word kept.reply m.words;
+    local = local;
+    sequence = m.takes.v.attributes.sequence;
+    id = kept.id;
+  }
+
+  text_is : bytes ≡ header_text head ++ body_text (received_body written names)
+  text_is = m.text written is.keeps.laid_out
+
+  -- A message is as long as it was when it was sent.
+  pub length_is : length bytes ≡ length kept.bytes
+  length_is =
+      let e : length bytes ≡ length (header_text head ++ body_text (received_body written names)) = ap (λ (t : List ℕ). length t) text_is in
+      let b = length-append (header_text head) (body_text (received_body written names)) in
+      let h = length-header head in
+      let c = length-body written names names_count in
+      let d : length (drop 24 kept.bytes) ≡ length (body_text written) = ap (λ (t : List ℕ). length t) is.keeps.laid_out.body in
+      let f = length-drop 24 kept.bytes in
+      let g = is.keeps.laid_out.room in
+      omega (arith, e, b, h, c, d, f, g)
+
+  sequence_is : m.takes.v.attributes.sequence ≡ s.sequence port
+  sequence_is = (a.ports port m.takes.v m.takes.there).sequence
+
+  header_fits : IsHeader header
+  header_fits = record {
+    remote_kind = number_fits kept.reply;
+    local_kind = local_fits kept.by_once;
+    size = let f = is.keeps.few in omega (arith, f);
+    remote = reply_fits kept.reply m.words words_fit;
+    local = l.name_fits task local (Target.port port) local_name;
+    sequence = let f = l.sequence_fits port in let e = sequence_is in omega (arith, f, e);
+    id = is.keeps.id_fits;
+  }
+
+  spells : Spells bytes header (received_body written names)
+  spells = subst (λ (t : List ℕ). Spells t header (received_body written names)) (sym text_is)
+      (received-spells head header kept.bytes kept.spans written names is.keeps.laid_out
+      (names_count ∙ sym (ap word_count is.keeps.laid_out.spans_are)) (names_fit kept.reply m.words words_fit)
+      (ap (λ (n : ℕ). reply_number kept.reply + local_number kept.by_once * 2 ^ 8 + n) (complex_is written names kept.is_complex is.keeps.is_complex))
+      refl refl refl refl refl header_fits)
+
+  -- ---- the receipt
+
+  module _ (room : ℕ) (fits : length kept.bytes ≤ min room most_bytes) where
+    receives : Receives task port room bytes s all.t
+    receives = record {
+      e = is.first;
+      taken = t0;
+      takes = record { front = shown_is_front w s a port m.takes.v m.takes.there kept m.takes.behind m.takes.queue; rest = refl; tokens = taken_moves w s a l port m.mid m.takes };
+      header = header;
+      written = received_body written names;
+      second = reply_first.second;
+      reply = subst (λ (y : Message). GiveReply task (in_message port (s.taken port)) y.reply t0 (reply_number kept.reply) (reply_word kept.reply m.words) reply_first.second)
+          (sym is.keeps.message_is) reply_first.gives;
+      body = subst (λ (y : Message). GiveBody task (in_message port (s.taken port)) y.body reply_first.second (received_body written names) all.t) (sym is.keeps.message_is)
+          (body_is_given task (in_message port (s.taken port)) written is.keeps.laid_out.fits kept.rights reply_first.second names all.t is.keeps.given reply_first.others);
+      kind = local_is kept.by_once ∙ sym (ap kind_number (kind_of_front w s a l port m.mid m.takes));
+      local = each_keeps task (in_message port (s.taken port)) carried t0 m.words all.t all.gives local (Target.port port) local_name;
+      size = sym length_is;
+      sequence = sequence_is;
+      id = sym (ap (λ (y : Message). y.id) is.keeps.message_is);
+      spells = spells;
+      fits = let e = length_is in omega (arith, e, fits);
+    }
+
+    -- The message is received, and the tables show the state that this leaves.
+    pub message_received : Received s task port room bytes w'
+    message_received = record {
+      t = all.t;
+      receives = receives;
+      shows = record { agrees = all.agrees; lawful = Receives-lawful task port room bytes s all.t l lives is_task receives };
+    }
+
+  -- The port may be taken from: the task has its receive right, and it is in no set.
+  pub takes_from : has_receive x ≡ true → m.takes.v.attributes.set ≡ None → TakesFrom s task (Waited.Port port) port
+  takes_from has none =
+      let r = a.references task local x port found named in
+      let one : one_if (has_receive x) ≡ 1 = ap one_if has in
+      let h = r.0 in
+      (refl, omega (arith, h, one), sym (a.ports port m.takes.v m.takes.there).sets ∙ ap (λ (o : Option ℕ). option_to_list o) none)

@@ -1,0 +1,147 @@
+-- A front message that isn't received: for want of names, or for its length.
+use Rattle.std.proofs.Common.{◌≡◌, ℕ, ◌<◌, ◌≤◌, Bool, sym, subst, ◌∙◌, inl, inr, List, [], ◌∷◌, ◌++◌, Some, refl, ap, arith, true, zero, suc, length, take, drop, length-append}
+use Rattle.std.specs.Prelude.{replicate, min}
+use Rattle.std.proofs.lemmas.List.{length-drop}
+use Rattle.mach_types.specs.declared.calls.Reply.{Reply}
+use Rattle.mach_types.specs.declared.calls.Waited.{Waited}
+use Rattle.mach_types.specs.declared.codes.MsgReturn.TheVariants.{ReceiveBodyErrorMemory, ReceiveBodyErrorNames}
+use Rattle.mach_types.specs.Numbers.{disposition_number, most_bytes, msg_number}
+use Rattle.mach_types.specs.Tokens.{Place, in_message}
+use Rattle.mach_types.specs.Messages.{Form, short, long, Message}
+use Rattle.mach_types.specs.Grammar.{Wire, data_item, port_item, WireBody, wire_text, wires_text, words_text, descriptor_text, body_text}
+use Rattle.mach_model.specs.State.{State, queue}
+use Rattle.mach_model.specs.CopyOut.{MessageLacks}
+use Rattle.mach_model.specs.ReceivedMeans.{form_length, items_length, body_length, message_length}
+use Rattle.mach_model.specs.Receiving.{TakesFrom, Receipt, ReceiptRefuses}
+use Rattle.mach_model.proofs.Moving.{moving}
+use Rattle.message_codec.proofs.Shapes.{length-words_text}
+use Rattle.port.specs.Ports.{PortView}
+use Rattle.copyin.specs.declared.message.Carried.{Carried}
+use Rattle.copyin.specs.Kept.{Kept, Keeps, marks_of, items_of, body_of, items_given, body_given, message_of}
+use Rattle.copyin.specs.Plans.{option_list}
+use Rattle.copyin.specs.Worlds.{WorldView, port_at}
+use Rattle.copyin.specs.Shows.{Agrees, Shows}
+use Rattle.copyout.specs.Giving.{AllLack}
+use Rattle.copyout.proofs.Fronts.{HasFront, shown_empty, shown_front, shown_is_front, shown_lying}
+use Rattle.copyin.proofs.Bodies.{numbers}
+use Rattle.copyout.proofs.GivenBody.{same_tail}
+use Rattle.copyout.proofs.Lacking.{EachLacks, message_lacks, message_lacks_each}
+use Rattle.copyout.proofs.AllLacking.{all_lack, all_lack_too}
+
+-- ---- how long a message is
+
+length-descriptor : (form : Form) (name size number : ℕ) → length (descriptor_text form name size number) ≡ form_length form
+length-descriptor short name size number = refl
+length-descriptor long name size number = refl
+
+-- as many marks as an item has words, and the others
+marks_length : (number n : ℕ) (cs : List Carried) (rest : List ℕ) → numbers cs ≡ replicate n number ++ rest → (length (marks_of (take n cs)) ≡ n) × (numbers (drop n cs) ≡ rest)
+marks_length number zero cs rest e = (refl, e)
+marks_length number (suc n) [] rest e = absurd (let e' : [] ≡ number ∷ (replicate n number ++ rest) = e in cc)
+marks_length number (suc n) (c ∷ cs) rest e =
+    let e' : disposition_number c.given ∷ numbers cs ≡ number ∷ (replicate n number ++ rest) = e in
+    let x = marks_length number n cs rest (same_tail (disposition_number c.given) number (numbers cs) (replicate n number ++ rest) e') in
+    let more = x.0 in
+    (omega (arith, more), x.1)
+
+items_long : (xs : List Wire) (cs : List Carried) → numbers cs ≡ items_given xs → items_length (items_of xs cs) ≡ length (wires_text xs)
+items_long [] cs e = refl
+items_long (data_item form name size number bytes padding ∷ xs) cs e =
+    let more = items_long xs cs e in
+    let d = length-descriptor form name size number in
+    let a = length-append (descriptor_text form name size number ++ bytes) padding in
+    let b = length-append (descriptor_text form name size number) bytes in
+    let c = length-append (wire_text (data_item form name size number bytes padding)) (wires_text xs) in
+    omega (arith, more, d, a, b, c)
+items_long (port_item form number sent ∷ xs) cs e =
+    let x = marks_length number (length sent) cs (items_given xs) e in
+    let more = items_long xs (drop (length sent) cs) x.1 in
+    let marks = x.0 in
+    let d = length-descriptor form number 32 (length sent) in
+    let a = length-append (descriptor_text form number 32 (length sent)) (words_text sent) in
+    let b = length-words_text sent in
+    let c = length-append (wire_text (port_item form number sent)) (wires_text xs) in
+    omega (arith, more, marks, d, a, b, c)
+
+body_long : (written : WireBody) (cs : List Carried) → numbers cs ≡ body_given written → body_length (body_of written cs) ≡ length (body_text written)
+body_long (WireBody.raw bytes) cs e = refl
+body_long (WireBody.items xs) cs e = items_long xs cs e
+
+-- A message has as many bytes as are kept of it.
+pub kept_length : (port : ℕ) (m : Kept) (message : Message) → Keeps port m message → message_length message ≡ length m.bytes
+kept_length port m message k =
+    let is : message_length message ≡ message_length (message_of port m k.written) = ap message_length k.message_is in
+    let b = body_long k.written m.rights k.given in
+    let t : length (drop 24 m.bytes) ≡ length (body_text k.written) = ap (λ (xs : List ℕ). length xs) k.laid_out.body in
+    let d = length-drop 24 m.bytes in
+    let r = k.laid_out.room in
+    omega (arith, is, b, t, d, r)
+
+-- ---- want of names
+
+module _ (w : WorldView) (s : State) (sh : Shows w s) (task port : ℕ) (is_task : s.live_task task ≡ true) (v : PortView Kept) (there : port_at w port ≡ Some v) (m : Kept) (behind : List Kept) (queued : v.queue ≡ m ∷ behind) where
+  abbrev front : HasFront port m behind (queue s port)
+  front = shown_front w s sh.agrees port v there m behind queued
+
+  abbrev message : Message
+  message = front.first.message
+
+  abbrev place : Place
+  place = in_message port (s.taken port)
+
+  abbrev carried : List Carried
+  carried = option_list m.reply ++ m.rights
+
+  lack_of : EachLacks task place carried s → MessageLacks task place message s
+  lack_of h = message_lacks task place message front.keeps.written m.rights front.keeps.given
+      (ap (λ (x : Message). x.body) front.keeps.message_is) m.reply (ap (λ (x : Message). x.reply) front.keeps.message_is) s h
+
+  lack_from : MessageLacks task place message s → EachLacks task place carried s
+  lack_from h = message_lacks_each task place message front.keeps.written m.rights front.keeps.given
+      (ap (λ (x : Message). x.body) front.keeps.message_is) m.reply (ap (λ (x : Message). x.reply) front.keeps.message_is) s h
+
+  -- The task's names don't suffice for the front message.
+  pub names_lack : AllLack w task carried → MessageLacks task place message s
+  names_lack h = lack_of (all_lack task port (s.taken port) carried w s sh.agrees (moving s port (s.taken port) sh.lawful) is_task
+      (shown_lying w s sh.agrees port v there m behind queued sh.lawful) h)
+
+  -- They suffice.
+  pub names_suffice : ¬ (AllLack w task carried) → ¬ (MessageLacks task place message s)
+  names_suffice none h = none (all_lack_too task port (s.taken port) carried w s sh.agrees (moving s port (s.taken port) sh.lawful) is_task
+      (shown_lying w s sh.agrees port v there m behind queued sh.lawful) (lack_from h))
+
+  module _ (waited : Waited) (from : TakesFrom s task waited port) (room : ℕ) (fits : length m.bytes ≤ min room most_bytes) where
+    message_fits : message_length message ≤ min room most_bytes
+    message_fits = let e = kept_length port m message front.keeps in omega (arith, e, fits)
+
+    pub refuses_names : AllLack w task carried → ReceiptRefuses s task waited room (msg_number ReceiveBodyErrorNames)
+    refuses_names h = record {
+      port = port;
+      from = from;
+      e = front.first;
+      front = shown_is_front w s sh.agrees port v there m behind queued;
+      fits = message_fits;
+      refused = inl (names_lack h, refl);
+    }
+
+    pub refuses_memory : ¬ (AllLack w task carried) → ReceiptRefuses s task waited room (msg_number ReceiveBodyErrorMemory)
+    refuses_memory none = record {
+      port = port;
+      from = from;
+      e = front.first;
+      front = shown_is_front w s sh.agrees port v there m behind queued;
+      fits = message_fits;
+      refused = inr (names_suffice none, refl);
+    }
+
+  -- It is too long for the room: it stays.
+  pub receipt_large : (waited : Waited) → TakesFrom s task waited port → (room : ℕ) (large : Bool) (n : ℕ) → n ≡ length m.bytes → min room most_bytes < n →
+      Receipt s task waited room large (Reply.TooLarge n) s []
+  receipt_large waited from room large n is above =
+      (port, front.first, from, shown_is_front w s sh.agrees port v there m behind queued, is ∙ sym (kept_length port m message front.keeps), above, refl, refl)
+
+-- No message waits at the port.
+pub receipt_empty : (w : WorldView) (s : State) → Agrees w s → (task port : ℕ) (v : PortView Kept) → port_at w port ≡ Some v → v.queue ≡ [] → (room : ℕ) (large : Bool) →
+    Receipt s task (Waited.Port port) room large (Reply.Empty (Waited.Port port)) s []
+receipt_empty w s a task port v there none room large =
+    (refl, (λ p from. subst (λ (x : ℕ). queue s x ≡ []) (sym from.0) (shown_empty w s a port v there none)), refl, refl)

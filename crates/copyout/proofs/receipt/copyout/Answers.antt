@@ -1,0 +1,19 @@
+use Rattle.std.proofs.Common.{sym, subst}
+use Rattle.copyin.specs.Kept.{Kept}
+use Rattle.std.specs.Prelude.{vec_capacity}
+use Rattle.copyout.specs.Ready.{CanGive, carried_by}
+use Rattle.copyout.proofs.Alike.{can_deliver}
+use Rattle.copyout.proofs.Delivered.{takes_message}
+use Rattle.copyout.proofs.receipt.copyout.Goals as goal
+
+pub deliver-requires-clause-can : goal.deliver-requires-clause-can
+deliver-requires-clause-can c =
+    let t = c.take_front-message.ensures in
+    subst (λ (m : Kept). CanGive c.take_front-message.new.world c.args.task (carried_by m)) (sym t.1)
+    (can_deliver c.args.world.now c.take_front-message.new.world c.args.task c.args.port (vec_capacity c.args.names) c.requires.ready t.0)
+
+pub returns : goal.returns
+returns c =
+    let t = c.take_front-message.ensures in
+    takes_message c.args.world.now c.take_front-message.new.world c.deliver.new.world c.args.task c.args.port c.args.local c.sequence_of-sequence.result c.take_front-message.result c.deliver.result
+    t.0 t.1 (c.sequence_of-sequence.ensures t.0.v t.0.there) c.deliver.ensures

@@ -1,0 +1,106 @@
+-- What copying out gives a task: a name for each right of a message, in the tables.
+use Rattle.std.specs.Prelude.{◌≡◌, ◌≢◌, ℕ, ◌+◌, ◌<◌, ◌≤◌, ◌⊎◌, true, List, [], ◌∷◌, slice_get, slice_set, Option, Some, is_some, if◌then◌else◌, ◌==◌, min, MatchBool}
+use Rattle.std.specs.FinMap as map
+use Rattle.mach_types.specs.Numbers.{kind_sent, null_word, dead_word, most_names, most_references}
+use Rattle.mach_types.specs.Tokens.{Kind, receive, send, send_once}
+use Rattle.name_space.specs.declared.Entry.{Entry}
+use Rattle.name_space.specs.declared.Entry.TheVariants as entry
+use Rattle.name_space.specs.Entry.{port_named, send_references}
+use Rattle.name_space.specs.Names.{Names, SpaceView, IsFreshName, port_at}
+use Rattle.port.specs.Ports.{PortView, PortsView, with_port}
+use Rattle.port.specs.declared.Holder.TheVariants as holder
+use Rattle.rights.specs.Ledger.{LedgerView, taken}
+use Rattle.rights.specs.declared.RightKind.TheVariants as right
+use Rattle.copyin.specs.declared.message.Carried.{Carried}
+use Rattle.copyin.specs.declared.message.Mark.{Mark}
+use Rattle.copyin.specs.declared.message.Mark.TheVariants as mark
+use Rattle.copyin.specs.Kept.{Kept}
+use Rattle.copyin.specs.Worlds.{WorldView}
+
+-- the entry of the port's name with one right more
+abbrev pub joined : Kind → Entry → Entry
+joined send (entry.Receive p) = entry.ReceiveAndSend p 1
+joined send (entry.Send p n) = entry.Send p (min (n + 1) most_references)
+joined send (entry.ReceiveAndSend p n) = entry.ReceiveAndSend p (min (n + 1) most_references)
+joined receive (entry.Send p n) = entry.ReceiveAndSend p n
+joined kind x = x
+
+-- the entry of a name of its own
+abbrev pub alone : Kind → (port : ℕ) → Entry
+alone receive p = entry.Receive p
+alone send p = entry.Send p 1
+alone send_once p = entry.SendOnce p
+
+-- A send or receive right comes under the task's name for the port.
+pub record JoinsName (names : Names) (kind : Kind) (port word : ℕ) (after : Names) : Type 0 where
+  pub not_once : kind ≢ send_once
+  pub entry : Entry
+  pub found : map.get names word ≡ Some entry
+  pub named : port_named entry ≡ Some port
+  pub rest : after ≡ map.insert names word (joined kind entry)
+
+-- A right comes under a fresh name: a send-once right always, another where the task has no name for the port.
+pub record TakesName (names : Names) (kind : Kind) (port word : ℕ) (after : Names) : Type 0 where
+  pub fresh : IsFreshName names word
+  pub room : map.len names < most_names
+  pub lone : kind ≢ send_once → (name : ℕ) → port_at names name ≢ Some port
+  pub rest : after ≡ map.insert names word (alone kind port)
+
+-- a send right that comes to as many references as there may be goes
+abbrev pub ledger_joined : Kind → (port : ℕ) → Entry → LedgerView → LedgerView
+ledger_joined send p x ledger = if send_references x == most_references then taken ledger p right.Send 1 else ledger
+ledger_joined kind p x ledger = ledger
+
+abbrev pub holder_given : Kind → (port task : ℕ) → PortsView Kept → Option (PortView Kept) → PortsView Kept
+holder_given receive p task ports (Some v) = with_port ports p (record v { attributes = record v.attributes { holder = holder.Task task } })
+holder_given kind p task ports v = ports
+
+-- The right for a port that is there comes to the task under this name.
+pub record GivesPort (old : WorldView) (task : ℕ) (kind : Kind) (port word : ℕ) (new : WorldView) : Type 0 where
+  pub space : SpaceView
+  pub there : slice_get old.spaces task ≡ Some space
+  pub after : Names
+  pub room : ℕ
+  pub ledger : LedgerView
+  pub given : ((j : JoinsName space.names kind port word after) × (ledger ≡ ledger_joined kind port j.entry old.ledger))
+      ⊎ (TakesName space.names kind port word after × (ledger ≡ old.ledger))
+  pub rest : new ≡ record {
+    spaces = slice_set old.spaces task (record { names = after; room = room });
+    ports = holder_given kind port task old.ports (map.get old.ports.ports port);
+    ledger = ledger;
+  }
+
+-- A right whose port isn't there any more is dead.
+abbrev pub GivesMark : WorldView → (task : ℕ) → Kind → Mark → (word : ℕ) → WorldView → Type 0
+GivesMark old task kind (mark.Port p) word new =
+    MatchBool (is_some (map.get old.ports.ports p)) (GivesPort old task kind p word new) ((word ≡ dead_word) × (new ≡ old))
+GivesMark old task kind mark.Null word new = (word ≡ null_word) × (new ≡ old)
+GivesMark old task kind mark.Dead word new = (word ≡ dead_word) × (new ≡ old)
+
+abbrev pub GivesAll : WorldView → (task : ℕ) → List Carried → List ℕ → WorldView → Type 0
+GivesAll old task [] [] new = new ≡ old
+GivesAll old task (c ∷ cs) (w ∷ ws) new = (mid : WorldView) × GivesMark old task (kind_sent c.given) c.mark w mid × GivesAll mid task cs ws new
+GivesAll old task [] (w ∷ ws) new = ⊥
+GivesAll old task (c ∷ cs) [] new = ⊥
+
+-- ---- want of names
+
+-- the task's names leave no room for another
+abbrev pub HasNoName : WorldView → (task : ℕ) → Type 0
+HasNoName w task = (space : SpaceView) × (slice_get w.spaces task ≡ Some space) × (most_names ≤ map.len space.names)
+
+-- the right needs a name of its own
+abbrev pub NeedsOwn : WorldView → (task : ℕ) → Kind → (port : ℕ) → Type 0
+NeedsOwn w task kind p = (kind ≡ send_once) ⊎ ((space : SpaceView) × (slice_get w.spaces task ≡ Some space) × ((name : ℕ) → port_at space.names name ≢ Some p))
+
+abbrev pub MarkLacks : WorldView → (task : ℕ) → Kind → Mark → Type 0
+MarkLacks w task kind (mark.Port p) = (is_some (map.get w.ports.ports p) ≡ true) × HasNoName w task × NeedsOwn w task kind p
+MarkLacks w task kind mark.Null = ⊥
+MarkLacks w task kind mark.Dead = ⊥
+
+-- There is none for one of them, once those before it were given.
+abbrev pub AllLack : WorldView → (task : ℕ) → List Carried → Type 0
+AllLack w task [] = ⊥
+AllLack w task (c ∷ cs) =
+    MarkLacks w task (kind_sent c.given) c.mark
+    ⊎ ((word : ℕ) × (mid : WorldView) × GivesMark w task (kind_sent c.given) c.mark word mid × AllLack mid task cs)

@@ -1,0 +1,5 @@
+pub mod Giving
+pub mod Takes
+pub mod Room
+pub mod Ready
+pub mod Putting

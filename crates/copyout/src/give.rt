@@ -1,0 +1,242 @@
+//! Giving rights to a task.
+ghost use Rattle.std.specs.Prelude.{◌≡◌, ◌≢◌, ℕ, ◌+◌, ◌-◌, ◌<◌, ◌≤◌, ◌++◌, true, [], ◌∷◌, Some, None, length, slice_get, slice_set, is_some, MatchBool, vec_len, vec_capacity, List};
+ghost use Rattle.std.specs.FinMap as map;
+ghost use Rattle.mach_types.specs.Numbers.{kind_sent, most_names, most_references};
+ghost use Rattle.mach_types.specs.Tokens.{receive, send, send_once};
+ghost use Rattle.name_space.specs.declared.Entry.{Entry as AnyEntry};
+ghost use Rattle.name_space.specs.Entry.{port_named, send_references};
+ghost use Rattle.name_space.specs.Names.{SpaceView, port_at, IsFreshName, IsUsable, HasNoOther};
+ghost use Rattle.port.specs.Ports.{IsLive};
+ghost use Rattle.rights.specs.declared.RightKind.TheVariants as right;
+ghost use Rattle.rights.specs.Ledger.{IsEntered, counts_of, taken};
+ghost use Rattle.copyin.specs.declared.message.Carried.{Carried as AnyCarried};
+ghost use Rattle.copyin.specs.declared.message.Mark.TheVariants as mark;
+ghost use Rattle.copyin.specs.Plans.{option_list};
+ghost use Rattle.copyout.specs.Giving.{joined, alone, ledger_joined, holder_given, GivesPort, GivesMark, GivesAll};
+ghost use Rattle.copyout.specs.Ready.{CanGivePort, CanJoin, CanTakeName, CanGive, UsesOneRoom};
+
+use crate::room::{has_port, shared_name};
+use copyin::{Carried, Mark, World};
+use mach_types::{Disposition, Name, PortId, TaskId};
+use name_space::Entry;
+use port::{Attributes, Holder};
+use rights::RightKind;
+use user_refs::UserRefs;
+
+// The most references to a send right.
+const MOST_REFERENCES: u32 = 65_535;
+
+// What stands under a name of the right's own.
+pub(crate) fn alone(given: Disposition, port: PortId) -> Entry
+    ensures { result ≡ alone (kind_sent given) port }
+{
+    match given {
+        Disposition::MoveReceive => Entry::Receive(port),
+        Disposition::MoveSend | Disposition::CopySend | Disposition::MakeSend => {
+            Entry::Send(port, UserRefs::one())
+        }
+        Disposition::MoveSendOnce | Disposition::MakeSendOnce => Entry::SendOnce(port),
+    }
+}
+
+// The entry with a send right more.
+fn with_send(entry: &Entry) -> Entry
+    ensures { result ≡ joined send entry.now }
+{
+    match entry {
+        Entry::Receive(port) => Entry::ReceiveAndSend(*port, UserRefs::one()),
+        Entry::Send(port, references) => Entry::Send(*port, references.add_pegged(1)),
+        Entry::ReceiveAndSend(port, references) => Entry::ReceiveAndSend(
+            *port,
+            references.add_pegged(1),
+        ),
+        _ => *entry,
+    }
+}
+
+// The entry with the receive right.
+fn with_receive(entry: &Entry) -> Entry
+    ensures { result ≡ joined receive entry.now }
+{
+    match entry {
+        Entry::Send(port, references) => Entry::ReceiveAndSend(*port, *references),
+        _ => *entry,
+    }
+}
+
+// The entry of the port's name with the right.
+fn joined(given: Disposition, entry: &Entry) -> Entry
+    ensures { result ≡ joined (kind_sent given) entry.now }
+{
+    match given {
+        Disposition::MoveReceive => with_receive(entry),
+        Disposition::MoveSend | Disposition::CopySend | Disposition::MakeSend => with_send(entry),
+        Disposition::MoveSendOnce | Disposition::MakeSendOnce => *entry,
+    }
+}
+
+// Puts the entry in place of what stands under the name.
+fn replace_entry(world: &mut World, task: TaskId, name: Name, entry: Entry)
+    requires there { task < length world.old.spaces }
+    requires used { (space : SpaceView) → slice_get world.old.spaces task ≡ Some space → map.contains_key space.names name ≡ true }
+    requires same { (space : SpaceView) → slice_get world.old.spaces task ≡ Some space → (port : ℕ) → port_named entry ≡ Some port → port_at space.names name ≡ Some port }
+    ensures { (space : SpaceView) → slice_get world.old.spaces task ≡ Some space →
+        world.new ≡ record world.old { spaces = slice_set world.old.spaces task (record space { names = map.insert space.names name entry }) } }
+{
+    world.spaces[task.number() as usize].replace(name, entry);
+}
+
+// Puts the entry under a name that isn't in use, in room that was made.
+pub(crate) fn insert_entry(world: &mut World, task: TaskId, name: Name, entry: Entry)
+    requires there { task < length world.old.spaces }
+    requires usable { IsUsable name }
+    requires unused { (space : SpaceView) → slice_get world.old.spaces task ≡ Some space → map.get space.names name ≡ None }
+    requires not_full { (space : SpaceView) → slice_get world.old.spaces task ≡ Some space → map.len space.names < most_names }
+    requires room { (space : SpaceView) → slice_get world.old.spaces task ≡ Some space → 0 < space.room }
+    requires apart { (space : SpaceView) → slice_get world.old.spaces task ≡ Some space → HasNoOther space.names entry }
+    ensures { (space : SpaceView) → slice_get world.old.spaces task ≡ Some space →
+        world.new ≡ record world.old { spaces = slice_set world.old.spaces task (record { names = map.insert space.names name entry; room = space.room - 1 }) } }
+{
+    world.spaces[task.number() as usize].insert(name, entry);
+}
+
+// Counts a send right of the port as gone.
+fn drop_send(world: &mut World, port: PortId)
+    requires entered { IsEntered world.old.ledger port }
+    requires counted { 1 ≤ (counts_of world.old.ledger port).send }
+    ensures { world.new ≡ record world.old { ledger = taken world.old.ledger port right.Send 1 } }
+{
+    world.ledger.take(port, RightKind::Send, 1);
+}
+
+// Whether the right goes, as the name has as many references as there may be.
+fn is_pegged(given: Disposition, entry: &Entry) -> bool
+    ensures { MatchBool result ((kind_sent given ≡ send) × (send_references entry.now ≡ most_references)) (kind_sent given ≡ send → send_references entry.now ≢ most_references) }
+{
+    match given {
+        Disposition::MoveSend | Disposition::CopySend | Disposition::MakeSend => {
+            entry.send_references() == MOST_REFERENCES
+        }
+        _ => false,
+    }
+}
+
+// A send right that comes to as many references as there may be goes.
+fn drop_pegged(world: &mut World, given: Disposition, port: PortId, entry: &Entry)
+    requires entered { IsEntered world.old.ledger port }
+    requires counted { kind_sent given ≡ send → 1 ≤ (counts_of world.old.ledger port).send }
+    ensures { world.new ≡ record world.old { ledger = ledger_joined (kind_sent given) port entry.now world.old.ledger } }
+{
+    if is_pegged(given, entry) {
+        drop_send(world, port);
+    }
+}
+
+// The port's receive right is with the task.
+fn set_holder(world: &mut World, port: PortId, task: TaskId)
+    requires { is_some (map.get world.old.ports.ports port) ≡ true }
+    ensures { world.new ≡ record world.old { ports = holder_given receive port task world.old.ports (map.get world.old.ports.ports port) } }
+{
+    if let Some(attributes) = world.ports.attributes(port) {
+        let holder = Holder::Task(task);
+        world.ports.set_attributes(
+            port,
+            Attributes {
+                holder,
+                ..attributes
+            },
+        );
+    }
+}
+
+// The receive right, if that is given, is with the task.
+pub(crate) fn hold(world: &mut World, given: Disposition, port: PortId, task: TaskId)
+    requires { is_some (map.get world.old.ports.ports port) ≡ true }
+    ensures { world.new ≡ record world.old { ports = holder_given (kind_sent given) port task world.old.ports (map.get world.old.ports.ports port) } }
+{
+    match given {
+        Disposition::MoveReceive => set_holder(world, port, task),
+        _ => {}
+    }
+}
+
+// The right comes under the task's name for the port.
+pub(crate) fn join(world: &mut World, task: TaskId, given: Disposition, port: PortId, name: Name)
+    requires { CanJoin world.old task (kind_sent given) port name }
+    ensures gives { GivesPort world.old task (kind_sent given) port name world.new }
+    ensures room { UsesOneRoom world.old world.new task }
+{
+    if let Some(entry) = world.lookup(task, name) {
+        drop_pegged(world, given, port, &entry);
+        replace_entry(world, task, name, joined(given, &entry));
+        hold(world, given, port, task);
+    }
+}
+
+// The right comes under a fresh name.
+fn take_name(world: &mut World, task: TaskId, given: Disposition, port: PortId) -> Name
+    requires { CanTakeName world.old task (kind_sent given) port }
+    ensures gives { GivesPort world.old task (kind_sent given) port result world.new }
+    ensures room { UsesOneRoom world.old world.new task }
+{
+    let name = world.space(task).fresh();
+    insert_entry(world, task, name, alone(given, port));
+    hold(world, given, port, task);
+    name
+}
+
+// Gives a right for a port that is there.
+fn give_port(world: &mut World, task: TaskId, given: Disposition, port: PortId) -> Name
+    requires { CanGivePort world.old task (kind_sent given) port }
+    ensures gives { GivesPort world.old task (kind_sent given) port result world.new }
+    ensures room { UsesOneRoom world.old world.new task }
+{
+    match shared_name(world.space(task), given, port) {
+        Some(name) => {
+            join(world, task, given, port, name);
+            name
+        }
+        None => take_name(world, task, given, port),
+    }
+}
+
+/// Gives the task one right of a message, and answers the name under which the task has it
+/// (IPC Interface, `mach_msg`): a send or receive right under the task's name for the port, or else
+/// under a fresh one; a send-once right always under a fresh one. A send right that comes to 65,535
+/// references is dropped.
+///
+/// [`Name::null`] where there is no right, and [`Name::dead`] where its port is gone: nothing changes
+/// then. Takes no memory. Logarithmic in the number of the task's names and of ports, but for a move
+/// of 16 bytes for each greater name.
+pub fn give_right(world: &mut World, task: TaskId, carried: &Carried) -> Name
+    requires { CanGive world.old task (carried.now ∷ []) }
+    ensures gives { GivesMark world.old task (kind_sent carried.now.given) carried.now.mark result world.new }
+    ensures room { UsesOneRoom world.old world.new task }
+{
+    match &carried.mark {
+        Mark::Null => Name::null(),
+        Mark::Dead => Name::dead(),
+        Mark::Port(port) => {
+            if has_port(world, *port) {
+                give_port(world, task, carried.given, *port)
+            } else {
+                Name::dead()
+            }
+        }
+    }
+}
+
+/// Gives the task the rights in their order, and adds the name of each to `names`.
+///
+/// Takes no memory, and time for each as [`give_right`].
+pub fn give_rights(world: &mut World, task: TaskId, rights: &[Carried], names: &mut Vec<Name>)
+    requires can { CanGive world.old task rights.now }
+    requires none { names.old.items ≡ [] }
+    requires room { length rights.now ≤ vec_capacity names.old }
+    ensures { GivesAll world.old task rights.now names.new.items world.new }
+{
+    for carried in rights {
+        let name = give_right(world, task, carried);
+        names.push_reserved(name);
+    }
+}

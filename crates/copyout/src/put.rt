@@ -1,0 +1,24 @@
+//! Putting a right under a name that the caller chose.
+ghost use Rattle.mach_types.specs.Numbers.{kind_sent};
+ghost use Rattle.copyout.specs.Putting.{CanPut, PutsPort};
+
+use crate::give::{alone, hold, insert_entry, join};
+use copyin::World;
+use mach_types::{Disposition, Name, PortId, TaskId};
+
+/// Gives the task a right for a port that is there, under this name: the task's name for the port, or
+/// one that isn't in use (Port Manipulation Interface, `mach_port_insert_right`).
+///
+/// Takes no memory. Logarithmic in the number of the task's names and of ports, but for a move of 16
+/// bytes for each greater name.
+pub fn put_right(world: &mut World, task: TaskId, given: Disposition, port: PortId, name: Name)
+    requires { CanPut world.old task (kind_sent given) port name }
+    ensures { PutsPort world.old task (kind_sent given) port name world.new }
+{
+    if world.lookup(task, name).is_some() {
+        join(world, task, given, port, name);
+    } else {
+        insert_entry(world, task, name, alone(given, port));
+        hold(world, given, port, task);
+    }
+}

@@ -1,0 +1,304 @@
+//! Taking a port's front message.
+ghost use Rattle.std.specs.Prelude.{◌≡◌, ◌≢◌, ℕ, ◌+◌, ◌*◌, ◌%◌, ◌^◌, ◌<◌, ◌≤◌, ◌++◌, [], ◌∷◌, true, Bool, Some, None, length, min, slice_get, slice_set, is_some, IfOk, IfErr, OnOk, OnErr, if◌then◌else◌, vec_len, vec_capacity, List};
+ghost use Rattle.std.specs.FinMap as map;
+ghost use Rattle.mach_types.specs.Numbers.{kind_sent, kind_number, most_bytes};
+ghost use Rattle.mach_types.specs.Grammar.{WireBody, body_text};
+ghost use Rattle.message_codec.specs.Received.{IsLaidOut, header_text, received_body};
+ghost use Rattle.message_codec.specs.Spans.{word_count};
+ghost use Rattle.name_space.specs.Names.{SpaceView};
+ghost use Rattle.port.specs.Ports.{PortView, with_port};
+ghost use Rattle.rights.specs.declared.RightKind.TheVariants as right;
+ghost use Rattle.rights.specs.Ledger.{IsEntered, counts_of, taken};
+ghost use Rattle.rights.specs.Counts.{number_of};
+ghost use Rattle.copyin.specs.Kept.{Kept};
+ghost use Rattle.copyin.specs.Worlds.{WorldView, port_at};
+ghost use Rattle.copyin.specs.Plans.{option_list};
+ghost use Rattle.copyout.specs.Giving.{AllLack, GivesAll};
+ghost use Rattle.copyout.specs.Takes.{TakesFront, TakesMessage, destination_right, reply_number, reply_word};
+ghost use Rattle.copyout.specs.Ready.{CanGive, UsesOneRoom, Waits, HasFront, ReadyFor, Delivers, MakesRoom, IsRefusedBy, carried_by};
+
+use crate::give::{give_right, give_rights};
+use crate::room::lacks_names;
+use copyin::{Carried, Message, World};
+use mach_types::{Bytes, Disposition, Name, PortId, TaskId};
+use message_codec::{Header, Parsed, put_received};
+use port::Attributes;
+use rights::RightKind;
+use std::alloc::{AllocError, Global};
+
+// The most bytes of a message.
+const MOST_BYTES: u32 = 65_536;
+
+// The bit of a header for a body of items.
+const COMPLEX: u32 = 0x8000_0000;
+
+/// Why a message isn't received. It stays, and all is as before.
+#[derive(Clone, Copy, Debug, PartialEq, Eq)]
+pub enum Refusal {
+    /// It has so many bytes, which is more than there is room for, or more than 65,536.
+    TooLarge(u32),
+    /// The task's names don't suffice for its rights: `MACH_RCV_BODY_ERROR` with
+    /// `MACH_MSG_IPC_SPACE`.
+    Names,
+    /// Memory was refused: `MACH_RCV_BODY_ERROR` with `MACH_MSG_IPC_KERNEL`.
+    Memory,
+}
+
+// The number that stands for the kind of right in a received message.
+fn kind_number(given: Disposition) -> u32
+    ensures { result ≡ kind_number (kind_sent given) }
+{
+    match given {
+        Disposition::MoveReceive => 16,
+        Disposition::MoveSend | Disposition::CopySend | Disposition::MakeSend => 17,
+        Disposition::MoveSendOnce | Disposition::MakeSendOnce => 18,
+    }
+}
+
+// The number of the kind of the right to answer with, 0 where there is none.
+fn reply_number(reply: &Option<Carried>) -> u32
+    ensures value { result ≡ reply_number reply.now }
+    ensures small { result ≤ 18 }
+{
+    match reply {
+        Some(carried) => kind_number(carried.given),
+        None => 0,
+    }
+}
+
+// The first word of a received message.
+fn header_bits(reply: &Option<Carried>, by_once: bool, is_complex: bool) -> u32
+    ensures { result ≡ reply_number reply.now + (if by_once then 18 else 17) * 2 ^ 8 + (if is_complex then 2 ^ 31 else 0) }
+{
+    let local = if by_once { 18 } else { 17 };
+    let complex = if is_complex { COMPLEX } else { 0 };
+    reply_number(reply) + local * 0x100 + complex
+}
+
+// The number of the next message of a port that is there.
+fn sequence_of(world: &World, port: PortId) -> u32
+    ensures { (v : PortView Kept) → port_at world.now port ≡ Some v → result ≡ v.attributes.sequence }
+{
+    match world.ports.attributes(port) {
+        Some(attributes) => attributes.sequence,
+        None => 0,
+    }
+}
+
+// The number of the port's next message is used.
+fn raise_sequence(world: &mut World, port: PortId)
+    ensures { (v : PortView Kept) → port_at world.old port ≡ Some v →
+        world.new ≡ record world.old { ports = with_port world.old.ports port (record v { attributes = record v.attributes { sequence = (v.attributes.sequence + 1) % 2 ^ 32 } }) } }
+{
+    if let Some(attributes) = world.ports.attributes(port) {
+        let sequence = attributes.sequence.wrapping_add(1);
+        world.ports.set_attributes(
+            port,
+            Attributes {
+                sequence,
+                ..attributes
+            },
+        );
+    }
+}
+
+// Takes the port's front message from the queue.
+fn dequeue(world: &mut World, port: PortId) -> Message
+    requires { (m : Kept) × HasFront world.old port m }
+    ensures { (m : Kept) (f : HasFront world.old port m) → (result ≡ m)
+        × (world.new ≡ record world.old { ports = record (with_port world.old.ports port (record f.v { queue = f.behind })) { spare = world.old.ports.spare + 1 } }) }
+{
+    match world.ports.dequeue(port) {
+        Some(message) => message,
+        None => unreachable!(),
+    }
+}
+
+// Counts the right by which the message came as gone.
+fn consume(world: &mut World, port: PortId, message: &Message)
+    requires entered { IsEntered world.old.ledger port }
+    requires counted { 1 ≤ number_of (destination_right message.now) (counts_of world.old.ledger port) }
+    ensures { world.new ≡ record world.old { ledger = taken world.old.ledger port (destination_right message.now) 1 } }
+{
+    let kind = if message.by_once {
+        RightKind::SendOnce
+    } else {
+        RightKind::Send
+    };
+    world.ledger.take(port, kind, 1);
+}
+
+// Takes the port's front message; its number is used, and its destination right is consumed.
+fn take_front(world: &mut World, port: PortId) -> Message
+    requires { Waits world.old port }
+    ensures { (t : TakesFront world.old port world.new) × (result ≡ t.front) }
+{
+    raise_sequence(world, port);
+    let message = dequeue(world, port);
+    consume(world, port, &message);
+    message
+}
+
+// Gives the task the right to answer with, if there is one, and answers its name.
+fn give_reply(world: &mut World, task: TaskId, reply: &Option<Carried>) -> Name
+    requires { CanGive world.old task (option_list reply.now) }
+    ensures gives { (words : List ℕ) × GivesAll world.old task (option_list reply.now) words world.new × (result ≡ reply_word reply.now words) }
+    ensures room { (carried : Carried) → reply.now ≡ Some carried → UsesOneRoom world.old world.new task }
+{
+    match reply {
+        Some(carried) => give_right(world, task, carried),
+        None => Name::null(),
+    }
+}
+
+// The bytes as the receiver gets them.
+fn spell(bytes: Vec<u8>, parsed: &Parsed, header: &Header, names: &[Name]) -> Bytes
+    requires laid_out { (written : WireBody) × IsLaidOut bytes.items parsed.now.spans written }
+    requires named { length names.now ≡ word_count parsed.now.spans }
+    ensures { (written : WireBody) → IsLaidOut bytes.items parsed.now.spans written
+        → result ≡ header_text header.now ++ body_text (received_body written names.now) }
+{
+    let mut bytes = bytes;
+    put_received(&mut bytes, parsed, header, names);
+    Bytes::from_vec(bytes)
+}
+
+// Gives the task the rights of a message that was taken, and makes its bytes what the receiver gets.
+fn deliver(
+    world: &mut World,
+    task: TaskId,
+    message: Message,
+    local: Name,
+    sequence: u32,
+    names: Vec<Name>,
+) -> Bytes
+    requires can { CanGive world.old task (carried_by message) }
+    requires laid_out { (written : WireBody) × IsLaidOut message.bytes message.spans written }
+    requires a_right_each { length message.rights ≡ word_count message.spans }
+    requires few { length message.bytes ≤ most_bytes }
+    requires none { names.items ≡ [] }
+    requires room { length message.rights ≤ vec_capacity names }
+    ensures { Delivers world.old task message local sequence result world.new }
+{
+    let Message {
+        bytes,
+        parsed,
+        by_once,
+        reply,
+        rights,
+    } = message;
+    let mut names = names;
+    let remote = give_reply(world, task, &reply);
+    give_rights(world, task, &rights, &mut names);
+    let header = Header {
+        bits: header_bits(&reply, by_once, parsed.is_complex),
+        size: bytes.len() as u32,
+        remote,
+        local,
+        sequence,
+        id: parsed.id,
+    };
+    spell(bytes, &parsed, &header, &names)
+}
+
+/// Receives the port's front message under the task's name `local` for the port (IPC Interface,
+/// `mach_msg` with `MACH_RCV_MSG`): the header is reversed, and the rights have the receiver's names,
+/// that of the right to answer with first. `names` is empty, and has room for the rights of the body.
+///
+/// Takes no memory; room for names was made by [`name_space::Space::reserve`]. The time grows with the
+/// number of rights.
+pub fn copyout(
+    world: &mut World,
+    task: TaskId,
+    port: PortId,
+    local: Name,
+    names: Vec<Name>,
+) -> Bytes
+    requires ready { ReadyFor world.old task port (vec_capacity names) }
+    requires none { names.items ≡ [] }
+    ensures { TakesMessage world.old task port local result world.new }
+{
+    let sequence = sequence_of(world, port);
+    let message = take_front(world, port);
+    deliver(world, task, message, local, sequence, names)
+}
+
+// How many rights the message carries, and room for the names of those of its body; or why it isn't
+// received.
+fn judge(
+    world: &World,
+    alloc: Global,
+    task: TaskId,
+    port: PortId,
+    room: u32,
+) -> Result<(usize, Vec<Name>), Refusal>
+    requires there { task < length world.now.spaces }
+    requires waits { (m : Kept) × HasFront world.now port m × (length m.bytes ≤ most_bytes) }
+    ensures ok { IfOk result (λ r. (m : Kept) × HasFront world.now port m × (r.0 ≡ length (carried_by m)) × (r.1.items ≡ []) × (length m.rights ≤ vec_capacity r.1)
+        × (length m.bytes ≤ min room most_bytes) × ¬ (AllLack world.now task (carried_by m))) }
+    ensures err { IfErr result (λ refusal. (m : Kept) × HasFront world.now port m × IsRefusedBy world.now task m room refusal) }
+{
+    let Some(message) = world.ports.front(port) else {
+        unreachable!()
+    };
+    let length = message.bytes.len();
+    if length > room.min(MOST_BYTES) as usize {
+        return Err(Refusal::TooLarge(length as u32));
+    }
+    if lacks_names(world, task, message) {
+        return Err(Refusal::Names);
+    }
+    let mut names = Vec::new(alloc);
+    match names.reserve(message.rights.len()) {
+        Ok(()) => Ok((count_rights(message), names)),
+        Err(_) => Err(Refusal::Memory),
+    }
+}
+
+// How many rights the message carries.
+fn count_rights(message: &Message) -> usize
+    ensures { result ≡ length (carried_by message.now) }
+{
+    let replies = if message.reply.is_some() { 1 } else { 0 };
+    replies + message.rights.len()
+}
+
+// Makes room for so many more names of the task.
+fn make_room(world: &mut World, task: TaskId, number: usize) -> Result<(), AllocError>
+    requires { task < length world.old.spaces }
+    ensures ok { OnOk result ((r : MakesRoom world.old task world.new) × (number ≤ r.room)) }
+    ensures err { OnErr result (world.new ≡ world.old) }
+{
+    world.spaces[task.number() as usize].reserve(number)
+}
+
+/// Receives the port's front message, if there is room for its length, names for its rights and
+/// memory, which is judged in this order.
+///
+/// # Errors
+/// The message stays, and all is then as before.
+/// - [`Refusal::TooLarge`]: it has more bytes than `room`, or more than 65,536.
+/// - [`Refusal::Names`]: it isn't too large, and the task's names don't suffice ([`lacks_names`]).
+/// - [`Refusal::Memory`]: neither, and memory was refused.
+///
+/// The time grows with the number of rights; see [`lacks_names`].
+pub fn receive(
+    world: &mut World,
+    alloc: Global,
+    task: TaskId,
+    port: PortId,
+    local: Name,
+    room: u32,
+) -> Result<Bytes, Refusal>
+    requires there { task < length world.old.spaces }
+    requires waits { Waits world.old port }
+    ensures ok { IfOk result (λ bytes. (start : WorldView) × MakesRoom world.old task start × (t : TakesMessage start task port local bytes world.new)
+        × (length t.takes.front.bytes ≤ min room most_bytes)) }
+    ensures err { IfErr result (λ refusal. (world.new ≡ world.old) × (m : Kept) × HasFront world.old port m × IsRefusedBy world.old task m room refusal) }
+{
+    let (number, names) = judge(world, alloc, task, port, room)?;
+    match make_room(world, task, number) {
+        Ok(()) => Ok(copyout(world, task, port, local, names)),
+        Err(_) => Err(Refusal::Memory),
+    }
+}

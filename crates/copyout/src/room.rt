@@ -1,0 +1,179 @@
+//! Whether the receiver's names suffice for the rights of a message.
+ghost use Rattle.std.specs.Prelude.{◌≡◌, ◌≢◌, ℕ, ◌+◌, ◌<◌, ◌≤◌, ◌↔◌, ◌++◌, [], ◌∷◌, ◌⊎◌, List, Some, None, is_some, true, false, IsTrue, MatchBool, IfSome, IfNone, length, slice_get};
+ghost use Rattle.std.specs.FinMap as map;
+ghost use Rattle.mach_types.specs.Numbers.{kind_sent};
+ghost use Rattle.mach_types.specs.Tokens.{send_once};
+ghost use Rattle.name_space.specs.Names.{SpaceView, port_at};
+ghost use Rattle.copyin.specs.declared.message.Carried.{Carried as AnyCarried};
+ghost use Rattle.copyin.specs.declared.message.Mark.TheVariants as mark;
+ghost use Rattle.copyin.specs.Plans.{option_list};
+ghost use Rattle.copyout.specs.Giving.{AllLack};
+ghost use Rattle.copyout.specs.Ready.{carried_by};
+ghost use Rattle.copyout.specs.Room.{names_port, named_by, IsThere, IsNamed, HasNone, Owns, Shares, Needs};
+
+use copyin::{Carried, Mark, Message, World};
+use mach_types::{Disposition, Name, PortId, TaskId};
+use name_space::Space;
+
+// The most names of a task.
+const MOST_NAMES: usize = 65_535;
+
+// Whether the receiver has a name for the port once the right was given.
+fn names_port(carried: &Carried, port: PortId) -> bool
+    ensures { result ≡ names_port (kind_sent carried.now.given) carried.now.mark port }
+{
+    match (&carried.mark, carried.given) {
+        (_, Disposition::MoveSendOnce | Disposition::MakeSendOnce) => false,
+        (Mark::Port(named), _) => named.number() == port.number(),
+        _ => false,
+    }
+}
+
+// Whether one of the rights gives a name for the port.
+fn is_named_by(carried: &[Carried], port: PortId) -> bool
+    ensures { result ≡ named_by carried.now port }
+{
+    for one in carried {
+        if names_port(one, port) {
+            return true;
+        }
+    }
+    false
+}
+
+// Whether the right to answer with gives a name for the port.
+fn reply_names(reply: &Option<Carried>, port: PortId) -> bool
+    ensures { result ≡ named_by (option_list reply.now) port }
+{
+    match reply {
+        Some(carried) => names_port(carried, port),
+        None => false,
+    }
+}
+
+/// The name under which the right comes, if the task has one for the port: a send-once right never
+/// shares a name.
+pub(crate) fn shared_name(space: &Space, given: Disposition, port: PortId) -> Option<Name>
+    ensures some { IfSome result (λ name. (kind_sent given ≢ send_once) × (port_at space.now.names name ≡ Some port)) }
+    ensures none { IfNone result (kind_sent given ≢ send_once → HasNone space.now.names port) }
+{
+    match given {
+        Disposition::MoveSendOnce | Disposition::MakeSendOnce => None,
+        _ => space.name_of_port(port),
+    }
+}
+
+/// Whether the port is there.
+pub(crate) fn has_port(world: &World, port: PortId) -> bool
+    ensures { result ≡ is_some (map.get world.now.ports.ports port) }
+{
+    world.ports.attributes(port).is_some()
+}
+
+// The port that the right is for, if it is there.
+fn port_there(world: &World, carried: &Carried) -> Option<PortId>
+    ensures some { IfSome result (λ p. (carried.now.mark ≡ mark.Port p) × IsThere world.now p) }
+    ensures none { IfNone result ((p : ℕ) → carried.now.mark ≡ mark.Port p → is_some (map.get world.now.ports.ports p) ≡ false) }
+{
+    match &carried.mark {
+        Mark::Port(port) => {
+            if has_port(world, *port) {
+                Some(*port)
+            } else {
+                None
+            }
+        }
+        Mark::Null | Mark::Dead => None,
+    }
+}
+
+// Whether the port has a name in the space, or will have one once the earlier rights were given.
+fn has_name(space: &Space, reply: &Option<Carried>, earlier: &[Carried], port: PortId) -> bool
+    ensures { MatchBool result (IsNamed space.now.names port ⊎ (named_by (option_list reply.now ++ earlier.now) port ≡ true))
+        (HasNone space.now.names port × (named_by (option_list reply.now ++ earlier.now) port ≡ false)) }
+{
+    space.name_of_port(port).is_some() || reply_names(reply, port) || is_named_by(earlier, port)
+}
+
+// Whether the right is a send-once right.
+fn is_once(given: Disposition) -> bool
+    ensures { IsTrue result ↔ (kind_sent given ≡ send_once) }
+{
+    matches!(given, Disposition::MoveSendOnce | Disposition::MakeSendOnce)
+}
+
+// Whether the right needs a name of its own, behind the earlier ones.
+fn needs_own(
+    world: &World,
+    space: &Space,
+    reply: &Option<Carried>,
+    earlier: &[Carried],
+    carried: &Carried,
+) -> bool
+    ensures { MatchBool result (Owns world.now space.now.names (option_list reply.now ++ earlier.now) carried.now)
+        (Shares world.now space.now.names (option_list reply.now ++ earlier.now) carried.now) }
+{
+    match port_there(world, carried) {
+        Some(port) => is_once(carried.given) || !has_name(space, reply, earlier, port),
+        None => false,
+    }
+}
+
+// How many names of its own the right needs, behind the earlier ones: 1 or none.
+fn own_names(
+    world: &World,
+    space: &Space,
+    reply: &Option<Carried>,
+    earlier: &[Carried],
+    carried: &Carried,
+) -> usize
+    ensures few { result ≤ 1 }
+    ensures needs { (rest : List AnyCarried) (m : ℕ) → Needs world.now space.now.names ((option_list reply.now ++ earlier.now) ++ carried.now ∷ []) rest m
+        → Needs world.now space.now.names (option_list reply.now ++ earlier.now) (carried.now ∷ rest) (result + m) }
+{
+    if needs_own(world, space, reply, earlier, carried) {
+        1
+    } else {
+        0
+    }
+}
+
+// How many names of its own the right to answer with needs.
+fn reply_own(world: &World, space: &Space, reply: &Option<Carried>) -> usize
+    ensures few { result ≤ 1 }
+    ensures needs { (rest : List AnyCarried) (m : ℕ) → Needs world.now space.now.names (option_list reply.now) rest m → Needs world.now space.now.names [] (option_list reply.now ++ rest) (result + m) }
+{
+    match reply {
+        Some(carried) => own_names(world, space, &None, &[], carried),
+        None => 0,
+    }
+}
+
+// How many names of their own the rights of the message need.
+fn count_own(world: &World, space: &Space, message: &Message) -> usize
+    ensures { Needs world.now space.now.names [] (carried_by message.now) result }
+{
+    let mut count = reply_own(world, space, &message.reply);
+    let rights = message.rights.as_slice();
+    for i in 0..rights.len() {
+        count += own_names(world, space, &message.reply, &rights[..i], &rights[i]);
+    }
+    count
+}
+
+/// Whether the task's names don't suffice for the rights of the message: for a right that needs a name
+/// of its own there is none, once those before it were given.
+///
+/// Takes no memory. Constant time where as many names are free as the message has rights; else, near
+/// 65,535 names, each right is compared with those before it.
+pub fn lacks_names(world: &World, task: TaskId, message: &Message) -> bool
+    requires { task < length world.now.spaces }
+    ensures { IsTrue result ↔ AllLack world.now task (carried_by message.now) }
+{
+    let space = world.space(task);
+    let free = MOST_NAMES - space.len();
+    if message.rights.len() < free {
+        return false;
+    }
+    count_own(world, space, message) > free
+}
