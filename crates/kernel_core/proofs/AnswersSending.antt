@@ -1,78 +1,118 @@
 -- Answers to Send.
-use Rattle.std.proofs.Common.{◌≡◌, ℕ, ◌<◌, ◌≤◌, List, Some, refl, sym, ap, subst, ◌∙◌, ◌⊎◌, inl, inr, length}
-use Rattle.std.proofs.lemmas.Bool.Decides.{eqb_tells}
+use Rattle.std.proofs.Common.{◌≡◌, ℕ, ◌<◌, ◌≤◌, List, [], ◌∷◌, Some, None, Option, refl, sym, ap, subst, ◌∙◌, ◌⊎◌, inl, inr, length, true, false, zero, suc, arith}
+use Rattle.std.specs.Prelude.{slice_get, is_some}
 use Rattle.mach_types.specs.declared.calls.Event.{Event}
 use Rattle.mach_types.specs.declared.calls.Reply.{Reply}
-use Rattle.mach_types.specs.declared.rights.Disposition.{Disposition}
 use Rattle.mach_types.specs.declared.codes.KernReturn.TheVariants.{InvalidTask}
-use Rattle.mach_types.specs.declared.codes.MsgReturn.TheVariants.{SendNoBuffer, SendInvalidHeader}
-use Rattle.mach_types.specs.Guards.{FirstIs}
-use Rattle.mach_types.specs.TextGuards.{text_guards}
-use Rattle.mach_types.specs.Numbers.{kern_number, msg_number, disposition}
-use Rattle.mach_model.specs.State.{State, Target, lookup}
-use Rattle.mach_model.specs.CopyIn.{IsLegal}
-use Rattle.mach_model.specs.Status.{NamesReceive}
-use Rattle.mach_model.specs.Sending.{IsBadDestination, RightsRefuse}
-use Rattle.mach_model.specs.NotYet.{IsNotYetSent}
-use Rattle.message_codec.specs.declared.header.Parsed.{Parsed}
-use Rattle.message_codec.specs.Parses.{Parses}
-use Rattle.kernel_core.specs.View.{KernelView, message_of, tables}
-use Rattle.kernel_core.specs.Shows.{Shows}
-use Rattle.kernel_core.specs.Answers.{Answers}
-use Rattle.kernel_core.specs.Steps.{IsPlainText, Delivers, CannotDeliver}
-use Rattle.kernel_core.proofs.Stepping.{Goes, refused, done, past_tasks, among_tasks, none_found}
-use Rattle.kernel_core.proofs.MessageSent.{sent, sends, sent_shows, refused_at_limit}
+use Rattle.mach_types.specs.declared.codes.MsgReturn.TheVariants.{SendNoBuffer}
+use Rattle.mach_types.specs.Guards.{FirstIs, NoneHolds}
+use Rattle.mach_types.specs.TextGuards.{header_guards, TextRefuses}
+use Rattle.mach_types.specs.Numbers.{kern_number, msg_number}
+use Rattle.mach_model.specs.State.{State}
+use Rattle.mach_model.specs.Making.{IsNoTask}
+use Rattle.mach_model.specs.Sending.{SendRefuses, RightsRefuse}
+use Rattle.message_codec.specs.declared.text.Parsed.{Parsed}
+use Rattle.message_codec.specs.Parses.{Parses, IsMessage}
+use Rattle.copyin.specs.Worlds.{WorldView}
+use Rattle.copyin.specs.Shows.{ShowsPort, ShowsCounts, Agrees, Shows}
+use Rattle.copyin.proofs.Texts.{good_header, none_first}
+use Rattle.copyin.proofs.RefusedWords.{cannot}
+use Rattle.copyin.proofs.Sent.{sent_state, sends, sent_agrees}
+use Rattle.kernel_core.specs.Answers.{Answers, InNoSet, Serves}
+use Rattle.kernel_core.specs.Sends.{with_slots, SameButSlots, SendsText, IsText, CannotSend}
+use Rattle.kernel_core.proofs.Stepping.{Goes}
+use Rattle.kernel_core.proofs.Ending.{refused, done}
+use Rattle.kernel_core.proofs.NoSets.{none_in_commit}
 
-pub send_no_task : (k : KernelView) (task : ℕ) (bytes : List ℕ) → length k.spaces ≤ task → Answers k (Event.Send task bytes) (Reply.Code (kern_number InvalidTask)) k
-send_no_task k task bytes past now s sh = refused k s sh now (Event.Send task bytes) (kern_number InvalidTask) (inl (inl (past_tasks k s sh task past, refl)))
+-- spare slots are of no account to the machine
+pub slots_agree : (w : WorldView) (s : State) (n : ℕ) → Agrees w s → Agrees (with_slots w n) s
+slots_agree w s n a = record {
+  live_task = a.live_task;
+  tasks_made = a.tasks_made;
+  naming = a.naming;
+  names_kept = a.names_kept;
+  references = a.references;
+  counted = a.counted;
+  live_port = a.live_port;
+  ports_made = a.ports_made;
+  ports = a.ports;
+  counts = λ p. let c = a.counts p in record { entered = c.entered; senders = c.senders; once_rights = c.once_rights };
+  total = a.total;
+  set_owner = a.set_owner;
+  sets_made = a.sets_made;
+  requests = a.requests;
+}
 
-pub send_no_text : (k : KernelView) (task : ℕ) (bytes : List ℕ) (code : ℕ) → task < length k.spaces → FirstIs (text_guards bytes) code → Answers k (Event.Send task bytes) (Reply.Code code) k
-send_no_text k task bytes code below first now s sh = refused k s sh now (Event.Send task bytes) code (inl (inr (among_tasks k s sh task below, first)))
+pub slots_show : (w : WorldView) (s : State) (n : ℕ) → Shows w s → Shows (with_slots w n) s
+slots_show w s n sh = record { agrees = slots_agree w s n sh.agrees; lawful = sh.lawful }
 
-module _ (k : KernelView) (task : ℕ) (below : task < length k.spaces) (bytes : List ℕ) (parsed : Parsed) (text : Parses bytes parsed) where
-  later : (s : State) → Shows (tables k) s → (now code : ℕ) →
-      ((code ≡ msg_number SendNoBuffer) ⊎ IsNotYetSent text.header × (code ≡ msg_number SendInvalidHeader) ⊎ ¬ (IsNotYetSent text.header) × RightsRefuse s task text.header text.written code) →
-      Goes now s (Event.Send task bytes) (Reply.Code code) k
-  later s sh now code why =
-      refused k s sh now (Event.Send task bytes) code (inr ((among_tasks k s sh task below, text.unrefused), (text.header, text.written, text.spells, why)))
+-- ---- tasks
 
-  not_plain : ¬ (IsPlainText parsed) → IsNotYetSent text.header
-  not_plain not = elim (eqb_tells text.header.remote_kind 20) [
-    | inl remote ↦ inr (λ local. not (text.remote_kind ∙ remote.1, text.local_kind ∙ local))
-    | inr remote ↦ inl remote.1
-  ]
+task_is : {A : Type 0} (xs : List A) (i : ℕ) → i < length xs → is_some (slice_get xs i) ≡ true
+task_is [] i below = absurd (omega arith)
+task_is (x ∷ xs) zero below = refl
+task_is (x ∷ xs) (suc i) below = task_is xs i (omega (arith, below))
 
-  plain : IsPlainText parsed → ¬ (IsNotYetSent text.header)
-  plain is (inl other) = other (sym text.remote_kind ∙ is.0)
-  plain is (inr answer) = answer (sym text.local_kind ∙ is.1)
+no_task_is : {A : Type 0} (xs : List A) (i : ℕ) → length xs ≤ i → is_some (slice_get xs i) ≡ false
+no_task_is [] i past = refl
+no_task_is (x ∷ xs) zero past = absurd (omega arith)
+no_task_is (x ∷ xs) (suc i) past = no_task_is xs i (omega (arith, past))
 
-  -- a name under which a send right can be made is that of a receive right
-  legal : (s : State) (d : Disposition) (target : Target) → disposition 20 ≡ Some d → lookup s task parsed.remote ≡ Some target → IsLegal s task d target → NamesReceive s task parsed.remote
-  legal s Disposition.MakeSend (Target.port p) e found holds = (p, found, holds)
-  legal s Disposition.MakeSend (Target.once p) e found holds = absurd holds
-  legal s Disposition.MakeSend (Target.dead n) e found holds = absurd holds
-  legal s Disposition.MakeSend (Target.set n) e found holds = absurd holds
-  legal s Disposition.MoveReceive target e found holds = absurd (let e' : Some Disposition.MakeSend ≡ Some Disposition.MoveReceive = e in cc)
-  legal s Disposition.MoveSend target e found holds = absurd (let e' : Some Disposition.MakeSend ≡ Some Disposition.MoveSend = e in cc)
-  legal s Disposition.MoveSendOnce target e found holds = absurd (let e' : Some Disposition.MakeSend ≡ Some Disposition.MoveSendOnce = e in cc)
-  legal s Disposition.CopySend target e found holds = absurd (let e' : Some Disposition.MakeSend ≡ Some Disposition.CopySend = e in cc)
-  legal s Disposition.MakeSendOnce target e found holds = absurd (let e' : Some Disposition.MakeSend ≡ Some Disposition.MakeSendOnce = e in cc)
+pub past_tasks : (w : WorldView) (s : State) → Shows w s → (task : ℕ) → length w.spaces ≤ task → IsNoTask s task
+past_tasks w s sh task past = sym (sh.agrees.live_task task) ∙ no_task_is w.spaces task past
 
-  no_destination : (s : State) → ¬ (NamesReceive s task parsed.remote) → IsPlainText parsed → IsBadDestination s task text.header.remote_kind text.header.remote
-  no_destination s none is = inl (λ ok. none (legal s ok.0 ok.1 (ap disposition (sym is.0 ∙ text.remote_kind) ∙ ok.2) (ap (λ (n : ℕ). lookup s task n) text.remote ∙ ok.3) ok.4))
+pub among_tasks : (w : WorldView) (s : State) → Shows w s → (task : ℕ) → task < length w.spaces → ¬ (IsNoTask s task)
+among_tasks w s sh task below not = let a : true ≡ false = sym (task_is w.spaces task below) ∙ sh.agrees.live_task task ∙ not in cc
 
-  pub cannot_deliver : (code : ℕ) → CannotDeliver k task parsed code → Answers k (Event.Send task bytes) (Reply.Code code) k
-  cannot_deliver code (inl h) now s sh = later s sh now code (inr (inl (not_plain h.0, h.1)))
-  cannot_deliver code (inr (inl h)) now s sh =
-      later s sh now code (inr (inr (plain h.0, inl (no_destination s (none_found k s sh task parsed.remote h.1) h.0, h.2))))
-  cannot_deliver code (inr (inr (inl h))) now s sh =
-      later s sh now code (inr (inr (plain h.0, inr (inr (refused_at_limit k s sh now task parsed.remote h.1.p h.1.finds.references h.1.v bytes parsed.id h.1.finds.found h.1.there parsed text h.0.0 h.0.1 refl refl h.1.full code h.2)))))
-  cannot_deliver code (inr (inr (inr h))) now s sh = later s sh now code (inl h)
+-- ---- refusals
 
-  pub delivers : (after : KernelView) → Delivers k task parsed bytes after → Answers k (Event.Send task bytes) (Reply.Code 0) after
-  delivers after d now s sh =
-      done k s sh now (Event.Send task bytes) (Reply.Code 0) (sent now s (message_of d.p (record { id = parsed.id; bytes = bytes }))) after
-      (among_tasks k s sh task below, text.unrefused)
-      (refl, sends k s sh now task parsed.remote d.p d.finds.references d.v bytes parsed.id d.finds.found d.there parsed text d.plain.0 d.plain.1 refl refl d.room d.few, refl)
-      (λ good. subst (λ (v : KernelView). Shows (tables v) (sent now s (message_of d.p (record { id = parsed.id; bytes = bytes })))) (sym d.rest)
-      (sent_shows k s sh now task parsed.remote d.p d.finds.references d.v bytes parsed.id d.finds.found d.there good))
+pub send_no_task : (w : WorldView) (task : ℕ) (bytes : List ℕ) → InNoSet w → length w.spaces ≤ task → Serves w (Event.Send task bytes) (Reply.Code (kern_number InvalidTask)) w
+send_no_task w task bytes none past = record {
+  answers = λ now s sh. refused w s sh now (Event.Send task bytes) (kern_number InvalidTask) (inl (inl (past_tasks w s sh task past, refl)));
+  in_no_set = none;
+}
+
+module _ (w : WorldView) (task : ℕ) (below : task < length w.spaces) (bytes : List ℕ) where
+  -- a text whose header is good goes on to what is judged later
+  later : (s : State) → Shows w s → (now code : ℕ) → NoneHolds (header_guards bytes) → SendRefuses s task bytes code → Goes now s (Event.Send task bytes) (Reply.Code code) w
+  later s sh now code good why = refused w s sh now (Event.Send task bytes) code (inr ((among_tasks w s sh task below, good), why))
+
+  no_text : (s : State) → Shows w s → (now code : ℕ) → TextRefuses bytes code → Goes now s (Event.Send task bytes) (Reply.Code code) w
+  no_text s sh now code (inl first) = refused w s sh now (Event.Send task bytes) code (inl (inr (among_tasks w s sh task below, first)))
+  no_text s sh now code (inr (good, bit, items)) = later s sh now code good (inl (bit, items))
+
+  no_plan : (s : State) → Shows w s → (now code : ℕ) (parsed : Parsed) (text : Parses bytes parsed) → (code ≡ msg_number SendNoBuffer) ⊎ RightsRefuse s task text.header text.written code →
+      Goes now s (Event.Send task bytes) (Reply.Code code) w
+  no_plan s sh now code parsed text why = later s sh now code (good_header bytes parsed text) (inr (text.header, text.written, text.message.spells, why))
+
+  no_memory : (s : State) → Shows w s → (now code : ℕ) → IsText bytes → code ≡ msg_number SendNoBuffer → Goes now s (Event.Send task bytes) (Reply.Code code) w
+  no_memory s sh now code text e =
+      later s sh now code (none_first (header_guards bytes) (λ c first. text.message.unrefused c (inl first))) (inr (text.header, text.written, text.message.spells, inl e))
+
+  cannot_send : (s : State) → Shows w s → (now code : ℕ) → CannotSend w task bytes code → Goes now s (Event.Send task bytes) (Reply.Code code) w
+  cannot_send s sh now code (inl h) = no_text s sh now code h
+  cannot_send s sh now code (inr (inl (parsed, text, h))) = no_plan s sh now code parsed text (cannot w s sh task bytes parsed text code h)
+  cannot_send s sh now code (inr (inr (text, e))) = no_memory s sh now code text e
+
+  pub send_refused : (new : WorldView) (code : ℕ) → InNoSet w → SameButSlots w new → CannotSend w task bytes code → Serves w (Event.Send task bytes) (Reply.Code code) new
+  send_refused new code none same why = record {
+    answers = λ now s sh.
+        let g = cannot_send s sh now code why in
+        (g.0, g.1, subst (λ (x : WorldView). Shows x g.0) (sym same.rest) (slots_show w g.0 same.slots g.2));
+    in_no_set = subst InNoSet (sym same.rest) none;
+  }
+
+  -- ---- the message is sent
+
+  pub send_done : (new : WorldView) → InNoSet w → SendsText w task bytes new → Serves w (Event.Send task bytes) (Reply.Code 0) new
+  send_done new none d = record {
+    answers = λ now s sh.
+        let start = with_slots w d.slots in
+        let sh2 = slots_show w s d.slots sh in
+        let j = d.plans.judged in
+        done w s sh now (Event.Send task bytes) (Reply.Code 0) (sent_state start s sh2 now task bytes d.parsed d.text j) new
+        (among_tasks w s sh task below, good_header bytes d.parsed d.text)
+        (refl, sends start s sh2 now task bytes d.parsed d.text j d.plans.slot d.plans.few, refl)
+        (sent_agrees start s sh2 now task bytes d.parsed d.text j new d.commits);
+    in_no_set = none_in_commit (with_slots w d.slots) new task d.parsed d.text.written d.plans.judged bytes none d.commits;
+  }

@@ -1,85 +1,70 @@
--- Steps of a kernel that shows a state: refused, or done; and the opening.
-use Rattle.std.proofs.Common.{◌≡◌, ℕ, ◌<◌, ◌≤◌, [], Some, None, refl, arith, inl, inr, length}
-use Rattle.std.specs.Prelude.{slice_get}
-use Rattle.std.specs.FinMap as names
+-- Steps of tables that show a state: refused, or done; and the opening.
+use Rattle.std.proofs.Common.{◌≡◌, ℕ, [], Some, None, refl, arith, inl, inr}
+use Rattle.std.specs.FinMap as map
 use Rattle.std.specs.Ordering.{nat_cmp}
-use Rattle.std.proofs.lemmas.Option.{slice_get_cases, slice_get_past, slice_get_within}
-use Rattle.name_space.specs.declared.Entry.{Entry}
 use Rattle.mach_types.specs.declared.calls.Event.{Event}
 use Rattle.mach_types.specs.declared.calls.Reply.{Reply}
-use Rattle.mach_types.specs.Tokens.{Kind, receive, send, send_once}
 use Rattle.mach_types.specs.Guards.{NoneHolds}
 use Rattle.mach_model.specs.State.{State, opening}
-use Rattle.mach_model.specs.Making.{IsNoTask}
-use Rattle.mach_model.specs.Status.{NamesReceive}
 use Rattle.mach_model.specs.Refusals.{Refuses, guards}
 use Rattle.mach_model.specs.Machine.{Step, Does}
 use Rattle.mach_model.specs.Lawful.{IsLawful}
 use Rattle.mach_model.proofs.Opening.{opening-lawful}
 use Rattle.mach_model.proofs.StepLawful.{quiet_step}
-use Rattle.kernel_core.specs.View.{KernelView, Space, PortView, FindsReceive, tables, nothing}
-use Rattle.kernel_core.specs.Shows.{Shows, kept_count}
-use Rattle.kernel_core.proofs.Told.{no_task, is_task, not_receive, port_there}
+use Rattle.name_space.specs.declared.Entry.{Entry}
+use Rattle.name_space.specs.Names.{SpaceView}
+use Rattle.port.specs.Ports.{PortView}
+use Rattle.rights.specs.declared.Counts.{Counts}
+use Rattle.copyin.specs.Kept.{Kept}
+use Rattle.copyin.specs.Worlds.{WorldView, no_world}
+use Rattle.copyin.specs.Shows.{Agrees, Shows}
+use Rattle.kernel_core.specs.Answers.{IsSound, Serves}
 
--- The machine may step so from the state, to one that the kernel shows after.
-abbrev pub Goes : (now : ℕ) → State → Event → Reply → KernelView → Type 0
-Goes now s event reply after = (t : State) × Step now s event reply t × Shows (tables after) t
+-- The machine may step so from the state, to one that the tables show after.
+abbrev pub Goes : (now : ℕ) → State → Event → Reply → WorldView → Type 0
+Goes now s event reply after = (t : State) × Step now s event reply t × Shows after t
 
-pub refused : (k : KernelView) (s : State) → Shows (tables k) s → (now : ℕ) (event : Event) (code : ℕ) → Refuses s event code → Goes now s event (Reply.Code code) k
-refused k s sh now event code r = (s, inl (record { code = code; told = refl; refuses = r; same = refl }), sh)
+pub refused : (s : State) (now : ℕ) (event : Event) (code : ℕ) (after : WorldView) → Shows after s → Refuses s event code → Goes now s event (Reply.Code code) after
+refused s now event code after sh r = (s, inl (record { code = code; told = refl; refuses = r; same = refl }), sh)
 
-pub done : (k : KernelView) (s : State) → Shows (tables k) s → (now : ℕ) (event : Event) (reply : Reply) (t : State) (after : KernelView) →
-    NoneHolds (guards s event) → Does now s event reply t [] → (IsLawful t → Shows (tables after) t) → Goes now s event reply after
-done k s sh now event reply t after good does shows =
-    let q = quiet_step now s event reply t sh.lawful good does in (t, q.0, shows q.1)
-
--- ---- what the kernel's own tests tell
-
-pub past_tasks : (k : KernelView) (s : State) → Shows (tables k) s → (task : ℕ) → length k.spaces ≤ task → IsNoTask s task
-past_tasks k s sh task past = no_task k s sh task (slice_get_past k.spaces task past)
-
-pub space_there : (k : KernelView) (task : ℕ) → task < length k.spaces → (space : Space) × (slice_get k.spaces task ≡ Some space)
-space_there k task below = elim (slice_get_cases k.spaces task).1 [
-  | inl h ↦ (h.0, h.2)
-  | inr h ↦ absurd (omega (arith, h.0))
-]
-
-pub among_tasks : (k : KernelView) (s : State) → Shows (tables k) s → (task : ℕ) → task < length k.spaces → ¬ (IsNoTask s task)
-among_tasks k s sh task below = let x = space_there k task below in is_task k s sh task x.0 x.1
-
-pub none_found : (k : KernelView) (s : State) → Shows (tables k) s → (task name : ℕ) → ((p : ℕ) → ¬ (FindsReceive k task name p)) → ¬ (NamesReceive s task name)
-none_found k s sh task name none = not_receive k s sh task name (λ p n e.
-    let there = port_there k s sh task name p n e in
-    none p (record { references = n; found = e; there = slice_get_within k.ports p there.0 there.1 }))
-
--- a port that is found has its table
-pub port_found : (k : KernelView) (task name p : ℕ) → FindsReceive k task name p → (v : PortView) × (slice_get k.ports p ≡ Some v)
-port_found k task name p finds = elim (slice_get_cases k.ports p).1 [
-  | inl h ↦ (h.0, h.2)
-  | inr h ↦ absurd (let there = finds.there in omega (arith, h.0, there))
-]
+pub done : (s : State) → IsLawful s → (now : ℕ) (event : Event) (reply : Reply) (t : State) (after : WorldView) →
+    NoneHolds (guards s event) → Does now s event reply t [] → Agrees after t → Goes now s event reply after
+done s l now event reply t after good does agrees =
+    let q = quiet_step now s event reply t l good does in (t, q.0, record { agrees = agrees; lawful = q.1 })
 
 -- ---- nothing was made yet
 
-pub opening_shows : Shows (tables nothing) opening
-opening_shows = record {
+pub opening_agrees : Agrees no_world opening
+opening_agrees = record {
   live_task = λ task. refl;
   tasks_made = refl;
-  naming = λ task name. names.get-empty nat_cmp name;
+  naming = λ task name. map.get-empty nat_cmp name;
   names_kept = λ task space e. absurd (let e' : None ≡ Some space = e in cc);
-  references = λ task name p has n e. absurd (let e' : None ≡ Some (Entry.Port p has n) = e in cc);
-  live_port = λ p. refl;
+  references = λ task name x p e is. absurd (let e' : None ≡ Some x = e in cc);
+  counted = λ task name x e. absurd (let e' : None ≡ Some x = e in cc);
+  live_port = λ p. rw (map.get-empty {X = PortView Kept} nat_cmp p) refl;
   ports_made = refl;
-  ports = λ p table e. absurd (let e' : None ≡ Some table = e in cc);
+  ports = λ p v e. absurd (no_port p v e);
+  counts = λ p. record {
+    entered = rw (map.get-empty {X = Counts} nat_cmp p) refl;
+    senders = rw (map.get-empty {X = Counts} nat_cmp p) refl;
+    once_rights = rw (map.get-empty {X = Counts} nat_cmp p) refl;
+  };
+  total = refl;
   set_owner = λ set. refl;
   sets_made = refl;
-  stands = λ r. refl;
-  requests = λ r kind q. no_kept kind q;
-  total = refl;
-  lawful = opening-lawful;
+  requests = λ r kind q. refl;
 }
   where
-    no_kept : (kind : Kind) (q : ℕ) → 0 ≡ kept_count kind q None
-    no_kept receive q = refl
-    no_kept send q = refl
-    no_kept send_once q = refl
+    no_port : (p : ℕ) (v : PortView Kept) → map.get no_world.ports.ports p ≡ Some v → ⊥
+    no_port p v e = let n : map.get no_world.ports.ports p ≡ None = map.get-empty {X = PortView Kept} nat_cmp p in cc
+
+pub opening_shows : Shows no_world opening
+opening_shows = record { agrees = opening_agrees; lawful = opening-lawful }
+
+pub opening_sound : IsSound no_world
+opening_sound = record { state = opening; shown = opening_shows; in_no_set = λ p v e. absurd (let n : map.get no_world.ports.ports p ≡ None = map.get-empty {X = PortView Kept} nat_cmp p in let f : map.get no_world.ports.ports p ≡ Some v = e in cc) }
+
+-- a call leaves the tables sound
+pub stays_sound : (old : WorldView) (event : Event) (reply : Reply) (new : WorldView) → IsSound old → Serves old event reply new → IsSound new
+stays_sound old event reply new sound s = let a = s.answers 0 sound.state sound.shown in record { state = a.0; shown = a.2; in_no_set = s.in_no_set }

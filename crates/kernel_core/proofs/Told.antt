@@ -1,75 +1,116 @@
--- What the tables tell of a state that they show.
-use Rattle.std.proofs.Common.{◌≡◌, ℕ, [], Option, Some, None, refl, sym, ap, subst, ◌∙◌, arith, true, false, Bool}
-use Rattle.std.specs.Prelude.{option_map, is_some, slice_get, ◌≢◌}
-use Rattle.name_space.specs.declared.Entry.{Entry}
-use Rattle.name_space.specs.declared.Entry.TheVariants as entry
+-- What the tables tell of a state that they agree with.
+use Rattle.std.proofs.Common.{◌≡◌, ℕ, ◌<◌, ◌≤◌, [], Option, Some, None, refl, sym, ap, subst, ◌∙◌, arith, true, false, Bool, inl, inr, length}
+use Rattle.std.specs.Prelude.{is_some, slice_get, ◌≢◌}
+use Rattle.std.specs.Option.{option_map, option_to_list}
+use Rattle.std.specs.FinMap as map
+use Rattle.std.proofs.lemmas.Option.{slice_get_cases, slice_get_past}
 use Rattle.mach_types.specs.Tokens.{receive}
 use Rattle.mach_model.specs.State.{State, Target, lookup, Holds}
 use Rattle.mach_model.specs.Making.{IsNoTask}
-use Rattle.mach_model.specs.Status.{NamesReceive}
-use Rattle.mach_model.proofs.Weigh.{held_le_of}
-use Rattle.kernel_core.specs.View.{entry_at, KernelView, Space, PortView, tables, port_table}
-use Rattle.kernel_core.specs.Shows.{Shows, ShowsPort, target_of}
+use Rattle.mach_model.specs.Status.{NamesReceive, one_if}
+use Rattle.mach_model.specs.Lawful.{IsLawful}
+use Rattle.mach_model.proofs.Settling.{named_lives}
+use Rattle.name_space.specs.declared.Entry.{Entry}
+use Rattle.name_space.specs.declared.Entry.TheVariants as entry
+use Rattle.name_space.specs.Entry.{port_named, has_receive}
+use Rattle.name_space.specs.Names.{SpaceView}
+use Rattle.port.specs.Ports.{PortView}
+use Rattle.copyin.specs.Kept.{Kept}
+use Rattle.copyin.specs.Worlds.{WorldView, entry_at, port_at}
+use Rattle.copyin.specs.Shows.{target_of, Agrees}
+use Rattle.kernel_core.specs.Answers.{InNoSet}
+use Rattle.kernel_core.specs.Tells.{receive_named}
 
--- only a port's name shows as a port's
-port_of : (o : Option Entry) (p : ℕ) → option_map target_of o ≡ Some (Target.port p) → (has : Bool) × (n : ℕ) × (o ≡ Some (entry.Port p has n))
-port_of None p e = absurd (cc)
-port_of (Some (entry.Port q has n)) p e = (has, n, (let f : Target.port q ≡ Target.port p = cc in let g : q ≡ p = cc in ap (λ (x : ℕ). Some (entry.Port x has n)) g))
-port_of (Some (entry.SendOnce q)) p e = absurd (let f : Target.once q ≡ Target.port p = cc in cc)
-port_of (Some (entry.DeadName m)) p e = absurd (let f : Target.dead m ≡ Target.port p = cc in cc)
-port_of (Some (entry.Set m)) p e = absurd (let f : Target.set m ≡ Target.port p = cc in cc)
+-- only a receive or send right's name shows as a port's
+pub port_of : (e : Entry) (p : ℕ) → target_of e ≡ Target.port p → port_named e ≡ Some p
+port_of (entry.Receive q) p e = let g : q ≡ p = cc in ap (λ (x : ℕ). Some x) g
+port_of (entry.Send q n) p e = let g : q ≡ p = cc in ap (λ (x : ℕ). Some x) g
+port_of (entry.ReceiveAndSend q n) p e = let g : q ≡ p = cc in ap (λ (x : ℕ). Some x) g
+port_of (entry.SendOnce q) p e = absurd (cc)
+port_of (entry.DeadName m) p e = absurd (cc)
+port_of (entry.Set m) p e = absurd (cc)
 
-module _ (k : KernelView) (s : State) (sh : Shows (tables k) s) where
-  pub no_task : (task : ℕ) → slice_get k.spaces task ≡ None → IsNoTask s task
-  no_task task e = sym (sh.live_task task) ∙ ap is_some e
+-- what has a receive right is named for its port, and the other way round
+pub receive_has : (e : Entry) (p : ℕ) → receive_named e ≡ Some p → (port_named e ≡ Some p) × (has_receive e ≡ true) × (target_of e ≡ Target.port p)
+receive_has (entry.Receive q) p e = let g : q ≡ p = cc in (e, refl, ap (λ (x : ℕ). Target.port x) g)
+receive_has (entry.Send q n) p e = absurd (cc)
+receive_has (entry.ReceiveAndSend q n) p e = let g : q ≡ p = cc in (e, refl, ap (λ (x : ℕ). Target.port x) g)
+receive_has (entry.SendOnce q) p e = absurd (cc)
+receive_has (entry.DeadName m) p e = absurd (cc)
+receive_has (entry.Set m) p e = absurd (cc)
 
-  pub is_task : (task : ℕ) (space : Space) → slice_get k.spaces task ≡ Some space → ¬ (IsNoTask s task)
-  is_task task space e not = let a : true ≡ s.live_task task = sym (ap is_some e) ∙ sh.live_task task in cc
+has_none : (e : Entry) → receive_named e ≡ None → has_receive e ≡ false
+has_none (entry.Receive q) e = absurd (cc)
+has_none (entry.Send q n) e = refl
+has_none (entry.ReceiveAndSend q n) e = absurd (cc)
+has_none (entry.SendOnce q) e = refl
+has_none (entry.DeadName m) e = refl
+has_none (entry.Set m) e = refl
 
-  pub unused : (task name : ℕ) → entry_at k task name ≡ None → lookup s task name ≡ None
-  unused task name e = sh.naming task name ∙ ap (option_map target_of) e
+pub space_there : (w : WorldView) (task : ℕ) → task < length w.spaces → (space : SpaceView) × (slice_get w.spaces task ≡ Some space)
+space_there w task below = elim (slice_get_cases w.spaces task).1 [
+  | inl h ↦ (h.0, h.2)
+  | inr h ↦ absurd (omega (arith, h.0))
+]
 
-  pub found : (task name : ℕ) (x : Entry) → entry_at k task name ≡ Some x → lookup s task name ≡ Some (target_of x)
-  found task name x e = sh.naming task name ∙ ap (option_map target_of) e
+pub port_got : (o : Option (PortView Kept)) → is_some o ≡ true → (v : PortView Kept) × (o ≡ Some v)
+port_got (Some v) e = (v, refl)
+port_got None e = absurd (cc)
 
-  pub holds_receive : (task name p n : ℕ) → entry_at k task name ≡ Some (entry.Port p true n) → Holds s task receive p
-  holds_receive task name p n e = let r = sh.references task name p true n e in omega (arith, r.0)
+module _ (w : WorldView) (s : State) (a : Agrees w s) where
+  pub no_task : (task : ℕ) → slice_get w.spaces task ≡ None → IsNoTask s task
+  no_task task e = sym (a.live_task task) ∙ ap is_some e
 
-  pub names_receive : (task name p n : ℕ) → entry_at k task name ≡ Some (entry.Port p true n) → NamesReceive s task name
-  names_receive task name p n e = (p, found task name (entry.Port p true n) e, holds_receive task name p n e)
+  pub is_task : (task : ℕ) (space : SpaceView) → slice_get w.spaces task ≡ Some space → ¬ (IsNoTask s task)
+  is_task task space e not = let l : true ≡ s.live_task task = sym (ap is_some e) ∙ a.live_task task in cc
 
-  one_of : (has : Bool) (task name p n : ℕ) → entry_at k task name ≡ Some (entry.Port p has n) → Holds s task receive p → has ≡ true
-  one_of true task name p n e h = refl
-  one_of false task name p n e h = absurd (let r = sh.references task name p false n e in omega (arith, r.0))
+  pub past_tasks : (task : ℕ) → length w.spaces ≤ task → IsNoTask s task
+  past_tasks task past = no_task task (slice_get_past w.spaces task past)
 
-  -- a receive right has its name, and only that
-  pub receive_entry : (task name p : ℕ) → lookup s task name ≡ Some (Target.port p) → Holds s task receive p → (n : ℕ) × (entry_at k task name ≡ Some (entry.Port p true n))
-  receive_entry task name p is h =
-      let e = port_of (entry_at k task name) p (sym (sh.naming task name) ∙ is) in
-      (e.1, subst (λ (b : Bool). entry_at k task name ≡ Some (entry.Port p b e.1)) (one_of e.0 task name p e.1 e.2 h) e.2)
+  pub among_tasks : (task : ℕ) → task < length w.spaces → ¬ (IsNoTask s task)
+  among_tasks task below = let x = space_there w task below in is_task task x.0 x.1
 
-  -- who has a receive right has it for a port that lives
-  pub is_live : (task p : ℕ) → Holds s task receive p → s.live_port p ≡ true
-  is_live task p h = go (s.live_port p) refl
+  pub unused : (task name : ℕ) → entry_at w task name ≡ None → lookup s task name ≡ None
+  unused task name e = a.naming task name ∙ ap (option_map target_of) e
+
+  pub found : (task name : ℕ) (x : Entry) → entry_at w task name ≡ Some x → lookup s task name ≡ Some (target_of x)
+  found task name x e = a.naming task name ∙ ap (option_map target_of) e
+
+  pub used : (task name : ℕ) (x : Entry) → entry_at w task name ≡ Some x → ¬ (lookup s task name ≡ None)
+  used task name x e none = let f = found task name x e in cc
+
+  pub holds_receive : (task name : ℕ) (x : Entry) (p : ℕ) → entry_at w task name ≡ Some x → receive_named x ≡ Some p → Holds s task receive p
+  holds_receive task name x p e is =
+      let r = receive_has x p is in
+      let h = (a.references task name x p e r.0).0 in
+      let one : one_if (has_receive x) ≡ 1 = ap one_if r.1 in omega (arith, h, one)
+
+  pub names_port : (task name : ℕ) (x : Entry) (p : ℕ) → entry_at w task name ≡ Some x → receive_named x ≡ Some p → lookup s task name ≡ Some (Target.port p)
+  names_port task name x p e is = found task name x e ∙ ap (λ (t : Target). Some t) (receive_has x p is).2
+
+  pub names_receive : (task name : ℕ) (x : Entry) (p : ℕ) → entry_at w task name ≡ Some x → receive_named x ≡ Some p → NamesReceive s task name
+  names_receive task name x p e is = (p, names_port task name x p e is, holds_receive task name x p e is)
+
+  pub not_receive : (task name : ℕ) (x : Entry) → entry_at w task name ≡ Some x → receive_named x ≡ None → ¬ (NamesReceive s task name)
+  not_receive task name x e none h =
+      let same : target_of x ≡ Target.port h.0 = the_same (target_of x) (Target.port h.0) (sym (found task name x e) ∙ h.1) in
+      let r = (a.references task name x h.0 e (port_of x h.0 same)).0 in
+      let zero : one_if (has_receive x) ≡ 0 = ap one_if (has_none x none) in
+      let some = h.2 in omega (arith, r, zero, some)
     where
-      go : (b : Bool) → s.live_port p ≡ b → s.live_port p ≡ true
-      go true e = e
-      go false e = absurd (let a = held_le_of task receive p s.ledger in let z = sh.lawful.no_rights p e receive in omega (arith, a, z, h))
+      the_same : (x y : Target) → Some x ≡ Some y → x ≡ y
+      the_same x y e = cc
 
-  got : (o : Option PortView) (p : ℕ) → is_some (option_map (port_table p) o) ≡ true → (v : PortView) × (o ≡ Some v)
-  got (Some v) p e = (v, refl)
-  got None p e = absurd (cc)
+  -- a live port is in the tables
+  pub port_there : (p : ℕ) → s.live_port p ≡ true → (v : PortView Kept) × (port_at w p ≡ Some v)
+  port_there p live = port_got (port_at w p) (a.live_port p ∙ live)
 
-  -- such a port is in the tables
-  pub port_there : (task name p n : ℕ) → entry_at k task name ≡ Some (entry.Port p true n) → (v : PortView) × (slice_get k.ports p ≡ Some v)
-  port_there task name p n e = got (slice_get k.ports p) p (sh.live_port p ∙ is_live task p (holds_receive task name p n e))
+  pub port_entered : (p : ℕ) → s.live_port p ≡ true → map.contains_key w.ledger.counts p ≡ true
+  port_entered p live = (a.counts p).entered ∙ live
 
-  pub shows_port : (p : ℕ) (v : PortView) → slice_get k.ports p ≡ Some v → ShowsPort (port_table p v) s p
-  shows_port p v e = sh.ports p (port_table p v) (ap (option_map (port_table p)) e)
+  -- no port is in a set
+  pub alone : (p : ℕ) (v : PortView Kept) → port_at w p ≡ Some v → InNoSet w → s.sets_of p ≡ []
+  alone p v is none = sym ((a.ports p v is).sets) ∙ ap option_to_list (none p v is)
 
-  pub not_receive : (task name : ℕ) → ((p n : ℕ) → entry_at k task name ≢ Some (entry.Port p true n)) → ¬ (NamesReceive s task name)
-  not_receive task name none h = let e = receive_entry task name h.0 h.1 h.2 in none h.0 e.0 e.1
-
-  -- there are no sets yet: no port is in one
-  pub in_no_set : (p : ℕ) (v : PortView) → slice_get k.ports p ≡ Some v → s.sets_of p ≡ []
-  in_no_set p v e = sym ((shows_port p v e).sets)
+pub receive_lives : (w : WorldView) (s : State) → Agrees w s → IsLawful s → (task name : ℕ) (x : Entry) (p : ℕ) → entry_at w task name ≡ Some x → receive_named x ≡ Some p → s.live_port p ≡ true
+receive_lives w s a l task name x p e is = named_lives s l task name p (names_port w s a task name x p e is)

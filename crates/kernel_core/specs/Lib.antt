@@ -1,4 +1,6 @@
-pub mod View
-pub mod Shows
 pub mod Answers
-pub mod Steps
+pub mod Makes
+pub mod Tells
+pub mod Sends
+pub mod Receipts
+pub mod Handing

@@ -1,79 +1,57 @@
-//! The kernel's tables, and its steps.
-ghost use Rattle.std.specs.Prelude.{◌≡◌, ◌≢◌, ℕ, ◌+◌, ◌-◌, ◌<◌, ◌≤◌, ◌↔◌, Bool, true, List, [], ◌∷◌, ◌++◌, length, slice_get, slice_set, Some, None, IfOk, IfErr, OnOk, OnErr, MatchOption, IsTrue};
-ghost use Rattle.std.specs.FinMap as names;
-ghost use Rattle.mach_types.specs.Numbers.{kern_number, msg_number, most_names, most_rights, most_identities};
+//! A kernel, and its steps.
+ghost use Rattle.std.specs.Prelude.{◌≡◌};
 ghost use Rattle.mach_model.specs.State.{opening};
-ghost use Rattle.name_space.specs.declared.Entry.{Entry as EntryOf};
-ghost use Rattle.message_codec.specs.Parses.{Parses};
-ghost use Rattle.kernel_core.specs.View.{Space as SpaceView, tables, entry_at, FindsReceive};
-ghost use Rattle.kernel_core.specs.Shows.{Shows};
-ghost use Rattle.kernel_core.specs.Answers.{Answers};
-ghost use Rattle.kernel_core.specs.Steps.{MakesPort, AddsPort, CannotMake, Delivers, CannotDeliver, Takes, TakesFront, FindsNone};
+ghost use Rattle.copyin.specs.Shows.{Shows};
+ghost use Rattle.kernel_core.specs.Answers.{Answers, IsSound, Serves};
 
-use crate::port::{MOST_BYTES, Message, Port};
-use mach_types::{
-    Bytes, Disposition, Event, KernReturn, MsgReturn, Name, PortId, Reply, Right, SetId, TaskId,
-    Waited,
-};
-use message_codec::{Parsed, parse};
-use name_space::{Entry, Space};
-use std::alloc::{AllocError, Global};
+use crate::handing::{extract, insert};
+use crate::making::{allocate, create_task};
+use crate::receiving::receive;
+use crate::sending::send;
+use crate::telling::{get_refs, name_type, receive_status};
+use copyin::World;
+use mach_types::{Event, Reply};
+use std::alloc::Global;
 use std::marker::Model;
-
-/// The most tasks that a kernel makes.
-const MOST_TASKS: usize = 65536;
 
 /// Tasks, their names, ports and queued messages.
 ///
-/// A value of this type is one kernel. Tasks and ports stand by number.
+/// A value of this type is one kernel. Its tables always show a state of the machine.
 #[derive(Drop)]
 pub struct Kernel {
     alloc: Global,
-    spaces: Vec<Space>,
-    ports: Vec<Port>,
-    total: u32,
+    world: World,
 }
 
 impl Model for Kernel {
-    ghost use Rattle.kernel_core.specs.View.{KernelView, view_code};
+    ghost use Rattle.name_space.specs.Names.{space_code};
+    ghost use Rattle.name_space.specs.contracts.Entry as entry;
+    ghost use Rattle.port.specs.Ports.{ports_code};
+    ghost use Rattle.port.specs.contracts.Attributes as attributes;
+    ghost use Rattle.rights.specs.Ledger.{ledger_code};
+    ghost use Rattle.rights.specs.contracts.Counts as counts;
+    ghost use Rattle.copyin.specs.Kept.{kept_code};
+    ghost use Rattle.copyin.specs.contracts.message.Carried as carried;
+    ghost use Rattle.copyin.specs.Worlds.{WorldView, world_code};
+    ghost use Rattle.kernel_core.specs.Answers.{IsSound};
 
-    ghost Value = { KernelView };
+    ghost Value = { WorldView };
 
-    ghost coded = { view_code };
+    ghost coded = { world_code (space_code entry.the_row.coded) (ports_code (kept_code carried.the_row.coded) attributes.the_row.coded) (ledger_code counts.the_row.coded) };
 
-    ghost view = { λ k. record { spaces = k.spaces.items; ports = k.ports.items; total = k.total } };
-}
+    ghost view = { λ k. k.world };
 
-/// The port whose receive right the entry has.
-fn receive_port(entry: Entry) -> Option<PortId>
-    ensures { MatchOption result ((p n : ℕ) → entry ≢ EntryOf.Port p true n) (λ p. (n : ℕ) × (entry ≡ EntryOf.Port p true n)) }
-{
-    match &entry {
-        Entry::Port(port, true, _) => Some(*port),
-        _ => None,
-    }
-}
-
-/// The set that the entry is.
-fn set_of(entry: Entry) -> Option<SetId>
-    ensures { MatchOption result ((set : ℕ) → entry ≢ EntryOf.Set set) (λ set. entry ≡ EntryOf.Set set) }
-{
-    match &entry {
-        Entry::Set(set) => Some(*set),
-        _ => None,
-    }
+    ghost invariant = { λ k. IsSound k.world };
 }
 
 impl Kernel {
     /// A kernel in which nothing was made yet. Takes no memory.
     pub fn new(alloc: Global) -> Kernel
-        ensures { Shows (tables result) opening }
+        ensures { Shows result opening }
     {
         Kernel {
             alloc,
-            spaces: Vec::new(alloc),
-            ports: Vec::new(alloc),
-            total: 0,
+            world: World::new(alloc),
         }
     }
 
@@ -83,266 +61,28 @@ impl Kernel {
     pub fn step(&mut self, event: &Event) -> Reply
         ensures { Answers self.old event.now result self.new }
     {
-        match event {
-            Event::TaskCreate => self.create_task(),
-            Event::Allocate(task, right) => self.allocate(*task, *right),
-            Event::ReceiveStatus(task, name) => self.receive_status(*task, *name),
-            Event::Send(task, bytes) => self.send(*task, bytes),
-            Event::Receive(task, name, room, large) => self.receive(*task, *name, *room, *large),
-        }
+        serve(&mut self.world, self.alloc, event)
     }
+}
 
-    /// Whether the task lives.
-    fn has_task(&self, task: TaskId) -> bool
-        ensures { IsTrue result ↔ (task < length self.now.spaces) }
-    {
-        (task.number() as usize) < self.spaces.len()
-    }
-
-    /// What stands under the task's name.
-    fn lookup(&self, task: TaskId, name: Name) -> Option<Entry>
-        ensures { result ≡ entry_at self.now task name }
-    {
-        self.spaces.get(task.number() as usize)?.lookup(name)
-    }
-
-    /// The port whose receive right the task has under the name.
-    fn receive_right(&self, task: TaskId, name: Name) -> Option<usize>
-        ensures { MatchOption result ((p : ℕ) → ¬ (FindsReceive self.now task name p)) (FindsReceive self.now task name) }
-    {
-        let entry = self.lookup(task, name)?;
-        let index = receive_port(entry)?.number() as usize;
-        if index < self.ports.len() {
-            Some(index)
-        } else {
-            None
+/// Makes the call on the tables.
+fn serve(world: &mut World, alloc: Global, event: &Event) -> Reply
+    requires { IsSound world.old }
+    ensures { Serves world.old event.now result world.new }
+{
+    match event {
+        Event::TaskCreate => create_task(world, alloc),
+        Event::Allocate(task, right) => allocate(world, *task, *right),
+        Event::GetRefs(task, name, right) => get_refs(world, *task, *name, *right),
+        Event::NameType(task, name) => name_type(world, *task, *name),
+        Event::ReceiveStatus(task, name) => receive_status(world, *task, *name),
+        Event::InsertRight(task, name, from, poly, number) => {
+            insert(world, *task, *name, *from, *poly, *number)
         }
-    }
-
-    /// The set that the task has under the name.
-    fn set(&self, task: TaskId, name: Name) -> Option<SetId>
-        ensures { MatchOption result ((set : ℕ) → entry_at self.now task name ≢ Some (EntryOf.Set set)) (λ set. entry_at self.now task name ≡ Some (EntryOf.Set set)) }
-    {
-        set_of(self.lookup(task, name)?)
-    }
-
-    /// `TaskCreate` (Task Interface, `task_create`).
-    fn create_task(&mut self) -> Reply
-        ensures { Answers self.old Event.TaskCreate result self.new }
-    {
-        let number = self.task_count();
-        if number >= MOST_TASKS {
-            return Reply::Code(KernReturn::NoSpace.number());
+        Event::ExtractRight(task, name, number, to) => extract(world, *task, *name, *number, *to),
+        Event::Send(task, bytes) => send(world, alloc, *task, bytes),
+        Event::Receive(task, name, room, large) => {
+            receive(world, alloc, *task, *name, *room, *large)
         }
-        match self.push_task() {
-            Ok(()) => Reply::Task(TaskId::new(number as u32)),
-            Err(_) => Reply::Code(KernReturn::ResourceShortage.number()),
-        }
-    }
-
-    /// How many tasks were made.
-    fn task_count(&self) -> usize
-        ensures { result ≡ length self.now.spaces }
-    {
-        self.spaces.len()
-    }
-
-    /// One task more, with no names.
-    fn push_task(&mut self) -> Result<(), AllocError>
-        ensures ok { OnOk result (self.new ≡ record self.old { spaces = self.old.spaces ++ names.empty ∷ [] }) }
-        ensures err { OnErr result (self.new ≡ self.old) }
-    {
-        let space = Space::new(self.alloc);
-        self.spaces.push(space)?;
-        Ok(())
-    }
-
-    /// `Allocate` (Port Manipulation Interface, `mach_port_allocate`).
-    fn allocate(&mut self, task: TaskId, right: u32) -> Reply
-        ensures { Answers self.old (Event.Allocate task right) result self.new }
-    {
-        if !self.has_task(task) {
-            return Reply::Code(KernReturn::InvalidTask.number());
-        }
-        if right != Right::Receive.number() {
-            return Reply::Code(KernReturn::InvalidValue.number());
-        }
-        match self.make_port(task) {
-            Ok(name) => Reply::Name(name),
-            Err(code) => Reply::Code(code.number()),
-        }
-    }
-
-    /// A new port, whose receive right the task has under a fresh name.
-    fn make_port(&mut self, task: TaskId) -> Result<Name, KernReturn>
-        requires { task < length self.old.spaces }
-        ensures ok { IfOk result (λ name. MakesPort self.old task name self.new) }
-        ensures err { IfErr result (λ code. (self.new ≡ self.old) × CannotMake self.old task (kern_number code)) }
-    {
-        let space = self.space(task);
-        if space.is_full() {
-            return Err(KernReturn::NoSpace);
-        }
-        let name = space.fresh();
-        if self.has_all_rights() {
-            return Err(KernReturn::NoSpace);
-        }
-        match self.add_port(task, name) {
-            Ok(()) => Ok(name),
-            Err(_) => Err(KernReturn::ResourceShortage),
-        }
-    }
-
-    /// The task's names.
-    fn space(&self, task: TaskId) -> &Space
-        requires { task < length self.now.spaces }
-        ensures { slice_get self.now.spaces task ≡ Some result.now }
-    {
-        &self.spaces[task.number() as usize]
-    }
-
-    /// How many ports were made.
-    fn port_count(&self) -> usize
-        ensures { result ≡ length self.now.ports }
-    {
-        self.ports.len()
-    }
-
-    /// The port of this number.
-    fn port(&self, index: usize) -> &Port
-        requires { index < length self.now.ports }
-        ensures { slice_get self.now.ports index ≡ Some result.now }
-    {
-        &self.ports[index]
-    }
-
-    /// Whether there are as many rights as there may be.
-    fn has_all_rights(&self) -> bool
-        ensures { IsTrue result ↔ (most_rights ≤ self.now.total) }
-    {
-        self.total == u32::MAX
-    }
-
-    /// A port more, named by the task. All growths come first: where one is refused, nothing changes.
-    fn add_port(&mut self, task: TaskId, name: Name) -> Result<(), AllocError>
-        requires there { task < length self.old.spaces }
-        requires room { (space : SpaceView) → slice_get self.old.spaces task ≡ Some space → names.len space < most_names }
-        requires few { self.old.total < most_rights }
-        ensures ids { length self.old.ports < most_identities }
-        ensures ok { OnOk result (AddsPort self.old task name self.new) }
-        ensures err { OnErr result (self.new ≡ self.old) }
-    {
-        let right = Entry::Port(PortId::new(self.port_count() as u64), true, 0);
-        self.ports.reserve(1)?;
-        self.spaces[task.number() as usize].insert(name, right)?;
-        self.ports.push_reserved(Port::new(self.alloc));
-        self.total += 1;
-        Ok(())
-    }
-
-    /// `ReceiveStatus` (Port Manipulation Interface, `mach_port_get_receive_status`).
-    fn receive_status(&self, task: TaskId, name: Name) -> Reply
-        ensures { Answers self.now (Event.ReceiveStatus task name) result self.now }
-    {
-        if !self.has_task(task) {
-            return Reply::Code(KernReturn::InvalidTask.number());
-        }
-        let Some(_) = self.lookup(task, name) else {
-            return Reply::Code(KernReturn::InvalidName.number());
-        };
-        match self.receive_right(task, name) {
-            Some(port) => Reply::Status(self.port(port).status()),
-            None => Reply::Code(KernReturn::InvalidRight.number()),
-        }
-    }
-
-    /// `Send` (IPC Interface, `mach_msg` with `MACH_SEND_MSG`).
-    fn send(&mut self, task: TaskId, bytes: &Bytes) -> Reply
-        ensures { Answers self.old (Event.Send task bytes.now) result self.new }
-    {
-        if !self.has_task(task) {
-            return Reply::Code(KernReturn::InvalidTask.number());
-        }
-        let bytes = bytes.as_slice();
-        let parsed = match parse(bytes) {
-            Ok(parsed) => parsed,
-            Err(code) => return Reply::Code(code.number()),
-        };
-        match self.deliver(task, &parsed, bytes) {
-            Ok(()) => Reply::Code(MsgReturn::Success.number()),
-            Err(code) => Reply::Code(code.number()),
-        }
-    }
-
-    /// Queues a message whose text was read.
-    fn deliver(&mut self, task: TaskId, parsed: &Parsed, bytes: &[u8]) -> Result<(), MsgReturn>
-        requires { Parses bytes.now parsed.now }
-        ensures ok { IfOk result (λ _. Delivers self.old task parsed.now bytes.now self.new) }
-        ensures err { IfErr result (λ code. (self.new ≡ self.old) × CannotDeliver self.old task parsed.now (msg_number code)) }
-    {
-        if parsed.remote_kind != Disposition::MakeSend.number() || parsed.local_kind != 0 {
-            return Err(MsgReturn::SendInvalidHeader);
-        }
-        let index = match self.receive_right(task, parsed.remote) {
-            Some(index) => index,
-            None => return Err(MsgReturn::SendInvalidDest),
-        };
-        if self.ports[index].is_at_limit() {
-            return Err(MsgReturn::SendTimedOut);
-        }
-        if self.has_all_rights() {
-            return Err(MsgReturn::SendNoBuffer);
-        }
-        let Ok(message) = Message::copy(self.alloc, parsed.id, bytes) else {
-            return Err(MsgReturn::SendNoBuffer);
-        };
-        if self.ports[index].enqueue(message).is_err() {
-            return Err(MsgReturn::SendNoBuffer);
-        }
-        self.total += 1;
-        Ok(())
-    }
-
-    /// `Receive` (IPC Interface, `mach_msg` with `MACH_RCV_MSG`). A message that is longer than the
-    /// room stays, whether that was asked for or not.
-    fn receive(&mut self, task: TaskId, name: Name, room: u32, large: bool) -> Reply
-        ensures { Answers self.old (Event.Receive task name room large) result self.new }
-    {
-        if !self.has_task(task) {
-            return Reply::Code(KernReturn::InvalidTask.number());
-        }
-        match self.set(task, name) {
-            Some(set) => Reply::Empty(Waited::Set(set)),
-            None => match self.receive_right(task, name) {
-                Some(port) => self.take(port, name, room),
-                None => Reply::Code(MsgReturn::ReceiveInvalidName.number()),
-            },
-        }
-    }
-
-    /// What a receive from the port answers.
-    fn take(&mut self, port: usize, name: Name, room: u32) -> Reply
-        requires { port < length self.old.ports }
-        ensures { Takes self.old port name room result self.new }
-    {
-        let room = room.min(MOST_BYTES as u32);
-        match self.port(port).front_len() {
-            None => Reply::Empty(Waited::Port(PortId::new(port as u64))),
-            Some(length) if length > room => Reply::TooLarge(length),
-            Some(_) => match self.dequeue(port, name) {
-                Some(bytes) => Reply::Message(bytes),
-                None => unreachable!(),
-            },
-        }
-    }
-
-    /// Takes the port's front message; its destination right is consumed.
-    fn dequeue(&mut self, port: usize, name: Name) -> Option<Bytes>
-        requires { port < length self.old.ports }
-        ensures { MatchOption result (FindsNone self.old port) (λ bytes. TakesFront self.old port name bytes self.new) }
-    {
-        let bytes = self.ports[port].dequeue(name)?;
-        self.total = self.total.saturating_sub(1);
-        Some(bytes)
     }
 }

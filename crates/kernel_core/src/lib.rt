@@ -1,12 +1,16 @@
 //! The kernel: tasks, their names, ports and queued messages; each call of a task is one step.
 //!
-//! `specs/View` says what contracts see of a kernel, `specs/Shows` when its tables show a state of the
-//! machine of `mach_model`, and `specs/Answers` what a step promises.
+//! `specs/Answers` says what a step promises: each is a step of the machine of `mach_model`, whose
+//! state the tables show (`copyin`'s `specs/Shows`).
 #![tactic(auto)]
 
+mod handing;
 mod kernel;
-mod port;
+mod making;
+mod receiving;
 mod runs;
+mod sending;
+mod telling;
 #[cfg(test)]
 mod tests;
 

@@ -2,8 +2,7 @@
 ghost use Rattle.std.specs.Prelude.{IfOk};
 ghost use Rattle.mach_model.specs.State.{State};
 ghost use Rattle.mach_model.specs.Machine.{Run};
-ghost use Rattle.kernel_core.specs.View.{tables};
-ghost use Rattle.kernel_core.specs.Shows.{Shows};
+ghost use Rattle.copyin.specs.Shows.{Shows};
 
 use crate::kernel::Kernel;
 use mach_types::{Event, Reply};
@@ -15,7 +14,7 @@ use std::alloc::{AllocError, Global};
 /// An error means that memory for the list of answers was refused. Where a step is refused memory,
 /// that is its answer, and the run goes on.
 pub fn run(alloc: Global, events: Vec<Event>) -> Result<(Kernel, Vec<Reply>), AllocError>
-    ensures { IfOk result (λ done. (s : State) × Run events.items done.1.items s × Shows (tables done.0) s) }
+    ensures { IfOk result (λ done. (s : State) × Run events.items done.1.items s × Shows done.0 s) }
 {
     let mut kernel = Kernel::new(alloc);
     let mut replies = Vec::new(alloc);

@@ -104,3 +104,66 @@ fn refusals(rt: HostRuntime) -> Result<(), Fail> {
     assert!(rt; matches!(&told, Reply::Status(status) if *status == counted(0, 1, 1)));
     Ok(())
 }
+
+fn refs(name: u32, right: u32) -> Event {
+    Event::GetRefs(TaskId::new(0), Name::new(name), right)
+}
+
+fn type_of(name: u32) -> Event {
+    Event::NameType(TaskId::new(0), Name::new(name))
+}
+
+fn are_refs(reply: &Reply, number: u32) -> bool {
+    matches!(reply, Reply::Refs(references) if *references == number)
+}
+
+fn is_type(reply: &Reply, bits: u32) -> bool {
+    matches!(reply, Reply::NameType(found) if *found == bits)
+}
+
+#[test]
+fn a_name_is_told(rt: HostRuntime) -> Result<(), Fail> {
+    let mut kernel = Kernel::new(rt.alloc());
+    assert!(rt; is_code(&kernel.step(&refs(1, 1)), 16));
+    assert!(rt; is_code(&kernel.step(&type_of(1)), 16));
+    let _ = kernel.step(&Event::TaskCreate);
+    let _ = kernel.step(&Event::Allocate(TaskId::new(0), 1));
+    assert!(rt; are_refs(&kernel.step(&refs(1, 1)), 1));
+    assert!(rt; are_refs(&kernel.step(&refs(1, 0)), 0));
+    assert!(rt; are_refs(&kernel.step(&refs(1, 4)), 0));
+    assert!(rt; is_type(&kernel.step(&type_of(1)), 0x0002_0000));
+    assert!(rt; is_code(&kernel.step(&refs(1, 5)), 18));
+    assert!(rt; is_code(&kernel.step(&refs(2, 1)), 15));
+    assert!(rt; is_code(&kernel.step(&type_of(2)), 15));
+    Ok(())
+}
+
+/// A message to the port under name 1, with a send-once right for it to answer with.
+const REQUEST: [u8; 24] = [
+    0x14, 0x15, 0, 0, 24, 0, 0, 0, 1, 0, 0, 0, 1, 0, 0, 0, 0, 0, 0, 0, 7, 0, 0, 0,
+];
+
+#[test]
+fn a_right_to_answer_with(rt: HostRuntime) -> Result<(), Fail> {
+    let mut kernel = Kernel::new(rt.alloc());
+    let _ = kernel.step(&Event::TaskCreate);
+    let _ = kernel.step(&Event::Allocate(TaskId::new(0), 1));
+    assert!(rt; is_code(&kernel.step(&send(rt.alloc(), &REQUEST)?), 0));
+    let received = kernel.step(&receive(1, 24));
+    let Reply::Message(bytes) = &received else {
+        return Err(Fail::from("no message"));
+    };
+    let expected = [
+        0x12, 0x11, 0, 0, 24, 0, 0, 0, 2, 0, 0, 0, 1, 0, 0, 0, 0, 0, 0, 0, 7, 0, 0, 0,
+    ];
+    assert_eq!(rt; bytes.as_slice(), expected.as_slice());
+    assert!(rt; is_type(&kernel.step(&type_of(2)), 0x0004_0000));
+    assert!(rt; are_refs(&kernel.step(&refs(2, 2)), 1));
+    let told = kernel.step(&status(1));
+    let expected = Status {
+        send_once: 1,
+        ..counted(1, 1, 0)
+    };
+    assert!(rt; matches!(&told, Reply::Status(status) if *status == expected));
+    Ok(())
+}

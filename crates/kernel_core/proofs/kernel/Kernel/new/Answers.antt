@@ -1,5 +1,8 @@
-use Rattle.kernel_core.proofs.Stepping.{opening_shows}
+use Rattle.kernel_core.proofs.Stepping.{opening_shows, opening_sound}
 use Rattle.kernel_core.proofs.kernel.Kernel.new.Goals as goal
 
 pub returns : goal.returns
-returns c = rw (c.new.ensures.items, c.new-2.ensures.items) opening_shows
+returns c = rw c.new.ensures opening_shows
+
+pub invariant_of-result : goal.invariant_of-result
+invariant_of-result c = rw c.new.ensures opening_sound

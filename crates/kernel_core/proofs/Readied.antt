@@ -1,0 +1,134 @@
+-- A right that is judged can be copied in, and then put or given.
+use Rattle.std.proofs.Common.{◌≡◌, ◌≢◌, ℕ, zero, suc, ◌+◌, ◌<◌, ◌≤◌, List, [], ◌∷◌, Option, Some, None, refl, sym, ap, subst, ◌∙◌, arith, true, false, Bool, ◌⊎◌, inl, inr, length}
+use Rattle.std.specs.Prelude.{if◌then◌else◌, ◌==◌, is_some, slice_get}
+use Rattle.std.specs.Option.{option_and_then}
+use Rattle.std.specs.FinMap as map
+use Rattle.std.proofs.lemmas.Bool.Decides.{eqb_tells}
+use Rattle.mach_types.specs.Numbers.{kind_sent, most_names, most_rights}
+use Rattle.mach_types.specs.Tokens.{Kind, receive, send, send_once, in_message, count, is_of}
+use Rattle.mach_types.specs.Guards.{NoneHolds}
+use Rattle.mach_model.specs.State.{State}
+use Rattle.mach_model.specs.Carried.{lying}
+use Rattle.mach_model.proofs.Weigh.{lying_le_of}
+use Rattle.name_space.specs.declared.Entry.{Entry}
+use Rattle.name_space.specs.Entry.{port_named}
+use Rattle.name_space.specs.Names.{SpaceView, IsUsable}
+use Rattle.name_space.specs.Names.{port_at as port_named_at}
+use Rattle.rights.specs.Ledger.{IsEntered, counts_of}
+use Rattle.copyin.specs.declared.message.Carried.{Carried}
+use Rattle.copyin.specs.declared.message.Mark.{Mark}
+use Rattle.copyin.specs.declared.message.Mark.TheVariants as mark
+use Rattle.copyin.specs.Worlds.{WorldView, entry_in, entry_at, port_at}
+use Rattle.copyin.proofs.Gets.{seen, same_found}
+use Rattle.copyout.specs.Giving.{HasNoName, NeedsOwn, AllLack}
+use Rattle.copyout.specs.Ready.{AllEntered, send_for, sends_for, CanGive}
+use Rattle.copyout.specs.Putting.{MayName, CanPut}
+use Rattle.kernel_core.specs.declared.handing.Going.{Going}
+use Rattle.kernel_core.specs.Handing.{left_at, names_left, rights_then, port_under, insert_later, extract_later}
+use Rattle.kernel_core.proofs.Seen.{Left}
+use Rattle.kernel_core.proofs.Judged.{lies, not_not}
+
+pub few_then : (w : WorldView) (g : Going) → ¬ (most_rights < rights_then w g) → rights_then w g ≤ most_rights
+few_then w g not = omega (arith, not)
+
+module _ (w : WorldView) (s : State) (task from poly number : ℕ) (g : Going) (mid : WorldView) (l : Left w s task from poly number g mid) where
+  abbrev kind : Kind
+  kind = kind_sent g.given
+
+  abbrev at : ℕ → Option Entry
+  at n = left_at w task from poly g.left n
+
+  lives : l.t.live_port g.port ≡ true
+  lives = go (l.t.live_port g.port) refl
+    where
+      go : (b : Bool) → l.t.live_port g.port ≡ b → l.t.live_port g.port ≡ true
+      go true e = e
+      go false e = absurd (let n = l.copies.keeps.no_rights g.port e kind in let le = lying_le_of l.t kind g.port (in_message 0 (length (s.log 0))) in
+          let h = lies w s task from poly number g mid l in omega (arith, n, le, h))
+
+  is_there : is_some (port_at mid g.port) ≡ true
+  is_there = l.agrees.live_port g.port ∙ lives
+
+  entered : AllEntered mid
+  entered p live = (l.agrees.counts p).entered ∙ sym (l.agrees.live_port p) ∙ live
+
+  counted : (c : Kind) → c ≡ kind → c ≡ send → 1 ≤ (counts_of mid.ledger g.port).send
+  counted c is e =
+      let h : 0 < lying l.t send g.port (in_message 0 (length (s.log 0))) = subst (λ (x : Kind). 0 < lying l.t x g.port (in_message 0 (length (s.log 0)))) (sym is ∙ e) (lies w s task from poly number g mid l) in
+      let le = lying_le_of l.t send g.port (in_message 0 (length (s.log 0))) in
+      let a = (l.agrees.counts g.port).senders in omega (arith, h, le, a)
+
+  stands : (n : ℕ) → map.get l.space.names n ≡ at n
+  stands n = sym (ap (λ (o : Option SpaceView). entry_in o n) l.there) ∙ l.left n
+
+  port_is : (n : ℕ) → port_named_at l.space.names n ≡ port_under (at n)
+  port_is n = ap (λ (o : Option Entry). option_and_then port_named o) (stands n)
+
+  some_not : (e : Entry) → Some e ≢ None
+  some_not e f = cc
+
+  pub can_put : (name : ℕ) → IsUsable name → NoneHolds (insert_later w task name from poly g) → CanPut mid task kind g.port name
+  can_put name usable none = record {
+    space = l.space;
+    there = l.there;
+    room = l.room;
+    usable = usable;
+    may = elim (seen (at name)) [
+      | inl h ↦
+          let used : at name ≢ None = λ e. some_not h.0 (sym h.1 ∙ e) in
+          inl ((λ o. none.1.0 (used, inl o)), port_is name ∙ not_not (port_under (at name)) g.port (λ not. none.1.0 (used, inr not)))
+      | inr h ↦ inr (
+        stands name ∙ h,
+        below (map.len l.space.names) (λ many. none.1.1.1.0 (inl ((let e = l.names in omega (arith, many, e)), h))),
+        λ not n is. elim (eqb_tells n name) [
+          | inl e ↦ is_none (port_named_at l.space.names n) (ap (λ (x : ℕ). port_named_at l.space.names x) e.1 ∙ port_is name ∙ ap port_under h) is
+          | inr e ↦ none.0 (not, (n, e.1, sym (port_is n) ∙ is))
+        ],
+      )
+    ];
+    live = is_there;
+    entered = entered g.port is_there;
+    counted = counted kind refl;
+  }
+    where
+      below : (n : ℕ) → ¬ (most_names ≤ n) → n < most_names
+      below n not = omega (arith, not)
+
+      is_none : (o : Option ℕ) → o ≡ None → o ≡ Some g.port → ⊥
+      is_none o e f = let x : None ≡ Some g.port = sym e ∙ f in cc
+
+  abbrev carried : Carried
+  carried = record { given = g.given; mark = mark.Port g.port }
+
+  one_send : (c : Kind) → c ≡ kind → (p : ℕ) → send_for c (mark.Port g.port) p + 0 ≤ (counts_of mid.ledger p).send
+  one_send receive is p = omega arith
+  one_send send_once is p = omega arith
+  one_send send is p = elim (eqb_tells g.port p) [
+    | inl h ↦ rw h.0 (subst (λ (x : ℕ). 1 ≤ (counts_of mid.ledger x).send) h.1 (counted send is refl))
+    | inr h ↦ rw h.0 (omega arith)
+  ]
+
+  pub can_give : NoneHolds (extract_later w task from poly g) → CanGive mid task (carried ∷ [])
+  can_give none = record {
+    space = l.space;
+    there = l.there;
+    room = let r = l.room in omega (arith, r);
+    enough = λ lacks. elim lacks [
+      | inl h ↦ none.0 (inl (many h.1, needs h.2))
+      | inr h ↦ h.3
+    ];
+    entered = entered;
+    counted = λ p live. one_send kind refl p;
+  }
+    where
+      many : HasNoName mid task → most_names ≤ names_left w task from g.left
+      many h =
+          let same : h.0 ≡ l.space = same_found (slice_get mid.spaces task) h.0 l.space h.1 l.there in
+          let full : most_names ≤ map.len l.space.names = subst (λ (x : SpaceView). most_names ≤ map.len x.names) same h.2 in
+          let e = l.names in omega (arith, full, e)
+
+      needs : NeedsOwn mid task kind g.port → (kind ≡ send_once) ⊎ ((n : ℕ) → port_under (at n) ≢ Some g.port)
+      needs (inl h) = inl h
+      needs (inr h) =
+          let same : h.0 ≡ l.space = same_found (slice_get mid.spaces task) h.0 l.space h.1 l.there in
+          inr (λ n e. h.2 n (ap (λ (x : SpaceView). port_named_at x.names n) same ∙ port_is n ∙ e))
