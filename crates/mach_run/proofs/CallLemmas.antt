@@ -1,37 +1,45 @@
 -- A call's word and its arguments.
-use Rattle.std.proofs.Common.{◌≡◌, ℕ, List, [], ◌∷◌, ◌++◌, Bool, true, false, not, ◌&&◌, nat_eq, refl, sym, ◌∙◌, arith, codes, append-nil, inl, inr}
-use Rattle.std.proofs.lemmas.Bool.Decides.{eqb_tells}
+use Rattle.std.proofs.Common.{◌≡◌, ℕ, ◌<◌, ◌^◌, List, [], ◌∷◌, ◌++◌, Bool, true, false, ◌&&◌, nat_lt, refl, sym, ◌∙◌, arith, codes, decimal, append-nil, append_assoc}
+use Rattle.std.proofs.lemmas.Bool.{ltb-true}
 use Rattle.mach_types.specs.declared.calls.Event.{Event}
-use Rattle.mach_types.specs.declared.calls.Event.TheVariants.{TaskCreate, Allocate, ReceiveStatus, Send, Receive}
-use Rattle.mach_run.specs.Fields.{IsWord, IsBehind}
-use Rattle.mach_run.specs.Text.{call_word, call_arguments, call_text}
-use Rattle.mach_run.proofs.FieldLemmas.{IsWord-cons, IsWord-nil, same_word}
+use Rattle.mach_types.specs.declared.calls.Event.TheVariants.{TaskCreate, Allocate, GetRefs, NameType, ReceiveStatus, InsertRight, ExtractRight, Send, Receive}
+use Rattle.mach_run.specs.Fields.{Lacks, IsWord, IsBehind}
+use Rattle.mach_run.specs.Text.{Fits, field, bytes_text, flag_text, call_word, call_arguments, call_text, line_text}
+use Rattle.mach_run.proofs.FieldLemmas.{Lacks-nil, Lacks-cons, Lacks-append, Lacks-bytes_text, Lacks-flag_text, same_parts}
+use Rattle.mach_run.proofs.NumberLemmas.{Lacks-decimal}
 
-abbrev has_no_space : List ℕ → Bool
-has_no_space [] = true
-has_no_space (a ∷ text) = not (nat_eq a 32) && has_no_space text
+-- each byte is above a space
+abbrev is_above : List ℕ → Bool
+is_above [] = true
+is_above (a ∷ text) = nat_lt 32 a && is_above text
 
-first_passes : (a b : Bool) → (not a && b) ≡ true → a ≡ false
-first_passes true b h = cc
-first_passes false b h = refl
+first_passes : (a b : Bool) → (a && b) ≡ true → a ≡ true
+first_passes true b h = refl
+first_passes false b h = absurd cc
 
-others_pass : (a b : Bool) → (not a && b) ≡ true → b ≡ true
-others_pass true b h = absurd cc
-others_pass false b h = h
+others_pass : (a b : Bool) → (a && b) ≡ true → b ≡ true
+others_pass true b h = h
+others_pass false b h = absurd cc
 
-IsWord-test : (text : List ℕ) → has_no_space text ≡ true → IsWord text
-IsWord-test [] passes = IsWord-nil
-IsWord-test (a ∷ text) passes =
-    let differs = first_passes (nat_eq a 32) (has_no_space text) passes in
-    IsWord-cons a text (λ same. elim (eqb_tells a 32) [ inl h ↦ let equal = h.0 in absurd cc | inr h ↦ h.1 same ])
-    (IsWord-test text (others_pass (nat_eq a 32) (has_no_space text) passes))
+Lacks-above : (byte : ℕ) (text : List ℕ) → byte < 33 → is_above text ≡ true → Lacks byte text
+Lacks-above byte [] low passes = Lacks-nil byte
+Lacks-above byte (a ∷ text) low passes =
+    let above : 32 < a = ltb-true 32 a (first_passes (nat_lt 32 a) (is_above text) passes) in
+    Lacks-cons byte a text (λ same. omega (arith, same)) (Lacks-above byte text low (others_pass (nat_lt 32 a) (is_above text) passes))
 
-IsWord-call_word : (event : Event) → IsWord (call_word event)
-IsWord-call_word TaskCreate = IsWord-test (codes "task") refl
-IsWord-call_word (Allocate task right) = IsWord-test (codes "alloc") refl
-IsWord-call_word (ReceiveStatus task name) = IsWord-test (codes "status") refl
-IsWord-call_word (Send task bytes) = IsWord-test (codes "send") refl
-IsWord-call_word (Receive task name room large) = IsWord-test (codes "recv") refl
+is_above-call_word : (event : Event) → is_above (call_word event) ≡ true
+is_above-call_word TaskCreate = refl
+is_above-call_word (Allocate task right) = refl
+is_above-call_word (GetRefs task name right) = refl
+is_above-call_word (NameType task name) = refl
+is_above-call_word (ReceiveStatus task name) = refl
+is_above-call_word (InsertRight task name from poly disposition) = refl
+is_above-call_word (ExtractRight task name disposition to) = refl
+is_above-call_word (Send task bytes) = refl
+is_above-call_word (Receive task name room large) = refl
+
+Lacks-call_word : (byte : ℕ) (event : Event) → byte < 33 → Lacks byte (call_word event)
+Lacks-call_word byte event low = Lacks-above byte (call_word event) low (is_above-call_word event)
 
 pub IsBehind-nil : IsBehind []
 IsBehind-nil = λ low. absurd (omega arith)
@@ -39,12 +47,78 @@ IsBehind-nil = λ low. absurd (omega arith)
 IsBehind-call_arguments : (event : Event) → IsBehind (call_arguments event)
 IsBehind-call_arguments TaskCreate = IsBehind-nil
 IsBehind-call_arguments (Allocate task right) = λ low. refl
+IsBehind-call_arguments (GetRefs task name right) = λ low. refl
+IsBehind-call_arguments (NameType task name) = λ low. refl
 IsBehind-call_arguments (ReceiveStatus task name) = λ low. refl
+IsBehind-call_arguments (InsertRight task name from poly disposition) = λ low. refl
+IsBehind-call_arguments (ExtractRight task name disposition to) = λ low. refl
 IsBehind-call_arguments (Send task bytes) = λ low. refl
 IsBehind-call_arguments (Receive task name room large) = λ low. refl
 
 -- the first word of a call's text is its word, and its arguments stand behind it
 pub call_parts : (event : Event) (text word behind : List ℕ) → call_text event ≡ text → word ++ behind ≡ text → IsWord word → IsBehind behind → (call_word event ≡ word) × (call_arguments event ++ [] ≡ behind)
 call_parts event text word behind same whole is_word is_behind =
-    let parts = same_word (call_word event) word (call_arguments event) behind (IsWord-call_word event) is_word (IsBehind-call_arguments event) is_behind (same ∙ sym whole) in
+    let parts = same_parts 32 (call_word event) word (call_arguments event) behind (Lacks-call_word 32 event (omega arith)) is_word (IsBehind-call_arguments event) is_behind (same ∙ sym whole) in
     (parts.0, append-nil (call_arguments event) ∙ parts.1)
+
+-- a text that is no call's word
+pub no_call : (word : List ℕ) → (codes "task" ≡ word → ⊥) → (codes "alloc" ≡ word → ⊥) → (codes "refs" ≡ word → ⊥) → (codes "type" ≡ word → ⊥) → (codes "status" ≡ word → ⊥)
+    → (codes "insert" ≡ word → ⊥) → (codes "extract" ≡ word → ⊥) → (codes "send" ≡ word → ⊥) → (codes "recv" ≡ word → ⊥) → (event : Event) → call_word event ≡ word → ⊥
+no_call word task alloc refs type_of status insert extract send recv TaskCreate same = task same
+no_call word task alloc refs type_of status insert extract send recv (Allocate _ _) same = alloc same
+no_call word task alloc refs type_of status insert extract send recv (GetRefs _ _ _) same = refs same
+no_call word task alloc refs type_of status insert extract send recv (NameType _ _) same = type_of same
+no_call word task alloc refs type_of status insert extract send recv (ReceiveStatus _ _) same = status same
+no_call word task alloc refs type_of status insert extract send recv (InsertRight _ _ _ _ _) same = insert same
+no_call word task alloc refs type_of status insert extract send recv (ExtractRight _ _ _ _) same = extract same
+no_call word task alloc refs type_of status insert extract send recv (Send _ _) same = send same
+no_call word task alloc refs type_of status insert extract send recv (Receive _ _ _ _) same = recv same
+
+-- no line feed is in a call's text
+Lacks-field : (text : List ℕ) → Lacks 10 text → Lacks 10 (field text)
+Lacks-field text none = Lacks-cons 10 32 text (λ same. omega (arith, same)) none
+
+number : (n : ℕ) → n < 2 ^ 32 → Lacks 10 (field (decimal n))
+number n small = Lacks-field (decimal n) (Lacks-decimal 10 n (omega arith) (omega arith))
+
+-- one field more
+more : (text next : List ℕ) → Lacks 10 text → Lacks 10 next → Lacks 10 (text ++ next)
+more text next none none_too = Lacks-append 10 text next none none_too
+
+two_numbers : (a b : ℕ) → a < 2 ^ 32 → b < 2 ^ 32 → Lacks 10 (field (decimal a) ++ field (decimal b))
+two_numbers a b small small_too = more (field (decimal a)) (field (decimal b)) (number a small) (number b small_too)
+
+three_numbers : (a b c : ℕ) → a < 2 ^ 32 → b < 2 ^ 32 → c < 2 ^ 32 → Lacks 10 (field (decimal a) ++ field (decimal b) ++ field (decimal c))
+three_numbers a b c small small_too third =
+    more (field (decimal a) ++ field (decimal b)) (field (decimal c)) (two_numbers a b small small_too) (number c third)
+
+four_numbers : (a b c d : ℕ) → a < 2 ^ 32 → b < 2 ^ 32 → c < 2 ^ 32 → d < 2 ^ 32 → Lacks 10 (field (decimal a) ++ field (decimal b) ++ field (decimal c) ++ field (decimal d))
+four_numbers a b c d small small_too third fourth =
+    more (field (decimal a) ++ field (decimal b) ++ field (decimal c)) (field (decimal d)) (three_numbers a b c small small_too third) (number d fourth)
+
+Lacks-call_arguments : (event : Event) → Fits event → Lacks 10 (call_arguments event)
+Lacks-call_arguments TaskCreate fits = Lacks-nil 10
+Lacks-call_arguments (Allocate task right) fits = two_numbers task right fits.0 fits.1
+Lacks-call_arguments (GetRefs task name right) fits = three_numbers task name right fits.0 fits.1 fits.2
+Lacks-call_arguments (NameType task name) fits = two_numbers task name fits.0 fits.1
+Lacks-call_arguments (ReceiveStatus task name) fits = two_numbers task name fits.0 fits.1
+Lacks-call_arguments (InsertRight task name from poly disposition) fits =
+    more (field (decimal task) ++ field (decimal name) ++ field (decimal from) ++ field (decimal poly)) (field (decimal disposition))
+    (four_numbers task name from poly fits.0 fits.1 fits.2 fits.3) (number disposition fits.4)
+Lacks-call_arguments (ExtractRight task name disposition to) fits = four_numbers task name disposition to fits.0 fits.1 fits.2 fits.3
+Lacks-call_arguments (Send task bytes) fits =
+    more (field (decimal task)) (field (bytes_text bytes)) (number task fits.0) (Lacks-field (bytes_text bytes) (Lacks-bytes_text 10 bytes (omega arith) fits.1))
+Lacks-call_arguments (Receive task name room large) fits =
+    more (field (decimal task) ++ field (decimal name) ++ field (decimal room)) (field (flag_text large))
+    (three_numbers task name room fits.0 fits.1 fits.2) (Lacks-field (flag_text large) (Lacks-flag_text 10 large (omega arith)))
+
+Lacks-call_text : (event : Event) → Fits event → Lacks 10 (call_text event)
+Lacks-call_text event fits =
+    Lacks-append 10 (call_word event) (call_arguments event) (Lacks-call_word 10 event (omega arith)) (Lacks-call_arguments event fits)
+
+-- where a call's line begins a text, the text's first line is the call's text
+pub first_line : (event : Event) (rest text line others : List ℕ) → Fits event → line_text event ++ rest ≡ text → Lacks 10 line → line ++ 10 ∷ others ≡ text → call_text event ≡ line
+first_line event rest text line others fits same lacks whole =
+    let parts = same_parts 10 (call_text event) line (10 ∷ rest) (10 ∷ others) (Lacks-call_text event fits) lacks (λ low. refl) (λ low. refl)
+    (sym (append_assoc (call_text event) (10 ∷ []) rest) ∙ same ∙ sym whole) in
+    parts.0

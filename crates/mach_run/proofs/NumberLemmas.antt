@@ -8,7 +8,7 @@ use Rattle.std.proofs.Math.Nat.{eq-zero-or-pos}
 use Rattle.std.proofs.lemmas.Str.{IsUtf8-from_ascii}
 use Rattle.std.proofs.lemmas.Fmt.{IsAscii-decimal, decimal_digit, decimal_nonempty, first_decimal, digits_decimal, decimal-digits_value}
 use Rattle.std.proofs.lemmas.Str.Parse.{IsNumeralModel, numerals_by_value, tells_by_index, parse_plain}
-use Rattle.mach_run.specs.Fields.{IsWord}
+use Rattle.mach_run.specs.Fields.{Lacks}
 use Rattle.mach_run.specs.Numbers.{HasPlainStart}
 
 abbrev Digits : List ℕ → Type 0
@@ -42,9 +42,9 @@ decimal-parsed text (Err e) plain parsed = search rules
 pub IsUtf8-decimal : (n : ℕ) → n < 2 ^ 64 → IsUtf8 (decimal n)
 IsUtf8-decimal n small = IsUtf8-from_ascii (decimal n) (IsAscii-decimal n small)
 
--- no space is in a number's text
-pub IsWord-decimal : (n : ℕ) → n < 2 ^ 64 → IsWord (decimal n)
-IsWord-decimal n small = λ k low space.
+-- no byte below the digits, as a space or a line feed, is in a number's text
+pub Lacks-decimal : (none n : ℕ) → none < 45 → n < 2 ^ 64 → Lacks none (decimal n)
+Lacks-decimal none n below small = λ k low there.
     let digit = digits_decimal own n small k low in
     let least : 48 ≤ slice_index (decimal n) k = digit.0 in
-    omega (arith, space)
+    omega (arith, there)

@@ -1,3 +1,4 @@
 pub mod Fields
 pub mod Numbers
+pub mod Replies
 pub mod Text

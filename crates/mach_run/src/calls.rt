@@ -50,7 +50,11 @@ fn read_arguments(alloc: Global, word: &[u8], fields: &mut Fields<'_>) -> Result
     match word {
         b"task" => Ok(Event::TaskCreate),
         b"alloc" => read_alloc(fields),
+        b"refs" => read_refs(fields),
+        b"type" => read_type(fields),
         b"status" => read_status(fields),
+        b"insert" => read_insert(fields),
+        b"extract" => read_extract(fields),
         b"send" => read_send(alloc, fields),
         b"recv" => read_recv(fields),
         _ => Err(CallFault::Bad),
@@ -67,6 +71,28 @@ fn read_alloc(fields: &mut Fields<'_>) -> Result<Event, CallFault>
     Ok(Event::Allocate(fields.task()?, fields.number()?))
 }
 
+/// The arguments of `refs`: a task, a name and the number of a right.
+fn read_refs(fields: &mut Fields<'_>) -> Result<Event, CallFault>
+    ensures word { IfOk result (λ event. call_word event ≡ codes "refs") }
+    ensures arguments { IfOk result (λ event. call_arguments event ++ fields.new ≡ fields.old) }
+    ensures read { (task name right : ℕ) (behind : List ℕ) → task < 2 ^ 32 → name < 2 ^ 32 → right < 2 ^ 32 → IsBehind behind
+        → field (decimal task) ++ field (decimal name) ++ field (decimal right) ++ behind ≡ fields.old → IsRead result fields.new behind }
+{
+    let (task, name) = fields.task_and_name()?;
+    Ok(Event::GetRefs(task, name, fields.number()?))
+}
+
+/// The arguments of `type`: a task and a name.
+fn read_type(fields: &mut Fields<'_>) -> Result<Event, CallFault>
+    ensures word { IfOk result (λ event. call_word event ≡ codes "type") }
+    ensures arguments { IfOk result (λ event. call_arguments event ++ fields.new ≡ fields.old) }
+    ensures read { (task name : ℕ) (behind : List ℕ) → task < 2 ^ 32 → name < 2 ^ 32 → IsBehind behind
+        → field (decimal task) ++ field (decimal name) ++ behind ≡ fields.old → IsRead result fields.new behind }
+{
+    let (task, name) = fields.task_and_name()?;
+    Ok(Event::NameType(task, name))
+}
+
 /// The arguments of `status`: a task and a name.
 fn read_status(fields: &mut Fields<'_>) -> Result<Event, CallFault>
     ensures word { IfOk result (λ event. call_word event ≡ codes "status") }
@@ -74,7 +100,37 @@ fn read_status(fields: &mut Fields<'_>) -> Result<Event, CallFault>
     ensures read { (task name : ℕ) (behind : List ℕ) → task < 2 ^ 32 → name < 2 ^ 32 → IsBehind behind
         → field (decimal task) ++ field (decimal name) ++ behind ≡ fields.old → IsRead result fields.new behind }
 {
-    Ok(Event::ReceiveStatus(fields.task()?, fields.name()?))
+    let (task, name) = fields.task_and_name()?;
+    Ok(Event::ReceiveStatus(task, name))
+}
+
+/// The arguments of `insert`: a task, the name that it is to have for the right, the task that has
+/// the right, that task's name for it, and the number of a disposition.
+fn read_insert(fields: &mut Fields<'_>) -> Result<Event, CallFault>
+    ensures word { IfOk result (λ event. call_word event ≡ codes "insert") }
+    ensures arguments { IfOk result (λ event. call_arguments event ++ fields.new ≡ fields.old) }
+    ensures read { (task name from poly disposition : ℕ) (behind : List ℕ) → task < 2 ^ 32 → name < 2 ^ 32 → from < 2 ^ 32 → poly < 2 ^ 32
+        → disposition < 2 ^ 32 → IsBehind behind
+        → field (decimal task) ++ field (decimal name) ++ field (decimal from) ++ field (decimal poly) ++ field (decimal disposition) ++ behind ≡ fields.old
+        → IsRead result fields.new behind }
+{
+    let (task, name) = fields.task_and_name()?;
+    let (from, poly) = fields.task_and_name()?;
+    Ok(Event::InsertRight(task, name, from, poly, fields.number()?))
+}
+
+/// The arguments of `extract`: a task that has a right, its name for it, the number of a disposition,
+/// and the task that is to have the right.
+fn read_extract(fields: &mut Fields<'_>) -> Result<Event, CallFault>
+    ensures word { IfOk result (λ event. call_word event ≡ codes "extract") }
+    ensures arguments { IfOk result (λ event. call_arguments event ++ fields.new ≡ fields.old) }
+    ensures read { (task name disposition to : ℕ) (behind : List ℕ) → task < 2 ^ 32 → name < 2 ^ 32 → disposition < 2 ^ 32 → to < 2 ^ 32
+        → IsBehind behind
+        → field (decimal task) ++ field (decimal name) ++ field (decimal disposition) ++ field (decimal to) ++ behind ≡ fields.old
+        → IsRead result fields.new behind }
+{
+    let (task, name) = fields.task_and_name()?;
+    Ok(Event::ExtractRight(task, name, fields.number()?, fields.task()?))
 }
 
 /// The arguments of `send`: a task and a message's bytes.
@@ -95,6 +151,6 @@ fn read_recv(fields: &mut Fields<'_>) -> Result<Event, CallFault>
     ensures read { (task name room : ℕ) (large : Bool) (behind : List ℕ) → task < 2 ^ 32 → name < 2 ^ 32 → room < 2 ^ 32 → IsBehind behind
         → field (decimal task) ++ field (decimal name) ++ field (decimal room) ++ field (flag_text large) ++ behind ≡ fields.old → IsRead result fields.new behind }
 {
-    let (task, name) = (fields.task()?, fields.name()?);
+    let (task, name) = fields.task_and_name()?;
     Ok(Event::Receive(task, name, fields.number()?, fields.flag()?))
 }

@@ -83,6 +83,15 @@ impl<'a> Fields<'a> {
         Ok(Name::new(self.number()?))
     }
 
+    /// The next two words as a task and a name of the task's.
+    pub fn task_and_name(&mut self) -> Result<(TaskId, Name), CallFault>
+        ensures ok { IfOk result (λ found. field (decimal found.0) ++ field (decimal found.1) ++ self.new ≡ self.old) }
+        ensures read { (task name : ℕ) (behind : List ℕ) → task < 2 ^ 32 → name < 2 ^ 32 → IsBehind behind
+            → field (decimal task) ++ field (decimal name) ++ behind ≡ self.old → IsRead result self.new behind }
+    {
+        Ok((self.task()?, self.name()?))
+    }
+
     /// The next word as a yes, `1`, or a no, `0`.
     pub fn flag(&mut self) -> Result<bool, CallFault>
         ensures ok { IfOk result (λ flag. field (flag_text flag) ++ self.new ≡ self.old) }

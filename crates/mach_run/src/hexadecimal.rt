@@ -1,5 +1,6 @@
 //! Bytes as hexadecimal digits.
-ghost use Rattle.std.specs.Prelude.{◌≡◌, ℕ, List, ◌<◌, ◌+◌, ◌*◌, ◌/◌, ◌%◌, IfSome, IfOk, Some, IsOkUnless, All, IsSome, [], ◌∷◌, ◌++◌};
+ghost use Rattle.std.specs.Prelude.{◌≡◌, ℕ, List, ◌<◌, ◌+◌, ◌*◌, ◌/◌, ◌%◌, IfSome, IfOk, Some, IsOkUnless, All, IsSome, [], ◌∷◌, ◌++◌, OnOk};
+ghost use Rattle.std.specs.Io.KnownBytes.{Appends};
 ghost use Rattle.mach_run.specs.Text.{hex_digit, hex_digits, bytes_text};
 
 use crate::calls::CallFault;
@@ -90,12 +91,28 @@ fn parse_pairs(alloc: Global, text: &[u8]) -> Result<Vec<u8>, CallFault>
 /// Writes the bytes, two digits a byte, `-` for none.
 ///
 /// An error is that of `out`; what was written before it stays.
-pub fn write_bytes<W: Write>(bytes: &[u8], out: &mut W) -> io::Result<()> {
-    if bytes.is_empty() {
-        return out.write_all(b"-");
+pub fn write_bytes<W: Write>(bytes: &[u8], out: &mut W) -> io::Result<()>
+    ensures { OnOk result (Appends (W.contents out.old) (W.contents out.new) (bytes_text bytes.now)) }
+{
+    match bytes {
+        [] => out.write_all(b"-"),
+        _ => write_pairs(bytes, out),
     }
+}
+
+/// Writes the bytes, two digits a byte. Errors are as for [`write_bytes`].
+pub fn write_pairs<W: Write>(bytes: &[u8], out: &mut W) -> io::Result<()>
+    ensures { OnOk result (Appends (W.contents out.old) (W.contents out.new) (hex_digits bytes.now)) }
+{
     for byte in bytes {
-        out.write_all(&[digit_of(*byte / 16), digit_of(*byte % 16)])?;
+        write_byte(*byte, out)?;
     }
     Ok(())
+}
+
+/// Writes the two digits of the byte.
+fn write_byte<W: Write>(byte: u8, out: &mut W) -> io::Result<()>
+    ensures { OnOk result (Appends (W.contents out.old) (W.contents out.new) (hex_digits (byte ∷ []))) }
+{
+    out.write_all(&[digit_of(byte / 16), digit_of(byte % 16)])
 }

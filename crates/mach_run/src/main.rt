@@ -14,6 +14,8 @@ mod replies;
 mod script;
 #[cfg(test)]
 mod tests;
+#[cfg(test)]
+mod worked;
 
 use clap::error::ErrorKind;
 use command_line::{Request, read_words};

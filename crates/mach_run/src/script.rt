@@ -1,8 +1,9 @@
 //! Scripts: calls, one a line.
-ghost use Rattle.std.specs.Prelude.{◌≡◌, ℕ, ◌+◌, List, length, ◌++◌, ◌∷◌, [], IfOk, IfSome, Err, flat_map};
+ghost use Rattle.std.specs.Prelude.{◌≡◌, ℕ, ◌+◌, List, length, ◌++◌, ◌∷◌, [], IfOk, IfSome, IfNone, Err, flat_map};
 ghost use Rattle.mach_types.specs.declared.calls.Event.{Event as AnyEvent};
 ghost use Rattle.mach_run.specs.declared.script.ScriptFault.TheVariants.{OutOfMemory};
-ghost use Rattle.mach_run.specs.Text.{line_text};
+ghost use Rattle.mach_run.specs.Text.{line_text, StartsNoCall};
+ghost use Rattle.mach_run.specs.Fields.{Lacks};
 
 use crate::calls::{CallFault, read_call};
 use mach_types::Event;
@@ -32,9 +33,9 @@ impl<T: Drop> From<AllocFailed<T>> for ScriptFault {
 pub fn read_script(alloc: Global, text: &[u8]) -> Result<Vec<Event>, ScriptFault>
     ensures ok { IfOk result (λ events. flat_map line_text events.items ≡ text.now) }
 
-    // The lines before the one that is named are calls.
+    // The lines before the one that is named are calls, and that one is none.
     ensures bad { (n : ℕ) → result ≡ Err (ScriptFault.BadCall n) → (events : List AnyEvent) × (rest : List ℕ)
-        × (length events + 1 ≡ n) × (flat_map line_text events ++ rest ≡ text.now) }
+        × (length events + 1 ≡ n) × (flat_map line_text events ++ rest ≡ text.now) × StartsNoCall rest }
 {
     let mut events = Vec::new(alloc);
     let mut rest = text;
@@ -50,7 +51,7 @@ pub fn read_script(alloc: Global, text: &[u8]) -> Result<Vec<Event>, ScriptFault
 /// The call of the first line, which has this number, and what stands behind its line feed.
 fn read_line(alloc: Global, text: &[u8], number: u64) -> Result<(Event, &[u8]), ScriptFault>
     ensures ok { IfOk result (λ read. line_text read.0 ++ read.1.now ≡ text.now) }
-    ensures bad { (n : ℕ) → result ≡ Err (ScriptFault.BadCall n) → n ≡ number }
+    ensures bad { (n : ℕ) → result ≡ Err (ScriptFault.BadCall n) → (n ≡ number) × StartsNoCall text.now }
 {
     let Some((line, rest)) = split_line(text) else {
         return Err(ScriptFault::BadCall(number));
@@ -64,7 +65,9 @@ fn read_line(alloc: Global, text: &[u8], number: u64) -> Result<(Event, &[u8]), 
 
 /// The first line, without its line feed, and what stands behind it; `None` where no line feed is.
 fn split_line(text: &[u8]) -> Option<(&[u8], &[u8])>
-    ensures { IfSome result (λ parts. parts.0.now ++ (10 ∷ parts.1.now) ≡ text.now) }
+    ensures some { IfSome result (λ parts. parts.0.now ++ (10 ∷ parts.1.now) ≡ text.now) }
+    ensures first { IfSome result (λ parts. Lacks 10 parts.0.now) }
+    ensures none { IfNone result (Lacks 10 text.now) }
 {
     let end = text.iter().position(|byte| *byte == b'\n')?;
     Some((&text[..end], &text[end + 1..]))

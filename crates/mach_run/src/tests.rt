@@ -1,8 +1,11 @@
+use crate::calls::read_call;
 use crate::command_line::read_words;
 use crate::perform::{Job, perform};
 use crate::replies::write_reply;
 use clap::error::ErrorKind;
-use mach_types::{Bytes, Name, NameList, NameTypes, PortId, Reply, SetId, Status, TaskId, Waited};
+use mach_types::{
+    Bytes, Event, Name, NameList, NameTypes, PortId, Reply, SetId, Status, TaskId, Waited,
+};
 use std::alloc::Global;
 use std::io;
 use std::io::{Read, Write};
@@ -32,14 +35,14 @@ impl<'a> Read for Source<'a> {
 
 /// A writer that keeps what it is given, up to so many bytes, and then refuses.
 #[derive(Drop)]
-struct Page {
-    bytes: Vec<u8>,
+pub(crate) struct Page {
+    pub(crate) bytes: Vec<u8>,
     room: usize,
     flushes: bool,
 }
 
 impl Page {
-    fn new(alloc: Global, room: usize) -> Page {
+    pub(crate) fn new(alloc: Global, room: usize) -> Page {
         Page {
             bytes: Vec::new(alloc),
             room,
@@ -67,7 +70,7 @@ impl Write for Page {
 }
 
 /// What `run` of the text answers and writes: the status, standard output and standard error.
-fn ran(alloc: Global, text: &[u8]) -> (u8, Vec<u8>, Vec<u8>) {
+pub(crate) fn ran(alloc: Global, text: &[u8]) -> (u8, Vec<u8>, Vec<u8>) {
     let mut source = Source { text, fault: None };
     let (mut out, mut err) = (Page::new(alloc, usize::MAX), Page::new(alloc, usize::MAX));
     let status = perform(alloc, Job::Run, "it", &mut source, &mut out, &mut err);
@@ -111,6 +114,64 @@ fn the_largest_numbers(rt: HostRuntime) {
         out.as_slice(),
         b"code 00000010\ncode 00000010\ncode 00000010\n".as_slice()
     );
+}
+
+#[test]
+fn a_request_and_its_reply(rt: HostRuntime) {
+    let script = "task\ntask\nalloc 0 1\ninsert 1 1 0 1 20\ntype 1 1\nrefs 1 1 0\nalloc 1 1\n\
+        send 1 131500001c0000000100000002000000000000006400000070696e67\n\
+        status 1 2\nrecv 0 1 28 0\ntype 0 2\n\
+        send 0 120000001c000000020000000000000000000000c8000000706f6e67\n\
+        type 0 2\nrecv 1 2 28 0\nstatus 1 2\n";
+    let want = "task 0\ntask 1\nname 1\ncode 00000000\ntype 00010000\nrefs 1\nname 2\n\
+        code 00000000\nstatus 0 0 0 5 0 1 0 0 0\n\
+        message 121100001c0000000200000001000000000000006400000070696e67\n\
+        type 00040000\ncode 00000000\ncode 0000000f\n\
+        message 001200001c000000000000000200000000000000c8000000706f6e67\n\
+        status 0 1 0 5 0 0 0 0 0\n";
+    let (status, out, err) = ran(rt.alloc(), script.as_bytes());
+    assert!(rt; status == 0 && err.is_empty());
+    assert_eq!(rt; out.as_slice(), want.as_bytes());
+}
+
+#[test]
+fn reads_the_calls_of_rights(rt: HostRuntime) {
+    let event = read_call(rt.alloc(), b"insert 1 2 3 4 4294967295");
+    let read = match &event {
+        Ok(Event::InsertRight(task, name, from, poly, disposition)) => (
+            task.number(),
+            name.number(),
+            from.number(),
+            poly.number(),
+            *disposition,
+        ),
+        _ => (0, 0, 0, 0, 0),
+    };
+    assert!(rt; read == (1, 2, 3, 4, u32::MAX));
+    let event = read_call(rt.alloc(), b"extract 1 2 21 3");
+    let read = match &event {
+        Ok(Event::ExtractRight(task, name, disposition, to)) => {
+            (task.number(), name.number(), *disposition, to.number())
+        }
+        _ => (0, 0, 0, 0),
+    };
+    assert!(rt; read == (1, 2, 21, 3));
+}
+
+#[test]
+fn reads_the_calls_of_names(rt: HostRuntime) {
+    let event = read_call(rt.alloc(), b"refs 1 4294967295 3");
+    let read = match &event {
+        Ok(Event::GetRefs(task, name, right)) => (task.number(), name.number(), *right),
+        _ => (0, 0, 0),
+    };
+    assert!(rt; read == (1, u32::MAX, 3));
+    let event = read_call(rt.alloc(), b"type 4294967295 0");
+    let read = match &event {
+        Ok(Event::NameType(task, name)) => (task.number(), name.number()),
+        _ => (0, 1),
+    };
+    assert!(rt; read == (u32::MAX, 0));
 }
 
 #[test]
@@ -163,10 +224,28 @@ fn names_the_bad_line(rt: HostRuntime) {
         "recv 0 1 24 -",
         "recv 0 1 24 0 0",
         "recv 0 1 4294967296 0",
-        "insert 0 1 0 1 20",
-        "extract 0 1 20 0",
-        "refs 0 1 0",
-        "type 0 1",
+        "insert",
+        "insert 0 1 0 1",
+        "insert 0 1 0 1 20 0",
+        "insert 0 1 0 1  20",
+        "insert 0 1 0 1 4294967296",
+        "insert 0 1 4294967296 1 20",
+        "insert 0 1 0 1 -1",
+        "Insert 0 1 0 1 20",
+        "extract 0 1 20",
+        "extract 0 1 20 0 0",
+        "extract 0 1 0x14 0",
+        "extract 0 1 20 4294967296",
+        "refs 0 1",
+        "refs 0 1 4294967296",
+        "refs 0 1 0 0",
+        "refs 0 1 00",
+        "ref 0 1 0",
+        "type 0",
+        "type 0 1 0",
+        "type 0 1 ",
+        "types 0 1",
+        "names 0",
         "thread 1",
         "end 0",
         "msg 0 1 1 24 -",

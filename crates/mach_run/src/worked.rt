@@ -1,0 +1,254 @@
+//! Worked exchanges: scripts whose replies are known, by `perform` and by whole runs.
+use crate::replies::write_reply;
+use crate::script::read_script;
+use crate::tests::{Page, ran};
+use kernel_core::run;
+use std::alloc::Global;
+use std::io::Write;
+use std::test::Fail;
+
+// A send-once right for a port of the sender, in a short descriptor.
+const SEND_ONCE_RIGHT: (&str, &str) = (
+    "task\n\
+    alloc 0 1\n\
+    send 0 1400008020000000010000000000000000000000080000001520011001000000\n\
+    recv 0 1 32 0\n",
+    "task 0\n\
+    name 1\n\
+    code 00000000\n\
+    message 0011008020000000000000000100000000000000080000001220011002000000\n",
+);
+
+// The same in the long descriptor; and one whose short fields are not zero.
+const LONG_DESCRIPTOR: (&str, &str) = (
+    "task\n\
+    alloc 0 1\n\
+    send 0 14000080280000000100000000000000000000000800000000000030150020000100000\
+    001000000\n\
+    recv 0 1 40 0\n\
+    send 0 14000080280000000100000000000000000000000800000000000130150020000100000\
+    001000000\n",
+    "task 0\n\
+    name 1\n\
+    code 00000000\n\
+    message 0011008028000000000000000100000000000000080000000000003012002000010000\
+    0002000000\n\
+    code 1000000f\n",
+);
+
+// An item of no data; and data past the end.
+const ITEM_OF_NO_DATA: (&str, &str) = (
+    "task\n\
+    alloc 0 1\n\
+    send 0 14000080200000000100000000000000000000000800000008080010\n\
+    recv 0 1 28 0\n\
+    send 0 1400008020000000010000000000000000000000080000000808051041424344\n",
+    "task 0\n\
+    name 1\n\
+    code 00000000\n\
+    message 001100801c0000000000000001000000000000000800000008080010\n\
+    code 10000008\n",
+);
+
+// Two send rights for one port in a message gather under one name.
+const GATHERED_REFERENCES: (&str, &str) = (
+    "task\n\
+    task\n\
+    alloc 0 1\n\
+    alloc 1 1\n\
+    insert 1 2 0 1 20\n\
+    insert 0 2 1 1 20\n\
+    send 0 13000080240000000200000000000000000000000900000014200210010000000100000\
+    0\n\
+    recv 1 1 36 0\n\
+    refs 1 2 0\n\
+    status 0 1\n",
+    "task 0\n\
+    task 1\n\
+    name 1\n\
+    name 1\n\
+    code 00000000\n\
+    code 00000000\n\
+    code 00000000\n\
+    message 0011008024000000000000000100000000000000090000001120021002000000020000\
+    00\n\
+    refs 3\n\
+    status 0 0 3 5 0 0 1 0 0\n",
+);
+
+// One reference can't be both the destination and the answer; a copied and a moved one can.
+const MOVED_REPLY: (&str, &str) = (
+    "task\n\
+    task\n\
+    alloc 0 1\n\
+    insert 1 1 0 1 20\n\
+    send 1 111300001800000001000000010000000000000007000000\n\
+    refs 1 1 0\n\
+    send 1 131100001800000001000000010000000000000007000000\n\
+    type 1 1\n",
+    "task 0\n\
+    task 1\n\
+    name 1\n\
+    code 00000000\n\
+    code 10000009\n\
+    refs 1\n\
+    code 00000000\n\
+    code 0000000f\n",
+);
+
+// A queue at its limit, and a message by a send-once right beyond it.
+const QUEUE_LIMIT: (&str, &str) = (
+    "task\n\
+    alloc 0 1\n\
+    send 0 140000001800000001000000000000000000000007000000\n\
+    send 0 140000001800000001000000000000000000000007000000\n\
+    send 0 140000001800000001000000000000000000000007000000\n\
+    send 0 140000001800000001000000000000000000000007000000\n\
+    send 0 140000001800000001000000000000000000000007000000\n\
+    send 0 140000001800000001000000000000000000000007000000\n\
+    send 0 150000001800000001000000000000000000000007000000\n\
+    status 0 1\n",
+    "task 0\n\
+    name 1\n\
+    code 00000000\n\
+    code 00000000\n\
+    code 00000000\n\
+    code 00000000\n\
+    code 00000000\n\
+    code 10000004\n\
+    code 00000000\n\
+    status 0 0 5 5 6 1 1 0 0\n",
+);
+
+// Words that are no names.
+const NULL_AND_DEAD_WORDS: (&str, &str) = (
+    "task\n\
+    alloc 0 1\n\
+    send 0 1400008024000000010000000000000000000000070000001420021000000000fffffff\
+    f\n\
+    recv 0 1 36 0\n",
+    "task 0\n\
+    name 1\n\
+    code 00000000\n\
+    message 0011008024000000000000000100000000000000070000001120021000000000ffffff\
+    ff\n",
+);
+
+// A right to answer with, and the answer by it.
+const ANSWERED: (&str, &str) = (
+    "task\n\
+    alloc 0 1\n\
+    alloc 0 1\n\
+    send 0 141500001800000001000000020000000000000007000000\n\
+    recv 0 1 24 0\n\
+    type 0 3\n\
+    send 0 120000001800000003000000000000000000000008000000\n\
+    type 0 3\n\
+    recv 0 2 24 0\n",
+    "task 0\n\
+    name 1\n\
+    name 2\n\
+    code 00000000\n\
+    message 121100001800000003000000010000000000000007000000\n\
+    type 00040000\n\
+    code 00000000\n\
+    code 0000000f\n\
+    message 001200001800000000000000020000000000000008000000\n",
+);
+
+/// The replies that a whole run of the script gives, one a line; `None` where it is no script or memory
+/// is refused.
+fn replies_of_run(alloc: Global, script: &[u8]) -> Option<Vec<u8>> {
+    let events = read_script(alloc, script).ok()?;
+    let (_, replies) = run(alloc, events).ok()?;
+    let mut page = Page::new(alloc, usize::MAX);
+    for reply in replies.as_slice() {
+        write_reply(reply, &mut page).ok()?;
+        page.write_all(b"\n").ok()?;
+    }
+    Some(page.bytes)
+}
+
+/// Whether the script gives these replies, by `perform` and by a whole run.
+fn gives(alloc: Global, script: &str, replies: &str) -> bool {
+    let (status, out, err) = ran(alloc, script.as_bytes());
+    let performed = status == 0 && err.is_empty() && out.as_slice() == replies.as_bytes();
+    match replies_of_run(alloc, script.as_bytes()) {
+        Some(page) => performed && page.as_slice() == replies.as_bytes(),
+        None => false,
+    }
+}
+
+#[test]
+fn send_once_right_is_answered(rt: HostRuntime) {
+    let (script, replies) = SEND_ONCE_RIGHT;
+    assert!(rt; gives(rt.alloc(), script, replies));
+}
+
+#[test]
+fn long_descriptor_is_answered(rt: HostRuntime) {
+    let (script, replies) = LONG_DESCRIPTOR;
+    assert!(rt; gives(rt.alloc(), script, replies));
+}
+
+#[test]
+fn item_of_no_data_is_answered(rt: HostRuntime) {
+    let (script, replies) = ITEM_OF_NO_DATA;
+    assert!(rt; gives(rt.alloc(), script, replies));
+}
+
+#[test]
+fn gathered_references_is_answered(rt: HostRuntime) {
+    let (script, replies) = GATHERED_REFERENCES;
+    assert!(rt; gives(rt.alloc(), script, replies));
+}
+
+#[test]
+fn moved_reply_is_answered(rt: HostRuntime) {
+    let (script, replies) = MOVED_REPLY;
+    assert!(rt; gives(rt.alloc(), script, replies));
+}
+
+#[test]
+fn queue_limit_is_answered(rt: HostRuntime) {
+    let (script, replies) = QUEUE_LIMIT;
+    assert!(rt; gives(rt.alloc(), script, replies));
+}
+
+#[test]
+fn null_and_dead_words_is_answered(rt: HostRuntime) {
+    let (script, replies) = NULL_AND_DEAD_WORDS;
+    assert!(rt; gives(rt.alloc(), script, replies));
+}
+
+#[test]
+fn answered_is_answered(rt: HostRuntime) {
+    let (script, replies) = ANSWERED;
+    assert!(rt; gives(rt.alloc(), script, replies));
+}
+
+/// A script that makes a task and a port, and sends it a message of this length, its body zero bytes.
+fn long_script(alloc: Global, length: usize) -> Result<String, Fail> {
+    let mut script = String::new(alloc);
+    script.push_str("task\nalloc 0 1\nsend 0 140000001800000001000000000000000000000007000000")?;
+    for _ in 24..length {
+        script.push_str("00")?;
+    }
+    script.push_str("\n")?;
+    Ok(script)
+}
+
+#[test]
+fn lengths_of_messages(rt: HostRuntime) -> Result<(), Fail> {
+    let short = "task\nalloc 0 1\nsend 0 1400000018000000010000000000000000000000070000\n";
+    assert!(rt; gives(rt.alloc(), short, "task 0\nname 1\ncode 10000008\n"));
+    for (length, want) in [
+        (26, "task 0\nname 1\ncode 10000008\n"),
+        (65_540, "task 0\nname 1\ncode 10000002\n"),
+        (65_536, "task 0\nname 1\ncode 00000000\n"),
+    ] {
+        let script = long_script(rt.alloc(), length)?;
+        assert!(rt; gives(rt.alloc(), script.as_str(), want), "at {length}");
+    }
+    Ok(())
+}
