@@ -1,28 +1,29 @@
 -- Answers to Receive.
-use Rattle.std.proofs.Common.{◌≡◌, ℕ, ◌-◌, ◌<◌, ◌≤◌, List, [], ◌∷◌, Option, Some, None, refl, sym, ap, subst, ◌∙◌, arith, ◌⊎◌, inl, inr, length, true, Bool}
-use Rattle.std.specs.Prelude.{◌≢◌, slice_get, slice_set, option_map, map as list_map}
-use Rattle.std.proofs.lemmas.List.{length-drop}
+use Rattle.std.proofs.Common.{◌≡◌, ℕ, ◌-◌, ◌<◌, ◌≤◌, List, [], Option, Some, None, refl, sym, ap, subst, ◌∙◌, arith, ◌⊎◌, inl, inr, length, Bool}
+use Rattle.std.specs.Prelude.{◌≢◌, slice_get, slice_set, option_map}
 use Rattle.name_space.specs.declared.Entry.{Entry}
 use Rattle.mach_types.specs.declared.calls.Event.{Event}
 use Rattle.mach_types.specs.declared.calls.Reply.{Reply}
 use Rattle.mach_types.specs.declared.calls.Waited.{Waited}
 use Rattle.mach_types.specs.declared.codes.KernReturn.TheVariants.{InvalidTask}
-use Rattle.mach_types.specs.declared.codes.MsgReturn.TheVariants.{ReceiveInvalidName}
+use Rattle.mach_types.specs.declared.codes.MsgReturn.TheVariants.{ReceiveInvalidName, ReceiveBodyErrorMemory}
 use Rattle.mach_types.specs.Guards.{NoneHolds}
 use Rattle.mach_types.specs.Numbers.{kern_number, msg_number}
-use Rattle.mach_types.specs.Messages.{Entry as Logged}
+use Rattle.mach_types.specs.Tokens.{in_message}
 use Rattle.mach_model.specs.State.{State, Target, lookup, queue}
 use Rattle.mach_model.specs.Status.{NamesReceive}
 use Rattle.mach_model.specs.ReceivedMeans.{message_length}
-use Rattle.mach_model.specs.Receiving.{IsSet, IsEmptyFor, Receives, waits_for}
+use Rattle.mach_model.specs.Receiving.{IsSet, IsEmptyFor, waits_for}
 use Rattle.mach_model.specs.Refusals.{guards}
-use Rattle.kernel_core.specs.View.{KernelView, PortView, Kept, FindsReceive, entry_at, message_of, tables}
+use Rattle.kernel_core.specs.Kept.{Kept, KeepsAll}
+use Rattle.kernel_core.specs.View.{KernelView, PortView, FindsReceive, entry_at, tables}
 use Rattle.kernel_core.specs.Shows.{Shows, target_of}
 use Rattle.kernel_core.specs.Answers.{Answers}
-use Rattle.kernel_core.specs.Steps.{Takes, TakesMessage, FindsLarge, FindsNone}
+use Rattle.kernel_core.specs.Steps.{Takes, TakesMessage, FindsLarge, FindsFitting, FindsNone}
 use Rattle.kernel_core.proofs.Stepping.{refused, done, past_tasks, among_tasks, none_found}
-use Rattle.kernel_core.proofs.Told.{found, holds_receive, names_receive, shows_port, in_no_set}
-use Rattle.kernel_core.proofs.MessageTaken.{taken_from, left, front, is_front, takes_from, receives, taken_shows}
+use Rattle.kernel_core.proofs.Told.{found, found_port, holds_receive, names_receive, shows_port, in_no_set}
+use Rattle.kernel_core.proofs.Waiting.{keeps_none}
+use Rattle.kernel_core.proofs.MessageTaken.{taken_from, kept_length, kept_needs_none, left, front, is_front, takes_from, receives, taken_shows}
 
 pub receive_no_task : (k : KernelView) (task name room : ℕ) (large : Bool) → length k.spaces ≤ task → Answers k (Event.Receive task name room large) (Reply.Code (kern_number InvalidTask)) k
 receive_no_task k task name room large past now s sh = refused k s sh now (Event.Receive task name room large) (kern_number InvalidTask) (inl (inl (past_tasks k s sh task past, refl)))
@@ -30,7 +31,9 @@ receive_no_task k task name room large past now s sh = refused k s sh now (Event
 -- only a set's name shows as a set's
 no_set_shown : (o : Option Entry) → ((set : ℕ) → o ≢ Some (Entry.Set set)) → ¬ (IsSet (option_map target_of o))
 no_set_shown None none h = h
-no_set_shown (Some (Entry.Port p has n)) none h = h
+no_set_shown (Some (Entry.Receive p)) none h = h
+no_set_shown (Some (Entry.Send p n)) none h = h
+no_set_shown (Some (Entry.ReceiveAndSend p n)) none h = h
 no_set_shown (Some (Entry.SendOnce p)) none h = h
 no_set_shown (Some (Entry.DeadName n)) none h = h
 no_set_shown (Some (Entry.Set set)) none h = none set refl
@@ -66,7 +69,7 @@ module _ (k : KernelView) (task name room : ℕ) (large : Bool) (below : task < 
   event = Event.Receive task name room large
 
   target_is : (s : State) → Shows (tables k) s → lookup s task name ≡ Some (Target.port p)
-  target_is s sh = found k s sh task name (Entry.Port p true finds.references) finds.found
+  target_is s sh = found_port k s sh task name p finds
 
   same_port : (s : State) (q : ℕ) → lookup s task name ≡ Some (Target.port p) → lookup s task name ≡ Some (Target.port q) → p ≡ q
   same_port s q a b = let e : Some (Target.port p) ≡ Some (Target.port q) = sym a ∙ b in let f : Target.port p ≡ Target.port q = cc in cc
@@ -75,40 +78,33 @@ module _ (k : KernelView) (task name room : ℕ) (large : Bool) (below : task < 
   may_receive s sh v there = (
     among_tasks k s sh task below,
     (
-      (λ not. not (inl (names_receive k s sh task name p finds.references finds.found))),
+      (λ not. not (inl (names_receive k s sh task name p finds))),
       ((λ h. h.2 (subst (λ (q : ℕ). s.sets_of q ≡ []) (same_port s h.0 (target_is s sh) h.1) (in_no_set k s sh p v there))), tt),
     ),
   )
 
   waits : (s : State) → Shows (tables k) s → waits_for task name s (Waited.Port p)
-  waits s sh = (target_is s sh, holds_receive k s sh task name p finds.references finds.found)
-
-  no_front : (xs : List Logged) → [] ≡ list_map (λ (e : Logged). e.message) xs → xs ≡ []
-  no_front [] e = refl
-  no_front (x ∷ xs) e = absurd (let e' : [] ≡ x.message ∷ list_map (λ (e : Logged). e.message) xs = e in cc)
+  waits s sh = (target_is s sh, holds_receive k s sh task name p finds)
 
   finds_none : FindsNone k p → Answers k event (Reply.Empty (Waited.Port p)) k
   finds_none f now s sh =
+      let empty : queue s p ≡ [] = keeps_none p (queue s p) (subst (λ (ks : List Kept). KeepsAll p ks (queue s p)) f.queue (shows_port k s sh p f.v f.there).waiting) in
       done k s sh now event (Reply.Empty (Waited.Port p)) s k (may_receive s sh f.v f.there)
-      (Waited.Port p, waits s sh, (refl, (λ q from. subst (λ (x : ℕ). queue s x ≡ []) (sym from.0) (no_front (queue s p) (ap (list_map (message_of p)) (sym f.queue) ∙ (shows_port k s sh p f.v f.there).waiting))), refl, refl))
+      (Waited.Port p, waits s sh, (refl, (λ q from. subst (λ (x : ℕ). queue s x ≡ []) (sym from.0) empty), refl, refl))
       (λ good. sh)
 
-  -- how long a queued message is
-  plain_length : (m : Kept) → 24 ≤ length m.bytes → message_length (message_of p m) ≡ length m.bytes
-  plain_length m long = let l = length-drop 24 m.bytes in omega (arith, l)
-
-  finds_large : (n : ℕ) → (f : FindsLarge k p room n) → 24 ≤ length f.front.bytes → Answers k event (Reply.TooLarge n) k
-  finds_large n f long now s sh =
-      let e = front k s sh task name p finds.references f.v finds.found f.there f.front f.behind f.queue in
-      let length_is : n ≡ message_length e.first.message = f.long ∙ sym (plain_length f.front long) ∙ ap message_length (sym e.first_is) in
+  finds_large : (n : ℕ) → FindsLarge k p room n → Answers k event (Reply.TooLarge n) k
+  finds_large n f now s sh =
+      let e = front k s sh task name p f.v finds f.there f.front f.behind f.queue in
+      let length_is : n ≡ message_length e.first.message = f.long ∙ sym (kept_length p f.front e.first.message e.keeps) in
       done k s sh now event (Reply.TooLarge n) s k (may_receive s sh f.v f.there) (
         Waited.Port p,
         waits s sh,
         (
           p,
           e.first,
-          takes_from k s sh task name p finds.references f.v finds.found f.there f.front f.behind f.queue,
-          is_front k s sh task name p finds.references f.v finds.found f.there f.front f.behind f.queue,
+          takes_from k s sh task name p f.v finds f.there f.front f.behind f.queue,
+          is_front k s sh task name p f.v finds f.there f.front f.behind f.queue,
           length_is,
           f.above,
           refl,
@@ -117,27 +113,51 @@ module _ (k : KernelView) (task name room : ℕ) (large : Bool) (below : task < 
       )
       (λ good. sh)
 
+  -- want of memory where the front message fits
+  wants_memory : FindsFitting k p room → Answers k event (Reply.Code (msg_number ReceiveBodyErrorMemory)) k
+  wants_memory f now s sh =
+      let e = front k s sh task name p f.v finds f.there f.front f.behind f.queue in
+      let length_is = kept_length p f.front e.first.message e.keeps in
+      let short = f.fits in
+      refused k s sh now event (msg_number ReceiveBodyErrorMemory)
+      (inr (
+        may_receive s sh f.v f.there,
+        (
+          Waited.Port p,
+          waits s sh,
+          record {
+            port = p;
+            from = takes_from k s sh task name p f.v finds f.there f.front f.behind f.queue;
+            e = e.first;
+            front = is_front k s sh task name p f.v finds f.there f.front f.behind f.queue;
+            fits = omega (arith, length_is, short);
+            refused = inr (kept_needs_none task (in_message p (s.taken p)) p f.front e.first.message e.keeps s, refl);
+          },
+        ),
+      ))
+
   takes_message : (bytes : List ℕ) (after : KernelView) → TakesMessage k p name room bytes after → Answers k event (Reply.Message bytes) after
   takes_message bytes after m now s sh =
       let d = m.takes.dequeues in
-      let t : State = taken_from s p (left k s sh task name p finds.references m.takes.v finds.found m.takes.there d.front d.behind d.queue) in
+      let t : State = taken_from s p (left k s sh task name p m.takes.v finds m.takes.there d.front d.behind d.queue) in
       done k s sh now event (Reply.Message bytes) t after (may_receive s sh m.takes.v m.takes.there) (
         Waited.Port p,
         waits s sh,
         (
           p,
-          takes_from k s sh task name p finds.references m.takes.v finds.found m.takes.there d.front d.behind d.queue,
-          subst (λ (b : List ℕ). Receives task p room b s t) (sym d.text)
-              (receives k s sh task name p finds.references m.takes.v finds.found m.takes.there d.front d.behind d.queue room d.long d.short d.even d.id m.fits),
+          takes_from k s sh task name p m.takes.v finds m.takes.there d.front d.behind d.queue,
+          receives k s sh task name p m.takes.v finds m.takes.there d.front d.behind d.queue room bytes d.text m.fits,
           refl,
         ),
       )
       (λ good. subst (λ (v : KernelView). Shows (tables v) t) (sym (m.takes.rest ∙ ap (λ (w : PortView). record k { ports = slice_set k.ports p w; total = k.total - 1 }) d.rest))
-      (taken_shows k s sh task name p finds.references m.takes.v finds.found m.takes.there d.front d.behind d.queue good))
+      (taken_shows k s sh task name p m.takes.v finds m.takes.there d.front d.behind d.queue good))
 
   pub takes : (reply : Reply) (after : KernelView) → Takes k p name room reply after → Answers k event reply after
   takes (Reply.Message bytes) after t = takes_message bytes after t
-  takes (Reply.TooLarge n) after t = subst (λ (v : KernelView). Answers k event (Reply.TooLarge n) v) (sym t.1) (finds_large n t.0 t.0.least)
+  takes (Reply.TooLarge n) after t = subst (λ (v : KernelView). Answers k event (Reply.TooLarge n) v) (sym t.1) (finds_large n t.0)
+  takes (Reply.Code code) after t =
+      subst (λ (v : KernelView). Answers k event (Reply.Code code) v) (sym t.2) (subst (λ (n : ℕ). Answers k event (Reply.Code n) k) (sym t.1) (wants_memory t.0))
   takes (Reply.Empty told) after t =
       subst (λ (v : KernelView). Answers k event (Reply.Empty told) v) (sym t.2) (subst (λ (w : Waited). Answers k event (Reply.Empty w) k) (sym t.0) (finds_none t.1))
   takes reply after t = absurd t

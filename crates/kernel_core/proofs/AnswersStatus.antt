@@ -1,5 +1,5 @@
 -- Answers to ReceiveStatus.
-use Rattle.std.proofs.Common.{◌≡◌, ℕ, ◌<◌, ◌≤◌, [], Some, None, refl, ap, ◌∙◌, arith, inl, inr, length, true}
+use Rattle.std.proofs.Common.{◌≡◌, ℕ, ◌<◌, ◌≤◌, Some, None, refl, ap, ◌∙◌, arith, inl, inr, length}
 use Rattle.std.specs.Prelude.{min, nat_lt, slice_get}
 use Rattle.std.proofs.lemmas.Bool.Decides.{nat_tests}
 use Rattle.name_space.specs.declared.Entry.{Entry}
@@ -14,7 +14,7 @@ use Rattle.kernel_core.specs.View.{KernelView, entry_at, FindsReceive, PortView,
 use Rattle.kernel_core.specs.Shows.{Shows}
 use Rattle.kernel_core.specs.Answers.{Answers}
 use Rattle.kernel_core.proofs.Stepping.{refused, done, past_tasks, among_tasks, none_found}
-use Rattle.kernel_core.proofs.Told.{unused, found, names_receive, shows_port, in_no_set}
+use Rattle.kernel_core.proofs.Told.{unused, found, found_port, names_receive, shows_port, in_no_set}
 use Rattle.kernel_core.proofs.MessageSent.{as_many}
 
 pub status_no_task : (k : KernelView) (task name : ℕ) → length k.spaces ≤ task → Answers k (Event.ReceiveStatus task name) (Reply.Code (kern_number InvalidTask)) k
@@ -41,12 +41,12 @@ tells : (k : KernelView) (s : State) → Shows (tables k) s → (task name p : �
 tells k s sh task name p v finds there =
     let x = shows_port k s sh p v there in record {
       p = p;
-      found = found k s sh task name (Entry.Port p true finds.references) finds.found;
+      found = found_port k s sh task name p finds;
       set = inl (in_no_set k s sh p v there, refl);
       sequence = x.sequence;
       make_send = x.make_send;
       limit = x.limit;
-      queued = as_many k s sh 0 task name p finds.references v [] 0 finds.found there;
+      queued = as_many k s sh p v there;
       send_once = x.once_rights;
       has_send = has_one (length v.waiting) ∙ ap (λ (n : ℕ). one_if (nat_lt 0 n)) x.senders;
       port_destroyed = ap one_if (sh.stands (port_destroyed p));
@@ -57,5 +57,5 @@ pub status_told : (k : KernelView) (task name p : ℕ) (v : PortView) → task <
     Answers k (Event.ReceiveStatus task name) (Reply.Status (tells_port v)) k
 status_told k task name p v below finds there now s sh =
     done k s sh now (Event.ReceiveStatus task name) (Reply.Status (tells_port v)) s k
-    (among_tasks k s sh task below, (used k s sh task name (Entry.Port p true finds.references) finds.found, ((λ not. not (names_receive k s sh task name p finds.references finds.found)), tt)))
+    (among_tasks k s sh task below, (used k s sh task name finds.entry finds.found, ((λ not. not (names_receive k s sh task name p finds)), tt)))
     (tells k s sh task name p v finds there, refl, refl) (λ good. sh)

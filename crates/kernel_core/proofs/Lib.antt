@@ -1,9 +1,14 @@
 pub mod Gets
+pub mod Made
+pub mod Words
+pub mod Marked
+pub mod Laid
 pub mod Told
 pub mod PortChange
 pub mod Texts
-pub mod MessageSent
 pub mod Taking
+pub mod Waiting
+pub mod MessageSent
 pub mod MessageTaken
 pub mod TaskMade
 pub mod PortMade

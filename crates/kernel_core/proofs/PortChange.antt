@@ -1,13 +1,13 @@
 -- The tables still show the state where one port changed: its messages, its counts, and rights that lie in messages.
 use Rattle.std.proofs.Common.{◌≡◌, ℕ, Option, Some, sym, ap, subst, ◌∙◌, true, inl, inr, length}
-use Rattle.std.specs.Prelude.{option_map, is_some, slice_get, slice_set, ◌≢◌, map as list_map}
+use Rattle.std.specs.Prelude.{option_map, is_some, slice_get, slice_set, ◌≢◌}
 use Rattle.std.specs.FinMap as names
 use Rattle.std.proofs.lemmas.Bool.Decides.{eqb_tells}
 use Rattle.mach_types.specs.Tokens.{Kind, receive, send, send_once, Request, in_request, count, is_of}
-use Rattle.mach_types.specs.Messages.{Entry as Logged}
 use Rattle.mach_model.specs.State.{State, lookup, held, queue}
 use Rattle.mach_model.specs.Carried.{lying}
 use Rattle.mach_model.specs.Lawful.{IsLawful}
+use Rattle.kernel_core.specs.Kept.{KeepsAll}
 use Rattle.kernel_core.specs.View.{KernelView, PortView, PortTable, tables, port_table}
 use Rattle.kernel_core.specs.Shows.{Shows, ShowsPort}
 use Rattle.kernel_core.proofs.Gets.{get-set_same, get-set_other, length-set}
@@ -24,7 +24,7 @@ pub record ChangesPort (s : State) (p : ℕ) (t : State) : Type 0 where
   pub kept : (r : Request) (kind : Kind) (q : ℕ) → lying t kind q (in_request r) ≡ lying s kind q (in_request r)
 
 module _ (k : KernelView) (s : State) (sh : Shows (tables k) s) (p : ℕ) (v w : PortView) (there : slice_get k.ports p ≡ Some v) (total : ℕ)
-    (t : State) (c : ChangesPort s p t) (here : ShowsPort (port_table p w) t p) (counted : total ≡ length t.ledger) (good : IsLawful t) where
+    (t : State) (c : ChangesPort s p t) (here : ShowsPort (port_table w) t p) (counted : total ≡ length t.ledger) (good : IsLawful t) where
   abbrev after : KernelView
   after = record k { ports = slice_set k.ports p w; total = total }
 
@@ -34,20 +34,20 @@ module _ (k : KernelView) (s : State) (sh : Shows (tables k) s) (p : ℕ) (v w :
   set_other : (q : ℕ) → q ≢ p → slice_get (slice_set k.ports p w) q ≡ slice_get k.ports q
   set_other q not = get-set_other k.ports p w q not
 
-  live_port : (q : ℕ) → is_some (option_map (port_table q) (slice_get (slice_set k.ports p w) q)) ≡ t.live_port q
+  live_port : (q : ℕ) → is_some (option_map port_table (slice_get (slice_set k.ports p w) q)) ≡ t.live_port q
   live_port q =
-      let was : is_some (option_map (port_table q) (slice_get k.ports q)) ≡ t.live_port q = sh.live_port q ∙ sym (ap (λ (x : State). x.live_port q) c.rest) in
+      let was : is_some (option_map port_table (slice_get k.ports q)) ≡ t.live_port q = sh.live_port q ∙ sym (ap (λ (x : State). x.live_port q) c.rest) in
       elim (eqb_tells q p) [
         | inl h ↦
-            let a : is_some (option_map (port_table q) (slice_get (slice_set k.ports p w) q)) ≡ true = ap (λ (x : ℕ). is_some (option_map (port_table q) (slice_get (slice_set k.ports p w) x))) h.1 ∙ ap (λ (o : Option PortView). is_some (option_map (port_table q) o)) set_there in
-            let b : is_some (option_map (port_table q) (slice_get k.ports q)) ≡ true = ap (λ (x : ℕ). is_some (option_map (port_table q) (slice_get k.ports x))) h.1 ∙ ap (λ (o : Option PortView). is_some (option_map (port_table q) o)) there in
+            let a : is_some (option_map port_table (slice_get (slice_set k.ports p w) q)) ≡ true = ap (λ (x : ℕ). is_some (option_map port_table (slice_get (slice_set k.ports p w) x))) h.1 ∙ ap (λ (o : Option PortView). is_some (option_map port_table o)) set_there in
+            let b : is_some (option_map port_table (slice_get k.ports q)) ≡ true = ap (λ (x : ℕ). is_some (option_map port_table (slice_get k.ports x))) h.1 ∙ ap (λ (o : Option PortView). is_some (option_map port_table o)) there in
             a ∙ sym b ∙ was
-        | inr h ↦ ap (λ (o : Option PortView). is_some (option_map (port_table q) o)) (set_other q h.1) ∙ was
+        | inr h ↦ ap (λ (o : Option PortView). is_some (option_map port_table o)) (set_other q h.1) ∙ was
       ]
 
   other_shows : (q : ℕ) (table : PortTable) → q ≢ p → ShowsPort table s q → ShowsPort table t q
   other_shows q table not x = record {
-    waiting = x.waiting ∙ ap (list_map (λ (e : Logged). e.message)) (sym (c.queue q not));
+    waiting = subst (KeepsAll q table.waiting) (sym (c.queue q not)) x.waiting;
     limit = x.limit ∙ sym (ap (λ (x : State). x.limit q) c.rest);
     make_send = x.make_send ∙ sym (c.make_send q not);
     sequence = x.sequence ∙ sym (c.sequence q not);
@@ -59,13 +59,13 @@ module _ (k : KernelView) (s : State) (sh : Shows (tables k) s) (p : ℕ) (v w :
   same_some : {A : Type 0} (a b : A) → Some a ≡ Some b → a ≡ b
   same_some a b e = cc
 
-  ports : (q : ℕ) (table : PortTable) → option_map (port_table q) (slice_get (slice_set k.ports p w) q) ≡ Some table → ShowsPort table t q
+  ports : (q : ℕ) (table : PortTable) → option_map port_table (slice_get (slice_set k.ports p w) q) ≡ Some table → ShowsPort table t q
   ports q table e = elim (eqb_tells q p) [
     | inl h ↦
-        let a : option_map (port_table q) (slice_get (slice_set k.ports p w) q) ≡ Some (port_table q w) = ap (λ (x : ℕ). option_map (port_table q) (slice_get (slice_set k.ports p w) x)) h.1 ∙ ap (option_map (port_table q)) set_there in
-        let is : port_table q w ≡ table = same_some (port_table q w) table (sym a ∙ e) in
-        subst (λ (x : PortTable). ShowsPort x t q) is (subst (λ (x : ℕ). ShowsPort (port_table x w) t x) (sym h.1) here)
-    | inr h ↦ other_shows q table h.1 (sh.ports q table (sym (ap (option_map (port_table q)) (set_other q h.1)) ∙ e))
+        let a : option_map port_table (slice_get (slice_set k.ports p w) q) ≡ Some (port_table w) = ap (λ (x : ℕ). option_map port_table (slice_get (slice_set k.ports p w) x)) h.1 ∙ ap (option_map port_table) set_there in
+        let is : port_table w ≡ table = same_some (port_table w) table (sym a ∙ e) in
+        subst (λ (x : PortTable). ShowsPort x t q) is (subst (λ (x : ℕ). ShowsPort (port_table w) t x) (sym h.1) here)
+    | inr h ↦ other_shows q table h.1 (sh.ports q table (sym (ap (option_map port_table) (set_other q h.1)) ∙ e))
   ]
 
   pub port_changed : Shows (tables after) t
@@ -74,7 +74,7 @@ module _ (k : KernelView) (s : State) (sh : Shows (tables k) s) (p : ℕ) (v w :
     tasks_made = sh.tasks_made ∙ sym (ap (λ (x : State). x.tasks_made) c.rest);
     naming = λ task name. ap (λ (x : State). lookup x task name) c.rest ∙ sh.naming task name;
     names_kept = λ task space e. sh.names_kept task space e ∙ sym (ap (λ (x : State). names.len (x.naming task)) c.rest);
-    references = λ task name q has n e. let r = sh.references task name q has n e in (c.held task receive q ∙ r.0, c.held task send q ∙ r.1);
+    references = λ task name q x e named. let r = sh.references task name q x e named in (c.held task receive q ∙ r.0, c.held task send q ∙ r.1);
     live_port = live_port;
     ports_made = length-set k.ports p w ∙ sh.ports_made ∙ sym (ap (λ (x : State). x.ports_made) c.rest);
     ports = ports;

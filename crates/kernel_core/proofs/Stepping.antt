@@ -3,8 +3,8 @@ use Rattle.std.proofs.Common.{◌≡◌, ℕ, ◌<◌, ◌≤◌, [], Some, None
 use Rattle.std.specs.Prelude.{slice_get}
 use Rattle.std.specs.FinMap as names
 use Rattle.std.specs.Ordering.{nat_cmp}
-use Rattle.std.proofs.lemmas.Option.{slice_get_cases, slice_get_past, slice_get_within}
-use Rattle.name_space.specs.declared.Entry.{Entry}
+use Rattle.std.proofs.lemmas.Option.{slice_get_cases, slice_get_past}
+use Rattle.name_space.specs.Names.{SpaceView}
 use Rattle.mach_types.specs.declared.calls.Event.{Event}
 use Rattle.mach_types.specs.declared.calls.Reply.{Reply}
 use Rattle.mach_types.specs.Tokens.{Kind, receive, send, send_once}
@@ -17,9 +17,9 @@ use Rattle.mach_model.specs.Machine.{Step, Does}
 use Rattle.mach_model.specs.Lawful.{IsLawful}
 use Rattle.mach_model.proofs.Opening.{opening-lawful}
 use Rattle.mach_model.proofs.StepLawful.{quiet_step}
-use Rattle.kernel_core.specs.View.{KernelView, Space, PortView, FindsReceive, tables, nothing}
+use Rattle.kernel_core.specs.View.{KernelView, PortView, FindsReceive, tables, nothing}
 use Rattle.kernel_core.specs.Shows.{Shows, kept_count}
-use Rattle.kernel_core.proofs.Told.{no_task, is_task, not_receive, port_there}
+use Rattle.kernel_core.proofs.Told.{no_task, is_task, not_receive}
 
 -- The machine may step so from the state, to one that the kernel shows after.
 abbrev pub Goes : (now : ℕ) → State → Event → Reply → KernelView → Type 0
@@ -38,7 +38,7 @@ done k s sh now event reply t after good does shows =
 pub past_tasks : (k : KernelView) (s : State) → Shows (tables k) s → (task : ℕ) → length k.spaces ≤ task → IsNoTask s task
 past_tasks k s sh task past = no_task k s sh task (slice_get_past k.spaces task past)
 
-pub space_there : (k : KernelView) (task : ℕ) → task < length k.spaces → (space : Space) × (slice_get k.spaces task ≡ Some space)
+pub space_there : (k : KernelView) (task : ℕ) → task < length k.spaces → (space : SpaceView) × (slice_get k.spaces task ≡ Some space)
 space_there k task below = elim (slice_get_cases k.spaces task).1 [
   | inl h ↦ (h.0, h.2)
   | inr h ↦ absurd (omega (arith, h.0))
@@ -48,9 +48,7 @@ pub among_tasks : (k : KernelView) (s : State) → Shows (tables k) s → (task 
 among_tasks k s sh task below = let x = space_there k task below in is_task k s sh task x.0 x.1
 
 pub none_found : (k : KernelView) (s : State) → Shows (tables k) s → (task name : ℕ) → ((p : ℕ) → ¬ (FindsReceive k task name p)) → ¬ (NamesReceive s task name)
-none_found k s sh task name none = not_receive k s sh task name (λ p n e.
-    let there = port_there k s sh task name p n e in
-    none p (record { references = n; found = e; there = slice_get_within k.ports p there.0 there.1 }))
+none_found k s sh task name none = not_receive k s sh task name none
 
 -- a port that is found has its table
 pub port_found : (k : KernelView) (task name p : ℕ) → FindsReceive k task name p → (v : PortView) × (slice_get k.ports p ≡ Some v)
@@ -67,7 +65,7 @@ opening_shows = record {
   tasks_made = refl;
   naming = λ task name. names.get-empty nat_cmp name;
   names_kept = λ task space e. absurd (let e' : None ≡ Some space = e in cc);
-  references = λ task name p has n e. absurd (let e' : None ≡ Some (Entry.Port p has n) = e in cc);
+  references = λ task name p x e named. absurd (let e' : None ≡ Some x = e in cc);
   live_port = λ p. refl;
   ports_made = refl;
   ports = λ p table e. absurd (let e' : None ≡ Some table = e in cc);

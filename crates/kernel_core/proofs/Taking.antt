@@ -1,6 +1,6 @@
 -- One element taken from a list: a token from the ledger, the front entry from a queue.
 use Rattle.std.proofs.Common.{◌≡◌, ℕ, ◌+◌, ◌<◌, List, [], ◌∷◌, Some, refl, ap, arith, true, false, Bool, zero, suc, drop}
-use Rattle.std.specs.Prelude.{if◌then◌else◌, ◌==◌, ◌&&◌, slice_get, map as list_map}
+use Rattle.std.specs.Prelude.{if◌then◌else◌, ◌==◌, ◌&&◌, slice_get}
 use Rattle.std.proofs.lemmas.Bool.{eqb-true}
 use Rattle.mach_types.specs.Tokens.{Kind, receive, send, send_once, Place, in_task, in_message, in_request, Token, token, weigh, count, is_of, same_kind}
 use Rattle.mach_model.specs.Dying.{same_place}
@@ -66,17 +66,3 @@ behind_of n [] e more is = absurd (nothing n is)
     nothing (suc m) f = cc
 behind_of zero (x ∷ xs) e more is = cc
 behind_of (suc n) (x ∷ xs) e more is = behind_of n xs e more is
-
--- A list whose images are a front and others has such a front.
-pub record HasFront {A B : Type 0} (f : A → B) (front : B) (behind : List B) (xs : List A) : Type 0 where
-  pub first : A
-  pub others : List A
-  pub parts : xs ≡ first ∷ others
-  pub first_is : f first ≡ front
-  pub others_are : list_map f others ≡ behind
-
-pub has_front : {A B : Type 0} (f : A → B) (front : B) (behind : List B) (xs : List A) → front ∷ behind ≡ list_map f xs → HasFront f front behind xs
-has_front f front behind [] e = absurd (let e' : front ∷ behind ≡ [] = e in cc)
-has_front f front behind (x ∷ xs) e =
-    let e' : front ∷ behind ≡ f x ∷ list_map f xs = e in
-    record { first = x; others = xs; parts = refl; first_is = (cc); others_are = (cc) }

@@ -1,3 +1,4 @@
+pub mod Kept
 pub mod View
 pub mod Shows
 pub mod Answers

@@ -1,17 +1,22 @@
 -- When the kernel's tables show a state of the machine: they agree with it at each task, name, port, set and request.
-use Rattle.std.specs.Prelude.{◌≡◌, ℕ, map, length, Bool, Option, Some, option_map, is_some, ◌==◌}
+use Rattle.std.specs.Prelude.{◌≡◌, ℕ, length, Option, Some, option_map, is_some, ◌==◌}
 use Rattle.std.specs.FinMap as names
 use Rattle.name_space.specs.declared.Entry.{Entry}
 use Rattle.name_space.specs.declared.Entry.TheVariants as entry
+use Rattle.name_space.specs.Entry.{port_named, has_receive, send_references}
+use Rattle.name_space.specs.Names.{Names}
 use Rattle.mach_types.specs.Tokens.{Kind, receive, send, send_once, Request, in_request, count, is_of}
 use Rattle.mach_model.specs.State.{State, Target, lookup, held, queue}
 use Rattle.mach_model.specs.Status.{one_if}
 use Rattle.mach_model.specs.Carried.{lying}
 use Rattle.mach_model.specs.Lawful.{IsLawful}
-use Rattle.kernel_core.specs.View.{Space, PortTable, Tables, entry_in}
+use Rattle.kernel_core.specs.Kept.{KeepsAll}
+use Rattle.kernel_core.specs.View.{PortTable, Tables, entry_in}
 
 abbrev pub target_of : Entry → Target
-target_of (entry.Port p has_receive sends) = Target.port p
+target_of (entry.Receive p) = Target.port p
+target_of (entry.Send p references) = Target.port p
+target_of (entry.ReceiveAndSend p references) = Target.port p
 target_of (entry.SendOnce p) = Target.once p
 target_of (entry.DeadName references) = Target.dead references
 target_of (entry.Set set) = Target.set set
@@ -23,7 +28,7 @@ kept_count kind q kept = 0
 
 -- The table of a port tells of it.
 pub record ShowsPort (table : PortTable) (s : State) (p : ℕ) : Type 0 where
-  pub waiting : table.waiting ≡ map (λ e. e.message) (queue s p)
+  pub waiting : KeepsAll p table.waiting (queue s p)
   pub limit : table.limit ≡ s.limit p
   pub make_send : table.make_send ≡ s.make_send p
   pub sequence : table.sequence ≡ s.sequence p
@@ -37,9 +42,9 @@ pub record Shows (k : Tables) (s : State) : Type 0 where
   pub live_task : (task : ℕ) → is_some (k.space task) ≡ s.live_task task
   pub tasks_made : k.tasks_made ≡ s.tasks_made
   pub naming : (task name : ℕ) → lookup s task name ≡ option_map target_of (entry_in (k.space task) name)
-  pub names_kept : (task : ℕ) (space : Space) → k.space task ≡ Some space → names.len space ≡ names.len (s.naming task)
-  pub references : (task name p : ℕ) (has : Bool) (n : ℕ) → entry_in (k.space task) name ≡ Some (entry.Port p has n) →
-      (held s task receive p ≡ one_if has) × (held s task send p ≡ n)
+  pub names_kept : (task : ℕ) (space : Names) → k.space task ≡ Some space → names.len space ≡ names.len (s.naming task)
+  pub references : (task name p : ℕ) (x : Entry) → entry_in (k.space task) name ≡ Some x → port_named x ≡ Some p →
+      (held s task receive p ≡ one_if (has_receive x)) × (held s task send p ≡ send_references x)
   -- ports
   pub live_port : (p : ℕ) → is_some (k.port p) ≡ s.live_port p
   pub ports_made : k.ports_made ≡ s.ports_made

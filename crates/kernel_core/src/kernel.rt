@@ -1,16 +1,20 @@
 //! The kernel's tables, and its steps.
-ghost use Rattle.std.specs.Prelude.{◌≡◌, ◌≢◌, ℕ, ◌+◌, ◌-◌, ◌<◌, ◌≤◌, ◌↔◌, Bool, true, List, [], ◌∷◌, ◌++◌, length, slice_get, slice_set, Some, None, IfOk, IfErr, OnOk, OnErr, MatchOption, IsTrue};
+ghost use Rattle.std.specs.Prelude.{◌≡◌, ◌≢◌, ℕ, ◌+◌, ◌-◌, ◌<◌, ◌≤◌, ◌↔◌, true, List, [], ◌∷◌, ◌++◌, length, slice_get, slice_set, Some, None, IfOk, IfErr, OnOk, OnErr, MatchOption, IsTrue};
 ghost use Rattle.std.specs.FinMap as names;
-ghost use Rattle.mach_types.specs.Numbers.{kern_number, msg_number, most_names, most_rights, most_identities};
+ghost use Rattle.mach_types.specs.Numbers.{kern_number, msg_number, most_rights, most_identities};
 ghost use Rattle.mach_model.specs.State.{opening};
 ghost use Rattle.name_space.specs.declared.Entry.{Entry as EntryOf};
+ghost use Rattle.name_space.specs.Entry.{port_named, has_receive};
+ghost use Rattle.name_space.specs.Names.{SpaceView};
 ghost use Rattle.message_codec.specs.Parses.{Parses};
-ghost use Rattle.kernel_core.specs.View.{Space as SpaceView, tables, entry_at, FindsReceive};
+ghost use Rattle.kernel_core.specs.Kept.{Kept};
+ghost use Rattle.kernel_core.specs.View.{PortView, tables, entry_at, FindsReceive};
 ghost use Rattle.kernel_core.specs.Shows.{Shows};
 ghost use Rattle.kernel_core.specs.Answers.{Answers};
-ghost use Rattle.kernel_core.specs.Steps.{MakesPort, AddsPort, CannotMake, Delivers, CannotDeliver, Takes, TakesFront, FindsNone};
+ghost use Rattle.kernel_core.specs.Steps.{IsFree, MakesPort, AddsPort, CannotMake, Enqueues, Delivers, CannotDeliver, Takes, TakesFront, FindsNone};
 
-use crate::port::{MOST_BYTES, Message, Port};
+use crate::message::{Message, read_marks};
+use crate::port::Port;
 use mach_types::{
     Bytes, Disposition, Event, KernReturn, MsgReturn, Name, PortId, Reply, Right, SetId, TaskId,
     Waited,
@@ -22,6 +26,8 @@ use std::marker::Model;
 
 /// The most tasks that a kernel makes.
 const MOST_TASKS: usize = 65536;
+/// The most bytes that a message may have.
+const MOST_BYTES: u32 = 65536;
 
 /// Tasks, their names, ports and queued messages.
 ///
@@ -35,22 +41,28 @@ pub struct Kernel {
 }
 
 impl Model for Kernel {
-    ghost use Rattle.kernel_core.specs.View.{KernelView, view_code};
+    ghost use Rattle.std.specs.Prelude.{length};
+    ghost use Rattle.name_space.specs.contracts.Entry as entry;
+    ghost use Rattle.kernel_core.specs.contracts.port.Port as port;
+    ghost use Rattle.kernel_core.specs.View.{KernelView, NamesMade, view_code};
 
     ghost Value = { KernelView };
 
-    ghost coded = { view_code };
+    ghost coded = { view_code entry.the_row.coded port.the_row.coded };
 
     ghost view = { λ k. record { spaces = k.spaces.items; ports = k.ports.items; total = k.total } };
+
+    ghost invariant = { λ k. NamesMade k.spaces.items (length k.ports.items) };
 }
 
 /// The port whose receive right the entry has.
 fn receive_port(entry: Entry) -> Option<PortId>
-    ensures { MatchOption result ((p n : ℕ) → entry ≢ EntryOf.Port p true n) (λ p. (n : ℕ) × (entry ≡ EntryOf.Port p true n)) }
+    ensures { MatchOption result ((p : ℕ) → port_named entry ≡ Some p → has_receive entry ≢ true) (λ p. (port_named entry ≡ Some p) × (has_receive entry ≡ true)) }
 {
-    match &entry {
-        Entry::Port(port, true, _) => Some(*port),
-        _ => None,
+    if entry.has_receive() {
+        entry.port()
+    } else {
+        None
     }
 }
 
@@ -149,7 +161,7 @@ impl Kernel {
 
     /// One task more, with no names.
     fn push_task(&mut self) -> Result<(), AllocError>
-        ensures ok { OnOk result (self.new ≡ record self.old { spaces = self.old.spaces ++ names.empty ∷ [] }) }
+        ensures ok { OnOk result (self.new ≡ record self.old { spaces = self.old.spaces ++ record { names = names.empty; room = 0 } ∷ [] }) }
         ensures err { OnErr result (self.new ≡ self.old) }
     {
         let space = Space::new(self.alloc);
@@ -226,15 +238,17 @@ impl Kernel {
     /// A port more, named by the task. All growths come first: where one is refused, nothing changes.
     fn add_port(&mut self, task: TaskId, name: Name) -> Result<(), AllocError>
         requires there { task < length self.old.spaces }
-        requires room { (space : SpaceView) → slice_get self.old.spaces task ≡ Some space → names.len space < most_names }
+        requires free { (space : SpaceView) → slice_get self.old.spaces task ≡ Some space → IsFree space.names name }
         requires few { self.old.total < most_rights }
         ensures ids { length self.old.ports < most_identities }
         ensures ok { OnOk result (AddsPort self.old task name self.new) }
         ensures err { OnErr result (self.new ≡ self.old) }
     {
-        let right = Entry::Port(PortId::new(self.port_count() as u64), true, 0);
+        let right = Entry::Receive(PortId::new(self.port_count() as u64));
         self.ports.reserve(1)?;
-        self.spaces[task.number() as usize].insert(name, right)?;
+        let space = &mut self.spaces[task.number() as usize];
+        space.reserve(1)?;
+        space.insert(name, right);
         self.ports.push_reserved(Port::new(self.alloc));
         self.total += 1;
         Ok(())
@@ -264,41 +278,53 @@ impl Kernel {
             return Reply::Code(KernReturn::InvalidTask.number());
         }
         let bytes = bytes.as_slice();
-        let parsed = match parse(bytes) {
+        let parsed = match parse(self.alloc, bytes) {
             Ok(parsed) => parsed,
             Err(code) => return Reply::Code(code.number()),
         };
-        match self.deliver(task, &parsed, bytes) {
+        match self.deliver(task, parsed, bytes) {
             Ok(()) => Reply::Code(MsgReturn::Success.number()),
             Err(code) => Reply::Code(code.number()),
         }
     }
 
     /// Queues a message whose text was read.
-    fn deliver(&mut self, task: TaskId, parsed: &Parsed, bytes: &[u8]) -> Result<(), MsgReturn>
-        requires { Parses bytes.now parsed.now }
-        ensures ok { IfOk result (λ _. Delivers self.old task parsed.now bytes.now self.new) }
-        ensures err { IfErr result (λ code. (self.new ≡ self.old) × CannotDeliver self.old task parsed.now (msg_number code)) }
+    fn deliver(&mut self, task: TaskId, parsed: Parsed, bytes: &[u8]) -> Result<(), MsgReturn>
+        requires { Parses bytes.now parsed }
+        ensures ok { IfOk result (λ _. Delivers self.old task parsed bytes.now self.new) }
+        ensures err { IfErr result (λ code. (self.new ≡ self.old) × CannotDeliver self.old task parsed bytes.now (msg_number code)) }
     {
         if parsed.remote_kind != Disposition::MakeSend.number() || parsed.local_kind != 0 {
             return Err(MsgReturn::SendInvalidHeader);
         }
-        let index = match self.receive_right(task, parsed.remote) {
-            Some(index) => index,
-            None => return Err(MsgReturn::SendInvalidDest),
+        let marks = read_marks(self.alloc, bytes, parsed.spans.as_slice())?;
+        let Some(index) = self.receive_right(task, parsed.remote) else {
+            return Err(MsgReturn::SendInvalidDest);
         };
-        if self.ports[index].is_at_limit() {
+        if self.port(index).is_at_limit() {
             return Err(MsgReturn::SendTimedOut);
         }
         if self.has_all_rights() {
             return Err(MsgReturn::SendNoBuffer);
         }
-        let Ok(message) = Message::copy(self.alloc, parsed.id, bytes) else {
+        let Ok(message) = Message::copy(self.alloc, parsed, marks, bytes) else {
             return Err(MsgReturn::SendNoBuffer);
         };
-        if self.ports[index].enqueue(message).is_err() {
-            return Err(MsgReturn::SendNoBuffer);
+        match self.enqueue(index, message) {
+            Ok(()) => Ok(()),
+            Err(_) => Err(MsgReturn::SendNoBuffer),
         }
+    }
+
+    /// Appends a message to the port's queue, with a send right that is made for it.
+    fn enqueue(&mut self, port: usize, message: Message) -> Result<(), AllocError>
+        requires there { port < length self.old.ports }
+        requires room { (v : PortView) → slice_get self.old.ports port ≡ Some v → length v.waiting < v.limit }
+        requires few { self.old.total < most_rights }
+        ensures ok { OnOk result (Enqueues self.old port message self.new) }
+        ensures err { OnErr result (self.new ≡ self.old) }
+    {
+        self.ports[port].enqueue(message)?;
         self.total += 1;
         Ok(())
     }
@@ -325,24 +351,29 @@ impl Kernel {
         requires { port < length self.old.ports }
         ensures { Takes self.old port name room result self.new }
     {
-        let room = room.min(MOST_BYTES as u32);
+        let room = room.min(MOST_BYTES);
         match self.port(port).front_len() {
             None => Reply::Empty(Waited::Port(PortId::new(port as u64))),
             Some(length) if length > room => Reply::TooLarge(length),
             Some(_) => match self.dequeue(port, name) {
-                Some(bytes) => Reply::Message(bytes),
-                None => unreachable!(),
+                Ok(Some(bytes)) => Reply::Message(bytes),
+                Ok(None) => unreachable!(),
+                Err(_) => Reply::Code(MsgReturn::ReceiveBodyErrorMemory.number()),
             },
         }
     }
 
-    /// Takes the port's front message; its destination right is consumed.
-    fn dequeue(&mut self, port: usize, name: Name) -> Option<Bytes>
+    /// Takes the port's front message; its destination right is consumed. Where memory is refused,
+    /// nothing changes.
+    fn dequeue(&mut self, port: usize, name: Name) -> Result<Option<Bytes>, AllocError>
         requires { port < length self.old.ports }
-        ensures { MatchOption result (FindsNone self.old port) (λ bytes. TakesFront self.old port name bytes self.new) }
+        ensures ok { IfOk result (λ taken. MatchOption taken (FindsNone self.old port) (λ bytes. TakesFront self.old port name bytes self.new)) }
+        ensures err { OnErr result (self.new ≡ self.old) }
     {
-        let bytes = self.ports[port].dequeue(name)?;
-        self.total = self.total.saturating_sub(1);
-        Some(bytes)
+        let taken = self.ports[port].dequeue(self.alloc, name)?;
+        if taken.is_some() {
+            self.total = self.total.saturating_sub(1);
+        }
+        Ok(taken)
     }
 }

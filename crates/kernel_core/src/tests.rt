@@ -104,3 +104,93 @@ fn refusals(rt: HostRuntime) -> Result<(), Fail> {
     assert!(rt; matches!(&told, Reply::Status(status) if *status == counted(0, 1, 1)));
     Ok(())
 }
+
+/// A message of this length for the port under name 1, its body zero bytes.
+fn of_length(alloc: Global, length: usize) -> Result<Event, AllocError> {
+    let mut bytes = Vec::from_slice(alloc, &smallest(1))?;
+    for _ in 24..length {
+        bytes.push(0)?;
+    }
+    Ok(Event::Send(TaskId::new(0), Bytes::from_vec(bytes)))
+}
+
+/// A message with a list of items for the port under name 1.
+fn complex(alloc: Global, items: &[u8]) -> Result<Event, AllocError> {
+    let mut bytes = Vec::from_slice(alloc, &smallest(1))?;
+    bytes[3] = 0x80;
+    for byte in items {
+        bytes.push(*byte)?;
+    }
+    Ok(Event::Send(TaskId::new(0), Bytes::from_vec(bytes)))
+}
+
+/// A kernel with one task, which has a port's receive right under name 1.
+fn with_port(alloc: Global) -> Kernel {
+    let mut kernel = Kernel::new(alloc);
+    let _ = kernel.step(&Event::TaskCreate);
+    let _ = kernel.step(&Event::Allocate(TaskId::new(0), 1));
+    kernel
+}
+
+/// Null and dead words stay null and dead, and the kind of right is the one that was sent.
+#[test]
+fn null_and_dead_words(rt: HostRuntime) -> Result<(), Fail> {
+    let mut kernel = with_port(rt.alloc());
+    let words = [0x14, 0x20, 2, 0x10, 0, 0, 0, 0, 0xff, 0xff, 0xff, 0xff];
+    let reply = kernel.step(&complex(rt.alloc(), &words)?);
+    assert!(rt; is_code(&reply, 0));
+    let large = kernel.step(&receive(1, 35));
+    assert!(rt; matches!(&large, Reply::TooLarge(length) if *length == 36));
+    let received = kernel.step(&receive(1, 36));
+    let Reply::Message(bytes) = &received else {
+        return Err(Fail::from("no message"));
+    };
+    let expected = [
+        0, 0x11, 0, 0x80, 36, 0, 0, 0, 0, 0, 0, 0, 1, 0, 0, 0, 0, 0, 0, 0, 7, 0, 0, 0, 0x11, 0x20,
+        2, 0x10, 0, 0, 0, 0, 0xff, 0xff, 0xff, 0xff,
+    ];
+    assert_eq!(rt; bytes.as_slice(), expected.as_slice());
+    Ok(())
+}
+
+/// Data of no bits is an item that is only its descriptor.
+#[test]
+fn an_empty_item(rt: HostRuntime) -> Result<(), Fail> {
+    let mut kernel = with_port(rt.alloc());
+    let reply = kernel.step(&complex(rt.alloc(), &[8, 8, 0, 0x10])?);
+    assert!(rt; is_code(&reply, 0));
+    let received = kernel.step(&receive(1, 28));
+    let Reply::Message(bytes) = &received else {
+        return Err(Fail::from("no message"));
+    };
+    let expected = [
+        0, 0x11, 0, 0x80, 28, 0, 0, 0, 0, 0, 0, 0, 1, 0, 0, 0, 0, 0, 0, 0, 7, 0, 0, 0, 8, 8, 0,
+        0x10,
+    ];
+    assert_eq!(rt; bytes.as_slice(), expected.as_slice());
+    Ok(())
+}
+
+/// What a text is refused for, and a word that may be a name.
+#[test]
+fn refused_texts(rt: HostRuntime) -> Result<(), Fail> {
+    let mut kernel = with_port(rt.alloc());
+    let past_the_end = kernel.step(&complex(rt.alloc(), &[8, 8, 5, 0x10, 0x41, 0x42, 0x43, 0x44])?);
+    assert!(rt; is_code(&past_the_end, 0x1000_0008));
+    let short = kernel.step(&send(rt.alloc(), &smallest(1)[..23])?);
+    assert!(rt; is_code(&short, 0x1000_0008));
+    let uneven = kernel.step(&of_length(rt.alloc(), 26)?);
+    assert!(rt; is_code(&uneven, 0x1000_0008));
+    let long = kernel.step(&of_length(rt.alloc(), 65_540)?);
+    assert!(rt; is_code(&long, 0x1000_0002));
+    let longest = kernel.step(&of_length(rt.alloc(), 65_536)?);
+    assert!(rt; is_code(&longest, 0));
+    let named = kernel.step(&complex(rt.alloc(), &[0x14, 0x20, 1, 0x10, 1, 0, 0, 0])?);
+    assert!(rt; is_code(&named, 0x1000_000a));
+    let mut by_once = smallest(1);
+    by_once[0] = 0x15;
+    by_once[3] = 0x80;
+    let reply = kernel.step(&send(rt.alloc(), &by_once)?);
+    assert!(rt; is_code(&reply, 0x1000_0010));
+    Ok(())
+}

@@ -24,10 +24,10 @@ use Rattle.mach_model.proofs.Plain.{with_sent, plain_message, plain_sends, plain
 use Rattle.mach_model.proofs.StepLawful.{quiet_step}
 use Rattle.mach_laws.specs.FirstMessage.{sent_text, received_text, status_after, first_events, first_replies}
 
-abbrev s1 : State
+abbrev pub s1 : State
 s1 = record opening { live_task = at opening.live_task 0 true; tasks_made = 1; naming = at opening.naming 0 map.empty }
 
-abbrev s2 : State
+abbrev pub s2 : State
 s2 = record (with_port 0 1 s1) { ledger = token receive 0 (in_task 0) ∷ [] }
 
 abbrev s3 : State
@@ -45,7 +45,7 @@ fresh_one = record { unused = get-empty nat_cmp 1; not_null = omega arith; least
 few_names : map.len (map.empty {K = ℕ} {X = Target} {R = nat_cmp}) < 65535
 few_names = rw len-empty (omega arith)
 
-first : Step 0 opening Event.TaskCreate (Reply.Task 0) s1 × IsLawful s1
+pub first : Step 0 opening Event.TaskCreate (Reply.Task 0) s1 × IsLawful s1
 first = quiet_step 0 opening Event.TaskCreate (Reply.Task 0) s1 opening-lawful ((λ h. omega arith), tt) (record { task_is = refl; rest = refl }, refl)
 
 second_guards : NoneHolds (guards s1 (Event.Allocate 0 1))
@@ -56,17 +56,17 @@ second_guards = ((λ h. cc), ((λ h. h.0 refl), ((λ h. h refl), (not_full, tt))
     not_full (inr (inl h)) = elim h.1 [ inl g ↦ omega (arith, g) | inr g ↦ omega (arith, g) ]
     not_full (inr (inr h)) = omega (arith, h.0)
 
-second : Step 1 s1 (Event.Allocate 0 1) (Reply.Name 1) s2 × IsLawful s2
+pub second : Step 1 s1 (Event.Allocate 0 1) (Reply.Name 1) s2 × IsLawful s2
 second = quiet_step 1 s1 (Event.Allocate 0 1) (Reply.Name 1) s2 first.1 second_guards (fresh_one, record { rest = refl; tokens = λ h. omega arith }, refl)
 
-good_header : ¬ (BadHeader 20 0)
+pub good_header : ¬ (BadHeader 20 0)
 good_header = grind arith
 
 sent_header : Header
 sent_header = record { remote_kind = 20; local_kind = 0; size = 24; remote = 1; local = 0; sequence = 0; id = 7 }
 
 third_guards : NoneHolds (guards s2 (Event.Send 0 sent_text))
-third_guards = ((λ h. cc), ((λ h. elim h [ inl g ↦ omega (arith, g) | inr g ↦ g refl ]), ((λ h. omega (arith, h)), (good_header, ((λ h. omega (arith, h)), tt)))))
+third_guards = ((λ h. cc), ((λ h. elim h [ inl g ↦ omega (arith, g) | inr g ↦ g refl ]), ((λ h. omega (arith, h)), (good_header, tt))))
 
 third : Step 2 s2 (Event.Send 0 sent_text) (Reply.Code 0) s3 × IsLawful s3
 unfolding sent_header

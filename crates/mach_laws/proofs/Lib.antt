@@ -7,3 +7,5 @@ mod Told
 mod Ordered
 mod First
 mod Answered
+mod OnceTaken
+mod NullAndDead

@@ -1,16 +1,17 @@
 -- What one step from a lawful state does to the logs, and takes from them.
-use Rattle.std.proofs.Common.{◌≡◌, ℕ, ◌+◌, ◌<◌, List, [], ◌∷◌, ◌++◌, Some, refl, sym, ap, subst, ◌∙◌, arith, Bool, ◌⊎◌, inl, inr, length}
+use Rattle.std.proofs.Common.{◌≡◌, ℕ, ◌+◌, ◌%◌, ◌^◌, ◌<◌, List, [], ◌∷◌, ◌++◌, Some, refl, sym, ap, subst, ◌∙◌, arith, true, false, Bool, ◌⊎◌, inl, inr, length}
 use Rattle.std.specs.Prelude.{if◌then◌else◌}
 use Rattle.std.proofs.lemmas.Bool.Decides.{eqb_tells}
 use Rattle.mach_types.specs.declared.calls.Event.{Event}
 use Rattle.mach_types.specs.declared.calls.Reply.{Reply}
 use Rattle.mach_types.specs.declared.calls.Waited.{Waited}
 use Rattle.mach_types.specs.Guards.{Guards, FirstIs, NoneHolds}
-use Rattle.mach_types.specs.TextGuards.{text_guards}
-use Rattle.mach_types.specs.Tokens.{receive, is_held}
-use Rattle.mach_types.specs.Messages.{asof}
+use Rattle.mach_types.specs.TextGuards.{item_guards}
+use Rattle.mach_types.specs.Tokens.{receive, in_message, token, is_of, is_held}
+use Rattle.mach_types.specs.Messages.{Entry, asof}
 use Rattle.mach_types.specs.Grammar.{Header, WireBody}
 use Rattle.mach_model.specs.State.{State, Target, lookup, Holds, at}
+use Rattle.mach_model.specs.NotYet.{not_yet_guards}
 use Rattle.mach_model.specs.Sending.{Sends, SendRefuses, RightsRefuse, sent_guards, place_of, entry}
 use Rattle.mach_model.specs.Receiving.{Owed, waits_for, TakesFrom, Receives}
 use Rattle.mach_model.specs.ReceivedMeans.{ReceivedMeans}
@@ -19,12 +20,14 @@ use Rattle.mach_model.specs.Machine.{Does, Step}
 use Rattle.mach_model.specs.Lawful.{IsLawful}
 use Rattle.mach_model.proofs.At.{at_same, at_other, at_own}
 use Rattle.mach_model.proofs.Settling.{IsReordered}
-use Rattle.mach_model.proofs.Plain.{Sends-plain, Receives-plain}
-use Rattle.mach_model.proofs.StepLawful.{Done-mid, TakesFrom-holds}
+use Rattle.mach_model.proofs.Weigh.{both_test}
+use Rattle.mach_model.proofs.SendLawful.{Sends-adds}
+use Rattle.mach_model.proofs.ReceiveLawful.{Receives-removes}
+use Rattle.mach_model.proofs.StepLawful.{Done-mid, TakesFrom-holds, TakesFrom-live, not_false}
 use Rattle.mach_laws.specs.Sent.{Accepts}
 use Rattle.mach_laws.specs.Received.{NamesSource, Delivers}
 use Rattle.mach_laws.proofs.Meanings.{Sends-means}
-use Rattle.mach_laws.proofs.Receiving.{Gives}
+use Rattle.mach_laws.proofs.Receiving.{Gives, GiveReply-means, GiveBody-means}
 use Rattle.mach_laws.proofs.Apart.{Receives-received, ReceivedMeans-later}
 
 -- ---- refusals are never answered with 0
@@ -47,24 +50,55 @@ rights_code s task header written code (inr (inl h)) = elim h.3 [
 rights_code s task header written code (inr (inr h)) = FirstIs-code (sent_guards h.0 (place_of s h.0) h.1) code (omega arith, (omega arith, (omega arith, tt))) h.3
 
 send_code : (s : State) (task : ℕ) (bytes : List ℕ) (code : ℕ) → SendRefuses s task bytes code → 0 < code
-send_code s task bytes code h = elim h.3 [
+send_code s task bytes code (inl h) =
+    let i = h.1.refused in
+    FirstIs-code (item_guards h.1.rest i.name i.size i.number i.before) code (omega arith, (omega arith, (omega arith, tt))) i.refused
+send_code s task bytes code (inr h) = elim h.3 [
   | inl g ↦ omega (arith, g)
-  | inr (inl g) ↦ omega (arith, g.1)
-  | inr (inr g) ↦ rights_code s task h.0 h.1 code g.1
+  | inr g ↦ elim g [
+    | inl f ↦ FirstIs-code (not_yet_guards h.0 h.1) code (omega arith, (omega arith, tt)) f
+    | inr f ↦ rights_code s task h.0 h.1 code f.1
+  ]
 ]
 
 refused_send : (s : State) (task : ℕ) (bytes : List ℕ) (code : ℕ) → Refuses s (Event.Send task bytes) code → 0 < code
-refused_send s task bytes code (inl h) = FirstIs-code (guards s (Event.Send task bytes)) code (omega arith, (omega arith, (omega arith, (omega arith, (omega arith, tt))))) h
+refused_send s task bytes code (inl h) = FirstIs-code (guards s (Event.Send task bytes)) code (omega arith, (omega arith, (omega arith, (omega arith, tt)))) h
 refused_send s task bytes code (inr h) = send_code s task bytes code h.1
+
+-- ---- what an event leaves as it is
+
+-- copying in and out leave the logs, and what was taken from them
+sent_log : (now task : ℕ) (bytes : List ℕ) (old mid : State) → IsLawful old → (s : Sends now task bytes old mid) → (q : ℕ) →
+    mid.log q ≡ at old.log s.m.destination (old.log s.m.destination ++ entry now s.m ∷ []) q
+sent_log now task bytes old mid l s q =
+    let copied : s.copied_state.log ≡ old.log = ap (λ (x : State). x.log) (Sends-adds now task bytes old mid l s).rest in
+    ap (λ (x : State). x.log q) s.rest ∙ ap (λ (f : ℕ → List Entry). at f s.m.destination (f s.m.destination ++ entry now s.m ∷ []) q) copied
+
+sent_taken : (now task : ℕ) (bytes : List ℕ) (old mid : State) → IsLawful old → (s : Sends now task bytes old mid) → (q : ℕ) → mid.taken q ≡ old.taken q
+sent_taken now task bytes old mid l s q = ap (λ (x : State). x.taken q) s.rest ∙ ap (λ (x : State). x.taken q) (Sends-adds now task bytes old mid l s).rest
+
+-- what a receipt leaves
+record Received (port : ℕ) (old mid : State) : Type 0 where
+  log : (q : ℕ) → mid.log q ≡ old.log q
+  taken : (q : ℕ) → mid.taken q ≡ at old.taken port (old.taken port + 1) q
+  live : mid.live_port ≡ old.live_port
+
+received_state : (task port room : ℕ) (bytes : List ℕ) (old mid : State) → IsLawful old → old.live_port port ≡ true → old.live_task task ≡ true → Receives task port room bytes old mid → Received port old mid
+received_state task port room bytes old mid l live is_task r =
+    let x = (Receives-removes task port room bytes old mid l live is_task r).rest in
+    record {
+      log = λ q. ap (λ (s : State). s.log q) x ∙ ap (λ (s : State). s.log q) r.takes.rest;
+      taken = λ q. ap (λ (s : State). s.taken q) x ∙ ap (λ (s : State). s.taken q) r.takes.rest;
+      live = ap (λ (s : State). s.live_port) x ∙ ap (λ (s : State). s.live_port) r.takes.rest;
+    }
 
 -- ---- sends
 
-pub Sends-accepts : (now task : ℕ) (bytes : List ℕ) (old mid new : State) → IsLawful old → NoneHolds (text_guards bytes) → Sends now task bytes old mid → IsReordered mid new →
+pub Sends-accepts : (now task : ℕ) (bytes : List ℕ) (old mid new : State) → IsLawful old → Sends now task bytes old mid → IsReordered mid new →
     Accepts now task bytes old new
-Sends-accepts now task bytes old mid new l good s r =
-    let plain = Sends-plain now task bytes old mid good s in
+Sends-accepts now task bytes old mid new l s r =
     let p = s.m.destination in
-    let log : (q : ℕ) → new.log q ≡ at old.log p (old.log p ++ entry now s.m ∷ []) q = λ q. ap (λ (x : State). x.log q) r.rest ∙ ap (λ (x : State). x.log q) plain.rest in
+    let log : (q : ℕ) → new.log q ≡ at old.log p (old.log p ++ entry now s.m ∷ []) q = λ q. ap (λ (x : State). x.log q) r.rest ∙ sent_log now task bytes old mid l s q in
     record {
       m = s.m;
       means = Sends-means now task bytes old mid (record { no_null = l.not_null task; no_dead = l.not_dead task }) s;
@@ -80,7 +114,7 @@ Step-accepts now old task bytes new l (inl r) =
     code_of : (a b : ℕ) → Reply.Code a ≡ Reply.Code b → a ≡ b
     code_of a b e = cc
 Step-accepts now old task bytes new l (inr d) =
-    Sends-accepts now task bytes old d.mid new l d.unrefused.1 d.does.1 (Done-mid now old (Event.Send task bytes) (Reply.Code 0) new l d).1
+    Sends-accepts now task bytes old d.mid new l d.does.1 (Done-mid now old (Event.Send task bytes) (Reply.Code 0) new l d).1
 
 -- A step changes no log, or it accepts a send.
 pub record AcceptsBy (now : ℕ) (old : State) (event : Event) (reply : Reply) (new : State) : Type 0 where
@@ -110,11 +144,10 @@ Does-logs now old (Event.Allocate task right) (Reply.Name name) mid owed new l g
     inl (λ p. ap (λ (x : State). x.log p) r.rest ∙ ap (λ (x : State). x.log p) d.1.rest ∙ made_log old l p)
 Does-logs now old (Event.ReceiveStatus task name) (Reply.Status status) mid owed new l g d r = inl (same_logs old mid new d.1 r)
 Does-logs now old (Event.Send task bytes) (Reply.Code code) mid owed new l g d r =
-    inr (record { task = task; bytes = bytes; is_event = refl; is_reply = ap Reply.Code d.0; accepts = Sends-accepts now task bytes old mid new l g.1 d.1 r })
+    inr (record { task = task; bytes = bytes; is_event = refl; is_reply = ap Reply.Code d.0; accepts = Sends-accepts now task bytes old mid new l d.1 r })
 Does-logs now old (Event.Receive task name room large) (Reply.Message bytes) mid owed new l g d r =
-    let x = d.2.2 in
-    let plain = Receives-plain task d.2.0 room bytes old mid x (l.plain_messages d.2.0 (old.taken d.2.0) x.e x.takes.front) in
-    inl (λ p. ap (λ (x : State). x.log p) r.rest ∙ ap (λ (x : State). x.log p) plain.rest)
+    let x = received_state task d.2.0 room bytes old mid l (TakesFrom-live old l task d.0 d.2.0 d.2.1) (not_false (old.live_task task) g.0) d.2.2 in
+    inl (λ p. ap (λ (x : State). x.log p) r.rest ∙ x.log p)
 Does-logs now old (Event.Receive task name room large) (Reply.Empty told) mid owed new l g d r = inl (same_logs old mid new d.2.2 r)
 Does-logs now old (Event.Receive task name room large) (Reply.TooLarge n) mid owed new l g d r = inl (same_logs old mid new d.2.6 r)
 Does-logs now old (Event.Receive task name room large) reply mid owed new l g d r = absurd d.2
@@ -135,20 +168,37 @@ reordered_gives : (task : ℕ) (mid new : State) → IsReordered mid new → Giv
 reordered_gives task mid new r = record {
   grows = λ n x e. ap (λ (s : State). lookup s task n) r.rest ∙ e;
   live = ap (λ (s : State). s.live_port) r.rest;
+  sequence = ap (λ (s : State). s.sequence) r.rest;
   holds = λ k q. let m = r.tokens (λ x. if is_held task k q x then 1 else 0) in omega (arith, m);
 }
 
-pub Receives-delivers : (task name room : ℕ) (bytes : List ℕ) (old mid new : State) (waited : Waited) (p : ℕ) → IsLawful old → waits_for task name old waited → TakesFrom old task waited p →
+-- a receipt uses the number that its port is at
+numbered : (task port room : ℕ) (bytes : List ℕ) (old mid : State) → Receives task port room bytes old mid → mid.sequence port ≡ (old.sequence port + 1) % 2 ^ 32
+numbered task port room bytes old mid r =
+    let place = in_message port (old.taken port) in
+    let a = (GiveReply-means task place r.e.message.reply r.taken r.taken r.header.remote_kind r.header.remote r.second refl (λ n x e. e) r.reply).0 in
+    let b = (GiveBody-means task place r.e.message.body r.second r.second r.written mid refl (λ n x e. e) r.body).0 in
+    ap (λ (f : ℕ → ℕ). f port) (b.sequence ∙ a.sequence ∙ ap (λ (s : State). s.sequence) r.takes.rest) ∙ at_own old.sequence port ((old.sequence port + 1) % 2 ^ 32)
+
+-- a receiver loses no receive right
+still_holds : (task port room : ℕ) (bytes : List ℕ) (old mid : State) (r : Receives task port room bytes old mid) (q : ℕ) → Holds old task receive q → Holds mid task receive q
+still_holds task port room bytes old mid r q holds =
+    let place = in_message port (old.taken port) in
+    let a = (GiveReply-means task place r.e.message.reply r.taken r.taken r.header.remote_kind r.header.remote r.second refl (λ n x e. e) r.reply).0 in
+    let b = (GiveBody-means task place r.e.message.body r.second r.second r.written mid refl (λ n x e. e) r.body).0 in
+    let m = r.takes.tokens (λ x. if is_held task receive q x then 1 else 0) in
+    let z = both_test (is_of receive q (token r.e.message.kind port place)) false (inr refl) in
+    omega (arith, holds, m, z, a.holds receive q, b.holds receive q)
+
+pub Receives-delivers : (task name room : ℕ) (bytes : List ℕ) (old mid new : State) (waited : Waited) (p : ℕ) → IsLawful old → old.live_task task ≡ true → waits_for task name old waited → TakesFrom old task waited p →
     Receives task p room bytes old mid → IsReordered mid new → Delivers task name bytes old new
-Receives-delivers task name room bytes old mid new waited p l w t r o =
-    let plain = Receives-plain task p room bytes old mid r (l.plain_messages p (old.taken p) r.e r.takes.front) in
+Receives-delivers task name room bytes old mid new waited p l is_task w t r o =
+    let x = received_state task p room bytes old mid l (TakesFrom-live old l task waited p t) is_task r in
     let here = (l.sent_here p (old.taken p) r.e r.takes.front).0 in
-    let some = TakesFrom-holds old l task waited p t in
-    let same = plain.tokens (λ x. if is_held task receive p x then 1 else 0) in
-    let holds : Holds mid task receive p = omega (arith, some, same) in
+    let holds = still_holds task p room bytes old mid r p (TakesFrom-holds old l task waited p t) in
     let means = Receives-received task p room bytes old mid r here holds in
-    let live : new.live_port ≡ old.live_port = ap (λ (s : State). s.live_port) o.rest ∙ ap (λ (s : State). s.live_port) plain.rest in
-    let taken : (q : ℕ) → new.taken q ≡ at old.taken p (old.taken p + 1) q = λ q. ap (λ (s : State). s.taken q) o.rest ∙ ap (λ (s : State). s.taken q) plain.rest in
+    let live : new.live_port ≡ old.live_port = ap (λ (s : State). s.live_port) o.rest ∙ x.live in
+    let taken : (q : ℕ) → new.taken q ≡ at old.taken p (old.taken p + 1) q = λ q. ap (λ (s : State). s.taken q) o.rest ∙ x.taken q in
     record {
       port = p;
       source = source_of old task name p waited w t;
@@ -157,6 +207,7 @@ Receives-delivers task name room bytes old mid new waited p l w t r o =
       means = subst (λ (f : ℕ → Bool). ReceivedMeans task old new bytes (asof f r.e.message)) (sym live)
           (ReceivedMeans-later task old mid new bytes (asof old.live_port r.e.message) (reordered_gives task mid new o) means);
       taken = taken p ∙ at_own old.taken p (old.taken p + 1);
+      next = ap (λ (s : State). s.sequence p) o.rest ∙ numbered task p room bytes old mid r;
       others = λ q not. taken q ∙ at_other old.taken p (old.taken p + 1) q not;
     }
 
@@ -169,7 +220,7 @@ Step-delivers now old task name room large bytes new l (inl r) = absurd (no_code
     no_code bytes code e = cc
 Step-delivers now old task name room large bytes new l (inr d) =
     let x = d.does in
-    Receives-delivers task name room bytes old d.mid new x.0 x.2.0 l x.1 x.2.1 x.2.2 (Done-mid now old (Event.Receive task name room large) (Reply.Message bytes) new l d).1
+    Receives-delivers task name room bytes old d.mid new x.0 x.2.0 l (not_false (old.live_task task) d.unrefused.0) x.1 x.2.1 x.2.2 (Done-mid now old (Event.Receive task name room large) (Reply.Message bytes) new l d).1
 
 -- A step takes nothing from any port, or it gives a message.
 pub record DeliversBy (old : State) (event : Event) (reply : Reply) (new : State) : Type 0 where
@@ -206,7 +257,7 @@ Does-taken now old (Event.Allocate task right) (Reply.Name name) mid owed new l 
     inl (λ p. ap (λ (x : State). x.taken p) r.rest ∙ ap (λ (x : State). x.taken p) d.1.rest ∙ made_taken old l p)
 Does-taken now old (Event.ReceiveStatus task name) (Reply.Status status) mid owed new l g d r = inl (same_taken old mid new d.1 r)
 Does-taken now old (Event.Send task bytes) (Reply.Code code) mid owed new l g d r =
-    inl (λ p. ap (λ (x : State). x.taken p) r.rest ∙ ap (λ (x : State). x.taken p) (Sends-plain now task bytes old mid g.1 d.1).rest)
+    inl (λ p. ap (λ (x : State). x.taken p) r.rest ∙ sent_taken now task bytes old mid l d.1 p)
 Does-taken now old (Event.Receive task name room large) (Reply.Message bytes) mid owed new l g d r =
     inr (record {
       task = task;
@@ -216,7 +267,7 @@ Does-taken now old (Event.Receive task name room large) (Reply.Message bytes) mi
       bytes = bytes;
       is_event = refl;
       is_reply = refl;
-      delivers = Receives-delivers task name room bytes old mid new d.0 d.2.0 l d.1 d.2.1 d.2.2 r;
+      delivers = Receives-delivers task name room bytes old mid new d.0 d.2.0 l (not_false (old.live_task task) g.0) d.1 d.2.1 d.2.2 r;
     })
 Does-taken now old (Event.Receive task name room large) (Reply.Empty told) mid owed new l g d r = inl (same_taken old mid new d.2.2 r)
 Does-taken now old (Event.Receive task name room large) (Reply.TooLarge n) mid owed new l g d r = inl (same_taken old mid new d.2.6 r)

@@ -3,3 +3,4 @@ pub mod Sent
 pub mod Received
 pub mod Order
 pub mod FirstMessage
+pub mod NullAndDead

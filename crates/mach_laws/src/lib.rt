@@ -9,6 +9,7 @@ ghost use Rattle.mach_types.specs.declared.calls.Event.{Event};
 ghost use Rattle.mach_types.specs.declared.calls.Reply.{Reply};
 ghost use Rattle.mach_types.specs.declared.calls.Waited.{Waited};
 ghost use Rattle.mach_types.specs.Tokens.{count, is_of, receive as receive_kind};
+ghost use Rattle.mach_types.specs.Grammar.{Header, WireBody, Spells};
 ghost use Rattle.mach_model.specs.State.{State, Target, lookup, queue};
 ghost use Rattle.mach_model.specs.Machine.{Step, Run};
 ghost use Rattle.mach_model.specs.Lawful.{IsLawful};
@@ -17,6 +18,7 @@ ghost use Rattle.mach_laws.specs.Sent.{Accepts};
 ghost use Rattle.mach_laws.specs.Received.{Delivers, WasSent};
 ghost use Rattle.mach_laws.specs.Order.{InOrder};
 ghost use Rattle.mach_laws.specs.FirstMessage.{first_events, first_replies};
+ghost use Rattle.mach_laws.specs.NullAndDead.{words_events, words_replies};
 
 /// Every run leads to a lawful state: rights, names, logs and places agree.
 pub fn every_run_is_lawful()
@@ -38,8 +40,8 @@ pub fn sent_messages_mean()
 {}
 
 /// After every run a receive that is answered with bytes takes one message, the one in front of a port
-/// that the receiver named, and the bytes mean it through the receiver's names after the receive
-/// (IPC Interface, `mach_msg`).
+/// that the receiver named, and the bytes mean it through the receiver's names after the receive. Their
+/// sequence number is the one that the port was at, which goes on by one (IPC Interface, `mach_msg`).
 pub fn received_messages_mean()
     ensures { (events : List Event) (replies : List Reply) (s : State) → Run events replies s →
         (task name room : ℕ) (large : Bool) (bytes : List ℕ) (new : State) →
@@ -75,6 +77,13 @@ pub fn refusals_change_nothing()
     ensures { (now : ℕ) (old new : State) (event : Event) (code : ℕ) → Step now old event (Reply.Code code) new → code ≢ 0 → new ≡ old }
 {}
 
+/// A message to a send-once right is never told that the queue is full (`MACH_SEND_TIMED_OUT`): only a
+/// destination by a send right is.
+pub fn once_is_never_full()
+    ensures { (now : ℕ) (old new : State) (task : ℕ) (bytes : List ℕ) → Step now old (Event.Send task bytes) (Reply.Code 0x10000004) new →
+        (header : Header) (written : WireBody) → Spells bytes header written → (header.remote_kind ≢ 18) × (header.remote_kind ≢ 21) }
+{}
+
 /// A receive by a port's name is answered that there is no message only where none is queued.
 pub fn empty_means_empty()
     ensures { (now : ℕ) (old new : State) (task name room : ℕ) (large : Bool) (told : Waited) →
@@ -85,4 +94,10 @@ pub fn empty_means_empty()
 /// The laws speak of something: a task that makes a port, sends a message to it and receives it is a run.
 pub fn first_message()
     ensures { (s : State) × Run first_events first_replies s }
+{}
+
+/// They speak of bodies of items: a message whose body has a null and a dead word under one descriptor is
+/// a run. The words come out as they went in, under the kind of right that was sent.
+pub fn null_and_dead_words()
+    ensures { (s : State) × Run words_events words_replies s }
 {}

@@ -12,7 +12,6 @@ use Rattle.mach_model.specs.State.{State, Target, Names, lookup, held, Holds, qu
 use Rattle.mach_model.specs.Dying.{same_place}
 use Rattle.mach_model.specs.Making.{with_port, AllocatesPort}
 use Rattle.mach_model.specs.Carried.{message_count, lying}
-use Rattle.mach_model.specs.NotYet.{IsPlain}
 use Rattle.mach_model.specs.Lawful.{IsLawful, is_once, onces, HasReferences}
 use Rattle.mach_model.proofs.Weigh.{length-weigh, both_test, lying_le_of}
 use Rattle.mach_model.proofs.At.{at_same, at_other, at_own, at_all, if_same, if_other, both_same, slice_get_drop}
@@ -268,7 +267,7 @@ module _ (s : State) (task name : ℕ) (ledger : List Token) (l : IsLawful s) (i
     one_kept = λ r. let t = tokens_for (λ x. same_place (in_request r) x.place) in let h = l.one_kept r in omega (arith, t, h);
     once_kept = λ r kind q not. lying_kept kind q r ∙ l.once_kept r kind q not;
     none_stands = l.none_stands;
-    plain_messages = old_entry (λ p e. IsPlain e.message) l.plain_messages;
+    none_carried = λ p k q. lying_same receive q p k ∙ l.none_carried p k q;
   }
 
 pub AllocatesPort-lawful : (task name : ℕ) (old mid : State) → IsLawful old → old.live_task task ≡ true → IsFresh (old.naming task) name → map.len (old.naming task) < most_names →

@@ -68,7 +68,7 @@ module _ (s : State) (l : IsLawful s) where
     one_kept = l.one_kept;
     once_kept = l.once_kept;
     none_stands = l.none_stands;
-    plain_messages = l.plain_messages;
+    none_carried = l.none_carried;
   }
 
   pub CreatesTask-lawful : (t : ℕ) (mid : State) → CreatesTask s t mid → IsLawful mid

@@ -94,11 +94,11 @@ no_values {V} test = ap (λ (es : List (ℕ × V)). tally test (values_of es)) (
     no_entries [] e = refl
     no_entries (x ∷ es) e = absurd (omega arith)
 
-removed_own : {V : Type 0} (m : map.FinMap nat_cmp V) (name : ℕ) → map.get (map.remove m name) name ≡ None
+pub removed_own : {V : Type 0} (m : map.FinMap nat_cmp V) (name : ℕ) → map.get (map.remove m name) name ≡ None
 removed_own m name = get-remove nat_cmp_total m name name ∙ rw ((eq_by_cmp_equiv nat_cmp_total).refl name)
 
 -- a name that is taken away and put again
-put_again : {V : Type 0} (m : map.FinMap nat_cmp V) (name : ℕ) (v : V) → map.get m name ≡ Some v → map.insert (map.remove m name) name v ≡ m
+pub put_again : {V : Type 0} (m : map.FinMap nat_cmp V) (name : ℕ) (v : V) → map.get m name ≡ Some v → map.insert (map.remove m name) name v ≡ m
 put_again {V} m name v is = alike _ m (λ n. get-insert nat_cmp_total (map.remove m name) name v n ∙ (rw (get-remove nat_cmp_total m name n) (go n (nat_cmp n name) refl)))
   where
     go : (n : ℕ) (r : Ordering) → nat_cmp n name ≡ r → cond (is_eq r) (Some v) (cond (is_eq r) None (map.get m n)) ≡ map.get m n

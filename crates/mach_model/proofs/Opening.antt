@@ -50,5 +50,5 @@ opening-lawful = record {
   one_kept = λ r. omega arith;
   once_kept = λ r kind q not. refl;
   none_stands = λ r. refl;
-  plain_messages = λ p k e is. absurd (no_element k e is);
+  none_carried = λ p k q. refl;
 }

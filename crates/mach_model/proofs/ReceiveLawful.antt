@@ -1,76 +1,79 @@
--- A message that is taken by a receipt leaves a lawful state.
-use Rattle.std.proofs.Common.{◌≡◌, ℕ, zero, suc, ◌+◌, ◌%◌, ◌^◌, ◌<◌, ◌≤◌, List, [], ◌∷◌, Some, refl, sym, ap, subst, ◌∙◌, arith, true, false, Bool, ◌⊎◌, inl, inr, length}
-use Rattle.std.specs.Prelude.{if◌then◌else◌, ◌==◌, ◌&&◌, slice_get, drop}
+-- A message that is received, whatever it carries, leaves a lawful state.
+use Rattle.std.proofs.Common.{◌≡◌, ℕ, suc, ◌+◌, ◌%◌, ◌^◌, ◌<◌, ◌≤◌, List, [], ◌∷◌, Some, refl, sym, ap, subst, ◌∙◌, arith, true, false, Bool, ◌⊎◌, inl, inr, length}
+use Rattle.std.specs.Prelude.{if◌then◌else◌, ◌==◌, ◌&&◌, ◌≢◌, slice_get, drop}
 use Rattle.std.proofs.lemmas.Bool.Decides.{eqb_tells}
-use Rattle.std.proofs.lemmas.Bool.{eq-eqb}
 use Rattle.std.proofs.lemmas.Option.{slice_get_within}
+use Rattle.mach_types.specs.Numbers.{most_rights}
 use Rattle.mach_types.specs.Tokens.{Kind, receive, send, send_once, Place, in_message, in_request, Token, token, count, is_of, is_held, same_kind, Moves}
-use Rattle.mach_types.specs.Messages.{Entry}
+use Rattle.mach_types.specs.Messages.{to_port, Entry}
 use Rattle.mach_model.specs.State.{State, held, queue}
 use Rattle.mach_model.specs.Dying.{same_place}
-use Rattle.mach_model.specs.Carried.{message_count, lying}
-use Rattle.mach_model.specs.Receiving.{IsFront, with_taken}
+use Rattle.mach_model.specs.Carried.{mark_count, reply_count, body_count, message_count, lying}
+use Rattle.mach_model.specs.Receiving.{IsFront, with_taken, Receives}
 use Rattle.mach_model.specs.Lawful.{IsLawful}
 use Rattle.mach_model.proofs.Weigh.{length-weigh, both_test, lying_le_of}
-use Rattle.mach_model.proofs.At.{at_same, at_other, at_all, elsewhere, slice_get_drop}
-use Rattle.mach_model.proofs.Plain.{ReceivesPlain}
-use Rattle.mach_model.proofs.SendLawful.{plain_count}
+use Rattle.mach_model.proofs.At.{at_same, at_own, at_other, at_all, elsewhere, slice_get_drop}
+use Rattle.mach_model.proofs.Moving.{IsMoving, shape, same_naming, task_naming, arrived}
+use Rattle.mach_model.proofs.CopyingIn.{at_entry}
+use Rattle.mach_model.proofs.CopyingOut.{Removes}
+use Rattle.mach_model.proofs.CopyingMarks.{GiveBoth-removes}
+
+-- ---- the front entry is taken: its rights are on their way, but for its destination's
 
 module _ (s : State) (p : ℕ) (e : Entry) (ledger : List Token) (l : IsLawful s) (live : s.live_port p ≡ true) (front : IsFront s p e)
-    (moves : Moves s.ledger ledger (token send p (in_message p (s.taken p)) ∷ []) []) where
+    (moves : Moves s.ledger ledger (token e.message.kind p (in_message p (s.taken p)) ∷ []) []) where
   abbrev new : State
   new = record (with_taken p s) { ledger = ledger }
 
-  tokens_for : (test : Token → Bool) → count test ledger + (if test (token send p (in_message p (s.taken p))) then 1 else 0) ≡ count test s.ledger
+  abbrev k : ℕ
+  k = s.taken p
+
+  here : (e.message.destination ≡ p) × (e.message.kind ≢ receive)
+  here = l.sent_here p k e front
+
+  tokens_for : (test : Token → Bool) → count test ledger + (if test (token e.message.kind p (in_message p k)) then 1 else 0) ≡ count test s.ledger
   tokens_for test = let m = moves (λ x. if test x then 1 else 0) in omega (arith, m)
 
   held_same : (t : ℕ) (kind : Kind) (q : ℕ) → held new t kind q ≡ held s t kind q
   held_same t kind q =
       let m = tokens_for (is_held t kind q) in
-      let z = both_test (is_of kind q (token send p (in_message p (s.taken p)))) false (inr refl) in omega (arith, m, z)
+      let z = both_test (is_of kind q (token e.message.kind p (in_message p k))) false (inr refl) in omega (arith, m, z)
+
+  no_receive : (c : Kind) → c ≢ receive → same_kind receive c ≡ false
+  no_receive receive not = absurd (not refl)
+  no_receive send not = refl
+  no_receive send_once not = refl
 
   of_receive : (q : ℕ) → count (is_of receive q) ledger ≡ count (is_of receive q) s.ledger
-  of_receive q = let m = tokens_for (is_of receive q) in omega (arith, m)
+  of_receive q =
+      let m = tokens_for (is_of receive q) in
+      let z = both_test (same_kind receive e.message.kind) (p == q) (inl (no_receive e.message.kind here.1)) in omega (arith, m, z)
+
+  lying_elsewhere : (kind : Kind) (q o j : ℕ) → (o ≡ p → j ≡ k → ⊥) → lying new kind q (in_message o j) ≡ lying s kind q (in_message o j)
+  lying_elsewhere kind q o j not =
+      let m = tokens_for (λ x. is_of kind q x && same_place (in_message o j) x.place) in
+      let z = both_test (is_of kind q (token e.message.kind p (in_message p k))) (o == p && j == k) (inr (elsewhere o p j k not)) in omega (arith, m, z)
 
   lying_less : (kind : Kind) (q : ℕ) (place : Place) → lying new kind q place ≤ lying s kind q place
   lying_less kind q place = let m = tokens_for (λ x. is_of kind q x && same_place place x.place) in omega (arith, m)
 
-  lying_elsewhere : (kind : Kind) (q o k : ℕ) → (o ≡ p → k ≡ s.taken p → ⊥) → lying new kind q (in_message o k) ≡ lying s kind q (in_message o k)
-  lying_elsewhere kind q o k not =
-      let m = tokens_for (λ x. is_of kind q x && same_place (in_message o k) x.place) in
-      let z = both_test (is_of kind q (token send p (in_message p (s.taken p)))) (o == p && k == s.taken p) (inr (elsewhere o p k (s.taken p) not)) in omega (arith, m, z)
+  -- what is on its way is what the reply and the body carry
+  lies : (kind : Kind) (q : ℕ) → s.live_port q ≡ true → lying new kind q (in_message p k) ≡ reply_count kind q e.message.reply + body_count kind q e.message.body
+  lies kind q live_q =
+      let m = tokens_for (λ x. is_of kind q x && same_place (in_message p k) x.place) in
+      let own = at_entry kind q p k e.message.kind p in
+      let queued : slice_get (queue s p) 0 ≡ Some e = slice_get_drop k (s.log p) 0 ∙ ap (slice_get (s.log p)) (omega arith) ∙ front in
+      let carried : lying s kind q (in_message p k) ≡ message_count kind q e.message =
+      subst (λ (n : ℕ). lying s kind q (in_message p n) ≡ message_count kind q e.message) (omega arith) (l.carried p 0 e live queued kind q live_q) in
+      let dest : mark_count kind q e.message.kind (to_port e.message.destination) ≡ mark_count kind q e.message.kind (to_port p) =
+      ap (λ (x : ℕ). mark_count kind q e.message.kind (to_port x)) here.0 in
+      omega (arith, m, own, carried, dest)
 
   taken_is : (q : ℕ) → q ≡ p → new.taken q ≡ s.taken p + 1
   taken_is q is = at_same s.taken p (s.taken p + 1) q is
 
   taken_other : (q : ℕ) → (q ≡ p → ⊥) → new.taken q ≡ s.taken q
   taken_other q not = at_other s.taken p (s.taken p + 1) q not
-
-  -- the right of the front entry is gone
-  none_left : (kind : Kind) (q : ℕ) → lying new kind q (in_message p (s.taken p)) ≡ 0
-  none_left kind q = go (s.live_port q) refl
-    where
-      here : (a b c : Bool) → b ≡ true → c ≡ true → (if a && (b && c) then suc zero else zero) ≡ (if a then suc zero else zero)
-      here true true true e f = refl
-      here true true false e f = absurd (cc)
-      here true false c e f = absurd (cc)
-      here false b c e f = refl
-
-      go : (b : Bool) → s.live_port q ≡ b → lying new kind q (in_message p (s.taken p)) ≡ 0
-      go false dead =
-          let a = lying_less kind q (in_message p (s.taken p)) in
-          let b = lying_le_of s kind q (in_message p (s.taken p)) in
-          let c = l.no_rights q dead kind in omega (arith, a, b, c)
-      go true live_q =
-          let m = tokens_for (λ x. is_of kind q x && same_place (in_message p (s.taken p)) x.place) in
-          let queued : slice_get (queue s p) 0 ≡ Some e = slice_get_drop (s.taken p) (s.log p) 0 ∙ ap (slice_get (s.log p)) (omega arith) ∙ front in
-          let carried : lying s kind q (in_message p (s.taken p)) ≡ message_count kind q e.message =
-          subst (λ (n : ℕ). lying s kind q (in_message p n) ≡ message_count kind q e.message) (omega arith) (l.carried p 0 e live queued kind q live_q) in
-          let at_p = (l.sent_here p (s.taken p) e front).0 in
-          let counted : message_count kind q e.message ≡ (if same_kind kind send && p == q then suc zero else zero) =
-          plain_count kind q e.message (l.plain_messages p (s.taken p) e front) ∙ ap (λ (x : ℕ). if same_kind kind send && x == q then suc zero else zero) at_p in
-          let same = here (same_kind kind send && p == q) (p == p) (s.taken p == s.taken p) (eq-eqb p p refl) (eq-eqb (s.taken p) (s.taken p) refl) in
-          omega (arith, m, carried, counted, same)
 
   carried : (q i : ℕ) (f : Entry) → new.live_port q ≡ true → slice_get (queue new q) i ≡ Some f → (kind : Kind) (r : ℕ) → new.live_port r ≡ true →
       lying new kind r (in_message q (new.taken q + i)) ≡ message_count kind r f.message
@@ -87,40 +90,31 @@ module _ (s : State) (p : ℕ) (e : Entry) (ledger : List Token) (l : IsLawful s
         rw t (lying_elsewhere kind r q (s.taken q + i) (λ x y. h.1 x) ∙ l.carried q i f live_q queued kind r live_r)
   ]
 
-  gone : (q k : ℕ) → (k < new.taken q) ⊎ (s.live_port q ≡ false) → (kind : Kind) (r : ℕ) → lying new kind r (in_message q k) ≡ 0
-  gone q k (inr dead) kind r = let a = lying_less kind r (in_message q k) in let b = l.gone q k (inr dead) kind r in omega (arith, a, b)
-  gone q k (inl below) kind r = elim (eqb_tells q p) [
-    | inl h ↦ elim (eqb_tells k (s.taken p)) [
-      | inl g ↦ rw (h.1, g.1) (none_left kind r)
-      | inr g ↦
-          let t = taken_is q h.1 in
-          let same : s.taken q ≡ s.taken p = ap s.taken h.1 in
-          let not = g.1 in
-          let a = lying_less kind r (in_message q k) in let b = l.gone q k (inl (omega (arith, below, t, not, same))) kind r in omega (arith, a, b)
-    ]
+  gone : (q j : ℕ) → (q ≡ p → j ≡ k → ⊥) → (j < new.taken q) ⊎ (new.live_port q ≡ false) → (kind : Kind) (r : ℕ) → lying new kind r (in_message q j) ≡ 0
+  gone q j not (inr dead) kind r = lying_elsewhere kind r q j not ∙ l.gone q j (inr dead) kind r
+  gone q j not (inl below) kind r = elim (eqb_tells q p) [
+    | inl h ↦
+        let t = taken_is q h.1 in
+        let same : s.taken q ≡ s.taken p = ap s.taken h.1 in
+        let other = not h.1 in
+        lying_elsewhere kind r q j not ∙ l.gone q j (inl (smaller j (new.taken q) (s.taken q) (s.taken p) below t same other)) kind r
     | inr h ↦
         let t = taken_other q h.1 in
-        let a = lying_less kind r (in_message q k) in let b = l.gone q k (inl (omega (arith, below, t))) kind r in omega (arith, a, b)
+        lying_elsewhere kind r q j not ∙ l.gone q j (inl (omega (arith, below, t))) kind r
   ]
+    where
+      smaller : (j a b c : ℕ) → j < a → a ≡ c + 1 → b ≡ c → (j ≡ c → ⊥) → j < b
+      smaller j a b c below t same not = omega (arith, below, t, same, not)
 
-  taken_lawful : IsLawful new
-  taken_lawful = record {
+  taken_moving : IsMoving new p k
+  taken_moving = record {
     made_task = l.made_task;
     no_task = l.no_task;
-    not_null = l.not_null;
-    not_dead = l.not_dead;
-    name_fits = l.name_fits;
-    few_names = l.few_names;
-    has_right = λ t n q is. let h = l.has_right t n q is in omega (arith, h, held_same t receive q, held_same t send q);
-    is_named = λ t q some. l.is_named t q (omega (arith, some, held_same t receive q, held_same t send q));
-    one_name = l.one_name;
-    once_names = λ t q. held_same t send_once q ∙ l.once_names t q;
-    references = l.references;
-    few_references = λ t q. let h = l.few_references t q in omega (arith, h, held_same t send q);
+    naming = λ t. same_naming (s.naming t) (held s t receive) (held s t send) (held s t send_once) (held new t receive) (held new t send) (held new t send_once) (task_naming s l t)
+        (held_same t receive) (held_same t send) (held_same t send_once);
     made_port = l.made_port;
     one_receive = λ q is. of_receive q ∙ l.one_receive q is;
     no_rights = λ q dead kind. let m = tokens_for (is_of kind q) in let z = l.no_rights q dead kind in omega (arith, m, z);
-    few_rights = let m = moves (λ x. 1) in let h = l.few_rights in omega (arith, m, h, length-weigh s.ledger, length-weigh ledger);
     limit_fits = l.limit_fits;
     make_send_fits = l.make_send_fits;
     sequence_fits = at_all (λ q n. n < 2 ^ 32) s.sequence p ((s.sequence p + 1) % 2 ^ 32) (omega arith) (λ q not. l.sequence_fits q);
@@ -130,16 +124,56 @@ module _ (s : State) (p : ℕ) (e : Entry) (ledger : List Token) (l : IsLawful s
     within = at_all (λ q n. n ≤ length (s.log q)) s.taken p (s.taken p + 1) (let h = slice_get_within (s.log p) (s.taken p) e front in omega (arith, h)) (λ q not. l.within q);
     sent_here = l.sent_here;
     made_marks = l.made_marks;
-    carried = carried;
+    carried = λ q i f not. carried q i f;
     gone = gone;
-    no_entry = λ q k above kind r. let a = lying_less kind r (in_message q k) in let b = l.no_entry q k above kind r in omega (arith, a, b);
+    no_entry = λ q j not above kind r. let a = lying_less kind r (in_message q j) in let b = l.no_entry q j above kind r in omega (arith, a, b);
     ended = λ r not kind q. let a = lying_less kind q (in_request r) in let b = l.ended r not kind q in omega (arith, a, b);
     one_kept = λ r. let m = tokens_for (λ x. same_place (in_request r) x.place) in let h = l.one_kept r in omega (arith, m, h);
     once_kept = λ r kind q not. let a = lying_less kind q (in_request r) in let b = l.once_kept r kind q not in omega (arith, a, b);
     none_stands = l.none_stands;
-    plain_messages = l.plain_messages;
+    none_carried = λ q j r not. let a = lying_less receive r (in_message q j) in let b = l.none_carried q j r in omega (arith, a, b);
   }
 
-pub ReceivesPlain-lawful : (task port room : ℕ) (bytes : List ℕ) (e : Entry) (old mid : State) → IsLawful old → old.live_port port ≡ true →
-    ReceivesPlain task port room bytes e old mid → IsLawful mid
-ReceivesPlain-lawful task port room bytes e old mid l live r = subst IsLawful (sym r.rest) (taken_lawful old port e mid.ledger l live r.front r.tokens)
+-- ---- a receipt
+
+-- what a receipt does from the state in which the entry was taken
+pub Receives-removes : (task port room : ℕ) (bytes : List ℕ) (old mid : State) → IsLawful old → old.live_port port ≡ true → old.live_task task ≡ true → (r : Receives task port room bytes old mid) →
+    Removes r.taken mid port (old.taken port) (λ c q. reply_count c q r.e.message.reply + body_count c q r.e.message.body)
+Receives-removes task port room bytes old mid l live is_task r =
+    let k = old.taken port in
+    let moving = subst (λ (x : State). IsMoving x port k) (sym r.takes.rest) (taken_moving old port r.e r.taken.ledger l live r.takes.front r.takes.tokens) in
+    let task_lives = ap (λ (x : State). x.live_task task) r.takes.rest ∙ is_task in
+    GiveBoth-removes task port k r.e.message.reply r.e.message.body r.taken r.second r.header.remote_kind r.header.remote r.written mid moving task_lives r.reply r.body
+
+pub Receives-lawful : (task port room : ℕ) (bytes : List ℕ) (old mid : State) → IsLawful old → old.live_port port ≡ true → old.live_task task ≡ true → Receives task port room bytes old mid → IsLawful mid
+Receives-lawful task port room bytes old mid l live is_task r =
+    let x = Receives-removes task port room bytes old mid l live is_task r in
+    arrived mid port (old.taken port) x.keeps (inl below) none few
+  where
+    rest : mid ≡ shape r.taken mid
+    rest = (Receives-removes task port room bytes old mid l live is_task r).rest
+
+    below : old.taken port < mid.taken port
+    below =
+        let a : mid.taken port ≡ old.taken port + 1 = ap (λ (x : State). x.taken port) rest ∙ ap (λ (x : State). x.taken port) r.takes.rest ∙ at_own old.taken port (old.taken port + 1) in
+        omega (arith, a)
+
+    few : length mid.ledger ≤ most_rights
+    few =
+        let a = (Receives-removes task port room bytes old mid l live is_task r).few in
+        let m = r.takes.tokens (λ x. 1) in
+        let h = l.few_rights in omega (arith, a, m, h, length-weigh old.ledger, length-weigh r.taken.ledger)
+
+    none : (kind : Kind) (q : ℕ) → lying mid kind q (in_message port (old.taken port)) ≡ 0
+    none kind q = go (mid.live_port q) refl
+      where
+        go : (b : Bool) → mid.live_port q ≡ b → lying mid kind q (in_message port (old.taken port)) ≡ 0
+        go false dead =
+            let x = Receives-removes task port room bytes old mid l live is_task r in
+            let a = lying_le_of mid kind q (in_message port (old.taken port)) in let b = x.keeps.no_rights q dead kind in omega (arith, a, b)
+        go true live_q =
+            let x = Receives-removes task port room bytes old mid l live is_task r in
+            let a : r.taken.live_port q ≡ true = sym (ap (λ (s : State). s.live_port q) rest) ∙ live_q in
+            let b : old.live_port q ≡ true = sym (ap (λ (s : State). s.live_port q) r.takes.rest) ∙ a in
+            let c = lies old port r.e r.taken.ledger l live r.takes.front r.takes.tokens kind q b in
+            let d = x.lies kind q a in omega (arith, c, d)

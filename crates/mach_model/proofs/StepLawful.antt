@@ -17,11 +17,10 @@ use Rattle.mach_model.specs.Lawful.{IsLawful}
 use Rattle.mach_model.proofs.Weigh.{length-weigh, held_le_of}
 use Rattle.mach_model.proofs.Settling.{IsReordered, quiet_settles, settles_quietly, alive}
 use Rattle.mach_model.proofs.Opening.{opening-lawful}
-use Rattle.mach_model.proofs.Plain.{Sends-plain, Receives-plain}
 use Rattle.mach_model.proofs.CreateLawful.{CreatesTask-lawful}
 use Rattle.mach_model.proofs.AllocateLawful.{AllocatesPort-lawful}
-use Rattle.mach_model.proofs.SendLawful.{SendsPlain-lawful}
-use Rattle.mach_model.proofs.ReceiveLawful.{ReceivesPlain-lawful}
+use Rattle.mach_model.proofs.SendLawful.{Sends-lawful}
+use Rattle.mach_model.proofs.ReceiveLawful.{Receives-lawful}
 
 -- ---- the order of the tokens is of no account
 
@@ -69,7 +68,7 @@ module _ (s : State) (ledger : List Token) (l : IsLawful s) (moves : Moves s.led
     one_kept = λ r. let m = same (λ x. same_place (in_request r) x.place) in let h = l.one_kept r in omega (arith, m, h);
     once_kept = λ r kind q not. same (λ x. is_of kind q x && same_place (in_request r) x.place) ∙ l.once_kept r kind q not;
     none_stands = l.none_stands;
-    plain_messages = l.plain_messages;
+    none_carried = λ p k q. same (λ x. is_of receive q x && same_place (in_message p k) x.place) ∙ l.none_carried p k q;
   }
 
 pub IsReordered-lawful : (mid new : State) → IsLawful mid → IsReordered mid new → IsLawful new
@@ -105,11 +104,9 @@ Does-lawful now old (Event.Allocate task right) (Reply.Name name) mid owed g d l
     above : (a b : ℕ) → (a ≤ b → ⊥) → b < a
     above a b not = omega (arith, not)
 Does-lawful now old (Event.ReceiveStatus task name) (Reply.Status status) mid owed g d l = subst IsLawful (sym d.1) l
-Does-lawful now old (Event.Send task bytes) (Reply.Code code) mid owed g d l = SendsPlain-lawful now task bytes d.1.m old mid l (Sends-plain now task bytes old mid g.1 d.1)
+Does-lawful now old (Event.Send task bytes) (Reply.Code code) mid owed g d l = Sends-lawful now task bytes old mid g.1 l d.1
 Does-lawful now old (Event.Receive task name room large) (Reply.Message bytes) mid owed g d l =
-    let r = d.2.2 in
-    ReceivesPlain-lawful task d.2.0 room bytes r.e old mid l (TakesFrom-live old l task d.0 d.2.0 d.2.1)
-    (Receives-plain task d.2.0 room bytes old mid r (l.plain_messages d.2.0 (old.taken d.2.0) r.e r.takes.front))
+    Receives-lawful task d.2.0 room bytes old mid l (TakesFrom-live old l task d.0 d.2.0 d.2.1) (not_false (old.live_task task) g.0) d.2.2
 Does-lawful now old (Event.Receive task name room large) (Reply.Empty told) mid owed g d l = subst IsLawful (sym d.2.2) l
 Does-lawful now old (Event.Receive task name room large) (Reply.TooLarge n) mid owed g d l = subst IsLawful (sym d.2.6) l
 Does-lawful now old (Event.Receive task name room large) reply mid owed g d l = absurd d.2

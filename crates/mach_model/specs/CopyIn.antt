@@ -8,6 +8,7 @@ use Rattle.mach_types.specs.Messages.{Mark, null, dead, ReplyRight, absent, pres
 use Rattle.mach_model.specs.State.{State, Target, lookup, held, Holds, at, without_name, with_name}
 use Rattle.mach_types.specs.Grammar.{Wire, data_item, port_item, WireBody}
 use Rattle.mach_model.specs.SentMeans.{target_mark}
+use Rattle.mach_model.specs.NotYet.{IsNotYetCarried}
 
 -- The task holds what the disposition needs. A dead name may be sent on, but no right made from it.
 abbrev pub IsLegal : State → (task : ℕ) → Disposition → Target → Type 0
@@ -80,11 +81,11 @@ CopyReply task place number word old absent new = (number ≡ 0) × (word ≡ nu
 CopyReply task place number word old (present kind mark) new =
     (given : Disposition) × (disposition number ≡ Some given) × (kind ≡ kind_sent given) × CopyWord task place number word old mark new
 
--- words under one descriptor, from the first
+-- the words of a body under one descriptor, from the first
 abbrev pub CopyWords : (task : ℕ) → Place → (number : ℕ) → List ℕ → State → List Mark → State → Type 0
 CopyWords task place number [] old [] new = new ≡ old
 CopyWords task place number (w ∷ ws) old (m ∷ ms) new =
-    (mid : State) × CopyWord task place number w old m mid × CopyWords task place number ws mid ms new
+    (mid : State) × CopyWord task place number w old m mid × CopyWords task place number ws mid ms new × ¬ (IsNotYetCarried number w)
 CopyWords task place number [] old (m ∷ ms) new = ⊥
 CopyWords task place number (w ∷ ws) old [] new = ⊥
 

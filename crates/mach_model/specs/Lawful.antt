@@ -7,7 +7,7 @@ use Rattle.mach_types.specs.Messages.{Entry}
 use Rattle.mach_model.specs.State.{State, Target, Names, lookup, held, Holds, queue}
 use Rattle.mach_model.specs.Dying.{same_place}
 use Rattle.mach_model.specs.Carried.{message_count, lying}
-use Rattle.mach_model.specs.NotYet.{NoRequests, IsPlain}
+use Rattle.mach_model.specs.NotYet.{NoRequests, NoneCarried}
 
 abbrev pub is_once : ℕ → Target → Bool
 is_once p (Target.once q) = q == p
@@ -70,4 +70,4 @@ pub record IsLawful (s : State) : Type 0 where
   pub once_kept : (r : Request) (kind : Kind) (q : ℕ) → kind ≢ send_once → lying s kind q (in_request r) ≡ 0
   -- as long as the rules of NotYet stand
   pub none_stands : NoRequests s
-  pub plain_messages : (p k : ℕ) (e : Entry) → slice_get (s.log p) k ≡ Some e → IsPlain e.message
+  pub none_carried : NoneCarried s

@@ -84,7 +84,7 @@ abbrev pub reply_once_words : ReplyRight → ℕ → List ℕ
 reply_once_words (present send_once (to_port p)) word = word ∷ []
 reply_once_words reply word = []
 
--- The bytes, read through the receiver's names after the receipt, mean this message.
+-- The bytes, read through the receiver's names after the receipt, mean this message, and have the number that its port was at.
 pub record ReceivedMeans (task : ℕ) (before after : State) (bytes : List ℕ) (m : Message) : Type 0 where
   pub header : Header
   pub written : WireBody
@@ -93,6 +93,7 @@ pub record ReceivedMeans (task : ℕ) (before after : State) (bytes : List ℕ) 
   pub kind : header.local_kind ≡ kind_number m.kind
   pub local : lookup after task header.local ≡ Some (Target.port m.destination)
   pub holds : Holds after task receive m.destination
+  pub sequence : header.sequence ≡ before.sequence m.destination
   pub id : header.id ≡ m.id
   pub reply : ReceivedReply task before after m.reply header.remote_kind header.remote
   pub body : ReceivedBody task before after m.body written

@@ -6,7 +6,7 @@ use Rattle.mach_types.specs.declared.codes.KernReturn.TheVariants.{NoSpace, Reso
 use Rattle.mach_types.specs.declared.codes.MsgReturn.TheVariants.{ReceiveInvalidName, ReceiveInSet}
 use Rattle.mach_types.specs.Numbers.{kern_number, msg_number, most_tasks}
 use Rattle.mach_types.specs.Guards.{Guards, FirstIs, NoneHolds}
-use Rattle.mach_types.specs.TextGuards.{text_guards}
+use Rattle.mach_types.specs.TextGuards.{header_guards}
 use Rattle.mach_model.specs.State.{State, Target, lookup}
 use Rattle.mach_model.specs.Making.{IsNoTask, IsNoMaking, IsFull}
 use Rattle.mach_model.specs.Status.{NamesReceive}
@@ -31,7 +31,7 @@ guards s (Event.ReceiveStatus task name) =
     ∷ (IsUnused s task name, kern_number InvalidName)
     ∷ (¬ (NamesReceive s task name), kern_number InvalidRight)
     ∷ []
-guards s (Event.Send task bytes) = (IsNoTask s task, kern_number InvalidTask) ∷ text_guards bytes
+guards s (Event.Send task bytes) = (IsNoTask s task, kern_number InvalidTask) ∷ header_guards bytes
 guards s (Event.Receive task name room large) =
     (IsNoTask s task, kern_number InvalidTask)
     ∷ (¬ (NamesReceive s task name ⊎ IsSet (lookup s task name)), msg_number ReceiveInvalidName)

@@ -1,17 +1,19 @@
 -- Sending a message (IPC Interface, `mach_msg` with MACH_SEND_MSG), and which code refuses it. The order of refusals is this
 -- project's own, and so is the rule on loops.
-use Rattle.std.specs.Prelude.{◌≡◌, ◌≢◌, ℕ, ◌<◌, ◌≤◌, ◌⊎◌, List, [], ◌∷◌, ◌++◌, length, Some}
+use Rattle.std.specs.Prelude.{◌≡◌, ◌≢◌, ℕ, ◌<◌, ◌≤◌, ◌⊎◌, List, [], ◌∷◌, ◌++◌, length, drop, Some}
 use Rattle.mach_types.specs.declared.rights.Disposition.{Disposition}
-use Rattle.mach_types.specs.declared.codes.MsgReturn.TheVariants.{SendInvalidDest, SendTimedOut, SendInvalidReply, SendInvalidRight, SendNoBuffer, SendInvalidHeader}
+use Rattle.mach_types.specs.declared.codes.MsgReturn.TheVariants.{SendInvalidDest, SendTimedOut, SendInvalidReply, SendInvalidRight, SendNoBuffer}
 use Rattle.mach_types.specs.Numbers.{disposition, kind_sent, null_word, dead_word, most_rights, msg_number}
 use Rattle.mach_types.specs.Tokens.{receive, send, Place, in_message}
 use Rattle.mach_types.specs.Messages.{Mark, to_port, ReplyRight, Item, Message, Entry}
 use Rattle.mach_types.specs.Grammar.{Wire, data_item, port_item, WireBody, Header, Spells}
 use Rattle.mach_types.specs.Guards.{Guards, FirstIs, NoneHolds}
+use Rattle.mach_types.specs.TextGuards.{word_at, is_bit}
+use Rattle.mach_types.specs.TextGuards.{ItemsRefuse as TextItemsRefuse}
 use Rattle.mach_model.specs.State.{State, Target, lookup, at, queue}
 use Rattle.mach_model.specs.CopyIn.{IsLegal, CopyRight, CopyWord, CopyReply, CopyItem, CopyBody}
 use Rattle.mach_model.specs.Dying.{LiesAt, Reaches}
-use Rattle.mach_model.specs.NotYet.{IsNotYetSent}
+use Rattle.mach_model.specs.NotYet.{IsNotYetCarried, not_yet_guards}
 
 -- where the message's rights will lie: at its destination's next entry
 abbrev pub place_of : State → Message → Place
@@ -47,7 +49,7 @@ pub record Sends (now task : ℕ) (bytes : List ℕ) (old mid : State) : Type 0 
   pub header : Header
   pub written : WireBody
   pub spells : Spells bytes header written
-  pub not_refused_yet : ¬ (IsNotYetSent header)
+  pub not_refused_yet : NoneHolds (not_yet_guards header written)
   pub m : Message
   pub copied_state : State
   pub copied : Copied task header written old m copied_state
@@ -71,7 +73,9 @@ IsBadWord s task number word = (word ≢ null_word) × (word ≢ dead_word) × �
 abbrev pub WordsRefuse : (task : ℕ) → Place → (number : ℕ) → List ℕ → State → Type 0
 WordsRefuse task place number [] s = ⊥
 WordsRefuse task place number (w ∷ ws) s =
-    IsBadWord s task number w ⊎ ((mark : Mark) × (mid : State) × CopyWord task place number w s mark mid × WordsRefuse task place number ws mid)
+    IsBadWord s task number w
+    ⊎ IsNotYetCarried number w
+    ⊎ ((mark : Mark) × (mid : State) × CopyWord task place number w s mark mid × WordsRefuse task place number ws mid)
 
 abbrev pub ItemsRefuse : (task : ℕ) → Place → List Wire → State → Type 0
 ItemsRefuse task place [] s = ⊥
@@ -100,10 +104,11 @@ RightsRefuse s task header written code =
     × BodyRefuses task (in_message p (length (s.log p))) written second × (code ≡ msg_number SendInvalidRight))))
     ⊎ ((m : Message) × (mid : State) × Copied task header written s m mid × FirstIs (sent_guards m (place_of s m) mid) code)
 
--- Want of memory may be answered as soon as the text is a message.
+-- The items of the text are judged first. Want of memory may be answered as soon as the text is a message.
 abbrev pub SendRefuses : State → (task : ℕ) → List ℕ → (code : ℕ) → Type 0
 SendRefuses s task bytes code =
-    (header : Header) × (written : WireBody) × Spells bytes header written
+    is_bit (word_at bytes 0) 31 × TextItemsRefuse (drop 24 bytes) code
+    ⊎ ((header : Header) × (written : WireBody) × Spells bytes header written
     × ((code ≡ msg_number SendNoBuffer)
-    ⊎ IsNotYetSent header × (code ≡ msg_number SendInvalidHeader)
-    ⊎ ¬ (IsNotYetSent header) × RightsRefuse s task header written code)
+    ⊎ FirstIs (not_yet_guards header written) code
+    ⊎ NoneHolds (not_yet_guards header written) × RightsRefuse s task header written code))

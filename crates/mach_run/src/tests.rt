@@ -100,6 +100,65 @@ fn the_first_script(rt: HostRuntime) {
     assert_eq!(rt; out.as_slice(), want.as_bytes());
 }
 
+/// A script that makes a task and a port, and sends it a message of this length, its body zero bytes.
+fn long_script(alloc: Global, length: usize) -> Result<String, Fail> {
+    let mut script = String::new(alloc);
+    script.push_str("task\nalloc 0 1\nsend 0 140000001800000001000000000000000000000007000000")?;
+    for _ in 24..length {
+        script.push_str("00")?;
+    }
+    script.push_str("\n")?;
+    Ok(script)
+}
+
+#[test]
+fn lengths_of_messages(rt: HostRuntime) -> Result<(), Fail> {
+    let short = "task\nalloc 0 1\nsend 0 1400000018000000010000000000000000000000070000\n";
+    let (status, out, _) = ran(rt.alloc(), short.as_bytes());
+    assert!(rt; status == 0);
+    assert_eq!(rt;
+        out.as_slice(),
+        b"task 0\nname 1\ncode 10000008\n".as_slice()
+    );
+    for (length, want) in [
+        (26, "task 0\nname 1\ncode 10000008\n"),
+        (65_540, "task 0\nname 1\ncode 10000002\n"),
+        (65_536, "task 0\nname 1\ncode 00000000\n"),
+    ] {
+        let script = long_script(rt.alloc(), length)?;
+        let (status, out, err) = ran(rt.alloc(), script.as_bytes());
+        assert!(rt; status == 0 && err.is_empty());
+        assert_eq!(rt; out.as_slice(), want.as_bytes(), "at {length}");
+    }
+    Ok(())
+}
+
+#[test]
+fn an_item_of_no_data(rt: HostRuntime) {
+    let script = "task\nalloc 0 1\n\
+        send 0 14000080200000000100000000000000000000000800000008080010\n\
+        recv 0 1 28 0\n\
+        send 0 1400008020000000010000000000000000000000080000000808051041424344\n";
+    let want = "task 0\nname 1\ncode 00000000\n\
+        message 001100801c0000000000000001000000000000000800000008080010\n\
+        code 10000008\n";
+    let (status, out, err) = ran(rt.alloc(), script.as_bytes());
+    assert!(rt; status == 0 && err.is_empty());
+    assert_eq!(rt; out.as_slice(), want.as_bytes());
+}
+
+#[test]
+fn null_and_dead_words(rt: HostRuntime) {
+    let script = "task\nalloc 0 1\n\
+        send 0 1400008024000000010000000000000000000000070000001420021000000000ffffffff\n\
+        recv 0 1 36 0\n";
+    let want = "task 0\nname 1\ncode 00000000\n\
+        message 0011008024000000000000000100000000000000070000001120021000000000ffffffff\n";
+    let (status, out, err) = ran(rt.alloc(), script.as_bytes());
+    assert!(rt; status == 0 && err.is_empty());
+    assert_eq!(rt; out.as_slice(), want.as_bytes());
+}
+
 #[test]
 fn the_largest_numbers(rt: HostRuntime) {
     let (status, out, _) = ran(

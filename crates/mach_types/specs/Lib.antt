@@ -3,5 +3,4 @@ pub mod Messages
 pub mod Numbers
 pub mod Grammar
 pub mod Guards
-pub mod NotYet
 pub mod TextGuards

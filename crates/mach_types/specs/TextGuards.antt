@@ -1,10 +1,9 @@
 -- Which texts are no messages, and the code that says so. The whole text is judged before any right.
-use Rattle.std.specs.Prelude.{◌≡◌, ◌≢◌, ℕ, ◌+◌, ◌*◌, ◌/◌, ◌%◌, ◌^◌, ◌<◌, ◌≤◌, ◌⊎◌, List, [], ◌∷◌, ◌++◌, length, slice_index, All}
+use Rattle.std.specs.Prelude.{◌≡◌, ◌≢◌, ℕ, ◌+◌, ◌*◌, ◌/◌, ◌%◌, ◌^◌, ◌<◌, ◌≤◌, ◌⊎◌, List, [], ◌∷◌, ◌++◌, length, slice_index, drop, All}
 use Rattle.mach_types.specs.Numbers.{most_bytes, msg_number}
 use Rattle.mach_types.specs.declared.codes.MsgReturn.TheVariants.{SendMsgTooSmall, SendInvalidData, SendInvalidHeader, SendInvalidType}
 use Rattle.mach_types.specs.Grammar.{Wire, wires_text, IsWire, NamesPorts}
-use Rattle.mach_types.specs.Guards.{Guards, FirstIs}
-use Rattle.mach_types.specs.NotYet.{IsNotYetBody}
+use Rattle.mach_types.specs.Guards.{Guards, FirstIs, NoneHolds}
 
 -- the little-endian word at an offset
 abbrev pub word_at : List ℕ → ℕ → ℕ
@@ -46,21 +45,36 @@ IsDescriptorLength bytes n = (is_bit (word_at bytes 0) 29 → n ≡ 12) × (¬ (
 abbrev pub data_length : (size number : ℕ) → ℕ
 data_length size number = (number * size + 7) / 8
 
-abbrev pub descriptor_guards : (bytes : List ℕ) → (name size number : ℕ) → Guards
-descriptor_guards bytes name size number =
+-- the first word of a descriptor, and a name and a size, that no item has
+abbrev pub BadType : (first name size : ℕ) → Type 0
+BadType first name size =
+    ¬ (is_bit first 28)
+    ⊎ is_bit first 30
+    ⊎ is_bit first 31
+    ⊎ is_bit first 29 × (first % 2 ^ 28 ≢ 0)
+    ⊎ NamesPorts name × (size ≢ 32)
+    ⊎ (2 ^ 8 ≤ name)
+
+abbrev pub descriptor_guards : (bytes : List ℕ) → (name size : ℕ) → Guards
+descriptor_guards bytes name size =
     (is_bit (word_at bytes 0) 29 × (length bytes < 12), msg_number SendMsgTooSmall)
-    ∷ (
-      (¬ (is_bit (word_at bytes 0) 28) ⊎ is_bit (word_at bytes 0) 30 ⊎ is_bit (word_at bytes 0) 31
-          ⊎ (is_bit (word_at bytes 0) 29 × (word_at bytes 0 % 2 ^ 28 ≢ 0))
-          ⊎ (NamesPorts name × (size ≢ 32)) ⊎ (2 ^ 8 ≤ name)),
-      msg_number SendInvalidType,
-    )
+    ∷ (BadType (word_at bytes 0) name size, msg_number SendInvalidType)
     ∷ []
 
 -- the descriptor's data ends within these bytes, or doesn't
 abbrev pub item_guards : (bytes : List ℕ) → (name size number before : ℕ) → Guards
 item_guards bytes name size number before =
-    descriptor_guards bytes name size number ++ (length bytes < before + data_length size number, msg_number SendMsgTooSmall) ∷ []
+    descriptor_guards bytes name size ++ (length bytes < before + data_length size number, msg_number SendMsgTooSmall) ∷ []
+
+-- The bytes begin with no item, and this is the code that says so.
+pub record ItemRefuses (bytes : List ℕ) (code : ℕ) : Type 0 where
+  pub name : ℕ
+  pub size : ℕ
+  pub number : ℕ
+  pub fields : DescriptorFields bytes name size number
+  pub before : ℕ
+  pub before_is : IsDescriptorLength bytes before
+  pub refused : FirstIs (item_guards bytes name size number before) code
 
 -- After some whole items comes one that is refused with this code.
 pub record ItemsRefuse (bytes : List ℕ) (code : ℕ) : Type 0 where
@@ -69,14 +83,10 @@ pub record ItemsRefuse (bytes : List ℕ) (code : ℕ) : Type 0 where
   pub parts : bytes ≡ wires_text front ++ rest
   pub front_fits : All IsWire front
   pub more : 0 < length rest
-  pub name : ℕ
-  pub size : ℕ
-  pub number : ℕ
-  pub fields : DescriptorFields rest name size number
-  pub before : ℕ
-  pub before_is : IsDescriptorLength rest before
-  pub refused : FirstIs (item_guards rest name size number before) code
+  pub refused : ItemRefuses rest code
 
 -- The bytes are no message that the kernel takes, and this is the code that says so.
-abbrev pub text_guards : List ℕ → Guards
-text_guards bytes = header_guards bytes ++ (IsNotYetBody (word_at bytes 0), msg_number SendInvalidHeader) ∷ []
+abbrev pub TextRefuses : List ℕ → (code : ℕ) → Type 0
+TextRefuses bytes code =
+    FirstIs (header_guards bytes) code
+    ⊎ NoneHolds (header_guards bytes) × is_bit (word_at bytes 0) 31 × ItemsRefuse (drop 24 bytes) code

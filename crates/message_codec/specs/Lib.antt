@@ -1,2 +1,5 @@
+pub mod Spans
+pub mod Reading
 pub mod Parses
 pub mod Received
+pub mod Putting

@@ -1,13 +1,19 @@
 //! Messages as bytes: what a sender's bytes say, and the bytes that a receiver gets.
 //!
-//! A message's text is a header of six little-endian words and a body (IPC Interface,
-//! `mach_msg_header_t`). `mach_types/specs/Grammar` has the texts, and `mach_types/specs/TextGuards`
-//! the faults with their codes, in the order in which they are judged.
+//! A message's text is a header of six little-endian words and a body: raw bytes, or a list of items
+//! (IPC Interface, `mach_msg_header_t`). `mach_types/specs/Grammar` has the texts, and
+//! `mach_types/specs/TextGuards` the faults with their codes, in the order in which they are judged.
 #![tactic(auto)]
 
 mod header;
+mod items;
+mod received;
+mod spans;
 #[cfg(test)]
 mod tests;
-mod words;
+mod text;
 
-pub use header::{Header, Parsed, parse, put_received};
+pub use header::Header;
+pub use received::put_received;
+pub use spans::{Span, Spans};
+pub use text::{Parsed, parse};

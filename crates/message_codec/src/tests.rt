@@ -1,5 +1,8 @@
 use super::*;
 use mach_types::{MsgReturn, Name};
+use smallvec::SmallVec;
+use std::alloc::Global;
+use std::process::Abort;
 
 /// A message to the port under 1, made by a send right, with the id 7.
 const SMALLEST: [u8; 24] = [
@@ -17,30 +20,53 @@ fn with_words(bits: [u8; 4], local: u8) -> [u8; 24] {
     bytes
 }
 
+/// The smallest message with this body of items.
+fn with_items(rt: &impl Abort, alloc: Global, body: &[u8]) -> Vec<u8> {
+    let header = with_words([0x14, 0, 0, 0x80], 0);
+    let mut bytes = Vec::from_slice(alloc, &header).expect(rt, "memory");
+    bytes.extend_from_slice(body).expect(rt, "memory");
+    bytes
+}
+
+/// Makes the message the one that a receiver gets, where it has as many port words as names.
+fn receive(alloc: Global, bytes: &mut [u8], header: &Header, names: &[Name]) -> bool {
+    let Ok(parsed) = parse(alloc, bytes) else {
+        return false;
+    };
+    if parsed.spans.as_slice().len() > 100 || parsed.spans.word_count() != names.len() as u64 {
+        return false;
+    }
+    put_received(bytes, &parsed, header, names);
+    true
+}
+
 #[test]
 fn parses_headers(rt: HostRuntime) {
-    let smallest = Parsed {
-        remote_kind: 20,
-        local_kind: 0,
-        remote: Name::new(1),
-        local: Name::null(),
-        id: 7,
-    };
-    assert_eq!(rt; parse(&SMALLEST), Ok(smallest));
-    let answered = Parsed {
-        remote_kind: 17,
-        local_kind: 21,
-        remote: Name::new(1),
-        local: Name::new(9),
-        id: 7,
-    };
-    assert_eq!(rt; parse(&with_words([17, 21, 0, 0], 9)), Ok(answered));
+    let parsed = parse(rt.alloc(), &SMALLEST).ok().expect(&rt, "a message");
+    assert_eq!(rt; (parsed.remote_kind, parsed.local_kind), (20, 0));
+    assert_eq!(rt; (parsed.remote, parsed.local), (Name::new(1), Name::null()));
+    assert_eq!(rt; (parsed.id, parsed.is_complex), (7, false));
+    assert_eq!(rt; parsed.spans.as_slice().len(), 0);
+    let answered = parse(rt.alloc(), &with_words([17, 21, 0, 0], 9)).ok();
+    let answered = answered.expect(&rt, "a message");
+    assert_eq!(rt; (answered.remote_kind, answered.local_kind), (17, 21));
+    assert_eq!(rt; answered.local, Name::new(9));
 }
 
 #[test]
 fn refuses_headers(rt: HostRuntime) {
-    assert_eq!(rt; parse(&SMALLEST[..22]), Err(MsgReturn::SendMsgTooSmall));
-    assert_eq!(rt; parse(&SMALLEST[..20]), Err(MsgReturn::SendMsgTooSmall));
+    assert!(rt;
+        matches!(
+            parse(rt.alloc(), &SMALLEST[..22]),
+            Err(MsgReturn::SendMsgTooSmall)
+        )
+    );
+    assert!(rt;
+        matches!(
+            parse(rt.alloc(), &SMALLEST[..20]),
+            Err(MsgReturn::SendMsgTooSmall)
+        )
+    );
     let wrong = [
         ([0x14, 0, 0, 0x40], 0),
         ([0x14, 0, 1, 0], 0),
@@ -49,12 +75,11 @@ fn refuses_headers(rt: HostRuntime) {
         ([0x14, 0x10, 0, 0], 2),
         ([0x14, 0x16, 0, 0], 2),
         ([0x14, 0, 0, 0], 2),
+        ([0x14, 0, 0, 0xc0], 0),
     ];
     for (bits, local) in wrong {
-        assert_eq!(rt;
-            parse(&with_words(bits, local)),
-            Err(MsgReturn::SendInvalidHeader)
-        );
+        let refused = parse(rt.alloc(), &with_words(bits, local));
+        assert!(rt; matches!(refused, Err(MsgReturn::SendInvalidHeader)));
     }
 }
 
@@ -62,28 +87,99 @@ fn refuses_headers(rt: HostRuntime) {
 fn refuses_lengths(rt: HostRuntime) {
     let mut bytes = Vec::from_slice(rt.alloc(), &SMALLEST).expect(&rt, "memory");
     bytes.resize(65_536, 0).expect(&rt, "memory");
-    assert_eq!(rt; parse(&bytes).is_ok(), true);
+    assert!(rt; parse(rt.alloc(), &bytes).is_ok());
     bytes.resize(65_540, 0).expect(&rt, "memory");
-    assert_eq!(rt; parse(&bytes), Err(MsgReturn::SendInvalidData));
+    assert!(rt; matches!(parse(rt.alloc(), &bytes), Err(MsgReturn::SendInvalidData)));
     bytes.truncate(65_538);
-    assert_eq!(rt; parse(&bytes), Err(MsgReturn::SendMsgTooSmall));
+    assert!(rt; matches!(parse(rt.alloc(), &bytes), Err(MsgReturn::SendMsgTooSmall)));
 }
 
 #[test]
-fn puts_headers(rt: HostRuntime) {
-    let mut bytes = [0xffu8; 28];
+fn refuses_items(rt: HostRuntime) {
+    let hostile: [(&[u8], MsgReturn); 6] = [
+        (
+            &[0, 0, 0, 0x30, 8, 0, 0xff, 0xff, 0xff, 0xff, 0xff, 0xff],
+            MsgReturn::SendMsgTooSmall,
+        ),
+        (&[0, 0, 0, 0x20], MsgReturn::SendMsgTooSmall),
+        (&[0x11, 8, 1, 0x10], MsgReturn::SendInvalidType),
+        (&[8, 8, 0, 0x50], MsgReturn::SendInvalidType),
+        (
+            &[0, 0, 0, 0x30, 0, 1, 8, 0, 0, 0, 0, 0],
+            MsgReturn::SendInvalidType,
+        ),
+        (
+            &[8, 8, 5, 0x10, 0x41, 0x42, 0x43, 0x44],
+            MsgReturn::SendMsgTooSmall,
+        ),
+    ];
+    for (body, code) in hostile {
+        let bytes = with_items(&rt, rt.alloc(), body);
+        assert_eq!(rt; parse(rt.alloc(), &bytes).err(), Some(code));
+    }
+}
+
+#[test]
+fn receives_items(rt: HostRuntime) {
+    let data = with_items(&rt, rt.alloc(), &[8, 8, 0, 0x10]);
+    let parsed = parse(rt.alloc(), &data).ok().expect(&rt, "a message");
+    assert_eq!(rt;
+        (parsed.is_complex, parsed.spans.as_slice().len()),
+        (true, 0)
+    );
+    let body = [
+        0x14, 0x20, 2, 0x10, 0, 0, 0, 0, 0xff, 0xff, 0xff, 0xff, 8, 8, 5, 0x10, 1, 2, 3, 4, 5,
+        0xaa, 0xbb, 0xcc, 0, 0, 0, 0x30, 0x15, 0, 0x20, 0, 1, 0, 0, 0, 9, 0, 0, 0,
+    ];
+    let mut bytes = with_items(&rt, rt.alloc(), &body);
+    let parsed = parse(rt.alloc(), &bytes).ok().expect(&rt, "a message");
+    let spans = [
+        Span {
+            at: 24,
+            long: false,
+            disposition: 20,
+            number: 2,
+        },
+        Span {
+            at: 48,
+            long: true,
+            disposition: 21,
+            number: 1,
+        },
+    ];
+    assert_eq!(rt; parsed.spans.as_slice(), spans.as_slice());
     let header = Header {
-        bits: 0x1100,
-        size: 28,
+        bits: 0x8000_1100,
+        size: 64,
         remote: Name::null(),
         local: Name::new(0x0102_0304),
         sequence: 5,
         id: 7,
     };
-    put_received(&mut bytes, &header);
+    let names = [Name::null(), Name::dead(), Name::new(2)];
+    assert!(rt; receive(rt.alloc(), &mut bytes, &header, &names));
     let received = [
-        0, 0x11, 0, 0, 0x1c, 0, 0, 0, 0, 0, 0, 0, 4, 3, 2, 1, 5, 0, 0, 0, 7, 0, 0, 0, 0xff, 0xff,
-        0xff, 0xff,
+        0, 0x11, 0, 0x80, 0x40, 0, 0, 0, 0, 0, 0, 0, 4, 3, 2, 1, 5, 0, 0, 0, 7, 0, 0, 0, 0x11,
+        0x20, 2, 0x10, 0, 0, 0, 0, 0xff, 0xff, 0xff, 0xff, 8, 8, 5, 0x10, 1, 2, 3, 4, 5, 0xaa,
+        0xbb, 0xcc, 0, 0, 0, 0x30, 0x12, 0, 0x20, 0, 1, 0, 0, 0, 2, 0, 0, 0,
     ];
-    assert_eq!(rt; bytes, received);
+    assert_eq!(rt; bytes.as_slice(), received.as_slice());
+}
+
+#[test]
+fn many_items_take_memory(rt: HostRuntime) {
+    let mut body = Vec::new(rt.alloc());
+    for _ in 0..9 {
+        let item = [0x11, 0x20, 1, 0x10, 0, 0, 0, 0];
+        body.extend_from_slice(&item).expect(&rt, "memory");
+    }
+    let bytes = with_items(&rt, rt.alloc(), &body);
+    let parsed = parse(rt.alloc(), &bytes).ok().expect(&rt, "a message");
+    assert_eq!(rt; parsed.spans.as_slice().len(), 9);
+    assert_eq!(rt;
+        Spans::from_small_vec(SmallVec::new(rt.alloc()))
+            .as_slice()
+            .len(),
+        0
+    );
 }

@@ -1,2 +1,6 @@
-pub mod Sorted
-pub mod Fresh
+pub mod Pairs
+pub mod Place
+pub mod Indexed
+pub mod View
+pub mod Keys
+pub mod Records

@@ -1,118 +1,315 @@
 //! One task's names: a finite map from names to what stands under them.
+//!
+//! At most 65,535 names, each any 32-bit number but 0 and 0xffffffff. A port has one name at most by
+//! receive or send rights, and the name is found by the port. Room for names to come is made by
+//! [`Space::reserve`]; nothing else but [`Space::names`] takes memory.
 #![tactic(auto)]
 
-ghost use Rattle.std.specs.Prelude.{◌≡◌, ◌≢◌, ◌<◌, ◌≤◌, ◌⊎◌, ◌↔◌, IsTrue, true, OnOk, OnErr};
+ghost use Rattle.std.specs.Prelude.{◌≡◌, ◌≢◌, ℕ, ◌+◌, ◌-◌, ◌<◌, ◌≤◌, ◌↔◌, IsTrue, true, Some, None, IfOk, IfSome, IfNone, IsOk, OnSome, OnOk, OnErr};
 ghost use Rattle.std.specs.FinMap as map;
+ghost use Rattle.slab.specs.Slab.{ContainsKey, Updates, slab_len};
 ghost use Rattle.mach_types.specs.Numbers.{most_names};
-ghost use Rattle.name_space.specs.Names.{IsFreshName};
+ghost use Rattle.name_space.specs.Linked.{linked, unlinked};
 
+mod index;
+
+use index::Index;
 use mach_types::{Name, PortId, SetId};
+use slab::Slab;
 use std::alloc::{AllocError, Global};
-use std::collections::BTreeMap;
 use std::marker::Model;
+use user_refs::UserRefs;
 
 /// What stands under a name.
 #[derive(Clone, Copy, Debug, PartialEq, Eq)]
 pub enum Entry {
-    /// Rights for one port: whether the receive right is there, and how many send references, 0 to
-    /// 65,535; one of the two at least.
-    Port(PortId, bool, u32),
+    /// The port's receive right.
+    Receive(PortId),
+    /// Send rights for the port.
+    Send(PortId, UserRefs),
+    /// The port's receive right, and send rights for it.
+    ReceiveAndSend(PortId, UserRefs),
     /// One send-once right for the port.
     SendOnce(PortId),
-    /// A dead name with its references, 1 to 65,535.
-    DeadName(u32),
+    /// A dead name.
+    DeadName(UserRefs),
     /// A port set.
     Set(SetId),
 }
 
-/// A task's names, at most 65,535. An empty space has allocated nothing.
-#[derive(Drop)]
-pub struct Space {
-    names: BTreeMap<u32, Entry>,
-}
+impl Entry {
+    ghost use Rattle.name_space.specs.Entry.{port_named, has_receive, send_references};
 
-impl Model for Space {
-    ghost use Rattle.std.specs.Prelude.{◌≤◌};
-    ghost use Rattle.std.specs.FinMap as map;
-    ghost use Rattle.std.specs.Ordering.{nat_cmp};
-    ghost use Rattle.std.specs.Coded.{coded_ℕ};
-    ghost use Rattle.std.specs.BTreeMap.{IsOrdered, btree_map_len};
-    ghost use Rattle.mach_types.specs.Numbers.{most_names};
-    ghost use Rattle.name_space.specs.declared.Entry.{Entry};
-    ghost use Rattle.name_space.specs.contracts.Entry as entry;
-
-    ghost Value = { map.FinMap nat_cmp Entry };
-
-    ghost coded = { map.code coded_ℕ entry.the_row.coded };
-
-    ghost view = { λ a. map.from_sorted a.names.entries };
-
-    ghost invariant = { λ a. IsOrdered nat_cmp a.names × (btree_map_len a.names ≤ most_names) };
-}
-
-impl Space {
-    /// A space without names. Allocates nothing; constant time.
-    pub fn new(alloc: Global) -> Space
-        ensures { result ≡ map.empty }
+    /// The port for which this is a receive right, send rights or both.
+    pub fn port(&self) -> Option<PortId>
+        ensures { result ≡ port_named self.now }
     {
-        Space {
-            names: BTreeMap::new(alloc),
+        match self {
+            Entry::Receive(port) | Entry::Send(port, _) | Entry::ReceiveAndSend(port, _) => Some(
+                *port,
+            ),
+            Entry::SendOnce(_) | Entry::DeadName(_) | Entry::Set(_) => None,
         }
     }
 
-    /// What stands under the name, if it is in use. Logarithmic in the number of names.
-    pub fn lookup(&self, name: Name) -> Option<Entry>
-        ensures { result ≡ map.get self.now name }
+    /// Whether this has a receive right.
+    pub fn has_receive(&self) -> bool
+        ensures { result ≡ has_receive self.now }
     {
-        self.names.get(&name.number()).copied()
+        matches!(self, Entry::Receive(_) | Entry::ReceiveAndSend(_, _))
+    }
+
+    /// How many references to a send right this has, 0 to 65,535.
+    pub fn send_references(&self) -> u32
+        ensures { result ≡ send_references self.now }
+    {
+        match self {
+            Entry::Send(_, references) | Entry::ReceiveAndSend(_, references) => references.count(),
+            Entry::Receive(_) | Entry::SendOnce(_) | Entry::DeadName(_) | Entry::Set(_) => 0,
+        }
+    }
+}
+
+// What stands under a name, and the name.
+#[derive(Clone, Copy)]
+struct Record {
+    name: Name,
+    entry: Entry,
+}
+
+/// A task's names. An empty space has allocated nothing.
+#[derive(Drop)]
+pub struct Space {
+    records: Slab<Record>,
+    by_name: Index,
+    by_port: Index,
+    room: usize,
+}
+
+impl Model for Space {
+    ghost use Rattle.name_space.specs.Names.{SpaceView, space_code};
+    ghost use Rattle.name_space.specs.contracts.Entry as entry;
+
+    ghost Value = { SpaceView };
+
+    ghost coded = { space_code entry.the_row.coded };
+
+    ghost use Rattle.slab.specs.Slab.{get};
+    ghost use Rattle.name_space.specs.Records.{names_of, IsSound};
+
+    ghost view = { λ a. record { names = names_of (get a.records) a.by_name.map; room = a.room } };
+
+    ghost invariant = { λ a. IsSound a.records a.by_name a.by_port a.room };
+}
+
+// Adds a port's key, if there is a port.
+fn link(ports: &mut Index, port: Option<PortId>, key: usize)
+    requires absent { IfSome port (λ p. map.get ports.old.map p ≡ None) }
+    requires room { OnSome port (map.len ports.old.map < ports.old.capacity) }
+    ensures { ports.new ≡ record ports.old { map = linked port key ports.old.map } }
+{
+    if let Some(port) = port {
+        ports.insert(port.number(), key);
+    }
+}
+
+// Takes a port's key out, if there is a port.
+fn unlink(ports: &mut Index, port: Option<PortId>)
+    ensures { ports.new ≡ record ports.old { map = unlinked port ports.old.map } }
+{
+    if let Some(port) = port {
+        ports.remove(port.number());
+    }
+}
+
+// Puts a record in place of the one under the key.
+fn store(records: &mut Slab<Record>, key: usize, renewed: Record)
+    requires { ContainsKey records.old key }
+    ensures updates { Updates records.old records.new key (Some renewed) }
+    ensures len { slab_len records.new ≡ slab_len records.old }
+    ensures capacity { records.new.capacity ≡ records.old.capacity }
+{
+    if let Some(held) = records.get_mut(key) {
+        *held = renewed;
+    }
+}
+
+impl Space {
+    ghost use Rattle.name_space.specs.Entry.{port_named};
+    ghost use Rattle.name_space.specs.declared.Entry.{Entry as AnyEntry};
+    ghost use Rattle.name_space.specs.Names.{IsUsable, IsFreshName, HasNoOther, port_at};
+
+    /// A space without names. Allocates nothing; constant time.
+    pub fn new(alloc: Global) -> Space
+        ensures names { result.names ≡ map.empty }
+        ensures room { result.room ≡ 0 }
+    {
+        Space {
+            records: Slab::new(alloc),
+            by_name: Index::new(alloc),
+            by_port: Index::new(alloc),
+            room: 0,
+        }
     }
 
     /// How many names are in use, 0 to 65,535. Constant time.
     pub fn len(&self) -> usize
-        ensures { result ≡ map.len self.now }
+        ensures value { result ≡ map.len self.now.names }
+        ensures few { result ≤ most_names }
     {
-        self.names.len()
+        self.by_name.len()
     }
 
     /// Whether no name is in use. Constant time.
     pub fn is_empty(&self) -> bool
-        ensures { IsTrue result ↔ (map.len self.now ≡ 0) }
+        ensures { IsTrue result ↔ (map.len self.now.names ≡ 0) }
     {
         self.len() == 0
     }
 
     /// Whether 65,535 names are in use, so that no other can be added. Constant time.
     pub fn is_full(&self) -> bool
-        ensures { IsTrue result ↔ (most_names ≤ map.len self.now) }
+        ensures { IsTrue result ↔ (most_names ≤ map.len self.now.names) }
     {
         self.len() >= 65_535
     }
 
-    /// The least unused number from 1, at most 65,536. Looks the names below it up in turn.
-    pub fn fresh(&self) -> Name
-        ensures fresh { IsFreshName self.now result }
-        ensures small { result ≤ 65536 }
+    /// For how many more names there is room. Constant time.
+    pub fn room(&self) -> usize
+        ensures { result ≡ self.now.room }
     {
-        let _ = &self.names;
-        for number in 1..65_537 {
-            if self.lookup(Name::new(number)).is_none() {
-                return Name::new(number);
-            }
-        }
-        unreachable!()
+        self.room
     }
 
-    /// Puts the entry under the name: a new name where it was unused, and else in place of what
-    /// stood there. Logarithmic in the number of names.
-    ///
-    /// An error means that memory was refused; the space is then as before.
-    pub fn insert(&mut self, name: Name, entry: Entry) -> Result<(), AllocError>
-        requires { (map.len self.old < most_names) ⊎ (map.contains_key self.old name ≡ true) }
-        ensures ok { OnOk result (self.new ≡ map.insert self.old name entry) }
-        ensures err { OnErr result (self.new ≡ self.old) }
+    /// What stands under the name, if it is in use. Logarithmic in the number of names.
+    pub fn lookup(&self, name: Name) -> Option<Entry>
+        ensures { result ≡ map.get self.now.names name }
     {
-        self.names.insert(name.number(), entry)?;
+        let key = self.by_name.get(name.number() as u64)?;
+        Some(self.records[key].entry)
+    }
+
+    /// The least unused number from 1, at most 65,536. Logarithmic in the number of names.
+    pub fn fresh(&self) -> Name
+        ensures fresh { IsFreshName self.now.names result }
+        ensures small { result ≤ 65536 }
+    {
+        Name::new(self.by_name.first_gap() as u32)
+    }
+
+    /// The name that has the port's receive right or send rights, if one has. Logarithmic in the
+    /// number of names.
+    pub fn name_of_port(&self, port: PortId) -> Option<Name>
+        ensures found { IfSome result (λ name. port_at self.now.names name ≡ Some port) }
+        ensures only { (name : ℕ) → port_at self.now.names name ≡ Some port → result ≡ Some name }
+    {
+        let key = self.by_port.get(port.number())?;
+        Some(self.records[key].name)
+    }
+
+    /// Makes room for so many more names, so that as many calls of [`Space::insert`] take no memory.
+    /// Room that is there stays and counts. Linear in the number of names where memory is taken.
+    ///
+    /// An error means that memory was refused; the names are then as before, and so is the room.
+    pub fn reserve(&mut self, additional: usize) -> Result<(), AllocError>
+        ensures names { self.new.names ≡ self.old.names }
+        ensures ok { OnOk result (additional ≤ self.new.room) }
+        ensures room { self.old.room ≤ self.new.room }
+        ensures err { OnErr result (self.new ≡ self.old) }
+        ensures had_room { additional ≤ self.old.room → IsOk result }
+    {
+        if additional <= self.room {
+            return Ok(());
+        }
+        self.records.reserve(additional)?;
+        self.by_name.reserve(additional)?;
+        self.by_port.reserve(additional)?;
+        self.room = additional;
         Ok(())
+    }
+
+    /// Puts the entry under a name that is not in use, in room that was made. Takes no memory.
+    ///
+    /// Logarithmic in the number of names, but for a move of 16 bytes for each greater name.
+    pub fn insert(&mut self, name: Name, entry: Entry)
+        requires usable { IsUsable name }
+        requires unused { map.get self.old.names name ≡ None }
+        requires not_full { map.len self.old.names < most_names }
+        requires room { 0 < self.old.room }
+        requires apart { HasNoOther self.old.names entry }
+        ensures { self.new ≡ record { names = map.insert self.old.names name entry; room = self.old.room - 1 } }
+    {
+        let key = self.records.insert_reserved(Record { name, entry });
+        self.by_name.insert(name.number() as u64, key);
+        link(&mut self.by_port, entry.port(), key);
+        self.room -= 1;
+    }
+
+    /// Puts the entry in place of what stands under a name. It is of the same port by receive or
+    /// send rights, or of none. Takes no memory. Logarithmic in the number of names, but for a move
+    /// of 16 bytes for each greater port where the name no longer has rights for one.
+    pub fn replace(&mut self, name: Name, entry: Entry)
+        requires used { map.contains_key self.old.names name ≡ true }
+        requires same { (port : ℕ) → port_named entry ≡ Some port → port_at self.old.names name ≡ Some port }
+        ensures { self.new ≡ record self.old { names = map.insert self.old.names name entry } }
+    {
+        let key = self.by_name.get(name.number() as u64).unwrap();
+        let port = self.records[key].entry.port();
+        store(&mut self.records, key, Record { name, entry });
+        unlink(&mut self.by_port, port);
+        link(&mut self.by_port, entry.port(), key);
+    }
+
+    /// Takes a name out of use, and answers what stood under it. Room stays as it is. Logarithmic in
+    /// the number of names, but for a move of 16 bytes for each greater name.
+    pub fn remove(&mut self, name: Name) -> Option<Entry>
+        ensures value { result ≡ map.get self.old.names name }
+        ensures after { self.new ≡ record self.old { names = map.remove self.old.names name } }
+    {
+        let key = self.by_name.get(name.number() as u64)?;
+        let Record { entry, .. } = self.records.remove(key);
+        self.by_name.remove(name.number() as u64);
+        unlink(&mut self.by_port, entry.port());
+        Some(entry)
+    }
+
+    /// Gives what stands under a name another name that is not in use (Port Manipulation Interface,
+    /// `mach_port_rename`). Takes no memory and no room. Logarithmic in the number of names, but for a
+    /// move of 16 bytes for each greater name.
+    pub fn rename(&mut self, from: Name, to: Name)
+        requires usable { IsUsable to }
+        requires used { map.contains_key self.old.names from ≡ true }
+        requires unused { map.get self.old.names to ≡ None }
+        ensures { (entry : AnyEntry) → map.get self.old.names from ≡ Some entry → self.new ≡ record self.old { names = map.insert (map.remove self.old.names from) to entry } }
+    {
+        let key = self.by_name.get(from.number() as u64).unwrap();
+        let entry = self.records[key].entry;
+        self.by_name.remove(from.number() as u64);
+        self.by_name.insert(to.number() as u64, key);
+        store(&mut self.records, key, Record { name: to, entry });
+    }
+
+    /// The names, rising. Linear in their number.
+    ///
+    /// An error means that memory was refused.
+    pub fn names(&self, alloc: Global) -> Result<Vec<Name>, AllocError>
+        ensures { IfOk result (λ names. names.items ≡ map.keys self.now.names) }
+    {
+        let mut names = Vec::new(alloc);
+        names.reserve(self.by_name.len())?;
+        for (_, key) in self.by_name.pairs() {
+            names.push(self.records[*key].name)?;
+        }
+        Ok(names)
+    }
+
+    /// A name in use, if there is one: so all names can be taken out in turn. Constant time.
+    pub fn any_name(&self) -> Option<Name>
+        ensures none { IfNone result (map.len self.now.names ≡ 0) }
+        ensures found { IfSome result (λ name. map.contains_key self.now.names name ≡ true) }
+    {
+        let (_, key) = self.by_name.pairs().last()?;
+        Some(self.records[*key].name)
     }
 }
 
@@ -121,19 +318,63 @@ mod tests {
     use super::*;
     use std::test::Fail;
 
+    // Puts an entry under a name, if the space can take it.
+    fn put(space: &mut Space, name: u32, entry: Entry) -> bool {
+        let name = Name::new(name);
+        let is_new = entry.port().is_none() && name.is_usable() && space.lookup(name).is_none();
+        if !is_new || space.is_full() || space.room() == 0 {
+            return false;
+        }
+        space.insert(name, entry);
+        true
+    }
+
     #[test]
-    fn names_are_kept(rt: HostRuntime) -> Result<(), Fail> {
+    fn names_come_and_go(rt: HostRuntime) -> Result<(), Fail> {
         let mut space = Space::new(rt.alloc());
         assert!(rt; space.is_empty());
-        let port = Entry::Port(PortId::new(7), true, 2);
-        space.insert(Name::new(1), port)?;
-        assert!(rt; !space.is_full());
-        space.insert(Name::new(0xffff_fffe), Entry::DeadName(3))?;
-        let expected = Some(Entry::Port(PortId::new(7), true, 2));
-        assert_eq!(rt; space.lookup(Name::new(1)), expected);
-        assert!(rt; space.lookup(Name::new(2)).is_none());
-        assert_eq!(rt; space.fresh(), Name::new(2));
+        space.reserve(3)?;
+        assert!(rt; put(&mut space, 1, Entry::SendOnce(PortId::new(7))));
+        assert!(rt; put(&mut space, 0xffff_fffe, Entry::DeadName(UserRefs::one())));
+        assert!(rt; put(&mut space, 3, Entry::Set(SetId::new(0))));
+        assert!(rt; !put(&mut space, 0, Entry::Set(SetId::new(0))));
+        assert_eq!(rt; space.room(), 0);
+        assert_eq!(rt; space.len(), 3);
+        assert_eq!(rt; space.fresh().number(), 2);
+        let names = space.names(rt.alloc())?;
+        assert_eq!(rt; names.len(), 3);
+        assert_eq!(rt; names[0].number(), 1);
+        assert_eq!(rt; names[1].number(), 3);
+        assert_eq!(rt; names[2].number(), 0xffff_fffe);
+        let gone = Some(Entry::DeadName(UserRefs::one()));
+        assert_eq!(rt; space.remove(Name::new(0xffff_fffe)), gone);
+        assert!(rt; space.remove(Name::new(2)).is_none());
         assert_eq!(rt; space.len(), 2);
+        Ok(())
+    }
+
+    #[test]
+    fn a_port_is_found_by_its_name(rt: HostRuntime) -> Result<(), Fail> {
+        let mut space = Space::new(rt.alloc());
+        let port = PortId::new(7);
+        assert!(rt; space.name_of_port(port).is_none());
+        space.reserve(1)?;
+        let name = Name::new(9);
+        assert!(rt; !space.is_full() && space.lookup(name).is_none());
+        space.insert(name, Entry::Receive(port));
+        assert_eq!(rt; space.name_of_port(port).ok_or("named")?.number(), 9);
+        space.replace(name, Entry::ReceiveAndSend(port, UserRefs::one()));
+        let entry = space.lookup(name).ok_or("used")?;
+        assert!(rt; entry.has_receive());
+        assert_eq!(rt; entry.send_references(), 1);
+        let other = Name::new(4);
+        assert!(rt; space.lookup(other).is_none());
+        space.rename(name, other);
+        assert_eq!(rt; space.name_of_port(port).ok_or("named")?.number(), 4);
+        assert_eq!(rt; space.any_name().ok_or("named")?.number(), 4);
+        assert!(rt; space.lookup(name).is_none());
+        space.replace(other, Entry::DeadName(UserRefs::one()));
+        assert!(rt; space.name_of_port(port).is_none());
         Ok(())
     }
 }

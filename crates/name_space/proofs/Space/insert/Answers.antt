@@ -1,21 +1,43 @@
-use Rattle.std.proofs.Common.{◌≡◌, ◌<◌, ◌+◌, ◌⊎◌, true, ap, sym, subst, ◌∙◌, is_some, if◌then◌else◌, length}
+use Rattle.std.proofs.Common.{◌<◌, ℕ, ap, sym, subst, ◌∙◌, refl, ◌^◌}
 use Rattle.std.specs.FinMap as map
 use Rattle.std.specs.Ordering.{nat_cmp}
-use Rattle.std.specs.BTreeMap.{get, insert_entry}
-use Rattle.mach_types.specs.Numbers.{most_names}
-use Rattle.name_space.specs.declared.Entry.{Entry}
-use Rattle.name_space.proofs.Sorted.{insert-from_ordered, few-inserted}
+use Rattle.slab.specs.Slab.{get}
+use Rattle.name_space.specs.Index.{IndexView}
+use Rattle.name_space.specs.Names.{SpaceView}
+use Rattle.name_space.specs.Linked.{linked}
+use Rattle.name_space.proofs.Records.{unused_key, if_some, view-inserted, sound-inserted, no_port_key}
 use Rattle.name_space.proofs.Space.insert.Goals as goal
 
-pub invariant_of-self-2 : goal.invariant_of-self-2
-invariant_of-self-2 c = (
-  c.insert.ensures.ordered,
-  few-inserted _ _ _ c.args.name c.self.invariant.0 c.self.invariant.1
-      (subst (λ (m : map.FinMap nat_cmp Entry). (map.len m < most_names) ⊎ (map.contains_key m c.args.name ≡ true)) (sym c.self.view_is) c.requires)
-      (c.in_ok-insert.ensures.len ∙ ap (λ o. length c.self.inside.names.entries + (if is_some o then 0 else 1)) (c.in_ok-insert.ensures.old ∙ ap (get nat_cmp c.self.inside.names) c.number.ensures)),
-)
+abbrev with_map : IndexView → map.FinMap nat_cmp ℕ → IndexView
+with_map v m = record { map = m; capacity = v.capacity }
 
-pub returns-clause-ok : goal.returns-clause-ok
-returns-clause-ok c = insert-from_ordered _ _ c.args.name c.args.entry c.self.invariant.0 c.insert.ensures.ordered
-    (c.in_ok-insert.ensures.entries ∙ ap (λ k. insert_entry nat_cmp c.self.inside.names.entries k c.args.entry) c.number.ensures)
-    ∙ ap (λ m. map.insert m c.args.name c.args.entry) c.self.view_is
+pub insert-requires-clause-absent : goal.insert-requires-clause-absent
+insert-requires-clause-absent c =
+    ap (map.get c.self.inside.by_name.map) c.number.ensures
+    ∙ unused_key (get c.self.inside.records) c.self.inside.by_name.map c.args.name (ap (λ (v : SpaceView). map.get v.names c.args.name) c.self.view_is ∙ c.requires.unused)
+
+pub link-requires-clause-absent : goal.link-requires-clause-absent
+link-requires-clause-absent c = if_some c.port.result _ (λ port h. no_port_key
+    c.self.inside.records c.insert_reserved-key.new.self c.self.inside.by_name c.insert.new.self c.self.inside.by_port _ c.self.inside.room c.args.self.now c.self.view_is c.self.invariant
+    c.args.name c.insert_reserved-key.result c.args.entry c.insert_reserved-key.ensures.was_vacant c.insert_reserved-key.ensures.updates.changed c.insert_reserved-key.ensures.updates.others
+    c.insert_reserved-key.ensures.len c.insert_reserved-key.ensures.capacity c.requires.unused
+    (c.insert.ensures ∙ ap (λ a. with_map c.self.inside.by_name (map.insert c.self.inside.by_name.map a c.insert_reserved-key.result)) c.number.ensures)
+    refl
+    c.requires.apart port (sym c.port.ensures ∙ h))
+
+pub invariant_of-self : goal.invariant_of-self
+invariant_of-self c = sound-inserted
+    c.self.inside.records c.insert_reserved-key.new.self c.self.inside.by_name c.insert.new.self c.self.inside.by_port c.link.new.ports c.self.inside.room c.args.self.now c.self.view_is c.self.invariant
+    c.args.name c.insert_reserved-key.result c.args.entry c.insert_reserved-key.ensures.was_vacant c.insert_reserved-key.ensures.updates.changed c.insert_reserved-key.ensures.updates.others
+    c.insert_reserved-key.ensures.len c.insert_reserved-key.ensures.capacity c.requires.unused
+    (c.insert.ensures ∙ ap (λ a. with_map c.self.inside.by_name (map.insert c.self.inside.by_name.map a c.insert_reserved-key.result)) c.number.ensures)
+    (c.link.ensures ∙ ap (λ o. with_map c.self.inside.by_port (linked o c.insert_reserved-key.result c.self.inside.by_port.map)) c.port.ensures)
+    c.requires.apart c.requires.usable.not_null c.requires.usable.not_dead (subst (λ a. a < 2 ^ 32) c.number.ensures c.number.type_inv) c.requires.not_full (subst (λ (v : SpaceView). 0 < v.room) (sym c.self.view_is) c.requires.room)
+
+pub returns : goal.returns
+returns c = view-inserted
+    c.self.inside.records c.insert_reserved-key.new.self c.self.inside.by_name c.insert.new.self c.self.inside.by_port c.link.new.ports c.self.inside.room c.args.self.now c.self.view_is c.self.invariant
+    c.args.name c.insert_reserved-key.result c.args.entry c.insert_reserved-key.ensures.was_vacant c.insert_reserved-key.ensures.updates.changed c.insert_reserved-key.ensures.updates.others
+    c.insert_reserved-key.ensures.len c.insert_reserved-key.ensures.capacity c.requires.unused
+    (c.insert.ensures ∙ ap (λ a. with_map c.self.inside.by_name (map.insert c.self.inside.by_name.map a c.insert_reserved-key.result)) c.number.ensures)
+    (c.link.ensures ∙ ap (λ o. with_map c.self.inside.by_port (linked o c.insert_reserved-key.result c.self.inside.by_port.map)) c.port.ensures)

@@ -1,4 +1,6 @@
-use Rattle.std.proofs.Common.{◌<◌, ◌≤◌, arith, length}
+use Rattle.std.proofs.Common.{◌<◌, ◌≤◌, List, ℕ, subst, arith, length}
+use Rattle.mach_types.specs.Numbers.{msg_number}
+use Rattle.kernel_core.specs.Steps.{CannotDeliver}
 use Rattle.kernel_core.proofs.AnswersSending.{send_no_task, send_no_text, cannot_deliver, delivers}
 use Rattle.kernel_core.proofs.kernel.Kernel.send.Goals as goal
 
@@ -22,4 +24,5 @@ pub returns-in-Err-deliver : goal.returns-in-Err-deliver
 returns-in-Err-deliver c =
     let below : c.args.task < length c.args.self.now.spaces = grind (arith, c.has_task.ensures, c.if-not-has_task.false) in
     rw (c.in-Err-deliver.ensures.err.0, c.number-in-Err-deliver.ensures)
-    (cannot_deliver c.args.self.now c.args.task below c.args.bytes.now c.in-Ok.parsed (rw c.as_slice-bytes.ensures at c.in-Ok.ensures.ok) _ c.in-Err-deliver.ensures.err.1)
+    (cannot_deliver c.args.self.now c.args.task below c.args.bytes.now c.in-Ok.parsed (rw c.as_slice-bytes.ensures at c.in-Ok.ensures.ok) (msg_number c.in-Err-deliver.code)
+    (subst (λ (bytes : List ℕ). CannotDeliver c.args.self.now c.args.task c.in-Ok.parsed bytes (msg_number c.in-Err-deliver.code)) c.as_slice-bytes.ensures c.in-Err-deliver.ensures.err.1))

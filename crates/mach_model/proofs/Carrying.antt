@@ -1,0 +1,181 @@
+-- No message carries a receive right, as long as words of bodies that would move one are refused; and none goes by one. So no send
+-- closes a loop.
+use Rattle.std.proofs.Common.{◌≡◌, ℕ, ◌+◌, ◌/◌, ◌%◌, ◌^◌, ◌<◌, ◌≤◌, List, [], ◌∷◌, Some, None, refl, sym, ap, ◌∙◌, arith, true, false, Bool, inl, inr, length}
+use Rattle.std.specs.Prelude.{if◌then◌else◌, ◌==◌, ◌≢◌, MatchBool}
+use Rattle.std.proofs.lemmas.Bool.Decides.{eqb_tells}
+use Rattle.mach_types.specs.declared.rights.Disposition.{Disposition}
+use Rattle.mach_types.specs.declared.rights.Disposition.TheVariants.{MoveReceive, MoveSend, MoveSendOnce, CopySend, MakeSend, MakeSendOnce}
+use Rattle.mach_types.specs.Numbers.{disposition, kind_sent, null_word, dead_word}
+use Rattle.mach_types.specs.Tokens.{Kind, receive, send, send_once, Place}
+use Rattle.mach_types.specs.Messages.{Mark, to_port, null, dead, ReplyRight, absent, present, Item, plain, rights, Body, Message}
+use Rattle.mach_types.specs.Grammar.{Wire, data_item, port_item, WireBody, Header, Spells, text}
+use Rattle.mach_types.specs.Guards.{NoneHolds}
+use Rattle.mach_types.specs.TextGuards.{header_guards, word_at, BadHeader, IsSendable}
+use Rattle.mach_model.specs.State.{State}
+use Rattle.mach_model.specs.CopyIn.{CopyWord, CopyReply, CopyWords, CopyItem, CopyItems, CopyBody}
+use Rattle.mach_model.specs.Sending.{Sends, Copied, ClosesLoop, place_of}
+use Rattle.mach_model.specs.Carried.{mark_count, marks_count, reply_count, items_count, body_count, message_count}
+use Rattle.mach_model.specs.NotYet.{IsNotYetCarried}
+use Rattle.mach_model.specs.Lawful.{IsLawful}
+use Rattle.mach_model.proofs.Moving.{moving}
+use Rattle.mach_model.proofs.CopyingWords.{Copied-adds}
+
+-- ---- no message goes by a receive right
+
+receive_number : (n : ℕ) → disposition n ≡ Some MoveReceive → n ≡ 16
+receive_number n is = elim (eqb_tells n 16) [
+  | inl h ↦ h.1
+  | inr h ↦ absurd (others (n == 17) (n == 18) (n == 19) (n == 20) (n == 21) (rw h.0 at is))
+]
+  where
+    others : (a b c d e : Bool) → (if a then Some MoveSend else if b then Some MoveSendOnce else if c then Some CopySend else if d then Some MakeSend else if e then Some MakeSendOnce else None) ≡ Some MoveReceive → ⊥
+    others true b c d e is = cc
+    others false true c d e is = cc
+    others false false true d e is = cc
+    others false false false true e is = cc
+    others false false false false true is = cc
+    others false false false false false is = cc
+
+-- the first word of a text begins with the destination's disposition
+pub first_byte : (h : Header) (w : WireBody) → h.remote_kind < 2 ^ 8 → h.local_kind < 2 ^ 8 → word_at (text h w) 0 % 2 ^ 8 ≡ h.remote_kind
+first_byte h (WireBody.raw bytes) a b = omega arith
+first_byte h (WireBody.items ws) a b = omega arith
+
+second_byte : (h : Header) (w : WireBody) → h.remote_kind < 2 ^ 8 → h.local_kind < 2 ^ 8 → word_at (text h w) 0 / 2 ^ 8 % 2 ^ 8 ≡ h.local_kind
+second_byte h (WireBody.raw bytes) a b = omega arith
+second_byte h (WireBody.items ws) a b = omega arith
+
+-- neither the destination nor the reply of a text that is a message is moved as a receive right
+pub record NoneMoved (header : Header) : Type 0 where
+  pub remote : header.remote_kind ≢ 16
+  pub local : header.local_kind ≢ 16
+
+pub none_moved : (bytes : List ℕ) (header : Header) (written : WireBody) → NoneHolds (header_guards bytes) → Spells bytes header written → NoneMoved header
+none_moved bytes header written good spells = record {
+  remote = λ e. not (inr (inl (λ (sendable : IsSendable (word_at bytes 0 % 2 ^ 8)). at_seventeen (word_at bytes 0 % 2 ^ 8) (first ∙ e) sendable.0)));
+  local = λ e. not (inr (inr (inl (
+    some (word_at bytes 0 / 2 ^ 8 % 2 ^ 8) (second ∙ e),
+    (λ (sendable : IsSendable (word_at bytes 0 / 2 ^ 8 % 2 ^ 8)). at_seventeen (word_at bytes 0 / 2 ^ 8 % 2 ^ 8) (second ∙ e) sendable.0),
+  ))));
+}
+  where
+    not : ¬ (BadHeader (word_at bytes 0) (word_at bytes 12))
+    not = good.1.1.0
+
+    first : word_at bytes 0 % 2 ^ 8 ≡ header.remote_kind
+    first = ap (λ (xs : List ℕ). word_at xs 0 % 2 ^ 8) spells.is_text ∙ first_byte header written spells.header_fits.remote_kind spells.header_fits.local_kind
+
+    second : word_at bytes 0 / 2 ^ 8 % 2 ^ 8 ≡ header.local_kind
+    second = ap (λ (xs : List ℕ). word_at xs 0 / 2 ^ 8 % 2 ^ 8) spells.is_text ∙ second_byte header written spells.header_fits.remote_kind spells.header_fits.local_kind
+
+    at_seventeen : (n : ℕ) → n ≡ 16 → 17 ≤ n → ⊥
+    at_seventeen n e above = omega (arith, e, above)
+
+    some : (n : ℕ) → n ≡ 16 → n ≢ 0
+    some n e z = omega (arith, e, z)
+
+not_receive : (n : ℕ) (given : Disposition) → n ≢ 16 → disposition n ≡ Some given → kind_sent given ≢ receive
+not_receive n MoveReceive other is e = other (receive_number n is)
+not_receive n MoveSend other is e = cc
+not_receive n MoveSendOnce other is e = cc
+not_receive n CopySend other is e = cc
+not_receive n MakeSend other is e = cc
+not_receive n MakeSendOnce other is e = cc
+
+pub by_a_send : (now task : ℕ) (bytes : List ℕ) (old mid : State) → NoneHolds (header_guards bytes) → (s : Sends now task bytes old mid) → s.m.kind ≢ receive
+by_a_send now task bytes old mid good s e =
+    let none = none_moved bytes s.header s.written good s.spells in
+    not_receive s.header.remote_kind s.copied.destination.given none.remote s.copied.destination.is_given (sym s.copied.kind ∙ e)
+
+-- ---- no receive right among those that are copied in
+
+no_mark : (kind : Kind) → kind ≢ receive → (q : ℕ) (mark : Mark) → mark_count receive q kind mark ≡ 0
+no_mark receive not q mark = absurd (not refl)
+no_mark send not q (to_port p) = refl
+no_mark send not q null = refl
+no_mark send not q dead = refl
+no_mark send_once not q (to_port p) = refl
+no_mark send_once not q null = refl
+no_mark send_once not q dead = refl
+
+tells : (b : Bool) (P Q R : Type 0) → (P → R) → (b ≡ false → Q → R) → MatchBool b P Q → R
+tells true P Q R f g h = f h
+tells false P Q R f g h = g refl h
+
+apart : (a b : ℕ) → (a == b) ≡ false → a ≢ b
+apart a b e same = elim (eqb_tells a b) [
+  | inl h ↦ (let f = h.0 in cc)
+  | inr h ↦ h.1 same
+]
+
+word_none : (task : ℕ) (place : Place) (number word : ℕ) (given : Disposition) (old : State) (mark : Mark) (new : State) → disposition number ≡ Some given → ¬ (IsNotYetCarried number word) →
+    CopyWord task place number word old mark new → (q : ℕ) → mark_count receive q (kind_sent given) mark ≡ 0
+word_none task place number word given old mark new is not h q = elim (eqb_tells number 16) [
+  | inl n ↦
+      tells (word == null_word) _ _ _ (λ x. ap (mark_count receive q (kind_sent given)) x.0)
+      (λ some. tells (word == dead_word) _ _ _ (λ x. ap (mark_count receive q (kind_sent given)) x.0)
+      (λ live r. absurd (not (n.1, apart word null_word some, apart word dead_word live)))) h
+  | inr n ↦ no_mark (kind_sent given) (not_receive number given n.1 is) q mark
+]
+
+reply_none : (task : ℕ) (place : Place) (number word : ℕ) (old : State) (reply : ReplyRight) (new : State) → number ≢ 16 → CopyReply task place number word old reply new → (q : ℕ) →
+    reply_count receive q reply ≡ 0
+reply_none task place number word old absent new not h q = refl
+reply_none task place number word old (present kind mark) new not h q =
+    ap (λ (k : Kind). mark_count receive q k mark) h.2 ∙ no_mark (kind_sent h.0) (not_receive number h.0 not h.1) q mark
+
+words_none : (task : ℕ) (place : Place) (number : ℕ) (given : Disposition) (words : List ℕ) (old : State) (marks : List Mark) (new : State) → disposition number ≡ Some given →
+    CopyWords task place number words old marks new → (q : ℕ) → marks_count receive q (kind_sent given) marks ≡ 0
+words_none task place number given [] old [] new is h q = refl
+words_none task place number given (w ∷ ws) old (m ∷ ms) new is h q =
+    let a = word_none task place number w given old m h.0 is h.3 h.1 q in
+    let b = words_none task place number given ws h.0 ms new is h.2 q in omega (arith, a, b)
+words_none task place number given [] old (m ∷ ms) new is h q = absurd h
+words_none task place number given (w ∷ ws) old [] new is h q = absurd h
+
+item_none : (task : ℕ) (place : Place) (wire : Wire) (old : State) (item : Item) (new : State) → CopyItem task place wire old item new → (q : ℕ) → items_count receive q (item ∷ []) ≡ 0
+item_none task place (data_item f n s c bytes padding) old item new h q = ap (λ (x : Item). items_count receive q (x ∷ [])) h.0
+item_none task place (port_item f number words) old (rights g kind marks) new h q =
+    let a = words_none task place number h.0 words old marks new h.1 h.4 q in
+    let b = ap (λ (k : Kind). marks_count receive q k marks) h.3 in omega (arith, a, b)
+item_none task place (port_item f number words) old (plain g n s c bytes padding) new h q = absurd h
+
+first_item : (q : ℕ) (x : Item) (xs : List Item) → items_count receive q (x ∷ xs) ≡ items_count receive q (x ∷ []) + items_count receive q xs
+first_item q (plain f n s d bytes padding) xs = omega arith
+first_item q (rights f kind marks) xs = omega arith
+
+items_none : (task : ℕ) (place : Place) (wires : List Wire) (old : State) (xs : List Item) (new : State) → CopyItems task place wires old xs new → (q : ℕ) → items_count receive q xs ≡ 0
+items_none task place [] old [] new h q = refl
+items_none task place (w ∷ ws) old (x ∷ xs) new h q =
+    let a = item_none task place w old x h.0 h.1 q in
+    let b = items_none task place ws h.0 xs new h.2 q in omega (arith, a, b, first_item q x xs)
+items_none task place [] old (x ∷ xs) new h q = absurd h
+items_none task place (w ∷ ws) old [] new h q = absurd h
+
+body_none : (task : ℕ) (place : Place) (written : WireBody) (old : State) (body : Body) (new : State) → CopyBody task place written old body new → (q : ℕ) → body_count receive q body ≡ 0
+body_none task place (WireBody.raw bytes) old (Body.raw others) new h q = refl
+body_none task place (WireBody.items ws) old (Body.items xs) new h q = items_none task place ws old xs new h q
+body_none task place (WireBody.raw bytes) old (Body.items xs) new h q = absurd h
+body_none task place (WireBody.items ws) old (Body.raw others) new h q = absurd h
+
+-- A message that is made of a text carries no receive right.
+pub copied_none : (task : ℕ) (header : Header) (written : WireBody) (old : State) (m : Message) (new : State) → NoneMoved header → Copied task header written old m new → (q : ℕ) →
+    message_count receive q m ≡ 0
+copied_none task header written old m new none c q =
+    let a = ap (λ (k : Kind). mark_count receive q k (to_port m.destination)) c.kind in
+    let a' = no_mark (kind_sent c.destination.given) (not_receive header.remote_kind c.destination.given none.remote c.destination.is_given) q (to_port m.destination) in
+    let b = reply_none task (place_of old m) header.local_kind header.local c.first m.reply c.second none.local c.reply q in
+    let d = body_none task (place_of old m) written c.second m.body new c.body q in omega (arith, a, a', b, d)
+
+pub carries_none : (now task : ℕ) (bytes : List ℕ) (old mid : State) → NoneHolds (header_guards bytes) → (s : Sends now task bytes old mid) → (q : ℕ) → message_count receive q s.m ≡ 0
+carries_none now task bytes old mid good s q = copied_none task s.header s.written old s.m s.copied_state (none_moved bytes s.header s.written good s.spells) s.copied q
+
+-- So it closes no loop.
+pub never_loops : (task : ℕ) (header : Header) (written : WireBody) (old : State) (m : Message) (new : State) → IsLawful old → NoneMoved header → Copied task header written old m new →
+    ¬ (ClosesLoop new m.destination (place_of old m))
+never_loops task header written old m new l none c loop =
+    let end = length (old.log m.destination) in
+    let a = (Copied-adds task header written old m new (moving old m.destination end l) c).lies receive loop.0 in
+    let z = l.no_entry m.destination end (omega arith) receive loop.0 in
+    let n = copied_none task header written old m new none c loop.0 in
+    let lies = loop.1 in omega (arith, a, z, n, lies)

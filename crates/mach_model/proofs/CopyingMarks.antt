@@ -1,0 +1,161 @@
+-- Copying out a whole message: the reply, and each mark of the body. What they carry is then no longer on its way.
+use Rattle.std.proofs.Common.{◌≡◌, ℕ, zero, suc, ◌+◌, ◌≤◌, List, [], ◌∷◌, refl, sym, ap, subst, ◌∙◌, arith, true, false, Bool, inl, inr, length}
+use Rattle.std.specs.Prelude.{if◌then◌else◌, ◌==◌, nat_lt, MatchBool}
+use Rattle.std.proofs.lemmas.Bool.{ne_eqb, ltb-true, ltb-false}
+use Rattle.mach_types.specs.Numbers.{most_references}
+use Rattle.mach_types.specs.Tokens.{Kind, receive, send, send_once, in_task, in_message, Token, token, is_held, same_kind, Moves}
+use Rattle.mach_types.specs.Messages.{Mark, to_port, null, dead, ReplyRight, absent, present, Item, plain, rights, Body}
+use Rattle.mach_types.specs.Grammar.{Wire, data_item, port_item, WireBody}
+use Rattle.mach_model.specs.State.{State, Target, held, with_name}
+use Rattle.mach_model.specs.CopyOut.{given_to, Named, NamedOnce, NamedFor, GiveMark, GiveReply, GiveMarks, GiveItem, GiveItems, GiveBody}
+use Rattle.mach_model.specs.Carried.{mark_count, marks_count, reply_count, items_count, body_count, lying}
+use Rattle.mach_model.proofs.Weigh.{both_test}
+use Rattle.mach_model.proofs.Names.{fresh_fits}
+use Rattle.mach_model.proofs.Spaces.{IsNew}
+use Rattle.mach_model.proofs.Moving.{IsMoving, shape-same, shape-trans}
+use Rattle.mach_model.proofs.CopyingOut.{Removes, come_held, come_same, come_port, come_once, gone_removes}
+
+removes_none : (s new : State) (o k : ℕ) (less : Kind → ℕ → ℕ) → IsMoving s o k → new ≡ s → ((c : Kind) (q : ℕ) → s.live_port q ≡ true → less c q ≡ 0) → Removes s new o k less
+removes_none s new o k less l e none = record {
+  keeps = subst (λ (x : State). IsMoving x o k) (sym e) l;
+  rest = shape-same s new e;
+  few = let a = ap (λ (x : State). length x.ledger) e in omega (arith, a);
+  lies = λ c q live. let a = ap (λ (x : State). lying x c q (in_message o k)) e in let b = none c q live in omega (arith, a, b);
+}
+
+removes_both : (a b c : State) (o k : ℕ) (f g h : Kind → ℕ → ℕ) → Removes a b o k f → Removes b c o k g → ((kind : Kind) (q : ℕ) → h kind q ≡ f kind q + g kind q) → Removes a c o k h
+removes_both a b c o k f g h x y sum = record {
+  keeps = y.keeps;
+  rest = shape-trans a b c x.rest y.rest;
+  few = let m = x.few in let n = y.few in omega (arith, m, n);
+  lies = λ kind q live.
+      let m = x.lies kind q live in
+      let n = y.lies kind q (ap (λ (s : State). s.live_port q) x.rest ∙ live) in
+      let s = sum kind q in omega (arith, m, n, s);
+}
+
+-- ---- one right
+
+pub named_new : (task name : ℕ) (x : Target) (old new : State) → Named task name x old new → IsNew (old.naming task) name
+named_new task name x old new n = record {
+  unused = n.fresh.unused;
+  some = n.fresh.not_null;
+  fits = let a = fresh_fits (old.naming task) name n.fresh in let b = n.room in omega (arith, a, b);
+  room = n.room;
+}
+
+onward : (old s new : State) (ledger : List Token) → new ≡ record s { ledger = ledger } → s ≡ old → new ≡ record old { ledger = ledger }
+onward old s new ledger e f = e ∙ ap (λ (x : State). record x { ledger = ledger }) f
+
+pub GiveRight-removes : (task o k : ℕ) (kind : Kind) (p : ℕ) (old : State) (name : ℕ) (new named : State) → IsMoving old o k → old.live_task task ≡ true → NamedFor kind task name p old named →
+    new ≡ record named { ledger = new.ledger } → Moves old.ledger new.ledger (token kind p (in_message o k) ∷ []) (given_to kind p task old) → Removes old new o k (λ c q. mark_count c q kind (to_port p))
+GiveRight-removes task o k receive p old name new named l is_task n rest tokens = go n
+  where
+    few : held new task send p ≤ most_references
+    few = let a = come_held task o k old new receive p l is_task tokens send p in let b = (l.naming task).few_references p in omega (arith, a, b)
+
+    go : NamedOnce task name p old named → Removes old new o k (λ c q. mark_count c q receive (to_port p))
+    go (inl h) = come_same task o k old new receive p l is_task tokens name (λ e. cc) h.0 few (onward old named new new.ledger rest h.1)
+    go (inr h) = come_port task o k old new receive p l is_task tokens name (λ e. cc) (named_new task name (Target.port p) old named h.1) h.0 few
+        (onward (with_name task name (Target.port p) old) named new new.ledger rest h.1.rest)
+GiveRight-removes task o k send p old name new named l is_task n rest tokens = by (nat_lt (held old task send p) most_references) refl tokens
+  where
+    by : (b : Bool) → nat_lt (held old task send p) most_references ≡ b → Moves old.ledger new.ledger (token send p (in_message o k) ∷ []) (if b then token send p (in_task task) ∷ [] else []) →
+        Removes old new o k (λ c q. mark_count c q send (to_port p))
+    by true e tokens = go n
+      where
+        few : held new task send p ≤ most_references
+        few =
+            let a = come_held task o k old new send p l is_task tokens send p in
+            let b = ltb-true (held old task send p) most_references e in
+            let c = at_most_one (is_held task send p (token send p (in_task task))) in omega (arith, a, b, c)
+          where
+            at_most_one : (b : Bool) → (if b then suc zero else zero) ≤ suc zero
+            at_most_one true = omega arith
+            at_most_one false = omega arith
+
+        go : NamedOnce task name p old named → Removes old new o k (λ c q. mark_count c q send (to_port p))
+        go (inl h) = come_same task o k old new send p l is_task tokens name (λ e. cc) h.0 few (onward old named new new.ledger rest h.1)
+        go (inr h) = come_port task o k old new send p l is_task tokens name (λ e. cc) (named_new task name (Target.port p) old named h.1) h.0 few
+            (onward (with_name task name (Target.port p) old) named new new.ledger rest h.1.rest)
+    by false e tokens = go n
+      where
+        go : NamedOnce task name p old named → Removes old new o k (λ c q. mark_count c q send (to_port p))
+        go (inl h) = gone_removes task o k old new p l is_task tokens (onward old named new new.ledger rest h.1)
+        go (inr h) = absurd (let a = ltb-false (held old task send p) most_references e in let m = (l.naming task).is_named p (omega (arith, a)) in h.0 m.0 m.1)
+GiveRight-removes task o k send_once p old name new named l is_task n rest tokens =
+    come_once task o k old new send_once p l is_task tokens name refl (named_new task name (Target.once p) old named n)
+    (onward (with_name task name (Target.once p) old) named new new.ledger rest n.rest)
+
+either : (b : Bool) (P Q R : Type 0) → (P → R) → (b ≡ false → Q → R) → MatchBool b P Q → R
+either true P Q R f g h = f h
+either false P Q R f g h = g refl h
+
+GiveMark-removes : (task o k : ℕ) (kind : Kind) (mark : Mark) (old : State) (word : ℕ) (new : State) → IsMoving old o k → old.live_task task ≡ true →
+    GiveMark task (in_message o k) kind mark old word new → Removes old new o k (λ c q. mark_count c q kind mark)
+GiveMark-removes task o k kind null old word new l is_task h = removes_none old new o k _ l h.1 (λ c q live. refl)
+GiveMark-removes task o k kind dead old word new l is_task h = removes_none old new o k _ l h.1 (λ c q live. refl)
+GiveMark-removes task o k kind (to_port p) old word new l is_task h =
+    either (old.live_port p) _ _ _
+    (λ r. GiveRight-removes task o k kind p old word new r.named_state l is_task r.named r.rest r.tokens)
+    (λ gone g. removes_none old new o k _ l g.1 (λ c q live.
+    both_test (same_kind c kind) (p == q) (inr (ne_eqb p q (λ e. let a : old.live_port q ≡ false = subst (λ (x : ℕ). old.live_port x ≡ false) e gone in cc)))))
+    h
+
+-- ---- all of them
+
+still_task : (task o k : ℕ) (s new : State) (less : Kind → ℕ → ℕ) → Removes s new o k less → s.live_task task ≡ true → new.live_task task ≡ true
+still_task task o k s new less r is = ap (λ (x : State). x.live_task task) r.rest ∙ is
+
+pub GiveReply-removes : (task o k : ℕ) (reply : ReplyRight) (old : State) (number word : ℕ) (new : State) → IsMoving old o k → old.live_task task ≡ true →
+    GiveReply task (in_message o k) reply old number word new → Removes old new o k (λ c q. reply_count c q reply)
+GiveReply-removes task o k absent old number word new l is_task h = removes_none old new o k _ l h.2 (λ c q live. refl)
+GiveReply-removes task o k (present kind mark) old number word new l is_task h = GiveMark-removes task o k kind mark old word new l is_task h.1
+
+GiveMarks-removes : (task o k : ℕ) (kind : Kind) (marks : List Mark) (old : State) (words : List ℕ) (new : State) → IsMoving old o k → old.live_task task ≡ true →
+    GiveMarks task (in_message o k) kind marks old words new → Removes old new o k (λ c q. marks_count c q kind marks)
+GiveMarks-removes task o k kind [] old [] new l is_task h = removes_none old new o k _ l h (λ c q live. refl)
+GiveMarks-removes task o k kind (m ∷ ms) old (w ∷ ws) new l is_task h =
+    let a = GiveMark-removes task o k kind m old w h.0 l is_task h.1 in
+    let b = GiveMarks-removes task o k kind ms h.0 ws new a.keeps (still_task task o k old h.0 _ a is_task) h.2 in
+    removes_both old h.0 new o k _ _ _ a b (λ c q. refl)
+GiveMarks-removes task o k kind [] old (w ∷ ws) new l is_task h = absurd h
+GiveMarks-removes task o k kind (m ∷ ms) old [] new l is_task h = absurd h
+
+GiveItem-removes : (task o k : ℕ) (item : Item) (old : State) (wire : Wire) (new : State) → IsMoving old o k → old.live_task task ≡ true →
+    GiveItem task (in_message o k) item old wire new → Removes old new o k (λ c q. items_count c q (item ∷ []))
+GiveItem-removes task o k (plain f n s c bytes padding) old wire new l is_task h = removes_none old new o k _ l h.1 (λ c q live. refl)
+GiveItem-removes task o k (rights f kind marks) old (port_item g number words) new l is_task h =
+    let a = GiveMarks-removes task o k kind marks old words new l is_task h.2 in
+    record { keeps = a.keeps; rest = a.rest; few = a.few; lies = λ c q live. let m = a.lies c q live in omega (arith, m) }
+GiveItem-removes task o k (rights f kind marks) old (data_item g n s c bytes padding) new l is_task h = absurd h
+
+first_item : (c : Kind) (q : ℕ) (x : Item) (xs : List Item) → items_count c q (x ∷ xs) ≡ items_count c q (x ∷ []) + items_count c q xs
+first_item c q (plain f n s d bytes padding) xs = omega arith
+first_item c q (rights f kind marks) xs = omega arith
+
+GiveItems-removes : (task o k : ℕ) (xs : List Item) (old : State) (wires : List Wire) (new : State) → IsMoving old o k → old.live_task task ≡ true →
+    GiveItems task (in_message o k) xs old wires new → Removes old new o k (λ c q. items_count c q xs)
+GiveItems-removes task o k [] old [] new l is_task h = removes_none old new o k _ l h (λ c q live. refl)
+GiveItems-removes task o k (x ∷ xs) old (w ∷ ws) new l is_task h =
+    let a = GiveItem-removes task o k x old w h.0 l is_task h.1 in
+    let b = GiveItems-removes task o k xs h.0 ws new a.keeps (still_task task o k old h.0 _ a is_task) h.2 in
+    removes_both old h.0 new o k _ _ _ a b (λ c q. first_item c q x xs)
+GiveItems-removes task o k [] old (w ∷ ws) new l is_task h = absurd h
+GiveItems-removes task o k (x ∷ xs) old [] new l is_task h = absurd h
+
+pub GiveBody-removes : (task o k : ℕ) (body : Body) (old : State) (written : WireBody) (new : State) → IsMoving old o k → old.live_task task ≡ true →
+    GiveBody task (in_message o k) body old written new → Removes old new o k (λ c q. body_count c q body)
+GiveBody-removes task o k (Body.raw bytes) old (WireBody.raw others) new l is_task h = removes_none old new o k _ l h.1 (λ c q live. refl)
+GiveBody-removes task o k (Body.items xs) old (WireBody.items ws) new l is_task h = GiveItems-removes task o k xs old ws new l is_task h
+GiveBody-removes task o k (Body.raw bytes) old (WireBody.items ws) new l is_task h = absurd h
+GiveBody-removes task o k (Body.items xs) old (WireBody.raw others) new l is_task h = absurd h
+
+-- what copying out the reply and then the body removes
+pub GiveBoth-removes : (task o k : ℕ) (reply : ReplyRight) (body : Body) (old second : State) (number word : ℕ) (written : WireBody) (new : State) → IsMoving old o k → old.live_task task ≡ true →
+    GiveReply task (in_message o k) reply old number word second → GiveBody task (in_message o k) body second written new →
+    Removes old new o k (λ c q. reply_count c q reply + body_count c q body)
+GiveBoth-removes task o k reply body old second number word written new l is_task r b =
+    let x = GiveReply-removes task o k reply old number word second l is_task r in
+    let y = GiveBody-removes task o k body second written new x.keeps (still_task task o k old second _ x is_task) b in
+    removes_both old second new o k _ _ _ x y (λ c q. refl)

@@ -1,5 +1,0 @@
-use Rattle.message_codec.proofs.words.write_word.Goals as goal
-use Rattle.message_codec.proofs.ByteWords.{put_mid-word}
-
-pub returns : goal.returns
-returns c = put_mid-word c.args.at c.args.value c.args.bytes.now c.write_u32.new.buf c.requires c.write_u32.ensures

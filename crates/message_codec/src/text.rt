@@ -1,0 +1,91 @@
+//! Reading a message's text.
+ghost use Rattle.std.specs.Prelude.{◌≡◌, ◌⊎◌, IfOk, IfErr};
+ghost use Rattle.mach_types.specs.declared.codes.MsgReturn.TheVariants.{SendNoBuffer};
+ghost use Rattle.mach_types.specs.Numbers.{msg_number};
+ghost use Rattle.mach_types.specs.Grammar.{Header as AnyHeader, WireBody, Spells};
+ghost use Rattle.mach_types.specs.Guards.{NoneHolds};
+ghost use Rattle.mach_types.specs.TextGuards.{TextRefuses, header_guards};
+ghost use Rattle.message_codec.specs.Parses.{Parses, ReadsBody, IsCrowded};
+
+use crate::header::{check_header, is_complex, local_kind, remote_kind};
+use crate::items::read_spans;
+use crate::spans::{Span, Spans};
+use mach_types::{MsgReturn, Name};
+use smallvec::SmallVec;
+use std::alloc::Global;
+use type_descriptor::read_word;
+
+/// What the kernel needs of a message's text. The size and sequence words of a sent message are not
+/// looked at.
+#[derive(Debug, Drop)]
+pub struct Parsed {
+    /// The disposition of the destination, 17 to 21.
+    pub remote_kind: u8,
+    /// The disposition of the reply right, 17 to 21, or 0 where there is none.
+    pub local_kind: u8,
+    /// The sender's name of the destination.
+    pub remote: Name,
+    /// The sender's name of the reply right, 0 where there is none.
+    pub local: Name,
+    /// The id.
+    pub id: u32,
+    /// Whether the body is a list of items.
+    pub is_complex: bool,
+    /// Where the port words of the body stand.
+    pub spans: Spans,
+}
+
+/// The spans of a body whose header is judged already.
+fn read_body(alloc: Global, bytes: &[u8]) -> Result<SmallVec<Span, 8>, MsgReturn>
+    requires { NoneHolds (header_guards bytes.now) }
+    ensures ok { IfOk result (λ spans. ReadsBody bytes.now spans.items) }
+    ensures err { IfErr result (λ code. TextRefuses bytes.now (msg_number code)
+        ⊎ (code ≡ SendNoBuffer) × IsCrowded bytes.now) }
+{
+    if is_complex(read_word(bytes, 0)) {
+        read_spans(alloc, bytes)
+    } else {
+        Ok(SmallVec::new(alloc))
+    }
+}
+
+/// What these bytes say, as far as the kernel needs it (IPC Interface, `mach_msg`). The bytes are a
+/// whole text, and nothing follows it.
+///
+/// # Errors
+/// Each comes only for its fault, and the first of these faults gives the code:
+/// - [`MsgReturn::SendMsgTooSmall`]: fewer than 24 bytes, or a number of them that is no multiple of 4.
+/// - [`MsgReturn::SendInvalidData`]: more than 65,536 bytes.
+/// - [`MsgReturn::SendInvalidHeader`]: an unknown bit; a remote disposition that is not 17 to 21; a local
+///   one that is neither 0 nor 17 to 21; a local port other than 0 where the local disposition is 0.
+/// - With `MACH_MSGH_BITS_COMPLEX`, item by item from the front: the faults of a descriptor, with the
+///   codes of [`type_descriptor::read_descriptor`], and then [`MsgReturn::SendMsgTooSmall`]: data past
+///   the end.
+/// - [`MsgReturn::SendNoBuffer`]: memory was refused. No other fault is there, and more than 8 items
+///   have port words.
+///
+/// Up to 8 items with port words take no memory. The time grows with the number of items: of raw
+/// bytes and of data nothing is looked at.
+pub fn parse(alloc: Global, bytes: &[u8]) -> Result<Parsed, MsgReturn>
+    ensures ok { IfOk result (λ parsed. Parses bytes.now parsed) }
+    ensures err { IfErr result (λ code. TextRefuses bytes.now (msg_number code)
+        ⊎ (code ≡ SendNoBuffer) × IsCrowded bytes.now) }
+
+    // Each text of the grammar whose header is lawful is read, unless memory is refused.
+    ensures whole { (header : AnyHeader) (written : WireBody) → Spells bytes.now header written
+        → NoneHolds (header_guards bytes.now)
+        → IfErr result (λ code. (code ≡ SendNoBuffer) × IsCrowded bytes.now) }
+{
+    check_header(bytes)?;
+    let spans = read_body(alloc, bytes)?;
+    let bits = read_word(bytes, 0);
+    Ok(Parsed {
+        remote_kind: remote_kind(bits),
+        local_kind: local_kind(bits),
+        remote: Name::new(read_word(bytes, 8)),
+        local: Name::new(read_word(bytes, 12)),
+        id: read_word(bytes, 20),
+        is_complex: is_complex(bits),
+        spans: Spans::from_small_vec(spans),
+    })
+}

@@ -1,0 +1,6 @@
+pub mod Ordered
+pub mod View
+pub mod Keys
+pub mod Records
+pub mod Sound
+pub mod Grown

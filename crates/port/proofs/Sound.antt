@@ -1,0 +1,115 @@
+-- Whole ports after a change of one.
+use Rattle.std.proofs.Common.{◌≡◌, ℕ, suc, zero, ◌+◌, ◌<◌, refl, ap, sym, ◌∙◌, Option, Some, None, IsSome, IfSome, Bor, slice_get, true, false, List, [], ◌∷◌, length, get_or, arith}
+use Rattle.std.specs.List.{sum_by}
+use Rattle.std.specs.Option.{option_copied}
+use Rattle.std.specs.Ordering.{nat_cmp}
+use Rattle.std.specs.FinMap as map
+use Rattle.std.proofs.lemmas.List.{get_or-set_same, get_or-set_other}
+use Rattle.std.proofs.lemmas.List.Sums.{sum_by-set, sum_by-cons}
+use Rattle.slab.specs.Slab.{Slab, get, with_value}
+use Rattle.port.specs.declared.Record.{Record}
+use Rattle.port.specs.Ports.{PortView, PortsView}
+use Rattle.port.specs.Records.{ports_of, queued_in, IsSound, made_of}
+use Rattle.port.proofs.Keys.{same_some, some_or_none}
+use Rattle.port.proofs.Records.{port_of, Turns, port_at, no_port_at, live_key, ports-changed, indexed-changed}
+use Rattle.std.specs.Map.{lookup}
+use Rattle.std.specs.BTreeMap.{is_at}
+use Rattle.port.proofs.Ordered.{get-from_ordered}
+
+pub no_true : false ≡ true → ⊥
+no_true e = cc
+
+module _ {M : Type 0} where
+  pub within : (l : List (Option (Record M))) (k : ℕ) (r : Record M) → get_or l k None ≡ Some r → k < length l
+  within [] k r h = absurd (some_or_none r None h refl)
+  within (x ∷ l) zero r h = omega arith
+  within (x ∷ l) (suc k) r h = let rest : k < length l = within l k r h in omega arith
+
+  module _ (s : Slab (Record M)) (key : ℕ) (r a : Record M) (here : get s key ≡ Some r) where
+    pub turns-set : Turns (get s) (get (with_value s key a)) key (Some a)
+    turns-set = record {
+      changed = get_or-set_same s.slots key (Some a) None (within s.slots key r here);
+      others = λ other d. get_or-set_other s.slots key other (Some a) None d;
+    }
+
+    pub sum-set : sum_by queued_in (with_value s key a).slots + length r.queue ≡ sum_by queued_in s.slots + length a.queue
+    sum-set =
+        let all = sum_by-set queued_in s.slots key (Some a) None (within s.slots key r here) in
+        let one : queued_in (get_or s.slots key None) ≡ length r.queue = ap queued_in here in
+        omega arith
+
+  module _ (s : Slab (Record M)) (es : List (ℕ × ℕ)) (next : Option ℕ) (spare left : List M) (slots : ℕ) (so : IsSound s es next spare slots)
+      (v : PortsView M) (view_is : record { ports = ports_of (get s) (map.from_sorted es); made = made_of next; spare = length spare } ≡ v)
+      (id key : ℕ) (r a : Record M) (found : map.get (map.from_sorted {R = nat_cmp} es) id ≡ Some key) (here : get s key ≡ Some r) (same : a.id ≡ r.id)
+      (balance : length a.queue + length left ≡ length r.queue + length spare) where
+    pub is_port : (p : PortView M) → map.get v.ports id ≡ Some p → p ≡ port_of r
+    is_port p h = same_some p (port_of r) (sym h ∙ sym (ap (λ (b : PortsView M). map.get b.ports id) view_is) ∙ port_at (get s) (map.from_sorted es) id key r found here)
+
+    pub sound-set : IsSound (with_value s key a) es next left slots
+    sound-set = record {
+      ordered = so.ordered;
+      indexed = indexed-changed (get s) (get (with_value s key a)) (map.from_sorted es) (made_of next) so.indexed id key r a found here (turns-set s key r a here) same;
+      counted = let e = so.counted in let f = sum-set s key r a here in omega arith;
+      few = so.few;
+      next_fits = so.next_fits;
+    }
+
+    pub view-set : ◌≡◌ {A = PortsView M} record { ports = ports_of (get (with_value s key a)) (map.from_sorted es); made = made_of next; spare = length left }
+        record { ports = map.insert v.ports id (port_of a); made = v.made; spare = length left }
+    view-set =
+        let mk : map.FinMap nat_cmp (PortView M) → ℕ → PortsView M = λ ports made. record { ports = ports; made = made; spare = length left } in
+        ap (λ ports. mk ports (made_of next)) (ports-changed (get s) (get (with_value s key a)) (map.from_sorted es) (made_of next) so.indexed id key r a found here (turns-set s key r a here) same)
+        ∙ ap (λ (b : PortsView M). mk (map.insert b.ports id (port_of a)) b.made) view_is
+
+  -- ---- after a port has come
+
+  pub sum_same : (l m : List (Option (Record M))) → ((k : ℕ) → queued_in (get_or l k None) ≡ queued_in (get_or m k None)) → sum_by queued_in l ≡ sum_by queued_in m
+  sum_same [] [] h = refl
+  sum_same [] (y ∷ m) h =
+      let first : queued_in y ≡ 0 = sym (h 0) in
+      let rest : sum_by (queued_in {M = M}) [] ≡ sum_by queued_in m = sum_same [] m (λ k. h (suc k)) in
+      let all : sum_by queued_in (y ∷ m) ≡ queued_in y + sum_by queued_in m = sum_by-cons queued_in y m in
+      let none : sum_by (queued_in {M = M}) [] ≡ 0 = refl in
+      omega arith
+  sum_same (x ∷ l) [] h =
+      let first : queued_in x ≡ 0 = h 0 in
+      let rest : sum_by queued_in l ≡ sum_by (queued_in {M = M}) [] = sum_same l [] (λ k. h (suc k)) in
+      let all : sum_by queued_in (x ∷ l) ≡ queued_in x + sum_by queued_in l = sum_by-cons queued_in x l in
+      let none : sum_by (queued_in {M = M}) [] ≡ 0 = refl in
+      omega arith
+  sum_same (x ∷ l) (y ∷ m) h =
+      let first : queued_in x ≡ queued_in y = h 0 in
+      let rest : sum_by queued_in l ≡ sum_by queued_in m = sum_same l m (λ k. h (suc k)) in
+      let a : sum_by queued_in (x ∷ l) ≡ queued_in x + sum_by queued_in l = sum_by-cons queued_in x l in
+      let b : sum_by queued_in (y ∷ m) ≡ queued_in y + sum_by queued_in m = sum_by-cons queued_in y m in
+      omega arith
+
+  -- ---- a port by its identity
+
+  module _ (s : Slab (Record M)) (es : List (ℕ × ℕ)) (next : Option ℕ) (spare : List M) (slots : ℕ) (so : IsSound s es next spare slots)
+      (v : PortsView M) (view_is : record { ports = ports_of (get s) (map.from_sorted es); made = made_of next; spare = length spare } ≡ v) (id : ℕ) where
+    pub keyed : (o : Option ℕ) → o ≡ lookup (is_at (nat_cmp id)) es → map.get (map.from_sorted {R = nat_cmp} es) id ≡ o
+    keyed o e = get-from_ordered es id so.ordered ∙ sym e
+
+    pub record_at : (k : ℕ) → map.get (map.from_sorted {R = nat_cmp} es) id ≡ Some k → (r : Record M) × (get s k ≡ Some r) × (r.id ≡ id)
+    record_at k h = so.indexed.found id k h
+
+    pub live_port : (k : ℕ) (r : Record M) → map.get (map.from_sorted {R = nat_cmp} es) id ≡ Some k → get s k ≡ Some r → map.get v.ports id ≡ Some (port_of r)
+    live_port k r h g = sym (ap (λ (b : PortsView M). map.get b.ports id) view_is) ∙ port_at (get s) (map.from_sorted es) id k r h g
+
+    pub gone_port : map.get (map.from_sorted {R = nat_cmp} es) id ≡ None → map.get v.ports id ≡ None
+    gone_port h = sym (ap (λ (b : PortsView M). map.get b.ports id) view_is) ∙ no_port_at (get s) (map.from_sorted es) id h
+
+    pub live_at : map.contains_key v.ports id ≡ true → (k : ℕ) × (map.get (map.from_sorted {R = nat_cmp} es) id ≡ Some k)
+    live_at h = live_key (get s) (map.from_sorted es) id (ap (λ (b : PortsView M). map.contains_key b.ports id) view_is ∙ h)
+
+  -- the front as a list has it
+  pub front_got : (o : Option (Bor M)) (l : List M) → (IsSome o → 0 < length l) → (0 < length l → IsSome o) → IfSome o (λ x. x.now ≡ get_or l 0 x.now) → option_copied o ≡ slice_get l 0
+  front_got None [] some has is = refl
+  front_got None (y ∷ l) some has is = absurd (no_true (has (omega arith)))
+  front_got (Some x) [] some has is = absurd (let h : 0 < length (let none : List M = [] in none) = some refl in omega arith)
+  front_got (Some x) (y ∷ l) some has is = ap (λ a. Some a) is
+
+  pub no_front : (l : List M) → length l ≡ 0 → slice_get l 0 ≡ None
+  no_front [] e = refl
+  no_front (x ∷ l) e = absurd (omega arith)

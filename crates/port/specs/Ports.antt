@@ -1,0 +1,39 @@
+-- What contracts see of ports: each live port's queue and attributes, how many were made, and how many slots are spare.
+use Rattle.std.specs.Prelude.{◌≡◌, ℕ, List, None, true, refl}
+use Rattle.std.specs.Coded.{Coded, code_by, coded×, coded_ℕ, coded_list}
+use Rattle.std.specs.FinMap as map
+use Rattle.std.specs.Ordering.{nat_cmp}
+use Rattle.mach_types.specs.Numbers.{first_limit}
+use Rattle.port.specs.declared.Attributes.{Attributes}
+use Rattle.port.specs.declared.Holder.{Holder}
+
+pub record PortView (M : Type 0) : Type 0 where
+  pub queue : List M
+  pub attributes : Attributes
+
+pub record PortsView (M : Type 0) : Type 0 where
+  pub ports : map.FinMap nat_cmp (PortView M)
+  pub made : ℕ
+  pub spare : ℕ
+
+abbrev pub port_code : {M : Type 0} → Coded M → Coded Attributes → Coded (PortView M)
+port_code {M} m a = code_by (List M × Attributes) (coded× (coded_list m) a) (λ p. (p.queue, p.attributes)) (λ p. record { queue = p.0; attributes = p.1 }) (λ _. refl)
+
+abbrev pub ports_code : {M : Type 0} → Coded M → Coded Attributes → Coded (PortsView M)
+ports_code {M} m a = code_by
+    (map.FinMap nat_cmp (PortView M) × (ℕ × ℕ)) (coded× (map.code coded_ℕ (port_code m a)) (coded× coded_ℕ coded_ℕ))
+    (λ v. (v.ports, (v.made, v.spare)))
+    (λ p. record { ports = p.0; made = p.1.0; spare = p.1.1 })
+    (λ _. refl)
+
+-- a new port's attributes: limit 5, and no message yet sent, made or received
+abbrev pub first_attributes : Holder → Attributes
+first_attributes holder = record { limit = first_limit; make_send = 0; sequence = 0; holder = holder; set = None; next_dying = None; next_ready = None }
+
+module _ {M : Type 0} where
+  abbrev pub IsLive : PortsView M → ℕ → Type 0
+  IsLive v port = map.contains_key v.ports port ≡ true
+
+  -- one port as given, and each other as it was
+  abbrev pub with_port : PortsView M → ℕ → PortView M → PortsView M
+  with_port v port p = record v { ports = map.insert v.ports port p }

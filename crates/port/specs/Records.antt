@@ -1,0 +1,47 @@
+-- How ports are kept. No public clause cites this module.
+use Rattle.std.specs.Prelude.{◌≡◌, ℕ, ◌+◌, ◌<◌, ◌^◌, List, [], Option, Some, None, length}
+use Rattle.std.specs.Prelude as std
+use Rattle.std.specs.List.{sum_by}
+use Rattle.std.specs.List.Sorted.{IsStrictlySortedBy}
+use Rattle.std.specs.Map.{keys_of}
+use Rattle.std.specs.FinMap as map
+use Rattle.std.specs.Ordering.{nat_cmp}
+use Rattle.slab.specs.Slab.{Slab, get}
+use Rattle.port.specs.declared.Record.{Record}
+use Rattle.port.specs.declared.Holder.TheVariants.{Nowhere}
+use Rattle.port.specs.Ports.{PortView, first_attributes}
+
+-- the map with each value v replaced by f v
+abbrev pub with_values : {X : Type 0} → (ℕ → X) → map.FinMap nat_cmp ℕ → map.FinMap nat_cmp X
+with_values f m = map.from_sorted (std.map (λ e. (e.0, f e.1)) (map.entries m))
+
+-- how many numbers were given out, where the next is this, or none is left
+abbrev pub made_of : Option ℕ → ℕ
+made_of None = 2 ^ 64
+made_of (Some next) = next
+
+module _ {M : Type 0} where
+  abbrev pub port_in : Option (Record M) → PortView M
+  port_in None = record { queue = []; attributes = first_attributes Nowhere }
+  port_in (Some r) = record { queue = r.queue; attributes = r.attributes }
+
+  abbrev pub ports_of : (ℕ → Option (Record M)) → map.FinMap nat_cmp ℕ → map.FinMap nat_cmp (PortView M)
+  ports_of at keys = with_values (λ key. port_in (at key)) keys
+
+  -- how many messages lie in a slot of the slab
+  abbrev pub queued_in : Option (Record M) → ℕ
+  queued_in None = 0
+  queued_in (Some r) = length r.queue
+
+  -- Identities lead to keys of records, and each record is found by its identity; each identity was given.
+  pub record IsIndexed (at : ℕ → Option (Record M)) (keys : map.FinMap nat_cmp ℕ) (made : ℕ) : Type 0 where
+    pub found : (id key : ℕ) → map.get keys id ≡ Some key → (r : Record M) × (at key ≡ Some r) × (r.id ≡ id)
+    pub held : (key : ℕ) (r : Record M) → at key ≡ Some r → map.get keys r.id ≡ Some key
+    pub given : (id key : ℕ) → map.get keys id ≡ Some key → id < made
+
+  pub record IsSound (s : Slab (Record M)) (entries : List (ℕ × ℕ)) (next : Option ℕ) (spare : List M) (slots : ℕ) : Type 0 where
+    pub ordered : IsStrictlySortedBy nat_cmp (keys_of entries)
+    pub indexed : IsIndexed (get s) (map.from_sorted entries) (made_of next)
+    pub counted : sum_by queued_in s.slots + length spare ≡ slots
+    pub few : slots < 2 ^ 63
+    pub next_fits : (n : ℕ) → next ≡ Some n → n < 2 ^ 64

@@ -1,0 +1,454 @@
+//! Ports: their queues, attributes and identities, and the message slots that are kept free.
+//!
+//! A port's queue is a list. A message lies in a slot; slots are made by [`Ports::reserve_slots`] alone
+//! and move between the queues and the spare ones, so that queueing takes no memory. Identities are
+//! given from 0 and never again: one whose port is gone finds nothing.
+#![tactic(auto)]
+
+ghost use Rattle.std.specs.Prelude.{◌≡◌, ◌≢◌, ℕ, ◌+◌, ◌-◌, ◌<◌, ◌≤◌, ◌^◌, ◌↔◌, ◌++◌, ◌∷◌, [], List, length, IsTrue, true, Some, None, IsSome, IfSome, IfOk, IfNone, OnOk, OnErr, option_copied, slice_get, drop};
+ghost use Rattle.std.specs.Option.{option_map, option_and_then};
+ghost use Rattle.std.specs.FinMap as map;
+ghost use Rattle.std.specs.Ordering.{nat_cmp};
+ghost use Rattle.std.specs.BTreeMap.{get as key_in};
+ghost use Rattle.slab.specs.Slab.{get, with_value};
+ghost use Rattle.port.specs.declared.Record.{Record as AnyRecord};
+
+use mach_types::{PortId, SetId, TaskId};
+use slab::Slab;
+use std::alloc::{AllocError, Global};
+use std::collections::{BTreeMap, LinkedList};
+use std::marker::Model;
+use std::mem;
+
+// A list has fewer elements than this.
+const MOST_SLOTS: usize = 1 << 63;
+
+/// A message that can lie in a slot.
+pub trait Message: Drop {
+    /// What lies in a slot that no message is in. Takes no memory.
+    fn blank(alloc: Global) -> Self;
+}
+
+/// Where a port's receive right is.
+#[derive(Clone, Copy, Debug, PartialEq, Eq)]
+pub enum Holder {
+    /// A task has it.
+    Task(TaskId),
+    /// A message that is queued at this port carries it.
+    Queued(PortId),
+    /// It was taken from its place, and has no other yet.
+    Nowhere,
+}
+
+/// What a port has beside its queue. Setting it changes nothing else.
+#[derive(Clone, Copy, Debug, PartialEq, Eq)]
+pub struct Attributes {
+    /// How many messages the queue takes from send rights, 0 to 16.
+    pub limit: u32,
+    /// How many send rights were made from the receive right, modulo 2^32.
+    pub make_send: u32,
+    /// The sequence number of the next message received, modulo 2^32.
+    pub sequence: u32,
+    /// Where the receive right is.
+    pub holder: Holder,
+    /// The port set that the port is in.
+    pub set: Option<SetId>,
+    /// The next port of a list of ports that are to die.
+    pub next_dying: Option<PortId>,
+    /// The next port of a set's list of members that have messages.
+    pub next_ready: Option<PortId>,
+}
+
+impl Attributes {
+    ghost use Rattle.port.specs.Ports.{first_attributes};
+
+    // A new port's.
+    fn first(holder: Holder) -> Attributes
+        ensures { result ≡ first_attributes holder }
+    {
+        Attributes {
+            limit: 5,
+            make_send: 0,
+            sequence: 0,
+            holder,
+            set: None,
+            next_dying: None,
+            next_ready: None,
+        }
+    }
+}
+
+// A port under its key.
+#[derive(Drop)]
+struct Record<M> {
+    id: PortId,
+    queue: LinkedList<M>,
+    attributes: Attributes,
+}
+
+// A port without messages takes its record in the slab, and a pair of numbers in the index, whose
+// nodes are at least five elevenths full: fewer than 200 bytes.
+const _: () = prove!(mem::size_of::<Record<u8>>() <= 112);
+
+/// Ports by identity, and spare message slots. Without ports and slots nothing is allocated.
+#[derive(Drop)]
+pub struct Ports<M: Message> {
+    records: Slab<Record<M>>,
+    by_id: BTreeMap<u64, usize>,
+    next: Option<u64>,
+    spare: LinkedList<M>,
+    slots: usize,
+}
+
+impl<M: Message> Model for Ports<M> {
+    ghost use Rattle.std.specs.Prelude.{length};
+    ghost use Rattle.port.specs.Ports.{PortsView, ports_code};
+    ghost use Rattle.port.specs.contracts.Attributes as attributes;
+
+    ghost Value = { PortsView M };
+
+    ghost coded = { ports_code M.code attributes.the_row.coded };
+
+    ghost use Rattle.std.specs.FinMap as map;
+    ghost use Rattle.slab.specs.Slab.{get};
+    ghost use Rattle.port.specs.Records.{ports_of, made_of, IsSound};
+
+    ghost view = { λ a. record {
+      ports = ports_of (get a.records) (map.from_sorted a.by_id.entries);
+      made = made_of a.next;
+      spare = length a.spare;
+    } };
+
+    ghost invariant = { λ a. IsSound a.records a.by_id.entries a.next a.spare a.slots };
+}
+
+// Moves the first node of a list to the end of another.
+fn move_first<M: Drop>(from: &mut LinkedList<M>, to: &mut LinkedList<M>)
+    requires some { 0 < length from.old }
+    requires fit { length from.old + length to.old < 2 ^ 63 }
+    ensures { (m : M) × (from.old ≡ m ∷ from.new) × (to.new ≡ to.old ++ m ∷ []) }
+{
+    let mut rest = from.split_off(1).unwrap();
+    to.append(from).unwrap();
+    from.append(&mut rest).unwrap();
+}
+
+// Puts a message at the end of a queue, in a spare node.
+fn push<M: Drop>(queue: &mut LinkedList<M>, spare: &mut LinkedList<M>, message: M)
+    requires some { 0 < length spare.old }
+    requires fit { length queue.old + length spare.old < 2 ^ 63 }
+    ensures queue { queue.new ≡ queue.old ++ message ∷ [] }
+    ensures spare { length spare.new + 1 ≡ length spare.old }
+{
+    if let Some(slot) = spare.front_mut() {
+        *slot = message;
+    }
+    move_first(spare, queue);
+}
+
+// Takes the message at the front of a queue that has one, and moves its node to the spare ones.
+fn pop<M: Drop>(queue: &mut LinkedList<M>, spare: &mut LinkedList<M>, blank: M) -> M
+    requires some { 0 < length queue.old }
+    requires fit { length queue.old + length spare.old < 2 ^ 63 }
+    ensures queue { queue.old ≡ result ∷ queue.new }
+    ensures spare { length spare.new ≡ length spare.old + 1 }
+{
+    let message = match queue.front_mut() {
+        Some(slot) => mem::replace(slot, blank),
+        None => unreachable!(),
+    };
+    move_first(queue, spare);
+    message
+}
+
+// Queues the message at the port under the key.
+fn push_at<M: Message>(
+    records: &mut Slab<Record<M>>,
+    key: usize,
+    spare: &mut LinkedList<M>,
+    message: M,
+)
+    requires there { IsSome (get records.old key) }
+    requires some { 0 < length spare.old }
+    requires fit { (r : AnyRecord M) → get records.old key ≡ Some r → length r.queue + length spare.old < 2 ^ 63 }
+    ensures after { (r : AnyRecord M) → get records.old key ≡ Some r → records.new ≡ with_value records.old key (record r { queue = r.queue ++ message ∷ [] }) }
+    ensures spare { length spare.new + 1 ≡ length spare.old }
+{
+    push(&mut records[key].queue, spare, message);
+}
+
+// Takes the message at the front of the queue of the port under the key.
+fn pop_at<M: Message>(
+    records: &mut Slab<Record<M>>,
+    key: usize,
+    spare: &mut LinkedList<M>,
+    blank: M,
+) -> M
+    requires there { IsSome (get records.old key) }
+    requires some { (r : AnyRecord M) → get records.old key ≡ Some r → 0 < length r.queue }
+    requires fit { (r : AnyRecord M) → get records.old key ≡ Some r → length r.queue + length spare.old < 2 ^ 63 }
+    ensures after { (r : AnyRecord M) → get records.old key ≡ Some r → (rest : List M) × (r.queue ≡ result ∷ rest) × (records.new ≡ with_value records.old key (record r { queue = rest })) }
+    ensures spare { length spare.new ≡ length spare.old + 1 }
+{
+    pop(&mut records[key].queue, spare, blank)
+}
+
+// Sets the attributes of the port under the key.
+fn set_at<M: Message>(records: &mut Slab<Record<M>>, key: usize, attributes: Attributes)
+    requires { IsSome (get records.old key) }
+    ensures { (r : AnyRecord M) → get records.old key ≡ Some r → records.new ≡ with_value records.old key (record r { attributes = attributes }) }
+{
+    records[key].attributes = attributes;
+}
+
+// The key of a port's record, if the port is there.
+fn key_of(by_id: &BTreeMap<u64, usize>, port: PortId) -> Option<usize>
+    ensures { result ≡ key_in nat_cmp by_id.now port }
+{
+    by_id.get(&port.number()).copied()
+}
+
+impl<M: Message> Ports<M> {
+    ghost use Rattle.mach_types.specs.Numbers.{most_identities};
+    ghost use Rattle.port.specs.Ports.{PortView, IsLive, with_port, first_attributes};
+
+    /// No ports, and no slots. Allocates nothing; constant time.
+    pub fn new(alloc: Global) -> Ports<M>
+        ensures { result ≡ record { ports = map.empty; made = 0; spare = 0 } }
+    {
+        Ports {
+            records: Slab::new(alloc),
+            by_id: BTreeMap::new(alloc),
+            next: Some(0),
+            spare: LinkedList::new(alloc),
+            slots: 0,
+        }
+    }
+
+    /// How many message slots are spare. Constant time.
+    pub fn spare(&self) -> usize
+        ensures { result ≡ self.now.spare }
+    {
+        self.spare.len()
+    }
+
+    /// Makes so many more spare slots. Linear in their number.
+    ///
+    /// An error means that memory was refused; all but the number of spare slots, which may have
+    /// grown, is then as before.
+    pub fn reserve_slots(&mut self, additional: usize) -> Result<(), AllocError>
+        ensures ports { self.new ≡ record self.old { spare = self.new.spare } }
+        ensures ok { OnOk result (self.new.spare ≡ self.old.spare + additional) }
+        ensures err { self.old.spare ≤ self.new.spare }
+    {
+        for _ in 0..additional {
+            self.reserve_slot()?;
+        }
+        Ok(())
+    }
+
+    // Makes one more spare slot.
+    fn reserve_slot(&mut self) -> Result<(), AllocError>
+        ensures ok { OnOk result (self.new ≡ record self.old { spare = self.old.spare + 1 }) }
+        ensures err { OnErr result (self.new ≡ self.old) }
+    {
+        if self.slots + 1 >= MOST_SLOTS {
+            return Err(AllocError);
+        }
+        let blank = M::blank(*self.spare.allocator());
+        self.spare.push_back(blank)?;
+        self.slots += 1;
+        Ok(())
+    }
+
+    /// Whether all 2^64 identities were given, so that no port can be made. Constant time.
+    pub fn is_exhausted(&self) -> bool
+        ensures { IsTrue result ↔ (most_identities ≤ self.now.made) }
+    {
+        self.next.is_none()
+    }
+
+    /// Makes a port whose receive right is with the holder: no messages, limit 5, counts 0, in no
+    /// set (Port Manipulation Interface, `mach_port_allocate`). Its identity is the number of ports
+    /// made before. Logarithmic in the number of ports, but where the records move to a larger place.
+    ///
+    /// An error means that memory was refused; all is then as before.
+    pub fn allocate(&mut self, holder: Holder) -> Result<PortId, AllocError>
+        requires { self.old.made < most_identities }
+        ensures identity { IfOk result (λ id. id ≡ self.old.made) }
+        ensures ok { OnOk result (self.new ≡ record self.old { ports = map.insert self.old.ports self.old.made (record { queue = []; attributes = first_attributes holder }); made = self.old.made + 1 }) }
+        ensures err { OnErr result (self.new ≡ self.old) }
+    {
+        let number = self.next.unwrap();
+        let id = PortId::new(number);
+        self.records.reserve(1)?;
+        self.by_id.insert(number, self.records.vacant_key())?;
+        self.records.insert_reserved(Record {
+            id,
+            queue: LinkedList::new(*self.spare.allocator()),
+            attributes: Attributes::first(holder),
+        });
+        self.next = number.checked_add(1);
+        Ok(id)
+    }
+
+    /// Removes a port that has no messages; what was allocated for it is freed or kept for others.
+    /// Takes no memory. Logarithmic in the number of ports.
+    pub fn remove(&mut self, port: PortId)
+        requires { (p : PortView M) → map.get self.old.ports port ≡ Some p → length p.queue ≡ 0 }
+        ensures { self.new ≡ record self.old { ports = map.remove self.old.ports port } }
+    {
+        match self.by_id.remove(&port.number()) {
+            Some(key) => {
+                self.records.remove(key);
+            }
+            None => {}
+        }
+    }
+
+    /// A port's attributes, if the port is there. Logarithmic in the number of ports.
+    pub fn attributes(&self, port: PortId) -> Option<Attributes>
+        ensures { result ≡ option_map (λ p. p.attributes) (map.get self.now.ports port) }
+    {
+        let key = key_of(&self.by_id, port)?;
+        Some(self.records[key].attributes)
+    }
+
+    /// Sets a port's attributes. Takes no memory. Logarithmic in the number of ports.
+    pub fn set_attributes(&mut self, port: PortId, attributes: Attributes)
+        requires { IsLive self.old port }
+        ensures { (p : PortView M) → map.get self.old.ports port ≡ Some p → self.new ≡ with_port self.old port (record p { attributes = attributes }) }
+    {
+        let key = key_of(&self.by_id, port).unwrap();
+        set_at(&mut self.records, key, attributes);
+    }
+
+    /// How many messages a port has, 0 where it is gone. Logarithmic in the number of ports.
+    pub fn queued(&self, port: PortId) -> usize
+        ensures live { (p : PortView M) → map.get self.now.ports port ≡ Some p → result ≡ length p.queue }
+        ensures gone { map.get self.now.ports port ≡ None → result ≡ 0 }
+    {
+        match key_of(&self.by_id, port) {
+            Some(key) => self.records[key].queue.len(),
+            None => 0,
+        }
+    }
+
+    /// The message at the front of a port's queue, if the port is there and has one. Logarithmic in
+    /// the number of ports.
+    pub fn front(&self, port: PortId) -> Option<&M>
+        ensures { option_copied result ≡ option_and_then (λ p. slice_get p.queue 0) (map.get self.now.ports port) }
+    {
+        let key = key_of(&self.by_id, port)?;
+        self.records[key].queue.front()
+    }
+
+    /// Puts a message at the end of a port's queue, in a spare slot. Takes no memory. Logarithmic in
+    /// the number of ports.
+    pub fn enqueue(&mut self, port: PortId, message: M)
+        requires live { IsLive self.old port }
+        requires spare { 0 < self.old.spare }
+        ensures { (p : PortView M) → map.get self.old.ports port ≡ Some p →
+            self.new ≡ record (with_port self.old port (record p { queue = p.queue ++ message ∷ [] })) { spare = self.old.spare - 1 } }
+    {
+        let key = key_of(&self.by_id, port).unwrap();
+        push_at(&mut self.records, key, &mut self.spare, message);
+    }
+
+    /// Takes the message at the front of a port's queue; its slot is spare again. `None` where the
+    /// port is gone or has none, and all is then as before. Takes no memory. Logarithmic in the number
+    /// of ports.
+    pub fn dequeue(&mut self, port: PortId) -> Option<M>
+        ensures front { result ≡ option_and_then (λ p. slice_get p.queue 0) (map.get self.old.ports port) }
+        ensures taken { (p : PortView M) → map.get self.old.ports port ≡ Some p → IfSome result (λ m. self.new ≡ record (with_port self.old port (record p { queue = drop 1 p.queue })) { spare = self.old.spare + 1 }) }
+        ensures none { IfNone result (self.new ≡ self.old) }
+    {
+        let key = key_of(&self.by_id, port)?;
+        if self.records[key].queue.is_empty() {
+            return None;
+        }
+        let blank = M::blank(*self.spare.allocator());
+        Some(pop_at(&mut self.records, key, &mut self.spare, blank))
+    }
+}
+
+#[cfg(test)]
+mod tests {
+    use super::*;
+    use std::test::Fail;
+
+    #[derive(Drop)]
+    struct Note(u32);
+
+    impl Message for Note {
+        fn blank(_alloc: Global) -> Note {
+            Note(0)
+        }
+    }
+
+    // Queues a note, if the port is there and a slot is spare.
+    fn post(ports: &mut Ports<Note>, port: PortId, number: u32) -> bool {
+        if ports.attributes(port).is_none() || ports.spare() == 0 {
+            return false;
+        }
+        ports.enqueue(port, Note(number));
+        true
+    }
+
+    fn front_number(ports: &Ports<Note>, port: PortId) -> Option<u32> {
+        let note = ports.front(port)?;
+        Some(note.0)
+    }
+
+    fn take_number(ports: &mut Ports<Note>, port: PortId) -> Option<u32> {
+        let note = ports.dequeue(port)?;
+        Some(note.0)
+    }
+
+    #[test]
+    fn messages_come_out_in_order(rt: HostRuntime) -> Result<(), Fail> {
+        let mut ports = Ports::<Note>::new(rt.alloc());
+        assert!(rt; !ports.is_exhausted());
+        let first = ports.allocate(Holder::Task(TaskId::new(0)))?;
+        assert!(rt; !ports.is_exhausted());
+        let second = ports.allocate(Holder::Nowhere)?;
+        assert_eq!(rt; first.number(), 0);
+        assert_eq!(rt; second.number(), 1);
+        assert!(rt; !post(&mut ports, first, 1));
+        ports.reserve_slots(2)?;
+        assert!(rt; post(&mut ports, first, 7));
+        assert!(rt; post(&mut ports, first, 8));
+        assert!(rt; !post(&mut ports, second, 9));
+        assert_eq!(rt; ports.queued(first), 2);
+        assert_eq!(rt; ports.queued(second), 0);
+        assert_eq!(rt; front_number(&ports, first), Some(7));
+        assert_eq!(rt; take_number(&mut ports, first), Some(7));
+        assert_eq!(rt; ports.spare(), 1);
+        assert!(rt; post(&mut ports, second, 9));
+        assert_eq!(rt; take_number(&mut ports, first), Some(8));
+        assert_eq!(rt; take_number(&mut ports, first), None);
+        assert_eq!(rt; take_number(&mut ports, second), Some(9));
+        assert_eq!(rt; ports.spare(), 2);
+        Ok(())
+    }
+
+    #[test]
+    fn a_gone_port_is_not_found(rt: HostRuntime) -> Result<(), Fail> {
+        let mut ports = Ports::<Note>::new(rt.alloc());
+        assert!(rt; !ports.is_exhausted());
+        let port = ports.allocate(Holder::Nowhere)?;
+        let mut attributes = ports.attributes(port).ok_or("made")?;
+        assert_eq!(rt; attributes.limit, 5);
+        attributes.limit = 16;
+        ports.set_attributes(port, attributes);
+        assert_eq!(rt; ports.attributes(port).ok_or("made")?.limit, 16);
+        assert_eq!(rt; ports.queued(port), 0);
+        ports.remove(port);
+        assert!(rt; ports.attributes(port).is_none());
+        assert!(rt; !ports.is_exhausted());
+        let other = ports.allocate(Holder::Nowhere)?;
+        assert_eq!(rt; other.number(), 1);
+        assert!(rt; ports.attributes(port).is_none());
+        Ok(())
+    }
+}

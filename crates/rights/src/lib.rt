@@ -1,0 +1,295 @@
+//! The ledger's counters: how many rights there are, of each port and in all.
+//!
+//! A right is counted wherever it is, with a task, in a message or kept by a request; each user
+//! reference of a send right counts as one. The ledger does not know of the rights themselves: who
+//! makes, moves or destroys one says so here.
+#![tactic(auto)]
+
+ghost use Rattle.std.specs.Prelude.{◌≡◌, ◌≢◌, ℕ, ◌+◌, ◌<◌, ◌≤◌, ◌^◌, ◌↔◌, Some, None, IsSome, OnOk, OnErr, MatchResult};
+ghost use Rattle.std.specs.FinMap as map;
+ghost use Rattle.std.specs.Ordering.{nat_cmp};
+ghost use Rattle.std.specs.BTreeMap.{get, is_at, IsOrdered, Updates};
+ghost use Rattle.std.specs.Map.{set_value};
+ghost use Rattle.mach_types.specs.Numbers.{most_rights};
+ghost use Rattle.mach_types.specs.declared.codes.KernReturn.TheVariants.{NoSpace};
+
+#[cfg(test)]
+mod tests;
+
+use mach_types::{KernReturn, PortId};
+use std::alloc::{AllocError, Global};
+use std::collections::BTreeMap;
+use std::marker::Model;
+
+/// A right as the ledger counts it.
+#[derive(Clone, Copy, Debug, PartialEq, Eq)]
+pub enum RightKind {
+    /// A receive right.
+    Receive,
+    /// A send right.
+    Send,
+    /// A send-once right that is unused: no queued message goes by it, and a message that will needs
+    /// a slot.
+    SendOnce,
+    /// A send-once right that is used: it is the destination right of a queued message.
+    Destination,
+}
+
+/// How many rights a port has, wherever they are.
+#[derive(Clone, Copy, Debug, PartialEq, Eq)]
+pub struct Counts {
+    /// Receive rights.
+    pub receive: u32,
+    /// Send rights.
+    pub send: u32,
+    /// Send-once rights that no queued message goes by.
+    pub send_once: u32,
+    /// Send-once rights by which queued messages go.
+    pub destination: u32,
+}
+
+impl Counts {
+    ghost use Rattle.rights.specs.Counts.{no_rights, number_of, with_more, with_fewer, all_of, unused_of};
+
+    /// No rights.
+    pub fn none() -> Counts
+        ensures { result ≡ no_rights }
+    {
+        Counts {
+            receive: 0,
+            send: 0,
+            send_once: 0,
+            destination: 0,
+        }
+    }
+
+    /// How many of this kind.
+    pub fn number_of(&self, kind: RightKind) -> u32
+        ensures { result ≡ number_of kind self.now }
+    {
+        match kind {
+            RightKind::Receive => self.receive,
+            RightKind::Send => self.send,
+            RightKind::SendOnce => self.send_once,
+            RightKind::Destination => self.destination,
+        }
+    }
+
+    fn with_more(self, kind: RightKind, number: u32) -> Counts
+        requires { all_of self + number < 2 ^ 32 }
+        ensures value { result ≡ with_more kind number self }
+        ensures all { all_of result ≡ all_of self + number }
+        ensures unused { result.send_once ≡ self.send_once + unused_of kind number }
+    {
+        let mut counts = self;
+        match kind {
+            RightKind::Receive => counts.receive += number,
+            RightKind::Send => counts.send += number,
+            RightKind::SendOnce => counts.send_once += number,
+            RightKind::Destination => counts.destination += number,
+        }
+        counts
+    }
+
+    fn with_fewer(self, kind: RightKind, number: u32) -> Counts
+        requires { number ≤ number_of kind self }
+        ensures value { result ≡ with_fewer kind number self }
+        ensures all { all_of result + number ≡ all_of self }
+        ensures unused { result.send_once + unused_of kind number ≡ self.send_once }
+    {
+        let mut counts = self;
+        match kind {
+            RightKind::Receive => counts.receive -= number,
+            RightKind::Send => counts.send -= number,
+            RightKind::SendOnce => counts.send_once -= number,
+            RightKind::Destination => counts.destination -= number,
+        }
+        counts
+    }
+}
+
+impl RightKind {
+    ghost use Rattle.rights.specs.Counts.{unused_of};
+
+    // How many of so many rights of this kind wait for a message slot.
+    fn unused_of(self, number: u32) -> u32
+        ensures value { result ≡ unused_of self number }
+        ensures few { result ≤ number }
+    {
+        match self {
+            RightKind::SendOnce => number,
+            RightKind::Receive | RightKind::Send | RightKind::Destination => 0,
+        }
+    }
+}
+
+/// The counts of each port that was entered, how many rights there are in all, and how many
+/// send-once rights are unused. An empty ledger has allocated nothing.
+#[derive(Drop)]
+pub struct Ledger {
+    ports: BTreeMap<u64, Counts>,
+    total: u32,
+    unused: u32,
+}
+
+impl Model for Ledger {
+    ghost use Rattle.rights.specs.Ledger.{LedgerView, ledger_code};
+    ghost use Rattle.rights.specs.contracts.Counts as counts;
+
+    ghost Value = { LedgerView };
+
+    ghost coded = { ledger_code counts.the_row.coded };
+
+    ghost use Rattle.std.specs.FinMap as map;
+    ghost use Rattle.rights.specs.Counted.{IsCounted};
+
+    ghost view = { λ a. record { counts = map.from_sorted a.ports.entries; total = a.total; unused = a.unused } };
+
+    ghost invariant = { λ a. IsCounted a.ports.entries a.total a.unused };
+}
+
+// Puts these counts in place of those that stand under the port.
+fn replace(ports: &mut BTreeMap<u64, Counts>, port: u64, counts: Counts)
+    requires { IsSome (get nat_cmp ports.old port) }
+    ensures entries { ports.new.entries ≡ set_value (is_at (nat_cmp port)) ports.old.entries counts }
+    ensures updates { Updates nat_cmp ports.old ports.new port (Some counts) }
+    ensures ordered { IsOrdered nat_cmp ports.new }
+{
+    if let Some(held) = ports.get_mut(&port) {
+        *held = counts;
+    }
+}
+
+impl Ledger {
+    ghost use Rattle.rights.specs.Counts.{no_rights, number_of, all_of};
+    ghost use Rattle.rights.specs.Ledger.{IsEntered, counts_of, entered, made, taken, shifted, left};
+
+    /// A ledger of no ports. Allocates nothing; constant time.
+    pub fn new(alloc: Global) -> Ledger
+        ensures { result ≡ record { counts = map.empty; total = 0; unused = 0 } }
+    {
+        Ledger {
+            ports: BTreeMap::new(alloc),
+            total: 0,
+            unused: 0,
+        }
+    }
+
+    /// Enters a port, which has no rights yet. Logarithmic in the number of ports.
+    ///
+    /// An error means that memory was refused; the ledger is then as before. Nothing else here but
+    /// this takes memory.
+    pub fn enter(&mut self, port: PortId) -> Result<(), AllocError>
+        requires { map.get self.old.counts port ≡ None }
+        ensures ok { OnOk result (self.new ≡ entered self.old port) }
+        ensures err { OnErr result (self.new ≡ self.old) }
+    {
+        self.ports.insert(port.number(), Counts::none())?;
+        Ok(())
+    }
+
+    /// Removes a port with all its rights, and answers what they were. Logarithmic in the number of
+    /// ports.
+    pub fn leave(&mut self, port: PortId) -> Counts
+        requires { IsEntered self.old port }
+        ensures counts { result ≡ counts_of self.old port }
+        ensures after { self.new ≡ left self.old port }
+    {
+        let counts = self.held(port);
+        self.total -= counts.receive + counts.send + counts.send_once + counts.destination;
+        self.unused -= counts.send_once;
+        self.ports.remove(&port.number());
+        counts
+    }
+
+    // The counts of a port that was entered.
+    fn held(&self, port: PortId) -> Counts
+        requires { IsEntered self.now port }
+        ensures value { result ≡ counts_of self.now port }
+        ensures all { all_of result ≤ self.now.total }
+        ensures unused { result.send_once ≤ self.now.unused }
+        ensures used { self.now.unused + all_of result ≤ self.now.total + result.send_once }
+    {
+        *self.ports.get(&port.number()).unwrap()
+    }
+
+    // Puts these counts in place of a port's, with the sums that they make.
+    fn store(&mut self, port: PortId, counts: Counts, total: u32, unused: u32)
+        requires entered { IsEntered self.old port }
+        requires all { total + all_of (counts_of self.old port) ≡ self.old.total + all_of counts }
+        requires unused { unused + (counts_of self.old port).send_once ≡ self.old.unused + counts.send_once }
+        ensures { self.new ≡ record { counts = map.insert self.old.counts port counts; total = total; unused = unused } }
+    {
+        replace(&mut self.ports, port.number(), counts);
+        self.total = total;
+        self.unused = unused;
+    }
+
+    /// The counts of a port, if it was entered. Logarithmic in the number of ports.
+    pub fn counts(&self, port: PortId) -> Option<Counts>
+        ensures { result ≡ map.get self.now.counts port }
+    {
+        self.ports.get(&port.number()).copied()
+    }
+
+    /// How many rights there are, at most 4,294,967,295. Constant time.
+    pub fn total(&self) -> u32
+        ensures { result ≡ self.now.total }
+    {
+        self.total
+    }
+
+    /// How many send-once rights are unused: so many message slots have to be kept free. Constant
+    /// time.
+    pub fn unused(&self) -> u32
+        ensures { result ≡ self.now.unused }
+    {
+        self.unused
+    }
+
+    /// Counts new rights of a port. Logarithmic in the number of ports.
+    ///
+    /// `KERN_NO_SPACE` where there would be more than 4,294,967,295 rights in all, and only then; the
+    /// ledger is then as before.
+    pub fn make(&mut self, port: PortId, kind: RightKind, number: u32) -> Result<(), KernReturn>
+        requires { IsEntered self.old port }
+        ensures refused { MatchResult result (λ _. self.old.total + number ≤ most_rights) (λ code. (code ≡ NoSpace) × (most_rights < self.old.total + number)) }
+        ensures ok { OnOk result (self.new ≡ made self.old port kind number) }
+        ensures err { OnErr result (self.new ≡ self.old) }
+    {
+        if number > u32::MAX - self.total {
+            return Err(KernReturn::NoSpace);
+        }
+        let counts = self.held(port).with_more(kind, number);
+        let total = self.total + number;
+        let unused = self.unused + kind.unused_of(number);
+        self.store(port, counts, total, unused);
+        Ok(())
+    }
+
+    /// Counts rights of a port as gone. Logarithmic in the number of ports.
+    pub fn take(&mut self, port: PortId, kind: RightKind, number: u32)
+        requires entered { IsEntered self.old port }
+        requires there { number ≤ number_of kind (counts_of self.old port) }
+        ensures { self.new ≡ taken self.old port kind number }
+    {
+        let counts = self.held(port).with_fewer(kind, number);
+        let total = self.total - number;
+        let unused = self.unused - kind.unused_of(number);
+        self.store(port, counts, total, unused);
+    }
+
+    /// Counts rights of a port under another kind: so a send-once right that becomes the destination
+    /// right of a queued message. The total stays. Logarithmic in the number of ports.
+    pub fn shift(&mut self, port: PortId, from: RightKind, to: RightKind, number: u32)
+        requires entered { IsEntered self.old port }
+        requires there { number ≤ number_of from (counts_of self.old port) }
+        ensures { self.new ≡ shifted self.old port from to number }
+    {
+        let fewer = self.held(port).with_fewer(from, number);
+        let counts = fewer.with_more(to, number);
+        let unused = self.unused - from.unused_of(number) + to.unused_of(number);
+        let total = self.total;
+        self.store(port, counts, total, unused);
+    }
+}

@@ -1,0 +1,2 @@
+pub mod ByteWords
+pub mod Texts

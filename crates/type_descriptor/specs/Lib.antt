@@ -1,0 +1,2 @@
+pub mod Describes
+pub mod Fields
