@@ -1,17 +1,28 @@
 -- What a refusal leaves, and when a receive may answer that there is no message.
-use Rattle.std.proofs.Common.{◌≡◌, ℕ, List, [], ◌∷◌, Some, refl, sym, ◌∙◌, Bool, inl, inr}
-use Rattle.std.specs.Prelude.{◌≢◌}
+use Rattle.std.proofs.Common.{◌≡◌, ℕ, List, [], ◌∷◌, Some, refl, sym, subst, ◌∙◌, Bool, inl, inr}
+use Rattle.std.specs.Prelude.{◌≢◌, Contains}
 use Rattle.mach_types.specs.declared.calls.Event.{Event}
 use Rattle.mach_types.specs.declared.calls.Reply.{Reply}
 use Rattle.mach_types.specs.declared.calls.Waited.{Waited}
 use Rattle.mach_model.specs.State.{State, Target, lookup, queue}
-use Rattle.mach_model.specs.Receiving.{Owed, waits_for, IsEmptyFor}
+use Rattle.mach_model.specs.Receiving.{waits_for, TakesFrom, IsEmptyFor}
+use Rattle.mach_model.specs.Notices.{Owed}
 use Rattle.mach_model.specs.Machine.{Does, Step}
+use Rattle.mach_model.specs.Lawful.{IsLawful}
+use Rattle.mach_laws.specs.Received.{AsksFrom}
 
 does_code : (now : ℕ) (old : State) (event : Event) (code : ℕ) (mid : State) (owed : Owed) → Does now old event (Reply.Code code) mid owed → code ≡ 0
+does_code now old (Event.Deallocate task name) code mid owed d = d.0
+does_code now old (Event.Destroy task name) code mid owed d = d.0
+does_code now old (Event.ModRefs task name right delta) code mid owed d = d.0
+does_code now old (Event.Rename task o n) code mid owed d = d.0
+does_code now old (Event.SetQlimit task name n) code mid owed d = d.0
+does_code now old (Event.SetMscount task name n) code mid owed d = d.0
+does_code now old (Event.SetSeqno task name n) code mid owed d = d.0
 does_code now old (Event.InsertRight task name from poly number) code mid owed d = d.0
 does_code now old (Event.Send task bytes) code mid owed d = d.0
 does_code now old (Event.Receive task name room large) code mid owed d = absurd d.2
+does_code now old (Event.MoveMember task member after) code mid owed d = d.0
 does_code now old event code mid owed d = absurd d
 
 -- A step that is answered with another code than 0 leaves the state.
@@ -54,3 +65,31 @@ empty_is_empty now old task name room large told new (inl r) p is = absurd (no_c
 empty_is_empty now old task name room large told new (inr d) p is =
     let x = d.does in
     nothing_waits old task name p x.0 is (no_sets (old.sets_of p) (λ some. d.unrefused.1.1.0 (p, is, some))) x.1 x.2.1
+
+no_reply_code : (told : Waited) (code : ℕ) → Reply.Empty told ≡ Reply.Code code → ⊥
+no_reply_code told code e = cc
+
+same_set : (s : State) (task name a b : ℕ) → lookup s task name ≡ Some (Target.set a) → lookup s task name ≡ Some (Target.set b) → a ≡ b
+same_set s task name a b e f = some_set (sym e ∙ f)
+  where
+    some_set : Some (Target.set a) ≡ Some (Target.set b) → a ≡ b
+    some_set g = cc
+
+-- no member of a set has a message
+no_member_waits : (s : State) (task name p set : ℕ) (waited : Waited) → IsLawful s → lookup s task name ≡ Some (Target.set set) → Contains (s.sets_of p) set → waits_for task name s waited →
+    IsEmptyFor s task waited → queue s p ≡ []
+no_member_waits s task name p set (Waited.Port q) l is member waits empty = absurd (not_set s task name q set waits.0 is)
+no_member_waits s task name p set (Waited.Set other) l is member waits empty =
+    let same = same_set s task name set other is waits in
+    empty p (l.set_owned task name other waits, subst (λ (x : ℕ). Contains (s.sets_of p) x) same member)
+
+-- After every run, a receive or a later try is answered that there is none only where none is queued at any port that it may take from.
+pub empty_is_none : (now : ℕ) (old : State) (event : Event) (told : Waited) (new : State) → IsLawful old → Step now old event (Reply.Empty told) new → (task p : ℕ) → AsksFrom old event task p → queue old p ≡ []
+empty_is_none now old event told new l (inl r) task p asks = absurd (no_reply_code told r.code r.told)
+empty_is_none now old (Event.Receive caller name room large) told new l (inr d) task p (same, inl is) =
+    empty_is_empty now old caller name room large told new (inr d) p (subst (λ (t : ℕ). lookup old t name ≡ Some (Target.port p)) (sym same) is)
+empty_is_none now old (Event.Receive caller name room large) told new l (inr d) task p (same, inr h) =
+    no_member_waits old caller name p h.0 d.does.0 l (subst (λ (t : ℕ). lookup old t name ≡ Some (Target.set h.0)) (sym same) h.1) h.2 d.does.1 d.does.2.1
+empty_is_none now old (Event.ReceiveAgain caller waited room large) told new l (inr d) task p asks =
+    d.does.1 p (subst (λ (t : ℕ). TakesFrom old t waited p) (sym asks.0) asks.1)
+empty_is_none now old event told new l (inr d) task p asks = absurd asks

@@ -15,6 +15,7 @@ use Rattle.mach_model.specs.Lawful.{IsLawful}
 use Rattle.mach_model.proofs.Opening.{opening-lawful}
 use Rattle.mach_model.proofs.StepLawful.{Step-lawful}
 use Rattle.mach_laws.specs.Paths.{Stage, PathFrom, Path}
+use Rattle.mach_laws.specs.Received.{AsksFrom}
 use Rattle.mach_laws.specs.Order.{new_entry, front_entry, if_accepted, if_received, accepted, received, InOrder}
 use Rattle.mach_laws.proofs.Steps.{AcceptsBy, DeliversBy, Step-logs, Step-taken}
 
@@ -28,7 +29,18 @@ none_accepted event reply = refl
 
 none_received : (event : Event) (reply : Reply) → if_received event reply [] ≡ []
 none_received (Event.Receive task name room large) (Reply.Message bytes) = refl
+none_received (Event.ReceiveAgain task waited room large) (Reply.Message bytes) = refl
 none_received event reply = refl
+
+-- an event that asks for a message receives it
+all_received : (s : State) (event : Event) (bytes : List ℕ) (task p : ℕ) (entries : List Entry) → AsksFrom s event task p → if_received event (Reply.Message bytes) entries ≡ entries
+all_received s (Event.Receive caller name room large) bytes task p entries asks = refl
+all_received s (Event.ReceiveAgain caller waited room large) bytes task p entries asks = refl
+all_received s event bytes task p entries asks = absurd asks
+
+-- and is no send
+no_send : (s : State) (caller : ℕ) (sent : List ℕ) (event : Event) (task p : ℕ) → event ≡ Event.Send caller sent → AsksFrom s event task p → ⊥
+no_send s caller sent event task p is asks = subst (λ (e : Event). AsksFrom s e task p) is asks
 
 -- one more at the end
 last_entry : {A : Type 0} (xs : List A) (y : A) → slice_get (xs ++ y ∷ []) (length xs) ≡ Some y
@@ -95,7 +107,7 @@ stage_takes now x p l step = go (Step-taken now x.before x.event x.reply x.after
           let one : front_entry p x ≡ d.delivers.e ∷ [] =
           rw (ne_eqb (x.after.taken p) (x.before.taken p) (λ e. omega (arith, e, taken))) (ap option_to_list front) in
           let by : if_received x.event x.reply (front_entry p x) ≡ front_entry p x =
-          ap (λ (e : Event). if_received e x.reply (front_entry p x)) d.is_event ∙ ap (λ (r : Reply). if_received (Event.Receive d.task d.name d.room d.large) r (front_entry p x)) d.is_reply in
+          ap (λ (r : Reply). if_received x.event r (front_entry p x)) d.is_reply ∙ all_received x.before x.event d.bytes d.delivers.task d.delivers.port (front_entry p x) d.delivers.asks in
           ap (λ (n : ℕ). take n (x.before.log p)) taken ∙ take_one (x.before.taken p) (x.before.log p) d.delivers.e front
           ∙ ap (λ (xs : List Entry). take (x.before.taken p) (x.before.log p) ++ xs) (sym (by ∙ one))
       | inr h ↦ none (d.delivers.others p h.1)
@@ -137,14 +149,11 @@ path_takes now old (x ∷ xs) new p l path =
         take (x.after.taken p) (x.after.log p) ≡ take (x.after.taken p) (x.before.log p)
     taken_kept x now l step = go (Step-logs now x.before x.event x.reply x.after l step) (Step-taken now x.before x.event x.reply x.after l step)
       where
-        send_or_receive : (task other name room : ℕ) (bytes : List ℕ) (large : Bool) → Event.Send task bytes ≡ Event.Receive other name room large → ⊥
-        send_or_receive task other name room bytes large e = cc
-
         go : ((p : ℕ) → x.after.log p ≡ x.before.log p) ⊎ AcceptsBy now x.before x.event x.reply x.after →
             ((p : ℕ) → x.after.taken p ≡ x.before.taken p) ⊎ DeliversBy x.before x.event x.reply x.after → take (x.after.taken p) (x.after.log p) ≡ take (x.after.taken p) (x.before.log p)
         go (inl same) taken = ap (take (x.after.taken p)) (same p)
         go (inr a) (inl same) = let w = l.within p in let e = same p in take_kept now x p l step (x.after.taken p) (omega (arith, w, e))
-        go (inr a) (inr d) = absurd (send_or_receive a.task d.task d.name d.room a.bytes d.large (sym a.is_event ∙ d.is_event))
+        go (inr a) (inr d) = absurd (no_send x.before a.task a.bytes x.event d.delivers.task d.delivers.port a.is_event d.delivers.asks)
 
 pub path_ordered : (path : List Stage) (s : State) → Path path s → (p : ℕ) → InOrder p path s
 path_ordered path s is p =

@@ -1,7 +1,6 @@
 -- What one step from a lawful state does to the logs, and takes from them.
-use Rattle.std.proofs.Common.{◌≡◌, ℕ, ◌+◌, ◌<◌, List, [], ◌∷◌, ◌++◌, Some, refl, sym, ap, subst, ◌∙◌, arith, true, false, Bool, ◌⊎◌, inl, inr, length}
+use Rattle.std.proofs.Common.{◌≡◌, ℕ, ◌+◌, ◌%◌, ◌^◌, ◌<◌, List, [], ◌∷◌, ◌++◌, Some, refl, sym, ap, subst, ◌∙◌, arith, true, false, Bool, ◌⊎◌, inl, inr}
 use Rattle.std.specs.Prelude.{if◌then◌else◌}
-use Rattle.std.proofs.lemmas.Bool.Decides.{eqb_tells}
 use Rattle.mach_types.specs.declared.calls.Event.{Event}
 use Rattle.mach_types.specs.declared.calls.Reply.{Reply}
 use Rattle.mach_types.specs.declared.calls.Waited.{Waited}
@@ -11,23 +10,26 @@ use Rattle.mach_types.specs.Tokens.{receive, in_message, token, is_of, is_held}
 use Rattle.mach_types.specs.Messages.{Entry, asof}
 use Rattle.mach_types.specs.Grammar.{Header, WireBody}
 use Rattle.mach_model.specs.State.{State, Target, lookup, Holds, at}
+use Rattle.mach_model.specs.Sets.{JoinsSet}
 use Rattle.mach_model.specs.Handing.{Inserts, Extracts}
 use Rattle.mach_model.specs.Sending.{Sends, SendRefuses, RightsRefuse, sent_guards, place_of, entry}
-use Rattle.mach_model.specs.Receiving.{Owed, waits_for, TakesFrom, Receives}
+use Rattle.mach_model.specs.Receiving.{waits_for, TakesFrom, Receives}
+use Rattle.mach_model.specs.Notices.{Owed}
 use Rattle.mach_model.specs.ReceivedMeans.{ReceivedMeans}
 use Rattle.mach_model.specs.Refusals.{guards, Refuses}
 use Rattle.mach_model.specs.Machine.{Does, Step}
 use Rattle.mach_model.specs.Lawful.{IsLawful}
-use Rattle.mach_model.proofs.At.{at_same, at_other, at_own}
+use Rattle.mach_model.proofs.At.{at_other, at_own}
 use Rattle.mach_model.proofs.Settling.{IsReordered}
 use Rattle.mach_model.proofs.Weigh.{both_test}
 use Rattle.mach_model.proofs.Moving.{shape}
 use Rattle.mach_model.proofs.SendLawful.{Sends-adds}
 use Rattle.mach_model.proofs.ReceiveLawful.{Receives-removes}
 use Rattle.mach_model.proofs.HandLawful.{hands_shape, Inserts-hands, Extracts-hands}
-use Rattle.mach_model.proofs.StepLawful.{Done-mid, TakesFrom-holds, TakesFrom-live, not_false}
+use Rattle.mach_model.proofs.StepLawful.{Done-mid, TakesFrom-holds, TakesFrom-live, not_false, again_lives}
 use Rattle.mach_laws.specs.Sent.{Accepts}
-use Rattle.mach_laws.specs.Received.{NamesSource, Delivers}
+use Rattle.mach_laws.specs.Received.{NamesSource, AsksFrom, Delivers}
+use Rattle.mach_laws.proofs.Untouched.{Untouched, by_rest, makes_untouched, deallocates_untouched, destroys_untouched, modifies_untouched, renames_untouched}
 use Rattle.mach_laws.proofs.Meanings.{Sends-means}
 use Rattle.mach_laws.proofs.Receiving.{Gives, GiveReply-means, GiveBody-means}
 use Rattle.mach_laws.proofs.Apart.{Receives-received, ReceivedMeans-later}
@@ -129,11 +131,8 @@ SameLogs old new = (p : ℕ) → new.log p ≡ old.log p
 same_logs : (old mid new : State) → mid ≡ old → IsReordered mid new → SameLogs old new
 same_logs old mid new e r p = ap (λ (x : State). x.log p) r.rest ∙ ap (λ (x : State). x.log p) e
 
-made_log : (old : State) → IsLawful old → (p : ℕ) → at old.log old.ports_made [] p ≡ old.log p
-made_log old l p = elim (eqb_tells p old.ports_made) [
-  | inl h ↦ at_same old.log old.ports_made [] p h.1 ∙ sym (l.unmade_log p (omega (arith, h.1)))
-  | inr h ↦ at_other old.log old.ports_made [] p h.1
-]
+untouched_logs : (old mid new : State) → Untouched old mid → IsReordered mid new → SameLogs old new
+untouched_logs old mid new u r p = ap (λ (x : State). x.log p) r.rest ∙ u.log p
 
 inserted_shape : (task name from poly number : ℕ) (old mid : State) → IsLawful old → NoneHolds (guards old (Event.InsertRight task name from poly number)) → Inserts task name from poly number old mid →
     mid ≡ shape old mid
@@ -145,15 +144,34 @@ extracted_shape : (task name number to new_name kind : ℕ) (old mid : State) �
 extracted_shape task name number to new_name kind old mid l g x =
     hands_shape old mid _ _ _ _ (Extracts-hands task name number to new_name kind old mid l (not_false (old.live_task to) (λ e. g.0 (inr e))) x)
 
+joined_rest : (task member after : ℕ) (old mid : State) → JoinsSet task member after old mid → mid ≡ record old { sets_of = mid.sets_of }
+joined_rest task member after old mid j = by j.2
+  where
+    by : (after ≡ 0) × (mid ≡ record old { sets_of = at old.sets_of j.0 [] })
+        ⊎ ((set : ℕ) × (lookup old task after ≡ Some (Target.set set)) × (mid ≡ record old { sets_of = at old.sets_of j.0 (set ∷ []) })) → mid ≡ record old { sets_of = mid.sets_of }
+    by (inl h) = h.1 ∙ ap (λ (x : State). record old { sets_of = x.sets_of }) (sym h.1)
+    by (inr h) = h.2 ∙ ap (λ (x : State). record old { sets_of = x.sets_of }) (sym h.2)
+
 Does-logs : (now : ℕ) (old : State) (event : Event) (reply : Reply) (mid : State) (owed : Owed) (new : State) → IsLawful old → NoneHolds (guards old event) →
     Does now old event reply mid owed → IsReordered mid new → SameLogs old new ⊎ AcceptsBy now old event reply new
 Does-logs now old Event.TaskCreate (Reply.Task task) mid owed new l g d r =
     inl (λ p. ap (λ (x : State). x.log p) r.rest ∙ ap (λ (x : State). x.log p) d.0.rest)
-Does-logs now old (Event.Allocate task right) (Reply.Name name) mid owed new l g d r =
-    inl (λ p. ap (λ (x : State). x.log p) r.rest ∙ ap (λ (x : State). x.log p) d.1.rest ∙ made_log old l p)
+Does-logs now old (Event.Allocate task right) (Reply.Name name) mid owed new l g d r = inl (untouched_logs old mid new (makes_untouched task right name old mid l d.1) r)
+Does-logs now old (Event.AllocateName task right name) (Reply.Name told) mid owed new l g d r = inl (untouched_logs old mid new (makes_untouched task right name old mid l d.1) r)
+Does-logs now old (Event.Deallocate task name) (Reply.Code code) mid owed new l g d r = inl (untouched_logs old mid new (deallocates_untouched task name old mid owed d.1) r)
+Does-logs now old (Event.Destroy task name) (Reply.Code code) mid owed new l g d r = inl (untouched_logs old mid new (destroys_untouched task name old mid owed d.1) r)
+Does-logs now old (Event.ModRefs task name right delta) (Reply.Code code) mid owed new l g d r = inl (untouched_logs old mid new (modifies_untouched task name right delta old mid owed d.1) r)
+Does-logs now old (Event.Rename task o n) (Reply.Code code) mid owed new l g d r = inl (untouched_logs old mid new (renames_untouched task o n old mid d.1) r)
+Does-logs now old (Event.SetQlimit task name n) (Reply.Code code) mid owed new l g d r = inl (untouched_logs old mid new (by_rest old mid _ d.1.3 (λ p. refl) (λ p. refl)) r)
+Does-logs now old (Event.SetMscount task name n) (Reply.Code code) mid owed new l g d r = inl (untouched_logs old mid new (by_rest old mid _ d.2.3 (λ p. refl) (λ p. refl)) r)
+Does-logs now old (Event.SetSeqno task name n) (Reply.Code code) mid owed new l g d r = inl (untouched_logs old mid new (by_rest old mid _ d.2.3 (λ p. refl) (λ p. refl)) r)
+Does-logs now old (Event.Names task) (Reply.Names entries) mid owed new l g d r = inl (same_logs old mid new d.1 r)
 Does-logs now old (Event.GetRefs task name right) (Reply.Refs n) mid owed new l g d r = inl (same_logs old mid new d.1 r)
 Does-logs now old (Event.NameType task name) (Reply.NameType n) mid owed new l g d r = inl (same_logs old mid new d.1 r)
 Does-logs now old (Event.ReceiveStatus task name) (Reply.Status status) mid owed new l g d r = inl (same_logs old mid new d.1 r)
+Does-logs now old (Event.SetStatus task name) (Reply.Members members) mid owed new l g d r = inl (same_logs old mid new d.1 r)
+Does-logs now old (Event.MoveMember task member after) (Reply.Code code) mid owed new l g d r =
+    inl (λ p. ap (λ (x : State). x.log p) r.rest ∙ ap (λ (x : State). x.log p) (joined_rest task member after old mid d.1))
 Does-logs now old (Event.InsertRight task name from poly number) (Reply.Code code) mid owed new l g d r =
     inl (λ p. ap (λ (x : State). x.log p) r.rest ∙ ap (λ (x : State). x.log p) (inserted_shape task name from poly number old mid l g d.1))
 Does-logs now old (Event.ExtractRight task name number to) (Reply.Right new_name kind) mid owed new l g d r =
@@ -166,6 +184,11 @@ Does-logs now old (Event.Receive task name room large) (Reply.Message bytes) mid
 Does-logs now old (Event.Receive task name room large) (Reply.Empty told) mid owed new l g d r = inl (same_logs old mid new d.2.2 r)
 Does-logs now old (Event.Receive task name room large) (Reply.TooLarge n) mid owed new l g d r = inl (same_logs old mid new d.2.6 r)
 Does-logs now old (Event.Receive task name room large) reply mid owed new l g d r = absurd d.2
+Does-logs now old (Event.ReceiveAgain task waited room large) (Reply.Message bytes) mid owed new l g d r =
+    let x = received_state task d.0 room bytes old mid l (TakesFrom-live old l task waited d.0 d.1) (again_lives old task waited g) d.2 in
+    inl (λ p. ap (λ (x : State). x.log p) r.rest ∙ x.log p)
+Does-logs now old (Event.ReceiveAgain task waited room large) (Reply.Empty told) mid owed new l g d r = inl (same_logs old mid new d.2 r)
+Does-logs now old (Event.ReceiveAgain task waited room large) (Reply.TooLarge n) mid owed new l g d r = inl (same_logs old mid new d.6 r)
 Does-logs now old event reply mid owed new l g d r = absurd d
 
 pub Step-logs : (now : ℕ) (old : State) (event : Event) (reply : Reply) (new : State) → IsLawful old → Step now old event reply new →
@@ -183,8 +206,17 @@ reordered_gives : (task : ℕ) (mid new : State) → IsReordered mid new → Giv
 reordered_gives task mid new r = record {
   grows = λ n x e. ap (λ (s : State). lookup s task n) r.rest ∙ e;
   live = ap (λ (s : State). s.live_port) r.rest;
+  sequence = ap (λ (s : State). s.sequence) r.rest;
   holds = λ k q. let m = r.tokens (λ x. if is_held task k q x then 1 else 0) in omega (arith, m);
 }
+
+-- a receipt uses the number that its port is at
+numbered : (task port room : ℕ) (bytes : List ℕ) (old mid : State) → Receives task port room bytes old mid → mid.sequence port ≡ (old.sequence port + 1) % 2 ^ 32
+numbered task port room bytes old mid r =
+    let place = in_message port (old.taken port) in
+    let a = (GiveReply-means task place r.e.message.reply r.taken r.taken r.header.remote_kind r.header.remote r.second refl (λ n x e. e) r.reply).0 in
+    let b = (GiveBody-means task place r.e.message.body r.second r.second r.written mid refl (λ n x e. e) r.body).0 in
+    ap (λ (f : ℕ → ℕ). f port) (b.sequence ∙ a.sequence ∙ ap (λ (s : State). s.sequence) r.takes.rest) ∙ at_own old.sequence port ((old.sequence port + 1) % 2 ^ 32)
 
 -- a receiver loses no receive right
 still_holds : (task port room : ℕ) (bytes : List ℕ) (old mid : State) (r : Receives task port room bytes old mid) (q : ℕ) → Holds old task receive q → Holds mid task receive q
@@ -196,47 +228,52 @@ still_holds task port room bytes old mid r q holds =
     let z = both_test (is_of receive q (token r.e.message.kind port place)) false (inr refl) in
     omega (arith, holds, m, z, a.holds receive q, b.holds receive q)
 
-pub Receives-delivers : (task name room : ℕ) (bytes : List ℕ) (old mid new : State) (waited : Waited) (p : ℕ) → IsLawful old → old.live_task task ≡ true → waits_for task name old waited → TakesFrom old task waited p →
-    Receives task p room bytes old mid → IsReordered mid new → Delivers task name bytes old new
-Receives-delivers task name room bytes old mid new waited p l is_task w t r o =
-    let x = received_state task p room bytes old mid l (TakesFrom-live old l task waited p t) is_task r in
-    let here = (l.sent_here p (old.taken p) r.e r.takes.front).0 in
-    let holds = still_holds task p room bytes old mid r p (TakesFrom-holds old l task waited p t) in
-    let means = Receives-received task p room bytes old mid r here holds in
-    let live : new.live_port ≡ old.live_port = ap (λ (s : State). s.live_port) o.rest ∙ x.live in
-    let taken : (q : ℕ) → new.taken q ≡ at old.taken p (old.taken p + 1) q = λ q. ap (λ (s : State). s.taken q) o.rest ∙ x.taken q in
-    record {
-      port = p;
-      source = source_of old task name p waited w t;
-      e = r.e;
-      front = r.takes.front;
-      means = subst (λ (f : ℕ → Bool). ReceivedMeans task old new bytes (asof f r.e.message)) (sym live)
-          (ReceivedMeans-later task old mid new bytes (asof old.live_port r.e.message) (reordered_gives task mid new o) means);
-      taken = taken p ∙ at_own old.taken p (old.taken p + 1);
-      others = λ q not. taken q ∙ at_other old.taken p (old.taken p + 1) q not;
-    }
+module _ (task room : ℕ) (bytes : List ℕ) (old mid new : State) (waited : Waited) (p : ℕ) (l : IsLawful old) (is_task : old.live_task task ≡ true) (t : TakesFrom old task waited p)
+    (r : Receives task p room bytes old mid) (o : IsReordered mid new) where
+  Receives-delivers : (event : Event) → AsksFrom old event task p → Delivers event bytes old new
+  Receives-delivers event asks =
+      let x = received_state task p room bytes old mid l (TakesFrom-live old l task waited p t) is_task r in
+      let here = (l.sent_here p (old.taken p) r.e r.takes.front).0 in
+      let holds = still_holds task p room bytes old mid r p (TakesFrom-holds old l task waited p t) in
+      let means = Receives-received task p room bytes old mid r here holds in
+      let live : new.live_port ≡ old.live_port = ap (λ (s : State). s.live_port) o.rest ∙ x.live in
+      let taken : (q : ℕ) → new.taken q ≡ at old.taken p (old.taken p + 1) q = λ q. ap (λ (s : State). s.taken q) o.rest ∙ x.taken q in
+      record {
+        task = task;
+        port = p;
+        asks = asks;
+        e = r.e;
+        front = r.takes.front;
+        means = subst (λ (f : ℕ → Bool). ReceivedMeans task old new bytes (asof f r.e.message)) (sym live)
+            (ReceivedMeans-later task old mid new bytes (asof old.live_port r.e.message) (reordered_gives task mid new o) means);
+        taken = taken p ∙ at_own old.taken p (old.taken p + 1);
+        next = ap (λ (s : State). s.sequence p) o.rest ∙ numbered task p room bytes old mid r;
+        others = λ q not. taken q ∙ at_other old.taken p (old.taken p + 1) q not;
+      }
+
+-- what an event does that is answered with a message
+Does-delivers : (now : ℕ) (old : State) (event : Event) (bytes : List ℕ) (mid : State) (owed : Owed) (new : State) → IsLawful old → NoneHolds (guards old event) →
+    Does now old event (Reply.Message bytes) mid owed → IsReordered mid new → Delivers event bytes old new
+Does-delivers now old (Event.Receive task name room large) bytes mid owed new l g d r =
+    Receives-delivers task room bytes old mid new d.0 d.2.0 l (not_false (old.live_task task) g.0) d.2.1 d.2.2 r (Event.Receive task name room large) (refl, source_of old task name d.2.0 d.0 d.1 d.2.1)
+Does-delivers now old (Event.ReceiveAgain task waited room large) bytes mid owed new l g d r =
+    Receives-delivers task room bytes old mid new waited d.0 l (again_lives old task waited g) d.1 d.2 r (Event.ReceiveAgain task waited room large) (refl, d.1)
+Does-delivers now old event bytes mid owed new l g d r = absurd d
 
 -- the next step after a run, where it gives a message
-pub Step-delivers : (now : ℕ) (old : State) (task name room : ℕ) (large : Bool) (bytes : List ℕ) (new : State) → IsLawful old →
-    Step now old (Event.Receive task name room large) (Reply.Message bytes) new → Delivers task name bytes old new
-Step-delivers now old task name room large bytes new l (inl r) = absurd (no_code bytes r.code r.told)
+pub Step-delivers : (now : ℕ) (old : State) (event : Event) (bytes : List ℕ) (new : State) → IsLawful old → Step now old event (Reply.Message bytes) new → Delivers event bytes old new
+Step-delivers now old event bytes new l (inl r) = absurd (no_code bytes r.code r.told)
   where
     no_code : (bytes : List ℕ) (code : ℕ) → Reply.Message bytes ≡ Reply.Code code → ⊥
     no_code bytes code e = cc
-Step-delivers now old task name room large bytes new l (inr d) =
-    let x = d.does in
-    Receives-delivers task name room bytes old d.mid new x.0 x.2.0 l (not_false (old.live_task task) d.unrefused.0) x.1 x.2.1 x.2.2 (Done-mid now old (Event.Receive task name room large) (Reply.Message bytes) new l d).1
+Step-delivers now old event bytes new l (inr d) =
+    Does-delivers now old event bytes d.mid d.owed new l d.unrefused d.does (Done-mid now old event (Reply.Message bytes) new l d).1
 
 -- A step takes nothing from any port, or it gives a message.
 pub record DeliversBy (old : State) (event : Event) (reply : Reply) (new : State) : Type 0 where
-  pub task : ℕ
-  pub name : ℕ
-  pub room : ℕ
-  pub large : Bool
   pub bytes : List ℕ
-  pub is_event : event ≡ Event.Receive task name room large
   pub is_reply : reply ≡ Reply.Message bytes
-  pub delivers : Delivers task name bytes old new
+  pub delivers : Delivers event bytes old new
 
 abbrev SameTaken : State → State → Type 0
 SameTaken old new = (p : ℕ) → new.taken p ≡ old.taken p
@@ -244,25 +281,29 @@ SameTaken old new = (p : ℕ) → new.taken p ≡ old.taken p
 same_taken : (old mid new : State) → mid ≡ old → IsReordered mid new → SameTaken old new
 same_taken old mid new e r p = ap (λ (x : State). x.taken p) r.rest ∙ ap (λ (x : State). x.taken p) e
 
-made_taken : (old : State) → IsLawful old → (p : ℕ) → at old.taken old.ports_made 0 p ≡ old.taken p
-made_taken old l p = elim (eqb_tells p old.ports_made) [
-  | inl h ↦
-      let w = l.within p in
-      let z : length (old.log p) ≡ 0 = ap length (l.unmade_log p (omega (arith, h.1))) in
-      let none : 0 ≡ old.taken p = omega (arith, w, z) in
-      at_same old.taken old.ports_made 0 p h.1 ∙ none
-  | inr h ↦ at_other old.taken old.ports_made 0 p h.1
-]
+untouched_taken : (old mid new : State) → Untouched old mid → IsReordered mid new → SameTaken old new
+untouched_taken old mid new u r p = ap (λ (x : State). x.taken p) r.rest ∙ u.taken p
 
 Does-taken : (now : ℕ) (old : State) (event : Event) (reply : Reply) (mid : State) (owed : Owed) (new : State) → IsLawful old → NoneHolds (guards old event) →
     Does now old event reply mid owed → IsReordered mid new → SameTaken old new ⊎ DeliversBy old event reply new
 Does-taken now old Event.TaskCreate (Reply.Task task) mid owed new l g d r =
     inl (λ p. ap (λ (x : State). x.taken p) r.rest ∙ ap (λ (x : State). x.taken p) d.0.rest)
-Does-taken now old (Event.Allocate task right) (Reply.Name name) mid owed new l g d r =
-    inl (λ p. ap (λ (x : State). x.taken p) r.rest ∙ ap (λ (x : State). x.taken p) d.1.rest ∙ made_taken old l p)
+Does-taken now old (Event.Allocate task right) (Reply.Name name) mid owed new l g d r = inl (untouched_taken old mid new (makes_untouched task right name old mid l d.1) r)
+Does-taken now old (Event.AllocateName task right name) (Reply.Name told) mid owed new l g d r = inl (untouched_taken old mid new (makes_untouched task right name old mid l d.1) r)
+Does-taken now old (Event.Deallocate task name) (Reply.Code code) mid owed new l g d r = inl (untouched_taken old mid new (deallocates_untouched task name old mid owed d.1) r)
+Does-taken now old (Event.Destroy task name) (Reply.Code code) mid owed new l g d r = inl (untouched_taken old mid new (destroys_untouched task name old mid owed d.1) r)
+Does-taken now old (Event.ModRefs task name right delta) (Reply.Code code) mid owed new l g d r = inl (untouched_taken old mid new (modifies_untouched task name right delta old mid owed d.1) r)
+Does-taken now old (Event.Rename task o n) (Reply.Code code) mid owed new l g d r = inl (untouched_taken old mid new (renames_untouched task o n old mid d.1) r)
+Does-taken now old (Event.SetQlimit task name n) (Reply.Code code) mid owed new l g d r = inl (untouched_taken old mid new (by_rest old mid _ d.1.3 (λ p. refl) (λ p. refl)) r)
+Does-taken now old (Event.SetMscount task name n) (Reply.Code code) mid owed new l g d r = inl (untouched_taken old mid new (by_rest old mid _ d.2.3 (λ p. refl) (λ p. refl)) r)
+Does-taken now old (Event.SetSeqno task name n) (Reply.Code code) mid owed new l g d r = inl (untouched_taken old mid new (by_rest old mid _ d.2.3 (λ p. refl) (λ p. refl)) r)
+Does-taken now old (Event.Names task) (Reply.Names entries) mid owed new l g d r = inl (same_taken old mid new d.1 r)
 Does-taken now old (Event.GetRefs task name right) (Reply.Refs n) mid owed new l g d r = inl (same_taken old mid new d.1 r)
 Does-taken now old (Event.NameType task name) (Reply.NameType n) mid owed new l g d r = inl (same_taken old mid new d.1 r)
 Does-taken now old (Event.ReceiveStatus task name) (Reply.Status status) mid owed new l g d r = inl (same_taken old mid new d.1 r)
+Does-taken now old (Event.SetStatus task name) (Reply.Members members) mid owed new l g d r = inl (same_taken old mid new d.1 r)
+Does-taken now old (Event.MoveMember task member after) (Reply.Code code) mid owed new l g d r =
+    inl (λ p. ap (λ (x : State). x.taken p) r.rest ∙ ap (λ (x : State). x.taken p) (joined_rest task member after old mid d.1))
 Does-taken now old (Event.InsertRight task name from poly number) (Reply.Code code) mid owed new l g d r =
     inl (λ p. ap (λ (x : State). x.taken p) r.rest ∙ ap (λ (x : State). x.taken p) (inserted_shape task name from poly number old mid l g d.1))
 Does-taken now old (Event.ExtractRight task name number to) (Reply.Right new_name kind) mid owed new l g d r =
@@ -270,19 +311,14 @@ Does-taken now old (Event.ExtractRight task name number to) (Reply.Right new_nam
 Does-taken now old (Event.Send task bytes) (Reply.Code code) mid owed new l g d r =
     inl (λ p. ap (λ (x : State). x.taken p) r.rest ∙ sent_taken now task bytes old mid l d.1 p)
 Does-taken now old (Event.Receive task name room large) (Reply.Message bytes) mid owed new l g d r =
-    inr (record {
-      task = task;
-      name = name;
-      room = room;
-      large = large;
-      bytes = bytes;
-      is_event = refl;
-      is_reply = refl;
-      delivers = Receives-delivers task name room bytes old mid new d.0 d.2.0 l (not_false (old.live_task task) g.0) d.1 d.2.1 d.2.2 r;
-    })
+    inr (record { bytes = bytes; is_reply = refl; delivers = Does-delivers now old (Event.Receive task name room large) bytes mid owed new l g d r })
 Does-taken now old (Event.Receive task name room large) (Reply.Empty told) mid owed new l g d r = inl (same_taken old mid new d.2.2 r)
 Does-taken now old (Event.Receive task name room large) (Reply.TooLarge n) mid owed new l g d r = inl (same_taken old mid new d.2.6 r)
 Does-taken now old (Event.Receive task name room large) reply mid owed new l g d r = absurd d.2
+Does-taken now old (Event.ReceiveAgain task waited room large) (Reply.Message bytes) mid owed new l g d r =
+    inr (record { bytes = bytes; is_reply = refl; delivers = Does-delivers now old (Event.ReceiveAgain task waited room large) bytes mid owed new l g d r })
+Does-taken now old (Event.ReceiveAgain task waited room large) (Reply.Empty told) mid owed new l g d r = inl (same_taken old mid new d.2 r)
+Does-taken now old (Event.ReceiveAgain task waited room large) (Reply.TooLarge n) mid owed new l g d r = inl (same_taken old mid new d.6 r)
 Does-taken now old event reply mid owed new l g d r = absurd d
 
 pub Step-taken : (now : ℕ) (old : State) (event : Event) (reply : Reply) (new : State) → IsLawful old → Step now old event reply new →

@@ -1,5 +1,5 @@
 -- Each message that is received was sent by an earlier stage of the run.
-use Rattle.std.proofs.Common.{◌≡◌, ℕ, ◌+◌, ◌<◌, List, [], ◌∷◌, ◌++◌, Some, refl, sym, subst, arith, Bool, ◌⊎◌, inl, inr, length}
+use Rattle.std.proofs.Common.{◌≡◌, ℕ, ◌+◌, ◌<◌, List, [], ◌∷◌, ◌++◌, Some, refl, sym, subst, arith, ◌⊎◌, inl, inr, length}
 use Rattle.std.specs.Prelude.{slice_get}
 use Rattle.std.proofs.lemmas.Bool.Decides.{eqb_tells}
 use Rattle.mach_types.specs.declared.calls.Event.{Event}
@@ -15,7 +15,7 @@ use Rattle.mach_model.proofs.At.{snoc_cases}
 use Rattle.mach_model.proofs.Opening.{opening-lawful}
 use Rattle.mach_model.proofs.StepLawful.{Step-lawful}
 use Rattle.mach_laws.specs.Paths.{Stage, Path}
-use Rattle.mach_laws.specs.Received.{NamesSource, Delivers, WasSent}
+use Rattle.mach_laws.specs.Received.{AsksFrom, Delivers, WasSent}
 use Rattle.mach_laws.proofs.Steps.{AcceptsBy, Step-logs, Step-delivers}
 use Rattle.mach_laws.proofs.Walking.{at_stages}
 
@@ -98,8 +98,8 @@ nothing_known full = record { lawful = opening-lawful; accepted = λ p k e at. a
     no_entry k e is = cc
 
 -- what a stage delivers was accepted before
-delivered : (full : List Stage) (k task name : ℕ) (bytes : List ℕ) (x : Stage) → Known full k x.before → (d : Delivers task name bytes x.before x.after) → WasSent full k task name bytes x
-delivered full k task name bytes x known d =
+delivered : (full : List Stage) (k : ℕ) (bytes : List ℕ) (x : Stage) → Known full k x.before → (d : Delivers x.event bytes x.before x.after) → WasSent full k bytes x
+delivered full k bytes x known d =
     let w = known.accepted d.port (x.before.taken d.port) d.e d.front in
     record {
       origin = d.e.origin;
@@ -112,16 +112,15 @@ delivered full k task name bytes x known d =
       reply = w.reply;
       m = d.e.message;
       meant = w.meant;
+      receiver = d.task;
       means = d.means;
       front = subst (λ (p : ℕ). IsFront x.before p d.e) (sym w.here) d.front;
       place = subst (λ (p : ℕ). x.before.taken p ≡ length (w.sending.before.log p)) (sym w.here) w.place;
-      source = subst (NamesSource x.before task name) (sym w.here) d.source;
+      asks = subst (AsksFrom x.before x.event d.task) (sym w.here) d.asks;
     }
 
-pub path_told : (path : List Stage) (s : State) → Path path s → (k task name room : ℕ) (large : Bool) (bytes : List ℕ) (x : Stage) → slice_get path k ≡ Some x →
-    x.event ≡ Event.Receive task name room large → x.reply ≡ Reply.Message bytes → WasSent path k task name bytes x
-path_told path s is k task name room large bytes x at event reply =
+pub path_told : (path : List Stage) (s : State) → Path path s → (k : ℕ) (bytes : List ℕ) (x : Stage) → slice_get path k ≡ Some x → x.reply ≡ Reply.Message bytes → WasSent path k bytes x
+path_told path s is k bytes x at reply =
     let h = at_stages path (Known path) (stays_known path) s is (nothing_known path) k x at in
-    let step = subst (λ (e : Event). Step k x.before e x.reply x.after) event h.1 in
-    let step' = subst (λ (r : Reply). Step k x.before (Event.Receive task name room large) r x.after) reply step in
-    delivered path k task name bytes x h.0 (Step-delivers k x.before task name room large bytes x.after h.0.lawful step')
+    let step = subst (λ (r : Reply). Step k x.before x.event r x.after) reply h.1 in
+    delivered path k bytes x h.0 (Step-delivers k x.before x.event bytes x.after h.0.lawful step)

@@ -19,9 +19,10 @@ abbrev pub if_accepted : Event → Reply → List Entry → List Entry
 if_accepted (Event.Send task bytes) (Reply.Code code) entries = if code == 0 then entries else []
 if_accepted event reply entries = []
 
--- Only a receive that is answered with a message receives one.
+-- Only a receive, or a later try, that is answered with a message receives one.
 abbrev pub if_received : Event → Reply → List Entry → List Entry
 if_received (Event.Receive task name room large) (Reply.Message bytes) entries = entries
+if_received (Event.ReceiveAgain task waited room large) (Reply.Message bytes) entries = entries
 if_received event reply entries = []
 
 -- what the stages accepted for the port, in the order of the stages

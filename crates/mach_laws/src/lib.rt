@@ -15,12 +15,14 @@ ghost use Rattle.mach_model.specs.Machine.{Step, Run};
 ghost use Rattle.mach_model.specs.Lawful.{IsLawful};
 ghost use Rattle.mach_laws.specs.Paths.{Stage, Path};
 ghost use Rattle.mach_laws.specs.Sent.{Accepts};
-ghost use Rattle.mach_laws.specs.Received.{Delivers, WasSent};
+ghost use Rattle.mach_laws.specs.Received.{AsksFrom, Delivers, WasSent};
 ghost use Rattle.mach_laws.specs.Order.{InOrder};
 ghost use Rattle.mach_laws.specs.FirstMessage.{first_events, first_replies};
 ghost use Rattle.mach_laws.specs.Answering.{answering_events, answering_replies};
 ghost use Rattle.mach_laws.specs.Gathering.{gathering_events, gathering_replies};
+ghost use Rattle.mach_laws.specs.Grouping.{grouping_events, grouping_replies};
 ghost use Rattle.mach_laws.specs.Handed.{handing_events, handing_replies};
+ghost use Rattle.mach_laws.specs.Naming.{naming_events, naming_replies};
 
 /// Every run leads to a lawful state: rights, names, logs and places agree.
 pub fn every_run_is_lawful()
@@ -41,14 +43,13 @@ pub fn sent_messages_mean()
         Accepts (length events) task bytes s new }
 {}
 
-/// After every run a receive that is answered with bytes takes one message, the one in front of a port
-/// that the receiver named, and the bytes mean it through the receiver's names after the receive
-/// (IPC Interface, `mach_msg`).
+/// After every run an event that is answered with bytes takes one message, the one in front of a port
+/// that the receiver asked for by a name, or by what it waited for, and the bytes mean it through the
+/// receiver's names after the receive (IPC Interface, `mach_msg`).
 pub fn received_messages_mean()
     ensures { (events : List Event) (replies : List Reply) (s : State) → Run events replies s →
-        (task name room : ℕ) (large : Bool) (bytes : List ℕ) (new : State) →
-        Step (length events) s (Event.Receive task name room large) (Reply.Message bytes) new →
-        Delivers task name bytes s new }
+        (event : Event) (bytes : List ℕ) (new : State) → Step (length events) s event (Reply.Message bytes) new →
+        Delivers event bytes s new }
 {}
 
 /// Runs are paths: each run has its stages, and stages that fit together are a run.
@@ -63,9 +64,8 @@ pub fn runs_are_paths()
 /// after the receive, where rights for ports that are dead by then are dead.
 pub fn received_means_what_was_sent()
     ensures { (path : List Stage) (s : State) → Path path s →
-        (k task name room : ℕ) (large : Bool) (bytes : List ℕ) (x : Stage) → slice_get path k ≡ Some x →
-        x.event ≡ Event.Receive task name room large → x.reply ≡ Reply.Message bytes →
-        WasSent path k task name bytes x }
+        (k : ℕ) (bytes : List ℕ) (x : Stage) → slice_get path k ≡ Some x → x.reply ≡ Reply.Message bytes →
+        WasSent path k bytes x }
 {}
 
 /// In every run, of each port: what was received from it, and then what is queued, is what was accepted
@@ -86,11 +86,16 @@ pub fn once_is_never_full()
         (header : Header) (written : WireBody) → Spells bytes header written → (header.remote_kind ≢ 18) × (header.remote_kind ≢ 21) }
 {}
 
-/// A receive by a port's name is answered that there is no message only where none is queued.
+/// A receive by a port's name is answered that there is no message only where none is queued; and after
+/// every run that is the answer to a receive by a set's name, or to a later try, only where none is
+/// queued at any port that it may take from.
 pub fn empty_means_empty()
-    ensures { (now : ℕ) (old new : State) (task name room : ℕ) (large : Bool) (told : Waited) →
+    ensures named { (now : ℕ) (old new : State) (task name room : ℕ) (large : Bool) (told : Waited) →
         Step now old (Event.Receive task name room large) (Reply.Empty told) new →
         (p : ℕ) → lookup old task name ≡ Some (Target.port p) → queue old p ≡ [] }
+    ensures asked { (events : List Event) (replies : List Reply) (s : State) → Run events replies s →
+        (event : Event) (told : Waited) (new : State) → Step (length events) s event (Reply.Empty told) new →
+        (task p : ℕ) → AsksFrom s event task p → queue s p ≡ [] }
 {}
 
 /// The laws speak of something: a task that makes a port, sends a message to it and receives it is a run.
@@ -114,4 +119,16 @@ pub fn gathered_references()
 /// port, and the name that it came from is unused.
 pub fn handed_receive_right()
     ensures { (s : State) × Run handing_events handing_replies s }
+{}
+
+/// They speak of names alone: a dead name that is made, counted up, renamed, counted down, listed and
+/// destroyed is a run, and no other thing comes under its number meanwhile.
+pub fn renamed_dead_name()
+    ensures { (s : State) × Run naming_events naming_replies s }
+{}
+
+/// They speak of port sets: what was sent to a member is received by the set, and not by the port; once the
+/// set is gone a later try by it is told so, and the port is in none.
+pub fn grouped_port()
+    ensures { (s : State) × Run grouping_events grouping_replies s }
 {}

@@ -1,5 +1,5 @@
 -- Copying in keeps a state lawful but for the rights on their way, and puts the right of each word there: all dispositions.
-use Rattle.std.proofs.Common.{◌≡◌, ℕ, zero, suc, ◌+◌, ◌-◌, ◌%◌, ◌^◌, ◌<◌, List, [], ◌∷◌, Some, refl, sym, ap, subst, ◌∙◌, arith, true, false, Bool, ◌⊎◌, inl, inr}
+use Rattle.std.proofs.Common.{◌≡◌, ℕ, zero, suc, ◌+◌, ◌-◌, ◌%◌, ◌^◌, ◌<◌, ◌≤◌, List, [], ◌∷◌, Some, refl, sym, ap, subst, ◌∙◌, arith, true, false, Bool, ◌⊎◌, inl, inr, length}
 use Rattle.std.specs.Prelude.{if◌then◌else◌, ◌==◌, ◌&&◌, ◌||◌, nat_lt, Contains}
 use Rattle.std.specs.FinMap as map
 use Rattle.std.proofs.lemmas.Bool.Decides.{eqb_tells}
@@ -20,6 +20,7 @@ use Rattle.mach_model.proofs.Weigh.{both_test, held_le_of}
 use Rattle.mach_model.proofs.At.{at_same, at_other, at_all}
 use Rattle.mach_model.proofs.Names.{some_tally}
 use Rattle.mach_model.proofs.Spaces.{IsNaming, SameBut, stay_named, port_unnamed, other_unnamed, dead_fewer}
+use Rattle.mach_model.proofs.SetNames.{SameSets, SameSets-is, SetLaw, same_set_law, kept_set_law, insert_law, remove_law, port_no_set, once_no_set, dead_no_set, dead_sets, removed_sets, unnamed_sets, kept_names_sets}
 use Rattle.mach_model.proofs.Moving.{TaskNaming, IsMoving, shape, shaped, near_none, near_task, near_entry, same_naming, Leaves, moved}
 
 -- ---- what is known of a state while rights are on their way
@@ -126,10 +127,13 @@ module _ (task o k : ℕ) (old new : State) (kind : Kind) (p : ℕ) (l : IsMovin
     make_send = make_send;
     sequence = λ q. let a = sequence q in let b = l.sequence_fits q in omega (arith, a, b);
     no_sets = λ q dead. sets_of q ∙ l.no_sets q dead;
-    members = λ q set t in_it owner.
-        let h = l.members q set t (subst (λ (xs : List ℕ). Contains xs set) (sets_of q) in_it) owner in
-        let m = tokens (λ x. if is_held t receive q x then 1 else 0) in
-        let z = not_held receive q o k kind p t in omega (arith, h, m, z);
+    sets = same_set_law old.naming new.naming old.set_owner old.sets_made (λ t. SameSets-is (old.naming t) (new.naming t) (names t)) l.sets;
+    members = λ q set in_it.
+        let h = l.members q set (subst (λ (xs : List ℕ). Contains xs set) (sets_of q) in_it) in
+        let m = tokens (λ x. if is_held h.0 receive q x then 1 else 0) in
+        let z = not_held receive q o k kind p h.0 in
+        let some = h.2 in (h.0, h.1, omega (arith, some, m, z));
+    one_set = λ q. let e = ap length (sets_of q) in let h = l.one_set q in omega (arith, e, h);
   }
 
   made_copies : Leaves old new task → Copies old new o k kind (to_port p)
@@ -160,8 +164,9 @@ module _ (task o k : ℕ) (old new : State) (kind : Kind) (p : ℕ) (l : IsMovin
 
   left_leaves : new ≡ shape old new → old.live_task task ≡ true → ((t : ℕ) → (t ≡ task → ⊥) → new.naming t ≡ old.naming t) → TaskNaming new task → NoRequests new →
       ((q : ℕ) → new.make_send q < 2 ^ 32) → ((q : ℕ) → new.sequence q < 2 ^ 32) → ((q : ℕ) → old.live_port q ≡ false → new.sets_of q ≡ []) →
-      ((q set t : ℕ) → Contains (new.sets_of q) set → old.set_owner set ≡ Some t → Holds new t receive q) → Leaves old new task
-  left_leaves rest is_task others own stands make_send sequence no_sets members = record {
+      SameSets (old.naming task) (new.naming task) → ((q set : ℕ) → Contains (new.sets_of q) set → (t : ℕ) × (old.set_owner set ≡ Some t) × Holds new t receive q) →
+      ((q : ℕ) → length (new.sets_of q) ≤ 1) → Leaves old new task
+  left_leaves rest is_task others own stands make_send sequence no_sets sets members one_set = record {
     rest = rest;
     is_task = is_task;
     others = others;
@@ -172,7 +177,9 @@ module _ (task o k : ℕ) (old new : State) (kind : Kind) (p : ℕ) (l : IsMovin
     make_send = make_send;
     sequence = sequence;
     no_sets = no_sets;
+    sets = kept_set_law old.naming new.naming old.set_owner old.sets_made task l.sets others sets;
     members = members;
+    one_set = one_set;
   }
 
   left_copies : Leaves old new task → Copies old new o k kind (to_port p)
@@ -184,19 +191,19 @@ module _ (task o k : ℕ) (old new : State) (kind : Kind) (p : ℕ) (l : IsMovin
         let e = at_entry c q o k kind p in let z = not_at_entry c q o k kind p task in omega (arith, m, e, z);
   }
 
-or_cases : (x y : Bool) → (x || y) ≡ true → (x ≡ true) ⊎ (y ≡ true)
+pub or_cases : (x y : Bool) → (x || y) ≡ true → (x ≡ true) ⊎ (y ≡ true)
 or_cases true y e = inl refl
 or_cases false y e = inr e
 
-or_none : (x y : Bool) → (x || y) ≡ false → (x ≡ false) × (y ≡ false)
+pub or_none : (x y : Bool) → (x || y) ≡ false → (x ≡ false) × (y ≡ false)
 or_none true y e = absurd (cc)
 or_none false y e = (refl, e)
 
-kept_others : (b : Bool) (task name : ℕ) (s : State) (t : ℕ) → (t ≡ task → ⊥) → (name_kept b task name s).naming t ≡ s.naming t
+pub kept_others : (b : Bool) (task name : ℕ) (s : State) (t : ℕ) → (t ≡ task → ⊥) → (name_kept b task name s).naming t ≡ s.naming t
 kept_others true task name s t not = refl
 kept_others false task name s t not = at_other s.naming task (map.remove (s.naming task) name) t not
 
-kept_stands : (b : Bool) (task name : ℕ) (s : State) → NoRequests s → NoRequests (name_kept b task name s)
+pub kept_stands : (b : Bool) (task name : ℕ) (s : State) → NoRequests s → NoRequests (name_kept b task name s)
 kept_stands true task name s none = none
 kept_stands false task name s none = without_stands task name s none
 
@@ -248,7 +255,9 @@ module _ (task o k name p : ℕ) (old new : State) (l : IsMoving old o k) (is : 
       (λ q. subst (λ (n : ℕ). n < 2 ^ 32) (sym (ap (λ (x : State). x.make_send q) rest ∙ ap (λ (f : ℕ → ℕ). f q) (kept_make_send b))) (l.make_send_fits q))
       (λ q. subst (λ (n : ℕ). n < 2 ^ 32) (sym (ap (λ (x : State). x.sequence q) rest ∙ ap (λ (f : ℕ → ℕ). f q) (kept_sequence b))) (l.sequence_fits q))
       (λ q dead. sets q ∙ l.no_sets q dead)
-      (λ q set t in_it owner. let h = l.members q set t (subst (λ (xs : List ℕ). Contains xs set) (sets q) in_it) owner in let e = same_receives t q in omega (arith, h, e)))
+      (subst (SameSets (old.naming task)) (sym (ap (λ (x : State). x.naming task) rest)) (kept_names_sets b task name old (Target.port p) is (port_no_set p)))
+      (λ q set in_it. let h = l.members q set (subst (λ (xs : List ℕ). Contains xs set) (sets q) in_it) in let e = same_receives h.0 q in let some = h.2 in (h.0, h.1, omega (arith, some, e)))
+      (λ q. let e = ap length (sets q) in let h = l.one_set q in omega (arith, e, h)))
     where
       kept_shape : (b : Bool) → record (name_kept b task name old) { ledger = new.ledger } ≡ shape old (record (name_kept b task name old) { ledger = new.ledger })
       kept_shape true = refl
@@ -316,9 +325,11 @@ module _ (task o k name p : ℕ) (old new : State) (l : IsMoving old o k) (is : 
       (λ q. subst (λ (n : ℕ). n < 2 ^ 32) (sym (ap (λ (x : State). x.make_send q) rest)) (at_all (λ q n. n < 2 ^ 32) old.make_send p 0 (omega arith) (λ r not. l.make_send_fits r) q))
       (λ q. subst (λ (n : ℕ). n < 2 ^ 32) (sym (ap (λ (x : State). x.sequence q) rest)) (at_all (λ q n. n < 2 ^ 32) old.sequence p 0 (omega arith) (λ r not. l.sequence_fits r) q))
       (λ q dead. sets q ∙ at_all (λ q xs. old.live_port q ≡ false → xs ≡ []) old.sets_of p [] (λ d. refl) (λ r not d. l.no_sets r d) q dead)
-      (λ q set t in_it owner. at_all (λ q xs. Contains xs set → Holds new t receive q) old.sets_of p [] (λ none. absurd (omega (arith, none.1)))
-      (λ r not one. let h = l.members r set t one owner in let e = left_there task o k old new receive p l tokens t r not in omega (arith, h, e)) q
-      (subst (λ (xs : List ℕ). Contains xs set) (sets q) in_it)))
+      (subst (SameSets (old.naming task)) (sym (ap (λ (x : State). x.naming task) rest)) (kept_names_sets b task name old (Target.port p) is (port_no_set p)))
+      (λ q set in_it. at_all (λ q xs. Contains xs set → (t : ℕ) × (old.set_owner set ≡ Some t) × Holds new t receive q) old.sets_of p [] (λ none. absurd (omega (arith, none.1)))
+      (λ r not one. let h = l.members r set one in let e = left_there task o k old new receive p l tokens h.0 r not in let some = h.2 in (h.0, h.1, omega (arith, some, e))) q
+      (subst (λ (xs : List ℕ). Contains xs set) (sets q) in_it))
+      (λ q. subst (λ (xs : List ℕ). length xs ≤ 1) (sym (sets q)) (at_all (λ q xs. length xs ≤ 1) old.sets_of p [] (omega arith) (λ r not. l.one_set r) q)))
     where
       kept_shape : (b : Bool) → record (name_kept b task name old) { sets_of = at old.sets_of p []; make_send = at old.make_send p 0; sequence = at old.sequence p 0; ledger = new.ledger }
           ≡ shape old (record (name_kept b task name old) { sets_of = at old.sets_of p []; make_send = at old.make_send p 0; sequence = at old.sequence p 0; ledger = new.ledger })
@@ -360,20 +371,22 @@ module _ (task o k name p : ℕ) (old new : State) (l : IsMoving old o k) (is : 
       (λ q. subst (λ (n : ℕ). n < 2 ^ 32) (sym (ap (λ (x : State). x.make_send q) rest)) (l.make_send_fits q))
       (λ q. subst (λ (n : ℕ). n < 2 ^ 32) (sym (ap (λ (x : State). x.sequence q) rest)) (l.sequence_fits q))
       (λ q dead. ap (λ (x : State). x.sets_of q) rest ∙ l.no_sets q dead)
-      (λ q set t in_it owner.
-      let h = l.members q set t (subst (λ (xs : List ℕ). Contains xs set) (ap (λ (x : State). x.sets_of q) rest) in_it) owner in
-      let e = receives_stay t q in omega (arith, h, e)))
+      (subst (SameSets (old.naming task)) (sym (ap (λ (x : State). x.naming task) rest)) (unnamed_sets task name old (Target.once p) is (once_no_set p)))
+      (λ q set in_it.
+      let h = l.members q set (subst (λ (xs : List ℕ). Contains xs set) (ap (λ (x : State). x.sets_of q) rest) in_it) in
+      let e = receives_stay h.0 q in let some = h.2 in (h.0, h.1, omega (arith, some, e)))
+      (λ q. let e = ap (λ (x : State). length (x.sets_of q)) rest in let h = l.one_set q in omega (arith, e, h)))
 
 -- ---- a dead name is sent on
 
 module _ (task o k : ℕ) (old new : State) (l : IsMoving old o k) (tokens : Moves old.ledger new.ledger [] []) where
-  same_held : (t : ℕ) (c : Kind) (q : ℕ) → held new t c q ≡ held old t c q
+  pub same_held : (t : ℕ) (c : Kind) (q : ℕ) → held new t c q ≡ held old t c q
   same_held t c q = let m = tokens (λ x. if is_held t c q x then 1 else 0) in omega (arith, m)
 
-  dead_leaves : (c : State) → new ≡ record c { ledger = new.ledger } → old.live_task task ≡ true → record c { ledger = new.ledger } ≡ shape old (record c { ledger = new.ledger }) →
+  pub dead_leaves : (c : State) → new ≡ record c { ledger = new.ledger } → old.live_task task ≡ true → record c { ledger = new.ledger } ≡ shape old (record c { ledger = new.ledger }) →
       ((t : ℕ) → (t ≡ task → ⊥) → c.naming t ≡ old.naming t) → IsNaming (c.naming task) (held new task receive) (held new task send) (held new task send_once) → NoRequests c →
-      c.make_send ≡ old.make_send → c.sequence ≡ old.sequence → c.sets_of ≡ old.sets_of → Leaves old new task
-  dead_leaves c rest is_task same_shape others own stands make_send sequence sets_of = record {
+      c.make_send ≡ old.make_send → c.sequence ≡ old.sequence → c.sets_of ≡ old.sets_of → SetLaw c.naming old.set_owner old.sets_made → Leaves old new task
+  dead_leaves c rest is_task same_shape others own stands make_send sequence sets_of law = record {
     rest = shaped old (record c { ledger = new.ledger }) new rest same_shape;
     is_task = is_task;
     others = λ t not. ap (λ (x : State). x.naming t) rest ∙ others t not;
@@ -384,8 +397,11 @@ module _ (task o k : ℕ) (old new : State) (l : IsMoving old o k) (tokens : Mov
     make_send = λ q. subst (λ (n : ℕ). n < 2 ^ 32) (sym (ap (λ (x : State). x.make_send q) rest ∙ ap (λ (f : ℕ → ℕ). f q) make_send)) (l.make_send_fits q);
     sequence = λ q. subst (λ (n : ℕ). n < 2 ^ 32) (sym (ap (λ (x : State). x.sequence q) rest ∙ ap (λ (f : ℕ → ℕ). f q) sequence)) (l.sequence_fits q);
     no_sets = λ q dead. sets q ∙ l.no_sets q dead;
-    members = λ q set t in_it owner.
-        let h = l.members q set t (subst (λ (xs : List ℕ). Contains xs set) (sets q) in_it) owner in let e = same_held t receive q in omega (arith, h, e);
+    sets = subst (λ (naming : ℕ → Names). SetLaw naming old.set_owner old.sets_made) (sym (ap (λ (x : State). x.naming) rest)) law;
+    members = λ q set in_it.
+        let h = l.members q set (subst (λ (xs : List ℕ). Contains xs set) (sets q) in_it) in
+        let e = same_held h.0 receive q in let some = h.2 in (h.0, h.1, omega (arith, some, e));
+    one_set = λ q. let e = ap length (sets q) in let h = l.one_set q in omega (arith, e, h);
   }
     where
       sets : (q : ℕ) → new.sets_of q ≡ old.sets_of q
@@ -403,7 +419,7 @@ module _ (task o k : ℕ) (old new : State) (l : IsMoving old o k) (tokens : Mov
   no_rights_under : (n q : ℕ) → Target.dead n ≡ Target.port q → ⊥
   no_rights_under n q e = cc
 
-  fewer_references : (name n : ℕ) → lookup old task name ≡ Some (Target.dead n) → (b : Bool) → nat_lt 1 n ≡ b →
+  pub fewer_references : (name n : ℕ) → lookup old task name ≡ Some (Target.dead n) → (b : Bool) → nat_lt 1 n ≡ b →
       new ≡ record (if b then with_name task name (Target.dead (n - 1)) old else without_name task name old) { ledger = new.ledger } → Leaves old new task
   fewer_references name n is true e rest =
       let more = ltb-true 1 n e in
@@ -414,6 +430,7 @@ module _ (task o k : ℕ) (old new : State) (l : IsMoving old o k) (tokens : Mov
       (dead_fewer (old.naming task) (held old task receive) (held old task send) (held old task send_once) (held new task receive) (held new task send) (held new task send_once) (l.naming task)
       name n (n - 1) is (omega (arith, more)) (omega arith) (λ q. (same_held task receive q, same_held task send q)) (same_held task send_once)))
       l.none_stands refl refl refl
+      (insert_law old.naming task old.set_owner old.sets_made name (Target.dead (n - 1)) l.sets (dead_sets (old.naming task) name n (n - 1) is))
   fewer_references name n is false e rest =
       dead_leaves (without_name task name old) rest (has_task old o k l task name (Target.dead n) is) refl
       (λ t not. at_other old.naming task (map.remove (old.naming task) name) t not)
@@ -422,11 +439,12 @@ module _ (task o k : ℕ) (old new : State) (l : IsMoving old o k) (tokens : Mov
       (other_unnamed (old.naming task) (held old task receive) (held old task send) (held old task send_once) (held new task receive) (held new task send) (held new task send_once) (l.naming task)
       name (Target.dead n) is (no_rights_under n) (λ q. (same_held task receive q, same_held task send q)) (λ q. let h = same_held task send_once q in omega (arith, h))))
       (without_stands task name old l.none_stands) refl refl refl
+      (remove_law old.naming task old.set_owner old.sets_made name l.sets (removed_sets (old.naming task) name (Target.dead n) is (dead_no_set n)))
 
   same_references : (name : ℕ) (x : Target) → lookup old task name ≡ Some x → new ≡ record old { ledger = new.ledger } → Leaves old new task
   same_references name x is rest = dead_leaves old rest (has_task old o k l task name x is) refl (λ t not. refl)
       (same_naming (old.naming task) (held old task receive) (held old task send) (held old task send_once) (held new task receive) (held new task send) (held new task send_once) (l.naming task)
-      (same_held task receive) (same_held task send) (same_held task send_once)) l.none_stands refl refl refl
+      (same_held task receive) (same_held task send) (same_held task send_once)) l.none_stands refl refl refl l.sets
 
 -- ---- each disposition
 

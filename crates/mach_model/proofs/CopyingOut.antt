@@ -1,5 +1,5 @@
 -- Copying out keeps a state lawful but for the rights on their way, and takes the right of each mark from there.
-use Rattle.std.proofs.Common.{◌≡◌, ℕ, zero, suc, ◌+◌, ◌^◌, ◌<◌, ◌≤◌, List, [], ◌∷◌, Some, refl, sym, ap, subst, ◌∙◌, arith, true, false, Bool, inl, inr, length}
+use Rattle.std.proofs.Common.{◌≡◌, ℕ, zero, suc, ◌+◌, ◌^◌, ◌<◌, ◌≤◌, List, [], ◌∷◌, Some, None, refl, sym, ap, subst, ◌∙◌, arith, true, false, Bool, inl, inr, length}
 use Rattle.std.specs.Prelude.{if◌then◌else◌, ◌==◌, ◌&&◌, ◌≢◌, Contains}
 use Rattle.std.specs.FinMap as map
 use Rattle.std.proofs.lemmas.Bool.Decides.{eqb_tells}
@@ -13,6 +13,7 @@ use Rattle.mach_model.specs.Carried.{mark_count, lying}
 use Rattle.mach_model.proofs.Weigh.{length-weigh, pos_or_zero}
 use Rattle.mach_model.proofs.At.{at_same, at_other}
 use Rattle.mach_model.proofs.Spaces.{IsNaming, IsNew, SameBut, stay_named, port_named, once_named}
+use Rattle.mach_model.proofs.SetNames.{SameSets, SameSets-refl, SameSets-is, same_set_law, kept_set_law, IsNoSet, port_no_set, once_no_set, inserted_sets}
 use Rattle.mach_model.proofs.Moving.{IsMoving, shape, shaped, near_none, near_task, near_entry, Leaves, moved}
 use Rattle.mach_model.proofs.CopyingIn.{at_entry, not_at_entry, not_held, own_right, other_port, own_naming}
 
@@ -42,8 +43,8 @@ module _ (task o k : ℕ) (old new : State) (kind : Kind) (p : ℕ) (l : IsMovin
 
   come_leaves : (s : State) → new ≡ record s { ledger = new.ledger } → record s { ledger = new.ledger } ≡ shape old (record s { ledger = new.ledger }) →
       ((t : ℕ) → (t ≡ task → ⊥) → s.naming t ≡ old.naming t) → IsNaming (s.naming task) (held new task receive) (held new task send) (held new task send_once) →
-      s.stands ≡ old.stands → s.make_send ≡ old.make_send → s.sequence ≡ old.sequence → s.sets_of ≡ old.sets_of → Leaves old new task
-  come_leaves s rest same_shape others own stands make_send sequence sets_of = record {
+      s.stands ≡ old.stands → s.make_send ≡ old.make_send → s.sequence ≡ old.sequence → s.sets_of ≡ old.sets_of → SameSets (old.naming task) (s.naming task) → Leaves old new task
+  come_leaves s rest same_shape others own stands make_send sequence sets_of names = record {
     rest = shaped old (record s { ledger = new.ledger }) new rest same_shape;
     is_task = is_task;
     others = λ t not. ap (λ (x : State). x.naming t) rest ∙ others t not;
@@ -54,10 +55,14 @@ module _ (task o k : ℕ) (old new : State) (kind : Kind) (p : ℕ) (l : IsMovin
     make_send = λ q. subst (λ (n : ℕ). n < 2 ^ 32) (sym (ap (λ (x : State). x.make_send q) rest ∙ ap (λ (f : ℕ → ℕ). f q) make_send)) (l.make_send_fits q);
     sequence = λ q. subst (λ (n : ℕ). n < 2 ^ 32) (sym (ap (λ (x : State). x.sequence q) rest ∙ ap (λ (f : ℕ → ℕ). f q) sequence)) (l.sequence_fits q);
     no_sets = λ q dead. sets q ∙ l.no_sets q dead;
-    members = λ q set t in_it owner.
-        let h = l.members q set t (subst (λ (xs : List ℕ). Contains xs set) (sets q) in_it) owner in
-        let m = tokens (λ x. if is_held t receive q x then 1 else 0) in
-        let z = not_held receive q o k kind p t in omega (arith, h, m, z);
+    sets = kept_set_law old.naming new.naming old.set_owner old.sets_made task l.sets (λ t not. ap (λ (x : State). x.naming t) rest ∙ others t not)
+        (subst (SameSets (old.naming task)) (sym (ap (λ (x : State). x.naming task) rest)) names);
+    members = λ q set in_it.
+        let h = l.members q set (subst (λ (xs : List ℕ). Contains xs set) (sets q) in_it) in
+        let m = tokens (λ x. if is_held h.0 receive q x then 1 else 0) in
+        let z = not_held receive q o k kind p h.0 in
+        let some = h.2 in (h.0, h.1, omega (arith, some, m, z));
+    one_set = λ q. let e = ap length (sets q) in let h = l.one_set q in omega (arith, e, h);
   }
     where
       sets : (q : ℕ) → new.sets_of q ≡ old.sets_of q
@@ -112,12 +117,16 @@ module _ (task o k : ℕ) (old new : State) (kind : Kind) (p : ℕ) (l : IsMovin
         | inr h ↦ inl (come_other receive q h.1, come_other send q h.1)
       ])
       (few_sends few) (same_once kind refl not))
-      refl refl refl refl)
+      refl refl refl refl (SameSets-refl (old.naming task)))
 
   named_own : (name : ℕ) (x : Target) → IsNaming (map.insert (old.naming task) name x) (held new task receive) (held new task send) (held new task send_once) →
       IsNaming ((with_name task name x old).naming task) (held new task receive) (held new task send) (held new task send_once)
   named_own name x n = subst (λ (m : Names). IsNaming m (held new task receive) (held new task send) (held new task send_once))
       (sym (at_same old.naming task (map.insert (old.naming task) name x) task refl)) n
+
+  named_sets : (name : ℕ) (x : Target) → map.get (old.naming task) name ≡ None → IsNoSet x → SameSets (old.naming task) ((with_name task name x old).naming task)
+  named_sets name x none not =
+      subst (SameSets (old.naming task)) (sym (at_same old.naming task (map.insert (old.naming task) name x) task refl)) (inserted_sets (old.naming task) name x none not)
 
   -- under a new name
   pub come_port : (name : ℕ) → (kind ≡ send_once → ⊥) → IsNew (old.naming task) name → ((n : ℕ) → lookup old task n ≢ Some (Target.port p)) → held new task send p ≤ most_references →
@@ -127,7 +136,7 @@ module _ (task o k : ℕ) (old new : State) (kind : Kind) (p : ℕ) (l : IsMovin
       (named_own name (Target.port p)
       (port_named (old.naming task) (held old task receive) (held old task send) (held old task send_once) (held new task receive) (held new task send) (held new task send_once) (l.naming task)
       name p is_new no_right (some_right kind refl not) few come_but (same_once kind refl not p)))
-      refl refl refl refl)
+      refl refl refl refl (named_sets name (Target.port p) is_new.unused (port_no_set p)))
     where
       no_right : held old task receive p + held old task send p ≡ 0
       no_right = elim (pos_or_zero (held old task receive p + held old task send p)) [
@@ -143,7 +152,7 @@ module _ (task o k : ℕ) (old new : State) (kind : Kind) (p : ℕ) (l : IsMovin
       (named_own name (Target.once p)
       (once_named (old.naming task) (held old task receive) (held old task send) (held old task send_once) (held new task receive) (held new task send) (held new task send_once) (l.naming task)
       name p is_new (λ q. (same receive refl q, same send refl q)) more))
-      refl refl refl refl)
+      refl refl refl refl (named_sets name (Target.once p) is_new.unused (once_no_set p)))
     where
       none : (c : Kind) → same_kind c send_once ≡ false → (q : ℕ) → (if is_held task c q (token send_once p (in_task task)) then suc zero else zero) ≡ zero
       none c e q = rw e refl
@@ -198,6 +207,9 @@ module _ (task o k : ℕ) (old new : State) (p : ℕ) (l : IsMoving old o k) (is
         make_send = λ q. subst (λ (n : ℕ). n < 2 ^ 32) (sym (ap (λ (x : State). x.make_send q) rest)) (l.make_send_fits q);
         sequence = λ q. subst (λ (n : ℕ). n < 2 ^ 32) (sym (ap (λ (x : State). x.sequence q) rest)) (l.sequence_fits q);
         no_sets = λ q dead. sets q ∙ l.no_sets q dead;
-        members = λ q set t in_it owner.
-            let h = l.members q set t (subst (λ (xs : List ℕ). Contains xs set) (sets q) in_it) owner in let e = gone_held t receive q in omega (arith, h, e);
+        sets = same_set_law old.naming new.naming old.set_owner old.sets_made (λ t. SameSets-is (old.naming t) (new.naming t) (ap (λ (x : State). x.naming t) rest)) l.sets;
+        members = λ q set in_it.
+            let h = l.members q set (subst (λ (xs : List ℕ). Contains xs set) (sets q) in_it) in
+            let e = gone_held h.0 receive q in let some = h.2 in (h.0, h.1, omega (arith, some, e));
+        one_set = λ q. let e = ap length (sets q) in let h = l.one_set q in omega (arith, e, h);
       }

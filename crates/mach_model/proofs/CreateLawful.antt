@@ -56,7 +56,12 @@ module _ (s : State) (l : IsLawful s) where
     make_send_fits = l.make_send_fits;
     sequence_fits = l.sequence_fits;
     no_sets = l.no_sets;
+    made_set = l.made_set;
+    set_owned = l.set_owned;
+    set_named = l.set_named;
+    one_set_name = l.one_set_name;
     members = l.members;
+    one_set = l.one_set;
     unmade_log = l.unmade_log;
     within = l.within;
     sent_here = l.sent_here;

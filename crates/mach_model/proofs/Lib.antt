@@ -2,6 +2,7 @@ pub mod Weigh
 pub mod At
 pub mod Names
 pub mod Spaces
+pub mod SetNames
 pub mod Settling
 pub mod Receivers
 pub mod Moving
@@ -16,6 +17,10 @@ pub mod SendLawful
 pub mod ReceiveLawful
 pub mod HandLawful
 pub mod CreateLawful
+pub mod SettingLawful
+pub mod LosingLawful
+pub mod RenamingLawful
 pub mod AllocateLawful
+pub mod SetsLawful
 pub mod StepLawful
 pub mod Plain

@@ -16,6 +16,7 @@ use Rattle.mach_model.specs.NotYet.{NoRequests}
 use Rattle.mach_model.specs.Lawful.{IsLawful}
 use Rattle.mach_model.proofs.At.{elsewhere}
 use Rattle.mach_model.proofs.Spaces.{IsNaming, stay_named}
+use Rattle.mach_model.proofs.SetNames.{SetLaw, set_law, IsMember}
 
 abbrev pub TaskNaming : State → (task : ℕ) → Type 0
 TaskNaming s task = IsNaming (s.naming task) (held s task receive) (held s task send) (held s task send_once)
@@ -34,7 +35,10 @@ pub record IsMoving (s : State) (o k : ℕ) : Type 0 where
   pub make_send_fits : (p : ℕ) → s.make_send p < 2 ^ 32
   pub sequence_fits : (p : ℕ) → s.sequence p < 2 ^ 32
   pub no_sets : (p : ℕ) → s.live_port p ≡ false → s.sets_of p ≡ []
-  pub members : (p set task : ℕ) → Contains (s.sets_of p) set → s.set_owner set ≡ Some task → Holds s task receive p
+  -- sets
+  pub sets : SetLaw s.naming s.set_owner s.sets_made
+  pub members : (p set : ℕ) → Contains (s.sets_of p) set → IsMember s p set
+  pub one_set : (p : ℕ) → length (s.sets_of p) ≤ 1
   -- logs
   pub unmade_log : (p : ℕ) → s.ports_made ≤ p → s.log p ≡ []
   pub within : (p : ℕ) → s.taken p ≤ length (s.log p)
@@ -80,7 +84,9 @@ moving s o k l = record {
   make_send_fits = l.make_send_fits;
   sequence_fits = l.sequence_fits;
   no_sets = l.no_sets;
+  sets = set_law s l;
   members = l.members;
+  one_set = l.one_set;
   unmade_log = l.unmade_log;
   within = l.within;
   sent_here = l.sent_here;
@@ -122,7 +128,12 @@ arrived s o k l outside none few = record {
   make_send_fits = l.make_send_fits;
   sequence_fits = l.sequence_fits;
   no_sets = l.no_sets;
+  made_set = l.sets.made_set;
+  set_owned = l.sets.set_owned;
+  set_named = l.sets.set_named;
+  one_set_name = l.sets.one_set_name;
   members = l.members;
+  one_set = l.one_set;
   unmade_log = l.unmade_log;
   within = l.within;
   sent_here = l.sent_here;
@@ -201,7 +212,9 @@ pub record Leaves (s new : State) (task : ℕ) : Type 0 where
   pub make_send : (q : ℕ) → new.make_send q < 2 ^ 32
   pub sequence : (q : ℕ) → new.sequence q < 2 ^ 32
   pub no_sets : (q : ℕ) → s.live_port q ≡ false → new.sets_of q ≡ []
-  pub members : (p set t : ℕ) → Contains (new.sets_of p) set → s.set_owner set ≡ Some t → Holds new t receive p
+  pub sets : SetLaw new.naming s.set_owner s.sets_made
+  pub members : (p set : ℕ) → Contains (new.sets_of p) set → (t : ℕ) × (s.set_owner set ≡ Some t) × Holds new t receive p
+  pub one_set : (p : ℕ) → length (new.sets_of p) ≤ 1
 
 module _ (s new : State) (task o k : ℕ) (l : IsMoving s o k) (gone come : List Token) (moves : Moves s.ledger new.ledger gone come)
     (near_gone : AreNear task o k gone) (near_come : AreNear task o k come) where
@@ -242,7 +255,9 @@ module _ (s new : State) (task o k : ℕ) (l : IsMoving s o k) (gone come : List
     make_send_fits = v.make_send;
     sequence_fits = v.sequence;
     no_sets = v.no_sets;
+    sets = v.sets;
     members = v.members;
+    one_set = v.one_set;
     unmade_log = l.unmade_log;
     within = l.within;
     sent_here = l.sent_here;

@@ -13,6 +13,7 @@ use Rattle.mach_model.specs.Receiving.{IsFront, with_taken, Receives}
 use Rattle.mach_model.specs.Lawful.{IsLawful}
 use Rattle.mach_model.proofs.Weigh.{length-weigh, both_test, lying_le_of}
 use Rattle.mach_model.proofs.At.{at_same, at_own, at_other, at_all, elsewhere, slice_get_drop}
+use Rattle.mach_model.proofs.SetNames.{set_law}
 use Rattle.mach_model.proofs.Moving.{IsMoving, shape, same_naming, task_naming, arrived}
 use Rattle.mach_model.proofs.CopyingIn.{at_entry}
 use Rattle.mach_model.proofs.CopyingOut.{Removes}
@@ -119,7 +120,9 @@ module _ (s : State) (p : ℕ) (e : Entry) (ledger : List Token) (l : IsLawful s
     make_send_fits = l.make_send_fits;
     sequence_fits = at_all (λ q n. n < 2 ^ 32) s.sequence p ((s.sequence p + 1) % 2 ^ 32) (omega arith) (λ q not. l.sequence_fits q);
     no_sets = l.no_sets;
-    members = λ q set t in_it owner. let h = l.members q set t in_it owner in omega (arith, h, held_same t receive q);
+    sets = set_law s l;
+    members = λ q set in_it. let h = l.members q set in_it in let some = h.2 in (h.0, h.1, omega (arith, some, held_same h.0 receive q));
+    one_set = l.one_set;
     unmade_log = l.unmade_log;
     within = at_all (λ q n. n ≤ length (s.log q)) s.taken p (s.taken p + 1) (let h = slice_get_within (s.log p) (s.taken p) e front in omega (arith, h)) (λ q not. l.within q);
     sent_here = l.sent_here;

@@ -126,7 +126,12 @@ module _ (s : State) (now : ℕ) (m : Message) (l : IsMoving s m.destination (le
     make_send_fits = l.make_send_fits;
     sequence_fits = l.sequence_fits;
     no_sets = l.no_sets;
+    made_set = l.sets.made_set;
+    set_owned = l.sets.set_owned;
+    set_named = l.sets.set_named;
+    one_set_name = l.sets.one_set_name;
     members = l.members;
+    one_set = l.one_set;
     unmade_log = λ q above. let b = below_made in log_other q (λ x. omega (arith, b, above, x)) ∙ l.unmade_log q above;
     within = λ q. at_all (λ q log. s.taken q ≤ length log) s.log p (s.log p ++ entry now m ∷ [])
         (let w = l.within p in let more = length-append (s.log p) (entry now m ∷ []) in omega (arith, w, more)) (λ q not. l.within q) q;

@@ -52,8 +52,14 @@ pub record IsLawful (s : State) : Type 0 where
   pub make_send_fits : (p : ℕ) → s.make_send p < 2 ^ 32
   pub sequence_fits : (p : ℕ) → s.sequence p < 2 ^ 32
   pub no_sets : (p : ℕ) → s.live_port p ≡ false → s.sets_of p ≡ []
-  -- sets: a member's receive right is with the set's task
-  pub members : (p set task : ℕ) → Contains (s.sets_of p) set → s.set_owner set ≡ Some task → Holds s task receive p
+  -- sets: one that was not made yet has no task; a task's set has one name with its task, and a name for a set is its task's
+  pub made_set : (set : ℕ) → s.sets_made ≤ set → s.set_owner set ≡ None
+  pub set_owned : (task name set : ℕ) → lookup s task name ≡ Some (Target.set set) → s.set_owner set ≡ Some task
+  pub set_named : (set task : ℕ) → s.set_owner set ≡ Some task → (name : ℕ) × (lookup s task name ≡ Some (Target.set set))
+  pub one_set_name : (task n m set : ℕ) → lookup s task n ≡ Some (Target.set set) → lookup s task m ≡ Some (Target.set set) → n ≡ m
+  -- members: the receive right of each is with the task that has the set; a port is in one set at most
+  pub members : (p set : ℕ) → Contains (s.sets_of p) set → (task : ℕ) × (s.set_owner set ≡ Some task) × Holds s task receive p
+  pub one_set : (p : ℕ) → length (s.sets_of p) ≤ 1
   -- logs: an entry is its port's, and goes by a send or send-once right; it speaks of ports that were made
   pub unmade_log : (p : ℕ) → s.ports_made ≤ p → s.log p ≡ []
   pub within : (p : ℕ) → s.taken p ≤ length (s.log p)

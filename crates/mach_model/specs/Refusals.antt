@@ -1,20 +1,21 @@
 -- Which code refuses an event: the first guard that holds, from left to right (the order is this project's own).
-use Rattle.std.specs.Prelude.{◌≡◌, ◌≢◌, ℕ, ◌<◌, ◌≤◌, ◌⊎◌, [], ◌∷◌, Option, Some, None}
+use Rattle.std.specs.Prelude.{◌≡◌, ◌≢◌, ℕ, false, ℤ, pos, negsuc, ◌+◌, ◌<◌, ◌≤◌, ◌⊎◌, [], ◌∷◌, length, Option, Some, None}
 use Rattle.mach_types.specs.declared.calls.Event.{Event}
 use Rattle.mach_types.specs.declared.calls.Waited.{Waited}
-use Rattle.mach_types.specs.declared.codes.KernReturn.TheVariants.{NoSpace, ResourceShortage, InvalidName, InvalidTask, InvalidRight, InvalidValue, InvalidCapability}
-use Rattle.mach_types.specs.declared.codes.MsgReturn.TheVariants.{ReceiveInvalidName, ReceiveInSet}
-use Rattle.mach_types.specs.Numbers.{null_word, dead_word, kern_number, msg_number, most_tasks}
-use Rattle.mach_types.specs.Tokens.{in_task}
+use Rattle.mach_types.specs.declared.codes.KernReturn.TheVariants.{NoSpace, ResourceShortage, NameExists, InvalidName, InvalidTask, InvalidRight, InvalidValue, UrefsOverflow, InvalidCapability, NotInSet}
+use Rattle.mach_types.specs.declared.codes.MsgReturn.TheVariants.{ReceiveInvalidName, ReceiveInSet, ReceivePortDied, ReceivePortChanged}
+use Rattle.mach_types.specs.Numbers.{null_word, dead_word, kern_number, msg_number, most_tasks, most_rights, greatest_limit}
+use Rattle.mach_types.specs.Tokens.{receive, in_task}
 use Rattle.mach_types.specs.Guards.{Guards, FirstIs, NoneHolds}
 use Rattle.mach_types.specs.TextGuards.{header_guards}
-use Rattle.mach_model.specs.State.{State, Target, lookup}
+use Rattle.mach_model.specs.State.{State, Target, lookup, Holds}
 use Rattle.mach_model.specs.Making.{IsNoTask, IsNoMaking, IsFull}
 use Rattle.mach_model.specs.Status.{NamesReceive}
 use Rattle.mach_model.specs.Handing.{inserted_guards, extracted_guards, CopyRefuses}
 use Rattle.mach_model.specs.Sending.{IsLegalName, IsDeadName, SendRefuses}
 use Rattle.mach_model.specs.Receiving.{IsSet, waits_for, ReceiptRefuses}
-use Rattle.mach_model.specs.NotYet.{IsNotYetMaking}
+use Rattle.mach_model.specs.Losing.{HasReference, IsCounted, IsUncounted, references_at, IsBelowZero, IsAbove, added_rights}
+use Rattle.mach_model.specs.NotYet.{IsNotYetDeallocating, IsNotYetDestroying, IsNotYetRemoving}
 
 abbrev pub IsUnused : State → (task name : ℕ) → Type 0
 IsUnused s task name = lookup s task name ≡ None
@@ -25,6 +26,54 @@ IsNoName name = (name ≡ null_word) ⊎ (dead_word ≤ name)
 
 abbrev pub IsDisposition : ℕ → Type 0
 IsDisposition number = (16 ≤ number) × (number ≤ 21)
+
+-- what a call on a receive right is refused by
+abbrev pub receive_guards : State → (task name : ℕ) → Guards
+receive_guards s task name =
+    (IsNoTask s task, kern_number InvalidTask)
+    ∷ (IsUnused s task name, kern_number InvalidName)
+    ∷ (¬ (NamesReceive s task name), kern_number InvalidRight)
+    ∷ []
+
+abbrev pub set_guards : State → (task name : ℕ) → Guards
+set_guards s task name =
+    (IsNoTask s task, kern_number InvalidTask)
+    ∷ (IsUnused s task name, kern_number InvalidName)
+    ∷ (¬ (IsSet (lookup s task name)), kern_number InvalidRight)
+    ∷ []
+
+abbrev pub move_guards : State → (task member after : ℕ) → Guards
+move_guards s task member after =
+    (IsNoTask s task, kern_number InvalidTask)
+    ∷ (IsUnused s task member ⊎ (after ≢ 0) × IsUnused s task after, kern_number InvalidName)
+    ∷ (¬ (NamesReceive s task member) ⊎ (after ≢ 0) × ¬ (IsSet (lookup s task after)), kern_number InvalidRight)
+    ∷ ((after ≡ 0) × ((p : ℕ) × (lookup s task member ≡ Some (Target.port p)) × (s.sets_of p ≡ [])), kern_number NotInSet)
+    ∷ []
+
+-- what is waited for is gone, or was never there; or the task could not receive from it by a name
+abbrev pub again_guards : State → (task : ℕ) → Waited → Guards
+again_guards s task (Waited.Port p) =
+    (IsNoTask s task, kern_number InvalidTask)
+    ∷ (s.live_port p ≡ false, msg_number ReceivePortDied)
+    ∷ (¬ (Holds s task receive p) ⊎ (s.sets_of p ≢ []), msg_number ReceivePortChanged)
+    ∷ []
+again_guards s task (Waited.Set set) =
+    (IsNoTask s task, kern_number InvalidTask)
+    ∷ (s.set_owner set ≡ None, msg_number ReceivePortDied)
+    ∷ (s.set_owner set ≢ Some task, msg_number ReceivePortChanged)
+    ∷ []
+
+abbrev pub modify_guards : State → (task name right : ℕ) → ℤ → Guards
+modify_guards s task name right delta =
+    (IsNoTask s task, kern_number InvalidTask)
+    ∷ (4 < right, kern_number InvalidValue)
+    ∷ (IsUnused s task name, kern_number InvalidName)
+    ∷ (references_at s task name right ≡ 0, kern_number InvalidRight)
+    ∷ (IsCounted right × IsBelowZero (references_at s task name right) delta ⊎ IsUncounted right × (delta ≢ pos 0) × (delta ≢ negsuc 0), kern_number InvalidValue)
+    ∷ (IsCounted right × IsAbove (references_at s task name right) delta, kern_number UrefsOverflow)
+    ∷ ((right ≡ 0) × (most_rights < length s.ledger + added_rights delta), kern_number NoSpace)
+    ∷ (IsNotYetRemoving right delta, kern_number InvalidRight)
+    ∷ []
 
 abbrev pub insert_guards : State → (task name from poly number : ℕ) → Guards
 insert_guards s task name from poly number =
@@ -49,9 +98,26 @@ guards s Event.TaskCreate = (most_tasks ≤ s.tasks_made, kern_number NoSpace) �
 guards s (Event.Allocate task right) =
     (IsNoTask s task, kern_number InvalidTask)
     ∷ (IsNoMaking right, kern_number InvalidValue)
-    ∷ (IsNotYetMaking right, kern_number InvalidValue)
     ∷ (IsFull s task right, kern_number NoSpace)
     ∷ []
+guards s (Event.AllocateName task right name) =
+    (IsNoTask s task, kern_number InvalidTask)
+    ∷ (IsNoMaking right ⊎ IsNoName name, kern_number InvalidValue)
+    ∷ (lookup s task name ≢ None, kern_number NameExists)
+    ∷ (IsFull s task right, kern_number NoSpace)
+    ∷ []
+guards s (Event.Deallocate task name) =
+    (IsNoTask s task, kern_number InvalidTask)
+    ∷ (IsUnused s task name, kern_number InvalidName)
+    ∷ (¬ (HasReference s task (lookup s task name)), kern_number InvalidRight)
+    ∷ (IsNotYetDeallocating s task name, kern_number InvalidRight)
+    ∷ []
+guards s (Event.Destroy task name) =
+    (IsNoTask s task, kern_number InvalidTask)
+    ∷ (IsUnused s task name, kern_number InvalidName)
+    ∷ (IsNotYetDestroying s task name, kern_number InvalidRight)
+    ∷ []
+guards s (Event.ModRefs task name right delta) = modify_guards s task name right delta
 guards s (Event.GetRefs task name right) =
     (IsNoTask s task, kern_number InvalidTask)
     ∷ (4 < right, kern_number InvalidValue)
@@ -61,11 +127,24 @@ guards s (Event.NameType task name) =
     (IsNoTask s task, kern_number InvalidTask)
     ∷ (IsUnused s task name, kern_number InvalidName)
     ∷ []
-guards s (Event.ReceiveStatus task name) =
+guards s (Event.Names task) = (IsNoTask s task, kern_number InvalidTask) ∷ []
+guards s (Event.Rename task o n) =
     (IsNoTask s task, kern_number InvalidTask)
+    ∷ (IsNoName n, kern_number InvalidValue)
+    ∷ (IsUnused s task o, kern_number InvalidName)
+    ∷ (lookup s task n ≢ None, kern_number NameExists)
+    ∷ []
+guards s (Event.ReceiveStatus task name) = receive_guards s task name
+guards s (Event.SetQlimit task name n) =
+    (IsNoTask s task, kern_number InvalidTask)
+    ∷ (greatest_limit < n, kern_number InvalidValue)
     ∷ (IsUnused s task name, kern_number InvalidName)
     ∷ (¬ (NamesReceive s task name), kern_number InvalidRight)
     ∷ []
+guards s (Event.SetMscount task name n) = receive_guards s task name
+guards s (Event.SetSeqno task name n) = receive_guards s task name
+guards s (Event.SetStatus task name) = set_guards s task name
+guards s (Event.MoveMember task member after) = move_guards s task member after
 guards s (Event.InsertRight task name from poly number) = insert_guards s task name from poly number
 guards s (Event.ExtractRight task name number to) = extract_guards s task name number to
 guards s (Event.Send task bytes) = (IsNoTask s task, kern_number InvalidTask) ∷ header_guards bytes
@@ -74,11 +153,16 @@ guards s (Event.Receive task name room large) =
     ∷ (¬ (NamesReceive s task name ⊎ IsSet (lookup s task name)), msg_number ReceiveInvalidName)
     ∷ ((p : ℕ) × (lookup s task name ≡ Some (Target.port p)) × (s.sets_of p ≢ []), msg_number ReceiveInSet)
     ∷ []
+guards s (Event.ReceiveAgain task waited room large) = again_guards s task waited
 
 -- the code for want of memory of an event whose guards are all judged in the state before
 abbrev pub memory_refusal : Event → Option ℕ
 memory_refusal Event.TaskCreate = Some (kern_number ResourceShortage)
 memory_refusal (Event.Allocate task right) = Some (kern_number ResourceShortage)
+memory_refusal (Event.AllocateName task right name) = Some (kern_number ResourceShortage)
+memory_refusal (Event.Names task) = Some (kern_number ResourceShortage)
+memory_refusal (Event.Rename task o n) = Some (kern_number ResourceShortage)
+memory_refusal (Event.SetStatus task name) = Some (kern_number ResourceShortage)
 memory_refusal event = None
 
 -- refusals that come after those guards
@@ -90,6 +174,7 @@ RefusesLater s (Event.ExtractRight task name number to) code =
 RefusesLater s (Event.Send task bytes) code = SendRefuses s task bytes code
 RefusesLater s (Event.Receive task name room large) code =
     (waited : Waited) × waits_for task name s waited × ReceiptRefuses s task waited room code
+RefusesLater s (Event.ReceiveAgain task waited room large) code = ReceiptRefuses s task waited room code
 RefusesLater s event code = memory_refusal event ≡ Some code
 
 -- The event is refused in the state with this code.
