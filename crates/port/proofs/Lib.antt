@@ -4,3 +4,4 @@ pub mod Keys
 pub mod Records
 pub mod Sound
 pub mod Grown
+pub mod Next

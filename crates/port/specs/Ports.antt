@@ -1,5 +1,5 @@
 -- What contracts see of ports: each live port's queue and attributes, how many were made, and how many slots are spare.
-use Rattle.std.specs.Prelude.{◌≡◌, ℕ, List, None, true, refl}
+use Rattle.std.specs.Prelude.{◌≡◌, ℕ, ◌<◌, ◌≤◌, List, Option, Some, None, true, refl}
 use Rattle.std.specs.Coded.{Coded, code_by, coded×, coded_ℕ, coded_list}
 use Rattle.std.specs.FinMap as map
 use Rattle.std.specs.Ordering.{nat_cmp}
@@ -37,3 +37,15 @@ module _ {M : Type 0} where
   -- one port as given, and each other as it was
   abbrev pub with_port : PortsView M → ℕ → PortView M → PortsView M
   with_port v port p = record v { ports = map.insert v.ports port p }
+
+-- after the one before, or any where there is none before
+abbrev pub IsAfter : Option ℕ → ℕ → Type 0
+IsAfter before q = (b : ℕ) → before ≡ Some b → b < q
+
+module _ {M : Type 0} where
+  -- the live port with the least identity after the one before
+  pub record IsNext (v : PortsView M) (before found : Option ℕ) : Type 0 where
+    pub live : (id : ℕ) → found ≡ Some id → IsLive v id
+    pub later : (id : ℕ) → found ≡ Some id → IsAfter before id
+    pub given : (id : ℕ) → found ≡ Some id → id < v.made
+    pub least : (q : ℕ) → IsLive v q → IsAfter before q → (id : ℕ) × (found ≡ Some id) × (id ≤ q)

@@ -1,5 +1,5 @@
 -- How ports are kept. No public clause cites this module.
-use Rattle.std.specs.Prelude.{◌≡◌, ℕ, ◌+◌, ◌<◌, ◌^◌, List, [], Option, Some, None, length}
+use Rattle.std.specs.Prelude.{◌≡◌, ℕ, ◌+◌, ◌<◌, ◌≤◌, ◌^◌, true, is_some, List, [], Option, Some, None, length}
 use Rattle.std.specs.Prelude as std
 use Rattle.std.specs.List.{sum_by}
 use Rattle.std.specs.List.Sorted.{IsStrictlySortedBy}
@@ -9,7 +9,9 @@ use Rattle.std.specs.Ordering.{nat_cmp}
 use Rattle.slab.specs.Slab.{Slab, get}
 use Rattle.port.specs.declared.Record.{Record}
 use Rattle.port.specs.declared.Holder.TheVariants.{Nowhere}
-use Rattle.port.specs.Ports.{PortView, first_attributes}
+use Rattle.std.specs.BTreeMap.{BTreeMap}
+use Rattle.std.specs.BTreeMap.{get as key_in}
+use Rattle.port.specs.Ports.{PortView, first_attributes, IsAfter}
 
 -- the map with each value v replaced by f v
 abbrev pub with_values : {X : Type 0} → (ℕ → X) → map.FinMap nat_cmp ℕ → map.FinMap nat_cmp X
@@ -19,6 +21,12 @@ with_values f m = map.from_sorted (std.map (λ e. (e.0, f e.1)) (map.entries m))
 abbrev pub made_of : Option ℕ → ℕ
 made_of None = 2 ^ 64
 made_of (Some next) = next
+
+-- the least key of the index after the one before
+pub record IsNextKey (index : BTreeMap ℕ ℕ) (before found : Option ℕ) : Type 0 where
+  pub there : (id : ℕ) → found ≡ Some id → is_some (key_in nat_cmp index id) ≡ true
+  pub later : (id : ℕ) → found ≡ Some id → IsAfter before id
+  pub least : (q : ℕ) → is_some (key_in nat_cmp index q) ≡ true → IsAfter before q → (id : ℕ) × (found ≡ Some id) × (id ≤ q)
 
 module _ {M : Type 0} where
   abbrev pub port_in : Option (Record M) → PortView M

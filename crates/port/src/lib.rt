@@ -12,6 +12,7 @@ ghost use Rattle.std.specs.Ordering.{nat_cmp};
 ghost use Rattle.std.specs.BTreeMap.{get as key_in};
 ghost use Rattle.slab.specs.Slab.{get, with_value};
 ghost use Rattle.port.specs.declared.Record.{Record as AnyRecord};
+ghost use Rattle.port.specs.Records.{IsNextKey};
 
 use mach_types::{PortId, SetId, TaskId};
 use slab::Slab;
@@ -19,6 +20,7 @@ use std::alloc::{AllocError, Global};
 use std::collections::{BTreeMap, LinkedList};
 use std::marker::Model;
 use std::mem;
+use std::ops::Bound;
 
 // A list has fewer elements than this.
 const MOST_SLOTS: usize = 1 << 63;
@@ -208,9 +210,26 @@ fn key_of(by_id: &BTreeMap<u64, usize>, port: PortId) -> Option<usize>
     by_id.get(&port.number()).copied()
 }
 
+// The least key of all.
+fn first_key(by_id: &BTreeMap<u64, usize>) -> Option<PortId>
+    ensures { IsNextKey by_id.now None result }
+{
+    let (id, _) = by_id.range(..).next()?;
+    Some(PortId::new(*id))
+}
+
+// The least key after this one.
+fn key_after(by_id: &BTreeMap<u64, usize>, before: PortId) -> Option<PortId>
+    ensures { IsNextKey by_id.now (Some before) result }
+{
+    let later = (Bound::Excluded(before.number()), Bound::Unbounded);
+    let (id, _) = by_id.range(later).next()?;
+    Some(PortId::new(*id))
+}
+
 impl<M: Message> Ports<M> {
     ghost use Rattle.mach_types.specs.Numbers.{most_identities};
-    ghost use Rattle.port.specs.Ports.{PortView, IsLive, with_port, first_attributes};
+    ghost use Rattle.port.specs.Ports.{PortView, IsLive, with_port, first_attributes, IsNext};
 
     /// No ports, and no slots. Allocates nothing; constant time.
     pub fn new(alloc: Global) -> Ports<M>
@@ -320,6 +339,17 @@ impl<M: Message> Ports<M> {
     {
         let key = key_of(&self.by_id, port)?;
         Some(self.records[key].attributes)
+    }
+
+    /// The port with the least identity after this one, or, after none, with the least of all: so one
+    /// goes over all ports. Logarithmic in the number of ports.
+    pub fn next_after(&self, before: Option<PortId>) -> Option<PortId>
+        ensures { IsNext self.now before result }
+    {
+        match before {
+            Some(port) => key_after(&self.by_id, port),
+            None => first_key(&self.by_id),
+        }
     }
 
     /// Sets a port's attributes. Takes no memory. Logarithmic in the number of ports.

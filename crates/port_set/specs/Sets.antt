@@ -1,0 +1,59 @@
+-- What contracts see of port sets: each set's record, how many were made, and what the ports' attributes say of members.
+use Rattle.std.specs.Prelude.{◌≡◌, ◌≢◌, ℕ, ◌+◌, ◌<◌, Option, Some, None, refl, true, length}
+use Rattle.std.specs.Coded.{Coded, code_by, coded×, coded_ℕ}
+use Rattle.std.specs.FinMap as map
+use Rattle.std.specs.Ordering.{nat_cmp}
+use Rattle.port.specs.Ports.{PortView, PortsView}
+use Rattle.port_set.specs.declared.SetRecord.{SetRecord}
+
+pub record SetsView : Type 0 where
+  pub sets : map.FinMap nat_cmp SetRecord
+  pub made : ℕ
+
+abbrev pub sets_code : Coded SetRecord → Coded SetsView
+sets_code code = code_by
+    (map.FinMap nat_cmp SetRecord × ℕ) (coded× (map.code coded_ℕ code) coded_ℕ)
+    (λ s. (s.sets, s.made))
+    (λ p. record { sets = p.0; made = p.1 })
+    (λ _. refl)
+
+abbrev pub no_sets : SetsView
+no_sets = record { sets = map.empty; made = 0 }
+
+abbrev pub IsThere : SetsView → ℕ → Type 0
+IsThere v set = map.contains_key v.sets set ≡ true
+
+-- one more set, whose identity is the number of those made before
+abbrev pub created : SetsView → (owner name : ℕ) → SetsView
+created v owner name = record { sets = map.insert v.sets v.made (record { owner = owner; name = name }); made = v.made + 1 }
+
+-- a set's task has another name for it
+abbrev pub renamed : SetsView → (set : ℕ) → SetRecord → (name : ℕ) → SetsView
+renamed v set r name = record v { sets = map.insert v.sets set (record r { name = name }) }
+
+abbrev pub removed : SetsView → (set : ℕ) → SetsView
+removed v set = record v { sets = map.remove v.sets set }
+
+module _ {M : Type 0} where
+  -- the port in this set, or in none; its queue and all else of it stay
+  abbrev pub in_set : PortView M → Option ℕ → PortView M
+  in_set p set = record p { attributes = record p.attributes { set = set } }
+
+  -- the port is there, a member of the set, and has a message
+  pub record IsReady (v : PortsView M) (set port : ℕ) : Type 0 where
+    pub view : PortView M
+    pub there : map.get v.ports port ≡ Some view
+    pub member : view.attributes.set ≡ Some set
+    pub some : 0 < length view.queue
+
+  -- no member of the set has a message
+  pub record NoneReady (v : PortsView M) (set : ℕ) : Type 0 where
+    pub empty : (port : ℕ) (p : PortView M) → map.get v.ports port ≡ Some p → p.attributes.set ≡ Some set → length p.queue ≡ 0
+
+  -- Each member of the set is in no set now; each other port, and the counts, are as they were.
+  pub record IsDisbanded (old new : PortsView M) (set : ℕ) : Type 0 where
+    pub gone : (port : ℕ) → map.get old.ports port ≡ None → map.get new.ports port ≡ None
+    pub members : (port : ℕ) (p : PortView M) → map.get old.ports port ≡ Some p → p.attributes.set ≡ Some set → map.get new.ports port ≡ Some (in_set p None)
+    pub others : (port : ℕ) (p : PortView M) → map.get old.ports port ≡ Some p → p.attributes.set ≢ Some set → map.get new.ports port ≡ Some p
+    pub made : new.made ≡ old.made
+    pub spare : new.spare ≡ old.spare

@@ -1,0 +1,300 @@
+//! Port sets: whose they are, under which name, and which of their members has a message.
+//!
+//! Which ports are in a set is kept with the ports, each of which is in at most one: a port that
+//! comes, goes or moves takes no memory here. Identities are given from 0 and never again: one whose
+//! set is gone finds nothing.
+#![tactic(auto)]
+
+ghost use Rattle.std.specs.Prelude.{◌≡◌, ℕ, ◌+◌, ◌<◌, ◌≤◌, ◌↔◌, IsTrue, Some, None, IsSome, IfSome, IfNone, IfOk, OnOk, OnErr, length};
+ghost use Rattle.std.specs.FinMap as map;
+ghost use Rattle.std.specs.Ordering.{nat_cmp};
+ghost use Rattle.std.specs.BTreeMap.{get as record_in, IsOrdered, Updates};
+ghost use Rattle.port.specs.Ports.{PortView, IsLive, with_port};
+ghost use Rattle.port_set.specs.Sets.{in_set, IsReady, NoneReady, IsDisbanded};
+ghost use Rattle.port_set.specs.Kept.{IsLeft};
+ghost use Rattle.port_set.specs.declared.SetRecord.{SetRecord as AnyRecord};
+
+use mach_types::{Name, PortId, SetId, TaskId};
+use port::{Message, Ports};
+use std::alloc::{AllocError, Global};
+use std::collections::BTreeMap;
+use std::marker::Model;
+
+/// What is kept of a set.
+#[derive(Clone, Copy, Debug, PartialEq, Eq)]
+pub struct SetRecord {
+    /// The task whose set it is.
+    pub owner: TaskId,
+    /// The task's name for it.
+    pub name: Name,
+}
+
+/// Sets by identity. Without sets nothing is allocated.
+#[derive(Drop)]
+pub struct Sets {
+    records: BTreeMap<u64, SetRecord>,
+    next: Option<u64>,
+}
+
+impl Model for Sets {
+    ghost use Rattle.port_set.specs.Sets.{SetsView, sets_code};
+    ghost use Rattle.port_set.specs.contracts.SetRecord as set_record;
+
+    ghost Value = { SetsView };
+
+    ghost coded = { sets_code set_record.the_row.coded };
+
+    ghost use Rattle.std.specs.FinMap as map;
+    ghost use Rattle.port.specs.Records.{made_of};
+    ghost use Rattle.port_set.specs.Kept.{IsKept};
+
+    ghost view = { λ a. record { sets = map.from_sorted a.records.entries; made = made_of a.next } };
+
+    ghost invariant = { λ a. IsKept a.records.entries a.next };
+}
+
+// Puts this record in place of the one that stands under the number.
+fn replace(records: &mut BTreeMap<u64, SetRecord>, number: u64, kept: SetRecord)
+    requires { IsSome (record_in nat_cmp records.old number) }
+    ensures updates { Updates nat_cmp records.old records.new number (Some kept) }
+    ensures ordered { IsOrdered nat_cmp records.new }
+{
+    if let Some(held) = records.get_mut(&number) {
+        *held = kept;
+    }
+}
+
+impl Sets {
+    ghost use Rattle.mach_types.specs.Numbers.{most_identities};
+    ghost use Rattle.port_set.specs.Sets.{no_sets, IsThere, created, renamed, removed};
+
+    /// No sets. Allocates nothing; constant time.
+    pub fn new(alloc: Global) -> Sets
+        ensures { result ≡ no_sets }
+    {
+        Sets {
+            records: BTreeMap::new(alloc),
+            next: Some(0),
+        }
+    }
+
+    /// Whether all 2^64 identities were given, so that no set can be made. Constant time.
+    pub fn is_exhausted(&self) -> bool
+        ensures { IsTrue result ↔ (most_identities ≤ self.now.made) }
+    {
+        self.next.is_none()
+    }
+
+    /// The identity that the next set made gets: the number of sets made before. Constant time.
+    pub fn next_id(&self) -> SetId
+        requires { self.now.made < most_identities }
+        ensures { result ≡ self.now.made }
+    {
+        SetId::new(self.next.unwrap())
+    }
+
+    /// A set's record, if the set is there. Logarithmic in the number of sets.
+    pub fn get(&self, set: SetId) -> Option<SetRecord>
+        ensures { result ≡ map.get self.now.sets set }
+    {
+        self.records.get(&set.number()).copied()
+    }
+
+    /// Makes a set of this task's under this name (Port Manipulation Interface,
+    /// `mach_port_allocate`); no port is in it. Its identity is the number of sets made before.
+    /// Logarithmic in the number of sets.
+    ///
+    /// An error means that memory was refused; all is then as before. Nothing else here takes memory.
+    pub fn create(&mut self, owner: TaskId, name: Name) -> Result<SetId, AllocError>
+        requires { self.old.made < most_identities }
+        ensures identity { IfOk result (λ id. id ≡ self.old.made) }
+        ensures ok { OnOk result (self.new ≡ created self.old owner name) }
+        ensures err { OnErr result (self.new ≡ self.old) }
+    {
+        let number = self.next.unwrap();
+        self.records.insert(number, SetRecord { owner, name })?;
+        self.next = number.checked_add(1);
+        Ok(SetId::new(number))
+    }
+
+    /// Keeps another name for a set, whose task stays (Port Manipulation Interface,
+    /// `mach_port_rename`). Logarithmic in the number of sets.
+    pub fn rename(&mut self, set: SetId, name: Name)
+        requires { IsThere self.old set }
+        ensures { (r : AnyRecord) → map.get self.old.sets set ≡ Some r → self.new ≡ renamed self.old set r name }
+    {
+        let mut kept = self.get(set).unwrap();
+        kept.name = name;
+        replace(&mut self.records, set.number(), kept);
+    }
+
+    /// Removes a set, if it is there (Port Manipulation Interface, `mach_port_destroy`); its members
+    /// are to be [`disband`]ed. Logarithmic in the number of sets.
+    pub fn remove(&mut self, set: SetId)
+        ensures { self.new ≡ removed self.old set }
+    {
+        self.records.remove(&set.number());
+    }
+}
+
+/// Puts a port into a set, out of the one that it was in, or into none (Port Manipulation Interface,
+/// `mach_port_move_member`). Takes no memory. Logarithmic in the number of ports.
+pub fn move_member<M: Message>(ports: &mut Ports<M>, member: PortId, set: Option<SetId>)
+    requires { IsLive ports.old member }
+    ensures { (p : PortView M) → map.get ports.old.ports member ≡ Some p → ports.new ≡ with_port ports.old member (in_set p set) }
+{
+    let mut attributes = ports.attributes(member).unwrap();
+    attributes.set = set;
+    ports.set_attributes(member, attributes);
+}
+
+// Whether the port is there, and in the set.
+fn is_member<M: Message>(ports: &Ports<M>, port: PortId, set: SetId) -> bool
+    ensures yes { IsTrue result → (p : PortView M) → map.get ports.now.ports port ≡ Some p → p.attributes.set ≡ Some set }
+    ensures only { (p : PortView M) → map.get ports.now.ports port ≡ Some p → p.attributes.set ≡ Some set → IsTrue result }
+{
+    match ports.attributes(port) {
+        Some(attributes) => match attributes.set {
+            Some(its) => its.number() == set.number(),
+            None => false,
+        },
+        None => false,
+    }
+}
+
+/// A member of the set that has a message, if there is one (IPC Interface, `mach_msg`, receiving by
+/// a port set). Takes no memory. Goes over the ports until it finds one: each takes a logarithm of
+/// their number.
+pub fn ready_member<M: Message>(ports: &Ports<M>, set: SetId) -> Option<PortId>
+    ensures some { IfSome result (λ port. IsReady ports.now set port) }
+    ensures none { IfNone result (NoneReady ports.now set) }
+{
+    let mut before = None;
+    while let Some(port) = ports.next_after(before) {
+        if is_member(ports, port, set) && ports.queued(port) > 0 {
+            return Some(port);
+        }
+        before = Some(port);
+    }
+    None
+}
+
+// Takes a port out of the set, if it is in it.
+fn leave<M: Message>(ports: &mut Ports<M>, port: PortId, set: SetId)
+    requires { IsLive ports.old port }
+    ensures { IsLeft ports.old ports.new port set }
+{
+    if is_member(ports, port, set) {
+        move_member(ports, port, None);
+    }
+}
+
+/// Takes all members out of a set, so that they are in none (Port Manipulation Interface,
+/// `mach_port_destroy`). Takes no memory. Goes over all ports: each takes a logarithm of their
+/// number.
+pub fn disband<M: Message>(ports: &mut Ports<M>, set: SetId)
+    ensures { IsDisbanded ports.old ports.new set }
+{
+    let mut before = None;
+    while let Some(port) = ports.next_after(before) {
+        leave(ports, port, set);
+        before = Some(port);
+    }
+}
+
+#[cfg(test)]
+mod tests {
+    use super::*;
+    use port::Holder;
+    use std::test::Fail;
+
+    #[derive(Drop)]
+    struct Note(u32);
+
+    impl Message for Note {
+        fn blank(_alloc: Global) -> Note {
+            Note(0)
+        }
+    }
+
+    // Queues a message, if the port is there and a slot is spare.
+    fn post(ports: &mut Ports<Note>, port: PortId) -> bool {
+        if ports.attributes(port).is_none() || ports.spare() == 0 {
+            return false;
+        }
+        ports.enqueue(port, Note(1));
+        true
+    }
+
+    // Puts a port into a set, if it is there.
+    fn join(ports: &mut Ports<Note>, port: PortId, set: SetId) -> bool {
+        if ports.attributes(port).is_none() {
+            return false;
+        }
+        move_member(ports, port, Some(set));
+        true
+    }
+
+    // Keeps another name for a set, if it is there.
+    fn rename(sets: &mut Sets, set: SetId, name: u32) -> bool {
+        if sets.get(set).is_none() {
+            return false;
+        }
+        sets.rename(set, Name::new(name));
+        true
+    }
+
+    fn named(sets: &Sets, set: SetId) -> Option<u32> {
+        let kept = sets.get(set)?;
+        Some(kept.name.number())
+    }
+
+    fn ready(ports: &Ports<Note>, set: SetId) -> Option<u64> {
+        let port = ready_member(ports, set)?;
+        Some(port.number())
+    }
+
+    #[test]
+    fn a_gone_set_is_not_found(rt: HostRuntime) -> Result<(), Fail> {
+        let mut sets = Sets::new(rt.alloc());
+        assert!(rt; !sets.is_exhausted());
+        assert_eq!(rt; sets.next_id().number(), 0);
+        let first = sets.create(TaskId::new(7), Name::new(3))?;
+        assert_eq!(rt; named(&sets, first), Some(3));
+        assert!(rt; rename(&mut sets, first, 5));
+        assert_eq!(rt; named(&sets, first), Some(5));
+        assert_eq!(rt; sets.get(first).ok_or("made")?.owner.number(), 7);
+        sets.remove(first);
+        assert_eq!(rt; named(&sets, first), None);
+        assert!(rt; !rename(&mut sets, first, 6));
+        assert!(rt; !sets.is_exhausted());
+        let second = sets.create(TaskId::new(7), Name::new(3))?;
+        assert_eq!(rt; second.number(), 1);
+        assert_eq!(rt; named(&sets, first), None);
+        Ok(())
+    }
+
+    #[test]
+    fn a_member_with_a_message_is_ready(rt: HostRuntime) -> Result<(), Fail> {
+        let mut ports = Ports::<Note>::new(rt.alloc());
+        let (set, other) = (SetId::new(0), SetId::new(1));
+        ports.reserve_slots(2)?;
+        assert!(rt; !ports.is_exhausted());
+        let first = ports.allocate(Holder::Nowhere)?;
+        assert!(rt; !ports.is_exhausted());
+        let second = ports.allocate(Holder::Nowhere)?;
+        assert!(rt; post(&mut ports, first));
+        assert_eq!(rt; ready(&ports, set), None);
+        assert!(rt; join(&mut ports, first, other));
+        assert!(rt; join(&mut ports, second, set));
+        assert_eq!(rt; ready(&ports, set), None);
+        assert!(rt; post(&mut ports, second));
+        assert_eq!(rt; ready(&ports, set), Some(1));
+        assert!(rt; join(&mut ports, second, other));
+        assert_eq!(rt; ready(&ports, set), None);
+        disband(&mut ports, other);
+        assert_eq!(rt; ready(&ports, other), None);
+        assert_eq!(rt; ports.queued(first), 1);
+        Ok(())
+    }
+}
