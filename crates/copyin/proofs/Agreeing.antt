@@ -1,6 +1,6 @@
 -- The tables still agree with a state when one task's names, and attributes and counts of ports, have changed.
-use Rattle.std.proofs.Common.{◌≡◌, ℕ, List, [], ◌∷◌, Option, Some, None, refl, sym, ap, subst, ◌∙◌, arith, Bool, true, false, inl, inr, length}
-use Rattle.std.specs.Prelude.{◌≢◌, slice_get, slice_set, is_some}
+use Rattle.std.proofs.Common.{◌≡◌, ℕ, List, Option, Some, sym, ap, subst, ◌∙◌, inl, inr, length}
+use Rattle.std.specs.Prelude.{slice_get, slice_set, is_some}
 use Rattle.std.specs.Option.{option_map, option_to_list}
 use Rattle.std.specs.FinMap as map
 use Rattle.std.proofs.lemmas.Bool.Decides.{eqb_tells}
@@ -14,6 +14,8 @@ use Rattle.name_space.specs.declared.Entry.{Entry}
 use Rattle.name_space.specs.Entry.{port_named, has_receive, send_references}
 use Rattle.name_space.specs.Names.{SpaceView}
 use Rattle.port.specs.Ports.{PortView}
+use Rattle.port_set.specs.declared.SetRecord.{SetRecord}
+use Rattle.port_set.specs.Sets.{SetsView}
 use Rattle.copyin.specs.Kept.{Kept}
 use Rattle.copyin.specs.Worlds.{WorldView, entry_in, entry_at, port_at}
 use Rattle.copyin.specs.Shows.{target_of, HasCount, AllKept, ShowsPort, ShowsCounts, Agrees}
@@ -43,6 +45,9 @@ pub record Near (w w2 : WorldView) (s t : State) (task : ℕ) (space2 : SpaceVie
   pub counts : (p : ℕ) → ShowsCounts w2 t p
   pub total : w2.ledger.total ≡ length t.ledger
   pub requests : (r : Request) (kind : Kind) (q : ℕ) → lying t kind q (in_request r) ≡ lying s kind q (in_request r)
+  -- the sets are as they were, and what named one still does
+  pub sets : w2.sets ≡ w.sets
+  pub set_names : (n set : ℕ) → lookup s task n ≡ Some (Target.set set) → map.get (t.naming task) n ≡ Some (Target.set set)
 
 module _ (w w2 : WorldView) (s t : State) (a : Agrees w s) (task : ℕ) (space space2 : SpaceView) (there : slice_get w.spaces task ≡ Some space)
     (near : Near w w2 s t task space2) where
@@ -111,6 +116,20 @@ module _ (w w2 : WorldView) (s t : State) (a : Agrees w s) (task : ℕ) (space s
         sets = x.2.sets;
       }
 
+  set_stays : (u n set : ℕ) → lookup s u n ≡ Some (Target.set set) → lookup t u n ≡ Some (Target.set set)
+  set_stays u n set is = elim (eqb_tells u task) [
+    | inl h ↦ subst (λ (x : ℕ). lookup t x n ≡ Some (Target.set set)) (sym h.1) (near.set_names n set (subst (λ (x : ℕ). lookup s x n ≡ Some (Target.set set)) h.1 is))
+    | inr h ↦ ap (λ (m : Names). map.get m n) (near.naming_others u h.1) ∙ is
+  ]
+
+  set_named : (set : ℕ) (r : SetRecord) → map.get w2.sets.sets set ≡ Some r → lookup t r.owner r.name ≡ Some (Target.set set)
+  set_named set r is = set_stays r.owner r.name set (a.set_named set r (ap (λ (x : SetsView). map.get x.sets set) (sym near.sets) ∙ is))
+
+  set_owner : (set : ℕ) → t.set_owner set ≡ option_map (λ (r : SetRecord). r.owner) (map.get w2.sets.sets set)
+  set_owner set =
+      ap (λ (x : State). x.set_owner set) near.rest ∙ a.set_owner set
+      ∙ ap (λ (x : SetsView). option_map (λ (r : SetRecord). r.owner) (map.get x.sets set)) (sym near.sets)
+
   pub near_agrees : Agrees w2 t
   near_agrees = record {
     live_task = λ u. alive u ∙ a.live_task u ∙ sym (ap (λ (x : State). x.live_task u) near.rest);
@@ -124,7 +143,8 @@ module _ (w w2 : WorldView) (s t : State) (a : Agrees w s) (task : ℕ) (space s
     ports = λ p v2 is. kept_port p v2 (near.ports p v2 is);
     counts = near.counts;
     total = near.total;
-    set_owner = λ set. ap (λ (x : State). x.set_owner set) near.rest ∙ a.set_owner set;
-    sets_made = ap (λ (x : State). x.sets_made) near.rest ∙ a.sets_made;
+    set_owner = set_owner;
+    sets_made = ap (λ (x : SetsView). x.made) near.sets ∙ a.sets_made ∙ sym (ap (λ (x : State). x.sets_made) near.rest);
+    set_named = set_named;
     requests = λ r kind q. near.requests r kind q ∙ a.requests r kind q;
   }

@@ -1,25 +1,23 @@
 -- The words of a body copied in, item by item.
-use Rattle.std.proofs.Common.{◌≡◌, ℕ, zero, suc, ◌+◌, ◌<◌, ◌≤◌, List, [], ◌∷◌, ◌++◌, Option, Some, None, refl, sym, ap, subst, ◌∙◌, arith, ◌⊎◌, inl, inr, length, take, drop, All}
-use Rattle.std.specs.Prelude.{◌≢◌, map as list_map, replicate}
+use Rattle.std.proofs.Common.{◌≡◌, ℕ, zero, suc, ◌+◌, List, [], ◌∷◌, ◌++◌, refl, sym, ap, subst, ◌∙◌, arith, length, take, drop, All}
+use Rattle.std.specs.Prelude.{map as list_map, replicate}
 use Rattle.std.proofs.lemmas.List.{map-append}
-use Rattle.mach_types.specs.declared.rights.Disposition.{Disposition}
-use Rattle.mach_types.specs.Numbers.{disposition, disposition_number, kind_sent}
+use Rattle.mach_types.specs.Numbers.{disposition_number}
 use Rattle.mach_types.specs.Tokens.{in_message}
-use Rattle.mach_types.specs.Messages.{Item, plain, rights, Body}
 use Rattle.mach_types.specs.Grammar.{Wire, data_item, port_item, WireBody, IsWire, IsWireBody}
 use Rattle.mach_model.specs.State.{State}
-use Rattle.mach_model.specs.CopyIn.{CopyWord, CopyWords, CopyItem, CopyItems, CopyBody}
+use Rattle.mach_model.specs.CopyIn.{CopyWords, CopyItems, CopyBody}
 use Rattle.mach_model.proofs.Moving.{shape, shape-trans, shape-same}
 use Rattle.message_codec.specs.declared.words.PortWord.{PortWord}
 use Rattle.message_codec.specs.Words.{items_words, body_words}
 use Rattle.message_codec.proofs.Shapes.{All-head, All-tail}
 use Rattle.name_space.specs.Names.{Names}
 use Rattle.copyin.specs.declared.message.Carried.{Carried}
-use Rattle.copyin.specs.Kept.{mark_of, marks_of, kind_of, items_of, body_of, items_given, body_given}
+use Rattle.copyin.specs.Kept.{marks_of, items_of, body_of, items_given, body_given}
 use Rattle.copyin.specs.Worlds.{WorldView}
-use Rattle.copyin.specs.Judging.{CopiesWord, CopiesBody, IsLeft, made_by, made_by_all}
-use Rattle.copyin.specs.Plans.{ChangesWord, ChangesWords}
-use Rattle.copyin.proofs.Stepping.{Along, Stepped, stepped, words_append}
+use Rattle.copyin.specs.Judging.{CopiesBody, made_by_all}
+use Rattle.copyin.specs.Plans.{ChangesWords}
+use Rattle.copyin.proofs.Stepping.{Along, stepped, words_append}
 use Rattle.copyin.proofs.Numbering.{number_of, kind_given, given_ports}
 
 abbrev pub words_of : (number : ℕ) → List ℕ → List PortWord

@@ -19,7 +19,7 @@ use Rattle.rights.specs.Ledger.{LedgerView}
 use Rattle.copyin.specs.Kept.{Kept}
 use Rattle.copyin.specs.Worlds.{WorldView, entry_in, entry_at, port_at, put}
 use Rattle.copyin.specs.Shows.{target_of, HasCount, ShowsCounts, Agrees}
-use Rattle.copyin.proofs.Agreeing.{KeepsPort, Near, near_agrees}
+use Rattle.copyin.proofs.Agreeing.{KeepsPort, near_agrees}
 use Rattle.copyin.proofs.Putting.{put_in, put_own, put_other, same_len}
 
 pub same_put : (m : TableNames) (name : ℕ) (o : Option Entry) → put m name o ≡ put_in m name o
@@ -34,6 +34,13 @@ target_named (entry_of.ReceiveAndSend q n) p is = cc
 target_named (entry_of.SendOnce q) p is = absurd (cc)
 target_named (entry_of.DeadName n) p is = absurd (cc)
 target_named (entry_of.Set n) p is = absurd (cc)
+
+-- ... and so it is no set
+pub named_no_set : (e : Entry) (p : ℕ) → port_named e ≡ Some p → (set : ℕ) → target_of e ≡ Target.set set → ⊥
+named_no_set e p is set f = apart p set (sym (target_named e p is) ∙ f)
+  where
+    apart : (q n : ℕ) → Target.port q ≡ Target.set n → ⊥
+    apart q n g = cc
 
 same_port : (o : Option ℕ) (p : ℕ) → (o ≡ Some p) ⊎ (o ≡ Some p → ⊥)
 same_port None p = inr (λ e. cc)
@@ -56,6 +63,7 @@ pub record Rest (w w2 : WorldView) (s t : State) (task : ℕ) (entry : Entry) (l
   pub counts : (p : ℕ) → ShowsCounts w2 t p
   pub total : w2.ledger.total ≡ length t.ledger
   pub requests : (r : Request) (kind : Kind) (q : ℕ) → lying t kind q (in_request r) ≡ lying s kind q (in_request r)
+  pub no_set : (set : ℕ) → target_of entry ≡ Target.set set → ⊥
 
 module _ (w : WorldView) (s : State) (a : Agrees w s) (task name : ℕ) (naming : TaskNaming s task) (space : SpaceView) (there : slice_get w.spaces task ≡ Some space)
     (entry : Entry) (found : map.get space.names name ≡ Some entry) where
@@ -78,7 +86,7 @@ module _ (w : WorldView) (s : State) (a : Agrees w s) (task name : ℕ) (naming 
     space2 = record { names = put space.names name left; room = room }
 
     abbrev w2 : WorldView
-    w2 = record { spaces = slice_set w.spaces task space2; ports = ports; ledger = ledger }
+    w2 = record w { spaces = slice_set w.spaces task space2; ports = ports; ledger = ledger }
 
     at_name : map.get (put space.names name left) name ≡ left
     at_name = ap (λ (m : TableNames). map.get m name) (same_put space.names name left) ∙ put_own space.names name left
@@ -118,6 +126,16 @@ module _ (w : WorldView) (s : State) (a : Agrees w s) (task name : ℕ) (naming 
       | inr h ↦ a.counted task n e (entry_found n ∙ sym (at_other n h.1) ∙ is)
     ]
 
+    -- the name isn't that of a set, so each that is stays
+    set_names : ((set : ℕ) → target_of entry ≡ Target.set set → ⊥) → (n set : ℕ) → lookup s task n ≡ Some (Target.set set) → map.get (t.naming task) n ≡ Some (Target.set set)
+    set_names none n set is = elim (eqb_tells n name) [
+      | inl h ↦ absurd (none set (the_target (target_of entry) (Target.set set) (sym target_found ∙ subst (λ (x : ℕ). lookup s task x ≡ Some (Target.set set)) h.1 is)))
+      | inr h ↦ ap (λ (m : Names). map.get m n) own ∙ put_other (s.naming task) name (option_map target_of left) n h.1 ∙ is
+    ]
+      where
+        the_target : (x y : Target) → Some x ≡ Some y → x ≡ y
+        the_target x y e = cc
+
     pub changed_agrees : Rest w w2 s t task entry left → Agrees w2 t
     changed_agrees r = near_agrees w w2 s t a task space space2 there record {
       spaces = refl;
@@ -135,4 +153,6 @@ module _ (w : WorldView) (s : State) (a : Agrees w s) (task name : ℕ) (naming 
       counts = r.counts;
       total = r.total;
       requests = r.requests;
+      sets = refl;
+      set_names = set_names r.no_set;
     }

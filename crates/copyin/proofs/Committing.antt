@@ -1,6 +1,6 @@
 -- A plan that is carried out.
-use Rattle.std.proofs.Common.{◌≡◌, ℕ, ◌+◌, ◌-◌, ◌≤◌, ◌<◌, Bool, true, false, Option, Some, None, List, [], ◌∷◌, ◌++◌, zero, suc, length, refl, sym, ap, subst, ◌∙◌, inl, inr, ◌⊎◌, arith}
-use Rattle.std.specs.Prelude.{◌≢◌, ◌==◌, slice_get, is_some}
+use Rattle.std.proofs.Common.{◌≡◌, ℕ, ◌+◌, ◌-◌, ◌≤◌, true, false, Option, Some, None, List, [], ◌∷◌, ◌++◌, suc, length, refl, sym, ap, subst, ◌∙◌, inl, inr, arith}
+use Rattle.std.specs.Prelude.{is_some}
 use Rattle.std.specs.Option.{option_to_list}
 use Rattle.std.proofs.lemmas.Bool.Decides.{eqb_tells}
 use Rattle.std.specs.FinMap as map
@@ -11,16 +11,17 @@ use Rattle.message_codec.specs.declared.words.PortWord.{PortWord}
 use Rattle.message_codec.specs.Words.{body_words}
 use Rattle.name_space.specs.Names.{Names, SpaceView}
 use Rattle.port.specs.Ports.{PortView, PortsView, IsLive, with_port}
+use Rattle.port_set.specs.Sets.{SetsView}
 use Rattle.rights.specs.Ledger.{LedgerView}
 use Rattle.copyin.specs.declared.judge.Plan.{Plan}
 use Rattle.copyin.specs.declared.message.Carried.{Carried}
-use Rattle.copyin.specs.Judging.{CopiesName, CopiesWord, CopiesReply, CopiesBody, made_by, made_by_reply, made_by_all}
+use Rattle.copyin.specs.Judging.{CopiesWord, CopiesReply, CopiesBody, made_by_reply, made_by_all}
 use Rattle.copyin.specs.Kept.{Kept}
 use Rattle.copyin.specs.Planned.{CanGo, CopiesAll, IsPlan}
-use Rattle.copyin.specs.Plans.{destination_word, reply_words, Judged, ChangesWord, ChangesWords, Commits, option_list, message_for, made_in}
+use Rattle.copyin.specs.Plans.{destination_word, reply_words, ChangesWord, ChangesWords, Commits, option_list, message_for, made_in}
 use Rattle.copyin.specs.Stands.{AreTied, IsTied}
-use Rattle.copyin.specs.Worlds.{WorldView, port_at, ports_copied, CopiesRight}
-use Rattle.copyin.proofs.Going.{go_on, three}
+use Rattle.copyin.specs.Worlds.{WorldView, ports_copied, CopiesRight}
+use Rattle.copyin.proofs.Going.{go_on, four}
 use Rattle.copyin.proofs.Judging.{goes_by_name}
 use Rattle.copyin.proofs.Keeping.{keeps, live_copied, spare_copied}
 
@@ -221,11 +222,11 @@ same_queued : (a b : PortsView Kept) (p q : ℕ) (v : PortView Kept) (m k : Kept
 same_queued a b p q v m k spare x y z = rw (x, y, z) refl
 
 pub commits : (old mid : WorldView) (task : ℕ) (parsed : Parsed) (written : WireBody) (bytes : List ℕ) (plan : Plan) (p : IsPlan old task parsed written bytes plan)
-    (spaces : List SpaceView) (ports new_ports : PortsView Kept) (ledger : LedgerView) → Carries old task plan mid → IsLive ports plan.port
-    → ◌≡◌ {A = WorldView} (record { spaces = spaces; ports = ports; ledger = ledger }) mid
+    (spaces : List SpaceView) (ports new_ports : PortsView Kept) (ledger : LedgerView) (sets : SetsView) → Carries old task plan mid → IsLive ports plan.port
+    → ◌≡◌ {A = WorldView} (record { spaces = spaces; ports = ports; ledger = ledger; sets = sets }) mid
     → ((v : PortView Kept) → map.get ports.ports plan.port ≡ Some v → new_ports ≡ record (with_port ports plan.port (record v { queue = v.queue ++ plan.message ∷ [] })) { spare = ports.spare - 1 })
-    → Commits old task parsed written p.plans.judged bytes (record { spaces = spaces; ports = new_ports; ledger = ledger })
-commits old mid task parsed written bytes plan p spaces ports new_ports ledger ca live view queued =
+    → Commits old task parsed written p.plans.judged bytes (record { spaces = spaces; ports = new_ports; ledger = ledger; sets = sets })
+commits old mid task parsed written bytes plan p spaces ports new_ports ledger sets ca live view queued =
     let found = some_of (map.get ports.ports plan.port) live in
     let v : PortView Kept = found.0 in
     let all = changes_append ca.one ca.two mid task (option_to_list plan.words.reply) plan.words.body.items (option_to_list plan.message.reply) plan.message.rights ca.reply ca.body in
@@ -242,5 +243,5 @@ commits old mid task parsed written bytes plan p spaces ports new_ports ledger c
       v = v;
       there = ap (λ (ps : PortsView Kept). map.get ps.ports p.plans.judged.port) (sym e) ∙ ap (λ (q : ℕ). map.get ports.ports q) (sym p.port) ∙ found.1;
       spare = ports.spare - 1;
-      rest = three _ _ _ _ _ _ s (queued v found.1 ∙ same_queued ports mid.ports plan.port p.plans.judged.port v plan.message (message_for bytes p.plans.judged) (ports.spare - 1) e p.port p.message) l;
+      rest = four _ _ _ _ _ _ _ _ s (queued v found.1 ∙ same_queued ports mid.ports plan.port p.plans.judged.port v plan.message (message_for bytes p.plans.judged) (ports.spare - 1) e p.port p.message) l (ap (λ (w : WorldView). w.sets) view);
     }

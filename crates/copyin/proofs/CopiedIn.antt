@@ -1,45 +1,39 @@
 -- A right that is copied in: what the tables do is what the machine does.
-use Rattle.std.proofs.Common.{◌≡◌, ℕ, zero, suc, ◌+◌, ◌-◌, ◌%◌, ◌^◌, ◌<◌, List, [], ◌∷◌, Option, Some, None, refl, sym, ap, subst, ◌∙◌, arith, Bool, true, false, ◌⊎◌, inl, inr, length}
-use Rattle.std.specs.Prelude.{is_some, if◌then◌else◌, ◌==◌, ◌&&◌, ◌||◌, nat_lt, slice_get, slice_set, MatchBool}
-use Rattle.std.specs.Option.{option_map, option_to_list}
+use Rattle.std.proofs.Common.{◌≡◌, ℕ, zero, suc, ◌+◌, ◌%◌, ◌^◌, ◌<◌, ◌∷◌, Option, Some, None, refl, sym, ap, subst, ◌∙◌, arith, true, false, ◌⊎◌, inl, inr}
+use Rattle.std.specs.Prelude.{is_some, if◌then◌else◌, ◌==◌, ◌&&◌, slice_get, slice_set}
 use Rattle.std.specs.FinMap as map
-use Rattle.std.proofs.lemmas.Bool.Decides.{eqb_tells}
-use Rattle.std.proofs.lemmas.Bool.{eq-eqb, ne_eqb, ltb-true, ltb-false}
+use Rattle.std.proofs.lemmas.Bool.{ne_eqb}
 use Rattle.mach_types.specs.declared.rights.Disposition.{Disposition}
-use Rattle.mach_types.specs.declared.rights.Disposition.TheVariants.{MoveReceive, MoveSend, MoveSendOnce, CopySend, MakeSend, MakeSendOnce}
-use Rattle.mach_types.specs.Numbers.{disposition, kind_sent}
-use Rattle.mach_types.specs.Tokens.{Kind, receive, send, send_once, Request, in_task, in_message, in_request, Token, token, weigh, count, is_of, is_held, same_kind, Moves}
-use Rattle.mach_model.specs.State.{State, Target, Names, lookup, held, Holds, at, without_name, with_name}
+use Rattle.mach_types.specs.declared.rights.Disposition.TheVariants.{CopySend, MakeSend, MakeSendOnce}
+use Rattle.mach_types.specs.Numbers.{disposition}
+use Rattle.mach_types.specs.Tokens.{Kind, receive, send, send_once, Request, in_task, in_message, in_request, token, is_of, is_held}
+use Rattle.mach_model.specs.State.{State, Target, lookup, held, at}
 use Rattle.mach_model.specs.Dying.{same_place}
 use Rattle.mach_model.specs.Status.{one_if}
-use Rattle.mach_model.specs.CopyIn.{CopyRight, name_kept, changed_by}
-use Rattle.mach_model.specs.Carried.{lying}
+use Rattle.mach_model.specs.CopyIn.{CopyRight}
 use Rattle.mach_model.proofs.At.{at_own, at_other}
-use Rattle.mach_model.proofs.Weigh.{both_test, length-weigh, pos_or_zero}
-use Rattle.mach_model.proofs.Moving.{IsMoving, shape}
-use Rattle.mach_model.proofs.CopyingIn.{alive_held, not_held, other_port, own_right}
+use Rattle.mach_model.proofs.Weigh.{both_test, pos_or_zero}
+use Rattle.mach_model.proofs.Moving.{IsMoving}
+use Rattle.mach_model.proofs.CopyingIn.{alive_held, not_held}
 use Rattle.name_space.specs.declared.Entry.{Entry}
-use Rattle.name_space.specs.declared.Entry.TheVariants as entry_of
 use Rattle.name_space.specs.Entry.{port_named, has_receive, send_references}
 use Rattle.name_space.specs.Names.{SpaceView}
-use Rattle.port.specs.Ports.{PortView, PortsView}
-use Rattle.rights.specs.Ledger.{LedgerView, made}
+use Rattle.port.specs.Ports.{PortView}
+use Rattle.rights.specs.Ledger.{made}
 use Rattle.rights.specs.declared.RightKind.TheVariants as right
 use Rattle.copyin.specs.declared.copies.Copied.{Copied}
 use Rattle.copyin.specs.declared.message.Mark.TheVariants as mark
 use Rattle.copyin.specs.Kept.{Kept, mark_of}
-use Rattle.copyin.specs.Copies.{copied_from, one_less}
-use Rattle.copyin.specs.Worlds.{WorldView, port_at, put, ports_copied, ledger_copied, port_copied, attributes_copied}
+use Rattle.copyin.specs.Worlds.{WorldView, port_at, put, ports_copied, ledger_copied, port_copied}
 use Rattle.copyin.specs.Shows.{target_of, HasCount, ShowsCounts, Agrees}
 use Rattle.copyin.proofs.Agreeing.{KeepsPort}
 use Rattle.copyin.proofs.Putting.{put_in, put_same}
-use Rattle.copyin.proofs.Changing.{target_named, Rest, target_found, held_by, has_count, changed_agrees}
-use Rattle.copyin.proofs.Counting.{send_made, once_made, none_made, ports_same, ports_made, ports_live, port_changed}
-use Rattle.copyin.proofs.Taking.{Without, take_held}
+use Rattle.copyin.proofs.Changing.{named_no_set, Rest, target_found, held_by, has_count, changed_agrees}
+use Rattle.copyin.proofs.Counting.{send_made, once_made, ports_same, ports_made, ports_live, port_changed}
 
 -- the tables after a right went by the disposition from a name of the space
 abbrev pub after : WorldView → (task name : ℕ) → SpaceView → Disposition → Copied → WorldView
-after w task name space d c = record {
+after w task name space d c = record w {
   spaces = slice_set w.spaces task (record space { names = put space.names name c.left });
   ports = ports_copied d c.mark w.ports;
   ledger = ledger_copied d c.mark w.ledger;
@@ -124,6 +118,7 @@ module _ (w : WorldView) (s : State) (a : Agrees w s) (o k : ℕ) (l : IsMoving 
       counts = counts;
       total = omega (arith, total, a.total);
       requests = λ r c q. let z = kept_entry r o k c kind q p in omega (arith, z);
+      no_set = named_no_set entry p named;
     }
 
   module _ (p : ℕ) (named : port_named entry ≡ Some p) (is_target : target_of entry ≡ Target.port p) where

@@ -1,15 +1,14 @@
 -- The counts of rights and the ports' attributes after a right was copied in.
-use Rattle.std.proofs.Common.{◌≡◌, ℕ, zero, suc, ◌+◌, ◌%◌, ◌^◌, List, [], ◌∷◌, Option, Some, None, refl, sym, ap, subst, ◌∙◌, arith, Bool, true, false, inl, inr, length}
-use Rattle.std.specs.Prelude.{is_some, if◌then◌else◌, ◌==◌, ◌&&◌}
+use Rattle.std.proofs.Common.{◌≡◌, ℕ, zero, suc, ◌+◌, List, ◌∷◌, Option, Some, refl, sym, ap, subst, ◌∙◌, arith, Bool, true, inl, inr}
+use Rattle.std.specs.Prelude.{is_some, if◌then◌else◌, ◌==◌}
 use Rattle.std.specs.Option.{option_to_list, unwrap_or}
 use Rattle.std.specs.FinMap as map
 use Rattle.std.proofs.lemmas.Bool.Decides.{eqb_tells}
 use Rattle.std.proofs.lemmas.Bool.{eq-eqb, ne_eqb}
 use Rattle.mach_types.specs.declared.rights.Disposition.{Disposition}
 use Rattle.mach_types.specs.declared.rights.Disposition.TheVariants.{MakeSend, MoveReceive}
-use Rattle.mach_types.specs.Tokens.{Kind, receive, send, send_once, Place, in_message, Token, token, count, is_of, same_kind}
-use Rattle.mach_model.specs.State.{State, at}
-use Rattle.mach_model.proofs.At.{at_own, at_other}
+use Rattle.mach_types.specs.Tokens.{Kind, send, send_once, Place, Token, token, count, is_of, same_kind}
+use Rattle.mach_model.specs.State.{State}
 use Rattle.mach_model.proofs.Weigh.{both_test}
 use Rattle.mach_model.proofs.Names.{get_own, get_other}
 use Rattle.port.specs.Ports.{PortView, PortsView}
@@ -19,7 +18,7 @@ use Rattle.rights.specs.Ledger.{LedgerView, made, counts_of}
 use Rattle.rights.specs.declared.RightKind.TheVariants as right
 use Rattle.copyin.specs.Kept.{Kept}
 use Rattle.copyin.specs.Worlds.{WorldView, port_at, attributes_copied, port_copied}
-use Rattle.copyin.specs.Shows.{ShowsPort, ShowsCounts, Agrees}
+use Rattle.copyin.specs.Shows.{ShowsCounts, Agrees}
 use Rattle.copyin.proofs.Agreeing.{KeepsPort}
 
 -- ---- tests of one token

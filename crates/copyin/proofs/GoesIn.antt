@@ -1,20 +1,17 @@
 -- Each right that is copied in: what the tables do is what the machine does.
-use Rattle.std.proofs.Common.{◌≡◌, ℕ, ◌+◌, ◌-◌, ◌<◌, ◌≤◌, List, [], ◌∷◌, Option, Some, None, refl, sym, ap, subst, ◌∙◌, arith, Bool, true, false, ◌⊎◌, inl, inr, length}
+use Rattle.std.proofs.Common.{◌≡◌, ℕ, ◌+◌, ◌-◌, ◌<◌, Option, Some, None, refl, sym, ap, subst, ◌∙◌, arith, Bool, true, false, ◌⊎◌, inl, inr}
 use Rattle.std.specs.Prelude.{is_some, if◌then◌else◌, ◌||◌, nat_lt, slice_get}
 use Rattle.std.specs.Option.{option_map}
 use Rattle.std.specs.FinMap as map
 use Rattle.std.proofs.lemmas.Bool.{ltb-true, ltb-false}
 use Rattle.mach_types.specs.declared.rights.Disposition.{Disposition}
 use Rattle.mach_types.specs.declared.rights.Disposition.TheVariants.{MoveReceive, MoveSend, MoveSendOnce, CopySend, MakeSend, MakeSendOnce}
-use Rattle.mach_types.specs.Numbers.{disposition}
-use Rattle.mach_types.specs.Tokens.{receive, send, in_message}
-use Rattle.mach_model.specs.State.{State, Target, Names, lookup, held, at, without_name, with_name}
-use Rattle.mach_model.specs.Status.{one_if}
-use Rattle.mach_model.specs.CopyIn.{CopyRight}
+use Rattle.mach_types.specs.Tokens.{receive, send}
+use Rattle.mach_model.specs.State.{State, Target, lookup, held, without_name, with_name}
 use Rattle.mach_model.proofs.At.{at_own, at_other}
 use Rattle.mach_model.proofs.Moving.{IsMoving, shape}
 use Rattle.name_space.specs.declared.Entry.{Entry}
-use Rattle.name_space.specs.declared.Entry.TheVariants.{Receive, Send, ReceiveAndSend, SendOnce, DeadName, Set}
+use Rattle.name_space.specs.declared.Entry.TheVariants.{Receive, Send, ReceiveAndSend, SendOnce, DeadName}
 use Rattle.name_space.specs.Entry.{port_named, has_receive, send_references}
 use Rattle.name_space.specs.Names.{SpaceView}
 use Rattle.port.specs.Ports.{PortView}
@@ -22,17 +19,19 @@ use Rattle.copyin.specs.declared.copies.Copied.{Copied}
 use Rattle.copyin.specs.declared.message.Mark.TheVariants as mark
 use Rattle.copyin.specs.Kept.{Kept}
 use Rattle.copyin.specs.Copies.{copied_from, one_less}
-use Rattle.copyin.specs.Worlds.{WorldView, port_at, CopiesRight}
-use Rattle.copyin.specs.Kept.{mark_of}
+use Rattle.copyin.specs.Worlds.{WorldView, port_at}
 use Rattle.copyin.specs.Shows.{target_of, HasCount, Agrees}
 use Rattle.copyin.proofs.Agreeing.{KeepsPort}
-use Rattle.copyin.proofs.Putting.{put_in, put_same}
+use Rattle.copyin.proofs.Putting.{put_in}
 use Rattle.copyin.proofs.Changing.{Rest, changed_agrees}
 use Rattle.copyin.proofs.Counting.{none_made, ports_same}
 use Rattle.copyin.proofs.CopiedIn.{Goes, after, the_same, no_entry, stands_for, own_held, counted, unchanged, copies_send, makes_send, makes_once}
 use Rattle.copyin.proofs.MovedIn.{LeftIs, sends_moved, once_moves, receive_moves}
 
 -- ---- a dead name
+
+dead_no_set : (n set : ℕ) → Target.dead n ≡ Target.set set → ⊥
+dead_no_set n set e = cc
 
 module _ (w : WorldView) (s : State) (a : Agrees w s) (o k : ℕ) (l : IsMoving s o k) (task name : ℕ) (space : SpaceView) (there : slice_get w.spaces task ≡ Some space)
     (n : ℕ) (found : map.get space.names name ≡ Some (DeadName n)) where
@@ -71,6 +70,7 @@ module _ (w : WorldView) (s : State) (a : Agrees w s) (o k : ℕ) (l : IsMoving 
     counts = none_made w s a w2 (fewer b) ledger (live_is b) (λ c q. refl);
     total = ap (λ x. x.total) ledger ∙ a.total;
     requests = λ r c q. refl;
+    no_set = dead_no_set n;
   }
     where
       shape_is : (x : Bool) → fewer x ≡ shape s (fewer x)
@@ -126,6 +126,7 @@ module _ (w : WorldView) (s : State) (a : Agrees w s) (o k : ℕ) (l : IsMoving 
           counts = none_made w s a (after w task name space CopySend (record { left = Some (DeadName n); mark = mark.Dead })) s refl refl (λ c q. refl);
           total = a.total;
           requests = λ r c q. refl;
+          no_set = dead_no_set n;
         };
   }
 

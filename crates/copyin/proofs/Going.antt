@@ -1,31 +1,30 @@
 -- Words carried out one after the other.
-use Rattle.std.proofs.Common.{◌≡◌, ℕ, ◌+◌, ◌≤◌, ◌<◌, Bool, true, false, Option, Some, None, IfSome, List, [], ◌∷◌, ◌++◌, Bor, zero, suc, get_or, drop, length, refl, sym, ap, subst, ◌∙◌, inl, inr, ◌⊎◌, arith}
-use Rattle.std.specs.Prelude.{◌≢◌, ◌==◌, slice_get, slice_set, MatchBool, MatchOption}
+use Rattle.std.proofs.Common.{◌≡◌, ℕ, ◌+◌, ◌<◌, Option, Some, None, IfSome, List, [], ◌∷◌, Bor, zero, suc, get_or, drop, length, refl, sym, ap, subst, ◌∙◌, inl, inr, arith}
+use Rattle.std.specs.Prelude.{◌≢◌, slice_get, slice_set, MatchOption}
 use Rattle.std.specs.List.{IsFirstAndRest}
-use Rattle.std.specs.Option.{option_to_list}
 use Rattle.std.proofs.lemmas.Bool.Decides.{eqb_tells}
 use Rattle.std.proofs.lemmas.List.{drop_more}
 use Rattle.std.specs.FinMap as map
-use Rattle.mach_types.specs.Numbers.{null_word, dead_word, most_rights}
+use Rattle.mach_types.specs.Numbers.{null_word, dead_word}
 use Rattle.message_codec.specs.declared.words.PortWord.{PortWord}
 use Rattle.name_space.specs.declared.Entry.{Entry}
 use Rattle.name_space.specs.Entry.{port_named}
 use Rattle.name_space.specs.Names.{Names, SpaceView, port_at}
-use Rattle.port.specs.Ports.{PortsView, IsLive}
-use Rattle.rights.specs.Ledger.{LedgerView, IsEntered}
+use Rattle.port.specs.Ports.{PortsView}
+use Rattle.port_set.specs.Sets.{SetsView}
+use Rattle.rights.specs.Ledger.{LedgerView}
 use Rattle.copyin.specs.declared.copies.Copied.{Copied}
 use Rattle.copyin.specs.declared.message.Carried.{Carried}
 use Rattle.copyin.specs.declared.message.Mark.{Mark}
-use Rattle.copyin.specs.declared.message.Mark.TheVariants as mark
 use Rattle.copyin.specs.Copies.{copied_from}
-use Rattle.copyin.specs.Judging.{CopiesName, CopiesWord, CopiesReply, CopiesBody, PassesAs, made_by, made_by_mark, made_by_all}
+use Rattle.copyin.specs.Judging.{made_by, made_by_mark}
 use Rattle.copyin.specs.Kept.{Kept}
 use Rattle.copyin.specs.Planned.{CanGo, CanCopy, CopiesAll}
 use Rattle.copyin.specs.Plans.{ChangesWord, ChangesWords}
 use Rattle.copyin.specs.Stands.{AreTied, port_of}
 use Rattle.copyin.specs.Worlds.{WorldView, entry_at, put, ports_copied, ledger_copied, CopiesRight}
-use Rattle.copyin.proofs.Judging.{by_name, goes_by_name}
-use Rattle.copyin.proofs.Keeping.{Keeps, keeps, total_copied, entered_copied, live_copied, spare_copied}
+use Rattle.copyin.proofs.Judging.{by_name}
+use Rattle.copyin.proofs.Keeping.{keeps, total_copied, entered_copied, live_copied}
 use Rattle.copyin.proofs.Overlays.{get_put, get_put_other}
 
 pub same_value : {X : Type 0} (o : Option X) (x y : X) → o ≡ Some x → o ≡ Some y → x ≡ y
@@ -58,9 +57,9 @@ pub same_port : (names : Names) (name : ℕ) (c : Carried) (e : Entry) (k k' : C
     → IfSome k'.left (λ left. (p : ℕ) → port_named left ≡ Some p → port_at names name ≡ Some p)
 same_port names name c e k k' found is same = rw (same, found) ((keeps c.given e k is).named)
 
-pub three : (a a' : List SpaceView) (b b' : PortsView Kept) (c c' : LedgerView) → a ≡ a' → b ≡ b' → c ≡ c'
-    → ◌≡◌ {A = WorldView} (record { spaces = a; ports = b; ledger = c }) (record { spaces = a'; ports = b'; ledger = c' })
-three a a' b b' c c' x y z = rw (x, y, z) refl
+pub four : (a a' : List SpaceView) (b b' : PortsView Kept) (c c' : LedgerView) (d d' : SetsView) → a ≡ a' → b ≡ b' → c ≡ c' → d ≡ d'
+    → ◌≡◌ {A = WorldView} (record { spaces = a; ports = b; ledger = c; sets = d }) (record { spaces = a'; ports = b'; ledger = c'; sets = d' })
+four a a' b b' c c' d d' x y z u = rw (x, y, z, u) refl
 
 -- what is read at a place is what stands there
 pub read_there : {A : Type 0} (xs : List A) (i : ℕ) (x y : A) → slice_get xs i ≡ Some x → y ≡ get_or xs i y → y ≡ x
@@ -76,10 +75,10 @@ same_left w task name c can found e copied k a b x y =
     same_value _ _ _ y (x ∙ ap (λ (z : Entry). copied_from c.given z) ee ∙ can.is)
 
 pub copies_right : (old : WorldView) (task name : ℕ) (c : Carried) (can : CanCopy old task name c) (spaces : List SpaceView) (ports new_ports : PortsView Kept) (ledger new_ledger : LedgerView)
-    (i : ℕ) (now after : SpaceView) (k : Copied) → ◌≡◌ {A = WorldView} (record { spaces = spaces; ports = ports; ledger = ledger }) old → i ≡ task → now ≡ can.space → k ≡ can.copied
+    (sets : SetsView) (i : ℕ) (now after : SpaceView) (k : Copied) → ◌≡◌ {A = WorldView} (record { spaces = spaces; ports = ports; ledger = ledger; sets = sets }) old → i ≡ task → now ≡ can.space → k ≡ can.copied
     → after ≡ record now { names = put now.names name k.left } → new_ports ≡ ports_copied c.given k.mark ports → new_ledger ≡ ledger_copied c.given k.mark ledger
-    → CopiesRight old task c.given name c.mark (record { spaces = slice_set spaces i after; ports = new_ports; ledger = new_ledger })
-copies_right old task name c can spaces ports new_ports ledger new_ledger i now after k view index here kk a p l =
+    → CopiesRight old task c.given name c.mark (record { spaces = slice_set spaces i after; ports = new_ports; ledger = new_ledger; sets = sets })
+copies_right old task name c can spaces ports new_ports ledger new_ledger sets i now after k view index here kk a p l =
     let e1 : spaces ≡ old.spaces = ap (λ (w : WorldView). w.spaces) view in
     let e2 : ports ≡ old.ports = ap (λ (w : WorldView). w.ports) view in
     let e3 : ledger ≡ old.ledger = ap (λ (w : WorldView). w.ledger) view in
@@ -92,7 +91,7 @@ copies_right old task name c can spaces ports new_ports ledger new_ledger i now 
       copied = can.copied;
       is = can.is;
       mark_is = can.mark_is;
-      rest = three _ _ _ _ _ _ (rw (e1, index, after_is) refl) (p ∙ rw (e2, kk) refl) (l ∙ rw (e3, kk) refl);
+      rest = four _ _ _ _ _ _ _ _ (rw (e1, index, after_is) refl) (p ∙ rw (e2, kk) refl) (l ∙ rw (e3, kk) refl) (ap (λ (w : WorldView). w.sets) view);
     }
 
 -- ---- and what is left to do
@@ -154,8 +153,8 @@ go_on old new task w ws c cs go ch = elim (eqb_tells w.name null_word) [
         let kk : r.copied ≡ n.copied = same_value _ _ _ r.is (ap (λ (e : Entry). copied_from c.given e) ee ∙ n.is) in
         let after : SpaceView = record go.space { names = put go.space.names w.name n.copied.left } in
         let m = n.copied.mark in
-        let is : new ≡ record { spaces = slice_set old.spaces task after; ports = ports_copied c.given m old.ports; ledger = ledger_copied c.given m old.ledger } =
-        r.rest ∙ three _ _ _ _ _ _ (rw (here, kk) refl) (rw kk refl) (rw kk refl) in
+        let is : new ≡ record old { spaces = slice_set old.spaces task after; ports = ports_copied c.given m old.ports; ledger = ledger_copied c.given m old.ledger } =
+        r.rest ∙ four _ _ _ _ _ _ _ _ (rw (here, kk) refl) (rw kk refl) (rw kk refl) refl in
         let total = total_copied c.given m old.ledger in
         let one : made_by c ≡ made_by_mark c.given m = ap (λ (x : Mark). made_by_mark c.given x) n.mark in
         subst (λ (x : WorldView). CanGo x task ws cs) (sym is) (record {

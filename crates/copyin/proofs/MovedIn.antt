@@ -1,20 +1,16 @@
 -- A right that moves into a message: what the tables do is what the machine does.
-use Rattle.std.proofs.Common.{◌≡◌, ℕ, zero, suc, ◌+◌, ◌-◌, ◌<◌, ◌≤◌, List, [], ◌∷◌, Option, Some, None, refl, sym, ap, subst, ◌∙◌, arith, Bool, true, false, ◌⊎◌, inl, inr, length}
-use Rattle.std.specs.Prelude.{is_some, if◌then◌else◌, ◌==◌, ◌&&◌, ◌||◌, nat_lt, slice_get}
-use Rattle.std.specs.Option.{option_map, option_to_list}
+use Rattle.std.proofs.Common.{◌≡◌, ℕ, zero, suc, ◌+◌, ◌<◌, List, [], ◌∷◌, Option, Some, None, refl, sym, ap, subst, ◌∙◌, arith, Bool, true, false}
+use Rattle.std.specs.Prelude.{is_some, if◌then◌else◌, ◌&&◌, ◌||◌, nat_lt, slice_get}
+use Rattle.std.specs.Option.{option_map}
 use Rattle.std.specs.FinMap as map
-use Rattle.std.proofs.lemmas.Bool.{eq-eqb, ltb-true, ltb-false}
-use Rattle.mach_types.specs.declared.rights.Disposition.{Disposition}
 use Rattle.mach_types.specs.declared.rights.Disposition.TheVariants.{MoveReceive, MoveSend, MoveSendOnce}
-use Rattle.mach_types.specs.Numbers.{disposition}
-use Rattle.mach_types.specs.Tokens.{Kind, receive, send, send_once, Request, in_task, in_message, in_request, Token, token, weigh, count, is_of, is_held, same_kind, Moves}
-use Rattle.mach_model.specs.State.{State, Target, Names, lookup, held, at, without_name, with_name}
+use Rattle.mach_types.specs.Tokens.{Kind, receive, send, send_once, in_task, in_message, in_request, Token, token, count, is_of, is_held, Moves}
+use Rattle.mach_model.specs.State.{State, Target, lookup, held, at, without_name}
 use Rattle.mach_model.specs.Dying.{same_place}
 use Rattle.mach_model.specs.Status.{one_if}
-use Rattle.mach_model.specs.CopyIn.{CopyRight, name_kept}
-use Rattle.mach_model.specs.Carried.{lying}
+use Rattle.mach_model.specs.CopyIn.{name_kept}
 use Rattle.mach_model.proofs.At.{at_own, at_other}
-use Rattle.mach_model.proofs.Weigh.{both_test, length-weigh}
+use Rattle.mach_model.proofs.Weigh.{length-weigh}
 use Rattle.mach_model.proofs.Moving.{IsMoving, shape}
 use Rattle.mach_model.proofs.CopyingIn.{not_held, other_port, own_right, once_held, alive_held}
 use Rattle.name_space.specs.declared.Entry.{Entry}
@@ -25,20 +21,22 @@ use Rattle.port.specs.Ports.{PortView}
 use Rattle.copyin.specs.declared.copies.Copied.{Copied}
 use Rattle.copyin.specs.declared.message.Mark.TheVariants as mark
 use Rattle.copyin.specs.Kept.{Kept}
-use Rattle.copyin.specs.Copies.{copied_from, one_less}
 use Rattle.copyin.specs.Worlds.{WorldView, port_at, port_copied}
-use Rattle.copyin.specs.Shows.{target_of, HasCount, ShowsCounts, Agrees}
+use Rattle.copyin.specs.Shows.{target_of, HasCount, Agrees}
 use Rattle.copyin.proofs.Agreeing.{KeepsPort}
 use Rattle.copyin.proofs.Putting.{put_in}
-use Rattle.copyin.proofs.Changing.{target_named, Rest, changed_agrees}
+use Rattle.copyin.proofs.Changing.{named_no_set, Rest, changed_agrees}
 use Rattle.copyin.proofs.Counting.{none_made, ports_same, ports_made, ports_live, port_changed}
 use Rattle.copyin.proofs.Taking.{Without, take_held}
-use Rattle.copyin.proofs.CopiedIn.{Goes, after, the_same, no_entry, far, kept_task, kept_entry, stands_for, own_held, counted, unchanged, is_port, there_port}
+use Rattle.copyin.proofs.CopiedIn.{Goes, after, no_entry, far, kept_task, kept_entry, stands_for, own_held, unchanged, there_port}
 
 -- what is left where the name stays, or goes
 abbrev pub LeftIs : Entry → Bool → Option Entry → Type 0
 LeftIs entry true left = (e : Entry) × (left ≡ Some e) × (target_of e ≡ target_of entry)
 LeftIs entry false left = left ≡ None
+
+once_no_set : (p set : ℕ) → Target.once p ≡ Target.set set → ⊥
+once_no_set p set e = cc
 
 module _ (w : WorldView) (s : State) (a : Agrees w s) (o k : ℕ) (l : IsMoving s o k) (task name : ℕ) (space : SpaceView) (there : slice_get w.spaces task ≡ Some space)
     (entry : Entry) (found : map.get space.names name ≡ Some entry) where
@@ -87,11 +85,11 @@ module _ (w : WorldView) (s : State) (a : Agrees w s) (o k : ℕ) (l : IsMoving 
 
     moved_rest : (w2 : WorldView) → ((e : Entry) (q : ℕ) → left ≡ Some e → port_named e ≡ Some q → (held moved_state task receive q ≡ one_if (has_receive e)) × (held moved_state task send q ≡ send_references e)) →
         ((q : ℕ) → (port_named entry ≡ Some q → ⊥) → (held moved_state task receive q ≡ held s task receive q) × (held moved_state task send q ≡ held s task send q)) →
-        ((e : Entry) → left ≡ Some e → HasCount e) → w2.ledger ≡ w.ledger →
+        ((e : Entry) → left ≡ Some e → HasCount e) → ((set : ℕ) → target_of entry ≡ Target.set set → ⊥) → w2.ledger ≡ w.ledger →
         w2.ports.made ≡ w.ports.made → ((q : ℕ) → is_some (port_at w2 q) ≡ is_some (port_at w q)) →
         ((q : ℕ) (v2 : PortView Kept) → port_at w2 q ≡ Some v2 → (v : PortView Kept) × (port_at w q ≡ Some v) × KeepsPort v v2 s moved_state q) →
         Rest w w2 s moved_state task entry left
-    moved_rest w2 own other count_is same_ledger made live ports = record {
+    moved_rest w2 own other count_is no_set same_ledger made live ports = record {
       rest = shape_is b;
       naming_others = others_named b;
       held_others = λ u not c q. let m = moved_held u c q in let z = far u task c kind q p not in omega (arith, m, z);
@@ -106,6 +104,7 @@ module _ (w : WorldView) (s : State) (a : Agrees w s) (o k : ℕ) (l : IsMoving 
       requests = λ r c q.
           let m = moves (λ x. if is_of c q x && same_place (in_request r) x.place then 1 else 0) in
           let y = kept_task r task c kind q p in let z = kept_entry r o k c kind q p in omega (arith, m, y, z);
+      no_set = no_set;
     }
       where
         live_same : (x : Bool) → (kept x).live_port ≡ s.live_port
@@ -167,7 +166,7 @@ module _ (w : WorldView) (s : State) (a : Agrees w s) (o k : ℕ) (l : IsMoving 
           agrees = changed_agrees w s a task name (l.naming task) space there entry found left space.room w.ports w.ledger t
               (moved_named send p holds b left is_left s.sets_of s.make_send s.sequence)
               (moved_rest send p holds b left is_left s.sets_of s.make_send s.sequence (after w task name space MoveSend c) own
-              (λ q not. elsewhere q (λ e. not (named ∙ ap Some (sym e)))) (λ e is. (left_is e is).0) refl refl (λ q. refl) (kept_ports b));
+              (λ q not. elsewhere q (λ e. not (named ∙ ap Some (sym e)))) (λ e is. (left_is e is).0) (named_no_set entry p named) refl refl (λ q. refl) (kept_ports b));
         }
       where
         rest_is : (x : Bool) → (nat_lt 1 (held s task send p) || nat_lt 0 (held s task receive p)) ≡ x →
@@ -215,7 +214,7 @@ module _ (w : WorldView) (s : State) (a : Agrees w s) (o k : ℕ) (l : IsMoving 
               (moved_named send_once p once_some false None refl s.sets_of s.make_send s.sequence)
               (moved_rest send_once p once_some false None refl s.sets_of s.make_send s.sequence (after w task name space MoveSendOnce c)
               (λ e q is. absurd (no_entry e is)) (λ q not. (others_held receive q refl, others_held send q refl)) (λ e is. absurd (no_entry e is))
-              refl refl (λ q. refl) (ports_same w s a once_state refl refl refl));
+              (λ set e. once_no_set p set (ap target_of (sym is_once) ∙ e)) refl refl (λ q. refl) (ports_same w s a once_state refl refl refl));
         }
 
   -- ---- the receive right moves
@@ -282,7 +281,7 @@ module _ (w : WorldView) (s : State) (a : Agrees w s) (o k : ℕ) (l : IsMoving 
           agrees = changed_agrees w s a task name (l.naming task) space there entry found left space.room (port_copied MoveReceive p w.ports (map.get w.ports.ports p)) w.ledger receive_state
               (moved_named receive p receive_held b left is_left f1 f2 f3)
               (moved_rest receive p receive_held b left is_left f1 f2 f3 (after w task name space MoveReceive c) left_held
-              (λ q not. not_here q (λ e. not (named ∙ ap Some (sym e)))) (λ e is. (left_is e is).0) refl
+              (λ q not. not_here q (λ e. not (named ∙ ap Some (sym e)))) (λ e is. (left_is e is).0) (named_no_set entry p named) refl
               (ports_made w s a MoveReceive p v.0 v.1) (ports_live w s a MoveReceive p v.0 v.1)
               (port_changed w s a MoveReceive p v.0 v.1 receive_state (sym (at_own s.make_send p 0)) (sym (at_own s.sequence p 0)) (sym (at_own s.sets_of p []))
               (λ q not. (at_other s.make_send p 0 q not, at_other s.sequence p 0 q not, at_other s.sets_of p [] q not))));

@@ -1,5 +1,5 @@
 -- Dispositions and their numbers.
-use Rattle.std.proofs.Common.{◌≡◌, ℕ, ◌<◌, ◌≤◌, Option, Some, None, refl, sym, ap, ◌∙◌, arith, Bool, true, false, inl, inr}
+use Rattle.std.proofs.Common.{◌≡◌, ℕ, ◌≤◌, Option, Some, None, refl, ap, arith, Bool, true, false, inl, inr}
 use Rattle.std.specs.Prelude.{if◌then◌else◌, ◌==◌}
 use Rattle.std.specs.Option.{option_map, unwrap_or}
 use Rattle.std.proofs.lemmas.Bool.{eqb-true}
@@ -7,7 +7,7 @@ use Rattle.std.proofs.lemmas.Bool.Decides.{eqb_tells}
 use Rattle.mach_types.specs.declared.rights.Disposition.{Disposition}
 use Rattle.mach_types.specs.declared.rights.Disposition.TheVariants.{MoveReceive, MoveSend, MoveSendOnce, CopySend, MakeSend, MakeSendOnce}
 use Rattle.mach_types.specs.Numbers.{disposition, disposition_number, kind_sent}
-use Rattle.mach_types.specs.Tokens.{Kind, send}
+use Rattle.mach_types.specs.Tokens.{send}
 use Rattle.mach_types.specs.Grammar.{NamesPorts}
 use Rattle.copyin.specs.Kept.{kind_of}
 

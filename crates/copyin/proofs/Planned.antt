@@ -1,5 +1,5 @@
 -- A message whose rights were judged: the machine copies them in, and the tables that do so agree.
-use Rattle.std.proofs.Common.{◌≡◌, ℕ, ◌+◌, ◌<◌, ◌≤◌, List, [], ◌∷◌, ◌++◌, Option, Some, None, refl, sym, ap, subst, ◌∙◌, arith, Bool, true, false, inl, inr, length}
+use Rattle.std.proofs.Common.{◌≡◌, ℕ, ◌+◌, List, [], ◌∷◌, ◌++◌, Option, Some, None, refl, sym, ap, subst, ◌∙◌, arith, Bool, true, false, length}
 use Rattle.std.specs.Prelude.{◌≢◌, ◌==◌, if◌then◌else◌, MatchBool}
 use Rattle.std.specs.Option.{option_map}
 use Rattle.std.specs.FinMap as map
@@ -7,12 +7,12 @@ use Rattle.std.proofs.lemmas.Bool.{eqb-true, ne_eqb}
 use Rattle.mach_types.specs.declared.rights.Disposition.{Disposition}
 use Rattle.mach_types.specs.Numbers.{disposition, kind_sent, null_word, dead_word}
 use Rattle.mach_types.specs.Tokens.{Kind, receive, send, send_once, same_kind, in_message}
-use Rattle.mach_types.specs.Messages.{Message, absent, present, to_port}
+use Rattle.mach_types.specs.Messages.{Message, to_port}
 use Rattle.mach_types.specs.Messages.{Mark as MachineMark}
 use Rattle.mach_model.specs.State.{State, Target, lookup}
-use Rattle.mach_model.specs.CopyIn.{CopyRight, CopyWord, CopyReply}
-use Rattle.mach_model.specs.Sending.{Copied, place_of}
-use Rattle.mach_model.proofs.Moving.{IsMoving, moving, shape, shape-trans, shape-same}
+use Rattle.mach_model.specs.CopyIn.{CopyRight, CopyReply}
+use Rattle.mach_model.specs.Sending.{Copied}
+use Rattle.mach_model.proofs.Moving.{moving, shape, shape-trans}
 use Rattle.mach_model.proofs.Carrying.{NoneMoved, none_moved}
 use Rattle.message_codec.specs.declared.text.Parsed.{Parsed}
 use Rattle.message_codec.specs.declared.words.PortWord.{PortWord}
@@ -21,13 +21,13 @@ use Rattle.message_codec.specs.Words.{body_words}
 use Rattle.name_space.specs.declared.Entry.{Entry}
 use Rattle.name_space.specs.Names.{Names, SpaceView}
 use Rattle.copyin.specs.declared.message.Carried.{Carried}
-use Rattle.copyin.specs.Kept.{Kept, mark_of, reply_of, message_of, body_given}
+use Rattle.copyin.specs.Kept.{mark_of, reply_of, message_of}
 use Rattle.copyin.specs.Worlds.{WorldView, entry_in, CopiesRight}
-use Rattle.copyin.specs.Shows.{target_of, Agrees, Shows}
-use Rattle.copyin.specs.Judging.{CopiesName, CopiesReply, made_by, made_by_reply, made_by_all}
+use Rattle.copyin.specs.Shows.{target_of, Shows}
+use Rattle.copyin.specs.Judging.{CopiesReply, made_by_reply}
 use Rattle.copyin.specs.Plans.{destination_word, reply_words, Judged, made_in, message_for, ChangesWord, ChangesWords, option_list}
-use Rattle.copyin.proofs.Stepping.{Along, Went, went, Stepped, stepped, words_append}
-use Rattle.copyin.proofs.Bodies.{WholeBody, whole_body, numbers}
+use Rattle.copyin.proofs.Stepping.{Along, Went, went, stepped, words_append}
+use Rattle.copyin.proofs.Bodies.{WholeBody, whole_body}
 use Rattle.copyin.proofs.Texts.{good_header, no_answer}
 use Rattle.copyin.proofs.Numbering.{number_of}
 

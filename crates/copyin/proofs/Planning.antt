@@ -1,29 +1,27 @@
 -- What judging the words of a text says of the plan.
-use Rattle.std.proofs.Common.{◌≡◌, ℕ, ◌+◌, ◌/◌, ◌%◌, ◌^◌, ◌<◌, ◌≤◌, Bool, true, false, Option, Some, None, IsSome, IfSome, List, [], ◌∷◌, ◌++◌, zero, suc, refl, sym, ap, subst, ◌∙◌, inl, inr, ◌⊎◌, arith, All}
+use Rattle.std.proofs.Common.{◌≡◌, ℕ, ◌+◌, ◌/◌, ◌%◌, ◌^◌, ◌<◌, Bool, Option, Some, None, IsSome, IfSome, List, [], ◌∷◌, refl, sym, ap, subst, ◌∙◌, inl, inr, ◌⊎◌, arith, All}
 use Rattle.std.specs.Prelude.{◌≢◌, slice_get}
 use Rattle.std.specs.Option.{option_to_list}
 use Rattle.std.proofs.lemmas.Bool.Decides.{eqb_tells, leb_tells}
 use Rattle.std.proofs.lemmas.List.Elements.{All-append, All-map}
 use Rattle.mach_types.specs.declared.codes.MsgReturn.{MsgReturn}
-use Rattle.mach_types.specs.declared.codes.MsgReturn.TheVariants.{SendMsgTooSmall, SendInvalidData, SendInvalidHeader, SendInvalidDest, SendInvalidReply, SendInvalidRight, SendTimedOut, SendNoBuffer}
+use Rattle.mach_types.specs.declared.codes.MsgReturn.TheVariants.{SendMsgTooSmall, SendInvalidData, SendInvalidHeader, SendTimedOut, SendNoBuffer}
 use Rattle.mach_types.specs.declared.rights.Disposition.{Disposition}
 use Rattle.mach_types.specs.declared.rights.Disposition.TheVariants.{MoveSend, MoveSendOnce, CopySend, MakeSend, MakeSendOnce}
 use Rattle.mach_types.specs.Grammar.{Header, Wire, data_item, port_item, WireBody, raw, items, IsWire, IsWireBody, NamesPorts, text}
 use Rattle.mach_types.specs.Numbers.{disposition, kind_sent, msg_number, most_rights}
 use Rattle.mach_types.specs.TextGuards.{TextRefuses, BadHeader, IsSendable, word_at}
-use Rattle.mach_types.specs.Tokens.{Kind, receive, send, send_once, same_kind}
+use Rattle.mach_types.specs.Tokens.{receive, send, send_once, same_kind}
 use Rattle.message_codec.specs.declared.text.Parsed.{Parsed}
 use Rattle.message_codec.specs.declared.words.PortWord.{PortWord}
 use Rattle.message_codec.specs.Parses.{Parses}
 use Rattle.message_codec.specs.Words.{items_words, body_words}
 use Rattle.message_codec.proofs.PutWords.{six}
 use Rattle.message_codec.proofs.Shapes.{All-head, All-tail}
-use Rattle.name_space.specs.Names.{Names, SpaceView}
-use Rattle.port.specs.Ports.{PortsView, IsLive}
-use Rattle.rights.specs.Ledger.{LedgerView}
+use Rattle.name_space.specs.Names.{SpaceView}
+use Rattle.port.specs.Ports.{IsLive}
 use Rattle.copyin.specs.declared.judge.Rights.{Rights}
 use Rattle.copyin.specs.declared.judge.Words.{Words}
-use Rattle.copyin.specs.declared.message.Carried.{Carried}
 use Rattle.copyin.specs.Goes.{AreGiven, LeadsNowhere, GoAll, CannotGo, made_by_rights}
 use Rattle.copyin.specs.Judging.{CopiesName, CopiesReply, CopiesBody, BodyIsBad}
 use Rattle.copyin.specs.Kept.{Kept}

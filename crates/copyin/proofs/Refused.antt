@@ -1,43 +1,29 @@
 -- A message whose rights can't be copied in: the machine refuses it with the same code.
-use Rattle.std.proofs.Common.{◌≡◌, ℕ, ◌+◌, ◌<◌, ◌≤◌, List, [], ◌∷◌, ◌++◌, Option, Some, None, refl, sym, ap, subst, ◌∙◌, arith, Bool, true, false, ◌⊎◌, inl, inr, length, take, drop, All}
-use Rattle.std.specs.Prelude.{◌≢◌, ◌==◌, if◌then◌else◌, slice_get}
+use Rattle.std.proofs.Common.{◌≡◌, ℕ, Option, Some, None, refl, sym, ap, subst, ◌∙◌, arith}
 use Rattle.std.specs.Option.{option_map}
 use Rattle.std.specs.FinMap as map
-use Rattle.std.proofs.lemmas.Bool.{eqb-true, ne_eqb}
-use Rattle.std.proofs.lemmas.Bool.Decides.{eqb_tells}
 use Rattle.mach_types.specs.declared.rights.Disposition.{Disposition}
 use Rattle.mach_types.specs.declared.rights.Disposition.TheVariants.{MoveReceive, MoveSend, MoveSendOnce, CopySend, MakeSend, MakeSendOnce}
-use Rattle.mach_types.specs.Numbers.{disposition, disposition_number, kind_sent, null_word, dead_word}
-use Rattle.mach_types.specs.Tokens.{receive, send, in_message}
-use Rattle.mach_types.specs.Messages.{to_port, dead, Item, rights}
-use Rattle.mach_types.specs.Messages.{Mark as MachineMark}
-use Rattle.mach_types.specs.Grammar.{Wire, data_item, port_item, WireBody, IsWire, IsWireBody}
+use Rattle.mach_types.specs.Tokens.{receive, send}
 use Rattle.mach_model.specs.State.{State, Target, lookup, held}
 use Rattle.mach_model.specs.Status.{one_if}
 use Rattle.mach_model.specs.SentMeans.{target_mark}
-use Rattle.mach_model.specs.CopyIn.{IsLegal, CopyWord, CopyWords}
-use Rattle.mach_model.specs.NotYet.{IsNotYetCarried}
-use Rattle.mach_model.specs.Sending.{IsLegalName, IsDeadName, IsBadWord, WordsRefuse, ItemsRefuse, BodyRefuses, IsBadDestination, ReplyRefuses}
-use Rattle.mach_model.proofs.Moving.{IsMoving}
-use Rattle.message_codec.specs.declared.words.PortWord.{PortWord}
-use Rattle.message_codec.specs.Words.{items_words, body_words}
-use Rattle.message_codec.proofs.Shapes.{All-head, All-tail}
+use Rattle.mach_model.specs.CopyIn.{IsLegal}
+use Rattle.mach_model.specs.Sending.{IsLegalName}
 use Rattle.name_space.specs.declared.Entry.{Entry}
-use Rattle.name_space.specs.declared.Entry.TheVariants.{Receive, Send, ReceiveAndSend, SendOnce, DeadName, Set}
+use Rattle.name_space.specs.declared.Entry.TheVariants.{Receive, Send, ReceiveAndSend, SendOnce, DeadName}
 use Rattle.name_space.specs.Entry.{port_named, has_receive, send_references}
 use Rattle.name_space.specs.Names.{Names, SpaceView}
 use Rattle.copyin.specs.declared.copies.Copied.{Copied}
 use Rattle.copyin.specs.declared.message.Carried.{Carried}
 use Rattle.copyin.specs.declared.message.Mark.TheVariants as mark
-use Rattle.copyin.specs.Kept.{mark_of, marks_of}
+use Rattle.copyin.specs.Kept.{mark_of}
 use Rattle.copyin.specs.Copies.{copied_from}
 use Rattle.copyin.specs.Worlds.{WorldView, entry_in, put}
-use Rattle.copyin.specs.Shows.{target_of, Agrees}
-use Rattle.copyin.specs.Judging.{CopiesName, CopiesWord, IsBad, IsLeft, BodyIsBad}
-use Rattle.copyin.proofs.CopiedIn.{stands_for, own_held, counted}
-use Rattle.copyin.proofs.Stepping.{Along, Stepped, stepped}
-use Rattle.copyin.proofs.Bodies.{words_of}
-use Rattle.copyin.proofs.Numbering.{given_ports, kind_given}
+use Rattle.copyin.specs.Shows.{target_of}
+use Rattle.copyin.specs.Judging.{CopiesName}
+use Rattle.copyin.proofs.CopiedIn.{own_held}
+use Rattle.copyin.proofs.Stepping.{Along}
 
 -- ---- what the machine lets go, the tables do
 

@@ -1,20 +1,18 @@
 -- Words that can't be copied in, one after the other: the machine refuses them too.
-use Rattle.std.proofs.Common.{◌≡◌, ℕ, List, [], ◌∷◌, ◌++◌, Option, Some, None, refl, sym, ap, subst, ◌∙◌, arith, Bool, true, false, ◌⊎◌, inl, inr, length, All}
+use Rattle.std.proofs.Common.{◌≡◌, ℕ, List, [], ◌∷◌, ◌++◌, Option, Some, None, refl, sym, ap, subst, ◌∙◌, Bool, true, false, ◌⊎◌, inl, inr, length, All}
 use Rattle.std.specs.Prelude.{◌≢◌, ◌==◌, if◌then◌else◌, slice_get}
-use Rattle.std.proofs.lemmas.Bool.{eqb-true}
 use Rattle.std.proofs.lemmas.Bool.Decides.{eqb_tells}
 use Rattle.mach_types.specs.declared.rights.Disposition.{Disposition}
 use Rattle.mach_types.specs.declared.rights.Disposition.TheVariants.{MoveReceive}
-use Rattle.mach_types.specs.declared.codes.MsgReturn.TheVariants.{SendInvalidDest, SendInvalidReply, SendInvalidRight, SendTimedOut, SendNoBuffer}
-use Rattle.mach_types.specs.Numbers.{disposition, disposition_number, kind_sent, null_word, dead_word, msg_number}
+use Rattle.mach_types.specs.declared.codes.MsgReturn.TheVariants.{SendNoBuffer}
+use Rattle.mach_types.specs.Numbers.{disposition_number, kind_sent, null_word, dead_word, msg_number}
 use Rattle.mach_types.specs.Tokens.{in_message}
-use Rattle.mach_types.specs.Messages.{to_port, dead, Item, rights, ReplyRight}
+use Rattle.mach_types.specs.Messages.{to_port, dead, rights}
 use Rattle.mach_types.specs.Messages.{Mark as MachineMark}
 use Rattle.mach_types.specs.Grammar.{Wire, data_item, port_item, WireBody, IsWire, IsWireBody}
 use Rattle.mach_model.specs.State.{State, Target, lookup}
 use Rattle.mach_model.specs.SentMeans.{target_mark}
-use Rattle.mach_model.specs.CopyIn.{CopyRight, CopyWord, CopyWords, CopyItem, CopyReply}
-use Rattle.mach_model.specs.NotYet.{IsNotYetCarried}
+use Rattle.mach_model.specs.CopyIn.{CopyRight, CopyWords, CopyReply}
 use Rattle.mach_model.specs.Sending.{IsLegalName, IsDeadName, IsBadWord, WordsRefuse, ItemsRefuse, BodyRefuses, IsBadDestination, ReplyRefuses, RightsRefuse, sent_guards, place_of}
 use Rattle.mach_types.specs.Guards.{FirstIs}
 use Rattle.mach_model.proofs.Moving.{moving}
@@ -30,9 +28,9 @@ use Rattle.copyin.specs.declared.message.Mark.TheVariants as mark
 use Rattle.copyin.specs.Kept.{mark_of, reply_of}
 use Rattle.copyin.specs.Worlds.{WorldView}
 use Rattle.copyin.specs.Shows.{Shows}
-use Rattle.copyin.specs.Judging.{CopiesName, CopiesWord, CopiesReply, IsBad, IsLeft, BodyIsBad}
-use Rattle.copyin.specs.Plans.{destination_word, reply_words, Judged, HasSlot, HasNoSlot, CannotPlan}
-use Rattle.copyin.proofs.Stepping.{Along, Went, went, Stepped, stepped}
+use Rattle.copyin.specs.Judging.{CopiesName, CopiesReply, IsBad, IsLeft, BodyIsBad}
+use Rattle.copyin.specs.Plans.{destination_word, reply_words, CannotPlan}
+use Rattle.copyin.proofs.Stepping.{Along, Went, went, stepped}
 use Rattle.copyin.proofs.Bodies.{words_of}
 use Rattle.copyin.proofs.Numbering.{given_ports}
 use Rattle.copyin.proofs.Texts.{no_answer}

@@ -1,10 +1,9 @@
 -- A message that is sent: the machine's step, and tables that agree with the state after it.
-use Rattle.std.proofs.Common.{◌≡◌, ℕ, ◌+◌, ◌<◌, ◌≤◌, List, [], ◌∷◌, ◌++◌, Option, Some, None, refl, sym, ap, subst, ◌∙◌, arith, Bool, true, false, ◌⊎◌, inl, inr, length, drop}
-use Rattle.std.specs.Prelude.{◌≢◌, ◌^◌, is_some}
-use Rattle.std.specs.FinMap as map
+use Rattle.std.proofs.Common.{◌≡◌, ℕ, ◌+◌, ◌<◌, ◌≤◌, List, [], ◌∷◌, ◌++◌, Some, refl, sym, ap, subst, ◌∙◌, arith, inl, inr, length, drop}
+use Rattle.std.specs.Prelude.{◌^◌, is_some}
 use Rattle.std.proofs.lemmas.Bool.Decides.{eqb_tells}
 use Rattle.std.proofs.lemmas.List.{drop-append-le}
-use Rattle.mach_types.specs.Numbers.{kind_sent, most_rights, msg_number}
+use Rattle.mach_types.specs.Numbers.{most_rights, msg_number}
 use Rattle.mach_types.specs.declared.codes.MsgReturn.TheVariants.{SendTimedOut, SendNoBuffer}
 use Rattle.mach_types.specs.Tokens.{send, send_once}
 use Rattle.mach_types.specs.Messages.{Message, Entry}
@@ -24,7 +23,7 @@ use Rattle.port.specs.Ports.{PortView, with_port}
 use Rattle.copyin.specs.Kept.{Kept, Keeps}
 use Rattle.copyin.specs.Worlds.{WorldView, port_at}
 use Rattle.copyin.specs.Shows.{AllKept, ShowsPort, Agrees, Shows}
-use Rattle.copyin.specs.Plans.{destination_word, reply_words, option_list, Judged, made_in, message_for, HasSlot, HasNoSlot, Plans, Commits}
+use Rattle.copyin.specs.Plans.{destination_word, reply_words, option_list, Judged, made_in, message_for, HasSlot, HasNoSlot, Commits}
 use Rattle.copyin.proofs.Stepping.{words_once}
 use Rattle.copyin.proofs.Texts.{few_bytes}
 use Rattle.copyin.proofs.Planned.{message, third, none_receives, kind_is, copied, shape_is, total_is, all_changes}
@@ -108,6 +107,7 @@ module _ (w : WorldView) (s : State) (a : Agrees w s) (p : ℕ) (v : PortView Ke
     total = a.total;
     set_owner = a.set_owner;
     sets_made = a.sets_made;
+    set_named = a.set_named;
     requests = a.requests;
   }
 

@@ -1,18 +1,17 @@
 -- The words of a message copied in one by one: from the names that each leaves to the machine's states.
-use Rattle.std.proofs.Common.{◌≡◌, ℕ, ◌+◌, ◌<◌, ◌≤◌, List, [], ◌∷◌, ◌++◌, Option, Some, None, refl, sym, ap, subst, ◌∙◌, arith, Bool, true, false, ◌⊎◌, inl, inr, length}
-use Rattle.std.specs.Prelude.{◌≢◌, ◌==◌, MatchBool, slice_get, slice_set}
+use Rattle.std.proofs.Common.{◌≡◌, ℕ, ◌+◌, List, [], ◌∷◌, ◌++◌, Some, refl, sym, ap, subst, ◌∙◌, arith, Bool, true, false}
+use Rattle.std.specs.Prelude.{◌==◌, MatchBool, slice_get}
 use Rattle.std.specs.FinMap as map
 use Rattle.mach_types.specs.declared.rights.Disposition.{Disposition}
 use Rattle.mach_types.specs.declared.rights.Disposition.TheVariants.{MoveReceive, MoveSend, MoveSendOnce, CopySend, MakeSend, MakeSendOnce}
-use Rattle.mach_types.specs.Numbers.{disposition, kind_sent, null_word, dead_word}
+use Rattle.mach_types.specs.Numbers.{disposition, null_word, dead_word}
 use Rattle.mach_types.specs.Tokens.{in_message}
 use Rattle.mach_types.specs.Messages.{null, dead}
 use Rattle.mach_model.specs.State.{State}
 use Rattle.mach_model.specs.CopyIn.{CopyRight, CopyWord}
-use Rattle.mach_model.proofs.Moving.{IsMoving, shape, shape-trans, shape-same}
-use Rattle.mach_model.proofs.CopyingIn.{Copies, CopyRight-copies}
+use Rattle.mach_model.proofs.Moving.{IsMoving, shape}
+use Rattle.mach_model.proofs.CopyingIn.{CopyRight-copies}
 use Rattle.message_codec.specs.declared.words.PortWord.{PortWord}
-use Rattle.name_space.specs.declared.Entry.{Entry}
 use Rattle.rights.specs.Ledger.{LedgerView}
 use Rattle.name_space.specs.Names.{Names, SpaceView}
 use Rattle.copyin.specs.declared.copies.Copied.{Copied}
@@ -26,7 +25,7 @@ use Rattle.copyin.specs.Shows.{Agrees}
 use Rattle.copyin.specs.Judging.{CopiesName, CopiesWord, PassesAs, made_by, made_by_mark}
 use Rattle.copyin.specs.Plans.{ChangesWord, ChangesWords}
 use Rattle.copyin.proofs.Gets.{get-set_same}
-use Rattle.copyin.proofs.CopiedIn.{Goes, after}
+use Rattle.copyin.proofs.CopiedIn.{after}
 use Rattle.copyin.proofs.GoesIn.{goes}
 
 -- Tables and a state that agree while rights are on their way; the task has these names.

@@ -2,10 +2,8 @@
 use Rattle.std.proofs.Common.{◌≡◌, ℕ, ◌+◌, ◌<◌, List, [], ◌∷◌, refl, subst, arith, true, false, Bool, zero, suc}
 use Rattle.std.specs.Prelude.{if◌then◌else◌, ◌==◌, ◌&&◌}
 use Rattle.std.proofs.lemmas.Bool.{eqb-true}
-use Rattle.mach_types.specs.Tokens.{Kind, receive, send, send_once, Place, in_task, in_message, in_request, Request, no_senders, port_destroyed, dead_name, Token, token, weigh, count, is_of, is_held, is_in_task, same_kind}
-use Rattle.mach_model.specs.State.{State, held}
+use Rattle.mach_types.specs.Tokens.{Kind, receive, send, send_once, Place, in_task, in_message, in_request, Token, token, weigh, count, is_of, is_held, is_in_task, same_kind}
 use Rattle.mach_model.specs.Dying.{same_place}
-use Rattle.mach_model.specs.Carried.{lying}
 use Rattle.mach_model.proofs.Weigh.{left_of, right_of}
 
 -- A token that passes the test, and the others.

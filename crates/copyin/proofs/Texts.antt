@@ -2,7 +2,7 @@
 use Rattle.std.proofs.Common.{◌≡◌, ℕ, ◌/◌, ◌%◌, ◌^◌, ◌<◌, ◌≤◌, List, [], ◌∷◌, refl, sym, ap, ◌∙◌, arith, inl, inr, length}
 use Rattle.std.proofs.lemmas.Bool.Decides.{eqb_tells}
 use Rattle.mach_types.specs.Numbers.{null_word, most_bytes}
-use Rattle.mach_types.specs.Grammar.{text, Spells, WireBody, Header}
+use Rattle.mach_types.specs.Grammar.{text, WireBody, Header}
 use Rattle.mach_types.specs.Guards.{Guards, FirstIs, NoneHolds}
 use Rattle.mach_types.specs.TextGuards.{header_guards, word_at, BadHeader}
 use Rattle.message_codec.specs.declared.text.Parsed.{Parsed}

@@ -1,5 +1,5 @@
 -- How the words of a message are judged in a task's names. No public clause cites this module.
-use Rattle.std.specs.Prelude.{◌≡◌, ℕ, ◌+◌, ◌⊎◌, List, [], ◌∷◌, Option, Some, None, IsSome, IfSome, All}
+use Rattle.std.specs.Prelude.{◌≡◌, ℕ, ◌+◌, ◌⊎◌, List, [], ◌∷◌, Option, IsSome, IfSome, All}
 use Rattle.std.specs.Option.{option_to_list}
 use Rattle.mach_types.specs.Numbers.{disposition}
 use Rattle.mach_types.specs.declared.codes.MsgReturn.{MsgReturn}

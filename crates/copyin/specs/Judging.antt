@@ -2,7 +2,7 @@
 use Rattle.std.specs.Prelude.{◌≡◌, ◌≢◌, ℕ, ◌+◌, ◌⊎◌, List, [], ◌∷◌, Option, Some, None, ◌==◌, MatchBool}
 use Rattle.std.specs.FinMap as map
 use Rattle.mach_types.specs.declared.rights.Disposition.{Disposition}
-use Rattle.mach_types.specs.declared.rights.Disposition.TheVariants.{MoveReceive, MoveSend, MoveSendOnce, CopySend, MakeSend, MakeSendOnce}
+use Rattle.mach_types.specs.declared.rights.Disposition.TheVariants.{MoveReceive, CopySend, MakeSend, MakeSendOnce}
 use Rattle.mach_types.specs.Numbers.{disposition, disposition_number, null_word, dead_word}
 use Rattle.message_codec.specs.declared.words.PortWord.{PortWord}
 use Rattle.name_space.specs.declared.Entry.{Entry}

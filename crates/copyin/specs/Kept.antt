@@ -2,9 +2,8 @@
 use Rattle.std.specs.Prelude.{◌≡◌, ℕ, ◌^◌, ◌<◌, ◌≤◌, Bool, List, [], ◌∷◌, ◌++◌, length, take, drop, map, replicate, if◌then◌else◌, Option, Some, None, refl}
 use Rattle.std.specs.Coded.{Coded, code_by, coded×, coded_ℕ, coded_bool, coded_list, coded_option}
 use Rattle.std.specs.Option.{option_map, unwrap_or}
-use Rattle.mach_types.specs.declared.rights.Disposition.{Disposition}
 use Rattle.mach_types.specs.Numbers.{disposition, disposition_number, kind_sent}
-use Rattle.mach_types.specs.Tokens.{Kind, receive, send, send_once}
+use Rattle.mach_types.specs.Tokens.{Kind, send, send_once}
 use Rattle.mach_types.specs.Messages.{to_port, null, dead, ReplyRight, absent, present, Item, plain, rights, Body, Message}
 use Rattle.mach_types.specs.Messages.{Mark as MachineMark}
 use Rattle.mach_types.specs.Grammar.{Wire, data_item, port_item, WireBody}

@@ -1,9 +1,9 @@
 -- What a plan holds.
-use Rattle.std.specs.Prelude.{◌≡◌, ℕ, ◌+◌, ◌≤◌, List, [], ◌∷◌, ◌++◌, Option, Some, slice_get, ◌==◌, MatchBool, ◌≢◌}
+use Rattle.std.specs.Prelude.{◌≡◌, ℕ, ◌+◌, ◌≤◌, List, [], ◌∷◌, Some, slice_get}
 use Rattle.std.specs.Option.{option_to_list}
 use Rattle.std.specs.FinMap as map
 use Rattle.mach_types.specs.Grammar.{WireBody}
-use Rattle.mach_types.specs.Numbers.{most_rights, null_word, dead_word}
+use Rattle.mach_types.specs.Numbers.{most_rights}
 use Rattle.message_codec.specs.declared.text.Parsed.{Parsed}
 use Rattle.message_codec.specs.declared.words.PortWord.{PortWord}
 use Rattle.message_codec.specs.Words.{body_words}
@@ -17,7 +17,6 @@ use Rattle.copyin.specs.declared.message.Mark.TheVariants as mark
 use Rattle.copyin.specs.declared.copies.Copied.{Copied}
 use Rattle.copyin.specs.Copies.{copied_from}
 use Rattle.copyin.specs.Judging.{CopiesWord, made_by, made_by_all}
-use Rattle.copyin.specs.Kept.{Kept}
 use Rattle.copyin.specs.Plans.{destination_word, reply_words, Plans, message_for}
 use Rattle.copyin.specs.Stands.{AreTied}
 use Rattle.copyin.specs.Worlds.{WorldView}

@@ -1,8 +1,7 @@
 -- What is decided of a message before anything changes, and what is then done.
-use Rattle.std.specs.Prelude.{◌≡◌, ℕ, ◌+◌, ◌-◌, ◌<◌, ◌≤◌, ◌⊎◌, true, List, [], ◌∷◌, ◌++◌, length, slice_get, Option, Some, None, if◌then◌else◌, ◌==◌, MatchBool}
-use Rattle.std.specs.FinMap as map
+use Rattle.std.specs.Prelude.{◌≡◌, ℕ, ◌+◌, ◌<◌, ◌≤◌, ◌⊎◌, List, [], ◌∷◌, ◌++◌, length, slice_get, Option, Some, None, if◌then◌else◌, ◌==◌, MatchBool}
 use Rattle.mach_types.specs.declared.codes.MsgReturn.TheVariants.{SendInvalidDest, SendTimedOut, SendInvalidReply, SendInvalidRight, SendNoBuffer}
-use Rattle.mach_types.specs.Numbers.{disposition_number, kind_sent, msg_number, most_rights, null_word, dead_word}
+use Rattle.mach_types.specs.Numbers.{kind_sent, msg_number, most_rights, null_word, dead_word}
 use Rattle.mach_types.specs.Tokens.{send, send_once, same_kind}
 use Rattle.mach_types.specs.Grammar.{WireBody}
 use Rattle.message_codec.specs.declared.text.Parsed.{Parsed}

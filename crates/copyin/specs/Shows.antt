@@ -1,5 +1,5 @@
 -- When the kernel's tables show a state of the machine: they agree with it at each task, name, port and request.
-use Rattle.std.specs.Prelude.{◌≡◌, ℕ, ◌<◌, List, [], ◌∷◌, length, Some, None, slice_get, is_some}
+use Rattle.std.specs.Prelude.{◌≡◌, ℕ, ◌<◌, List, [], ◌∷◌, length, Some, slice_get, is_some}
 use Rattle.std.specs.Option.{option_map, option_to_list}
 use Rattle.std.specs.FinMap as map
 use Rattle.mach_types.specs.Tokens.{Kind, receive, send, send_once, Request, in_request, count, is_of}
@@ -13,6 +13,7 @@ use Rattle.name_space.specs.declared.Entry.TheVariants as named
 use Rattle.name_space.specs.Entry.{port_named, has_receive, send_references}
 use Rattle.name_space.specs.Names.{SpaceView}
 use Rattle.port.specs.Ports.{PortView}
+use Rattle.port_set.specs.declared.SetRecord.{SetRecord}
 use Rattle.rights.specs.Ledger.{counts_of}
 use Rattle.copyin.specs.Kept.{Kept, Keeps}
 use Rattle.copyin.specs.Worlds.{WorldView, entry_at, port_at}
@@ -68,9 +69,11 @@ pub record Agrees (w : WorldView) (s : State) : Type 0 where
   pub ports : (p : ℕ) (v : PortView Kept) → port_at w p ≡ Some v → ShowsPort v s p
   pub counts : (p : ℕ) → ShowsCounts w s p
   pub total : w.ledger.total ≡ length s.ledger
-  -- no set was made, and no request stands
-  pub set_owner : (set : ℕ) → s.set_owner set ≡ None
-  pub sets_made : s.sets_made ≡ 0
+  -- sets; each stands under its task's name for it
+  pub set_owner : (set : ℕ) → s.set_owner set ≡ option_map (λ r. r.owner) (map.get w.sets.sets set)
+  pub sets_made : w.sets.made ≡ s.sets_made
+  pub set_named : (set : ℕ) (r : SetRecord) → map.get w.sets.sets set ≡ Some r → lookup s r.owner r.name ≡ Some (Target.set set)
+  -- no request stands
   pub requests : (r : Request) (kind : Kind) (q : ℕ) → lying s kind q (in_request r) ≡ 0
 
 -- They agree with a state of which all is true that is true of every state that the machine reaches.

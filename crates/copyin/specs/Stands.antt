@@ -1,5 +1,5 @@
 -- Tables that show some state, and what of it is true of the tables alone.
-use Rattle.std.specs.Prelude.{◌≡◌, ℕ, true, Option, Some, None, slice_get}
+use Rattle.std.specs.Prelude.{◌≡◌, ℕ, Option, Some, None, slice_get}
 use Rattle.std.specs.FinMap as map
 use Rattle.mach_types.specs.Numbers.{null_word, dead_word}
 use Rattle.mach_model.specs.State.{State}

@@ -1,14 +1,14 @@
 -- The kernel's tables as contracts see them.
 use Rattle.std.specs.Prelude.{◌≡◌, ℕ, ◌+◌, ◌%◌, ◌^◌, List, [], Option, Some, None, slice_get, slice_set, refl}
-use Rattle.std.specs.Coded.{Coded, code_by, coded×, coded_ℕ, coded_list}
-use Rattle.std.specs.Option.{option_and_then}
+use Rattle.std.specs.Coded.{Coded, code_by, coded×, coded_list}
 use Rattle.std.specs.FinMap as map
 use Rattle.mach_types.specs.declared.rights.Disposition.{Disposition}
-use Rattle.mach_types.specs.declared.rights.Disposition.TheVariants.{MoveReceive, MoveSend, MoveSendOnce, CopySend, MakeSend, MakeSendOnce}
+use Rattle.mach_types.specs.declared.rights.Disposition.TheVariants.{MoveReceive, CopySend, MakeSend, MakeSendOnce}
 use Rattle.name_space.specs.declared.Entry.{Entry}
 use Rattle.name_space.specs.Names.{Names, SpaceView}
 use Rattle.port.specs.declared.Attributes.{Attributes}
 use Rattle.port.specs.Ports.{PortView, PortsView, with_port}
+use Rattle.port_set.specs.Sets.{SetsView, no_sets}
 use Rattle.rights.specs.Ledger.{LedgerView, made}
 use Rattle.rights.specs.declared.RightKind.TheVariants as right
 use Rattle.copyin.specs.declared.copies.Copied.{Copied}
@@ -22,11 +22,15 @@ pub record WorldView : Type 0 where
   pub spaces : List SpaceView
   pub ports : PortsView Kept
   pub ledger : LedgerView
+  pub sets : SetsView
 
-abbrev pub world_code : Coded SpaceView → Coded (PortsView Kept) → Coded LedgerView → Coded WorldView
-world_code space ports ledger = code_by (List SpaceView × (PortsView Kept × LedgerView)) (coded× (coded_list space) (coded× ports ledger))
-    (λ w. (w.spaces, (w.ports, w.ledger)))
-    (λ x. record { spaces = x.0; ports = x.1.0; ledger = x.1.1 })
+abbrev pub world_code : Coded SpaceView → Coded (PortsView Kept) → Coded LedgerView → Coded SetsView → Coded WorldView
+world_code space ports ledger sets =
+    code_by
+    (List SpaceView × (PortsView Kept × (LedgerView × SetsView)))
+    (coded× (coded_list space) (coded× ports (coded× ledger sets)))
+    (λ w. (w.spaces, (w.ports, (w.ledger, w.sets))))
+    (λ x. record { spaces = x.0; ports = x.1.0; ledger = x.1.1.0; sets = x.1.1.1 })
     (λ _. refl)
 
 -- the tables before anything was made
@@ -35,6 +39,7 @@ no_world = record {
   spaces = [];
   ports = record { ports = map.empty; made = 0; spare = 0 };
   ledger = record { counts = map.empty; total = 0; unused = 0 };
+  sets = no_sets;
 }
 
 -- what stands under a name; nothing where the task isn't there
@@ -86,7 +91,7 @@ pub record CopiesRight (old : WorldView) (task : ℕ) (d : Disposition) (name : 
   pub copied : Copied
   pub is : copied_from d entry ≡ Some copied
   pub mark_is : one ≡ copied.mark
-  pub rest : new ≡ record {
+  pub rest : new ≡ record old {
     spaces = slice_set old.spaces task (record space { names = put space.names name copied.left });
     ports = ports_copied d copied.mark old.ports;
     ledger = ledger_copied d copied.mark old.ledger;

@@ -6,11 +6,12 @@ use crate::message::Message;
 use mach_types::{Name, TaskId};
 use name_space::{Entry, Space};
 use port::Ports;
+use port_set::Sets;
 use rights::Ledger;
 use std::alloc::Global;
 use std::marker::Model;
 
-/// The tasks' names, the ports with their queues, and the counts of all rights.
+/// The tasks' names, the ports with their queues, the counts of all rights, and the port sets.
 ///
 /// Tasks stand by number. What ties the tables to one another is no part of this type: who holds a
 /// world keeps that it shows a state of the machine.
@@ -22,6 +23,8 @@ pub struct World {
     pub ports: Ports<Message>,
     /// How many rights there are.
     pub ledger: Ledger,
+    /// The port sets. Which ports are in one is an attribute of the ports.
+    pub sets: Sets,
 }
 
 impl Model for World {
@@ -31,15 +34,17 @@ impl Model for World {
     ghost use Rattle.port.specs.contracts.Attributes as attributes;
     ghost use Rattle.rights.specs.Ledger.{ledger_code};
     ghost use Rattle.rights.specs.contracts.Counts as counts;
+    ghost use Rattle.port_set.specs.Sets.{sets_code};
+    ghost use Rattle.port_set.specs.contracts.SetRecord as set_record;
     ghost use Rattle.copyin.specs.Kept.{kept_code};
     ghost use Rattle.copyin.specs.contracts.message.Carried as carried;
     ghost use Rattle.copyin.specs.Worlds.{WorldView, world_code};
 
     ghost Value = { WorldView };
 
-    ghost coded = { world_code (space_code entry.the_row.coded) (ports_code (kept_code carried.the_row.coded) attributes.the_row.coded) (ledger_code counts.the_row.coded) };
+    ghost coded = { world_code (space_code entry.the_row.coded) (ports_code (kept_code carried.the_row.coded) attributes.the_row.coded) (ledger_code counts.the_row.coded) (sets_code set_record.the_row.coded) };
 
-    ghost view = { λ w. record { spaces = w.spaces.items; ports = w.ports; ledger = w.ledger } };
+    ghost view = { λ w. record { spaces = w.spaces.items; ports = w.ports; ledger = w.ledger; sets = w.sets } };
 }
 
 impl World {
@@ -51,6 +56,7 @@ impl World {
             spaces: Vec::new(alloc),
             ports: Ports::new(alloc),
             ledger: Ledger::new(alloc),
+            sets: Sets::new(alloc),
         }
     }
 

@@ -61,7 +61,7 @@ same_port a b mid task kind port word e g = elim g.given [
     go l given =
         let there = e.names g.space g.there in
         record {
-          after = record { spaces = slice_set b.spaces task (record { names = g.after; room = g.room }); ports = holder_given kind port task b.ports (map.get b.ports.ports port); ledger = l };
+          after = record b { spaces = slice_set b.spaces task (record { names = g.after; room = g.room }); ports = holder_given kind port task b.ports (map.get b.ports.ports port); ledger = l };
           gives = record {
             space = there.0;
             there = there.1;

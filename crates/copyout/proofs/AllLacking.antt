@@ -49,6 +49,7 @@ reordered_agrees w s t a r = subst (Agrees w) (sym r.rest) record {
   total = let m = r.tokens (λ x. 1) in omega (arith, m, a.total, length-weigh s.ledger, length-weigh t.ledger);
   set_owner = a.set_owner;
   sets_made = a.sets_made;
+  set_named = a.set_named;
   requests = λ r kind q. same _ ∙ a.requests r kind q;
 }
   where
@@ -123,7 +124,7 @@ module _ (w : WorldView) (s : State) (a : Agrees w s) (task : ℕ) (space : Spac
   gives_joined : (kind : Kind) (p word : ℕ) → kind ≢ send_once → lookup s task word ≡ Some (Target.port p) → Gives kind p word
   gives_joined kind p word not is =
       let x = port_entry (map.get space.names word) p (option_named (map.get space.names word) p (sym (lookup_is word) ∙ is)) in (
-        record {
+        record w {
           spaces = slice_set w.spaces task (record { names = map.insert space.names word (joined kind x.entry); room = space.room });
           ports = holder_given kind p task w.ports (map.get w.ports.ports p);
           ledger = ledger_joined kind p x.entry w.ledger;
@@ -141,7 +142,7 @@ module _ (w : WorldView) (s : State) (a : Agrees w s) (task : ℕ) (space : Spac
 
   gives_alone : (kind : Kind) (p word : ℕ) (x : Target) (named : State) → (kind ≢ send_once → (n : ℕ) → lookup s task n ≢ Some (Target.port p)) → Named task word x s named → Gives kind p word
   gives_alone kind p word x named none n = (
-    record {
+    record w {
       spaces = slice_set w.spaces task (record { names = map.insert space.names word (alone kind p); room = space.room });
       ports = holder_given kind p task w.ports (map.get w.ports.ports p);
       ledger = w.ledger;

@@ -7,6 +7,7 @@ use Rattle.std.specs.FinMap as map
 use Rattle.name_space.specs.Names.{SpaceView}
 use Rattle.name_space.proofs.Keys.{put_here, put_other, equal_or_not, same_some, same_gets}
 use Rattle.port.specs.Ports.{PortView, PortsView, with_port}
+use Rattle.port_set.specs.Sets.{SetsView}
 use Rattle.rights.specs.Ledger.{LedgerView, taken}
 use Rattle.copyin.specs.Kept.{Kept}
 use Rattle.copyin.specs.Worlds.{WorldView, port_at}
@@ -25,9 +26,9 @@ is_front ports port v m found behind there queue is =
     let f : PortView Kept → Option Kept = λ p. slice_get p.queue 0 in
     same_some found m (is ∙ ap (option_and_then f) there ∙ ap (λ (l : List Kept). slice_get l 0) queue)
 
-pub same_world : (a b : List SpaceView) (p q : PortsView Kept) (l k : LedgerView) → a ≡ b → p ≡ q → l ≡ k →
-    ◌≡◌ {A = WorldView} (record { spaces = a; ports = p; ledger = l }) (record { spaces = b; ports = q; ledger = k })
-same_world a b p q l k e f g = λ i. record { spaces = e i; ports = f i; ledger = g i }
+pub same_world : (a b : List SpaceView) (p q : PortsView Kept) (l k : LedgerView) (m n : SetsView) → a ≡ b → p ≡ q → l ≡ k → m ≡ n →
+    ◌≡◌ {A = WorldView} (record { spaces = a; ports = p; ledger = l; sets = m }) (record { spaces = b; ports = q; ledger = k; sets = n })
+same_world a b p q l k m n e f g h = λ i. record { spaces = e i; ports = f i; ledger = g i; sets = h i }
 
 abbrev pub raised : PortView Kept → PortView Kept
 raised v = record v { attributes = record v.attributes { sequence = (v.attributes.sequence + 1) % 2 ^ 32 } }
@@ -58,6 +59,6 @@ takes_front w w1 w2 w3 port v m behind there queue e1 e2 e3 =
       queue = queue;
       spare = w.ports.spare + 1;
       rest = e3 ∙ ap f e2 ∙ ap (λ (x : WorldView). f (g x)) e1
-          ∙ same_world w.spaces w.spaces _ _ (taken w.ledger port (destination_right m) 1) (taken w.ledger port (destination_right m) 1) refl
-          (ap (λ (ports : map.FinMap nat_cmp (PortView Kept)). record w.ports { ports = ports; spare = w.ports.spare + 1 }) (put_twice w.ports.ports port (raised v) (record (raised v) { queue = behind }))) refl;
+          ∙ same_world w.spaces w.spaces _ _ (taken w.ledger port (destination_right m) 1) (taken w.ledger port (destination_right m) 1) w.sets w.sets refl
+          (ap (λ (ports : map.FinMap nat_cmp (PortView Kept)). record w.ports { ports = ports; spare = w.ports.spare + 1 }) (put_twice w.ports.ports port (raised v) (record (raised v) { queue = behind }))) refl refl;
     }

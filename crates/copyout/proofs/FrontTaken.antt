@@ -205,6 +205,7 @@ module _ (w : WorldView) (s : State) (a : Agrees w s) (l : IsLawful s) (p : ℕ)
     total = let m = left.parts (λ x. 1) in omega (arith, m, a.total, length-weigh s.ledger, length-weigh taken_state.ledger);
     set_owner = a.set_owner;
     sets_made = a.sets_made;
+    set_named = a.set_named;
     requests = λ r kind q.
         let m = tokens_for (λ x. is_of kind q x && same_place (in_request r) x.place) in
         let z = both_test (is_of kind q going) false (inr refl) in

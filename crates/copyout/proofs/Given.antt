@@ -16,7 +16,7 @@ use Rattle.mach_model.specs.Carried.{lying}
 use Rattle.mach_model.specs.CopyOut.{given_to, Named, NamedFor, GiveRight}
 use Rattle.mach_model.proofs.Weigh.{pos_or_zero, both_test, length-weigh, held_le_of, lying_le_of}
 use Rattle.mach_model.proofs.At.{at_own, at_other}
-use Rattle.mach_model.proofs.Names.{get_own, get_other}
+use Rattle.mach_model.proofs.Names.{get_own, get_other, kept}
 use Rattle.mach_model.proofs.Moving.{IsMoving}
 use Rattle.mach_model.proofs.CopyingIn.{not_held, own_right}
 use Rattle.name_space.specs.declared.Entry.{Entry}
@@ -531,6 +531,8 @@ module _ (w : WorldView) (s : State) (a : Agrees w s) (o k : ℕ) (l : IsMoving 
             counts = settled_counts w s a same_name o k task kind p refl moves lives w' settled;
             total = settled_total w s a same_name o k task kind p refl moves lives w' settled;
             requests = lying_kept s same_name o k task kind p moves;
+            sets = ap (λ (x : WorldView). x.sets) g.rest;
+            set_names = λ n set named. named;
           }
 
       same_for : (c : Kind) → c ≡ kind → NamedFor kind task word p s s
@@ -595,6 +597,10 @@ module _ (w : WorldView) (s : State) (a : Agrees w s) (o k : ℕ) (l : IsMoving 
             (get_own (s.naming task) word target ∙ sym (ap (option_map target_of) new_own))
         | inr h ↦ get_other (s.naming task) word target name h.1 ∙ lookup_is name ∙ sym (ap (option_map target_of) (new_other name h.1))
       ]
+
+      -- what stood under another name still does, and nothing stood under this one
+      stays : (n : ℕ) (y : Target) → lookup s task n ≡ Some y → lookup new_name task n ≡ Some y
+      stays n y is = ap (λ (m : Targets). map.get m n) names_own ∙ kept (s.naming task) word target n y unused is
 
       new_length : map.len g.after ≡ map.len (new_name.naming task)
       new_length =
@@ -689,6 +695,8 @@ module _ (w : WorldView) (s : State) (a : Agrees w s) (o k : ℕ) (l : IsMoving 
             counts = settled_counts w s a new_name o k task kind p refl moves lives w' settled;
             total = settled_total w s a new_name o k task kind p refl moves lives w' settled;
             requests = lying_kept s new_name o k task kind p moves;
+            sets = ap (λ (y : WorldView). y.sets) g.rest;
+            set_names = λ n set named. stays n (Target.set set) named;
           }
 
       new_agrees : Agrees w' new_name

@@ -56,7 +56,7 @@ module _ (w w1 w2 w3 : WorldView) (task : ℕ) (kind : Kind) (port name : ℕ) (
     (dropped : w1 ≡ record w { ledger = ledger_joined kind port entry w.ledger })
     (replaced : w2 ≡ record w1 { spaces = slice_set w1.spaces task (record space { names = map.insert space.names name put }) })
     (holds : w3 ≡ record w2 { ports = holder_given kind port task w2.ports (map.get w2.ports.ports port) }) where
-  pub rest-joined : w3 ≡ record {
+  pub rest-joined : w3 ≡ record w {
     spaces = slice_set w.spaces task (record space { names = map.insert space.names name (joined kind entry) });
     ports = holder_given kind port task w.ports (map.get w.ports.ports port);
     ledger = ledger_joined kind port entry w.ledger;
@@ -85,7 +85,7 @@ module _ (w w1 w2 : WorldView) (task : ℕ) (kind : Kind) (port name : ℕ) (spa
     (there : slice_get w.spaces task ≡ Some space)
     (inserted : w1 ≡ record w { spaces = slice_set w.spaces task (record { names = map.insert space.names name (alone kind port); room = space.room - 1 }) })
     (holds : w2 ≡ record w1 { ports = holder_given kind port task w1.ports (map.get w1.ports.ports port) }) where
-  pub rest-taken : w2 ≡ record {
+  pub rest-taken : w2 ≡ record w {
     spaces = slice_set w.spaces task (record { names = map.insert space.names name (alone kind port); room = space.room - 1 });
     ports = holder_given kind port task w.ports (map.get w.ports.ports port);
     ledger = w.ledger;

@@ -1,5 +1,5 @@
 -- A right put under a name that the caller chose: the tables after its steps.
-use Rattle.std.proofs.Common.{◌≡◌, ◌≢◌, ℕ, ◌-◌, ◌<◌, Option, Some, None, refl, sym, ap, ◌∙◌, true, false, Bool, inl, inr}
+use Rattle.std.proofs.Common.{◌≡◌, ◌≢◌, ℕ, ◌-◌, ◌<◌, Option, Some, None, refl, sym, ap, ◌∙◌, true, false, inl, inr}
 use Rattle.std.specs.Prelude.{slice_get, slice_set, is_some}
 use Rattle.std.specs.Option.{option_and_then}
 use Rattle.std.specs.FinMap as map
@@ -12,7 +12,7 @@ use Rattle.copyin.specs.Worlds.{WorldView, entry_in, entry_at}
 use Rattle.copyin.proofs.Gets.{same_found}
 use Rattle.copyout.specs.Giving.{alone, holder_given}
 use Rattle.copyout.specs.Ready.{CanJoin}
-use Rattle.copyout.specs.Putting.{NewName, PutsPort, CanPut}
+use Rattle.copyout.specs.Putting.{PutsPort, CanPut}
 use Rattle.copyout.proofs.Gives.{rest-taken, alone_port}
 
 entry_is : (w : WorldView) (task word : ℕ) (space : SpaceView) → slice_get w.spaces task ≡ Some space → entry_at w task word ≡ map.get space.names word

@@ -66,6 +66,7 @@ module _ (w : WorldView) (task : ℕ) (space : SpaceView) (there : slice_get w.s
       total = a.total;
       set_owner = a.set_owner;
       sets_made = a.sets_made;
+      set_named = a.set_named;
       requests = a.requests;
     }
 

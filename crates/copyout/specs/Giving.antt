@@ -64,7 +64,7 @@ pub record GivesPort (old : WorldView) (task : ℕ) (kind : Kind) (port word : �
   pub ledger : LedgerView
   pub given : ((j : JoinsName space.names kind port word after) × (ledger ≡ ledger_joined kind port j.entry old.ledger))
       ⊎ (TakesName space.names kind port word after × (ledger ≡ old.ledger))
-  pub rest : new ≡ record {
+  pub rest : new ≡ record old {
     spaces = slice_set old.spaces task (record { names = after; room = room });
     ports = holder_given kind port task old.ports (map.get old.ports.ports port);
     ledger = ledger;

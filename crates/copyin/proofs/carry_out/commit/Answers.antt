@@ -1,7 +1,7 @@
-use Rattle.std.proofs.Common.{◌≡◌, ℕ, ◌+◌, ◌<◌, ◌++◌, ◌∷◌, [], List, Option, Some, sym, ap, ◌∙◌, subst, arith}
+use Rattle.std.proofs.Common.{◌≡◌, ℕ, ◌++◌, List, Option, sym, ap, ◌∙◌, subst, arith}
 use Rattle.std.specs.Option.{option_to_list}
 use Rattle.message_codec.specs.declared.words.PortWord.{PortWord}
-use Rattle.port.specs.Ports.{PortsView, IsLive}
+use Rattle.port.specs.Ports.{IsLive}
 use Rattle.copyin.specs.declared.message.Carried.{Carried}
 use Rattle.copyin.specs.Kept.{Kept}
 use Rattle.copyin.specs.Planned.{CanGo}
@@ -119,5 +119,5 @@ returns c =
     let old_live = plan_lives c.args.world.now plan.task q.1 q.2 q.3 plan own c.requires.tied in
     let live : IsLive c.world.inside.ports plan.port =
     subst (λ (w : WorldView). IsLive w.ports plan.port) (sym c.world.view_is) (carries_live c.args.world.now mid plan.task plan plan.port ca old_live) in
-    λ task parsed written bytes p. commits c.args.world.now mid task parsed written bytes plan p c.world.inside.spaces.items c.world.inside.ports c.enqueue.new.self c.world.inside.ledger
+    λ task parsed written bytes p. commits c.args.world.now mid task parsed written bytes plan p c.world.inside.spaces.items c.world.inside.ports c.enqueue.new.self c.world.inside.ledger c.world.inside.sets
     (subst (λ (t : ℕ). Carries c.args.world.now t plan mid) p.task_is ca) live c.world.view_is c.enqueue.ensures

@@ -1,4 +1,4 @@
-use Rattle.std.proofs.Common.{◌≡◌, ℕ, Some, List, sym, ap, ◌∙◌, subst}
+use Rattle.std.proofs.Common.{◌≡◌, ℕ, Some, List, ap, ◌∙◌}
 use Rattle.std.specs.Prelude.{slice_get}
 use Rattle.std.specs.FinMap as map
 use Rattle.name_space.specs.Names.{SpaceView}
@@ -28,5 +28,5 @@ returns c =
     let here = read_there spaces c.number.result can.space c.index_mut.result.now at c.index_mut.ensures.value in
     let kk = same_left c.args.world.now c.args.task name c.args.carried can c.lookup.result c.unwrap-entry.result c.copy_right.result c.unwrap-copied.result
     c.lookup.ensures c.unwrap-entry.ensures c.copy_right.ensures c.unwrap-copied.ensures in
-    copies_right c.args.world.now c.args.task name c.args.carried can spaces c.world.inside.ports c.renew_port.new.ports c.world.inside.ledger c.count_right.new.ledger
+    copies_right c.args.world.now c.args.task name c.args.carried can spaces c.world.inside.ports c.renew_port.new.ports c.world.inside.ledger c.count_right.new.ledger c.world.inside.sets
     c.number.result c.index_mut.result.now c.put_left.new.space c.unwrap-copied.result c.world.view_is c.number.ensures here kk c.put_left.ensures c.renew_port.ensures c.count_right.ensures

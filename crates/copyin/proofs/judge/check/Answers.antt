@@ -1,6 +1,4 @@
-use Rattle.std.proofs.Common.{◌≡◌, ℕ, Some, List, sym, ap, ◌∙◌, refl}
-use Rattle.message_codec.specs.Parses.{Parses}
-use Rattle.copyin.specs.Planned.{AreWords}
+use Rattle.std.proofs.Common.{refl}
 use Rattle.copyin.proofs.Planning.{words_given, cannot_judge, cannot_admit, judged_of, message_is, port_lives, destination_sends, remote_sendable}
 use Rattle.copyin.proofs.judge.check.Goals as goal
 

@@ -1,4 +1,4 @@
-use Rattle.std.proofs.Common.{◌≡◌, List, sym, subst, inl, inr}
+use Rattle.std.proofs.Common.{List, subst, inl, inr}
 use Rattle.message_codec.specs.declared.words.PortWord.{PortWord}
 use Rattle.copyin.specs.Judging.{CopiesBody, BodyIsBad}
 use Rattle.copyin.proofs.Overlays.{overlays-none}

@@ -1,4 +1,4 @@
-use Rattle.std.proofs.Common.{◌≡◌, ℕ, ◌+◌, List, [], sym, subst, take, inl, inr, arith}
+use Rattle.std.proofs.Common.{ℕ, ◌+◌, List, [], sym, subst, take, inl, inr, arith}
 use Rattle.std.proofs.lemmas.List.{take_all}
 use Rattle.message_codec.specs.declared.words.PortWord.{PortWord}
 use Rattle.copyin.specs.Judging.{CopiesBody}

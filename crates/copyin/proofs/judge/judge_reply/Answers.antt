@@ -1,4 +1,4 @@
-use Rattle.std.proofs.Common.{◌≡◌, Some, None, Option, sym, ◌∙◌, refl, subst}
+use Rattle.std.proofs.Common.{Some, None, Option, sym, refl, subst}
 use Rattle.std.specs.Option.{option_to_list}
 use Rattle.message_codec.specs.declared.words.PortWord.{PortWord}
 use Rattle.copyin.specs.Judging.{CopiesReply}

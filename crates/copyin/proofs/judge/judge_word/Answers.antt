@@ -1,4 +1,4 @@
-use Rattle.std.proofs.Common.{◌≡◌, Some, sym, ◌∙◌, refl, inl, inr}
+use Rattle.std.proofs.Common.{inl, inr}
 use Rattle.copyin.proofs.Judging.{passes, goes_by_name, ok_as, err_as}
 use Rattle.copyin.proofs.judge.judge_word.Goals as goal
 

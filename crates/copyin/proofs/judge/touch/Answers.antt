@@ -1,4 +1,4 @@
-use Rattle.std.proofs.Common.{◌≡◌, ℕ, Some, subst}
+use Rattle.std.proofs.Common.{ℕ, Some, subst}
 use Rattle.std.specs.BTreeMap.{Updates}
 use Rattle.std.specs.Ordering.{nat_cmp}
 use Rattle.copyin.proofs.Overlays.{overlays-put}

@@ -1,10 +1,10 @@
-use Rattle.std.proofs.Common.{◌≡◌, ◌∙◌, sym, ap, subst, Some, None, true, false}
+use Rattle.std.proofs.Common.{◌≡◌, ◌∙◌, sym, ap, subst, None}
 use Rattle.std.specs.Prelude.{is_some, ◌<◌}
 use Rattle.std.proofs.lemmas.Option.{slice_get_within}
 use Rattle.std.specs.FinMap as map
 use Rattle.mach_types.specs.Numbers.{kind_sent, most_names}
 use Rattle.name_space.specs.Names.{SpaceView, HasNoOther}
-use Rattle.copyin.specs.Worlds.{WorldView, entry_at}
+use Rattle.copyin.specs.Worlds.{WorldView}
 use Rattle.copyout.proofs.Given.{gives_puts}
 use Rattle.copyout.proofs.Puts.{can_join, is_free, no_other, same_space, puts-new}
 use Rattle.copyout.proofs.put.put_right.Goals as goal

@@ -13,7 +13,7 @@ returns c = λ m f.
     let found : c.in-Some.message ≡ m = is_front c.world.inside.ports c.args.port f.v m c.in-Some.message f.behind there f.queue c.in-Some.ensures.front in
     let after : List Kept → PortsView Kept → PortsView Kept = λ l p. record (with_port p c.args.port (record f.v { queue = l })) { spare = p.spare + 1 } in (
       found,
-      same_world _ _ _ _ _ _ (ap (λ (w : WorldView). w.spaces) c.world.view_is)
+      same_world _ _ _ _ _ _ _ _ (ap (λ (w : WorldView). w.spaces) c.world.view_is)
           (c.in-Some.ensures.taken f.v there ∙ ap (λ (l : List Kept). after (drop 1 l) c.world.inside.ports) f.queue ∙ ap (after f.behind) ports)
-          (ap (λ (w : WorldView). w.ledger) c.world.view_is),
+          (ap (λ (w : WorldView). w.ledger) c.world.view_is) (ap (λ (w : WorldView). w.sets) c.world.view_is),
     )

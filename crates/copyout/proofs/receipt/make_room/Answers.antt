@@ -17,5 +17,5 @@ returns-clause-ok c =
     (let below = c.requires in subst (λ (xs : List SpaceView). c.args.task < length xs) (sym spaces) below)
     (subst (λ (i : ℕ). c.index_mut.result.now ≡ get_or c.world.inside.spaces.items i c.index_mut.result.now) number c.index_mut.ensures.value)) in
     on_ok c.reserve.result _ _ (λ enough. made_room w _ c.args.task c.args.number c.index_mut.result.now c.reserve.new.self there c.reserve.ensures.names c.reserve.ensures.room enough
-    (same_world _ _ _ _ _ _ (ap (λ (xs : List SpaceView). slice_set xs c.number.result c.reserve.new.self) spaces ∙ ap (λ (i : ℕ). slice_set w.spaces i c.reserve.new.self) number)
-    (ap (λ (x : WorldView). x.ports) c.world.view_is) (ap (λ (x : WorldView). x.ledger) c.world.view_is))) c.reserve.ensures.ok
+    (same_world _ _ _ _ _ _ _ _ (ap (λ (xs : List SpaceView). slice_set xs c.number.result c.reserve.new.self) spaces ∙ ap (λ (i : ℕ). slice_set w.spaces i c.reserve.new.self) number)
+    (ap (λ (x : WorldView). x.ports) c.world.view_is) (ap (λ (x : WorldView). x.ledger) c.world.view_is) (ap (λ (x : WorldView). x.sets) c.world.view_is))) c.reserve.ensures.ok
