@@ -1,166 +1,127 @@
--- Answers to Receive.
+-- Answers to Receive and ReceiveAgain.
 use Rattle.std.proofs.Common.{◌≡◌, ℕ, ◌<◌, ◌≤◌, List, [], ◌∷◌, Some, None, Option, refl, sym, ap, subst, ◌∙◌, ◌⊎◌, inl, inr, length, true, false, Bool, arith}
-use Rattle.std.specs.Prelude.{◌≢◌, slice_get, is_some, min, MatchOption}
-use Rattle.std.specs.Option.{option_map, option_to_list}
+use Rattle.std.specs.Prelude.{◌≢◌, is_some, min}
+use Rattle.std.specs.Option.{option_map}
+use Rattle.std.specs.FinMap as map
 use Rattle.mach_types.specs.declared.calls.Event.{Event}
 use Rattle.mach_types.specs.declared.calls.Reply.{Reply}
 use Rattle.mach_types.specs.declared.calls.Waited.{Waited}
 use Rattle.mach_types.specs.declared.codes.KernReturn.TheVariants.{InvalidTask}
-use Rattle.mach_types.specs.declared.codes.MsgReturn.TheVariants.{ReceiveInvalidName}
+use Rattle.mach_types.specs.declared.codes.MsgReturn.TheVariants.{ReceiveInvalidName, ReceiveInSet, ReceivePortDied, ReceivePortChanged}
 use Rattle.mach_types.specs.Guards.{NoneHolds}
 use Rattle.mach_types.specs.Numbers.{kern_number, msg_number, most_bytes}
-use Rattle.mach_model.specs.State.{State, Target, lookup, held, Holds, queue}
-use Rattle.mach_model.specs.Status.{NamesReceive, one_if}
 use Rattle.mach_types.specs.Tokens.{receive}
-use Rattle.mach_model.specs.Receiving.{IsSet, TakesFrom, IsEmptyFor, Receipt, ReceiptRefuses}
-use Rattle.mach_model.specs.Refusals.{guards}
+use Rattle.mach_model.specs.State.{State, Target, lookup, held, Holds}
+use Rattle.mach_model.specs.Status.{NamesReceive}
+use Rattle.mach_model.specs.Receiving.{IsSet, Receipt, ReceiptRefuses, waits_for}
+use Rattle.mach_model.specs.Refusals.{guards, RefusesLater}
+use Rattle.mach_model.specs.Machine.{Does}
 use Rattle.name_space.specs.declared.Entry.{Entry}
 use Rattle.name_space.specs.declared.Entry.TheVariants.{Receive, Send, ReceiveAndSend, SendOnce, DeadName, Set}
-use Rattle.name_space.specs.Entry.{port_named, has_receive}
-use Rattle.port.specs.Ports.{PortView}
+use Rattle.port_set.specs.declared.SetRecord.{SetRecord}
 use Rattle.copyin.specs.Kept.{Kept}
-use Rattle.copyin.specs.Worlds.{WorldView, entry_in, entry_at, port_at}
-use Rattle.copyin.specs.Shows.{target_of, Agrees, Shows}
-use Rattle.copyin.proofs.Changing.{target_named}
-use Rattle.copyout.specs.Giving.{AllLack}
+use Rattle.copyin.specs.Worlds.{WorldView, entry_at, port_at}
+use Rattle.copyin.specs.Shows.{target_of, Shows}
 use Rattle.copyout.specs.declared.receipt.Refusal.{Refusal}
 use Rattle.copyout.specs.declared.receipt.Refusal.TheVariants as refusal
-use Rattle.copyout.specs.Ready.{MakesRoom, HasFront, carried_by, Waits, IsRefusedBy}
-use Rattle.copyout.proofs.Fronts.{shown_empty, shown_front, shown_is_front}
+use Rattle.copyout.specs.Ready.{HasFront, Waits, IsRefusedBy}
 use Rattle.copyout.proofs.MessageTaken.{message_received}
-use Rattle.copyout.proofs.Refusing.{refuses_names, refuses_memory}
-use Rattle.copyout.proofs.Roomier.{roomier, roomier_entry, roomier_shows}
-use Rattle.copyout.proofs.Refusing.{kept_length}
-use Rattle.kernel_core.specs.Answers.{Answers, InNoSet, Serves}
-use Rattle.kernel_core.specs.Receipts.{FindsReceive, TakesIt, FindsNone, StaysFor, IsTooLarge, Takes, Sources, NoSource, stays}
-use Rattle.kernel_core.proofs.Stepping.{Goes}
-use Rattle.kernel_core.proofs.Ending.{refused, done}
+use Rattle.copyout.proofs.Refusing.{refuses_names, refuses_memory, receipt_large}
+use Rattle.copyout.proofs.Roomier.{roomier_entry, roomier_shows}
+use Rattle.kernel_core_base.specs.Answers.{Serves}
+use Rattle.kernel_core.specs.Receipts.{HasReceive, Theirs, IsFrom, HasMessage, NoneWaits, TakesIt, StaysFor, Takes, Sources, NoSource, in_set, lives, stays}
+use Rattle.kernel_core_base.proofs.Holding.{held_lives}
+use Rattle.kernel_core_base.proofs.Stepping.{Goes}
+use Rattle.kernel_core_base.proofs.Ending.{refused, done}
 use Rattle.kernel_core.proofs.AnswersSending.{past_tasks, among_tasks}
-use Rattle.kernel_core.proofs.NoSets.{none_in_taken}
+use Rattle.kernel_core.proofs.Sourced.{finds_named, finds_held, held_finds, owned, owned_too, alone, together, takes_from, from_held, empty_for}
 use Rattle.kernel_core.proofs.Waits.{waits}
-use Rattle.mach_model.proofs.Settling.{named_lives}
 
-pub receive_no_task : (w : WorldView) (task name room : ℕ) (large : Bool) → InNoSet w → length w.spaces ≤ task → Serves w (Event.Receive task name room large) (Reply.Code (kern_number InvalidTask)) w
-receive_no_task w task name room large none past = record {
-  answers = λ now s sh. refused w s sh now (Event.Receive task name room large) (kern_number InvalidTask) (inl (inl (past_tasks w s sh task past, refl)));
-  in_no_set = none;
-}
+-- ---- a receipt from what is the task's to receive from, by whatever event
 
--- ---- by a receive right
+module _ (w : WorldView) (s : State) (sh : Shows w s) (task : ℕ) (below : task < length w.spaces) (waited : Waited) (theirs : Theirs w task waited) (out : in_set w waited ≡ false)
+    (room : ℕ) (large : Bool) (now : ℕ) (event : Event) (good : NoneHolds (guards s event))
+    (does : (reply : Reply) (t : State) → Receipt s task waited room large reply t [] → Does now s event reply t [])
+    (later : (code : ℕ) → ReceiptRefuses s task waited room code → RefusesLater s event code) where
+  live : s.live_task task ≡ true
+  live = go (s.live_task task) refl
+    where
+      go : (b : Bool) → s.live_task task ≡ b → s.live_task task ≡ true
+      go true e = e
+      go false e = absurd (among_tasks w s sh task below e)
 
-module _ (w : WorldView) (s : State) (sh : Shows w s) (none : InNoSet w) (task name port : ℕ) (below : task < length w.spaces) (finds : FindsReceive w task name port) (room : ℕ) (large : Bool) where
-  abbrev event : Event
-  event = Event.Receive task name room large
-
-  found : lookup s task name ≡ Some (Target.port port)
-  found = sh.agrees.naming task name ∙ ap (option_map target_of) finds.found ∙ ap Some (target_named finds.entry port finds.named)
-
-  holds : Holds s task receive port
-  holds =
-      let r = sh.agrees.references task name finds.entry port finds.found finds.named in
-      let one : one_if (has_receive finds.entry) ≡ 1 = ap one_if finds.has in omega (arith, r.0, one)
-
-  module _ (v : PortView Kept) (there : port_at w port ≡ Some v) where
-    in_no_set : s.sets_of port ≡ []
-    in_no_set = sym ((sh.agrees.ports port v there).sets) ∙ ap option_to_list (none port v there)
-
-    from : TakesFrom s task (Waited.Port port) port
-    from = (refl, holds, in_no_set)
-
-    the_same : (p q : ℕ) → Some (Target.port p) ≡ Some (Target.port q) → q ≡ p
-    the_same p q e = let f : Target.port p ≡ Target.port q = cc in cc
-
-    good : NoneHolds (guards s (Event.Receive task name room large))
-    good = (
-      among_tasks w s sh task below,
-      (
-        (λ not. not (inl (port, found, holds))),
-        ((λ in_set. in_set.2 (ap s.sets_of (the_same port in_set.0 (sym found ∙ in_set.1)) ∙ in_no_set)), tt),
-      ),
-    )
-
-    goes_empty : (now : ℕ) → v.queue ≡ [] → Goes now s (Event.Receive task name room large) (Reply.Empty (Waited.Port port)) w
-    goes_empty now e = done w s sh now (Event.Receive task name room large) (Reply.Empty (Waited.Port port)) s w good
-        (Waited.Port port, (found, holds), (refl, (λ p t. ap (queue s) t.0 ∙ shown_empty w s sh.agrees port v there e), refl, refl)) sh.agrees
-
-    module _ (m : Kept) (behind : List Kept) (queued : v.queue ≡ m ∷ behind) where
-      goes_large : (now n : ℕ) → n ≡ length m.bytes → min room most_bytes < length m.bytes → Goes now s (Event.Receive task name room large) (Reply.TooLarge n) w
-      goes_large now n is above =
-          let front = shown_front w s sh.agrees port v there m behind queued in
-          let long = kept_length port m front.first.message front.keeps in
-          done w s sh now (Event.Receive task name room large) (Reply.TooLarge n) s w good (
-            Waited.Port port,
-            (found, holds),
-            (
-              port,
-              front.first,
-              from,
-              shown_is_front w s sh.agrees port v there m behind queued,
-              omega (arith, is, long),
-              omega (arith, is, above),
-              refl,
-              refl,
-            ),
-          ) sh.agrees
-
-      live : s.live_task task ≡ true
-      live = go (s.live_task task) refl
-        where
-          go : (b : Bool) → s.live_task task ≡ b → s.live_task task ≡ true
-          go true e = e
-          go false e = absurd (among_tasks w s sh task below e)
-
-      goes_stays : (now code : ℕ) → length m.bytes ≤ min room most_bytes → (x : StaysFor w task port room code) → x.m ≡ m → Goes now s (Event.Receive task name room large) (Reply.Code code) w
-      goes_stays now code fits x is = elim x.cause [
-        | inl h ↦ refused w s sh now (Event.Receive task name room large) code (inr (
-          good,
-          (
-            Waited.Port port,
-            (found, holds),
-            subst (λ (c : ℕ). ReceiptRefuses s task (Waited.Port port) room c) (sym h.1)
-                (refuses_names w s sh task port live v there m behind queued (Waited.Port port) from room fits (subst (λ (y : Kept). AllLack w task (carried_by y)) is h.0)),
-          ),
-        ))
-        | inr h ↦ refused w s sh now (Event.Receive task name room large) code (inr (
-          good,
-          (
-            Waited.Port port,
-            (found, holds),
-            subst (λ (c : ℕ). ReceiptRefuses s task (Waited.Port port) room c) (sym h.1)
-                (refuses_memory w s sh task port live v there m behind queued (Waited.Port port) from room fits (λ l. h.0 (subst (λ (y : Kept). AllLack w task (carried_by y)) (sym is) l))),
-          ),
-        ))
-      ]
-
-  goes_message : (now : ℕ) (bytes : List ℕ) (new : WorldView) → TakesIt w task name port room bytes new → Goes now s (Event.Receive task name room large) (Reply.Message bytes) new
-  goes_message now bytes new t =
+  goes_message : (bytes : List ℕ) (new : WorldView) → TakesIt w task waited room bytes new → Goes now s event (Reply.Message bytes) new
+  goes_message bytes new t =
       let mr = t.makes in
-      let start = roomier w task mr.space mr.there mr.room in
       let sh2 : Shows t.start s = subst (λ (x : WorldView). Shows x s) (sym mr.rest) (roomier_shows w task mr.space mr.there mr.room s sh) in
-      let found2 : entry_at t.start task name ≡ Some finds.entry = ap (λ (x : WorldView). entry_at x task name) mr.rest ∙ roomier_entry w task mr.space mr.there mr.room task name ∙ finds.found in
-      let x = message_received t.start s sh2 task port name bytes new t.takes finds.entry found2 finds.named room t.fits in
-      let there : port_at w port ≡ Some t.takes.takes.v = ap (λ (y : WorldView). port_at y port) (sym mr.rest) ∙ t.takes.takes.there in
-      done w s sh now (Event.Receive task name room large) (Reply.Message bytes) x.t new (good t.takes.takes.v there)
-      (Waited.Port port, (found, holds), (port, from t.takes.takes.v there, x.receives, refl)) x.shows.agrees
+      let found : entry_at t.start task t.name ≡ Some t.finds.entry = ap (λ (x : WorldView). entry_at x task t.name) mr.rest ∙ roomier_entry w task mr.space mr.there mr.room task t.name ∙ t.finds.found in
+      let x = message_received t.start s sh2 task t.port t.name bytes new t.takes t.finds.entry found t.finds.named room t.fits in
+      done w s sh now event (Reply.Message bytes) x.t new good
+      (does (Reply.Message bytes) x.t (t.port, takes_from w s sh task waited theirs out t.port t.from, x.receives, refl)) x.shows.agrees
 
--- ---- by a port set, and by no name of either
+  goes_empty : NoneWaits w waited → Goes now s event (Reply.Empty waited) w
+  goes_empty none = done w s sh now event (Reply.Empty waited) s w good (does (Reply.Empty waited) s (refl, empty_for w s sh task waited none, refl, refl)) sh.agrees
 
-module _ (w : WorldView) (s : State) (sh : Shows w s) (task name : ℕ) (below : task < length w.spaces) (room : ℕ) (large : Bool) where
+  goes_large : (port n : ℕ) (from : IsFrom w waited port) (m : Kept) (f : HasFront w port m) → n ≡ length m.bytes → min room most_bytes < length m.bytes → Goes now s event (Reply.TooLarge n) w
+  goes_large port n from m f is above =
+      let r = receipt_large w s sh task port live f.v f.there m f.behind f.queue waited (takes_from w s sh task waited theirs out port from) room large n is (omega (arith, is, above)) in
+      done w s sh now event (Reply.TooLarge n) s w good (does (Reply.TooLarge n) s r) sh.agrees
+
+  goes_stays : (port code : ℕ) (from : IsFrom w waited port) → StaysFor w task port room code → Goes now s event (Reply.Code code) w
+  goes_stays port code from x = elim x.cause [
+    | inl h ↦ refused w s sh now event code (inr (
+      good,
+      later code (subst (λ (c : ℕ). ReceiptRefuses s task waited room c) (sym h.1)
+          (refuses_names w s sh task port live x.front.v x.front.there x.m x.front.behind x.front.queue waited (takes_from w s sh task waited theirs out port from) room x.fits h.0)),
+    ))
+    | inr h ↦ refused w s sh now event code (inr (
+      good,
+      later code (subst (λ (c : ℕ). ReceiptRefuses s task waited room c) (sym h.1)
+          (refuses_memory w s sh task port live x.front.v x.front.there x.m x.front.behind x.front.queue waited (takes_from w s sh task waited theirs out port from) room x.fits h.0)),
+    ))
+  ]
+
+  pub takes_goes : (reply : Reply) (new : WorldView) → Takes w task waited room reply new → Goes now s event reply new
+  takes_goes (Reply.Message bytes) new t = goes_message bytes new t
+  takes_goes (Reply.TooLarge n) new (port, from, h, same) = subst (λ (x : WorldView). Goes now s event (Reply.TooLarge n) x) (sym same) (goes_large port n from h.m h.front h.long h.above)
+  takes_goes (Reply.Empty told) new (is, none, same) =
+      subst (λ (x : WorldView). Goes now s event (Reply.Empty told) x) (sym same) (subst (λ (y : Waited). Goes now s event (Reply.Empty y) w) (sym is) (goes_empty none))
+  takes_goes (Reply.Code code) new (port, from, h, same) = subst (λ (x : WorldView). Goes now s event (Reply.Code code) x) (sym same) (goes_stays port code from h)
+  takes_goes reply new t = absurd t
+
+-- ---- Receive: where a name stands for
+
+module _ (w : WorldView) (s : State) (sh : Shows w s) (task name : ℕ) where
   at_name : lookup s task name ≡ option_map target_of (entry_at w task name)
   at_name = sh.agrees.naming task name
 
-  goes_by_set : (now set : ℕ) → entry_at w task name ≡ Some (Set set) → Goes now s (Event.Receive task name room large) (Reply.Empty (Waited.Set set)) w
-  goes_by_set now set is =
-      let found : lookup s task name ≡ Some (Target.set set) = at_name ∙ ap (option_map target_of) is in
-      done w s sh now (Event.Receive task name room large) (Reply.Empty (Waited.Set set)) s w
-      (among_tasks w s sh task below, ((λ not. not (inr (subst IsSet (sym found) tt))), ((λ in_set. no_port (sym found ∙ in_set.1)), tt)))
-      (Waited.Set set, found, (refl, (λ p t. absurd (no_owner (sym (sh.agrees.set_owner set) ∙ t.0))), refl, refl)) sh.agrees
-    where
-      no_port : {p : ℕ} → Some (Target.set set) ≡ Some (Target.port p) → ⊥
-      no_port {p} e = let f : Target.set set ≡ Target.port p = cc in cc
+  pub sources_theirs : (waited : Waited) → Sources w task name waited → Theirs w task waited
+  sources_theirs (Waited.Port p) finds = (name, finds)
+  sources_theirs (Waited.Set set) is = owned_too w s sh task set (sh.lawful.set_owned task name set (at_name ∙ ap (option_map target_of) is))
 
-      no_owner : {t : ℕ} → None ≡ Some t → ⊥
-      no_owner e = cc
+  sources_waits : (waited : Waited) → Sources w task name waited → waits_for task name s waited
+  sources_waits (Waited.Port p) finds = (finds_named w s sh task name p finds, finds_held w s sh task name p finds)
+  sources_waits (Waited.Set set) is = at_name ∙ ap (option_map target_of) is
+
+  sources_good : (waited : Waited) → Sources w task name waited → ¬ (¬ (NamesReceive s task name ⊎ IsSet (lookup s task name)))
+  sources_good (Waited.Port p) finds not = not (inl (p, finds_named w s sh task name p finds, finds_held w s sh task name p finds))
+  sources_good (Waited.Set set) is not = not (inr (subst IsSet (sym (sources_waits (Waited.Set set) is)) tt))
+
+  the_same : (p q : ℕ) → Some (Target.port p) ≡ Some (Target.port q) → q ≡ p
+  the_same p q e = let f : Target.port p ≡ Target.port q = cc in cc
+
+  no_port : (set p : ℕ) → Some (Target.set set) ≡ Some (Target.port p) → ⊥
+  no_port set p e = let f : Target.set set ≡ Target.port p = cc in cc
+
+  sources_out : (waited : Waited) → Sources w task name waited → in_set w waited ≡ false → ¬ ((p : ℕ) × (lookup s task name ≡ Some (Target.port p)) × (s.sets_of p ≢ []))
+  sources_out (Waited.Port p) finds out h =
+      let holds = finds_held w s sh task name p finds in
+      h.2 (ap s.sets_of (the_same p h.0 (sym (finds_named w s sh task name p finds) ∙ h.1)) ∙ alone w s sh p out (held_lives s sh.lawful task p holds))
+  sources_out (Waited.Set set) is out h = no_port set h.0 (sym (sources_waits (Waited.Set set) is) ∙ h.1)
+
+  sources_in : (waited : Waited) → Sources w task name waited → in_set w waited ≡ true → (p : ℕ) × (lookup s task name ≡ Some (Target.port p)) × (s.sets_of p ≢ [])
+  sources_in (Waited.Port p) finds within = (p, finds_named w s sh task name p finds, together w s sh p within)
+  sources_in (Waited.Set set) is within = absurd (let f : false ≡ true = within in cc)
 
   -- a receive right or a set that the machine finds is found in the tables
   finds_it : (o : Option Entry) → entry_at w task name ≡ o → (NamesReceive s task name ⊎ IsSet (option_map target_of o)) → (waited : Waited) × Sources w task name waited
@@ -171,13 +132,10 @@ module _ (w : WorldView) (s : State) (sh : Shows w s) (task name : ℕ) (below :
   finds_it (Some (Set set)) e h = (Waited.Set set, e)
   finds_it (Some (Send p n)) e (inl h) = absurd (
       let f : Some (Target.port p) ≡ Some (Target.port h.0) = sym (at_name ∙ ap (option_map target_of) e) ∙ h.1 in
-      let g : p ≡ h.0 = ports_same p h.0 f in
+      let g : h.0 ≡ p = the_same p h.0 f in
       let r = sh.agrees.references task name (Send p n) p e refl in
-      let k : held s task receive p ≡ held s task receive h.0 = ap (held s task receive) g in
+      let k : held s task receive h.0 ≡ held s task receive p = ap (held s task receive) g in
       let some = h.2 in omega (arith, r.0, k, some))
-    where
-      ports_same : (a b : ℕ) → Some (Target.port a) ≡ Some (Target.port b) → a ≡ b
-      ports_same a b e = let f : Target.port a ≡ Target.port b = cc in cc
   finds_it (Some (Send p n)) e (inr h) = absurd h
   finds_it (Some (SendOnce p)) e (inl h) = absurd (let f : Some (Target.once p) ≡ Some (Target.port h.0) = sym (at_name ∙ ap (option_map target_of) e) ∙ h.1 in let g : Target.once p ≡ Target.port h.0 = cc in cc)
   finds_it (Some (SendOnce p)) e (inr h) = absurd h
@@ -188,82 +146,115 @@ module _ (w : WorldView) (s : State) (sh : Shows w s) (task name : ℕ) (below :
   no_source none (inl h) = let x = finds_it (entry_at w task name) refl (inl h) in none x.0 x.1
   no_source none (inr h) = let x = finds_it (entry_at w task name) refl (inr (subst IsSet at_name h)) in none x.0 x.1
 
--- ---- all of them
+pub receive_no_task : (w : WorldView) (task name room : ℕ) (large : Bool) → length w.spaces ≤ task → Serves w (Event.Receive task name room large) (Reply.Code (kern_number InvalidTask)) w
+receive_no_task w task name room large past = record {
+  answers = λ now s sh. refused w s sh now (Event.Receive task name room large) (kern_number InvalidTask) (inl (inl (past_tasks w s sh task past, refl)));
+}
 
-pub receive_by_set : (w : WorldView) (task name set room : ℕ) (large : Bool) → InNoSet w → task < length w.spaces → entry_at w task name ≡ Some (Set set) →
-    Serves w (Event.Receive task name room large) (Reply.Empty (Waited.Set set)) w
-receive_by_set w task name set room large none below is = record { answers = λ now s sh. goes_by_set w s sh task name below room large now set is; in_no_set = none }
-
-pub receive_no_name : (w : WorldView) (task name room : ℕ) (large : Bool) → InNoSet w → task < length w.spaces → NoSource w task name →
+pub receive_no_name : (w : WorldView) (task name room : ℕ) (large : Bool) → task < length w.spaces → NoSource w task name →
     Serves w (Event.Receive task name room large) (Reply.Code (msg_number ReceiveInvalidName)) w
-receive_no_name w task name room large none below nothing = record {
+receive_no_name w task name room large below nothing = record {
   answers = λ now s sh. refused w s sh now (Event.Receive task name room large) (msg_number ReceiveInvalidName)
-      (inl (inr (among_tasks w s sh task below, inl (no_source w s sh task name below room large nothing, refl))));
-  in_no_set = none;
+      (inl (inr (among_tasks w s sh task below, inl (no_source w s sh task name nothing, refl))));
 }
 
-pub receive_takes : (w : WorldView) (task name port room : ℕ) (large : Bool) (reply : Reply) (new : WorldView) → InNoSet w → task < length w.spaces → FindsReceive w task name port →
-    Takes w task name port room reply new → Serves w (Event.Receive task name room large) reply new
-receive_takes w task name port room large (Reply.Message bytes) new none below finds t = record {
-  answers = λ now s sh. goes_message w s sh none task name port below finds room large now bytes new t;
-  in_no_set = none_in_taken t.start new task port name bytes (subst InNoSet (sym t.makes.rest) none) t.takes;
+pub receive_in_set : (w : WorldView) (task name room : ℕ) (large : Bool) (waited : Waited) → task < length w.spaces → Sources w task name waited → in_set w waited ≡ true →
+    Serves w (Event.Receive task name room large) (Reply.Code (msg_number ReceiveInSet)) w
+receive_in_set w task name room large waited below finds within = record {
+  answers = λ now s sh. refused w s sh now (Event.Receive task name room large) (msg_number ReceiveInSet)
+      (inl (inr (among_tasks w s sh task below, inr (sources_good w s sh task name waited finds, inl (sources_in w s sh task name waited finds within, refl)))));
 }
-receive_takes w task name port room large (Reply.TooLarge n) new none below finds (h, same) = record {
-  answers = λ now s sh. subst (λ (x : WorldView). Goes now s (Event.Receive task name room large) (Reply.TooLarge n) x) (sym same)
-      (goes_large w s sh none task name port below finds room large h.front.v h.front.there h.m h.front.behind h.front.queue now n h.long h.above);
-  in_no_set = subst InNoSet (sym same) none;
+
+pub receive_takes : (w : WorldView) (task name room : ℕ) (large : Bool) (waited : Waited) (reply : Reply) (new : WorldView) → task < length w.spaces → Sources w task name waited → in_set w waited ≡ false →
+    Takes w task waited room reply new → Serves w (Event.Receive task name room large) reply new
+receive_takes w task name room large waited reply new below finds out t = record {
+  answers = λ now s sh. takes_goes w s sh task below waited (sources_theirs w s sh task name waited finds) out room large now (Event.Receive task name room large)
+      (among_tasks w s sh task below, (sources_good w s sh task name waited finds, (sources_out w s sh task name waited finds out, tt)))
+      (λ r u h. (waited, sources_waits w s sh task name waited finds, h)) (λ code h. (waited, sources_waits w s sh task name waited finds, h)) reply new t;
 }
-receive_takes w task name port room large (Reply.Empty told) new none below finds (is, f, same) = record {
-  answers = λ now s sh. subst (λ (x : WorldView). Goes now s (Event.Receive task name room large) (Reply.Empty told) x) (sym same)
-      (subst (λ (y : Waited). Goes now s (Event.Receive task name room large) (Reply.Empty y) w) (sym is)
-      (goes_empty w s sh none task name port below finds room large f.v f.there now f.none));
-  in_no_set = subst InNoSet (sym same) none;
-}
-receive_takes w task name port room large (Reply.Code code) new none below finds (x, same) = record {
-  answers = λ now s sh. subst (λ (y : WorldView). Goes now s (Event.Receive task name room large) (Reply.Code code) y) (sym same)
-      (goes_stays w s sh none task name port below finds room large x.front.v x.front.there x.m x.front.behind x.front.queue now code x.fits x refl);
-  in_no_set = subst InNoSet (sym same) none;
-}
-receive_takes w task name port room large reply new none below finds t = absurd t
+
+-- ---- ReceiveAgain
+
+module _ (w : WorldView) (s : State) (sh : Shows w s) (task : ℕ) (below : task < length w.spaces) (room : ℕ) (large : Bool) (now : ℕ) where
+  owner_gone : (o : Option SetRecord) → is_some o ≡ false → option_map (λ (r : SetRecord). r.owner) o ≡ None
+  owner_gone None e = refl
+  owner_gone (Some r) e = absurd (cc)
+
+  owner_there : (o : Option SetRecord) → is_some o ≡ true → ¬ (option_map (λ (r : SetRecord). r.owner) o ≡ None)
+  owner_there None e none = cc
+  owner_there (Some r) e none = let f : Some r.owner ≡ None = none in cc
+
+  not_dead : (p : ℕ) → is_some (port_at w p) ≡ true → ¬ (s.live_port p ≡ false)
+  not_dead p some dead = let f : true ≡ false = sym some ∙ sh.agrees.live_port p ∙ dead in cc
+
+  set_stands : (set : ℕ) → is_some (map.get w.sets.sets set) ≡ true → ¬ (s.set_owner set ≡ None)
+  set_stands set some none = owner_there (map.get w.sets.sets set) some (sym (sh.agrees.set_owner set) ∙ none)
+
+  pub again_gone : (waited : Waited) → lives w waited ≡ false → Goes now s (Event.ReceiveAgain task waited room large) (Reply.Code (msg_number ReceivePortDied)) w
+  again_gone (Waited.Port p) gone = refused w s sh now (Event.ReceiveAgain task (Waited.Port p) room large) (msg_number ReceivePortDied)
+      (inl (inr (among_tasks w s sh task below, inl (sym (sh.agrees.live_port p) ∙ gone, refl))))
+  again_gone (Waited.Set set) gone = refused w s sh now (Event.ReceiveAgain task (Waited.Set set) room large) (msg_number ReceivePortDied)
+      (inl (inr (among_tasks w s sh task below, inl (sh.agrees.set_owner set ∙ owner_gone (map.get w.sets.sets set) gone, refl))))
+
+  pub again_changed : (waited : Waited) → lives w waited ≡ true → ¬ (Theirs w task waited) ⊎ (in_set w waited ≡ true) →
+      Goes now s (Event.ReceiveAgain task waited room large) (Reply.Code (msg_number ReceivePortChanged)) w
+  again_changed (Waited.Port p) there (inl not) = refused w s sh now (Event.ReceiveAgain task (Waited.Port p) room large) (msg_number ReceivePortChanged)
+      (inl (inr (among_tasks w s sh task below, inr (not_dead p there, inl (inl (λ holds. not (held_finds w s sh task p holds)), refl)))))
+  again_changed (Waited.Port p) there (inr within) = refused w s sh now (Event.ReceiveAgain task (Waited.Port p) room large) (msg_number ReceivePortChanged)
+      (inl (inr (among_tasks w s sh task below, inr (not_dead p there, inl (inr (together w s sh p within), refl)))))
+  again_changed (Waited.Set set) there (inl not) = refused w s sh now (Event.ReceiveAgain task (Waited.Set set) room large) (msg_number ReceivePortChanged)
+      (inl (inr (among_tasks w s sh task below, inr (set_stands set there, inl ((λ is. not (owned_too w s sh task set is)), refl)))))
+  again_changed (Waited.Set set) there (inr within) = absurd (let f : false ≡ true = within in cc)
+
+  again_good : (waited : Waited) → lives w waited ≡ true → Theirs w task waited → in_set w waited ≡ false → NoneHolds (guards s (Event.ReceiveAgain task waited room large))
+  again_good (Waited.Port p) there theirs out =
+      let holds = finds_held w s sh task theirs.0 p theirs.1 in
+      (among_tasks w s sh task below, (not_dead p there, (not_changed (alone w s sh p out (held_lives s sh.lawful task p holds)) holds, tt)))
+    where
+      not_changed : s.sets_of p ≡ [] → Holds s task receive p → ¬ (¬ (Holds s task receive p) ⊎ (s.sets_of p ≢ []))
+      not_changed none holds (inl h) = h holds
+      not_changed none holds (inr h) = h none
+  again_good (Waited.Set set) there theirs out = (among_tasks w s sh task below, (set_stands set there, ((λ not. not (owned w s sh task set theirs)), tt)))
+
+  pub again_goes : (waited : Waited) (reply : Reply) (new : WorldView) → lives w waited ≡ true → Theirs w task waited → in_set w waited ≡ false → Takes w task waited room reply new →
+      Goes now s (Event.ReceiveAgain task waited room large) reply new
+  again_goes waited reply new there theirs out t = takes_goes w s sh task below waited theirs out room large now (Event.ReceiveAgain task waited room large)
+      (again_good waited there theirs out) (λ r u h. h) (λ code h. h) reply new t
+
+pub again_no_task : (w : WorldView) (task : ℕ) (waited : Waited) (room : ℕ) (large : Bool) → length w.spaces ≤ task → Serves w (Event.ReceiveAgain task waited room large) (Reply.Code (kern_number InvalidTask)) w
+again_no_task w task waited room large past = record { answers = λ now s sh. go waited now s sh }
+  where
+    go : (waited : Waited) (now : ℕ) (s : State) → Shows w s → Goes now s (Event.ReceiveAgain task waited room large) (Reply.Code (kern_number InvalidTask)) w
+    go (Waited.Port p) now s sh = refused w s sh now (Event.ReceiveAgain task (Waited.Port p) room large) (kern_number InvalidTask) (inl (inl (past_tasks w s sh task past, refl)))
+    go (Waited.Set set) now s sh = refused w s sh now (Event.ReceiveAgain task (Waited.Set set) room large) (kern_number InvalidTask) (inl (inl (past_tasks w s sh task past, refl)))
+
+pub again_dead : (w : WorldView) (task : ℕ) (waited : Waited) (room : ℕ) (large : Bool) → task < length w.spaces → lives w waited ≡ false →
+    Serves w (Event.ReceiveAgain task waited room large) (Reply.Code (msg_number ReceivePortDied)) w
+again_dead w task waited room large below gone = record { answers = λ now s sh. again_gone w s sh task below room large now waited gone }
+
+pub again_elsewhere : (w : WorldView) (task : ℕ) (waited : Waited) (room : ℕ) (large : Bool) → task < length w.spaces → lives w waited ≡ true → ¬ (Theirs w task waited) ⊎ (in_set w waited ≡ true) →
+    Serves w (Event.ReceiveAgain task waited room large) (Reply.Code (msg_number ReceivePortChanged)) w
+again_elsewhere w task waited room large below there why = record { answers = λ now s sh. again_changed w s sh task below room large now waited there why }
+
+pub again_takes : (w : WorldView) (task : ℕ) (waited : Waited) (room : ℕ) (large : Bool) (reply : Reply) (new : WorldView) → task < length w.spaces → lives w waited ≡ true → Theirs w task waited →
+    in_set w waited ≡ false → Takes w task waited room reply new → Serves w (Event.ReceiveAgain task waited room large) reply new
+again_takes w task waited room large reply new below there theirs out t = record { answers = λ now s sh. again_goes w s sh task below room large now waited reply new there theirs out t }
 
 -- ---- what its calls promise
 
--- the port of a receive right is in the tables
-pub port_there : (w : WorldView) (s : State) → Shows w s → (task name port : ℕ) → FindsReceive w task name port → (v : PortView Kept) × (port_at w port ≡ Some v)
-port_there w s sh task name port finds = go (port_at w port) refl
+-- the port of what has a message is the task's to receive from
+pub message_has : (w : WorldView) (s : State) → Shows w s → (task port : ℕ) (waited : Waited) → Theirs w task waited → in_set w waited ≡ false → HasMessage w waited port → HasReceive w task port
+message_has w s sh task port waited theirs out h = held_finds w s sh task port (from_held w s sh task waited port (takes_from w s sh task waited theirs out port h.from))
+
+pub message_waits : (w : WorldView) (s : State) → Shows w s → (port : ℕ) (waited : Waited) → HasMessage w waited port → Waits w port
+message_waits w s sh port waited h = go h.from.v.queue refl
   where
-    lives : s.live_port port ≡ true
-    lives = named_lives s sh.lawful task name port (sh.agrees.naming task name ∙ ap (option_map target_of) finds.found ∙ ap Some (target_named finds.entry port finds.named))
+    go : (ms : List Kept) → h.from.v.queue ≡ ms → Waits w port
+    go [] e = absurd (let some = h.some in let l : length h.from.v.queue ≡ 0 = ap (λ (x : List Kept). length x) e in omega (arith, some, l))
+    go (m ∷ ms) e = waits w s sh port h.from.v h.from.there m ms e
 
-    go : (o : Option (PortView Kept)) → port_at w port ≡ o → (v : PortView Kept) × (port_at w port ≡ Some v)
-    go (Some v) e = (v, e)
-    go None e = absurd (let f : false ≡ true = sym (ap is_some e) ∙ sh.agrees.live_port port ∙ lives in cc)
-
-nothing_in : (ms : List Kept) → length ms ≡ 0 → ms ≡ []
-nothing_in [] e = refl
-nothing_in (m ∷ ms) e = absurd (omega (arith, e))
-
-pub finds_none : (w : WorldView) (s : State) → Shows w s → (task name port n : ℕ) → FindsReceive w task name port → ((v : PortView Kept) → port_at w port ≡ Some v → n ≡ length v.queue) → n ≡ 0 → FindsNone w port
-finds_none w s sh task name port n finds counts is =
-    let p = port_there w s sh task name port finds in
-    let many = counts p.0 p.1 in
-    record { v = p.0; there = p.1; none = nothing_in p.0.queue (omega (arith, many, is)) }
-
-pub finds_waiting : (w : WorldView) (s : State) → Shows w s → (task name port n : ℕ) → FindsReceive w task name port → ((v : PortView Kept) → port_at w port ≡ Some v → n ≡ length v.queue) → n ≢ 0 → Waits w port
-finds_waiting w s sh task name port n finds counts not =
-    let p = port_there w s sh task name port finds in go p.0 p.1 (counts p.0 p.1) p.0.queue refl
-  where
-    go : (v : PortView Kept) → port_at w port ≡ Some v → n ≡ length v.queue → (ms : List Kept) → v.queue ≡ ms → Waits w port
-    go v there many [] e = absurd (let l : length v.queue ≡ 0 = ap length e in not (omega (arith, many, l)))
-    go v there many (m ∷ ms) e = waits w s sh port v there m ms e
-
-pub stays_so : (w new : WorldView) (task name port room : ℕ) (why : Refusal) (m : Kept) → HasFront w port m → IsRefusedBy w task m room why → new ≡ w → Takes w task name port room (stays why) new
-stays_so w new task name port room (refusal.TooLarge n) m front h same = (record { m = m; front = front; long = h.0; above = h.1 }, same)
-stays_so w new task name port room refusal.Names m front h same = (record { m = m; front = front; fits = h.0; cause = inl (h.1, refl) }, same)
-stays_so w new task name port room refusal.Memory m front h same = (record { m = m; front = front; fits = h.0; cause = inr (h.1, refl) }, same)
-
-pub source_is : (w : WorldView) (task name : ℕ) (o : Option Waited) (x y : Waited) → MatchOption o (NoSource w task name) (Sources w task name) → o ≡ Some x → x ≡ y → Sources w task name y
-source_is w task name o x y m e f = subst (Sources w task name) f (subst (λ (z : Option Waited). MatchOption z (NoSource w task name) (Sources w task name)) e m)
-
-pub no_source_is : (w : WorldView) (task name : ℕ) (o : Option Waited) → MatchOption o (NoSource w task name) (Sources w task name) → o ≡ None → NoSource w task name
-no_source_is w task name o m e = subst (λ (z : Option Waited). MatchOption z (NoSource w task name) (Sources w task name)) e m
+pub stays_so : (w new : WorldView) (task port : ℕ) (waited : Waited) (room : ℕ) (why : Refusal) (m : Kept) → IsFrom w waited port → HasFront w port m → IsRefusedBy w task m room why → new ≡ w →
+    Takes w task waited room (stays why) new
+stays_so w new task port waited room (refusal.TooLarge n) m from front h same = (port, from, record { m = m; front = front; long = h.0; above = h.1 }, same)
+stays_so w new task port waited room refusal.Names m from front h same = (port, from, record { m = m; front = front; fits = h.0; cause = inl (h.1, refl) }, same)
+stays_so w new task port waited room refusal.Memory m from front h same = (port, from, record { m = m; front = front; fits = h.0; cause = inr (h.1, refl) }, same)

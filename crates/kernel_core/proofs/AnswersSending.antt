@@ -1,28 +1,27 @@
 -- Answers to Send.
-use Rattle.std.proofs.Common.{◌≡◌, ℕ, ◌<◌, ◌≤◌, List, [], ◌∷◌, Some, None, Option, refl, sym, ap, subst, ◌∙◌, ◌⊎◌, inl, inr, length, true, false, zero, suc, arith}
+use Rattle.std.proofs.Common.{◌≡◌, ℕ, ◌<◌, ◌≤◌, List, [], ◌∷◌, refl, sym, subst, ◌∙◌, ◌⊎◌, inl, inr, length, true, false, zero, suc, arith}
 use Rattle.std.specs.Prelude.{slice_get, is_some}
 use Rattle.mach_types.specs.declared.calls.Event.{Event}
 use Rattle.mach_types.specs.declared.calls.Reply.{Reply}
 use Rattle.mach_types.specs.declared.codes.KernReturn.TheVariants.{InvalidTask}
 use Rattle.mach_types.specs.declared.codes.MsgReturn.TheVariants.{SendNoBuffer}
-use Rattle.mach_types.specs.Guards.{FirstIs, NoneHolds}
+use Rattle.mach_types.specs.Guards.{NoneHolds}
 use Rattle.mach_types.specs.TextGuards.{header_guards, TextRefuses}
 use Rattle.mach_types.specs.Numbers.{kern_number, msg_number}
 use Rattle.mach_model.specs.State.{State}
 use Rattle.mach_model.specs.Making.{IsNoTask}
 use Rattle.mach_model.specs.Sending.{SendRefuses, RightsRefuse}
 use Rattle.message_codec.specs.declared.text.Parsed.{Parsed}
-use Rattle.message_codec.specs.Parses.{Parses, IsMessage}
+use Rattle.message_codec.specs.Parses.{Parses}
 use Rattle.copyin.specs.Worlds.{WorldView}
-use Rattle.copyin.specs.Shows.{ShowsPort, ShowsCounts, Agrees, Shows}
+use Rattle.copyin.specs.Shows.{Agrees, Shows}
 use Rattle.copyin.proofs.Texts.{good_header, none_first}
 use Rattle.copyin.proofs.RefusedWords.{cannot}
 use Rattle.copyin.proofs.Sent.{sent_state, sends, sent_agrees}
-use Rattle.kernel_core.specs.Answers.{Answers, InNoSet, Serves}
+use Rattle.kernel_core_base.specs.Answers.{Serves}
 use Rattle.kernel_core.specs.Sends.{with_slots, SameButSlots, SendsText, IsText, CannotSend}
-use Rattle.kernel_core.proofs.Stepping.{Goes}
-use Rattle.kernel_core.proofs.Ending.{refused, done}
-use Rattle.kernel_core.proofs.NoSets.{none_in_commit}
+use Rattle.kernel_core_base.proofs.Stepping.{Goes}
+use Rattle.kernel_core_base.proofs.Ending.{refused, done}
 
 -- spare slots are of no account to the machine
 pub slots_agree : (w : WorldView) (s : State) (n : ℕ) → Agrees w s → Agrees (with_slots w n) s
@@ -40,6 +39,7 @@ slots_agree w s n a = record {
   total = a.total;
   set_owner = a.set_owner;
   sets_made = a.sets_made;
+  set_named = a.set_named;
   requests = a.requests;
 }
 
@@ -66,10 +66,9 @@ among_tasks w s sh task below not = let a : true ≡ false = sym (task_is w.spac
 
 -- ---- refusals
 
-pub send_no_task : (w : WorldView) (task : ℕ) (bytes : List ℕ) → InNoSet w → length w.spaces ≤ task → Serves w (Event.Send task bytes) (Reply.Code (kern_number InvalidTask)) w
-send_no_task w task bytes none past = record {
+pub send_no_task : (w : WorldView) (task : ℕ) (bytes : List ℕ) → length w.spaces ≤ task → Serves w (Event.Send task bytes) (Reply.Code (kern_number InvalidTask)) w
+send_no_task w task bytes past = record {
   answers = λ now s sh. refused w s sh now (Event.Send task bytes) (kern_number InvalidTask) (inl (inl (past_tasks w s sh task past, refl)));
-  in_no_set = none;
 }
 
 module _ (w : WorldView) (task : ℕ) (below : task < length w.spaces) (bytes : List ℕ) where
@@ -94,18 +93,17 @@ module _ (w : WorldView) (task : ℕ) (below : task < length w.spaces) (bytes : 
   cannot_send s sh now code (inr (inl (parsed, text, h))) = no_plan s sh now code parsed text (cannot w s sh task bytes parsed text code h)
   cannot_send s sh now code (inr (inr (text, e))) = no_memory s sh now code text e
 
-  pub send_refused : (new : WorldView) (code : ℕ) → InNoSet w → SameButSlots w new → CannotSend w task bytes code → Serves w (Event.Send task bytes) (Reply.Code code) new
-  send_refused new code none same why = record {
+  pub send_refused : (new : WorldView) (code : ℕ) → SameButSlots w new → CannotSend w task bytes code → Serves w (Event.Send task bytes) (Reply.Code code) new
+  send_refused new code same why = record {
     answers = λ now s sh.
         let g = cannot_send s sh now code why in
         (g.0, g.1, subst (λ (x : WorldView). Shows x g.0) (sym same.rest) (slots_show w g.0 same.slots g.2));
-    in_no_set = subst InNoSet (sym same.rest) none;
   }
 
   -- ---- the message is sent
 
-  pub send_done : (new : WorldView) → InNoSet w → SendsText w task bytes new → Serves w (Event.Send task bytes) (Reply.Code 0) new
-  send_done new none d = record {
+  pub send_done : (new : WorldView) → SendsText w task bytes new → Serves w (Event.Send task bytes) (Reply.Code 0) new
+  send_done new d = record {
     answers = λ now s sh.
         let start = with_slots w d.slots in
         let sh2 = slots_show w s d.slots sh in
@@ -114,5 +112,4 @@ module _ (w : WorldView) (task : ℕ) (below : task < length w.spaces) (bytes : 
         (among_tasks w s sh task below, good_header bytes d.parsed d.text)
         (refl, sends start s sh2 now task bytes d.parsed d.text j d.plans.slot d.plans.few, refl)
         (sent_agrees start s sh2 now task bytes d.parsed d.text j new d.commits);
-    in_no_set = none_in_commit (with_slots w d.slots) new task d.parsed d.text.written d.plans.judged bytes none d.commits;
   }

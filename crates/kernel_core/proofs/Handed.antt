@@ -1,49 +1,37 @@
 -- A right that is inserted in the tables is inserted by the machine.
-use Rattle.std.proofs.Common.{◌≡◌, ◌≢◌, ℕ, zero, suc, ◌+◌, ◌<◌, ◌≤◌, List, [], ◌∷◌, ◌++◌, Option, Some, None, refl, sym, ap, subst, ◌∙◌, arith, true, false, Bool, ◌⊎◌, inl, inr, length}
-use Rattle.std.specs.Prelude.{if◌then◌else◌, nat_lt, is_some, slice_get, MatchBool}
-use Rattle.std.specs.FinMap as map
+use Rattle.std.proofs.Common.{◌≡◌, ◌≢◌, ℕ, zero, suc, ◌<◌, ◌≤◌, List, [], ◌∷◌, ◌++◌, Option, Some, None, refl, sym, ap, subst, ◌∙◌, arith, true, false, ◌⊎◌, inl, inr, length}
+use Rattle.std.specs.Prelude.{nat_lt, is_some, slice_get}
 use Rattle.std.proofs.lemmas.Option.{slice_get_past}
 use Rattle.std.proofs.lemmas.Bool.Decides.{eqb_tells}
-use Rattle.std.proofs.lemmas.Bool.{lt-ltb, le-ltb, ltb-true, ltb-false}
+use Rattle.std.proofs.lemmas.Bool.{lt-ltb}
 use Rattle.mach_types.specs.declared.rights.Disposition.{Disposition}
 use Rattle.mach_types.specs.declared.rights.Disposition.TheVariants.{MoveReceive, MoveSend, MoveSendOnce, CopySend, MakeSend, MakeSendOnce}
 use Rattle.mach_types.specs.declared.calls.Event.{Event}
 use Rattle.mach_types.specs.declared.calls.Reply.{Reply}
-use Rattle.mach_types.specs.declared.codes.KernReturn.{KernReturn}
-use Rattle.mach_types.specs.declared.codes.KernReturn.TheVariants.{InvalidName, InvalidTask, InvalidRight, InvalidValue, InvalidCapability, ResourceShortage}
-use Rattle.mach_types.specs.Numbers.{disposition, disposition_number, kind_sent, kind_number, kern_number, null_word, dead_word, most_references}
-use Rattle.mach_types.specs.Tokens.{Kind, receive, send, send_once, in_task, in_message, Token, token, weigh, Moves}
+use Rattle.mach_types.specs.Numbers.{disposition, disposition_number, kind_sent, null_word, dead_word, most_references}
+use Rattle.mach_types.specs.Tokens.{Kind, receive, send, send_once, in_task, Token, token}
 use Rattle.mach_types.specs.Messages.{to_port, dead}
-use Rattle.mach_types.specs.Guards.{FirstIs, NoneHolds}
+use Rattle.mach_types.specs.Guards.{NoneHolds}
 use Rattle.mach_model.specs.State.{State, Target, lookup, held, with_name}
 use Rattle.mach_model.specs.Making.{IsNoTask}
 use Rattle.mach_model.specs.SentMeans.{target_mark}
-use Rattle.mach_model.specs.CopyIn.{IsLegal, CopyRight}
-use Rattle.mach_model.specs.CopyOut.{given_to, NamedOnce, NamedFor}
-use Rattle.mach_model.specs.Handing.{target_for, inserted_guards, Inserts, extracted_guards, pegged, Extracts, CopyRefuses}
+use Rattle.mach_model.specs.CopyIn.{CopyRight}
+use Rattle.mach_model.specs.CopyOut.{given_to}
+use Rattle.mach_model.specs.Handing.{target_for, inserted_guards, Inserts}
 use Rattle.mach_model.specs.Sending.{IsLegalName, IsDeadName}
-use Rattle.mach_model.specs.Refusals.{IsUnused, IsNoName, IsDisposition, insert_guards, extract_guards}
+use Rattle.mach_model.specs.Refusals.{IsUnused, IsNoName, IsDisposition, insert_guards}
 use Rattle.mach_model.specs.Machine.{Step}
-use Rattle.mach_model.specs.Lawful.{IsLawful}
-use Rattle.mach_model.specs.Carried.{lying}
-use Rattle.mach_model.proofs.Weigh.{lying_le_of}
-use Rattle.mach_model.proofs.Moving.{moving}
 use Rattle.mach_model.proofs.StepLawful.{quiet_step}
-use Rattle.name_space.specs.declared.Entry.{Entry}
 use Rattle.name_space.specs.Names.{IsUsable}
-use Rattle.copyin.specs.declared.copies.Copied.{Copied}
-use Rattle.copyin.specs.declared.message.Mark.TheVariants as mark
-use Rattle.copyin.specs.Copies.{copied_from}
-use Rattle.copyin.specs.Worlds.{WorldView, entry_at, port_at}
+use Rattle.copyin.specs.Worlds.{WorldView}
 use Rattle.copyin.specs.Shows.{target_of, Agrees, Shows}
 use Rattle.copyin.proofs.Numbering.{number_of}
-use Rattle.copyin.proofs.Taking.{Without, take_lying}
-use Rattle.copyout.specs.Giving.{alone, GivesPort, GivesMark}
-use Rattle.copyout.proofs.Given.{Put, port_put, Given, port_given}
+use Rattle.copyout.specs.Giving.{alone}
+use Rattle.copyout.proofs.Given.{Put, port_put}
 use Rattle.kernel_core.specs.declared.handing.Going.{Going}
-use Rattle.kernel_core.specs.Handing.{HasTasks, LacksTask, CanGo, MayInsert, MayExtract, insert_later, extract_later, InsertsTables, ExtractsTables}
+use Rattle.kernel_core.specs.Handing.{HasTasks, MayInsert, InsertsTables}
 use Rattle.kernel_core.proofs.Seen.{Left, is_left}
-use Rattle.kernel_core.proofs.Judged.{lies, copied_in, sends_are, few, none_inserted, none_extracted}
+use Rattle.kernel_core.proofs.Judged.{lies, copied_in, sends_are, none_inserted}
 
 -- ---- names, tasks and dispositions
 

@@ -1,33 +1,32 @@
 -- What is judged in what is left is what the machine judges when the right is with the task.
 use Rattle.std.proofs.Common.{◌≡◌, ◌≢◌, ℕ, zero, suc, ◌+◌, ◌<◌, ◌≤◌, List, [], ◌∷◌, Option, Some, None, refl, sym, ap, subst, ◌∙◌, arith, true, false, Bool, ◌⊎◌, inl, inr, length}
-use Rattle.std.specs.Prelude.{if◌then◌else◌, ◌==◌, ◌&&◌, is_some}
-use Rattle.std.specs.Option.{option_map, option_and_then}
+use Rattle.std.specs.Prelude.{if◌then◌else◌, ◌==◌, ◌&&◌}
+use Rattle.std.specs.Option.{option_map}
 use Rattle.std.specs.FinMap as map
 use Rattle.std.proofs.lemmas.Bool.Decides.{eqb_tells}
 use Rattle.std.proofs.lemmas.Bool.{eq-eqb}
 use Rattle.mach_types.specs.declared.rights.Disposition.{Disposition}
 use Rattle.mach_types.specs.declared.rights.Disposition.TheVariants.{MoveReceive, MoveSend, MoveSendOnce, CopySend, MakeSend, MakeSendOnce}
-use Rattle.mach_types.specs.Numbers.{disposition, kind_sent, most_names, most_references, most_rights}
-use Rattle.mach_types.specs.Tokens.{Kind, receive, send, send_once, Place, in_task, in_message, Token, token, weigh, count, is_of, is_held, same_kind, Moves}
+use Rattle.mach_types.specs.Numbers.{kind_sent, most_names, most_references, most_rights}
+use Rattle.mach_types.specs.Tokens.{Kind, receive, send, send_once, Place, in_task, in_message, Token, token, weigh, is_held, same_kind}
 use Rattle.mach_types.specs.Messages.{to_port}
 use Rattle.mach_types.specs.Guards.{FirstIs, NoneHolds}
 use Rattle.mach_model.specs.State.{State, Target, lookup, held}
 use Rattle.mach_model.specs.SentMeans.{target_mark}
-use Rattle.mach_model.specs.CopyIn.{taken_by, put_by, CopyRight}
+use Rattle.mach_model.specs.CopyIn.{put_by, CopyRight}
 use Rattle.mach_model.specs.CopyOut.{HasNoRoom, NeedsName}
 use Rattle.mach_model.specs.Handing.{inserted_guards, extracted_guards}
 use Rattle.mach_model.specs.Carried.{lying, mark_count}
-use Rattle.mach_model.proofs.Weigh.{length-weigh, pos_or_zero}
+use Rattle.mach_model.proofs.Weigh.{length-weigh}
 use Rattle.mach_model.proofs.Settling.{kind_refl}
-use Rattle.mach_model.proofs.Moving.{IsMoving}
 use Rattle.mach_model.proofs.CopyingIn.{not_held}
 use Rattle.name_space.specs.declared.Entry.{Entry}
 use Rattle.name_space.specs.declared.Entry.TheVariants as entry
-use Rattle.name_space.specs.Entry.{port_named, has_receive, send_references}
-use Rattle.copyin.specs.Worlds.{WorldView, entry_at}
+use Rattle.name_space.specs.Entry.{port_named, send_references}
+use Rattle.copyin.specs.Worlds.{WorldView}
 use Rattle.copyin.specs.Shows.{target_of}
 use Rattle.kernel_core.specs.declared.handing.Going.{Going}
-use Rattle.kernel_core.specs.Handing.{left_at, names_left, rights_then, port_under, references_under, IsElsewhere, IsTaken, Overflows, under_guards, out_guards, insert_later, extract_later}
+use Rattle.kernel_core.specs.Handing.{left_at, names_left, rights_then, port_under, references_under, IsElsewhere, IsTaken, Overflows, insert_later, extract_later}
 use Rattle.kernel_core.proofs.Seen.{Left}
 
 -- ---- the right that is put

@@ -1,17 +1,8 @@
-pub mod Told
-pub mod Stepping
-pub mod TaskMade
-pub mod Rooms
-pub mod PortMade
-pub mod PortAdded
-pub mod AnswersMaking
-pub mod Queued
-pub mod AnswersTelling
-pub mod Ending
-pub mod NoSets
+pub mod Sourced
 pub mod SendsTexts
 pub mod AnswersSending
 pub mod Waits
+pub mod Ready
 pub mod AnswersReceiving
 pub mod Seen
 pub mod Judged
@@ -20,5 +11,5 @@ pub mod Handed
 pub mod Extracted
 pub mod Unhanded
 pub mod Refused
-pub mod Results
+pub mod RoomMade
 pub mod AnswersHanding

@@ -1,11 +1,11 @@
 -- A right that is judged can be copied in, and then put or given.
-use Rattle.std.proofs.Common.{◌≡◌, ◌≢◌, ℕ, zero, suc, ◌+◌, ◌<◌, ◌≤◌, List, [], ◌∷◌, Option, Some, None, refl, sym, ap, subst, ◌∙◌, arith, true, false, Bool, ◌⊎◌, inl, inr, length}
-use Rattle.std.specs.Prelude.{if◌then◌else◌, ◌==◌, is_some, slice_get}
+use Rattle.std.proofs.Common.{◌≡◌, ◌≢◌, ℕ, ◌+◌, ◌<◌, ◌≤◌, [], ◌∷◌, Option, Some, None, refl, sym, ap, subst, ◌∙◌, arith, true, false, Bool, ◌⊎◌, inl, inr, length}
+use Rattle.std.specs.Prelude.{is_some, slice_get}
 use Rattle.std.specs.Option.{option_and_then}
 use Rattle.std.specs.FinMap as map
 use Rattle.std.proofs.lemmas.Bool.Decides.{eqb_tells}
 use Rattle.mach_types.specs.Numbers.{kind_sent, most_names, most_rights}
-use Rattle.mach_types.specs.Tokens.{Kind, receive, send, send_once, in_message, count, is_of}
+use Rattle.mach_types.specs.Tokens.{Kind, receive, send, send_once, in_message}
 use Rattle.mach_types.specs.Guards.{NoneHolds}
 use Rattle.mach_model.specs.State.{State}
 use Rattle.mach_model.specs.Carried.{lying}
@@ -14,15 +14,14 @@ use Rattle.name_space.specs.declared.Entry.{Entry}
 use Rattle.name_space.specs.Entry.{port_named}
 use Rattle.name_space.specs.Names.{SpaceView, IsUsable}
 use Rattle.name_space.specs.Names.{port_at as port_named_at}
-use Rattle.rights.specs.Ledger.{IsEntered, counts_of}
+use Rattle.rights.specs.Ledger.{counts_of}
 use Rattle.copyin.specs.declared.message.Carried.{Carried}
-use Rattle.copyin.specs.declared.message.Mark.{Mark}
 use Rattle.copyin.specs.declared.message.Mark.TheVariants as mark
-use Rattle.copyin.specs.Worlds.{WorldView, entry_in, entry_at, port_at}
+use Rattle.copyin.specs.Worlds.{WorldView, entry_in, port_at}
 use Rattle.copyin.proofs.Gets.{seen, same_found}
-use Rattle.copyout.specs.Giving.{HasNoName, NeedsOwn, AllLack}
-use Rattle.copyout.specs.Ready.{AllEntered, send_for, sends_for, CanGive}
-use Rattle.copyout.specs.Putting.{MayName, CanPut}
+use Rattle.copyout.specs.Giving.{HasNoName, NeedsOwn}
+use Rattle.copyout.specs.Ready.{AllEntered, send_for, CanGive}
+use Rattle.copyout.specs.Putting.{CanPut}
 use Rattle.kernel_core.specs.declared.handing.Going.{Going}
 use Rattle.kernel_core.specs.Handing.{left_at, names_left, rights_then, port_under, insert_later, extract_later}
 use Rattle.kernel_core.proofs.Seen.{Left}

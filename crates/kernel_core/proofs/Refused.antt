@@ -1,11 +1,11 @@
 -- A refusal in the tables is one of the machine, early or late.
-use Rattle.std.proofs.Common.{◌≡◌, ℕ, ◌<◌, ◌≤◌, List, [], ◌∷◌, Option, Some, None, refl, sym, ap, subst, ◌∙◌, arith, true, false, Bool, ◌⊎◌, inl, inr, length}
+use Rattle.std.proofs.Common.{◌≡◌, ℕ, ◌<◌, ◌≤◌, ◌∷◌, Some, refl, sym, ap, ◌∙◌, arith, true, false, ◌⊎◌, inl, inr, length}
 use Rattle.std.specs.Prelude.{slice_get, slice_set, is_some}
 use Rattle.mach_types.specs.declared.calls.Event.{Event}
 use Rattle.mach_types.specs.declared.codes.KernReturn.{KernReturn}
 use Rattle.mach_types.specs.declared.codes.KernReturn.TheVariants.{ResourceShortage}
 use Rattle.mach_types.specs.Numbers.{disposition, kind_sent, kern_number, dead_word}
-use Rattle.mach_types.specs.Tokens.{Kind, in_task, in_message, Token, token}
+use Rattle.mach_types.specs.Tokens.{Kind, in_task, in_message, token}
 use Rattle.mach_types.specs.Messages.{to_port}
 use Rattle.mach_types.specs.Guards.{FirstIs, NoneHolds}
 use Rattle.mach_model.specs.State.{State}

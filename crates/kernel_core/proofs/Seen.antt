@@ -1,26 +1,25 @@
 -- What is left when a right was copied in: the tables and the machine's state agree, with the right at an entry that no log has.
-use Rattle.std.proofs.Common.{◌≡◌, ◌≢◌, ℕ, zero, suc, ◌+◌, ◌-◌, ◌<◌, ◌≤◌, List, [], ◌∷◌, Option, Some, None, refl, sym, ap, subst, ◌∙◌, arith, true, false, Bool, ◌⊎◌, inl, inr, length}
-use Rattle.std.specs.Prelude.{slice_get, slice_set, is_some, if◌then◌else◌, ◌==◌, ◌&&◌}
-use Rattle.std.specs.Option.{option_map, option_and_then}
+use Rattle.std.proofs.Common.{◌≡◌, ℕ, zero, suc, ◌<◌, ◌≤◌, List, Option, Some, None, refl, sym, ap, subst, ◌∙◌, arith, true, false, Bool, inl, inr, length}
+use Rattle.std.specs.Prelude.{slice_get, slice_set, is_some, if◌then◌else◌, ◌==◌}
+use Rattle.std.specs.Option.{option_map}
 use Rattle.std.specs.FinMap as map
 use Rattle.std.proofs.lemmas.Bool.Decides.{eqb_tells}
 use Rattle.std.proofs.lemmas.Bool.{eq-eqb}
 use Rattle.mach_types.specs.declared.rights.Disposition.{Disposition}
 use Rattle.mach_types.specs.Numbers.{disposition, kind_sent, most_rights}
-use Rattle.mach_types.specs.Tokens.{Kind, receive, send, send_once, in_task, in_message, Token, token, same_kind}
+use Rattle.mach_types.specs.Tokens.{in_message}
 use Rattle.mach_types.specs.Messages.{to_port}
-use Rattle.mach_model.specs.State.{State, Target, lookup, held}
+use Rattle.mach_model.specs.State.{State}
 use Rattle.mach_model.specs.CopyIn.{CopyRight}
-use Rattle.mach_model.specs.Carried.{lying, mark_count}
+use Rattle.mach_model.specs.Carried.{mark_count}
 use Rattle.mach_model.proofs.Weigh.{lying_le_of}
 use Rattle.mach_model.proofs.Settling.{kind_refl}
-use Rattle.mach_model.proofs.Moving.{IsMoving, moving}
+use Rattle.mach_model.proofs.Moving.{moving}
 use Rattle.mach_model.proofs.CopyingIn.{Copies, CopyRight-copies}
 use Rattle.name_space.specs.declared.Entry.{Entry}
-use Rattle.name_space.specs.Entry.{port_named, has_receive, send_references}
 use Rattle.name_space.specs.Names.{Names, SpaceView}
 use Rattle.port.specs.Ports.{PortView}
-use Rattle.rights.specs.Ledger.{LedgerView, IsEntered, counts_of}
+use Rattle.rights.specs.Ledger.{LedgerView, counts_of}
 use Rattle.message_codec.specs.declared.words.PortWord.{PortWord}
 use Rattle.copyin.specs.declared.copies.Copied.{Copied}
 use Rattle.copyin.specs.declared.message.Carried.{Carried}
@@ -30,12 +29,12 @@ use Rattle.copyin.specs.Planned.{CanCopy}
 use Rattle.copyin.specs.Copies.{copied_from}
 use Rattle.copyin.specs.Worlds.{WorldView, entry_in, entry_at, port_at, put, CopiesRight}
 use Rattle.copyin.specs.Shows.{target_of, Agrees, Shows, ShowsCounts}
-use Rattle.copyin.proofs.Gets.{get-set_same, get-set_other, seen, same_found}
+use Rattle.copyin.proofs.Gets.{get-set_same, get-set_other, same_found}
 use Rattle.copyin.proofs.Agreeing.{KeepsPort, Near, near_agrees}
 use Rattle.copyin.proofs.Putting.{put_in, put_own, put_other, len_put, len_removed}
 use Rattle.copyin.proofs.Changing.{same_put}
 use Rattle.copyin.proofs.CopiedIn.{after}
-use Rattle.copyin.proofs.Stepping.{Along, Went, went}
+use Rattle.copyin.proofs.Stepping.{Went, went}
 use Rattle.kernel_core.specs.declared.handing.Going.{Going}
 use Rattle.kernel_core.specs.Handing.{CanGo, left_at, names_in, fewer_if, names_left, rights_then, MakesRoom}
 
@@ -97,6 +96,8 @@ module _ (w : WorldView) (s : State) (a : Agrees w s) (task : ℕ) (ready : Worl
     counts = kept_counts;
     total = ap (λ (x : WorldView). x.ledger.total) room.rest ∙ a.total;
     requests = λ r kind q. refl;
+    sets = ap (λ (x : WorldView). x.sets) room.rest;
+    set_names = λ n set named. named;
   }
 
   pub ready_agrees : Agrees ready s

@@ -7,13 +7,12 @@ use Rattle.mach_types.specs.Grammar.{WireBody}
 use Rattle.mach_types.specs.TextGuards.{TextRefuses}
 use Rattle.message_codec.specs.declared.text.Parsed.{Parsed}
 use Rattle.message_codec.specs.Parses.{Parses, IsCrowded}
-use Rattle.name_space.specs.Names.{SpaceView}
 use Rattle.copyin.specs.declared.judge.Plan.{Plan}
 use Rattle.copyin.specs.Worlds.{WorldView}
 use Rattle.copyin.specs.Planned.{IsPlan}
 use Rattle.copyin.specs.Plans.{Judged, Plans, CannotPlan, Commits}
-use Rattle.copyin.specs.Stands.{IsTied, AreTied}
-use Rattle.kernel_core.specs.Sends.{with_slots, SameButSlots, SendsText, IsText, CannotSend}
+use Rattle.copyin.specs.Stands.{IsTied}
+use Rattle.kernel_core.specs.Sends.{with_slots, SameButSlots, SendsText, CannotSend}
 
 pub same_slots : (w : WorldView) → SameButSlots w w
 same_slots w = record { slots = w.ports.spare; rest = refl }

@@ -1,29 +1,29 @@
 -- Where the tables refuse a right, the machine does.
-use Rattle.std.proofs.Common.{◌≡◌, ◌≢◌, ℕ, zero, suc, ◌+◌, ◌<◌, ◌≤◌, List, [], ◌∷◌, Option, Some, None, refl, sym, ap, subst, ◌∙◌, arith, true, false, Bool, ◌⊎◌, inl, inr, length}
-use Rattle.std.specs.Prelude.{is_some, slice_get}
+use Rattle.std.proofs.Common.{◌≡◌, ◌≢◌, ℕ, ◌≤◌, [], ◌∷◌, Option, Some, None, refl, sym, ap, subst, ◌∙◌, arith, ◌⊎◌, inl, inr, length}
+use Rattle.std.specs.Prelude.{slice_get}
 use Rattle.std.specs.Option.{option_map}
 use Rattle.std.specs.FinMap as map
 use Rattle.mach_types.specs.declared.rights.Disposition.{Disposition}
 use Rattle.mach_types.specs.declared.rights.Disposition.TheVariants.{MoveReceive, MoveSend, MoveSendOnce, CopySend, MakeSend, MakeSendOnce}
 use Rattle.mach_types.specs.declared.codes.KernReturn.{KernReturn}
-use Rattle.mach_types.specs.declared.codes.KernReturn.TheVariants.{InvalidName, InvalidTask, InvalidRight, InvalidValue, InvalidCapability, ResourceShortage}
+use Rattle.mach_types.specs.declared.codes.KernReturn.TheVariants.{InvalidName, InvalidRight, InvalidCapability}
 use Rattle.mach_types.specs.Numbers.{disposition, disposition_number, kern_number, dead_word}
-use Rattle.mach_types.specs.Guards.{FirstIs, NoneHolds}
+use Rattle.mach_types.specs.Guards.{FirstIs}
 use Rattle.mach_model.specs.State.{State, Target, lookup}
 use Rattle.mach_model.specs.Sending.{IsLegalName, IsDeadName}
 use Rattle.mach_model.specs.Refusals.{IsUnused, IsNoName, IsDisposition, insert_guards, extract_guards}
 use Rattle.mach_model.proofs.Moving.{moving}
 use Rattle.name_space.specs.declared.Entry.{Entry}
 use Rattle.name_space.specs.declared.Entry.TheVariants as entry
-use Rattle.name_space.specs.Names.{SpaceView, IsUsable}
+use Rattle.name_space.specs.Names.{SpaceView}
 use Rattle.copyin.specs.declared.copies.Copied.{Copied}
 use Rattle.copyin.specs.declared.message.Mark.TheVariants as mark
-use Rattle.copyin.specs.Copies.{copied_from, one_less}
+use Rattle.copyin.specs.Copies.{copied_from}
 use Rattle.copyin.specs.Worlds.{WorldView, entry_in, entry_at}
-use Rattle.copyin.specs.Shows.{target_of, Agrees, Shows}
+use Rattle.copyin.specs.Shows.{target_of, Shows}
 use Rattle.copyin.proofs.Gets.{same_found}
 use Rattle.copyin.proofs.Numbering.{number_of, given_ports}
-use Rattle.kernel_core.specs.Handing.{HasTasks, LacksTask, CannotGo, InsertFails, ExtractFails}
+use Rattle.kernel_core.specs.Handing.{CannotGo, InsertFails, ExtractFails}
 use Rattle.copyin.proofs.Refused.{legal_copies}
 use Rattle.kernel_core.proofs.Handed.{no_task, both_tasks, is_name, is_no_name, is_in_range}
 

@@ -1,12 +1,12 @@
 -- A message that waits in tables that show a state can be received: its rights are counted, and its bytes are laid out.
-use Rattle.std.proofs.Common.{◌≡◌, ℕ, ◌+◌, ◌≤◌, List, [], ◌∷◌, ◌++◌, Option, Some, None, refl, sym, ap, ◌∙◌, arith, true, false, Bool, length}
-use Rattle.std.specs.Prelude.{is_some, slice_get, if◌then◌else◌, ◌==◌}
+use Rattle.std.proofs.Common.{◌≡◌, ℕ, ◌+◌, ◌≤◌, List, [], ◌∷◌, Some, refl, sym, ap, ◌∙◌, arith, true, false, Bool}
+use Rattle.std.specs.Prelude.{slice_get, if◌then◌else◌, ◌==◌}
 use Rattle.std.proofs.lemmas.Bool.{eq-eqb}
 use Rattle.mach_types.specs.Numbers.{kind_sent}
 use Rattle.mach_types.specs.Tokens.{Kind, receive, send, send_once, in_message, count, is_of}
 use Rattle.mach_types.specs.Messages.{Entry, to_port}
 use Rattle.mach_model.specs.State.{State, queue}
-use Rattle.mach_model.specs.Carried.{lying, mark_count, message_count}
+use Rattle.mach_model.specs.Carried.{mark_count, message_count}
 use Rattle.mach_model.proofs.Weigh.{lying_le_of}
 use Rattle.message_codec.specs.Spans.{word_count}
 use Rattle.port.specs.Ports.{PortView}
@@ -16,7 +16,6 @@ use Rattle.copyin.specs.declared.message.Carried.{Carried}
 use Rattle.copyin.specs.declared.message.Mark.{Mark}
 use Rattle.copyin.specs.declared.message.Mark.TheVariants as mark
 use Rattle.copyin.specs.Kept.{Kept, mark_of, message_of, body_given}
-use Rattle.copyin.specs.Plans.{option_list}
 use Rattle.copyin.specs.Worlds.{WorldView, port_at}
 use Rattle.copyin.specs.Shows.{Shows}
 use Rattle.copyout.specs.Ready.{send_for, sends_for, carried_by, AllEntered, Waits}

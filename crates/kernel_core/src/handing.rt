@@ -15,7 +15,7 @@ ghost use Rattle.copyin.specs.Worlds.{entry_at, CopiesRight};
 ghost use Rattle.copyout.specs.Giving.{GivesMark};
 ghost use Rattle.copyout.specs.Putting.{PutsPort};
 ghost use Rattle.mach_types.specs.declared.calls.Event.{Event as AnyEvent};
-ghost use Rattle.kernel_core.specs.Answers.{IsSound, Serves};
+ghost use Rattle.kernel_core_base.specs.Answers.{IsSound, Serves};
 ghost use Rattle.kernel_core.specs.declared.handing.Going.{Going as AnyGoing};
 ghost use Rattle.kernel_core.specs.Handing.{HasTasks, LacksTask, CanGo, CannotGo, going, left_at, names_left, IsElsewhere, IsTaken, Overflows, rights_then, port_under, references_under, insert_later, extract_later, InsertFails, ExtractFails, MayInsert, MayExtract, InsertRefused, ExtractRefused, MakesRoom, InsertsTables, ExtractsTables};
 

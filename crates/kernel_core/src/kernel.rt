@@ -2,14 +2,16 @@
 ghost use Rattle.std.specs.Prelude.{◌≡◌};
 ghost use Rattle.mach_model.specs.State.{opening};
 ghost use Rattle.copyin.specs.Shows.{Shows};
-ghost use Rattle.kernel_core.specs.Answers.{Answers, IsSound, Serves};
+ghost use Rattle.kernel_core_base.specs.Answers.{Answers, IsSound, Serves};
 
 use crate::handing::{extract, insert};
-use crate::making::{allocate, create_task};
-use crate::receiving::receive;
+use crate::receiving::{receive, receive_again};
 use crate::sending::send;
-use crate::telling::{get_refs, name_type, receive_status};
 use copyin::World;
+use kernel_core_base::{
+    allocate, allocate_name, create_task, deallocate, destroy, get_refs, mod_refs, move_member,
+    name_type, names, receive_status, rename, set_mscount, set_qlimit, set_seqno, set_status,
+};
 use mach_types::{Event, Reply};
 use std::alloc::Global;
 use std::marker::Model;
@@ -30,14 +32,16 @@ impl Model for Kernel {
     ghost use Rattle.port.specs.contracts.Attributes as attributes;
     ghost use Rattle.rights.specs.Ledger.{ledger_code};
     ghost use Rattle.rights.specs.contracts.Counts as counts;
+    ghost use Rattle.port_set.specs.Sets.{sets_code};
+    ghost use Rattle.port_set.specs.contracts.SetRecord as set_record;
     ghost use Rattle.copyin.specs.Kept.{kept_code};
     ghost use Rattle.copyin.specs.contracts.message.Carried as carried;
     ghost use Rattle.copyin.specs.Worlds.{WorldView, world_code};
-    ghost use Rattle.kernel_core.specs.Answers.{IsSound};
+    ghost use Rattle.kernel_core_base.specs.Answers.{IsSound};
 
     ghost Value = { WorldView };
 
-    ghost coded = { world_code (space_code entry.the_row.coded) (ports_code (kept_code carried.the_row.coded) attributes.the_row.coded) (ledger_code counts.the_row.coded) };
+    ghost coded = { world_code (space_code entry.the_row.coded) (ports_code (kept_code carried.the_row.coded) attributes.the_row.coded) (ledger_code counts.the_row.coded) (sets_code set_record.the_row.coded) };
 
     ghost view = { λ k. k.world };
 
@@ -73,9 +77,20 @@ fn serve(world: &mut World, alloc: Global, event: &Event) -> Reply
     match event {
         Event::TaskCreate => create_task(world, alloc),
         Event::Allocate(task, right) => allocate(world, *task, *right),
+        Event::AllocateName(task, right, name) => allocate_name(world, *task, *right, *name),
+        Event::Deallocate(task, name) => deallocate(world, *task, *name),
+        Event::Destroy(task, name) => destroy(world, *task, *name),
+        Event::ModRefs(task, name, right, delta) => mod_refs(world, *task, *name, *right, *delta),
         Event::GetRefs(task, name, right) => get_refs(world, *task, *name, *right),
         Event::NameType(task, name) => name_type(world, *task, *name),
+        Event::Names(task) => names(world, alloc, *task),
+        Event::Rename(task, from, to) => rename(world, *task, *from, *to),
         Event::ReceiveStatus(task, name) => receive_status(world, *task, *name),
+        Event::SetStatus(task, name) => set_status(world, alloc, *task, *name),
+        Event::MoveMember(task, member, after) => move_member(world, *task, *member, *after),
+        Event::SetQlimit(task, name, limit) => set_qlimit(world, *task, *name, *limit),
+        Event::SetMscount(task, name, count) => set_mscount(world, *task, *name, *count),
+        Event::SetSeqno(task, name, number) => set_seqno(world, *task, *name, *number),
         Event::InsertRight(task, name, from, poly, number) => {
             insert(world, *task, *name, *from, *poly, *number)
         }
@@ -83,6 +98,9 @@ fn serve(world: &mut World, alloc: Global, event: &Event) -> Reply
         Event::Send(task, bytes) => send(world, alloc, *task, bytes),
         Event::Receive(task, name, room, large) => {
             receive(world, alloc, *task, *name, *room, *large)
+        }
+        Event::ReceiveAgain(task, waited, room, large) => {
+            receive_again(world, alloc, *task, *waited, *room, *large)
         }
     }
 }

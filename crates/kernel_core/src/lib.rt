@@ -1,16 +1,18 @@
 //! The kernel: tasks, their names, ports and queued messages; each call of a task is one step.
 //!
-//! `specs/Answers` says what a step promises: each is a step of the machine of `mach_model`, whose
-//! state the tables show (`copyin`'s `specs/Shows`).
+//! `kernel_core_base`'s `specs/Answers` says what a step promises: each is a step of the machine of
+//! `mach_model`, whose state the tables show (`copyin`'s `specs/Shows`).
 #![tactic(auto)]
 
+#[cfg(test)]
+mod grouping_tests;
 mod handing;
 mod kernel;
-mod making;
+#[cfg(test)]
+mod naming_tests;
 mod receiving;
 mod runs;
 mod sending;
-mod telling;
 #[cfg(test)]
 mod tests;
 

@@ -3,7 +3,7 @@ ghost use Rattle.std.specs.Prelude.{◌≡◌, ◌<◌, ◌↔◌, IfOk, IfErr, 
 ghost use Rattle.mach_types.specs.declared.calls.Event.{Event as AnyEvent};
 ghost use Rattle.mach_types.specs.Numbers.{msg_number};
 ghost use Rattle.copyin.specs.Stands.{Stands};
-ghost use Rattle.kernel_core.specs.Answers.{IsSound, Serves};
+ghost use Rattle.kernel_core_base.specs.Answers.{IsSound, Serves};
 ghost use Rattle.kernel_core.specs.Sends.{SameButSlots, SendsText, CannotSend};
 
 use copyin::{World, check, commit};

@@ -1,7 +1,7 @@
 //! Whole runs, with ample memory.
 use crate::kernel::Kernel;
 use crate::runs::run;
-use mach_types::{Bytes, Event, Name, Reply, Status, TaskId, Waited};
+use mach_types::{Bytes, Event, Name, PortId, Reply, SetId, Status, TaskId, Waited};
 use std::alloc::{AllocError, Global};
 use std::test::Fail;
 
@@ -165,5 +165,30 @@ fn a_right_to_answer_with(rt: HostRuntime) -> Result<(), Fail> {
         ..counted(1, 1, 0)
     };
     assert!(rt; matches!(&told, Reply::Status(status) if *status == expected));
+    Ok(())
+}
+
+fn again(task: u32, waited: Waited, room: u32) -> Event {
+    Event::ReceiveAgain(TaskId::new(task), waited, room, false)
+}
+
+#[test]
+fn a_later_try(rt: HostRuntime) -> Result<(), Fail> {
+    let (port, set) = (Waited::Port(PortId::new(0)), Waited::Set(SetId::new(0)));
+    let mut kernel = Kernel::new(rt.alloc());
+    assert!(rt; is_code(&kernel.step(&again(0, port, 24)), 16));
+    let _ = kernel.step(&Event::TaskCreate);
+    assert!(rt; is_code(&kernel.step(&again(0, port, 24)), 0x1000_4009));
+    assert!(rt; is_code(&kernel.step(&again(0, set, 24)), 0x1000_4009));
+    let _ = kernel.step(&Event::TaskCreate);
+    let _ = kernel.step(&Event::Allocate(TaskId::new(0), 1));
+    let empty = kernel.step(&again(0, port, 24));
+    assert!(rt; matches!(&empty, Reply::Empty(Waited::Port(port)) if port.number() == 0));
+    assert!(rt; is_code(&kernel.step(&again(1, port, 24)), 0x1000_4006));
+    let _ = kernel.step(&send(rt.alloc(), &smallest(1))?);
+    let large = kernel.step(&again(0, port, 23));
+    assert!(rt; matches!(&large, Reply::TooLarge(length) if *length == 24));
+    let received = kernel.step(&again(0, port, 24));
+    assert!(rt; matches!(&received, Reply::Message(bytes) if bytes.as_slice().len() == 24));
     Ok(())
 }

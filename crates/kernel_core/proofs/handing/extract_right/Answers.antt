@@ -1,4 +1,4 @@
-use Rattle.std.proofs.Common.{◌≡◌, ℕ, ◌≤◌, inl, inr}
+use Rattle.std.proofs.Common.{inr}
 use Rattle.kernel_core.specs.Handing.{going}
 use Rattle.kernel_core.proofs.Seen.{is_left, can_copy}
 use Rattle.kernel_core.proofs.Readied.{few_then, can_give}

@@ -1,11 +1,10 @@
-use Rattle.std.proofs.Common.{◌≡◌, ℕ, ◌≤◌, inl, inr, refl, sym, subst}
+use Rattle.std.proofs.Common.{◌≡◌, ℕ, inl, inr, refl, sym, subst}
 use Rattle.mach_types.specs.declared.rights.Disposition.{Disposition}
 use Rattle.mach_types.specs.declared.codes.KernReturn.{KernReturn}
-use Rattle.mach_types.specs.Numbers.{kern_number}
-use Rattle.mach_types.specs.Guards.{FirstIs, NoneHolds}
+use Rattle.mach_types.specs.Guards.{NoneHolds}
 use Rattle.kernel_core.specs.declared.handing.Going.{Going}
-use Rattle.kernel_core.specs.Handing.{going, insert_later, InsertFails, MayInsert, InsertRefused}
-use Rattle.kernel_core.proofs.Results.{if_ok, if_err, of_ok, of_err}
+use Rattle.kernel_core.specs.Handing.{going, insert_later, InsertFails, MayInsert}
+use Rattle.kernel_core_base.proofs.Results.{if_ok, if_err, of_ok, of_err}
 use Rattle.kernel_core.proofs.handing.judge_insert.Goals as goal
 
 same_going : (g : Going) (d : Disposition) (p : ℕ) → d ≡ g.given → p ≡ g.port → g ≡ going d p g.left

@@ -26,3 +26,30 @@ returns-in-InsertRight c = rw c.in-InsertRight.is c.insert.ensures
 
 pub returns-in-ExtractRight : goal.returns-in-ExtractRight
 returns-in-ExtractRight c = rw c.in-ExtractRight.is c.extract.ensures
+
+pub returns-in-SetStatus : goal.returns-in-SetStatus
+returns-in-SetStatus c = rw c.in-SetStatus.is c.set_status.ensures
+
+pub returns-in-MoveMember : goal.returns-in-MoveMember
+returns-in-MoveMember c = rw c.in-MoveMember.is c.move_member.ensures
+
+pub returns-in-AllocateName : goal.returns-in-AllocateName
+returns-in-AllocateName c = rw c.in-AllocateName.is c.allocate_name.ensures
+
+pub returns-in-Names : goal.returns-in-Names
+returns-in-Names c = rw c.in-Names.is c.names.ensures
+
+pub returns-in-Rename : goal.returns-in-Rename
+returns-in-Rename c = rw c.in-Rename.is c.rename.ensures
+
+pub returns-in-SetQlimit : goal.returns-in-SetQlimit
+returns-in-SetQlimit c = rw c.in-SetQlimit.is c.set_qlimit.ensures
+
+pub returns-in-SetMscount : goal.returns-in-SetMscount
+returns-in-SetMscount c = rw c.in-SetMscount.is c.set_mscount.ensures
+
+pub returns-in-SetSeqno : goal.returns-in-SetSeqno
+returns-in-SetSeqno c = rw c.in-SetSeqno.is c.set_seqno.ensures
+
+pub returns-in-ReceiveAgain : goal.returns-in-ReceiveAgain
+returns-in-ReceiveAgain c = rw c.in-ReceiveAgain.is c.receive_again.ensures

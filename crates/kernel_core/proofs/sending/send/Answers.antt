@@ -7,17 +7,17 @@ use Rattle.kernel_core.proofs.sending.send.Goals as goal
 pub returns-then-not-has_task : goal.returns-then-not-has_task
 returns-then-not-has_task c =
     let past : length c.args.world.now.spaces ≤ c.args.task = grind (arith, c.has_task.ensures, c.if-not-has_task.true) in
-    rw c.number.ensures (send_no_task c.args.world.now c.args.task c.args.bytes.now c.requires.in_no_set past)
+    rw c.number.ensures (send_no_task c.args.world.now c.args.task c.args.bytes.now past)
 
 pub returns-in-Ok : goal.returns-in-Ok
 returns-in-Ok c =
     let below : c.args.task < length c.args.world.now.spaces = grind (arith, c.has_task.ensures, c.if-not-has_task.false) in
-    rw c.number-in-Ok.ensures (send_done c.args.world.now c.args.task below c.args.bytes.now c.send_text.new.world c.requires.in_no_set
+    rw c.number-in-Ok.ensures (send_done c.args.world.now c.args.task below c.args.bytes.now c.send_text.new.world
     (subst (λ (xs : List ℕ). SendsText c.args.world.now c.args.task xs c.send_text.new.world) c.as_slice.ensures c.in-Ok.ensures.ok))
 
 pub returns-in-Err : goal.returns-in-Err
 returns-in-Err c =
     let below : c.args.task < length c.args.world.now.spaces = grind (arith, c.has_task.ensures, c.if-not-has_task.false) in
     rw c.number-in-Err.ensures
-    (send_refused c.args.world.now c.args.task below c.args.bytes.now c.send_text.new.world _ c.requires.in_no_set c.in-Err.ensures.err.0
+    (send_refused c.args.world.now c.args.task below c.args.bytes.now c.send_text.new.world _ c.in-Err.ensures.err.0
     (subst (λ (xs : List ℕ). CannotSend c.args.world.now c.args.task xs (msg_number c.in-Err.code)) c.as_slice.ensures c.in-Err.ensures.err.1))

@@ -1,4 +1,4 @@
-use Rattle.kernel_core.proofs.Stepping.{opening_shows, opening_sound}
+use Rattle.kernel_core_base.proofs.Stepping.{opening_shows, opening_sound}
 use Rattle.kernel_core.proofs.kernel.Kernel.new.Goals as goal
 
 pub returns : goal.returns

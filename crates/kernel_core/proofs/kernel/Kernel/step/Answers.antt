@@ -1,7 +1,7 @@
 use Rattle.std.proofs.Common.{sym, subst}
 use Rattle.copyin.specs.Worlds.{WorldView}
 use Rattle.copyin.specs.Shows.{Shows}
-use Rattle.kernel_core.proofs.Stepping.{stays_sound}
+use Rattle.kernel_core_base.proofs.Stepping.{stays_sound}
 use Rattle.kernel_core.proofs.kernel.Kernel.step.Goals as goal
 
 pub invariant_of-self : goal.invariant_of-self
