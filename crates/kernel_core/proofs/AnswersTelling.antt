@@ -50,7 +50,7 @@ refs_no_right w sound task name number below none = record {
         let e : 4 ≢ number = none right.DeadName in
         omega (arith, a, b, c, d, e)
 
-few_numbers : (r : Right) → ¬ (4 < right_number r)
+pub few_numbers : (r : Right) → ¬ (4 < right_number r)
 few_numbers right.Send m = omega (arith, m)
 few_numbers right.Receive m = omega (arith, m)
 few_numbers right.SendOnce m = omega (arith, m)
@@ -67,7 +67,7 @@ refs_no_name w sound task name r below none = record {
 
 -- the tables count the references that the machine counts
 module _ (w : WorldView) (s : State) (a : Agrees w s) (task name : ℕ) where
-  counted : (r : Right) (e : Entry) → entry_at w task name ≡ Some e → references_in r e ≡ references s task (target_of e) (right_number r)
+  pub counted : (r : Right) (e : Entry) → entry_at w task name ≡ Some e → references_in r e ≡ references s task (target_of e) (right_number r)
   counted right.Send (entry.Receive p) is = sym ((a.references task name (entry.Receive p) p is refl).1)
   counted right.Send (entry.Send p n) is = sym ((a.references task name (entry.Send p n) p is refl).1)
   counted right.Send (entry.ReceiveAndSend p n) is = sym ((a.references task name (entry.ReceiveAndSend p n) p is refl).1)
@@ -144,20 +144,21 @@ type_no_name w sound task name below none = record {
   in_no_set = sound.in_no_set;
 }
 
+-- the type in the tables is the machine's, as no request stands
+pub type_whole : (w : WorldView) (s : State) → Shows w s → (task name : ℕ) (e : Entry) → entry_at w task name ≡ Some e → type_in e ≡ type_of s task name (target_of e)
+type_whole w s sh task name e is =
+    let b = bits w s sh.agrees task name e is in
+    let n : (if s.stands (dead_name task name) then request_bit else 0) ≡ 0 = rw (sh.lawful.none_stands (dead_name task name)) refl in
+    omega (arith, b, n)
+
 pub type_told : (w : WorldView) → IsSound w → (task name : ℕ) (e : Entry) → task < length w.spaces → entry_at w task name ≡ Some e →
     Serves w (Event.NameType task name) (Reply.NameType (type_in e)) w
 type_told w sound task name e below is = record {
   answers = λ now s sh. done s sh.lawful now (Event.NameType task name) (Reply.NameType (type_in e)) s w
       (among_tasks w s sh.agrees task below, (used w s sh.agrees task name e is, tt))
-      ((target_of e, found w s sh.agrees task name e is, whole s sh), refl, refl) sh.agrees;
+      ((target_of e, found w s sh.agrees task name e is, type_whole w s sh task name e is), refl, refl) sh.agrees;
   in_no_set = sound.in_no_set;
 }
-  where
-    whole : (s : State) → Shows w s → type_in e ≡ type_of s task name (target_of e)
-    whole s sh =
-        let b = bits w s sh.agrees task name e is in
-        let n : (if s.stands (dead_name task name) then request_bit else 0) ≡ 0 = rw (sh.lawful.none_stands (dead_name task name)) refl in
-        omega (arith, b, n)
 
 -- ---- ReceiveStatus
 

@@ -4,9 +4,15 @@ pub mod TaskMade
 pub mod Rooms
 pub mod PortMade
 pub mod PortAdded
+pub mod OnlyNames
 pub mod AnswersMaking
 pub mod Queued
 pub mod AnswersTelling
+pub mod Listed
+pub mod NameMoved
+pub mod AnswersNaming
+pub mod NumberSet
+pub mod AnswersSetting
 pub mod Ending
 pub mod NoSets
 pub mod SendsTexts
@@ -22,3 +28,11 @@ pub mod Unhanded
 pub mod Refused
 pub mod Results
 pub mod AnswersHanding
+pub mod LosingTokens
+pub mod LosingAgrees
+pub mod LosingSteps
+pub mod LosingDone
+pub mod LosingModified
+pub mod LosingGuards
+pub mod LosingSums
+pub mod AnswersLosing

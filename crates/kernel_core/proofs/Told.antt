@@ -1,13 +1,16 @@
 -- What the tables tell of a state that they agree with.
-use Rattle.std.proofs.Common.{◌≡◌, ℕ, ◌<◌, ◌≤◌, [], Option, Some, None, refl, sym, ap, subst, ◌∙◌, arith, true, false, Bool, inl, inr, length}
+use Rattle.std.proofs.Common.{◌≡◌, ℕ, ◌<◌, ◌≤◌, [], Option, Some, None, refl, sym, ap, subst, ◌∙◌, arith, true, false, Bool, ◌⊎◌, inl, inr, length}
 use Rattle.std.specs.Prelude.{is_some, slice_get, ◌≢◌}
 use Rattle.std.specs.Option.{option_map, option_to_list}
 use Rattle.std.specs.FinMap as map
 use Rattle.std.proofs.lemmas.Option.{slice_get_cases, slice_get_past}
+use Rattle.std.proofs.lemmas.Bool.Decides.{eqb_tells}
+use Rattle.mach_types.specs.Numbers.{null_word, dead_word}
 use Rattle.mach_types.specs.Tokens.{receive}
 use Rattle.mach_model.specs.State.{State, Target, lookup, Holds}
 use Rattle.mach_model.specs.Making.{IsNoTask}
 use Rattle.mach_model.specs.Status.{NamesReceive, one_if}
+use Rattle.mach_model.specs.Refusals.{IsNoName}
 use Rattle.mach_model.specs.Lawful.{IsLawful}
 use Rattle.mach_model.proofs.Settling.{named_lives}
 use Rattle.name_space.specs.declared.Entry.{Entry}
@@ -114,3 +117,26 @@ module _ (w : WorldView) (s : State) (a : Agrees w s) where
 
 pub receive_lives : (w : WorldView) (s : State) → Agrees w s → IsLawful s → (task name : ℕ) (x : Entry) (p : ℕ) → entry_at w task name ≡ Some x → receive_named x ≡ Some p → s.live_port p ≡ true
 receive_lives w s a l task name x p e is = named_lives s l task name p (names_port w s a task name x p e is)
+
+-- ---- numbers that are no names, and tests of what stands under a name
+
+pub is_no_name : (name : ℕ) → name ≤ dead_word → ¬ ((name ≢ null_word) × (name ≢ dead_word)) → IsNoName name
+is_no_name name fits not = elim (eqb_tells name null_word) [
+  | inl h ↦ inl h.1
+  | inr h ↦ elim (eqb_tells name dead_word) [
+    | inl g ↦ inr (let e = g.1 in omega (arith, e))
+    | inr g ↦ absurd (not (h.1, g.1))
+  ]
+]
+
+pub is_name : (name : ℕ) → name ≤ dead_word → (name ≢ null_word) × (name ≢ dead_word) → ¬ (IsNoName name)
+is_name name fits usable (inl e) = usable.0 e
+is_name name fits usable (inr e) = usable.1 (omega (arith, fits, e))
+
+pub is_there : {A : Type 0} (o : Option A) → is_some o ≡ true → (x : A) × (o ≡ Some x)
+is_there (Some x) e = (x, refl)
+is_there None e = absurd (cc)
+
+pub not_there : {A : Type 0} (o : Option A) → is_some o ≡ false → o ≡ None
+not_there (Some x) e = absurd (cc)
+not_there None e = refl

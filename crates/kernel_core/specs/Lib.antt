@@ -4,3 +4,6 @@ pub mod Tells
 pub mod Sends
 pub mod Receipts
 pub mod Handing
+pub mod Setting
+pub mod Naming
+pub mod Losing

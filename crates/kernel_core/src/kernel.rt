@@ -5,9 +5,12 @@ ghost use Rattle.copyin.specs.Shows.{Shows};
 ghost use Rattle.kernel_core.specs.Answers.{Answers, IsSound, Serves};
 
 use crate::handing::{extract, insert};
-use crate::making::{allocate, create_task};
+use crate::losing::{deallocate, destroy, mod_refs};
+use crate::making::{allocate, allocate_name, create_task};
+use crate::naming::{names, rename};
 use crate::receiving::receive;
 use crate::sending::send;
+use crate::setting::{set_mscount, set_qlimit, set_seqno};
 use crate::telling::{get_refs, name_type, receive_status};
 use copyin::World;
 use mach_types::{Event, Reply};
@@ -73,9 +76,18 @@ fn serve(world: &mut World, alloc: Global, event: &Event) -> Reply
     match event {
         Event::TaskCreate => create_task(world, alloc),
         Event::Allocate(task, right) => allocate(world, *task, *right),
+        Event::AllocateName(task, right, name) => allocate_name(world, *task, *right, *name),
+        Event::Deallocate(task, name) => deallocate(world, *task, *name),
+        Event::Destroy(task, name) => destroy(world, *task, *name),
+        Event::ModRefs(task, name, right, delta) => mod_refs(world, *task, *name, *right, *delta),
         Event::GetRefs(task, name, right) => get_refs(world, *task, *name, *right),
         Event::NameType(task, name) => name_type(world, *task, *name),
+        Event::Names(task) => names(world, alloc, *task),
+        Event::Rename(task, from, to) => rename(world, *task, *from, *to),
         Event::ReceiveStatus(task, name) => receive_status(world, *task, *name),
+        Event::SetQlimit(task, name, limit) => set_qlimit(world, *task, *name, *limit),
+        Event::SetMscount(task, name, count) => set_mscount(world, *task, *name, *count),
+        Event::SetSeqno(task, name, number) => set_seqno(world, *task, *name, *number),
         Event::InsertRight(task, name, from, poly, number) => {
             insert(world, *task, *name, *from, *poly, *number)
         }

@@ -6,10 +6,13 @@
 
 mod handing;
 mod kernel;
+mod losing;
 mod making;
+mod naming;
 mod receiving;
 mod runs;
 mod sending;
+mod setting;
 mod telling;
 #[cfg(test)]
 mod tests;

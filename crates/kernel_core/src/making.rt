@@ -1,13 +1,15 @@
-//! Making tasks and ports.
-ghost use Rattle.std.specs.Prelude.{◌≡◌, ◌≢◌, ℕ, ◌+◌, ◌-◌, ◌<◌, ◌≤◌, ◌++◌, ◌∷◌, [], Some, None, length, slice_get, slice_set, IfOk, IfErr, OnOk, OnErr, MatchBool};
+//! Making tasks, ports and dead names.
+ghost use Rattle.std.specs.Prelude.{◌≡◌, ◌≢◌, ℕ, ◌+◌, ◌-◌, ◌<◌, ◌≤◌, ◌++◌, ◌∷◌, [], Some, None, length, slice_get, slice_set, IfOk, IfErr, OnOk, OnErr, MatchBool, MatchOption};
 ghost use Rattle.std.specs.FinMap as map;
 ghost use Rattle.mach_types.specs.declared.calls.Event.{Event};
 ghost use Rattle.mach_types.specs.Numbers.{kern_number, most_names, most_rights, most_identities};
 ghost use Rattle.name_space.specs.Names.{SpaceView, IsUsable, HasNoOther};
 ghost use Rattle.rights.specs.declared.RightKind.TheVariants as right;
 ghost use Rattle.rights.specs.Ledger.{IsEntered, entered, made};
+ghost use Rattle.copyin.specs.Worlds.{entry_at};
 ghost use Rattle.kernel_core.specs.Answers.{IsSound, Serves};
-ghost use Rattle.kernel_core.specs.Makes.{empty_space, SameButRoom, with_port, AddsPort, CanAdd, MakesPort, IsFullOf, HasRoomOf, CannotMake};
+ghost use Rattle.kernel_core.specs.declared.making.NewRight.TheVariants as AnyRight;
+ghost use Rattle.kernel_core.specs.Makes.{empty_space, SameButRoom, right_made, with_port, AddsPort, AddsDeadName, Adds, CanAdd, MakesUnder, IsFullFor, HasRoomFor, IsFullOf, HasRoomOf, CannotMake};
 
 use copyin::World;
 use mach_types::{KernReturn, Name, PortId, Reply, Right, TaskId};
@@ -15,6 +17,7 @@ use name_space::{Entry, Space};
 use port::Holder;
 use rights::RightKind;
 use std::alloc::{AllocError, Global};
+use user_refs::UserRefs;
 
 /// The most tasks that a kernel makes.
 const MOST_TASKS: usize = 65_536;
@@ -54,11 +57,21 @@ fn push_task(world: &mut World, alloc: Global) -> Result<(), AllocError>
     Ok(())
 }
 
-/// `Allocate` (Port Manipulation Interface, `mach_port_allocate`): a new port, whose receive right the
-/// task has under a fresh name. Only receive rights, number 1, can be made.
+// What can be made under a name.
+#[derive(Clone, Copy)]
+enum NewRight {
+    // A port, of which the task has the receive right.
+    Port,
+    // A dead name of one reference.
+    DeadName,
+}
+
+/// `Allocate` (Port Manipulation Interface, `mach_port_allocate`): what the right's number says, under a
+/// fresh name. A receive right, number 1, is of a new port; a dead name, number 4, has one reference.
+/// Port sets, number 3, can't be made yet.
 ///
 /// `KERN_INVALID_TASK`; `KERN_INVALID_VALUE` for another number; `KERN_NO_SPACE` where the task has
-/// 65,535 names, there are 4,294,967,295 rights or all identities were given;
+/// 65,535 names or, for a port, there are 4,294,967,295 rights or all identities were given;
 /// `KERN_RESOURCE_SHORTAGE` for want of memory. Logarithmic in the names of the task and in the ports,
 /// but for a move of 16 bytes for each greater name, and where tables move to a larger place.
 pub(crate) fn allocate(world: &mut World, task: TaskId, right: u32) -> Reply
@@ -68,50 +81,128 @@ pub(crate) fn allocate(world: &mut World, task: TaskId, right: u32) -> Reply
     if !world.has_task(task) {
         return Reply::Code(KernReturn::InvalidTask.number());
     }
-    if right != Right::Receive.number() {
+    let Some(made) = right_to_make(right) else {
         return Reply::Code(KernReturn::InvalidValue.number());
-    }
-    match make_port(world, task) {
-        Ok(name) => Reply::Name(name),
+    };
+    let name = world.space(task).fresh();
+    match make_under(world, task, made, name) {
+        Ok(()) => Reply::Name(name),
         Err(code) => Reply::Code(code.number()),
     }
 }
 
-// A new port, whose receive right the task has under a fresh name.
-fn make_port(world: &mut World, task: TaskId) -> Result<Name, KernReturn>
+/// `AllocateName` (Port Manipulation Interface, `mach_port_allocate_name`): as [`allocate`], under the
+/// name that is given.
+///
+/// `KERN_INVALID_TASK`; `KERN_INVALID_VALUE` for another number, and for the names 0 and 0xffffffff;
+/// `KERN_NAME_EXISTS` where the task uses the name; then as [`allocate`], also in cost.
+pub(crate) fn allocate_name(world: &mut World, task: TaskId, right: u32, name: Name) -> Reply
+    requires { IsSound world.old }
+    ensures { Serves world.old (Event.AllocateName task right name) result world.new }
+{
+    if !world.has_task(task) {
+        return Reply::Code(KernReturn::InvalidTask.number());
+    }
+    let Some(made) = right_to_make(right) else {
+        return Reply::Code(KernReturn::InvalidValue.number());
+    };
+    if !name.is_usable() {
+        return Reply::Code(KernReturn::InvalidValue.number());
+    }
+    if world.lookup(task, name).is_some() {
+        return Reply::Code(KernReturn::NameExists.number());
+    }
+    match make_under(world, task, made, name) {
+        Ok(()) => Reply::Name(name),
+        Err(code) => Reply::Code(code.number()),
+    }
+}
+
+// What can be made of the right of this number.
+fn right_to_make(number: u32) -> Option<NewRight>
+    ensures { MatchOption result ((number ≢ 1) × (number ≢ 4)) (λ made. right_made made ≡ number) }
+{
+    match Right::from_number(number)? {
+        Right::Receive => Some(NewRight::Port),
+        Right::DeadName => Some(NewRight::DeadName),
+        _ => None,
+    }
+}
+
+// Makes it under a name that isn't in use.
+fn make_under(
+    world: &mut World,
+    task: TaskId,
+    right: NewRight,
+    name: Name,
+) -> Result<(), KernReturn>
     requires there { task < length world.old.spaces }
     requires sound { IsSound world.old }
-    ensures ok { IfOk result (λ name. MakesPort world.old task name world.new) }
-    ensures err { IfErr result (λ code. SameButRoom world.old world.new × CannotMake world.old task (kern_number code)) }
+    requires usable { IsUsable name }
+    requires unused { entry_at world.old task name ≡ None }
+    ensures ok { OnOk result (MakesUnder world.old task right name world.new) }
+    ensures err { IfErr result (λ code. SameButRoom world.old world.new × CannotMake world.old task right (kern_number code)) }
 {
-    if is_full(world, task) {
+    if is_full(world, task, right) {
         return Err(KernReturn::NoSpace);
     }
-    let name = world.space(task).fresh();
-    match add_port(world, task, name) {
-        Ok(()) => Ok(name),
+    match add_right(world, task, right, name) {
+        Ok(()) => Ok(()),
         Err(_) => Err(KernReturn::ResourceShortage),
     }
 }
 
-// Whether there is no room for one more port that the task names.
-fn is_full(world: &World, task: TaskId) -> bool
+// Whether there is no room for one more that the task names.
+fn is_full(world: &World, task: TaskId, right: NewRight) -> bool
     requires { task < length world.now.spaces }
-    ensures { MatchBool result (IsFullOf world.now task) (HasRoomOf world.now task) }
+    ensures { MatchBool result (IsFullOf world.now task right) (HasRoomOf world.now task right) }
 {
     if world.space(task).is_full() {
         return true;
     }
+    match right {
+        NewRight::Port => are_ports_full(world),
+        NewRight::DeadName => false,
+    }
+}
+
+// Whether there is no room for one more port, wherever it is named.
+fn are_ports_full(world: &World) -> bool
+    ensures { MatchBool result (IsFullFor world.now AnyRight.Port) (HasRoomFor world.now AnyRight.Port) }
+{
     if world.ledger.total() == u32::MAX {
         return true;
     }
     world.ports.is_exhausted()
 }
 
-// A port more, named by the task. All growths come first: where one is refused, nothing changes but
-// room for names to come.
+// One right more, named by the task. Where memory is refused, nothing changes but room for names to
+// come.
+fn add_right(world: &mut World, task: TaskId, right: NewRight, name: Name) -> Result<(), AllocError>
+    requires { CanAdd world.old task right name }
+    ensures ok { OnOk result (Adds world.old task right name world.new) }
+    ensures err { OnErr result (SameButRoom world.old world.new) }
+{
+    match right {
+        NewRight::Port => add_port(world, task, name),
+        NewRight::DeadName => add_dead_name(world, task, name),
+    }
+}
+
+// A dead name more, of one reference.
+fn add_dead_name(world: &mut World, task: TaskId, name: Name) -> Result<(), AllocError>
+    requires { CanAdd world.old task AnyRight.DeadName name }
+    ensures ok { OnOk result (AddsDeadName world.old task name world.new) }
+    ensures err { OnErr result (SameButRoom world.old world.new) }
+{
+    reserve_name(world, task)?;
+    insert_entry(world, task, name, Entry::DeadName(UserRefs::one()));
+    Ok(())
+}
+
+// A port more, named by the task. All growths come first.
 fn add_port(world: &mut World, task: TaskId, name: Name) -> Result<(), AllocError>
-    requires { CanAdd world.old task name }
+    requires { CanAdd world.old task AnyRight.Port name }
     ensures ok { OnOk result (AddsPort world.old task name world.new) }
     ensures err { OnErr result (SameButRoom world.old world.new) }
 {

@@ -34,8 +34,8 @@ pub(crate) fn get_refs(world: &World, task: TaskId, name: Name, right: u32) -> R
     }
 }
 
-// How many references to the right an entry has.
-fn references(entry: &Entry, right: Right) -> u32
+/// How many references to the right an entry has.
+pub(crate) fn references(entry: &Entry, right: Right) -> u32
     ensures { result ≡ references_in right entry.now }
 {
     match right {
@@ -75,8 +75,8 @@ pub(crate) fn name_type(world: &World, task: TaskId, name: Name) -> Reply
     }
 }
 
-// The bits of the rights that an entry has.
-fn type_of(entry: &Entry) -> u32
+/// The bits of the rights that an entry has.
+pub(crate) fn type_of(entry: &Entry) -> u32
     ensures { result ≡ type_in entry.now }
 {
     match entry {

@@ -5,10 +5,18 @@ use Rattle.mach_types.specs.declared.calls.Event.{Event}
 use Rattle.mach_types.specs.declared.calls.Reply.{Reply}
 use Rattle.mach_types.specs.declared.calls.Waited.{Waited}
 use Rattle.mach_model.specs.State.{State, Target, lookup, queue}
-use Rattle.mach_model.specs.Receiving.{Owed, waits_for, IsEmptyFor}
+use Rattle.mach_model.specs.Receiving.{waits_for, IsEmptyFor}
+use Rattle.mach_model.specs.Notices.{Owed}
 use Rattle.mach_model.specs.Machine.{Does, Step}
 
 does_code : (now : ℕ) (old : State) (event : Event) (code : ℕ) (mid : State) (owed : Owed) → Does now old event (Reply.Code code) mid owed → code ≡ 0
+does_code now old (Event.Deallocate task name) code mid owed d = d.0
+does_code now old (Event.Destroy task name) code mid owed d = d.0
+does_code now old (Event.ModRefs task name right delta) code mid owed d = d.0
+does_code now old (Event.Rename task o n) code mid owed d = d.0
+does_code now old (Event.SetQlimit task name n) code mid owed d = d.0
+does_code now old (Event.SetMscount task name n) code mid owed d = d.0
+does_code now old (Event.SetSeqno task name n) code mid owed d = d.0
 does_code now old (Event.InsertRight task name from poly number) code mid owed d = d.0
 does_code now old (Event.Send task bytes) code mid owed d = d.0
 does_code now old (Event.Receive task name room large) code mid owed d = absurd d.2

@@ -99,7 +99,7 @@ few_two = grind (gets, rules)
 -- ---- a second port
 
 third_guards : NoneHolds (guards s2 (Event.Allocate 0 1))
-third_guards = ((λ h. cc), ((λ h. h.0 refl), ((λ h. h refl), (not_full, tt))))
+third_guards = ((λ h. cc), ((λ h. h.0 refl), ((λ h. omega (arith, h)), (not_full, tt))))
   where
     not_full : ¬ (IsFull s2 0 1)
     not_full (inl h) = let f = few_one in omega (arith, h, f)
@@ -107,7 +107,7 @@ third_guards = ((λ h. cc), ((λ h. h.0 refl), ((λ h. h refl), (not_full, tt)))
     not_full (inr (inr h)) = omega (arith, h.0)
 
 third : Step 2 s2 (Event.Allocate 0 1) (Reply.Name 2) a3 × IsLawful a3
-third = quiet_step 2 s2 (Event.Allocate 0 1) (Reply.Name 2) a3 second.1 third_guards (fresh_two, record { rest = refl; tokens = λ h. omega arith }, refl)
+third = quiet_step 2 s2 (Event.Allocate 0 1) (Reply.Name 2) a3 second.1 third_guards (fresh_two, inl (refl, record { rest = refl; tokens = λ h. omega arith }), refl)
 
 -- ---- asking
 

@@ -39,17 +39,17 @@ s4 = record (with_taken 0 s3) { ledger = token receive 0 (in_task 0) ∷ [] }
 lookup_one : (t : Target) → map.get {R = nat_cmp} (map.insert map.empty 1 t) 1 ≡ Some t
 lookup_one t = grind (gets, rules)
 
-fresh_one : IsFresh map.empty 1
+pub fresh_one : IsFresh map.empty 1
 fresh_one = record { unused = get-empty nat_cmp 1; not_null = omega arith; least = λ n a b. absurd (omega arith) }
 
-few_names : map.len (map.empty {K = ℕ} {X = Target} {R = nat_cmp}) < 65535
+pub few_names : map.len (map.empty {K = ℕ} {X = Target} {R = nat_cmp}) < 65535
 few_names = rw len-empty (omega arith)
 
 pub first : Step 0 opening Event.TaskCreate (Reply.Task 0) s1 × IsLawful s1
 first = quiet_step 0 opening Event.TaskCreate (Reply.Task 0) s1 opening-lawful ((λ h. omega arith), tt) (record { task_is = refl; rest = refl }, refl)
 
 second_guards : NoneHolds (guards s1 (Event.Allocate 0 1))
-second_guards = ((λ h. cc), ((λ h. h.0 refl), ((λ h. h refl), (not_full, tt))))
+second_guards = ((λ h. cc), ((λ h. h.0 refl), ((λ h. omega (arith, h)), (not_full, tt))))
   where
     not_full : ¬ (IsFull s1 0 1)
     not_full (inl h) = let f = few_names in omega (arith, h, f)
@@ -57,7 +57,7 @@ second_guards = ((λ h. cc), ((λ h. h.0 refl), ((λ h. h refl), (not_full, tt))
     not_full (inr (inr h)) = omega (arith, h.0)
 
 pub second : Step 1 s1 (Event.Allocate 0 1) (Reply.Name 1) s2 × IsLawful s2
-second = quiet_step 1 s1 (Event.Allocate 0 1) (Reply.Name 1) s2 first.1 second_guards (fresh_one, record { rest = refl; tokens = λ h. omega arith }, refl)
+second = quiet_step 1 s1 (Event.Allocate 0 1) (Reply.Name 1) s2 first.1 second_guards (fresh_one, inl (refl, record { rest = refl; tokens = λ h. omega arith }), refl)
 
 pub good_header : ¬ (BadHeader 20 0)
 good_header = grind arith

@@ -87,8 +87,8 @@ pub second : Step 1 s1 Event.TaskCreate (Reply.Task 1) b2 × IsLawful b2
 second = quiet_step 1 s1 Event.TaskCreate (Reply.Task 1) b2 first.1 ((λ h. omega arith), tt) (record { task_is = refl; rest = refl }, refl)
 
 pub third : Step 2 b2 (Event.Allocate 0 1) (Reply.Name 1) b3 × IsLawful b3
-third = quiet_step 2 b2 (Event.Allocate 0 1) (Reply.Name 1) b3 second.1 ((λ h. cc), ((λ h. h.0 refl), ((λ h. h refl), (not_full, tt))))
-    (fresh_one, record { rest = refl; tokens = λ h. omega arith }, refl)
+third = quiet_step 2 b2 (Event.Allocate 0 1) (Reply.Name 1) b3 second.1 ((λ h. cc), ((λ h. h.0 refl), ((λ h. omega (arith, h)), (not_full, tt))))
+    (fresh_one, inl (refl, record { rest = refl; tokens = λ h. omega arith }), refl)
   where
     not_full : ¬ (IsFull b2 0 1)
     not_full (inl h) = let f = few_empty in omega (arith, h, f)
@@ -96,8 +96,8 @@ third = quiet_step 2 b2 (Event.Allocate 0 1) (Reply.Name 1) b3 second.1 ((λ h. 
     not_full (inr (inr h)) = omega (arith, h.0)
 
 fourth : Step 3 b3 (Event.Allocate 1 1) (Reply.Name 1) b4 × IsLawful b4
-fourth = quiet_step 3 b3 (Event.Allocate 1 1) (Reply.Name 1) b4 third.1 ((λ h. cc), ((λ h. h.0 refl), ((λ h. h refl), (not_full, tt))))
-    (fresh_one, record { rest = refl; tokens = λ h. omega arith }, refl)
+fourth = quiet_step 3 b3 (Event.Allocate 1 1) (Reply.Name 1) b4 third.1 ((λ h. cc), ((λ h. h.0 refl), ((λ h. omega (arith, h)), (not_full, tt))))
+    (fresh_one, inl (refl, record { rest = refl; tokens = λ h. omega arith }), refl)
   where
     not_full : ¬ (IsFull b3 1 1)
     not_full (inl h) = let f = few_empty in omega (arith, h, f)

@@ -1,6 +1,7 @@
 mod Meanings
 mod Receiving
 mod Apart
+mod Untouched
 mod Steps
 mod Walking
 mod Told
@@ -10,4 +11,5 @@ mod Answered
 mod Answering
 mod Gathering
 mod Handed
+mod Naming
 mod OnceTaken

@@ -25,21 +25,23 @@ Grows-trans a b c f g n x e = g n x (f n x e)
 Grows-same : (task : ℕ) (s t : State) → t ≡ s → Grows (s.naming task) (t.naming task)
 Grows-same task s t e = subst (λ (x : State). Grows (s.naming task) (x.naming task)) (sym e) (λ n x f. f)
 
--- the live ports stay the same too, and the task loses no right
+-- the live ports and the numbers that ports are at stay the same too, and the task loses no right
 pub record Gives (task : ℕ) (old new : State) : Type 0 where
   pub grows : Grows (old.naming task) (new.naming task)
   pub live : new.live_port ≡ old.live_port
+  pub sequence : new.sequence ≡ old.sequence
   pub holds : (k : Kind) (q : ℕ) → held old task k q ≤ held new task k q
 
 Gives-trans : (task : ℕ) (a b c : State) → Gives task a b → Gives task b c → Gives task a c
 Gives-trans task a b c f g = record {
   grows = Grows-trans (a.naming task) (b.naming task) (c.naming task) f.grows g.grows;
   live = g.live ∙ f.live;
+  sequence = g.sequence ∙ f.sequence;
   holds = λ k q. omega (arith, f.holds k q, g.holds k q);
 }
 
 pub Gives-refl : (task : ℕ) (s : State) → Gives task s s
-Gives-refl task s = record { grows = λ n x f. f; live = refl; holds = λ k q. omega arith }
+Gives-refl task s = record { grows = λ n x f. f; live = refl; sequence = refl; holds = λ k q. omega arith }
 
 pub Gives-same : (task : ℕ) (s t : State) → t ≡ s → Gives task s t
 Gives-same task s t e = subst (λ (x : State). Gives task s x) (sym e) (Gives-refl task s)
@@ -50,6 +52,7 @@ Named-gives task name target old new n = record {
       subst (λ (names : Names). map.get names m ≡ Some x) (sym (ap (λ (s : State). s.naming task) n.rest ∙ at_same old.naming task (map.insert (old.naming task) name target) task refl))
       (kept (old.naming task) name target m x n.fresh.unused e);
   live = ap (λ (s : State). s.live_port) n.rest;
+  sequence = ap (λ (s : State). s.sequence) n.rest;
   holds = λ k q. subst (λ (s : State). held old task k q ≤ held s task k q) (sym n.rest) (omega arith);
 }
 
@@ -121,6 +124,7 @@ GiveRight-word task place kind p before old w new away g r =
       record {
         grows = Grows-trans (old.naming task) (r.named_state.naming task) (new.naming task) m.0.grows more;
         live = ap (λ (s : State). s.live_port) r.rest ∙ m.0.live;
+        sequence = ap (λ (s : State). s.sequence) r.rest ∙ m.0.sequence;
         holds = λ k q.
             let t = r.tokens (λ x. if is_held task k q x then 1 else 0) in
             let z = both_test (is_of k q (token kind p place)) (is_in_task task place) (inr away) in omega (arith, t, z);

@@ -1,7 +1,6 @@
 -- What one step from a lawful state does to the logs, and takes from them.
-use Rattle.std.proofs.Common.{◌≡◌, ℕ, ◌+◌, ◌<◌, List, [], ◌∷◌, ◌++◌, Some, refl, sym, ap, subst, ◌∙◌, arith, true, false, Bool, ◌⊎◌, inl, inr, length}
+use Rattle.std.proofs.Common.{◌≡◌, ℕ, ◌+◌, ◌%◌, ◌^◌, ◌<◌, List, [], ◌∷◌, ◌++◌, Some, refl, sym, ap, subst, ◌∙◌, arith, true, false, Bool, ◌⊎◌, inl, inr}
 use Rattle.std.specs.Prelude.{if◌then◌else◌}
-use Rattle.std.proofs.lemmas.Bool.Decides.{eqb_tells}
 use Rattle.mach_types.specs.declared.calls.Event.{Event}
 use Rattle.mach_types.specs.declared.calls.Reply.{Reply}
 use Rattle.mach_types.specs.declared.calls.Waited.{Waited}
@@ -13,12 +12,13 @@ use Rattle.mach_types.specs.Grammar.{Header, WireBody}
 use Rattle.mach_model.specs.State.{State, Target, lookup, Holds, at}
 use Rattle.mach_model.specs.Handing.{Inserts, Extracts}
 use Rattle.mach_model.specs.Sending.{Sends, SendRefuses, RightsRefuse, sent_guards, place_of, entry}
-use Rattle.mach_model.specs.Receiving.{Owed, waits_for, TakesFrom, Receives}
+use Rattle.mach_model.specs.Receiving.{waits_for, TakesFrom, Receives}
+use Rattle.mach_model.specs.Notices.{Owed}
 use Rattle.mach_model.specs.ReceivedMeans.{ReceivedMeans}
 use Rattle.mach_model.specs.Refusals.{guards, Refuses}
 use Rattle.mach_model.specs.Machine.{Does, Step}
 use Rattle.mach_model.specs.Lawful.{IsLawful}
-use Rattle.mach_model.proofs.At.{at_same, at_other, at_own}
+use Rattle.mach_model.proofs.At.{at_other, at_own}
 use Rattle.mach_model.proofs.Settling.{IsReordered}
 use Rattle.mach_model.proofs.Weigh.{both_test}
 use Rattle.mach_model.proofs.Moving.{shape}
@@ -27,6 +27,7 @@ use Rattle.mach_model.proofs.ReceiveLawful.{Receives-removes}
 use Rattle.mach_model.proofs.HandLawful.{hands_shape, Inserts-hands, Extracts-hands}
 use Rattle.mach_model.proofs.StepLawful.{Done-mid, TakesFrom-holds, TakesFrom-live, not_false}
 use Rattle.mach_laws.specs.Sent.{Accepts}
+use Rattle.mach_laws.proofs.Untouched.{Untouched, by_rest, makes_untouched, deallocates_untouched, destroys_untouched, modifies_untouched, renames_untouched}
 use Rattle.mach_laws.specs.Received.{NamesSource, Delivers}
 use Rattle.mach_laws.proofs.Meanings.{Sends-means}
 use Rattle.mach_laws.proofs.Receiving.{Gives, GiveReply-means, GiveBody-means}
@@ -129,11 +130,8 @@ SameLogs old new = (p : ℕ) → new.log p ≡ old.log p
 same_logs : (old mid new : State) → mid ≡ old → IsReordered mid new → SameLogs old new
 same_logs old mid new e r p = ap (λ (x : State). x.log p) r.rest ∙ ap (λ (x : State). x.log p) e
 
-made_log : (old : State) → IsLawful old → (p : ℕ) → at old.log old.ports_made [] p ≡ old.log p
-made_log old l p = elim (eqb_tells p old.ports_made) [
-  | inl h ↦ at_same old.log old.ports_made [] p h.1 ∙ sym (l.unmade_log p (omega (arith, h.1)))
-  | inr h ↦ at_other old.log old.ports_made [] p h.1
-]
+untouched_logs : (old mid new : State) → Untouched old mid → IsReordered mid new → SameLogs old new
+untouched_logs old mid new u r p = ap (λ (x : State). x.log p) r.rest ∙ u.log p
 
 inserted_shape : (task name from poly number : ℕ) (old mid : State) → IsLawful old → NoneHolds (guards old (Event.InsertRight task name from poly number)) → Inserts task name from poly number old mid →
     mid ≡ shape old mid
@@ -149,8 +147,16 @@ Does-logs : (now : ℕ) (old : State) (event : Event) (reply : Reply) (mid : Sta
     Does now old event reply mid owed → IsReordered mid new → SameLogs old new ⊎ AcceptsBy now old event reply new
 Does-logs now old Event.TaskCreate (Reply.Task task) mid owed new l g d r =
     inl (λ p. ap (λ (x : State). x.log p) r.rest ∙ ap (λ (x : State). x.log p) d.0.rest)
-Does-logs now old (Event.Allocate task right) (Reply.Name name) mid owed new l g d r =
-    inl (λ p. ap (λ (x : State). x.log p) r.rest ∙ ap (λ (x : State). x.log p) d.1.rest ∙ made_log old l p)
+Does-logs now old (Event.Allocate task right) (Reply.Name name) mid owed new l g d r = inl (untouched_logs old mid new (makes_untouched task right name old mid l d.1) r)
+Does-logs now old (Event.AllocateName task right name) (Reply.Name told) mid owed new l g d r = inl (untouched_logs old mid new (makes_untouched task right name old mid l d.1) r)
+Does-logs now old (Event.Deallocate task name) (Reply.Code code) mid owed new l g d r = inl (untouched_logs old mid new (deallocates_untouched task name old mid owed d.1) r)
+Does-logs now old (Event.Destroy task name) (Reply.Code code) mid owed new l g d r = inl (untouched_logs old mid new (destroys_untouched task name old mid owed d.1) r)
+Does-logs now old (Event.ModRefs task name right delta) (Reply.Code code) mid owed new l g d r = inl (untouched_logs old mid new (modifies_untouched task name right delta old mid owed d.1) r)
+Does-logs now old (Event.Rename task o n) (Reply.Code code) mid owed new l g d r = inl (untouched_logs old mid new (renames_untouched task o n old mid d.1) r)
+Does-logs now old (Event.SetQlimit task name n) (Reply.Code code) mid owed new l g d r = inl (untouched_logs old mid new (by_rest old mid _ d.1.3 (λ p. refl) (λ p. refl)) r)
+Does-logs now old (Event.SetMscount task name n) (Reply.Code code) mid owed new l g d r = inl (untouched_logs old mid new (by_rest old mid _ d.2.3 (λ p. refl) (λ p. refl)) r)
+Does-logs now old (Event.SetSeqno task name n) (Reply.Code code) mid owed new l g d r = inl (untouched_logs old mid new (by_rest old mid _ d.2.3 (λ p. refl) (λ p. refl)) r)
+Does-logs now old (Event.Names task) (Reply.Names entries) mid owed new l g d r = inl (same_logs old mid new d.1 r)
 Does-logs now old (Event.GetRefs task name right) (Reply.Refs n) mid owed new l g d r = inl (same_logs old mid new d.1 r)
 Does-logs now old (Event.NameType task name) (Reply.NameType n) mid owed new l g d r = inl (same_logs old mid new d.1 r)
 Does-logs now old (Event.ReceiveStatus task name) (Reply.Status status) mid owed new l g d r = inl (same_logs old mid new d.1 r)
@@ -183,8 +189,17 @@ reordered_gives : (task : ℕ) (mid new : State) → IsReordered mid new → Giv
 reordered_gives task mid new r = record {
   grows = λ n x e. ap (λ (s : State). lookup s task n) r.rest ∙ e;
   live = ap (λ (s : State). s.live_port) r.rest;
+  sequence = ap (λ (s : State). s.sequence) r.rest;
   holds = λ k q. let m = r.tokens (λ x. if is_held task k q x then 1 else 0) in omega (arith, m);
 }
+
+-- a receipt uses the number that its port is at
+numbered : (task port room : ℕ) (bytes : List ℕ) (old mid : State) → Receives task port room bytes old mid → mid.sequence port ≡ (old.sequence port + 1) % 2 ^ 32
+numbered task port room bytes old mid r =
+    let place = in_message port (old.taken port) in
+    let a = (GiveReply-means task place r.e.message.reply r.taken r.taken r.header.remote_kind r.header.remote r.second refl (λ n x e. e) r.reply).0 in
+    let b = (GiveBody-means task place r.e.message.body r.second r.second r.written mid refl (λ n x e. e) r.body).0 in
+    ap (λ (f : ℕ → ℕ). f port) (b.sequence ∙ a.sequence ∙ ap (λ (s : State). s.sequence) r.takes.rest) ∙ at_own old.sequence port ((old.sequence port + 1) % 2 ^ 32)
 
 -- a receiver loses no receive right
 still_holds : (task port room : ℕ) (bytes : List ℕ) (old mid : State) (r : Receives task port room bytes old mid) (q : ℕ) → Holds old task receive q → Holds mid task receive q
@@ -213,6 +228,7 @@ Receives-delivers task name room bytes old mid new waited p l is_task w t r o =
       means = subst (λ (f : ℕ → Bool). ReceivedMeans task old new bytes (asof f r.e.message)) (sym live)
           (ReceivedMeans-later task old mid new bytes (asof old.live_port r.e.message) (reordered_gives task mid new o) means);
       taken = taken p ∙ at_own old.taken p (old.taken p + 1);
+      next = ap (λ (s : State). s.sequence p) o.rest ∙ numbered task p room bytes old mid r;
       others = λ q not. taken q ∙ at_other old.taken p (old.taken p + 1) q not;
     }
 
@@ -244,22 +260,23 @@ SameTaken old new = (p : ℕ) → new.taken p ≡ old.taken p
 same_taken : (old mid new : State) → mid ≡ old → IsReordered mid new → SameTaken old new
 same_taken old mid new e r p = ap (λ (x : State). x.taken p) r.rest ∙ ap (λ (x : State). x.taken p) e
 
-made_taken : (old : State) → IsLawful old → (p : ℕ) → at old.taken old.ports_made 0 p ≡ old.taken p
-made_taken old l p = elim (eqb_tells p old.ports_made) [
-  | inl h ↦
-      let w = l.within p in
-      let z : length (old.log p) ≡ 0 = ap length (l.unmade_log p (omega (arith, h.1))) in
-      let none : 0 ≡ old.taken p = omega (arith, w, z) in
-      at_same old.taken old.ports_made 0 p h.1 ∙ none
-  | inr h ↦ at_other old.taken old.ports_made 0 p h.1
-]
+untouched_taken : (old mid new : State) → Untouched old mid → IsReordered mid new → SameTaken old new
+untouched_taken old mid new u r p = ap (λ (x : State). x.taken p) r.rest ∙ u.taken p
 
 Does-taken : (now : ℕ) (old : State) (event : Event) (reply : Reply) (mid : State) (owed : Owed) (new : State) → IsLawful old → NoneHolds (guards old event) →
     Does now old event reply mid owed → IsReordered mid new → SameTaken old new ⊎ DeliversBy old event reply new
 Does-taken now old Event.TaskCreate (Reply.Task task) mid owed new l g d r =
     inl (λ p. ap (λ (x : State). x.taken p) r.rest ∙ ap (λ (x : State). x.taken p) d.0.rest)
-Does-taken now old (Event.Allocate task right) (Reply.Name name) mid owed new l g d r =
-    inl (λ p. ap (λ (x : State). x.taken p) r.rest ∙ ap (λ (x : State). x.taken p) d.1.rest ∙ made_taken old l p)
+Does-taken now old (Event.Allocate task right) (Reply.Name name) mid owed new l g d r = inl (untouched_taken old mid new (makes_untouched task right name old mid l d.1) r)
+Does-taken now old (Event.AllocateName task right name) (Reply.Name told) mid owed new l g d r = inl (untouched_taken old mid new (makes_untouched task right name old mid l d.1) r)
+Does-taken now old (Event.Deallocate task name) (Reply.Code code) mid owed new l g d r = inl (untouched_taken old mid new (deallocates_untouched task name old mid owed d.1) r)
+Does-taken now old (Event.Destroy task name) (Reply.Code code) mid owed new l g d r = inl (untouched_taken old mid new (destroys_untouched task name old mid owed d.1) r)
+Does-taken now old (Event.ModRefs task name right delta) (Reply.Code code) mid owed new l g d r = inl (untouched_taken old mid new (modifies_untouched task name right delta old mid owed d.1) r)
+Does-taken now old (Event.Rename task o n) (Reply.Code code) mid owed new l g d r = inl (untouched_taken old mid new (renames_untouched task o n old mid d.1) r)
+Does-taken now old (Event.SetQlimit task name n) (Reply.Code code) mid owed new l g d r = inl (untouched_taken old mid new (by_rest old mid _ d.1.3 (λ p. refl) (λ p. refl)) r)
+Does-taken now old (Event.SetMscount task name n) (Reply.Code code) mid owed new l g d r = inl (untouched_taken old mid new (by_rest old mid _ d.2.3 (λ p. refl) (λ p. refl)) r)
+Does-taken now old (Event.SetSeqno task name n) (Reply.Code code) mid owed new l g d r = inl (untouched_taken old mid new (by_rest old mid _ d.2.3 (λ p. refl) (λ p. refl)) r)
+Does-taken now old (Event.Names task) (Reply.Names entries) mid owed new l g d r = inl (same_taken old mid new d.1 r)
 Does-taken now old (Event.GetRefs task name right) (Reply.Refs n) mid owed new l g d r = inl (same_taken old mid new d.1 r)
 Does-taken now old (Event.NameType task name) (Reply.NameType n) mid owed new l g d r = inl (same_taken old mid new d.1 r)
 Does-taken now old (Event.ReceiveStatus task name) (Reply.Status status) mid owed new l g d r = inl (same_taken old mid new d.1 r)

@@ -6,3 +6,4 @@ pub mod FirstMessage
 pub mod Answering
 pub mod Gathering
 pub mod Handed
+pub mod Naming

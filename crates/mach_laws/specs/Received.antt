@@ -1,5 +1,5 @@
 -- What it means that a message is received, and that it is one that was sent.
-use Rattle.std.specs.Prelude.{◌≡◌, ◌≢◌, ℕ, ◌+◌, ◌<◌, ◌⊎◌, List, length, slice_get, Some, Contains}
+use Rattle.std.specs.Prelude.{◌≡◌, ◌≢◌, ℕ, ◌+◌, ◌%◌, ◌^◌, ◌<◌, ◌⊎◌, List, length, slice_get, Some, Contains}
 use Rattle.mach_types.specs.declared.calls.Event.{Event}
 use Rattle.mach_types.specs.declared.calls.Reply.{Reply}
 use Rattle.mach_types.specs.Messages.{Message, Entry, asof}
@@ -17,7 +17,7 @@ NamesSource s task name p =
     ⊎ ((set : ℕ) × (lookup s task name ≡ Some (Target.set set)) × Contains (s.sets_of p) set)
 
 -- The bytes go to the task: through its names after the step they mean the message in front of a port that it named, where rights
--- for dead ports are dead. That message is taken, and no other.
+-- for dead ports are dead. That message is taken, and no other, and the port's number goes on by one.
 pub record Delivers (task name : ℕ) (bytes : List ℕ) (old new : State) : Type 0 where
   pub port : ℕ
   pub source : NamesSource old task name port
@@ -25,6 +25,7 @@ pub record Delivers (task name : ℕ) (bytes : List ℕ) (old new : State) : Typ
   pub front : IsFront old port e
   pub means : ReceivedMeans task old new bytes (asof new.live_port e.message)
   pub taken : new.taken port ≡ old.taken port + 1
+  pub next : new.sequence port ≡ (old.sequence port + 1) % 2 ^ 32
   pub others : (p : ℕ) → p ≢ port → new.taken p ≡ old.taken p
 
 -- The bytes that stage number k gives to the task are a message that an earlier stage accepted: what the sender's bytes meant

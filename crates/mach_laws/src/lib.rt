@@ -21,6 +21,7 @@ ghost use Rattle.mach_laws.specs.FirstMessage.{first_events, first_replies};
 ghost use Rattle.mach_laws.specs.Answering.{answering_events, answering_replies};
 ghost use Rattle.mach_laws.specs.Gathering.{gathering_events, gathering_replies};
 ghost use Rattle.mach_laws.specs.Handed.{handing_events, handing_replies};
+ghost use Rattle.mach_laws.specs.Naming.{naming_events, naming_replies};
 
 /// Every run leads to a lawful state: rights, names, logs and places agree.
 pub fn every_run_is_lawful()
@@ -114,4 +115,10 @@ pub fn gathered_references()
 /// port, and the name that it came from is unused.
 pub fn handed_receive_right()
     ensures { (s : State) × Run handing_events handing_replies s }
+{}
+
+/// They speak of names alone: a dead name that is made, counted up, renamed, counted down, listed and
+/// destroyed is a run, and no other thing comes under its number meanwhile.
+pub fn renamed_dead_name()
+    ensures { (s : State) × Run naming_events naming_replies s }
 {}

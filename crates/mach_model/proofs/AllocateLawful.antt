@@ -1,5 +1,5 @@
--- A new port leaves a lawful state.
-use Rattle.std.proofs.Common.{◌≡◌, ℕ, zero, suc, ◌+◌, ◌^◌, ◌<◌, ◌≤◌, List, [], ◌∷◌, Some, refl, sym, ap, subst, ◌∙◌, arith, true, false, Bool, ◌⊎◌, inl, inr, length}
+-- A new port, and a new dead name, leave a lawful state.
+use Rattle.std.proofs.Common.{◌≡◌, ℕ, zero, suc, ◌+◌, ◌^◌, ◌<◌, ◌≤◌, List, [], ◌∷◌, Some, None, refl, sym, ap, subst, ◌∙◌, arith, true, false, Bool, ◌⊎◌, inl, inr, length}
 use Rattle.std.specs.Prelude.{if◌then◌else◌, ◌==◌, ◌&&◌, ◌≢◌, slice_get, drop, Contains}
 use Rattle.std.specs.FinMap as map
 use Rattle.std.specs.FinMap.{len-insert}
@@ -8,21 +8,26 @@ use Rattle.std.proofs.lemmas.Bool.Decides.{eqb_tells}
 use Rattle.mach_types.specs.Numbers.{null_word, dead_word, most_names, most_rights, first_limit, greatest_limit}
 use Rattle.mach_types.specs.Tokens.{Kind, receive, send, send_once, Request, in_task, in_message, in_request, Token, token, count, is_of, is_held, Moves}
 use Rattle.mach_types.specs.Messages.{Entry}
-use Rattle.mach_model.specs.State.{State, Target, Names, lookup, held, Holds, queue, IsFresh}
+use Rattle.mach_model.specs.State.{State, Target, Names, lookup, held, Holds, queue, IsFresh, with_name}
 use Rattle.mach_model.specs.Dying.{same_place}
-use Rattle.mach_model.specs.Making.{with_port, AllocatesPort}
+use Rattle.mach_model.specs.Making.{with_port, AllocatesPort, Makes, IsFull}
+use Rattle.mach_model.specs.NotYet.{IsNotYetMaking}
 use Rattle.mach_model.specs.Carried.{message_count, lying}
 use Rattle.mach_model.specs.Lawful.{IsLawful, is_once, onces, HasReferences}
 use Rattle.mach_model.proofs.Weigh.{length-weigh, both_test, lying_le_of}
 use Rattle.mach_model.proofs.At.{at_same, at_other, at_own, at_all, if_same, if_other, both_same, slice_get_drop}
 use Rattle.mach_model.proofs.Names.{kept, get_own, get_other, inserted, insert_tally, fresh_fits}
 use Rattle.mach_model.proofs.Settling.{named_lives}
+use Rattle.mach_model.proofs.Spaces.{IsNaming, IsNew, dead_named}
+use Rattle.mach_model.proofs.Moving.{task_naming, moving}
+use Rattle.mach_model.proofs.CopyingIn.{same_held}
+use Rattle.mach_model.proofs.LosingLawful.{none_moves, same_but_ledger, other_lawful}
 
 none_of : {A : Type 0} (xs : List A) (k : ℕ) (e : A) → xs ≡ [] → slice_get xs k ≡ Some e → ⊥
 none_of xs k e is f = let g : slice_get [] k ≡ Some e = subst (λ ys. slice_get ys k ≡ Some e) is f in cc
 
-module _ (s : State) (task name : ℕ) (ledger : List Token) (l : IsLawful s) (is_task : s.live_task task ≡ true) (fresh : IsFresh (s.naming task) name)
-    (room : map.len (s.naming task) < most_names) (few : length s.ledger < most_rights) (moves : Moves s.ledger ledger [] (token receive s.ports_made (in_task task) ∷ [])) where
+module _ (s : State) (task name : ℕ) (ledger : List Token) (l : IsLawful s) (is_task : s.live_task task ≡ true) (fresh : IsNew (s.naming task) name)
+    (few : length s.ledger < most_rights) (moves : Moves s.ledger ledger [] (token receive s.ports_made (in_task task) ∷ [])) where
   abbrev made : ℕ
   made = s.ports_made
 
@@ -71,9 +76,6 @@ module _ (s : State) (task name : ℕ) (ledger : List Token) (l : IsLawful s) (i
         ∙ kept (s.naming task) name (Target.port made) n x fresh.unused (ap (λ (x : ℕ). lookup s x n) (sym h.1) ∙ e)
     | inr h ↦ ap (λ (m : Names). map.get m n) (at_other s.naming task names t h.1) ∙ e
   ]
-
-  name_below : name ≤ most_names
-  name_below = let f = fresh_fits (s.naming task) name fresh in omega (arith, f, room)
 
   -- rights
   held_receive : (t q : ℕ) → held new t receive q ≡ held s t receive q + (if made == q && task == t then 1 else 0)
@@ -138,7 +140,7 @@ module _ (s : State) (task name : ℕ) (ledger : List Token) (l : IsLawful s) (i
 
   few_names : (t : ℕ) → map.len (new.naming t) ≤ most_names
   few_names = at_all (λ t m. map.len m ≤ most_names) s.naming task names
-      (let e : map.len names ≡ map.len (s.naming task) + 1 = len-insert nat_cmp_total (s.naming task) name (Target.port made) ∙ rw fresh.unused refl in omega (arith, e, room))
+      (let e : map.len names ≡ map.len (s.naming task) + 1 = len-insert nat_cmp_total (s.naming task) name (Target.port made) ∙ rw fresh.unused refl in let r = fresh.room in omega (arith, e, r))
       (λ q not. l.few_names q)
 
   -- ports
@@ -228,10 +230,10 @@ module _ (s : State) (task name : ℕ) (ledger : List Token) (l : IsLawful s) (i
   allocated_lawful = record {
     made_task = l.made_task;
     no_task = λ t n dead. lookup_other t n (λ is a. let e = ap s.live_task is in let f : true ≡ false = sym is_task ∙ sym e ∙ dead in cc) ∙ l.no_task t n dead;
-    not_null = λ t. lookup_other t null_word (λ is e. let h = fresh.not_null in omega (arith, e, h)) ∙ l.not_null t;
-    not_dead = λ t. lookup_other t dead_word (λ is e. let h = name_below in omega (arith, e, h)) ∙ l.not_dead t;
+    not_null = λ t. lookup_other t null_word (λ is e. let h = fresh.some in omega (arith, e, h)) ∙ l.not_null t;
+    not_dead = λ t. lookup_other t dead_word (λ is e. let h = fresh.fits in omega (arith, e, h)) ∙ l.not_dead t;
     name_fits = λ t n x e. elim (lookup_cases t n x e) [
-      | inl h ↦ let b = name_below in omega (arith, h.1, b)
+      | inl h ↦ let b = fresh.fits in omega (arith, h.1, b)
       | inr h ↦ l.name_fits t n x h
     ];
     few_names = few_names;
@@ -270,6 +272,47 @@ module _ (s : State) (task name : ℕ) (ledger : List Token) (l : IsLawful s) (i
     none_carried = λ p k q. lying_same receive q p k ∙ l.none_carried p k q;
   }
 
-pub AllocatesPort-lawful : (task name : ℕ) (old mid : State) → IsLawful old → old.live_task task ≡ true → IsFresh (old.naming task) name → map.len (old.naming task) < most_names →
-    length old.ledger < most_rights → AllocatesPort task name old mid → IsLawful mid
-AllocatesPort-lawful task name old mid l is_task fresh room few a = subst IsLawful (sym a.rest) (allocated_lawful old task name mid.ledger l is_task fresh room few a.tokens)
+pub AllocatesPort-lawful : (task name : ℕ) (old mid : State) → IsLawful old → old.live_task task ≡ true → IsNew (old.naming task) name → length old.ledger < most_rights →
+    AllocatesPort task name old mid → IsLawful mid
+AllocatesPort-lawful task name old mid l is_task new few a = subst IsLawful (sym a.rest) (allocated_lawful old task name mid.ledger l is_task new few a.tokens)
+
+-- a fresh name may come
+pub fresh_new : (m : Names) (name : ℕ) → IsFresh m name → map.len m < most_names → IsNew m name
+fresh_new m name fresh room = record {
+  unused = fresh.unused;
+  some = fresh.not_null;
+  fits = let f = fresh_fits m name fresh in omega (arith, f, room);
+  room = room;
+}
+
+-- ---- a dead name
+
+module _ (task name : ℕ) (old mid : State) (l : IsLawful old) (is_task : old.live_task task ≡ true) (new : IsNew (old.naming task) name) where
+  abbrev c : State
+  c = with_name task name (Target.dead 1) old
+
+  dead_made : mid ≡ c → IsLawful mid
+  dead_made e =
+      let tokens = none_moves old.ledger mid.ledger (ap (λ (s : State). s.ledger) e) in
+      let same = same_held task 0 0 old mid (moving old 0 0 l) tokens in
+      other_lawful task name old mid l c (same_but_ledger mid c e) tokens is_task refl
+      (λ t not. at_other old.naming task (map.insert (old.naming task) name (Target.dead 1)) t not)
+      (subst (λ (m : Names). IsNaming m (held mid task receive) (held mid task send) (held mid task send_once))
+      (sym (at_same old.naming task (map.insert (old.naming task) name (Target.dead 1)) task refl))
+      (dead_named (old.naming task) (held old task receive) (held old task send) (held old task send_once) (held mid task receive) (held mid task send) (held mid task send_once) (task_naming old l task)
+      name 1 new (omega arith, omega arith) (λ q. (same task receive q, same task send q)) (same task send_once)))
+      l.none_stands refl refl refl
+
+-- ---- what may be made
+
+pub Makes-lawful : (task right name : ℕ) (old mid : State) → IsLawful old → old.live_task task ≡ true → map.get (old.naming task) name ≡ None → 0 < name → name < dead_word →
+    ¬ (IsNotYetMaking right) → ¬ (IsFull old task right) → Makes task right name old mid → IsLawful mid
+Makes-lawful task right name old mid l is_task unused some fits not_yet not_full makes = go makes
+  where
+    new : IsNew (old.naming task) name
+    new = record { unused = unused; some = some; fits = fits; room = (let h : ¬ (most_names ≤ map.len (old.naming task)) = λ full. not_full (inl full) in omega (arith, h)) }
+
+    go : Makes task right name old mid → IsLawful mid
+    go (inl (is, made)) = AllocatesPort-lawful task name old mid l is_task new (let h : ¬ (most_rights ≤ length old.ledger) = λ full. not_full (inr (inl (is, inl full))) in omega (arith, h)) made
+    go (inr (inl (is, made))) = absurd (not_yet is)
+    go (inr (inr (is, made))) = dead_made task name old mid l is_task new made

@@ -184,19 +184,19 @@ module _ (task o k : ℕ) (old new : State) (kind : Kind) (p : ℕ) (l : IsMovin
         let e = at_entry c q o k kind p in let z = not_at_entry c q o k kind p task in omega (arith, m, e, z);
   }
 
-or_cases : (x y : Bool) → (x || y) ≡ true → (x ≡ true) ⊎ (y ≡ true)
+pub or_cases : (x y : Bool) → (x || y) ≡ true → (x ≡ true) ⊎ (y ≡ true)
 or_cases true y e = inl refl
 or_cases false y e = inr e
 
-or_none : (x y : Bool) → (x || y) ≡ false → (x ≡ false) × (y ≡ false)
+pub or_none : (x y : Bool) → (x || y) ≡ false → (x ≡ false) × (y ≡ false)
 or_none true y e = absurd (cc)
 or_none false y e = (refl, e)
 
-kept_others : (b : Bool) (task name : ℕ) (s : State) (t : ℕ) → (t ≡ task → ⊥) → (name_kept b task name s).naming t ≡ s.naming t
+pub kept_others : (b : Bool) (task name : ℕ) (s : State) (t : ℕ) → (t ≡ task → ⊥) → (name_kept b task name s).naming t ≡ s.naming t
 kept_others true task name s t not = refl
 kept_others false task name s t not = at_other s.naming task (map.remove (s.naming task) name) t not
 
-kept_stands : (b : Bool) (task name : ℕ) (s : State) → NoRequests s → NoRequests (name_kept b task name s)
+pub kept_stands : (b : Bool) (task name : ℕ) (s : State) → NoRequests s → NoRequests (name_kept b task name s)
 kept_stands true task name s none = none
 kept_stands false task name s none = without_stands task name s none
 
@@ -367,10 +367,10 @@ module _ (task o k name p : ℕ) (old new : State) (l : IsMoving old o k) (is : 
 -- ---- a dead name is sent on
 
 module _ (task o k : ℕ) (old new : State) (l : IsMoving old o k) (tokens : Moves old.ledger new.ledger [] []) where
-  same_held : (t : ℕ) (c : Kind) (q : ℕ) → held new t c q ≡ held old t c q
+  pub same_held : (t : ℕ) (c : Kind) (q : ℕ) → held new t c q ≡ held old t c q
   same_held t c q = let m = tokens (λ x. if is_held t c q x then 1 else 0) in omega (arith, m)
 
-  dead_leaves : (c : State) → new ≡ record c { ledger = new.ledger } → old.live_task task ≡ true → record c { ledger = new.ledger } ≡ shape old (record c { ledger = new.ledger }) →
+  pub dead_leaves : (c : State) → new ≡ record c { ledger = new.ledger } → old.live_task task ≡ true → record c { ledger = new.ledger } ≡ shape old (record c { ledger = new.ledger }) →
       ((t : ℕ) → (t ≡ task → ⊥) → c.naming t ≡ old.naming t) → IsNaming (c.naming task) (held new task receive) (held new task send) (held new task send_once) → NoRequests c →
       c.make_send ≡ old.make_send → c.sequence ≡ old.sequence → c.sets_of ≡ old.sets_of → Leaves old new task
   dead_leaves c rest is_task same_shape others own stands make_send sequence sets_of = record {
@@ -403,7 +403,7 @@ module _ (task o k : ℕ) (old new : State) (l : IsMoving old o k) (tokens : Mov
   no_rights_under : (n q : ℕ) → Target.dead n ≡ Target.port q → ⊥
   no_rights_under n q e = cc
 
-  fewer_references : (name n : ℕ) → lookup old task name ≡ Some (Target.dead n) → (b : Bool) → nat_lt 1 n ≡ b →
+  pub fewer_references : (name n : ℕ) → lookup old task name ≡ Some (Target.dead n) → (b : Bool) → nat_lt 1 n ≡ b →
       new ≡ record (if b then with_name task name (Target.dead (n - 1)) old else without_name task name old) { ledger = new.ledger } → Leaves old new task
   fewer_references name n is true e rest =
       let more = ltb-true 1 n e in

@@ -52,7 +52,7 @@ same_task task (in_message p k) e = absurd (cc)
 same_task task (in_request r) e = absurd (cc)
 
 -- a token that passes is the one
-is_it : (task : ℕ) (kind : Kind) (p : ℕ) (x : Token) → is_held task kind p x ≡ true → x ≡ token kind p (in_task task)
+pub is_it : (task : ℕ) (kind : Kind) (p : ℕ) (x : Token) → is_held task kind p x ≡ true → x ≡ token kind p (in_task task)
 is_it task kind p x e =
     let a = left_of (is_of kind p x) (is_in_task task x.place) e in
     let k = same_kinds kind x.kind (left_of (same_kind kind x.kind) (x.port == p) a) in

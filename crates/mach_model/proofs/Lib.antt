@@ -16,6 +16,9 @@ pub mod SendLawful
 pub mod ReceiveLawful
 pub mod HandLawful
 pub mod CreateLawful
+pub mod SettingLawful
+pub mod LosingLawful
+pub mod RenamingLawful
 pub mod AllocateLawful
 pub mod StepLawful
 pub mod Plain

@@ -42,6 +42,12 @@ fewer_names m name = go (map.contains_key m name) (len-remove nat_cmp_total m na
     go true e = omega (arith, e)
     go false e = omega (arith, e)
 
+pub removed_length : (m : Names) (name : ℕ) (v : Target) → map.get m name ≡ Some v → map.len (map.remove m name) + 1 ≡ map.len m
+removed_length m name v is =
+    let a : map.len (map.insert (map.remove m name) name v) ≡ map.len (map.remove m name) + 1 =
+    len-insert nat_cmp_total (map.remove m name) name v ∙ rw (removed_own m name) refl in
+    let b : map.len (map.insert (map.remove m name) name v) ≡ map.len m = ap map.len (put_again m name v is) in omega (arith, a, b)
+
 -- a name that stands for another thing now
 pub again : (m : Names) (name : ℕ) (v : Target) → map.insert (map.remove m name) name v ≡ map.insert m name v
 again m name v = alike _ _ (λ n. elim (eqb_tells n name) [
@@ -212,15 +218,14 @@ module _ (m : Names) (receives sends once receives' sends' once' : ℕ → ℕ) 
       (λ n q e. get_removed m name n (λ x. not q (other_target (map.get m n) v (Target.port q) (ap (map.get m) x ∙ is) e)) ∙ e)
       (λ q. let a = remove_tally (is_once q) m name v is in let b = l.once_names q in let c = once_less q in omega (arith, a, b, c))
 
-  -- A dead name has fewer references.
-  pub dead_fewer : (name a b : ℕ) → map.get m name ≡ Some (Target.dead a) → 0 < b → b ≤ a → Same → ((q : ℕ) → once' q ≡ once q) → New (map.insert m name (Target.dead b))
-  dead_fewer name a b is some le same same_once =
-      let fits : HasReferences (Target.dead a) = l.references name (Target.dead a) is in
+  -- A dead name has another number of references.
+  pub dead_counted : (name a b : ℕ) → map.get m name ≡ Some (Target.dead a) → HasReferences (Target.dead b) → Same → ((q : ℕ) → once' q ≡ once q) → New (map.insert m name (Target.dead b))
+  dead_counted name a b is fits same same_once =
       others_named (map.insert m name (Target.dead b)) same
       (get_other m name (Target.dead b) null_word (not_there name null_word (Target.dead a) l.not_null is) ∙ l.not_null)
       (get_other m name (Target.dead b) dead_word (not_there name dead_word (Target.dead a) l.not_dead is) ∙ l.not_dead)
       (λ n x e. elim (inserted m name (Target.dead b) n x e) [
-        | inl h ↦ (subst (λ (k : ℕ). k < 2 ^ 32) (sym h.0) (l.name_fits name (Target.dead a) is), subst HasReferences h.1 (some, omega (arith, fits.1, le)))
+        | inl h ↦ (subst (λ (k : ℕ). k < 2 ^ 32) (sym h.0) (l.name_fits name (Target.dead a) is), subst HasReferences h.1 fits)
         | inr h ↦ (l.name_fits n x h, l.references n x h)
       ])
       (let e = same_length m name (Target.dead a) (Target.dead b) is in let f = l.few_names in omega (arith, e, f))
@@ -233,6 +238,12 @@ module _ (m : Names) (receives sends once receives' sends' once' : ℕ → ℕ) 
     where
       no_dead : (n q : ℕ) → Target.dead n ≡ Target.port q → ⊥
       no_dead n q e = cc
+
+  -- It has fewer.
+  pub dead_fewer : (name a b : ℕ) → map.get m name ≡ Some (Target.dead a) → 0 < b → b ≤ a → Same → ((q : ℕ) → once' q ≡ once q) → New (map.insert m name (Target.dead b))
+  dead_fewer name a b is some le same same_once =
+      let fits : HasReferences (Target.dead a) = l.references name (Target.dead a) is in
+      dead_counted name a b is (some, omega (arith, fits.1, le)) same same_once
 
   new_length : (name : ℕ) (v : Target) → IsNew m name → map.len (map.insert m name v) ≤ most_names
   new_length name v new =
@@ -264,6 +275,74 @@ module _ (m : Names) (receives sends once receives' sends' once' : ℕ → ℕ) 
     where
       no_once : (q : ℕ) → Target.once p ≡ Target.port q → ⊥
       no_once q e = cc
+
+  -- A dead name comes.
+  pub dead_named : (name n : ℕ) → IsNew m name → HasReferences (Target.dead n) → Same → ((q : ℕ) → once' q ≡ once q) → New (map.insert m name (Target.dead n))
+  dead_named name n new has same same_once = others_named (map.insert m name (Target.dead n)) same (new_null name (Target.dead n) new) (new_dead name (Target.dead n) new)
+      (new_each name (Target.dead n) new has) (new_length name (Target.dead n) new)
+      (λ a q e. elim (inserted m name (Target.dead n) a (Target.port q) e) [
+        | inl h ↦ absurd (no_port q h.1)
+        | inr h ↦ h
+      ])
+      (λ a q e. kept m name (Target.dead n) a (Target.port q) new.unused e)
+      (λ q. let a = insert_tally (is_once q) m name (Target.dead n) new.unused in let b = l.once_names q in let c = same_once q in omega (arith, a, b, c))
+    where
+      no_port : (q : ℕ) → Target.dead n ≡ Target.port q → ⊥
+      no_port q e = cc
+
+  -- What is under a name comes under another.
+  pub renamed : (name other : ℕ) (v : Target) → map.get m name ≡ Some v → map.get m other ≡ None → 0 < other → other < dead_word → Same → ((q : ℕ) → once' q ≡ once q) →
+      New (map.insert (map.remove m name) other v)
+  renamed name other v is unused some fits same same_once = record {
+    not_null = get_other (map.remove m name) other v null_word (λ e. omega (arith, e, some)) ∙ gone null_word l.not_null;
+    not_dead = get_other (map.remove m name) other v dead_word (λ e. omega (arith, e, fits)) ∙ gone dead_word l.not_dead;
+    name_fits = λ n x e. elim (came n x e) [
+      | inl h ↦ omega (arith, h.0, fits)
+      | inr h ↦ l.name_fits n x h.1
+    ];
+    few_names =
+        let a : map.len (map.insert (map.remove m name) other v) ≡ map.len (map.remove m name) + 1 = len-insert nat_cmp_total (map.remove m name) other v ∙ rw (gone other unused) refl in
+        let b = removed_length m name v is in
+        let c = l.few_names in omega (arith, a, b, c);
+    has_right = λ n q e. elim (came n (Target.port q) e) [
+      | inl h ↦ let r = l.has_right name q (is ∙ ap Some h.1) in omega (arith, r, (same q).0, (same q).1)
+      | inr h ↦ let r = l.has_right n q h.1 in omega (arith, r, (same q).0, (same q).1)
+    ];
+    is_named = λ q more.
+        let h = l.is_named q (omega (arith, more, (same q).0, (same q).1)) in
+        elim (eqb_tells h.0 name) [
+          | inl e ↦ (other, get_own (map.remove m name) other v ∙ sym is ∙ ap (map.get m) (sym e.1) ∙ h.1)
+          | inr e ↦ (h.0, get_other (map.remove m name) other v h.0 (λ x. not_there h.0 other (Target.port q) unused h.1 (sym x)) ∙ get_removed m name h.0 e.1 ∙ h.1)
+        ];
+    one_name = λ a b q e f. elim (came a (Target.port q) e) [
+      | inl h ↦ elim (came b (Target.port q) f) [
+        | inl g ↦ h.0 ∙ sym g.0
+        | inr g ↦ absurd (g.0 (l.one_name b name q g.1 (is ∙ ap Some h.1)))
+      ]
+      | inr h ↦ elim (came b (Target.port q) f) [
+        | inl g ↦ absurd (h.0 (l.one_name a name q h.1 (is ∙ ap Some g.1)))
+        | inr g ↦ l.one_name a b q h.1 g.1
+      ]
+    ];
+    once_names = λ q.
+        let a = insert_tally (is_once q) (map.remove m name) other v (gone other unused) in
+        let b = remove_tally (is_once q) m name v is in
+        let c = l.once_names q in let d = same_once q in omega (arith, a, b, c, d);
+    references = λ n x e. elim (came n x e) [
+      | inl h ↦ subst HasReferences h.1 (l.references name v is)
+      | inr h ↦ l.references n x h.1
+    ];
+    few_references = λ q. let h = l.few_references q in omega (arith, h, (same q).1);
+  }
+    where
+      gone : (n : ℕ) → map.get m n ≡ None → map.get (map.remove m name) n ≡ None
+      gone n none = get_removed m name n (not_there name n v none is) ∙ none
+
+      came : (n : ℕ) (x : Target) → map.get (map.insert (map.remove m name) other v) n ≡ Some x → (n ≡ other) × (v ≡ x) ⊎ (n ≡ name → ⊥) × (map.get m n ≡ Some x)
+      came n x e = elim (inserted (map.remove m name) other v n x e) [
+        | inl h ↦ inl h
+        | inr h ↦ inr (left m name n x h)
+      ]
 
   -- A receive or send right comes for a port of which the task had neither, under a name of its own.
   pub port_named : (name p : ℕ) → IsNew m name → receives p + sends p ≡ 0 → 0 < receives' p + sends' p → sends' p ≤ most_references →

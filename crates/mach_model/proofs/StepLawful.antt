@@ -1,16 +1,21 @@
 -- Every step keeps a lawful state lawful, so each state that a run reaches is lawful.
-use Rattle.std.proofs.Common.{◌≡◌, ℕ, ◌+◌, ◌<◌, ◌≤◌, List, [], ◌∷◌, refl, sym, subst, ◌∙◌, arith, true, false, Bool, inl, inr}
-use Rattle.std.specs.Prelude.{if◌then◌else◌, ◌≢◌, ◌&&◌}
+use Rattle.std.proofs.Common.{◌≡◌, ℕ, ◌+◌, ◌<◌, ◌≤◌, List, [], ◌∷◌, Option, Some, None, refl, sym, subst, ◌∙◌, arith, true, false, Bool, inl, inr}
+use Rattle.std.specs.Prelude.{ℤ, if◌then◌else◌, ◌≢◌, ◌&&◌}
 use Rattle.std.proofs.lemmas.Bool.Decides.{eqb_tells}
 use Rattle.mach_types.specs.declared.calls.Event.{Event}
 use Rattle.mach_types.specs.declared.calls.Reply.{Reply}
 use Rattle.mach_types.specs.declared.calls.Waited.{Waited}
+use Rattle.std.specs.FinMap as map
+use Rattle.mach_types.specs.Numbers.{dead_word, most_names}
 use Rattle.mach_types.specs.Guards.{NoneHolds}
 use Rattle.mach_types.specs.Tokens.{Kind, receive, send, send_once, in_message, in_request, Token, count, is_of, is_held, Moves}
-use Rattle.mach_model.specs.State.{State, opening, held}
+use Rattle.mach_model.specs.State.{State, Target, opening, lookup, held, IsFresh}
 use Rattle.mach_model.specs.Dying.{same_place}
-use Rattle.mach_model.specs.Refusals.{guards}
-use Rattle.mach_model.specs.Receiving.{Owed, TakesFrom}
+use Rattle.mach_model.specs.Making.{Makes, IsFull}
+use Rattle.mach_model.specs.NotYet.{IsNotYetMaking}
+use Rattle.mach_model.specs.Refusals.{guards, modify_guards, IsNoName}
+use Rattle.mach_model.specs.Receiving.{TakesFrom}
+use Rattle.mach_model.specs.Notices.{Owed}
 use Rattle.mach_model.specs.Settles.{Settles}
 use Rattle.mach_model.specs.Machine.{Does, Done, Step, RunFrom, Run}
 use Rattle.mach_model.specs.Lawful.{IsLawful}
@@ -18,7 +23,10 @@ use Rattle.mach_model.proofs.Weigh.{length-weigh, held_le_of}
 use Rattle.mach_model.proofs.Settling.{IsReordered, quiet_settles, settles_quietly, alive}
 use Rattle.mach_model.proofs.Opening.{opening-lawful}
 use Rattle.mach_model.proofs.CreateLawful.{CreatesTask-lawful}
-use Rattle.mach_model.proofs.AllocateLawful.{AllocatesPort-lawful}
+use Rattle.mach_model.proofs.AllocateLawful.{fresh_new, Makes-lawful}
+use Rattle.mach_model.proofs.SettingLawful.{limit-lawful, make_send-lawful, sequence-lawful}
+use Rattle.mach_model.proofs.LosingLawful.{Deallocates-lawful, Destroys-lawful, Unrefused, Modifies-lawful}
+use Rattle.mach_model.proofs.RenamingLawful.{Renames-lawful}
 use Rattle.mach_model.proofs.SendLawful.{Sends-lawful}
 use Rattle.mach_model.proofs.ReceiveLawful.{Receives-lawful}
 use Rattle.mach_model.proofs.HandLawful.{Inserts-lawful, Extracts-lawful}
@@ -84,6 +92,26 @@ not_false false f = absurd (f refl)
 is_one : (n : ℕ) → ¬ (n ≢ 1) → n ≡ 1
 is_one n not = elim (eqb_tells n 1) [ inl h ↦ h.1 | inr h ↦ absurd (not h.1) ]
 
+is_none : (o : Option Target) → ¬ (o ≢ None) → o ≡ None
+is_none None not = refl
+is_none (Some x) not = absurd (not (λ e. cc))
+
+no_name_some : (name : ℕ) → ¬ (IsNoName name) → 0 < name
+no_name_some name not = let h : ¬ (name ≡ 0) = λ e. not (inl e) in omega (arith, h)
+
+no_name_fits : (name : ℕ) → ¬ (IsNoName name) → name < dead_word
+no_name_fits name not = let h : ¬ (dead_word ≤ name) = λ e. not (inr e) in omega (arith, h)
+
+Allocates-lawful : (task right name : ℕ) (old mid : State) → IsLawful old → old.live_task task ≡ true → ¬ (IsNotYetMaking right) → ¬ (IsFull old task right) → IsFresh (old.naming task) name →
+    Makes task right name old mid → IsLawful mid
+Allocates-lawful task right name old mid l is_task not_yet not_full fresh makes =
+    let h : ¬ (most_names ≤ map.len (old.naming task)) = λ full. not_full (inl full) in
+    let new = fresh_new (old.naming task) name fresh (omega (arith, h)) in
+    Makes-lawful task right name old mid l is_task new.unused new.some new.fits not_yet not_full makes
+
+unrefused : (s : State) (task name right : ℕ) (delta : ℤ) → NoneHolds (modify_guards s task name right delta) → Unrefused s task name right delta
+unrefused s task name right delta g = record { not_above = g.1.1.1.1.1.0; room = g.1.1.1.1.1.1.0; not_yet = g.1.1.1.1.1.1.1.0 }
+
 -- a port that a receipt takes from lives, and its receive right is with the task
 pub TakesFrom-holds : (s : State) → IsLawful s → (task : ℕ) (waited : Waited) (p : ℕ) → TakesFrom s task waited p → 0 < held s task receive p
 TakesFrom-holds s l task (Waited.Port q) p t = t.1
@@ -97,13 +125,19 @@ TakesFrom-live s l task waited p t =
 pub Does-lawful : (now : ℕ) (old : State) (event : Event) (reply : Reply) (mid : State) (owed : Owed) →
     NoneHolds (guards old event) → Does now old event reply mid owed → IsLawful old → IsLawful mid
 Does-lawful now old Event.TaskCreate (Reply.Task task) mid owed g d l = CreatesTask-lawful old l task mid d.0
-Does-lawful now old (Event.Allocate task right) (Reply.Name name) mid owed g d l =
-    AllocatesPort-lawful task name old mid l (not_false (old.live_task task) g.0) d.0
-    (let not = g.1.1.1.0 in above _ _ (λ h. not (inl h)))
-    (let not = g.1.1.1.0 in above _ _ (λ h. not (inr (inl (is_one right g.1.1.0, inl h))))) d.1
-  where
-    above : (a b : ℕ) → (a ≤ b → ⊥) → b < a
-    above a b not = omega (arith, not)
+Does-lawful now old (Event.Allocate task right) (Reply.Name name) mid owed g d l = Allocates-lawful task right name old mid l (not_false (old.live_task task) g.0) g.1.1.0 g.1.1.1.0 d.0 d.1
+Does-lawful now old (Event.AllocateName task right name) (Reply.Name told) mid owed g d l =
+    Makes-lawful task right name old mid l (not_false (old.live_task task) g.0) (is_none (lookup old task name) g.1.1.1.0) (no_name_some name (λ e. g.1.0 (inr e))) (no_name_fits name (λ e. g.1.0 (inr e)))
+    g.1.1.0 g.1.1.1.1.0 d.1
+Does-lawful now old (Event.Deallocate task name) (Reply.Code code) mid owed g d l = (Deallocates-lawful task name old mid owed l g.1.1.1.0 d.1).0
+Does-lawful now old (Event.Destroy task name) (Reply.Code code) mid owed g d l = (Destroys-lawful task name old mid owed l g.1.1.0 d.1).0
+Does-lawful now old (Event.ModRefs task name right delta) (Reply.Code code) mid owed g d l = (Modifies-lawful task name right delta old mid owed l (unrefused old task name right delta g) d.1).0
+Does-lawful now old (Event.Names task) (Reply.Names entries) mid owed g d l = subst IsLawful (sym d.1) l
+Does-lawful now old (Event.Rename task o n) (Reply.Code code) mid owed g d l =
+    Renames-lawful task o n old mid l (is_none (lookup old task n) g.1.1.1.0) (no_name_some n g.1.0) (no_name_fits n g.1.0) d.1
+Does-lawful now old (Event.SetQlimit task name n) (Reply.Code code) mid owed g d l = limit-lawful task name n old mid l (let h = g.1.0 in omega (arith, h)) d.1
+Does-lawful now old (Event.SetMscount task name n) (Reply.Code code) mid owed g d l = make_send-lawful task name n old mid l d.1 d.2
+Does-lawful now old (Event.SetSeqno task name n) (Reply.Code code) mid owed g d l = sequence-lawful task name n old mid l d.1 d.2
 Does-lawful now old (Event.GetRefs task name right) (Reply.Refs n) mid owed g d l = subst IsLawful (sym d.1) l
 Does-lawful now old (Event.NameType task name) (Reply.NameType n) mid owed g d l = subst IsLawful (sym d.1) l
 Does-lawful now old (Event.ReceiveStatus task name) (Reply.Status status) mid owed g d l = subst IsLawful (sym d.1) l
@@ -119,20 +153,30 @@ Does-lawful now old (Event.Receive task name room large) (Reply.TooLarge n) mid 
 Does-lawful now old (Event.Receive task name room large) reply mid owed g d l = absurd d.2
 Does-lawful now old event reply mid owed g d l = absurd d
 
-pub Does-owed : (now : ℕ) (old : State) (event : Event) (reply : Reply) (mid : State) (owed : Owed) → Does now old event reply mid owed → owed ≡ []
-Does-owed now old Event.TaskCreate (Reply.Task task) mid owed d = d.1
-Does-owed now old (Event.Allocate task right) (Reply.Name name) mid owed d = d.2
-Does-owed now old (Event.GetRefs task name right) (Reply.Refs n) mid owed d = d.2
-Does-owed now old (Event.NameType task name) (Reply.NameType n) mid owed d = d.2
-Does-owed now old (Event.ReceiveStatus task name) (Reply.Status status) mid owed d = d.2
-Does-owed now old (Event.InsertRight task name from poly number) (Reply.Code code) mid owed d = d.2
-Does-owed now old (Event.ExtractRight task name number to) (Reply.Right new_name kind) mid owed d = d.1
-Does-owed now old (Event.Send task bytes) (Reply.Code code) mid owed d = d.2
-Does-owed now old (Event.Receive task name room large) (Reply.Message bytes) mid owed d = d.2.3
-Does-owed now old (Event.Receive task name room large) (Reply.Empty told) mid owed d = d.2.3
-Does-owed now old (Event.Receive task name room large) (Reply.TooLarge n) mid owed d = d.2.7
-Does-owed now old (Event.Receive task name room large) reply mid owed d = absurd d.2
-Does-owed now old event reply mid owed d = absurd d
+pub Does-owed : (now : ℕ) (old : State) (event : Event) (reply : Reply) (mid : State) (owed : Owed) →
+    NoneHolds (guards old event) → Does now old event reply mid owed → IsLawful old → owed ≡ []
+Does-owed now old Event.TaskCreate (Reply.Task task) mid owed g d l = d.1
+Does-owed now old (Event.Allocate task right) (Reply.Name name) mid owed g d l = d.2
+Does-owed now old (Event.AllocateName task right name) (Reply.Name told) mid owed g d l = d.2
+Does-owed now old (Event.Deallocate task name) (Reply.Code code) mid owed g d l = (Deallocates-lawful task name old mid owed l g.1.1.1.0 d.1).1
+Does-owed now old (Event.Destroy task name) (Reply.Code code) mid owed g d l = (Destroys-lawful task name old mid owed l g.1.1.0 d.1).1
+Does-owed now old (Event.ModRefs task name right delta) (Reply.Code code) mid owed g d l = (Modifies-lawful task name right delta old mid owed l (unrefused old task name right delta g) d.1).1
+Does-owed now old (Event.Names task) (Reply.Names entries) mid owed g d l = d.2
+Does-owed now old (Event.Rename task o n) (Reply.Code code) mid owed g d l = d.2
+Does-owed now old (Event.SetQlimit task name n) (Reply.Code code) mid owed g d l = d.2
+Does-owed now old (Event.SetMscount task name n) (Reply.Code code) mid owed g d l = d.3
+Does-owed now old (Event.SetSeqno task name n) (Reply.Code code) mid owed g d l = d.3
+Does-owed now old (Event.GetRefs task name right) (Reply.Refs n) mid owed g d l = d.2
+Does-owed now old (Event.NameType task name) (Reply.NameType n) mid owed g d l = d.2
+Does-owed now old (Event.ReceiveStatus task name) (Reply.Status status) mid owed g d l = d.2
+Does-owed now old (Event.InsertRight task name from poly number) (Reply.Code code) mid owed g d l = d.2
+Does-owed now old (Event.ExtractRight task name number to) (Reply.Right new_name kind) mid owed g d l = d.1
+Does-owed now old (Event.Send task bytes) (Reply.Code code) mid owed g d l = d.2
+Does-owed now old (Event.Receive task name room large) (Reply.Message bytes) mid owed g d l = d.2.3
+Does-owed now old (Event.Receive task name room large) (Reply.Empty told) mid owed g d l = d.2.3
+Does-owed now old (Event.Receive task name room large) (Reply.TooLarge n) mid owed g d l = d.2.7
+Does-owed now old (Event.Receive task name room large) reply mid owed g d l = absurd d.2
+Does-owed now old event reply mid owed g d l = absurd d
 
 -- ---- steps and runs
 
@@ -140,7 +184,7 @@ Does-owed now old event reply mid owed d = absurd d
 pub Done-mid : (now : ℕ) (old : State) (event : Event) (reply : Reply) (new : State) → IsLawful old → (d : Done now old event reply new) → IsLawful d.mid × IsReordered d.mid new
 Done-mid now old event reply new l d =
     let mid = Does-lawful now old event reply d.mid d.owed d.unrefused d.does l in
-    let none = Does-owed now old event reply d.mid d.owed d.does in
+    let none = Does-owed now old event reply d.mid d.owed d.unrefused d.does l in
     (mid, settles_quietly now old d.mid new mid (subst (λ (owed : Owed). Settles now old d.mid owed new) none d.settles))
 
 pub Step-lawful : (now : ℕ) (old : State) (event : Event) (reply : Reply) (new : State) → Step now old event reply new → IsLawful old → IsLawful new

@@ -8,6 +8,9 @@ pub mod Dying
 pub mod Notices
 pub mod Settles
 pub mod Making
+pub mod Sets
+pub mod Losing
+pub mod Renaming
 pub mod Telling
 pub mod Status
 pub mod Handing

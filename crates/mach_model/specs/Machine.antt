@@ -1,26 +1,41 @@
 -- The machine: what each event may be answered, and the states before and after; runs.
-use Rattle.std.specs.Prelude.{◌≡◌, ℕ, ◌+◌, ◌⊎◌, List, [], ◌∷◌, map}
+use Rattle.std.specs.Prelude.{◌≡◌, ℕ, ◌+◌, ◌^◌, ◌<◌, ◌⊎◌, List, [], ◌∷◌, map}
 use Rattle.mach_types.specs.declared.calls.Event.{Event}
 use Rattle.mach_types.specs.declared.calls.Reply.{Reply}
 use Rattle.mach_types.specs.declared.calls.Waited.{Waited}
 use Rattle.mach_types.specs.Guards.{NoneHolds}
-use Rattle.mach_model.specs.State.{State, opening, IsFresh}
-use Rattle.mach_model.specs.Making.{CreatesTask, AllocatesPort}
+use Rattle.mach_model.specs.State.{State, opening, at, IsFresh}
+use Rattle.mach_model.specs.Making.{CreatesTask, Makes}
 use Rattle.mach_model.specs.Telling.{TellsReferences, TellsType}
-use Rattle.mach_model.specs.Status.{TellsStatus}
+use Rattle.mach_model.specs.Status.{TellsStatus, ChangesPort}
+use Rattle.mach_model.specs.Losing.{Deallocates, Destroys, Modifies}
+use Rattle.mach_model.specs.Renaming.{names_of, Renames}
 use Rattle.mach_model.specs.Handing.{Inserts, Extracts}
 use Rattle.mach_model.specs.Sending.{Sends}
-use Rattle.mach_model.specs.Receiving.{Owed, waits_for, Receipt}
+use Rattle.mach_model.specs.Receiving.{waits_for, Receipt}
+use Rattle.mach_model.specs.Notices.{Owed}
 use Rattle.mach_model.specs.Settles.{Settles}
 use Rattle.mach_model.specs.Refusals.{Refuses, guards}
 
 -- What an event that isn't refused does, up to the death of ports.
 abbrev pub Does : (now : ℕ) → State → Event → Reply → State → Owed → Type 0
 Does now old Event.TaskCreate (Reply.Task task) mid owed = CreatesTask old task mid × (owed ≡ [])
-Does now old (Event.Allocate task right) (Reply.Name name) mid owed = IsFresh (old.naming task) name × AllocatesPort task name old mid × (owed ≡ [])
+Does now old (Event.Allocate task right) (Reply.Name name) mid owed = IsFresh (old.naming task) name × Makes task right name old mid × (owed ≡ [])
+Does now old (Event.AllocateName task right name) (Reply.Name told) mid owed = (told ≡ name) × Makes task right name old mid × (owed ≡ [])
+Does now old (Event.Deallocate task name) (Reply.Code code) mid owed = (code ≡ 0) × Deallocates task name old mid owed
+Does now old (Event.Destroy task name) (Reply.Code code) mid owed = (code ≡ 0) × Destroys task name old mid owed
+Does now old (Event.ModRefs task name right delta) (Reply.Code code) mid owed = (code ≡ 0) × Modifies task name right delta old mid owed
 Does now old (Event.GetRefs task name right) (Reply.Refs n) mid owed = TellsReferences old task name right n × (mid ≡ old) × (owed ≡ [])
 Does now old (Event.NameType task name) (Reply.NameType n) mid owed = TellsType old task name n × (mid ≡ old) × (owed ≡ [])
+Does now old (Event.Names task) (Reply.Names entries) mid owed = (entries ≡ names_of old task) × (mid ≡ old) × (owed ≡ [])
+Does now old (Event.Rename task o n) (Reply.Code code) mid owed = (code ≡ 0) × Renames task o n old mid × (owed ≡ [])
 Does now old (Event.ReceiveStatus task name) (Reply.Status status) mid owed = TellsStatus old task name status × (mid ≡ old) × (owed ≡ [])
+Does now old (Event.SetQlimit task name n) (Reply.Code code) mid owed =
+    (code ≡ 0) × ChangesPort old task name (λ p. record old { limit = at old.limit p n }) mid × (owed ≡ [])
+Does now old (Event.SetMscount task name n) (Reply.Code code) mid owed =
+    (code ≡ 0) × (n < 2 ^ 32) × ChangesPort old task name (λ p. record old { make_send = at old.make_send p n }) mid × (owed ≡ [])
+Does now old (Event.SetSeqno task name n) (Reply.Code code) mid owed =
+    (code ≡ 0) × (n < 2 ^ 32) × ChangesPort old task name (λ p. record old { sequence = at old.sequence p n }) mid × (owed ≡ [])
 Does now old (Event.InsertRight task name from poly number) (Reply.Code code) mid owed =
     (code ≡ 0) × Inserts task name from poly number old mid × (owed ≡ [])
 Does now old (Event.ExtractRight task name number to) (Reply.Right new_name kind) mid owed =

@@ -1,5 +1,6 @@
--- Making tasks and ports (Task Interface, `task_create`; Port Manipulation Interface, `mach_port_allocate`).
-use Rattle.std.specs.Prelude.{◌≡◌, ◌≢◌, ℕ, ◌+◌, ◌≤◌, ◌⊎◌, true, false, [], ◌∷◌, length}
+-- Making tasks, ports, port sets and dead names (Task Interface, `task_create`; Port Manipulation Interface, `mach_port_allocate` and
+-- `mach_port_allocate_name`).
+use Rattle.std.specs.Prelude.{◌≡◌, ◌≢◌, ℕ, ◌+◌, ◌≤◌, ◌⊎◌, true, false, [], ◌∷◌, length, Some}
 use Rattle.std.specs.FinMap as names
 use Rattle.mach_types.specs.Numbers.{first_limit, most_rights, most_identities}
 use Rattle.mach_types.specs.Tokens.{receive, in_task, token, Moves}
@@ -30,6 +31,20 @@ with_port task name s = record (with_name task name (Target.port s.ports_made) s
 pub record AllocatesPort (task name : ℕ) (old mid : State) : Type 0 where
   pub rest : mid ≡ record (with_port task name old) { ledger = mid.ledger }
   pub tokens : Moves old.ledger mid.ledger [] (token receive old.ports_made (in_task task) ∷ [])
+
+-- a new set of no ports, which the task has under this name
+abbrev pub with_set : (task name : ℕ) → State → State
+with_set task name s = record (with_name task name (Target.set s.sets_made) s) {
+  set_owner = at s.set_owner s.sets_made (Some task);
+  sets_made = s.sets_made + 1;
+}
+
+-- what is made of the right of this number, under the name
+abbrev pub Makes : (task right name : ℕ) → State → State → Type 0
+Makes task right name old mid =
+    (right ≡ 1) × AllocatesPort task name old mid
+    ⊎ (right ≡ 3) × (mid ≡ with_set task name old)
+    ⊎ (right ≡ 4) × (mid ≡ with_name task name (Target.dead 1) old)
 
 -- the right numbers that nothing can be made of
 abbrev pub IsNoMaking : ℕ → Type 0

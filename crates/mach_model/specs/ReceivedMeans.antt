@@ -93,6 +93,7 @@ pub record ReceivedMeans (task : ℕ) (before after : State) (bytes : List ℕ) 
   pub kind : header.local_kind ≡ kind_number m.kind
   pub local : lookup after task header.local ≡ Some (Target.port m.destination)
   pub holds : Holds after task receive m.destination
+  pub sequence : header.sequence ≡ before.sequence m.destination
   pub id : header.id ≡ m.id
   pub reply : ReceivedReply task before after m.reply header.remote_kind header.remote
   pub body : ReceivedBody task before after m.body written

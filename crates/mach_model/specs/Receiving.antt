@@ -4,13 +4,13 @@ use Rattle.mach_types.specs.declared.calls.Waited.{Waited}
 use Rattle.mach_types.specs.declared.calls.Reply.{Reply}
 use Rattle.mach_types.specs.declared.codes.MsgReturn.TheVariants.{ReceiveBodyErrorMemory, ReceiveBodyErrorNames}
 use Rattle.mach_types.specs.Numbers.{kind_number, most_bytes, msg_number}
-use Rattle.mach_types.specs.Tokens.{receive, in_message, Token, token, Moves}
+use Rattle.mach_types.specs.Tokens.{receive, in_message, token, Moves}
 use Rattle.mach_types.specs.Messages.{Entry}
 use Rattle.mach_types.specs.Grammar.{WireBody, Header, Spells}
 use Rattle.mach_model.specs.State.{State, Target, lookup, at, Holds, queue}
 use Rattle.mach_model.specs.CopyOut.{GiveReply, GiveBody, MessageLacks}
 use Rattle.mach_model.specs.ReceivedMeans.{message_length}
-use Rattle.mach_model.specs.Notices.{Notice}
+use Rattle.mach_model.specs.Notices.{Owed}
 use Rattle.mach_model.specs.NotYet.{LeavesLarge}
 
 -- ---- where from
@@ -65,10 +65,6 @@ pub record Receives (task port room : ℕ) (bytes : List ℕ) (old mid : State) 
   pub id : header.id ≡ e.message.id
   pub spells : Spells bytes header written
   pub fits : length bytes ≤ min room most_bytes
-
--- the rights that a step's own part leaves unused, each with the notice that it is owed
-abbrev pub Owed : Type 0
-Owed = List (Token × Notice)
 
 -- A receipt from what is waited for: a message, none, or one that is too long.
 abbrev pub Receipt : State → (task : ℕ) → Waited → (room : ℕ) → (large : Bool) → Reply → State → Owed → Type 0

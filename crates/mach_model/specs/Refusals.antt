@@ -1,10 +1,10 @@
 -- Which code refuses an event: the first guard that holds, from left to right (the order is this project's own).
-use Rattle.std.specs.Prelude.{◌≡◌, ◌≢◌, ℕ, ◌<◌, ◌≤◌, ◌⊎◌, [], ◌∷◌, Option, Some, None}
+use Rattle.std.specs.Prelude.{◌≡◌, ◌≢◌, ℕ, ℤ, pos, negsuc, ◌+◌, ◌<◌, ◌≤◌, ◌⊎◌, [], ◌∷◌, length, Option, Some, None}
 use Rattle.mach_types.specs.declared.calls.Event.{Event}
 use Rattle.mach_types.specs.declared.calls.Waited.{Waited}
-use Rattle.mach_types.specs.declared.codes.KernReturn.TheVariants.{NoSpace, ResourceShortage, InvalidName, InvalidTask, InvalidRight, InvalidValue, InvalidCapability}
+use Rattle.mach_types.specs.declared.codes.KernReturn.TheVariants.{NoSpace, ResourceShortage, NameExists, InvalidName, InvalidTask, InvalidRight, InvalidValue, UrefsOverflow, InvalidCapability}
 use Rattle.mach_types.specs.declared.codes.MsgReturn.TheVariants.{ReceiveInvalidName, ReceiveInSet}
-use Rattle.mach_types.specs.Numbers.{null_word, dead_word, kern_number, msg_number, most_tasks}
+use Rattle.mach_types.specs.Numbers.{null_word, dead_word, kern_number, msg_number, most_tasks, most_rights, greatest_limit}
 use Rattle.mach_types.specs.Tokens.{in_task}
 use Rattle.mach_types.specs.Guards.{Guards, FirstIs, NoneHolds}
 use Rattle.mach_types.specs.TextGuards.{header_guards}
@@ -14,7 +14,8 @@ use Rattle.mach_model.specs.Status.{NamesReceive}
 use Rattle.mach_model.specs.Handing.{inserted_guards, extracted_guards, CopyRefuses}
 use Rattle.mach_model.specs.Sending.{IsLegalName, IsDeadName, SendRefuses}
 use Rattle.mach_model.specs.Receiving.{IsSet, waits_for, ReceiptRefuses}
-use Rattle.mach_model.specs.NotYet.{IsNotYetMaking}
+use Rattle.mach_model.specs.Losing.{HasReference, IsCounted, IsUncounted, references_at, IsBelowZero, IsAbove, added_rights}
+use Rattle.mach_model.specs.NotYet.{IsNotYetMaking, IsNotYetDeallocating, IsNotYetDestroying, IsNotYetRemoving}
 
 abbrev pub IsUnused : State → (task name : ℕ) → Type 0
 IsUnused s task name = lookup s task name ≡ None
@@ -25,6 +26,26 @@ IsNoName name = (name ≡ null_word) ⊎ (dead_word ≤ name)
 
 abbrev pub IsDisposition : ℕ → Type 0
 IsDisposition number = (16 ≤ number) × (number ≤ 21)
+
+-- what a call on a receive right is refused by
+abbrev pub receive_guards : State → (task name : ℕ) → Guards
+receive_guards s task name =
+    (IsNoTask s task, kern_number InvalidTask)
+    ∷ (IsUnused s task name, kern_number InvalidName)
+    ∷ (¬ (NamesReceive s task name), kern_number InvalidRight)
+    ∷ []
+
+abbrev pub modify_guards : State → (task name right : ℕ) → ℤ → Guards
+modify_guards s task name right delta =
+    (IsNoTask s task, kern_number InvalidTask)
+    ∷ (4 < right, kern_number InvalidValue)
+    ∷ (IsUnused s task name, kern_number InvalidName)
+    ∷ (references_at s task name right ≡ 0, kern_number InvalidRight)
+    ∷ (IsCounted right × IsBelowZero (references_at s task name right) delta ⊎ IsUncounted right × (delta ≢ pos 0) × (delta ≢ negsuc 0), kern_number InvalidValue)
+    ∷ (IsCounted right × IsAbove (references_at s task name right) delta, kern_number UrefsOverflow)
+    ∷ ((right ≡ 0) × (most_rights < length s.ledger + added_rights delta), kern_number NoSpace)
+    ∷ (IsNotYetRemoving right delta, kern_number InvalidRight)
+    ∷ []
 
 abbrev pub insert_guards : State → (task name from poly number : ℕ) → Guards
 insert_guards s task name from poly number =
@@ -52,6 +73,25 @@ guards s (Event.Allocate task right) =
     ∷ (IsNotYetMaking right, kern_number InvalidValue)
     ∷ (IsFull s task right, kern_number NoSpace)
     ∷ []
+guards s (Event.AllocateName task right name) =
+    (IsNoTask s task, kern_number InvalidTask)
+    ∷ (IsNoMaking right ⊎ IsNoName name, kern_number InvalidValue)
+    ∷ (IsNotYetMaking right, kern_number InvalidValue)
+    ∷ (lookup s task name ≢ None, kern_number NameExists)
+    ∷ (IsFull s task right, kern_number NoSpace)
+    ∷ []
+guards s (Event.Deallocate task name) =
+    (IsNoTask s task, kern_number InvalidTask)
+    ∷ (IsUnused s task name, kern_number InvalidName)
+    ∷ (¬ (HasReference s task (lookup s task name)), kern_number InvalidRight)
+    ∷ (IsNotYetDeallocating s task name, kern_number InvalidRight)
+    ∷ []
+guards s (Event.Destroy task name) =
+    (IsNoTask s task, kern_number InvalidTask)
+    ∷ (IsUnused s task name, kern_number InvalidName)
+    ∷ (IsNotYetDestroying s task name, kern_number InvalidRight)
+    ∷ []
+guards s (Event.ModRefs task name right delta) = modify_guards s task name right delta
 guards s (Event.GetRefs task name right) =
     (IsNoTask s task, kern_number InvalidTask)
     ∷ (4 < right, kern_number InvalidValue)
@@ -61,11 +101,22 @@ guards s (Event.NameType task name) =
     (IsNoTask s task, kern_number InvalidTask)
     ∷ (IsUnused s task name, kern_number InvalidName)
     ∷ []
-guards s (Event.ReceiveStatus task name) =
+guards s (Event.Names task) = (IsNoTask s task, kern_number InvalidTask) ∷ []
+guards s (Event.Rename task o n) =
     (IsNoTask s task, kern_number InvalidTask)
+    ∷ (IsNoName n, kern_number InvalidValue)
+    ∷ (IsUnused s task o, kern_number InvalidName)
+    ∷ (lookup s task n ≢ None, kern_number NameExists)
+    ∷ []
+guards s (Event.ReceiveStatus task name) = receive_guards s task name
+guards s (Event.SetQlimit task name n) =
+    (IsNoTask s task, kern_number InvalidTask)
+    ∷ (greatest_limit < n, kern_number InvalidValue)
     ∷ (IsUnused s task name, kern_number InvalidName)
     ∷ (¬ (NamesReceive s task name), kern_number InvalidRight)
     ∷ []
+guards s (Event.SetMscount task name n) = receive_guards s task name
+guards s (Event.SetSeqno task name n) = receive_guards s task name
 guards s (Event.InsertRight task name from poly number) = insert_guards s task name from poly number
 guards s (Event.ExtractRight task name number to) = extract_guards s task name number to
 guards s (Event.Send task bytes) = (IsNoTask s task, kern_number InvalidTask) ∷ header_guards bytes
@@ -79,6 +130,9 @@ guards s (Event.Receive task name room large) =
 abbrev pub memory_refusal : Event → Option ℕ
 memory_refusal Event.TaskCreate = Some (kern_number ResourceShortage)
 memory_refusal (Event.Allocate task right) = Some (kern_number ResourceShortage)
+memory_refusal (Event.AllocateName task right name) = Some (kern_number ResourceShortage)
+memory_refusal (Event.Names task) = Some (kern_number ResourceShortage)
+memory_refusal (Event.Rename task o n) = Some (kern_number ResourceShortage)
 memory_refusal event = None
 
 -- refusals that come after those guards

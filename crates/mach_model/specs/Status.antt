@@ -1,4 +1,5 @@
--- What a task may ask of a receive right (Port Manipulation Interface, `mach_port_get_receive_status`).
+-- What a task may ask of a receive right, and set (Port Manipulation Interface, `mach_port_get_receive_status`,
+-- `mach_port_set_qlimit`, `mach_port_set_mscount` and `mach_port_set_seqno`).
 use Rattle.std.specs.Prelude.{◌≡◌, ℕ, ◌⊎◌, Bool, [], length, Some, if◌then◌else◌, nat_lt, Contains}
 use Rattle.mach_types.specs.declared.calls.Status.{Status}
 use Rattle.mach_types.specs.Tokens.{receive, send_once, no_senders, port_destroyed, count, is_of}
@@ -7,6 +8,10 @@ use Rattle.mach_model.specs.State.{State, Target, lookup, Holds, senders, queue}
 -- the name is a port's, whose receive right the task has
 abbrev pub NamesReceive : State → (task name : ℕ) → Type 0
 NamesReceive s task name = (p : ℕ) × (lookup s task name ≡ Some (Target.port p)) × Holds s task receive p
+
+-- A number of the port under the name is set; the receive right is the task's.
+abbrev pub ChangesPort : State → (task name : ℕ) → (ℕ → State) → State → Type 0
+ChangesPort old task name change mid = (p : ℕ) × (lookup old task name ≡ Some (Target.port p)) × Holds old task receive p × (mid ≡ change p)
 
 abbrev pub one_if : Bool → ℕ
 one_if b = if b then 1 else 0

@@ -4,14 +4,8 @@
 //! writers.
 #![tactic(auto)]
 
-mod calls;
 mod command_line;
-mod fields;
-mod hexadecimal;
-mod numbers;
 mod perform;
-mod replies;
-mod script;
 #[cfg(test)]
 mod tests;
 #[cfg(test)]

@@ -1,9 +1,8 @@
 //! The jobs of the program, over any reader and writers.
 ghost use Rattle.std.specs.Prelude.{◌≡◌, ◌≤◌};
 
-use crate::replies::write_reply;
-use crate::script::{ScriptFault, read_script};
 use kernel_core::Kernel;
+use mach_run_base::{ScriptFault, read_script, write_reply};
 use mach_types::Event;
 use std::alloc::Global;
 use std::io;

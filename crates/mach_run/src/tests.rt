@@ -1,11 +1,6 @@
-use crate::calls::read_call;
 use crate::command_line::read_words;
 use crate::perform::{Job, perform};
-use crate::replies::write_reply;
 use clap::error::ErrorKind;
-use mach_types::{
-    Bytes, Event, Name, NameList, NameTypes, PortId, Reply, SetId, Status, TaskId, Waited,
-};
 use std::alloc::Global;
 use std::io;
 use std::io::{Read, Write};
@@ -135,125 +130,8 @@ fn a_request_and_its_reply(rt: HostRuntime) {
 }
 
 #[test]
-fn reads_the_calls_of_rights(rt: HostRuntime) {
-    let event = read_call(rt.alloc(), b"insert 1 2 3 4 4294967295");
-    let read = match &event {
-        Ok(Event::InsertRight(task, name, from, poly, disposition)) => (
-            task.number(),
-            name.number(),
-            from.number(),
-            poly.number(),
-            *disposition,
-        ),
-        _ => (0, 0, 0, 0, 0),
-    };
-    assert!(rt; read == (1, 2, 3, 4, u32::MAX));
-    let event = read_call(rt.alloc(), b"extract 1 2 21 3");
-    let read = match &event {
-        Ok(Event::ExtractRight(task, name, disposition, to)) => {
-            (task.number(), name.number(), *disposition, to.number())
-        }
-        _ => (0, 0, 0, 0),
-    };
-    assert!(rt; read == (1, 2, 21, 3));
-}
-
-#[test]
-fn reads_the_calls_of_names(rt: HostRuntime) {
-    let event = read_call(rt.alloc(), b"refs 1 4294967295 3");
-    let read = match &event {
-        Ok(Event::GetRefs(task, name, right)) => (task.number(), name.number(), *right),
-        _ => (0, 0, 0),
-    };
-    assert!(rt; read == (1, u32::MAX, 3));
-    let event = read_call(rt.alloc(), b"type 4294967295 0");
-    let read = match &event {
-        Ok(Event::NameType(task, name)) => (task.number(), name.number()),
-        _ => (0, 1),
-    };
-    assert!(rt; read == (u32::MAX, 0));
-}
-
-#[test]
 fn names_the_bad_line(rt: HostRuntime) {
-    let bad = [
-        "",
-        " ",
-        "tasks",
-        "Task",
-        "task ",
-        " task",
-        "task 0",
-        "task\r",
-        "task\t",
-        "alloc",
-        "alloc 0",
-        "alloc 0 ",
-        "alloc  0 1",
-        "alloc 0  1",
-        "alloc 0 1 ",
-        "alloc 0 1 2",
-        "alloc 00 1",
-        "alloc 0 01",
-        "alloc +0 1",
-        "alloc -0 1",
-        "alloc 0 4294967296",
-        "alloc 0 18446744073709551616",
-        "alloc 0 99999999999999999999999999",
-        "alloc 0x0 1",
-        "alloc a 1",
-        "alloc 0 1.",
-        "alloc 0 \u{661}",
-        "status 0",
-        "status 0 -1",
-        "status 0 1 1",
-        "send 0",
-        "send 0 ",
-        "send 0 1",
-        "send 0 0A",
-        "send 0 0g",
-        "send 0 --",
-        "send 0 00 00",
-        "send 0 0",
-        "send 0 -00",
-        "send - -",
-        "send 0 000",
-        "recv 0 1 24",
-        "recv 0 1 24 2",
-        "recv 0 1 24 00",
-        "recv 0 1 24 -",
-        "recv 0 1 24 0 0",
-        "recv 0 1 4294967296 0",
-        "insert",
-        "insert 0 1 0 1",
-        "insert 0 1 0 1 20 0",
-        "insert 0 1 0 1  20",
-        "insert 0 1 0 1 4294967296",
-        "insert 0 1 4294967296 1 20",
-        "insert 0 1 0 1 -1",
-        "Insert 0 1 0 1 20",
-        "extract 0 1 20",
-        "extract 0 1 20 0 0",
-        "extract 0 1 0x14 0",
-        "extract 0 1 20 4294967296",
-        "refs 0 1",
-        "refs 0 1 4294967296",
-        "refs 0 1 0 0",
-        "refs 0 1 00",
-        "ref 0 1 0",
-        "type 0",
-        "type 0 1 0",
-        "type 0 1 ",
-        "types 0 1",
-        "names 0",
-        "thread 1",
-        "end 0",
-        "msg 0 1 1 24 -",
-        "mach-history 1",
-        "#",
-        "task\0",
-        "\u{e9}",
-    ];
+    let bad = ["", "task 0", "modrefs 0 1 0 -0", "send 0 0A", "names 0 1"];
     for line in &bad {
         let script = format!(in rt.alloc(); "task\n{line}\nnot this\n");
         let Ok(script) = script else {
@@ -341,70 +219,6 @@ fn a_mute_error_stream_changes_no_status(rt: HostRuntime) {
     };
     let (mut out, mut err) = (Page::new(alloc, 0), Page::new(alloc, 0));
     assert!(rt; perform(alloc, Job::Run, "it", &mut source, &mut out, &mut err) == 1);
-}
-
-/// The text of a reply.
-fn text_of(alloc: Global, reply: Reply) -> io::Result<Vec<u8>> {
-    let mut page = Page::new(alloc, usize::MAX);
-    write_reply(&reply, &mut page)?;
-    Ok(page.bytes)
-}
-
-#[test]
-fn writes_each_reply(rt: HostRuntime) -> Result<(), Fail> {
-    let alloc = rt.alloc();
-    let status = Status {
-        set: Name::new(1),
-        sequence: 2,
-        make_send: 3,
-        limit: 4,
-        queued: 5,
-        send_once: 6,
-        has_send: 7,
-        port_destroyed: 8,
-        no_senders: 4294967295,
-    };
-    let names = vec![in alloc; (Name::new(3), 0x10000), (Name::new(10), 0x8010_0000)]?;
-    let members = vec![in alloc; Name::new(2), Name::new(12)]?;
-    let bytes = vec![in alloc; 0x00, 0x9a, 0xff]?;
-    let cases = vec![in alloc;
-        (Reply::Code(0x1000_480c), "code 1000480c"),
-        (Reply::Code(0), "code 00000000"),
-        (Reply::Task(TaskId::new(65535)), "task 65535"),
-        (Reply::Name(Name::dead()), "name 4294967295"),
-        (Reply::Refs(10), "refs 10"),
-        (Reply::NameType(0x8002_0000), "type 80020000"),
-        (
-            Reply::Names(NameTypes::from_vec(names)),
-            "names 3:00010000 10:80100000"
-        ),
-        (Reply::Names(NameTypes::from_vec(Vec::new(alloc))), "names"),
-        (Reply::Status(status), "status 1 2 3 4 5 6 7 8 4294967295"),
-        (Reply::Members(NameList::from_vec(members)), "members 2 12"),
-        (
-            Reply::Members(NameList::from_vec(Vec::new(alloc))),
-            "members"
-        ),
-        (Reply::Right(Name::new(7), 17), "right 7 17"),
-        (Reply::Previous(Name::null()), "previous 0"),
-        (Reply::Message(Bytes::from_vec(bytes)), "message 009aff"),
-        (
-            Reply::Message(Bytes::from_vec(Vec::new(alloc))),
-            "message -"
-        ),
-        (
-            Reply::Empty(Waited::Port(PortId::new(u64::MAX))),
-            "empty p 18446744073709551615"
-        ),
-        (Reply::Empty(Waited::Set(SetId::new(1))), "empty s 1"),
-        (Reply::TooLarge(65536), "toolarge 65536"),
-        (Reply::NoRecord, "norecord"),
-    ]?;
-    for (reply, want) in cases {
-        let text = text_of(alloc, reply)?;
-        assert_eq!(rt; text.as_slice(), want.as_bytes());
-    }
-    Ok(())
 }
 
 /// The words of a command line, the program's name first.

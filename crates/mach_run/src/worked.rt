@@ -1,8 +1,7 @@
 //! Worked exchanges: scripts whose replies are known, by `perform` and by whole runs.
-use crate::replies::write_reply;
-use crate::script::read_script;
 use crate::tests::{Page, ran};
 use kernel_core::run;
+use mach_run_base::{read_script, write_reply};
 use std::alloc::Global;
 use std::io::Write;
 use std::test::Fail;
@@ -156,6 +155,79 @@ const ANSWERED: (&str, &str) = (
     message 001200001800000000000000020000000000000008000000\n",
 );
 
+// References up to the most that a name can have: a receipt leaves so many, and `modrefs` refuses more.
+// Behind the exchange of gathered references.
+const MOST_REFERENCES: (&str, &str) = (
+    "modrefs 1 2 0 65532\n\
+    send 0 1300008020000000020000000000000000000000090000001420011001000000\n\
+    recv 1 1 32 0\n\
+    refs 1 2 0\n\
+    modrefs 1 2 0 1\n\
+    send 1 130000001800000002000000000000000000000007000000\n",
+    "code 00000000\n\
+    code 00000000\n\
+    message 0011008020000000000000000100000001000000090000001120011002000000\n\
+    refs 65535\n\
+    code 00000013\n\
+    code 00000000\n",
+);
+
+// The calls on a task's names and on a port's attributes.
+const NAMES_AND_ATTRIBUTES: (&str, &str) = (
+    "task\n\
+    alloc 0 1\n\
+    alloc 0 4\n\
+    modrefs 0 2 4 2\n\
+    refs 0 2 4\n\
+    modrefs 0 2 4 -4\n\
+    rename 0 2 1\n\
+    rename 0 2 7\n\
+    names 0\n\
+    alloc 0 4\n\
+    qlimit 0 1 17\n\
+    qlimit 0 7 1\n\
+    qlimit 0 1 0\n\
+    send 0 140000001800000001000000000000000000000007000000\n\
+    qlimit 0 1 1\n\
+    mscount 0 1 4294967295\n\
+    send 0 140000001800000001000000000000000000000007000000\n\
+    status 0 1\n\
+    dealloc 0 1\n",
+    "task 0\n\
+    name 1\n\
+    name 2\n\
+    code 00000000\n\
+    refs 3\n\
+    code 00000012\n\
+    code 0000000d\n\
+    code 00000000\n\
+    names 1:00020000 7:00100000\n\
+    name 2\n\
+    code 00000012\n\
+    code 00000011\n\
+    code 00000000\n\
+    code 10000004\n\
+    code 00000000\n\
+    code 00000000\n\
+    code 00000000\n\
+    status 0 0 0 1 1 0 1 0 0\n\
+    code 00000011\n",
+);
+
+// A receipt that needs a name where the task has as many as it can have, and again when one is free.
+const SCARCE_NAMES: (&str, &str) = (
+    "send 0 1400008020000000010000000000000000000000080000001520011001000000\n\
+    recv 0 1 32 0\n\
+    alloc 0 4\n\
+    dealloc 0 2\n\
+    recv 0 1 32 0\n",
+    "code 00000000\n\
+    code 1000600c\n\
+    code 00000003\n\
+    code 00000000\n\
+    message 0011008020000000000000000100000000000000080000001220011002000000\n",
+);
+
 /// The replies that a whole run of the script gives, one a line; `None` where it is no script or memory
 /// is refused.
 fn replies_of_run(alloc: Global, script: &[u8]) -> Option<Vec<u8>> {
@@ -250,5 +322,47 @@ fn lengths_of_messages(rt: HostRuntime) -> Result<(), Fail> {
         let script = long_script(rt.alloc(), length)?;
         assert!(rt; gives(rt.alloc(), script.as_str(), want), "at {length}");
     }
+    Ok(())
+}
+
+/// Both texts, the second behind the first.
+fn joined(alloc: Global, first: &str, second: &str) -> Result<String, Fail> {
+    let mut text = String::from_str(alloc, first)?;
+    text.push_str(second)?;
+    Ok(text)
+}
+
+#[test]
+fn most_references_is_answered(rt: HostRuntime) -> Result<(), Fail> {
+    let script = joined(rt.alloc(), GATHERED_REFERENCES.0, MOST_REFERENCES.0)?;
+    let replies = joined(rt.alloc(), GATHERED_REFERENCES.1, MOST_REFERENCES.1)?;
+    assert!(rt; gives(rt.alloc(), script.as_str(), replies.as_str()));
+    Ok(())
+}
+
+#[test]
+fn names_and_attributes_is_answered(rt: HostRuntime) {
+    let (script, replies) = NAMES_AND_ATTRIBUTES;
+    assert!(rt; gives(rt.alloc(), script, replies));
+}
+
+/// A script that gives a task as many names as it can have, a port's the first, and its replies.
+fn all_names(alloc: Global) -> Result<(String, String), Fail> {
+    let mut script = String::from_str(alloc, "task\nalloc 0 1\n")?;
+    let mut replies = String::from_str(alloc, "task 0\nname 1\n")?;
+    for name in 2..65_536u32 {
+        script.push_str("alloc 0 4\n")?;
+        let reply = format!(in alloc; "name {name}\n")?;
+        replies.push_str(reply.as_str())?;
+    }
+    Ok((script, replies))
+}
+
+#[test]
+fn scarce_names_is_answered(rt: HostRuntime) -> Result<(), Fail> {
+    let (mut script, mut replies) = all_names(rt.alloc())?;
+    script.push_str(SCARCE_NAMES.0)?;
+    replies.push_str(SCARCE_NAMES.1)?;
+    assert!(rt; gives(rt.alloc(), script.as_str(), replies.as_str()));
     Ok(())
 }

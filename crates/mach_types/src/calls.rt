@@ -41,13 +41,34 @@ pub enum Event {
     TaskCreate,
     /// Makes a right of this number for the task, under a fresh name.
     Allocate(TaskId, u32),
+    /// Makes a right of this number for the task, under this name (Port Manipulation Interface,
+    /// `mach_port_allocate_name`).
+    AllocateName(TaskId, u32, Name),
+    /// Takes one send reference, one reference of a dead name, or a send-once right from under the name
+    /// (`mach_port_deallocate`).
+    Deallocate(TaskId, Name),
+    /// Takes all that is under the name (`mach_port_destroy`).
+    Destroy(TaskId, Name),
+    /// Changes the references of the right of this number under the name by so many
+    /// (`mach_port_mod_refs`).
+    ModRefs(TaskId, Name, u32, i32),
     /// Asks how many references of the right of this number the task has under the name
     /// (Port Manipulation Interface, `mach_port_get_refs`).
     GetRefs(TaskId, Name, u32),
     /// Asks for the type of the name: which rights it stands for (`mach_port_type`).
     NameType(TaskId, Name),
+    /// Asks for all names of the task, with their types (`mach_port_names`).
+    Names(TaskId),
+    /// Gives what is under the first name the second in its place (`mach_port_rename`).
+    Rename(TaskId, Name, Name),
     /// Asks for the status of the receive right under the name.
     ReceiveStatus(TaskId, Name),
+    /// Sets the queue limit of the port whose receive right is under the name (`mach_port_set_qlimit`).
+    SetQlimit(TaskId, Name, u32),
+    /// Sets its make-send count (`mach_port_set_mscount`).
+    SetMscount(TaskId, Name, u32),
+    /// Sets the sequence number of the next message received from it (`mach_port_set_seqno`).
+    SetSeqno(TaskId, Name, u32),
     /// Gives the task, under the name, a right that another task has under a name, by the disposition of
     /// this number (`mach_port_insert_right`).
     InsertRight(TaskId, Name, TaskId, Name, u32),

@@ -26,3 +26,21 @@ returns-in-InsertRight c = rw c.in-InsertRight.is c.insert.ensures
 
 pub returns-in-ExtractRight : goal.returns-in-ExtractRight
 returns-in-ExtractRight c = rw c.in-ExtractRight.is c.extract.ensures
+
+pub returns-in-AllocateName : goal.returns-in-AllocateName
+returns-in-AllocateName c = rw c.in-AllocateName.is c.allocate_name.ensures
+
+pub returns-in-Names : goal.returns-in-Names
+returns-in-Names c = rw c.in-Names.is c.names.ensures
+
+pub returns-in-Rename : goal.returns-in-Rename
+returns-in-Rename c = rw c.in-Rename.is c.rename.ensures
+
+pub returns-in-SetQlimit : goal.returns-in-SetQlimit
+returns-in-SetQlimit c = rw c.in-SetQlimit.is c.set_qlimit.ensures
+
+pub returns-in-SetMscount : goal.returns-in-SetMscount
+returns-in-SetMscount c = rw c.in-SetMscount.is c.set_mscount.ensures
+
+pub returns-in-SetSeqno : goal.returns-in-SetSeqno
+returns-in-SetSeqno c = rw c.in-SetSeqno.is c.set_seqno.ensures

@@ -1,0 +1,114 @@
+-- A task's names with their types, in the tables and in the machine alike.
+use Rattle.std.proofs.Common.{◌≡◌, ℕ, Bool, true, false, cond, List, [], ◌∷◌, ◌&&◌, T, refl, ap, sym, subst, ◌∙◌, Option, Some, None, map as list_map}
+use Rattle.std.specs.Option.{option_map}
+use Rattle.std.specs.declared.cmp.Ordering.TheVariants.{Less, Equal, Greater}
+use Rattle.std.specs.declared.cmp.Ordering.{Ordering}
+use Rattle.std.specs.Ordering.{nat_cmp, eq_by_cmp, is_lt, is_eq}
+use Rattle.std.specs.Cmp.{nat_cmp_total, eq_by_cmp_equiv}
+use Rattle.std.specs.FinMap as map
+use Rattle.std.specs.FinMap.Entries.{find, is_sorted, below_all}
+use Rattle.mach_types.specs.Tokens.{dead_name}
+use Rattle.mach_model.specs.State.{State, lookup}
+use Rattle.mach_model.specs.Renaming.{names_of}
+use Rattle.mach_model.specs.Telling.{type_of}
+use Rattle.mach_model.proofs.Names.{alike}
+use Rattle.name_space.specs.declared.Entry.{Entry}
+use Rattle.name_space.specs.Names.{SpaceView}
+use Rattle.name_space.specs.Names.{Names as TableNames}
+use Rattle.kernel_core.specs.Tells.{type_in}
+use Rattle.kernel_core.specs.Naming.{type_found, types_of}
+
+-- ---- each entry of a sorted list is found by its key
+
+abbrev pub Each : {X : Type 0} → (ℕ → X → Type 0) → List (ℕ × X) → Type 0
+Each P [] = Unit {0}
+Each P (e ∷ es) = P e.0 e.1 × Each P es
+
+pub each_by : {X : Type 0} (P Q : ℕ → X → Type 0) (es : List (ℕ × X)) → ((k : ℕ) (v : X) → P k v → Q k v) → Each P es → Each Q es
+each_by P Q [] f h = tt
+each_by P Q (e ∷ es) f h = (f e.0 e.1 h.0, each_by P Q es f h.1)
+
+both_each : {X : Type 0} (P Q : ℕ → X → Type 0) (es : List (ℕ × X)) → Each P es → Each Q es → Each (λ k v. P k v × Q k v) es
+both_each P Q [] h g = tt
+both_each P Q (e ∷ es) h g = ((h.0, g.0), both_each P Q es h.1 g.1)
+
+first : (a b : Bool) → T (a && b) → T a
+first true b p = tt
+first false b p = p
+
+second : (a b : Bool) → T (a && b) → T b
+second true b p = p
+second false b p = absurd p
+
+less : (o : Ordering) → T (is_lt o) → is_eq o ≡ false
+less Less p = refl
+less Equal p = absurd p
+less Greater p = absurd p
+
+each_below : {X : Type 0} (k : ℕ) (es : List (ℕ × X)) → T (below_all nat_cmp k es) → Each (λ q v. eq_by_cmp nat_cmp q k ≡ false) es
+each_below k [] h = tt
+each_below k (e ∷ es) h = ((eq_by_cmp_equiv nat_cmp_total).symm e.0 k ∙ less (nat_cmp k e.0) (first _ _ h), each_below k es (second _ _ h))
+
+past : {X : Type 0} (b : Bool) (v w : X) (o : Option X) → b ≡ false → o ≡ Some w → cond b (Some v) o ≡ Some w
+past b v w o e f = rw e f
+
+pub each_found : {X : Type 0} (es : List (ℕ × X)) → T (is_sorted nat_cmp es) → Each (λ k v. find nat_cmp k es ≡ Some v) es
+each_found [] h = tt
+each_found {X} (e ∷ es) h = (
+  rw ((eq_by_cmp_equiv nat_cmp_total).refl e.0) refl,
+  each_by (λ k v. (find nat_cmp k es ≡ Some v) × (eq_by_cmp nat_cmp k e.0 ≡ false)) (λ k v. find nat_cmp k (e ∷ es) ≡ Some v) es
+      (λ k v g. past (eq_by_cmp nat_cmp k e.0) e.1 v (find nat_cmp k es) g.1 g.0)
+      (both_each (λ k v. find nat_cmp k es ≡ Some v) (λ k v. eq_by_cmp nat_cmp k e.0 ≡ false) es (each_found es (second _ _ h)) (each_below e.0 es (first _ _ h))),
+)
+
+pub each_entry : {X : Type 0} (m : map.FinMap nat_cmp X) → Each (λ k v. map.get m k ≡ Some v) (map.entries m)
+each_entry m = each_by (λ k v. find nat_cmp k (map.entries m) ≡ Some v) (λ k v. map.get m k ≡ Some v) (map.entries m) (λ k v h. map.get-entries m k ∙ h) (each_found (map.entries m) (map.entries_sorted m))
+
+pub map_each : {X B : Type 0} (f g : ℕ × X → B) (es : List (ℕ × X)) → Each (λ k v. f (k, v) ≡ g (k, v)) es → list_map f es ≡ list_map g es
+map_each f g [] h = refl
+map_each {X} {B} f g (e ∷ es) h = ap (λ (b : B). b ∷ list_map f es) h.0 ∙ ap (λ (bs : List B). g e ∷ bs) (map_each f g es h.1)
+
+-- ---- maps of which one has the values of the other, changed
+
+module _ {X Y : Type 0} (f : X → Y) where
+  abbrev valued : List (ℕ × X) → List (ℕ × Y)
+  valued l = list_map (λ e. (e.0, f e.1)) l
+
+  below_all-valued : (k : ℕ) (l : List (ℕ × X)) → below_all nat_cmp k (valued l) ≡ below_all nat_cmp k l
+  below_all-valued k [] = refl
+  below_all-valued k (x ∷ l) = ap (λ b. is_lt (nat_cmp k x.0) && b) (below_all-valued k l)
+
+  is_sorted-valued : (l : List (ℕ × X)) → is_sorted nat_cmp (valued l) ≡ is_sorted nat_cmp l
+  is_sorted-valued [] = refl
+  is_sorted-valued (x ∷ l) = ap (λ b. b && is_sorted nat_cmp (valued l)) (below_all-valued x.0 l) ∙ ap (λ b. below_all nat_cmp x.0 l && b) (is_sorted-valued l)
+
+  mapped : (b : Bool) (v : X) (o : Option X) → cond b (Some (f v)) (option_map f o) ≡ option_map f (cond b (Some v) o)
+  mapped true v o = refl
+  mapped false v o = refl
+
+  find-valued : (q : ℕ) (l : List (ℕ × X)) → find nat_cmp q (valued l) ≡ option_map f (find nat_cmp q l)
+  find-valued q [] = refl
+  find-valued q (x ∷ l) = ap (cond (eq_by_cmp nat_cmp q x.0) (Some (f x.1))) (find-valued q l) ∙ mapped (eq_by_cmp nat_cmp q x.0) x.1 (find nat_cmp q l)
+
+  sorted : (m : map.FinMap nat_cmp X) → T (is_sorted nat_cmp (valued (map.entries m)))
+  sorted m = subst T (sym (is_sorted-valued (map.entries m))) (map.entries_sorted m)
+
+  pub entries_alike : (m : map.FinMap nat_cmp X) (n : map.FinMap nat_cmp Y) → ((q : ℕ) → map.get n q ≡ option_map f (map.get m q)) → map.entries n ≡ valued (map.entries m)
+  entries_alike m n is =
+      ap map.entries (alike n (map.from_sorted (valued (map.entries m)))
+      (λ q. is q ∙ ap (option_map f) (map.get-entries m q) ∙ sym (map.get-from_sorted nat_cmp _ q (sorted m) ∙ find-valued q (map.entries m))))
+      ∙ map.entries-from_sorted nat_cmp _ (sorted m)
+
+-- ---- the types
+
+pub map-map : {X Y B : Type 0} (f : X → Y) (g : Y → B) (es : List X) → list_map g (list_map f es) ≡ list_map (λ x. g (f x)) es
+map-map f g [] = refl
+map-map {X} {Y} {B} f g (e ∷ es) = ap (λ (bs : List B). g (f e) ∷ bs) (map-map f g es)
+
+-- Looking at each name gives the type of what is under it.
+pub types_in_turn : (m : TableNames) → list_map (λ n. (n, type_found (map.get m n))) (map.keys m) ≡ types_of m
+types_in_turn m =
+    map-map (λ (e : ℕ × Entry). e.0) (λ n. (n, type_found (map.get m n))) (map.entries m)
+    ∙ map_each (λ (e : ℕ × Entry). (e.0, type_found (map.get m e.0))) (λ (e : ℕ × Entry). (e.0, type_in e.1)) (map.entries m)
+    (each_by (λ k v. map.get m k ≡ Some v) (λ k v. ◌≡◌ {A = ℕ × ℕ} (k, type_found (map.get m k)) (k, type_in v)) (map.entries m)
+    (λ k v h. ap (λ (o : Option Entry). (k, type_found o)) h) (each_entry m))

@@ -1,0 +1,5 @@
+pub mod Fields
+pub mod Numbers
+pub mod Replies
+pub mod Text
+pub mod Words
