@@ -15,14 +15,14 @@ use Rattle.mach_types.specs.Messages.{to_port, absent, present, Body, Message}
 use Rattle.mach_types.specs.Grammar.{WireBody, Header}
 use Rattle.mach_model.specs.State.{State, Target, Names, at, without_name, with_name, IsFresh}
 use Rattle.mach_model.specs.Making.{with_port, IsFull}
-use Rattle.mach_model.specs.Receiving.{with_taken}
+use Rattle.mach_model.specs.Taking.{with_taken}
 use Rattle.mach_model.specs.Sending.{Sends, entry}
 use Rattle.mach_model.specs.Receiving.{Receives}
 use Rattle.mach_model.specs.Refusals.{guards}
 use Rattle.mach_model.specs.Machine.{Step, Run}
 use Rattle.mach_model.specs.Lawful.{IsLawful}
-use Rattle.mach_model.proofs.StepLawful.{quiet_step}
 use Rattle.mach_laws.specs.Answering.{asking_text, asked_text, answering_text, answered_text, answering_events, answering_replies}
+use Rattle.mach_laws.proofs.Calm.{calm, making, calm_step}
 use Rattle.mach_laws.proofs.First.{s1, s2, first, second}
 
 -- ---- the states
@@ -107,7 +107,7 @@ third_guards = ((λ h. cc), ((λ h. h.0 refl), (not_full, tt)))
     not_full (inr (inr h)) = omega (arith, h.0)
 
 third : Step 2 s2 (Event.Allocate 0 1) (Reply.Name 2) a3 × IsLawful a3
-third = quiet_step 2 s2 (Event.Allocate 0 1) (Reply.Name 2) a3 second.1 third_guards (fresh_two, inl (refl, record { rest = refl; tokens = λ h. omega arith }), refl)
+third = calm_step 2 s2 (Event.Allocate 0 1) (Reply.Name 2) a3 (making 1 0 s2 a3 (λ p. refl) (λ p. omega arith) refl (λ p. refl)) second.1 third_guards (fresh_two, inl (refl, record { rest = refl; tokens = λ h. omega arith }), refl)
 
 -- ---- asking
 
@@ -169,7 +169,7 @@ asks = record {
 }
 
 fourth : Step 3 a3 (Event.Send 0 asking_text) (Reply.Code 0) a4 × IsLawful a4
-fourth = quiet_step 3 a3 (Event.Send 0 asking_text) (Reply.Code 0) a4 third.1 fourth_guards (refl, asks, refl)
+fourth = calm_step 3 a3 (Event.Send 0 asking_text) (Reply.Code 0) a4 (calm a3 a4 (λ p. refl) (λ p. omega arith) refl (λ p. refl)) third.1 fourth_guards (refl, asks, refl)
 
 -- ---- the right comes out under a fresh name
 
@@ -217,7 +217,7 @@ asked = record {
 }
 
 fifth : Step 4 a4 (Event.Receive 0 1 24 false) (Reply.Message asked_text) a5 × IsLawful a5
-fifth = quiet_step 4 a4 (Event.Receive 0 1 24 false) (Reply.Message asked_text) a5 fourth.1 fifth_guards
+fifth = calm_step 4 a4 (Event.Receive 0 1 24 false) (Reply.Message asked_text) a5 (calm a4 a5 (λ p. refl) (λ p. omega arith) refl (λ p. refl)) fourth.1 fifth_guards
     (Waited.Port 0, (grind (gets, rules), omega arith), (0, (refl, omega arith, refl), asked, refl))
 
 -- ---- its type
@@ -229,7 +229,7 @@ sixth_guards = ((λ h. cc), ((λ h. let e = once_is in cc), tt))
     once_is = grind (gets, rules)
 
 sixth : Step 5 a5 (Event.NameType 0 3) (Reply.NameType 0x00040000) a5 × IsLawful a5
-sixth = quiet_step 5 a5 (Event.NameType 0 3) (Reply.NameType 0x00040000) a5 fifth.1 sixth_guards ((Target.once 1, grind (gets, rules), refl), refl, refl)
+sixth = calm_step 5 a5 (Event.NameType 0 3) (Reply.NameType 0x00040000) a5 (calm a5 a5 (λ p. refl) (λ p. omega arith) refl (λ p. refl)) fifth.1 sixth_guards ((Target.once 1, grind (gets, rules), refl), refl, refl)
 
 -- ---- answering
 
@@ -277,7 +277,7 @@ answers = record {
 }
 
 seventh : Step 6 a5 (Event.Send 0 answering_text) (Reply.Code 0) a6 × IsLawful a6
-seventh = quiet_step 6 a5 (Event.Send 0 answering_text) (Reply.Code 0) a6 sixth.1 seventh_guards (refl, answers, refl)
+seventh = calm_step 6 a5 (Event.Send 0 answering_text) (Reply.Code 0) a6 (calm a5 a6 (λ p. refl) (λ p. omega arith) refl (λ p. refl)) sixth.1 seventh_guards (refl, answers, refl)
 
 -- ---- the name is gone
 
@@ -317,7 +317,7 @@ answered = record {
 }
 
 ninth : Step 8 a6 (Event.Receive 0 2 24 false) (Reply.Message answered_text) a7 × IsLawful a7
-ninth = quiet_step 8 a6 (Event.Receive 0 2 24 false) (Reply.Message answered_text) a7 seventh.1 ninth_guards
+ninth = calm_step 8 a6 (Event.Receive 0 2 24 false) (Reply.Message answered_text) a7 (calm a6 a7 (λ p. refl) (λ p. omega arith) refl (λ p. refl)) seventh.1 ninth_guards
     (Waited.Port 1, (grind (gets, rules), omega arith), (1, (refl, omega arith, refl), answered, refl))
 
 pub answered_run : (s : State) × Run answering_events answering_replies s

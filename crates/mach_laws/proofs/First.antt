@@ -13,7 +13,7 @@ use Rattle.mach_types.specs.Tokens.{receive, send, in_task, in_message, token}
 use Rattle.mach_types.specs.Grammar.{Header}
 use Rattle.mach_model.specs.State.{State, opening, Target, at, IsFresh}
 use Rattle.mach_model.specs.Making.{with_port, IsFull}
-use Rattle.mach_model.specs.Receiving.{with_taken}
+use Rattle.mach_model.specs.Taking.{with_taken}
 use Rattle.mach_model.specs.Sending.{entry}
 use Rattle.mach_model.specs.Status.{TellsStatus}
 use Rattle.mach_model.specs.Refusals.{guards}
@@ -21,8 +21,8 @@ use Rattle.mach_model.specs.Machine.{Step, Run}
 use Rattle.mach_model.specs.Lawful.{IsLawful}
 use Rattle.mach_model.proofs.Opening.{opening-lawful}
 use Rattle.mach_model.proofs.Plain.{with_sent, plain_message, plain_sends, plain_receives}
-use Rattle.mach_model.proofs.StepLawful.{quiet_step}
 use Rattle.mach_laws.specs.FirstMessage.{sent_text, received_text, status_after, first_events, first_replies}
+use Rattle.mach_laws.proofs.Calm.{calm, making, calm_step}
 
 abbrev pub s1 : State
 s1 = record opening { live_task = at opening.live_task 0 true; tasks_made = 1; naming = at opening.naming 0 map.empty }
@@ -46,7 +46,7 @@ pub few_names : map.len (map.empty {K = ℕ} {X = Target} {R = nat_cmp}) < 65535
 few_names = rw len-empty (omega arith)
 
 pub first : Step 0 opening Event.TaskCreate (Reply.Task 0) s1 × IsLawful s1
-first = quiet_step 0 opening Event.TaskCreate (Reply.Task 0) s1 opening-lawful ((λ h. omega arith), tt) (record { task_is = refl; rest = refl }, refl)
+first = calm_step 0 opening Event.TaskCreate (Reply.Task 0) s1 (calm opening s1 (λ p. refl) (λ p. omega arith) refl (λ p. refl)) opening-lawful ((λ h. omega arith), tt) (record { task_is = refl; rest = refl }, refl)
 
 second_guards : NoneHolds (guards s1 (Event.Allocate 0 1))
 second_guards = ((λ h. cc), ((λ h. h.0 refl), (not_full, tt)))
@@ -57,7 +57,7 @@ second_guards = ((λ h. cc), ((λ h. h.0 refl), (not_full, tt)))
     not_full (inr (inr h)) = omega (arith, h.0)
 
 pub second : Step 1 s1 (Event.Allocate 0 1) (Reply.Name 1) s2 × IsLawful s2
-second = quiet_step 1 s1 (Event.Allocate 0 1) (Reply.Name 1) s2 first.1 second_guards (fresh_one, inl (refl, record { rest = refl; tokens = λ h. omega arith }), refl)
+second = calm_step 1 s1 (Event.Allocate 0 1) (Reply.Name 1) s2 (making 0 0 s1 s2 (λ p. refl) (λ p. omega arith) refl (λ p. refl)) first.1 second_guards (fresh_one, inl (refl, record { rest = refl; tokens = λ h. omega arith }), refl)
 
 pub good_header : ¬ (BadHeader 20 0)
 good_header = grind arith
@@ -70,7 +70,7 @@ third_guards = ((λ h. cc), ((λ h. elim h [ inl g ↦ omega (arith, g) | inr g 
 
 third : Step 2 s2 (Event.Send 0 sent_text) (Reply.Code 0) s3 × IsLawful s3
 unfolding sent_header
-third = quiet_step 2 s2 (Event.Send 0 sent_text) (Reply.Code 0) s3 second.1 third_guards (
+third = calm_step 2 s2 (Event.Send 0 sent_text) (Reply.Code 0) s3 (calm s2 s3 (λ p. refl) (λ p. omega arith) refl (λ p. refl)) second.1 third_guards (
   refl,
   plain_sends 2 0 0 sent_text [] sent_header s2 second.1
       (record {
@@ -93,7 +93,7 @@ fourth_guards = ((λ h. cc), ((λ h. h (inl (0, lookup_one _, omega arith))), ((
 
 fourth : Step 3 s3 (Event.Receive 0 1 24 false) (Reply.Message received_text) s4 × IsLawful s4
 unfolding received_header
-fourth = quiet_step 3 s3 (Event.Receive 0 1 24 false) (Reply.Message received_text) s4 third.1 fourth_guards (
+fourth = calm_step 3 s3 (Event.Receive 0 1 24 false) (Reply.Message received_text) s4 (calm s3 s4 (λ p. refl) (λ p. omega arith) refl (λ p. refl)) third.1 fourth_guards (
   Waited.Port 0,
   (lookup_one _, omega arith),
   (
@@ -116,7 +116,7 @@ fifth_tells : TellsStatus s4 0 1 status_after
 fifth_tells = record { p = 0; found = lookup_one _; set = inl (refl, refl); sequence = refl; make_send = refl; limit = refl; queued = refl; send_once = refl; has_send = refl; port_destroyed = refl; no_senders = refl }
 
 fifth : Step 4 s4 (Event.ReceiveStatus 0 1) (Reply.Status status_after) s4 × IsLawful s4
-fifth = quiet_step 4 s4 (Event.ReceiveStatus 0 1) (Reply.Status status_after) s4 fourth.1 fifth_guards (fifth_tells, refl, refl)
+fifth = calm_step 4 s4 (Event.ReceiveStatus 0 1) (Reply.Status status_after) s4 (calm s4 s4 (λ p. refl) (λ p. omega arith) refl (λ p. refl)) fourth.1 fifth_guards (fifth_tells, refl, refl)
 
 pub first_run : (s : State) × Run first_events first_replies s
 first_run = (s4, (s1, first.0, (s2, second.0, (s3, third.0, (s4, fourth.0, (s4, fifth.0, refl))))))

@@ -18,14 +18,15 @@ use Rattle.mach_model.specs.State.{State, Target, Names, at, with_name, IsFresh}
 use Rattle.mach_model.specs.Making.{with_port, IsFull}
 use Rattle.mach_model.specs.Handing.{Inserts}
 use Rattle.mach_model.specs.Sending.{Sends, entry}
-use Rattle.mach_model.specs.Receiving.{with_taken, Receives}
+use Rattle.mach_model.specs.Receiving.{Receives}
+use Rattle.mach_model.specs.Taking.{with_taken}
 use Rattle.mach_model.specs.Status.{TellsStatus}
 use Rattle.mach_model.specs.Refusals.{guards}
 use Rattle.mach_model.specs.Machine.{Step, Run}
 use Rattle.mach_model.specs.Lawful.{IsLawful}
 use Rattle.mach_model.proofs.Names.{inserted}
-use Rattle.mach_model.proofs.StepLawful.{quiet_step}
 use Rattle.mach_laws.specs.Gathering.{sharing_text, shared_text, shared_status, gathering_events, gathering_replies}
+use Rattle.mach_laws.proofs.Calm.{calm, making, calm_step}
 use Rattle.mach_laws.proofs.First.{s1, first}
 
 -- ---- the states
@@ -84,10 +85,10 @@ only p q n not e = elim (inserted map.empty 1 (Target.port p) n (Target.port q) 
 -- ---- two tasks with a port each
 
 pub second : Step 1 s1 Event.TaskCreate (Reply.Task 1) b2 × IsLawful b2
-second = quiet_step 1 s1 Event.TaskCreate (Reply.Task 1) b2 first.1 ((λ h. omega arith), tt) (record { task_is = refl; rest = refl }, refl)
+second = calm_step 1 s1 Event.TaskCreate (Reply.Task 1) b2 (calm s1 b2 (λ p. refl) (λ p. omega arith) refl (λ p. refl)) first.1 ((λ h. omega arith), tt) (record { task_is = refl; rest = refl }, refl)
 
 pub third : Step 2 b2 (Event.Allocate 0 1) (Reply.Name 1) b3 × IsLawful b3
-third = quiet_step 2 b2 (Event.Allocate 0 1) (Reply.Name 1) b3 second.1 ((λ h. cc), ((λ h. h.0 refl), (not_full, tt)))
+third = calm_step 2 b2 (Event.Allocate 0 1) (Reply.Name 1) b3 (making 0 0 b2 b3 (λ p. refl) (λ p. omega arith) refl (λ p. refl)) second.1 ((λ h. cc), ((λ h. h.0 refl), (not_full, tt)))
     (fresh_one, inl (refl, record { rest = refl; tokens = λ h. omega arith }), refl)
   where
     not_full : ¬ (IsFull b2 0 1)
@@ -96,7 +97,7 @@ third = quiet_step 2 b2 (Event.Allocate 0 1) (Reply.Name 1) b3 second.1 ((λ h. 
     not_full (inr (inr h)) = omega (arith, h.0)
 
 fourth : Step 3 b3 (Event.Allocate 1 1) (Reply.Name 1) b4 × IsLawful b4
-fourth = quiet_step 3 b3 (Event.Allocate 1 1) (Reply.Name 1) b4 third.1 ((λ h. cc), ((λ h. h.0 refl), (not_full, tt)))
+fourth = calm_step 3 b3 (Event.Allocate 1 1) (Reply.Name 1) b4 (making 1 1 b3 b4 (λ p. refl) (λ p. omega arith) refl (λ p. refl)) third.1 ((λ h. cc), ((λ h. h.0 refl), (not_full, tt)))
     (fresh_one, inl (refl, record { rest = refl; tokens = λ h. omega arith }), refl)
   where
     not_full : ¬ (IsFull b3 1 1)
@@ -137,7 +138,7 @@ fifth_inserts = record {
 }
 
 fifth : Step 4 b4 (Event.InsertRight 1 2 0 1 20) (Reply.Code 0) b5 × IsLawful b5
-fifth = quiet_step 4 b4 (Event.InsertRight 1 2 0 1 20) (Reply.Code 0) b5 fourth.1 fifth_guards (refl, fifth_inserts, refl)
+fifth = calm_step 4 b4 (Event.InsertRight 1 2 0 1 20) (Reply.Code 0) b5 (calm b4 b5 (λ p. refl) (λ p. omega arith) refl (λ p. refl)) fourth.1 fifth_guards (refl, fifth_inserts, refl)
 
 two_of_one : map.get (map.insert {R = nat_cmp} of_one 2 (Target.port 0)) 1 ≡ Some (Target.port 1)
 two_of_one = grind (gets, rules)
@@ -167,7 +168,7 @@ sixth_inserts = record {
 }
 
 sixth : Step 5 b5 (Event.InsertRight 0 2 1 1 20) (Reply.Code 0) b6 × IsLawful b6
-sixth = quiet_step 5 b5 (Event.InsertRight 0 2 1 1 20) (Reply.Code 0) b6 fifth.1 sixth_guards (refl, sixth_inserts, refl)
+sixth = calm_step 5 b5 (Event.InsertRight 0 2 1 1 20) (Reply.Code 0) b6 (calm b5 b6 (λ p. refl) (λ p. omega arith) refl (λ p. refl)) fifth.1 sixth_guards (refl, sixth_inserts, refl)
 
 -- ---- two more, in a message
 
@@ -270,7 +271,7 @@ shares = record {
 }
 
 seventh : Step 6 b6 (Event.Send 0 sharing_text) (Reply.Code 0) b7 × IsLawful b7
-seventh = quiet_step 6 b6 (Event.Send 0 sharing_text) (Reply.Code 0) b7 sixth.1 seventh_guards (refl, shares, refl)
+seventh = calm_step 6 b6 (Event.Send 0 sharing_text) (Reply.Code 0) b7 (calm b6 b7 (λ p. refl) (λ p. omega arith) refl (λ p. refl)) sixth.1 seventh_guards (refl, shares, refl)
 
 -- ---- they come out under the name that is there
 
@@ -334,18 +335,18 @@ shared = record {
 }
 
 eighth : Step 7 b7 (Event.Receive 1 1 36 false) (Reply.Message shared_text) b8 × IsLawful b8
-eighth = quiet_step 7 b7 (Event.Receive 1 1 36 false) (Reply.Message shared_text) b8 seventh.1 eighth_guards (Waited.Port 1, (two_of_one, omega arith), (1, (refl, omega arith, refl), shared, refl))
+eighth = calm_step 7 b7 (Event.Receive 1 1 36 false) (Reply.Message shared_text) b8 (calm b7 b8 (λ p. refl) (λ p. omega arith) refl (λ p. refl)) seventh.1 eighth_guards (Waited.Port 1, (two_of_one, omega arith), (1, (refl, omega arith, refl), shared, refl))
 
 -- ---- three references, and three send rights made
 
 ninth : Step 8 b8 (Event.GetRefs 1 2 0) (Reply.Refs 3) b8 × IsLawful b8
-ninth = quiet_step 8 b8 (Event.GetRefs 1 2 0) (Reply.Refs 3) b8 eighth.1 ((λ h. cc), ((λ h. omega (arith, h)), ((λ h. let e = one_two in cc), tt))) ((Target.port 0, one_two, refl), refl, refl)
+ninth = calm_step 8 b8 (Event.GetRefs 1 2 0) (Reply.Refs 3) b8 (calm b8 b8 (λ p. refl) (λ p. omega arith) refl (λ p. refl)) eighth.1 ((λ h. cc), ((λ h. omega (arith, h)), ((λ h. let e = one_two in cc), tt))) ((Target.port 0, one_two, refl), refl, refl)
 
 tenth_tells : TellsStatus b8 0 1 shared_status
 tenth_tells = record { p = 0; found = zero_one; set = inl (refl, refl); sequence = refl; make_send = refl; limit = refl; queued = refl; send_once = refl; has_send = refl; port_destroyed = refl; no_senders = refl }
 
 tenth : Step 9 b8 (Event.ReceiveStatus 0 1) (Reply.Status shared_status) b8 × IsLawful b8
-tenth = quiet_step 9 b8 (Event.ReceiveStatus 0 1) (Reply.Status shared_status) b8 ninth.1 ((λ h. cc), ((λ h. let e = zero_one in cc), ((λ h. h (0, zero_one, omega arith)), tt))) (tenth_tells, refl, refl)
+tenth = calm_step 9 b8 (Event.ReceiveStatus 0 1) (Reply.Status shared_status) b8 (calm b8 b8 (λ p. refl) (λ p. omega arith) refl (λ p. refl)) ninth.1 ((λ h. cc), ((λ h. let e = zero_one in cc), ((λ h. h (0, zero_one, omega arith)), tt))) (tenth_tells, refl, refl)
 
 pub gathered_run : (s : State) × Run gathering_events gathering_replies s
 gathered_run =

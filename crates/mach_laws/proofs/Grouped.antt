@@ -14,7 +14,8 @@ use Rattle.mach_types.specs.Grammar.{Header}
 use Rattle.mach_model.specs.State.{State, Target, Names, at, queue, without_name, IsFresh}
 use Rattle.mach_model.specs.Making.{with_set, IsFull}
 use Rattle.mach_model.specs.Sets.{without_set, TellsMembers}
-use Rattle.mach_model.specs.Receiving.{with_taken, IsSet, TakesFrom}
+use Rattle.mach_model.specs.Receiving.{IsSet, TakesFrom}
+use Rattle.mach_model.specs.Taking.{with_taken}
 use Rattle.mach_model.specs.Sending.{entry}
 use Rattle.mach_model.specs.Refusals.{guards}
 use Rattle.mach_model.specs.Machine.{Step, Run}
@@ -22,9 +23,9 @@ use Rattle.mach_model.specs.Lawful.{IsLawful}
 use Rattle.mach_model.proofs.At.{at_other}
 use Rattle.mach_model.proofs.Names.{inserted}
 use Rattle.mach_model.proofs.Plain.{with_sent, plain_message, plain_sends, plain_receives}
-use Rattle.mach_model.proofs.StepLawful.{quiet_step}
 use Rattle.mach_laws.specs.FirstMessage.{sent_text, received_text}
 use Rattle.mach_laws.specs.Grouping.{grouping_events, grouping_replies}
+use Rattle.mach_laws.proofs.Calm.{calm, calm_step}
 use Rattle.mach_laws.proofs.First.{s1, s2, first, second, good_header}
 
 -- ---- the states
@@ -77,9 +78,6 @@ set_or_port p e = cc
 no_port : (p : ℕ) → map.get two 2 ≡ Some (Target.port p) → ⊥
 no_port p e = let f = set_named in cc
 
-no_once : (p : ℕ) → map.get two 2 ≡ Some (Target.once p) → ⊥
-no_once p e = let f = set_named in cc
-
 -- no other name is a port's
 named_one : (n p : ℕ) → map.get two n ≡ Some (Target.port p) → 1 ≡ n
 named_one n p e = elim (inserted one 2 (Target.set 0) n (Target.port p) e) [
@@ -101,7 +99,7 @@ third_guards = ((λ h. cc), ((λ h. h.1 refl), (not_full, tt)))
     not_full (inr (inr h)) = omega (arith, h.1)
 
 third : Step 2 s2 (Event.Allocate 0 3) (Reply.Name 2) g3 × IsLawful g3
-third = quiet_step 2 s2 (Event.Allocate 0 3) (Reply.Name 2) g3 second.1 third_guards (fresh_two, inr (inl (refl, refl)), refl)
+third = calm_step 2 s2 (Event.Allocate 0 3) (Reply.Name 2) g3 (calm s2 g3 (λ p. refl) (λ p. omega arith) refl (λ p. refl)) second.1 third_guards (fresh_two, inr (inl (refl, refl)), refl)
 
 fourth_guards : NoneHolds (guards g3 (Event.MoveMember 0 1 2))
 fourth_guards = (
@@ -113,7 +111,7 @@ fourth_guards = (
 )
 
 fourth : Step 3 g3 (Event.MoveMember 0 1 2) (Reply.Code 0) g4 × IsLawful g4
-fourth = quiet_step 3 g3 (Event.MoveMember 0 1 2) (Reply.Code 0) g4 third.1 fourth_guards (refl, (0, port_named, inr (0, set_named, refl)), refl)
+fourth = calm_step 3 g3 (Event.MoveMember 0 1 2) (Reply.Code 0) g4 (calm g3 g4 (λ p. refl) (λ p. omega arith) refl (λ p. refl)) third.1 fourth_guards (refl, (0, port_named, inr (0, set_named, refl)), refl)
 
 one_of : (n : ℕ) → Contains (1 ∷ []) n → 1 ≡ n
 one_of n (zero, below, e) = e
@@ -131,7 +129,7 @@ members = record {
 }
 
 fifth : Step 4 g4 (Event.SetStatus 0 2) (Reply.Members (1 ∷ [])) g4 × IsLawful g4
-fifth = quiet_step 4 g4 (Event.SetStatus 0 2) (Reply.Members (1 ∷ [])) g4 fourth.1 ((λ h. cc), ((λ h. let e = set_named in cc), ((λ h. h is_set), tt))) (members, refl, refl)
+fifth = calm_step 4 g4 (Event.SetStatus 0 2) (Reply.Members (1 ∷ [])) g4 (calm g4 g4 (λ p. refl) (λ p. omega arith) refl (λ p. refl)) fourth.1 ((λ h. cc), ((λ h. let e = set_named in cc), ((λ h. h is_set), tt))) (members, refl, refl)
 
 -- ---- by the port there is none
 
@@ -149,7 +147,7 @@ seventh_guards = ((λ h. cc), ((λ h. elim h [ inl g ↦ omega (arith, g) | inr 
 
 seventh : Step 6 g4 (Event.Send 0 sent_text) (Reply.Code 0) g5 × IsLawful g5
 unfolding sent_header
-seventh = quiet_step 6 g4 (Event.Send 0 sent_text) (Reply.Code 0) g5 fourth.1 seventh_guards (
+seventh = calm_step 6 g4 (Event.Send 0 sent_text) (Reply.Code 0) g5 (calm g4 g5 (λ p. refl) (λ p. omega arith) refl (λ p. refl)) fourth.1 seventh_guards (
   refl,
   plain_sends 6 0 0 sent_text [] sent_header g4 fourth.1
       (record {
@@ -178,7 +176,7 @@ ninth_guards = ((λ h. cc), ((λ h. h (inr is_set)), ((λ h. no_port h.0 h.1), t
 
 ninth : Step 8 g5 (Event.Receive 0 2 24 false) (Reply.Message received_text) g6 × IsLawful g6
 unfolding received_header
-ninth = quiet_step 8 g5 (Event.Receive 0 2 24 false) (Reply.Message received_text) g6 seventh.1 ninth_guards (
+ninth = calm_step 8 g5 (Event.Receive 0 2 24 false) (Reply.Message received_text) g6 (calm g5 g6 (λ p. refl) (λ p. omega arith) refl (λ p. refl)) seventh.1 ninth_guards (
   Waited.Set 0,
   set_named,
   (
@@ -211,15 +209,15 @@ some_is : (a : ℕ) → ◌≡◌ {A = Option ℕ} (Some a) None → ⊥
 some_is a e = cc
 
 tenth : Step 9 g6 (Event.ReceiveAgain 0 (Waited.Set 0) 24 false) (Reply.Empty (Waited.Set 0)) g6 × IsLawful g6
-tenth = quiet_step 9 g6 (Event.ReceiveAgain 0 (Waited.Set 0) 24 false) (Reply.Empty (Waited.Set 0)) g6 ninth.1 ((λ h. cc), ((λ h. some_is 0 h), ((λ h. h refl), tt))) (refl, none_left, refl, refl)
+tenth = calm_step 9 g6 (Event.ReceiveAgain 0 (Waited.Set 0) 24 false) (Reply.Empty (Waited.Set 0)) g6 (calm g6 g6 (λ p. refl) (λ p. omega arith) refl (λ p. refl)) ninth.1 ((λ h. cc), ((λ h. some_is 0 h), ((λ h. h refl), tt))) (refl, none_left, refl, refl)
 
 -- ---- the set goes
 
 eleventh_guards : NoneHolds (guards g6 (Event.Destroy 0 2))
-eleventh_guards = ((λ h. cc), ((λ h. let e = set_named in cc), ((λ h. elim h [ inl g ↦ no_port g.0 g.1 | inr g ↦ no_once g.0 g.1 ]), tt)))
+eleventh_guards = ((λ h. cc), ((λ h. let e = set_named in cc), tt))
 
 eleventh : Step 10 g6 (Event.Destroy 0 2) (Reply.Code 0) g7 × IsLawful g7
-eleventh = quiet_step 10 g6 (Event.Destroy 0 2) (Reply.Code 0) g7 ninth.1 eleventh_guards (refl, (Target.set 0, set_named, (refl, refl)))
+eleventh = calm_step 10 g6 (Event.Destroy 0 2) (Reply.Code 0) g7 (calm g6 g7 (λ p. refl) (λ p. omega arith) refl (λ p. refl)) ninth.1 eleventh_guards (refl, (Target.set 0, set_named, (refl, refl)))
 
 twelfth : Step 11 g7 (Event.ReceiveAgain 0 (Waited.Set 0) 24 false) (Reply.Code 0x10004009) g7
 twelfth = inl (record { code = 0x10004009; told = refl; refuses = inl (inr ((λ h. cc), inl (refl, refl))); same = refl })

@@ -14,8 +14,8 @@ use Rattle.mach_model.specs.Status.{TellsStatus}
 use Rattle.mach_model.specs.Refusals.{guards}
 use Rattle.mach_model.specs.Machine.{Step, Run}
 use Rattle.mach_model.specs.Lawful.{IsLawful}
-use Rattle.mach_model.proofs.StepLawful.{quiet_step}
 use Rattle.mach_laws.specs.Handed.{handed_status, handing_events, handing_replies}
+use Rattle.mach_laws.proofs.Calm.{calm, calm_step}
 use Rattle.mach_laws.proofs.First.{s1, first}
 use Rattle.mach_laws.proofs.Gathering.{b2, b3, second, third, zero_found, few_empty}
 
@@ -61,7 +61,7 @@ fourth_inserts = record {
 }
 
 fourth : Step 3 b3 (Event.InsertRight 1 1 0 1 20) (Reply.Code 0) h4 × IsLawful h4
-fourth = quiet_step 3 b3 (Event.InsertRight 1 1 0 1 20) (Reply.Code 0) h4 third.1 fourth_guards (refl, fourth_inserts, refl)
+fourth = calm_step 3 b3 (Event.InsertRight 1 1 0 1 20) (Reply.Code 0) h4 (calm b3 h4 (λ p. refl) (λ p. omega arith) refl (λ p. refl)) third.1 fourth_guards (refl, fourth_inserts, refl)
 
 fifth_guards : NoneHolds (guards h4 (Event.ExtractRight 0 1 16 1))
 fifth_guards = (
@@ -89,10 +89,10 @@ fifth_extracts = record {
 }
 
 fifth : Step 4 h4 (Event.ExtractRight 0 1 16 1) (Reply.Right 1 16) h5 × IsLawful h5
-fifth = quiet_step 4 h4 (Event.ExtractRight 0 1 16 1) (Reply.Right 1 16) h5 fourth.1 fifth_guards (fifth_extracts, refl)
+fifth = calm_step 4 h4 (Event.ExtractRight 0 1 16 1) (Reply.Right 1 16) h5 (calm h4 h5 (λ p. refl) (λ p. omega arith) refl (λ p. refl)) fourth.1 fifth_guards (fifth_extracts, refl)
 
 sixth : Step 5 h5 (Event.NameType 1 1) (Reply.NameType 0x00030000) h5 × IsLawful h5
-sixth = quiet_step 5 h5 (Event.NameType 1 1) (Reply.NameType 0x00030000) h5 fifth.1 ((λ h. cc), ((λ h. let e = zero_found in cc), tt)) ((Target.port 0, zero_found, refl), refl, refl)
+sixth = calm_step 5 h5 (Event.NameType 1 1) (Reply.NameType 0x00030000) h5 (calm h5 h5 (λ p. refl) (λ p. omega arith) refl (λ p. refl)) fifth.1 ((λ h. cc), ((λ h. let e = zero_found in cc), tt)) ((Target.port 0, zero_found, refl), refl, refl)
 
 seventh : Step 6 h5 (Event.NameType 0 1) (Reply.Code 15) h5
 seventh = inl (record { code = 15; told = refl; refuses = inl (inr ((λ h. cc), inl (grind (gets, rules), refl))); same = refl })
@@ -101,7 +101,7 @@ eighth_tells : TellsStatus h5 1 1 handed_status
 eighth_tells = record { p = 0; found = zero_found; set = inl (refl, refl); sequence = refl; make_send = refl; limit = refl; queued = refl; send_once = refl; has_send = refl; port_destroyed = refl; no_senders = refl }
 
 eighth : Step 7 h5 (Event.ReceiveStatus 1 1) (Reply.Status handed_status) h5 × IsLawful h5
-eighth = quiet_step 7 h5 (Event.ReceiveStatus 1 1) (Reply.Status handed_status) h5 sixth.1 ((λ h. cc), ((λ h. let e = zero_found in cc), ((λ h. h (0, zero_found, omega arith)), tt))) (eighth_tells, refl, refl)
+eighth = calm_step 7 h5 (Event.ReceiveStatus 1 1) (Reply.Status handed_status) h5 (calm h5 h5 (λ p. refl) (λ p. omega arith) refl (λ p. refl)) sixth.1 ((λ h. cc), ((λ h. let e = zero_found in cc), ((λ h. h (0, zero_found, omega arith)), tt))) (eighth_tells, refl, refl)
 
 pub handed_run : (s : State) × Run handing_events handing_replies s
 handed_run = (h5, (s1, first.0, (b2, second.0, (b3, third.0, (h4, fourth.0, (h5, fifth.0, (h5, sixth.0, (h5, seventh, (h5, eighth.0, refl)))))))))

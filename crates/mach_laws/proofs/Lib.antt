@@ -2,6 +2,10 @@ mod Meanings
 mod Receiving
 mod Apart
 mod Untouched
+mod Ended
+mod Calm
+mod OnceTaken
+mod OneMeaning
 mod Steps
 mod Walking
 mod Told
@@ -13,4 +17,3 @@ mod Gathering
 mod Handed
 mod Naming
 mod Grouped
-mod OnceTaken

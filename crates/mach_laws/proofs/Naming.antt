@@ -20,8 +20,8 @@ use Rattle.mach_model.specs.Machine.{Step, Run}
 use Rattle.mach_model.specs.Lawful.{IsLawful}
 use Rattle.mach_model.proofs.Names.{alike, get_own, get_other, removed_own}
 use Rattle.mach_model.proofs.Spaces.{get_removed}
-use Rattle.mach_model.proofs.StepLawful.{quiet_step}
 use Rattle.mach_laws.specs.Naming.{naming_events, naming_replies}
+use Rattle.mach_laws.proofs.Calm.{calm, calm_step}
 use Rattle.mach_laws.proofs.First.{s1, first, fresh_one, few_names}
 
 -- ---- the states
@@ -104,7 +104,7 @@ second_guards = ((λ h. cc), ((λ h. h.2 refl), (not_full, tt)))
     not_full (inr (inr h)) = omega (arith, h.0)
 
 second : Step 1 s1 (Event.Allocate 0 4) (Reply.Name 1) n2 × IsLawful n2
-second = quiet_step 1 s1 (Event.Allocate 0 4) (Reply.Name 1) n2 first.1 second_guards (fresh_one, inr (inr (refl, refl)), refl)
+second = calm_step 1 s1 (Event.Allocate 0 4) (Reply.Name 1) n2 (calm s1 n2 (λ p. refl) (λ p. omega arith) refl (λ p. refl)) first.1 second_guards (fresh_one, inr (inr (refl, refl)), refl)
 
 third_guards : NoneHolds (guards n2 (Event.ModRefs 0 1 4 (pos 2)))
 third_guards = (
@@ -117,7 +117,7 @@ third_guards = (
         (λ h. let e = one_reference in omega (arith, h, e)),
         (
           (λ h. elim h [ inl e ↦ e.1 | inr e ↦ elim e.0 [ inl f ↦ omega (arith, f) | inr f ↦ elim f [ inl g ↦ omega (arith, g) | inr g ↦ omega (arith, g) ] ] ]),
-          ((λ h. let e = one_reference in let f = h.1 in omega (arith, f, e)), ((λ h. omega (arith, h.0)), ((λ h. elim h.0 [ inl e ↦ omega (arith, e) | inr e ↦ omega (arith, e) ]), tt))),
+          ((λ h. let e = one_reference in let f = h.1 in omega (arith, f, e)), ((λ h. omega (arith, h.0)), tt)),
         ),
       ),
     ),
@@ -128,28 +128,28 @@ third_guards = (
     one_reference = ap (λ o. references_under n2 0 o 4) (one_has 1)
 
 third : Step 2 n2 (Event.ModRefs 0 1 4 (pos 2)) (Reply.Code 0) n3 × IsLawful n3
-third = quiet_step 2 n2 (Event.ModRefs 0 1 4 (pos 2)) (Reply.Code 0) n3 second.1 third_guards (refl, inr (inl (1, 3, refl, one_has 1, refl, refl, refl)))
+third = calm_step 2 n2 (Event.ModRefs 0 1 4 (pos 2)) (Reply.Code 0) n3 (calm n2 n3 (λ p. refl) (λ p. omega arith) refl (λ p. refl)) second.1 third_guards (refl, inr (inl (1, 3, refl, one_has 1, refl, refl, refl)))
 
 fourth_guards : NoneHolds (guards n3 (Event.Rename 0 1 7))
 fourth_guards = ((λ h. cc), ((λ h. elim h [ inl e ↦ omega (arith, e) | inr e ↦ omega (arith, e) ]), ((λ h. let e = three_at_one in cc), ((λ h. h none_at_seven), tt))))
 
 fourth : Step 3 n3 (Event.Rename 0 1 7) (Reply.Code 0) n4 × IsLawful n4
-fourth = quiet_step 3 n3 (Event.Rename 0 1 7) (Reply.Code 0) n4 third.1 fourth_guards (refl, record { target = Target.dead 3; found = three_at_one; rest = refl; tokens = λ h. refl }, refl)
+fourth = calm_step 3 n3 (Event.Rename 0 1 7) (Reply.Code 0) n4 (calm n3 n4 (λ p. refl) (λ p. omega arith) refl (λ p. refl)) third.1 fourth_guards (refl, record { target = Target.dead 3; found = three_at_one; rest = refl; tokens = λ h. refl }, refl)
 
 fifth_guards : NoneHolds (guards n4 (Event.Deallocate 0 7))
 fifth_guards = (
   (λ h. cc),
-  ((λ h. let e = three_at_seven in cc), ((λ h. h (subst (HasReference n4 0) (sym three_at_seven) tt)), ((λ h. let e = three_at_seven in let f = h.1 in cc), tt))),
+  ((λ h. let e = three_at_seven in cc), ((λ h. h (subst (HasReference n4 0) (sym three_at_seven) tt)), tt)),
 )
 
 fifth : Step 4 n4 (Event.Deallocate 0 7) (Reply.Code 0) n5 × IsLawful n5
-fifth = quiet_step 4 n4 (Event.Deallocate 0 7) (Reply.Code 0) n5 fourth.1 fifth_guards (refl, inr (inr (3, record { found = three_at_seven; rest = refl; tokens = λ h. refl }, refl)))
+fifth = calm_step 4 n4 (Event.Deallocate 0 7) (Reply.Code 0) n5 (calm n4 n5 (λ p. refl) (λ p. omega arith) refl (λ p. refl)) fourth.1 fifth_guards (refl, inr (inr (3, record { found = three_at_seven; rest = refl; tokens = λ h. refl }, refl)))
 
 sixth : Step 5 n5 (Event.Names 0) (Reply.Names ((7, 0x00100000) ∷ [])) n5 × IsLawful n5
-sixth = quiet_step 5 n5 (Event.Names 0) (Reply.Names ((7, 0x00100000) ∷ [])) n5 fifth.1 ((λ h. cc), tt) (listed, refl, refl)
+sixth = calm_step 5 n5 (Event.Names 0) (Reply.Names ((7, 0x00100000) ∷ [])) n5 (calm n5 n5 (λ p. refl) (λ p. omega arith) refl (λ p. refl)) fifth.1 ((λ h. cc), tt) (listed, refl, refl)
 
 seventh : Step 6 n5 (Event.GetRefs 0 7 4) (Reply.Refs 2) n5 × IsLawful n5
-seventh = quiet_step 6 n5 (Event.GetRefs 0 7 4) (Reply.Refs 2) n5 sixth.1 ((λ h. cc), ((λ h. omega (arith, h)), ((λ h. let e = two_at_seven in cc), tt))) ((Target.dead 2, two_at_seven, refl), refl, refl)
+seventh = calm_step 6 n5 (Event.GetRefs 0 7 4) (Reply.Refs 2) n5 (calm n5 n5 (λ p. refl) (λ p. omega arith) refl (λ p. refl)) sixth.1 ((λ h. cc), ((λ h. omega (arith, h)), ((λ h. let e = two_at_seven in cc), tt))) ((Target.dead 2, two_at_seven, refl), refl, refl)
 
 eighth : Step 7 n5 (Event.AllocateName 0 1 7) (Reply.Code 13) n5
 eighth = inl (record {
@@ -166,13 +166,10 @@ eighth = inl (record {
 })
 
 ninth_guards : NoneHolds (guards n5 (Event.Destroy 0 7))
-ninth_guards = (
-  (λ h. cc),
-  ((λ h. let e = two_at_seven in cc), ((λ h. elim h [ inl e ↦ (let f = two_at_seven in let g = e.1 in cc) | inr e ↦ (let f = two_at_seven in let g = e.1 in cc) ]), tt)),
-)
+ninth_guards = ((λ h. cc), ((λ h. let e = two_at_seven in cc), tt))
 
 ninth : Step 8 n5 (Event.Destroy 0 7) (Reply.Code 0) n6 × IsLawful n6
-ninth = quiet_step 8 n5 (Event.Destroy 0 7) (Reply.Code 0) n6 seventh.1 ninth_guards (refl, (Target.dead 2, two_at_seven, (refl, refl)))
+ninth = calm_step 8 n5 (Event.Destroy 0 7) (Reply.Code 0) n6 (calm n5 n6 (λ p. refl) (λ p. omega arith) refl (λ p. refl)) seventh.1 ninth_guards (refl, (Target.dead 2, two_at_seven, (refl, refl)))
 
 tenth : Step 9 n6 (Event.NameType 0 7) (Reply.Code 15) n6
 tenth = inl (record { code = 15; told = refl; refuses = inl (inr ((λ h. cc), inl (gone_at_seven, refl))); same = refl })

@@ -83,7 +83,7 @@ not_once n given is kind = (
   (λ e. by_once MakeSendOnce given (sym (ap disposition e) ∙ is) refl kind),
 )
 
-one_header : (bytes : List ℕ) (g h : Header) (v w : WireBody) → Spells bytes g v → Spells bytes h w → g.remote_kind ≡ h.remote_kind
+pub one_header : (bytes : List ℕ) (g h : Header) (v w : WireBody) → Spells bytes g v → Spells bytes h w → g.remote_kind ≡ h.remote_kind
 one_header bytes g h v w a b =
     sym (first_byte g v a.header_fits.remote_kind a.header_fits.local_kind)
     ∙ ap (λ (xs : List ℕ). word_at xs 0 % 2 ^ 8) (sym a.is_text ∙ b.is_text)

@@ -1,4 +1,5 @@
 pub mod Paths
+pub mod Notices
 pub mod Sent
 pub mod Received
 pub mod Order

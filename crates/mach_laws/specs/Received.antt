@@ -1,4 +1,4 @@
--- What it means that a message is received, and that it is one that was sent.
+-- What it means that a message is received, and that it is one that was sent or a notice.
 use Rattle.std.specs.Prelude.{◌≡◌, ◌≢◌, ℕ, ◌+◌, ◌%◌, ◌^◌, ◌<◌, ◌⊎◌, List, length, slice_get, Some, Contains}
 use Rattle.mach_types.specs.declared.calls.Event.{Event}
 use Rattle.mach_types.specs.declared.calls.Reply.{Reply}
@@ -7,8 +7,11 @@ use Rattle.mach_model.specs.State.{State, Target, lookup}
 use Rattle.mach_model.specs.SentMeans.{SentMeans}
 use Rattle.mach_model.specs.ReceivedMeans.{ReceivedMeans}
 use Rattle.mach_model.specs.Sending.{entry}
-use Rattle.mach_model.specs.Receiving.{IsFront, TakesFrom}
+use Rattle.mach_model.specs.Taking.{IsFront}
+use Rattle.mach_model.specs.Receiving.{TakesFrom}
+use Rattle.mach_model.specs.Notices.{notice_message}
 use Rattle.mach_laws.specs.Paths.{Stage}
+use Rattle.mach_laws.specs.Notices.{IsToldBy}
 
 -- The task's name stands for the port, or for a set that it is in.
 abbrev pub NamesSource : State → (task name port : ℕ) → Type 0
@@ -58,3 +61,24 @@ pub record WasSent (path : List Stage) (k : ℕ) (bytes : List ℕ) (receiving :
   pub front : IsFront receiving.before m.destination (entry origin m)
   pub place : receiving.before.taken m.destination ≡ length (sending.before.log m.destination)
   pub asks : AsksFrom receiving.before receiving.event receiver m.destination
+
+-- The bytes that stage number k gives to the task that asks are a notice that an earlier stage made: they mean it through the
+-- receiver's names, where a right for a port that is dead by then is dead.
+pub record WasTold (path : List Stage) (k : ℕ) (bytes : List ℕ) (receiving : Stage) : Type 0 where
+  -- the earlier stage, whose notice it is, at the place from which the receipt takes it
+  pub origin : ℕ
+  pub earlier : origin < k
+  pub telling : Stage
+  pub is_stage : slice_get path origin ≡ Some telling
+  pub port : ℕ
+  pub e : Entry
+  pub told : IsToldBy origin telling.before telling.event telling.reply telling.after port (receiving.before.taken port) e
+  pub front : IsFront receiving.before port e
+  -- what is received
+  pub receiver : ℕ
+  pub means : ReceivedMeans receiver receiving.before receiving.after bytes (asof receiving.after.live_port (notice_message port told.notice))
+  pub asks : AsksFrom receiving.before receiving.event receiver port
+
+-- What is received was sent, or is a notice.
+abbrev pub WasSentOrTold : List Stage → (k : ℕ) → (bytes : List ℕ) → Stage → Type 0
+WasSentOrTold path k bytes receiving = WasSent path k bytes receiving ⊎ WasTold path k bytes receiving

@@ -15,7 +15,7 @@ ghost use Rattle.mach_model.specs.Machine.{Step, Run};
 ghost use Rattle.mach_model.specs.Lawful.{IsLawful};
 ghost use Rattle.mach_laws.specs.Paths.{Stage, Path};
 ghost use Rattle.mach_laws.specs.Sent.{Accepts};
-ghost use Rattle.mach_laws.specs.Received.{AsksFrom, Delivers, WasSent};
+ghost use Rattle.mach_laws.specs.Received.{AsksFrom, Delivers, WasSentOrTold};
 ghost use Rattle.mach_laws.specs.Order.{InOrder};
 ghost use Rattle.mach_laws.specs.FirstMessage.{first_events, first_replies};
 ghost use Rattle.mach_laws.specs.Answering.{answering_events, answering_replies};
@@ -36,7 +36,8 @@ pub fn one_receive_right()
 {}
 
 /// After every run a send that is answered with 0 appends one message, which is what its bytes mean
-/// through the sender's names before the send (IPC Interface, `mach_msg`).
+/// through the sender's names before the send; behind it stand notices of the same step, and in the
+/// other logs nothing else comes (IPC Interface, `mach_msg`).
 pub fn sent_messages_mean()
     ensures { (events : List Event) (replies : List Reply) (s : State) → Run events replies s →
         (task : ℕ) (bytes : List ℕ) (new : State) → Step (length events) s (Event.Send task bytes) (Reply.Code 0) new →
@@ -61,15 +62,17 @@ pub fn runs_are_paths()
 
 /// In every run each message that is received is one that was sent: what the sender's bytes meant
 /// through the sender's names before the send, the received bytes mean through the receiver's names
-/// after the receive, where rights for ports that are dead by then are dead.
+/// after the receive, where rights for ports that are dead by then are dead. Or it is a notice that an
+/// earlier step made, and the received bytes mean that notice in the same way.
 pub fn received_means_what_was_sent()
     ensures { (path : List Stage) (s : State) → Path path s →
         (k : ℕ) (bytes : List ℕ) (x : Stage) → slice_get path k ≡ Some x → x.reply ≡ Reply.Message bytes →
-        WasSent path k bytes x }
+        WasSentOrTold path k bytes x }
 {}
 
-/// In every run, of each port: what was received from it, and then what is queued, is what was accepted
-/// for it, each message once and in the same order.
+/// In every run, of each port: what was taken from it, and then what is queued, is what was accepted for
+/// it or told to it, each message once and in the same order. Taken is what was received, and what was
+/// destroyed as too long. Of a dead port, what was taken is a beginning of its log.
 pub fn order()
     ensures { (path : List Stage) (s : State) → Path path s → (p : ℕ) → InOrder p path s }
 {}

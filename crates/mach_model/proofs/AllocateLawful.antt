@@ -17,6 +17,9 @@ use Rattle.mach_model.proofs.Weigh.{length-weigh, both_test, lying_le_of}
 use Rattle.mach_model.proofs.At.{at_same, at_other, at_own, at_all, if_same, if_other, both_same, slice_get_drop}
 use Rattle.mach_model.proofs.Names.{kept, get_own, get_other, inserted, insert_tally, fresh_fits}
 use Rattle.mach_model.proofs.SetNames.{SameSets, SetLaw, IsMember, set_law, insert_law, dead_no_set, same_set_law, one_task_sets, inserted_sets, port_no_set}
+use Rattle.mach_model.specs.MidLawful.{MidLawful}
+use Rattle.mach_model.proofs.Midway.{mid_lawful}
+use Rattle.mach_model.proofs.Requests.{names_stand, all_stand, requests_from, named_requests, none_right}
 use Rattle.mach_model.proofs.Settling.{named_lives}
 use Rattle.mach_model.proofs.Spaces.{IsNaming, IsNew, dead_named}
 use Rattle.mach_model.proofs.Moving.{task_naming, moving}
@@ -280,8 +283,8 @@ module _ (s : State) (task name : ℕ) (ledger : List Token) (l : IsLawful s) (i
     ended = λ r not kind q. lying_kept kind q r ∙ l.ended r not kind q;
     one_kept = λ r. let t = tokens_for (λ x. same_place (in_request r) x.place) in let h = l.one_kept r in omega (arith, t, h);
     once_kept = λ r kind q not. lying_kept kind q r ∙ l.once_kept r kind q not;
-    none_stands = l.none_stands;
-    none_carried = λ p k q. lying_same receive q p k ∙ l.none_carried p k q;
+    standing = all_stand s new l.standing (λ p live. at_all (λ p b. s.live_port p ≡ true → b ≡ true) s.live_port made true (λ e. refl) (λ q not e. e) p live)
+        (requests_from s (with_name task name (Target.port made) s) new refl refl (named_requests task name (Target.port made) s (names_stand s l.standing) (inl tt)));
   }
 
 pub AllocatesPort-lawful : (task name : ℕ) (old mid : State) → IsLawful old → old.live_task task ≡ true → IsNew (old.naming task) name → length old.ledger < most_rights →
@@ -303,7 +306,7 @@ module _ (task name : ℕ) (old mid : State) (l : IsLawful old) (is_task : old.l
   abbrev c : State
   c = with_name task name (Target.dead 1) old
 
-  dead_made : mid ≡ c → IsLawful mid
+  dead_made : mid ≡ c → MidLawful mid []
   dead_made e =
       let tokens = none_moves old.ledger mid.ledger (ap (λ (s : State). s.ledger) e) in
       let same = same_held task 0 0 old mid (moving old 0 0 l) tokens in
@@ -313,19 +316,19 @@ module _ (task name : ℕ) (old mid : State) (l : IsLawful old) (is_task : old.l
       (sym (at_same old.naming task (map.insert (old.naming task) name (Target.dead 1)) task refl))
       (dead_named (old.naming task) (held old task receive) (held old task send) (held old task send_once) (held mid task receive) (held mid task send) (held mid task send_once) (task_naming old l task)
       name 1 new (omega arith, omega arith) (λ q. (same task receive q, same task send q)) (same task send_once)))
-      l.none_stands refl refl refl
+      (named_requests task name (Target.dead 1) old (names_stand old l.standing) (inr (none_right (lookup old task name) new.unused))) refl refl refl
       (insert_law old.naming task old.set_owner old.sets_made name (Target.dead 1) (set_law old l) (inserted_sets (old.naming task) name (Target.dead 1) new.unused (dead_no_set 1)))
 
 -- ---- what may be made
 
 pub Makes-lawful : (task right name : ℕ) (old mid : State) → IsLawful old → old.live_task task ≡ true → map.get (old.naming task) name ≡ None → 0 < name → name < dead_word →
-    ¬ (IsFull old task right) → Makes task right name old mid → IsLawful mid
+    ¬ (IsFull old task right) → Makes task right name old mid → MidLawful mid []
 Makes-lawful task right name old mid l is_task unused some fits not_full makes = go makes
   where
     new : IsNew (old.naming task) name
     new = record { unused = unused; some = some; fits = fits; room = (let h : ¬ (most_names ≤ map.len (old.naming task)) = λ full. not_full (inl full) in omega (arith, h)) }
 
-    go : Makes task right name old mid → IsLawful mid
-    go (inl (is, made)) = AllocatesPort-lawful task name old mid l is_task new (let h : ¬ (most_rights ≤ length old.ledger) = λ full. not_full (inr (inl (is, inl full))) in omega (arith, h)) made
-    go (inr (inl (is, made))) = subst IsLawful (sym made) (with_set-lawful task name old l is_task new)
+    go : Makes task right name old mid → MidLawful mid []
+    go (inl (is, made)) = mid_lawful mid (AllocatesPort-lawful task name old mid l is_task new (let h : ¬ (most_rights ≤ length old.ledger) = λ full. not_full (inr (inl (is, inl full))) in omega (arith, h)) made)
+    go (inr (inl (is, made))) = subst (λ (x : State). MidLawful x []) (sym made) (with_set-lawful task name old l is_task new)
     go (inr (inr (is, made))) = dead_made task name old mid l is_task new made

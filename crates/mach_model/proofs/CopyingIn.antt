@@ -7,20 +7,21 @@ use Rattle.std.proofs.lemmas.Bool.{eq-eqb, ne_eqb, ltb-true, ltb-false}
 use Rattle.mach_types.specs.declared.rights.Disposition.{Disposition}
 use Rattle.mach_types.specs.declared.rights.Disposition.TheVariants.{MoveReceive, MoveSend, MoveSendOnce, CopySend, MakeSend, MakeSendOnce}
 use Rattle.mach_types.specs.Numbers.{kind_sent}
-use Rattle.mach_types.specs.Tokens.{Kind, receive, send, send_once, Request, dead_name, in_task, in_message, token, count, is_of, is_held, same_kind, Moves}
+use Rattle.mach_types.specs.Tokens.{Kind, receive, send, send_once, Request, in_task, in_message, token, count, is_of, is_held, same_kind, Moves}
 use Rattle.mach_types.specs.Messages.{Mark, to_port, dead}
-use Rattle.mach_model.specs.State.{State, Target, Names, lookup, held, Holds, at, request_at, same_request, without_name, with_name}
+use Rattle.mach_model.specs.State.{State, Target, Names, lookup, held, Holds, at, without_name, with_name}
 use Rattle.mach_model.specs.Dying.{same_place}
 use Rattle.mach_model.specs.SentMeans.{target_mark}
 use Rattle.mach_model.specs.CopyIn.{IsLegal, taken_by, put_by, name_kept, changed_by, CopyRight}
 use Rattle.mach_model.specs.Carried.{mark_count, lying}
-use Rattle.mach_model.specs.NotYet.{NoRequests}
 use Rattle.mach_model.specs.Lawful.{is_once}
 use Rattle.mach_model.proofs.Weigh.{both_test, held_le_of}
 use Rattle.mach_model.proofs.At.{at_same, at_other, at_all}
 use Rattle.mach_model.proofs.Names.{some_tally}
 use Rattle.mach_model.proofs.Spaces.{IsNaming, SameBut, stay_named, port_unnamed, other_unnamed, dead_fewer}
 use Rattle.mach_model.proofs.SetNames.{SameSets, SameSets-is, SetLaw, same_set_law, kept_set_law, insert_law, remove_law, port_no_set, once_no_set, dead_no_set, dead_sets, removed_sets, unnamed_sets, kept_names_sets}
+use Rattle.std.proofs.Math.Path.{fun_ext}
+use Rattle.mach_model.proofs.Requests.{KeepsRequests, names_stand, requests_from, requests_stay, without_requests, kept_requests, named_requests, dead_not_right}
 use Rattle.mach_model.proofs.Moving.{TaskNaming, IsMoving, shape, shaped, near_none, near_task, near_entry, same_naming, Leaves, moved}
 
 -- ---- what is known of a state while rights are on their way
@@ -47,18 +48,6 @@ pub once_held : (s : State) (o k : ℕ) → IsMoving s o k → (task name p : �
 once_held s o k l task name p is =
     let some = some_tally (is_once p) (s.naming task) name (Target.once p) is (eq-eqb p p refl) in
     let e = (l.naming task).once_names p in omega (arith, some, e)
-
--- ---- requests and names
-
-if_false : (b c : Bool) → c ≡ false → (if b then false else c) ≡ false
-if_false true c e = refl
-if_false false c e = e
-
-ends_more : (stands : Request → Bool) (x : Request) → ((r : Request) → stands r ≡ false) → (r : Request) → request_at stands x false r ≡ false
-ends_more stands x none r = if_false (same_request r x) (stands r) (none r)
-
-pub without_stands : (task name : ℕ) (s : State) → NoRequests s → NoRequests (without_name task name s)
-without_stands task name s none r = ends_more s.stands (dead_name task name) none r
 
 -- ---- tests of a token at one place
 
@@ -123,7 +112,7 @@ module _ (task o k : ℕ) (old new : State) (kind : Kind) (p : ℕ) (l : IsMovin
         let n = l.no_rights q dead c in
         let apart : (p == q) ≡ false = ne_eqb p q (λ e. let a = live in let b : old.live_port p ≡ false = ap old.live_port e ∙ dead in cc) in
         let z = both_test (same_kind c kind) (p == q) (inr apart) in omega (arith, m, n, z);
-    stands = λ r. stands r ∙ l.none_stands r;
+    stands = requests_from old old new (fun_ext stands) (fun_ext names) (requests_stay old (names_stand old l.standing));
     make_send = make_send;
     sequence = λ q. let a = sequence q in let b = l.sequence_fits q in omega (arith, a, b);
     no_sets = λ q dead. sets_of q ∙ l.no_sets q dead;
@@ -162,7 +151,7 @@ module _ (task o k : ℕ) (old new : State) (kind : Kind) (p : ℕ) (l : IsMovin
   left_but : SameBut p (held old task receive) (held old task send) (held old task send_once) (held new task receive) (held new task send) (held new task send_once)
   left_but = record { receives = left_other receive; sends = left_other send; once = left_other send_once }
 
-  left_leaves : new ≡ shape old new → old.live_task task ≡ true → ((t : ℕ) → (t ≡ task → ⊥) → new.naming t ≡ old.naming t) → TaskNaming new task → NoRequests new →
+  left_leaves : new ≡ shape old new → old.live_task task ≡ true → ((t : ℕ) → (t ≡ task → ⊥) → new.naming t ≡ old.naming t) → TaskNaming new task → KeepsRequests old new →
       ((q : ℕ) → new.make_send q < 2 ^ 32) → ((q : ℕ) → new.sequence q < 2 ^ 32) → ((q : ℕ) → old.live_port q ≡ false → new.sets_of q ≡ []) →
       SameSets (old.naming task) (new.naming task) → ((q set : ℕ) → Contains (new.sets_of q) set → (t : ℕ) × (old.set_owner set ≡ Some t) × Holds new t receive q) →
       ((q : ℕ) → length (new.sets_of q) ≤ 1) → Leaves old new task
@@ -202,10 +191,6 @@ or_none false y e = (refl, e)
 pub kept_others : (b : Bool) (task name : ℕ) (s : State) (t : ℕ) → (t ≡ task → ⊥) → (name_kept b task name s).naming t ≡ s.naming t
 kept_others true task name s t not = refl
 kept_others false task name s t not = at_other s.naming task (map.remove (s.naming task) name) t not
-
-pub kept_stands : (b : Bool) (task name : ℕ) (s : State) → NoRequests s → NoRequests (name_kept b task name s)
-kept_stands true task name s none = none
-kept_stands false task name s none = without_stands task name s none
 
 pub own_naming : (task : ℕ) (s new : State) (m : Names) → new.naming task ≡ m → IsNaming m (held new task receive) (held new task send) (held new task send_once) → TaskNaming new task
 own_naming task s new m e n = subst (λ (x : Names). IsNaming x (held new task receive) (held new task send) (held new task send_once)) (sym e) n
@@ -251,7 +236,7 @@ module _ (task o k name p : ℕ) (old new : State) (l : IsMoving old o k) (is : 
       (has_task old o k l task name (Target.port p) is)
       (λ t not. ap (λ (x : State). x.naming t) rest ∙ kept_others b task name old t not)
       (send_own b e (ap (λ (x : State). x.naming task) rest))
-      (λ r. ap (λ (x : State). x.stands r) rest ∙ kept_stands b task name old l.none_stands r)
+      (requests_from old (name_kept b task name old) new (ap (λ (x : State). x.stands) rest) (ap (λ (x : State). x.naming) rest) (kept_requests b task name old (names_stand old l.standing)))
       (λ q. subst (λ (n : ℕ). n < 2 ^ 32) (sym (ap (λ (x : State). x.make_send q) rest ∙ ap (λ (f : ℕ → ℕ). f q) (kept_make_send b))) (l.make_send_fits q))
       (λ q. subst (λ (n : ℕ). n < 2 ^ 32) (sym (ap (λ (x : State). x.sequence q) rest ∙ ap (λ (f : ℕ → ℕ). f q) (kept_sequence b))) (l.sequence_fits q))
       (λ q dead. sets q ∙ l.no_sets q dead)
@@ -321,7 +306,7 @@ module _ (task o k name p : ℕ) (old new : State) (l : IsMoving old o k) (is : 
       (has_task old o k l task name (Target.port p) is)
       (λ t not. ap (λ (x : State). x.naming t) rest ∙ kept_others b task name old t not)
       (receive_own b e (ap (λ (x : State). x.naming task) rest))
-      (λ r. ap (λ (x : State). x.stands r) rest ∙ kept_stands b task name old l.none_stands r)
+      (requests_from old (name_kept b task name old) new (ap (λ (x : State). x.stands) rest) (ap (λ (x : State). x.naming) rest) (kept_requests b task name old (names_stand old l.standing)))
       (λ q. subst (λ (n : ℕ). n < 2 ^ 32) (sym (ap (λ (x : State). x.make_send q) rest)) (at_all (λ q n. n < 2 ^ 32) old.make_send p 0 (omega arith) (λ r not. l.make_send_fits r) q))
       (λ q. subst (λ (n : ℕ). n < 2 ^ 32) (sym (ap (λ (x : State). x.sequence q) rest)) (at_all (λ q n. n < 2 ^ 32) old.sequence p 0 (omega arith) (λ r not. l.sequence_fits r) q))
       (λ q dead. sets q ∙ at_all (λ q xs. old.live_port q ≡ false → xs ≡ []) old.sets_of p [] (λ d. refl) (λ r not d. l.no_sets r d) q dead)
@@ -367,7 +352,7 @@ module _ (task o k name p : ℕ) (old new : State) (l : IsMoving old o k) (is : 
       (own_naming task old new (map.remove (old.naming task) name) (ap (λ (x : State). x.naming task) rest ∙ at_same old.naming task (map.remove (old.naming task) name) task refl)
       (other_unnamed (old.naming task) (held old task receive) (held old task send) (held old task send_once) (held new task receive) (held new task send) (held new task send_once) (l.naming task)
       name (Target.once p) is no_port (λ q. (receives_stay task q, sends_stay q)) once_less))
-      (λ r. ap (λ (x : State). x.stands r) rest ∙ without_stands task name old l.none_stands r)
+      (requests_from old (without_name task name old) new (ap (λ (x : State). x.stands) rest) (ap (λ (x : State). x.naming) rest) (without_requests task name old (names_stand old l.standing)))
       (λ q. subst (λ (n : ℕ). n < 2 ^ 32) (sym (ap (λ (x : State). x.make_send q) rest)) (l.make_send_fits q))
       (λ q. subst (λ (n : ℕ). n < 2 ^ 32) (sym (ap (λ (x : State). x.sequence q) rest)) (l.sequence_fits q))
       (λ q dead. ap (λ (x : State). x.sets_of q) rest ∙ l.no_sets q dead)
@@ -384,7 +369,7 @@ module _ (task o k : ℕ) (old new : State) (l : IsMoving old o k) (tokens : Mov
   same_held t c q = let m = tokens (λ x. if is_held t c q x then 1 else 0) in omega (arith, m)
 
   pub dead_leaves : (c : State) → new ≡ record c { ledger = new.ledger } → old.live_task task ≡ true → record c { ledger = new.ledger } ≡ shape old (record c { ledger = new.ledger }) →
-      ((t : ℕ) → (t ≡ task → ⊥) → c.naming t ≡ old.naming t) → IsNaming (c.naming task) (held new task receive) (held new task send) (held new task send_once) → NoRequests c →
+      ((t : ℕ) → (t ≡ task → ⊥) → c.naming t ≡ old.naming t) → IsNaming (c.naming task) (held new task receive) (held new task send) (held new task send_once) → KeepsRequests old c →
       c.make_send ≡ old.make_send → c.sequence ≡ old.sequence → c.sets_of ≡ old.sets_of → SetLaw c.naming old.set_owner old.sets_made → Leaves old new task
   dead_leaves c rest is_task same_shape others own stands make_send sequence sets_of law = record {
     rest = shaped old (record c { ledger = new.ledger }) new rest same_shape;
@@ -393,7 +378,7 @@ module _ (task o k : ℕ) (old new : State) (l : IsMoving old o k) (tokens : Mov
     own = own_naming task old new (c.naming task) (ap (λ (x : State). x.naming task) rest) own;
     receives = λ q. let m = tokens (λ x. if is_of receive q x then 1 else 0) in omega (arith, m);
     dead = λ q dead kind. let m = tokens (λ x. if is_of kind q x then 1 else 0) in let n = l.no_rights q dead kind in omega (arith, m, n);
-    stands = λ r. ap (λ (x : State). x.stands r) rest ∙ stands r;
+    stands = requests_from old c new (ap (λ (x : State). x.stands) rest) (ap (λ (x : State). x.naming) rest) stands;
     make_send = λ q. subst (λ (n : ℕ). n < 2 ^ 32) (sym (ap (λ (x : State). x.make_send q) rest ∙ ap (λ (f : ℕ → ℕ). f q) make_send)) (l.make_send_fits q);
     sequence = λ q. subst (λ (n : ℕ). n < 2 ^ 32) (sym (ap (λ (x : State). x.sequence q) rest ∙ ap (λ (f : ℕ → ℕ). f q) sequence)) (l.sequence_fits q);
     no_sets = λ q dead. sets q ∙ l.no_sets q dead;
@@ -429,7 +414,7 @@ module _ (task o k : ℕ) (old new : State) (l : IsMoving old o k) (tokens : Mov
       (sym (at_same old.naming task (map.insert (old.naming task) name (Target.dead (n - 1))) task refl))
       (dead_fewer (old.naming task) (held old task receive) (held old task send) (held old task send_once) (held new task receive) (held new task send) (held new task send_once) (l.naming task)
       name n (n - 1) is (omega (arith, more)) (omega arith) (λ q. (same_held task receive q, same_held task send q)) (same_held task send_once)))
-      l.none_stands refl refl refl
+      (named_requests task name (Target.dead (n - 1)) old (names_stand old l.standing) (inr (dead_not_right (lookup old task name) n is))) refl refl refl
       (insert_law old.naming task old.set_owner old.sets_made name (Target.dead (n - 1)) l.sets (dead_sets (old.naming task) name n (n - 1) is))
   fewer_references name n is false e rest =
       dead_leaves (without_name task name old) rest (has_task old o k l task name (Target.dead n) is) refl
@@ -438,13 +423,13 @@ module _ (task o k : ℕ) (old new : State) (l : IsMoving old o k) (tokens : Mov
       (sym (at_same old.naming task (map.remove (old.naming task) name) task refl))
       (other_unnamed (old.naming task) (held old task receive) (held old task send) (held old task send_once) (held new task receive) (held new task send) (held new task send_once) (l.naming task)
       name (Target.dead n) is (no_rights_under n) (λ q. (same_held task receive q, same_held task send q)) (λ q. let h = same_held task send_once q in omega (arith, h))))
-      (without_stands task name old l.none_stands) refl refl refl
+      (without_requests task name old (names_stand old l.standing)) refl refl refl
       (remove_law old.naming task old.set_owner old.sets_made name l.sets (removed_sets (old.naming task) name (Target.dead n) is (dead_no_set n)))
 
   same_references : (name : ℕ) (x : Target) → lookup old task name ≡ Some x → new ≡ record old { ledger = new.ledger } → Leaves old new task
   same_references name x is rest = dead_leaves old rest (has_task old o k l task name x is) refl (λ t not. refl)
       (same_naming (old.naming task) (held old task receive) (held old task send) (held old task send_once) (held new task receive) (held new task send) (held new task send_once) (l.naming task)
-      (same_held task receive) (same_held task send) (same_held task send_once)) l.none_stands refl refl refl l.sets
+      (same_held task receive) (same_held task send) (same_held task send_once)) (requests_stay old (names_stand old l.standing)) refl refl refl l.sets
 
 -- ---- each disposition
 

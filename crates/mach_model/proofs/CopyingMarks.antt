@@ -81,7 +81,7 @@ GiveRight-removes task o k send p old name new named l is_task n rest tokens = b
     by false e tokens = go n
       where
         go : NamedOnce task name p old named → Removes old new o k (λ c q. mark_count c q send (to_port p))
-        go (inl h) = gone_removes task o k old new p l is_task tokens (onward old named new new.ledger rest h.1)
+        go (inl h) = gone_removes task o k old new send p refl l is_task tokens (onward old named new new.ledger rest h.1)
         go (inr h) = absurd (let a = ltb-false (held old task send p) most_references e in let m = (l.naming task).is_named p (omega (arith, a)) in h.0 m.0 m.1)
 GiveRight-removes task o k send_once p old name new named l is_task n rest tokens =
     come_once task o k old new send_once p l is_task tokens name refl (named_new task name (Target.once p) old named n)

@@ -10,10 +10,11 @@ use Rattle.mach_types.specs.Messages.{to_port}
 use Rattle.mach_model.specs.State.{State, Target, Names, lookup, held, with_name}
 use Rattle.mach_model.specs.Dying.{same_place}
 use Rattle.mach_model.specs.Carried.{mark_count, lying}
-use Rattle.mach_model.proofs.Weigh.{length-weigh, pos_or_zero}
+use Rattle.mach_model.proofs.Weigh.{length-weigh, both_test, pos_or_zero}
 use Rattle.mach_model.proofs.At.{at_same, at_other}
 use Rattle.mach_model.proofs.Spaces.{IsNaming, IsNew, SameBut, stay_named, port_named, once_named}
 use Rattle.mach_model.proofs.SetNames.{SameSets, SameSets-refl, SameSets-is, same_set_law, kept_set_law, IsNoSet, port_no_set, once_no_set, inserted_sets}
+use Rattle.mach_model.proofs.Requests.{KeepsRequests, names_stand, requests_from, requests_stay, named_requests}
 use Rattle.mach_model.proofs.Moving.{IsMoving, shape, shaped, near_none, near_task, near_entry, Leaves, moved}
 use Rattle.mach_model.proofs.CopyingIn.{at_entry, not_at_entry, not_held, own_right, other_port, own_naming}
 
@@ -43,7 +44,7 @@ module _ (task o k : ℕ) (old new : State) (kind : Kind) (p : ℕ) (l : IsMovin
 
   come_leaves : (s : State) → new ≡ record s { ledger = new.ledger } → record s { ledger = new.ledger } ≡ shape old (record s { ledger = new.ledger }) →
       ((t : ℕ) → (t ≡ task → ⊥) → s.naming t ≡ old.naming t) → IsNaming (s.naming task) (held new task receive) (held new task send) (held new task send_once) →
-      s.stands ≡ old.stands → s.make_send ≡ old.make_send → s.sequence ≡ old.sequence → s.sets_of ≡ old.sets_of → SameSets (old.naming task) (s.naming task) → Leaves old new task
+      KeepsRequests old s → s.make_send ≡ old.make_send → s.sequence ≡ old.sequence → s.sets_of ≡ old.sets_of → SameSets (old.naming task) (s.naming task) → Leaves old new task
   come_leaves s rest same_shape others own stands make_send sequence sets_of names = record {
     rest = shaped old (record s { ledger = new.ledger }) new rest same_shape;
     is_task = is_task;
@@ -51,7 +52,7 @@ module _ (task o k : ℕ) (old new : State) (kind : Kind) (p : ℕ) (l : IsMovin
     own = own_naming task old new (s.naming task) (ap (λ (x : State). x.naming task) rest) own;
     receives = come_of receive;
     dead = λ q dead c. come_of c q ∙ l.no_rights q dead c;
-    stands = λ r. ap (λ (x : State). x.stands r) rest ∙ ap (λ f. f r) stands ∙ l.none_stands r;
+    stands = requests_from old s new (ap (λ (x : State). x.stands) rest) (ap (λ (x : State). x.naming) rest) stands;
     make_send = λ q. subst (λ (n : ℕ). n < 2 ^ 32) (sym (ap (λ (x : State). x.make_send q) rest ∙ ap (λ (f : ℕ → ℕ). f q) make_send)) (l.make_send_fits q);
     sequence = λ q. subst (λ (n : ℕ). n < 2 ^ 32) (sym (ap (λ (x : State). x.sequence q) rest ∙ ap (λ (f : ℕ → ℕ). f q) sequence)) (l.sequence_fits q);
     no_sets = λ q dead. sets q ∙ l.no_sets q dead;
@@ -117,7 +118,7 @@ module _ (task o k : ℕ) (old new : State) (kind : Kind) (p : ℕ) (l : IsMovin
         | inr h ↦ inl (come_other receive q h.1, come_other send q h.1)
       ])
       (few_sends few) (same_once kind refl not))
-      refl refl refl refl (SameSets-refl (old.naming task)))
+      (requests_stay old (names_stand old l.standing)) refl refl refl (SameSets-refl (old.naming task)))
 
   named_own : (name : ℕ) (x : Target) → IsNaming (map.insert (old.naming task) name x) (held new task receive) (held new task send) (held new task send_once) →
       IsNaming ((with_name task name x old).naming task) (held new task receive) (held new task send) (held new task send_once)
@@ -136,7 +137,7 @@ module _ (task o k : ℕ) (old new : State) (kind : Kind) (p : ℕ) (l : IsMovin
       (named_own name (Target.port p)
       (port_named (old.naming task) (held old task receive) (held old task send) (held old task send_once) (held new task receive) (held new task send) (held new task send_once) (l.naming task)
       name p is_new no_right (some_right kind refl not) few come_but (same_once kind refl not p)))
-      refl refl refl refl (named_sets name (Target.port p) is_new.unused (port_no_set p)))
+      (named_requests task name (Target.port p) old (names_stand old l.standing) (inl tt)) refl refl refl (named_sets name (Target.port p) is_new.unused (port_no_set p)))
     where
       no_right : held old task receive p + held old task send p ≡ 0
       no_right = elim (pos_or_zero (held old task receive p + held old task send p)) [
@@ -152,7 +153,7 @@ module _ (task o k : ℕ) (old new : State) (kind : Kind) (p : ℕ) (l : IsMovin
       (named_own name (Target.once p)
       (once_named (old.naming task) (held old task receive) (held old task send) (held old task send_once) (held new task receive) (held new task send) (held new task send_once) (l.naming task)
       name p is_new (λ q. (same receive refl q, same send refl q)) more))
-      refl refl refl refl (named_sets name (Target.once p) is_new.unused (once_no_set p)))
+      (named_requests task name (Target.once p) old (names_stand old l.standing) (inl tt)) refl refl refl (named_sets name (Target.once p) is_new.unused (once_no_set p)))
     where
       none : (c : Kind) → same_kind c send_once ≡ false → (q : ℕ) → (if is_held task c q (token send_once p (in_task task)) then suc zero else zero) ≡ zero
       none c e q = rw e refl
@@ -173,20 +174,20 @@ module _ (task o k : ℕ) (old new : State) (kind : Kind) (p : ℕ) (l : IsMovin
           let z : (if is_held task send_once q (token kind p (in_task task)) then suc zero else zero) ≡ (if p == q then suc zero else zero) =
           subst (λ (x : Kind). (if is_held task send_once q (token x p (in_task task)) then suc zero else zero) ≡ (if p == q then suc zero else zero)) (sym is) (only_port (p == q)) in omega (arith, m, z)
 
--- a send right that goes, since the task has as many references as there may be
-module _ (task o k : ℕ) (old new : State) (p : ℕ) (l : IsMoving old o k) (is_task : old.live_task task ≡ true)
-    (tokens : Moves old.ledger new.ledger (token send p (in_message o k) ∷ []) []) where
+-- a send or send-once right that goes: the task has as many references as there may be, or the right is used
+module _ (task o k : ℕ) (old new : State) (kind : Kind) (p : ℕ) (not_receive : same_kind receive kind ≡ false) (l : IsMoving old o k) (is_task : old.live_task task ≡ true)
+    (tokens : Moves old.ledger new.ledger (token kind p (in_message o k) ∷ []) []) where
   gone_held : (t : ℕ) (c : Kind) (q : ℕ) → held new t c q ≡ held old t c q
-  gone_held t c q = let m = tokens (λ x. if is_held t c q x then 1 else 0) in let z = not_held c q o k send p t in omega (arith, m, z)
+  gone_held t c q = let m = tokens (λ x. if is_held t c q x then 1 else 0) in let z = not_held c q o k kind p t in omega (arith, m, z)
 
-  pub gone_removes : new ≡ record old { ledger = new.ledger } → Removes old new o k (λ c q. mark_count c q send (to_port p))
+  pub gone_removes : new ≡ record old { ledger = new.ledger } → Removes old new o k (λ c q. mark_count c q kind (to_port p))
   gone_removes rest = record {
-    keeps = moved old new task o k l (token send p (in_message o k) ∷ []) [] tokens (near_entry task o k send p) (near_none task o k) leaves;
+    keeps = moved old new task o k l (token kind p (in_message o k) ∷ []) [] tokens (near_entry task o k kind p) (near_none task o k) leaves;
     rest = leaves.rest;
     few = let m = tokens (λ x. 1) in omega (arith, m, length-weigh old.ledger, length-weigh new.ledger);
     lies = λ c q live.
         let m = tokens (λ x. if is_of c q x && same_place (in_message o k) x.place then 1 else 0) in
-        let e = at_entry c q o k send p in omega (arith, m, e);
+        let e = at_entry c q o k kind p in omega (arith, m, e);
   }
     where
       sets : (q : ℕ) → new.sets_of q ≡ old.sets_of q
@@ -201,9 +202,9 @@ module _ (task o k : ℕ) (old new : State) (p : ℕ) (l : IsMoving old o k) (is
             (stay_named (old.naming task) (held old task receive) (held old task send) (held old task send_once) (held new task receive) (held new task send) (held new task send_once) (l.naming task)
             (λ q. inl (gone_held task receive q, gone_held task send q))
             (λ q. let a = gone_held task send q in let b = (l.naming task).few_references q in omega (arith, a, b)) (gone_held task send_once));
-        receives = λ q. let m = tokens (λ x. if is_of receive q x then 1 else 0) in omega (arith, m);
+        receives = λ q. let m = tokens (λ x. if is_of receive q x then 1 else 0) in let z = both_test (same_kind receive kind) (p == q) (inl not_receive) in omega (arith, m, z);
         dead = λ q dead c. let m = tokens (λ x. if is_of c q x then 1 else 0) in let n = l.no_rights q dead c in omega (arith, m, n);
-        stands = λ r. ap (λ (x : State). x.stands r) rest ∙ l.none_stands r;
+        stands = requests_from old old new (ap (λ (x : State). x.stands) rest) (ap (λ (x : State). x.naming) rest) (requests_stay old (names_stand old l.standing));
         make_send = λ q. subst (λ (n : ℕ). n < 2 ^ 32) (sym (ap (λ (x : State). x.make_send q) rest)) (l.make_send_fits q);
         sequence = λ q. subst (λ (n : ℕ). n < 2 ^ 32) (sym (ap (λ (x : State). x.sequence q) rest)) (l.sequence_fits q);
         no_sets = λ q dead. sets q ∙ l.no_sets q dead;

@@ -72,8 +72,7 @@ module _ (s : State) (l : IsLawful s) where
     ended = l.ended;
     one_kept = l.one_kept;
     once_kept = l.once_kept;
-    none_stands = l.none_stands;
-    none_carried = l.none_carried;
+    standing = l.standing;
   }
 
   pub CreatesTask-lawful : (t : ℕ) (mid : State) → CreatesTask s t mid → IsLawful mid

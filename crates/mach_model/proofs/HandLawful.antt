@@ -1,7 +1,7 @@
 -- A right that is handed from a task to another, or to the same, leaves a lawful state. On its way it is seen as lying at an entry
 -- that no log has.
 use Rattle.std.proofs.Common.{◌≡◌, ℕ, zero, suc, ◌+◌, ◌<◌, ◌≤◌, List, [], ◌∷◌, Option, Some, None, refl, sym, ap, subst, ◌∙◌, arith, true, false, Bool, ◌⊎◌, inl, inr, length}
-use Rattle.std.specs.Prelude.{if◌then◌else◌, ◌==◌, ◌&&◌, ◌≢◌, nat_lt}
+use Rattle.std.specs.Prelude.{if◌then◌else◌, ◌==◌, ◌&&◌, ◌≢◌, nat_lt, All}
 use Rattle.std.specs.FinMap as map
 use Rattle.std.proofs.lemmas.Bool.Decides.{eqb_tells}
 use Rattle.std.proofs.lemmas.Bool.{eq-eqb, lt-ltb, ltb-true, ltb-false}
@@ -19,6 +19,7 @@ use Rattle.mach_model.specs.Handing.{target_for, inserted_guards, Inserts, pegge
 use Rattle.mach_model.specs.Refusals.{IsNoName}
 use Rattle.mach_model.specs.Carried.{mark_count, lying}
 use Rattle.mach_model.specs.Lawful.{IsLawful}
+use Rattle.mach_model.specs.MidLawful.{IsOwed, MidLawful}
 use Rattle.mach_model.proofs.Weigh.{length-weigh, both_test, left_of, right_of, lying_le_of}
 use Rattle.mach_model.proofs.Settling.{kind_refl}
 use Rattle.mach_model.proofs.Spaces.{IsNew}
@@ -29,7 +30,7 @@ use Rattle.mach_model.proofs.CopyingMarks.{GiveRight-removes}
 
 -- ---- one token is taken from a list
 
-same_kinds : (a b : Kind) → same_kind a b ≡ true → b ≡ a
+pub same_kinds : (a b : Kind) → same_kind a b ≡ true → b ≡ a
 same_kinds receive receive e = refl
 same_kinds send send e = refl
 same_kinds send_once send_once e = refl
@@ -40,13 +41,13 @@ same_kinds send send_once e = absurd (cc)
 same_kinds send_once receive e = absurd (cc)
 same_kinds send_once send e = absurd (cc)
 
-same_numbers : (a b : ℕ) → (a == b) ≡ true → a ≡ b
+pub same_numbers : (a b : ℕ) → (a == b) ≡ true → a ≡ b
 same_numbers a b e = elim (eqb_tells a b) [
   | inl h ↦ h.1
   | inr h ↦ absurd (let f = h.0 in cc)
 ]
 
-same_task : (task : ℕ) (place : Place) → is_in_task task place ≡ true → place ≡ in_task task
+pub same_task : (task : ℕ) (place : Place) → is_in_task task place ≡ true → place ≡ in_task task
 same_task task (in_task other) e = ap in_task (same_numbers other task e)
 same_task task (in_message p k) e = absurd (cc)
 same_task task (in_request r) e = absurd (cc)
@@ -60,7 +61,7 @@ is_it task kind p x e =
     let at = same_task task x.place (right_of (is_of kind p x) (is_in_task task x.place) e) in
     λ i. token (k i) (q i) (at i)
 
-one_taken : (task : ℕ) (kind : Kind) (p : ℕ) (xs : List Token) → 0 < count (is_held task kind p) xs → (ys : List Token) × Moves xs ys (token kind p (in_task task) ∷ []) []
+pub one_taken : (task : ℕ) (kind : Kind) (p : ℕ) (xs : List Token) → 0 < count (is_held task kind p) xs → (ys : List Token) × Moves xs ys (token kind p (in_task task) ∷ []) []
 one_taken task kind p [] some = absurd (omega (arith, some))
 one_taken task kind p (x ∷ xs) some = go (is_held task kind p x) refl (one_taken task kind p xs)
   where
@@ -75,7 +76,7 @@ one_taken task kind p (x ∷ xs) some = go (is_held task kind p x) refl (one_tak
 -- ---- the right as it lies at an entry
 
 -- what the right of a port is, where it stands
-put_is : (given : Disposition) (target : Target) (p : ℕ) → target_mark given target ≡ Some (to_port p) → (place : Place) → put_by given target place ≡ token (kind_sent given) p place ∷ []
+pub put_is : (given : Disposition) (target : Target) (p : ℕ) → target_mark given target ≡ Some (to_port p) → (place : Place) → put_by given target place ≡ token (kind_sent given) p place ∷ []
 put_is given (Target.port q) p e place = ap (λ (x : ℕ). token (kind_sent given) x place ∷ []) (same_port q p e)
   where
     same_port : (a b : ℕ) → Some (to_port a) ≡ Some (to_port b) → a ≡ b
@@ -173,9 +174,12 @@ module _ (from to number name p o k : ℕ) (s copied : State) (l : IsMoving s o 
 
 -- what was on its way and is with a task now has left the state lawful
 arrives : (o k : ℕ) (old v mid : State) (kind : Kind) (p : ℕ) → IsLawful old → length (old.log o) ≤ k → Copies old v o k kind (to_port p) → Removes v mid o k (λ c q. mark_count c q kind (to_port p)) →
-    length mid.ledger ≤ most_rights → IsLawful mid
-arrives o k old v mid kind p l above c r few = arrived mid o k r.keeps (inr outside) none few
+    length mid.ledger ≤ most_rights → MidLawful mid []
+arrives o k old v mid kind p l above c r few = arrived mid o k r.keeps (inr outside) none [] none_owed (omega (arith, few))
   where
+    none_owed : All (IsOwed mid) []
+    none_owed j d below = absurd (omega arith)
+
     log : mid.log ≡ old.log
     log = ap (λ (x : State). x.log) r.rest ∙ ap (λ (x : State). x.log) c.rest
 
@@ -281,7 +285,7 @@ Inserts-hands task name from poly number old mid l is_task fits i =
       removes = inserted task name i.p 0 k i.copied h.ledger (kind_sent i.copy.given) h.copies.keeps live h.moves i.unrefused fits mid i.named;
     }
 
-pub Inserts-lawful : (task name from poly number : ℕ) (old mid : State) → IsLawful old → old.live_task task ≡ true → ¬ (IsNoName name) → Inserts task name from poly number old mid → IsLawful mid
+pub Inserts-lawful : (task name from poly number : ℕ) (old mid : State) → IsLawful old → old.live_task task ≡ true → ¬ (IsNoName name) → Inserts task name from poly number old mid → MidLawful mid []
 Inserts-lawful task name from poly number old mid l is_task fits i =
     let h = Inserts-hands task name from poly number old mid l is_task fits i in
     arrives 0 (length (old.log 0)) old h.on_its_way mid (kind_sent i.copy.given) i.p l (omega arith) h.copies h.removes
@@ -373,7 +377,7 @@ Extracts-hands task name number to new_name shown old mid l is_task x =
       removes = extracted to new_name x.p 0 k x.copied x.named_state mid h.ledger (kind_sent x.copy.given) h.copies.keeps live h.moves x.rest x.tokens x.named;
     }
 
-pub Extracts-lawful : (task name number to new_name shown : ℕ) (old mid : State) → IsLawful old → old.live_task to ≡ true → Extracts task name number to new_name shown old mid → IsLawful mid
+pub Extracts-lawful : (task name number to new_name shown : ℕ) (old mid : State) → IsLawful old → old.live_task to ≡ true → Extracts task name number to new_name shown old mid → MidLawful mid []
 Extracts-lawful task name number to new_name shown old mid l is_task x =
     let h = Extracts-hands task name number to new_name shown old mid l is_task x in
     arrives 0 (length (old.log 0)) old h.on_its_way mid (kind_sent x.copy.given) x.p l (omega arith) h.copies h.removes

@@ -1,7 +1,7 @@
 -- States while rights are on their way: copied in and not yet in a message, or taken from a message and not yet copied out. They
 -- lie at one entry of one port's log; but for these rights the state is lawful.
 use Rattle.std.proofs.Common.{◌≡◌, ℕ, ◌+◌, ◌^◌, ◌<◌, ◌≤◌, List, [], ◌∷◌, Some, None, refl, sym, ap, subst, ◌∙◌, arith, true, false, Bool, ◌⊎◌, inl, inr, length}
-use Rattle.std.specs.Prelude.{if◌then◌else◌, ◌&&◌, ◌≢◌, slice_get, Contains}
+use Rattle.std.specs.Prelude.{if◌then◌else◌, ◌&&◌, ◌≢◌, slice_get, All, Contains}
 use Rattle.std.proofs.lemmas.Bool.Decides.{eqb_tells}
 use Rattle.std.proofs.lemmas.Bool.{ne_eqb}
 use Rattle.std.proofs.lemmas.Option.{slice_get_within}
@@ -11,10 +11,12 @@ use Rattle.mach_types.specs.Tokens.{Kind, receive, send, send_once, Request, in_
 use Rattle.mach_types.specs.Messages.{Entry}
 use Rattle.mach_model.specs.State.{State, Names, lookup, held, Holds, queue}
 use Rattle.mach_model.specs.Dying.{same_place}
+use Rattle.mach_model.specs.Notices.{Owed}
 use Rattle.mach_model.specs.Carried.{message_count, lying}
-use Rattle.mach_model.specs.NotYet.{NoRequests}
-use Rattle.mach_model.specs.Lawful.{IsLawful}
+use Rattle.mach_model.specs.MidLawful.{IsOnName, IsOwed, MidLawful}
+use Rattle.mach_model.specs.Lawful.{IsLawful, StandsOn}
 use Rattle.mach_model.proofs.At.{elsewhere}
+use Rattle.mach_model.proofs.Requests.{KeepsRequests, all_stand}
 use Rattle.mach_model.proofs.Spaces.{IsNaming, stay_named}
 use Rattle.mach_model.proofs.SetNames.{SetLaw, set_law, IsMember}
 
@@ -49,11 +51,10 @@ pub record IsMoving (s : State) (o k : ℕ) : Type 0 where
   pub gone : (p j : ℕ) → (p ≡ o → j ≡ k → ⊥) → (j < s.taken p) ⊎ (s.live_port p ≡ false) → (kind : Kind) (q : ℕ) → lying s kind q (in_message p j) ≡ 0
   pub no_entry : (p j : ℕ) → (p ≡ o → j ≡ k → ⊥) → length (s.log p) ≤ j → (kind : Kind) (q : ℕ) → lying s kind q (in_message p j) ≡ 0
   -- requests
-  pub ended : (r : Request) → s.stands r ≡ false → (kind : Kind) (q : ℕ) → lying s kind q (in_request r) ≡ 0
+  pub ended : (r : Request) → s.stands r ≡ false → ¬ (IsOnName r) → (kind : Kind) (q : ℕ) → lying s kind q (in_request r) ≡ 0
   pub one_kept : (r : Request) → count (λ x. same_place (in_request r) x.place) s.ledger ≤ 1
   pub once_kept : (r : Request) (kind : Kind) (q : ℕ) → kind ≢ send_once → lying s kind q (in_request r) ≡ 0
-  pub none_stands : NoRequests s
-  pub none_carried : (p j q : ℕ) → (p ≡ o → j ≡ k → ⊥) → lying s receive q (in_message p j) ≡ 0
+  pub standing : (r : Request) → s.stands r ≡ true → StandsOn s r
 
 -- ---- to and from lawful states
 
@@ -94,20 +95,28 @@ moving s o k l = record {
   carried = λ p i e not. l.carried p i e;
   gone = λ p j not. l.gone p j;
   no_entry = λ p j not. l.no_entry p j;
-  ended = l.ended;
+  ended = λ r not on_port. l.ended r not;
   one_kept = l.one_kept;
   once_kept = l.once_kept;
-  none_stands = l.none_stands;
-  none_carried = λ p j q not. l.none_carried p j q;
+  standing = l.standing;
 }
 
 -- The place is no queued entry's.
 abbrev pub IsOutside : State → (o k : ℕ) → Type 0
 IsOutside s o k = (k < s.taken o) ⊎ (length (s.log o) ≤ k)
 
--- Where none is on its way, and there are not too many, the state is lawful.
-pub arrived : (s : State) (o k : ℕ) → IsMoving s o k → IsOutside s o k → ((kind : Kind) (q : ℕ) → lying s kind q (in_message o k) ≡ 0) → length s.ledger ≤ most_rights → IsLawful s
-arrived s o k l outside none few = record {
+-- each port has one receive right at most, and is no orphan
+pub most_receive : (s : State) (o k : ℕ) → IsMoving s o k → (p : ℕ) → count (is_of receive p) s.ledger ≤ 1
+most_receive s o k l p = go (s.live_port p) refl
+  where
+    go : (b : Bool) → s.live_port p ≡ b → count (is_of receive p) s.ledger ≤ 1
+    go true e = omega (arith, l.one_receive p e)
+    go false e = omega (arith, l.no_rights p e receive)
+
+-- Where none is on its way, and there are not too many, the state is lawful but for what requests on names keep.
+pub arrived : (s : State) (o k : ℕ) → IsMoving s o k → IsOutside s o k → ((kind : Kind) (q : ℕ) → lying s kind q (in_message o k) ≡ 0) → (owed : Owed) → All (IsOwed s) owed →
+    length s.ledger + length owed ≤ most_rights → MidLawful s owed
+arrived s o k l outside none owed are few = record {
   made_task = l.made_task;
   no_task = l.no_task;
   not_null = λ t. (l.naming t).not_null;
@@ -121,9 +130,12 @@ arrived s o k l outside none few = record {
   references = λ t. (l.naming t).references;
   few_references = λ t. (l.naming t).few_references;
   made_port = l.made_port;
-  one_receive = l.one_receive;
+  most_receive = most_receive s o k l;
   no_rights = l.no_rights;
-  few_rights = few;
+  orphans = [];
+  each_orphan = λ p is. absurd (let a = l.one_receive p is.0 in let b = is.1 in omega (arith, a, b));
+  few_rights = omega (arith, few);
+  are_owed = are;
   limit_fits = l.limit_fits;
   make_send_fits = l.make_send_fits;
   sequence_fits = l.sequence_fits;
@@ -132,7 +144,7 @@ arrived s o k l outside none few = record {
   set_owned = l.sets.set_owned;
   set_named = l.sets.set_named;
   one_set_name = l.sets.one_set_name;
-  members = l.members;
+  members = λ p set in_it. let h = l.members p set in_it in (h.0, h.1, inl h.2);
   one_set = l.one_set;
   unmade_log = l.unmade_log;
   within = l.within;
@@ -144,8 +156,7 @@ arrived s o k l outside none few = record {
   ended = l.ended;
   one_kept = l.one_kept;
   once_kept = l.once_kept;
-  none_stands = l.none_stands;
-  none_carried = λ p j q. elsewhere_too p j receive q (λ not. l.none_carried p j q not);
+  standing = l.standing;
 }
   where
     queued : (p i : ℕ) (e : Entry) → slice_get (queue s p) i ≡ Some e → p ≡ o → s.taken p + i ≡ k → ⊥
@@ -208,7 +219,7 @@ pub record Leaves (s new : State) (task : ℕ) : Type 0 where
   pub own : TaskNaming new task
   pub receives : (q : ℕ) → count (is_of receive q) new.ledger ≡ count (is_of receive q) s.ledger
   pub dead : (q : ℕ) → s.live_port q ≡ false → (kind : Kind) → count (is_of kind q) new.ledger ≡ 0
-  pub stands : NoRequests new
+  pub stands : KeepsRequests s new
   pub make_send : (q : ℕ) → new.make_send q < 2 ^ 32
   pub sequence : (q : ℕ) → new.sequence q < 2 ^ 32
   pub no_sets : (q : ℕ) → s.live_port q ≡ false → new.sets_of q ≡ []
@@ -265,11 +276,10 @@ module _ (s new : State) (task o k : ℕ) (l : IsMoving s o k) (gone come : List
     carried = λ p i e not live is kind q live_q. lying_far kind q p (s.taken p + i) not ∙ l.carried p i e not live is kind q live_q;
     gone = λ p j not is kind q. lying_far kind q p j not ∙ l.gone p j not is kind q;
     no_entry = λ p j not above kind q. lying_far kind q p j not ∙ l.no_entry p j not above kind q;
-    ended = λ r not kind q. lying_kept kind q r ∙ l.ended r (l.none_stands r) kind q;
+    ended = λ r not on_port kind q. lying_kept kind q r ∙ l.ended r (sym (v.stands.ports r on_port) ∙ not) on_port kind q;
     one_kept = λ r. let a = kept_far r in let b = l.one_kept r in omega (arith, a, b);
     once_kept = λ r kind q not. lying_kept kind q r ∙ l.once_kept r kind q not;
-    none_stands = v.stands;
-    none_carried = λ p j q not. lying_far receive q p j not ∙ l.none_carried p j q not;
+    standing = all_stand s (shape s new) l.standing (λ p live. live) (record { ports = v.stands.ports; names = v.stands.names });
   }
     where
       is_other : (t : ℕ) → s.live_task t ≡ false → t ≡ task → ⊥

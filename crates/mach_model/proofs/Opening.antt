@@ -54,6 +54,5 @@ opening-lawful = record {
   ended = λ r is kind q. refl;
   one_kept = λ r. omega arith;
   once_kept = λ r kind q not. refl;
-  none_stands = λ r. refl;
-  none_carried = λ p k q. refl;
+  standing = λ r is. absurd (cc);
 }

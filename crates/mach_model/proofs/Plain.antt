@@ -11,7 +11,8 @@ use Rattle.mach_model.specs.State.{State, Target, lookup, at, Holds, queue}
 use Rattle.mach_model.specs.CopyOut.{GiveReply, GiveBody}
 use Rattle.mach_model.specs.Carried.{lying}
 use Rattle.mach_model.specs.Sending.{Sends, entry}
-use Rattle.mach_model.specs.Receiving.{IsFront, with_taken, Receives}
+use Rattle.mach_model.specs.Receiving.{Receives}
+use Rattle.mach_model.specs.Taking.{IsFront, with_taken}
 use Rattle.mach_model.specs.Lawful.{IsLawful}
 
 -- ---- sending

@@ -1,6 +1,6 @@
 -- A message that is received, whatever it carries, leaves a lawful state.
 use Rattle.std.proofs.Common.{◌≡◌, ℕ, suc, ◌+◌, ◌%◌, ◌^◌, ◌<◌, ◌≤◌, List, [], ◌∷◌, Some, refl, sym, ap, subst, ◌∙◌, arith, true, false, Bool, ◌⊎◌, inl, inr, length}
-use Rattle.std.specs.Prelude.{if◌then◌else◌, ◌==◌, ◌&&◌, ◌≢◌, slice_get, drop}
+use Rattle.std.specs.Prelude.{if◌then◌else◌, ◌==◌, ◌&&◌, ◌≢◌, slice_get, drop, All}
 use Rattle.std.proofs.lemmas.Bool.Decides.{eqb_tells}
 use Rattle.std.proofs.lemmas.Option.{slice_get_within}
 use Rattle.mach_types.specs.Numbers.{most_rights}
@@ -9,8 +9,10 @@ use Rattle.mach_types.specs.Messages.{to_port, Entry}
 use Rattle.mach_model.specs.State.{State, held, queue}
 use Rattle.mach_model.specs.Dying.{same_place}
 use Rattle.mach_model.specs.Carried.{mark_count, reply_count, body_count, message_count, lying}
-use Rattle.mach_model.specs.Receiving.{IsFront, with_taken, Receives}
+use Rattle.mach_model.specs.Receiving.{Receives}
+use Rattle.mach_model.specs.Taking.{IsFront, with_taken}
 use Rattle.mach_model.specs.Lawful.{IsLawful}
+use Rattle.mach_model.specs.MidLawful.{IsOwed, MidLawful}
 use Rattle.mach_model.proofs.Weigh.{length-weigh, both_test, lying_le_of}
 use Rattle.mach_model.proofs.At.{at_same, at_own, at_other, at_all, elsewhere, slice_get_drop}
 use Rattle.mach_model.proofs.SetNames.{set_law}
@@ -130,11 +132,10 @@ module _ (s : State) (p : ℕ) (e : Entry) (ledger : List Token) (l : IsLawful s
     carried = λ q i f not. carried q i f;
     gone = gone;
     no_entry = λ q j not above kind r. let a = lying_less kind r (in_message q j) in let b = l.no_entry q j above kind r in omega (arith, a, b);
-    ended = λ r not kind q. let a = lying_less kind q (in_request r) in let b = l.ended r not kind q in omega (arith, a, b);
+    ended = λ r not on_port kind q. let a = lying_less kind q (in_request r) in let b = l.ended r not kind q in omega (arith, a, b);
     one_kept = λ r. let m = tokens_for (λ x. same_place (in_request r) x.place) in let h = l.one_kept r in omega (arith, m, h);
     once_kept = λ r kind q not. let a = lying_less kind q (in_request r) in let b = l.once_kept r kind q not in omega (arith, a, b);
-    none_stands = l.none_stands;
-    none_carried = λ q j r not. let a = lying_less receive r (in_message q j) in let b = l.none_carried q j r in omega (arith, a, b);
+    standing = l.standing;
   }
 
 -- ---- a receipt
@@ -148,11 +149,14 @@ Receives-removes task port room bytes old mid l live is_task r =
     let task_lives = ap (λ (x : State). x.live_task task) r.takes.rest ∙ is_task in
     GiveBoth-removes task port k r.e.message.reply r.e.message.body r.taken r.second r.header.remote_kind r.header.remote r.written mid moving task_lives r.reply r.body
 
-pub Receives-lawful : (task port room : ℕ) (bytes : List ℕ) (old mid : State) → IsLawful old → old.live_port port ≡ true → old.live_task task ≡ true → Receives task port room bytes old mid → IsLawful mid
+pub Receives-lawful : (task port room : ℕ) (bytes : List ℕ) (old mid : State) → IsLawful old → old.live_port port ≡ true → old.live_task task ≡ true → Receives task port room bytes old mid → MidLawful mid []
 Receives-lawful task port room bytes old mid l live is_task r =
     let x = Receives-removes task port room bytes old mid l live is_task r in
-    arrived mid port (old.taken port) x.keeps (inl below) none few
+    arrived mid port (old.taken port) x.keeps (inl below) none [] none_owed (omega (arith, few))
   where
+    none_owed : All (IsOwed mid) []
+    none_owed j d below = absurd (omega arith)
+
     rest : mid ≡ shape r.taken mid
     rest = (Receives-removes task port room bytes old mid l live is_task r).rest
 

@@ -1,10 +1,10 @@
--- As long as no message carries a receive right, each live port's receive right is with a task.
-use Rattle.std.proofs.Common.{◌≡◌, ℕ, suc, zero, ◌<◌, List, [], ◌∷◌, refl, ap, ◌∙◌, arith, true, false, Bool}
+-- Each live port's receive right is with a task, or at an entry of a port that lives.
+use Rattle.std.proofs.Common.{◌≡◌, ℕ, suc, zero, ◌<◌, List, [], ◌∷◌, refl, ap, ◌∙◌, arith, true, false, Bool, ◌⊎◌, inl, inr}
 use Rattle.std.specs.Prelude.{if◌then◌else◌, ◌&&◌}
 use Rattle.std.proofs.lemmas.Bool.{eq-eqb}
 use Rattle.mach_types.specs.Tokens.{receive, Place, in_task, in_message, in_request, Token, count, is_of, is_held, is_in_task}
 use Rattle.mach_model.specs.State.{State, Holds}
-use Rattle.mach_model.specs.Dying.{same_place}
+use Rattle.mach_model.specs.Dying.{same_place, CarriedAt}
 use Rattle.mach_model.specs.Lawful.{IsLawful}
 use Rattle.mach_model.proofs.Weigh.{both_true}
 use Rattle.mach_model.proofs.Settling.{place_refl}
@@ -26,21 +26,24 @@ some_token test (x ∷ xs) some = go (test x) refl (some_token test xs)
         let t = rest (omega (arith, some, z)) in
         record { x = t.x; passes = t.passes; counted = λ other f. (let h = t.counted other f in omega (arith, h)) }
 
-pub receiver : (s : State) (p : ℕ) → IsLawful s → s.live_port p ≡ true → (task : ℕ) × Holds s task receive p
+pub receiver : (s : State) (p : ℕ) → IsLawful s → s.live_port p ≡ true → ((task : ℕ) × Holds s task receive p) ⊎ ((q : ℕ) × CarriedAt s p q)
 receiver s p l live =
     let one = l.one_receive p live in
     let t = some_token (is_of receive p) s.ledger (omega (arith, one)) in by t t.x.place refl
   where
-    by : (t : SomeToken (is_of receive p) s.ledger) (place : Place) → t.x.place ≡ place → (task : ℕ) × Holds s task receive p
-    by t (in_task task) is = (
+    by : (t : SomeToken (is_of receive p) s.ledger) (place : Place) → t.x.place ≡ place → ((task : ℕ) × Holds s task receive p) ⊎ ((q : ℕ) × CarriedAt s p q)
+    by t (in_task task) is = inl (
       task,
       t.counted (is_held task receive p)
           (both_true (is_of receive p t.x) (is_in_task task t.x.place) t.passes (ap (is_in_task task) is ∙ eq-eqb task task refl)),
     )
-    by t (in_message q k) is = absurd (
-        let some = t.counted (λ x. is_of receive p x && same_place (in_message q k) x.place)
-        (both_true (is_of receive p t.x) (same_place (in_message q k) t.x.place) t.passes (ap (same_place (in_message q k)) is ∙ place_refl (in_message q k))) in
-        let none = l.none_carried q k p in omega (arith, some, none)
+    by t (in_message q k) is = inr (q, carried)
+      where
+        carried : CarriedAt s p q
+        carried = (
+          k,
+          t.counted (λ x. is_of receive p x && same_place (in_message q k) x.place)
+              (both_true (is_of receive p t.x) (same_place (in_message q k) t.x.place) t.passes (ap (same_place (in_message q k)) is ∙ place_refl (in_message q k))),
         )
     by t (in_request r) is = absurd (
         let some = t.counted (λ x. is_of receive p x && same_place (in_request r) x.place)

@@ -13,19 +13,19 @@ use Rattle.mach_model.specs.State.{State, at, queue}
 use Rattle.mach_model.specs.Sending.{Sends, entry}
 use Rattle.mach_model.specs.Carried.{message_count, lying}
 use Rattle.mach_model.specs.Lawful.{IsLawful}
+use Rattle.mach_model.specs.MidLawful.{MidLawful}
 use Rattle.mach_model.proofs.Weigh.{lying_le_of}
 use Rattle.mach_model.proofs.At.{at_same, at_other, at_own, at_all, snoc_cases}
 use Rattle.mach_model.proofs.Settling.{kind_refl}
-use Rattle.mach_model.proofs.Moving.{IsMoving, moving}
+use Rattle.mach_model.proofs.Moving.{IsMoving, moving, most_receive}
 use Rattle.mach_model.proofs.CopyingIn.{alive}
 use Rattle.mach_model.proofs.CopyingWords.{Adds, Copied-adds}
-use Rattle.mach_model.proofs.Carrying.{by_a_send, carries_none}
+use Rattle.mach_model.proofs.Carrying.{by_a_send}
 
 -- ---- the message is appended
 
 module _ (s : State) (now : ℕ) (m : Message) (l : IsMoving s m.destination (length (s.log m.destination))) (not_receive : m.kind ≢ receive) (few : length s.ledger ≤ most_rights)
-    (lies : (kind : Kind) (q : ℕ) → lying s kind q (in_message m.destination (length (s.log m.destination))) ≡ message_count kind q m)
-    (none : (q : ℕ) → message_count receive q m ≡ 0) where
+    (lies : (kind : Kind) (q : ℕ) → lying s kind q (in_message m.destination (length (s.log m.destination))) ≡ message_count kind q m) where
   abbrev p : ℕ
   p = m.destination
 
@@ -104,7 +104,7 @@ module _ (s : State) (now : ℕ) (m : Message) (l : IsMoving s m.destination (le
         l.no_entry q k (λ x y. h.1 x) (omega (arith, long, above)) kind r
   ]
 
-  sent_lawful : IsLawful new
+  sent_lawful : MidLawful new []
   sent_lawful = record {
     made_task = l.made_task;
     no_task = l.no_task;
@@ -119,9 +119,12 @@ module _ (s : State) (now : ℕ) (m : Message) (l : IsMoving s m.destination (le
     references = λ t. (l.naming t).references;
     few_references = λ t. (l.naming t).few_references;
     made_port = l.made_port;
-    one_receive = l.one_receive;
+    most_receive = most_receive s p end l;
     no_rights = l.no_rights;
-    few_rights = few;
+    orphans = [];
+    each_orphan = λ q is. absurd (let a = l.one_receive q is.0 in let b = is.1 in omega (arith, a, b));
+    few_rights = omega (arith, few);
+    are_owed = λ k d below. absurd (omega arith);
     limit_fits = l.limit_fits;
     make_send_fits = l.make_send_fits;
     sequence_fits = l.sequence_fits;
@@ -130,7 +133,7 @@ module _ (s : State) (now : ℕ) (m : Message) (l : IsMoving s m.destination (le
     set_owned = l.sets.set_owned;
     set_named = l.sets.set_named;
     one_set_name = l.sets.one_set_name;
-    members = l.members;
+    members = λ q set in_it. let h = l.members q set in_it in (h.0, h.1, inl h.2);
     one_set = l.one_set;
     unmade_log = λ q above. let b = below_made in log_other q (λ x. omega (arith, b, above, x)) ∙ l.unmade_log q above;
     within = λ q. at_all (λ q log. s.taken q ≤ length log) s.log p (s.log p ++ entry now m ∷ [])
@@ -143,14 +146,7 @@ module _ (s : State) (now : ℕ) (m : Message) (l : IsMoving s m.destination (le
     ended = l.ended;
     one_kept = l.one_kept;
     once_kept = l.once_kept;
-    none_stands = l.none_stands;
-    none_carried = λ q k r. elim (eqb_tells q p) [
-      | inl h ↦ elim (eqb_tells k end) [
-        | inl g ↦ subst (λ (x : ℕ). lying s receive r (in_message x k) ≡ 0) (sym h.1) (subst (λ (x : ℕ). lying s receive r (in_message p x) ≡ 0) (sym g.1) (lies receive r ∙ none r))
-        | inr g ↦ l.none_carried q k r (λ x y. g.1 y)
-      ]
-      | inr h ↦ l.none_carried q k r (λ x y. h.1 x)
-    ];
+    standing = l.standing;
   }
 
 -- ---- a send
@@ -162,7 +158,7 @@ pub Sends-adds : (now task : ℕ) (bytes : List ℕ) (old mid : State) → IsLaw
     Adds old s.copied_state s.m.destination (length (old.log s.m.destination)) (λ c q. message_count c q s.m)
 Sends-adds now task bytes old mid l s = Copied-adds task s.header s.written old s.m s.copied_state (moving old s.m.destination (length (old.log s.m.destination)) l) s.copied
 
-pub Sends-lawful : (now task : ℕ) (bytes : List ℕ) (old mid : State) → NoneHolds (header_guards bytes) → IsLawful old → Sends now task bytes old mid → IsLawful mid
+pub Sends-lawful : (now task : ℕ) (bytes : List ℕ) (old mid : State) → NoneHolds (header_guards bytes) → IsLawful old → Sends now task bytes old mid → MidLawful mid []
 Sends-lawful now task bytes old mid good l s =
     let o = s.m.destination in
     let a = Sends-adds now task bytes old mid l s in
@@ -172,6 +168,5 @@ Sends-lawful now task bytes old mid good l s =
     let lies : (kind : Kind) (q : ℕ) → lying s.copied_state kind q (in_message o (length (old.log o))) ≡ message_count kind q s.m =
     λ kind q. let e = a.lies kind q in let z = l.no_entry o (length (old.log o)) (omega arith) kind q in omega (arith, e, z) in
     let lies' = subst (λ (k : ℕ). (kind : Kind) (q : ℕ) → lying s.copied_state kind q (in_message o k) ≡ message_count kind q s.m) long lies in
-    subst IsLawful (sym s.rest)
-    (sent_lawful s.copied_state now s.m keeps (by_a_send now task bytes old mid good s) (not_above (length s.copied_state.ledger) most_rights s.unrefused.1.1.0) lies'
-    (carries_none now task bytes old mid good s))
+    subst (λ (x : State). MidLawful x []) (sym s.rest)
+    (sent_lawful s.copied_state now s.m keeps (by_a_send now task bytes old mid good s) (not_above (length s.copied_state.ledger) most_rights s.unrefused.1.1.0) lies')

@@ -4,12 +4,12 @@ use Rattle.std.specs.Prelude.{if◌then◌else◌, ◌==◌, Contains, filter, n
 use Rattle.std.specs.FinMap as map
 use Rattle.std.proofs.lemmas.Bool.Decides.{eqb_tells}
 use Rattle.mach_types.specs.Tokens.{receive, send, send_once}
-use Rattle.mach_model.specs.State.{State, Target, Names, at, lookup, held, Holds, without_name}
+use Rattle.mach_model.specs.State.{State, Target, Names, at, lookup, held, Holds, with_name, without_name}
 use Rattle.mach_model.specs.Making.{with_set}
 use Rattle.mach_model.specs.Sets.{without_set, JoinsSet}
 use Rattle.mach_model.specs.Status.{NamesReceive}
-use Rattle.mach_model.specs.NotYet.{NoRequests}
 use Rattle.mach_model.specs.Lawful.{IsLawful}
+use Rattle.mach_model.specs.MidLawful.{MidLawful}
 use Rattle.mach_model.proofs.Weigh.{held_le_of, pos_or_zero}
 use Rattle.mach_model.proofs.Settling.{alive}
 use Rattle.mach_model.proofs.At.{at_same, at_other, at_own, at_all}
@@ -17,7 +17,8 @@ use Rattle.mach_model.proofs.Names.{kept, get_own, inserted}
 use Rattle.mach_model.proofs.Spaces.{IsNaming, IsNew, get_removed, left, other_unnamed, other_named}
 use Rattle.mach_model.proofs.SetNames.{SetLaw, set_law, IsMember}
 use Rattle.mach_model.proofs.Moving.{task_naming}
-use Rattle.mach_model.proofs.CopyingIn.{without_stands}
+use Rattle.mach_model.proofs.Midway.{one_at_most, no_orphan}
+use Rattle.mach_model.proofs.Requests.{KeepsRequests, all_stand, names_stand, requests_from, requests_stay, without_requests, named_requests, none_right}
 
 -- ---- names, sets and members alone change
 
@@ -31,7 +32,7 @@ pub record Sorts (s new : State) (task : ℕ) : Type 0 where
   pub members : (p set : ℕ) → Contains (new.sets_of p) set → (t : ℕ) × (new.set_owner set ≡ Some t) × Holds s t receive p
   pub one_set : (p : ℕ) → length (new.sets_of p) ≤ 1
   pub no_sets : (p : ℕ) → s.live_port p ≡ false → new.sets_of p ≡ []
-  pub stands : NoRequests new
+  pub stands : KeepsRequests s new
 
 module _ (s new : State) (task : ℕ) (l : IsLawful s) (v : Sorts s new task) where
   abbrev sorted : State
@@ -46,7 +47,7 @@ module _ (s new : State) (task : ℕ) (l : IsLawful s) (v : Sorts s new task) wh
   is_other : (t : ℕ) → s.live_task t ≡ false → t ≡ task → ⊥
   is_other t dead e = let a = v.is_task in let b : s.live_task task ≡ false = subst (λ (x : ℕ). s.live_task x ≡ false) e dead in cc
 
-  sorted_lawful : IsLawful sorted
+  sorted_lawful : MidLawful sorted []
   sorted_lawful = record {
     made_task = l.made_task;
     no_task = λ t n dead. ap (λ (m : Names). map.get m n) (v.others t (is_other t dead)) ∙ l.no_task t n dead;
@@ -61,9 +62,12 @@ module _ (s new : State) (task : ℕ) (l : IsLawful s) (v : Sorts s new task) wh
     references = λ t. (named t).references;
     few_references = l.few_references;
     made_port = l.made_port;
-    one_receive = l.one_receive;
+    most_receive = one_at_most s l;
     no_rights = l.no_rights;
-    few_rights = l.few_rights;
+    orphans = [];
+    each_orphan = λ p is. absurd (no_orphan s l p is);
+    few_rights = let h = l.few_rights in omega (arith, h);
+    are_owed = λ k d below. absurd (omega arith);
     limit_fits = l.limit_fits;
     make_send_fits = l.make_send_fits;
     sequence_fits = l.sequence_fits;
@@ -72,7 +76,7 @@ module _ (s new : State) (task : ℕ) (l : IsLawful s) (v : Sorts s new task) wh
     set_owned = v.law.set_owned;
     set_named = v.law.set_named;
     one_set_name = v.law.one_set_name;
-    members = v.members;
+    members = λ p set in_it. let h = v.members p set in_it in (h.0, h.1, inl h.2);
     one_set = v.one_set;
     unmade_log = l.unmade_log;
     within = l.within;
@@ -81,15 +85,14 @@ module _ (s new : State) (task : ℕ) (l : IsLawful s) (v : Sorts s new task) wh
     carried = l.carried;
     gone = l.gone;
     no_entry = l.no_entry;
-    ended = λ r ended kind q. l.ended r (l.none_stands r) kind q;
+    ended = λ r ended on_port kind q. l.ended r (sym (v.stands.ports r on_port) ∙ ended) kind q;
     one_kept = l.one_kept;
     once_kept = l.once_kept;
-    none_stands = v.stands;
-    none_carried = l.none_carried;
+    standing = all_stand s sorted l.standing (λ p live. live) (record { ports = v.stands.ports; names = v.stands.names });
   }
 
-  pub Sorts-lawful : IsLawful new
-  Sorts-lawful = subst IsLawful (sym v.rest) sorted_lawful
+  pub Sorts-lawful : MidLawful new []
+  Sorts-lawful = subst (λ (x : State). MidLawful x []) (sym v.rest) sorted_lawful
 
 -- ---- owners and names
 
@@ -221,10 +224,11 @@ with_set-sorts task name s l is_task new = record {
       (h.0, at_other s.set_owner s.sets_made (Some task) set (λ e. no_owner (s.set_owner set) h.0 (l.made_set set (omega (arith, e))) h.1) ∙ h.1, h.2);
   one_set = l.one_set;
   no_sets = l.no_sets;
-  stands = l.none_stands;
+  stands = requests_from s (with_name task name (Target.set s.sets_made) s) (with_set task name s) refl refl
+      (named_requests task name (Target.set s.sets_made) s (names_stand s l.standing) (inr (none_right (lookup s task name) new.unused)));
 }
 
-pub with_set-lawful : (task name : ℕ) (s : State) → IsLawful s → s.live_task task ≡ true → IsNew (s.naming task) name → IsLawful (with_set task name s)
+pub with_set-lawful : (task name : ℕ) (s : State) → IsLawful s → s.live_task task ≡ true → IsNew (s.naming task) name → MidLawful (with_set task name s) []
 with_set-lawful task name s l is_task new = Sorts-lawful s (with_set task name s) task l (with_set-sorts task name s l is_task new)
 
 -- ---- a port changes its set
@@ -244,7 +248,7 @@ moved_sorts p task sets s l is_task live few members = record {
   members = λ q set. at_all (λ q xs. Contains xs set → IsMember s q set) s.sets_of p sets (members set) (λ r not in_it. l.members r set in_it) q;
   one_set = at_all (λ q xs. length xs ≤ 1) s.sets_of p sets few (λ r not. l.one_set r);
   no_sets = λ q dead. at_other s.sets_of p sets q (λ e. is_live q dead e) ∙ l.no_sets q dead;
-  stands = l.none_stands;
+  stands = requests_from s s (record s { sets_of = at s.sets_of p sets }) refl refl (requests_stay s (names_stand s l.standing));
 }
   where
     is_live : (q : ℕ) → s.live_port q ≡ false → q ≡ p → ⊥
@@ -261,7 +265,7 @@ names_receive s task name p is some = elim (pos_or_zero (held s task receive p))
 ]
 
 pub JoinsSet-lawful : (task member after : ℕ) (old mid : State) → IsLawful old → old.live_task task ≡ true → ¬ ¬ (NamesReceive old task member) → JoinsSet task member after old mid →
-    IsLawful mid
+    MidLawful mid []
 JoinsSet-lawful task member after old mid l is_task some j = by j.2
   where
     own : (old.live_port j.0 ≡ true) × Holds old task receive j.0
@@ -270,16 +274,16 @@ JoinsSet-lawful task member after old mid l is_task some j = by j.2
         let le = held_le_of task receive j.0 old.ledger in (alive old l receive j.0 (omega (arith, h, le)), h)
 
     by : (after ≡ 0) × (mid ≡ record old { sets_of = at old.sets_of j.0 [] })
-        ⊎ ((set : ℕ) × (lookup old task after ≡ Some (Target.set set)) × (mid ≡ record old { sets_of = at old.sets_of j.0 (set ∷ []) })) → IsLawful mid
-    by (inl h) = subst IsLawful (sym h.1) (Sorts-lawful old (record old { sets_of = at old.sets_of j.0 [] }) task l
+        ⊎ ((set : ℕ) × (lookup old task after ≡ Some (Target.set set)) × (mid ≡ record old { sets_of = at old.sets_of j.0 (set ∷ []) })) → MidLawful mid []
+    by (inl h) = subst (λ (x : State). MidLawful x []) (sym h.1) (Sorts-lawful old (record old { sets_of = at old.sets_of j.0 [] }) task l
         (moved_sorts j.0 task [] old l is_task own.0 (omega arith) (λ set in_it. absurd (omega (arith, in_it.1)))))
-    by (inr h) = subst IsLawful (sym h.2) (Sorts-lawful old (record old { sets_of = at old.sets_of j.0 (h.0 ∷ []) }) task l
+    by (inr h) = subst (λ (x : State). MidLawful x []) (sym h.2) (Sorts-lawful old (record old { sets_of = at old.sets_of j.0 (h.0 ∷ []) }) task l
         (moved_sorts j.0 task (h.0 ∷ []) old l is_task own.0 (omega arith)
         (λ set in_it. (task, ap old.set_owner (sym (one_element h.0 set in_it)) ∙ l.set_owned task after h.0 h.1, own.1))))
 
 -- ---- a set goes
 
-filtered : (test : ℕ → Bool) (xs : List ℕ) (x : ℕ) → Contains (filter test xs) x → Contains xs x × (test x ≡ true)
+pub filtered : (test : ℕ → Bool) (xs : List ℕ) (x : ℕ) → Contains (filter test xs) x → Contains xs x × (test x ≡ true)
 filtered test [] x (k, below, e) = absurd (omega (arith, below))
 filtered test (y ∷ ys) x h = go (test y) refl (filtered test ys x) h
   where
@@ -292,7 +296,7 @@ filtered test (y ∷ ys) x h = go (test y) refl (filtered test ys x) h
     go true e rest (suc k, below, f) = later (rest (k, omega (arith, below), f))
     go false e rest c = later (rest c)
 
-fewer : (test : ℕ → Bool) (xs : List ℕ) → length (filter test xs) ≤ length xs
+pub fewer : (test : ℕ → Bool) (xs : List ℕ) → length (filter test xs) ≤ length xs
 fewer test [] = omega arith
 fewer test (y ∷ ys) = go (test y) (fewer test ys)
   where
@@ -321,10 +325,10 @@ without_set-sorts task name set s l is_task is = record {
       (h.0, at_other s.set_owner set None other (not_that other set f.1) ∙ h.1, h.2);
   one_set = λ p. let a = fewer (λ t. not (t == set)) (s.sets_of p) in let b = l.one_set p in omega (arith, a, b);
   no_sets = λ p dead. ap (filter (λ (t : ℕ). not (t == set))) (l.no_sets p dead);
-  stands = without_stands task name s l.none_stands;
+  stands = requests_from s (without_name task name s) (without_set set (without_name task name s)) refl refl (without_requests task name s (names_stand s l.standing));
 }
 
 -- The task's set goes with its name.
 pub without_set-lawful : (task name set : ℕ) (s : State) → IsLawful s → s.live_task task ≡ true → lookup s task name ≡ Some (Target.set set) →
-    IsLawful (without_set set (without_name task name s))
+    MidLawful (without_set set (without_name task name s)) []
 without_set-lawful task name set s l is_task is = Sorts-lawful s (without_set set (without_name task name s)) task l (without_set-sorts task name set s l is_task is)

@@ -50,8 +50,7 @@ numbers_lawful s limit make_send sequence l a b c = record {
   ended = l.ended;
   one_kept = l.one_kept;
   once_kept = l.once_kept;
-  none_stands = l.none_stands;
-  none_carried = l.none_carried;
+  standing = l.standing;
 }
 
 pub limit-lawful : (task name n : ℕ) (old mid : State) → IsLawful old → n ≤ greatest_limit → ChangesPort old task name (λ p. record old { limit = at old.limit p n }) mid → IsLawful mid

@@ -1,13 +1,12 @@
 -- What is true of every state that the machine reaches (this project's own). Every step keeps it.
-use Rattle.std.specs.Prelude.{◌≡◌, ◌≢◌, ℕ, ◌+◌, ◌^◌, ◌<◌, ◌≤◌, ◌⊎◌, Bool, true, false, List, [], ◌∷◌, length, slice_get, Some, None, if◌then◌else◌, ◌==◌, Contains}
+use Rattle.std.specs.Prelude.{◌≡◌, ◌≢◌, ℕ, ◌+◌, ◌^◌, ◌<◌, ◌≤◌, ◌⊎◌, Bool, true, false, List, [], ◌∷◌, length, slice_get, Option, Some, None, if◌then◌else◌, ◌==◌, Contains}
 use Rattle.std.specs.FinMap as names
 use Rattle.mach_types.specs.Numbers.{null_word, dead_word, most_names, most_references, most_rights, greatest_limit}
-use Rattle.mach_types.specs.Tokens.{Kind, receive, send, send_once, Request, in_message, in_request, count, is_of}
+use Rattle.mach_types.specs.Tokens.{Kind, receive, send, send_once, Request, no_senders, port_destroyed, dead_name, in_message, in_request, count, is_of}
 use Rattle.mach_types.specs.Messages.{Entry}
 use Rattle.mach_model.specs.State.{State, Target, Names, lookup, held, Holds, queue}
 use Rattle.mach_model.specs.Dying.{same_place}
 use Rattle.mach_model.specs.Carried.{message_count, lying}
-use Rattle.mach_model.specs.NotYet.{NoRequests, NoneCarried}
 
 abbrev pub is_once : ℕ → Target → Bool
 is_once p (Target.once q) = q == p
@@ -26,6 +25,17 @@ onces space p = tally (is_once p) (names.values space)
 abbrev pub HasReferences : Target → Type 0
 HasReferences (Target.dead n) = (0 < n) × (n ≤ most_references)
 HasReferences target = Unit {0}
+
+abbrev pub IsRight : Option Target → Type 0
+IsRight (Some (Target.port p)) = Unit {0}
+IsRight (Some (Target.once p)) = Unit {0}
+IsRight target = ⊥
+
+-- what a request that stands needs
+abbrev pub StandsOn : State → Request → Type 0
+StandsOn s (no_senders p) = s.live_port p ≡ true
+StandsOn s (port_destroyed p) = s.live_port p ≡ true
+StandsOn s (dead_name task name) = IsRight (lookup s task name)
 
 pub record IsLawful (s : State) : Type 0 where
   -- tasks
@@ -74,6 +84,5 @@ pub record IsLawful (s : State) : Type 0 where
   pub ended : (r : Request) → s.stands r ≡ false → (kind : Kind) (q : ℕ) → lying s kind q (in_request r) ≡ 0
   pub one_kept : (r : Request) → count (λ x. same_place (in_request r) x.place) s.ledger ≤ 1
   pub once_kept : (r : Request) (kind : Kind) (q : ℕ) → kind ≢ send_once → lying s kind q (in_request r) ≡ 0
-  -- as long as the rules of NotYet stand
-  pub none_stands : NoRequests s
-  pub none_carried : NoneCarried s
+  -- a request stands on a port that lives, or on a name of a right
+  pub standing : (r : Request) → s.stands r ≡ true → StandsOn s r

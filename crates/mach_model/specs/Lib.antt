@@ -10,13 +10,17 @@ pub mod Settles
 pub mod Making
 pub mod Sets
 pub mod Losing
+pub mod Taking
+pub mod Ending
 pub mod Renaming
 pub mod Telling
 pub mod Status
 pub mod Handing
 pub mod Sending
 pub mod Receiving
+pub mod Requesting
 pub mod Refusals
 pub mod Machine
 pub mod Carried
 pub mod Lawful
+pub mod MidLawful

@@ -1,17 +1,18 @@
 -- Receiving a message (IPC Interface, `mach_msg` with MACH_RCV_MSG), and which code refuses it.
-use Rattle.std.specs.Prelude.{◌≡◌, ℕ, ◌+◌, ◌%◌, ◌^◌, ◌<◌, ◌≤◌, ◌⊎◌, Bool, List, [], ◌∷◌, length, slice_get, Option, Some, min, Contains}
+use Rattle.std.specs.Prelude.{◌≡◌, ℕ, ◌<◌, ◌≤◌, ◌⊎◌, Bool, List, [], length, Option, Some, min, MatchBool, Contains}
 use Rattle.mach_types.specs.declared.calls.Waited.{Waited}
 use Rattle.mach_types.specs.declared.calls.Reply.{Reply}
 use Rattle.mach_types.specs.declared.codes.MsgReturn.TheVariants.{ReceiveBodyErrorMemory, ReceiveBodyErrorNames}
 use Rattle.mach_types.specs.Numbers.{kind_number, most_bytes, msg_number}
-use Rattle.mach_types.specs.Tokens.{receive, in_message, token, Moves}
+use Rattle.mach_types.specs.Tokens.{receive, in_message}
 use Rattle.mach_types.specs.Messages.{Entry}
 use Rattle.mach_types.specs.Grammar.{WireBody, Header, Spells}
-use Rattle.mach_model.specs.State.{State, Target, lookup, at, Holds, queue}
+use Rattle.mach_model.specs.State.{State, Target, lookup, Holds, queue}
 use Rattle.mach_model.specs.CopyOut.{GiveReply, GiveBody, MessageLacks}
 use Rattle.mach_model.specs.ReceivedMeans.{message_length}
 use Rattle.mach_model.specs.Notices.{Owed}
-use Rattle.mach_model.specs.NotYet.{LeavesLarge}
+use Rattle.mach_model.specs.Taking.{IsFront, Takes}
+use Rattle.mach_model.specs.Ending.{DestroysFront}
 
 -- ---- where from
 
@@ -35,19 +36,6 @@ IsEmptyFor s task waited = (p : ℕ) → TakesFrom s task waited p → queue s p
 
 -- ---- a receipt
 
--- the port's front entry is this one
-abbrev pub IsFront : State → ℕ → Entry → Type 0
-IsFront s p e = slice_get (s.log p) (s.taken p) ≡ Some e
-
-abbrev pub with_taken : ℕ → State → State
-with_taken p s = record s { taken = at s.taken p (s.taken p + 1); sequence = at s.sequence p ((s.sequence p + 1) % 2 ^ 32) }
-
--- The port's front entry goes, its number is used, and its destination right is consumed.
-pub record Takes (port : ℕ) (e : Entry) (old new : State) : Type 0 where
-  pub front : IsFront old port e
-  pub rest : new ≡ record (with_taken port old) { ledger = new.ledger }
-  pub tokens : Moves old.ledger new.ledger (token e.message.kind port (in_message port (old.taken port)) ∷ []) []
-
 -- The bytes spell what copying out gives: the header is reversed, and the rights have the receiver's names.
 pub record Receives (task port room : ℕ) (bytes : List ℕ) (old mid : State) : Type 0 where
   pub e : Entry
@@ -66,14 +54,15 @@ pub record Receives (task port room : ℕ) (bytes : List ℕ) (old mid : State) 
   pub spells : Spells bytes header written
   pub fits : length bytes ≤ min room most_bytes
 
--- A receipt from what is waited for: a message, none, or one that is too long.
+-- A receipt from what is waited for: a message, none, or one that is too long, which stays where that was asked for.
 abbrev pub Receipt : State → (task : ℕ) → Waited → (room : ℕ) → (large : Bool) → Reply → State → Owed → Type 0
 Receipt old task waited room large (Reply.Message bytes) mid owed =
     (p : ℕ) × TakesFrom old task waited p × Receives task p room bytes old mid × (owed ≡ [])
 Receipt old task waited room large (Reply.Empty told) mid owed = (told ≡ waited) × IsEmptyFor old task waited × (mid ≡ old) × (owed ≡ [])
 Receipt old task waited room large (Reply.TooLarge n) mid owed =
     (p : ℕ) × (e : Entry) × TakesFrom old task waited p × IsFront old p e
-    × (n ≡ message_length e.message) × (min room most_bytes < n) × LeavesLarge large old mid × (owed ≡ [])
+    × (n ≡ message_length e.message) × (min room most_bytes < n)
+    × MatchBool large ((mid ≡ old) × (owed ≡ [])) (DestroysFront p e old mid owed)
 Receipt old task waited room large reply mid owed = ⊥
 
 -- ---- refusals where a port that it may take from has a message that fits: names are judged before memory

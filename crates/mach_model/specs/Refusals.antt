@@ -5,17 +5,19 @@ use Rattle.mach_types.specs.declared.calls.Waited.{Waited}
 use Rattle.mach_types.specs.declared.codes.KernReturn.TheVariants.{NoSpace, ResourceShortage, NameExists, InvalidName, InvalidTask, InvalidRight, InvalidValue, UrefsOverflow, InvalidCapability, NotInSet}
 use Rattle.mach_types.specs.declared.codes.MsgReturn.TheVariants.{ReceiveInvalidName, ReceiveInSet, ReceivePortDied, ReceivePortChanged}
 use Rattle.mach_types.specs.Numbers.{null_word, dead_word, kern_number, msg_number, most_tasks, most_rights, greatest_limit}
-use Rattle.mach_types.specs.Tokens.{receive, in_task}
+use Rattle.mach_types.specs.Tokens.{receive, Place, in_task}
+use Rattle.mach_types.specs.Messages.{to_port}
 use Rattle.mach_types.specs.Guards.{Guards, FirstIs, NoneHolds}
 use Rattle.mach_types.specs.TextGuards.{header_guards}
 use Rattle.mach_model.specs.State.{State, Target, lookup, Holds}
 use Rattle.mach_model.specs.Making.{IsNoTask, IsNoMaking, IsFull}
 use Rattle.mach_model.specs.Status.{NamesReceive}
+use Rattle.mach_model.specs.CopyIn.{CopyRight}
 use Rattle.mach_model.specs.Handing.{inserted_guards, extracted_guards, CopyRefuses}
 use Rattle.mach_model.specs.Sending.{IsLegalName, IsDeadName, SendRefuses}
 use Rattle.mach_model.specs.Receiving.{IsSet, waits_for, ReceiptRefuses}
 use Rattle.mach_model.specs.Losing.{HasReference, IsCounted, IsUncounted, references_at, IsBelowZero, IsAbove, added_rights}
-use Rattle.mach_model.specs.NotYet.{IsNotYetDeallocating, IsNotYetDestroying, IsNotYetRemoving}
+use Rattle.mach_model.specs.Requesting.{noted_guards, notify_guards}
 
 abbrev pub IsUnused : State → (task name : ℕ) → Type 0
 IsUnused s task name = lookup s task name ≡ None
@@ -72,7 +74,6 @@ modify_guards s task name right delta =
     ∷ (IsCounted right × IsBelowZero (references_at s task name right) delta ⊎ IsUncounted right × (delta ≢ pos 0) × (delta ≢ negsuc 0), kern_number InvalidValue)
     ∷ (IsCounted right × IsAbove (references_at s task name right) delta, kern_number UrefsOverflow)
     ∷ ((right ≡ 0) × (most_rights < length s.ledger + added_rights delta), kern_number NoSpace)
-    ∷ (IsNotYetRemoving right delta, kern_number InvalidRight)
     ∷ []
 
 abbrev pub insert_guards : State → (task name from poly number : ℕ) → Guards
@@ -95,6 +96,7 @@ extract_guards s task name number to =
 -- the guards that are judged in the state before
 abbrev pub guards : State → Event → Guards
 guards s Event.TaskCreate = (most_tasks ≤ s.tasks_made, kern_number NoSpace) ∷ []
+guards s (Event.TaskTerminate task) = (IsNoTask s task, kern_number InvalidTask) ∷ []
 guards s (Event.Allocate task right) =
     (IsNoTask s task, kern_number InvalidTask)
     ∷ (IsNoMaking right, kern_number InvalidValue)
@@ -110,12 +112,10 @@ guards s (Event.Deallocate task name) =
     (IsNoTask s task, kern_number InvalidTask)
     ∷ (IsUnused s task name, kern_number InvalidName)
     ∷ (¬ (HasReference s task (lookup s task name)), kern_number InvalidRight)
-    ∷ (IsNotYetDeallocating s task name, kern_number InvalidRight)
     ∷ []
 guards s (Event.Destroy task name) =
     (IsNoTask s task, kern_number InvalidTask)
     ∷ (IsUnused s task name, kern_number InvalidName)
-    ∷ (IsNotYetDestroying s task name, kern_number InvalidRight)
     ∷ []
 guards s (Event.ModRefs task name right delta) = modify_guards s task name right delta
 guards s (Event.GetRefs task name right) =
@@ -147,6 +147,7 @@ guards s (Event.SetStatus task name) = set_guards s task name
 guards s (Event.MoveMember task member after) = move_guards s task member after
 guards s (Event.InsertRight task name from poly number) = insert_guards s task name from poly number
 guards s (Event.ExtractRight task name number to) = extract_guards s task name number to
+guards s (Event.RequestNotification task name variant sync notify number) = notify_guards s task name variant sync notify number
 guards s (Event.Send task bytes) = (IsNoTask s task, kern_number InvalidTask) ∷ header_guards bytes
 guards s (Event.Receive task name room large) =
     (IsNoTask s task, kern_number InvalidTask)
@@ -171,6 +172,10 @@ RefusesLater s (Event.InsertRight task name from poly number) code =
     CopyRefuses from (in_task task) number poly s (λ p kind copied. inserted_guards copied task name p kind) code
 RefusesLater s (Event.ExtractRight task name number to) code =
     CopyRefuses task (in_task to) number name s (λ p kind copied. extracted_guards copied to p kind) code
+RefusesLater s (Event.RequestNotification task name variant sync notify number) code =
+    (copied : State) × ((notify ≡ null_word) × (copied ≡ s) ⊎ (notify ≢ null_word) × ((q : ℕ) × (place : Place) × CopyRight task place number notify s (to_port q) copied))
+    × (FirstIs (noted_guards s copied task name variant sync notify) code
+    ⊎ NoneHolds (noted_guards s copied task name variant sync notify) × (code ≡ kern_number ResourceShortage))
 RefusesLater s (Event.Send task bytes) code = SendRefuses s task bytes code
 RefusesLater s (Event.Receive task name room large) code =
     (waited : Waited) × waits_for task name s waited × ReceiptRefuses s task waited room code

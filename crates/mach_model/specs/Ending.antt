@@ -1,0 +1,46 @@
+-- The end of a task (Task Interface, `task_terminate`), and of a message that is too long for its receiver (IPC Interface, `mach_msg`
+-- without MACH_RCV_LARGE).
+use Rattle.std.specs.Prelude.{◌≡◌, ℕ, Bool, false, filter, not, Option, Some, None, if◌then◌else◌, ◌==◌}
+use Rattle.std.specs.FinMap as names
+use Rattle.mach_types.specs.Tokens.{Request, no_senders, port_destroyed, dead_name, in_message, is_in_task}
+use Rattle.mach_types.specs.Messages.{Entry}
+use Rattle.mach_model.specs.State.{State, at}
+use Rattle.mach_model.specs.Dying.{same_place}
+use Rattle.mach_model.specs.Losing.{LosesAll, unused}
+use Rattle.mach_model.specs.Notices.{Owed}
+use Rattle.mach_model.specs.Taking.{Takes}
+
+-- ---- a task
+
+-- the request is on a name of the task
+abbrev pub ends_with : (task : ℕ) → Request → Bool
+ends_with task (no_senders p) = false
+ends_with task (port_destroyed p) = false
+ends_with task (dead_name t name) = t == task
+
+abbrev pub is_owner : (task : ℕ) → Option ℕ → Bool
+is_owner task (Some t) = t == task
+is_owner task None = false
+
+-- The task is gone with its names, the requests on them, its sets and its rights. Its ports are orphans.
+pub record EndsTask (task : ℕ) (old mid : State) (owed : Owed) : Type 0 where
+  pub loses : LosesAll (λ x. is_in_task task x.place) old.ledger mid.ledger
+  pub rest : mid ≡ record old {
+    live_task = at old.live_task task false;
+    naming = at old.naming task names.empty;
+    set_owner = λ set. if is_owner task (old.set_owner set) then None else old.set_owner set;
+    sets_of = λ p. filter (λ set. not (is_owner task (old.set_owner set))) (old.sets_of p);
+    stands = λ r. if ends_with task r then false else old.stands r;
+    ledger = mid.ledger;
+  }
+  pub owed_are : owed ≡ unused loses.gone
+
+-- ---- a message
+
+-- The front message is taken as by a receipt, and all its other rights are lost.
+pub record DestroysFront (port : ℕ) (e : Entry) (old mid : State) (owed : Owed) : Type 0 where
+  pub taken : State
+  pub takes : Takes port e old taken
+  pub loses : LosesAll (λ x. same_place (in_message port (old.taken port)) x.place) taken.ledger mid.ledger
+  pub rest : mid ≡ record taken { ledger = mid.ledger }
+  pub owed_are : owed ≡ unused loses.gone
