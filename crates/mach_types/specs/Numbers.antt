@@ -1,5 +1,5 @@
 -- The numbers of the interface: rights, dispositions, kinds, options, codes and limits.
-use Rattle.std.specs.Prelude.{ℕ, ◌+◌, ◌^◌, Option, Some, None, if◌then◌else◌, ◌==◌}
+use Rattle.std.specs.Prelude.{◌≡◌, ℕ, ◌+◌, ◌^◌, Bool, true, false, Option, Some, None, if◌then◌else◌, ◌==◌}
 use Rattle.mach_types.specs.declared.rights.Disposition.{Disposition}
 use Rattle.mach_types.specs.declared.rights.Disposition.TheVariants.{MoveReceive, MoveSend, MoveSendOnce, CopySend, MakeSend, MakeSendOnce}
 use Rattle.mach_types.specs.declared.rights.Right.{Right}
@@ -57,6 +57,23 @@ abbrev pub right_of : Kind → Right
 right_of receive = Receive
 right_of send = Send
 right_of send_once = SendOnce
+
+-- the right is one of this kind
+abbrev pub IsOfKind : Kind → Right → Type 0
+IsOfKind kind Receive = kind ≡ receive
+IsOfKind kind Send = kind ≡ send
+IsOfKind kind SendOnce = kind ≡ send_once
+IsOfKind kind PortSet = ⊥
+IsOfKind kind DeadName = ⊥
+
+-- whether the right that is sent is made from one that stays
+abbrev pub makes_right : Disposition → Bool
+makes_right MoveReceive = false
+makes_right MoveSend = false
+makes_right MoveSendOnce = false
+makes_right CopySend = true
+makes_right MakeSend = true
+makes_right MakeSendOnce = true
 
 -- the number that stands for a kind in a received message
 abbrev pub kind_number : Kind → ℕ

@@ -1,40 +1,12 @@
-//! Named bits: of a message's header, and of the options of `mach_msg`.
+//! Named bits: of a message's header, and the options of `mach_msg`.
 ghost use Rattle.std.specs.Prelude.{⊤, ◌≡◌, ◌==◌, [], ◌∷◌, codes};
-ghost use Rattle.mach_types.specs.Numbers.{complex_flag, send_msg_option, rcv_msg_option, send_timeout_option, rcv_timeout_option, rcv_large_option};
+ghost use Rattle.mach_types.specs.Numbers.{send_msg_option, rcv_msg_option, send_timeout_option, rcv_timeout_option, rcv_large_option};
 
 use bitflags::{Flag, Flags, bitflag_items};
 
-/// The named bits of a message's first word. Its low 16 bits are two dispositions.
-#[derive(Clone, Copy, PartialEq, Eq, Debug)]
-pub struct HeaderBits(u32);
-
-bitflag_items! {
-    impl HeaderBits: u32 {
-        const COMPLEX = 0x8000_0000;
-    }
-}
-
-impl Flags for HeaderBits {
-    type Bits = u32;
-
-    ghost exact = { ⊤ };
-
-    ghost table = { (codes "COMPLEX", complex_flag) ∷ [] };
-
-    ghost set_of = { λ p. p.0 };
-
-    fn flags<'a>() -> &'a [Flag<HeaderBits>] {
-        HeaderBits::FLAGS
-    }
-
-    fn bits(&self) -> u32 {
-        self.0
-    }
-
-    fn from_bits_retain(bits: u32) -> HeaderBits {
-        HeaderBits(bits)
-    }
-}
+/// The bit of a message's first word for a body of items (`MACH_MSGH_BITS_COMPLEX`). The low 16 bits of
+/// that word are two dispositions, or kinds of rights where the message was received.
+pub const COMPLEX: u32 = 0x8000_0000;
 
 /// The options of `mach_msg` (IPC Interface, `mach_msg_option_t`). In this project the two timeout
 /// options mean that the call does not wait.

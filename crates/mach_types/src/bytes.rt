@@ -1,11 +1,16 @@
 //! Lists in calls and answers: contracts see them as lists.
-ghost use Rattle.std.specs.Prelude.{◌≡◌, ℕ, List};
+ghost use Rattle.std.specs.Prelude.{◌≡◌, ◌==◌, ◌&&◌, ◌↔◌, ℕ, List, IsTrue};
+ghost use Rattle.std.proofs.Common.{rules};
+ghost use Rattle.std.specs.Cmp.{partial_equiv_from_equiv};
+ghost use Rattle.std.specs.Cmp.Lexicographic.{pointwise, lists_per, lists_equiv, nat_list_eq_equiv};
+ghost use Rattle.std.specs.Cmp.Rules.{comparing};
 
 use crate::identities::Name;
+use std::alloc::AllocError;
 use std::marker::Model;
 
 /// The bytes of a message.
-#[derive(Drop)]
+#[derive(Debug, Drop)]
 pub struct Bytes {
     bytes: Vec<u8>,
 }
@@ -14,6 +19,31 @@ impl Model for Bytes {
     ghost Value = { List ℕ };
 
     ghost view = { λ a. a.bytes.items };
+}
+
+impl Clone for Bytes {
+    ghost is_clone = { λ old new. new ≡ old };
+
+    fn clone(&self) -> Result<Bytes, AllocError> {
+        Ok(Bytes::from_vec(self.bytes.clone()?))
+    }
+}
+
+impl PartialEq for Bytes {
+    ghost eq = { pointwise ◌==◌ };
+
+    ghost laws = { partial_equiv_from_equiv nat_list_eq_equiv };
+
+    fn eq(&self, other: &Bytes) -> bool
+        ensures eq { result ≡ pointwise ◌==◌ self.now other.now }
+        ensures same { IsTrue result ↔ (self.now ≡ other.now) }
+    {
+        self.bytes == other.bytes
+    }
+}
+
+impl Eq for Bytes {
+    ghost laws = { nat_list_eq_equiv };
 }
 
 impl Bytes {
@@ -41,7 +71,7 @@ impl Bytes {
 }
 
 /// Names with their types, names rising.
-#[derive(Drop)]
+#[derive(Debug, Drop)]
 pub struct NameTypes {
     entries: Vec<(Name, u32)>,
 }
@@ -52,6 +82,31 @@ impl Model for NameTypes {
     ghost Value = { List (ℕ × ℕ) };
 
     ghost view = { λ a. a.entries.items };
+}
+
+impl Clone for NameTypes {
+    ghost is_clone = { λ old new. new ≡ old };
+
+    fn clone(&self) -> Result<NameTypes, AllocError> {
+        Ok(NameTypes::from_vec(self.entries.clone()?))
+    }
+}
+
+impl PartialEq for NameTypes {
+    ghost eq = { pointwise (λ a b. a.0 == b.0 && a.1 == b.1) };
+
+    ghost laws = { lists_per (Prim.search (comparing, rules)) };
+
+    fn eq(&self, other: &NameTypes) -> bool
+        ensures eq { result ≡ pointwise (λ a b. a.0 == b.0 && a.1 == b.1) self.now other.now }
+        ensures same { IsTrue result ↔ (self.now ≡ other.now) }
+    {
+        self.entries == other.entries
+    }
+}
+
+impl Eq for NameTypes {
+    ghost laws = { lists_equiv (Prim.search (comparing, rules)) };
 }
 
 impl NameTypes {
@@ -71,7 +126,7 @@ impl NameTypes {
 }
 
 /// Names, rising.
-#[derive(Drop)]
+#[derive(Debug, Drop)]
 pub struct NameList {
     entries: Vec<Name>,
 }
@@ -80,6 +135,31 @@ impl Model for NameList {
     ghost Value = { List ℕ };
 
     ghost view = { λ a. a.entries.items };
+}
+
+impl Clone for NameList {
+    ghost is_clone = { λ old new. new ≡ old };
+
+    fn clone(&self) -> Result<NameList, AllocError> {
+        Ok(NameList::from_vec(self.entries.clone()?))
+    }
+}
+
+impl PartialEq for NameList {
+    ghost eq = { pointwise ◌==◌ };
+
+    ghost laws = { partial_equiv_from_equiv nat_list_eq_equiv };
+
+    fn eq(&self, other: &NameList) -> bool
+        ensures eq { result ≡ pointwise ◌==◌ self.now other.now }
+        ensures same { IsTrue result ↔ (self.now ≡ other.now) }
+    {
+        self.entries == other.entries
+    }
+}
+
+impl Eq for NameList {
+    ghost laws = { nat_list_eq_equiv };
 }
 
 impl NameList {

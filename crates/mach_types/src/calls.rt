@@ -35,7 +35,7 @@ pub struct Status {
 }
 
 /// One call of a task, with its arguments in the order in which a script writes them.
-#[derive(Drop)]
+#[derive(Clone, Debug, PartialEq, Eq, Drop)]
 pub enum Event {
     /// Makes a task.
     TaskCreate,
@@ -90,7 +90,7 @@ pub enum Event {
 }
 
 /// What the kernel answers.
-#[derive(Drop)]
+#[derive(Clone, Debug, PartialEq, Eq, Drop)]
 pub enum Reply {
     /// A return code: of a kernel call, of a send or of a receive.
     Code(u32),

@@ -4,6 +4,8 @@ ghost use Rattle.mach_types.specs.declared.codes.KernReturn.{KernReturn as AnyKe
 ghost use Rattle.mach_types.specs.declared.codes.MsgReturn.{MsgReturn as AnyMsgReturn};
 ghost use Rattle.mach_types.specs.Numbers.{kern_number, msg_number};
 
+use std::fmt;
+
 /// The code of a kernel call (`kern_return_t`). Which call answers which code, and in which order
 /// refusals are judged, is this project's own choice.
 #[derive(Clone, Copy, Debug, PartialEq, Eq)]
@@ -82,6 +84,28 @@ impl KernReturn {
             21 => Some(KernReturn::RightExists),
             _ => None,
         }
+    }
+}
+
+/// The name in C, as `KERN_INVALID_NAME`.
+impl fmt::Display for KernReturn {
+    fn fmt<W: fmt::Write>(&self, f: &mut fmt::Formatter<W>) -> fmt::Result {
+        f.write_str(match self {
+            KernReturn::Success => "KERN_SUCCESS",
+            KernReturn::NoSpace => "KERN_NO_SPACE",
+            KernReturn::InvalidArgument => "KERN_INVALID_ARGUMENT",
+            KernReturn::ResourceShortage => "KERN_RESOURCE_SHORTAGE",
+            KernReturn::AlreadyInSet => "KERN_ALREADY_IN_SET",
+            KernReturn::NotInSet => "KERN_NOT_IN_SET",
+            KernReturn::NameExists => "KERN_NAME_EXISTS",
+            KernReturn::InvalidName => "KERN_INVALID_NAME",
+            KernReturn::InvalidTask => "KERN_INVALID_TASK",
+            KernReturn::InvalidRight => "KERN_INVALID_RIGHT",
+            KernReturn::InvalidValue => "KERN_INVALID_VALUE",
+            KernReturn::UrefsOverflow => "KERN_UREFS_OVERFLOW",
+            KernReturn::InvalidCapability => "KERN_INVALID_CAPABILITY",
+            KernReturn::RightExists => "KERN_RIGHT_EXISTS",
+        })
     }
 }
 
@@ -178,5 +202,31 @@ impl MsgReturn {
             0x1000_600c => Some(MsgReturn::ReceiveBodyErrorNames),
             _ => None,
         }
+    }
+}
+
+/// The name in C, as `MACH_SEND_INVALID_DEST`; a union of two codes is written with a bar.
+impl fmt::Display for MsgReturn {
+    fn fmt<W: fmt::Write>(&self, f: &mut fmt::Formatter<W>) -> fmt::Result {
+        f.write_str(match self {
+            MsgReturn::Success => "MACH_MSG_SUCCESS",
+            MsgReturn::SendInvalidData => "MACH_SEND_INVALID_DATA",
+            MsgReturn::SendInvalidDest => "MACH_SEND_INVALID_DEST",
+            MsgReturn::SendTimedOut => "MACH_SEND_TIMED_OUT",
+            MsgReturn::SendMsgTooSmall => "MACH_SEND_MSG_TOO_SMALL",
+            MsgReturn::SendInvalidReply => "MACH_SEND_INVALID_REPLY",
+            MsgReturn::SendInvalidRight => "MACH_SEND_INVALID_RIGHT",
+            MsgReturn::SendNoBuffer => "MACH_SEND_NO_BUFFER",
+            MsgReturn::SendInvalidType => "MACH_SEND_INVALID_TYPE",
+            MsgReturn::SendInvalidHeader => "MACH_SEND_INVALID_HEADER",
+            MsgReturn::ReceiveInvalidName => "MACH_RCV_INVALID_NAME",
+            MsgReturn::ReceiveTimedOut => "MACH_RCV_TIMED_OUT",
+            MsgReturn::ReceiveTooLarge => "MACH_RCV_TOO_LARGE",
+            MsgReturn::ReceivePortChanged => "MACH_RCV_PORT_CHANGED",
+            MsgReturn::ReceivePortDied => "MACH_RCV_PORT_DIED",
+            MsgReturn::ReceiveInSet => "MACH_RCV_IN_SET",
+            MsgReturn::ReceiveBodyErrorMemory => "MACH_RCV_BODY_ERROR|MACH_MSG_IPC_KERNEL",
+            MsgReturn::ReceiveBodyErrorNames => "MACH_RCV_BODY_ERROR|MACH_MSG_IPC_SPACE",
+        })
     }
 }

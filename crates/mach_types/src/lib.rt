@@ -10,9 +10,12 @@ pub mod bytes;
 pub mod calls;
 pub mod codes;
 pub mod identities;
+pub mod limits;
 pub mod rights;
+#[cfg(test)]
+mod tests;
 
-pub use bits::{HeaderBits, Options};
+pub use bits::Options;
 pub use bytes::{Bytes, NameList, NameTypes};
 pub use calls::{Event, Reply, Status, Waited};
 pub use codes::{KernReturn, MsgReturn};

@@ -1,7 +1,10 @@
 //! Rights and dispositions by number.
-ghost use Rattle.std.specs.Prelude.{◌≡◌, ◌≢◌, ℕ, ◌^◌, MatchOption};
+ghost use Rattle.std.specs.Prelude.{◌≡◌, ◌≢◌, ℕ, ◌^◌, MatchBool, MatchOption};
 ghost use Rattle.mach_types.specs.declared.rights.Right.{Right as AnyRight};
-ghost use Rattle.mach_types.specs.Numbers.{right_number, right_bit, disposition, disposition_number, kind_sent, right_of};
+ghost use Rattle.mach_types.specs.Tokens.{send_once, same_kind};
+ghost use Rattle.mach_types.specs.Numbers.{right_number, right_bit, disposition, disposition_number, kind_sent, kind_number, makes_right, right_of, IsOfKind};
+
+use std::fmt;
 
 /// What a task may hold under a name (Port Manipulation Interface, `mach_port_right_t`).
 #[derive(Clone, Copy, Debug, PartialEq, Eq)]
@@ -60,6 +63,19 @@ impl Right {
     }
 }
 
+/// The name in C, as `MACH_PORT_RIGHT_SEND`.
+impl fmt::Display for Right {
+    fn fmt<W: fmt::Write>(&self, f: &mut fmt::Formatter<W>) -> fmt::Result {
+        f.write_str(match self {
+            Right::Send => "MACH_PORT_RIGHT_SEND",
+            Right::Receive => "MACH_PORT_RIGHT_RECEIVE",
+            Right::SendOnce => "MACH_PORT_RIGHT_SEND_ONCE",
+            Right::PortSet => "MACH_PORT_RIGHT_PORT_SET",
+            Right::DeadName => "MACH_PORT_RIGHT_DEAD_NAME",
+        })
+    }
+}
+
 /// What becomes of a right that a message names (IPC Interface, `mach_msg_type_name_t`).
 #[derive(Clone, Copy, Debug, PartialEq, Eq)]
 pub enum Disposition {
@@ -93,7 +109,7 @@ impl Disposition {
     }
 
     /// The disposition of this number, if any has it.
-    pub fn from_u8(number: u8) -> Option<Disposition>
+    pub fn from_number(number: u32) -> Option<Disposition>
         ensures { result ≡ disposition number }
     {
         match number {
@@ -107,14 +123,67 @@ impl Disposition {
         }
     }
 
+    /// The disposition of this number, if any has it.
+    pub fn from_u8(number: u8) -> Option<Disposition>
+        ensures { result ≡ disposition number }
+    {
+        Disposition::from_number(u32::from(number))
+    }
+
     /// The kind of right that is sent: a receive, send or send-once right.
     pub fn kind(self) -> Right
-        ensures { result ≡ right_of (kind_sent self) }
+        ensures value { result ≡ right_of (kind_sent self) }
+        ensures sent { IsOfKind (kind_sent self) result }
     {
         match self {
             Disposition::MoveReceive => Right::Receive,
             Disposition::MoveSend | Disposition::CopySend | Disposition::MakeSend => Right::Send,
             Disposition::MoveSendOnce | Disposition::MakeSendOnce => Right::SendOnce,
         }
+    }
+
+    /// The number that stands for the kind of right in a received message: 16 for a receive right, 17
+    /// for a send right, 18 for a send-once right.
+    pub fn kind_number(self) -> u8
+        ensures { result ≡ kind_number (kind_sent self) }
+    {
+        match self.kind() {
+            Right::Receive => 16,
+            Right::Send => 17,
+            Right::SendOnce => 18,
+            Right::PortSet | Right::DeadName => unreachable!(),
+        }
+    }
+
+    /// Whether a send-once right is sent.
+    pub fn is_send_once(self) -> bool
+        ensures value { result ≡ same_kind (kind_sent self) send_once }
+        ensures sent { MatchBool result (kind_sent self ≡ send_once) (kind_sent self ≢ send_once) }
+    {
+        matches!(self.kind(), Right::SendOnce)
+    }
+
+    /// Whether the right that is sent is made from one that stays, so that there is one right more.
+    pub fn makes_right(self) -> bool
+        ensures { result ≡ makes_right self }
+    {
+        match self {
+            Disposition::CopySend | Disposition::MakeSend | Disposition::MakeSendOnce => true,
+            Disposition::MoveReceive | Disposition::MoveSend | Disposition::MoveSendOnce => false,
+        }
+    }
+}
+
+/// The name in C, as `MACH_MSG_TYPE_MOVE_SEND`.
+impl fmt::Display for Disposition {
+    fn fmt<W: fmt::Write>(&self, f: &mut fmt::Formatter<W>) -> fmt::Result {
+        f.write_str(match self {
+            Disposition::MoveReceive => "MACH_MSG_TYPE_MOVE_RECEIVE",
+            Disposition::MoveSend => "MACH_MSG_TYPE_MOVE_SEND",
+            Disposition::MoveSendOnce => "MACH_MSG_TYPE_MOVE_SEND_ONCE",
+            Disposition::CopySend => "MACH_MSG_TYPE_COPY_SEND",
+            Disposition::MakeSend => "MACH_MSG_TYPE_MAKE_SEND",
+            Disposition::MakeSendOnce => "MACH_MSG_TYPE_MAKE_SEND_ONCE",
+        })
     }
 }

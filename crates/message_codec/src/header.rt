@@ -5,15 +5,13 @@ ghost use Rattle.mach_types.specs.Numbers.{msg_number};
 ghost use Rattle.mach_types.specs.TextGuards.{BadHeader, IsSendable, header_guards, is_bit};
 ghost use Rattle.message_codec.specs.Received.{header_text};
 
+use mach_types::bits::COMPLEX;
+use mach_types::limits::MOST_BYTES;
 use mach_types::{MsgReturn, Name};
 use type_descriptor::{read_word, write_word};
 
 /// The bytes of a header.
 pub(crate) const HEADER_BYTES: usize = 24;
-/// The most bytes of a message.
-const MOST_BYTES: usize = 65_536;
-/// The bit of the first word for a body of items.
-const COMPLEX: u32 = 0x8000_0000;
 
 /// The six words of a header, as they are written when a message is received.
 #[derive(Clone, Copy, Debug, PartialEq, Eq)]

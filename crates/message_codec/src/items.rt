@@ -3,7 +3,7 @@ ghost use Rattle.std.specs.Prelude.{◌≡◌, ◌+◌, ◌-◌, ◌%◌, ◌<�
 ghost use Rattle.std.specs.Option.{option_to_list};
 ghost use Rattle.smallvec.specs.SmallVec.{small_vec_len};
 ghost use Rattle.mach_types.specs.declared.codes.MsgReturn.TheVariants.{SendNoBuffer};
-ghost use Rattle.mach_types.specs.Numbers.{msg_number};
+ghost use Rattle.mach_types.specs.Numbers.{most_bytes, msg_number};
 ghost use Rattle.mach_types.specs.TextGuards.{ItemRefuses, ItemsRefuse, data_length};
 ghost use Rattle.type_descriptor.specs.Describes.{Describes, form_of, form_length};
 ghost use Rattle.message_codec.specs.Reading.{DescriptorSpan, ReadsItem, ReadsItems, HasMany};
@@ -44,7 +44,7 @@ fn span_of(descriptor: &Descriptor, at: u32) -> Option<Span>
 fn read_item(bytes: &[u8], at: usize) -> Result<Item, MsgReturn>
     requires more { at < length bytes.now }
     requires whole { (length bytes.now - at) % 4 ≡ 0 }
-    requires fits { length bytes.now ≤ 65536 }
+    requires fits { length bytes.now ≤ most_bytes }
     ensures ok { IfOk result (λ item. ReadsItem bytes.now at item.span item.end) }
     ensures err { IfErr result (λ code. ItemRefuses (drop at bytes.now) (msg_number code)) }
 {
@@ -76,7 +76,7 @@ fn keep(spans: &mut SmallVec<Span, 8>, span: Option<Span>) -> Result<(), AllocEr
 pub(crate) fn read_spans(alloc: Global, bytes: &[u8]) -> Result<SmallVec<Span, 8>, MsgReturn>
     requires room { 24 ≤ length bytes.now }
     requires whole { length bytes.now % 4 ≡ 0 }
-    requires fits { length bytes.now ≤ 65536 }
+    requires fits { length bytes.now ≤ most_bytes }
     ensures ok { IfOk result (λ spans. ReadsItems bytes.now spans.items) }
     ensures err { IfErr result (λ code. ItemsRefuse (drop 24 bytes.now) (msg_number code)
         ⊎ (code ≡ SendNoBuffer) × HasMany bytes.now) }

@@ -8,17 +8,16 @@ ghost use Rattle.message_codec.specs.Putting.{with_span, with_spans};
 use crate::header::{Header, put_header};
 use crate::spans::Span;
 use crate::text::Parsed;
-use mach_types::Name;
+use mach_types::{Disposition, Name};
 use type_descriptor::write_word;
 
 /// The number that stands for the kind of right that was sent under a disposition.
 fn kind_received(disposition: u8) -> u8
     ensures { result ≡ received_kind disposition }
 {
-    match disposition {
-        17 | 19 | 20 => 17,
-        18 | 21 => 18,
-        other => other,
+    match Disposition::from_number(u32::from(disposition)) {
+        Some(given) => given.kind_number(),
+        None => disposition,
     }
 }
 

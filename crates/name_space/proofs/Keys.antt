@@ -5,7 +5,7 @@ use Rattle.std.proofs.lemmas.Bool.Decides.{eqb_tells}
 use Rattle.std.specs.Ordering.{nat_cmp}
 use Rattle.std.specs.Cmp.{nat_cmp_total, unsigned_tied}
 use Rattle.std.specs.FinMap as map
-use Rattle.name_space.specs.Linked.{linked, unlinked}
+use Rattle.name_space.specs.Linked.{linked, unlinked, lost}
 
 pub same_some : {A : Type 0} (x y : A) → Some x ≡ Some y → x ≡ y
 same_some x y e = cc
@@ -93,3 +93,8 @@ put_over m k v = same_gets _ _ (λ q. elim (equal_or_not q k) [
 pub relinked : (o : Option ℕ) (key : ℕ) (m : map.FinMap nat_cmp ℕ) → ((k : ℕ) → o ≡ Some k → map.get m k ≡ Some key) → linked o key (unlinked o m) ≡ m
 relinked None key m h = refl
 relinked (Some k) key m h = put_back m k key (h k refl)
+
+-- a port that stays is in the index with its key already
+pub unlinked-lost : (from to : Option ℕ) (key : ℕ) (m : map.FinMap nat_cmp ℕ) → ((k : ℕ) → to ≡ Some k → (from ≡ Some k) × (map.get m k ≡ Some key)) → unlinked (lost from to) m ≡ linked to key (unlinked from m)
+unlinked-lost from None key m h = refl
+unlinked-lost from (Some k) key m h = let is = h k refl in sym (ap (λ o. map.insert (unlinked o m) k key) is.0 ∙ put_back m k key is.1)

@@ -11,12 +11,12 @@ use Rattle.name_space.specs.declared.Entry.{Entry}
 use Rattle.name_space.specs.declared.Record.{Record}
 use Rattle.name_space.specs.Entry.{port_named}
 use Rattle.name_space.specs.Names.{Names, SpaceView, port_at, HasNoOther, IsFreshName}
-use Rattle.name_space.specs.Linked.{linked, unlinked}
+use Rattle.name_space.specs.Linked.{linked, unlinked, lost}
 use Rattle.name_space.specs.Records.{names_of, entry_in, IsIndexed, HasRoom, IsSound}
 use Rattle.name_space.specs.Index.{IndexView}
 use Rattle.slab.specs.Slab.{Slab, get, slab_len}
 use Rattle.name_space.proofs.View.{get-with_values, len-with_values}
-use Rattle.name_space.proofs.Keys.{same_some, some_or_none, equal_or_not, is_or_not, put_here, put_other, out_here, out_other, same_gets, linked_here, linked_other, unlinked_here, unlinked_other, len-put, len-out, fewer, eqb-same, put_back, put_over, relinked}
+use Rattle.name_space.proofs.Keys.{same_some, some_or_none, equal_or_not, is_or_not, put_here, put_other, out_here, out_other, same_gets, linked_here, linked_other, unlinked_here, unlinked_other, len-put, len-out, fewer, eqb-same, put_back, put_over, relinked, unlinked-lost}
 
 abbrev pub At : Type 0
 At = ℕ → Option Record
@@ -415,24 +415,12 @@ record_there at n p x name key r found here =
     let same : ◌≡◌ {A = Record} r record { name = name; entry = there.0 } = same_some _ _ (sym here ∙ there.1) in
     here ∙ ap (λ (a : Record). Some (let b : Record = record { name = a.name; entry = r.entry } in b)) same
 
-pub on_some_of : (o : Option ℕ) (P : Type 0) → ((k : ℕ) → o ≡ Some k → P) → OnSome o P
-on_some_of None P h = tt
-on_some_of (Some k) P h = h k refl
-
-len-relinked : (o b : Option ℕ) (key : ℕ) (m : Keyed) → ((k : ℕ) → o ≡ Some k → (b ≡ Some k) × (map.get m k ≡ Some key)) → map.len (linked o key (unlinked b m)) ≤ map.len m
-len-relinked None b key m h = len-unlinked b m
-len-relinked (Some k) b key m h =
-    let is = h k refl in
-    let same : map.len (map.insert (unlinked b m) k key) ≡ map.len m = ap (λ a. map.len (map.insert (unlinked a m) k key)) is.0 ∙ ap (λ (a : Keyed). map.len a) (put_back m k key is.1) in
-    omega arith
-
 -- ---- a space with another entry under a name
 
-module _ (s t : Slab Record) (n p q : IndexView) (room : ℕ) (v : SpaceView) (view_is : record { names = names_of (get s) n.map; room = room } ≡ v) (so : IsSound s n p room)
+module _ (s t : Slab Record) (n p : IndexView) (room : ℕ) (v : SpaceView) (view_is : record { names = names_of (get s) n.map; room = room } ≡ v) (so : IsSound s n p room)
     (name key : ℕ) (r : Record) (entry : Entry) (found : map.get n.map name ≡ Some key) (here : get s key ≡ Some r)
     (changed : get t key ≡ Some record { name = name; entry = entry }) (others : (other : ℕ) → other ≢ key → get t other ≡ get s other)
-    (long : slab_len t ≡ slab_len s) (wide : t.capacity ≡ s.capacity) (keeps : (port : ℕ) → port_named entry ≡ Some port → port_at v.names name ≡ Some port)
-    (linking : q ≡ record { map = linked (port_named entry) key (unlinked (port_named r.entry) p.map); capacity = p.capacity }) where
+    (long : slab_len t ≡ slab_len s) (wide : t.capacity ≡ s.capacity) (keeps : (port : ℕ) → port_named entry ≡ Some port → port_at v.names name ≡ Some port) where
   x : IsIndexed (get s) n.map p.map
   x = so.indexed
 
@@ -442,18 +430,8 @@ module _ (s t : Slab Record) (n p q : IndexView) (room : ℕ) (v : SpaceView) (v
   turns_to : Turns (get s) (get t) key (Some record { name = name; entry = entry })
   turns_to = record { changed = changed; others = others }
 
-  pub same_port : (port : ℕ) → port_named entry ≡ Some port → port_named r.entry ≡ Some port
+  same_port : (port : ℕ) → port_named entry ≡ Some port → port_named r.entry ≡ Some port
   same_port port is = sym (ap (option_and_then port_named) (entry_at (get s) n.map name key r found here)) ∙ ap (λ (a : SpaceView). port_at a.names name) view_is ∙ keeps port is
-
-  pub port_key_gone : (port : ℕ) → port_named entry ≡ Some port → map.get (unlinked (port_named r.entry) p.map) port ≡ None
-  port_key_gone port is = unlinked_here (port_named r.entry) p.map port (same_port port is)
-
-  pub port_has_room : (port : ℕ) → port_named entry ≡ Some port → map.len (unlinked (port_named r.entry) p.map) < p.capacity
-  port_has_room port is =
-      let less : map.len (map.remove p.map port) < map.len p.map = fewer p.map port key (x.port_held key r port here (same_port port is)) (omega arith) in
-      let at_port : map.len (unlinked (port_named r.entry) p.map) ≡ map.len (map.remove p.map port) = ap (λ o. map.len (unlinked o p.map)) (same_port port is) in
-      let h2 = so.has_room.ports_fit in
-      omega arith
 
   same_names : map.insert (map.remove n.map name) name key ≡ n.map
   same_names = put_back n.map name key found
@@ -468,18 +446,19 @@ module _ (s t : Slab Record) (n p q : IndexView) (room : ℕ) (v : SpaceView) (v
       ∙ ap (λ a. mk a room) (names-renewed (get s) (get t) n.map p.map x name r.entry key was name entry turns_to (out_here n.map name) same_port ∙ put_over (names_of (get s) n.map) name entry)
       ∙ ap (λ (a : SpaceView). mk (map.insert a.names name entry) a.room) view_is
 
-  pub sound-replaced : IsSound t n q room
-  sound-replaced =
+  pub sound-replaced : (q : IndexView) → q ≡ record { map = unlinked (lost (port_named r.entry) (port_named entry)) p.map; capacity = p.capacity } → IsSound t n q room
+  sound-replaced q unlinking =
       let new : IsIndexed (get t) (map.insert (map.remove n.map name) name key) (linked (port_named entry) key (unlinked (port_named r.entry) p.map)) =
       indexed-renewed (get s) (get t) n.map p.map x name r.entry key was name entry turns_to (out_here n.map name) same_port (used_name 0 x.not_null) (used_name dead_word x.not_dead) (x.fits name key found) in
-      let few : map.len (linked (port_named entry) key (unlinked (port_named r.entry) p.map)) ≤ map.len p.map =
-      len-relinked (port_named entry) (port_named r.entry) key p.map (λ k is. (same_port k is, x.port_held key r k here (same_port k is))) in
-      let qa : map.len q.map ≡ map.len (linked (port_named entry) key (unlinked (port_named r.entry) p.map)) = ap (λ (a : IndexView). map.len a.map) linking in
-      let qc : q.capacity ≡ p.capacity = ap (λ (a : IndexView). a.capacity) linking in
+      let ports : q.map ≡ unlinked (lost (port_named r.entry) (port_named entry)) p.map = ap (λ (a : IndexView). a.map) unlinking in
+      let few : map.len (unlinked (lost (port_named r.entry) (port_named entry)) p.map) ≤ map.len p.map = len-unlinked (lost (port_named r.entry) (port_named entry)) p.map in
+      let qa : map.len q.map ≡ map.len (unlinked (lost (port_named r.entry) (port_named entry)) p.map) = ap (λ (a : Keyed). map.len a) ports in
+      let qc : q.capacity ≡ p.capacity = ap (λ (a : IndexView). a.capacity) unlinking in
       let h1 = so.has_room.names_fit in
       let h2 = so.has_room.ports_fit in
       let h3 = so.has_room.records_fit in
-      sound t n q room _ _ (sym same_names) (ap (λ (a : IndexView). a.map) linking) new record { names_fit = h1; ports_fit = omega arith; records_fit = omega arith }
+      sound t n q room _ _ (sym same_names) (ports ∙ unlinked-lost (port_named r.entry) (port_named entry) key p.map (λ k is. (same_port k is, x.port_held key r k here (same_port k is)))) new
+      record { names_fit = h1; ports_fit = omega arith; records_fit = omega arith }
 
 -- ---- a space with another name for an entry
 

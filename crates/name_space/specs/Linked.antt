@@ -11,3 +11,8 @@ linked (Some port) key m = map.insert m port key
 abbrev pub unlinked : Option ℕ → map.FinMap nat_cmp ℕ → map.FinMap nat_cmp ℕ
 unlinked None m = m
 unlinked (Some port) m = map.remove m port
+
+-- the port that goes where an entry for the second is put in place of one for the first: none where a port stays
+abbrev pub lost : Option ℕ → Option ℕ → Option ℕ
+lost from None = from
+lost from (Some port) = None

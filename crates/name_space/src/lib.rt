@@ -5,16 +5,18 @@
 //! [`Space::reserve`]; nothing else but [`Space::names`] takes memory.
 #![tactic(auto)]
 
-ghost use Rattle.std.specs.Prelude.{◌≡◌, ◌≢◌, ℕ, ◌+◌, ◌-◌, ◌<◌, ◌≤◌, ◌↔◌, IsTrue, true, Some, None, IfOk, IfSome, IfNone, IsOk, OnSome, OnOk, OnErr};
+ghost use Rattle.std.specs.Prelude.{◌≡◌, ◌≢◌, ℕ, ◌+◌, ◌-◌, ◌<◌, ◌≤◌, ◌↔◌, IsTrue, true, max, Some, None, IfOk, IfSome, IfNone, IsOk, OnSome, OnOk, OnErr};
 ghost use Rattle.std.specs.FinMap as map;
 ghost use Rattle.slab.specs.Slab.{ContainsKey, Updates, slab_len};
-ghost use Rattle.mach_types.specs.Numbers.{most_names};
-ghost use Rattle.name_space.specs.Linked.{linked, unlinked};
+ghost use Rattle.mach_types.specs.Numbers.{most_names, most_references};
+ghost use Rattle.name_space.specs.Entry.{port_named};
+ghost use Rattle.name_space.specs.Linked.{linked, unlinked, lost};
 
 mod index;
 
 use index::Index;
-use mach_types::{Name, PortId, SetId};
+use mach_types::limits::MOST_NAMES;
+use mach_types::{Name, PortId, Right, SetId};
 use slab::Slab;
 use std::alloc::{AllocError, Global};
 use std::marker::Model;
@@ -38,7 +40,7 @@ pub enum Entry {
 }
 
 impl Entry {
-    ghost use Rattle.name_space.specs.Entry.{port_named, has_receive, send_references};
+    ghost use Rattle.name_space.specs.Entry.{receive_named, port_of, set_named, has_receive, send_references, references_in, type_in};
 
     /// The port for which this is a receive right, send rights or both.
     pub fn port(&self) -> Option<PortId>
@@ -52,6 +54,36 @@ impl Entry {
         }
     }
 
+    /// The port whose receive right this has.
+    pub fn receive_port(&self) -> Option<PortId>
+        ensures { result ≡ receive_named self.now }
+    {
+        match self {
+            Entry::Receive(port) | Entry::ReceiveAndSend(port, _) => Some(*port),
+            _ => None,
+        }
+    }
+
+    /// The port for which this has any right, send-once rights among them.
+    pub fn right_port(&self) -> Option<PortId>
+        ensures { result ≡ port_of self.now }
+    {
+        match self {
+            Entry::SendOnce(port) => Some(*port),
+            _ => self.port(),
+        }
+    }
+
+    /// The port set that this is.
+    pub fn set(&self) -> Option<SetId>
+        ensures { result ≡ set_named self.now }
+    {
+        match self {
+            Entry::Set(set) => Some(*set),
+            _ => None,
+        }
+    }
+
     /// Whether this has a receive right.
     pub fn has_receive(&self) -> bool
         ensures { result ≡ has_receive self.now }
@@ -61,11 +93,42 @@ impl Entry {
 
     /// How many references to a send right this has, 0 to 65,535.
     pub fn send_references(&self) -> u32
-        ensures { result ≡ send_references self.now }
+        ensures value { result ≡ send_references self.now }
+        ensures few { result ≤ most_references }
     {
         match self {
             Entry::Send(_, references) | Entry::ReceiveAndSend(_, references) => references.count(),
             Entry::Receive(_) | Entry::SendOnce(_) | Entry::DeadName(_) | Entry::Set(_) => 0,
+        }
+    }
+
+    /// How many references to the right this has, 0 to 65,535: a receive right, a send-once right and a
+    /// port set have one (Port Manipulation Interface, `mach_port_get_refs`).
+    pub fn references(&self, right: Right) -> u32
+        ensures value { result ≡ references_in right self.now }
+        ensures few { result ≤ most_references }
+    {
+        match (right, self) {
+            (Right::Send, _) => self.send_references(),
+            (Right::Receive, _) => u32::from(self.has_receive()),
+            (Right::SendOnce, Entry::SendOnce(_)) | (Right::PortSet, Entry::Set(_)) => 1,
+            (Right::DeadName, Entry::DeadName(references)) => references.count(),
+            _ => 0,
+        }
+    }
+
+    /// The bits of the rights that this has: a name's type (Port Manipulation Interface,
+    /// `mach_port_type_t`).
+    pub fn type_bits(&self) -> u32
+        ensures { result ≡ type_in self.now }
+    {
+        match self {
+            Entry::Receive(_) => Right::Receive.type_bit(),
+            Entry::Send(_, _) => Right::Send.type_bit(),
+            Entry::ReceiveAndSend(_, _) => Right::Send.type_bit() + Right::Receive.type_bit(),
+            Entry::SendOnce(_) => Right::SendOnce.type_bit(),
+            Entry::DeadName(_) => Right::DeadName.type_bit(),
+            Entry::Set(_) => Right::PortSet.type_bit(),
         }
     }
 }
@@ -122,6 +185,16 @@ fn unlink(ports: &mut Index, port: Option<PortId>)
     }
 }
 
+// An entry's port, where the one put in its place is for none.
+fn port_lost(entry: &Entry, renewed: &Entry) -> Option<PortId>
+    ensures { result ≡ lost (port_named entry.now) (port_named renewed.now) }
+{
+    match renewed.port() {
+        Some(_) => None,
+        None => entry.port(),
+    }
+}
+
 // Puts a record in place of the one under the key.
 fn store(records: &mut Slab<Record>, key: usize, renewed: Record)
     requires { ContainsKey records.old key }
@@ -135,7 +208,6 @@ fn store(records: &mut Slab<Record>, key: usize, renewed: Record)
 }
 
 impl Space {
-    ghost use Rattle.name_space.specs.Entry.{port_named};
     ghost use Rattle.name_space.specs.declared.Entry.{Entry as AnyEntry};
     ghost use Rattle.name_space.specs.Names.{IsUsable, IsFreshName, HasNoOther, port_at};
 
@@ -171,7 +243,7 @@ impl Space {
     pub fn is_full(&self) -> bool
         ensures { IsTrue result ↔ (most_names ≤ map.len self.now.names) }
     {
-        self.len() >= 65_535
+        self.len() >= MOST_NAMES
     }
 
     /// For how many more names there is room. Constant time.
@@ -192,7 +264,7 @@ impl Space {
     /// The least unused number from 1, at most 65,536. Logarithmic in the number of names.
     pub fn fresh(&self) -> Name
         ensures fresh { IsFreshName self.now.names result }
-        ensures small { result ≤ 65536 }
+        ensures small { result ≤ most_names + 1 }
     {
         Name::new(self.by_name.first_gap() as u32)
     }
@@ -208,7 +280,8 @@ impl Space {
     }
 
     /// Makes room for so many more names, so that as many calls of [`Space::insert`] take no memory.
-    /// Room that is there stays and counts. Linear in the number of names where memory is taken.
+    /// Room that is there stays and counts: where it is less, there is then room for just so many.
+    /// Linear in the number of names where memory is taken.
     ///
     /// An error means that memory was refused; the names are then as before, and so is the room.
     pub fn reserve(&mut self, additional: usize) -> Result<(), AllocError>
@@ -216,6 +289,7 @@ impl Space {
         ensures ok { OnOk result (additional ≤ self.new.room) }
         ensures room { self.old.room ≤ self.new.room }
         ensures err { OnErr result (self.new ≡ self.old) }
+        ensures after { OnOk result (self.new ≡ record self.old { room = max self.old.room additional }) }
         ensures had_room { additional ≤ self.old.room → IsOk result }
     {
         if additional <= self.room {
@@ -254,10 +328,9 @@ impl Space {
         ensures { self.new ≡ record self.old { names = map.insert self.old.names name entry } }
     {
         let key = self.by_name.get(name.number() as u64).unwrap();
-        let port = self.records[key].entry.port();
+        let port = port_lost(&self.records[key].entry, &entry);
         store(&mut self.records, key, Record { name, entry });
         unlink(&mut self.by_port, port);
-        link(&mut self.by_port, entry.port(), key);
     }
 
     /// Takes a name out of use, and answers what stood under it. Room stays as it is. Logarithmic in
@@ -327,6 +400,30 @@ mod tests {
         }
         space.insert(name, entry);
         true
+    }
+
+    type Told = (u32, u32, Option<PortId>, Option<PortId>, Option<SetId>);
+
+    // What an entry tells: its receive rights, its type, and the port or set that it is for.
+    fn tell(entry: Entry) -> Told {
+        let references = entry.references(Right::Receive);
+        let (receive, right) = (entry.receive_port(), entry.right_port());
+        (references, entry.type_bits(), receive, right, entry.set())
+    }
+
+    #[test]
+    fn entries_tell_their_rights(rt: HostRuntime) -> Result<(), Fail> {
+        let port = PortId::new(7);
+        let set = SetId::new(3);
+        let both = tell(Entry::ReceiveAndSend(port, UserRefs::one()));
+        assert_eq!(rt; both, (1, 0x0003_0000, Some(port), Some(port), None));
+        let once = tell(Entry::SendOnce(port));
+        assert_eq!(rt; once, (0, 0x0004_0000, None, Some(port), None));
+        assert_eq!(rt;
+            tell(Entry::Set(set)),
+            (0, 0x0008_0000, None, None, Some(set))
+        );
+        Ok(())
     }
 
     #[test]

@@ -14,6 +14,7 @@ ghost use Rattle.slab.specs.Slab.{get, with_value};
 ghost use Rattle.port.specs.declared.Record.{Record as AnyRecord};
 ghost use Rattle.port.specs.Records.{IsNextKey};
 
+use mach_types::limits::FIRST_LIMIT;
 use mach_types::{PortId, SetId, TaskId};
 use slab::Slab;
 use std::alloc::{AllocError, Global};
@@ -69,7 +70,7 @@ impl Attributes {
         ensures { result ≡ first_attributes holder }
     {
         Attributes {
-            limit: 5,
+            limit: FIRST_LIMIT,
             make_send: 0,
             sequence: 0,
             holder,
@@ -122,6 +123,17 @@ impl<M: Message> Model for Ports<M> {
     } };
 
     ghost invariant = { λ a. IsSound a.records a.by_id.entries a.next a.spare a.slots };
+}
+
+// So many slots that no message is in.
+fn blank_slots<M: Message>(number: usize, alloc: Global) -> Result<LinkedList<M>, AllocError>
+    ensures { IfOk result (λ slots. length slots ≡ number) }
+{
+    let mut slots = LinkedList::new(alloc);
+    for _ in 0..number {
+        slots.push_back(M::blank(alloc))?;
+    }
+    Ok(slots)
 }
 
 // Moves the first node of a list to the end of another.
@@ -253,30 +265,19 @@ impl<M: Message> Ports<M> {
 
     /// Makes so many more spare slots. Linear in their number.
     ///
-    /// An error means that memory was refused; all but the number of spare slots, which may have
-    /// grown, is then as before.
+    /// An error means that memory was refused; all is then as before.
     pub fn reserve_slots(&mut self, additional: usize) -> Result<(), AllocError>
         ensures ports { self.new ≡ record self.old { spare = self.new.spare } }
         ensures ok { OnOk result (self.new.spare ≡ self.old.spare + additional) }
         ensures err { self.old.spare ≤ self.new.spare }
+        ensures unchanged { OnErr result (self.new ≡ self.old) }
     {
-        for _ in 0..additional {
-            self.reserve_slot()?;
-        }
-        Ok(())
-    }
-
-    // Makes one more spare slot.
-    fn reserve_slot(&mut self) -> Result<(), AllocError>
-        ensures ok { OnOk result (self.new ≡ record self.old { spare = self.old.spare + 1 }) }
-        ensures err { OnErr result (self.new ≡ self.old) }
-    {
-        if self.slots + 1 >= MOST_SLOTS {
+        if additional >= MOST_SLOTS - self.slots {
             return Err(AllocError);
         }
-        let blank = M::blank(*self.spare.allocator());
-        self.spare.push_back(blank)?;
-        self.slots += 1;
+        let mut slots = blank_slots(additional, *self.spare.allocator())?;
+        self.spare.append(&mut slots).unwrap();
+        self.slots += additional;
         Ok(())
     }
 

@@ -16,6 +16,7 @@ ghost use Rattle.mach_types.specs.declared.codes.KernReturn.TheVariants.{NoSpace
 #[cfg(test)]
 mod tests;
 
+use mach_types::limits::MOST_RIGHTS;
 use mach_types::{KernReturn, PortId};
 use std::alloc::{AllocError, Global};
 use std::collections::BTreeMap;
@@ -257,7 +258,7 @@ impl Ledger {
         ensures ok { OnOk result (self.new ≡ made self.old port kind number) }
         ensures err { OnErr result (self.new ≡ self.old) }
     {
-        if number > u32::MAX - self.total {
+        if number > MOST_RIGHTS - self.total {
             return Err(KernReturn::NoSpace);
         }
         let counts = self.held(port).with_more(kind, number);

@@ -9,9 +9,8 @@ ghost use Rattle.mach_types.specs.Numbers.{most_references};
 ghost use Rattle.mach_types.specs.declared.codes.KernReturn.TheVariants.{UrefsOverflow};
 
 use mach_types::KernReturn;
+use mach_types::limits::MOST_REFERENCES;
 use std::marker::Model;
-
-const MOST_REFERENCES: u32 = 65_535;
 
 /// The user references under one name (Port Manipulation Interface, `mach_port_get_refs`): 1 to 65,535.
 #[derive(Clone, Copy, Debug, PartialEq, Eq)]
