@@ -40,7 +40,7 @@ fn answer<R: Env + Files + Input + AllocGlobal, W: Write + Drop, E: Write>(
     let words: Vec<String> = match words_of(rt) {
         Ok(words) => words,
         Err(error) if error.kind() == io::ErrorKind::OutOfMemory => {
-            return report(Fault::OutOfMemory, "", err);
+            return report(Fault::OutOfMemory, err);
         }
         Err(_) => {
             let _ = err.write_all(b"error: a word is not UTF-8\n\nUsage: mach_run <COMMAND>\n");
@@ -49,9 +49,7 @@ fn answer<R: Env + Files + Input + AllocGlobal, W: Write + Drop, E: Write>(
     };
     match read_words(rt.alloc(), words.as_slice()) {
         Ok(request) => open(rt, &request, out, err),
-        Err(error) if error.kind() == ErrorKind::OutOfMemory => {
-            report(Fault::OutOfMemory, "", err)
-        }
+        Err(error) if error.kind() == ErrorKind::OutOfMemory => { report(Fault::OutOfMemory, err) }
         Err(error) => {
             let _ = write!(err, "{error}");
             USAGE
@@ -76,7 +74,7 @@ fn open<R: Files + Input + AllocGlobal, W: Write + Drop, E: Write>(
     };
     match File::open(rt, name) {
         Ok(mut file) => start(rt.alloc(), request.job, name, &mut file, out, err),
-        Err(_) => report(Fault::CannotRead, name, err),
+        Err(_) => report(Fault::CannotRead(name), err),
     }
 }
 
@@ -91,6 +89,6 @@ fn start<R: Read, W: Write + Drop, E: Write>(
 ) -> u8 {
     match BufWriter::new(alloc, out) {
         Ok(mut out) => perform(alloc, job, name, file, &mut out, err),
-        Err(_) => report(Fault::OutOfMemory, name, err),
+        Err(_) => report(Fault::OutOfMemory, err),
     }
 }

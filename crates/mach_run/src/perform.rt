@@ -2,11 +2,12 @@
 ghost use Rattle.std.specs.Prelude.{◌≡◌, ◌≤◌};
 
 use kernel_core::Kernel;
-use mach_run_base::{ScriptFault, read_script, write_reply};
 use mach_types::Event;
 use std::alloc::Global;
 use std::io;
 use std::io::{ErrorKind, Read, Write};
+use thiserror::Error;
+use tracer_base::{ScriptFault, read_script, write_reply};
 
 /// What the program can do.
 #[derive(Clone, Copy, Debug, PartialEq, Eq)]
@@ -15,21 +16,25 @@ pub enum Job {
     Run,
 }
 
-/// What stops a job.
-#[derive(Clone, Copy, Debug, PartialEq, Eq)]
-pub enum Fault {
-    /// The file can't be opened or read.
-    CannotRead,
+/// What stops a job. Its text is the line that tells of it.
+#[derive(Clone, Copy, Debug, PartialEq, Eq, Error)]
+pub enum Fault<'a> {
+    /// The file of this name can't be opened or read.
+    #[error("cannot read {0}")]
+    CannotRead(&'a str),
     /// The line of this number, from 1, is no call.
+    #[error("line {0}: bad call")]
     BadCall(u64),
     /// The replies can't be written.
+    #[error("cannot write")]
     CannotWrite,
     /// Memory was refused.
+    #[error("out of memory")]
     OutOfMemory,
 }
 
-impl From<ScriptFault> for Fault {
-    fn from(fault: ScriptFault) -> Fault {
+impl<'a> From<ScriptFault> for Fault<'a> {
+    fn from(fault: ScriptFault) -> Fault<'a> {
         match fault {
             ScriptFault::BadCall(line) => Fault::BadCall(line),
             ScriptFault::OutOfMemory => Fault::OutOfMemory,
@@ -56,32 +61,32 @@ pub fn perform<R: Read, W: Write, E: Write>(
     ensures { result ≤ 1 }
 {
     let done = match job {
-        Job::Run => run(alloc, file, out),
+        Job::Run => run(alloc, name, file, out),
     };
     match done {
         Ok(()) => 0,
-        Err(fault) => report(fault, name, err),
+        Err(fault) => report(fault, err),
     }
 }
 
-/// Tells on `err` what the fault is, as one line, and answers its status, 1. `name` is the file's.
+/// Tells on `err` what the fault is, as one line, and answers its status, 1.
 ///
 /// Where `err` refuses the line, nothing is left to tell of it.
-pub fn report<E: Write>(fault: Fault, name: &str, err: &mut E) -> u8
+pub fn report<E: Write>(fault: Fault<'_>, err: &mut E) -> u8
     ensures { result ≡ 1 }
 {
-    let _ = match fault {
-        Fault::CannotRead => writeln!(err, "cannot read {name}"),
-        Fault::BadCall(line) => writeln!(err, "line {line}: bad call"),
-        Fault::CannotWrite => writeln!(err, "cannot write"),
-        Fault::OutOfMemory => writeln!(err, "out of memory"),
-    };
+    let _ = writeln!(err, "{fault}");
     1
 }
 
 /// Reads a script, and then makes its calls in turn on a new kernel, with one reply a line on `out`.
-fn run<R: Read, W: Write>(alloc: Global, file: &mut R, out: &mut W) -> Result<(), Fault> {
-    let text = read_all(alloc, file)?;
+fn run<'a, R: Read, W: Write>(
+    alloc: Global,
+    name: &'a str,
+    file: &mut R,
+    out: &mut W,
+) -> Result<(), Fault<'a>> {
+    let text = read_all(alloc, name, file)?;
     let events = read_script(alloc, text.as_slice())?;
     match answer_all(alloc, events.as_slice(), out) {
         Ok(()) => Ok(()),
@@ -89,13 +94,13 @@ fn run<R: Read, W: Write>(alloc: Global, file: &mut R, out: &mut W) -> Result<()
     }
 }
 
-/// All that the file holds from here on.
-fn read_all<R: Read>(alloc: Global, file: &mut R) -> Result<Vec<u8>, Fault> {
+/// All that the file, which has this name, holds from here on.
+fn read_all<'a, R: Read>(alloc: Global, name: &'a str, file: &mut R) -> Result<Vec<u8>, Fault<'a>> {
     let mut text = Vec::new(alloc);
     match file.read_to_end(&mut text) {
         Ok(_) => Ok(text),
         Err(error) if error.kind() == ErrorKind::OutOfMemory => Err(Fault::OutOfMemory),
-        Err(_) => Err(Fault::CannotRead),
+        Err(_) => Err(Fault::CannotRead(name)),
     }
 }
 

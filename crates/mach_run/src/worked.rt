@@ -1,10 +1,10 @@
 //! Worked exchanges: scripts whose replies are known, by `perform` and by whole runs.
 use crate::tests::{Page, ran};
 use kernel_core::run;
-use mach_run_base::{read_script, write_reply};
 use std::alloc::Global;
 use std::io::Write;
 use std::test::Fail;
+use tracer_base::{read_script, write_reply};
 
 // A send-once right for a port of the sender, in a short descriptor.
 const SEND_ONCE_RIGHT: (&str, &str) = (

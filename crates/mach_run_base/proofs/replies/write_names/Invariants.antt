@@ -1,9 +1,0 @@
-use Rattle.std.proofs.Common.{◌++◌, take, codes, flat_map}
-use Rattle.std.specs.Io.KnownBytes.{Appends}
-use Rattle.mach_run_base.specs.Replies.{typed_name_text}
-use Rattle.mach_run_base.proofs.replies.write_names.Given as goal
-
--- the names before this one are written
-abbrev pub invariant-loop-name : goal.invariant-loop-name
-invariant-loop-name g l =
-    Appends (g.W.Write.contents l.fn.out) (g.W.Write.contents l.out) (codes "names" ++ flat_map typed_name_text (take l.name-index l.name-items))

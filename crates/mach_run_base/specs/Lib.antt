@@ -1,5 +1,0 @@
-pub mod Fields
-pub mod Numbers
-pub mod Replies
-pub mod Text
-pub mod Words

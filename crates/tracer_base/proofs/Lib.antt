@@ -1,0 +1,5 @@
+pub mod NumberLemmas
+pub mod HexLemmas
+pub mod WordLemmas
+pub mod ReplyLemmas
+pub mod CallLemmas

@@ -1,0 +1,118 @@
+-- Lines and their words.
+use Rattle.std.proofs.Common.{◌≡◌, ◌≢◌, ℕ, ◌<◌, ◌^◌, ◌==◌, decimal, Bool, true, false, List, [], ◌∷◌, ◌++◌, All, length, refl, sym, ◌∙◌, ap, subst, arith, nat_lt, ◌&&◌, append-nil, map, flat_map}
+use Rattle.std.specs.List.{list_all}
+use Rattle.std.specs.Str.{IsAscii}
+use Rattle.std.proofs.lemmas.Str.Ascii.{IsAscii-from_all}
+use Rattle.std.proofs.lemmas.Bool.{ne_eqb, and_parts, ltb-true}
+use Rattle.std.proofs.lemmas.List.Elements.{All-weaker, All-nil, All-cons, All-append, All-head, All-tail}
+use Rattle.std.proofs.lemmas.List.Splits.{slice_split_none, slice_split_at, length-slice_split, join_with_byte-slice_split}
+use Rattle.tracer_base.specs.Replies.{typed_name_text}
+use Rattle.tracer_base.specs.Text.{code_text}
+use Rattle.tracer_base.specs.Words.{line, words, Lacks, IsWord}
+use Rattle.tracer_base.proofs.NumberLemmas.{All-decimal}
+
+-- a byte that a text lacks is nowhere in it
+nowhere : (byte : ℕ) (text : List ℕ) → Lacks byte text → All (λ other. (other == byte) ≡ false) text
+nowhere byte text lacks = All-weaker (λ other. other ≢ byte) (λ other. (other == byte) ≡ false) (λ other. ne_eqb other byte) text lacks
+
+pub words-some : (text : List ℕ) → words text ≡ [] → ⊥
+words-some text none =
+    let count = length-slice_split (λ byte. byte == 32) text in
+    let empty : length (words text) ≡ 0 = ap length none in
+    omega (arith, count, empty)
+
+pub words-one : (text : List ℕ) → Lacks 32 text → words text ≡ text ∷ []
+words-one text lacks = slice_split_none (λ byte. byte == 32) text (nowhere 32 text lacks)
+
+pub words-more : (word rest text : List ℕ) → Lacks 32 word → word ++ 32 ∷ rest ≡ text → word ∷ words rest ≡ words text
+words-more word rest text lacks same =
+    sym (slice_split_at (λ byte. byte == 32) word 32 rest (nowhere 32 word lacks) refl) ∙ ap words same
+
+-- a text is parted in one way alone at the first place of a byte
+pub same_parts : (byte : ℕ) (before other behind rest : List ℕ) → Lacks byte before → Lacks byte other → before ++ byte ∷ behind ≡ other ++ byte ∷ rest → (before ≡ other) × (behind ≡ rest)
+same_parts byte [] [] behind rest lacks lacks_too same = (refl, cc)
+same_parts byte [] (b ∷ other) behind rest lacks lacks_too same = absurd (All-head (λ a. a ≢ byte) b other lacks_too cc)
+same_parts byte (a ∷ before) [] behind rest lacks lacks_too same = absurd (All-head (λ b. b ≢ byte) a before lacks cc)
+same_parts byte (a ∷ before) (b ∷ other) behind rest lacks lacks_too same =
+    let inner = same_parts byte before other behind rest (All-tail (λ c. c ≢ byte) a before lacks) (All-tail (λ c. c ≢ byte) b other lacks_too) cc in
+    (cc, inner.1)
+
+Lacks-IsWord : (byte : ℕ) (word : List ℕ) → byte < 33 → IsWord word → Lacks byte word
+Lacks-IsWord byte word low is_word = All-weaker (λ other. 32 < other) (λ other. other ≢ byte) (λ other above same. omega (arith, above, same)) word is_word
+
+-- words without spaces are the words of their line
+pub words-line : (word : List ℕ) (others : List (List ℕ)) → All IsWord (word ∷ others) → words (line (word ∷ others)) ≡ word ∷ others
+words-line word [] plain = words-one word (Lacks-IsWord 32 word (omega arith) (All-head IsWord word [] plain))
+words-line word (next ∷ others) plain =
+    sym (words-more word (line (next ∷ others)) _ (Lacks-IsWord 32 word (omega arith) (All-head IsWord word (next ∷ others) plain)) refl)
+    ∙ ap (λ ws. word ∷ ws) (words-line next others (All-tail IsWord word (next ∷ others) plain))
+
+-- a text is the line of its words
+pub line-words : (text : List ℕ) → line (words text) ≡ text
+line-words text = join_with_byte-slice_split 32 text
+
+has : (byte : ℕ) (before behind : List ℕ) → Lacks byte (before ++ byte ∷ behind) → ⊥
+has byte [] behind lacks = All-head (λ other. other ≢ byte) byte behind lacks refl
+has byte (a ∷ before) behind lacks = has byte before behind (All-tail (λ other. other ≢ byte) a (before ++ byte ∷ behind) lacks)
+
+-- a text that the byte parts does not lack it
+pub parted-lacks : (byte : ℕ) (before behind text : List ℕ) → before ++ byte ∷ behind ≡ text → Lacks byte text → ⊥
+parted-lacks byte before behind text same lacks = has byte before behind (subst (Lacks byte) (sym same) lacks)
+
+-- the one colon in the text of a name and its type stands between them
+pub typed_parts : (entry : ℕ × ℕ) (text name bits : List ℕ) → entry.0 < 2 ^ 32 → typed_name_text entry ≡ text → name ++ 58 ∷ bits ≡ text → Lacks 58 name → (decimal entry.0 ≡ name) × (code_text entry.1 ≡ bits)
+typed_parts entry text name bits small same parted lacks =
+    let digits : Lacks 58 (decimal entry.0) = All-decimal (λ byte. byte ≢ 58) (λ byte digit there. omega (arith, digit.1, there)) entry.0 (omega arith) in
+    same_parts 58 (decimal entry.0) name (code_text entry.1) bits digits lacks (same ∙ sym parted)
+
+-- each byte is above a space, and ASCII
+abbrev pub is_plain : List ℕ → Bool
+is_plain text = list_all (λ byte. nat_lt 32 byte && nat_lt byte 128) text
+
+all_plain : (text : List ℕ) → is_plain text ≡ true → All (λ byte. (32 < byte) × (byte < 128)) text
+all_plain [] plain = All-nil (λ byte. (32 < byte) × (byte < 128))
+all_plain (a ∷ text) plain =
+    let parts = and_parts (nat_lt 32 a && nat_lt a 128) (is_plain text) plain in
+    let bounds = and_parts (nat_lt 32 a) (nat_lt a 128) parts.0 in
+    All-cons (λ byte. (32 < byte) × (byte < 128)) a text (ltb-true 32 a bounds.0, ltb-true a 128 bounds.1) (all_plain text parts.1)
+
+pub IsWord-plain : (text : List ℕ) → is_plain text ≡ true → IsWord text
+IsWord-plain text plain = All-weaker (λ byte. (32 < byte) × (byte < 128)) (λ byte. 32 < byte) (λ byte both. both.0) text (all_plain text plain)
+
+pub IsAscii-plain : (text : List ℕ) → is_plain text ≡ true → IsAscii text
+IsAscii-plain text plain =
+    IsAscii-from_all text (All-weaker (λ byte. (32 < byte) × (byte < 128)) (λ byte. byte < 128) (λ byte both. both.1) text (all_plain text plain))
+
+-- a byte below a space is in no line of words
+pub Lacks-line : (byte : ℕ) (ws : List (List ℕ)) → byte < 32 → All IsWord ws → Lacks byte (line ws)
+Lacks-line byte [] low plain = All-nil (λ other. other ≢ byte)
+Lacks-line byte (word ∷ []) low plain = Lacks-IsWord byte word (omega arith) (All-head IsWord word [] plain)
+Lacks-line byte (word ∷ next ∷ others) low plain =
+    All-append (λ other. other ≢ byte) word (32 ∷ line (next ∷ others)) (Lacks-IsWord byte word (omega arith) (All-head IsWord word (next ∷ others) plain))
+    (All-cons (λ other. other ≢ byte) 32 (line (next ∷ others)) (λ same. omega (arith, same))
+    (Lacks-line byte (next ∷ others) low (All-tail IsWord word (next ∷ others) plain)))
+
+-- a keyword and arguments that were read as the words of a text are its line
+pub line_read : (word keyword text : List ℕ) (arguments left behind : List (List ℕ)) → keyword ∷ behind ≡ words text → word ≡ keyword → arguments ++ left ≡ behind → left ≡ [] → line (word ∷ arguments) ≡ text
+line_read word keyword text arguments left behind split same read none =
+    let all : word ∷ arguments ≡ words text = ap (λ w. w ∷ arguments) same ∙ ap (λ rest. keyword ∷ rest) (sym (append-nil arguments) ∙ ap (λ rest. arguments ++ rest) (sym none) ∙ read) ∙ split in
+    ap line all ∙ line-words text
+
+-- the words of the line of a keyword and arguments are these
+pub line_parts : (word keyword text : List ℕ) (arguments behind : List (List ℕ)) → All IsWord (word ∷ arguments) → line (word ∷ arguments) ≡ text → keyword ∷ behind ≡ words text → (word ≡ keyword) × (arguments ≡ behind)
+line_parts word keyword text arguments behind plain same split =
+    let all : word ∷ arguments ≡ keyword ∷ behind = sym (words-line word arguments plain) ∙ ap words same ∙ sym split in
+    (cc, cc)
+
+-- where texts of values are left to read, they begin with the text of a value
+pub next_of : {X : Type 0} (f : X → List ℕ) (P : X → Type 0) (done all : List X) (left : List (List ℕ)) → All P all → map f done ++ left ≡ map f all → (left ≡ [] → ⊥)
+    → (x : X) × (rest : List (List ℕ)) × P x × (f x ∷ rest ≡ left)
+next_of f P [] [] left small same some = absurd (some same)
+next_of f P [] (x ∷ all) left small same some = (x, map f all, All-head P x all small, sym same)
+next_of f P (y ∷ done) [] left small same some = absurd cc
+next_of f P (y ∷ done) (x ∷ all) left small same some = next_of f P done all left (All-tail P x all small) (cc) some
+
+-- the line of a word and the texts of values, text by text
+pub line_map : {X : Type 0} (f : X → List ℕ) (word : List ℕ) (xs : List X) → word ++ flat_map (λ x. 32 ∷ f x) xs ≡ line (word ∷ map f xs)
+line_map f word [] = append-nil word
+line_map f word (x ∷ xs) = ap (λ text. word ++ 32 ∷ text) (line_map f (f x) xs)

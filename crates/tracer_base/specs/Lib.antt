@@ -1,0 +1,6 @@
+pub mod Calls
+pub mod Keywords
+pub mod Numbers
+pub mod Replies
+pub mod Text
+pub mod Words

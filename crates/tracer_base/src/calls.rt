@@ -1,0 +1,356 @@
+//! The text of calls.
+ghost use Rattle.std.specs.Prelude.{◌≡◌, ◌<◌, ◌^◌, ℕ, ℤ, Bool, List, [], ◌∷◌, ◌++◌, All, IfOk, IsOkUnless, OnOk, codes, decimal};
+ghost use Rattle.std.specs.Fmt.{signed_decimal};
+ghost use Rattle.std.specs.Io.KnownBytes.{Appends};
+ghost use Rattle.mach_types.specs.declared.calls.Event.{Event as AnyEvent};
+ghost use Rattle.tracer_base.specs.Calls.{Fits, call_word, call_arguments, call_text};
+ghost use Rattle.mach_types.specs.declared.calls.Waited.{Waited as AnyWaited};
+ghost use Rattle.tracer_base.specs.Numbers.{FitsDelta};
+ghost use Rattle.tracer_base.specs.Text.{bytes_text, flag_text, waited_words, FitsWaited};
+ghost use Rattle.tracer_base.specs.Words.{line, IsRead};
+ghost use Rattle.tracer_base.specs.Keywords.{IsNoRightWord, IsNoNameWord};
+
+use crate::fault::TextFault;
+use crate::hexadecimal::write_bytes;
+use crate::words::Words;
+use mach_types::{Event, Name, TaskId, Waited};
+use std::alloc::Global;
+use std::io;
+use std::io::Write;
+
+/// The call that the text says: the call's keyword, and its arguments, each after one space.
+///
+/// `Bad` comes where the text is that of no call, `OutOfMemory` where memory for a message is
+/// refused. Time and memory grow with the length of the text.
+pub fn read_call(alloc: Global, text: &[u8]) -> Result<Event, TextFault>
+    ensures ok { IfOk result (λ event. call_text event ≡ text.now) }
+    ensures each { (event : AnyEvent) → Fits event → call_text event ≡ text.now → IsOkUnless result TextFault.OutOfMemory }
+{
+    let mut words = Words::of(text);
+    let keyword = words.keyword()?;
+    let event = read_arguments(alloc, keyword, &mut words)?;
+    words.end()?;
+    Ok(event)
+}
+
+/// The call of this keyword, with its arguments from `words`. Faults are as for [`read_call`].
+fn read_arguments(alloc: Global, keyword: &str, words: &mut Words<'_>) -> Result<Event, TextFault>
+    ensures word { IfOk result (λ event. call_word event ≡ keyword.now) }
+    ensures arguments { IfOk result (λ event. call_arguments event ++ words.new ≡ words.old) }
+    ensures read { (event : AnyEvent) (behind : List (List ℕ)) → Fits event → call_word event ≡ keyword.now
+        → call_arguments event ++ behind ≡ words.old → IsRead result words.new behind }
+{
+    match keyword {
+        "task" => Ok(Event::TaskCreate),
+        "alloc" => read_alloc(words),
+        "allocname" => read_allocname(words),
+        "insert" => read_insert(words),
+        "extract" => read_extract(words),
+        "send" => read_send(alloc, words),
+        "recv" => read_recv(words),
+        "again" => read_again(words),
+        _ => read_name_call(keyword, words),
+    }
+}
+
+/// The call on a task's names of this keyword, or the call on a port or a port set. Faults are as for
+/// [`read_call`].
+fn read_name_call(keyword: &str, words: &mut Words<'_>) -> Result<Event, TextFault>
+    requires { IsNoRightWord keyword.now }
+    ensures word { IfOk result (λ event. call_word event ≡ keyword.now) }
+    ensures arguments { IfOk result (λ event. call_arguments event ++ words.new ≡ words.old) }
+    ensures read { (event : AnyEvent) (behind : List (List ℕ)) → Fits event → call_word event ≡ keyword.now
+        → call_arguments event ++ behind ≡ words.old → IsRead result words.new behind }
+{
+    match keyword {
+        "dealloc" => {
+            let (task, name) = words.task_and_name()?;
+            Ok(Event::Deallocate(task, name))
+        }
+        "destroy" => {
+            let (task, name) = words.task_and_name()?;
+            Ok(Event::Destroy(task, name))
+        }
+        "modrefs" => read_modrefs(words),
+        "refs" => {
+            let (task, name, right) = words.task_name_and_number()?;
+            Ok(Event::GetRefs(task, name, right))
+        }
+        "type" => {
+            let (task, name) = words.task_and_name()?;
+            Ok(Event::NameType(task, name))
+        }
+        "names" => read_names(words),
+        "rename" => {
+            let (task, old, new) = words.task_and_names()?;
+            Ok(Event::Rename(task, old, new))
+        }
+        _ => read_port_call(keyword, words),
+    }
+}
+
+/// The call on a port or a port set of this keyword. Faults are as for [`read_call`].
+fn read_port_call(keyword: &str, words: &mut Words<'_>) -> Result<Event, TextFault>
+    requires right { IsNoRightWord keyword.now }
+    requires name { IsNoNameWord keyword.now }
+    ensures word { IfOk result (λ event. call_word event ≡ keyword.now) }
+    ensures arguments { IfOk result (λ event. call_arguments event ++ words.new ≡ words.old) }
+    ensures read { (event : AnyEvent) (behind : List (List ℕ)) → Fits event → call_word event ≡ keyword.now
+        → call_arguments event ++ behind ≡ words.old → IsRead result words.new behind }
+{
+    match keyword {
+        "status" => {
+            let (task, name) = words.task_and_name()?;
+            Ok(Event::ReceiveStatus(task, name))
+        }
+        "qlimit" => {
+            let (task, name, limit) = words.task_name_and_number()?;
+            Ok(Event::SetQlimit(task, name, limit))
+        }
+        "mscount" => {
+            let (task, name, count) = words.task_name_and_number()?;
+            Ok(Event::SetMscount(task, name, count))
+        }
+        "seqno" => {
+            let (task, name, sequence) = words.task_name_and_number()?;
+            Ok(Event::SetSeqno(task, name, sequence))
+        }
+        "move" => {
+            let (task, member, set) = words.task_and_names()?;
+            Ok(Event::MoveMember(task, member, set))
+        }
+        "members" => {
+            let (task, name) = words.task_and_name()?;
+            Ok(Event::SetStatus(task, name))
+        }
+        _ => Err(TextFault::Bad),
+    }
+}
+
+/// The arguments of `alloc`: a task and the number of a right.
+fn read_alloc(words: &mut Words<'_>) -> Result<Event, TextFault>
+    ensures word { IfOk result (λ event. call_word event ≡ codes "alloc") }
+    ensures arguments { IfOk result (λ event. call_arguments event ++ words.new ≡ words.old) }
+    ensures read { (task right : ℕ) (behind : List (List ℕ)) → task < 2 ^ 32 → right < 2 ^ 32 → decimal task ∷ decimal right ∷ behind ≡ words.old
+        → IsRead result words.new behind }
+{
+    Ok(Event::Allocate(words.task()?, words.number()?))
+}
+
+/// The arguments of `allocname`: a task, the number of a right, and a name.
+fn read_allocname(words: &mut Words<'_>) -> Result<Event, TextFault>
+    ensures word { IfOk result (λ event. call_word event ≡ codes "allocname") }
+    ensures arguments { IfOk result (λ event. call_arguments event ++ words.new ≡ words.old) }
+    ensures read { (task right name : ℕ) (behind : List (List ℕ)) → task < 2 ^ 32 → right < 2 ^ 32 → name < 2 ^ 32 → decimal task ∷ decimal right ∷ decimal name ∷ behind ≡ words.old
+        → IsRead result words.new behind }
+{
+    Ok(Event::AllocateName(words.task()?, words.number()?, words.name()?))
+}
+
+/// The arguments of `modrefs`: a task, a name, the number of a right, and how many references more, or less
+/// with `-`.
+fn read_modrefs(words: &mut Words<'_>) -> Result<Event, TextFault>
+    ensures word { IfOk result (λ event. call_word event ≡ codes "modrefs") }
+    ensures arguments { IfOk result (λ event. call_arguments event ++ words.new ≡ words.old) }
+    ensures read { (task name right : ℕ) (delta : ℤ) (behind : List (List ℕ)) → task < 2 ^ 32 → name < 2 ^ 32 → right < 2 ^ 32 → FitsDelta delta → decimal task ∷ decimal name ∷ decimal right ∷ signed_decimal delta ∷ behind ≡ words.old
+        → IsRead result words.new behind }
+{
+    let (task, name, right) = words.task_name_and_number()?;
+    Ok(Event::ModRefs(task, name, right, words.delta()?))
+}
+
+/// The arguments of `names`: a task.
+fn read_names(words: &mut Words<'_>) -> Result<Event, TextFault>
+    ensures word { IfOk result (λ event. call_word event ≡ codes "names") }
+    ensures arguments { IfOk result (λ event. call_arguments event ++ words.new ≡ words.old) }
+    ensures read { (task : ℕ) (behind : List (List ℕ)) → task < 2 ^ 32 → decimal task ∷ behind ≡ words.old
+        → IsRead result words.new behind }
+{
+    Ok(Event::Names(words.task()?))
+}
+
+/// The arguments of `insert`: a task, the name that it is to have for the right, the task that has
+/// the right, that task's name for it, and the number of a disposition.
+fn read_insert(words: &mut Words<'_>) -> Result<Event, TextFault>
+    ensures word { IfOk result (λ event. call_word event ≡ codes "insert") }
+    ensures arguments { IfOk result (λ event. call_arguments event ++ words.new ≡ words.old) }
+    ensures read { (task name from poly disposition : ℕ) (behind : List (List ℕ)) → task < 2 ^ 32 → name < 2 ^ 32 → from < 2 ^ 32 → poly < 2 ^ 32 → disposition < 2 ^ 32
+        → decimal task ∷ decimal name ∷ decimal from ∷ decimal poly ∷ decimal disposition ∷ behind ≡ words.old
+        → IsRead result words.new behind }
+{
+    let (task, name) = words.task_and_name()?;
+    let (from, poly) = words.task_and_name()?;
+    Ok(Event::InsertRight(task, name, from, poly, words.number()?))
+}
+
+/// The arguments of `extract`: a task that has a right, its name for it, the number of a disposition,
+/// and the task that is to have the right.
+fn read_extract(words: &mut Words<'_>) -> Result<Event, TextFault>
+    ensures word { IfOk result (λ event. call_word event ≡ codes "extract") }
+    ensures arguments { IfOk result (λ event. call_arguments event ++ words.new ≡ words.old) }
+    ensures read { (task name disposition to : ℕ) (behind : List (List ℕ)) → task < 2 ^ 32 → name < 2 ^ 32 → disposition < 2 ^ 32 → to < 2 ^ 32
+        → decimal task ∷ decimal name ∷ decimal disposition ∷ decimal to ∷ behind ≡ words.old
+        → IsRead result words.new behind }
+{
+    let (task, name, disposition) = words.task_name_and_number()?;
+    Ok(Event::ExtractRight(task, name, disposition, words.task()?))
+}
+
+/// The arguments of `send`: a task and a message's bytes.
+fn read_send(alloc: Global, words: &mut Words<'_>) -> Result<Event, TextFault>
+    ensures word { IfOk result (λ event. call_word event ≡ codes "send") }
+    ensures arguments { IfOk result (λ event. call_arguments event ++ words.new ≡ words.old) }
+    ensures read { (task : ℕ) (bytes : List ℕ) (behind : List (List ℕ)) → task < 2 ^ 32 → All (λ byte. byte < 256) bytes → decimal task ∷ bytes_text bytes ∷ behind ≡ words.old
+        → IsRead result words.new behind }
+{
+    Ok(Event::Send(words.task()?, words.bytes(alloc)?))
+}
+
+/// The arguments of `recv`: a task, a name, how many bytes there is room for, and whether a longer
+/// message is to stay.
+fn read_recv(words: &mut Words<'_>) -> Result<Event, TextFault>
+    ensures word { IfOk result (λ event. call_word event ≡ codes "recv") }
+    ensures arguments { IfOk result (λ event. call_arguments event ++ words.new ≡ words.old) }
+    ensures read { (task name room : ℕ) (large : Bool) (behind : List (List ℕ)) → task < 2 ^ 32 → name < 2 ^ 32 → room < 2 ^ 32 → decimal task ∷ decimal name ∷ decimal room ∷ flag_text large ∷ behind ≡ words.old
+        → IsRead result words.new behind }
+{
+    let (task, name, room) = words.task_name_and_number()?;
+    Ok(Event::Receive(task, name, room, words.flag()?))
+}
+
+/// The arguments of `again`: a task, what it waits for, how many bytes there is room for, and whether a
+/// longer message is to stay.
+fn read_again(words: &mut Words<'_>) -> Result<Event, TextFault>
+    ensures word { IfOk result (λ event. call_word event ≡ codes "again") }
+    ensures arguments { IfOk result (λ event. call_arguments event ++ words.new ≡ words.old) }
+    ensures read { (task : ℕ) (waited : AnyWaited) (room : ℕ) (large : Bool) (behind : List (List ℕ)) → task < 2 ^ 32 → FitsWaited waited → room < 2 ^ 32 → decimal task ∷ (waited_words waited ++ decimal room ∷ flag_text large ∷ behind) ≡ words.old
+        → IsRead result words.new behind }
+{
+    let (task, waited) = (words.task()?, words.waited()?);
+    Ok(Event::ReceiveAgain(task, waited, words.number()?, words.flag()?))
+}
+
+/// Writes the call, without a line feed.
+///
+/// An error is that of `out`; what was written before it stays. Time grows with the length of the
+/// text; no memory is taken.
+pub fn write_call<W: Write>(event: &Event, out: &mut W) -> io::Result<()>
+    ensures { OnOk result (Appends (W.contents out.old) (W.contents out.new) (call_text event.now)) }
+{
+    match event {
+        Event::TaskCreate => write!(out, "task"),
+        Event::Allocate(task, right) => write!(out, "alloc {} {right}", task.number()),
+        Event::AllocateName(task, right, name) => write_allocname(*task, *right, *name, out),
+        Event::Deallocate(task, name) => write_name("dealloc", *task, *name, out),
+        Event::Destroy(task, name) => write_name("destroy", *task, *name, out),
+        Event::ModRefs(task, name, right, delta) => {
+            write_number("modrefs", *task, *name, *right, out)?;
+            write!(out, " {delta}")
+        }
+        Event::GetRefs(task, name, right) => write_number("refs", *task, *name, *right, out),
+        Event::NameType(task, name) => write_name("type", *task, *name, out),
+        Event::Names(task) => write!(out, "names {}", task.number()),
+        Event::Rename(task, old, new) => write_names("rename", *task, *old, *new, out),
+        Event::ReceiveStatus(task, name) => write_name("status", *task, *name, out),
+        Event::SetQlimit(task, name, limit) => write_number("qlimit", *task, *name, *limit, out),
+        Event::SetMscount(task, name, count) => write_number("mscount", *task, *name, *count, out),
+        Event::SetSeqno(task, name, next) => write_number("seqno", *task, *name, *next, out),
+        Event::InsertRight(task, name, from, poly, disposition) => {
+            write_name("insert", *task, *name, out)?;
+            write!(out, " {} {} {disposition}", from.number(), poly.number())
+        }
+        Event::ExtractRight(task, name, disposition, to) => {
+            write_number("extract", *task, *name, *disposition, out)?;
+            write!(out, " {}", to.number())
+        }
+        Event::MoveMember(task, member, set) => write_names("move", *task, *member, *set, out),
+        Event::SetStatus(task, name) => write_name("members", *task, *name, out),
+        Event::Send(task, bytes) => write_send(*task, bytes.as_slice(), out),
+        Event::Receive(task, name, room, large) => {
+            write_number("recv", *task, *name, *room, out)?;
+            write_flag(*large, out)
+        }
+        Event::ReceiveAgain(task, waited, room, large) => {
+            write_again(*task, waited, *room, out)?;
+            write_flag(*large, out)
+        }
+    }
+}
+
+/// Writes the keyword, a task and a name. Errors are as for [`write_call`].
+fn write_name<W: Write>(keyword: &str, task: TaskId, name: Name, out: &mut W) -> io::Result<()>
+    ensures { OnOk result (Appends (W.contents out.old) (W.contents out.new) (line (keyword.now ∷ decimal task ∷ decimal name ∷ []))) }
+{
+    write!(out, "{keyword} {} {}", task.number(), name.number())
+}
+
+/// Writes the keyword, a task, a name and a number. Errors are as for [`write_call`].
+fn write_number<W: Write>(
+    keyword: &str,
+    task: TaskId,
+    name: Name,
+    number: u32,
+    out: &mut W,
+) -> io::Result<()>
+    ensures { OnOk result (Appends (W.contents out.old) (W.contents out.new)
+        (line (keyword.now ∷ decimal task ∷ decimal name ∷ decimal number ∷ []))) }
+{
+    write!(
+        out,
+        "{keyword} {} {} {number}",
+        task.number(),
+        name.number()
+    )
+}
+
+/// Writes the keyword, a task and two names. Errors are as for [`write_call`].
+fn write_names<W: Write>(
+    keyword: &str,
+    task: TaskId,
+    name: Name,
+    other: Name,
+    out: &mut W,
+) -> io::Result<()>
+    ensures { OnOk result (Appends (W.contents out.old) (W.contents out.new)
+        (line (keyword.now ∷ decimal task ∷ decimal name ∷ decimal other ∷ []))) }
+{
+    write_number(keyword, task, name, other.number(), out)
+}
+
+/// Writes the call that makes a right under this name. Errors are as for [`write_call`].
+fn write_allocname<W: Write>(task: TaskId, right: u32, name: Name, out: &mut W) -> io::Result<()>
+    ensures { OnOk result (Appends (W.contents out.old) (W.contents out.new) (call_text (AnyEvent.AllocateName task right name))) }
+{
+    write!(out, "allocname {} {right} {}", task.number(), name.number())
+}
+
+/// Writes the call that sends these bytes. Errors are as for [`write_call`].
+fn write_send<W: Write>(task: TaskId, bytes: &[u8], out: &mut W) -> io::Result<()>
+    ensures { OnOk result (Appends (W.contents out.old) (W.contents out.new) (call_text (AnyEvent.Send task bytes.now))) }
+{
+    write!(out, "send {} ", task.number())?;
+    write_bytes(bytes, out)
+}
+
+/// Writes `again`, a task, what it waits for, and how many bytes there is room for. Errors are as for
+/// [`write_call`].
+fn write_again<W: Write>(task: TaskId, waited: &Waited, room: u32, out: &mut W) -> io::Result<()>
+    ensures { OnOk result (Appends (W.contents out.old) (W.contents out.new)
+        (line (codes "again" ∷ decimal task ∷ (waited_words waited.now ++ decimal room ∷ [])))) }
+{
+    match waited {
+        Waited::Port(port) => write!(out, "again {} p {} {room}", task.number(), port.number()),
+        Waited::Set(set) => write!(out, "again {} s {} {room}", task.number(), set.number()),
+    }
+}
+
+/// Writes a space, and then a yes as `1` and a no as `0`. Errors are as for [`write_call`].
+fn write_flag<W: Write>(flag: bool, out: &mut W) -> io::Result<()>
+    ensures { OnOk result (Appends (W.contents out.old) (W.contents out.new) (32 ∷ flag_text flag)) }
+{
+    if flag {
+        out.write_all(b" 1")
+    } else {
+        out.write_all(b" 0")
+    }
+}

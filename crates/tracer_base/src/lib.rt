@@ -1,0 +1,20 @@
+//! Calls, replies and scripts as text: what is read is what the text says, and what is written reads back.
+//!
+//! `specs/Calls` has the text of a call, and `specs/Replies` that of a reply: words that are parted by
+//! single spaces (`specs/Words`). Nothing here knows the kernel.
+#![tactic(auto)]
+
+mod calls;
+mod fault;
+mod hexadecimal;
+mod numbers;
+mod replies;
+mod script;
+#[cfg(test)]
+mod tests;
+mod words;
+
+pub use calls::{read_call, write_call};
+pub use fault::TextFault;
+pub use replies::{read_reply, write_reply};
+pub use script::{ScriptFault, read_script};
