@@ -12,9 +12,9 @@ use Rattle.message_codec.specs.declared.words.PortWord.{PortWord}
 use Rattle.message_codec.specs.Words.{items_words, body_words}
 use Rattle.message_codec.proofs.Shapes.{All-head, All-tail}
 use Rattle.name_space.specs.Names.{Names}
-use Rattle.copyin.specs.declared.message.Carried.{Carried}
-use Rattle.copyin.specs.Kept.{marks_of, items_of, body_of, items_given, body_given}
-use Rattle.copyin.specs.Worlds.{WorldView}
+use Rattle.copyin_base.specs.declared.message.Carried.{Carried}
+use Rattle.copyin_base.specs.Kept.{marks_of, items_of, body_of, items_given, body_given}
+use Rattle.copyin_base.specs.Worlds.{WorldView}
 use Rattle.copyin.specs.Judging.{CopiesBody, made_by_all}
 use Rattle.copyin.specs.Plans.{ChangesWords}
 use Rattle.copyin.proofs.Stepping.{Along, stepped, words_append}

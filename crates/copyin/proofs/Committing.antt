@@ -14,14 +14,16 @@ use Rattle.port.specs.Ports.{PortView, PortsView, IsLive, with_port}
 use Rattle.port_set.specs.Sets.{SetsView}
 use Rattle.rights.specs.Ledger.{LedgerView}
 use Rattle.copyin.specs.declared.judge.Plan.{Plan}
-use Rattle.copyin.specs.declared.message.Carried.{Carried}
+use Rattle.copyin_base.specs.declared.message.Carried.{Carried}
 use Rattle.copyin.specs.Judging.{CopiesWord, CopiesReply, CopiesBody, made_by_reply, made_by_all}
-use Rattle.copyin.specs.Kept.{Kept}
+use Rattle.copyin_base.specs.Kept.{Kept}
 use Rattle.copyin.specs.Planned.{CanGo, CopiesAll, IsPlan}
 use Rattle.copyin.specs.Plans.{destination_word, reply_words, ChangesWord, ChangesWords, Commits, option_list, message_for, made_in}
-use Rattle.copyin.specs.Stands.{AreTied, IsTied}
-use Rattle.copyin.specs.Worlds.{WorldView, ports_copied, CopiesRight}
-use Rattle.copyin.proofs.Going.{go_on, four}
+use Rattle.copyin_base.specs.Stands.{AreTied, IsTied}
+use Rattle.copyin_base.specs.Worlds.{WorldView}
+use Rattle.copyin.specs.Copies.{ports_copied, CopiesRight}
+use Rattle.copyin_base.proofs.Spaces.{same_world}
+use Rattle.copyin.proofs.Going.{go_on}
 use Rattle.copyin.proofs.Judging.{goes_by_name}
 use Rattle.copyin.proofs.Keeping.{keeps, live_copied, spare_copied}
 
@@ -243,5 +245,5 @@ commits old mid task parsed written bytes plan p spaces ports new_ports ledger s
       v = v;
       there = ap (λ (ps : PortsView Kept). map.get ps.ports p.plans.judged.port) (sym e) ∙ ap (λ (q : ℕ). map.get ports.ports q) (sym p.port) ∙ found.1;
       spare = ports.spare - 1;
-      rest = four _ _ _ _ _ _ _ _ s (queued v found.1 ∙ same_queued ports mid.ports plan.port p.plans.judged.port v plan.message (message_for bytes p.plans.judged) (ports.spare - 1) e p.port p.message) l (ap (λ (w : WorldView). w.sets) view);
+      rest = same_world _ _ _ _ _ _ _ _ s (queued v found.1 ∙ same_queued ports mid.ports plan.port p.plans.judged.port v plan.message (message_for bytes p.plans.judged) (ports.spare - 1) e p.port p.message) l (ap (λ (w : WorldView). w.sets) view);
     }

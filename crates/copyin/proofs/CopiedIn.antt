@@ -8,10 +8,9 @@ use Rattle.mach_types.specs.declared.rights.Disposition.TheVariants.{CopySend, M
 use Rattle.mach_types.specs.Numbers.{disposition}
 use Rattle.mach_types.specs.Tokens.{Kind, receive, send, send_once, Request, in_task, in_message, in_request, token, is_of, is_held}
 use Rattle.mach_model.specs.State.{State, Target, lookup, held, at}
-use Rattle.mach_model.specs.Dying.{same_place}
-use Rattle.mach_model.specs.Status.{one_if}
+use Rattle.mach_model.specs.Death.{same_place}
+use Rattle.mach_model.specs.ReceiveRight.{one_if}
 use Rattle.mach_model.specs.CopyIn.{CopyRight}
-use Rattle.mach_model.proofs.At.{at_own, at_other}
 use Rattle.mach_model.proofs.Weigh.{both_test, pos_or_zero}
 use Rattle.mach_model.proofs.Moving.{IsMoving}
 use Rattle.mach_model.proofs.CopyingIn.{alive_held, not_held}
@@ -22,14 +21,16 @@ use Rattle.port.specs.Ports.{PortView}
 use Rattle.rights.specs.Ledger.{made}
 use Rattle.rights.specs.declared.RightKind.TheVariants as right
 use Rattle.copyin.specs.declared.copies.Copied.{Copied}
-use Rattle.copyin.specs.declared.message.Mark.TheVariants as mark
-use Rattle.copyin.specs.Kept.{Kept, mark_of}
-use Rattle.copyin.specs.Worlds.{WorldView, port_at, put, ports_copied, ledger_copied, port_copied}
-use Rattle.copyin.specs.Shows.{target_of, HasCount, ShowsCounts, Agrees}
-use Rattle.copyin.proofs.Agreeing.{KeepsPort}
-use Rattle.copyin.proofs.Putting.{put_in, put_same}
-use Rattle.copyin.proofs.Changing.{named_no_set, Rest, target_found, held_by, has_count, changed_agrees}
-use Rattle.copyin.proofs.Counting.{send_made, once_made, ports_same, ports_made, ports_live, port_changed}
+use Rattle.copyin_base.specs.declared.message.Mark.TheVariants as mark
+use Rattle.copyin_base.specs.Kept.{Kept, mark_of}
+use Rattle.copyin_base.specs.Worlds.{WorldView, port_at, put}
+use Rattle.copyin.specs.Copies.{ports_copied, ledger_copied, port_copied}
+use Rattle.copyin_base.specs.Shows.{ShowsPort, target_of, HasCount, ShowsCounts, Agrees}
+use Rattle.copyin_base.proofs.AttributesSet.{IsAt, is_at, is_same}
+use Rattle.copyin_base.proofs.Counting.{right_made}
+use Rattle.copyin_base.proofs.Putting.{put_same}
+use Rattle.copyin_base.proofs.Changing.{named_no_set, Rest, target_found, held_by, has_count, changed_agrees}
+use Rattle.copyin.proofs.PortCopied.{ports_made, ports_live, port_changed}
 
 -- the tables after a right went by the disposition from a name of the space
 abbrev pub after : WorldView → (task name : ℕ) → SpaceView → Disposition → Copied → WorldView
@@ -72,7 +73,7 @@ module _ (w : WorldView) (s : State) (a : Agrees w s) (o k : ℕ) (l : IsMoving 
   pub counted : HasCount entry
   counted = has_count w s a task name (l.naming task) space there entry found
 
-  pub unchanged : s.naming task ≡ put_in (s.naming task) name (Some (target_of entry))
+  pub unchanged : s.naming task ≡ put (s.naming task) name (Some (target_of entry))
   unchanged = sym (put_same (s.naming task) name (target_of entry) stands_for)
 
   pub live_of : (p : ℕ) → port_named entry ≡ Some p → 0 < one_if (has_receive entry) + send_references entry → s.live_port p ≡ true
@@ -99,7 +100,7 @@ module _ (w : WorldView) (s : State) (a : Agrees w s) (o k : ℕ) (l : IsMoving 
     made_held u c q = let z = not_held c q o k kind p u in omega (arith, z)
 
     made_rest : (w2 : WorldView) → w2.ports.made ≡ w.ports.made → ((q : ℕ) → is_some (port_at w2 q) ≡ is_some (port_at w q)) →
-        ((q : ℕ) (v2 : PortView Kept) → port_at w2 q ≡ Some v2 → (v : PortView Kept) × (port_at w q ≡ Some v) × KeepsPort v v2 s made_state q) →
+        ((q : ℕ) (v : PortView Kept) → port_at w2 q ≡ Some v → ShowsPort v made_state q) →
         ((q : ℕ) → ShowsCounts w2 made_state q) → w2.ledger.total ≡ w.ledger.total + 1 → Rest w w2 s made_state task entry (Some entry)
     made_rest w2 made live ports counts total = record {
       rest = refl;
@@ -144,8 +145,7 @@ module _ (w : WorldView) (s : State) (a : Agrees w s) (o k : ℕ) (l : IsMoving 
             tokens = λ h. omega arith;
           };
           agrees = changed_agrees w s a task name (l.naming task) space there entry found (Some entry) space.room w.ports (made w.ledger p right.Send 1) t unchanged
-              (made_rest send p named s.make_send w2 refl (λ q. refl) (ports_same w s a t refl refl refl)
-              (send_made w s a p (in_message o k) live t refl w2 refl refl) refl);
+              (made_rest send p named s.make_send w2 refl (λ q. refl) a.ports (right_made w.ledger s.live_port s.ledger a.counts send p (in_message o k) live) refl);
         }
 
     pub makes_once : (holds : has_receive entry ≡ true) → Goes w s o k task name space MakeSendOnce (record { left = Some entry; mark = mark.Port p })
@@ -168,8 +168,7 @@ module _ (w : WorldView) (s : State) (a : Agrees w s) (o k : ℕ) (l : IsMoving 
             tokens = λ h. omega arith;
           };
           agrees = changed_agrees w s a task name (l.naming task) space there entry found (Some entry) space.room w.ports (made w.ledger p right.SendOnce 1) t unchanged
-              (made_rest send_once p named s.make_send w2 refl (λ q. refl) (ports_same w s a t refl refl refl)
-              (once_made w s a p (in_message o k) live t refl w2 refl refl) refl);
+              (made_rest send_once p named s.make_send w2 refl (λ q. refl) a.ports (right_made w.ledger s.live_port s.ledger a.counts send_once p (in_message o k) live) refl);
         }
 
     pub there_port : s.live_port p ≡ true → (v : PortView Kept) × (port_at w p ≡ Some v)
@@ -204,8 +203,8 @@ module _ (w : WorldView) (s : State) (a : Agrees w s) (o k : ℕ) (l : IsMoving 
           agrees = changed_agrees w s a task name (l.naming task) space there entry found (Some entry) space.room (port_copied MakeSend p w.ports (map.get w.ports.ports p))
               (made w.ledger p right.Send 1) t unchanged
               (made_rest send p named f w2 (ports_made w s a MakeSend p v.0 v.1) (ports_live w s a MakeSend p v.0 v.1)
-              (port_changed w s a MakeSend p v.0 v.1 t
-              (ap (λ (n : ℕ). (n + 1) % 2 ^ 32) b.make_send ∙ sym (at_own s.make_send p ((s.make_send p + 1) % 2 ^ 32))) b.sequence b.sets
-              (λ q not. (at_other s.make_send p ((s.make_send p + 1) % 2 ^ 32) q not, refl, refl)))
-              (send_made w s a p (in_message o k) live t refl w2 refl refl) refl);
+              (port_changed w s a MakeSend p v.0 v.1 t refl
+              (subst (IsAt s.make_send f p) (sym (ap (λ (n : ℕ). (n + 1) % 2 ^ 32) b.make_send)) (is_at s.make_send p ((s.make_send p + 1) % 2 ^ 32)))
+              (is_same s.sequence p _ b.sequence) (is_same s.sets_of p _ b.sets))
+              (right_made w.ledger s.live_port s.ledger a.counts send p (in_message o k) live) refl);
         }

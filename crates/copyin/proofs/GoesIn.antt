@@ -16,15 +16,13 @@ use Rattle.name_space.specs.Entry.{port_named, has_receive, send_references}
 use Rattle.name_space.specs.Names.{SpaceView}
 use Rattle.port.specs.Ports.{PortView}
 use Rattle.copyin.specs.declared.copies.Copied.{Copied}
-use Rattle.copyin.specs.declared.message.Mark.TheVariants as mark
-use Rattle.copyin.specs.Kept.{Kept}
+use Rattle.copyin_base.specs.declared.message.Mark.TheVariants as mark
+use Rattle.rights.specs.Ledger.{LedgerView}
+use Rattle.copyin_base.specs.Kept.{Kept}
 use Rattle.copyin.specs.Copies.{copied_from, one_less}
-use Rattle.copyin.specs.Worlds.{WorldView, port_at}
-use Rattle.copyin.specs.Shows.{target_of, HasCount, Agrees}
-use Rattle.copyin.proofs.Agreeing.{KeepsPort}
-use Rattle.copyin.proofs.Putting.{put_in}
-use Rattle.copyin.proofs.Changing.{Rest, changed_agrees}
-use Rattle.copyin.proofs.Counting.{none_made, ports_same}
+use Rattle.copyin_base.specs.Worlds.{WorldView, port_at, put}
+use Rattle.copyin_base.specs.Shows.{CountsAgree, ShowsPort, target_of, HasCount, Agrees}
+use Rattle.copyin_base.proofs.Changing.{Rest, changed_agrees}
 use Rattle.copyin.proofs.CopiedIn.{Goes, after, the_same, no_entry, stands_for, own_held, counted, unchanged, copies_send, makes_send, makes_once}
 use Rattle.copyin.proofs.MovedIn.{LeftIs, sends_moved, once_moves, receive_moves}
 
@@ -44,7 +42,7 @@ module _ (w : WorldView) (s : State) (a : Agrees w s) (o k : ℕ) (l : IsMoving 
   abbrev left_by : Bool → Option Entry
   left_by b = if b then Some (DeadName (n - 1)) else None
 
-  fewer_named : (b : Bool) → (fewer b).naming task ≡ put_in (s.naming task) name (option_map target_of (left_by b))
+  fewer_named : (b : Bool) → (fewer b).naming task ≡ put (s.naming task) name (option_map target_of (left_by b))
   fewer_named true = at_own s.naming task (map.insert (s.naming task) name (Target.dead (n - 1)))
   fewer_named false = at_own s.naming task (map.remove (s.naming task) name)
 
@@ -67,7 +65,7 @@ module _ (w : WorldView) (s : State) (a : Agrees w s) (o k : ℕ) (l : IsMoving 
     made = ap (λ x. x.made) ports;
     live = λ p. ap (λ x. is_some (map.get x.ports p)) ports;
     ports = λ p v2 is. same_ports b p v2 (ap (λ x. map.get x.ports p) (sym ports) ∙ is);
-    counts = none_made w s a w2 (fewer b) ledger (live_is b) (λ c q. refl);
+    counts = λ q. subst (λ (x : LedgerView). CountsAgree x (fewer b).live_port s.ledger q) (sym ledger) (counts_are b q);
     total = ap (λ x. x.total) ledger ∙ a.total;
     requests = λ r c q. refl;
     no_set = dead_no_set n;
@@ -77,17 +75,17 @@ module _ (w : WorldView) (s : State) (a : Agrees w s) (o k : ℕ) (l : IsMoving 
       shape_is true = refl
       shape_is false = refl
 
-      live_is : (x : Bool) → (fewer x).live_port ≡ s.live_port
-      live_is true = refl
-      live_is false = refl
+      counts_are : (x : Bool) (q : ℕ) → CountsAgree w.ledger (fewer x).live_port s.ledger q
+      counts_are true = a.counts
+      counts_are false = a.counts
 
       others : (x : Bool) (u : ℕ) → (u ≡ task → ⊥) → (fewer x).naming u ≡ s.naming u
       others true u not = at_other s.naming task (map.insert (s.naming task) name (Target.dead (n - 1))) u not
       others false u not = at_other s.naming task (map.remove (s.naming task) name) u not
 
-      same_ports : (x : Bool) (p : ℕ) (v : PortView Kept) → port_at w p ≡ Some v → (v1 : PortView Kept) × (port_at w p ≡ Some v1) × KeepsPort v1 v s (fewer x) p
-      same_ports true = ports_same w s a (fewer true) refl refl refl
-      same_ports false = ports_same w s a (fewer false) refl refl refl
+      same_ports : (x : Bool) (p : ℕ) (v : PortView Kept) → port_at w p ≡ Some v → ShowsPort v (fewer x) p
+      same_ports true = a.ports
+      same_ports false = a.ports
 
   abbrev fewer_left : Option Entry
   fewer_left = one_less DeadName None n
@@ -122,8 +120,8 @@ module _ (w : WorldView) (s : State) (a : Agrees w s) (o k : ℕ) (l : IsMoving 
           own_count = λ e is. subst HasCount (sym (the_same (DeadName n) e is)) tt;
           made = refl;
           live = λ p. refl;
-          ports = λ p v is. ports_same w s a s refl refl refl p v is;
-          counts = none_made w s a (after w task name space CopySend (record { left = Some (DeadName n); mark = mark.Dead })) s refl refl (λ c q. refl);
+          ports = a.ports;
+          counts = a.counts;
           total = a.total;
           requests = λ r c q. refl;
           no_set = dead_no_set n;

@@ -1,5 +1,5 @@
 -- Words carried out one after the other.
-use Rattle.std.proofs.Common.{◌≡◌, ℕ, ◌+◌, ◌<◌, Option, Some, None, IfSome, List, [], ◌∷◌, Bor, zero, suc, get_or, drop, length, refl, sym, ap, subst, ◌∙◌, inl, inr, arith}
+use Rattle.std.proofs.Common.{◌≡◌, ℕ, ◌+◌, ◌<◌, Option, Some, None, IfSome, List, [], ◌∷◌, Bor, get_or, drop, length, refl, sym, ap, subst, ◌∙◌, inl, inr, arith}
 use Rattle.std.specs.Prelude.{◌≢◌, slice_get, slice_set, MatchOption}
 use Rattle.std.specs.List.{IsFirstAndRest}
 use Rattle.std.proofs.lemmas.Bool.Decides.{eqb_tells}
@@ -8,27 +8,27 @@ use Rattle.std.specs.FinMap as map
 use Rattle.mach_types.specs.Numbers.{null_word, dead_word}
 use Rattle.message_codec.specs.declared.words.PortWord.{PortWord}
 use Rattle.name_space.specs.declared.Entry.{Entry}
-use Rattle.name_space.specs.Entry.{port_named}
+use Rattle.name_space.specs.Entry.{port_named, port_of}
 use Rattle.name_space.specs.Names.{Names, SpaceView, port_at}
 use Rattle.port.specs.Ports.{PortsView}
 use Rattle.port_set.specs.Sets.{SetsView}
 use Rattle.rights.specs.Ledger.{LedgerView}
 use Rattle.copyin.specs.declared.copies.Copied.{Copied}
-use Rattle.copyin.specs.declared.message.Carried.{Carried}
-use Rattle.copyin.specs.declared.message.Mark.{Mark}
-use Rattle.copyin.specs.Copies.{copied_from}
+use Rattle.copyin_base.specs.declared.message.Carried.{Carried}
+use Rattle.copyin_base.specs.declared.message.Mark.{Mark}
+use Rattle.copyin.specs.Copies.{copied_from, ports_copied, ledger_copied, CopiesRight}
 use Rattle.copyin.specs.Judging.{made_by, made_by_mark}
-use Rattle.copyin.specs.Kept.{Kept}
+use Rattle.copyin_base.specs.Kept.{Kept}
 use Rattle.copyin.specs.Planned.{CanGo, CanCopy, CopiesAll}
 use Rattle.copyin.specs.Plans.{ChangesWord, ChangesWords}
-use Rattle.copyin.specs.Stands.{AreTied, port_of}
-use Rattle.copyin.specs.Worlds.{WorldView, entry_at, put, ports_copied, ledger_copied, CopiesRight}
+use Rattle.copyin_base.specs.Stands.{AreTied}
+use Rattle.copyin_base.specs.Worlds.{WorldView, entry_at, put}
+use Rattle.copyin_base.specs.Changes.{PutsLeft}
+use Rattle.copyin_base.proofs.Gets.{get-set_same, same_found}
+use Rattle.copyin_base.proofs.Spaces.{same_world}
 use Rattle.copyin.proofs.Judging.{by_name}
 use Rattle.copyin.proofs.Keeping.{keeps, total_copied, entered_copied, live_copied}
 use Rattle.copyin.proofs.Overlays.{get_put, get_put_other}
-
-pub same_value : {X : Type 0} (o : Option X) (x y : X) → o ≡ Some x → o ≡ Some y → x ≡ y
-same_value o x y a b = let e : Some x ≡ Some y = sym a ∙ b in cc
 
 no_some : {X : Type 0} (x : X) → None ≡ Some x → ⊥
 no_some x e = cc
@@ -57,32 +57,20 @@ pub same_port : (names : Names) (name : ℕ) (c : Carried) (e : Entry) (k k' : C
     → IfSome k'.left (λ left. (p : ℕ) → port_named left ≡ Some p → port_at names name ≡ Some p)
 same_port names name c e k k' found is same = rw (same, found) ((keeps c.given e k is).named)
 
-pub four : (a a' : List SpaceView) (b b' : PortsView Kept) (c c' : LedgerView) (d d' : SetsView) → a ≡ a' → b ≡ b' → c ≡ c' → d ≡ d'
-    → ◌≡◌ {A = WorldView} (record { spaces = a; ports = b; ledger = c; sets = d }) (record { spaces = a'; ports = b'; ledger = c'; sets = d' })
-four a a' b b' c c' d d' x y z u = rw (x, y, z, u) refl
-
--- what is read at a place is what stands there
-pub read_there : {A : Type 0} (xs : List A) (i : ℕ) (x y : A) → slice_get xs i ≡ Some x → y ≡ get_or xs i y → y ≡ x
-read_there [] i x y e h = absurd (let e' : None ≡ Some x = e in no_some x e')
-read_there (z ∷ xs) zero x y e h = let e' : Some z ≡ Some x = e in let h' : y ≡ z = h in cc
-read_there (z ∷ xs) (suc i) x y e h = read_there xs i x y e h
-
 pub same_left : (w : WorldView) (task name : ℕ) (c : Carried) (can : CanCopy w task name c) (found : Option Entry) (e : Entry) (copied : Option Copied) (k : Copied)
     → found ≡ entry_at w task name → found ≡ Some e → copied ≡ copied_from c.given e → copied ≡ Some k → k ≡ can.copied
 same_left w task name c can found e copied k a b x y =
     let at : entry_at w task name ≡ Some can.entry = rw can.there can.found in
-    let ee : e ≡ can.entry = same_value _ _ _ b (a ∙ at) in
-    same_value _ _ _ y (x ∙ ap (λ (z : Entry). copied_from c.given z) ee ∙ can.is)
+    let ee : e ≡ can.entry = same_found found e can.entry b (a ∙ at) in
+    same_found _ _ _ y (x ∙ ap (λ (z : Entry). copied_from c.given z) ee ∙ can.is)
 
-pub copies_right : (old : WorldView) (task name : ℕ) (c : Carried) (can : CanCopy old task name c) (spaces : List SpaceView) (ports new_ports : PortsView Kept) (ledger new_ledger : LedgerView)
-    (sets : SetsView) (i : ℕ) (now after : SpaceView) (k : Copied) → ◌≡◌ {A = WorldView} (record { spaces = spaces; ports = ports; ledger = ledger; sets = sets }) old → i ≡ task → now ≡ can.space → k ≡ can.copied
-    → after ≡ record now { names = put now.names name k.left } → new_ports ≡ ports_copied c.given k.mark ports → new_ledger ≡ ledger_copied c.given k.mark ledger
-    → CopiesRight old task c.given name c.mark (record { spaces = slice_set spaces i after; ports = new_ports; ledger = new_ledger; sets = sets })
-copies_right old task name c can spaces ports new_ports ledger new_ledger sets i now after k view index here kk a p l =
-    let e1 : spaces ≡ old.spaces = ap (λ (w : WorldView). w.spaces) view in
-    let e2 : ports ≡ old.ports = ap (λ (w : WorldView). w.ports) view in
-    let e3 : ledger ≡ old.ledger = ap (λ (w : WorldView). w.ledger) view in
-    let after_is : after ≡ record can.space { names = put can.space.names name can.copied.left } = a ∙ rw (here, kk) refl in
+pub copies_right : (old mid : WorldView) (task name : ℕ) (c : Carried) (can : CanCopy old task name c) (k : Copied) → k ≡ can.copied → PutsLeft old task name k.left mid →
+    (spaces : List SpaceView) (ports : PortsView Kept) (ledger : LedgerView) (sets : SetsView) → ◌≡◌ {A = WorldView} (record { spaces = spaces; ports = ports; ledger = ledger; sets = sets }) mid →
+    (new_ports : PortsView Kept) (new_ledger : LedgerView) → new_ports ≡ ports_copied c.given k.mark ports → new_ledger ≡ ledger_copied c.given k.mark ledger →
+    CopiesRight old task c.given name c.mark (record { spaces = spaces; ports = new_ports; ledger = new_ledger; sets = sets })
+copies_right old mid task name c can k kk puts spaces ports ledger sets view new_ports new_ledger p l =
+    let is = view ∙ puts.rest in
+    let here : puts.space ≡ can.space = same_found (slice_get old.spaces task) puts.space can.space puts.there can.there in
     record {
       space = can.space;
       there = can.there;
@@ -91,7 +79,9 @@ copies_right old task name c can spaces ports new_ports ledger new_ledger sets i
       copied = can.copied;
       is = can.is;
       mark_is = can.mark_is;
-      rest = four _ _ _ _ _ _ _ _ (rw (e1, index, after_is) refl) (p ∙ rw (e2, kk) refl) (l ∙ rw (e3, kk) refl) (ap (λ (w : WorldView). w.sets) view);
+      rest = same_world _ _ _ _ _ _ _ _ (ap (λ (w : WorldView). w.spaces) is ∙ rw (here, kk) refl)
+          (p ∙ rw kk refl ∙ ap (λ (w : WorldView). ports_copied c.given can.copied.mark w.ports) is) (l ∙ rw kk refl ∙ ap (λ (w : WorldView). ledger_copied c.given can.copied.mark w.ledger) is)
+          (ap (λ (w : WorldView). w.sets) is);
     }
 
 -- ---- and what is left to do
@@ -119,11 +109,6 @@ tied_after names ports ledger name c e k m tied null dead found is = record {
       | inr h ↦ (e', sym (get_put_other names name k.left n h.1) ∙ at, held)
     ]
 
-get-set_same : {A : Type 0} (xs : List A) (i : ℕ) (y x : A) → slice_get xs i ≡ Some x → slice_get (slice_set xs i y) i ≡ Some y
-get-set_same [] i y x e = absurd (let e' : None ≡ Some x = e in no_some x e')
-get-set_same (z ∷ xs) zero y x e = refl
-get-set_same (z ∷ xs) (suc i) y x e = get-set_same xs i y x e
-
 -- The first word went; the others can go.
 pub go_on : (old new : WorldView) (task : ℕ) (w : PortWord) (ws : List PortWord) (c : Carried) (cs : List Carried) → CanGo old task (w ∷ ws) (c ∷ cs) → ChangesWord old task w c new
     → CanGo new task ws cs
@@ -148,13 +133,13 @@ go_on old new task w ws c cs go ch = elim (eqb_tells w.name null_word) [
     goes : w.name ≢ null_word → w.name ≢ dead_word → CopiesRight old task c.given w.name c.mark new → CanGo new task ws cs
     goes null dead r =
         let n = by_name go.space.names w c go.copies.0 null dead go.copies.1 in
-        let here : r.space ≡ go.space = same_value _ _ _ r.there go.there in
-        let ee : r.entry ≡ n.entry = same_value _ _ _ r.found (ap (λ (s : SpaceView). map.get s.names w.name) here ∙ n.found) in
-        let kk : r.copied ≡ n.copied = same_value _ _ _ r.is (ap (λ (e : Entry). copied_from c.given e) ee ∙ n.is) in
+        let here : r.space ≡ go.space = same_found _ _ _ r.there go.there in
+        let ee : r.entry ≡ n.entry = same_found _ _ _ r.found (ap (λ (s : SpaceView). map.get s.names w.name) here ∙ n.found) in
+        let kk : r.copied ≡ n.copied = same_found _ _ _ r.is (ap (λ (e : Entry). copied_from c.given e) ee ∙ n.is) in
         let after : SpaceView = record go.space { names = put go.space.names w.name n.copied.left } in
         let m = n.copied.mark in
         let is : new ≡ record old { spaces = slice_set old.spaces task after; ports = ports_copied c.given m old.ports; ledger = ledger_copied c.given m old.ledger } =
-        r.rest ∙ four _ _ _ _ _ _ _ _ (rw (here, kk) refl) (rw kk refl) (rw kk refl) refl in
+        r.rest ∙ same_world _ _ _ _ _ _ _ _ (rw (here, kk) refl) (rw kk refl) (rw kk refl) refl in
         let total = total_copied c.given m old.ledger in
         let one : made_by c ≡ made_by_mark c.given m = ap (λ (x : Mark). made_by_mark c.given x) n.mark in
         subst (λ (x : WorldView). CanGo x task ws cs) (sym is) (record {

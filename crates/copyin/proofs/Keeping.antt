@@ -9,17 +9,15 @@ use Rattle.mach_types.specs.declared.rights.Disposition.{Disposition}
 use Rattle.mach_types.specs.declared.rights.Disposition.TheVariants.{MoveReceive, MoveSend, MoveSendOnce, CopySend, MakeSend, MakeSendOnce}
 use Rattle.name_space.specs.declared.Entry.{Entry}
 use Rattle.name_space.specs.declared.Entry.TheVariants as entry
-use Rattle.name_space.specs.Entry.{port_named}
+use Rattle.name_space.specs.Entry.{port_named, port_of}
 use Rattle.port.specs.Ports.{PortView, PortsView, IsLive}
 use Rattle.rights.specs.Ledger.{LedgerView, IsEntered}
 use Rattle.copyin.specs.declared.copies.Copied.{Copied}
-use Rattle.copyin.specs.declared.message.Mark.{Mark}
-use Rattle.copyin.specs.declared.message.Mark.TheVariants as mark
-use Rattle.copyin.specs.Copies.{copied_from, one_less}
+use Rattle.copyin_base.specs.declared.message.Mark.{Mark}
+use Rattle.copyin_base.specs.declared.message.Mark.TheVariants as mark
+use Rattle.copyin.specs.Copies.{copied_from, one_less, ports_copied, port_copied, ledger_copied}
 use Rattle.copyin.specs.Judging.{made_by_mark}
-use Rattle.copyin.specs.Kept.{Kept}
-use Rattle.copyin.specs.Stands.{port_of}
-use Rattle.copyin.specs.Worlds.{ports_copied, port_copied, ledger_copied}
+use Rattle.copyin_base.specs.Kept.{Kept}
 
 -- What is left is for the port for which the entry was, and so is the right that goes.
 pub record Keeps (e : Entry) (k : Copied) : Type 0 where

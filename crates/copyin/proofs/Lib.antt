@@ -1,9 +1,4 @@
-pub mod Gets
-pub mod Agreeing
-pub mod Taking
-pub mod Putting
-pub mod Changing
-pub mod Counting
+pub mod PortCopied
 pub mod CopiedIn
 pub mod MovedIn
 pub mod GoesIn
@@ -19,6 +14,5 @@ pub mod Overlays
 pub mod Judging
 pub mod Keeping
 pub mod Going
-pub mod Tied
 pub mod Planning
 pub mod Committing

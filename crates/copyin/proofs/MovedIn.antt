@@ -5,9 +5,9 @@ use Rattle.std.specs.Option.{option_map}
 use Rattle.std.specs.FinMap as map
 use Rattle.mach_types.specs.declared.rights.Disposition.TheVariants.{MoveReceive, MoveSend, MoveSendOnce}
 use Rattle.mach_types.specs.Tokens.{Kind, receive, send, send_once, in_task, in_message, in_request, Token, token, count, is_of, is_held, Moves}
-use Rattle.mach_model.specs.State.{State, Target, lookup, held, at, without_name}
-use Rattle.mach_model.specs.Dying.{same_place}
-use Rattle.mach_model.specs.Status.{one_if}
+use Rattle.mach_model.specs.State.{State, Target, lookup, held, at}
+use Rattle.mach_model.specs.Death.{same_place}
+use Rattle.mach_model.specs.ReceiveRight.{one_if}
 use Rattle.mach_model.specs.CopyIn.{name_kept}
 use Rattle.mach_model.proofs.At.{at_own, at_other}
 use Rattle.mach_model.proofs.Weigh.{length-weigh}
@@ -19,15 +19,17 @@ use Rattle.name_space.specs.Entry.{port_named, has_receive, send_references}
 use Rattle.name_space.specs.Names.{SpaceView}
 use Rattle.port.specs.Ports.{PortView}
 use Rattle.copyin.specs.declared.copies.Copied.{Copied}
-use Rattle.copyin.specs.declared.message.Mark.TheVariants as mark
-use Rattle.copyin.specs.Kept.{Kept}
-use Rattle.copyin.specs.Worlds.{WorldView, port_at, port_copied}
-use Rattle.copyin.specs.Shows.{target_of, HasCount, Agrees}
-use Rattle.copyin.proofs.Agreeing.{KeepsPort}
-use Rattle.copyin.proofs.Putting.{put_in}
-use Rattle.copyin.proofs.Changing.{named_no_set, Rest, changed_agrees}
-use Rattle.copyin.proofs.Counting.{none_made, ports_same, ports_made, ports_live, port_changed}
-use Rattle.copyin.proofs.Taking.{Without, take_held}
+use Rattle.copyin_base.specs.declared.message.Mark.TheVariants as mark
+use Rattle.rights.specs.Ledger.{LedgerView}
+use Rattle.copyin_base.specs.Kept.{Kept}
+use Rattle.copyin_base.specs.Worlds.{WorldView, port_at, put}
+use Rattle.copyin.specs.Copies.{port_copied}
+use Rattle.copyin_base.specs.Shows.{CountsAgree, ShowsPort, target_of, HasCount, Agrees}
+use Rattle.copyin_base.proofs.AttributesSet.{is_at}
+use Rattle.copyin_base.proofs.Counting.{counts_same}
+use Rattle.copyin_base.proofs.Changing.{named_no_set, Rest, changed_agrees}
+use Rattle.copyin.proofs.PortCopied.{ports_made, ports_live, port_changed}
+use Rattle.copyin_base.proofs.Taking.{Without, take_held}
 use Rattle.copyin.proofs.CopiedIn.{Goes, after, no_entry, far, kept_task, kept_entry, stands_for, own_held, unchanged, there_port}
 
 -- what is left where the name stays, or goes
@@ -66,11 +68,11 @@ module _ (w : WorldView) (s : State) (a : Agrees w s) (o k : ℕ) (l : IsMoving 
     moved_of : (c : Kind) (q : ℕ) → count (is_of c q) ledger ≡ count (is_of c q) s.ledger
     moved_of c q = let m = moves (λ x. if is_of c q x then 1 else 0) in omega (arith, m)
 
-    naming_own : (x : Bool) → LeftIs entry x left → (kept x).naming task ≡ put_in (s.naming task) name (option_map target_of left)
+    naming_own : (x : Bool) → LeftIs entry x left → (kept x).naming task ≡ put (s.naming task) name (option_map target_of left)
     naming_own true h =
-        unchanged w s a o k l task name space there entry found ∙ ap (λ (g : Target). put_in (s.naming task) name (Some g)) (sym h.2)
-        ∙ ap (λ (y : Option Entry). put_in (s.naming task) name (option_map target_of y)) (sym h.1)
-    naming_own false h = at_own s.naming task (map.remove (s.naming task) name) ∙ ap (λ (y : Option Entry). put_in (s.naming task) name (option_map target_of y)) (sym h)
+        unchanged w s a o k l task name space there entry found ∙ ap (λ (g : Target). put (s.naming task) name (Some g)) (sym h.2)
+        ∙ ap (λ (y : Option Entry). put (s.naming task) name (option_map target_of y)) (sym h.1)
+    naming_own false h = at_own s.naming task (map.remove (s.naming task) name) ∙ ap (λ (y : Option Entry). put (s.naming task) name (option_map target_of y)) (sym h)
 
     shape_is : (x : Bool) → kept x ≡ shape s (kept x)
     shape_is true = refl
@@ -87,7 +89,7 @@ module _ (w : WorldView) (s : State) (a : Agrees w s) (o k : ℕ) (l : IsMoving 
         ((q : ℕ) → (port_named entry ≡ Some q → ⊥) → (held moved_state task receive q ≡ held s task receive q) × (held moved_state task send q ≡ held s task send q)) →
         ((e : Entry) → left ≡ Some e → HasCount e) → ((set : ℕ) → target_of entry ≡ Target.set set → ⊥) → w2.ledger ≡ w.ledger →
         w2.ports.made ≡ w.ports.made → ((q : ℕ) → is_some (port_at w2 q) ≡ is_some (port_at w q)) →
-        ((q : ℕ) (v2 : PortView Kept) → port_at w2 q ≡ Some v2 → (v : PortView Kept) × (port_at w q ≡ Some v) × KeepsPort v v2 s moved_state q) →
+        ((q : ℕ) (v : PortView Kept) → port_at w2 q ≡ Some v → ShowsPort v moved_state q) →
         Rest w w2 s moved_state task entry left
     moved_rest w2 own other count_is no_set same_ledger made live ports = record {
       rest = shape_is b;
@@ -99,7 +101,7 @@ module _ (w : WorldView) (s : State) (a : Agrees w s) (o k : ℕ) (l : IsMoving 
       made = made;
       live = live;
       ports = ports;
-      counts = none_made w s a w2 moved_state same_ledger (live_same b) moved_of;
+      counts = λ q. subst (λ (x : LedgerView). CountsAgree x moved_state.live_port ledger q) (sym same_ledger) (subst (λ (f : ℕ → Bool). CountsAgree w.ledger f ledger q) (sym (live_same b)) (counts_same w.ledger s.live_port s.ledger a.counts ledger moved_of q));
       total = let t = ap (λ x. x.total) same_ledger in let m = moves (λ x. 1) in omega (arith, t, a.total, m, length-weigh s.ledger, length-weigh ledger);
       requests = λ r c q.
           let m = moves (λ x. if is_of c q x && same_place (in_request r) x.place then 1 else 0) in
@@ -111,7 +113,7 @@ module _ (w : WorldView) (s : State) (a : Agrees w s) (o k : ℕ) (l : IsMoving 
         live_same true = refl
         live_same false = refl
 
-    pub moved_named : moved_state.naming task ≡ put_in (s.naming task) name (option_map target_of left)
+    pub moved_named : moved_state.naming task ≡ put (s.naming task) name (option_map target_of left)
     moved_named = naming_own b is_left
 
   -- ---- a send reference moves
@@ -176,9 +178,9 @@ module _ (w : WorldView) (s : State) (a : Agrees w s) (o k : ℕ) (l : IsMoving 
         rest_is false e = ap (λ (y : Bool). record (name_kept y task name s) { ledger = t.ledger }) (sym e)
 
         kept_ports : (x : Bool) → (q : ℕ) (v : PortView Kept) → port_at w q ≡ Some v →
-            (v1 : PortView Kept) × (port_at w q ≡ Some v1) × KeepsPort v1 v s (record (name_kept x task name s) { sets_of = s.sets_of; make_send = s.make_send; sequence = s.sequence; ledger = t.ledger }) q
-        kept_ports true = ports_same w s a (record s { ledger = t.ledger }) refl refl refl
-        kept_ports false = ports_same w s a (record (without_name task name s) { ledger = t.ledger }) refl refl refl
+            ShowsPort v (record (name_kept x task name s) { sets_of = s.sets_of; make_send = s.make_send; sequence = s.sequence; ledger = t.ledger }) q
+        kept_ports true = a.ports
+        kept_ports false = a.ports
 
   -- ---- a send-once right moves
 
@@ -214,7 +216,7 @@ module _ (w : WorldView) (s : State) (a : Agrees w s) (o k : ℕ) (l : IsMoving 
               (moved_named send_once p once_some false None refl s.sets_of s.make_send s.sequence)
               (moved_rest send_once p once_some false None refl s.sets_of s.make_send s.sequence (after w task name space MoveSendOnce c)
               (λ e q is. absurd (no_entry e is)) (λ q not. (others_held receive q refl, others_held send q refl)) (λ e is. absurd (no_entry e is))
-              (λ set e. once_no_set p set (ap target_of (sym is_once) ∙ e)) refl refl (λ q. refl) (ports_same w s a once_state refl refl refl));
+              (λ set e. once_no_set p set (ap target_of (sym is_once) ∙ e)) refl refl (λ q. refl) a.ports);
         }
 
   -- ---- the receive right moves
@@ -283,6 +285,5 @@ module _ (w : WorldView) (s : State) (a : Agrees w s) (o k : ℕ) (l : IsMoving 
               (moved_rest receive p receive_held b left is_left f1 f2 f3 (after w task name space MoveReceive c) left_held
               (λ q not. not_here q (λ e. not (named ∙ ap Some (sym e)))) (λ e is. (left_is e is).0) (named_no_set entry p named) refl
               (ports_made w s a MoveReceive p v.0 v.1) (ports_live w s a MoveReceive p v.0 v.1)
-              (port_changed w s a MoveReceive p v.0 v.1 receive_state (sym (at_own s.make_send p 0)) (sym (at_own s.sequence p 0)) (sym (at_own s.sets_of p []))
-              (λ q not. (at_other s.make_send p 0 q not, at_other s.sequence p 0 q not, at_other s.sets_of p [] q not))));
+              (port_changed w s a MoveReceive p v.0 v.1 receive_state (shape_is receive p receive_held b left is_left f1 f2 f3 b) (is_at s.make_send p 0) (is_at s.sequence p 0) (is_at s.sets_of p [])));
         }

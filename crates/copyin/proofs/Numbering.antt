@@ -9,7 +9,7 @@ use Rattle.mach_types.specs.declared.rights.Disposition.TheVariants.{MoveReceive
 use Rattle.mach_types.specs.Numbers.{disposition, disposition_number, kind_sent}
 use Rattle.mach_types.specs.Tokens.{send}
 use Rattle.mach_types.specs.Grammar.{NamesPorts}
-use Rattle.copyin.specs.Kept.{kind_of}
+use Rattle.copyin_base.specs.Kept.{kind_of}
 
 -- a disposition is that of its number
 pub of_number : (d : Disposition) → disposition (disposition_number d) ≡ Some d

@@ -14,7 +14,7 @@ use Rattle.mach_model.proofs.Names.{get_own, get_other, removed_own}
 use Rattle.name_space.specs.declared.Entry.{Entry}
 use Rattle.name_space.specs.Names.{Names}
 use Rattle.copyin.specs.Overlays.{over, Overlays}
-use Rattle.copyin.specs.Worlds.{put}
+use Rattle.copyin_base.specs.Worlds.{put}
 
 not_at : (a b : ℕ) → b ≢ a → is_at (nat_cmp a) b ≡ false
 not_at a b not = go (nat_cmp a b) refl

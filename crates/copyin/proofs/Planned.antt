@@ -11,7 +11,7 @@ use Rattle.mach_types.specs.Messages.{Message, to_port}
 use Rattle.mach_types.specs.Messages.{Mark as MachineMark}
 use Rattle.mach_model.specs.State.{State, Target, lookup}
 use Rattle.mach_model.specs.CopyIn.{CopyRight, CopyReply}
-use Rattle.mach_model.specs.Sending.{Copied}
+use Rattle.mach_model.specs.Send.{Copied}
 use Rattle.mach_model.proofs.Moving.{moving, shape, shape-trans}
 use Rattle.mach_model.proofs.Carrying.{NoneMoved, none_moved}
 use Rattle.message_codec.specs.declared.text.Parsed.{Parsed}
@@ -20,10 +20,11 @@ use Rattle.message_codec.specs.Parses.{Parses}
 use Rattle.message_codec.specs.Words.{body_words}
 use Rattle.name_space.specs.declared.Entry.{Entry}
 use Rattle.name_space.specs.Names.{Names, SpaceView}
-use Rattle.copyin.specs.declared.message.Carried.{Carried}
-use Rattle.copyin.specs.Kept.{mark_of, reply_of, message_of}
-use Rattle.copyin.specs.Worlds.{WorldView, entry_in, CopiesRight}
-use Rattle.copyin.specs.Shows.{target_of, Shows}
+use Rattle.copyin_base.specs.declared.message.Carried.{Carried}
+use Rattle.copyin_base.specs.Kept.{mark_of, reply_of, message_of}
+use Rattle.copyin_base.specs.Worlds.{WorldView, entry_in}
+use Rattle.copyin.specs.Copies.{CopiesRight}
+use Rattle.copyin_base.specs.Shows.{target_of, Shows}
 use Rattle.copyin.specs.Judging.{CopiesReply, made_by_reply}
 use Rattle.copyin.specs.Plans.{destination_word, reply_words, Judged, made_in, message_for, ChangesWord, ChangesWords, option_list}
 use Rattle.copyin.proofs.Stepping.{Along, Went, went, stepped, words_append}

@@ -24,11 +24,11 @@ use Rattle.copyin.specs.declared.judge.Rights.{Rights}
 use Rattle.copyin.specs.declared.judge.Words.{Words}
 use Rattle.copyin.specs.Goes.{AreGiven, LeadsNowhere, GoAll, CannotGo, made_by_rights}
 use Rattle.copyin.specs.Judging.{CopiesName, CopiesReply, CopiesBody, BodyIsBad}
-use Rattle.copyin.specs.Kept.{Kept}
+use Rattle.copyin_base.specs.Kept.{Kept}
 use Rattle.copyin.specs.Planned.{AreWords}
 use Rattle.copyin.specs.Plans.{destination_word, reply_words, Judged, HasSlot, HasNoSlot, CannotPlan, message_for}
-use Rattle.copyin.specs.Stands.{AreTied}
-use Rattle.copyin.specs.Worlds.{WorldView}
+use Rattle.copyin_base.specs.Stands.{AreTied}
+use Rattle.copyin_base.specs.Worlds.{WorldView}
 use Rattle.copyin.proofs.Keeping.{keeps}
 
 -- ---- the words of a text have dispositions

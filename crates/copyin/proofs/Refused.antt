@@ -6,21 +6,21 @@ use Rattle.mach_types.specs.declared.rights.Disposition.{Disposition}
 use Rattle.mach_types.specs.declared.rights.Disposition.TheVariants.{MoveReceive, MoveSend, MoveSendOnce, CopySend, MakeSend, MakeSendOnce}
 use Rattle.mach_types.specs.Tokens.{receive, send}
 use Rattle.mach_model.specs.State.{State, Target, lookup, held}
-use Rattle.mach_model.specs.Status.{one_if}
+use Rattle.mach_model.specs.ReceiveRight.{one_if}
 use Rattle.mach_model.specs.SentMeans.{target_mark}
 use Rattle.mach_model.specs.CopyIn.{IsLegal}
-use Rattle.mach_model.specs.Sending.{IsLegalName}
+use Rattle.mach_model.specs.Send.{IsLegalName}
 use Rattle.name_space.specs.declared.Entry.{Entry}
 use Rattle.name_space.specs.declared.Entry.TheVariants.{Receive, Send, ReceiveAndSend, SendOnce, DeadName}
 use Rattle.name_space.specs.Entry.{port_named, has_receive, send_references}
 use Rattle.name_space.specs.Names.{Names, SpaceView}
 use Rattle.copyin.specs.declared.copies.Copied.{Copied}
-use Rattle.copyin.specs.declared.message.Carried.{Carried}
-use Rattle.copyin.specs.declared.message.Mark.TheVariants as mark
-use Rattle.copyin.specs.Kept.{mark_of}
+use Rattle.copyin_base.specs.declared.message.Carried.{Carried}
+use Rattle.copyin_base.specs.declared.message.Mark.TheVariants as mark
+use Rattle.copyin_base.specs.Kept.{mark_of}
 use Rattle.copyin.specs.Copies.{copied_from}
-use Rattle.copyin.specs.Worlds.{WorldView, entry_in, put}
-use Rattle.copyin.specs.Shows.{target_of}
+use Rattle.copyin_base.specs.Worlds.{WorldView, entry_in, put}
+use Rattle.copyin_base.specs.Shows.{target_of}
 use Rattle.copyin.specs.Judging.{CopiesName}
 use Rattle.copyin.proofs.CopiedIn.{own_held}
 use Rattle.copyin.proofs.Stepping.{Along}

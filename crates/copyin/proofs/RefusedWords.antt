@@ -13,7 +13,7 @@ use Rattle.mach_types.specs.Grammar.{Wire, data_item, port_item, WireBody, IsWir
 use Rattle.mach_model.specs.State.{State, Target, lookup}
 use Rattle.mach_model.specs.SentMeans.{target_mark}
 use Rattle.mach_model.specs.CopyIn.{CopyRight, CopyWords, CopyReply}
-use Rattle.mach_model.specs.Sending.{IsLegalName, IsDeadName, IsBadWord, WordsRefuse, ItemsRefuse, BodyRefuses, IsBadDestination, ReplyRefuses, RightsRefuse, sent_guards, place_of}
+use Rattle.mach_model.specs.Send.{IsLegalName, IsDeadName, IsBadWord, WordsRefuse, ItemsRefuse, BodyRefuses, IsBadDestination, ReplyRefuses, RightsRefuse, sent_guards, place_of}
 use Rattle.mach_types.specs.Guards.{FirstIs}
 use Rattle.mach_model.proofs.Moving.{moving}
 use Rattle.message_codec.specs.declared.text.Parsed.{Parsed}
@@ -22,12 +22,12 @@ use Rattle.message_codec.specs.Parses.{Parses}
 use Rattle.message_codec.specs.Words.{items_words, body_words}
 use Rattle.message_codec.proofs.Shapes.{All-head, All-tail}
 use Rattle.name_space.specs.Names.{Names, SpaceView}
-use Rattle.copyin.specs.declared.message.Carried.{Carried}
-use Rattle.copyin.specs.declared.message.Mark.{Mark}
-use Rattle.copyin.specs.declared.message.Mark.TheVariants as mark
-use Rattle.copyin.specs.Kept.{mark_of, reply_of}
-use Rattle.copyin.specs.Worlds.{WorldView}
-use Rattle.copyin.specs.Shows.{Shows}
+use Rattle.copyin_base.specs.declared.message.Carried.{Carried}
+use Rattle.copyin_base.specs.declared.message.Mark.{Mark}
+use Rattle.copyin_base.specs.declared.message.Mark.TheVariants as mark
+use Rattle.copyin_base.specs.Kept.{mark_of, reply_of}
+use Rattle.copyin_base.specs.Worlds.{WorldView}
+use Rattle.copyin_base.specs.Shows.{Shows}
 use Rattle.copyin.specs.Judging.{CopiesName, CopiesReply, IsBad, IsLeft, BodyIsBad}
 use Rattle.copyin.specs.Plans.{destination_word, reply_words, CannotPlan}
 use Rattle.copyin.proofs.Stepping.{Along, Went, went, stepped}

@@ -1,7 +1,6 @@
 -- A message that is sent: the machine's step, and tables that agree with the state after it.
 use Rattle.std.proofs.Common.{◌≡◌, ℕ, ◌+◌, ◌<◌, ◌≤◌, List, [], ◌∷◌, ◌++◌, Some, refl, sym, ap, subst, ◌∙◌, arith, inl, inr, length, drop}
 use Rattle.std.specs.Prelude.{◌^◌, is_some}
-use Rattle.std.proofs.lemmas.Bool.Decides.{eqb_tells}
 use Rattle.std.proofs.lemmas.List.{drop-append-le}
 use Rattle.mach_types.specs.Numbers.{most_rights, msg_number}
 use Rattle.mach_types.specs.declared.codes.MsgReturn.TheVariants.{SendTimedOut, SendNoBuffer}
@@ -9,10 +8,9 @@ use Rattle.mach_types.specs.Tokens.{send, send_once}
 use Rattle.mach_types.specs.Messages.{Message, Entry}
 use Rattle.mach_types.specs.Guards.{FirstIs, NoneHolds}
 use Rattle.mach_model.specs.State.{State, at, queue}
-use Rattle.mach_model.specs.Sending.{Sends, ClosesLoop, sent_guards, place_of}
-use Rattle.mach_model.specs.Sending.{entry as logged}
+use Rattle.mach_model.specs.Send.{Sends, ClosesLoop, sent_guards, place_of}
+use Rattle.mach_model.specs.Send.{entry as logged}
 use Rattle.mach_model.proofs.At.{at_own, at_other}
-use Rattle.mach_model.proofs.Names.{get_own, get_other}
 use Rattle.mach_model.proofs.Moving.{shape}
 use Rattle.mach_model.proofs.Carrying.{never_loops}
 use Rattle.message_codec.specs.declared.text.Parsed.{Parsed}
@@ -20,9 +18,10 @@ use Rattle.message_codec.specs.Parses.{Parses}
 use Rattle.message_codec.specs.Words.{body_words}
 use Rattle.message_codec.proofs.Spelling.{laid_out-parsed}
 use Rattle.port.specs.Ports.{PortView, with_port}
-use Rattle.copyin.specs.Kept.{Kept, Keeps}
-use Rattle.copyin.specs.Worlds.{WorldView, port_at}
-use Rattle.copyin.specs.Shows.{AllKept, ShowsPort, Agrees, Shows}
+use Rattle.copyin_base.specs.Kept.{Kept, Keeps}
+use Rattle.copyin_base.specs.Worlds.{WorldView, port_at}
+use Rattle.copyin_base.specs.Shows.{AllKept, ShowsPort, Agrees, Shows}
+use Rattle.copyin_base.proofs.Agreeing.{live_put, ports_put}
 use Rattle.copyin.specs.Plans.{destination_word, reply_words, option_list, Judged, made_in, message_for, HasSlot, HasNoSlot, Commits}
 use Rattle.copyin.proofs.Stepping.{words_once}
 use Rattle.copyin.proofs.Texts.{few_bytes}
@@ -41,9 +40,6 @@ all_kept_append p [] [] m e h k = (k, tt)
 all_kept_append p (x ∷ ms) (y ∷ es) m e h k = (h.0, all_kept_append p ms es m e h.1 k)
 all_kept_append p [] (y ∷ es) m e h k = absurd h
 all_kept_append p (x ∷ ms) [] m e h k = absurd h
-
-the_same : (x y : PortView Kept) → Some x ≡ Some y → x ≡ y
-the_same x y e = cc
 
 -- ---- a message is appended
 
@@ -64,12 +60,6 @@ module _ (w : WorldView) (s : State) (a : Agrees w s) (p : ℕ) (v : PortView Ke
   queue_other : (q : ℕ) → (q ≡ p → ⊥) → queue with_entry q ≡ queue s q
   queue_other q not = ap (drop (s.taken q)) (at_other s.log p (s.log p ++ logged now x ∷ []) q not)
 
-  live : (q : ℕ) → is_some (port_at appended q) ≡ is_some (port_at w q)
-  live q = elim (eqb_tells q p) [
-    | inl h ↦ subst (λ (i : ℕ). is_some (port_at appended i) ≡ is_some (port_at w i)) (sym h.1) (ap is_some (get_own w.ports.ports p longer) ∙ sym (ap is_some there))
-    | inr h ↦ ap is_some (get_other w.ports.ports p longer q h.1)
-  ]
-
   own_port : ShowsPort longer with_entry p
   own_port = let b = a.ports p v there in record {
     waiting = subst (AllKept p (v.queue ++ m ∷ [])) (sym queue_is) (all_kept_append p v.queue (queue s p) m (logged now x) b.waiting keeps);
@@ -79,35 +69,22 @@ module _ (w : WorldView) (s : State) (a : Agrees w s) (p : ℕ) (v : PortView Ke
     sets = b.sets;
   }
 
-  ports : (q : ℕ) (y : PortView Kept) → port_at appended q ≡ Some y → ShowsPort y with_entry q
-  ports q y is = elim (eqb_tells q p) [
-    | inl h ↦ subst (λ (i : ℕ). ShowsPort y with_entry i) (sym h.1)
-        (subst (λ (z : PortView Kept). ShowsPort z with_entry p) (the_same longer y (sym (get_own w.ports.ports p longer) ∙ subst (λ (i : ℕ). port_at appended i ≡ Some y) h.1 is)) own_port)
-    | inr h ↦ let b = a.ports q y (sym (get_other w.ports.ports p longer q h.1) ∙ is) in record {
-      waiting = subst (AllKept q y.queue) (sym (queue_other q h.1)) b.waiting;
+  pub appended_agrees : Agrees appended with_entry
+  appended_agrees = record {
+    spaces = a.spaces;
+    rights = a.rights;
+    live_port = live_put w.ports.ports p longer s.live_port (sym (a.live_port p) ∙ ap is_some there) a.live_port;
+    ports_made = a.ports_made;
+    ports = ports_put w.ports.ports p longer with_entry own_port (λ q y not is. let b = a.ports q y is in record {
+      waiting = subst (AllKept q y.queue) (sym (queue_other q not)) b.waiting;
       limit = b.limit;
       make_send = b.make_send;
       sequence = b.sequence;
       sets = b.sets;
-    }
-  ]
-
-  pub appended_agrees : Agrees appended with_entry
-  appended_agrees = record {
-    live_task = a.live_task;
-    tasks_made = a.tasks_made;
-    naming = a.naming;
-    names_kept = a.names_kept;
-    references = a.references;
-    counted = a.counted;
-    live_port = λ q. live q ∙ a.live_port q;
-    ports_made = a.ports_made;
-    ports = ports;
-    counts = λ q. let c = a.counts q in record { entered = c.entered; senders = c.senders; once_rights = c.once_rights };
+    });
+    counts = a.counts;
     total = a.total;
-    set_owner = a.set_owner;
-    sets_made = a.sets_made;
-    set_named = a.set_named;
+    in_sets = a.in_sets;
     requests = a.requests;
   }
 

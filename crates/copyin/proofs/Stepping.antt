@@ -15,16 +15,16 @@ use Rattle.message_codec.specs.declared.words.PortWord.{PortWord}
 use Rattle.rights.specs.Ledger.{LedgerView}
 use Rattle.name_space.specs.Names.{Names, SpaceView}
 use Rattle.copyin.specs.declared.copies.Copied.{Copied}
-use Rattle.copyin.specs.declared.message.Carried.{Carried}
-use Rattle.copyin.specs.declared.message.Mark.{Mark}
-use Rattle.copyin.specs.declared.message.Mark.TheVariants as mark
-use Rattle.copyin.specs.Kept.{mark_of}
-use Rattle.copyin.specs.Copies.{copied_from}
-use Rattle.copyin.specs.Worlds.{WorldView, put, CopiesRight, ledger_copied}
-use Rattle.copyin.specs.Shows.{Agrees}
+use Rattle.copyin_base.specs.declared.message.Carried.{Carried}
+use Rattle.copyin_base.specs.declared.message.Mark.{Mark}
+use Rattle.copyin_base.specs.declared.message.Mark.TheVariants as mark
+use Rattle.copyin_base.specs.Kept.{mark_of}
+use Rattle.copyin.specs.Copies.{copied_from, CopiesRight, ledger_copied}
+use Rattle.copyin_base.specs.Worlds.{WorldView, put}
+use Rattle.copyin_base.specs.Shows.{Agrees}
 use Rattle.copyin.specs.Judging.{CopiesName, CopiesWord, PassesAs, made_by, made_by_mark}
 use Rattle.copyin.specs.Plans.{ChangesWord, ChangesWords}
-use Rattle.copyin.proofs.Gets.{get-set_same}
+use Rattle.copyin_base.proofs.Gets.{get-set_same}
 use Rattle.copyin.proofs.CopiedIn.{after}
 use Rattle.copyin.proofs.GoesIn.{goes}
 

@@ -8,8 +8,8 @@ use Rattle.message_codec.specs.declared.words.PortWord.{PortWord}
 use Rattle.name_space.specs.Names.{Names}
 use Rattle.copyin.specs.declared.judge.Rights.{Rights}
 use Rattle.copyin.specs.declared.judge.Words.{Words}
-use Rattle.copyin.specs.declared.message.Carried.{Carried}
-use Rattle.copyin.specs.declared.message.Mark.TheVariants as mark
+use Rattle.copyin_base.specs.declared.message.Carried.{Carried}
+use Rattle.copyin_base.specs.declared.message.Mark.TheVariants as mark
 use Rattle.copyin.specs.Judging.{CopiesName, CopiesReply, CopiesBody, IsBad, BodyIsBad, made_by, made_by_reply, made_by_all}
 
 -- Each word has a disposition.

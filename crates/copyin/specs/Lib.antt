@@ -1,10 +1,6 @@
-pub mod Kept
 pub mod Copies
-pub mod Worlds
-pub mod Shows
 pub mod Judging
 pub mod Plans
 pub mod Overlays
-pub mod Stands
 pub mod Goes
 pub mod Planned

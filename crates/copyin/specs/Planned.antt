@@ -12,14 +12,14 @@ use Rattle.rights.specs.Ledger.{IsEntered}
 use Rattle.name_space.specs.Names.{Names, SpaceView}
 use Rattle.copyin.specs.declared.judge.Plan.{Plan}
 use Rattle.copyin.specs.declared.judge.Words.{Words}
-use Rattle.copyin.specs.declared.message.Carried.{Carried}
-use Rattle.copyin.specs.declared.message.Mark.TheVariants as mark
+use Rattle.copyin_base.specs.declared.message.Carried.{Carried}
+use Rattle.copyin_base.specs.declared.message.Mark.TheVariants as mark
 use Rattle.copyin.specs.declared.copies.Copied.{Copied}
 use Rattle.copyin.specs.Copies.{copied_from}
 use Rattle.copyin.specs.Judging.{CopiesWord, made_by, made_by_all}
 use Rattle.copyin.specs.Plans.{destination_word, reply_words, Plans, message_for}
-use Rattle.copyin.specs.Stands.{AreTied}
-use Rattle.copyin.specs.Worlds.{WorldView}
+use Rattle.copyin_base.specs.Stands.{AreTied}
+use Rattle.copyin_base.specs.Worlds.{WorldView}
 
 -- These are the port words of the text.
 pub record AreWords (parsed : Parsed) (written : WireBody) (words : Words) : Type 0 where

@@ -1,61 +1,24 @@
 //! Carrying out a plan.
-ghost use Rattle.std.specs.Prelude.{◌≡◌, ℕ, ◌<◌, ◌≤◌, ◌+◌, List, [], ◌∷◌, true, Some, IfSome, OnOk, length};
+ghost use Rattle.std.specs.Prelude.{◌≡◌, ℕ, ◌<◌, ◌≤◌, ◌+◌, List, [], ◌∷◌};
 ghost use Rattle.std.specs.Option.{option_to_list};
-ghost use Rattle.std.specs.FinMap as map;
 ghost use Rattle.mach_types.specs.Grammar.{WireBody};
 ghost use Rattle.mach_types.specs.Numbers.{most_rights};
 ghost use Rattle.message_codec.specs.declared.text.Parsed.{Parsed as AnyParsed};
-ghost use Rattle.name_space.specs.declared.Entry.{Entry as AnyEntry};
-ghost use Rattle.name_space.specs.Entry.{port_named};
-ghost use Rattle.name_space.specs.Names.{port_at};
 ghost use Rattle.rights.specs.Ledger.{IsEntered};
-ghost use Rattle.copyin.specs.declared.message.Mark.TheVariants as mark_of;
+ghost use Rattle.copyin_base.specs.declared.message.Mark.TheVariants as mark_of;
 ghost use Rattle.copyin.specs.Judging.{made_by_mark};
 ghost use Rattle.copyin.specs.Planned.{IsPlan, CanGo, CanCopy};
 ghost use Rattle.copyin.specs.Plans.{ChangesWord, ChangesWords, Commits};
-ghost use Rattle.copyin.specs.Stands.{IsTied};
-ghost use Rattle.copyin.specs.Worlds.{put, ports_copied, ledger_copied, CopiesRight};
+ghost use Rattle.copyin_base.specs.Stands.{IsTied};
+ghost use Rattle.copyin.specs.Copies.{ports_copied, ledger_copied, CopiesRight};
 
 use crate::copies::copy_right;
 use crate::judge::Plan;
-use crate::message::{Carried, Mark, Message};
-use crate::world::World;
+use copyin_base::{Carried, Mark, Message, World};
 use mach_types::{Disposition, Name, TaskId};
 use message_codec::PortWord;
-use name_space::{Entry, Space};
 use port::{Attributes, Ports};
 use rights::{Ledger, RightKind};
-use std::alloc::AllocError;
-
-impl World {
-    /// Makes a spare message slot, if there is none. All else is as before.
-    ///
-    /// An error means that memory was refused.
-    pub fn reserve_slot(&mut self) -> Result<(), AllocError>
-        ensures rest { self.new ≡ record self.old { ports = record self.old.ports { spare = self.new.ports.spare } } }
-        ensures ok { OnOk result (0 < self.new.ports.spare) }
-        ensures room { self.old.ports.spare ≤ self.new.ports.spare }
-    {
-        if self.ports.spare() > 0 {
-            return Ok(());
-        }
-        self.ports.reserve_slots(1)
-    }
-}
-
-// Puts what is left under a name that is in use.
-fn put_left(space: &mut Space, name: Name, left: Option<Entry>)
-    requires used { map.contains_key space.old.names name ≡ true }
-    requires same { IfSome left (λ entry. (port : ℕ) → port_named entry ≡ Some port → port_at space.old.names name ≡ Some port) }
-    ensures { space.new ≡ record space.old { names = put space.old.names name left } }
-{
-    match left {
-        Some(entry) => space.replace(name, entry),
-        None => {
-            space.remove(name);
-        }
-    }
-}
 
 // Sets what a right changes of its port when it goes.
 fn renew_port(ports: &mut Ports<Message>, given: Disposition, mark: Mark)
@@ -119,7 +82,7 @@ pub fn copy_name(world: &mut World, task: TaskId, name: Name, carried: Carried)
 {
     let entry = world.lookup(task, name).unwrap();
     let copied = copy_right(carried.given, &entry).unwrap();
-    put_left(&mut world.spaces[task.number() as usize], name, copied.left);
+    world.put_left(task, name, copied.left);
     renew_port(&mut world.ports, carried.given, copied.mark);
     count_right(&mut world.ledger, carried.given, copied.mark);
 }

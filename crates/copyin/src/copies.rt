@@ -4,7 +4,7 @@ ghost use Rattle.name_space.specs.declared.Entry.TheVariants as entry_of;
 ghost use Rattle.mach_types.specs.declared.rights.Disposition.TheVariants as disposition_of;
 ghost use Rattle.copyin.specs.Copies.{copied_from, leaving, leaving_dead, one_less};
 
-use crate::message::Mark;
+use copyin_base::Mark;
 use mach_types::{Disposition, PortId};
 use name_space::Entry;
 use user_refs::UserRefs;

@@ -4,25 +4,25 @@ ghost use Rattle.std.specs.Option.{option_to_list};
 ghost use Rattle.std.specs.FinMap as map;
 ghost use Rattle.mach_types.specs.declared.codes.MsgReturn.TheVariants.{SendNoBuffer, SendInvalidDest, SendInvalidReply, SendInvalidRight, SendTimedOut};
 ghost use Rattle.mach_types.specs.Grammar.{WireBody};
-ghost use Rattle.mach_types.specs.Tokens.{receive, send_once, same_kind};
+ghost use Rattle.mach_types.specs.Tokens.{receive};
 ghost use Rattle.port.specs.Ports.{IsLive};
 ghost use Rattle.mach_types.specs.Numbers.{disposition, kind_sent, most_rights, msg_number, null_word, dead_word};
 ghost use Rattle.message_codec.specs.Parses.{Parses};
 ghost use Rattle.name_space.specs.Names.{Names};
-ghost use Rattle.copyin.specs.declared.message.Carried.{Carried as AnyCarried};
-ghost use Rattle.copyin.specs.declared.message.Mark.TheVariants as mark_of;
+ghost use Rattle.copyin_base.specs.declared.message.Carried.{Carried as AnyCarried};
+ghost use Rattle.copyin_base.specs.declared.message.Mark.TheVariants as mark_of;
 ghost use Rattle.copyin.specs.Judging.{CopiesName, CopiesWord, CopiesReply, CopiesBody, IsBad, IsLeft, BodyIsBad, made_by, made_by_all};
 ghost use Rattle.copyin.specs.Overlays.{Overlays};
 ghost use Rattle.copyin.specs.Goes.{AreGiven, RepliesBadly, LeadsNowhere, GoAll, CannotGo, made_by_rights};
 ghost use Rattle.copyin.specs.Planned.{AreWords, IsPlan};
 ghost use Rattle.copyin.specs.Plans.{CannotPlan, HasSlot, HasNoSlot, reply_words};
-ghost use Rattle.copyin.specs.Stands.{IsTied};
-ghost use Rattle.copyin.specs.Worlds.{put};
+ghost use Rattle.copyin_base.specs.Stands.{IsTied};
+ghost use Rattle.copyin_base.specs.Worlds.{put};
 
 use crate::copies::copy_right;
-use crate::message::{Carried, Mark, Message};
-use crate::world::World;
-use mach_types::{Disposition, MsgReturn, Name, PortId, Right, TaskId};
+use copyin_base::{Carried, Mark, Message, World};
+use mach_types::limits::MOST_RIGHTS;
+use mach_types::{Disposition, MsgReturn, Name, PortId, TaskId};
 use message_codec::{Parsed, PortWord, port_words};
 use name_space::{Entry, Space};
 use std::alloc::{AllocError, Global};
@@ -139,7 +139,7 @@ fn judge_word(
 fn takes_receive(word: &PortWord) -> bool
     ensures { MatchBool result (IsLeft word.now) (¬ (IsLeft word.now)) }
 {
-    word.disposition == 16 && word.name.is_usable()
+    word.disposition == Disposition::MoveReceive.number() && word.name.is_usable()
 }
 
 // Judges a word of the body: no receive right goes in a message yet.
@@ -203,9 +203,7 @@ fn judge_body(
 {
     let mut rights = Vec::new(alloc);
     for word in words {
-        if let Err(code) = judge_next(space, touched, &mut rights, word) {
-            return Err(code);
-        }
+        judge_next(space, touched, &mut rights, word)?;
     }
     Ok(rights)
 }
@@ -253,10 +251,7 @@ fn judge_destination(
     ensures err { IfErr result (λ code. (code ≡ SendNoBuffer)
         ⊎ (code ≡ SendInvalidDest) × ((now : Names) → Overlays touched.old space.now.names now → LeadsNowhere now word)) }
 {
-    let destination = match judge_name(space, touched, word, MsgReturn::SendInvalidDest) {
-        Ok(destination) => destination,
-        Err(code) => return Err(code),
-    };
+    let destination = judge_name(space, touched, word, MsgReturn::SendInvalidDest)?;
     match marked_port(&destination) {
         Some(port) => Ok((destination, port)),
         None => Err(MsgReturn::SendInvalidDest),
@@ -279,18 +274,9 @@ fn judge_all(alloc: Global, space: &Space, words: &Words) -> Result<Rights, MsgR
     ensures err { IfErr result (λ code. (code ≡ SendNoBuffer) ⊎ CannotGo space.now.names words.now code) }
 {
     let mut touched = BTreeMap::new(alloc);
-    let (destination, port) = match judge_destination(space, &mut touched, words.destination) {
-        Ok(right) => right,
-        Err(code) => return Err(code),
-    };
-    let reply = match judge_reply(space, &mut touched, words.reply) {
-        Ok(reply) => reply,
-        Err(code) => return Err(code),
-    };
-    let body = match judge_body(alloc, space, &mut touched, words.body.as_slice()) {
-        Ok(body) => body,
-        Err(code) => return Err(code),
-    };
+    let (destination, port) = judge_destination(space, &mut touched, words.destination)?;
+    let reply = judge_reply(space, &mut touched, words.reply)?;
+    let body = judge_body(alloc, space, &mut touched, words.body.as_slice())?;
     Ok(Rights {
         destination,
         port,
@@ -299,23 +285,13 @@ fn judge_all(alloc: Global, space: &Space, words: &Words) -> Result<Rights, MsgR
     })
 }
 
-// Whether a message under this destination right goes by a send-once right.
-fn goes_once(destination: Carried) -> bool
-    ensures { result ≡ same_kind (kind_sent destination.given) send_once }
-{
-    matches!(
-        &destination.given,
-        Disposition::MoveSendOnce | Disposition::MakeSendOnce
-    )
-}
-
 // Whether the port's queue takes a message under this destination right.
 fn has_slot(world: &World, port: PortId, destination: Carried) -> bool
     requires live { IsLive world.now.ports port }
     requires sends { kind_sent destination.given ≢ receive }
     ensures { MatchBool result (HasSlot world.now port destination) (HasNoSlot world.now port destination) }
 {
-    if goes_once(destination) {
+    if destination.given.is_send_once() {
         return true;
     }
     match world.ports.attributes(port) {
@@ -332,10 +308,7 @@ fn count_made(carried: Carried) -> u64
     let Mark::Port(_) = &carried.mark else {
         return 0;
     };
-    match &carried.given {
-        Disposition::CopySend | Disposition::MakeSend | Disposition::MakeSendOnce => 1,
-        Disposition::MoveReceive | Disposition::MoveSend | Disposition::MoveSendOnce => 0,
-    }
+    if carried.given.makes_right() { 1 } else { 0 }
 }
 
 // How many rights are made by all of these.
@@ -359,7 +332,7 @@ fn has_room(world: &World, rights: &Rights) -> bool
         None => 0,
     };
     let made = count_made(rights.destination) + reply + count_all_made(rights.body.as_slice());
-    world.ledger.total() as u64 + made <= u32::MAX as u64
+    world.ledger.total() as u64 + made <= MOST_RIGHTS as u64
 }
 
 // Judges the queue, and the limit of rights.
@@ -440,21 +413,13 @@ pub fn check(
     ensures ok { IfOk result (λ plan. (p : Parses bytes.now parsed) → IsPlan world.now task parsed p.written bytes.now plan) }
     ensures err { IfErr result (λ code. (p : Parses bytes.now parsed) → CannotPlan world.now task parsed p.written (msg_number code)) }
 {
-    let words = match read_words(alloc, &parsed, bytes) {
-        Ok(words) => words,
-        Err(code) => return Err(code),
-    };
-    let rights = match judge_all(alloc, world.space(task), &words) {
-        Ok(rights) => rights,
-        Err(code) => return Err(code),
-    };
-    if let Err(code) = admit(world, &rights) {
-        return Err(code);
-    }
+    let words = read_words(alloc, &parsed, bytes)?;
+    let rights = judge_all(alloc, world.space(task), &words)?;
+    admit(world, &rights)?;
     let Ok(bytes) = Vec::from_slice(alloc, bytes) else {
         return Err(MsgReturn::SendNoBuffer);
     };
-    let by_once = goes_once(rights.destination);
+    let by_once = rights.destination.given.is_send_once();
     let Rights {
         destination,
         port,

@@ -10,19 +10,21 @@ use Rattle.mach_types.specs.Tokens.{Kind, receive, send, send_once}
 use Rattle.name_space.specs.declared.Entry.{Entry}
 use Rattle.name_space.specs.Entry.{send_references}
 use Rattle.name_space.specs.Names.{SpaceView, port_at as port_named_at}
-use Rattle.name_space.proofs.Keys.{put_here, put_other, equal_or_not}
+use Rattle.name_space.proofs.Keys.{put_here, put_other}
 use Rattle.port.specs.Ports.{PortView, PortsView}
 use Rattle.rights.specs.declared.RightKind.TheVariants as right
 use Rattle.rights.specs.declared.Counts.{Counts}
 use Rattle.rights.specs.Counts.{no_rights, with_fewer}
 use Rattle.rights.specs.Ledger.{LedgerView, IsEntered, counts_of, taken}
 use Rattle.std.specs.Option.{unwrap_or}
-use Rattle.copyin.specs.declared.message.Carried.{Carried}
-use Rattle.copyin.specs.declared.message.Mark.{Mark}
-use Rattle.copyin.specs.declared.message.Mark.TheVariants as mark
-use Rattle.copyin.specs.Kept.{Kept}
-use Rattle.copyin.specs.Worlds.{WorldView, port_at}
-use Rattle.copyin.proofs.Gets.{get-set_same}
+use Rattle.copyin_base.specs.declared.message.Carried.{Carried}
+use Rattle.copyin_base.specs.declared.message.Mark.{Mark}
+use Rattle.copyin_base.specs.declared.message.Mark.TheVariants as mark
+use Rattle.copyin_base.specs.Kept.{Kept}
+use Rattle.copyin_base.specs.Worlds.{WorldView, port_at}
+use Rattle.copyin_base.proofs.Agreeing.{live_put}
+use Rattle.copyin_base.proofs.Gets.{get-set_same}
+use Rattle.copyin_base.proofs.Putting.{each_put}
 use Rattle.copyout.specs.Giving.{ledger_joined, holder_given, GivesPort, GivesMark, MarkLacks}
 use Rattle.copyout.specs.Ready.{send_for, CanGive, CanGivePort, CanTakeName, UsesOneRoom}
 
@@ -34,10 +36,7 @@ kind_cases send_once = inl refl
 -- ---- ledgers
 
 pub entered-put : (m : LedgerView) (p q : ℕ) (c : Counts) → IsEntered m q → map.contains_key (map.insert m.counts p c) q ≡ true
-entered-put m p q c h = elim (equal_or_not q p) [
-  | inl e ↦ subst (λ (k : ℕ). map.contains_key (map.insert m.counts p c) k ≡ true) (sym e) (ap is_some (put_here m.counts p c))
-  | inr n ↦ ap is_some (put_other m.counts p c q n) ∙ h
-]
+entered-put m p q c h = each_put m.counts p (Some c) (λ k o. IsEntered m k → is_some o ≡ true) (λ x. refl) (λ k not x. x) q h
 
 pub entered-taken : (m : LedgerView) (p q : ℕ) → IsEntered m q → IsEntered (taken m p right.Send 1) q
 entered-taken m p q h = entered-put m p q (with_fewer right.Send 1 (counts_of m p)) h
@@ -73,16 +72,9 @@ sends-joined send_once p x m q = omega arith
 
 -- ---- ports
 
-pub live-put : (ports : PortsView Kept) (p q : ℕ) (o : Option (PortView Kept)) (v2 : PortView Kept) → map.get ports.ports p ≡ o → is_some o ≡ true →
-    is_some (map.get (map.insert ports.ports p v2) q) ≡ is_some (map.get ports.ports q)
-live-put ports p q o v2 e h = elim (equal_or_not q p) [
-  | inl f ↦ subst (λ (k : ℕ). is_some (map.get (map.insert ports.ports p v2) k) ≡ is_some (map.get ports.ports k)) (sym f) (ap is_some (put_here ports.ports p v2) ∙ sym (ap is_some e ∙ h))
-  | inr n ↦ ap is_some (put_other ports.ports p v2 q n)
-]
-
 pub live-held : (kind : Kind) (p task : ℕ) (ports : PortsView Kept) (q : ℕ) (o : Option (PortView Kept)) → map.get ports.ports p ≡ o →
     is_some (map.get (holder_given kind p task ports o).ports q) ≡ is_some (map.get ports.ports q)
-live-held receive p task ports q (Some v) e = live-put ports p q (Some v) _ e refl
+live-held receive p task ports q (Some v) e = live_put ports.ports p _ (λ x. is_some (map.get ports.ports x)) (ap is_some e) (λ x. refl) q
 live-held receive p task ports q None e = refl
 live-held send p task ports q o e = refl
 live-held send_once p task ports q o e = refl

@@ -12,16 +12,17 @@ use Rattle.rights.specs.declared.RightKind.TheVariants as right
 use Rattle.rights.specs.declared.Counts.{Counts}
 use Rattle.rights.specs.Counts.{no_rights, with_fewer}
 use Rattle.rights.specs.Ledger.{LedgerView, IsEntered, counts_of, taken}
-use Rattle.copyin.specs.declared.message.Carried.{Carried}
-use Rattle.copyin.specs.declared.message.Mark.{Mark}
-use Rattle.copyin.specs.declared.message.Mark.TheVariants as mark
-use Rattle.copyin.specs.Kept.{Kept}
-use Rattle.copyin.specs.Worlds.{WorldView, port_at}
-use Rattle.copyin.proofs.Gets.{get-set_same, same_found, same_head}
+use Rattle.copyin_base.specs.declared.message.Carried.{Carried}
+use Rattle.copyin_base.specs.declared.message.Mark.{Mark}
+use Rattle.copyin_base.specs.declared.message.Mark.TheVariants as mark
+use Rattle.copyin_base.specs.Kept.{Kept}
+use Rattle.copyin_base.specs.Worlds.{WorldView, port_at}
+use Rattle.copyin_base.proofs.Agreeing.{live_put}
+use Rattle.copyin_base.proofs.Gets.{get-set_same, same_found, same_head}
 use Rattle.copyout.specs.Giving.{JoinsName, TakesName, ledger_joined, holder_given, GivesPort, GivesMark, MarkLacks, AllLack}
 use Rattle.copyout.specs.Takes.{TakesFront, destination_right}
 use Rattle.copyout.specs.Ready.{CanGive, ReadyFor, carried_by, sends_for}
-use Rattle.copyout.proofs.After.{live-held, live-put, entered-put, sends-taken}
+use Rattle.copyout.proofs.After.{live-held, entered-put, sends-taken}
 
 pub record Alike (task : ℕ) (a b : WorldView) : Type 0 where
   pub names : (x : SpaceView) → slice_get a.spaces task ≡ Some x → (y : SpaceView) × (slice_get b.spaces task ≡ Some y) × (x.names ≡ y.names)
@@ -130,7 +131,7 @@ can_deliver w mid task port capacity r t =
     let same : r.waits.front ≡ t.front = same_head t.v.queue r.waits.front t.front r.waits.behind t.behind (ap (λ (v : PortView Kept). v.queue) (sym v_same) ∙ r.waits.queue) t.queue in
     let spaces : mid.spaces ≡ w.spaces = ap (λ (x : WorldView). x.spaces) t.rest in
     let live : (p : ℕ) → is_some (port_at mid p) ≡ is_some (port_at w p) =
-    λ p. ap (λ (x : WorldView). is_some (port_at x p)) t.rest ∙ live-put w.ports port p (Some t.v) _ t.there refl in
+    λ p. ap (λ (x : WorldView). is_some (port_at x p)) t.rest ∙ live_put w.ports.ports port _ (λ q. is_some (port_at w q)) (ap is_some t.there) (λ q. refl) p in
     let ledger : mid.ledger ≡ taken w.ledger port (destination_right t.front) 1 = ap (λ (x : WorldView). x.ledger) t.rest in
     record {
       space = r.space;

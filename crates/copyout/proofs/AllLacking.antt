@@ -4,7 +4,7 @@ use Rattle.std.specs.Prelude.{◌≢◌, is_some, slice_get, slice_set, MatchBoo
 use Rattle.std.specs.Option.{option_map, option_and_then}
 use Rattle.std.specs.FinMap as map
 use Rattle.mach_types.specs.Numbers.{kind_sent, kind_number, dead_word}
-use Rattle.mach_types.specs.Tokens.{Kind, receive, send, send_once, Place, in_message, Token, count}
+use Rattle.mach_types.specs.Tokens.{Kind, receive, send, send_once, Place, in_message, Token, count, is_of}
 use Rattle.mach_types.specs.Messages.{present}
 use Rattle.mach_model.specs.State.{State, Target, lookup, IsFresh}
 use Rattle.mach_model.specs.Carried.{mark_count, lying}
@@ -19,13 +19,14 @@ use Rattle.name_space.specs.declared.Entry.{Entry}
 use Rattle.name_space.specs.Entry.{port_named}
 use Rattle.name_space.specs.Names.{SpaceView, IsFreshName}
 use Rattle.name_space.specs.Names.{port_at as port_under}
-use Rattle.copyin.specs.declared.message.Carried.{Carried}
-use Rattle.copyin.specs.declared.message.Mark.{Mark}
-use Rattle.copyin.specs.declared.message.Mark.TheVariants as mark
-use Rattle.copyin.specs.Kept.{mark_of}
-use Rattle.copyin.specs.Worlds.{WorldView, entry_in}
-use Rattle.copyin.specs.Shows.{target_of, Agrees}
-use Rattle.copyin.proofs.Changing.{target_named}
+use Rattle.copyin_base.specs.declared.message.Carried.{Carried}
+use Rattle.copyin_base.specs.declared.message.Mark.{Mark}
+use Rattle.copyin_base.specs.declared.message.Mark.TheVariants as mark
+use Rattle.copyin_base.specs.Kept.{mark_of}
+use Rattle.copyin_base.specs.Worlds.{WorldView, entry_in}
+use Rattle.copyin_base.specs.Shows.{target_of, Agrees}
+use Rattle.copyin_base.proofs.Changing.{target_named}
+use Rattle.copyin_base.proofs.Counting.{counts_same}
 use Rattle.copyout.specs.Giving.{joined, alone, ledger_joined, holder_given, GivesPort, GivesMark, HasNoName, NeedsOwn, MarkLacks, AllLack}
 use Rattle.copyout.proofs.Given.{port_given, option_named, same_there}
 use Rattle.copyout.proofs.GivenAll.{AreLying, mark_given, own_mark}
@@ -36,20 +37,14 @@ use Rattle.copyout.proofs.Lacking.{EachLacks}
 -- The tables don't see the order of the tokens.
 pub reordered_agrees : (w : WorldView) (s t : State) → Agrees w s → IsReordered s t → Agrees w t
 reordered_agrees w s t a r = subst (Agrees w) (sym r.rest) record {
-  live_task = a.live_task;
-  tasks_made = a.tasks_made;
-  naming = a.naming;
-  names_kept = a.names_kept;
-  references = λ task name x q is named. let h = a.references task name x q is named in (same _ ∙ h.0, same _ ∙ h.1);
-  counted = a.counted;
+  spaces = a.spaces;
+  rights = record { references = λ task name x q is named. let h = a.references task name x q is named in (same _ ∙ h.0, same _ ∙ h.1) };
   live_port = a.live_port;
   ports_made = a.ports_made;
-  ports = λ p v is. let x = a.ports p v is in record { waiting = x.waiting; limit = x.limit; make_send = x.make_send; sequence = x.sequence; sets = x.sets };
-  counts = λ q. let x = a.counts q in record { entered = x.entered; senders = x.senders ∙ sym (same _); once_rights = x.once_rights ∙ sym (same _) };
+  ports = a.ports;
+  counts = counts_same w.ledger s.live_port s.ledger a.counts t.ledger (λ c q. same (is_of c q));
   total = let m = r.tokens (λ x. 1) in omega (arith, m, a.total, length-weigh s.ledger, length-weigh t.ledger);
-  set_owner = a.set_owner;
-  sets_made = a.sets_made;
-  set_named = a.set_named;
+  in_sets = a.in_sets;
   requests = λ r kind q. same _ ∙ a.requests r kind q;
 }
   where

@@ -10,11 +10,11 @@ use Rattle.mach_types.specs.Numbers.{kind_sent, most_names, null_word, dead_word
 use Rattle.mach_types.specs.Tokens.{Kind}
 use Rattle.name_space.specs.declared.Entry.{Entry}
 use Rattle.name_space.specs.Names.{Names, SpaceView, port_at}
-use Rattle.copyin.specs.declared.message.Carried.{Carried}
-use Rattle.copyin.specs.declared.message.Mark.{Mark}
-use Rattle.copyin.specs.declared.message.Mark.TheVariants as mark
-use Rattle.copyin.specs.Worlds.{WorldView}
-use Rattle.copyin.proofs.Gets.{get-set_same, same_found}
+use Rattle.copyin_base.specs.declared.message.Carried.{Carried}
+use Rattle.copyin_base.specs.declared.message.Mark.{Mark}
+use Rattle.copyin_base.specs.declared.message.Mark.TheVariants as mark
+use Rattle.copyin_base.specs.Worlds.{WorldView}
+use Rattle.copyin_base.proofs.Gets.{get-set_same, same_found}
 use Rattle.copyin.specs.Plans.{option_list}
 use Rattle.copyout.specs.Giving.{joined, alone, JoinsName, TakesName, ledger_joined, holder_given, GivesPort, GivesMark, MarkLacks, AllLack}
 use Rattle.copyout.specs.Room.{IsNamed, HasNone, Owns, Shares, Needs}

@@ -13,11 +13,11 @@ use Rattle.name_space.specs.declared.Entry.{Entry}
 use Rattle.name_space.specs.Entry.{port_named}
 use Rattle.name_space.specs.Names.{Names, SpaceView, IsFreshName, port_at}
 use Rattle.name_space.proofs.Keys.{put_here, put_other, equal_or_not}
-use Rattle.copyin.specs.declared.message.Carried.{Carried}
-use Rattle.copyin.specs.declared.message.Mark.{Mark}
-use Rattle.copyin.specs.declared.message.Mark.TheVariants as mark
-use Rattle.copyin.specs.Worlds.{WorldView}
-use Rattle.copyin.proofs.Gets.{get-set_same, same_found}
+use Rattle.copyin_base.specs.declared.message.Carried.{Carried}
+use Rattle.copyin_base.specs.declared.message.Mark.{Mark}
+use Rattle.copyin_base.specs.declared.message.Mark.TheVariants as mark
+use Rattle.copyin_base.specs.Worlds.{WorldView}
+use Rattle.copyin_base.proofs.Gets.{get-set_same, same_found}
 use Rattle.copyout.specs.Giving.{joined, alone, JoinsName, TakesName, GivesPort}
 use Rattle.copyout.specs.Room.{names_port, named_by, IsThere, IsNamed, HasNone}
 use Rattle.copyout.proofs.Gives.{joined_port, alone_port}

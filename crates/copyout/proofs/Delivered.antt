@@ -5,9 +5,9 @@ use Rattle.mach_types.specs.Numbers.{kind_sent}
 use Rattle.mach_types.specs.Grammar.{WireBody, body_text}
 use Rattle.message_codec.specs.declared.header.Header.{Header}
 use Rattle.message_codec.specs.Received.{header_text, received_body, IsLaidOut}
-use Rattle.copyin.specs.declared.message.Carried.{Carried}
-use Rattle.copyin.specs.Kept.{Kept}
-use Rattle.copyin.specs.Worlds.{WorldView}
+use Rattle.copyin_base.specs.declared.message.Carried.{Carried}
+use Rattle.copyin_base.specs.Kept.{Kept}
+use Rattle.copyin_base.specs.Worlds.{WorldView}
 use Rattle.copyin.specs.Plans.{option_list}
 use Rattle.copyout.specs.Giving.{GivesMark, GivesAll}
 use Rattle.copyout.specs.Takes.{TakesFront, TakesMessage, reply_number, reply_word, body_names, reversed}

@@ -4,13 +4,15 @@ use Rattle.std.specs.Prelude.{slice_get, ◌%◌, ◌^◌}
 use Rattle.std.specs.Option.{option_and_then}
 use Rattle.std.specs.Ordering.{nat_cmp}
 use Rattle.std.specs.FinMap as map
-use Rattle.name_space.specs.Names.{SpaceView}
 use Rattle.name_space.proofs.Keys.{put_here, put_other, equal_or_not, same_some, same_gets}
 use Rattle.port.specs.Ports.{PortView, PortsView, with_port}
-use Rattle.port_set.specs.Sets.{SetsView}
-use Rattle.rights.specs.Ledger.{LedgerView, taken}
-use Rattle.copyin.specs.Kept.{Kept}
-use Rattle.copyin.specs.Worlds.{WorldView, port_at}
+use Rattle.rights.specs.Ledger.{taken}
+use Rattle.port.specs.declared.Attributes.{Attributes}
+use Rattle.copyin_base.specs.Changes.{HasAttributes}
+use Rattle.copyin_base.specs.Kept.{Kept}
+use Rattle.copyin_base.proofs.Gets.{same_found}
+use Rattle.copyin_base.proofs.Spaces.{same_world}
+use Rattle.copyin_base.specs.Worlds.{WorldView, port_at}
 use Rattle.copyout.specs.Takes.{TakesFront, destination_right}
 use Rattle.copyout.specs.Ready.{HasFront}
 
@@ -26,9 +28,9 @@ is_front ports port v m found behind there queue is =
     let f : PortView Kept → Option Kept = λ p. slice_get p.queue 0 in
     same_some found m (is ∙ ap (option_and_then f) there ∙ ap (λ (l : List Kept). slice_get l 0) queue)
 
-pub same_world : (a b : List SpaceView) (p q : PortsView Kept) (l k : LedgerView) (m n : SetsView) → a ≡ b → p ≡ q → l ≡ k → m ≡ n →
-    ◌≡◌ {A = WorldView} (record { spaces = a; ports = p; ledger = l; sets = m }) (record { spaces = b; ports = q; ledger = k; sets = n })
-same_world a b p q l k m n e f g h = λ i. record { spaces = e i; ports = f i; ledger = g i; sets = h i }
+pub sequence_is : (w : WorldView) (port : ℕ) (x : Attributes) → HasAttributes w port x → (v : PortView Kept) → port_at w port ≡ Some v → x.sequence ≡ v.attributes.sequence
+sequence_is w port x has v there =
+    ap (λ (a : Attributes). a.sequence) (sym has.are) ∙ ap (λ (u : PortView Kept). u.attributes.sequence) (same_found (port_at w port) has.v v has.there there)
 
 abbrev pub raised : PortView Kept → PortView Kept
 raised v = record v { attributes = record v.attributes { sequence = (v.attributes.sequence + 1) % 2 ^ 32 } }

@@ -5,13 +5,13 @@ use Rattle.mach_types.specs.Tokens.{in_message}
 use Rattle.mach_types.specs.Messages.{Entry}
 use Rattle.mach_model.specs.State.{State, queue}
 use Rattle.mach_model.specs.Carried.{lying, message_count}
-use Rattle.mach_model.specs.Receiving.{IsFront}
+use Rattle.mach_model.specs.Receive.{IsFront}
 use Rattle.mach_model.specs.Lawful.{IsLawful}
 use Rattle.port.specs.Ports.{PortView}
-use Rattle.copyin.specs.Kept.{Kept, Keeps, message_of}
+use Rattle.copyin_base.specs.Kept.{Kept, Keeps, message_of}
 use Rattle.copyin.specs.Plans.{option_list}
-use Rattle.copyin.specs.Worlds.{WorldView, port_at}
-use Rattle.copyin.specs.Shows.{AllKept, Agrees}
+use Rattle.copyin_base.specs.Worlds.{WorldView, port_at}
+use Rattle.copyin_base.specs.Shows.{AllKept, Agrees}
 use Rattle.copyout.proofs.GivenAll.{AreLying}
 use Rattle.copyout.proofs.GivenBody.{message_counted}
 

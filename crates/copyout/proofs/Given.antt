@@ -1,22 +1,20 @@
 -- A right that the tables give a task is given by the machine.
 use Rattle.std.proofs.Common.{◌≡◌, ℕ, ◌+◌, ◌-◌, ◌<◌, ◌≤◌, List, [], ◌∷◌, ◌++◌, Option, Some, None, refl, sym, ap, subst, ◌∙◌, arith, true, false, Bool, ◌⊎◌, inl, inr, length, zero, suc}
 use Rattle.std.specs.Prelude.{◌≢◌, if◌then◌else◌, ◌==◌, ◌&&◌, is_some, min, nat_lt}
-use Rattle.std.specs.Option.{option_map, option_and_then, unwrap_or}
+use Rattle.std.specs.Option.{option_map, option_and_then}
 use Rattle.std.specs.FinMap as map
-use Rattle.std.specs.FinMap.{len-insert}
-use Rattle.std.specs.Cmp.{nat_cmp_total}
 use Rattle.std.proofs.lemmas.Bool.Decides.{eqb_tells}
 use Rattle.std.proofs.lemmas.Bool.{eq-eqb, ne_eqb, ltb-true, ltb-false, lt-ltb, le-ltb}
 use Rattle.mach_types.specs.Numbers.{most_names, most_references}
 use Rattle.mach_types.specs.Tokens.{Kind, receive, send, send_once, Request, in_task, in_message, in_request, Token, token, weigh, count, is_of, is_held, same_kind, Moves}
 use Rattle.mach_model.specs.State.{State, Target, Names as Targets, lookup, held, with_name, IsFresh}
-use Rattle.mach_model.specs.Dying.{same_place}
-use Rattle.mach_model.specs.Status.{one_if}
+use Rattle.mach_model.specs.Death.{same_place}
+use Rattle.mach_model.specs.ReceiveRight.{one_if}
 use Rattle.mach_model.specs.Carried.{lying}
 use Rattle.mach_model.specs.CopyOut.{given_to, Named, NamedFor, GiveRight}
 use Rattle.mach_model.proofs.Weigh.{pos_or_zero, both_test, length-weigh, held_le_of, lying_le_of}
 use Rattle.mach_model.proofs.At.{at_own, at_other}
-use Rattle.mach_model.proofs.Names.{get_own, get_other, kept}
+use Rattle.mach_model.proofs.Names.{kept}
 use Rattle.mach_model.proofs.Moving.{IsMoving}
 use Rattle.mach_model.proofs.CopyingIn.{not_held, own_right}
 use Rattle.name_space.specs.declared.Entry.{Entry}
@@ -24,53 +22,26 @@ use Rattle.name_space.specs.declared.Entry.TheVariants as entry
 use Rattle.name_space.specs.Entry.{port_named, has_receive, send_references}
 use Rattle.name_space.specs.Names.{Names, SpaceView, IsFreshName}
 use Rattle.port.specs.Ports.{PortView, PortsView}
-use Rattle.rights.specs.declared.Counts.{Counts}
-use Rattle.rights.specs.Counts.{no_rights, with_fewer}
 use Rattle.rights.specs.declared.RightKind.TheVariants as right
 use Rattle.port.specs.declared.Holder.TheVariants as holder
-use Rattle.rights.specs.Ledger.{LedgerView, counts_of, taken}
-use Rattle.copyin.specs.Kept.{Kept}
-use Rattle.copyin.specs.Worlds.{WorldView, entry_in, entry_at, port_at}
-use Rattle.copyin.specs.Shows.{target_of, HasCount, ShowsCounts, Agrees}
+use Rattle.rights.specs.Ledger.{LedgerView, taken}
+use Rattle.copyin_base.specs.Kept.{Kept}
+use Rattle.copyin_base.specs.Worlds.{WorldView, entry_in, entry_at, port_at}
+use Rattle.copyin_base.specs.Shows.{target_of, HasCount, ShowsPort, CountsAgree, Agrees}
 use Rattle.copyout.specs.Giving.{joined, alone, JoinsName, TakesName, ledger_joined, holder_given, GivesPort}
 use Rattle.copyout.specs.Putting.{NewName, PutsPort}
-use Rattle.copyin.proofs.Agreeing.{KeepsPort, Near, near_agrees}
-use Rattle.copyin.proofs.Changing.{target_named}
-use Rattle.copyin.proofs.Taking.{Without, take_lying}
-use Rattle.copyout.proofs.Takings.{goes_comes, taken_own, taken_other}
-use Rattle.copyout.proofs.Frames.{SamePort, keeps_port}
+use Rattle.copyin_base.proofs.Agreeing.{NamesAgree, CountRights, own_names, put_names, ports_put, Near, near_agrees}
+use Rattle.copyin_base.proofs.Counting.{right_of, right_taken, counts_same}
+use Rattle.copyin_base.proofs.Gets.{of_some, same_found}
+use Rattle.copyin_base.proofs.Putting.{each_put, put_same}
+use Rattle.copyin_base.proofs.Told.{port_of}
+use Rattle.copyout.proofs.After.{live-held}
+use Rattle.copyout.proofs.Gives.{joined_keeps, alone_port}
+use Rattle.copyin_base.proofs.Changing.{target_named}
+use Rattle.copyin_base.proofs.Taking.{Without, take_lying}
+use Rattle.copyout.proofs.Takings.{goes_comes}
 
 -- ---- entries
-
-joined_target : (kind : Kind) (x : Entry) → target_of (joined kind x) ≡ target_of x
-joined_target receive (entry.Receive q) = refl
-joined_target receive (entry.Send q n) = refl
-joined_target receive (entry.ReceiveAndSend q n) = refl
-joined_target receive (entry.SendOnce q) = refl
-joined_target receive (entry.DeadName n) = refl
-joined_target receive (entry.Set n) = refl
-joined_target send (entry.Receive q) = refl
-joined_target send (entry.Send q n) = refl
-joined_target send (entry.ReceiveAndSend q n) = refl
-joined_target send (entry.SendOnce q) = refl
-joined_target send (entry.DeadName n) = refl
-joined_target send (entry.Set n) = refl
-joined_target send_once x = refl
-
-joined_count : (kind : Kind) (x : Entry) → HasCount x → HasCount (joined kind x)
-joined_count receive (entry.Receive q) c = tt
-joined_count receive (entry.Send q n) c = c
-joined_count receive (entry.ReceiveAndSend q n) c = c
-joined_count receive (entry.SendOnce q) c = tt
-joined_count receive (entry.DeadName n) c = tt
-joined_count receive (entry.Set n) c = tt
-joined_count send (entry.Receive q) c = omega arith
-joined_count send (entry.Send q n) c = omega arith
-joined_count send (entry.ReceiveAndSend q n) c = omega arith
-joined_count send (entry.SendOnce q) c = tt
-joined_count send (entry.DeadName n) c = tt
-joined_count send (entry.Set n) c = tt
-joined_count send_once x c = c
 
 alone_count : (kind : Kind) (p : ℕ) → HasCount (alone kind p)
 alone_count receive p = tt
@@ -177,162 +148,59 @@ Settled s task kind p old new =
     (given_to kind p task s ≡ token kind p (in_task task) ∷ []) × (new ≡ old)
     ⊎ (kind ≡ send) × (given_to kind p task s ≡ []) × (new ≡ taken old p right.Send 1)
 
-module _ (w : WorldView) (s : State) (a : Agrees w s) (t : State) (o k task : ℕ) (kind : Kind) (p : ℕ) (live : t.live_port ≡ s.live_port)
-    (moves : Moves s.ledger t.ledger (token kind p (in_message o k) ∷ []) (given_to kind p task s)) (is_live : s.live_port p ≡ true) where
-  module _ (comes : given_to kind p task s ≡ token kind p (in_task task) ∷ []) where
-    of_same : (c : Kind) (q : ℕ) → count (is_of c q) t.ledger ≡ count (is_of c q) s.ledger
-    of_same c q =
-        let m = moves (λ x. if is_of c q x then 1 else 0) in
-        let e : count (is_of c q) (given_to kind p task s) ≡ count (is_of c q) (token kind p (in_task task) ∷ []) = ap (count (is_of c q)) comes in
-        omega (arith, m, e)
+module _ (w : WorldView) (s : State) (a : Agrees w s) (tokens : List Token) (o k task : ℕ) (kind : Kind) (p : ℕ)
+    (moves : Moves s.ledger tokens (token kind p (in_message o k) ∷ []) (given_to kind p task s)) (is_live : s.live_port p ≡ true) where
+  -- where it goes, these are the tokens without it
+  without : given_to kind p task s ≡ [] → (h : Token → ℕ) → weigh h tokens + h (token kind p (in_message o k)) ≡ weigh h s.ledger
+  without goes h = let m = moves h in let e : weigh h (given_to kind p task s) ≡ 0 = ap (weigh h) goes in omega (arith, m, e)
 
-    same_counts : (w' : WorldView) → w'.ledger ≡ w.ledger → (q : ℕ) → ShowsCounts w' t q
-    same_counts w' same q =
-        let x = a.counts q in record {
-          entered = ap (λ (l : LedgerView). map.contains_key l.counts q) same ∙ x.entered ∙ sym (ap (λ (f : ℕ → Bool). f q) live);
-          senders = ap (λ (l : LedgerView). (counts_of l q).send) same ∙ x.senders ∙ sym (of_same send q);
-          once_rights = ap (λ (l : LedgerView). (counts_of l q).send_once) same ∙ x.once_rights ∙ sym (of_same send_once q);
-        }
+  settled_counts : (l : LedgerView) → Settled s task kind p w.ledger l → (q : ℕ) → CountsAgree l s.live_port tokens q
+  settled_counts l (inl h) q = subst (λ (x : LedgerView). CountsAgree x s.live_port tokens q) (sym h.1) (counts_same w.ledger s.live_port s.ledger a.counts tokens
+      (λ c q. let m = moves (λ x. if is_of c q x then 1 else 0) in
+      let e : count (is_of c q) (given_to kind p task s) ≡ count (is_of c q) (token kind p (in_task task) ∷ []) = ap (count (is_of c q)) h.0 in omega (arith, m, e)) q)
+  settled_counts l (inr h) q = subst (λ (x : LedgerView). CountsAgree x s.live_port tokens q) (sym h.2)
+      (subst (λ (c : Kind). CountsAgree (taken w.ledger p (right_of c) 1) s.live_port tokens q) h.0 (right_taken w.ledger s.live_port s.ledger a.counts kind p (in_message o k) is_live tokens (without h.1) q))
 
-    same_total : (w' : WorldView) → w'.ledger ≡ w.ledger → w'.ledger.total ≡ length t.ledger
-    same_total w' same =
-        let m = moves (λ x. 1) in
-        let e : weigh (λ x. 1) (given_to kind p task s) ≡ 1 = ap (weigh (λ x. 1)) comes in
-        let f : w'.ledger.total ≡ w.ledger.total = ap (λ (l : LedgerView). l.total) same in
-        omega (arith, m, e, f, a.total, length-weigh s.ledger, length-weigh t.ledger)
-
-  module _ (is_send : kind ≡ send) (goes : given_to kind p task s ≡ []) where
-    abbrev going : Token
-    going = token kind p (in_message o k)
-
-    of_less : (c : Kind) (q : ℕ) → count (is_of c q) t.ledger + (if is_of c q going then 1 else 0) ≡ count (is_of c q) s.ledger
-    of_less c q =
-        let m = moves (λ x. if is_of c q x then 1 else 0) in
-        let e : count (is_of c q) (given_to kind p task s) ≡ 0 = ap (count (is_of c q)) goes in
-        omega (arith, m, e)
-
-    own_less : (if is_of send p going then suc zero else zero) ≡ suc zero
-    own_less = subst (λ (c : Kind). (if is_of send p (token c p (in_message o k)) then suc zero else zero) ≡ suc zero) (sym is_send) (rw (eq-eqb p p refl) refl)
-
-    once_less : (q : ℕ) → (if is_of send_once q going then suc zero else zero) ≡ zero
-    once_less q = subst (λ (c : Kind). (if is_of send_once q (token c p (in_message o k)) then suc zero else zero) ≡ zero) (sym is_send) refl
-
-    other_less : (q : ℕ) → q ≢ p → (if is_of send q going then suc zero else zero) ≡ zero
-    other_less q not = both_test (same_kind send kind) (p == q) (inr (ne_eqb p q (λ e. not (sym e))))
-
-    own_counts : (w' : WorldView) → w'.ledger ≡ taken w.ledger p right.Send 1 → ShowsCounts w' t p
-    own_counts w' less =
-        let x = a.counts p in
-        let own : counts_of w'.ledger p ≡ with_fewer right.Send 1 (counts_of w.ledger p) = ap (λ (l : LedgerView). counts_of l p) less ∙ taken_own w.ledger p right.Send 1 in
-        let there : map.contains_key w'.ledger.counts p ≡ true =
-        ap (λ (l : LedgerView). map.contains_key l.counts p) less ∙ ap (λ (n : Option Counts). is_some n) (get_own w.ledger.counts p (with_fewer right.Send 1 (counts_of w.ledger p))) in
-        record {
-          entered = there ∙ sym (ap (λ (f : ℕ → Bool). f p) live ∙ is_live);
-          senders =
-              let e : (counts_of w'.ledger p).send ≡ (counts_of w.ledger p).send - 1 = ap (λ (n : Counts). n.send) own in
-              let m = of_less send p in let one = own_less in omega (arith, e, m, one, x.senders);
-          once_rights =
-              let e : (counts_of w'.ledger p).send_once ≡ (counts_of w.ledger p).send_once = ap (λ (n : Counts). n.send_once) own in
-              let m = of_less send_once p in let none = once_less p in omega (arith, e, m, none, x.once_rights);
-        }
-
-    less_counts : (w' : WorldView) → w'.ledger ≡ taken w.ledger p right.Send 1 → (q : ℕ) → ShowsCounts w' t q
-    less_counts w' less q = elim (eqb_tells q p) [
-      | inl h ↦ subst (λ (n : ℕ). ShowsCounts w' t n) (sym h.1) (own_counts w' less)
-      | inr h ↦
-          let x = a.counts q in
-          let same : map.get w'.ledger.counts q ≡ map.get w.ledger.counts q = ap (λ (l : LedgerView). map.get l.counts q) less ∙ taken_other w.ledger p right.Send 1 q h.1 in
-          let counts : counts_of w'.ledger q ≡ counts_of w.ledger q = ap (λ (n : Option Counts). unwrap_or n no_rights) same in
-          record {
-            entered = ap (λ (n : Option Counts). is_some n) same ∙ x.entered ∙ sym (ap (λ (f : ℕ → Bool). f q) live);
-            senders =
-                let e : (counts_of w'.ledger q).send ≡ (counts_of w.ledger q).send = ap (λ (n : Counts). n.send) counts in
-                let m = of_less send q in let none = other_less q h.1 in omega (arith, e, m, none, x.senders);
-            once_rights =
-                let e : (counts_of w'.ledger q).send_once ≡ (counts_of w.ledger q).send_once = ap (λ (n : Counts). n.send_once) counts in
-                let m = of_less send_once q in let none = once_less q in omega (arith, e, m, none, x.once_rights);
-          }
-    ]
-
-    less_total : (w' : WorldView) → w'.ledger ≡ taken w.ledger p right.Send 1 → w'.ledger.total ≡ length t.ledger
-    less_total w' less =
-        let m = moves (λ x. 1) in
-        let e : weigh (λ x. 1) (given_to kind p task s) ≡ 0 = ap (weigh (λ x. 1)) goes in
-        let f : w'.ledger.total ≡ w.ledger.total - 1 = ap (λ (l : LedgerView). l.total) less in
-        omega (arith, m, e, f, a.total, length-weigh s.ledger, length-weigh t.ledger)
-
-  settled_counts : (w' : WorldView) → Settled s task kind p w.ledger w'.ledger → (q : ℕ) → ShowsCounts w' t q
-  settled_counts w' (inl h) q = same_counts h.0 w' h.1 q
-  settled_counts w' (inr h) q = less_counts h.0 h.1 w' h.2 q
-
-  settled_total : (w' : WorldView) → Settled s task kind p w.ledger w'.ledger → w'.ledger.total ≡ length t.ledger
-  settled_total w' (inl h) = same_total h.0 w' h.1
-  settled_total w' (inr h) = less_total h.0 h.1 w' h.2
+  settled_total : (l : LedgerView) → Settled s task kind p w.ledger l → l.total ≡ length tokens
+  settled_total l (inl h) =
+      let m = moves (λ x. 1) in
+      let e : weigh (λ x. 1) (given_to kind p task s) ≡ 1 = ap (weigh (λ x. 1)) h.0 in
+      let f : l.total ≡ w.ledger.total = ap (λ (x : LedgerView). x.total) h.1 in
+      omega (arith, m, e, f, a.total, length-weigh s.ledger, length-weigh tokens)
+  settled_total l (inr h) =
+      let m = without h.1 (λ x. 1) in
+      let f : l.total ≡ w.ledger.total - 1 = ap (λ (x : LedgerView). x.total) h.2 in
+      omega (arith, m, f, a.total, length-weigh s.ledger, length-weigh tokens)
 
 -- ---- ports
 
 -- only the holder of a port changes
-module _ (p task : ℕ) (ports : PortsView Kept) where
-  given_made : (kind : Kind) (v : Option (PortView Kept)) → (holder_given kind p task ports v).made ≡ ports.made
-  given_made receive (Some v) = refl
-  given_made receive None = refl
-  given_made send v = refl
-  given_made send_once v = refl
-
-  same_view : (v : PortView Kept) → SamePort v v
-  same_view v = record { queue = refl; limit = refl; make_send = refl; sequence = refl; set = refl }
-
-  same_some : {A : Type 0} (x y : A) → Some x ≡ Some y → x ≡ y
-  same_some x y e = cc
-
+module _ (w : WorldView) (s : State) (a : Agrees w s) (p task : ℕ) where
   abbrev held_by : PortView Kept → PortView Kept
   held_by v = record v { attributes = record v.attributes { holder = holder.Task task } }
 
-  same_held : (v : PortView Kept) → SamePort (held_by v) v
-  same_held v = record { queue = refl; limit = refl; make_send = refl; sequence = refl; set = refl }
+  given_made : (kind : Kind) (o : Option (PortView Kept)) → (holder_given kind p task w.ports o).made ≡ w.ports.made
+  given_made receive (Some v) = refl
+  given_made receive None = refl
+  given_made send o = refl
+  given_made send_once o = refl
 
-  given_there : (kind : Kind) (o : Option (PortView Kept)) → o ≡ map.get ports.ports p → (q : ℕ) →
-      is_some (map.get (holder_given kind p task ports o).ports q) ≡ is_some (map.get ports.ports q)
-  given_there receive (Some v) e q = elim (eqb_tells q p) [
-    | inl h ↦ subst (λ (n : ℕ). is_some (map.get (map.insert ports.ports p (held_by v)) n) ≡ is_some (map.get ports.ports n)) (sym h.1)
-        (ap (λ (n : Option (PortView Kept)). is_some n) (get_own ports.ports p (held_by v)) ∙ ap (λ (n : Option (PortView Kept)). is_some n) e)
-    | inr h ↦ ap (λ (n : Option (PortView Kept)). is_some n) (get_other ports.ports p (held_by v) q h.1)
-  ]
-  given_there receive None e q = refl
-  given_there send o e q = refl
-  given_there send_once o e q = refl
-
-  given_ports : (kind : Kind) (o : Option (PortView Kept)) → o ≡ map.get ports.ports p → (q : ℕ) (v : PortView Kept) → map.get (holder_given kind p task ports o).ports q ≡ Some v →
-      (u : PortView Kept) × (map.get ports.ports q ≡ Some u) × SamePort v u
-  given_ports receive (Some x) e q v is = elim (eqb_tells q p) [
-    | inl h ↦
-        let f : held_by x ≡ v = same_some (held_by x) v (sym (get_own ports.ports p (held_by x)) ∙ ap (map.get (map.insert ports.ports p (held_by x))) (sym h.1) ∙ is) in
-        (x, ap (map.get ports.ports) h.1 ∙ sym e, subst (λ (y : PortView Kept). SamePort y x) f (same_held x))
-    | inr h ↦ (v, sym (get_other ports.ports p (held_by x) q h.1) ∙ is, same_view v)
-  ]
-  given_ports receive None e q v is = (v, is, same_view v)
-  given_ports send o e q v is = (v, is, same_view v)
-  given_ports send_once o e q v is = (v, is, same_view v)
+  given_ports : (kind : Kind) (o : Option (PortView Kept)) → port_at w p ≡ o → (q : ℕ) (v : PortView Kept) → map.get (holder_given kind p task w.ports o).ports q ≡ Some v → ShowsPort v s q
+  given_ports receive (Some x) e = ports_put w.ports.ports p (held_by x) s
+      (let b = a.ports p x e in record { waiting = b.waiting; limit = b.limit; make_send = b.make_send; sequence = b.sequence; sets = b.sets }) (λ q v not is. a.ports q v is)
+  given_ports receive None e = a.ports
+  given_ports send o e = a.ports
+  given_ports send_once o e = a.ports
 
 -- ---- the right is given
 
 pub option_named : (o : Option Entry) (p : ℕ) → option_map target_of o ≡ Some (Target.port p) → option_and_then port_named o ≡ Some p
 option_named None p e = absurd (cc)
-option_named (Some (entry.Receive q)) p e = let f : Target.port q ≡ Target.port p = cc in let g : q ≡ p = cc in ap Some g
-option_named (Some (entry.Send q n)) p e = let f : Target.port q ≡ Target.port p = cc in let g : q ≡ p = cc in ap Some g
-option_named (Some (entry.ReceiveAndSend q n)) p e = let f : Target.port q ≡ Target.port p = cc in let g : q ≡ p = cc in ap Some g
-option_named (Some (entry.SendOnce q)) p e = absurd (let f : Target.once q ≡ Target.port p = cc in cc)
-option_named (Some (entry.DeadName n)) p e = absurd (let f : Target.dead n ≡ Target.port p = cc in cc)
-option_named (Some (entry.Set n)) p e = absurd (let f : Target.set n ≡ Target.port p = cc in cc)
+option_named (Some x) p e = port_of x p (same_found (option_map target_of (Some x)) (target_of x) (Target.port p) refl e)
 
 pub same_there : (o : Option Entry) → is_some (option_map target_of o) ≡ is_some o
 same_there (Some x) = refl
 same_there None = refl
-
-alone_named : (kind : Kind) (p q : ℕ) → port_named (alone kind p) ≡ Some q → (kind ≢ send_once) × (p ≡ q)
-alone_named receive p q e = (λ f. cc, (cc))
-alone_named send p q e = (λ f. cc, (cc))
-alone_named send_once p q e = absurd (cc)
 
 alone_rights : (kind : Kind) (p : ℕ) → kind ≢ send_once → (more_receive kind ≡ one_if (has_receive (alone kind p))) × (more_send kind 0 ≡ send_references (alone kind p))
 alone_rights receive p not = (refl, refl)
@@ -408,14 +276,17 @@ module _ (w : WorldView) (s : State) (a : Agrees w s) (o k : ℕ) (l : IsMoving 
     lookup_is : (name : ℕ) → lookup s task name ≡ option_map target_of (map.get g.space.names name)
     lookup_is name = a.naming task name ∙ ap (option_map target_of) (entry_is name)
 
-    was_counted : (name : ℕ) (x : Entry) → map.get g.space.names name ≡ Some x → HasCount x
-    was_counted name x is = a.counted task name x (entry_is name ∙ is)
+    ports_are : w'.ports ≡ holder_given kind p task w.ports (port_at w p)
+    ports_are = ap (λ (x : WorldView). x.ports) g.rest
 
-    port_kept : (t : State) → t.make_send ≡ s.make_send → t.sequence ≡ s.sequence → t.sets_of ≡ s.sets_of → w'.ports ≡ holder_given kind p task w.ports (map.get w.ports.ports p) → (q : ℕ) (v : PortView Kept) → port_at w' q ≡ Some v →
-        (u : PortView Kept) × (port_at w q ≡ Some u) × KeepsPort u v s t q
-    port_kept t make_send sequence sets ports_are q v is =
-        let x = given_ports p task w.ports kind (map.get w.ports.ports p) refl q v (sym (ap (λ (y : PortsView Kept). map.get y.ports q) ports_are) ∙ is) in
-        (x.0, x.1, keeps_port v x.0 s t q x.2 (ap (λ (y : ℕ → ℕ). y q) make_send) (ap (λ (y : ℕ → ℕ). y q) sequence) (ap (λ (y : ℕ → List ℕ). y q) sets) (a.ports q x.0 x.1))
+    live_kept : (q : ℕ) → is_some (port_at w' q) ≡ is_some (port_at w q)
+    live_kept q = ap (λ (x : PortsView Kept). is_some (map.get x.ports q)) ports_are ∙ live-held kind p task w.ports q (port_at w p) refl
+
+    made_kept : w'.ports.made ≡ w.ports.made
+    made_kept = ap (λ (x : PortsView Kept). x.made) ports_are ∙ given_made w s a p task kind (port_at w p)
+
+    port_kept : (q : ℕ) (v : PortView Kept) → port_at w' q ≡ Some v → ShowsPort v s q
+    port_kept q v is = given_ports w s a p task kind (port_at w p) refl q v (sym (ap (λ (y : PortsView Kept). map.get y.ports q) ports_are) ∙ is)
 
     was_few : held s task send p ≤ most_references
     was_few = (l.naming task).few_references p
@@ -436,40 +307,32 @@ module _ (w : WorldView) (s : State) (a : Agrees w s) (o k : ℕ) (l : IsMoving 
           let x = joined_rights kind j.entry p (held s task receive p) (held s task send p) j.not_once j.named rights.0 rights.1 was_few not_twice in
           (held_receive s same_name o k task kind p moves ∙ x.0, held_send s same_name o k task kind p moves ∙ x.1)
 
-      after_own : map.get g.after word ≡ Some (joined kind j.entry)
-      after_own = ap (λ (m : Names). map.get m word) j.rest ∙ get_own g.space.names word (joined kind j.entry)
-
-      after_other : (n : ℕ) → n ≢ word → map.get g.after n ≡ map.get g.space.names n
-      after_other n not = ap (λ (m : Names). map.get m n) j.rest ∙ get_other g.space.names word (joined kind j.entry) n not
-
-      same_entry : (x y : Entry) → Some x ≡ Some y → x ≡ y
-      same_entry x y is = cc
-
-      join_references : (name : ℕ) (x : Entry) (q : ℕ) → map.get g.after name ≡ Some x → port_named x ≡ Some q →
-          (held same_name task receive q ≡ one_if (has_receive x)) × (held same_name task send q ≡ send_references x)
-      join_references name x q is named = elim (eqb_tells name word) [
-        | inl h ↦
-            let f : joined kind j.entry ≡ x = same_entry (joined kind j.entry) x (sym after_own ∙ ap (map.get g.after) (sym h.1) ∙ is) in
-            let f' : target_of x ≡ Target.port p = sym (ap target_of f) ∙ joined_target kind j.entry ∙ target_named j.entry p j.named in
-            let same : p ≡ q = one_port p q (sym f' ∙ target_named x q named) in
-            subst (λ (y : ℕ). (held same_name task receive y ≡ one_if (has_receive x)) × (held same_name task send y ≡ send_references x)) same
-            (subst (λ (y : Entry). (held same_name task receive p ≡ one_if (has_receive y)) × (held same_name task send p ≡ send_references y)) f joined_now)
-        | inr h ↦
-            let was : map.get g.space.names name ≡ Some x = sym (after_other name h.1) ∙ is in
-            let r = a.references task name x q (entry_is name ∙ was) named in
-            let not : q ≢ p = λ same. h.1 ((l.naming task).one_name name word p
-            (lookup_is name ∙ ap (option_map target_of) was ∙ ap Some (target_named x q named) ∙ ap (λ (y : ℕ). Some (Target.port y)) same) word_is) in
-            (held_other_port s same_name o k task kind p moves receive q not ∙ r.0, held_other_port s same_name o k task kind p moves send q not ∙ r.1)
-      ]
+      join_references : CountRights g.after task tokens
+      join_references = subst (λ (m : Names). CountRights m task tokens) (sym j.rest) (each_put g.space.names word (Some (joined kind j.entry))
+          (λ n o. (x : Entry) (q : ℕ) → o ≡ Some x → port_named x ≡ Some q → (held same_name task receive q ≡ one_if (has_receive x)) × (held same_name task send q ≡ send_references x))
+          (λ x q is named. own x q (same_found (Some x) (joined kind j.entry) x (sym is) refl) named)
+          (λ n not x q is named.
+          let r = a.references task n x q (entry_is n ∙ is) named in
+          let other : q ≢ p = λ same. not ((l.naming task).one_name n word p
+          (lookup_is n ∙ ap (option_map target_of) is ∙ ap Some (target_named x q named) ∙ ap (λ (y : ℕ). Some (Target.port y)) same) word_is) in
+          (held_other_port s same_name o k task kind p moves receive q other ∙ r.0, held_other_port s same_name o k task kind p moves send q other ∙ r.1)))
         where
           one_port : (x y : ℕ) → Target.port x ≡ Target.port y → x ≡ y
           one_port x y is = cc
 
-      join_counted : (name : ℕ) (x : Entry) → map.get g.after name ≡ Some x → HasCount x
-      join_counted name x is = elim (eqb_tells name word) [
-        | inl h ↦ subst HasCount (same_entry (joined kind j.entry) x (sym after_own ∙ ap (map.get g.after) (sym h.1) ∙ is)) (joined_count kind j.entry (was_counted word j.entry j.found))
-        | inr h ↦ was_counted name x (sym (after_other name h.1) ∙ is)
-      ]
+          own : (x : Entry) (q : ℕ) → joined kind j.entry ≡ x → port_named x ≡ Some q → (held same_name task receive q ≡ one_if (has_receive x)) × (held same_name task send q ≡ send_references x)
+          own x q f named =
+              let f' : target_of x ≡ Target.port p = sym (ap target_of f) ∙ (joined_keeps kind j.entry).1 ∙ target_named j.entry p j.named in
+              let same : p ≡ q = one_port p q (sym f' ∙ target_named x q named) in
+              subst (λ (y : ℕ). (held same_name task receive y ≡ one_if (has_receive x)) × (held same_name task send y ≡ send_references x)) same
+              (subst (λ (y : Entry). (held same_name task receive p ≡ one_if (has_receive y)) × (held same_name task send p ≡ send_references y)) f joined_now)
+
+      join_names : NamesAgree g.after (s.naming task)
+      join_names =
+          let is : lookup s task word ≡ Some (target_of (joined kind j.entry)) = lookup_is word ∙ ap (option_map target_of) j.found ∙ ap Some (sym ((joined_keeps kind j.entry).1)) in
+          let old = own_names w s a task g.space g.there in
+          subst (NamesAgree g.after) (put_same (s.naming task) word (target_of (joined kind j.entry)) is) (subst (λ (m : Names). NamesAgree m (map.insert (s.naming task) word (target_of (joined kind j.entry)))) (sym j.rest)
+          (put_names g.space.names (s.naming task) old word (Some (joined kind j.entry)) (of_some (joined kind j.entry) HasCount ((joined_keeps kind j.entry).2 (old.counted word j.entry j.found)))))
 
       join_settled : (c : Kind) → c ≡ kind → Settled s task kind p w.ledger g.ledger
       join_settled receive is = inl (
@@ -497,39 +360,21 @@ module _ (w : WorldView) (s : State) (a : Agrees w s) (o k : ℕ) (l : IsMoving 
           below_most m n same few not = omega (arith, same, few, not)
       join_settled send_once is = absurd (j.not_once (sym is))
 
-      kept_length : map.len g.after ≡ map.len g.space.names
-      kept_length = ap (λ (m : Names). map.len m) j.rest ∙ len-insert nat_cmp_total g.space.names word (joined kind j.entry) ∙ rw j.found refl
-
-      join_named : (name : ℕ) → lookup same_name task name ≡ option_map target_of (map.get g.after name)
-      join_named name = elim (eqb_tells name word) [
-        | inl h ↦ subst (λ (n : ℕ). lookup s task n ≡ option_map target_of (map.get g.after n)) (sym h.1)
-            (lookup_is word ∙ ap (option_map target_of) j.found ∙ ap Some (sym (joined_target kind j.entry)) ∙ sym (ap (option_map target_of) after_own))
-        | inr h ↦ lookup_is name ∙ sym (ap (option_map target_of) (after_other name h.1))
-      ]
-
-      ledger_is : w'.ledger ≡ g.ledger
-      ledger_is = ap (λ (x : WorldView). x.ledger) g.rest
-
-      ports_are : w'.ports ≡ holder_given kind p task w.ports (map.get w.ports.ports p)
-      ports_are = ap (λ (x : WorldView). x.ports) g.rest
-
       join_changes : Near w w' s same_name task (record { names = g.after; room = g.room })
       join_changes =
-          let settled : Settled s task kind p w.ledger w'.ledger = subst (λ (x : LedgerView). Settled s task kind p w.ledger x) (sym ledger_is) (join_settled kind refl) in
+          let settled : Settled s task kind p w.ledger w'.ledger = subst (λ (x : LedgerView). Settled s task kind p w.ledger x) (sym (ap (λ (x : WorldView). x.ledger) g.rest)) (join_settled kind refl) in
           record {
             spaces = ap (λ (x : WorldView). x.spaces) g.rest;
             rest = refl;
             naming_others = λ x not. refl;
-            naming = join_named;
-            names_kept = kept_length ∙ a.names_kept task g.space g.there;
+            names = join_names;
             held_others = held_other_task s same_name o k task kind p moves;
             references = join_references;
-            counted = join_counted;
-            live = λ q. ap (λ (x : PortsView Kept). is_some (map.get x.ports q)) ports_are ∙ given_there p task w.ports kind (map.get w.ports.ports p) refl q;
-            made = ap (λ (x : PortsView Kept). x.made) ports_are ∙ given_made p task w.ports kind (map.get w.ports.ports p);
-            ports = λ q v is. port_kept same_name refl refl refl ports_are q v is;
-            counts = settled_counts w s a same_name o k task kind p refl moves lives w' settled;
-            total = settled_total w s a same_name o k task kind p refl moves lives w' settled;
+            live = live_kept;
+            made = made_kept;
+            ports = port_kept;
+            counts = settled_counts w s a tokens o k task kind p moves lives w'.ledger settled;
+            total = settled_total w s a tokens o k task kind p moves lives w'.ledger settled;
             requests = lying_kept s same_name o k task kind p moves;
             sets = ap (λ (x : WorldView). x.sets) g.rest;
             set_names = λ n set named. named;
@@ -582,31 +427,12 @@ module _ (w : WorldView) (s : State) (a : Agrees w s) (o k : ℕ) (l : IsMoving 
       len_is : map.len g.space.names ≡ map.len (s.naming task)
       len_is = a.names_kept task g.space g.there
 
-      new_own : map.get g.after word ≡ Some (alone kind p)
-      new_own = ap (λ (m : Names). map.get m word) x.rest ∙ get_own g.space.names word (alone kind p)
-
-      new_other : (n : ℕ) → n ≢ word → map.get g.after n ≡ map.get g.space.names n
-      new_other n not = ap (λ (m : Names). map.get m n) x.rest ∙ get_other g.space.names word (alone kind p) n not
-
       names_own : new_name.naming task ≡ map.insert (s.naming task) word target
       names_own = at_own s.naming task (map.insert (s.naming task) word target)
-
-      new_named : (name : ℕ) → lookup new_name task name ≡ option_map target_of (map.get g.after name)
-      new_named name = ap (λ (m : Targets). map.get m name) names_own ∙ elim (eqb_tells name word) [
-        | inl h ↦ subst (λ (n : ℕ). map.get (map.insert (s.naming task) word target) n ≡ option_map target_of (map.get g.after n)) (sym h.1)
-            (get_own (s.naming task) word target ∙ sym (ap (option_map target_of) new_own))
-        | inr h ↦ get_other (s.naming task) word target name h.1 ∙ lookup_is name ∙ sym (ap (option_map target_of) (new_other name h.1))
-      ]
 
       -- what stood under another name still does, and nothing stood under this one
       stays : (n : ℕ) (y : Target) → lookup s task n ≡ Some y → lookup new_name task n ≡ Some y
       stays n y is = ap (λ (m : Targets). map.get m n) names_own ∙ kept (s.naming task) word target n y unused is
-
-      new_length : map.len g.after ≡ map.len (new_name.naming task)
-      new_length =
-          let b : map.len g.after ≡ map.len g.space.names + 1 = ap (λ (m : Names). map.len m) x.rest ∙ len-insert nat_cmp_total g.space.names word (alone kind p) ∙ rw x.unused refl in
-          let c : map.len (new_name.naming task) ≡ map.len (s.naming task) + 1 = ap (λ (m : Targets). map.len m) names_own ∙ len-insert nat_cmp_total (s.naming task) word target ∙ rw unused refl in
-          omega (arith, b, c, len_is)
 
       -- a right under a name of its own is the only one of its port that is under a port's name
       own_rights : kind ≢ send_once → (held new_name task receive p ≡ one_if (has_receive (alone kind p))) × (held new_name task send p ≡ send_references (alone kind p))
@@ -639,33 +465,23 @@ module _ (w : WorldView) (s : State) (a : Agrees w s) (o k : ℕ) (l : IsMoving 
         | inr h ↦ (held_other_port s new_name o k task kind p moves receive q (not h), held_other_port s new_name o k task kind p moves send q (not h))
       ]
 
-      new_references : (name : ℕ) (y : Entry) (q : ℕ) → map.get g.after name ≡ Some y → port_named y ≡ Some q →
-          (held new_name task receive q ≡ one_if (has_receive y)) × (held new_name task send q ≡ send_references y)
-      new_references name y q is named = elim (eqb_tells name word) [
-        | inl h ↦
-            let f : alone kind p ≡ y = one_entry (alone kind p) y (sym new_own ∙ ap (map.get g.after) (sym h.1) ∙ is) in
-            let n = alone_named kind p q (ap port_named f ∙ named) in
-            subst (λ (i : ℕ). (held new_name task receive i ≡ one_if (has_receive y)) × (held new_name task send i ≡ send_references y)) n.1
-            (subst (λ (z : Entry). (held new_name task receive p ≡ one_if (has_receive z)) × (held new_name task send p ≡ send_references z)) f (own_rights n.0))
-        | inr h ↦
-            let was : map.get g.space.names name ≡ Some y = sym (new_other name h.1) ∙ is in
-            let r = a.references task name y q (entry_is name ∙ was) named in
-            let u = other_rights q (λ not same. no_name not name
-            (lookup_is name ∙ ap (option_map target_of) was ∙ ap Some (target_named y q named) ∙ ap (λ (i : ℕ). Some (Target.port i)) same)) in
-            (u.0 ∙ r.0, u.1 ∙ r.1)
-      ]
+      new_references : CountRights g.after task tokens
+      new_references = subst (λ (m : Names). CountRights m task tokens) (sym x.rest) (each_put g.space.names word (Some (alone kind p))
+          (λ n o. (y : Entry) (q : ℕ) → o ≡ Some y → port_named y ≡ Some q → (held new_name task receive q ≡ one_if (has_receive y)) × (held new_name task send q ≡ send_references y))
+          (λ y q is named. of_some (alone kind p) (λ y. (q : ℕ) → port_named y ≡ Some q → (held new_name task receive q ≡ one_if (has_receive y)) × (held new_name task send q ≡ send_references y)) own y is q named)
+          (λ n not y q is named.
+          let r = a.references task n y q (entry_is n ∙ is) named in
+          let u = other_rights q (λ lone same. no_name lone n
+          (lookup_is n ∙ ap (option_map target_of) is ∙ ap Some (target_named y q named) ∙ ap (λ (i : ℕ). Some (Target.port i)) same)) in
+          (u.0 ∙ r.0, u.1 ∙ r.1)))
         where
-          one_entry : (i j : Entry) → Some i ≡ Some j → i ≡ j
-          one_entry i j is = cc
+          own : (q : ℕ) → port_named (alone kind p) ≡ Some q → (held new_name task receive q ≡ one_if (has_receive (alone kind p))) × (held new_name task send q ≡ send_references (alone kind p))
+          own q named = let n = alone_port kind p q named in
+              subst (λ (i : ℕ). (held new_name task receive i ≡ one_if (has_receive (alone kind p))) × (held new_name task send i ≡ send_references (alone kind p))) n.1 (own_rights n.0)
 
-      new_counted : (name : ℕ) (y : Entry) → map.get g.after name ≡ Some y → HasCount y
-      new_counted name y is = elim (eqb_tells name word) [
-        | inl h ↦ subst HasCount (one_entry (alone kind p) y (sym new_own ∙ ap (map.get g.after) (sym h.1) ∙ is)) (alone_count kind p)
-        | inr h ↦ was_counted name y (sym (new_other name h.1) ∙ is)
-      ]
-        where
-          one_entry : (i j : Entry) → Some i ≡ Some j → i ≡ j
-          one_entry i j is = cc
+      new_names : NamesAgree g.after (new_name.naming task)
+      new_names = subst (NamesAgree g.after) (sym names_own) (subst (λ (m : Names). NamesAgree m (map.insert (s.naming task) word target)) (sym x.rest)
+          (put_names g.space.names (s.naming task) (own_names w s a task g.space g.there) word (Some (alone kind p)) (of_some (alone kind p) HasCount (alone_count kind p))))
 
       new_settled : (c : Kind) → c ≡ kind → given_to kind p task s ≡ token kind p (in_task task) ∷ []
       new_settled receive is = subst (λ (y : Kind). given_to y p task s ≡ token y p (in_task task) ∷ []) is refl
@@ -677,23 +493,19 @@ module _ (w : WorldView) (s : State) (a : Agrees w s) (o k : ℕ) (l : IsMoving 
 
       new_changes : Near w w' s new_name task (record { names = g.after; room = g.room })
       new_changes =
-          let ledger_same : w'.ledger ≡ w.ledger = ap (λ (y : WorldView). y.ledger) g.rest ∙ e in
-          let ports_same : w'.ports ≡ holder_given kind p task w.ports (map.get w.ports.ports p) = ap (λ (y : WorldView). y.ports) g.rest in
-          let settled : Settled s task kind p w.ledger w'.ledger = inl (new_settled kind refl, ledger_same) in
+          let settled : Settled s task kind p w.ledger w'.ledger = inl (new_settled kind refl, ap (λ (y : WorldView). y.ledger) g.rest ∙ e) in
           record {
             spaces = ap (λ (y : WorldView). y.spaces) g.rest;
             rest = refl;
             naming_others = λ y not. at_other s.naming task (map.insert (s.naming task) word target) y not;
-            naming = new_named;
-            names_kept = new_length;
+            names = new_names;
             held_others = held_other_task s new_name o k task kind p moves;
             references = new_references;
-            counted = new_counted;
-            live = λ q. ap (λ (y : PortsView Kept). is_some (map.get y.ports q)) ports_same ∙ given_there p task w.ports kind (map.get w.ports.ports p) refl q;
-            made = ap (λ (y : PortsView Kept). y.made) ports_same ∙ given_made p task w.ports kind (map.get w.ports.ports p);
-            ports = λ q v is. port_kept new_name refl refl refl ports_same q v is;
-            counts = settled_counts w s a new_name o k task kind p refl moves lives w' settled;
-            total = settled_total w s a new_name o k task kind p refl moves lives w' settled;
+            live = live_kept;
+            made = made_kept;
+            ports = port_kept;
+            counts = settled_counts w s a tokens o k task kind p moves lives w'.ledger settled;
+            total = settled_total w s a tokens o k task kind p moves lives w'.ledger settled;
             requests = lying_kept s new_name o k task kind p moves;
             sets = ap (λ (y : WorldView). y.sets) g.rest;
             set_names = λ n set named. stays n (Target.set set) named;

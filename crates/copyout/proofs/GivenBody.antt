@@ -11,8 +11,8 @@ use Rattle.mach_model.specs.CopyOut.{GiveMark, GiveReply, GiveMarks, GiveItems, 
 use Rattle.mach_model.specs.Carried.{mark_count, marks_count, reply_count, items_count, body_count}
 use Rattle.message_codec.specs.Received.{received_kind, received_wires, received_body}
 use Rattle.message_codec.proofs.Shapes.{All-head, All-tail}
-use Rattle.copyin.specs.declared.message.Carried.{Carried}
-use Rattle.copyin.specs.Kept.{mark_of, marks_of, kind_of, items_of, body_of, reply_of, items_given, body_given}
+use Rattle.copyin_base.specs.declared.message.Carried.{Carried}
+use Rattle.copyin_base.specs.Kept.{mark_of, marks_of, kind_of, items_of, body_of, reply_of, items_given, body_given}
 use Rattle.copyin.specs.Plans.{option_list}
 use Rattle.copyin.proofs.Bodies.{numbers}
 use Rattle.copyin.proofs.Numbering.{of_number, number_of, given_ports}

@@ -20,8 +20,8 @@ use Rattle.message_codec.specs.Received.{received_kind, received_wires, received
 use Rattle.message_codec.specs.Spans.{spans_at, body_spans, word_count}
 use Rattle.message_codec.proofs.Fronts.{length-descriptor_text}
 use Rattle.message_codec.proofs.Shapes.{All-cons, length-words_text}
-use Rattle.copyin.specs.declared.message.Carried.{Carried}
-use Rattle.copyin.specs.Kept.{mark_of, items_given, body_given}
+use Rattle.copyin_base.specs.declared.message.Carried.{Carried}
+use Rattle.copyin_base.specs.Kept.{mark_of, items_given, body_given}
 use Rattle.copyout.proofs.GivenAll.{GiveEach}
 
 -- ---- a name that was given

@@ -1,6 +1,6 @@
 -- One right given: the tables after its steps.
 use Rattle.std.proofs.Common.{◌≡◌, ◌≢◌, ℕ, ◌+◌, ◌-◌, ◌<◌, ◌≤◌, List, Option, Some, None, refl, sym, ap, subst, ◌∙◌, arith, inl, inr}
-use Rattle.std.specs.Prelude.{slice_get, slice_set}
+use Rattle.std.specs.Prelude.{slice_get, slice_set, is_some}
 use Rattle.std.specs.Option.{option_and_then}
 use Rattle.std.specs.FinMap as map
 use Rattle.mach_types.specs.Numbers.{most_names}
@@ -8,9 +8,11 @@ use Rattle.mach_types.specs.Tokens.{Kind, receive, send, send_once}
 use Rattle.name_space.specs.declared.Entry.{Entry}
 use Rattle.name_space.specs.declared.Entry.TheVariants as entry_of
 use Rattle.name_space.specs.Entry.{port_named}
-use Rattle.name_space.specs.Names.{Names, SpaceView, IsFreshName, port_at}
-use Rattle.copyin.specs.Worlds.{WorldView, entry_in, entry_at}
-use Rattle.copyin.proofs.Gets.{get-set_same, same_found}
+use Rattle.name_space.specs.Names.{Names, SpaceView, IsFreshName, HasNoOther, port_at}
+use Rattle.copyin_base.specs.Worlds.{WorldView, entry_in, entry_at}
+use Rattle.copyin_base.specs.Shows.{target_of, HasCount}
+use Rattle.copyin_base.specs.Changes.{CanPutLeft, PutsLeft, InsertsEntry}
+use Rattle.copyin_base.proofs.Gets.{get-set_same, same_found}
 use Rattle.copyout.specs.Giving.{joined, alone, ledger_joined, holder_given, GivesPort}
 use Rattle.copyout.specs.Ready.{UsesOneRoom}
 
@@ -21,21 +23,24 @@ found_in w task name space entry there e = sym (ap (λ (o : Option SpaceView). e
 pub named_in : (names : Names) (name port : ℕ) (entry : Entry) → map.get names name ≡ Some entry → port_at names name ≡ Some port → port_named entry ≡ Some port
 named_in names name port entry found named = sym (ap (option_and_then port_named) found) ∙ named
 
--- the entry of a name stays that of its port
+-- the entry of a name stays that of its port, and counts
+pub joined_keeps : (kind : Kind) (x : Entry) → (port_named (joined kind x) ≡ port_named x) × (target_of (joined kind x) ≡ target_of x) × (HasCount x → HasCount (joined kind x))
+joined_keeps send (entry_of.Receive p) = (refl, refl, λ c. omega arith)
+joined_keeps send (entry_of.Send p n) = (refl, refl, λ c. omega arith)
+joined_keeps send (entry_of.ReceiveAndSend p n) = (refl, refl, λ c. omega arith)
+joined_keeps send (entry_of.SendOnce p) = (refl, refl, λ c. c)
+joined_keeps send (entry_of.DeadName n) = (refl, refl, λ c. c)
+joined_keeps send (entry_of.Set n) = (refl, refl, λ c. c)
+joined_keeps receive (entry_of.Receive p) = (refl, refl, λ c. c)
+joined_keeps receive (entry_of.Send p n) = (refl, refl, λ c. c)
+joined_keeps receive (entry_of.ReceiveAndSend p n) = (refl, refl, λ c. c)
+joined_keeps receive (entry_of.SendOnce p) = (refl, refl, λ c. c)
+joined_keeps receive (entry_of.DeadName n) = (refl, refl, λ c. c)
+joined_keeps receive (entry_of.Set n) = (refl, refl, λ c. c)
+joined_keeps send_once x = (refl, refl, λ c. c)
+
 pub joined_port : (kind : Kind) (entry : Entry) → port_named (joined kind entry) ≡ port_named entry
-joined_port send (entry_of.Receive p) = refl
-joined_port send (entry_of.Send p n) = refl
-joined_port send (entry_of.ReceiveAndSend p n) = refl
-joined_port send (entry_of.SendOnce p) = refl
-joined_port send (entry_of.DeadName n) = refl
-joined_port send (entry_of.Set n) = refl
-joined_port receive (entry_of.Receive p) = refl
-joined_port receive (entry_of.Send p n) = refl
-joined_port receive (entry_of.ReceiveAndSend p n) = refl
-joined_port receive (entry_of.SendOnce p) = refl
-joined_port receive (entry_of.DeadName n) = refl
-joined_port receive (entry_of.Set n) = refl
-joined_port send_once entry = refl
+joined_port kind entry = (joined_keeps kind entry).0
 
 pub alone_port : (kind : Kind) (port p : ℕ) → port_named (alone kind port) ≡ Some p → (kind ≢ send_once) × (port ≡ p)
 alone_port send port p e = (λ h. cc, cc)
@@ -50,12 +55,32 @@ uses_room w new task space space2 there e h a b x y =
     let eb : space2 ≡ b = same_found (slice_get new.spaces task) space2 b own y in
     subst (λ (z : SpaceView). a.room ≤ z.room + 1) eb (subst (λ (z : SpaceView). z.room ≤ space2.room + 1) ea h)
 
+-- the entry may come in place of what stands under the name
+pub can_replace : (w : WorldView) (task : ℕ) (kind : Kind) (name : ℕ) (entry put : Entry) (space : SpaceView) → slice_get w.spaces task ≡ Some space → put ≡ joined kind entry →
+    map.get space.names name ≡ Some entry → CanPutLeft w task name (Some put)
+can_replace w task kind name entry put space there is found = record {
+  space = space;
+  there = there;
+  used = ap is_some found;
+  same = λ p named. ap (option_and_then port_named) found ∙ sym (joined_port kind entry) ∙ sym (ap port_named is) ∙ named;
+}
+
+-- it is for no port, or the task has no other name for it
+pub no_other : (names : Names) (kind : Kind) (port : ℕ) (x : Entry) → x ≡ alone kind port → (kind ≢ send_once → (name : ℕ) → port_at names name ≢ Some port) → HasNoOther names x
+no_other names kind port x is lone p name named here =
+    let a = alone_port kind port p (sym (ap port_named is) ∙ named) in
+    lone a.0 name (here ∙ ap (λ (q : ℕ). Some q) (sym a.1))
+
 -- under the task's name for the port
-module _ (w w1 w2 w3 : WorldView) (task : ℕ) (kind : Kind) (port name : ℕ) (entry put : Entry) (space : SpaceView)
-    (there : slice_get w.spaces task ≡ Some space) (is : put ≡ joined kind entry)
+module _ (w w1 w2 w3 : WorldView) (task : ℕ) (kind : Kind) (port name : ℕ) (entry left : Entry) (space : SpaceView)
+    (there : slice_get w.spaces task ≡ Some space) (is : left ≡ joined kind entry)
     (dropped : w1 ≡ record w { ledger = ledger_joined kind port entry w.ledger })
-    (replaced : w2 ≡ record w1 { spaces = slice_set w1.spaces task (record space { names = map.insert space.names name put }) })
+    (puts : PutsLeft w1 task name (Some left) w2)
     (holds : w3 ≡ record w2 { ports = holder_given kind port task w2.ports (map.get w2.ports.ports port) }) where
+  replaced : w2 ≡ record w1 { spaces = slice_set w1.spaces task (record space { names = map.insert space.names name left }) }
+  replaced = subst (λ (x : SpaceView). w2 ≡ record w1 { spaces = slice_set w1.spaces task (record x { names = map.insert x.names name left }) })
+      (same_found (slice_get w1.spaces task) puts.space space puts.there (ap (λ (x : WorldView). slice_get x.spaces task) dropped ∙ there)) puts.rest
+
   pub rest-joined : w3 ≡ record w {
     spaces = slice_set w.spaces task (record space { names = map.insert space.names name (joined kind entry) });
     ports = holder_given kind port task w.ports (map.get w.ports.ports port);
@@ -64,7 +89,7 @@ module _ (w w1 w2 w3 : WorldView) (task : ℕ) (kind : Kind) (port name : ℕ) (
   rest-joined =
       let f : WorldView → WorldView = λ x. record x { ports = holder_given kind port task x.ports (map.get x.ports.ports port) } in
       let g : Entry → WorldView → WorldView = λ e x. record x { spaces = slice_set x.spaces task (record space { names = map.insert space.names name e }) } in
-      holds ∙ ap f replaced ∙ ap (λ (x : WorldView). f (g put x)) dropped ∙ ap (λ (e : Entry). f (g e (record w { ledger = ledger_joined kind port entry w.ledger }))) is
+      holds ∙ ap f replaced ∙ ap (λ (x : WorldView). f (g left x)) dropped ∙ ap (λ (e : Entry). f (g e (record w { ledger = ledger_joined kind port entry w.ledger }))) is
 
   pub gives-joined : kind ≢ send_once → map.get space.names name ≡ Some entry → port_named entry ≡ Some port → GivesPort w task kind port name w3
   gives-joined not_once found named = record {
@@ -81,10 +106,14 @@ module _ (w w1 w2 w3 : WorldView) (task : ℕ) (kind : Kind) (port name : ℕ) (
   room-joined = uses_room w w3 task space (record space { names = map.insert space.names name (joined kind entry) }) there (ap (λ (x : WorldView). x.spaces) rest-joined) (omega arith)
 
 -- under a fresh name
-module _ (w w1 w2 : WorldView) (task : ℕ) (kind : Kind) (port name : ℕ) (space : SpaceView)
-    (there : slice_get w.spaces task ≡ Some space)
-    (inserted : w1 ≡ record w { spaces = slice_set w.spaces task (record { names = map.insert space.names name (alone kind port); room = space.room - 1 }) })
+module _ (w w1 w2 : WorldView) (task : ℕ) (kind : Kind) (port name : ℕ) (x : Entry) (space : SpaceView)
+    (there : slice_get w.spaces task ≡ Some space) (is : x ≡ alone kind port) (puts : InsertsEntry w task name x w1)
     (holds : w2 ≡ record w1 { ports = holder_given kind port task w1.ports (map.get w1.ports.ports port) }) where
+  inserted : w1 ≡ record w { spaces = slice_set w.spaces task (record { names = map.insert space.names name (alone kind port); room = space.room - 1 }) }
+  inserted =
+      let f : Entry → SpaceView → WorldView = λ e y. record w { spaces = slice_set w.spaces task (record { names = map.insert y.names name e; room = y.room - 1 }) } in
+      puts.rest ∙ ap (f x) (same_found (slice_get w.spaces task) puts.space space puts.there there) ∙ ap (λ (e : Entry). f e space) is
+
   pub rest-taken : w2 ≡ record w {
     spaces = slice_set w.spaces task (record { names = map.insert space.names name (alone kind port); room = space.room - 1 });
     ports = holder_given kind port task w.ports (map.get w.ports.ports port);

@@ -8,8 +8,8 @@ use Rattle.mach_types.specs.Grammar.{Wire, data_item, port_item, WireBody}
 use Rattle.mach_model.specs.State.{State}
 use Rattle.mach_model.specs.CopyOut.{GiveMark, GiveReply, GiveMarks, ReplyLacks, MarksLack, ItemsLack, BodyLacks, MessageLacks}
 use Rattle.mach_model.specs.CopyOut.{MarkLacks as MachineLacks}
-use Rattle.copyin.specs.declared.message.Carried.{Carried}
-use Rattle.copyin.specs.Kept.{mark_of, marks_of, kind_of, items_of, body_of, reply_of, items_given, body_given}
+use Rattle.copyin_base.specs.declared.message.Carried.{Carried}
+use Rattle.copyin_base.specs.Kept.{mark_of, marks_of, kind_of, items_of, body_of, reply_of, items_given, body_given}
 use Rattle.copyin.specs.Plans.{option_list}
 use Rattle.copyin.proofs.Bodies.{numbers}
 use Rattle.copyout.proofs.GivenBody.{same_head, same_tail, kind_given}

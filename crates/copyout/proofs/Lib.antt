@@ -1,5 +1,4 @@
 pub mod Takings
-pub mod Frames
 pub mod Given
 pub mod GivenAll
 pub mod GivenBody
@@ -10,7 +9,6 @@ pub mod MessageTaken
 pub mod Lacking
 pub mod AllLacking
 pub mod Refusing
-pub mod Roomier
 pub mod Waiting
 pub mod Gives
 pub mod After

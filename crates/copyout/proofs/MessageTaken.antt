@@ -11,9 +11,9 @@ use Rattle.mach_types.specs.Messages.{Message}
 use Rattle.mach_types.specs.Grammar.{WireBody, Spells, IsHeader, body_text}
 use Rattle.mach_types.specs.Grammar as wire
 use Rattle.mach_model.specs.State.{State, Target, lookup, queue}
-use Rattle.mach_model.specs.Status.{one_if}
+use Rattle.mach_model.specs.ReceiveRight.{one_if}
 use Rattle.mach_model.specs.CopyOut.{GiveReply, GiveBody}
-use Rattle.mach_model.specs.Receiving.{TakesFrom, Receives}
+use Rattle.mach_model.specs.Receive.{TakesFrom, Receives}
 use Rattle.mach_model.specs.Carried.{reply_count, body_count}
 use Rattle.mach_model.specs.Lawful.{IsLawful}
 use Rattle.mach_model.proofs.Moving.{IsMoving}
@@ -26,13 +26,13 @@ use Rattle.message_codec.proofs.Spelling.{received-spells}
 use Rattle.name_space.specs.declared.Entry.{Entry as Named}
 use Rattle.name_space.specs.Entry.{port_named, has_receive}
 use Rattle.name_space.specs.Names.{SpaceView}
-use Rattle.copyin.specs.declared.message.Carried.{Carried}
-use Rattle.copyin.specs.Kept.{Kept, reply_of, body_of, body_given}
+use Rattle.copyin_base.specs.declared.message.Carried.{Carried}
+use Rattle.copyin_base.specs.Kept.{Kept, reply_of, body_of, body_given}
 use Rattle.copyin.specs.Plans.{option_list}
-use Rattle.copyin.specs.Worlds.{WorldView, entry_in, entry_at}
-use Rattle.copyin.specs.Shows.{target_of, Agrees, Shows}
+use Rattle.copyin_base.specs.Worlds.{WorldView, entry_in, entry_at}
+use Rattle.copyin_base.specs.Shows.{target_of, Agrees, Shows}
 use Rattle.copyout.specs.Takes.{TakesMessage, reversed, reply_number, reply_word, body_names}
-use Rattle.copyin.proofs.Changing.{target_named}
+use Rattle.copyin_base.proofs.Changing.{target_named}
 use Rattle.copyout.proofs.GivenAll.{AreLying, AllGiven, all_given}
 use Rattle.copyout.proofs.GivenBody.{ReplyGiven, reply_given, body_is_given, message_counted}
 use Rattle.copyout.proofs.GivenWords.{each_keeps, IsWord, each_fits, each_length, body_words_count, rights_length, length-body}
@@ -191,7 +191,7 @@ module _ (w : WorldView) (s : State) (sh : Shows w s) (task port local : ℕ) (b
     local_kind = local_fits kept.by_once;
     size = let f = is.keeps.few in omega (arith, f);
     remote = reply_fits kept.reply m.words words_fit;
-    local = l.name_fits task local (Target.port port) local_name;
+    local = (l.naming task).name_fits local (Target.port port) local_name;
     sequence = let f = l.sequence_fits port in let e = sequence_is in omega (arith, f, e);
     id = is.keeps.id_fits;
   }

@@ -12,15 +12,15 @@ use Rattle.mach_types.specs.Grammar.{Wire, data_item, port_item, WireBody, wire_
 use Rattle.mach_model.specs.State.{State, queue}
 use Rattle.mach_model.specs.CopyOut.{MessageLacks}
 use Rattle.mach_model.specs.ReceivedMeans.{form_length, items_length, body_length, message_length}
-use Rattle.mach_model.specs.Receiving.{TakesFrom, Receipt, ReceiptRefuses}
+use Rattle.mach_model.specs.Receive.{TakesFrom, Receipt, ReceiptRefuses}
 use Rattle.mach_model.proofs.Moving.{moving}
 use Rattle.message_codec.proofs.Shapes.{length-words_text}
 use Rattle.port.specs.Ports.{PortView}
-use Rattle.copyin.specs.declared.message.Carried.{Carried}
-use Rattle.copyin.specs.Kept.{Kept, Keeps, marks_of, items_of, body_of, items_given, body_given, message_of}
+use Rattle.copyin_base.specs.declared.message.Carried.{Carried}
+use Rattle.copyin_base.specs.Kept.{Kept, Keeps, marks_of, items_of, body_of, items_given, body_given, message_of}
 use Rattle.copyin.specs.Plans.{option_list}
-use Rattle.copyin.specs.Worlds.{WorldView, port_at}
-use Rattle.copyin.specs.Shows.{Agrees, Shows}
+use Rattle.copyin_base.specs.Worlds.{WorldView, port_at}
+use Rattle.copyin_base.specs.Shows.{Agrees, Shows}
 use Rattle.copyout.specs.Giving.{AllLack}
 use Rattle.copyout.proofs.Fronts.{HasFront, shown_empty, shown_front, shown_is_front, shown_lying}
 use Rattle.copyin.proofs.Bodies.{numbers}

@@ -1,34 +1,18 @@
 -- Room made for names, and the front message once it was.
-use Rattle.std.proofs.Common.{◌≡◌, ℕ, ◌≤◌, List, Some, sym, ap, subst, ◌∙◌, arith, length, Result, Ok, Err}
-use Rattle.std.specs.Prelude.{slice_get, slice_set, is_some, OnOk, min}
+use Rattle.std.proofs.Common.{◌≡◌, ℕ, ◌≤◌, List, Some, sym, ap, subst, ◌∙◌, arith, length}
+use Rattle.std.specs.Prelude.{slice_get, slice_set, is_some, min}
 use Rattle.std.specs.FinMap as map
 use Rattle.mach_types.specs.Numbers.{most_bytes}
-use Rattle.name_space.specs.Names.{Names, SpaceView}
+use Rattle.name_space.specs.Names.{SpaceView}
 use Rattle.port.specs.Ports.{PortView}
-use Rattle.copyin.specs.Kept.{Kept}
-use Rattle.copyin.specs.Worlds.{WorldView, port_at}
-use Rattle.copyin.proofs.Gets.{get-set_same, same_found, same_head}
+use Rattle.copyin_base.specs.Changes.{AddsRoom}
+use Rattle.copyin_base.specs.Kept.{Kept}
+use Rattle.copyin_base.specs.Worlds.{WorldView, port_at}
+use Rattle.copyin_base.proofs.Gets.{get-set_same, same_found, same_head}
 use Rattle.copyout.specs.Giving.{AllLack}
 use Rattle.copyout.specs.Takes.{TakesFront}
-use Rattle.copyout.specs.Ready.{Waits, HasFront, ReadyFor, MakesRoom, carried_by}
+use Rattle.copyout.specs.Ready.{Waits, HasFront, ReadyFor, carried_by}
 use Rattle.copyout.proofs.Alike.{Alike, all_alike}
-
-pub on_ok : {A E : Type 0} (r : Result A E) (P Q : Type 0) → (P → Q) → OnOk r P → OnOk r Q
-on_ok (Ok a) P Q f h = f h
-on_ok (Err e) P Q f h = h
-
-pub made_room : (w new : WorldView) (task number : ℕ) (space space2 : SpaceView) → slice_get w.spaces task ≡ Some space → space2.names ≡ space.names → space.room ≤ space2.room → number ≤ space2.room →
-    new ≡ record w { spaces = slice_set w.spaces task space2 } → (r : MakesRoom w task new) × (number ≤ r.room)
-made_room w new task number space space2 there names more enough rest = (
-  record {
-    space = space;
-    there = there;
-    room = space2.room;
-    more = more;
-    rest = rest ∙ ap (λ (n : Names). record w { spaces = slice_set w.spaces task (record { names = n; room = space2.room }) }) names;
-  },
-  enough,
-)
 
 abbrev pub waits_kept : (w : WorldView) (xs : List SpaceView) (port : ℕ) → Waits w port → Waits (record w { spaces = xs }) port
 waits_kept w xs port x = record {
@@ -51,7 +35,7 @@ same_front w port x m f =
     let v : x.v ≡ f.v = same_found (port_at w port) x.v f.v x.there f.there in
     same_head f.v.queue x.front m x.behind f.behind (ap (λ (v : PortView Kept). v.queue) (sym v) ∙ x.queue) f.queue
 
-pub ready_after : (w w2 : WorldView) (task port capacity number : ℕ) (x : Waits w port) (m : Kept) → HasFront w port m → (r : MakesRoom w task w2) → number ≤ r.room → number ≡ length (carried_by m) →
+pub ready_after : (w w2 : WorldView) (task port capacity number : ℕ) (x : Waits w port) (m : Kept) → HasFront w port m → (r : AddsRoom w task w2) → number ≤ r.room → number ≡ length (carried_by m) →
     length m.rights ≤ capacity → ¬ (AllLack w task (carried_by m)) → ReadyFor w2 task port capacity
 ready_after w w2 task port capacity number x m f r enough is fit none =
     let space2 : SpaceView = record { names = r.space.names; room = r.room } in
@@ -73,7 +57,7 @@ ready_after w w2 task port capacity number x m f r enough is fit none =
     })
 
 -- the message that was taken is the one that was judged
-pub taken_fits : (w w2 : WorldView) (task port room : ℕ) (m : Kept) → HasFront w port m → MakesRoom w task w2 → length m.bytes ≤ min room most_bytes →
+pub taken_fits : (w w2 : WorldView) (task port room : ℕ) (m : Kept) → HasFront w port m → AddsRoom w task w2 → length m.bytes ≤ min room most_bytes →
     (new : WorldView) (t : TakesFront w2 port new) → length t.front.bytes ≤ min room most_bytes
 taken_fits w w2 task port room m f r fits new t =
     let there : port_at w port ≡ Some t.v = ap (λ (y : WorldView). port_at y port) (sym r.rest) ∙ t.there in

@@ -12,10 +12,10 @@ use Rattle.message_codec.specs.Spans.{word_count}
 use Rattle.port.specs.Ports.{PortView}
 use Rattle.rights.specs.Counts.{number_of}
 use Rattle.rights.specs.Ledger.{IsEntered, counts_of}
-use Rattle.copyin.specs.Kept.{Kept, Keeps, message_of}
+use Rattle.copyin_base.specs.Kept.{Kept, Keeps, message_of}
 use Rattle.copyin.specs.Plans.{option_list}
-use Rattle.copyin.specs.Worlds.{WorldView, port_at}
-use Rattle.copyin.specs.Shows.{Agrees}
+use Rattle.copyin_base.specs.Worlds.{WorldView, port_at}
+use Rattle.copyin_base.specs.Shows.{Agrees}
 use Rattle.copyout.specs.Takes.{destination_right}
 use Rattle.copyout.proofs.Fronts.{HasFront, shown_front, shown_lives}
 use Rattle.copyout.proofs.GivenAll.{each_count}

@@ -11,11 +11,11 @@ use Rattle.port.specs.Ports.{PortView, PortsView, with_port}
 use Rattle.port.specs.declared.Holder.TheVariants as holder
 use Rattle.rights.specs.Ledger.{LedgerView, taken}
 use Rattle.rights.specs.declared.RightKind.TheVariants as right
-use Rattle.copyin.specs.declared.message.Carried.{Carried}
-use Rattle.copyin.specs.declared.message.Mark.{Mark}
-use Rattle.copyin.specs.declared.message.Mark.TheVariants as mark
-use Rattle.copyin.specs.Kept.{Kept}
-use Rattle.copyin.specs.Worlds.{WorldView}
+use Rattle.copyin_base.specs.declared.message.Carried.{Carried}
+use Rattle.copyin_base.specs.declared.message.Mark.{Mark}
+use Rattle.copyin_base.specs.declared.message.Mark.TheVariants as mark
+use Rattle.copyin_base.specs.Kept.{Kept}
+use Rattle.copyin_base.specs.Worlds.{WorldView}
 
 -- the entry of the port's name with one right more
 abbrev pub joined : Kind → Entry → Entry

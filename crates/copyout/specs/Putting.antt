@@ -5,8 +5,8 @@ use Rattle.mach_types.specs.Numbers.{most_names}
 use Rattle.mach_types.specs.Tokens.{Kind, send, send_once}
 use Rattle.name_space.specs.Names.{Names, SpaceView, IsUsable, port_at}
 use Rattle.rights.specs.Ledger.{LedgerView, IsEntered, counts_of}
-use Rattle.copyin.specs.Worlds.{WorldView}
-use Rattle.copyin.specs.Worlds.{port_at as table_at}
+use Rattle.copyin_base.specs.Worlds.{WorldView}
+use Rattle.copyin_base.specs.Worlds.{port_at as table_at}
 use Rattle.copyout.specs.Giving.{alone, JoinsName, ledger_joined, holder_given}
 
 -- A right comes under a name that isn't in use; a send or receive right where the task has no name for the port.

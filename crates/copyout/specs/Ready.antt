@@ -1,24 +1,22 @@
 -- What must be so before rights are given: room is made, the names suffice, and the rights are counted.
-use Rattle.std.specs.Prelude.{◌≡◌, ◌≢◌, ℕ, ◌+◌, ◌<◌, ◌≤◌, true, List, [], ◌∷◌, ◌++◌, length, slice_get, slice_set, Some, is_some, if◌then◌else◌, ◌==◌, min}
+use Rattle.std.specs.Prelude.{◌≡◌, ◌≢◌, ℕ, ◌+◌, ◌<◌, ◌≤◌, true, List, [], ◌∷◌, ◌++◌, length, slice_get, Some, is_some, if◌then◌else◌, ◌==◌, min}
 use Rattle.std.specs.FinMap as map
 use Rattle.mach_types.specs.Numbers.{kind_sent, most_bytes, most_names}
 use Rattle.mach_types.specs.Tokens.{Kind, send, send_once}
-use Rattle.mach_types.specs.Grammar.{WireBody}
-use Rattle.message_codec.specs.Received.{IsLaidOut}
+use Rattle.mach_types.specs.Grammar.{WireBody, body_text}
+use Rattle.message_codec.specs.Received.{IsLaidOut, header_text, received_body}
 use Rattle.message_codec.specs.Spans.{word_count}
 use Rattle.name_space.specs.Names.{SpaceView}
 use Rattle.name_space.specs.Names.{port_at as port_named_at}
 use Rattle.port.specs.Ports.{PortView}
 use Rattle.rights.specs.Ledger.{IsEntered, counts_of}
 use Rattle.rights.specs.Counts.{number_of}
-use Rattle.copyin.specs.declared.message.Carried.{Carried}
-use Rattle.copyin.specs.declared.message.Mark.{Mark}
-use Rattle.copyin.specs.declared.message.Mark.TheVariants as mark
-use Rattle.copyin.specs.Kept.{Kept}
-use Rattle.copyin.specs.Worlds.{WorldView, port_at}
+use Rattle.copyin_base.specs.declared.message.Carried.{Carried}
+use Rattle.copyin_base.specs.declared.message.Mark.{Mark}
+use Rattle.copyin_base.specs.declared.message.Mark.TheVariants as mark
+use Rattle.copyin_base.specs.Kept.{Kept}
+use Rattle.copyin_base.specs.Worlds.{WorldView, port_at}
 use Rattle.copyin.specs.Plans.{option_list}
-use Rattle.mach_types.specs.Grammar.{body_text}
-use Rattle.message_codec.specs.Received.{header_text, received_body}
 use Rattle.copyout.specs.Giving.{HasNoName, NeedsOwn, AllLack, GivesAll}
 use Rattle.copyout.specs.Takes.{destination_right, reversed, body_names}
 use Rattle.copyout.specs.declared.receipt.Refusal.{Refusal}
@@ -119,14 +117,6 @@ pub record HasFront (w : WorldView) (port : ℕ) (m : Kept) : Type 0 where
   pub there : port_at w port ≡ Some v
   pub behind : List Kept
   pub queue : v.queue ≡ m ∷ behind
-
--- All is as before, but that the task has room for some more names.
-pub record MakesRoom (old : WorldView) (task : ℕ) (new : WorldView) : Type 0 where
-  pub space : SpaceView
-  pub there : slice_get old.spaces task ≡ Some space
-  pub room : ℕ
-  pub more : space.room ≤ room
-  pub rest : new ≡ record old { spaces = slice_set old.spaces task (record space { room = room }) }
 
 -- ---- why a message isn't received: its length is judged first, then names, then memory
 

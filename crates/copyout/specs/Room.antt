@@ -4,10 +4,10 @@ use Rattle.std.specs.FinMap as map
 use Rattle.mach_types.specs.Numbers.{kind_sent}
 use Rattle.mach_types.specs.Tokens.{Kind, receive, send, send_once}
 use Rattle.name_space.specs.Names.{Names, port_at}
-use Rattle.copyin.specs.declared.message.Carried.{Carried}
-use Rattle.copyin.specs.declared.message.Mark.{Mark}
-use Rattle.copyin.specs.declared.message.Mark.TheVariants as mark
-use Rattle.copyin.specs.Worlds.{WorldView}
+use Rattle.copyin_base.specs.declared.message.Carried.{Carried}
+use Rattle.copyin_base.specs.declared.message.Mark.{Mark}
+use Rattle.copyin_base.specs.declared.message.Mark.TheVariants as mark
+use Rattle.copyin_base.specs.Worlds.{WorldView}
 
 -- whether the receiver has a name for the port once the right was given: a send-once right gives none
 abbrev pub names_port : Kind → Mark → (port : ℕ) → Bool

@@ -8,9 +8,9 @@ use Rattle.port.specs.Ports.{PortView, with_port}
 use Rattle.rights.specs.Ledger.{taken}
 use Rattle.rights.specs.declared.RightKind.{RightKind}
 use Rattle.rights.specs.declared.RightKind.TheVariants as right
-use Rattle.copyin.specs.declared.message.Carried.{Carried}
-use Rattle.copyin.specs.Kept.{Kept}
-use Rattle.copyin.specs.Worlds.{WorldView, port_at}
+use Rattle.copyin_base.specs.declared.message.Carried.{Carried}
+use Rattle.copyin_base.specs.Kept.{Kept}
+use Rattle.copyin_base.specs.Worlds.{WorldView, port_at}
 use Rattle.copyin.specs.Plans.{option_list}
 use Rattle.copyout.specs.Giving.{GivesAll}
 

@@ -9,33 +9,30 @@ ghost use Rattle.name_space.specs.Names.{SpaceView, port_at, IsFreshName, IsUsab
 ghost use Rattle.port.specs.Ports.{IsLive};
 ghost use Rattle.rights.specs.declared.RightKind.TheVariants as right;
 ghost use Rattle.rights.specs.Ledger.{IsEntered, counts_of, taken};
-ghost use Rattle.copyin.specs.declared.message.Carried.{Carried as AnyCarried};
-ghost use Rattle.copyin.specs.declared.message.Mark.TheVariants as mark;
+ghost use Rattle.copyin_base.specs.declared.message.Carried.{Carried as AnyCarried};
+ghost use Rattle.copyin_base.specs.declared.message.Mark.TheVariants as mark;
 ghost use Rattle.copyin.specs.Plans.{option_list};
 ghost use Rattle.copyout.specs.Giving.{joined, alone, ledger_joined, holder_given, GivesPort, GivesMark, GivesAll};
 ghost use Rattle.copyout.specs.Ready.{CanGivePort, CanJoin, CanTakeName, CanGive, UsesOneRoom};
 
 use crate::room::{has_port, shared_name};
-use copyin::{Carried, Mark, World};
-use mach_types::{Disposition, Name, PortId, TaskId};
+use copyin_base::{Carried, Mark, World};
+use mach_types::limits::MOST_REFERENCES;
+use mach_types::{Disposition, Name, PortId, Right, TaskId};
 use name_space::Entry;
 use port::{Attributes, Holder};
 use rights::RightKind;
 use user_refs::UserRefs;
 
-// The most references to a send right.
-const MOST_REFERENCES: u32 = 65_535;
-
 // What stands under a name of the right's own.
 pub(crate) fn alone(given: Disposition, port: PortId) -> Entry
     ensures { result ≡ alone (kind_sent given) port }
 {
-    match given {
-        Disposition::MoveReceive => Entry::Receive(port),
-        Disposition::MoveSend | Disposition::CopySend | Disposition::MakeSend => {
-            Entry::Send(port, UserRefs::one())
-        }
-        Disposition::MoveSendOnce | Disposition::MakeSendOnce => Entry::SendOnce(port),
+    match given.kind() {
+        Right::Receive => Entry::Receive(port),
+        Right::Send => Entry::Send(port, UserRefs::one()),
+        Right::SendOnce => Entry::SendOnce(port),
+        Right::PortSet | Right::DeadName => unreachable!(),
     }
 }
 
@@ -68,36 +65,11 @@ fn with_receive(entry: &Entry) -> Entry
 fn joined(given: Disposition, entry: &Entry) -> Entry
     ensures { result ≡ joined (kind_sent given) entry.now }
 {
-    match given {
-        Disposition::MoveReceive => with_receive(entry),
-        Disposition::MoveSend | Disposition::CopySend | Disposition::MakeSend => with_send(entry),
-        Disposition::MoveSendOnce | Disposition::MakeSendOnce => *entry,
+    match given.kind() {
+        Right::Receive => with_receive(entry),
+        Right::Send => with_send(entry),
+        _ => *entry,
     }
-}
-
-// Puts the entry in place of what stands under the name.
-fn replace_entry(world: &mut World, task: TaskId, name: Name, entry: Entry)
-    requires there { task < length world.old.spaces }
-    requires used { (space : SpaceView) → slice_get world.old.spaces task ≡ Some space → map.contains_key space.names name ≡ true }
-    requires same { (space : SpaceView) → slice_get world.old.spaces task ≡ Some space → (port : ℕ) → port_named entry ≡ Some port → port_at space.names name ≡ Some port }
-    ensures { (space : SpaceView) → slice_get world.old.spaces task ≡ Some space →
-        world.new ≡ record world.old { spaces = slice_set world.old.spaces task (record space { names = map.insert space.names name entry }) } }
-{
-    world.spaces[task.number() as usize].replace(name, entry);
-}
-
-// Puts the entry under a name that isn't in use, in room that was made.
-pub(crate) fn insert_entry(world: &mut World, task: TaskId, name: Name, entry: Entry)
-    requires there { task < length world.old.spaces }
-    requires usable { IsUsable name }
-    requires unused { (space : SpaceView) → slice_get world.old.spaces task ≡ Some space → map.get space.names name ≡ None }
-    requires not_full { (space : SpaceView) → slice_get world.old.spaces task ≡ Some space → map.len space.names < most_names }
-    requires room { (space : SpaceView) → slice_get world.old.spaces task ≡ Some space → 0 < space.room }
-    requires apart { (space : SpaceView) → slice_get world.old.spaces task ≡ Some space → HasNoOther space.names entry }
-    ensures { (space : SpaceView) → slice_get world.old.spaces task ≡ Some space →
-        world.new ≡ record world.old { spaces = slice_set world.old.spaces task (record { names = map.insert space.names name entry; room = space.room - 1 }) } }
-{
-    world.spaces[task.number() as usize].insert(name, entry);
 }
 
 // Counts a send right of the port as gone.
@@ -113,12 +85,7 @@ fn drop_send(world: &mut World, port: PortId)
 fn is_pegged(given: Disposition, entry: &Entry) -> bool
     ensures { MatchBool result ((kind_sent given ≡ send) × (send_references entry.now ≡ most_references)) (kind_sent given ≡ send → send_references entry.now ≢ most_references) }
 {
-    match given {
-        Disposition::MoveSend | Disposition::CopySend | Disposition::MakeSend => {
-            entry.send_references() == MOST_REFERENCES
-        }
-        _ => false,
-    }
+    matches!(given.kind(), Right::Send) && entry.send_references() == MOST_REFERENCES
 }
 
 // A send right that comes to as many references as there may be goes.
@@ -137,16 +104,14 @@ fn set_holder(world: &mut World, port: PortId, task: TaskId)
     requires { is_some (map.get world.old.ports.ports port) ≡ true }
     ensures { world.new ≡ record world.old { ports = holder_given receive port task world.old.ports (map.get world.old.ports.ports port) } }
 {
-    if let Some(attributes) = world.ports.attributes(port) {
-        let holder = Holder::Task(task);
-        world.ports.set_attributes(
-            port,
-            Attributes {
-                holder,
-                ..attributes
-            },
-        );
-    }
+    let attributes = world.attributes(port);
+    world.set_attributes(
+        port,
+        Attributes {
+            holder: Holder::Task(task),
+            ..attributes
+        },
+    );
 }
 
 // The receive right, if that is given, is with the task.
@@ -154,9 +119,8 @@ pub(crate) fn hold(world: &mut World, given: Disposition, port: PortId, task: Ta
     requires { is_some (map.get world.old.ports.ports port) ≡ true }
     ensures { world.new ≡ record world.old { ports = holder_given (kind_sent given) port task world.old.ports (map.get world.old.ports.ports port) } }
 {
-    match given {
-        Disposition::MoveReceive => set_holder(world, port, task),
-        _ => {}
+    if matches!(given.kind(), Right::Receive) {
+        set_holder(world, port, task);
     }
 }
 
@@ -168,7 +132,7 @@ pub(crate) fn join(world: &mut World, task: TaskId, given: Disposition, port: Po
 {
     if let Some(entry) = world.lookup(task, name) {
         drop_pegged(world, given, port, &entry);
-        replace_entry(world, task, name, joined(given, &entry));
+        world.put_left(task, name, Some(joined(given, &entry)));
         hold(world, given, port, task);
     }
 }
@@ -180,7 +144,7 @@ fn take_name(world: &mut World, task: TaskId, given: Disposition, port: PortId) 
     ensures room { UsesOneRoom world.old world.new task }
 {
     let name = world.space(task).fresh();
-    insert_entry(world, task, name, alone(given, port));
+    world.insert_entry(task, name, alone(given, port));
     hold(world, given, port, task);
     name
 }

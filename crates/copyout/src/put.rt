@@ -2,8 +2,8 @@
 ghost use Rattle.mach_types.specs.Numbers.{kind_sent};
 ghost use Rattle.copyout.specs.Putting.{CanPut, PutsPort};
 
-use crate::give::{alone, hold, insert_entry, join};
-use copyin::World;
+use crate::give::{alone, hold, join};
+use copyin_base::World;
 use mach_types::{Disposition, Name, PortId, TaskId};
 
 /// Gives the task a right for a port that is there, under this name: the task's name for the port, or
@@ -18,7 +18,7 @@ pub fn put_right(world: &mut World, task: TaskId, given: Disposition, port: Port
     if world.lookup(task, name).is_some() {
         join(world, task, given, port, name);
     } else {
-        insert_entry(world, task, name, alone(given, port));
+        world.insert_entry(task, name, alone(given, port));
         hold(world, given, port, task);
     }
 }

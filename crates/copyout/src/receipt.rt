@@ -1,7 +1,7 @@
 //! Taking a port's front message.
 ghost use Rattle.std.specs.Prelude.{◌≡◌, ◌≢◌, ℕ, ◌+◌, ◌*◌, ◌%◌, ◌^◌, ◌<◌, ◌≤◌, ◌++◌, [], ◌∷◌, true, Bool, Some, None, length, min, slice_get, slice_set, is_some, IfOk, IfErr, OnOk, OnErr, if◌then◌else◌, vec_len, vec_capacity, List};
 ghost use Rattle.std.specs.FinMap as map;
-ghost use Rattle.mach_types.specs.Numbers.{kind_sent, kind_number, most_bytes};
+ghost use Rattle.mach_types.specs.Numbers.{most_bytes};
 ghost use Rattle.mach_types.specs.Grammar.{WireBody, body_text};
 ghost use Rattle.message_codec.specs.Received.{IsLaidOut, header_text, received_body};
 ghost use Rattle.message_codec.specs.Spans.{word_count};
@@ -10,27 +10,24 @@ ghost use Rattle.port.specs.Ports.{PortView, with_port};
 ghost use Rattle.rights.specs.declared.RightKind.TheVariants as right;
 ghost use Rattle.rights.specs.Ledger.{IsEntered, counts_of, taken};
 ghost use Rattle.rights.specs.Counts.{number_of};
-ghost use Rattle.copyin.specs.Kept.{Kept};
-ghost use Rattle.copyin.specs.Worlds.{WorldView, port_at};
+ghost use Rattle.copyin_base.specs.Changes.{AddsRoom};
+ghost use Rattle.copyin_base.specs.Kept.{Kept};
+ghost use Rattle.copyin_base.specs.Worlds.{WorldView, port_at};
 ghost use Rattle.copyin.specs.Plans.{option_list};
 ghost use Rattle.copyout.specs.Giving.{AllLack, GivesAll};
 ghost use Rattle.copyout.specs.Takes.{TakesFront, TakesMessage, destination_right, reply_number, reply_word};
-ghost use Rattle.copyout.specs.Ready.{CanGive, UsesOneRoom, Waits, HasFront, ReadyFor, Delivers, MakesRoom, IsRefusedBy, carried_by};
+ghost use Rattle.copyout.specs.Ready.{CanGive, UsesOneRoom, Waits, HasFront, ReadyFor, Delivers, IsRefusedBy, carried_by};
 
 use crate::give::{give_right, give_rights};
 use crate::room::lacks_names;
-use copyin::{Carried, Message, World};
-use mach_types::{Bytes, Disposition, Name, PortId, TaskId};
+use copyin_base::{Carried, Message, World};
+use mach_types::bits::COMPLEX;
+use mach_types::limits::MOST_BYTES;
+use mach_types::{Bytes, Name, PortId, TaskId};
 use message_codec::{Header, Parsed, put_received};
 use port::Attributes;
 use rights::RightKind;
-use std::alloc::{AllocError, Global};
-
-// The most bytes of a message.
-const MOST_BYTES: u32 = 65_536;
-
-// The bit of a header for a body of items.
-const COMPLEX: u32 = 0x8000_0000;
+use std::alloc::Global;
 
 /// Why a message isn't received. It stays, and all is as before.
 #[derive(Clone, Copy, Debug, PartialEq, Eq)]
@@ -44,24 +41,13 @@ pub enum Refusal {
     Memory,
 }
 
-// The number that stands for the kind of right in a received message.
-fn kind_number(given: Disposition) -> u32
-    ensures { result ≡ kind_number (kind_sent given) }
-{
-    match given {
-        Disposition::MoveReceive => 16,
-        Disposition::MoveSend | Disposition::CopySend | Disposition::MakeSend => 17,
-        Disposition::MoveSendOnce | Disposition::MakeSendOnce => 18,
-    }
-}
-
 // The number of the kind of the right to answer with, 0 where there is none.
 fn reply_number(reply: &Option<Carried>) -> u32
     ensures value { result ≡ reply_number reply.now }
     ensures small { result ≤ 18 }
 {
     match reply {
-        Some(carried) => kind_number(carried.given),
+        Some(carried) => u32::from(carried.given.kind_number()),
         None => 0,
     }
 }
@@ -75,31 +61,21 @@ fn header_bits(reply: &Option<Carried>, by_once: bool, is_complex: bool) -> u32
     reply_number(reply) + local * 0x100 + complex
 }
 
-// The number of the next message of a port that is there.
-fn sequence_of(world: &World, port: PortId) -> u32
-    ensures { (v : PortView Kept) → port_at world.now port ≡ Some v → result ≡ v.attributes.sequence }
-{
-    match world.ports.attributes(port) {
-        Some(attributes) => attributes.sequence,
-        None => 0,
-    }
-}
-
 // The number of the port's next message is used.
 fn raise_sequence(world: &mut World, port: PortId)
+    requires { is_some (port_at world.old port) ≡ true }
     ensures { (v : PortView Kept) → port_at world.old port ≡ Some v →
         world.new ≡ record world.old { ports = with_port world.old.ports port (record v { attributes = record v.attributes { sequence = (v.attributes.sequence + 1) % 2 ^ 32 } }) } }
 {
-    if let Some(attributes) = world.ports.attributes(port) {
-        let sequence = attributes.sequence.wrapping_add(1);
-        world.ports.set_attributes(
-            port,
-            Attributes {
-                sequence,
-                ..attributes
-            },
-        );
-    }
+    let attributes = world.attributes(port);
+    let sequence = attributes.sequence.wrapping_add(1);
+    world.set_attributes(
+        port,
+        Attributes {
+            sequence,
+            ..attributes
+        },
+    );
 }
 
 // Takes the port's front message from the queue.
@@ -218,7 +194,7 @@ pub fn copyout(
     requires none { names.items ≡ [] }
     ensures { TakesMessage world.old task port local result world.new }
 {
-    let sequence = sequence_of(world, port);
+    let sequence = world.attributes(port).sequence;
     let message = take_front(world, port);
     deliver(world, task, message, local, sequence, names)
 }
@@ -242,7 +218,7 @@ fn judge(
         unreachable!()
     };
     let length = message.bytes.len();
-    if length > room.min(MOST_BYTES) as usize {
+    if length > MOST_BYTES.min(room as usize) {
         return Err(Refusal::TooLarge(length as u32));
     }
     if lacks_names(world, task, message) {
@@ -261,15 +237,6 @@ fn count_rights(message: &Message) -> usize
 {
     let replies = if message.reply.is_some() { 1 } else { 0 };
     replies + message.rights.len()
-}
-
-// Makes room for so many more names of the task.
-fn make_room(world: &mut World, task: TaskId, number: usize) -> Result<(), AllocError>
-    requires { task < length world.old.spaces }
-    ensures ok { OnOk result ((r : MakesRoom world.old task world.new) × (number ≤ r.room)) }
-    ensures err { OnErr result (world.new ≡ world.old) }
-{
-    world.spaces[task.number() as usize].reserve(number)
 }
 
 /// Receives the port's front message, if there is room for its length, names for its rights and
@@ -292,12 +259,12 @@ pub fn receive(
 ) -> Result<Bytes, Refusal>
     requires there { task < length world.old.spaces }
     requires waits { Waits world.old port }
-    ensures ok { IfOk result (λ bytes. (start : WorldView) × MakesRoom world.old task start × (t : TakesMessage start task port local bytes world.new)
+    ensures ok { IfOk result (λ bytes. (start : WorldView) × AddsRoom world.old task start × (t : TakesMessage start task port local bytes world.new)
         × (length t.takes.front.bytes ≤ min room most_bytes)) }
     ensures err { IfErr result (λ refusal. (world.new ≡ world.old) × (m : Kept) × HasFront world.old port m × IsRefusedBy world.old task m room refusal) }
 {
     let (number, names) = judge(world, alloc, task, port, room)?;
-    match make_room(world, task, number) {
+    match world.reserve_names(task, number) {
         Ok(()) => Ok(copyout(world, task, port, local, names)),
         Err(_) => Err(Refusal::Memory),
     }

@@ -4,28 +4,25 @@ ghost use Rattle.std.specs.FinMap as map;
 ghost use Rattle.mach_types.specs.Numbers.{kind_sent};
 ghost use Rattle.mach_types.specs.Tokens.{send_once};
 ghost use Rattle.name_space.specs.Names.{SpaceView, port_at};
-ghost use Rattle.copyin.specs.declared.message.Carried.{Carried as AnyCarried};
-ghost use Rattle.copyin.specs.declared.message.Mark.TheVariants as mark;
+ghost use Rattle.copyin_base.specs.declared.message.Carried.{Carried as AnyCarried};
+ghost use Rattle.copyin_base.specs.declared.message.Mark.TheVariants as mark;
 ghost use Rattle.copyin.specs.Plans.{option_list};
 ghost use Rattle.copyout.specs.Giving.{AllLack};
 ghost use Rattle.copyout.specs.Ready.{carried_by};
 ghost use Rattle.copyout.specs.Room.{names_port, named_by, IsThere, IsNamed, HasNone, Owns, Shares, Needs};
 
-use copyin::{Carried, Mark, Message, World};
+use copyin_base::{Carried, Mark, Message, World};
+use mach_types::limits::MOST_NAMES;
 use mach_types::{Disposition, Name, PortId, TaskId};
 use name_space::Space;
-
-// The most names of a task.
-const MOST_NAMES: usize = 65_535;
 
 // Whether the receiver has a name for the port once the right was given.
 fn names_port(carried: &Carried, port: PortId) -> bool
     ensures { result ≡ names_port (kind_sent carried.now.given) carried.now.mark port }
 {
-    match (&carried.mark, carried.given) {
-        (_, Disposition::MoveSendOnce | Disposition::MakeSendOnce) => false,
-        (Mark::Port(named), _) => named.number() == port.number(),
-        _ => false,
+    match &carried.mark {
+        Mark::Port(named) => !carried.given.is_send_once() && named.number() == port.number(),
+        Mark::Null | Mark::Dead => false,
     }
 }
 
@@ -57,9 +54,10 @@ pub(crate) fn shared_name(space: &Space, given: Disposition, port: PortId) -> Op
     ensures some { IfSome result (λ name. (kind_sent given ≢ send_once) × (port_at space.now.names name ≡ Some port)) }
     ensures none { IfNone result (kind_sent given ≢ send_once → HasNone space.now.names port) }
 {
-    match given {
-        Disposition::MoveSendOnce | Disposition::MakeSendOnce => None,
-        _ => space.name_of_port(port),
+    if given.is_send_once() {
+        None
+    } else {
+        space.name_of_port(port)
     }
 }
 
@@ -95,13 +93,6 @@ fn has_name(space: &Space, reply: &Option<Carried>, earlier: &[Carried], port: P
     space.name_of_port(port).is_some() || reply_names(reply, port) || is_named_by(earlier, port)
 }
 
-// Whether the right is a send-once right.
-fn is_once(given: Disposition) -> bool
-    ensures { IsTrue result ↔ (kind_sent given ≡ send_once) }
-{
-    matches!(given, Disposition::MoveSendOnce | Disposition::MakeSendOnce)
-}
-
 // Whether the right needs a name of its own, behind the earlier ones.
 fn needs_own(
     world: &World,
@@ -114,7 +105,7 @@ fn needs_own(
         (Shares world.now space.now.names (option_list reply.now ++ earlier.now) carried.now) }
 {
     match port_there(world, carried) {
-        Some(port) => is_once(carried.given) || !has_name(space, reply, earlier, port),
+        Some(port) => carried.given.is_send_once() || !has_name(space, reply, earlier, port),
         None => false,
     }
 }

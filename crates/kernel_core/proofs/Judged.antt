@@ -1,13 +1,14 @@
 -- What is judged in what is left is what the machine judges when the right is with the task.
 use Rattle.std.proofs.Common.{◌≡◌, ◌≢◌, ℕ, zero, suc, ◌+◌, ◌<◌, ◌≤◌, List, [], ◌∷◌, Option, Some, None, refl, sym, ap, subst, ◌∙◌, arith, true, false, Bool, ◌⊎◌, inl, inr, length}
-use Rattle.std.specs.Prelude.{if◌then◌else◌, ◌==◌, ◌&&◌}
+use Rattle.std.specs.Prelude.{if◌then◌else◌, ◌==◌, ◌&&◌, is_some, not}
 use Rattle.std.specs.Option.{option_map}
 use Rattle.std.specs.FinMap as map
 use Rattle.std.proofs.lemmas.Bool.Decides.{eqb_tells}
 use Rattle.std.proofs.lemmas.Bool.{eq-eqb}
 use Rattle.mach_types.specs.declared.rights.Disposition.{Disposition}
 use Rattle.mach_types.specs.declared.rights.Disposition.TheVariants.{MoveReceive, MoveSend, MoveSendOnce, CopySend, MakeSend, MakeSendOnce}
-use Rattle.mach_types.specs.Numbers.{kind_sent, most_names, most_references, most_rights}
+use Rattle.mach_types.specs.declared.codes.KernReturn.TheVariants.{NoSpace}
+use Rattle.mach_types.specs.Numbers.{kern_number, kind_sent, most_names, most_references, most_rights}
 use Rattle.mach_types.specs.Tokens.{Kind, receive, send, send_once, Place, in_task, in_message, Token, token, weigh, is_held, same_kind}
 use Rattle.mach_types.specs.Messages.{to_port}
 use Rattle.mach_types.specs.Guards.{FirstIs, NoneHolds}
@@ -15,19 +16,20 @@ use Rattle.mach_model.specs.State.{State, Target, lookup, held}
 use Rattle.mach_model.specs.SentMeans.{target_mark}
 use Rattle.mach_model.specs.CopyIn.{put_by, CopyRight}
 use Rattle.mach_model.specs.CopyOut.{HasNoRoom, NeedsName}
-use Rattle.mach_model.specs.Handing.{inserted_guards, extracted_guards}
+use Rattle.mach_model.specs.Transfer.{inserted_guards, extracted_guards}
 use Rattle.mach_model.specs.Carried.{lying, mark_count}
-use Rattle.mach_model.proofs.Weigh.{length-weigh}
+use Rattle.mach_model.proofs.Weigh.{length-weigh, lying_le_of}
 use Rattle.mach_model.proofs.Settling.{kind_refl}
 use Rattle.mach_model.proofs.CopyingIn.{not_held}
 use Rattle.name_space.specs.declared.Entry.{Entry}
-use Rattle.name_space.specs.declared.Entry.TheVariants as entry
 use Rattle.name_space.specs.Entry.{port_named, send_references}
-use Rattle.copyin.specs.Worlds.{WorldView}
-use Rattle.copyin.specs.Shows.{target_of}
-use Rattle.kernel_core.specs.declared.handing.Going.{Going}
-use Rattle.kernel_core.specs.Handing.{left_at, names_left, rights_then, port_under, references_under, IsElsewhere, IsTaken, Overflows, insert_later, extract_later}
-use Rattle.kernel_core.proofs.Seen.{Left}
+use Rattle.copyin_base.specs.Worlds.{WorldView}
+use Rattle.copyin_base.specs.Shows.{target_of}
+use Rattle.copyin_base.proofs.Changing.{target_named}
+use Rattle.copyin_base.proofs.Told.{port_of}
+use Rattle.kernel_core.specs.declared.transfer.Going.{Going}
+use Rattle.kernel_core.specs.Transfer.{left_at, names_left, rights_then, port_under, references_under, IsElsewhere, IsTaken, Overflows, LacksRoom, under_guards, insert_later, extract_later}
+use Rattle.kernel_core.proofs.Left.{Left}
 
 -- ---- the right that is put
 
@@ -57,21 +59,14 @@ put_is MakeSendOnce (Target.set s) p e place = absurd (cc)
 
 under_to : (o : Option Entry) (p : ℕ) → port_under o ≡ Some p → option_map target_of o ≡ Some (Target.port p)
 under_to None p e = absurd (let f : None ≡ Some p = e in cc)
-under_to (Some (entry.Receive q)) p e = let f : q ≡ p = cc in ap (λ (x : ℕ). Some (Target.port x)) f
-under_to (Some (entry.Send q n)) p e = let f : q ≡ p = cc in ap (λ (x : ℕ). Some (Target.port x)) f
-under_to (Some (entry.ReceiveAndSend q n)) p e = let f : q ≡ p = cc in ap (λ (x : ℕ). Some (Target.port x)) f
-under_to (Some (entry.SendOnce q)) p e = absurd (let f : None ≡ Some p = e in cc)
-under_to (Some (entry.DeadName n)) p e = absurd (let f : None ≡ Some p = e in cc)
-under_to (Some (entry.Set n)) p e = absurd (let f : None ≡ Some p = e in cc)
+under_to (Some x) p e = ap (λ (t : Target). Some t) (target_named x p e)
 
 under_from : (o : Option Entry) (p : ℕ) → option_map target_of o ≡ Some (Target.port p) → port_under o ≡ Some p
 under_from None p e = absurd (cc)
-under_from (Some (entry.Receive q)) p e = let f : Target.port q ≡ Target.port p = cc in let g : q ≡ p = cc in ap Some g
-under_from (Some (entry.Send q n)) p e = let f : Target.port q ≡ Target.port p = cc in let g : q ≡ p = cc in ap Some g
-under_from (Some (entry.ReceiveAndSend q n)) p e = let f : Target.port q ≡ Target.port p = cc in let g : q ≡ p = cc in ap Some g
-under_from (Some (entry.SendOnce q)) p e = absurd (let f : Target.once q ≡ Target.port p = cc in cc)
-under_from (Some (entry.DeadName n)) p e = absurd (let f : Target.dead n ≡ Target.port p = cc in cc)
-under_from (Some (entry.Set n)) p e = absurd (let f : Target.set n ≡ Target.port p = cc in cc)
+under_from (Some x) p e = port_of x p (the_target (target_of x) e)
+  where
+    the_target : (t : Target) → Some t ≡ Some (Target.port p) → t ≡ Target.port p
+    the_target t f = cc
 
 none_to : (o : Option Entry) → o ≡ None → option_map target_of o ≡ None
 none_to o e = ap (option_map target_of) e
@@ -91,7 +86,7 @@ there : (o : Option Entry) (p : ℕ) → port_under o ≡ Some p → (e : Entry)
 there None p is = absurd (let f : None ≡ Some p = is in cc)
 there (Some e) p is = (e, refl, is, refl)
 
-module _ (w : WorldView) (s : State) (task from poly number : ℕ) (g : Going) (mid : WorldView) (l : Left w s task from poly number g mid) where
+module _ (w : WorldView) (s : State) (task number : ℕ) (g : Going) (mid : WorldView) (l : Left w s task number g mid) where
   abbrev k : ℕ
   k = length (s.log 0)
 
@@ -102,12 +97,12 @@ module _ (w : WorldView) (s : State) (task from poly number : ℕ) (g : Going) (
   kind = kind_sent g.given
 
   abbrev at : ℕ → Option Entry
-  at n = left_at w task from poly g.left n
+  at n = left_at w task g n
 
   pub looks : (n : ℕ) → lookup l.t task n ≡ option_map target_of (at n)
   looks n = l.agrees.naming task n ∙ ap (option_map target_of) (l.left n)
 
-  pub names_are : map.len (l.t.naming task) ≡ names_left w task from g.left
+  pub names_are : map.len (l.t.naming task) ≡ names_left w task g
   names_are = sym (l.agrees.names_kept task l.space l.there) ∙ l.names
 
   -- the right lies at the entry
@@ -116,12 +111,20 @@ module _ (w : WorldView) (s : State) (task from poly number : ℕ) (g : Going) (
       let a = l.copies.lies kind p in
       let b : mark_count kind p kind (to_port p) ≡ suc zero = rw (kind_refl kind, eq-eqb p p refl) refl in omega (arith, a, b)
 
+  -- ... and its port lives
+  pub lives : l.t.live_port p ≡ true
+  lives = go (l.t.live_port p) refl
+    where
+      go : (b : Bool) → l.t.live_port p ≡ b → l.t.live_port p ≡ true
+      go true e = e
+      go false e = absurd (let n = l.copies.keeps.no_rights p e kind in let le = lying_le_of l.t kind p (in_message 0 k) in let h = lies in omega (arith, n, le, h))
+
   module _ (others : List Token) (parts : (h : Token → ℕ) → weigh h others + h (token kind p (in_message 0 k)) ≡ weigh h l.t.ledger) where
     -- the machine has it with the task
     abbrev copied : State
     copied = record l.t { ledger = token kind p (in_task task) ∷ others }
 
-    pub copied_in : CopyRight from (in_task task) number poly s (to_port p) copied
+    pub copied_in : CopyRight g.from (in_task task) number g.name s (to_port p) copied
     copied_in = record {
       given = l.copy.given;
       is_given = l.copy.is_given;
@@ -233,21 +236,21 @@ module _ (w : WorldView) (s : State) (task from poly number : ℕ) (g : Going) (
             ],
           )
 
-      fourth_to : (most_names ≤ names_left w task from g.left) × (at name ≡ None) ⊎ (most_rights < rights_then w g) → Fourth
+      fourth_to : (most_names ≤ names_left w task g) × (at name ≡ None) ⊎ (most_rights < rights_then w g) → Fourth
       fourth_to (inl h) = inl ((let a = names_are in let b = h.0 in omega (arith, a, b)), looks name ∙ none_to (at name) h.1)
       fourth_to (inr h) = inr (let a = rights_are in omega (arith, a, h))
 
-      fourth_from : Fourth → (most_names ≤ names_left w task from g.left) × (at name ≡ None) ⊎ (most_rights < rights_then w g)
+      fourth_from : Fourth → (most_names ≤ names_left w task g) × (at name ≡ None) ⊎ (most_rights < rights_then w g)
       fourth_from (inl h) = inl ((let a = names_are in let b = h.0 in omega (arith, a, b)), none_from (at name) (sym (looks name) ∙ h.1))
       fourth_from (inr h) = inr (let a = rights_are in omega (arith, a, h))
 
-      pub none_inserted : NoneHolds (insert_later w task name from poly g) → NoneHolds (inserted_guards copied task name p kind)
+      pub none_inserted : NoneHolds (insert_later w task name g) → NoneHolds (inserted_guards copied task name p kind)
       none_inserted h = (
         λ x. h.0 (first_from x),
         (λ x. h.1.0 (second_from x), (λ x. h.1.1.0 (third_from kind refl h.0 x), (λ x. h.1.1.1.0 (fourth_from x), tt))),
       )
 
-      pub first_inserted : (code : ℕ) → FirstIs (insert_later w task name from poly g) code → FirstIs (inserted_guards copied task name p kind) code
+      pub first_inserted : (code : ℕ) → FirstIs (insert_later w task name g) code → FirstIs (inserted_guards copied task name p kind) code
       first_inserted code (inl h) = inl (first_to h.0, h.1)
       first_inserted code (inr h) = inr (
         (λ x. h.0 (first_from x)),
@@ -286,17 +289,33 @@ module _ (w : WorldView) (s : State) (task from poly number : ℕ) (g : Going) (
     abbrev Only : Type 0
     Only = HasNoRoom copied task × NeedsName copied task kind p ⊎ (most_rights < length copied.ledger)
 
-    only_to : (most_names ≤ names_left w task from g.left) × ((kind ≡ send_once) ⊎ ((n : ℕ) → port_under (at n) ≢ Some p)) ⊎ (most_rights < rights_then w g) → Only
+    only_to : (most_names ≤ names_left w task g) × ((kind ≡ send_once) ⊎ ((n : ℕ) → port_under (at n) ≢ Some p)) ⊎ (most_rights < rights_then w g) → Only
     only_to (inl h) = inl ((let a = names_are in let b = h.0 in omega (arith, a, b)), needs_to kind refl h.1)
     only_to (inr h) = inr (let a = rights_are in omega (arith, a, h))
 
-    only_from : Only → (most_names ≤ names_left w task from g.left) × ((kind ≡ send_once) ⊎ ((n : ℕ) → port_under (at n) ≢ Some p)) ⊎ (most_rights < rights_then w g)
+    only_from : Only → (most_names ≤ names_left w task g) × ((kind ≡ send_once) ⊎ ((n : ℕ) → port_under (at n) ≢ Some p)) ⊎ (most_rights < rights_then w g)
     only_from (inl h) = inl ((let a = names_are in let b = h.0 in omega (arith, a, b)), needs_from kind refl h.1)
     only_from (inr h) = inr (let a = rights_are in omega (arith, a, h))
 
-    pub none_extracted : NoneHolds (extract_later w task from poly g) → NoneHolds (extracted_guards copied task p kind)
+    pub none_extracted : NoneHolds (extract_later w task g) → NoneHolds (extracted_guards copied task p kind)
     none_extracted h = ((λ x. h.0 (only_from x)), tt)
 
-    pub first_extracted : (code : ℕ) → FirstIs (extract_later w task from poly g) code → FirstIs (extracted_guards copied task p kind) code
+    pub first_extracted : (code : ℕ) → FirstIs (extract_later w task g) code → FirstIs (extracted_guards copied task p kind) code
     first_extracted code (inl h) = inl (only_to h.0, h.1)
     first_extracted code (inr h) = absurd h.1
+
+-- ---- judged in the tables in this order
+
+-- where the entry under the name and whether it is new were asked before
+pub no_room : (stand : ℕ → Option Entry) (names rights name port : ℕ) (sort : Kind) (e : Option Entry) (is_new : Bool) → e ≡ stand name → is_some e ≡ not is_new →
+    ¬ (IsElsewhere stand name port sort) → ¬ (IsTaken e port sort) → ¬ (Overflows e sort) → LacksRoom names rights (is_new ≡ true) → FirstIs (under_guards stand names rights name port sort) (kern_number NoSpace)
+no_room stand names rights name port sort e is_new is new here free fits lacks =
+    inr (here, inr (subst (λ (x : Option Entry). ¬ (IsTaken x port sort)) is free, inr (subst (λ (x : Option Entry). ¬ (Overflows x sort)) is fits, inl (wants lacks, refl))))
+  where
+    nothing : (o : Option Entry) → is_some o ≡ false → o ≡ None
+    nothing None e = refl
+    nothing (Some x) e = absurd (cc)
+
+    wants : LacksRoom names rights (is_new ≡ true) → LacksRoom names rights (stand name ≡ None)
+    wants (inl h) = inl (h.0, sym is ∙ nothing e (new ∙ ap not h.1))
+    wants (inr h) = inr h

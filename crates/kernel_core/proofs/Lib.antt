@@ -1,15 +1,11 @@
-pub mod Sourced
-pub mod SendsTexts
-pub mod AnswersSending
-pub mod Waits
-pub mod Ready
-pub mod AnswersReceiving
-pub mod Seen
-pub mod Judged
-pub mod Readied
-pub mod Handed
-pub mod Extracted
-pub mod Unhanded
-pub mod Refused
-pub mod RoomMade
-pub mod AnswersHanding
+mod Results
+mod Waits
+mod Ready
+mod Receiving
+mod Sending
+mod Stepping
+mod Left
+mod Judged
+mod Readied
+mod Going
+mod Transferring

@@ -1,5 +1,5 @@
 -- A right that is judged can be copied in, and then put or given.
-use Rattle.std.proofs.Common.{◌≡◌, ◌≢◌, ℕ, ◌+◌, ◌<◌, ◌≤◌, [], ◌∷◌, Option, Some, None, refl, sym, ap, subst, ◌∙◌, arith, true, false, Bool, ◌⊎◌, inl, inr, length}
+use Rattle.std.proofs.Common.{◌≡◌, ◌≢◌, ℕ, ◌+◌, ◌<◌, ◌≤◌, [], ◌∷◌, Option, Some, None, refl, sym, ap, subst, ◌∙◌, arith, true, ◌⊎◌, inl, inr, length}
 use Rattle.std.specs.Prelude.{is_some, slice_get}
 use Rattle.std.specs.Option.{option_and_then}
 use Rattle.std.specs.FinMap as map
@@ -15,45 +15,40 @@ use Rattle.name_space.specs.Entry.{port_named}
 use Rattle.name_space.specs.Names.{SpaceView, IsUsable}
 use Rattle.name_space.specs.Names.{port_at as port_named_at}
 use Rattle.rights.specs.Ledger.{counts_of}
-use Rattle.copyin.specs.declared.message.Carried.{Carried}
-use Rattle.copyin.specs.declared.message.Mark.TheVariants as mark
-use Rattle.copyin.specs.Worlds.{WorldView, entry_in, port_at}
-use Rattle.copyin.proofs.Gets.{seen, same_found}
+use Rattle.copyin_base.specs.declared.message.Carried.{Carried}
+use Rattle.copyin_base.specs.declared.message.Mark.TheVariants as mark
+use Rattle.copyin_base.specs.Worlds.{WorldView, entry_in, port_at}
+use Rattle.copyin_base.proofs.Gets.{seen, same_found}
 use Rattle.copyout.specs.Giving.{HasNoName, NeedsOwn}
 use Rattle.copyout.specs.Ready.{AllEntered, send_for, CanGive}
 use Rattle.copyout.specs.Putting.{CanPut}
-use Rattle.kernel_core.specs.declared.handing.Going.{Going}
-use Rattle.kernel_core.specs.Handing.{left_at, names_left, rights_then, port_under, insert_later, extract_later}
-use Rattle.kernel_core.proofs.Seen.{Left}
-use Rattle.kernel_core.proofs.Judged.{lies, not_not}
+use Rattle.kernel_core.specs.declared.transfer.Going.{Going}
+use Rattle.kernel_core.specs.Transfer.{left_at, names_left, rights_then, port_under, insert_later, extract_later}
+use Rattle.kernel_core.proofs.Left.{Left}
+use Rattle.kernel_core.proofs.Judged.{lies, lives, not_not}
 
 pub few_then : (w : WorldView) (g : Going) → ¬ (most_rights < rights_then w g) → rights_then w g ≤ most_rights
 few_then w g not = omega (arith, not)
 
-module _ (w : WorldView) (s : State) (task from poly number : ℕ) (g : Going) (mid : WorldView) (l : Left w s task from poly number g mid) where
+module _ (w : WorldView) (s : State) (task number : ℕ) (g : Going) (mid : WorldView) (l : Left w s task number g mid) (x : SpaceView) (was : slice_get w.spaces task ≡ Some x) (wide : 0 < x.room) where
   abbrev kind : Kind
   kind = kind_sent g.given
 
   abbrev at : ℕ → Option Entry
-  at n = left_at w task from poly g.left n
+  at n = left_at w task g n
 
-  lives : l.t.live_port g.port ≡ true
-  lives = go (l.t.live_port g.port) refl
-    where
-      go : (b : Bool) → l.t.live_port g.port ≡ b → l.t.live_port g.port ≡ true
-      go true e = e
-      go false e = absurd (let n = l.copies.keeps.no_rights g.port e kind in let le = lying_le_of l.t kind g.port (in_message 0 (length (s.log 0))) in
-          let h = lies w s task from poly number g mid l in omega (arith, n, le, h))
+  wide_then : 0 < l.space.room
+  wide_then = let r = l.room x was in omega (arith, r, wide)
 
   is_there : is_some (port_at mid g.port) ≡ true
-  is_there = l.agrees.live_port g.port ∙ lives
+  is_there = l.agrees.live_port g.port ∙ lives w s task number g mid l
 
   entered : AllEntered mid
   entered p live = (l.agrees.counts p).entered ∙ sym (l.agrees.live_port p) ∙ live
 
   counted : (c : Kind) → c ≡ kind → c ≡ send → 1 ≤ (counts_of mid.ledger g.port).send
   counted c is e =
-      let h : 0 < lying l.t send g.port (in_message 0 (length (s.log 0))) = subst (λ (x : Kind). 0 < lying l.t x g.port (in_message 0 (length (s.log 0)))) (sym is ∙ e) (lies w s task from poly number g mid l) in
+      let h : 0 < lying l.t send g.port (in_message 0 (length (s.log 0))) = subst (λ (x : Kind). 0 < lying l.t x g.port (in_message 0 (length (s.log 0)))) (sym is ∙ e) (lies w s task number g mid l) in
       let le = lying_le_of l.t send g.port (in_message 0 (length (s.log 0))) in
       let a = (l.agrees.counts g.port).senders in omega (arith, h, le, a)
 
@@ -66,11 +61,11 @@ module _ (w : WorldView) (s : State) (task from poly number : ℕ) (g : Going) (
   some_not : (e : Entry) → Some e ≢ None
   some_not e f = cc
 
-  pub can_put : (name : ℕ) → IsUsable name → NoneHolds (insert_later w task name from poly g) → CanPut mid task kind g.port name
+  pub can_put : (name : ℕ) → IsUsable name → NoneHolds (insert_later w task name g) → CanPut mid task kind g.port name
   can_put name usable none = record {
     space = l.space;
     there = l.there;
-    room = l.room;
+    room = wide_then;
     usable = usable;
     may = elim (seen (at name)) [
       | inl h ↦
@@ -107,11 +102,11 @@ module _ (w : WorldView) (s : State) (task from poly number : ℕ) (g : Going) (
     | inr h ↦ rw h.0 (omega arith)
   ]
 
-  pub can_give : NoneHolds (extract_later w task from poly g) → CanGive mid task (carried ∷ [])
+  pub can_give : NoneHolds (extract_later w task g) → CanGive mid task (carried ∷ [])
   can_give none = record {
     space = l.space;
     there = l.there;
-    room = let r = l.room in omega (arith, r);
+    room = let r = wide_then in omega (arith, r);
     enough = λ lacks. elim lacks [
       | inl h ↦ none.0 (inl (many h.1, needs h.2))
       | inr h ↦ h.3
@@ -120,7 +115,7 @@ module _ (w : WorldView) (s : State) (task from poly number : ℕ) (g : Going) (
     counted = λ p live. one_send kind refl p;
   }
     where
-      many : HasNoName mid task → most_names ≤ names_left w task from g.left
+      many : HasNoName mid task → most_names ≤ names_left w task g
       many h =
           let same : h.0 ≡ l.space = same_found (slice_get mid.spaces task) h.0 l.space h.1 l.there in
           let full : most_names ≤ map.len l.space.names = subst (λ (x : SpaceView). most_names ≤ map.len x.names) same h.2 in

@@ -5,9 +5,9 @@ use Rattle.std.specs.FinMap as map
 use Rattle.mach_types.specs.declared.calls.Waited.{Waited}
 use Rattle.port.specs.Ports.{PortView, PortsView}
 use Rattle.port_set.specs.Sets.{IsReady, NoneReady}
-use Rattle.copyin.specs.Kept.{Kept}
-use Rattle.copyin.specs.Worlds.{WorldView, port_at}
-use Rattle.kernel_core.specs.Receipts.{HasMessage, NoneWaits}
+use Rattle.copyin_base.specs.Kept.{Kept}
+use Rattle.copyin_base.specs.Worlds.{WorldView, port_at}
+use Rattle.kernel_core.specs.Receive.{HasMessage, NoneWaits}
 
 waits_by_port : (w : WorldView) (port : ℕ) (v : PortView Kept) → port_at w port ≡ Some v → 0 < length v.queue → HasMessage w (Waited.Port port) port
 waits_by_port w port v there some = record { from = record { v = v; there = there; is_of = refl }; some = some }

@@ -12,12 +12,12 @@ use Rattle.message_codec.specs.Spans.{word_count}
 use Rattle.port.specs.Ports.{PortView}
 use Rattle.rights.specs.Counts.{number_of}
 use Rattle.rights.specs.Ledger.{counts_of}
-use Rattle.copyin.specs.declared.message.Carried.{Carried}
-use Rattle.copyin.specs.declared.message.Mark.{Mark}
-use Rattle.copyin.specs.declared.message.Mark.TheVariants as mark
-use Rattle.copyin.specs.Kept.{Kept, mark_of, message_of, body_given}
-use Rattle.copyin.specs.Worlds.{WorldView, port_at}
-use Rattle.copyin.specs.Shows.{Shows}
+use Rattle.copyin_base.specs.declared.message.Carried.{Carried}
+use Rattle.copyin_base.specs.declared.message.Mark.{Mark}
+use Rattle.copyin_base.specs.declared.message.Mark.TheVariants as mark
+use Rattle.copyin_base.specs.Kept.{Kept, mark_of, message_of, body_given}
+use Rattle.copyin_base.specs.Worlds.{WorldView, port_at}
+use Rattle.copyin_base.specs.Shows.{Shows}
 use Rattle.copyout.specs.Ready.{send_for, sends_for, carried_by, AllEntered, Waits}
 use Rattle.copyout.specs.Takes.{destination_right}
 use Rattle.copyout.proofs.GivenAll.{each_count}

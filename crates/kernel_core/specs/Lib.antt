@@ -1,3 +1,4 @@
-pub mod Sends
-pub mod Receipts
-pub mod Handing
+pub mod Answers
+pub mod Transfer
+pub mod Send
+pub mod Receive

@@ -1,18 +1,24 @@
 //! A kernel, and its steps.
-ghost use Rattle.std.specs.Prelude.{◌≡◌};
+ghost use Rattle.std.specs.Prelude.{◌≡◌, ◌++◌, IfOk, IfErr, MatchBool};
+ghost use Rattle.std.specs.Option.{option_to_list};
+ghost use Rattle.mach_types.specs.Numbers.{kern_number};
 ghost use Rattle.mach_model.specs.State.{opening};
-ghost use Rattle.copyin.specs.Shows.{Shows};
-ghost use Rattle.kernel_core_base.specs.Answers.{Answers, IsSound, Serves};
+ghost use Rattle.mach_model.specs.Refusals.{tasks_of};
+ghost use Rattle.copyin_base.specs.Acts.{AreTasks, HasTasks, Declines, Serves};
+ghost use Rattle.copyin_base.specs.Shows.{Shows};
+ghost use Rattle.copyin_base.specs.Stands.{Stands};
+ghost use Rattle.kernel_core.specs.Answers.{Answers};
 
-use crate::handing::{extract, insert};
-use crate::receiving::{receive, receive_again};
-use crate::sending::send;
-use copyin::World;
+use crate::receive::{Buffer, receive, receive_again};
+use crate::send::send;
+use crate::settle::settle;
+use crate::transfer::{TaskName, extract, insert};
+use copyin_base::{Code, World};
 use kernel_core_base::{
-    allocate, allocate_name, create_task, deallocate, destroy, get_refs, mod_refs, move_member,
-    name_type, names, receive_status, rename, set_mscount, set_qlimit, set_seqno, set_status,
+    allocate, allocate_name, create_task, deallocate, destroy, get_refs, list_names, mod_refs,
+    move_member, name_type, receive_status, rename, set_mscount, set_qlimit, set_seqno, set_status,
 };
-use mach_types::{Event, Reply};
+use mach_types::{Event, KernReturn, Reply, TaskId};
 use std::alloc::Global;
 use std::marker::Model;
 
@@ -34,10 +40,10 @@ impl Model for Kernel {
     ghost use Rattle.rights.specs.contracts.Counts as counts;
     ghost use Rattle.port_set.specs.Sets.{sets_code};
     ghost use Rattle.port_set.specs.contracts.SetRecord as set_record;
-    ghost use Rattle.copyin.specs.Kept.{kept_code};
-    ghost use Rattle.copyin.specs.contracts.message.Carried as carried;
-    ghost use Rattle.copyin.specs.Worlds.{WorldView, world_code};
-    ghost use Rattle.kernel_core_base.specs.Answers.{IsSound};
+    ghost use Rattle.copyin_base.specs.Kept.{kept_code};
+    ghost use Rattle.copyin_base.specs.contracts.message.Carried as carried;
+    ghost use Rattle.copyin_base.specs.Worlds.{WorldView, world_code};
+    ghost use Rattle.copyin_base.specs.Stands.{Stands};
 
     ghost Value = { WorldView };
 
@@ -45,7 +51,7 @@ impl Model for Kernel {
 
     ghost view = { λ k. k.world };
 
-    ghost invariant = { λ k. IsSound k.world };
+    ghost invariant = { λ k. Stands k.world };
 }
 
 impl Kernel {
@@ -65,13 +71,84 @@ impl Kernel {
     pub fn step(&mut self, event: &Event) -> Reply
         ensures { Answers self.old event.now result self.new }
     {
-        serve(&mut self.world, self.alloc, event)
+        match act(&mut self.world, self.alloc, event) {
+            Ok(reply) => {
+                settle(&mut self.world);
+                reply
+            }
+            Err(code) => Reply::Code(code.number()),
+        }
     }
 }
 
-/// Makes the call on the tables.
-fn serve(world: &mut World, alloc: Global, event: &Event) -> Reply
-    requires { IsSound world.old }
+/// Does the call's own part of a step, up to what [`settle`] ends, or refuses it.
+///
+/// `KERN_INVALID_TASK` where a task that it names doesn't live; then as the call.
+fn act(world: &mut World, alloc: Global, event: &Event) -> Result<Reply, Code>
+    requires { Stands world.old }
+    ensures { Serves world.old event.now result world.new }
+{
+    check_tasks(world, event)?;
+    serve(world, alloc, event)
+}
+
+/// Whether the tasks that the call names live: `KERN_INVALID_TASK` where one doesn't. Constant time.
+fn check_tasks(world: &World, event: &Event) -> Result<(), KernReturn>
+    ensures ok { IfOk result (λ _. HasTasks world.now event.now) }
+    ensures err { IfErr result (λ code. Declines world.now event.now (kern_number code) world.now) }
+{
+    let (task, other) = tasks_of(event);
+    if lives(world, task) && lives(world, other) {
+        Ok(())
+    } else {
+        Err(KernReturn::InvalidTask)
+    }
+}
+
+/// Whether the task lives, if there is one.
+fn lives(world: &World, task: Option<TaskId>) -> bool
+    ensures { MatchBool result (AreTasks world.now (option_to_list task)) (¬ (AreTasks world.now (option_to_list task))) }
+{
+    match task {
+        Some(task) => world.has_task(task),
+        None => true,
+    }
+}
+
+/// The tasks that the call names: none, one, or the two that a right is handed between.
+fn tasks_of(event: &Event) -> (Option<TaskId>, Option<TaskId>)
+    ensures { tasks_of event.now ≡ option_to_list result.0 ++ option_to_list result.1 }
+{
+    match event {
+        Event::TaskCreate => (None, None),
+        Event::Allocate(task, _)
+        | Event::AllocateName(task, _, _)
+        | Event::Deallocate(task, _)
+        | Event::Destroy(task, _)
+        | Event::ModRefs(task, _, _, _)
+        | Event::GetRefs(task, _, _)
+        | Event::NameType(task, _)
+        | Event::Names(task)
+        | Event::Rename(task, _, _)
+        | Event::ReceiveStatus(task, _)
+        | Event::SetQlimit(task, _, _)
+        | Event::SetMscount(task, _, _)
+        | Event::SetSeqno(task, _, _)
+        | Event::SetStatus(task, _)
+        | Event::MoveMember(task, _, _)
+        | Event::Send(task, _)
+        | Event::Receive(task, _, _, _)
+        | Event::ReceiveAgain(task, _, _, _) => (Some(*task), None),
+        Event::InsertRight(task, _, other, _, _) | Event::ExtractRight(task, _, _, other) => {
+            (Some(*task), Some(*other))
+        }
+    }
+}
+
+/// Makes the call on the tables, where the tasks that it names live.
+fn serve(world: &mut World, alloc: Global, event: &Event) -> Result<Reply, Code>
+    requires there { HasTasks world.old event.now }
+    requires stands { Stands world.old }
     ensures { Serves world.old event.now result world.new }
 {
     match event {
@@ -83,7 +160,7 @@ fn serve(world: &mut World, alloc: Global, event: &Event) -> Reply
         Event::ModRefs(task, name, right, delta) => mod_refs(world, *task, *name, *right, *delta),
         Event::GetRefs(task, name, right) => get_refs(world, *task, *name, *right),
         Event::NameType(task, name) => name_type(world, *task, *name),
-        Event::Names(task) => names(world, alloc, *task),
+        Event::Names(task) => list_names(world, alloc, *task),
         Event::Rename(task, from, to) => rename(world, *task, *from, *to),
         Event::ReceiveStatus(task, name) => receive_status(world, *task, *name),
         Event::SetStatus(task, name) => set_status(world, alloc, *task, *name),
@@ -92,15 +169,19 @@ fn serve(world: &mut World, alloc: Global, event: &Event) -> Reply
         Event::SetMscount(task, name, count) => set_mscount(world, *task, *name, *count),
         Event::SetSeqno(task, name, number) => set_seqno(world, *task, *name, *number),
         Event::InsertRight(task, name, from, poly, number) => {
-            insert(world, *task, *name, *from, *poly, *number)
+            let to = TaskName::new(*task, *name);
+            let from = TaskName::new(*from, *poly);
+            insert(world, &to, &from, *number)
         }
-        Event::ExtractRight(task, name, number, to) => extract(world, *task, *name, *number, *to),
+        Event::ExtractRight(task, name, number, to) => {
+            extract(world, &TaskName::new(*task, *name), *number, *to)
+        }
         Event::Send(task, bytes) => send(world, alloc, *task, bytes),
         Event::Receive(task, name, room, large) => {
-            receive(world, alloc, *task, *name, *room, *large)
+            receive(world, alloc, *task, *name, Buffer::new(*room, *large))
         }
         Event::ReceiveAgain(task, waited, room, large) => {
-            receive_again(world, alloc, *task, *waited, *room, *large)
+            receive_again(world, alloc, *task, *waited, Buffer::new(*room, *large))
         }
     }
 }

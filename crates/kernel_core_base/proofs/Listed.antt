@@ -6,20 +6,22 @@ use Rattle.std.specs.declared.cmp.Ordering.{Ordering}
 use Rattle.std.specs.Ordering.{nat_cmp, eq_by_cmp, is_lt, is_eq}
 use Rattle.std.specs.Cmp.{nat_cmp_total, eq_by_cmp_equiv}
 use Rattle.std.specs.FinMap as map
-use Rattle.std.specs.FinMap.Entries.{find, is_sorted, below_all}
-use Rattle.mach_model.proofs.Names.{alike}
+use Rattle.std.specs.FinMap.{nat_cmp-IsAntisymmetric}
+use Rattle.std.specs.FinMap.Entries.{find, is_sorted, below_all, same_entries}
+use Rattle.mach_model.specs.State.{Target, Names}
 use Rattle.name_space.specs.declared.Entry.{Entry}
 use Rattle.name_space.specs.Names.{Names as TableNames}
-use Rattle.kernel_core_base.specs.Tells.{type_in}
-use Rattle.kernel_core_base.specs.Naming.{type_found, types_of}
+use Rattle.name_space.specs.Entry.{type_in}
+use Rattle.copyin_base.specs.Shows.{target_of}
+use Rattle.kernel_core_base.specs.Names.{type_found, types_of}
 
 -- ---- each entry of a sorted list is found by its key
 
-abbrev pub Each : {X : Type 0} → (ℕ → X → Type 0) → List (ℕ × X) → Type 0
+abbrev Each : {X : Type 0} → (ℕ → X → Type 0) → List (ℕ × X) → Type 0
 Each P [] = Unit {0}
 Each P (e ∷ es) = P e.0 e.1 × Each P es
 
-pub each_by : {X : Type 0} (P Q : ℕ → X → Type 0) (es : List (ℕ × X)) → ((k : ℕ) (v : X) → P k v → Q k v) → Each P es → Each Q es
+each_by : {X : Type 0} (P Q : ℕ → X → Type 0) (es : List (ℕ × X)) → ((k : ℕ) (v : X) → P k v → Q k v) → Each P es → Each Q es
 each_by P Q [] f h = tt
 each_by P Q (e ∷ es) f h = (f e.0 e.1 h.0, each_by P Q es f h.1)
 
@@ -47,7 +49,7 @@ each_below k (e ∷ es) h = ((eq_by_cmp_equiv nat_cmp_total).symm e.0 k ∙ less
 past : {X : Type 0} (b : Bool) (v w : X) (o : Option X) → b ≡ false → o ≡ Some w → cond b (Some v) o ≡ Some w
 past b v w o e f = rw e f
 
-pub each_found : {X : Type 0} (es : List (ℕ × X)) → T (is_sorted nat_cmp es) → Each (λ k v. find nat_cmp k es ≡ Some v) es
+each_found : {X : Type 0} (es : List (ℕ × X)) → T (is_sorted nat_cmp es) → Each (λ k v. find nat_cmp k es ≡ Some v) es
 each_found [] h = tt
 each_found {X} (e ∷ es) h = (
   rw ((eq_by_cmp_equiv nat_cmp_total).refl e.0) refl,
@@ -56,10 +58,10 @@ each_found {X} (e ∷ es) h = (
       (both_each (λ k v. find nat_cmp k es ≡ Some v) (λ k v. eq_by_cmp nat_cmp k e.0 ≡ false) es (each_found es (second _ _ h)) (each_below e.0 es (first _ _ h))),
 )
 
-pub each_entry : {X : Type 0} (m : map.FinMap nat_cmp X) → Each (λ k v. map.get m k ≡ Some v) (map.entries m)
+each_entry : {X : Type 0} (m : map.FinMap nat_cmp X) → Each (λ k v. map.get m k ≡ Some v) (map.entries m)
 each_entry m = each_by (λ k v. find nat_cmp k (map.entries m) ≡ Some v) (λ k v. map.get m k ≡ Some v) (map.entries m) (λ k v h. map.get-entries m k ∙ h) (each_found (map.entries m) (map.entries_sorted m))
 
-pub map_each : {X B : Type 0} (f g : ℕ × X → B) (es : List (ℕ × X)) → Each (λ k v. f (k, v) ≡ g (k, v)) es → list_map f es ≡ list_map g es
+map_each : {X B : Type 0} (f g : ℕ × X → B) (es : List (ℕ × X)) → Each (λ k v. f (k, v) ≡ g (k, v)) es → list_map f es ≡ list_map g es
 map_each f g [] h = refl
 map_each {X} {B} f g (e ∷ es) h = ap (λ (b : B). b ∷ list_map f es) h.0 ∙ ap (λ (bs : List B). g e ∷ bs) (map_each f g es h.1)
 
@@ -85,25 +87,24 @@ module _ {X Y : Type 0} (f : X → Y) where
   find-valued q [] = refl
   find-valued q (x ∷ l) = ap (cond (eq_by_cmp nat_cmp q x.0) (Some (f x.1))) (find-valued q l) ∙ mapped (eq_by_cmp nat_cmp q x.0) x.1 (find nat_cmp q l)
 
-  sorted : (m : map.FinMap nat_cmp X) → T (is_sorted nat_cmp (valued (map.entries m)))
-  sorted m = subst T (sym (is_sorted-valued (map.entries m))) (map.entries_sorted m)
+  entries_alike : (m : map.FinMap nat_cmp X) (n : map.FinMap nat_cmp Y) → ((q : ℕ) → map.get n q ≡ option_map f (map.get m q)) → map.entries n ≡ valued (map.entries m)
+  entries_alike m n is = same_entries nat_cmp nat_cmp_total nat_cmp-IsAntisymmetric (map.entries n) (valued (map.entries m)) (map.entries_sorted n)
+      (subst T (sym (is_sorted-valued (map.entries m))) (map.entries_sorted m))
+      (λ q. sym (map.get-entries n q) ∙ is q ∙ ap (option_map f) (map.get-entries m q) ∙ sym (find-valued q (map.entries m)))
 
-  pub entries_alike : (m : map.FinMap nat_cmp X) (n : map.FinMap nat_cmp Y) → ((q : ℕ) → map.get n q ≡ option_map f (map.get m q)) → map.entries n ≡ valued (map.entries m)
-  entries_alike m n is =
-      ap map.entries (alike n (map.from_sorted (valued (map.entries m)))
-      (λ q. is q ∙ ap (option_map f) (map.get-entries m q) ∙ sym (map.get-from_sorted nat_cmp _ q (sorted m) ∙ find-valued q (map.entries m))))
-      ∙ map.entries-from_sorted nat_cmp _ (sorted m)
-
--- ---- the types
-
-pub map-map : {X Y B : Type 0} (f : X → Y) (g : Y → B) (es : List X) → list_map g (list_map f es) ≡ list_map (λ x. g (f x)) es
+map-map : {X Y B : Type 0} (f : X → Y) (g : Y → B) (es : List X) → list_map g (list_map f es) ≡ list_map (λ x. g (f x)) es
 map-map f g [] = refl
 map-map {X} {Y} {B} f g (e ∷ es) = ap (λ (bs : List B). g (f e) ∷ bs) (map-map f g es)
 
--- Looking at each name gives the type of what is under it.
-pub types_in_turn : (m : TableNames) → list_map (λ n. (n, type_found (map.get m n))) (map.keys m) ≡ types_of m
-types_in_turn m =
+-- ---- the types
+
+-- Looking at each name gives what the machine lists, where each name has its type.
+pub types_listed : (m : TableNames) (own : Names) (type : ℕ → Target → ℕ) → ((q : ℕ) → map.get own q ≡ option_map target_of (map.get m q)) →
+    ((q : ℕ) (e : Entry) → map.get m q ≡ Some e → type_in e ≡ type q (target_of e)) → types_of m ≡ list_map (λ e. (e.0, type e.0 e.1)) (map.entries own)
+types_listed m own type named typed =
     map-map (λ (e : ℕ × Entry). e.0) (λ n. (n, type_found (map.get m n))) (map.entries m)
-    ∙ map_each (λ (e : ℕ × Entry). (e.0, type_found (map.get m e.0))) (λ (e : ℕ × Entry). (e.0, type_in e.1)) (map.entries m)
-    (each_by (λ k v. map.get m k ≡ Some v) (λ k v. ◌≡◌ {A = ℕ × ℕ} (k, type_found (map.get m k)) (k, type_in v)) (map.entries m)
-    (λ k v h. ap (λ (o : Option Entry). (k, type_found o)) h) (each_entry m))
+    ∙ map_each (λ (e : ℕ × Entry). (e.0, type_found (map.get m e.0))) (λ (e : ℕ × Entry). (e.0, type e.0 (target_of e.1))) (map.entries m)
+    (each_by (λ k v. map.get m k ≡ Some v) (λ k v. ◌≡◌ {A = ℕ × ℕ} (k, type_found (map.get m k)) (k, type k (target_of v))) (map.entries m)
+    (λ k v h. ap (λ (n : ℕ). (k, n)) (ap type_found h ∙ typed k v h)) (each_entry m))
+    ∙ sym (ap (λ (es : List (ℕ × Target)). list_map (λ e. (e.0, type e.0 e.1)) es) (entries_alike target_of m own named)
+    ∙ map-map (λ (e : ℕ × Entry). (e.0, target_of e.1)) (λ (e : ℕ × Target). (e.0, type e.0 e.1)) (map.entries m))

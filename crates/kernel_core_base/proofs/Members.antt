@@ -1,5 +1,12 @@
 -- The names of a set's members, in the tables and in the machine alike.
-use Rattle.std.proofs.Common.{◌≡◌, ℕ, zero, suc, ◌<◌, List, [], ◌∷◌, Option, Some, None, refl, sym, ap, subst, ◌∙◌, arith, true, inl, inr}
+use Rattle.mach_types.specs.declared.calls.Event.{Event}
+use Rattle.mach_types.specs.declared.calls.Reply.{Reply}
+use Rattle.mach_types.specs.declared.codes.KernReturn.TheVariants.{ResourceShortage}
+use Rattle.mach_types.specs.Numbers.{kern_number}
+use Rattle.mach_model.specs.Refusals.{set_guards}
+use Rattle.copyin_base.specs.Acts.{IsAllowed, Acts, Declines}
+use Rattle.copyin_base.proofs.Acting.{done, refused_later}
+use Rattle.std.proofs.Common.{length, ◌≡◌, ℕ, zero, suc, ◌<◌, List, [], ◌∷◌, Option, Some, None, refl, sym, ap, subst, ◌∙◌, arith, true, inl, inr}
 use Rattle.std.specs.Prelude.{◌==◌, Contains, is_some, slice_get}
 use Rattle.std.specs.Option.{option_map, option_to_list, option_and_then}
 use Rattle.std.specs.FinMap as map
@@ -7,20 +14,19 @@ use Rattle.std.proofs.lemmas.Bool.Decides.{eqb_tells}
 use Rattle.std.proofs.lemmas.List.Elements.{All-contains, filter_passes}
 use Rattle.mach_types.specs.Tokens.{receive}
 use Rattle.mach_model.specs.State.{State, Target, lookup, Holds}
-use Rattle.mach_model.specs.Status.{one_if}
-use Rattle.mach_model.specs.Sets.{TellsMembers}
+use Rattle.mach_model.specs.ReceiveRight.{one_if}
+use Rattle.mach_model.specs.Sets.{TellsMembers, IsSet}
 use Rattle.mach_model.proofs.Settling.{named_lives}
 use Rattle.name_space.specs.declared.Entry.{Entry}
 use Rattle.name_space.specs.declared.Entry.TheVariants as entry
-use Rattle.name_space.specs.Entry.{port_named, has_receive}
+use Rattle.name_space.specs.Entry.{port_named, has_receive, receive_named}
 use Rattle.name_space.specs.Names.{SpaceView}
 use Rattle.port.specs.Ports.{PortView}
-use Rattle.copyin.specs.Kept.{Kept}
-use Rattle.copyin.specs.Worlds.{WorldView, entry_in, entry_at, port_at}
-use Rattle.copyin.specs.Shows.{target_of, Agrees, Shows}
-use Rattle.kernel_core_base.specs.Tells.{receive_named}
-use Rattle.kernel_core_base.specs.Grouping.{set_of_port, is_set, is_member, members_in}
-use Rattle.kernel_core_base.proofs.Told.{port_of, names_port, found, port_there}
+use Rattle.copyin_base.specs.Kept.{Kept}
+use Rattle.copyin_base.specs.Worlds.{WorldView, entry_in, entry_at, port_at}
+use Rattle.copyin_base.specs.Shows.{target_of, Agrees, Shows}
+use Rattle.kernel_core_base.specs.Sets.{set_of_port, is_set, is_member, members_in}
+use Rattle.copyin_base.proofs.Told.{port_of, names_port, used, found, port_there}
 use Rattle.kernel_core_base.proofs.Filtered.{keys_rise, kept_key}
 
 -- ---- what is a member's name
@@ -152,3 +158,20 @@ module _ (w : WorldView) (s : State) (sh : Shows w s) (task name set : ℕ) (spa
     rising = keys_rise space.names (λ (k : ℕ). is_member w set (map.get space.names k));
     each = λ n. (only n, all n);
   }
+
+-- ---- what SetStatus promises
+
+module _ (w : WorldView) (task name set : ℕ) (is : entry_at w task name ≡ Some (entry.Set set)) where
+  pub is_set_target : (s : State) → Agrees w s → ¬ ¬ (IsSet (lookup s task name))
+  is_set_target s a not = not (subst (λ (o : Option Target). IsSet o) (sym (found w s a task name (entry.Set set) is)) tt)
+
+  set_allowed : IsAllowed w (λ s. set_guards s task name)
+  set_allowed = record { allowed = λ s sh. (used w s sh.agrees task name (entry.Set set) is, (is_set_target s sh.agrees, tt)) }
+
+  pub set_no_memory : task < length w.spaces → Declines w (Event.SetStatus task name) (kern_number ResourceShortage) w
+  set_no_memory below = refused_later w (Event.SetStatus task name) below (kern_number ResourceShortage) set_allowed (λ s sh. refl)
+
+  pub set_told : task < length w.spaces → (space : SpaceView) → slice_get w.spaces task ≡ Some space →
+      Acts w (Event.SetStatus task name) (Reply.Members (members_in w set space.names)) w
+  set_told below space there = done w (Event.SetStatus task name) (Reply.Members (members_in w set space.names)) w below set_allowed
+      (λ now s sh. record { mid = s; owed = []; does = (members_told w s sh task name set space there is, refl, refl); agrees = sh.agrees })

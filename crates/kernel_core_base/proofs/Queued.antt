@@ -8,13 +8,13 @@ use Rattle.mach_types.specs.Tokens.{Place, in_task, in_message, in_request, Toke
 use Rattle.mach_types.specs.Numbers.{most_rights}
 use Rattle.mach_types.specs.Messages.{Entry}
 use Rattle.mach_model.specs.State.{State, queue}
-use Rattle.mach_model.specs.Dying.{same_place}
+use Rattle.mach_model.specs.Death.{same_place}
 use Rattle.mach_model.specs.Lawful.{IsLawful}
 use Rattle.mach_model.proofs.At.{slice_get_drop, elsewhere}
 use Rattle.mach_model.proofs.Settling.{kind_refl}
 use Rattle.mach_model.proofs.Weigh.{length-weigh, weigh-le, count_le, right_of}
-use Rattle.copyin.specs.Kept.{Kept}
-use Rattle.copyin.specs.Shows.{AllKept}
+use Rattle.copyin_base.specs.Kept.{Kept}
+use Rattle.copyin_base.specs.Shows.{AllKept}
 
 -- how often the place is among the n entries of the port's log from this one on
 abbrev among : (p from n : ℕ) → Place → ℕ

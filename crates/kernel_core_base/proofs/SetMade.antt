@@ -1,20 +1,22 @@
 -- A port set that is made: the tables agree with the state after.
-use Rattle.std.proofs.Common.{◌≡◌, ℕ, ◌+◌, Some, None, refl, sym, ap, ◌∙◌, inl, inr, subst}
+use Rattle.std.proofs.Common.{◌≡◌, ℕ, ◌+◌, Some, None, refl, ap, ◌∙◌}
 use Rattle.std.specs.Prelude.{slice_get, slice_set}
 use Rattle.std.specs.Option.{option_map}
 use Rattle.std.specs.FinMap as map
-use Rattle.std.proofs.lemmas.Bool.Decides.{eqb_tells}
-use Rattle.mach_model.specs.State.{State, Target, Names, lookup, at}
-use Rattle.mach_model.specs.Making.{with_set}
-use Rattle.mach_model.proofs.At.{at_own, at_same, at_other}
-use Rattle.mach_model.proofs.Names.{inserted, get_own, get_other}
+use Rattle.mach_model.specs.State.{State, Target, Names}
+use Rattle.mach_model.specs.Names.{with_set}
+use Rattle.mach_model.proofs.At.{at_own, at_other}
+use Rattle.mach_model.proofs.Names.{get_own}
 use Rattle.name_space.specs.declared.Entry.TheVariants as entry
 use Rattle.name_space.specs.Names.{SpaceView}
 use Rattle.port_set.specs.declared.SetRecord.{SetRecord}
 use Rattle.port_set.specs.Sets.{SetsView}
-use Rattle.copyin.specs.Worlds.{WorldView}
-use Rattle.copyin.specs.Shows.{Agrees}
-use Rattle.kernel_core_base.proofs.OnlyNames.{stands_still, with_sets}
+use Rattle.copyin_base.specs.Worlds.{WorldView}
+use Rattle.copyin_base.specs.Shows.{Agrees, SetsAgree}
+use Rattle.copyin_base.proofs.Agreeing.{sets_stay}
+use Rattle.copyin_base.proofs.Gets.{of_some}
+use Rattle.copyin_base.proofs.Putting.{each_put}
+use Rattle.copyin_base.proofs.NamesChanged.{stands_still, with_sets}
 
 module _ (w : WorldView) (s : State) (a : Agrees w s) (task name : ℕ) (space : SpaceView) (room : ℕ)
     (there : slice_get w.spaces task ≡ Some space) (unused : map.get space.names name ≡ None) where
@@ -27,44 +29,25 @@ module _ (w : WorldView) (s : State) (a : Agrees w s) (task name : ℕ) (space :
   abbrev pub more_sets : SetsView
   more_sets = record { sets = map.insert w.sets.sets new first; made = w.sets.made + 1 }
 
-  abbrev own : Names
-  own = map.insert (s.naming task) name (Target.set new)
+  abbrev t : State
+  t = with_set task name s
 
-  owner : (set : ℕ) → at s.set_owner new (Some task) set ≡ option_map (λ (r : SetRecord). r.owner) (map.get more_sets.sets set)
-  owner set = elim (eqb_tells set new) [
-    | inl h ↦
-        at_same s.set_owner new (Some task) set h.1
-        ∙ sym (ap (option_map (λ (r : SetRecord). r.owner)) (ap (map.get more_sets.sets) h.1 ∙ get_own w.sets.sets new first))
-    | inr h ↦
-        at_other s.set_owner new (Some task) set h.1 ∙ a.set_owner set
-        ∙ ap (option_map (λ (r : SetRecord). r.owner)) (sym (get_other w.sets.sets new first set h.1))
-  ]
+  own_named : map.get (t.naming task) name ≡ Some (Target.set new)
+  own_named = ap (λ (m : Names). map.get m name) (at_own s.naming task (map.insert (s.naming task) name (Target.set new))) ∙ get_own (s.naming task) name (Target.set new)
 
-  still : (n : ℕ) (x : Target) → map.get (s.naming task) n ≡ Some x → map.get own n ≡ Some x
-  still n x is = stands_still w s a task space there name (entry.Set new) room unused refl tt n x is
+  -- the sets that were there
+  old_sets : SetsAgree w.sets s.set_owner s.sets_made t.naming
+  old_sets = sets_stay w.sets s.set_owner s.sets_made s.naming t.naming a.in_sets task (at_other s.naming task _)
+      (λ n set is. ap (λ (m : Names). map.get m n) (at_own s.naming task _) ∙ stands_still w s a task space there name (entry.Set new) room unused refl tt n (Target.set set) is)
 
-  own_named : map.get (at s.naming task own task) name ≡ Some (Target.set new)
-  own_named = ap (λ (m : Names). map.get m name) (at_own s.naming task own) ∙ get_own (s.naming task) name (Target.set new)
+  in_sets : SetsAgree more_sets t.set_owner t.sets_made t.naming
+  in_sets = record {
+    set_owner = each_put w.sets.sets new (Some first) (λ set o. t.set_owner set ≡ option_map (λ (r : SetRecord). r.owner) o) (at_own s.set_owner new (Some task))
+        (λ set not. at_other s.set_owner new (Some task) set not ∙ a.set_owner set);
+    sets_made = ap (λ (n : ℕ). n + 1) a.sets_made;
+    set_named = each_put w.sets.sets new (Some first) (λ set o. (r : SetRecord) → o ≡ Some r → map.get (t.naming r.owner) r.name ≡ Some (Target.set set))
+        (of_some first (λ r. map.get (t.naming r.owner) r.name ≡ Some (Target.set new)) own_named) (λ set not. old_sets.set_named set);
+  }
 
-  was_named : (set : ℕ) (r : SetRecord) → map.get w.sets.sets set ≡ Some r → map.get (at s.naming task own r.owner) r.name ≡ Some (Target.set set)
-  was_named set r is = let was = a.set_named set r is in elim (eqb_tells r.owner task) [
-    | inl h ↦
-        ap (λ (m : Names). map.get m r.name) (at_same s.naming task own r.owner h.1)
-        ∙ still r.name (Target.set set) (subst (λ (k : ℕ). lookup s k r.name ≡ Some (Target.set set)) h.1 was)
-    | inr h ↦ ap (λ (m : Names). map.get m r.name) (at_other s.naming task own r.owner h.1) ∙ was
-  ]
-
-  named : (set : ℕ) (r : SetRecord) → map.get more_sets.sets set ≡ Some r → map.get (at s.naming task own r.owner) r.name ≡ Some (Target.set set)
-  named set r is = elim (inserted w.sets.sets new first set r is) [
-    | inl h ↦
-        subst (λ (x : SetRecord). map.get (at s.naming task own x.owner) x.name ≡ Some (Target.set set)) h.1
-        (own_named ∙ ap (λ (k : ℕ). Some (Target.set k)) (sym h.0))
-    | inr h ↦ was_named set r h
-  ]
-
-  abbrev pub with_more : WorldView
-  with_more = record w { spaces = slice_set w.spaces task (record { names = map.insert space.names name (entry.Set new); room = room }); sets = more_sets }
-
-  pub set_agrees : Agrees with_more (with_set task name s)
-  set_agrees = with_sets w s a task space there name (entry.Set new) room unused refl tt more_sets (at s.set_owner new (Some task)) (s.sets_made + 1)
-      (record { owner = owner; made = ap (λ (n : ℕ). n + 1) a.sets_made; named = named })
+  pub set_agrees : Agrees (record w { spaces = slice_set w.spaces task (record { names = map.insert space.names name (entry.Set new); room = room }); sets = more_sets }) t
+  set_agrees = with_sets w s a task space there name (entry.Set new) room unused refl tt more_sets t.set_owner t.sets_made in_sets

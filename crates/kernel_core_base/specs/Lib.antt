@@ -1,7 +1,5 @@
-pub mod Answers
-pub mod Makes
-pub mod Tells
-pub mod Grouping
-pub mod Setting
-pub mod Naming
-pub mod Losing
+pub mod Tasks
+pub mod Names
+pub mod References
+pub mod ReceiveRight
+pub mod Sets

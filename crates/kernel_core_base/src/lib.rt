@@ -1,19 +1,19 @@
-//! The kernel's calls on names, rights and port sets that send nothing, each on the tables (`World`).
+//! The kernel's calls on tasks, names, references, receive rights and port sets, each on the tables
+//! (`World`).
 //!
-//! `specs/Answers` says what a call promises: a step of the machine of `mach_model`, whose state the
-//! tables show (`copyin`'s `specs/Shows`). `kernel_core` makes the calls; nothing else uses them.
+//! Each call promises its own part of a step of the machine of `mach_model`, up to the death of ports
+//! (`copyin_base`'s `specs/Acts`). `kernel_core` makes the calls and ends the steps; nothing else uses
+//! them.
 #![tactic(auto)]
 
-mod grouping;
-mod losing;
-mod making;
-mod naming;
-mod setting;
-mod telling;
+mod names;
+mod receive_right;
+mod references;
+mod sets;
+mod tasks;
 
-pub use grouping::{move_member, set_status};
-pub use losing::{deallocate, destroy, mod_refs};
-pub use making::{allocate, allocate_name, create_task};
-pub use naming::{names, rename};
-pub use setting::{set_mscount, set_qlimit, set_seqno};
-pub use telling::{get_refs, name_type, receive_status};
+pub use names::{allocate, allocate_name, list_names, name_type, rename};
+pub use receive_right::{receive_status, set_mscount, set_qlimit, set_seqno};
+pub use references::{deallocate, destroy, get_refs, mod_refs};
+pub use sets::{move_member, set_status};
+pub use tasks::create_task;

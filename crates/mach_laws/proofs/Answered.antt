@@ -1,11 +1,11 @@
 -- What a refusal leaves, and when a receive may answer that there is no message.
-use Rattle.std.proofs.Common.{◌≡◌, ℕ, List, [], ◌∷◌, Some, refl, sym, subst, ◌∙◌, Bool, inl, inr}
+use Rattle.std.proofs.Common.{◌≡◌, ℕ, List, [], ◌∷◌, Option, Some, refl, sym, subst, Bool, inl, inr}
 use Rattle.std.specs.Prelude.{◌≢◌, Contains}
 use Rattle.mach_types.specs.declared.calls.Event.{Event}
 use Rattle.mach_types.specs.declared.calls.Reply.{Reply}
 use Rattle.mach_types.specs.declared.calls.Waited.{Waited}
 use Rattle.mach_model.specs.State.{State, Target, lookup, queue}
-use Rattle.mach_model.specs.Receiving.{waits_for, TakesFrom, IsEmptyFor}
+use Rattle.mach_model.specs.Receive.{waits_for, TakesFrom, IsEmptyFor}
 use Rattle.mach_model.specs.Notices.{Owed}
 use Rattle.mach_model.specs.Machine.{Does, Step}
 use Rattle.mach_model.specs.Lawful.{IsLawful}
@@ -30,20 +30,14 @@ pub refusal_leaves : (now : ℕ) (old : State) (event : Event) (code : ℕ) (new
 refusal_leaves now old event code new (inl r) some = r.same
 refusal_leaves now old event code new (inr d) some = absurd (some (does_code now old event code d.mid d.owed d.does))
 
-port_of : (p q : ℕ) → Target.port p ≡ Target.port q → p ≡ q
-port_of p q e = cc
+pub one_port : (o : Option Target) (p q : ℕ) → o ≡ Some (Target.port p) → o ≡ Some (Target.port q) → p ≡ q
+one_port o p q is other = cc
 
-same_port : (s : State) (task name p q : ℕ) → lookup s task name ≡ Some (Target.port p) → lookup s task name ≡ Some (Target.port q) → p ≡ q
-same_port s task name p q e f = some_port (sym e ∙ f)
-  where
-    some_port : Some (Target.port p) ≡ Some (Target.port q) → p ≡ q
-    some_port g = cc
+one_set : (o : Option Target) (a b : ℕ) → o ≡ Some (Target.set a) → o ≡ Some (Target.set b) → a ≡ b
+one_set o a b is other = cc
 
-not_set : (s : State) (task name p set : ℕ) → lookup s task name ≡ Some (Target.port p) → lookup s task name ≡ Some (Target.set set) → ⊥
-not_set s task name p set e f = go (sym e ∙ f)
-  where
-    go : Some (Target.port p) ≡ Some (Target.set set) → ⊥
-    go g = cc
+port_or_set : (o : Option Target) (p set : ℕ) → o ≡ Some (Target.port p) → o ≡ Some (Target.set set) → ⊥
+port_or_set o p set is other = cc
 
 no_sets : (xs : List ℕ) → ¬ (xs ≢ []) → xs ≡ []
 no_sets [] f = refl
@@ -51,41 +45,32 @@ no_sets (x ∷ xs) f = absurd (f (λ e. cc))
 
 nothing_waits : (s : State) (task name p : ℕ) (waited : Waited) → lookup s task name ≡ Some (Target.port p) → s.sets_of p ≡ [] → waits_for task name s waited → IsEmptyFor s task waited → queue s p ≡ []
 nothing_waits s task name p (Waited.Port q) is alone waits empty =
-    let same = same_port s task name p q is waits.0 in
+    let same = one_port (lookup s task name) p q is waits.0 in
     empty p (same, rw same waits.1, alone)
-nothing_waits s task name p (Waited.Set set) is alone waits empty = absurd (not_set s task name p set is waits)
+nothing_waits s task name p (Waited.Set set) is alone waits empty = absurd (port_or_set (lookup s task name) p set is waits)
+
+no_code : (told : Waited) (code : ℕ) → Reply.Empty told ≡ Reply.Code code → ⊥
+no_code told code e = cc
 
 -- A receive by a port's name is answered that there is none only where none is queued.
 pub empty_is_empty : (now : ℕ) (old : State) (task name room : ℕ) (large : Bool) (told : Waited) (new : State) → Step now old (Event.Receive task name room large) (Reply.Empty told) new →
     (p : ℕ) → lookup old task name ≡ Some (Target.port p) → queue old p ≡ []
 empty_is_empty now old task name room large told new (inl r) p is = absurd (no_code told r.code r.told)
-  where
-    no_code : (told : Waited) (code : ℕ) → Reply.Empty told ≡ Reply.Code code → ⊥
-    no_code told code e = cc
 empty_is_empty now old task name room large told new (inr d) p is =
     let x = d.does in
     nothing_waits old task name p x.0 is (no_sets (old.sets_of p) (λ some. d.unrefused.1.1.0 (p, is, some))) x.1 x.2.1
 
-no_reply_code : (told : Waited) (code : ℕ) → Reply.Empty told ≡ Reply.Code code → ⊥
-no_reply_code told code e = cc
-
-same_set : (s : State) (task name a b : ℕ) → lookup s task name ≡ Some (Target.set a) → lookup s task name ≡ Some (Target.set b) → a ≡ b
-same_set s task name a b e f = some_set (sym e ∙ f)
-  where
-    some_set : Some (Target.set a) ≡ Some (Target.set b) → a ≡ b
-    some_set g = cc
-
 -- no member of a set has a message
 no_member_waits : (s : State) (task name p set : ℕ) (waited : Waited) → IsLawful s → lookup s task name ≡ Some (Target.set set) → Contains (s.sets_of p) set → waits_for task name s waited →
     IsEmptyFor s task waited → queue s p ≡ []
-no_member_waits s task name p set (Waited.Port q) l is member waits empty = absurd (not_set s task name q set waits.0 is)
+no_member_waits s task name p set (Waited.Port q) l is member waits empty = absurd (port_or_set (lookup s task name) q set waits.0 is)
 no_member_waits s task name p set (Waited.Set other) l is member waits empty =
-    let same = same_set s task name set other is waits in
+    let same = one_set (lookup s task name) set other is waits in
     empty p (l.set_owned task name other waits, subst (λ (x : ℕ). Contains (s.sets_of p) x) same member)
 
 -- After every run, a receive or a later try is answered that there is none only where none is queued at any port that it may take from.
 pub empty_is_none : (now : ℕ) (old : State) (event : Event) (told : Waited) (new : State) → IsLawful old → Step now old event (Reply.Empty told) new → (task p : ℕ) → AsksFrom old event task p → queue old p ≡ []
-empty_is_none now old event told new l (inl r) task p asks = absurd (no_reply_code told r.code r.told)
+empty_is_none now old event told new l (inl r) task p asks = absurd (no_code told r.code r.told)
 empty_is_none now old (Event.Receive caller name room large) told new l (inr d) task p (same, inl is) =
     empty_is_empty now old caller name room large told new (inr d) p (subst (λ (t : ℕ). lookup old t name ≡ Some (Target.port p)) (sym same) is)
 empty_is_none now old (Event.Receive caller name room large) told new l (inr d) task p (same, inr h) =

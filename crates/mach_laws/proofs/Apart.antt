@@ -10,7 +10,7 @@ use Rattle.mach_types.specs.Grammar.{Wire, data_item, port_item, WireBody}
 use Rattle.mach_model.specs.State.{State, Target, lookup, Holds}
 use Rattle.mach_model.specs.ReceivedMeans.{once_words, item_once_words, items_once_words, body_once_words, reply_once_words, ReceivedMeans}
 use Rattle.mach_model.specs.CopyOut.{GiveMark, GiveReply, GiveMarks, GiveItem, GiveItems, GiveBody}
-use Rattle.mach_model.specs.Receiving.{Receives}
+use Rattle.mach_model.specs.Receive.{Receives}
 use Rattle.mach_laws.proofs.Receiving.{Gives, Gives-same, Named-has, unused_before, either, same_mark, dead_mark, GiveMark-means, GiveMarks-means, GiveItem-means, GiveReply-means, Receives-means, keeps_reply, keeps_body}
 
 -- these names are in no use, and differ

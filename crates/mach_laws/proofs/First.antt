@@ -1,122 +1,69 @@
 -- The first message is a run.
-use Rattle.std.proofs.Common.{◌≡◌, ℕ, ◌<◌, List, [], ◌∷◌, Some, refl, inl, inr, arith, true, false, Bool, rules}
-use Rattle.std.specs.Prelude.{if◌then◌else◌, ◌==◌}
-use Rattle.std.specs.FinMap as map
-use Rattle.std.specs.FinMap.{gets, get-empty, len-empty}
-use Rattle.std.specs.Ordering.{nat_cmp}
+use Rattle.std.proofs.Common.{◌≡◌, [], Some, refl, arith, false, rules}
+use Rattle.std.specs.FinMap.{gets}
 use Rattle.mach_types.specs.declared.calls.Event.{Event}
 use Rattle.mach_types.specs.declared.calls.Reply.{Reply}
-use Rattle.mach_types.specs.declared.calls.Waited.{Waited}
-use Rattle.mach_types.specs.Guards.{NoneHolds}
-use Rattle.mach_types.specs.TextGuards.{BadHeader}
-use Rattle.mach_types.specs.Tokens.{receive, send, in_task, in_message, token}
-use Rattle.mach_types.specs.Grammar.{Header}
-use Rattle.mach_model.specs.State.{State, opening, Target, at, IsFresh}
-use Rattle.mach_model.specs.Making.{with_port, IsFull}
-use Rattle.mach_model.specs.Receiving.{with_taken}
-use Rattle.mach_model.specs.Sending.{entry}
-use Rattle.mach_model.specs.Status.{TellsStatus}
-use Rattle.mach_model.specs.Refusals.{guards}
-use Rattle.mach_model.specs.Machine.{Step, Run}
-use Rattle.mach_model.specs.Lawful.{IsLawful}
+use Rattle.mach_types.specs.declared.rights.Disposition.TheVariants.{MakeSend}
+use Rattle.mach_types.specs.Tokens.{send, in_message}
+use Rattle.mach_types.specs.Messages.{Message}
+use Rattle.mach_types.specs.Grammar.{WireBody, Header}
+use Rattle.mach_model.specs.State.{State, opening, Target, lookup, IsFresh}
+use Rattle.mach_model.specs.Send.{entry}
+use Rattle.mach_model.specs.Machine.{Run}
 use Rattle.mach_model.proofs.Opening.{opening-lawful}
-use Rattle.mach_model.proofs.Plain.{with_sent, plain_message, plain_sends, plain_receives}
-use Rattle.mach_model.proofs.StepLawful.{quiet_step}
 use Rattle.mach_laws.specs.FirstMessage.{sent_text, received_text, status_after, first_events, first_replies}
+use Rattle.mach_laws.proofs.Playing.{Plays, with_task, with_receive, with_made, with_entry, without_front, good_text, spelled, fresh_one, fresh_next, makes, plain_message, copies_plain, task_made, port_allocated, sent, receives, received, status_told}
+
+-- ---- a task with a port
 
 abbrev pub s1 : State
-s1 = record opening { live_task = at opening.live_task 0 true; tasks_made = 1; naming = at opening.naming 0 map.empty }
+s1 = with_task opening
 
 abbrev pub s2 : State
-s2 = record (with_port 0 1 s1) { ledger = token receive 0 (in_task 0) ∷ [] }
+s2 = with_receive 0 1 s1
 
-abbrev s3 : State
-s3 = with_sent 2 (plain_message 0 7 []) (token send 0 (in_message 0 0) ∷ token receive 0 (in_task 0) ∷ []) s2
+pub first : Plays 0 opening Event.TaskCreate (Reply.Task 0) s1
+first = task_made opening-lawful (omega arith)
 
-abbrev s4 : State
-s4 = record (with_taken 0 s3) { ledger = token receive 0 (in_task 0) ∷ [] }
+pub second : Plays 1 s1 (Event.Allocate 0 1) (Reply.Name 1) s2
+second = port_allocated first.1 refl fresh_one (grind (gets, rules)) (omega arith)
 
-lookup_one : (t : Target) → map.get {R = nat_cmp} (map.insert map.empty 1 t) 1 ≡ Some t
-lookup_one t = grind (gets, rules)
+pub port_named : lookup s2 0 1 ≡ Some (Target.port 0)
+port_named = grind (gets, rules)
 
-pub fresh_one : IsFresh map.empty 1
-fresh_one = record { unused = get-empty nat_cmp 1; not_null = omega arith; least = λ n a b. absurd (omega arith) }
+pub fresh_two : IsFresh (s2.naming 0) 2
+fresh_two = fresh_next (Target.port 0) fresh_one (grind (gets, rules))
 
-pub few_names : map.len (map.empty {K = ℕ} {X = Target} {R = nat_cmp}) < 65535
-few_names = rw len-empty (omega arith)
+-- ---- a message, by a send right made for it
 
-pub first : Step 0 opening Event.TaskCreate (Reply.Task 0) s1 × IsLawful s1
-first = quiet_step 0 opening Event.TaskCreate (Reply.Task 0) s1 opening-lawful ((λ h. omega arith), tt) (record { task_is = refl; rest = refl }, refl)
+abbrev pub greeting : Message
+greeting = plain_message send 0 7 []
 
-second_guards : NoneHolds (guards s1 (Event.Allocate 0 1))
-second_guards = ((λ h. cc), ((λ h. h.0 refl), (not_full, tt)))
-  where
-    not_full : ¬ (IsFull s1 0 1)
-    not_full (inl h) = let f = few_names in omega (arith, h, f)
-    not_full (inr (inl h)) = elim h.1 [ inl g ↦ omega (arith, g) | inr g ↦ omega (arith, g) ]
-    not_full (inr (inr h)) = omega (arith, h.0)
-
-pub second : Step 1 s1 (Event.Allocate 0 1) (Reply.Name 1) s2 × IsLawful s2
-second = quiet_step 1 s1 (Event.Allocate 0 1) (Reply.Name 1) s2 first.1 second_guards (fresh_one, inl (refl, record { rest = refl; tokens = λ h. omega arith }), refl)
-
-pub good_header : ¬ (BadHeader 20 0)
-good_header = grind arith
-
-sent_header : Header
+abbrev pub sent_header : Header
 sent_header = record { remote_kind = 20; local_kind = 0; size = 24; remote = 1; local = 0; sequence = 0; id = 7 }
 
-third_guards : NoneHolds (guards s2 (Event.Send 0 sent_text))
-third_guards = ((λ h. cc), ((λ h. elim h [ inl g ↦ omega (arith, g) | inr g ↦ g refl ]), ((λ h. omega (arith, h)), (good_header, tt))))
+abbrev s3_copied : State
+s3_copied = with_made MakeSend 0 0 1 (in_message 0 0) s2
 
-third : Step 2 s2 (Event.Send 0 sent_text) (Reply.Code 0) s3 × IsLawful s3
-unfolding sent_header
-third = quiet_step 2 s2 (Event.Send 0 sent_text) (Reply.Code 0) s3 second.1 third_guards (
-  refl,
-  plain_sends 2 0 0 sent_text [] sent_header s2 second.1
-      (record {
-        is_text = refl;
-        header_fits = record { remote_kind = omega arith; local_kind = omega arith; size = omega arith; remote = omega arith; local = omega arith; sequence = omega arith; id = omega arith };
-        body_fits = refl;
-      }) refl refl refl (lookup_one _) (omega arith) (omega arith) (omega arith),
-  refl,
-)
+abbrev s3 : State
+s3 = with_entry 2 greeting s3_copied
 
-received_header : Header
-received_header = record { remote_kind = 0; local_kind = 17; size = 24; remote = 0; local = 1; sequence = 0; id = 7 }
+third : Plays 2 s2 (Event.Send 0 sent_text) (Reply.Code 0) s3
+third =
+    sent second.1 refl sent_header (WireBody.raw []) greeting s3_copied (good_text sent_text (omega arith) refl (omega arith) (grind arith))
+    (spelled refl (omega arith) (omega arith) refl) (copies_plain refl refl (makes 0 MakeSend refl port_named (omega arith) refl refl) refl) (λ p. omega arith) (omega arith) (omega arith)
 
-none_either_way : (b : Bool) → ◌≡◌ {A = List ℕ} (if b then [] else []) []
-none_either_way true = refl
-none_either_way false = refl
+abbrev s4 : State
+s4 = without_front 0 s2.ledger s3
 
-fourth_guards : NoneHolds (guards s3 (Event.Receive 0 1 24 false))
-fourth_guards = ((λ h. cc), ((λ h. h (inl (0, lookup_one _, omega arith))), ((λ h. h.2 (none_either_way (h.0 == 0))), tt)))
+fourth : Plays 3 s3 (Event.Receive 0 1 24 false) (Reply.Message received_text) s4
+fourth =
+    received third.1 refl port_named (omega arith) refl
+    (receives 0 0 1 (entry 2 greeting) (WireBody.raw []) s2.ledger s4 refl (λ h. omega arith) (refl, refl, refl) (refl, refl) port_named
+    (spelled refl (omega arith) (omega arith) refl) (omega arith))
 
-fourth : Step 3 s3 (Event.Receive 0 1 24 false) (Reply.Message received_text) s4 × IsLawful s4
-unfolding received_header
-fourth = quiet_step 3 s3 (Event.Receive 0 1 24 false) (Reply.Message received_text) s4 third.1 fourth_guards (
-  Waited.Port 0,
-  (lookup_one _, omega arith),
-  (
-    0,
-    (refl, omega arith, refl),
-    plain_receives 0 0 24 received_text [] (entry 2 (plain_message 0 7 [])) received_header (token receive 0 (in_task 0) ∷ []) s3 refl refl refl refl
-        (record {
-          is_text = refl;
-          header_fits = record { remote_kind = omega arith; local_kind = omega arith; size = omega arith; remote = omega arith; local = omega arith; sequence = omega arith; id = omega arith };
-          body_fits = refl;
-        }) refl (lookup_one _) refl refl refl refl refl (omega arith) (λ h. omega arith),
-    refl,
-  ),
-)
-
-fifth_guards : NoneHolds (guards s4 (Event.ReceiveStatus 0 1))
-fifth_guards = ((λ h. cc), ((λ h. let e = lookup_one (Target.port 0) in cc), ((λ h. h (0, lookup_one _, omega arith)), tt)))
-
-fifth_tells : TellsStatus s4 0 1 status_after
-fifth_tells = record { p = 0; found = lookup_one _; set = inl (refl, refl); sequence = refl; make_send = refl; limit = refl; queued = refl; send_once = refl; has_send = refl; port_destroyed = refl; no_senders = refl }
-
-fifth : Step 4 s4 (Event.ReceiveStatus 0 1) (Reply.Status status_after) s4 × IsLawful s4
-fifth = quiet_step 4 s4 (Event.ReceiveStatus 0 1) (Reply.Status status_after) s4 fourth.1 fifth_guards (fifth_tells, refl, refl)
+fifth : Plays 4 s4 (Event.ReceiveStatus 0 1) (Reply.Status status_after) s4
+fifth = status_told fourth.1 refl 0 port_named (omega arith) refl
 
 pub first_run : (s : State) × Run first_events first_replies s
 first_run = (s4, (s1, first.0, (s2, second.0, (s3, third.0, (s4, fourth.0, (s4, fifth.0, refl))))))

@@ -6,6 +6,8 @@ mod Steps
 mod Walking
 mod Told
 mod Ordered
+pub mod Promised
+mod Playing
 mod First
 mod Answered
 mod Answering
@@ -13,4 +15,12 @@ mod Gathering
 mod Handed
 mod Naming
 mod Grouped
-mod OnceTaken
+mod SendCodes
+mod Reordered
+mod Refusing
+mod Giving
+mod Spelled
+mod Excluding
+mod Measured
+mod Rising
+mod Deciding

@@ -17,8 +17,9 @@ use Rattle.mach_types.specs.Grammar.{Wire, data_item, port_item, WireBody}
 use Rattle.mach_model.specs.State.{State, Target, Names, lookup, without_name, with_name}
 use Rattle.mach_model.specs.SentMeans.{target_mark, name_mark, word_mark, ReplyMeans, WordsMean, ItemMeans, ItemsMean, BodyMeans, SentMeans}
 use Rattle.mach_model.specs.CopyIn.{name_kept, changed_by, CopyRight, CopyWord, CopyReply, CopyWords, CopyItem, CopyItems, CopyBody}
-use Rattle.mach_model.specs.Sending.{Sends, place_of}
+use Rattle.mach_model.specs.Send.{Sends, place_of}
 use Rattle.mach_model.proofs.At.{at_same}
+use Rattle.mach_laws.proofs.Receiving.{either}
 
 -- What a name means in the later names it means in the earlier ones.
 abbrev pub Reads : Names → Names → Type 0
@@ -74,10 +75,6 @@ Reads-trans a b c f g d n mark e = f d n mark (g d n mark e)
 Reads-same : (task : ℕ) (s t : State) → t ≡ s → Reads (s.naming task) (t.naming task)
 Reads-same task s t e = subst (λ (x : State). Reads (s.naming task) (x.naming task)) (sym e) (λ d n mark f. f)
 
-either : (b : Bool) (P Q R : Type 0) → (P → R) → (Q → R) → MatchBool b P Q → R
-either true P Q R f g h = f h
-either false P Q R f g h = g h
-
 CopyRight-reads : (task : ℕ) (place : Place) (number name : ℕ) (old : State) (mark : Mark) (new : State) →
     CopyRight task place number name old mark new → Reads (old.naming task) (new.naming task)
 CopyRight-reads task place number name old mark new r =
@@ -86,8 +83,8 @@ CopyRight-reads task place number name old mark new r =
 CopyWord-reads : (task : ℕ) (place : Place) (number word : ℕ) (old : State) (mark : Mark) (new : State) →
     CopyWord task place number word old mark new → Reads (old.naming task) (new.naming task)
 CopyWord-reads task place number word old mark new =
-    either (word == null_word) _ _ _ (λ h. Reads-same task old new h.1)
-    (either (word == dead_word) _ _ _ (λ h. Reads-same task old new h.1) (CopyRight-reads task place number word old mark new))
+    either (word == null_word) _ _ _ (λ is h. Reads-same task old new h.1)
+    (λ is. either (word == dead_word) _ _ _ (λ b h. Reads-same task old new h.1) (λ b. CopyRight-reads task place number word old mark new))
 
 -- the mark that a copied word stands as is what the word means
 CopyRight-mark : (task : ℕ) (place : Place) (number name : ℕ) (old : State) (mark : Mark) (new : State) (r : CopyRight task place number name old mark new) →

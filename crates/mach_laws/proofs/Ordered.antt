@@ -1,5 +1,5 @@
 -- A port's messages are received in the order in which they were accepted, each once.
-use Rattle.std.proofs.Common.{◌≡◌, ℕ, zero, suc, ◌+◌, ◌≤◌, List, [], ◌∷◌, ◌++◌, Some, refl, sym, ap, subst, ◌∙◌, arith, true, false, Bool, ◌⊎◌, inl, inr, length, take, append_assoc}
+use Rattle.std.proofs.Common.{◌≡◌, ℕ, zero, suc, ◌+◌, ◌≤◌, List, [], ◌∷◌, ◌++◌, Some, refl, sym, ap, subst, ◌∙◌, arith, true, false, Bool, inl, inr, length, take, append_assoc}
 use Rattle.std.specs.Prelude.{slice_get, option_to_list, if◌then◌else◌, ◌==◌}
 use Rattle.std.proofs.lemmas.Bool.Decides.{eqb_tells}
 use Rattle.std.proofs.lemmas.Bool.{eq-eqb, ne_eqb}
@@ -9,7 +9,7 @@ use Rattle.mach_types.specs.declared.calls.Event.{Event}
 use Rattle.mach_types.specs.declared.calls.Reply.{Reply}
 use Rattle.mach_types.specs.Messages.{Entry}
 use Rattle.mach_model.specs.State.{State, opening, queue}
-use Rattle.mach_model.specs.Sending.{entry}
+use Rattle.mach_model.specs.Send.{entry}
 use Rattle.mach_model.specs.Machine.{Step}
 use Rattle.mach_model.specs.Lawful.{IsLawful}
 use Rattle.mach_model.proofs.Opening.{opening-lawful}
@@ -17,7 +17,7 @@ use Rattle.mach_model.proofs.StepLawful.{Step-lawful}
 use Rattle.mach_laws.specs.Paths.{Stage, PathFrom, Path}
 use Rattle.mach_laws.specs.Received.{AsksFrom}
 use Rattle.mach_laws.specs.Order.{new_entry, front_entry, if_accepted, if_received, accepted, received, InOrder}
-use Rattle.mach_laws.proofs.Steps.{AcceptsBy, DeliversBy, Step-logs, Step-taken}
+use Rattle.mach_laws.proofs.Steps.{Passes, Step-passes}
 
 none_accepted : (event : Event) (reply : Reply) → if_accepted event reply [] ≡ []
 none_accepted (Event.Send task bytes) (Reply.Code code) = go (code == 0)
@@ -37,10 +37,6 @@ all_received : (s : State) (event : Event) (bytes : List ℕ) (task p : ℕ) (en
 all_received s (Event.Receive caller name room large) bytes task p entries asks = refl
 all_received s (Event.ReceiveAgain caller waited room large) bytes task p entries asks = refl
 all_received s event bytes task p entries asks = absurd asks
-
--- and is no send
-no_send : (s : State) (caller : ℕ) (sent : List ℕ) (event : Event) (task p : ℕ) → event ≡ Event.Send caller sent → AsksFrom s event task p → ⊥
-no_send s caller sent event task p is asks = subst (λ (e : Event). AsksFrom s e task p) is asks
 
 -- one more at the end
 last_entry : {A : Type 0} (xs : List A) (y : A) → slice_get (xs ++ y ∷ []) (length xs) ≡ Some y
@@ -64,11 +60,12 @@ same_accepted x p same =
 
 stage_accepts : (now : ℕ) (x : Stage) (p : ℕ) → IsLawful x.before → Step now x.before x.event x.reply x.after →
     x.after.log p ≡ x.before.log p ++ if_accepted x.event x.reply (new_entry p x)
-stage_accepts now x p l step = go (Step-logs now x.before x.event x.reply x.after l step)
+stage_accepts now x p l step = go (Step-passes now x.before x.event x.reply x.after l step)
   where
-    go : ((p : ℕ) → x.after.log p ≡ x.before.log p) ⊎ AcceptsBy now x.before x.event x.reply x.after → x.after.log p ≡ x.before.log p ++ if_accepted x.event x.reply (new_entry p x)
-    go (inl same) = same_accepted x p (same p)
-    go (inr a) = elim (eqb_tells p a.accepts.m.destination) [
+    go : Passes now x.before x.event x.reply x.after → x.after.log p ≡ x.before.log p ++ if_accepted x.event x.reply (new_entry p x)
+    go (inl u) = same_accepted x p (u.log p)
+    go (inr (inr d)) = same_accepted x p (d.log p)
+    go (inr (inl a)) = elim (eqb_tells p a.accepts.m.destination) [
       | inl h ↦
           let log : x.after.log p ≡ x.before.log p ++ entry now a.accepts.m ∷ [] =
           subst (λ (q : ℕ). x.after.log q ≡ x.before.log q ++ entry now a.accepts.m ∷ []) (sym h.1) a.accepts.appended in
@@ -89,17 +86,17 @@ same_received x p same =
 
 stage_takes : (now : ℕ) (x : Stage) (p : ℕ) → IsLawful x.before → Step now x.before x.event x.reply x.after →
     take (x.after.taken p) (x.before.log p) ≡ take (x.before.taken p) (x.before.log p) ++ if_received x.event x.reply (front_entry p x)
-stage_takes now x p l step = go (Step-taken now x.before x.event x.reply x.after l step)
+stage_takes now x p l step = go (Step-passes now x.before x.event x.reply x.after l step)
   where
     none : x.after.taken p ≡ x.before.taken p → take (x.after.taken p) (x.before.log p) ≡ take (x.before.taken p) (x.before.log p) ++ if_received x.event x.reply (front_entry p x)
     none same =
         ap (λ (n : ℕ). take n (x.before.log p)) same ∙ sym (append-nil (take (x.before.taken p) (x.before.log p)))
         ∙ ap (λ (xs : List Entry). take (x.before.taken p) (x.before.log p) ++ xs) (sym (same_received x p same))
 
-    go : ((p : ℕ) → x.after.taken p ≡ x.before.taken p) ⊎ DeliversBy x.before x.event x.reply x.after →
-        take (x.after.taken p) (x.before.log p) ≡ take (x.before.taken p) (x.before.log p) ++ if_received x.event x.reply (front_entry p x)
-    go (inl same) = none (same p)
-    go (inr d) = elim (eqb_tells p d.delivers.port) [
+    go : Passes now x.before x.event x.reply x.after → take (x.after.taken p) (x.before.log p) ≡ take (x.before.taken p) (x.before.log p) ++ if_received x.event x.reply (front_entry p x)
+    go (inl u) = none (u.taken p)
+    go (inr (inl a)) = none (a.taken p)
+    go (inr (inr d)) = elim (eqb_tells p d.delivers.port) [
       | inl h ↦
           let taken : x.after.taken p ≡ x.before.taken p + 1 = subst (λ (q : ℕ). x.after.taken q ≡ x.before.taken q + 1) (sym h.1) d.delivers.taken in
           let front : slice_get (x.before.log p) (x.before.taken p) ≡ Some d.delivers.e =
@@ -147,13 +144,12 @@ path_takes now old (x ∷ xs) new p l path =
     -- a stage takes no entry that it accepts itself
     taken_kept : (x : Stage) (now : ℕ) → IsLawful x.before → Step now x.before x.event x.reply x.after →
         take (x.after.taken p) (x.after.log p) ≡ take (x.after.taken p) (x.before.log p)
-    taken_kept x now l step = go (Step-logs now x.before x.event x.reply x.after l step) (Step-taken now x.before x.event x.reply x.after l step)
+    taken_kept x now l step = go (Step-passes now x.before x.event x.reply x.after l step)
       where
-        go : ((p : ℕ) → x.after.log p ≡ x.before.log p) ⊎ AcceptsBy now x.before x.event x.reply x.after →
-            ((p : ℕ) → x.after.taken p ≡ x.before.taken p) ⊎ DeliversBy x.before x.event x.reply x.after → take (x.after.taken p) (x.after.log p) ≡ take (x.after.taken p) (x.before.log p)
-        go (inl same) taken = ap (take (x.after.taken p)) (same p)
-        go (inr a) (inl same) = let w = l.within p in let e = same p in take_kept now x p l step (x.after.taken p) (omega (arith, w, e))
-        go (inr a) (inr d) = absurd (no_send x.before a.task a.bytes x.event d.delivers.task d.delivers.port a.is_event d.delivers.asks)
+        go : Passes now x.before x.event x.reply x.after → take (x.after.taken p) (x.after.log p) ≡ take (x.after.taken p) (x.before.log p)
+        go (inl u) = ap (take (x.after.taken p)) (u.log p)
+        go (inr (inl a)) = let w = l.within p in let e = a.taken p in take_kept now x p l step (x.after.taken p) (omega (arith, w, e))
+        go (inr (inr d)) = ap (take (x.after.taken p)) (d.log p)
 
 pub path_ordered : (path : List Stage) (s : State) → Path path s → (p : ℕ) → InOrder p path s
 path_ordered path s is p =

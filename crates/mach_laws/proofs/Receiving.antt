@@ -10,7 +10,7 @@ use Rattle.mach_types.specs.Grammar.{Wire, data_item, port_item, WireBody}
 use Rattle.mach_model.specs.State.{State, Target, Names, lookup, held, Holds}
 use Rattle.mach_model.specs.ReceivedMeans.{ReceivedWord, ReceivedWords, ReceivedItem, ReceivedItems, ReceivedBody, ReceivedReply}
 use Rattle.mach_model.specs.CopyOut.{given_to, Named, NamedOnce, NamedFor, GiveRight, GiveMark, GiveReply, GiveMarks, GiveItem, GiveItems, GiveBody}
-use Rattle.mach_model.specs.Receiving.{Receives}
+use Rattle.mach_model.specs.Receive.{Receives}
 use Rattle.mach_model.proofs.At.{at_same}
 use Rattle.mach_model.proofs.Weigh.{both_test}
 use Rattle.mach_model.proofs.Names.{kept, get_own}
@@ -32,7 +32,7 @@ pub record Gives (task : ℕ) (old new : State) : Type 0 where
   pub sequence : new.sequence ≡ old.sequence
   pub holds : (k : Kind) (q : ℕ) → held old task k q ≤ held new task k q
 
-Gives-trans : (task : ℕ) (a b c : State) → Gives task a b → Gives task b c → Gives task a c
+pub Gives-trans : (task : ℕ) (a b c : State) → Gives task a b → Gives task b c → Gives task a c
 Gives-trans task a b c f g = record {
   grows = Grows-trans (a.naming task) (b.naming task) (c.naming task) f.grows g.grows;
   live = g.live ∙ f.live;

@@ -1,22 +1,20 @@
 -- What one step from a lawful state does to the logs, and takes from them.
-use Rattle.std.proofs.Common.{◌≡◌, ℕ, ◌+◌, ◌%◌, ◌^◌, ◌<◌, List, [], ◌∷◌, ◌++◌, Some, refl, sym, ap, subst, ◌∙◌, arith, true, false, Bool, ◌⊎◌, inl, inr}
+use Rattle.std.proofs.Common.{◌≡◌, ℕ, ◌+◌, ◌%◌, ◌^◌, List, [], ◌∷◌, ◌++◌, Some, refl, sym, ap, subst, ◌∙◌, arith, true, false, Bool, ◌⊎◌, inl, inr}
 use Rattle.std.specs.Prelude.{if◌then◌else◌}
 use Rattle.mach_types.specs.declared.calls.Event.{Event}
 use Rattle.mach_types.specs.declared.calls.Reply.{Reply}
 use Rattle.mach_types.specs.declared.calls.Waited.{Waited}
-use Rattle.mach_types.specs.Guards.{Guards, FirstIs, NoneHolds}
-use Rattle.mach_types.specs.TextGuards.{item_guards}
+use Rattle.mach_types.specs.Guards.{NoneHolds}
 use Rattle.mach_types.specs.Tokens.{receive, in_message, token, is_of, is_held}
 use Rattle.mach_types.specs.Messages.{Entry, asof}
-use Rattle.mach_types.specs.Grammar.{Header, WireBody}
 use Rattle.mach_model.specs.State.{State, Target, lookup, Holds, at}
 use Rattle.mach_model.specs.Sets.{JoinsSet}
-use Rattle.mach_model.specs.Handing.{Inserts, Extracts}
-use Rattle.mach_model.specs.Sending.{Sends, SendRefuses, RightsRefuse, sent_guards, place_of, entry}
-use Rattle.mach_model.specs.Receiving.{waits_for, TakesFrom, Receives}
+use Rattle.mach_model.specs.Transfer.{Inserts, Extracts}
+use Rattle.mach_model.specs.Send.{Sends, entry}
+use Rattle.mach_model.specs.Receive.{waits_for, TakesFrom, Receives}
 use Rattle.mach_model.specs.Notices.{Owed}
 use Rattle.mach_model.specs.ReceivedMeans.{ReceivedMeans}
-use Rattle.mach_model.specs.Refusals.{guards, Refuses}
+use Rattle.mach_model.specs.Refusals.{guards}
 use Rattle.mach_model.specs.Machine.{Does, Step}
 use Rattle.mach_model.specs.Lawful.{IsLawful}
 use Rattle.mach_model.proofs.At.{at_other, at_own}
@@ -26,45 +24,14 @@ use Rattle.mach_model.proofs.Moving.{shape}
 use Rattle.mach_model.proofs.SendLawful.{Sends-adds}
 use Rattle.mach_model.proofs.ReceiveLawful.{Receives-removes}
 use Rattle.mach_model.proofs.HandLawful.{hands_shape, Inserts-hands, Extracts-hands}
-use Rattle.mach_model.proofs.StepLawful.{Done-mid, TakesFrom-holds, TakesFrom-live, not_false, again_lives}
+use Rattle.mach_model.proofs.StepLawful.{Done-mid, TakesFrom-holds, TakesFrom-live, not_false}
 use Rattle.mach_laws.specs.Sent.{Accepts}
 use Rattle.mach_laws.specs.Received.{NamesSource, AsksFrom, Delivers}
-use Rattle.mach_laws.proofs.Untouched.{Untouched, by_rest, makes_untouched, deallocates_untouched, destroys_untouched, modifies_untouched, renames_untouched}
+use Rattle.mach_laws.proofs.SendCodes.{same_code, send_code}
+use Rattle.mach_laws.proofs.Untouched.{Untouched, LiveStay, by_rest, makes_untouched, deallocates_untouched, destroys_untouched, modifies_untouched}
 use Rattle.mach_laws.proofs.Meanings.{Sends-means}
-use Rattle.mach_laws.proofs.Receiving.{Gives, GiveReply-means, GiveBody-means}
+use Rattle.mach_laws.proofs.Receiving.{Gives, Gives-trans, GiveReply-means, GiveBody-means}
 use Rattle.mach_laws.proofs.Apart.{Receives-received, ReceivedMeans-later}
-
--- ---- refusals are never answered with 0
-
-abbrev NonZero : Guards → Type 0
-NonZero [] = Unit {0}
-NonZero (g ∷ gs) = (0 < g.1) × NonZero gs
-
-FirstIs-code : (gs : Guards) (code : ℕ) → NonZero gs → FirstIs gs code → 0 < code
-FirstIs-code [] code some h = absurd h
-FirstIs-code (g ∷ gs) code some (inl h) = omega (arith, h.1, some.0)
-FirstIs-code (g ∷ gs) code some (inr h) = FirstIs-code gs code some.1 h.1
-
-rights_code : (s : State) (task : ℕ) (header : Header) (written : WireBody) (code : ℕ) → RightsRefuse s task header written code → 0 < code
-rights_code s task header written code (inl h) = omega (arith, h.1)
-rights_code s task header written code (inr (inl h)) = elim h.3 [
-  | inl g ↦ omega (arith, g.1)
-  | inr g ↦ omega (arith, g.4)
-]
-rights_code s task header written code (inr (inr h)) = FirstIs-code (sent_guards h.0 (place_of s h.0) h.1) code (omega arith, (omega arith, (omega arith, tt))) h.3
-
-send_code : (s : State) (task : ℕ) (bytes : List ℕ) (code : ℕ) → SendRefuses s task bytes code → 0 < code
-send_code s task bytes code (inl h) =
-    let i = h.1.refused in
-    FirstIs-code (item_guards h.1.rest i.name i.size i.number i.before) code (omega arith, (omega arith, (omega arith, tt))) i.refused
-send_code s task bytes code (inr h) = elim h.3 [
-  | inl g ↦ omega (arith, g)
-  | inr g ↦ rights_code s task h.0 h.1 code g
-]
-
-refused_send : (s : State) (task : ℕ) (bytes : List ℕ) (code : ℕ) → Refuses s (Event.Send task bytes) code → 0 < code
-refused_send s task bytes code (inl h) = FirstIs-code (guards s (Event.Send task bytes)) code (omega arith, (omega arith, (omega arith, (omega arith, tt)))) h
-refused_send s task bytes code (inr h) = send_code s task bytes code h.1
 
 -- ---- what an event leaves as it is
 
@@ -77,6 +44,9 @@ sent_log now task bytes old mid l s q =
 
 sent_taken : (now task : ℕ) (bytes : List ℕ) (old mid : State) → IsLawful old → (s : Sends now task bytes old mid) → (q : ℕ) → mid.taken q ≡ old.taken q
 sent_taken now task bytes old mid l s q = ap (λ (x : State). x.taken q) s.rest ∙ ap (λ (x : State). x.taken q) (Sends-adds now task bytes old mid l s).rest
+
+sent_live : (now task : ℕ) (bytes : List ℕ) (old mid : State) → IsLawful old → Sends now task bytes old mid → mid.live_port ≡ old.live_port
+sent_live now task bytes old mid l s = ap (λ (x : State). x.live_port) s.rest ∙ ap (λ (x : State). x.live_port) (Sends-adds now task bytes old mid l s).rest
 
 -- what a receipt leaves
 record Received (port : ℕ) (old mid : State) : Type 0 where
@@ -93,6 +63,10 @@ received_state task port room bytes old mid l live is_task r =
       live = ap (λ (s : State). s.live_port) x ∙ ap (λ (s : State). s.live_port) r.takes.rest;
     }
 
+-- the same ports live
+stays : (old new : State) → new.live_port ≡ old.live_port → LiveStay old new
+stays old new e p is = ap (λ (f : ℕ → Bool). f p) e ∙ is
+
 -- ---- sends
 
 pub Sends-accepts : (now task : ℕ) (bytes : List ℕ) (old mid new : State) → IsLawful old → Sends now task bytes old mid → IsReordered mid new →
@@ -102,7 +76,7 @@ Sends-accepts now task bytes old mid new l s r =
     let log : (q : ℕ) → new.log q ≡ at old.log p (old.log p ++ entry now s.m ∷ []) q = λ q. ap (λ (x : State). x.log q) r.rest ∙ sent_log now task bytes old mid l s q in
     record {
       m = s.m;
-      means = Sends-means now task bytes old mid (record { no_null = l.not_null task; no_dead = l.not_dead task }) s;
+      means = Sends-means now task bytes old mid (record { no_null = (l.naming task).not_null; no_dead = (l.naming task).not_dead }) s;
       appended = log p ∙ at_own old.log p (old.log p ++ entry now s.m ∷ []);
       others = λ q not. log q ∙ at_other old.log p (old.log p ++ entry now s.m ∷ []) q not;
     }
@@ -110,91 +84,9 @@ Sends-accepts now task bytes old mid new l s r =
 -- the next step after a run, where it accepts a send
 pub Step-accepts : (now : ℕ) (old : State) (task : ℕ) (bytes : List ℕ) (new : State) → IsLawful old → Step now old (Event.Send task bytes) (Reply.Code 0) new → Accepts now task bytes old new
 Step-accepts now old task bytes new l (inl r) =
-    absurd (let some = refused_send old task bytes r.code r.refuses in let none : 0 ≡ r.code = code_of 0 r.code r.told in omega (arith, some, none))
-  where
-    code_of : (a b : ℕ) → Reply.Code a ≡ Reply.Code b → a ≡ b
-    code_of a b e = cc
+    absurd (let some = (send_code old task bytes r.code r.refuses).some in let none : 0 ≡ r.code = same_code 0 r.code r.told in omega (arith, some, none))
 Step-accepts now old task bytes new l (inr d) =
     Sends-accepts now task bytes old d.mid new l d.does.1 (Done-mid now old (Event.Send task bytes) (Reply.Code 0) new l d).1
-
--- A step changes no log, or it accepts a send.
-pub record AcceptsBy (now : ℕ) (old : State) (event : Event) (reply : Reply) (new : State) : Type 0 where
-  pub task : ℕ
-  pub bytes : List ℕ
-  pub is_event : event ≡ Event.Send task bytes
-  pub is_reply : reply ≡ Reply.Code 0
-  pub accepts : Accepts now task bytes old new
-
-abbrev SameLogs : State → State → Type 0
-SameLogs old new = (p : ℕ) → new.log p ≡ old.log p
-
-same_logs : (old mid new : State) → mid ≡ old → IsReordered mid new → SameLogs old new
-same_logs old mid new e r p = ap (λ (x : State). x.log p) r.rest ∙ ap (λ (x : State). x.log p) e
-
-untouched_logs : (old mid new : State) → Untouched old mid → IsReordered mid new → SameLogs old new
-untouched_logs old mid new u r p = ap (λ (x : State). x.log p) r.rest ∙ u.log p
-
-inserted_shape : (task name from poly number : ℕ) (old mid : State) → IsLawful old → NoneHolds (guards old (Event.InsertRight task name from poly number)) → Inserts task name from poly number old mid →
-    mid ≡ shape old mid
-inserted_shape task name from poly number old mid l g i =
-    hands_shape old mid _ _ _ _ (Inserts-hands task name from poly number old mid l (not_false (old.live_task task) (λ e. g.0 (inl e))) (λ e. g.1.0 (inl e)) i)
-
-extracted_shape : (task name number to new_name kind : ℕ) (old mid : State) → IsLawful old → NoneHolds (guards old (Event.ExtractRight task name number to)) → Extracts task name number to new_name kind old mid →
-    mid ≡ shape old mid
-extracted_shape task name number to new_name kind old mid l g x =
-    hands_shape old mid _ _ _ _ (Extracts-hands task name number to new_name kind old mid l (not_false (old.live_task to) (λ e. g.0 (inr e))) x)
-
-joined_rest : (task member after : ℕ) (old mid : State) → JoinsSet task member after old mid → mid ≡ record old { sets_of = mid.sets_of }
-joined_rest task member after old mid j = by j.2
-  where
-    by : (after ≡ 0) × (mid ≡ record old { sets_of = at old.sets_of j.0 [] })
-        ⊎ ((set : ℕ) × (lookup old task after ≡ Some (Target.set set)) × (mid ≡ record old { sets_of = at old.sets_of j.0 (set ∷ []) })) → mid ≡ record old { sets_of = mid.sets_of }
-    by (inl h) = h.1 ∙ ap (λ (x : State). record old { sets_of = x.sets_of }) (sym h.1)
-    by (inr h) = h.2 ∙ ap (λ (x : State). record old { sets_of = x.sets_of }) (sym h.2)
-
-Does-logs : (now : ℕ) (old : State) (event : Event) (reply : Reply) (mid : State) (owed : Owed) (new : State) → IsLawful old → NoneHolds (guards old event) →
-    Does now old event reply mid owed → IsReordered mid new → SameLogs old new ⊎ AcceptsBy now old event reply new
-Does-logs now old Event.TaskCreate (Reply.Task task) mid owed new l g d r =
-    inl (λ p. ap (λ (x : State). x.log p) r.rest ∙ ap (λ (x : State). x.log p) d.0.rest)
-Does-logs now old (Event.Allocate task right) (Reply.Name name) mid owed new l g d r = inl (untouched_logs old mid new (makes_untouched task right name old mid l d.1) r)
-Does-logs now old (Event.AllocateName task right name) (Reply.Name told) mid owed new l g d r = inl (untouched_logs old mid new (makes_untouched task right name old mid l d.1) r)
-Does-logs now old (Event.Deallocate task name) (Reply.Code code) mid owed new l g d r = inl (untouched_logs old mid new (deallocates_untouched task name old mid owed d.1) r)
-Does-logs now old (Event.Destroy task name) (Reply.Code code) mid owed new l g d r = inl (untouched_logs old mid new (destroys_untouched task name old mid owed d.1) r)
-Does-logs now old (Event.ModRefs task name right delta) (Reply.Code code) mid owed new l g d r = inl (untouched_logs old mid new (modifies_untouched task name right delta old mid owed d.1) r)
-Does-logs now old (Event.Rename task o n) (Reply.Code code) mid owed new l g d r = inl (untouched_logs old mid new (renames_untouched task o n old mid d.1) r)
-Does-logs now old (Event.SetQlimit task name n) (Reply.Code code) mid owed new l g d r = inl (untouched_logs old mid new (by_rest old mid _ d.1.3 (λ p. refl) (λ p. refl)) r)
-Does-logs now old (Event.SetMscount task name n) (Reply.Code code) mid owed new l g d r = inl (untouched_logs old mid new (by_rest old mid _ d.2.3 (λ p. refl) (λ p. refl)) r)
-Does-logs now old (Event.SetSeqno task name n) (Reply.Code code) mid owed new l g d r = inl (untouched_logs old mid new (by_rest old mid _ d.2.3 (λ p. refl) (λ p. refl)) r)
-Does-logs now old (Event.Names task) (Reply.Names entries) mid owed new l g d r = inl (same_logs old mid new d.1 r)
-Does-logs now old (Event.GetRefs task name right) (Reply.Refs n) mid owed new l g d r = inl (same_logs old mid new d.1 r)
-Does-logs now old (Event.NameType task name) (Reply.NameType n) mid owed new l g d r = inl (same_logs old mid new d.1 r)
-Does-logs now old (Event.ReceiveStatus task name) (Reply.Status status) mid owed new l g d r = inl (same_logs old mid new d.1 r)
-Does-logs now old (Event.SetStatus task name) (Reply.Members members) mid owed new l g d r = inl (same_logs old mid new d.1 r)
-Does-logs now old (Event.MoveMember task member after) (Reply.Code code) mid owed new l g d r =
-    inl (λ p. ap (λ (x : State). x.log p) r.rest ∙ ap (λ (x : State). x.log p) (joined_rest task member after old mid d.1))
-Does-logs now old (Event.InsertRight task name from poly number) (Reply.Code code) mid owed new l g d r =
-    inl (λ p. ap (λ (x : State). x.log p) r.rest ∙ ap (λ (x : State). x.log p) (inserted_shape task name from poly number old mid l g d.1))
-Does-logs now old (Event.ExtractRight task name number to) (Reply.Right new_name kind) mid owed new l g d r =
-    inl (λ p. ap (λ (x : State). x.log p) r.rest ∙ ap (λ (x : State). x.log p) (extracted_shape task name number to new_name kind old mid l g d.0))
-Does-logs now old (Event.Send task bytes) (Reply.Code code) mid owed new l g d r =
-    inr (record { task = task; bytes = bytes; is_event = refl; is_reply = ap Reply.Code d.0; accepts = Sends-accepts now task bytes old mid new l d.1 r })
-Does-logs now old (Event.Receive task name room large) (Reply.Message bytes) mid owed new l g d r =
-    let x = received_state task d.2.0 room bytes old mid l (TakesFrom-live old l task d.0 d.2.0 d.2.1) (not_false (old.live_task task) g.0) d.2.2 in
-    inl (λ p. ap (λ (x : State). x.log p) r.rest ∙ x.log p)
-Does-logs now old (Event.Receive task name room large) (Reply.Empty told) mid owed new l g d r = inl (same_logs old mid new d.2.2 r)
-Does-logs now old (Event.Receive task name room large) (Reply.TooLarge n) mid owed new l g d r = inl (same_logs old mid new d.2.6 r)
-Does-logs now old (Event.Receive task name room large) reply mid owed new l g d r = absurd d.2
-Does-logs now old (Event.ReceiveAgain task waited room large) (Reply.Message bytes) mid owed new l g d r =
-    let x = received_state task d.0 room bytes old mid l (TakesFrom-live old l task waited d.0 d.1) (again_lives old task waited g) d.2 in
-    inl (λ p. ap (λ (x : State). x.log p) r.rest ∙ x.log p)
-Does-logs now old (Event.ReceiveAgain task waited room large) (Reply.Empty told) mid owed new l g d r = inl (same_logs old mid new d.2 r)
-Does-logs now old (Event.ReceiveAgain task waited room large) (Reply.TooLarge n) mid owed new l g d r = inl (same_logs old mid new d.6 r)
-Does-logs now old event reply mid owed new l g d r = absurd d
-
-pub Step-logs : (now : ℕ) (old : State) (event : Event) (reply : Reply) (new : State) → IsLawful old → Step now old event reply new →
-    ((p : ℕ) → new.log p ≡ old.log p) ⊎ AcceptsBy now old event reply new
-Step-logs now old event reply new l (inl r) = inl (λ p. ap (λ (x : State). x.log p) r.same)
-Step-logs now old event reply new l (inr d) = Does-logs now old event reply d.mid d.owed new l d.unrefused d.does (Done-mid now old event reply new l d).1
 
 -- ---- receipts
 
@@ -210,34 +102,36 @@ reordered_gives task mid new r = record {
   holds = λ k q. let m = r.tokens (λ x. if is_held task k q x then 1 else 0) in omega (arith, m);
 }
 
+-- what a receiver has once the message was taken, it keeps
+given : (task port room : ℕ) (bytes : List ℕ) (old mid : State) (r : Receives task port room bytes old mid) → Gives task r.taken mid
+given task port room bytes old mid r =
+    let place = in_message port (old.taken port) in
+    Gives-trans task r.taken r.second mid (GiveReply-means task place r.e.message.reply r.taken r.taken r.header.remote_kind r.header.remote r.second refl (λ n x e. e) r.reply).0
+    (GiveBody-means task place r.e.message.body r.second r.second r.written mid refl (λ n x e. e) r.body).0
+
 -- a receipt uses the number that its port is at
 numbered : (task port room : ℕ) (bytes : List ℕ) (old mid : State) → Receives task port room bytes old mid → mid.sequence port ≡ (old.sequence port + 1) % 2 ^ 32
 numbered task port room bytes old mid r =
-    let place = in_message port (old.taken port) in
-    let a = (GiveReply-means task place r.e.message.reply r.taken r.taken r.header.remote_kind r.header.remote r.second refl (λ n x e. e) r.reply).0 in
-    let b = (GiveBody-means task place r.e.message.body r.second r.second r.written mid refl (λ n x e. e) r.body).0 in
-    ap (λ (f : ℕ → ℕ). f port) (b.sequence ∙ a.sequence ∙ ap (λ (s : State). s.sequence) r.takes.rest) ∙ at_own old.sequence port ((old.sequence port + 1) % 2 ^ 32)
+    ap (λ (f : ℕ → ℕ). f port) ((given task port room bytes old mid r).sequence ∙ ap (λ (s : State). s.sequence) r.takes.rest) ∙ at_own old.sequence port ((old.sequence port + 1) % 2 ^ 32)
 
 -- a receiver loses no receive right
 still_holds : (task port room : ℕ) (bytes : List ℕ) (old mid : State) (r : Receives task port room bytes old mid) (q : ℕ) → Holds old task receive q → Holds mid task receive q
 still_holds task port room bytes old mid r q holds =
-    let place = in_message port (old.taken port) in
-    let a = (GiveReply-means task place r.e.message.reply r.taken r.taken r.header.remote_kind r.header.remote r.second refl (λ n x e. e) r.reply).0 in
-    let b = (GiveBody-means task place r.e.message.body r.second r.second r.written mid refl (λ n x e. e) r.body).0 in
+    let g = (given task port room bytes old mid r).holds receive q in
     let m = r.takes.tokens (λ x. if is_held task receive q x then 1 else 0) in
-    let z = both_test (is_of receive q (token r.e.message.kind port place)) false (inr refl) in
-    omega (arith, holds, m, z, a.holds receive q, b.holds receive q)
+    let z = both_test (is_of receive q (token r.e.message.kind port (in_message port (old.taken port)))) false (inr refl) in
+    omega (arith, holds, m, z, g)
 
-module _ (task room : ℕ) (bytes : List ℕ) (old mid new : State) (waited : Waited) (p : ℕ) (l : IsLawful old) (is_task : old.live_task task ≡ true) (t : TakesFrom old task waited p)
-    (r : Receives task p room bytes old mid) (o : IsReordered mid new) where
-  Receives-delivers : (event : Event) → AsksFrom old event task p → Delivers event bytes old new
-  Receives-delivers event asks =
-      let x = received_state task p room bytes old mid l (TakesFrom-live old l task waited p t) is_task r in
-      let here = (l.sent_here p (old.taken p) r.e r.takes.front).0 in
-      let holds = still_holds task p room bytes old mid r p (TakesFrom-holds old l task waited p t) in
-      let means = Receives-received task p room bytes old mid r here holds in
-      let live : new.live_port ≡ old.live_port = ap (λ (s : State). s.live_port) o.rest ∙ x.live in
-      let taken : (q : ℕ) → new.taken q ≡ at old.taken p (old.taken p + 1) q = λ q. ap (λ (s : State). s.taken q) o.rest ∙ x.taken q in
+-- A receipt from what is waited for gives its message, and changes no log.
+Receives-delivers : (task room : ℕ) (bytes : List ℕ) (old mid new : State) (waited : Waited) (p : ℕ) (event : Event) → IsLawful old → old.live_task task ≡ true → TakesFrom old task waited p →
+    Receives task p room bytes old mid → IsReordered mid new → AsksFrom old event task p → Delivers event bytes old new × ((q : ℕ) → new.log q ≡ old.log q) × LiveStay old new
+Receives-delivers task room bytes old mid new waited p event l is_task t r o asks =
+    let x = received_state task p room bytes old mid l (TakesFrom-live old l task waited p t) is_task r in
+    let here = (l.sent_here p (old.taken p) r.e r.takes.front).0 in
+    let holds = still_holds task p room bytes old mid r p (TakesFrom-holds old l task waited p t) in
+    let means = Receives-received task p room bytes old mid r here holds in
+    let live : new.live_port ≡ old.live_port = ap (λ (s : State). s.live_port) o.rest ∙ x.live in
+    let taken : (q : ℕ) → new.taken q ≡ at old.taken p (old.taken p + 1) q = λ q. ap (λ (s : State). s.taken q) o.rest ∙ x.taken q in (
       record {
         task = task;
         port = p;
@@ -249,15 +143,18 @@ module _ (task room : ℕ) (bytes : List ℕ) (old mid new : State) (waited : Wa
         taken = taken p ∙ at_own old.taken p (old.taken p + 1);
         next = ap (λ (s : State). s.sequence p) o.rest ∙ numbered task p room bytes old mid r;
         others = λ q not. taken q ∙ at_other old.taken p (old.taken p + 1) q not;
-      }
+      },
+      (λ q. ap (λ (s : State). s.log q) o.rest ∙ x.log q),
+      stays old new live,
+    )
 
 -- what an event does that is answered with a message
 Does-delivers : (now : ℕ) (old : State) (event : Event) (bytes : List ℕ) (mid : State) (owed : Owed) (new : State) → IsLawful old → NoneHolds (guards old event) →
-    Does now old event (Reply.Message bytes) mid owed → IsReordered mid new → Delivers event bytes old new
+    Does now old event (Reply.Message bytes) mid owed → IsReordered mid new → Delivers event bytes old new × ((q : ℕ) → new.log q ≡ old.log q) × LiveStay old new
 Does-delivers now old (Event.Receive task name room large) bytes mid owed new l g d r =
-    Receives-delivers task room bytes old mid new d.0 d.2.0 l (not_false (old.live_task task) g.0) d.2.1 d.2.2 r (Event.Receive task name room large) (refl, source_of old task name d.2.0 d.0 d.1 d.2.1)
+    Receives-delivers task room bytes old mid new d.0 d.2.0 (Event.Receive task name room large) l (not_false (old.live_task task) g.0) d.2.1 d.2.2 r (refl, source_of old task name d.2.0 d.0 d.1 d.2.1)
 Does-delivers now old (Event.ReceiveAgain task waited room large) bytes mid owed new l g d r =
-    Receives-delivers task room bytes old mid new waited d.0 l (again_lives old task waited g) d.1 d.2 r (Event.ReceiveAgain task waited room large) (refl, d.1)
+    Receives-delivers task room bytes old mid new waited d.0 (Event.ReceiveAgain task waited room large) l (not_false (old.live_task task) g.0) d.1 d.2 r (refl, d.1)
 Does-delivers now old event bytes mid owed new l g d r = absurd d
 
 -- the next step after a run, where it gives a message
@@ -267,61 +164,100 @@ Step-delivers now old event bytes new l (inl r) = absurd (no_code bytes r.code r
     no_code : (bytes : List ℕ) (code : ℕ) → Reply.Message bytes ≡ Reply.Code code → ⊥
     no_code bytes code e = cc
 Step-delivers now old event bytes new l (inr d) =
-    Does-delivers now old event bytes d.mid d.owed new l d.unrefused d.does (Done-mid now old event (Reply.Message bytes) new l d).1
+    (Does-delivers now old event bytes d.mid d.owed new l d.unrefused d.does (Done-mid now old event (Reply.Message bytes) new l d).1).0
 
--- A step takes nothing from any port, or it gives a message.
+-- ---- what a step does
+
+-- It accepts a send, and takes nothing from any port; no port dies.
+pub record AcceptsBy (now : ℕ) (old : State) (event : Event) (reply : Reply) (new : State) : Type 0 where
+  pub task : ℕ
+  pub bytes : List ℕ
+  pub is_event : event ≡ Event.Send task bytes
+  pub is_reply : reply ≡ Reply.Code 0
+  pub accepts : Accepts now task bytes old new
+  pub taken : (p : ℕ) → new.taken p ≡ old.taken p
+  pub live : LiveStay old new
+
+-- It gives a message, and changes no log; no port dies.
 pub record DeliversBy (old : State) (event : Event) (reply : Reply) (new : State) : Type 0 where
   pub bytes : List ℕ
   pub is_reply : reply ≡ Reply.Message bytes
   pub delivers : Delivers event bytes old new
+  pub log : (p : ℕ) → new.log p ≡ old.log p
+  pub live : LiveStay old new
 
-abbrev SameTaken : State → State → Type 0
-SameTaken old new = (p : ℕ) → new.taken p ≡ old.taken p
+-- A step accepts a send, or gives a message, or leaves the logs and what was taken from them.
+abbrev pub Passes : (now : ℕ) → State → Event → Reply → State → Type 0
+Passes now old event reply new = Untouched old new ⊎ AcceptsBy now old event reply new ⊎ DeliversBy old event reply new
 
-same_taken : (old mid new : State) → mid ≡ old → IsReordered mid new → SameTaken old new
-same_taken old mid new e r p = ap (λ (x : State). x.taken p) r.rest ∙ ap (λ (x : State). x.taken p) e
+inserted_shape : (task name from poly number : ℕ) (old mid : State) → IsLawful old → NoneHolds (guards old (Event.InsertRight task name from poly number)) → Inserts task name from poly number old mid →
+    mid ≡ shape old mid
+inserted_shape task name from poly number old mid l g i =
+    hands_shape old mid _ _ _ _ (Inserts-hands task name from poly number old mid l (not_false (old.live_task task) (λ e. g.0 (inl e))) (λ e. g.1.0 (inl e)) i)
 
-untouched_taken : (old mid new : State) → Untouched old mid → IsReordered mid new → SameTaken old new
-untouched_taken old mid new u r p = ap (λ (x : State). x.taken p) r.rest ∙ u.taken p
+extracted_shape : (task name number to new_name kind : ℕ) (old mid : State) → IsLawful old → NoneHolds (guards old (Event.ExtractRight task name number to)) → Extracts task name number to new_name kind old mid →
+    mid ≡ shape old mid
+extracted_shape task name number to new_name kind old mid l g x =
+    hands_shape old mid _ _ _ _ (Extracts-hands task name number to new_name kind old mid l (not_false (old.live_task to) (λ e. g.0 (inr e))) x)
 
-Does-taken : (now : ℕ) (old : State) (event : Event) (reply : Reply) (mid : State) (owed : Owed) (new : State) → IsLawful old → NoneHolds (guards old event) →
-    Does now old event reply mid owed → IsReordered mid new → SameTaken old new ⊎ DeliversBy old event reply new
-Does-taken now old Event.TaskCreate (Reply.Task task) mid owed new l g d r =
-    inl (λ p. ap (λ (x : State). x.taken p) r.rest ∙ ap (λ (x : State). x.taken p) d.0.rest)
-Does-taken now old (Event.Allocate task right) (Reply.Name name) mid owed new l g d r = inl (untouched_taken old mid new (makes_untouched task right name old mid l d.1) r)
-Does-taken now old (Event.AllocateName task right name) (Reply.Name told) mid owed new l g d r = inl (untouched_taken old mid new (makes_untouched task right name old mid l d.1) r)
-Does-taken now old (Event.Deallocate task name) (Reply.Code code) mid owed new l g d r = inl (untouched_taken old mid new (deallocates_untouched task name old mid owed d.1) r)
-Does-taken now old (Event.Destroy task name) (Reply.Code code) mid owed new l g d r = inl (untouched_taken old mid new (destroys_untouched task name old mid owed d.1) r)
-Does-taken now old (Event.ModRefs task name right delta) (Reply.Code code) mid owed new l g d r = inl (untouched_taken old mid new (modifies_untouched task name right delta old mid owed d.1) r)
-Does-taken now old (Event.Rename task o n) (Reply.Code code) mid owed new l g d r = inl (untouched_taken old mid new (renames_untouched task o n old mid d.1) r)
-Does-taken now old (Event.SetQlimit task name n) (Reply.Code code) mid owed new l g d r = inl (untouched_taken old mid new (by_rest old mid _ d.1.3 (λ p. refl) (λ p. refl)) r)
-Does-taken now old (Event.SetMscount task name n) (Reply.Code code) mid owed new l g d r = inl (untouched_taken old mid new (by_rest old mid _ d.2.3 (λ p. refl) (λ p. refl)) r)
-Does-taken now old (Event.SetSeqno task name n) (Reply.Code code) mid owed new l g d r = inl (untouched_taken old mid new (by_rest old mid _ d.2.3 (λ p. refl) (λ p. refl)) r)
-Does-taken now old (Event.Names task) (Reply.Names entries) mid owed new l g d r = inl (same_taken old mid new d.1 r)
-Does-taken now old (Event.GetRefs task name right) (Reply.Refs n) mid owed new l g d r = inl (same_taken old mid new d.1 r)
-Does-taken now old (Event.NameType task name) (Reply.NameType n) mid owed new l g d r = inl (same_taken old mid new d.1 r)
-Does-taken now old (Event.ReceiveStatus task name) (Reply.Status status) mid owed new l g d r = inl (same_taken old mid new d.1 r)
-Does-taken now old (Event.SetStatus task name) (Reply.Members members) mid owed new l g d r = inl (same_taken old mid new d.1 r)
-Does-taken now old (Event.MoveMember task member after) (Reply.Code code) mid owed new l g d r =
-    inl (λ p. ap (λ (x : State). x.taken p) r.rest ∙ ap (λ (x : State). x.taken p) (joined_rest task member after old mid d.1))
-Does-taken now old (Event.InsertRight task name from poly number) (Reply.Code code) mid owed new l g d r =
-    inl (λ p. ap (λ (x : State). x.taken p) r.rest ∙ ap (λ (x : State). x.taken p) (inserted_shape task name from poly number old mid l g d.1))
-Does-taken now old (Event.ExtractRight task name number to) (Reply.Right new_name kind) mid owed new l g d r =
-    inl (λ p. ap (λ (x : State). x.taken p) r.rest ∙ ap (λ (x : State). x.taken p) (extracted_shape task name number to new_name kind old mid l g d.0))
-Does-taken now old (Event.Send task bytes) (Reply.Code code) mid owed new l g d r =
-    inl (λ p. ap (λ (x : State). x.taken p) r.rest ∙ sent_taken now task bytes old mid l d.1 p)
-Does-taken now old (Event.Receive task name room large) (Reply.Message bytes) mid owed new l g d r =
-    inr (record { bytes = bytes; is_reply = refl; delivers = Does-delivers now old (Event.Receive task name room large) bytes mid owed new l g d r })
-Does-taken now old (Event.Receive task name room large) (Reply.Empty told) mid owed new l g d r = inl (same_taken old mid new d.2.2 r)
-Does-taken now old (Event.Receive task name room large) (Reply.TooLarge n) mid owed new l g d r = inl (same_taken old mid new d.2.6 r)
-Does-taken now old (Event.Receive task name room large) reply mid owed new l g d r = absurd d.2
-Does-taken now old (Event.ReceiveAgain task waited room large) (Reply.Message bytes) mid owed new l g d r =
-    inr (record { bytes = bytes; is_reply = refl; delivers = Does-delivers now old (Event.ReceiveAgain task waited room large) bytes mid owed new l g d r })
-Does-taken now old (Event.ReceiveAgain task waited room large) (Reply.Empty told) mid owed new l g d r = inl (same_taken old mid new d.2 r)
-Does-taken now old (Event.ReceiveAgain task waited room large) (Reply.TooLarge n) mid owed new l g d r = inl (same_taken old mid new d.6 r)
-Does-taken now old event reply mid owed new l g d r = absurd d
+joins_untouched : (task member after : ℕ) (old mid : State) → JoinsSet task member after old mid → Untouched old mid
+joins_untouched task member after old mid (p, is, inl h) = by_rest old mid _ h.1 (λ p. refl) (λ p. refl) (λ p is. is)
+joins_untouched task member after old mid (p, is, inr h) = by_rest old mid _ h.2 (λ p. refl) (λ p. refl) (λ p is. is)
 
-pub Step-taken : (now : ℕ) (old : State) (event : Event) (reply : Reply) (new : State) → IsLawful old → Step now old event reply new →
-    ((p : ℕ) → new.taken p ≡ old.taken p) ⊎ DeliversBy old event reply new
-Step-taken now old event reply new l (inl r) = inl (λ p. ap (λ (x : State). x.taken p) r.same)
-Step-taken now old event reply new l (inr d) = Does-taken now old event reply d.mid d.owed new l d.unrefused d.does (Done-mid now old event reply new l d).1
+module _ (now : ℕ) (old mid new : State) (l : IsLawful old) (r : IsReordered mid new) where
+  passes : {event : Event} {reply : Reply} → Untouched old mid → Passes now old event reply new
+  passes u = inl (by_rest old new _ r.rest u.log u.taken u.live)
+
+  gives : {event : Event} {bytes : List ℕ} → Delivers event bytes old new × ((p : ℕ) → new.log p ≡ old.log p) × LiveStay old new → DeliversBy old event (Reply.Message bytes) new
+  gives {event} {bytes} d = record { bytes = bytes; is_reply = refl; delivers = d.0; log = d.1; live = d.2 }
+
+  Does-passes : (event : Event) (reply : Reply) (owed : Owed) → NoneHolds (guards old event) → Does now old event reply mid owed → Passes now old event reply new
+  Does-passes Event.TaskCreate (Reply.Task task) owed g d = passes (by_rest old mid _ d.0.rest (λ p. refl) (λ p. refl) (λ p is. is))
+  Does-passes (Event.Allocate task right) (Reply.Name name) owed g d = passes (makes_untouched task right name old mid l d.1)
+  Does-passes (Event.AllocateName task right name) (Reply.Name told) owed g d = passes (makes_untouched task right name old mid l d.1)
+  Does-passes (Event.Deallocate task name) (Reply.Code code) owed g d = passes (deallocates_untouched task name old mid owed d.1)
+  Does-passes (Event.Destroy task name) (Reply.Code code) owed g d = passes (destroys_untouched task name old mid owed d.1)
+  Does-passes (Event.ModRefs task name right delta) (Reply.Code code) owed g d = passes (modifies_untouched task name right delta old mid owed d.1)
+  Does-passes (Event.Rename task o n) (Reply.Code code) owed g d = passes (by_rest old mid _ d.1.rest (λ p. refl) (λ p. refl) (λ p is. is))
+  Does-passes (Event.SetQlimit task name n) (Reply.Code code) owed g d = passes (by_rest old mid _ d.1.3 (λ p. refl) (λ p. refl) (λ p is. is))
+  Does-passes (Event.SetMscount task name n) (Reply.Code code) owed g d = passes (by_rest old mid _ d.2.3 (λ p. refl) (λ p. refl) (λ p is. is))
+  Does-passes (Event.SetSeqno task name n) (Reply.Code code) owed g d = passes (by_rest old mid _ d.2.3 (λ p. refl) (λ p. refl) (λ p is. is))
+  Does-passes (Event.Names task) (Reply.Names entries) owed g d = passes (by_rest old mid old d.1 (λ p. refl) (λ p. refl) (λ p is. is))
+  Does-passes (Event.GetRefs task name right) (Reply.Refs n) owed g d = passes (by_rest old mid old d.1 (λ p. refl) (λ p. refl) (λ p is. is))
+  Does-passes (Event.NameType task name) (Reply.NameType n) owed g d = passes (by_rest old mid old d.1 (λ p. refl) (λ p. refl) (λ p is. is))
+  Does-passes (Event.ReceiveStatus task name) (Reply.Status status) owed g d = passes (by_rest old mid old d.1 (λ p. refl) (λ p. refl) (λ p is. is))
+  Does-passes (Event.SetStatus task name) (Reply.Members members) owed g d = passes (by_rest old mid old d.1 (λ p. refl) (λ p. refl) (λ p is. is))
+  Does-passes (Event.MoveMember task member after) (Reply.Code code) owed g d = passes (joins_untouched task member after old mid d.1)
+  Does-passes (Event.InsertRight task name from poly number) (Reply.Code code) owed g d = passes (by_rest old mid _ (inserted_shape task name from poly number old mid l g d.1) (λ p. refl) (λ p. refl) (λ p is. is))
+  Does-passes (Event.ExtractRight task name number to) (Reply.Right new_name kind) owed g d = passes (by_rest old mid _ (extracted_shape task name number to new_name kind old mid l g d.0) (λ p. refl) (λ p. refl) (λ p is. is))
+  Does-passes (Event.Send task bytes) (Reply.Code code) owed g d = inr (inl (record {
+    task = task;
+    bytes = bytes;
+    is_event = refl;
+    is_reply = ap Reply.Code d.0;
+    accepts = Sends-accepts now task bytes old mid new l d.1 r;
+    taken = λ p. ap (λ (x : State). x.taken p) r.rest ∙ sent_taken now task bytes old mid l d.1 p;
+    live = stays old new (ap (λ (x : State). x.live_port) r.rest ∙ sent_live now task bytes old mid l d.1);
+  }))
+  Does-passes (Event.Receive task name room large) (Reply.Message bytes) owed g d =
+      inr (inr (gives (Does-delivers now old (Event.Receive task name room large) bytes mid owed new l g d r)))
+  Does-passes (Event.Receive task name room large) (Reply.Empty told) owed g d = passes (by_rest old mid old d.2.2 (λ p. refl) (λ p. refl) (λ p is. is))
+  Does-passes (Event.Receive task name room large) (Reply.TooLarge n) owed g d = passes (by_rest old mid old d.2.6 (λ p. refl) (λ p. refl) (λ p is. is))
+  Does-passes (Event.Receive task name room large) reply owed g d = absurd d.2
+  Does-passes (Event.ReceiveAgain task waited room large) (Reply.Message bytes) owed g d =
+      inr (inr (gives (Does-delivers now old (Event.ReceiveAgain task waited room large) bytes mid owed new l g d r)))
+  Does-passes (Event.ReceiveAgain task waited room large) (Reply.Empty told) owed g d = passes (by_rest old mid old d.2 (λ p. refl) (λ p. refl) (λ p is. is))
+  Does-passes (Event.ReceiveAgain task waited room large) (Reply.TooLarge n) owed g d = passes (by_rest old mid old d.6 (λ p. refl) (λ p. refl) (λ p is. is))
+  Does-passes event reply owed g d = absurd d
+
+pub Step-passes : (now : ℕ) (old : State) (event : Event) (reply : Reply) (new : State) → IsLawful old → Step now old event reply new → Passes now old event reply new
+Step-passes now old event reply new l (inl r) = inl (by_rest old new old r.same (λ p. refl) (λ p. refl) (λ p is. is))
+Step-passes now old event reply new l (inr d) = Does-passes now old d.mid new l (Done-mid now old event reply new l d).1 event reply d.owed d.unrefused d.does
+
+pub Step-live : (now : ℕ) (old : State) (event : Event) (reply : Reply) (new : State) → IsLawful old → Step now old event reply new → LiveStay old new
+Step-live now old event reply new l step = go (Step-passes now old event reply new l step)
+  where
+    go : Passes now old event reply new → LiveStay old new
+    go (inl u) = u.live
+    go (inr (inl a)) = a.live
+    go (inr (inr d)) = d.live

@@ -2,6 +2,8 @@ pub mod Paths
 pub mod Sent
 pub mod Received
 pub mod Order
+pub mod Headline
+pub mod Judging
 pub mod FirstMessage
 pub mod Answering
 pub mod Gathering

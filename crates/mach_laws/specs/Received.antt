@@ -6,8 +6,8 @@ use Rattle.mach_types.specs.Messages.{Message, Entry, asof}
 use Rattle.mach_model.specs.State.{State, Target, lookup}
 use Rattle.mach_model.specs.SentMeans.{SentMeans}
 use Rattle.mach_model.specs.ReceivedMeans.{ReceivedMeans}
-use Rattle.mach_model.specs.Sending.{entry}
-use Rattle.mach_model.specs.Receiving.{IsFront, TakesFrom}
+use Rattle.mach_model.specs.Send.{entry}
+use Rattle.mach_model.specs.Receive.{IsFront, TakesFrom}
 use Rattle.mach_laws.specs.Paths.{Stage}
 
 -- The task's name stands for the port, or for a set that it is in.
@@ -54,7 +54,10 @@ pub record WasSent (path : List Stage) (k : ℕ) (bytes : List ℕ) (receiving :
   pub meant : SentMeans (sending.before.naming sender) sent m
   pub receiver : ℕ
   pub means : ReceivedMeans receiver receiving.before receiving.after bytes (asof receiving.after.live_port m)
-  -- it came in at the end of its destination's log, and is the one in front when the receipt takes it
+  -- it came in at the end of its destination's log, and is the one in front
   pub front : IsFront receiving.before m.destination (entry origin m)
   pub place : receiving.before.taken m.destination ≡ length (sending.before.log m.destination)
   pub asks : AsksFrom receiving.before receiving.event receiver m.destination
+  -- that stage takes it, and no other
+  pub taken : receiving.after.taken m.destination ≡ receiving.before.taken m.destination + 1
+  pub others : (p : ℕ) → p ≢ m.destination → receiving.after.taken p ≡ receiving.before.taken p

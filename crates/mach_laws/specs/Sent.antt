@@ -3,7 +3,7 @@ use Rattle.std.specs.Prelude.{◌≡◌, ◌≢◌, ℕ, List, [], ◌∷◌, �
 use Rattle.mach_types.specs.Messages.{Message}
 use Rattle.mach_model.specs.State.{State}
 use Rattle.mach_model.specs.SentMeans.{SentMeans}
-use Rattle.mach_model.specs.Sending.{entry}
+use Rattle.mach_model.specs.Send.{entry}
 
 -- Step number now accepts the bytes from the task: through the task's names before the step they mean a message, which is then the
 -- last entry of its destination's log. No other entry comes or goes.

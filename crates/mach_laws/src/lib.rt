@@ -1,28 +1,42 @@
 //! Laws of the machine: what holds after every run, whatever the events.
 //!
-//! Each function here does nothing: its contract is a law, and the check proves it. A reader who believes the
-//! machine's definitions (`mach_model/specs`) and the few words of `specs/` here need believe nothing else.
+//! Each function here does nothing: its contract is a law, and the check proves it. `headline` says the chief of
+//! them at once. A reader who believes the machine's definitions (`mach_model/specs`) and the few words of
+//! `specs/` here need believe nothing else.
 #![tactic(auto)]
 
 ghost use Rattle.std.specs.Prelude.{◌≡◌, ◌≢◌, ℕ, Bool, true, List, [], Some, length, map, slice_get};
 ghost use Rattle.mach_types.specs.declared.calls.Event.{Event};
 ghost use Rattle.mach_types.specs.declared.calls.Reply.{Reply};
 ghost use Rattle.mach_types.specs.declared.calls.Waited.{Waited};
+ghost use Rattle.mach_types.specs.declared.codes.MsgReturn.TheVariants.{ReceiveBodyErrorNames};
+ghost use Rattle.mach_types.specs.Numbers.{msg_number};
 ghost use Rattle.mach_types.specs.Tokens.{count, is_of, receive as receive_kind};
 ghost use Rattle.mach_types.specs.Grammar.{Header, WireBody, Spells};
 ghost use Rattle.mach_model.specs.State.{State, Target, lookup, queue};
-ghost use Rattle.mach_model.specs.Machine.{Step, Run};
+ghost use Rattle.mach_model.specs.Refusals.{Refuses};
+ghost use Rattle.mach_model.specs.Machine.{Done, Step, Run};
 ghost use Rattle.mach_model.specs.Lawful.{IsLawful};
 ghost use Rattle.mach_laws.specs.Paths.{Stage, Path};
 ghost use Rattle.mach_laws.specs.Sent.{Accepts};
 ghost use Rattle.mach_laws.specs.Received.{AsksFrom, Delivers, WasSent};
 ghost use Rattle.mach_laws.specs.Order.{InOrder};
+ghost use Rattle.mach_laws.specs.Headline.{Headline};
+ghost use Rattle.mach_laws.specs.Judging.{IsMemoryCode, LacksMemory, IsBySet};
 ghost use Rattle.mach_laws.specs.FirstMessage.{first_events, first_replies};
 ghost use Rattle.mach_laws.specs.Answering.{answering_events, answering_replies};
 ghost use Rattle.mach_laws.specs.Gathering.{gathering_events, gathering_replies};
 ghost use Rattle.mach_laws.specs.Grouping.{grouping_events, grouping_replies};
 ghost use Rattle.mach_laws.specs.Handed.{handing_events, handing_replies};
 ghost use Rattle.mach_laws.specs.Naming.{naming_events, naming_replies};
+
+/// What a run promises, in one statement: its stages are steps of the machine; each message that is received was
+/// sent before, means what it meant then, where rights for ports that are dead by now are dead, and is the one
+/// that its stage takes from the front of its port; each port's messages are received in the order in which they
+/// were accepted; and each live port has exactly one receive right.
+pub fn headline()
+    ensures { (events : List Event) (replies : List Reply) (s : State) → Run events replies s → Headline events replies s }
+{}
 
 /// Every run leads to a lawful state: rights, names, logs and places agree.
 pub fn every_run_is_lawful()
@@ -33,6 +47,13 @@ pub fn every_run_is_lawful()
 pub fn one_receive_right()
     ensures { (events : List Event) (replies : List Reply) (s : State) → Run events replies s →
         (p : ℕ) → s.live_port p ≡ true → count (is_of receive_kind p) s.ledger ≡ 1 }
+{}
+
+/// After every run a port that lives goes on living, whatever the next event: no port can die yet.
+pub fn live_ports_stay()
+    ensures { (events : List Event) (replies : List Reply) (s : State) → Run events replies s →
+        (event : Event) (reply : Reply) (new : State) → Step (length events) s event reply new →
+        (p : ℕ) → s.live_port p ≡ true → new.live_port p ≡ true }
 {}
 
 /// After every run a send that is answered with 0 appends one message, which is what its bytes mean
@@ -61,7 +82,8 @@ pub fn runs_are_paths()
 
 /// In every run each message that is received is one that was sent: what the sender's bytes meant
 /// through the sender's names before the send, the received bytes mean through the receiver's names
-/// after the receive, where rights for ports that are dead by then are dead.
+/// after the receive, where rights for ports that are dead by then are dead. It is in front of its port before
+/// the receive, which takes it and no other.
 pub fn received_means_what_was_sent()
     ensures { (path : List Stage) (s : State) → Path path s →
         (k : ℕ) (bytes : List ℕ) (x : Stage) → slice_get path k ≡ Some x → x.reply ≡ Reply.Message bytes →
@@ -77,6 +99,24 @@ pub fn order()
 /// A call that is answered with another code than 0 changes nothing.
 pub fn refusals_change_nothing()
     ensures { (now : ℕ) (old new : State) (event : Event) (code : ℕ) → Step now old event (Reply.Code code) new → code ≢ 0 → new ≡ old }
+{}
+
+/// After every run a refusal and a success exclude each other: what refuses an event, but for want of memory,
+/// leaves it no other answer. Of a receipt by a set one refusal is excepted, want of names: another member's
+/// message may need none. The code of a send for want of memory is also its code at the limit of rights, and
+/// is excepted there too.
+pub fn refused_or_done()
+    ensures { (events : List Event) (replies : List Reply) (s : State) → Run events replies s →
+        (event : Event) (code : ℕ) → Refuses s event code → ¬ (IsMemoryCode code) → (IsBySet s event → code ≢ msg_number ReceiveBodyErrorNames) →
+        (reply : Reply) (new : State) → ¬ (Done (length events) s event reply new) }
+{}
+
+/// After every run an event has one answer, but for want of memory, and but for a receipt by a set, which may
+/// take from any ready member.
+pub fn one_answer()
+    ensures { (events : List Event) (replies : List Reply) (s : State) → Run events replies s →
+        (event : Event) (a b : Reply) (new other : State) → Step (length events) s event a new → Step (length events) s event b other →
+        ¬ (LacksMemory a) → ¬ (LacksMemory b) → ¬ (IsBySet s event) → a ≡ b }
 {}
 
 /// A message to a send-once right is never told that the queue is full (`MACH_SEND_TIMED_OUT`): only a

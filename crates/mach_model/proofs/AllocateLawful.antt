@@ -2,27 +2,23 @@
 use Rattle.std.proofs.Common.{◌≡◌, ℕ, zero, suc, ◌+◌, ◌^◌, ◌<◌, ◌≤◌, List, [], ◌∷◌, Some, None, refl, sym, ap, subst, ◌∙◌, arith, true, false, Bool, ◌⊎◌, inl, inr, length}
 use Rattle.std.specs.Prelude.{if◌then◌else◌, ◌==◌, ◌&&◌, ◌≢◌, slice_get, drop, Contains}
 use Rattle.std.specs.FinMap as map
-use Rattle.std.specs.FinMap.{len-insert}
-use Rattle.std.specs.Cmp.{nat_cmp_total}
 use Rattle.std.proofs.lemmas.Bool.Decides.{eqb_tells}
-use Rattle.mach_types.specs.Numbers.{null_word, dead_word, most_names, most_rights, first_limit, greatest_limit}
+use Rattle.std.proofs.lemmas.Bool.{ne_eqb, false_from_ne_true}
+use Rattle.mach_types.specs.Numbers.{dead_word, most_names, most_rights, first_limit, greatest_limit}
 use Rattle.mach_types.specs.Tokens.{Kind, receive, send, send_once, Request, in_task, in_message, in_request, Token, token, count, is_of, is_held, Moves}
 use Rattle.mach_types.specs.Messages.{Entry}
-use Rattle.mach_model.specs.State.{State, Target, Names, lookup, held, queue, IsFresh, with_name}
-use Rattle.mach_model.specs.Dying.{same_place}
-use Rattle.mach_model.specs.Making.{with_port, AllocatesPort, Makes, IsFull}
+use Rattle.mach_model.specs.State.{State, Target, Names, held, Holds, queue, IsFresh, with_name}
+use Rattle.mach_model.specs.Death.{same_place}
+use Rattle.mach_model.specs.Names.{with_port, AllocatesPort, Makes, IsFull}
 use Rattle.mach_model.specs.Carried.{message_count, lying}
-use Rattle.mach_model.specs.Lawful.{IsLawful, is_once, onces, HasReferences}
-use Rattle.mach_model.proofs.Weigh.{length-weigh, both_test, lying_le_of}
-use Rattle.mach_model.proofs.At.{at_same, at_other, at_own, at_all, if_same, if_other, both_same, slice_get_drop}
-use Rattle.mach_model.proofs.Names.{kept, get_own, get_other, inserted, insert_tally, fresh_fits}
-use Rattle.mach_model.proofs.SetNames.{SameSets, SetLaw, IsMember, set_law, insert_law, dead_no_set, same_set_law, one_task_sets, inserted_sets, port_no_set}
-use Rattle.mach_model.proofs.Settling.{named_lives}
-use Rattle.mach_model.proofs.Spaces.{IsNaming, IsNew, dead_named}
-use Rattle.mach_model.proofs.Moving.{task_naming, moving}
-use Rattle.mach_model.proofs.CopyingIn.{same_held}
-use Rattle.mach_model.proofs.SetsLawful.{with_set-lawful}
-use Rattle.mach_model.proofs.LosingLawful.{none_moves, same_but_ledger, other_lawful}
+use Rattle.mach_model.specs.Lawful.{LawfulNames, IsLawful}
+use Rattle.mach_model.proofs.Weigh.{length-weigh, both_test, lying_le_of, held_le_of}
+use Rattle.mach_model.proofs.At.{at_same, at_other, at_own, at_all, if_same, if_other, slice_get_drop}
+use Rattle.mach_model.proofs.Names.{fresh_fits}
+use Rattle.mach_model.proofs.SetNames.{at_law, inserted_sets}
+use Rattle.mach_model.proofs.Spaces.{IsNew, port_named, other_named, tasks_named, all_named}
+use Rattle.mach_model.proofs.CopyingIn.{own_right, other_port}
+use Rattle.mach_model.proofs.SetsLawful.{with_set-lawful, named_lawful}
 
 none_of : {A : Type 0} (xs : List A) (k : ℕ) (e : A) → xs ≡ [] → slice_get xs k ≡ Some e → ⊥
 none_of xs k e is f = let g : slice_get [] k ≡ Some e = subst (λ ys. slice_get ys k ≡ Some e) is f in cc
@@ -42,107 +38,32 @@ module _ (s : State) (task name : ℕ) (ledger : List Token) (l : IsLawful s) (i
   tokens_for test = let m = moves (λ x. if test x then 1 else 0) in omega (arith, m)
 
   made_dead : s.live_port made ≡ false
-  made_dead = go (s.live_port made) refl
-    where
-      go : (b : Bool) → s.live_port made ≡ b → s.live_port made ≡ false
-      go false e = e
-      go true e = absurd (let h = l.made_port made e in omega arith)
+  made_dead = false_from_ne_true (s.live_port made) (λ e. let h = l.made_port made e in omega arith)
 
   none_made : (kind : Kind) → count (is_of kind made) s.ledger ≡ 0
   none_made kind = l.no_rights made made_dead kind
 
   -- names
-  lookup_other : (t n : ℕ) → (t ≡ task → n ≡ name → ⊥) → lookup new t n ≡ lookup s t n
-  lookup_other t n not = elim (eqb_tells t task) [
-    | inl h ↦ ap (λ (m : Names). map.get m n) (at_same s.naming task names t h.1)
-        ∙ get_other (s.naming task) name (Target.port made) n (not h.1) ∙ ap (λ (x : ℕ). lookup s x n) (sym h.1)
-    | inr h ↦ ap (λ (m : Names). map.get m n) (at_other s.naming task names t h.1)
-  ]
+  held_far : (t : ℕ) → (t ≡ task → ⊥) → (kind : Kind) (q : ℕ) → held new t kind q ≡ held s t kind q
+  held_far t not kind q =
+      let e = tokens_for (is_held t kind q) in
+      let z = both_test (is_of kind q (token receive made (in_task task))) (task == t) (inr (ne_eqb task t (λ f. not (sym f)))) in omega (arith, e, z)
 
-  lookup_made : lookup new task name ≡ Some (Target.port made)
-  lookup_made = ap (λ (m : Names). map.get m name) (at_own s.naming task names) ∙ get_own (s.naming task) name (Target.port made)
+  held_other : (kind : Kind) (q : ℕ) → (q ≡ made → ⊥) → held new task kind q ≡ held s task kind q
+  held_other kind q not = let e = tokens_for (is_held task kind q) in let z = other_port task task kind receive q made not in omega (arith, e, z)
 
-  lookup_cases : (t n : ℕ) (x : Target) → lookup new t n ≡ Some x → (t ≡ task) × (n ≡ name) × (Target.port made ≡ x) ⊎ (lookup s t n ≡ Some x)
-  lookup_cases t n x e = elim (eqb_tells t task) [
-    | inl h ↦ elim (inserted (s.naming task) name (Target.port made) n x (sym (ap (λ (m : Names). map.get m n) (at_same s.naming task names t h.1)) ∙ e)) [
-      | inl i ↦ inl (h.1, i.0, i.1)
-      | inr i ↦ inr (ap (λ (x : ℕ). lookup s x n) h.1 ∙ i)
-    ]
-    | inr h ↦ inr (sym (lookup_other t n (λ a b. h.1 a)) ∙ e)
-  ]
-
-  still : (t n : ℕ) (x : Target) → lookup s t n ≡ Some x → lookup new t n ≡ Some x
-  still t n x e = elim (eqb_tells t task) [
-    | inl h ↦ ap (λ (m : Names). map.get m n) (at_same s.naming task names t h.1)
-        ∙ kept (s.naming task) name (Target.port made) n x fresh.unused (ap (λ (x : ℕ). lookup s x n) (sym h.1) ∙ e)
-    | inr h ↦ ap (λ (m : Names). map.get m n) (at_other s.naming task names t h.1) ∙ e
-  ]
-
-  -- rights
-  held_receive : (t q : ℕ) → held new t receive q ≡ held s t receive q + (if made == q && task == t then 1 else 0)
-  held_receive t q = tokens_for (is_held t receive q)
-
-  held_send : (t q : ℕ) → held new t send q ≡ held s t send q
-  held_send t q = let e = tokens_for (is_held t send q) in omega (arith, e)
-
-  held_once : (t q : ℕ) → held new t send_once q ≡ held s t send_once q
-  held_once t q = let e = tokens_for (is_held t send_once q) in omega (arith, e)
-
-  has_right : (t n p : ℕ) → lookup new t n ≡ Some (Target.port p) → 0 < held new t receive p + held new t send p
-  has_right t n p e = elim (lookup_cases t n (Target.port p) e) [
-    | inl h ↦ let same : made ≡ p = port_same made p h.2 in let one = both_same made p task t same (sym h.0) in omega (arith, held_receive t p, one)
-    | inr h ↦ omega (arith, held_receive t p, held_send t p, l.has_right t n p h)
-  ]
-    where
-      port_same : (a b : ℕ) → Target.port a ≡ Target.port b → a ≡ b
-      port_same a b e = cc
-
-  is_named : (t p : ℕ) → 0 < held new t receive p + held new t send p → (n : ℕ) × (lookup new t n ≡ Some (Target.port p))
-  is_named t p some = elim (eqb_tells made p) [
-    | inl h ↦ elim (eqb_tells task t) [
-      | inl g ↦ (name, ap (λ (x : ℕ). lookup new x name) (sym g.1) ∙ lookup_made ∙ ap (λ (x : ℕ). Some (Target.port x)) h.1)
-      | inr g ↦ before (both_test (made == p) (task == t) (inr g.0))
-    ]
-    | inr h ↦ before (both_test (made == p) (task == t) (inl h.0))
-  ]
-    where
-      before : (if made == p && task == t then suc zero else zero) ≡ zero → (n : ℕ) × (lookup new t n ≡ Some (Target.port p))
-      before z = let h = l.is_named t p (omega (arith, some, held_receive t p, held_send t p, z)) in (h.0, still t h.0 (Target.port p) h.1)
-
-  -- no name before is for the new port
-  not_made : (t n p : ℕ) → lookup s t n ≡ Some (Target.port p) → Target.port made ≡ Target.port p → ⊥
-  not_made t n p e is =
-      let live = named_lives s l t n p e in
-      let dead = made_dead in
-      let same : made ≡ p = cc in
-      let live' : s.live_port made ≡ true = ap s.live_port same ∙ live in cc
-
-  one_name : (t n m p : ℕ) → lookup new t n ≡ Some (Target.port p) → lookup new t m ≡ Some (Target.port p) → n ≡ m
-  one_name t n m p e f = elim (lookup_cases t n (Target.port p) e) [
-    | inl h ↦ elim (lookup_cases t m (Target.port p) f) [
-      | inl g ↦ h.1 ∙ sym g.1
-      | inr g ↦ absurd (not_made t m p g h.2)
-    ]
-    | inr h ↦ elim (lookup_cases t m (Target.port p) f) [
-      | inl g ↦ absurd (not_made t n p h g.2)
-      | inr g ↦ l.one_name t n m p h g
-    ]
-  ]
-
-  once_names : (t p : ℕ) → held new t send_once p ≡ onces (new.naming t) p
-  once_names t p = held_once t p ∙ at_all (λ t m. held s t send_once p ≡ onces m p) s.naming task names
-      (l.once_names task p ∙ sym (insert_tally (is_once p) (s.naming task) name (Target.port made) fresh.unused ∙ (omega arith))) (λ q not. l.once_names q p) t
-
-  references : (t n : ℕ) (x : Target) → lookup new t n ≡ Some x → HasReferences x
-  references t n x e = elim (lookup_cases t n x e) [
-    | inl h ↦ subst HasReferences h.2 tt
-    | inr h ↦ l.references t n x h
-  ]
-
-  few_names : (t : ℕ) → map.len (new.naming t) ≤ most_names
-  few_names = at_all (λ t m. map.len m ≤ most_names) s.naming task names
-      (let e : map.len names ≡ map.len (s.naming task) + 1 = len-insert nat_cmp_total (s.naming task) name (Target.port made) ∙ rw fresh.unused refl in let r = fresh.room in omega (arith, e, r))
-      (λ q not. l.few_names q)
+  own : LawfulNames names (held new task)
+  own =
+      let none = none_made receive in
+      let without = none_made send in
+      let a = held_le_of task receive made s.ledger in
+      let b = held_le_of task send made s.ledger in
+      let r = tokens_for (is_held task receive made) in
+      let o = own_right task receive made refl in
+      let c = tokens_for (is_held task send made) in
+      let f = (l.naming task).few_references made in
+      let d = tokens_for (is_held task send_once made) in
+      port_named (s.naming task) (held s task) (held new task) (l.naming task) made held_other (omega (arith, d)) name fresh (omega (arith, none, without, a, b)) (omega (arith, r, o)) (omega (arith, c, f))
 
   -- ports
   old_port : (p : ℕ) → (p ≡ made → ⊥) → new.live_port p ≡ s.live_port p
@@ -174,16 +95,10 @@ module _ (s : State) (task name : ℕ) (ledger : List Token) (l : IsLawful s) (i
       go send e = refl
       go send_once e = refl
 
-  members : (p set : ℕ) → Contains (new.sets_of p) set → IsMember new p set
-  members p set = at_all (λ p sets. Contains sets set → IsMember new p set) s.sets_of made []
+  members : (p set : ℕ) → Contains (new.sets_of p) set → (t : ℕ) × (s.set_owner set ≡ Some t) × Holds new t receive p
+  members p set = at_all (λ p sets. Contains sets set → (t : ℕ) × (s.set_owner set ≡ Some t) × Holds new t receive p) s.sets_of made []
       (λ in_it. absurd (omega (arith, in_it.1)))
-      (λ q not in_it. let h = l.members q set in_it in let some = h.2 in (h.0, h.1, omega (arith, some, held_receive h.0 q))) p
-
-  sets : SetLaw new.naming s.set_owner s.sets_made
-  sets = same_set_law s.naming new.naming s.set_owner s.sets_made
-      (one_task_sets s.naming new.naming task (λ t not. at_other s.naming task names t not)
-      (subst (SameSets (s.naming task)) (sym (at_own s.naming task names)) (inserted_sets (s.naming task) name (Target.port made) fresh.unused (port_no_set made))))
-      (set_law s l)
+      (λ q not in_it. let h = l.members q set in_it in let some = h.2 in let e = tokens_for (is_held h.0 receive q) in (h.0, h.1, omega (arith, some, e))) p
 
   -- messages
   lying_same : (kind : Kind) (q p k : ℕ) → lying new kind q (in_message p k) ≡ lying s kind q (in_message p k)
@@ -235,53 +150,42 @@ module _ (s : State) (task name : ℕ) (ledger : List Token) (l : IsLawful s) (i
 
   allocated_lawful : IsLawful new
   allocated_lawful = record {
-    made_task = l.made_task;
-    no_task = λ t n dead. lookup_other t n (λ is a. let e = ap s.live_task is in let f : true ≡ false = sym is_task ∙ sym e ∙ dead in cc) ∙ l.no_task t n dead;
-    not_null = λ t. lookup_other t null_word (λ is e. let h = fresh.some in omega (arith, e, h)) ∙ l.not_null t;
-    not_dead = λ t. lookup_other t dead_word (λ is e. let h = fresh.fits in omega (arith, e, h)) ∙ l.not_dead t;
-    name_fits = λ t n x e. elim (lookup_cases t n x e) [
-      | inl h ↦ let b = fresh.fits in omega (arith, h.1, b)
-      | inr h ↦ l.name_fits t n x h
-    ];
-    few_names = few_names;
-    has_right = has_right;
-    is_named = is_named;
-    one_name = one_name;
-    once_names = once_names;
-    references = references;
-    few_references = λ t p. let h = l.few_references t p in omega (arith, h, held_send t p);
-    made_port = λ p live. elim (eqb_tells p made) [
-      | inl h ↦ omega (arith, h.1)
-      | inr h ↦ let b = l.made_port p (sym (old_port p h.1) ∙ live) in omega (arith, b)
-    ];
-    one_receive = one_receive;
-    no_rights = no_rights;
+    tasks = tasks_named s.naming new.naming task (at_other s.naming task names) s.live_task s.tasks_made l.tasks is_task;
+    naming = all_named s.naming new.naming task (at_other s.naming task names) (held s) (held new) l.naming held_far (subst (λ (m : Names). LawfulNames m (held new task)) (sym (at_own s.naming task names)) own);
+    ports = record {
+      made_port = λ p live. elim (eqb_tells p made) [
+        | inl h ↦ omega (arith, h.1)
+        | inr h ↦ let b = l.made_port p (sym (old_port p h.1) ∙ live) in omega (arith, b)
+      ];
+      no_rights = no_rights;
+    };
+    numbers = record {
+      limit_fits = at_all (λ p n. n ≤ greatest_limit) s.limit made first_limit (omega arith) (λ q not. l.limit_fits q);
+      make_send_fits = at_all (λ p n. n < 2 ^ 32) s.make_send made 0 (omega arith) (λ q not. l.make_send_fits q);
+      sequence_fits = at_all (λ p n. n < 2 ^ 32) s.sequence made 0 (omega arith) (λ q not. l.sequence_fits q);
+    };
+    receivers = record { one_receive = one_receive; members = members };
     few_rights = let m = moves (λ x. 1) in omega (arith, m, few, length-weigh s.ledger, length-weigh ledger);
-    limit_fits = at_all (λ p n. n ≤ greatest_limit) s.limit made first_limit (omega arith) (λ q not. l.limit_fits q);
-    make_send_fits = at_all (λ p n. n < 2 ^ 32) s.make_send made 0 (omega arith) (λ q not. l.make_send_fits q);
-    sequence_fits = at_all (λ p n. n < 2 ^ 32) s.sequence made 0 (omega arith) (λ q not. l.sequence_fits q);
-    no_sets = λ p dead. at_other s.sets_of made [] p (not_new p dead) ∙ l.no_sets p (sym (old_port p (not_new p dead)) ∙ dead);
-    made_set = sets.made_set;
-    set_owned = sets.set_owned;
-    set_named = sets.set_named;
-    one_set_name = sets.one_set_name;
-    members = members;
-    one_set = at_all (λ p sets. length sets ≤ 1) s.sets_of made [] (omega arith) (λ q not. l.one_set q);
-    unmade_log = λ p above. at_other s.log made [] p (λ e. omega (arith, e, above)) ∙ l.unmade_log p (omega (arith, above));
-    within = λ p. elim (eqb_tells p made) [
-      | inl h ↦ let a = at_same s.taken made 0 p h.1 in omega (arith, a)
-      | inr h ↦ let a = at_other s.taken made 0 p h.1 in let b = ap length (at_other s.log made [] p h.1) in let w = l.within p in omega (arith, a, b, w)
-    ];
-    sent_here = old_entry (λ p e. (e.message.destination ≡ p) × (e.message.kind ≢ receive)) l.sent_here;
-    made_marks = old_entry (λ p e. (kind : Kind) (q : ℕ) → made + 1 ≤ q → message_count kind q e.message ≡ 0) (λ p k e is kind q above. l.made_marks p k e is kind q (omega (arith, above)));
-    carried = carried;
-    gone = gone;
-    no_entry = no_entry;
-    ended = λ r not kind q. lying_kept kind q r ∙ l.ended r not kind q;
-    one_kept = λ r. let t = tokens_for (λ x. same_place (in_request r) x.place) in let h = l.one_kept r in omega (arith, t, h);
-    once_kept = λ r kind q not. lying_kept kind q r ∙ l.once_kept r kind q not;
-    none_stands = l.none_stands;
-    none_carried = λ p k q. lying_same receive q p k ∙ l.none_carried p k q;
+    sets = at_law s.naming task s.set_owner s.sets_made names l.sets (inserted_sets (s.naming task) name (Target.port made) fresh.unused (λ set e. cc));
+    membership = record {
+      no_sets = λ p dead. at_other s.sets_of made [] p (not_new p dead) ∙ l.no_sets p (sym (old_port p (not_new p dead)) ∙ dead);
+      one_set = at_all (λ p sets. length sets ≤ 1) s.sets_of made [] (omega arith) (λ q not. l.one_set q);
+    };
+    logs = record {
+      unmade_log = λ p above. at_other s.log made [] p (λ e. omega (arith, e, above)) ∙ l.unmade_log p (omega (arith, above));
+      within = λ p. elim (eqb_tells p made) [
+        | inl h ↦ let a = at_same s.taken made 0 p h.1 in omega (arith, a)
+        | inr h ↦ let a = at_other s.taken made 0 p h.1 in let b = ap length (at_other s.log made [] p h.1) in let w = l.within p in omega (arith, a, b, w)
+      ];
+      sent_here = old_entry (λ p e. (e.message.destination ≡ p) × (e.message.kind ≢ receive)) l.sent_here;
+      made_marks = old_entry (λ p e. (kind : Kind) (q : ℕ) → made + 1 ≤ q → message_count kind q e.message ≡ 0) (λ p k e is kind q above. l.made_marks p k e is kind q (omega (arith, above)));
+    };
+    messages = record { carried = carried; gone = gone; no_entry = no_entry; none_carried = λ p k q. lying_same receive q p k ∙ l.none_carried p k q };
+    requests = record {
+      one_kept = λ r. let t = tokens_for (λ x. same_place (in_request r) x.place) in let h = l.one_kept r in omega (arith, t, h);
+      once_kept = λ r kind q not. lying_kept kind q r ∙ l.once_kept r kind q not;
+    };
+    standing = record { ended = λ r not kind q. lying_kept kind q r ∙ l.ended r not kind q; none_stands = l.none_stands };
   }
 
 pub AllocatesPort-lawful : (task name : ℕ) (old mid : State) → IsLawful old → old.live_task task ≡ true → IsNew (old.naming task) name → length old.ledger < most_rights →
@@ -297,24 +201,10 @@ fresh_new m name fresh room = record {
   room = room;
 }
 
--- ---- a dead name
-
-module _ (task name : ℕ) (old mid : State) (l : IsLawful old) (is_task : old.live_task task ≡ true) (new : IsNew (old.naming task) name) where
-  abbrev c : State
-  c = with_name task name (Target.dead 1) old
-
-  dead_made : mid ≡ c → IsLawful mid
-  dead_made e =
-      let tokens = none_moves old.ledger mid.ledger (ap (λ (s : State). s.ledger) e) in
-      let same = same_held task 0 0 old mid (moving old 0 0 l) tokens in
-      other_lawful task name old mid l c (same_but_ledger mid c e) tokens is_task refl
-      (λ t not. at_other old.naming task (map.insert (old.naming task) name (Target.dead 1)) t not)
-      (subst (λ (m : Names). IsNaming m (held mid task receive) (held mid task send) (held mid task send_once))
-      (sym (at_same old.naming task (map.insert (old.naming task) name (Target.dead 1)) task refl))
-      (dead_named (old.naming task) (held old task receive) (held old task send) (held old task send_once) (held mid task receive) (held mid task send) (held mid task send_once) (task_naming old l task)
-      name 1 new (omega arith, omega arith) (λ q. (same task receive q, same task send q)) (same task send_once)))
-      l.none_stands refl refl refl
-      (insert_law old.naming task old.set_owner old.sets_made name (Target.dead 1) (set_law old l) (inserted_sets (old.naming task) name (Target.dead 1) new.unused (dead_no_set 1)))
+dead_made : (task name : ℕ) (s : State) → IsLawful s → s.live_task task ≡ true → IsNew (s.naming task) name → IsLawful (with_name task name (Target.dead 1) s)
+dead_made task name s l is_task new = named_lawful task s l is_task (map.insert (s.naming task) name (Target.dead 1)) s.stands
+    (other_named (s.naming task) (held s task) (held s task) (l.naming task) (λ q. refl) (λ q. refl) name (Target.dead 1) new (omega arith, omega arith) (λ q e. cc) (λ q. omega arith))
+    (at_law s.naming task s.set_owner s.sets_made (map.insert (s.naming task) name (Target.dead 1)) l.sets (inserted_sets (s.naming task) name (Target.dead 1) new.unused (λ set e. cc))) l.none_stands
 
 -- ---- what may be made
 
@@ -328,4 +218,4 @@ Makes-lawful task right name old mid l is_task unused some fits not_full makes =
     go : Makes task right name old mid → IsLawful mid
     go (inl (is, made)) = AllocatesPort-lawful task name old mid l is_task new (let h : ¬ (most_rights ≤ length old.ledger) = λ full. not_full (inr (inl (is, inl full))) in omega (arith, h)) made
     go (inr (inl (is, made))) = subst IsLawful (sym made) (with_set-lawful task name old l is_task new)
-    go (inr (inr (is, made))) = dead_made task name old mid l is_task new made
+    go (inr (inr (is, made))) = subst IsLawful (sym made) (dead_made task name old l is_task new)

@@ -1,7 +1,7 @@
 -- No message carries a receive right, as long as words of bodies that would move one are refused; and none goes by one. So no send
 -- closes a loop.
 use Rattle.std.proofs.Common.{◌≡◌, ℕ, ◌+◌, ◌/◌, ◌%◌, ◌^◌, ◌<◌, ◌≤◌, List, [], ◌∷◌, Some, None, refl, sym, ap, ◌∙◌, arith, true, false, Bool, inl, inr, length}
-use Rattle.std.specs.Prelude.{if◌then◌else◌, ◌==◌, ◌≢◌, MatchBool}
+use Rattle.std.specs.Prelude.{if◌then◌else◌, ◌==◌, ◌≢◌}
 use Rattle.std.proofs.lemmas.Bool.Decides.{eqb_tells}
 use Rattle.mach_types.specs.declared.rights.Disposition.{Disposition}
 use Rattle.mach_types.specs.declared.rights.Disposition.TheVariants.{MoveReceive, MoveSend, MoveSendOnce, CopySend, MakeSend, MakeSendOnce}
@@ -13,12 +13,12 @@ use Rattle.mach_types.specs.Guards.{NoneHolds}
 use Rattle.mach_types.specs.TextGuards.{header_guards, word_at, BadHeader, IsSendable}
 use Rattle.mach_model.specs.State.{State}
 use Rattle.mach_model.specs.CopyIn.{CopyWord, CopyReply, CopyWords, CopyItem, CopyItems, CopyBody}
-use Rattle.mach_model.specs.Sending.{Sends, Copied, ClosesLoop, place_of}
+use Rattle.mach_model.specs.Send.{Sends, Copied, ClosesLoop, place_of}
 use Rattle.mach_model.specs.Carried.{mark_count, marks_count, reply_count, items_count, body_count, message_count}
 use Rattle.mach_model.specs.NotYet.{IsNotYetCarried}
 use Rattle.mach_model.specs.Lawful.{IsLawful}
 use Rattle.mach_model.proofs.Moving.{moving}
-use Rattle.mach_model.proofs.CopyingWords.{Copied-adds}
+use Rattle.mach_model.proofs.CopyingWords.{either, Copied-adds}
 
 -- ---- no message goes by a receive right
 
@@ -98,10 +98,6 @@ no_mark send_once not q (to_port p) = refl
 no_mark send_once not q null = refl
 no_mark send_once not q dead = refl
 
-tells : (b : Bool) (P Q R : Type 0) → (P → R) → (b ≡ false → Q → R) → MatchBool b P Q → R
-tells true P Q R f g h = f h
-tells false P Q R f g h = g refl h
-
 apart : (a b : ℕ) → (a == b) ≡ false → a ≢ b
 apart a b e same = elim (eqb_tells a b) [
   | inl h ↦ (let f = h.0 in cc)
@@ -112,8 +108,8 @@ word_none : (task : ℕ) (place : Place) (number word : ℕ) (given : Dispositio
     CopyWord task place number word old mark new → (q : ℕ) → mark_count receive q (kind_sent given) mark ≡ 0
 word_none task place number word given old mark new is not h q = elim (eqb_tells number 16) [
   | inl n ↦
-      tells (word == null_word) _ _ _ (λ x. ap (mark_count receive q (kind_sent given)) x.0)
-      (λ some. tells (word == dead_word) _ _ _ (λ x. ap (mark_count receive q (kind_sent given)) x.0)
+      either (word == null_word) _ _ _ (λ x. ap (mark_count receive q (kind_sent given)) x.0)
+      (λ some. either (word == dead_word) _ _ _ (λ x. ap (mark_count receive q (kind_sent given)) x.0)
       (λ live r. absurd (not (n.1, apart word null_word some, apart word dead_word live)))) h
   | inr n ↦ no_mark (kind_sent given) (not_receive number given n.1 is) q mark
 ]

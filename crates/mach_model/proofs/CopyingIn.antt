@@ -2,46 +2,31 @@
 use Rattle.std.proofs.Common.{◌≡◌, ℕ, zero, suc, ◌+◌, ◌-◌, ◌%◌, ◌^◌, ◌<◌, ◌≤◌, List, [], ◌∷◌, Some, refl, sym, ap, subst, ◌∙◌, arith, true, false, Bool, ◌⊎◌, inl, inr, length}
 use Rattle.std.specs.Prelude.{if◌then◌else◌, ◌==◌, ◌&&◌, ◌||◌, nat_lt, Contains}
 use Rattle.std.specs.FinMap as map
-use Rattle.std.proofs.lemmas.Bool.Decides.{eqb_tells}
-use Rattle.std.proofs.lemmas.Bool.{eq-eqb, ne_eqb, ltb-true, ltb-false}
+use Rattle.std.proofs.lemmas.Bool.{eq-eqb, ne_eqb, ltb-true, ltb-false, and_right, cases_Bool}
 use Rattle.mach_types.specs.declared.rights.Disposition.{Disposition}
 use Rattle.mach_types.specs.declared.rights.Disposition.TheVariants.{MoveReceive, MoveSend, MoveSendOnce, CopySend, MakeSend, MakeSendOnce}
-use Rattle.mach_types.specs.Numbers.{kind_sent}
-use Rattle.mach_types.specs.Tokens.{Kind, receive, send, send_once, Request, dead_name, in_task, in_message, token, count, is_of, is_held, same_kind, Moves}
+use Rattle.mach_types.specs.Numbers.{kind_sent, most_references}
+use Rattle.mach_types.specs.Tokens.{Kind, receive, send, send_once, Request, dead_name, in_task, in_message, Token, token, count, is_of, is_held, same_kind, Moves}
 use Rattle.mach_types.specs.Messages.{Mark, to_port, dead}
 use Rattle.mach_model.specs.State.{State, Target, Names, lookup, held, Holds, at, request_at, same_request, without_name, with_name}
-use Rattle.mach_model.specs.Dying.{same_place}
+use Rattle.mach_model.specs.Death.{same_place}
 use Rattle.mach_model.specs.SentMeans.{target_mark}
 use Rattle.mach_model.specs.CopyIn.{IsLegal, taken_by, put_by, name_kept, changed_by, CopyRight}
 use Rattle.mach_model.specs.Carried.{mark_count, lying}
 use Rattle.mach_model.specs.NotYet.{NoRequests}
-use Rattle.mach_model.specs.Lawful.{is_once}
+use Rattle.mach_model.specs.Lawful.{is_once, HasReferences, LawfulNames, LawfulPorts, LawfulNumbers, LawfulReceivers, LawfulMembership}
 use Rattle.mach_model.proofs.Weigh.{both_test, held_le_of}
-use Rattle.mach_model.proofs.At.{at_same, at_other, at_all}
+use Rattle.mach_model.proofs.At.{at_all}
 use Rattle.mach_model.proofs.Names.{some_tally}
-use Rattle.mach_model.proofs.Spaces.{IsNaming, SameBut, stay_named, port_unnamed, other_unnamed, dead_fewer}
-use Rattle.mach_model.proofs.SetNames.{SameSets, SameSets-is, SetLaw, same_set_law, kept_set_law, insert_law, remove_law, port_no_set, once_no_set, dead_no_set, dead_sets, removed_sets, unnamed_sets, kept_names_sets}
-use Rattle.mach_model.proofs.Moving.{TaskNaming, IsMoving, shape, shaped, near_none, near_task, near_entry, same_naming, Leaves, moved}
+use Rattle.mach_model.proofs.Spaces.{has_task, same_naming, port_kept, port_unnamed, other_unnamed, dead_counted}
+use Rattle.mach_model.proofs.Settling.{lives}
+use Rattle.mach_model.proofs.SetNames.{SameSets, dead_sets, removed_sets}
+use Rattle.mach_model.proofs.Moving.{IsMoving, shape, near_none, near_task, near_entry, same_receivers, Leaves, same_leaves, other_leaves, moved}
 
 -- ---- what is known of a state while rights are on their way
 
-pub alive : (s : State) (o k : ℕ) → IsMoving s o k → (kind : Kind) (p : ℕ) → 0 < count (is_of kind p) s.ledger → s.live_port p ≡ true
-alive s o k l kind p some = go (s.live_port p) refl
-  where
-    go : (b : Bool) → s.live_port p ≡ b → s.live_port p ≡ true
-    go true e = e
-    go false e = absurd (let z = l.no_rights p e kind in omega (arith, some, z))
-
 pub alive_held : (s : State) (o k : ℕ) → IsMoving s o k → (task : ℕ) (kind : Kind) (p : ℕ) → 0 < held s task kind p → s.live_port p ≡ true
-alive_held s o k l task kind p some = alive s o k l kind p (let le = held_le_of task kind p s.ledger in omega (arith, some, le))
-
--- a task with a name lives
-pub has_task : (s : State) (o k : ℕ) → IsMoving s o k → (task name : ℕ) (x : Target) → lookup s task name ≡ Some x → s.live_task task ≡ true
-has_task s o k l task name x is = go (s.live_task task) refl
-  where
-    go : (b : Bool) → s.live_task task ≡ b → s.live_task task ≡ true
-    go true e = e
-    go false e = absurd (let z = l.no_task task name e in cc)
+alive_held s o k l task kind p some = lives l.ports kind p (let le = held_le_of task kind p s.ledger in omega (arith, some, le))
 
 pub once_held : (s : State) (o k : ℕ) → IsMoving s o k → (task name p : ℕ) → lookup s task name ≡ Some (Target.once p) → 0 < held s task send_once p
 once_held s o k l task name p is =
@@ -54,11 +39,8 @@ if_false : (b c : Bool) → c ≡ false → (if b then false else c) ≡ false
 if_false true c e = refl
 if_false false c e = e
 
-ends_more : (stands : Request → Bool) (x : Request) → ((r : Request) → stands r ≡ false) → (r : Request) → request_at stands x false r ≡ false
-ends_more stands x none r = if_false (same_request r x) (stands r) (none r)
-
-pub without_stands : (task name : ℕ) (s : State) → NoRequests s → NoRequests (without_name task name s)
-without_stands task name s none r = ends_more s.stands (dead_name task name) none r
+pub without_stands : (task name : ℕ) (s : State) → NoRequests s.stands → NoRequests (without_name task name s).stands
+without_stands task name s none r = if_false (same_request r (dead_name task name)) (s.stands r) (none r)
 
 -- ---- tests of a token at one place
 
@@ -66,15 +48,12 @@ without_stands task name s none r = ends_more s.stands (dead_name task name) non
 pub own_right : (task : ℕ) (kind : Kind) (p : ℕ) → same_kind kind kind ≡ true → (if is_held task kind p (token kind p (in_task task)) then suc zero else zero) ≡ suc zero
 own_right task kind p e = rw (e, eq-eqb p p refl, eq-eqb task task refl) refl
 
+pub own_task : (task : ℕ) (b : Bool) → (if b && task == task then suc zero else zero) ≡ (if b then suc zero else zero)
+own_task task true = rw (eq-eqb task task refl) refl
+own_task task false = refl
+
 pub other_port : (t task : ℕ) (c kind : Kind) (q p : ℕ) → (q ≡ p → ⊥) → (if is_held t c q (token kind p (in_task task)) then suc zero else zero) ≡ zero
-other_port t task c kind q p not = go (same_kind c kind)
-  where
-    go : (b : Bool) → (if (b && p == q) && task == t then suc zero else zero) ≡ zero
-    go b = both_test (b && p == q) (task == t) (inl (and_false b (p == q) (ne_eqb p q (λ e. not (sym e)))))
-      where
-        and_false : (a b : Bool) → b ≡ false → (a && b) ≡ false
-        and_false true b e = e
-        and_false false b e = refl
+other_port t task c kind q p not = both_test (same_kind c kind && p == q) (task == t) (inl (and_right (same_kind c kind) (p == q) (ne_eqb p q (λ e. not (sym e)))))
 
 -- how the tests of what lies at an entry see a right there
 pub at_entry : (c : Kind) (q o k : ℕ) (kind : Kind) (p : ℕ) →
@@ -105,43 +84,34 @@ pub record Copies (s new : State) (o k : ℕ) (kind : Kind) (mark : Mark) : Type
 -- a right that is made
 module _ (task o k : ℕ) (old new : State) (kind : Kind) (p : ℕ) (l : IsMoving old o k) (no_receive : (q : ℕ) → (if is_of receive q (token kind p (in_message o k)) then suc zero else zero) ≡ zero)
     (is_task : old.live_task task ≡ true) (live : old.live_port p ≡ true) (tokens : Moves old.ledger new.ledger [] (token kind p (in_message o k) ∷ [])) where
-  made_held : (c : Kind) (q : ℕ) → held new task c q ≡ held old task c q
-  made_held c q = let m = tokens (λ x. if is_held task c q x then 1 else 0) in let z = not_held c q o k kind p task in omega (arith, m, z)
+  made_held : (t : ℕ) (c : Kind) (q : ℕ) → held new t c q ≡ held old t c q
+  made_held t c q = let m = tokens (λ x. if is_held t c q x then 1 else 0) in let z = not_held c q o k kind p t in omega (arith, m, z)
 
-  made_leaves : new ≡ shape old new → ((t : ℕ) → new.naming t ≡ old.naming t) → ((r : Request) → new.stands r ≡ old.stands r) → ((q : ℕ) → new.make_send q < 2 ^ 32) →
-      ((q : ℕ) → new.sequence q ≡ old.sequence q) → ((q : ℕ) → new.sets_of q ≡ old.sets_of q) → Leaves old new task
-  made_leaves rest names stands make_send sequence sets_of = record {
-    rest = rest;
-    is_task = is_task;
-    others = λ t not. names t;
-    own = subst (λ (m : Names). IsNaming m (held new task receive) (held new task send) (held new task send_once)) (sym (names task))
-        (same_naming (old.naming task) (held old task receive) (held old task send) (held old task send_once) (held new task receive) (held new task send) (held new task send_once)
-        (l.naming task) (made_held receive) (made_held send) (made_held send_once));
-    receives = λ q. let m = tokens (λ x. if is_of receive q x then 1 else 0) in let z = no_receive q in omega (arith, m, z);
-    dead = λ q dead c.
+  made_ports : LawfulPorts old.live_port old.ports_made new.ledger
+  made_ports = record {
+    made_port = l.made_port;
+    no_rights = λ q dead c.
         let m = tokens (λ x. if is_of c q x then 1 else 0) in
         let n = l.no_rights q dead c in
         let apart : (p == q) ≡ false = ne_eqb p q (λ e. let a = live in let b : old.live_port p ≡ false = ap old.live_port e ∙ dead in cc) in
         let z = both_test (same_kind c kind) (p == q) (inr apart) in omega (arith, m, n, z);
-    stands = λ r. stands r ∙ l.none_stands r;
-    make_send = make_send;
-    sequence = λ q. let a = sequence q in let b = l.sequence_fits q in omega (arith, a, b);
-    no_sets = λ q dead. sets_of q ∙ l.no_sets q dead;
-    sets = same_set_law old.naming new.naming old.set_owner old.sets_made (λ t. SameSets-is (old.naming t) (new.naming t) (names t)) l.sets;
-    members = λ q set in_it.
-        let h = l.members q set (subst (λ (xs : List ℕ). Contains xs set) (sets_of q) in_it) in
-        let m = tokens (λ x. if is_held h.0 receive q x then 1 else 0) in
-        let z = not_held receive q o k kind p h.0 in
-        let some = h.2 in (h.0, h.1, omega (arith, some, m, z));
-    one_set = λ q. let e = ap length (sets_of q) in let h = l.one_set q in omega (arith, e, h);
   }
 
-  made_copies : Leaves old new task → Copies old new o k kind (to_port p)
-  made_copies v = record {
-    keeps = moved old new task o k l [] (token kind p (in_message o k) ∷ []) tokens (near_none task o k) (near_entry task o k kind p) v;
-    rest = v.rest;
+  made_receivers : LawfulReceivers old.live_port old.set_owner old.sets_of new.ledger
+  made_receivers = same_receivers old.live_port old.set_owner old.sets_of old.ledger new.ledger l.receivers
+      (λ q. let m = tokens (λ x. if is_of receive q x then 1 else 0) in let z = no_receive q in omega (arith, m, z)) (λ t q. let m = made_held t receive q in omega (arith, m))
+
+  made_copies : (make_send : ℕ → ℕ) → LawfulNumbers old.limit make_send old.sequence → new ≡ record old { make_send = make_send; ledger = new.ledger } → Copies old new o k kind (to_port p)
+  made_copies make_send numbers rest = record {
+    keeps = moved old new task o k l [] (token kind p (in_message o k) ∷ []) tokens (near_none task o k) (near_entry task o k kind p) leaves;
+    rest = leaves.rest;
     lies = λ c q. let m = tokens (λ x. if is_of c q x && same_place (in_message o k) x.place then 1 else 0) in let e = at_entry c q o k kind p in omega (arith, m, e);
   }
+    where
+      leaves : Leaves old new task
+      leaves = subst (λ (x : State). Leaves old x task) (sym rest)
+          (same_leaves task o k old l is_task make_send old.sequence old.sets_of new.ledger made_ports numbers made_receivers l.membership
+          (same_naming (old.naming task) (held old task) (held new task) (l.naming task) (made_held task)))
 
 -- a right that leaves the task
 module _ (task o k : ℕ) (old new : State) (kind : Kind) (p : ℕ) (l : IsMoving old o k) (tokens : Moves old.ledger new.ledger (token kind p (in_task task) ∷ []) (token kind p (in_message o k) ∷ [])) where
@@ -159,28 +129,12 @@ module _ (task o k : ℕ) (old new : State) (kind : Kind) (p : ℕ) (l : IsMovin
   left_of : (c : Kind) (q : ℕ) → count (is_of c q) new.ledger ≡ count (is_of c q) old.ledger
   left_of c q = let m = tokens (λ x. if is_of c q x then 1 else 0) in omega (arith, m)
 
-  left_but : SameBut p (held old task receive) (held old task send) (held old task send_once) (held new task receive) (held new task send) (held new task send_once)
-  left_but = record { receives = left_other receive; sends = left_other send; once = left_other send_once }
+  left_ports : LawfulPorts old.live_port old.ports_made new.ledger
+  left_ports = record { made_port = l.made_port; no_rights = λ q dead c. left_of c q ∙ l.no_rights q dead c }
 
-  left_leaves : new ≡ shape old new → old.live_task task ≡ true → ((t : ℕ) → (t ≡ task → ⊥) → new.naming t ≡ old.naming t) → TaskNaming new task → NoRequests new →
-      ((q : ℕ) → new.make_send q < 2 ^ 32) → ((q : ℕ) → new.sequence q < 2 ^ 32) → ((q : ℕ) → old.live_port q ≡ false → new.sets_of q ≡ []) →
-      SameSets (old.naming task) (new.naming task) → ((q set : ℕ) → Contains (new.sets_of q) set → (t : ℕ) × (old.set_owner set ≡ Some t) × Holds new t receive q) →
-      ((q : ℕ) → length (new.sets_of q) ≤ 1) → Leaves old new task
-  left_leaves rest is_task others own stands make_send sequence no_sets sets members one_set = record {
-    rest = rest;
-    is_task = is_task;
-    others = others;
-    own = own;
-    receives = left_of receive;
-    dead = λ q dead c. left_of c q ∙ l.no_rights q dead c;
-    stands = stands;
-    make_send = make_send;
-    sequence = sequence;
-    no_sets = no_sets;
-    sets = kept_set_law old.naming new.naming old.set_owner old.sets_made task l.sets others sets;
-    members = members;
-    one_set = one_set;
-  }
+  -- the right is no receive right
+  left_receivers : ((t q : ℕ) → held new t receive q ≡ held old t receive q) → LawfulReceivers old.live_port old.set_owner old.sets_of new.ledger
+  left_receivers same = same_receivers old.live_port old.set_owner old.sets_of old.ledger new.ledger l.receivers (left_of receive) (λ t q. let e = same t q in omega (arith, e))
 
   left_copies : Leaves old new task → Copies old new o k kind (to_port p)
   left_copies v = record {
@@ -191,153 +145,103 @@ module _ (task o k : ℕ) (old new : State) (kind : Kind) (p : ℕ) (l : IsMovin
         let e = at_entry c q o k kind p in let z = not_at_entry c q o k kind p task in omega (arith, m, e, z);
   }
 
-pub or_cases : (x y : Bool) → (x || y) ≡ true → (x ≡ true) ⊎ (y ≡ true)
-or_cases true y e = inl refl
-or_cases false y e = inr e
+-- ---- the rights of one port change, and its name stays or goes
 
-pub or_none : (x y : Bool) → (x || y) ≡ false → (x ≡ false) × (y ≡ false)
-or_none true y e = absurd (cc)
-or_none false y e = (refl, e)
+-- a name stays where either right is left
+pub kept_when : (a b : Bool) (n : ℕ) → (a ≡ true → 0 < n) → (b ≡ true → 0 < n) → (a ≡ false → b ≡ false → n ≡ 0) → ((a || b) ≡ true) × (0 < n) ⊎ ((a || b) ≡ false) × (n ≡ 0)
+kept_when true b n f g h = inl (refl, f refl)
+kept_when false true n f g h = inl (refl, g refl)
+kept_when false false n f g h = inr (refl, h refl refl)
 
-pub kept_others : (b : Bool) (task name : ℕ) (s : State) (t : ℕ) → (t ≡ task → ⊥) → (name_kept b task name s).naming t ≡ s.naming t
-kept_others true task name s t not = refl
-kept_others false task name s t not = at_other s.naming task (map.remove (s.naming task) name) t not
+-- One send right less is with the task.
+pub one_less : (sends receives less same : ℕ) → less + 1 ≡ sends → same ≡ receives →
+    ((nat_lt 1 sends || nat_lt 0 receives) ≡ true) × (0 < same + less) ⊎ ((nat_lt 1 sends || nat_lt 0 receives) ≡ false) × (same + less ≡ 0)
+one_less sends receives less same e f = kept_when (nat_lt 1 sends) (nat_lt 0 receives) (same + less) (λ g. let h = ltb-true 1 sends g in omega (arith, e, h))
+    (λ g. let h = ltb-true 0 receives g in omega (arith, f, h)) (λ g h. let i = ltb-false 1 sends g in let j = ltb-false 0 receives h in omega (arith, e, f, i, j))
 
-pub kept_stands : (b : Bool) (task name : ℕ) (s : State) → NoRequests s → NoRequests (name_kept b task name s)
-kept_stands true task name s none = none
-kept_stands false task name s none = without_stands task name s none
+module _ (task o k name p : ℕ) (old : State) (ledger : List Token) (l : IsMoving old o k) (is : lookup old task name ≡ Some (Target.port p))
+    (same : (kind : Kind) (q : ℕ) → (q ≡ p → ⊥) → count (is_held task kind q) ledger ≡ held old task kind q) (same_once : count (is_held task send_once p) ledger ≡ held old task send_once p)
+    (few : count (is_held task send p) ledger ≤ most_references) (ports : LawfulPorts old.live_port old.ports_made ledger) where
+  abbrev left_over : ℕ
+  left_over = count (is_held task receive p) ledger + count (is_held task send p) ledger
 
-pub own_naming : (task : ℕ) (s new : State) (m : Names) → new.naming task ≡ m → IsNaming m (held new task receive) (held new task send) (held new task send_once) → TaskNaming new task
-own_naming task s new m e n = subst (λ (x : Names). IsNaming x (held new task receive) (held new task send) (held new task send_once)) (sym e) n
+  abbrev left_rights : Kind → ℕ → ℕ
+  left_rights kind q = count (is_held task kind q) ledger
+
+  pub port_leaves : (b : Bool) → (b ≡ true) × (0 < left_over) ⊎ (b ≡ false) × (left_over ≡ 0) → (make_send sequence : ℕ → ℕ) (sets_of : ℕ → List ℕ) → LawfulNumbers old.limit make_send sequence →
+      LawfulReceivers old.live_port old.set_owner sets_of ledger → LawfulMembership old.live_port sets_of →
+      Leaves old (record (name_kept b task name old) { make_send = make_send; sequence = sequence; sets_of = sets_of; ledger = ledger }) task
+  port_leaves true (inl (e, some)) make_send sequence sets_of numbers receivers membership =
+      same_leaves task o k old l (has_task l.tasks task name (Target.port p) is) make_send sequence sets_of ledger ports numbers receivers membership
+      (port_kept (old.naming task) (held old task) left_rights (l.naming task) p same same_once name is some few)
+  port_leaves false (inr (e, none)) make_send sequence sets_of numbers receivers membership =
+      other_leaves task o k old l (has_task l.tasks task name (Target.port p) is) make_send sequence sets_of ledger ports numbers receivers membership
+      (map.remove (old.naming task) name) (request_at old.stands (dead_name task name) false)
+      (port_unnamed (old.naming task) (held old task) left_rights (l.naming task) p same same_once name is none)
+      (removed_sets (old.naming task) name (Target.port p) is (λ set e. cc)) (without_stands task name old l.none_stands)
+  port_leaves true (inr (e, none)) make_send sequence sets_of numbers receivers membership = absurd (cc)
+  port_leaves false (inl (e, some)) make_send sequence sets_of numbers receivers membership = absurd (cc)
+
+  -- nothing changes beside
+  pub sends_leave : (b : Bool) → (b ≡ true) × (0 < left_over) ⊎ (b ≡ false) × (left_over ≡ 0) → LawfulReceivers old.live_port old.set_owner old.sets_of ledger →
+      Leaves old (record (name_kept b task name old) { ledger = ledger }) task
+  sends_leave true kept receivers = port_leaves true kept old.make_send old.sequence old.sets_of l.numbers receivers l.membership
+  sends_leave false kept receivers = port_leaves false kept old.make_send old.sequence old.sets_of l.numbers receivers l.membership
 
 -- ---- a send right is moved
 
-module _ (task o k name p : ℕ) (old new : State) (l : IsMoving old o k) (is : lookup old task name ≡ Some (Target.port p)) (holds : Holds old task send p)
+module _ (task o k name p : ℕ) (old new : State) (l : IsMoving old o k) (is : lookup old task name ≡ Some (Target.port p))
     (tokens : Moves old.ledger new.ledger (token send p (in_task task) ∷ []) (token send p (in_message o k) ∷ [])) where
-  one_less : held new task send p + 1 ≡ held old task send p
-  one_less = let m = left_held task o k old new send p l tokens send p in let e = own_right task send p refl in omega (arith, m, e)
-
-  same_receives : (t q : ℕ) → held new t receive q ≡ held old t receive q
-  same_receives t q = let m = tokens (λ x. if is_held t receive q x then 1 else 0) in omega (arith, m)
-
-  same_once : (q : ℕ) → held new task send_once q ≡ held old task send_once q
-  same_once q = let m = tokens (λ x. if is_held task send_once q x then 1 else 0) in omega (arith, m)
-
-  send_own : (b : Bool) → (nat_lt 1 (held old task send p) || nat_lt 0 (held old task receive p)) ≡ b → new.naming task ≡ (name_kept b task name old).naming task → TaskNaming new task
-  send_own true e names = own_naming task old new (old.naming task) names
-      (stay_named (old.naming task) (held old task receive) (held old task send) (held old task send_once) (held new task receive) (held new task send) (held new task send_once) (l.naming task)
-      (λ q. elim (eqb_tells q p) [
-        | inl h ↦ inr (subst (λ (x : ℕ). (0 < held old task receive x + held old task send x) × (0 < held new task receive x + held new task send x)) (sym h.1) (
-          omega (arith, holds),
-          elim (or_cases (nat_lt 1 (held old task send p)) (nat_lt 0 (held old task receive p)) e) [
-            | inl g ↦ let a = ltb-true 1 (held old task send p) g in let b = one_less in omega (arith, a, b)
-            | inr g ↦ let a = ltb-true 0 (held old task receive p) g in let b = same_receives task p in omega (arith, a, b)
-          ],
-        ))
-        | inr h ↦ inl (same_receives task q, left_other task o k old new send p l tokens send q h.1)
-      ])
-      (λ q. let a = left_held task o k old new send p l tokens send q in let b = (l.naming task).few_references q in omega (arith, a, b)) same_once)
-  send_own false e names =
-      let none = or_none (nat_lt 1 (held old task send p)) (nat_lt 0 (held old task receive p)) e in
-      own_naming task old new (map.remove (old.naming task) name) (names ∙ at_same old.naming task (map.remove (old.naming task) name) task refl)
-      (port_unnamed (old.naming task) (held old task receive) (held old task send) (held old task send_once) (held new task receive) (held new task send) (held new task send_once) (l.naming task)
-      name p is (left_but task o k old new send p l tokens)
-      (let a = ltb-false 1 (held old task send p) none.0 in let b = ltb-false 0 (held old task receive p) none.1 in let c = one_less in let d = same_receives task p in omega (arith, a, b, c, d))
-      (same_once p))
-
-  send_moved : (b : Bool) → (nat_lt 1 (held old task send p) || nat_lt 0 (held old task receive p)) ≡ b → new ≡ record (name_kept b task name old) { ledger = new.ledger } → Copies old new o k send (to_port p)
-  send_moved b e rest = left_copies task o k old new send p l tokens (left_leaves task o k old new send p l tokens
-      (shaped old (record (name_kept b task name old) { ledger = new.ledger }) new rest (kept_shape b))
-      (has_task old o k l task name (Target.port p) is)
-      (λ t not. ap (λ (x : State). x.naming t) rest ∙ kept_others b task name old t not)
-      (send_own b e (ap (λ (x : State). x.naming task) rest))
-      (λ r. ap (λ (x : State). x.stands r) rest ∙ kept_stands b task name old l.none_stands r)
-      (λ q. subst (λ (n : ℕ). n < 2 ^ 32) (sym (ap (λ (x : State). x.make_send q) rest ∙ ap (λ (f : ℕ → ℕ). f q) (kept_make_send b))) (l.make_send_fits q))
-      (λ q. subst (λ (n : ℕ). n < 2 ^ 32) (sym (ap (λ (x : State). x.sequence q) rest ∙ ap (λ (f : ℕ → ℕ). f q) (kept_sequence b))) (l.sequence_fits q))
-      (λ q dead. sets q ∙ l.no_sets q dead)
-      (subst (SameSets (old.naming task)) (sym (ap (λ (x : State). x.naming task) rest)) (kept_names_sets b task name old (Target.port p) is (port_no_set p)))
-      (λ q set in_it. let h = l.members q set (subst (λ (xs : List ℕ). Contains xs set) (sets q) in_it) in let e = same_receives h.0 q in let some = h.2 in (h.0, h.1, omega (arith, some, e)))
-      (λ q. let e = ap length (sets q) in let h = l.one_set q in omega (arith, e, h)))
+  send_moved : new ≡ record (name_kept (nat_lt 1 (held old task send p) || nat_lt 0 (held old task receive p)) task name old) { ledger = new.ledger } → Copies old new o k send (to_port p)
+  send_moved rest = left_copies task o k old new send p l tokens (subst (λ (x : State). Leaves old x task) (sym rest)
+      (sends_leave task o k name p old new.ledger l is (left_other task o k old new send p l tokens) (let m = tokens (λ x. if is_held task send_once p x then 1 else 0) in omega (arith, m))
+      (let a = left_held task o k old new send p l tokens send p in let b = (l.naming task).few_references p in omega (arith, a, b)) (left_ports task o k old new send p l tokens)
+      (nat_lt 1 (held old task send p) || nat_lt 0 (held old task receive p))
+      (one_less (held old task send p) (held old task receive p) (held new task send p) (held new task receive p)
+      (let m = left_held task o k old new send p l tokens send p in let e = own_right task send p refl in omega (arith, m, e)) (same task p))
+      (left_receivers task o k old new send p l tokens same)))
     where
-      kept_shape : (b : Bool) → record (name_kept b task name old) { ledger = new.ledger } ≡ shape old (record (name_kept b task name old) { ledger = new.ledger })
-      kept_shape true = refl
-      kept_shape false = refl
-
-      kept_make_send : (b : Bool) → (name_kept b task name old).make_send ≡ old.make_send
-      kept_make_send true = refl
-      kept_make_send false = refl
-
-      kept_sequence : (b : Bool) → (name_kept b task name old).sequence ≡ old.sequence
-      kept_sequence true = refl
-      kept_sequence false = refl
-
-      kept_sets : (b : Bool) → (name_kept b task name old).sets_of ≡ old.sets_of
-      kept_sets true = refl
-      kept_sets false = refl
-
-      sets : (q : ℕ) → new.sets_of q ≡ old.sets_of q
-      sets q = ap (λ (x : State). x.sets_of q) rest ∙ ap (λ (f : ℕ → List ℕ). f q) (kept_sets b)
+      same : (t q : ℕ) → held new t receive q ≡ held old t receive q
+      same t q = let m = tokens (λ x. if is_held t receive q x then 1 else 0) in omega (arith, m)
 
 -- ---- a receive right is moved
 
 module _ (task o k name p : ℕ) (old new : State) (l : IsMoving old o k) (is : lookup old task name ≡ Some (Target.port p)) (holds : Holds old task receive p)
     (tokens : Moves old.ledger new.ledger (token receive p (in_task task) ∷ []) (token receive p (in_message o k) ∷ [])) where
-  live : old.live_port p ≡ true
-  live = alive_held old o k l task receive p holds
-
   none_more : held new task receive p ≡ 0
   none_more =
       let m = left_held task o k old new receive p l tokens receive p in
       let e = own_right task receive p refl in
-      let one = l.one_receive p live in
+      let one = l.one_receive p (alive_held old o k l task receive p holds) in
       let le = held_le_of task receive p old.ledger in omega (arith, m, e, one, le)
 
-  same_sends : (q : ℕ) → held new task send q ≡ held old task send q
-  same_sends q = let m = tokens (λ x. if is_held task send q x then 1 else 0) in omega (arith, m)
+  same_sends : held new task send p ≡ held old task send p
+  same_sends = let m = tokens (λ x. if is_held task send p x then 1 else 0) in omega (arith, m)
 
-  same_onces : (q : ℕ) → held new task send_once q ≡ held old task send_once q
-  same_onces q = let m = tokens (λ x. if is_held task send_once q x then 1 else 0) in omega (arith, m)
+  is_kept : (held new task receive p + held new task send p ≡ held old task send p) → (nat_lt 0 (held old task send p) ≡ true) × (0 < held new task receive p + held new task send p)
+      ⊎ (nat_lt 0 (held old task send p) ≡ false) × (held new task receive p + held new task send p ≡ 0)
+  is_kept same = elim (cases_Bool (nat_lt 0 (held old task send p))) [
+    | inl e ↦ inl (e, (let h = ltb-true 0 (held old task send p) e in omega (arith, h, same)))
+    | inr e ↦ inr (e, (let h = ltb-false 0 (held old task send p) e in omega (arith, h, same)))
+  ]
 
-  receive_own : (b : Bool) → nat_lt 0 (held old task send p) ≡ b → new.naming task ≡ (name_kept b task name old).naming task → TaskNaming new task
-  receive_own true e names = own_naming task old new (old.naming task) names
-      (stay_named (old.naming task) (held old task receive) (held old task send) (held old task send_once) (held new task receive) (held new task send) (held new task send_once) (l.naming task)
-      (λ q. elim (eqb_tells q p) [
-        | inl h ↦ inr (subst (λ (x : ℕ). (0 < held old task receive x + held old task send x) × (0 < held new task receive x + held new task send x)) (sym h.1)
-            (let a = ltb-true 0 (held old task send p) e in let b = same_sends p in (omega (arith, a), omega (arith, a, b))))
-        | inr h ↦ inl (left_other task o k old new receive p l tokens receive q h.1, same_sends q)
-      ])
-      (λ q. let a = same_sends q in let b = (l.naming task).few_references q in omega (arith, a, b)) same_onces)
-  receive_own false e names =
-      own_naming task old new (map.remove (old.naming task) name) (names ∙ at_same old.naming task (map.remove (old.naming task) name) task refl)
-      (port_unnamed (old.naming task) (held old task receive) (held old task send) (held old task send_once) (held new task receive) (held new task send) (held new task send_once) (l.naming task)
-      name p is (left_but task o k old new receive p l tokens)
-      (let a = ltb-false 0 (held old task send p) e in let b = none_more in let c = same_sends p in omega (arith, a, b, c))
-      (same_onces p))
-
-  receive_moved : (b : Bool) → nat_lt 0 (held old task send p) ≡ b →
-      new ≡ record (name_kept b task name old) { sets_of = at old.sets_of p []; make_send = at old.make_send p 0; sequence = at old.sequence p 0; ledger = new.ledger } → Copies old new o k receive (to_port p)
-  receive_moved b e rest = left_copies task o k old new receive p l tokens (left_leaves task o k old new receive p l tokens
-      (shaped old (record (name_kept b task name old) { sets_of = at old.sets_of p []; make_send = at old.make_send p 0; sequence = at old.sequence p 0; ledger = new.ledger }) new rest (kept_shape b))
-      (has_task old o k l task name (Target.port p) is)
-      (λ t not. ap (λ (x : State). x.naming t) rest ∙ kept_others b task name old t not)
-      (receive_own b e (ap (λ (x : State). x.naming task) rest))
-      (λ r. ap (λ (x : State). x.stands r) rest ∙ kept_stands b task name old l.none_stands r)
-      (λ q. subst (λ (n : ℕ). n < 2 ^ 32) (sym (ap (λ (x : State). x.make_send q) rest)) (at_all (λ q n. n < 2 ^ 32) old.make_send p 0 (omega arith) (λ r not. l.make_send_fits r) q))
-      (λ q. subst (λ (n : ℕ). n < 2 ^ 32) (sym (ap (λ (x : State). x.sequence q) rest)) (at_all (λ q n. n < 2 ^ 32) old.sequence p 0 (omega arith) (λ r not. l.sequence_fits r) q))
-      (λ q dead. sets q ∙ at_all (λ q xs. old.live_port q ≡ false → xs ≡ []) old.sets_of p [] (λ d. refl) (λ r not d. l.no_sets r d) q dead)
-      (subst (SameSets (old.naming task)) (sym (ap (λ (x : State). x.naming task) rest)) (kept_names_sets b task name old (Target.port p) is (port_no_set p)))
-      (λ q set in_it. at_all (λ q xs. Contains xs set → (t : ℕ) × (old.set_owner set ≡ Some t) × Holds new t receive q) old.sets_of p [] (λ none. absurd (omega (arith, none.1)))
-      (λ r not one. let h = l.members r set one in let e = left_there task o k old new receive p l tokens h.0 r not in let some = h.2 in (h.0, h.1, omega (arith, some, e))) q
-      (subst (λ (xs : List ℕ). Contains xs set) (sets q) in_it))
-      (λ q. subst (λ (xs : List ℕ). length xs ≤ 1) (sym (sets q)) (at_all (λ q xs. length xs ≤ 1) old.sets_of p [] (omega arith) (λ r not. l.one_set r) q)))
-    where
-      kept_shape : (b : Bool) → record (name_kept b task name old) { sets_of = at old.sets_of p []; make_send = at old.make_send p 0; sequence = at old.sequence p 0; ledger = new.ledger }
-          ≡ shape old (record (name_kept b task name old) { sets_of = at old.sets_of p []; make_send = at old.make_send p 0; sequence = at old.sequence p 0; ledger = new.ledger })
-      kept_shape true = refl
-      kept_shape false = refl
-
-      sets : (q : ℕ) → new.sets_of q ≡ at old.sets_of p [] q
-      sets q = ap (λ (x : State). x.sets_of q) rest
+  receive_moved : new ≡ record (name_kept (nat_lt 0 (held old task send p)) task name old) { sets_of = at old.sets_of p []; make_send = at old.make_send p 0; sequence = at old.sequence p 0; ledger = new.ledger } →
+      Copies old new o k receive (to_port p)
+  receive_moved rest = left_copies task o k old new receive p l tokens (subst (λ (x : State). Leaves old x task) (sym rest)
+      (port_leaves task o k name p old new.ledger l is (left_other task o k old new receive p l tokens) (let m = tokens (λ x. if is_held task send_once p x then 1 else 0) in omega (arith, m))
+      (let a = same_sends in let b = (l.naming task).few_references p in omega (arith, a, b)) (left_ports task o k old new receive p l tokens)
+      (nat_lt 0 (held old task send p)) (is_kept (let a = none_more in let b = same_sends in omega (arith, a, b))) (at old.make_send p 0) (at old.sequence p 0) (at old.sets_of p []) (record {
+        limit_fits = l.limit_fits;
+        make_send_fits = at_all (λ q n. n < 2 ^ 32) old.make_send p 0 (omega arith) (λ r not. l.make_send_fits r);
+        sequence_fits = at_all (λ q n. n < 2 ^ 32) old.sequence p 0 (omega arith) (λ r not. l.sequence_fits r);
+      }) (record {
+        one_receive = λ q is_live. left_of task o k old new receive p l tokens receive q ∙ l.one_receive q is_live;
+        members = λ q set. at_all (λ q xs. Contains xs set → (t : ℕ) × (old.set_owner set ≡ Some t) × Holds new t receive q) old.sets_of p [] (λ none. absurd (omega (arith, none.1)))
+            (λ r not one. let h = l.members r set one in let e = left_there task o k old new receive p l tokens h.0 r not in let some = h.2 in (h.0, h.1, omega (arith, some, e))) q;
+      }) (record {
+        no_sets = at_all (λ q xs. old.live_port q ≡ false → xs ≡ []) old.sets_of p [] (λ d. refl) (λ r not d. l.no_sets r d);
+        one_set = at_all (λ q xs. length xs ≤ 1) old.sets_of p [] (omega arith) (λ r not. l.one_set r);
+      })))
 
 -- ---- a send-once right is moved
 
@@ -350,32 +254,17 @@ module _ (task o k name p : ℕ) (old new : State) (l : IsMoving old o k) (is : 
   sends_stay q = let m = tokens (λ x. if is_held task send q x then 1 else 0) in omega (arith, m)
 
   once_less : (q : ℕ) → held new task send_once q + (if p == q then suc zero else zero) ≡ held old task send_once q
-  once_less q = let m = left_held task o k old new send_once p l tokens send_once q in let e = only_port (p == q) in omega (arith, m, e)
-    where
-      only_port : (b : Bool) → (if b && task == task then suc zero else zero) ≡ (if b then suc zero else zero)
-      only_port true = rw (eq-eqb task task refl) refl
-      only_port false = refl
+  once_less q = let m = left_held task o k old new send_once p l tokens send_once q in let e = own_task task (p == q) in omega (arith, m, e)
 
   no_port : (q : ℕ) → Target.once p ≡ Target.port q → ⊥
   no_port q e = cc
 
   once_moved : new ≡ record (without_name task name old) { ledger = new.ledger } → Copies old new o k send_once (to_port p)
-  once_moved rest = left_copies task o k old new send_once p l tokens (left_leaves task o k old new send_once p l tokens
-      (shaped old (record (without_name task name old) { ledger = new.ledger }) new rest refl)
-      (has_task old o k l task name (Target.once p) is)
-      (λ t not. ap (λ (x : State). x.naming t) rest ∙ at_other old.naming task (map.remove (old.naming task) name) t not)
-      (own_naming task old new (map.remove (old.naming task) name) (ap (λ (x : State). x.naming task) rest ∙ at_same old.naming task (map.remove (old.naming task) name) task refl)
-      (other_unnamed (old.naming task) (held old task receive) (held old task send) (held old task send_once) (held new task receive) (held new task send) (held new task send_once) (l.naming task)
-      name (Target.once p) is no_port (λ q. (receives_stay task q, sends_stay q)) once_less))
-      (λ r. ap (λ (x : State). x.stands r) rest ∙ without_stands task name old l.none_stands r)
-      (λ q. subst (λ (n : ℕ). n < 2 ^ 32) (sym (ap (λ (x : State). x.make_send q) rest)) (l.make_send_fits q))
-      (λ q. subst (λ (n : ℕ). n < 2 ^ 32) (sym (ap (λ (x : State). x.sequence q) rest)) (l.sequence_fits q))
-      (λ q dead. ap (λ (x : State). x.sets_of q) rest ∙ l.no_sets q dead)
-      (subst (SameSets (old.naming task)) (sym (ap (λ (x : State). x.naming task) rest)) (unnamed_sets task name old (Target.once p) is (once_no_set p)))
-      (λ q set in_it.
-      let h = l.members q set (subst (λ (xs : List ℕ). Contains xs set) (ap (λ (x : State). x.sets_of q) rest) in_it) in
-      let e = receives_stay h.0 q in let some = h.2 in (h.0, h.1, omega (arith, some, e)))
-      (λ q. let e = ap (λ (x : State). length (x.sets_of q)) rest in let h = l.one_set q in omega (arith, e, h)))
+  once_moved rest = left_copies task o k old new send_once p l tokens (subst (λ (x : State). Leaves old x task) (sym rest)
+      (other_leaves task o k old l (has_task l.tasks task name (Target.once p) is) old.make_send old.sequence old.sets_of new.ledger (left_ports task o k old new send_once p l tokens) l.numbers
+      (left_receivers task o k old new send_once p l tokens receives_stay) l.membership (map.remove (old.naming task) name) (request_at old.stands (dead_name task name) false)
+      (other_unnamed (old.naming task) (held old task) (held new task) (l.naming task) (receives_stay task) sends_stay name (Target.once p) is no_port once_less)
+      (removed_sets (old.naming task) name (Target.once p) is (λ set e. cc)) (without_stands task name old l.none_stands)))
 
 -- ---- a dead name is sent on
 
@@ -383,29 +272,17 @@ module _ (task o k : ℕ) (old new : State) (l : IsMoving old o k) (tokens : Mov
   pub same_held : (t : ℕ) (c : Kind) (q : ℕ) → held new t c q ≡ held old t c q
   same_held t c q = let m = tokens (λ x. if is_held t c q x then 1 else 0) in omega (arith, m)
 
-  pub dead_leaves : (c : State) → new ≡ record c { ledger = new.ledger } → old.live_task task ≡ true → record c { ledger = new.ledger } ≡ shape old (record c { ledger = new.ledger }) →
-      ((t : ℕ) → (t ≡ task → ⊥) → c.naming t ≡ old.naming t) → IsNaming (c.naming task) (held new task receive) (held new task send) (held new task send_once) → NoRequests c →
-      c.make_send ≡ old.make_send → c.sequence ≡ old.sequence → c.sets_of ≡ old.sets_of → SetLaw c.naming old.set_owner old.sets_made → Leaves old new task
-  dead_leaves c rest is_task same_shape others own stands make_send sequence sets_of law = record {
-    rest = shaped old (record c { ledger = new.ledger }) new rest same_shape;
-    is_task = is_task;
-    others = λ t not. ap (λ (x : State). x.naming t) rest ∙ others t not;
-    own = own_naming task old new (c.naming task) (ap (λ (x : State). x.naming task) rest) own;
-    receives = λ q. let m = tokens (λ x. if is_of receive q x then 1 else 0) in omega (arith, m);
-    dead = λ q dead kind. let m = tokens (λ x. if is_of kind q x then 1 else 0) in let n = l.no_rights q dead kind in omega (arith, m, n);
-    stands = λ r. ap (λ (x : State). x.stands r) rest ∙ stands r;
-    make_send = λ q. subst (λ (n : ℕ). n < 2 ^ 32) (sym (ap (λ (x : State). x.make_send q) rest ∙ ap (λ (f : ℕ → ℕ). f q) make_send)) (l.make_send_fits q);
-    sequence = λ q. subst (λ (n : ℕ). n < 2 ^ 32) (sym (ap (λ (x : State). x.sequence q) rest ∙ ap (λ (f : ℕ → ℕ). f q) sequence)) (l.sequence_fits q);
-    no_sets = λ q dead. sets q ∙ l.no_sets q dead;
-    sets = subst (λ (naming : ℕ → Names). SetLaw naming old.set_owner old.sets_made) (sym (ap (λ (x : State). x.naming) rest)) law;
-    members = λ q set in_it.
-        let h = l.members q set (subst (λ (xs : List ℕ). Contains xs set) (sets q) in_it) in
-        let e = same_held h.0 receive q in let some = h.2 in (h.0, h.1, omega (arith, some, e));
-    one_set = λ q. let e = ap length (sets q) in let h = l.one_set q in omega (arith, e, h);
-  }
-    where
-      sets : (q : ℕ) → new.sets_of q ≡ old.sets_of q
-      sets q = ap (λ (x : State). x.sets_of q) rest ∙ ap (λ (f : ℕ → List ℕ). f q) sets_of
+  dead_ports : LawfulPorts old.live_port old.ports_made new.ledger
+  dead_ports = record { made_port = l.made_port; no_rights = λ q dead kind. let m = tokens (λ x. if is_of kind q x then 1 else 0) in let n = l.no_rights q dead kind in omega (arith, m, n) }
+
+  dead_receivers : LawfulReceivers old.live_port old.set_owner old.sets_of new.ledger
+  dead_receivers = same_receivers old.live_port old.set_owner old.sets_of old.ledger new.ledger l.receivers (λ q. let m = tokens (λ x. if is_of receive q x then 1 else 0) in omega (arith, m))
+      (λ t q. let e = same_held t receive q in omega (arith, e))
+
+  -- the task's names are others, with the same rights
+  dead_leaves : old.live_task task ≡ true → (names : Names) (stands : Request → Bool) → LawfulNames names (held new task) → SameSets (old.naming task) names → NoRequests stands →
+      Leaves old (record old { naming = at old.naming task names; stands = stands; ledger = new.ledger }) task
+  dead_leaves is_task = other_leaves task o k old l is_task old.make_send old.sequence old.sets_of new.ledger dead_ports l.numbers dead_receivers l.membership
 
   dead_copies : (kind : Kind) (mark : Mark) → mark ≡ dead → Leaves old new task → Copies old new o k kind mark
   dead_copies kind mark is v = record {
@@ -419,32 +296,23 @@ module _ (task o k : ℕ) (old new : State) (l : IsMoving old o k) (tokens : Mov
   no_rights_under : (n q : ℕ) → Target.dead n ≡ Target.port q → ⊥
   no_rights_under n q e = cc
 
-  pub fewer_references : (name n : ℕ) → lookup old task name ≡ Some (Target.dead n) → (b : Bool) → nat_lt 1 n ≡ b →
+  fewer_references : (name n : ℕ) → lookup old task name ≡ Some (Target.dead n) → (b : Bool) → nat_lt 1 n ≡ b →
       new ≡ record (if b then with_name task name (Target.dead (n - 1)) old else without_name task name old) { ledger = new.ledger } → Leaves old new task
-  fewer_references name n is true e rest =
-      let more = ltb-true 1 n e in
-      dead_leaves (with_name task name (Target.dead (n - 1)) old) rest (has_task old o k l task name (Target.dead n) is) refl
-      (λ t not. at_other old.naming task (map.insert (old.naming task) name (Target.dead (n - 1))) t not)
-      (subst (λ (m : Names). IsNaming m (held new task receive) (held new task send) (held new task send_once))
-      (sym (at_same old.naming task (map.insert (old.naming task) name (Target.dead (n - 1))) task refl))
-      (dead_fewer (old.naming task) (held old task receive) (held old task send) (held old task send_once) (held new task receive) (held new task send) (held new task send_once) (l.naming task)
-      name n (n - 1) is (omega (arith, more)) (omega arith) (λ q. (same_held task receive q, same_held task send q)) (same_held task send_once)))
-      l.none_stands refl refl refl
-      (insert_law old.naming task old.set_owner old.sets_made name (Target.dead (n - 1)) l.sets (dead_sets (old.naming task) name n (n - 1) is))
-  fewer_references name n is false e rest =
-      dead_leaves (without_name task name old) rest (has_task old o k l task name (Target.dead n) is) refl
-      (λ t not. at_other old.naming task (map.remove (old.naming task) name) t not)
-      (subst (λ (m : Names). IsNaming m (held new task receive) (held new task send) (held new task send_once))
-      (sym (at_same old.naming task (map.remove (old.naming task) name) task refl))
-      (other_unnamed (old.naming task) (held old task receive) (held old task send) (held old task send_once) (held new task receive) (held new task send) (held new task send_once) (l.naming task)
-      name (Target.dead n) is (no_rights_under n) (λ q. (same_held task receive q, same_held task send q)) (λ q. let h = same_held task send_once q in omega (arith, h))))
-      (without_stands task name old l.none_stands) refl refl refl
-      (remove_law old.naming task old.set_owner old.sets_made name l.sets (removed_sets (old.naming task) name (Target.dead n) is (dead_no_set n)))
+  fewer_references name n is true e rest = subst (λ (x : State). Leaves old x task) (sym rest)
+      (dead_leaves (has_task l.tasks task name (Target.dead n) is) (map.insert (old.naming task) name (Target.dead (n - 1))) old.stands
+      (dead_counted (old.naming task) (held old task) (held new task) (l.naming task) (same_held task receive) (same_held task send) (same_held task send_once) name n (n - 1) is
+      (let more = ltb-true 1 n e in let h : HasReferences (Target.dead n) = (l.naming task).references name (Target.dead n) is in (omega (arith, more), (let f = h.1 in omega (arith, f)))))
+      (dead_sets (old.naming task) name n (n - 1) is) l.none_stands)
+  fewer_references name n is false e rest = subst (λ (x : State). Leaves old x task) (sym rest)
+      (dead_leaves (has_task l.tasks task name (Target.dead n) is) (map.remove (old.naming task) name) (request_at old.stands (dead_name task name) false)
+      (other_unnamed (old.naming task) (held old task) (held new task) (l.naming task) (same_held task receive) (same_held task send) name (Target.dead n) is (no_rights_under n)
+      (λ q. let h = same_held task send_once q in omega (arith, h)))
+      (removed_sets (old.naming task) name (Target.dead n) is (λ set e. cc)) (without_stands task name old l.none_stands))
 
   same_references : (name : ℕ) (x : Target) → lookup old task name ≡ Some x → new ≡ record old { ledger = new.ledger } → Leaves old new task
-  same_references name x is rest = dead_leaves old rest (has_task old o k l task name x is) refl (λ t not. refl)
-      (same_naming (old.naming task) (held old task receive) (held old task send) (held old task send_once) (held new task receive) (held new task send) (held new task send_once) (l.naming task)
-      (same_held task receive) (same_held task send) (same_held task send_once)) l.none_stands refl refl refl l.sets
+  same_references name x is rest = subst (λ (x : State). Leaves old x task) (sym rest)
+      (same_leaves task o k old l (has_task l.tasks task name x is) old.make_send old.sequence old.sets_of new.ledger dead_ports l.numbers dead_receivers l.membership
+      (same_naming (old.naming task) (held old task) (held new task) (l.naming task) (same_held task)))
 
 -- ---- each disposition
 
@@ -458,30 +326,19 @@ copies : (task o k name : ℕ) (old new : State) (given : Disposition) (target :
     IsLegal old task given target → target_mark given target ≡ Some mark → new ≡ record (changed_by given target task name old) { ledger = new.ledger } →
     Moves old.ledger new.ledger (taken_by given target task) (put_by given target (in_message o k)) → Copies old new o k (kind_sent given) mark
 copies task o k name old new MoveReceive (Target.port p) mark l is legal m rest tokens =
-    at_mark old new o k receive (to_port p) mark m (receive_moved task o k name p old new l is legal tokens (nat_lt 0 (held old task send p)) refl rest)
-copies task o k name old new MoveSend (Target.port p) mark l is legal m rest tokens =
-    at_mark old new o k send (to_port p) mark m (send_moved task o k name p old new l is legal tokens (nat_lt 1 (held old task send p) || nat_lt 0 (held old task receive p)) refl rest)
-copies task o k name old new CopySend (Target.port p) mark l is legal m rest tokens =
-    at_mark old new o k send (to_port p) mark m (made_copies task o k old new send p l (λ q. refl) (has_task old o k l task name (Target.port p) is)
-    (alive_held old o k l task send p legal) tokens
-    (made_leaves task o k old new send p l (λ q. refl) (has_task old o k l task name (Target.port p) is) (alive_held old o k l task send p legal) tokens
-    (shaped old (record old { ledger = new.ledger }) new rest refl) (λ t. ap (λ (x : State). x.naming t) rest) (λ r. ap (λ (x : State). x.stands r) rest)
-    (λ q. subst (λ (n : ℕ). n < 2 ^ 32) (sym (ap (λ (x : State). x.make_send q) rest)) (l.make_send_fits q)) (λ q. ap (λ (x : State). x.sequence q) rest) (λ q. ap (λ (x : State). x.sets_of q) rest)))
-copies task o k name old new MakeSend (Target.port p) mark l is legal m rest tokens =
-    at_mark old new o k send (to_port p) mark m (made_copies task o k old new send p l (λ q. refl) (has_task old o k l task name (Target.port p) is)
-    (alive_held old o k l task receive p legal) tokens
-    (made_leaves task o k old new send p l (λ q. refl) (has_task old o k l task name (Target.port p) is) (alive_held old o k l task receive p legal) tokens
-    (shaped old (record old { make_send = at old.make_send p ((old.make_send p + 1) % 2 ^ 32); ledger = new.ledger }) new rest refl)
-    (λ t. ap (λ (x : State). x.naming t) rest) (λ r. ap (λ (x : State). x.stands r) rest)
-    (λ q. subst (λ (n : ℕ). n < 2 ^ 32) (sym (ap (λ (x : State). x.make_send q) rest))
-    (at_all (λ q n. n < 2 ^ 32) old.make_send p ((old.make_send p + 1) % 2 ^ 32) (omega arith) (λ r not. l.make_send_fits r) q))
-    (λ q. ap (λ (x : State). x.sequence q) rest) (λ q. ap (λ (x : State). x.sets_of q) rest)))
-copies task o k name old new MakeSendOnce (Target.port p) mark l is legal m rest tokens =
-    at_mark old new o k send_once (to_port p) mark m (made_copies task o k old new send_once p l (λ q. refl) (has_task old o k l task name (Target.port p) is)
-    (alive_held old o k l task receive p legal) tokens
-    (made_leaves task o k old new send_once p l (λ q. refl) (has_task old o k l task name (Target.port p) is) (alive_held old o k l task receive p legal) tokens
-    (shaped old (record old { ledger = new.ledger }) new rest refl) (λ t. ap (λ (x : State). x.naming t) rest) (λ r. ap (λ (x : State). x.stands r) rest)
-    (λ q. subst (λ (n : ℕ). n < 2 ^ 32) (sym (ap (λ (x : State). x.make_send q) rest)) (l.make_send_fits q)) (λ q. ap (λ (x : State). x.sequence q) rest) (λ q. ap (λ (x : State). x.sets_of q) rest)))
+    at_mark old new o k receive (to_port p) mark m (receive_moved task o k name p old new l is legal tokens rest)
+copies task o k name old new MoveSend (Target.port p) mark l is legal m rest tokens = at_mark old new o k send (to_port p) mark m (send_moved task o k name p old new l is tokens rest)
+copies task o k name old new CopySend (Target.port p) mark l is legal m rest tokens = at_mark old new o k send (to_port p) mark m
+    (made_copies task o k old new send p l (λ q. refl) (has_task l.tasks task name (Target.port p) is) (alive_held old o k l task send p legal) tokens old.make_send l.numbers rest)
+copies task o k name old new MakeSend (Target.port p) mark l is legal m rest tokens = at_mark old new o k send (to_port p) mark m
+    (made_copies task o k old new send p l (λ q. refl) (has_task l.tasks task name (Target.port p) is) (alive_held old o k l task receive p legal) tokens
+    (at old.make_send p ((old.make_send p + 1) % 2 ^ 32)) (record {
+      limit_fits = l.limit_fits;
+      make_send_fits = at_all (λ q n. n < 2 ^ 32) old.make_send p ((old.make_send p + 1) % 2 ^ 32) (omega arith) (λ r not. l.make_send_fits r);
+      sequence_fits = l.sequence_fits;
+    }) rest)
+copies task o k name old new MakeSendOnce (Target.port p) mark l is legal m rest tokens = at_mark old new o k send_once (to_port p) mark m
+    (made_copies task o k old new send_once p l (λ q. refl) (has_task l.tasks task name (Target.port p) is) (alive_held old o k l task receive p legal) tokens old.make_send l.numbers rest)
 copies task o k name old new MoveSendOnce (Target.once p) mark l is legal m rest tokens =
     at_mark old new o k send_once (to_port p) mark m (once_moved task o k name p old new l is tokens rest)
 copies task o k name old new MoveSend (Target.dead n) mark l is legal m rest tokens =

@@ -1,6 +1,6 @@
 -- Copying out a whole message: the reply, and each mark of the body. What they carry is then no longer on its way.
 use Rattle.std.proofs.Common.{◌≡◌, ℕ, zero, suc, ◌+◌, ◌≤◌, List, [], ◌∷◌, refl, sym, ap, subst, ◌∙◌, arith, true, false, Bool, inl, inr, length}
-use Rattle.std.specs.Prelude.{if◌then◌else◌, ◌==◌, nat_lt, MatchBool}
+use Rattle.std.specs.Prelude.{if◌then◌else◌, ◌==◌, nat_lt}
 use Rattle.std.proofs.lemmas.Bool.{ne_eqb, ltb-true, ltb-false}
 use Rattle.mach_types.specs.Numbers.{most_references}
 use Rattle.mach_types.specs.Tokens.{Kind, receive, send, send_once, in_task, in_message, Token, token, is_held, same_kind, Moves}
@@ -13,6 +13,7 @@ use Rattle.mach_model.proofs.Weigh.{both_test}
 use Rattle.mach_model.proofs.Names.{fresh_fits}
 use Rattle.mach_model.proofs.Spaces.{IsNew}
 use Rattle.mach_model.proofs.Moving.{IsMoving, shape-same, shape-trans}
+use Rattle.mach_model.proofs.CopyingWords.{either, first_item}
 use Rattle.mach_model.proofs.CopyingOut.{Removes, come_held, come_same, come_port, come_once, gone_removes}
 
 removes_none : (s new : State) (o k : ℕ) (less : Kind → ℕ → ℕ) → IsMoving s o k → new ≡ s → ((c : Kind) (q : ℕ) → s.live_port q ≡ true → less c q ≡ 0) → Removes s new o k less
@@ -87,10 +88,6 @@ GiveRight-removes task o k send_once p old name new named l is_task n rest token
     come_once task o k old new send_once p l is_task tokens name refl (named_new task name (Target.once p) old named n)
     (onward (with_name task name (Target.once p) old) named new new.ledger rest n.rest)
 
-either : (b : Bool) (P Q R : Type 0) → (P → R) → (b ≡ false → Q → R) → MatchBool b P Q → R
-either true P Q R f g h = f h
-either false P Q R f g h = g refl h
-
 GiveMark-removes : (task o k : ℕ) (kind : Kind) (mark : Mark) (old : State) (word : ℕ) (new : State) → IsMoving old o k → old.live_task task ≡ true →
     GiveMark task (in_message o k) kind mark old word new → Removes old new o k (λ c q. mark_count c q kind mark)
 GiveMark-removes task o k kind null old word new l is_task h = removes_none old new o k _ l h.1 (λ c q live. refl)
@@ -129,10 +126,6 @@ GiveItem-removes task o k (rights f kind marks) old (port_item g number words) n
     let a = GiveMarks-removes task o k kind marks old words new l is_task h.2 in
     record { keeps = a.keeps; rest = a.rest; few = a.few; lies = λ c q live. let m = a.lies c q live in omega (arith, m) }
 GiveItem-removes task o k (rights f kind marks) old (data_item g n s c bytes padding) new l is_task h = absurd h
-
-first_item : (c : Kind) (q : ℕ) (x : Item) (xs : List Item) → items_count c q (x ∷ xs) ≡ items_count c q (x ∷ []) + items_count c q xs
-first_item c q (plain f n s d bytes padding) xs = omega arith
-first_item c q (rights f kind marks) xs = omega arith
 
 GiveItems-removes : (task o k : ℕ) (xs : List Item) (old : State) (wires : List Wire) (new : State) → IsMoving old o k → old.live_task task ≡ true →
     GiveItems task (in_message o k) xs old wires new → Removes old new o k (λ c q. items_count c q xs)

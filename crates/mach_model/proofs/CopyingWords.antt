@@ -9,7 +9,7 @@ use Rattle.mach_types.specs.Messages.{Mark, to_port, ReplyRight, absent, present
 use Rattle.mach_types.specs.Grammar.{Wire, data_item, port_item, WireBody, Header}
 use Rattle.mach_model.specs.State.{State}
 use Rattle.mach_model.specs.CopyIn.{CopyRight, CopyWord, CopyReply, CopyWords, CopyItem, CopyItems, CopyBody}
-use Rattle.mach_model.specs.Sending.{Copied}
+use Rattle.mach_model.specs.Send.{Copied}
 use Rattle.mach_model.specs.Carried.{mark_count, marks_count, reply_count, items_count, body_count, message_count, lying}
 use Rattle.mach_model.proofs.Moving.{IsMoving, shape, shape-same, shape-trans}
 use Rattle.mach_model.proofs.CopyingIn.{CopyRight-copies}
@@ -37,9 +37,9 @@ adds_both a b c o k f g h x y sum = record {
 given_once : (number : ℕ) (a b : Disposition) → disposition number ≡ Some a → disposition number ≡ Some b → a ≡ b
 given_once number a b e f = cc
 
-either : (b : Bool) (P Q R : Type 0) → (P → R) → (Q → R) → MatchBool b P Q → R
+pub either : (b : Bool) (P Q R : Type 0) → (P → R) → (b ≡ false → Q → R) → MatchBool b P Q → R
 either true P Q R f g h = f h
-either false P Q R f g h = g h
+either false P Q R f g h = g refl h
 
 CopyRight-adds : (task o k number name : ℕ) (given : Disposition) (old : State) (mark : Mark) (new : State) → IsMoving old o k → disposition number ≡ Some given →
     CopyRight task (in_message o k) number name old mark new → Adds old new o k (λ c q. mark_count c q (kind_sent given) mark)
@@ -52,8 +52,8 @@ CopyWord-adds : (task o k number word : ℕ) (given : Disposition) (old : State)
     CopyWord task (in_message o k) number word old mark new → Adds old new o k (λ c q. mark_count c q (kind_sent given) mark)
 CopyWord-adds task o k number word given old mark new l is =
     either (word == null_word) _ _ _ (λ h. adds_none old new o k _ l h.1 (λ c q. ap (mark_count c q (kind_sent given)) h.0))
-    (either (word == dead_word) _ _ _ (λ h. adds_none old new o k _ l h.1 (λ c q. ap (mark_count c q (kind_sent given)) h.0))
-    (CopyRight-adds task o k number word given old mark new l is))
+    (λ other. either (word == dead_word) _ _ _ (λ h. adds_none old new o k _ l h.1 (λ c q. ap (mark_count c q (kind_sent given)) h.0))
+    (λ alive. CopyRight-adds task o k number word given old mark new l is))
 
 CopyReply-adds : (task o k number word : ℕ) (old : State) (reply : ReplyRight) (new : State) → IsMoving old o k →
     CopyReply task (in_message o k) number word old reply new → Adds old new o k (λ c q. reply_count c q reply)
@@ -81,7 +81,7 @@ CopyItem-adds task o k (port_item f number words) old (rights g kind marks) new 
     record { keeps = b.keeps; rest = b.rest; lies = λ c q. let m = b.lies c q in omega (arith, m) }
 CopyItem-adds task o k (port_item f number words) old (plain g n s c bytes padding) new l h = absurd h
 
-first_item : (c : Kind) (q : ℕ) (x : Item) (xs : List Item) → items_count c q (x ∷ xs) ≡ items_count c q (x ∷ []) + items_count c q xs
+pub first_item : (c : Kind) (q : ℕ) (x : Item) (xs : List Item) → items_count c q (x ∷ xs) ≡ items_count c q (x ∷ []) + items_count c q xs
 first_item c q (plain f n s d bytes padding) xs = omega arith
 first_item c q (rights f kind marks) xs = omega arith
 

@@ -1,21 +1,18 @@
 -- A new task leaves a lawful state.
-use Rattle.std.proofs.Common.{◌≡◌, ℕ, ◌+◌, refl, sym, ap, subst, ◌∙◌, arith, true, false, Bool, inl, inr}
+use Rattle.std.proofs.Common.{◌≡◌, ℕ, ◌+◌, sym, ap, subst, ◌∙◌, arith, true, false, inl, inr}
 use Rattle.std.specs.FinMap as map
 use Rattle.std.proofs.Math.Path.{fun_ext}
 use Rattle.std.proofs.lemmas.Bool.Decides.{eqb_tells}
+use Rattle.std.proofs.lemmas.Bool.{false_from_ne_true}
 use Rattle.mach_model.specs.State.{State, Names, at}
-use Rattle.mach_model.specs.Making.{CreatesTask}
+use Rattle.mach_model.specs.Tasks.{CreatesTask}
 use Rattle.mach_model.specs.Lawful.{IsLawful}
 use Rattle.mach_model.proofs.At.{at_same, at_other}
 use Rattle.mach_model.proofs.Names.{all_unused}
 
 module _ (s : State) (l : IsLawful s) where
   not_live : s.live_task s.tasks_made ≡ false
-  not_live = go (s.live_task s.tasks_made) refl
-    where
-      go : (b : Bool) → s.live_task s.tasks_made ≡ b → s.live_task s.tasks_made ≡ false
-      go false e = e
-      go true e = absurd (let h = l.made_task s.tasks_made e in omega arith)
+  not_live = false_from_ne_true (s.live_task s.tasks_made) (λ e. let h = l.made_task s.tasks_made e in omega arith)
 
   -- the new task had no name before
   pub same_naming : at s.naming s.tasks_made map.empty ≡ s.naming
@@ -30,50 +27,27 @@ module _ (s : State) (l : IsLawful s) where
 
   created_lawful : IsLawful created
   created_lawful = record {
-    made_task = λ t live. elim (eqb_tells t s.tasks_made) [
-      | inl h ↦ omega (arith, h.1)
-      | inr h ↦ let e = l.made_task t (sym (at_other s.live_task s.tasks_made true t h.1) ∙ live) in omega (arith, e)
-    ];
-    no_task = λ t n dead. elim (eqb_tells t s.tasks_made) [
-      | inl h ↦ l.no_task t n (ap s.live_task h.1 ∙ not_live)
-      | inr h ↦ l.no_task t n (sym (at_other s.live_task s.tasks_made true t h.1) ∙ dead)
-    ];
-    not_null = l.not_null;
-    not_dead = l.not_dead;
-    name_fits = l.name_fits;
-    few_names = l.few_names;
-    has_right = l.has_right;
-    is_named = l.is_named;
-    one_name = l.one_name;
-    once_names = l.once_names;
-    references = l.references;
-    few_references = l.few_references;
-    made_port = l.made_port;
-    one_receive = l.one_receive;
-    no_rights = l.no_rights;
+    tasks = record {
+      made_task = λ t live. elim (eqb_tells t s.tasks_made) [
+        | inl h ↦ omega (arith, h.1)
+        | inr h ↦ let e = l.made_task t (sym (at_other s.live_task s.tasks_made true t h.1) ∙ live) in omega (arith, e)
+      ];
+      no_task = λ t n dead. elim (eqb_tells t s.tasks_made) [
+        | inl h ↦ l.no_task t n (ap s.live_task h.1 ∙ not_live)
+        | inr h ↦ l.no_task t n (sym (at_other s.live_task s.tasks_made true t h.1) ∙ dead)
+      ];
+    };
+    naming = l.naming;
+    ports = l.ports;
+    numbers = l.numbers;
+    receivers = l.receivers;
     few_rights = l.few_rights;
-    limit_fits = l.limit_fits;
-    make_send_fits = l.make_send_fits;
-    sequence_fits = l.sequence_fits;
-    no_sets = l.no_sets;
-    made_set = l.made_set;
-    set_owned = l.set_owned;
-    set_named = l.set_named;
-    one_set_name = l.one_set_name;
-    members = l.members;
-    one_set = l.one_set;
-    unmade_log = l.unmade_log;
-    within = l.within;
-    sent_here = l.sent_here;
-    made_marks = l.made_marks;
-    carried = l.carried;
-    gone = l.gone;
-    no_entry = l.no_entry;
-    ended = l.ended;
-    one_kept = l.one_kept;
-    once_kept = l.once_kept;
-    none_stands = l.none_stands;
-    none_carried = l.none_carried;
+    sets = l.sets;
+    membership = l.membership;
+    logs = l.logs;
+    messages = l.messages;
+    requests = l.requests;
+    standing = l.standing;
   }
 
   pub CreatesTask-lawful : (t : ℕ) (mid : State) → CreatesTask s t mid → IsLawful mid

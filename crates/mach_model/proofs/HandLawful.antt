@@ -4,7 +4,7 @@ use Rattle.std.proofs.Common.{◌≡◌, ℕ, zero, suc, ◌+◌, ◌<◌, ◌�
 use Rattle.std.specs.Prelude.{if◌then◌else◌, ◌==◌, ◌&&◌, ◌≢◌, nat_lt}
 use Rattle.std.specs.FinMap as map
 use Rattle.std.proofs.lemmas.Bool.Decides.{eqb_tells}
-use Rattle.std.proofs.lemmas.Bool.{eq-eqb, lt-ltb, ltb-true, ltb-false}
+use Rattle.std.proofs.lemmas.Bool.{lt-ltb, ltb-true, ltb-false, cases_Bool}
 use Rattle.mach_types.specs.declared.rights.Disposition.{Disposition}
 use Rattle.mach_types.specs.declared.rights.Disposition.TheVariants.{MoveReceive, MoveSend, MoveSendOnce, CopySend, MakeSend, MakeSendOnce}
 use Rattle.mach_types.specs.Numbers.{kind_sent, dead_word, most_names, most_references, most_rights}
@@ -15,15 +15,15 @@ use Rattle.mach_model.specs.State.{State, Target, lookup, held, with_name}
 use Rattle.mach_model.specs.SentMeans.{target_mark}
 use Rattle.mach_model.specs.CopyIn.{IsLegal, taken_by, put_by, CopyRight}
 use Rattle.mach_model.specs.CopyOut.{given_to, NamedFor, NamedOnce}
-use Rattle.mach_model.specs.Handing.{target_for, inserted_guards, Inserts, pegged, Extracts}
+use Rattle.mach_model.specs.Transfer.{target_for, inserted_guards, Inserts, pegged, Extracts}
 use Rattle.mach_model.specs.Refusals.{IsNoName}
 use Rattle.mach_model.specs.Carried.{mark_count, lying}
 use Rattle.mach_model.specs.Lawful.{IsLawful}
-use Rattle.mach_model.proofs.Weigh.{length-weigh, both_test, left_of, right_of, lying_le_of}
+use Rattle.mach_model.proofs.Weigh.{length-weigh, left_of, right_of, lying_le_of}
 use Rattle.mach_model.proofs.Settling.{kind_refl}
 use Rattle.mach_model.proofs.Spaces.{IsNew}
 use Rattle.mach_model.proofs.Moving.{IsMoving, moving, arrived, shape, shape-trans}
-use Rattle.mach_model.proofs.CopyingIn.{Copies, CopyRight-copies, once_held, own_right}
+use Rattle.mach_model.proofs.CopyingIn.{Copies, CopyRight-copies, once_held, own_right, not_held}
 use Rattle.mach_model.proofs.CopyingOut.{Removes, come_same, come_port, come_once}
 use Rattle.mach_model.proofs.CopyingMarks.{GiveRight-removes}
 
@@ -74,28 +74,18 @@ one_taken task kind p (x ∷ xs) some = go (is_held task kind p x) refl (one_tak
 
 -- ---- the right as it lies at an entry
 
+same_mark : (a b : ℕ) → Some (to_port a) ≡ Some (to_port b) → a ≡ b
+same_mark a b e = cc
+
 -- what the right of a port is, where it stands
-put_is : (given : Disposition) (target : Target) (p : ℕ) → target_mark given target ≡ Some (to_port p) → (place : Place) → put_by given target place ≡ token (kind_sent given) p place ∷ []
-put_is given (Target.port q) p e place = ap (λ (x : ℕ). token (kind_sent given) x place ∷ []) (same_port q p e)
-  where
-    same_port : (a b : ℕ) → Some (to_port a) ≡ Some (to_port b) → a ≡ b
-    same_port a b e = cc
-put_is given (Target.once q) p e place = ap (λ (x : ℕ). token (kind_sent given) x place ∷ []) (same_port q p e)
-  where
-    same_port : (a b : ℕ) → Some (to_port a) ≡ Some (to_port b) → a ≡ b
-    same_port a b e = cc
-put_is MoveReceive (Target.dead n) p e place = absurd (cc)
-put_is MoveSend (Target.dead n) p e place = absurd (cc)
-put_is MoveSendOnce (Target.dead n) p e place = absurd (cc)
-put_is CopySend (Target.dead n) p e place = absurd (cc)
-put_is MakeSend (Target.dead n) p e place = absurd (cc)
-put_is MakeSendOnce (Target.dead n) p e place = absurd (cc)
-put_is MoveReceive (Target.set s) p e place = absurd (cc)
-put_is MoveSend (Target.set s) p e place = absurd (cc)
-put_is MoveSendOnce (Target.set s) p e place = absurd (cc)
-put_is CopySend (Target.set s) p e place = absurd (cc)
-put_is MakeSend (Target.set s) p e place = absurd (cc)
-put_is MakeSendOnce (Target.set s) p e place = absurd (cc)
+put_is : (s : State) (from : ℕ) (given : Disposition) (target : Target) (p : ℕ) → IsLegal s from given target → target_mark given target ≡ Some (to_port p) → (place : Place) →
+    put_by given target place ≡ token (kind_sent given) p place ∷ []
+put_is s from MoveSend (Target.dead n) p legal e place = absurd (cc)
+put_is s from MoveSendOnce (Target.dead n) p legal e place = absurd (cc)
+put_is s from CopySend (Target.dead n) p legal e place = absurd (cc)
+put_is s from given (Target.port q) p legal e place = ap (λ (x : ℕ). token (kind_sent given) x place ∷ []) (same_mark q p e)
+put_is s from given (Target.once q) p legal e place = ap (λ (x : ℕ). token (kind_sent given) x place ∷ []) (same_mark q p e)
+put_is s from given target p legal e place = absurd legal
 
 -- what is taken was there
 module _ (s : State) (o k : ℕ) (l : IsMoving s o k) (from to name : ℕ) where
@@ -140,7 +130,7 @@ module _ (from to number name p o k : ℕ) (s copied : State) (l : IsMoving s o 
   some =
       let a = r.tokens (λ x. if is_held to sent_kind p x then 1 else 0) in
       let b = taken_less s o k l from to name sent_kind p r.given r.target r.found r.legal in
-      let c = ap (weigh (λ x. if is_held to sent_kind p x then 1 else 0)) (put_is r.given r.target p r.mark_is (in_task to)) in
+      let c = ap (weigh (λ x. if is_held to sent_kind p x then 1 else 0)) (put_is s from r.given r.target p r.legal r.mark_is (in_task to)) in
       let d = own_right to sent_kind p (kind_refl sent_kind) in omega (arith, a, b, c, d)
 
   taken : (ys : List Token) × Moves copied.ledger ys (token sent_kind p (in_task to) ∷ []) []
@@ -163,8 +153,8 @@ module _ (from to number name p o k : ℕ) (s copied : State) (l : IsMoving s o 
       tokens = λ h.
           let a = r.tokens h in
           let b = taken.1 h in
-          let c = ap (weigh h) (put_is r.given r.target p r.mark_is (in_task to)) in
-          let d = ap (weigh h) (put_is r.given r.target p r.mark_is (in_message o k)) in omega (arith, a, b, c, d);
+          let c = ap (weigh h) (put_is s from r.given r.target p r.legal r.mark_is (in_task to)) in
+          let d = ap (weigh h) (put_is s from r.given r.target p r.legal r.mark_is (in_message o k)) in omega (arith, a, b, c, d);
     });
     moves = λ h. let b = taken.1 h in omega (arith, b);
   }
@@ -183,14 +173,13 @@ arrives o k old v mid kind p l above c r few = arrived mid o k r.keeps (inr outs
     outside = let e = ap (λ f. length (f o)) log in omega (arith, e, above)
 
     none : (d : Kind) (q : ℕ) → lying mid d q (in_message o k) ≡ 0
-    none d q = go (mid.live_port q) refl
-      where
-        go : (b : Bool) → mid.live_port q ≡ b → lying mid d q (in_message o k) ≡ 0
-        go false gone = let a = lying_le_of mid d q (in_message o k) in let b = r.keeps.no_rights q gone d in omega (arith, a, b)
-        go true live =
-            let a = r.lies d q (sym (ap (λ (x : State). x.live_port q) r.rest) ∙ live) in
-            let b = c.lies d q in
-            let e = l.no_entry o k above d q in omega (arith, a, b, e)
+    none d q = elim (cases_Bool (mid.live_port q)) [
+      | inl live ↦
+          let a = r.lies d q (sym (ap (λ (x : State). x.live_port q) r.rest) ∙ live) in
+          let b = c.lies d q in
+          let e = l.no_entry o k above d q in omega (arith, a, b, e)
+      | inr gone ↦ let a = lying_le_of mid d q (in_message o k) in let b = r.keeps.no_rights q gone d in omega (arith, a, b)
+    ]
 
 -- ---- into a task, under a name that the caller gives
 
@@ -237,17 +226,16 @@ module _ (task name p o k : ℕ) (copied : State) (ledger : List Token) (kind : 
   named_there some = come_same task o k v copied kind p l is_task tokens name (λ e. good.1.0 (some, inl e))
       (must_be (lookup copied task name) p (λ not. good.1.0 (some, inr not))) few_here refl
 
+  named_port : kind ≢ send_once → lookup copied task name ≡ None → Done (with_name task name (Target.port p) copied)
+  named_port not none = come_port task o k v (with_name task name (Target.port p) copied) kind p l is_task tokens name not (is_new none)
+      (λ n e. elim (eqb_tells n name) [
+        | inl h ↦ (let f : lookup copied task name ≡ Some (Target.port p) = subst (λ (x : ℕ). lookup copied task x ≡ Some (Target.port p)) h.1 e in cc)
+        | inr h ↦ good.0 (not, (n, h.1, e))
+      ]) few_here refl
+
   named_newly : (c : Kind) → c ≡ kind → lookup copied task name ≡ None → Done (with_name task name (target_for c p) copied)
-  named_newly receive is none = come_port task o k v (with_name task name (Target.port p) copied) kind p l is_task tokens name (λ e. (let f = is in cc)) (is_new none)
-      (λ n e. elim (eqb_tells n name) [
-        | inl h ↦ (let f : lookup copied task name ≡ Some (Target.port p) = subst (λ (x : ℕ). lookup copied task x ≡ Some (Target.port p)) h.1 e in cc)
-        | inr h ↦ good.0 ((λ f. (let g = is in cc)), (n, h.1, e))
-      ]) few_here refl
-  named_newly send is none = come_port task o k v (with_name task name (Target.port p) copied) kind p l is_task tokens name (λ e. (let f = is in cc)) (is_new none)
-      (λ n e. elim (eqb_tells n name) [
-        | inl h ↦ (let f : lookup copied task name ≡ Some (Target.port p) = subst (λ (x : ℕ). lookup copied task x ≡ Some (Target.port p)) h.1 e in cc)
-        | inr h ↦ good.0 ((λ f. (let g = is in cc)), (n, h.1, e))
-      ]) few_here refl
+  named_newly receive is none = named_port (λ e. (let f = is in cc)) none
+  named_newly send is none = named_port (λ e. (let f = is in cc)) none
   named_newly send_once is none = come_once task o k v (with_name task name (Target.once p) copied) kind p l is_task tokens name (sym is) (is_new none) refl
 
   inserted : (mid : State) → (lookup copied task name ≢ None) × (mid ≡ copied) ⊎ (lookup copied task name ≡ None) × (mid ≡ with_name task name (target_for kind p) copied) → Done mid
@@ -305,19 +293,6 @@ module _ (task name p o k : ℕ) (copied named mid : State) (ledger : List Token
   named_for send h = named_once h
   named_for send_once h = record { room = h.room; fresh = h.fresh; rest = ap (λ (x : State). record x { ledger = ledger }) h.rest }
 
-  -- how many send references there are before the right arrives, and after
-  send_count : (c : Kind) → c ≡ kind → held copied task send p ≡ held w task send p + (if same_kind send c then suc zero else zero)
-  send_count c is =
-      let m = tokens (λ x. if is_held task send p x then 1 else 0) in
-      let a = both_test (is_of send p (token kind p (in_message o k))) false (inr refl) in
-      let b : (if is_held task send p (token kind p (in_task task)) then suc zero else zero) ≡ (if same_kind send c then suc zero else zero) =
-      subst (λ (x : Kind). (if is_held task send p (token x p (in_task task)) then suc zero else zero) ≡ (if same_kind send c then suc zero else zero)) is (own (same_kind send c)) in
-      omega (arith, m, a, b)
-    where
-      own : (b : Bool) → (if (b && p == p) && task == task then suc zero else zero) ≡ (if b then suc zero else zero)
-      own true = rw (eq-eqb p p refl, eq-eqb task task refl) refl
-      own false = refl
-
   -- none goes where there are not too many
   unpegged : held copied task send p ≤ most_references → Moves copied.ledger mid.ledger [] []
   unpegged few = by (nat_lt most_references (held copied task send p)) refl pegs
@@ -326,40 +301,37 @@ module _ (task name p o k : ℕ) (copied named mid : State) (ledger : List Token
       by false e m = m
       by true e m = absurd (let h = ltb-true most_references (held copied task send p) e in omega (arith, h, few))
 
-  given : (c : Kind) → c ≡ kind → Moves ledger mid.ledger (token c p (in_message o k) ∷ []) (given_to c p task w)
-  given receive is = λ h.
-      let n = send_count receive is in
+  given : (c : Kind) → Moves ledger copied.ledger (token c p (in_message o k) ∷ []) (token c p (in_task task) ∷ []) → Moves ledger mid.ledger (token c p (in_message o k) ∷ []) (given_to c p task w)
+  given receive tokens = λ h.
+      let n = tokens (λ x. if is_held task send p x then 1 else 0) in
       let few = (l.naming task).few_references p in
-      let a = tokens h in let b = unpegged (omega (arith, n, few)) h in
-      let c : h (token receive p (in_message o k)) ≡ h (token kind p (in_message o k)) = ap (λ (x : Kind). h (token x p (in_message o k))) is in
-      let d : h (token receive p (in_task task)) ≡ h (token kind p (in_task task)) = ap (λ (x : Kind). h (token x p (in_task task))) is in omega (arith, a, b, c, d)
-  given send_once is = λ h.
-      let n = send_count send_once is in
+      let a = tokens h in let b = unpegged (omega (arith, n, few)) h in omega (arith, a, b)
+  given send_once tokens = λ h.
+      let n = tokens (λ x. if is_held task send p x then 1 else 0) in
       let few = (l.naming task).few_references p in
-      let a = tokens h in let b = unpegged (omega (arith, n, few)) h in
-      let c : h (token send_once p (in_message o k)) ≡ h (token kind p (in_message o k)) = ap (λ (x : Kind). h (token x p (in_message o k))) is in
-      let d : h (token send_once p (in_task task)) ≡ h (token kind p (in_task task)) = ap (λ (x : Kind). h (token x p (in_task task))) is in omega (arith, a, b, c, d)
-  given send is = by (nat_lt (held w task send p) most_references) refl
+      let a = tokens h in let b = unpegged (omega (arith, n, few)) h in omega (arith, a, b)
+  given send tokens = by (nat_lt (held w task send p) most_references) refl
     where
+      more : held copied task send p ≡ held w task send p + 1
+      more =
+          let n = tokens (λ x. if is_held task send p x then 1 else 0) in
+          let e = own_right task send p refl in let z = not_held send p o k send p task in omega (arith, n, e, z)
+
       by : (b : Bool) → nat_lt (held w task send p) most_references ≡ b → Moves ledger mid.ledger (token send p (in_message o k) ∷ []) (if b then token send p (in_task task) ∷ [] else [])
       by true e = λ h.
-          let n = send_count send is in
+          let n = more in
           let less = ltb-true (held w task send p) most_references e in
-          let a = tokens h in let b = unpegged (omega (arith, n, less)) h in
-          let c : h (token send p (in_message o k)) ≡ h (token kind p (in_message o k)) = ap (λ (x : Kind). h (token x p (in_message o k))) is in
-          let d : h (token send p (in_task task)) ≡ h (token kind p (in_task task)) = ap (λ (x : Kind). h (token x p (in_task task))) is in omega (arith, a, b, c, d)
+          let a = tokens h in let b = unpegged (omega (arith, n, less)) h in omega (arith, a, b)
       by false e = λ h.
-          let n = send_count send is in
+          let n = more in
           let full = ltb-false (held w task send p) most_references e in
           let many : nat_lt most_references (held copied task send p) ≡ true = lt-ltb most_references (held copied task send p) (omega (arith, n, full)) in
           let peg : Moves copied.ledger mid.ledger (token send p (in_task task) ∷ []) [] =
           subst (λ (b : Bool). Moves copied.ledger mid.ledger (if b then token send p (in_task task) ∷ [] else []) []) many pegs in
-          let a = tokens h in let b = peg h in
-          let c : h (token send p (in_message o k)) ≡ h (token kind p (in_message o k)) = ap (λ (x : Kind). h (token x p (in_message o k))) is in
-          let d : h (token send p (in_task task)) ≡ h (token kind p (in_task task)) = ap (λ (x : Kind). h (token x p (in_task task))) is in omega (arith, a, b, c, d)
+          let a = tokens h in let b = peg h in omega (arith, a, b)
 
   extracted : NamedFor kind task name p copied named → Removes w mid o k (λ c q. mark_count c q kind (to_port p))
-  extracted n = GiveRight-removes task o k kind p w name mid (record named { ledger = ledger }) l is_task (named_for kind n) rest (given kind refl)
+  extracted n = GiveRight-removes task o k kind p w name mid (record named { ledger = ledger }) l is_task (named_for kind n) rest (given kind tokens)
 
 pub Extracts-hands : (task name number to new_name shown : ℕ) (old mid : State) → IsLawful old → old.live_task to ≡ true → (x : Extracts task name number to new_name shown old mid) →
     Hands old mid 0 (length (old.log 0)) (kind_sent x.copy.given) x.p

@@ -23,4 +23,3 @@ pub mod RenamingLawful
 pub mod AllocateLawful
 pub mod SetsLawful
 pub mod StepLawful
-pub mod Plain

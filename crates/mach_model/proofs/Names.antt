@@ -2,31 +2,27 @@
 use Rattle.std.proofs.Common.{◌≡◌, ℕ, zero, suc, ◌+◌, ◌<◌, ◌≤◌, List, [], ◌∷◌, Option, Some, None, refl, sym, ap, ◌∙◌, arith, true, false, Bool, ◌⊎◌, inl, inr, cond, length}
 use Rattle.std.specs.Prelude.{if◌then◌else◌, map as list_map, is_some, ◌-◌}
 use Rattle.std.specs.FinMap as map
-use Rattle.std.specs.FinMap.{get-insert, get-remove, len-remove, empty_of_len, len-empty, entries-insert, get_tied, same_map, nat_cmp-IsAntisymmetric, get-empty}
+use Rattle.std.specs.FinMap.{get-insert, get-remove, len-remove, empty_of_len, len-empty, entries-insert, same_map, nat_cmp-IsAntisymmetric, get-empty}
 use Rattle.std.specs.FinMap.Entries.{put, find, by_order}
 use Rattle.std.specs.declared.cmp.Ordering.{Ordering}
 use Rattle.std.specs.declared.cmp.Ordering.TheVariants.{Less, Equal, Greater}
 use Rattle.std.specs.Ordering.{nat_cmp, eq_by_cmp, is_eq}
 use Rattle.std.specs.Cmp.{nat_cmp_total, eq_by_cmp_equiv}
+use Rattle.std.proofs.lemmas.Bool.{false_from_ne_true}
+use Rattle.std.proofs.lemmas.Bool.Decides.{eqb_tells}
 use Rattle.mach_model.specs.State.{Names, IsFresh}
 use Rattle.mach_model.specs.Lawful.{tally}
 use Rattle.mach_model.proofs.Weigh.{pos_or_zero}
 
 -- ---- what stands under a name
 
--- what is found under a name after another was put
-pub found : {V : Type 0} (b : Bool) (v : V) (o : Option V) (w : V) → cond b (Some v) o ≡ Some w → (b ≡ true) × (v ≡ w) ⊎ (b ≡ false) × (o ≡ Some w)
-found true v o w e = inl (refl, (cc))
-found false v o w e = inr (refl, e)
-
--- a name that was there is there after another was put
-pub kept : {V : Type 0} (m : map.FinMap nat_cmp V) (name : ℕ) (v : V) (n : ℕ) (w : V) → map.get m name ≡ None → map.get m n ≡ Some w → map.get (map.insert m name v) n ≡ Some w
-kept {V} m name v n w none some = get-insert nat_cmp_total m name v n ∙ go (nat_cmp n name) refl
+apart : (n name : ℕ) → (n ≡ name → ⊥) → eq_by_cmp nat_cmp n name ≡ false
+apart n name not = false_from_ne_true (eq_by_cmp nat_cmp n name) (tied (nat_cmp n name) refl)
   where
-    go : (r : Ordering) → nat_cmp n name ≡ r → cond (is_eq r) (Some v) (map.get m n) ≡ Some w
-    go Less e = some
-    go Greater e = some
-    go Equal e = absurd (let t = get_tied nat_cmp_total m n name e in cc)
+    tied : (r : Ordering) → nat_cmp n name ≡ r → is_eq r ≡ true → ⊥
+    tied Less e h = cc
+    tied Greater e h = cc
+    tied Equal e h = not (nat_cmp-IsAntisymmetric n name e)
 
 put_own : {V : Type 0} (name : ℕ) (v : V) (o : Option V) → cond (eq_by_cmp nat_cmp name name) (Some v) o ≡ Some v
 put_own name v o = rw ((eq_by_cmp_equiv nat_cmp_total).refl name)
@@ -35,27 +31,27 @@ put_own name v o = rw ((eq_by_cmp_equiv nat_cmp_total).refl name)
 pub get_own : {V : Type 0} (m : map.FinMap nat_cmp V) (name : ℕ) (v : V) → map.get (map.insert m name v) name ≡ Some v
 get_own m name v = get-insert nat_cmp_total m name v name ∙ put_own name v (map.get m name)
 
-tied : (r : Ordering) (n name : ℕ) → nat_cmp n name ≡ r → (is_eq r ≡ true → n ≡ name)
-tied Less n name e h = absurd (cc)
-tied Greater n name e h = absurd (cc)
-tied Equal n name e h = nat_cmp-IsAntisymmetric n name e
+-- no other name changes
+pub get_other : {V : Type 0} (m : map.FinMap nat_cmp V) (name : ℕ) (v : V) (n : ℕ) → (n ≡ name → ⊥) → map.get (map.insert m name v) n ≡ map.get m n
+get_other {V} m name v n not = get-insert nat_cmp_total m name v n ∙ ap (λ (b : Bool). cond b (Some v) (map.get m n)) (apart n name not)
+
+pub get_removed : {V : Type 0} (m : map.FinMap nat_cmp V) (name n : ℕ) → (n ≡ name → ⊥) → map.get (map.remove m name) n ≡ map.get m n
+get_removed {V} m name n not = get-remove nat_cmp_total m name n ∙ ap (λ (b : Bool). cond b None (map.get m n)) (apart n name not)
+
+-- a name that was there is there after another was put
+pub kept : {V : Type 0} (m : map.FinMap nat_cmp V) (name : ℕ) (v : V) (n : ℕ) (w : V) → map.get m name ≡ None → map.get m n ≡ Some w → map.get (map.insert m name v) n ≡ Some w
+kept m name v n w none some = get_other m name v n (λ e. (let f = ap (map.get m) e in cc)) ∙ some
 
 -- what stands there is what was put, or was there
 pub inserted : {V : Type 0} (m : map.FinMap nat_cmp V) (name : ℕ) (v : V) (n : ℕ) (w : V) → map.get (map.insert m name v) n ≡ Some w →
     (n ≡ name) × (v ≡ w) ⊎ (map.get m n ≡ Some w)
-inserted m name v n w e = elim (found (eq_by_cmp nat_cmp n name) v (map.get m n) w (sym (get-insert nat_cmp_total m name v n) ∙ e)) [
-  | inl h ↦ inl (tied (nat_cmp n name) n name refl h.0, h.1)
-  | inr h ↦ inr h.1
+inserted m name v n w e = elim (eqb_tells n name) [
+  | inl h ↦ inl (h.1, same (sym (get_own m name v) ∙ ap (map.get (map.insert m name v)) (sym h.1) ∙ e))
+  | inr h ↦ inr (sym (get_other m name v n h.1) ∙ e)
 ]
-
--- no other name changes
-pub get_other : {V : Type 0} (m : map.FinMap nat_cmp V) (name : ℕ) (v : V) (n : ℕ) → (n ≡ name → ⊥) → map.get (map.insert m name v) n ≡ map.get m n
-get_other {V} m name v n not = get-insert nat_cmp_total m name v n ∙ go (nat_cmp n name) refl
   where
-    go : (r : Ordering) → nat_cmp n name ≡ r → cond (is_eq r) (Some v) (map.get m n) ≡ map.get m n
-    go Less e = refl
-    go Greater e = refl
-    go Equal e = absurd (not (nat_cmp-IsAntisymmetric n name e))
+    same : Some v ≡ Some w → v ≡ w
+    same f = cc
 
 -- maps that answer alike are equal
 pub alike : {V : Type 0} (m n : map.FinMap nat_cmp V) → ((q : ℕ) → map.get m q ≡ map.get n q) → m ≡ n
@@ -99,12 +95,10 @@ removed_own m name = get-remove nat_cmp_total m name name ∙ rw ((eq_by_cmp_equ
 
 -- a name that is taken away and put again
 pub put_again : {V : Type 0} (m : map.FinMap nat_cmp V) (name : ℕ) (v : V) → map.get m name ≡ Some v → map.insert (map.remove m name) name v ≡ m
-put_again {V} m name v is = alike _ m (λ n. get-insert nat_cmp_total (map.remove m name) name v n ∙ (rw (get-remove nat_cmp_total m name n) (go n (nat_cmp n name) refl)))
-  where
-    go : (n : ℕ) (r : Ordering) → nat_cmp n name ≡ r → cond (is_eq r) (Some v) (cond (is_eq r) None (map.get m n)) ≡ map.get m n
-    go n Less e = refl
-    go n Greater e = refl
-    go n Equal e = sym is ∙ ap (map.get m) (sym (nat_cmp-IsAntisymmetric n name e))
+put_again m name v is = alike _ m (λ n. elim (eqb_tells n name) [
+  | inl h ↦ ap (map.get (map.insert (map.remove m name) name v)) h.1 ∙ get_own (map.remove m name) name v ∙ sym is ∙ ap (map.get m) (sym h.1)
+  | inr h ↦ get_other (map.remove m name) name v n h.1 ∙ get_removed m name n h.1
+])
 
 -- a value that passes is counted
 pub some_tally : {V : Type 0} (test : V → Bool) (m : map.FinMap nat_cmp V) (name : ℕ) (v : V) → map.get m name ≡ Some v → test v ≡ true →
@@ -124,19 +118,11 @@ many_names zero m all = omega arith
 many_names {V} (suc k) m all =
     let has = all (suc k) (omega arith) (omega arith) in
     let less : map.len (map.remove m (suc k)) ≡ map.len m - 1 = len-remove nat_cmp_total m (suc k) ∙ rw has in
-    let ih = many_names k (map.remove m (suc k)) (λ n above below. rw (get_removed n (λ e. omega (arith, e, below))) (all n above (omega (arith, below)))) in
+    let ih = many_names k (map.remove m (suc k)) (λ n above below. rw (get_removed m (suc k) n (λ e. omega (arith, e, below))) (all n above (omega (arith, below)))) in
     elim (pos_or_zero (map.len m)) [
       | inl h ↦ absurd (let e = get-empty {X = V} nat_cmp (suc k) in let f = ap (λ (x : map.FinMap nat_cmp V). map.contains_key x (suc k)) (empty_of_len m h) in let g : false ≡ true = sym (f ∙ ap is_some e) ∙ has in cc)
       | inr h ↦ omega (arith, less, ih, h)
     ]
-  where
-    get_removed : (n : ℕ) → (n ≡ suc k → ⊥) → map.get (map.remove m (suc k)) n ≡ map.get m n
-    get_removed n not = get-remove nat_cmp_total m (suc k) n ∙ go (nat_cmp n (suc k)) refl
-      where
-        go : (r : Ordering) → nat_cmp n (suc k) ≡ r → cond (is_eq r) None (map.get m n) ≡ map.get m n
-        go Less e = refl
-        go Greater e = refl
-        go Equal e = absurd (not (nat_cmp-IsAntisymmetric n (suc k) e))
 
 -- a fresh name is at most one above the number of names
 pub fresh_fits : (space : Names) (name : ℕ) → IsFresh space name → name ≤ map.len space + 1

@@ -18,42 +18,39 @@ no_element k e is = cc
 
 pub opening-lawful : IsLawful opening
 opening-lawful = record {
-  made_task = λ task is. absurd (cc);
-  no_task = λ task name is. unused task name;
-  not_null = λ task. unused task _;
-  not_dead = λ task. unused task _;
-  name_fits = λ task name target is. absurd (no_name task name target is);
-  few_names = λ task. let e = len-empty nat_cmp Target in omega (arith, e);
-  has_right = λ task name p is. absurd (no_name task name (Target.port p) is);
-  is_named = λ task p some. absurd (omega (arith, some));
-  one_name = λ task n m p is. absurd (no_name task n (Target.port p) is);
-  once_names = λ task p. sym (no_values _);
-  references = λ task name target is. absurd (no_name task name target is);
-  few_references = λ task p. omega arith;
-  made_port = λ p is. absurd (cc);
-  one_receive = λ p is. absurd (cc);
-  no_rights = λ p is kind. refl;
+  tasks = record { made_task = λ task is. absurd (cc); no_task = λ task name is. unused task name };
+  naming = λ task. record {
+    space = record {
+      not_null = unused task _;
+      not_dead = unused task _;
+      name_fits = λ name target is. absurd (no_name task name target is);
+      few_names = let e = len-empty nat_cmp Target in omega (arith, e);
+      references = λ name target is. absurd (no_name task name target is);
+    };
+    has_right = λ name p is. absurd (no_name task name (Target.port p) is);
+    is_named = λ p some. absurd (omega (arith, some));
+    one_name = λ n m p is. absurd (no_name task n (Target.port p) is);
+    once_names = λ p. sym (no_values _);
+    few_references = λ p. omega arith;
+  };
+  ports = record { made_port = λ p is. absurd (cc); no_rights = λ p is kind. refl };
+  numbers = record { limit_fits = λ p. omega arith; make_send_fits = λ p. omega arith; sequence_fits = λ p. omega arith };
+  receivers = record { one_receive = λ p is. absurd (cc); members = λ p set is. absurd (omega (arith, is.1)) };
   few_rights = omega arith;
-  limit_fits = λ p. omega arith;
-  make_send_fits = λ p. omega arith;
-  sequence_fits = λ p. omega arith;
-  no_sets = λ p is. refl;
-  made_set = λ set above. refl;
-  set_owned = λ task name set is. absurd (no_name task name (Target.set set) is);
-  set_named = λ set task is. absurd (cc);
-  one_set_name = λ task n m set is. absurd (no_name task n (Target.set set) is);
-  members = λ p set is. absurd (omega (arith, is.1));
-  one_set = λ p. omega arith;
-  unmade_log = λ p is. refl;
-  within = λ p. omega arith;
-  sent_here = λ p k e is. absurd (no_element k e is);
-  made_marks = λ p k e is. absurd (no_element k e is);
-  carried = λ p i e is. absurd (cc);
-  gone = λ p k is kind q. refl;
-  no_entry = λ p k is kind q. refl;
-  ended = λ r is kind q. refl;
-  one_kept = λ r. omega arith;
-  once_kept = λ r kind q not. refl;
-  none_stands = λ r. refl;
-  none_carried = λ p k q. refl;
+  sets = record {
+    made_set = λ set above. refl;
+    set_owned = λ task name set is. absurd (no_name task name (Target.set set) is);
+    set_named = λ set task is. absurd (cc);
+    one_set_name = λ task n m set is. absurd (no_name task n (Target.set set) is);
+  };
+  membership = record { no_sets = λ p is. refl; one_set = λ p. omega arith };
+  logs = record {
+    unmade_log = λ p is. refl;
+    within = λ p. omega arith;
+    sent_here = λ p k e is. absurd (no_element k e is);
+    made_marks = λ p k e is. absurd (no_element k e is);
+  };
+  messages = record { carried = λ p i e is. absurd (cc); gone = λ p k is kind q. refl; no_entry = λ p k is kind q. refl; none_carried = λ p k q. refl };
+  requests = record { one_kept = λ r. omega arith; once_kept = λ r kind q not. refl };
+  standing = record { ended = λ r is kind q. refl; none_stands = λ r. refl };
 }

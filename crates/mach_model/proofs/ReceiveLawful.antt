@@ -3,18 +3,19 @@ use Rattle.std.proofs.Common.{◌≡◌, ℕ, suc, ◌+◌, ◌%◌, ◌^◌, �
 use Rattle.std.specs.Prelude.{if◌then◌else◌, ◌==◌, ◌&&◌, ◌≢◌, slice_get, drop}
 use Rattle.std.proofs.lemmas.Bool.Decides.{eqb_tells}
 use Rattle.std.proofs.lemmas.Option.{slice_get_within}
+use Rattle.std.proofs.lemmas.Bool.{cases_Bool}
 use Rattle.mach_types.specs.Numbers.{most_rights}
 use Rattle.mach_types.specs.Tokens.{Kind, receive, send, send_once, Place, in_message, in_request, Token, token, count, is_of, is_held, same_kind, Moves}
 use Rattle.mach_types.specs.Messages.{to_port, Entry}
 use Rattle.mach_model.specs.State.{State, held, queue}
-use Rattle.mach_model.specs.Dying.{same_place}
+use Rattle.mach_model.specs.Death.{same_place}
 use Rattle.mach_model.specs.Carried.{mark_count, reply_count, body_count, message_count, lying}
-use Rattle.mach_model.specs.Receiving.{IsFront, with_taken, Receives}
+use Rattle.mach_model.specs.Receive.{IsFront, with_taken, Receives}
 use Rattle.mach_model.specs.Lawful.{IsLawful}
 use Rattle.mach_model.proofs.Weigh.{length-weigh, both_test, lying_le_of}
 use Rattle.mach_model.proofs.At.{at_same, at_own, at_other, at_all, elsewhere, slice_get_drop}
-use Rattle.mach_model.proofs.SetNames.{set_law}
-use Rattle.mach_model.proofs.Moving.{IsMoving, shape, same_naming, task_naming, arrived}
+use Rattle.mach_model.proofs.Spaces.{same_naming}
+use Rattle.mach_model.proofs.Moving.{IsMoving, shape, same_receivers, arrived}
 use Rattle.mach_model.proofs.CopyingIn.{at_entry}
 use Rattle.mach_model.proofs.CopyingOut.{Removes}
 use Rattle.mach_model.proofs.CopyingMarks.{GiveBoth-removes}
@@ -109,32 +110,34 @@ module _ (s : State) (p : ℕ) (e : Entry) (ledger : List Token) (l : IsLawful s
 
   pub taken_moving : IsMoving new p k
   taken_moving = record {
-    made_task = l.made_task;
-    no_task = l.no_task;
-    naming = λ t. same_naming (s.naming t) (held s t receive) (held s t send) (held s t send_once) (held new t receive) (held new t send) (held new t send_once) (task_naming s l t)
-        (held_same t receive) (held_same t send) (held_same t send_once);
-    made_port = l.made_port;
-    one_receive = λ q is. of_receive q ∙ l.one_receive q is;
-    no_rights = λ q dead kind. let m = tokens_for (is_of kind q) in let z = l.no_rights q dead kind in omega (arith, m, z);
-    limit_fits = l.limit_fits;
-    make_send_fits = l.make_send_fits;
-    sequence_fits = at_all (λ q n. n < 2 ^ 32) s.sequence p ((s.sequence p + 1) % 2 ^ 32) (omega arith) (λ q not. l.sequence_fits q);
-    no_sets = l.no_sets;
-    sets = set_law s l;
-    members = λ q set in_it. let h = l.members q set in_it in let some = h.2 in (h.0, h.1, omega (arith, some, held_same h.0 receive q));
-    one_set = l.one_set;
-    unmade_log = l.unmade_log;
-    within = at_all (λ q n. n ≤ length (s.log q)) s.taken p (s.taken p + 1) (let h = slice_get_within (s.log p) (s.taken p) e front in omega (arith, h)) (λ q not. l.within q);
-    sent_here = l.sent_here;
-    made_marks = l.made_marks;
-    carried = λ q i f not. carried q i f;
-    gone = gone;
-    no_entry = λ q j not above kind r. let a = lying_less kind r (in_message q j) in let b = l.no_entry q j above kind r in omega (arith, a, b);
-    ended = λ r not kind q. let a = lying_less kind q (in_request r) in let b = l.ended r not kind q in omega (arith, a, b);
-    one_kept = λ r. let m = tokens_for (λ x. same_place (in_request r) x.place) in let h = l.one_kept r in omega (arith, m, h);
-    once_kept = λ r kind q not. let a = lying_less kind q (in_request r) in let b = l.once_kept r kind q not in omega (arith, a, b);
-    none_stands = l.none_stands;
-    none_carried = λ q j r not. let a = lying_less receive r (in_message q j) in let b = l.none_carried q j r in omega (arith, a, b);
+    tasks = l.tasks;
+    naming = λ t. same_naming (s.naming t) (held s t) (held new t) (l.naming t) (held_same t);
+    ports = record { made_port = l.made_port; no_rights = λ q dead kind. let m = tokens_for (is_of kind q) in let z = l.no_rights q dead kind in omega (arith, m, z) };
+    numbers = record {
+      limit_fits = l.limit_fits;
+      make_send_fits = l.make_send_fits;
+      sequence_fits = at_all (λ q n. n < 2 ^ 32) s.sequence p ((s.sequence p + 1) % 2 ^ 32) (omega arith) (λ q not. l.sequence_fits q);
+    };
+    receivers = same_receivers s.live_port s.set_owner s.sets_of s.ledger ledger l.receivers of_receive (λ t q. let e = held_same t receive q in omega (arith, e));
+    sets = l.sets;
+    membership = l.membership;
+    logs = record {
+      unmade_log = l.unmade_log;
+      within = at_all (λ q n. n ≤ length (s.log q)) s.taken p (s.taken p + 1) (let h = slice_get_within (s.log p) (s.taken p) e front in omega (arith, h)) (λ q not. l.within q);
+      sent_here = l.sent_here;
+      made_marks = l.made_marks;
+    };
+    messages = record {
+      carried = λ q i f not. carried q i f;
+      gone = gone;
+      no_entry = λ q j not above kind r. let a = lying_less kind r (in_message q j) in let b = l.no_entry q j above kind r in omega (arith, a, b);
+      none_carried = λ q j r not. let a = lying_less receive r (in_message q j) in let b = l.none_carried q j r in omega (arith, a, b);
+    };
+    requests = record {
+      one_kept = λ r. let m = tokens_for (λ x. same_place (in_request r) x.place) in let h = l.one_kept r in omega (arith, m, h);
+      once_kept = λ r kind q not. let a = lying_less kind q (in_request r) in let b = l.once_kept r kind q not in omega (arith, a, b);
+    };
+    standing = record { ended = λ r not kind q. let a = lying_less kind q (in_request r) in let b = l.ended r not kind q in omega (arith, a, b); none_stands = l.none_stands };
   }
 
 -- ---- a receipt
@@ -168,15 +171,13 @@ Receives-lawful task port room bytes old mid l live is_task r =
         let h = l.few_rights in omega (arith, a, m, h, length-weigh old.ledger, length-weigh r.taken.ledger)
 
     none : (kind : Kind) (q : ℕ) → lying mid kind q (in_message port (old.taken port)) ≡ 0
-    none kind q = go (mid.live_port q) refl
-      where
-        go : (b : Bool) → mid.live_port q ≡ b → lying mid kind q (in_message port (old.taken port)) ≡ 0
-        go false dead =
-            let x = Receives-removes task port room bytes old mid l live is_task r in
-            let a = lying_le_of mid kind q (in_message port (old.taken port)) in let b = x.keeps.no_rights q dead kind in omega (arith, a, b)
-        go true live_q =
-            let x = Receives-removes task port room bytes old mid l live is_task r in
-            let a : r.taken.live_port q ≡ true = sym (ap (λ (s : State). s.live_port q) rest) ∙ live_q in
-            let b : old.live_port q ≡ true = sym (ap (λ (s : State). s.live_port q) r.takes.rest) ∙ a in
-            let c = lies old port r.e r.taken.ledger l live r.takes.front r.takes.tokens kind q b in
-            let d = x.lies kind q a in omega (arith, c, d)
+    none kind q =
+        let x = Receives-removes task port room bytes old mid l live is_task r in
+        elim (cases_Bool (mid.live_port q)) [
+          | inl live_q ↦
+              let a : r.taken.live_port q ≡ true = sym (ap (λ (s : State). s.live_port q) rest) ∙ live_q in
+              let b : old.live_port q ≡ true = sym (ap (λ (s : State). s.live_port q) r.takes.rest) ∙ a in
+              let c = lies old port r.e r.taken.ledger l live r.takes.front r.takes.tokens kind q b in
+              let d = x.lies kind q a in omega (arith, c, d)
+          | inr dead ↦ let a = lying_le_of mid kind q (in_message port (old.taken port)) in let b = x.keeps.no_rights q dead kind in omega (arith, a, b)
+        ]

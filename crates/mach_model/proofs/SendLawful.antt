@@ -1,8 +1,8 @@
 -- A message that is sent leaves a lawful state, whatever rights it carries.
-use Rattle.std.proofs.Common.{◌≡◌, ℕ, zero, suc, ◌+◌, ◌<◌, ◌≤◌, List, [], ◌∷◌, ◌++◌, Some, refl, sym, ap, subst, ◌∙◌, arith, true, false, Bool, ◌⊎◌, inl, inr, length}
+use Rattle.std.proofs.Common.{◌≡◌, ℕ, zero, suc, ◌+◌, ◌<◌, ◌≤◌, List, [], ◌∷◌, ◌++◌, Some, refl, sym, ap, subst, ◌∙◌, arith, true, false, ◌⊎◌, inl, inr, length}
 use Rattle.std.specs.Prelude.{if◌then◌else◌, ◌==◌, ◌&&◌, ◌≢◌, slice_get, drop}
 use Rattle.std.proofs.lemmas.Bool.Decides.{eqb_tells}
-use Rattle.std.proofs.lemmas.Bool.{eq-eqb}
+use Rattle.std.proofs.lemmas.Bool.{eq-eqb, cases_Bool}
 use Rattle.std.proofs.lemmas.List.{drop-append-le, length-append, length-drop}
 use Rattle.mach_types.specs.Numbers.{most_rights}
 use Rattle.mach_types.specs.Tokens.{Kind, receive, same_kind, in_message}
@@ -10,14 +10,13 @@ use Rattle.mach_types.specs.Messages.{Message, Entry}
 use Rattle.mach_types.specs.Guards.{NoneHolds}
 use Rattle.mach_types.specs.TextGuards.{header_guards}
 use Rattle.mach_model.specs.State.{State, at, queue}
-use Rattle.mach_model.specs.Sending.{Sends, entry}
+use Rattle.mach_model.specs.Send.{Sends, entry}
 use Rattle.mach_model.specs.Carried.{message_count, lying}
 use Rattle.mach_model.specs.Lawful.{IsLawful}
 use Rattle.mach_model.proofs.Weigh.{lying_le_of}
 use Rattle.mach_model.proofs.At.{at_same, at_other, at_own, at_all, snoc_cases}
-use Rattle.mach_model.proofs.Settling.{kind_refl}
+use Rattle.mach_model.proofs.Settling.{kind_refl, lives}
 use Rattle.mach_model.proofs.Moving.{IsMoving, moving}
-use Rattle.mach_model.proofs.CopyingIn.{alive}
 use Rattle.mach_model.proofs.CopyingWords.{Adds, Copied-adds}
 use Rattle.mach_model.proofs.Carrying.{by_a_send, carries_none}
 
@@ -40,7 +39,7 @@ module _ (s : State) (now : ℕ) (m : Message) (l : IsMoving s m.destination (le
       let own : (if same_kind m.kind m.kind && p == p then suc zero else zero) ≡ suc zero = rw (kind_refl m.kind, eq-eqb p p refl) refl in
       let e = lies m.kind p in
       let le = lying_le_of s m.kind p (in_message p end) in
-      alive s p end l m.kind p (omega (arith, own, e, le))
+      lives l.ports m.kind p (omega (arith, own, e, le))
 
   below_made : p < s.ports_made
   below_made = l.made_port p live
@@ -62,11 +61,10 @@ module _ (s : State) (now : ℕ) (m : Message) (l : IsMoving s m.destination (le
       (λ q not is. all q k e is) q
 
   made_marks : (kind : Kind) (r : ℕ) → s.ports_made ≤ r → message_count kind r m ≡ 0
-  made_marks kind r above = go (s.live_port r) refl
-    where
-      go : (b : Bool) → s.live_port r ≡ b → message_count kind r m ≡ 0
-      go true e = absurd (let h = l.made_port r e in omega (arith, h, above))
-      go false e = let a = lies kind r in let b = lying_le_of s kind r (in_message p end) in let c = l.no_rights r e kind in omega (arith, a, b, c)
+  made_marks kind r above = elim (cases_Bool (s.live_port r)) [
+    | inl e ↦ absurd (let h = l.made_port r e in omega (arith, h, above))
+    | inr e ↦ let a = lies kind r in let b = lying_le_of s kind r (in_message p end) in let c = l.no_rights r e kind in omega (arith, a, b, c)
+  ]
 
   carried : (q i : ℕ) (e : Entry) → s.live_port q ≡ true → slice_get (queue new q) i ≡ Some e → (kind : Kind) (r : ℕ) → s.live_port r ≡ true →
       lying s kind r (in_message q (s.taken q + i)) ≡ message_count kind r e.message
@@ -106,51 +104,35 @@ module _ (s : State) (now : ℕ) (m : Message) (l : IsMoving s m.destination (le
 
   sent_lawful : IsLawful new
   sent_lawful = record {
-    made_task = l.made_task;
-    no_task = l.no_task;
-    not_null = λ t. (l.naming t).not_null;
-    not_dead = λ t. (l.naming t).not_dead;
-    name_fits = λ t. (l.naming t).name_fits;
-    few_names = λ t. (l.naming t).few_names;
-    has_right = λ t. (l.naming t).has_right;
-    is_named = λ t. (l.naming t).is_named;
-    one_name = λ t. (l.naming t).one_name;
-    once_names = λ t. (l.naming t).once_names;
-    references = λ t. (l.naming t).references;
-    few_references = λ t. (l.naming t).few_references;
-    made_port = l.made_port;
-    one_receive = l.one_receive;
-    no_rights = l.no_rights;
+    tasks = l.tasks;
+    naming = l.naming;
+    ports = l.ports;
+    numbers = l.numbers;
+    receivers = l.receivers;
     few_rights = few;
-    limit_fits = l.limit_fits;
-    make_send_fits = l.make_send_fits;
-    sequence_fits = l.sequence_fits;
-    no_sets = l.no_sets;
-    made_set = l.sets.made_set;
-    set_owned = l.sets.set_owned;
-    set_named = l.sets.set_named;
-    one_set_name = l.sets.one_set_name;
-    members = l.members;
-    one_set = l.one_set;
-    unmade_log = λ q above. let b = below_made in log_other q (λ x. omega (arith, b, above, x)) ∙ l.unmade_log q above;
-    within = λ q. at_all (λ q log. s.taken q ≤ length log) s.log p (s.log p ++ entry now m ∷ [])
-        (let w = l.within p in let more = length-append (s.log p) (entry now m ∷ []) in omega (arith, w, more)) (λ q not. l.within q) q;
-    sent_here = entries (λ q e. (e.message.destination ≡ q) × (e.message.kind ≢ receive)) (refl, not_receive) l.sent_here;
-    made_marks = entries (λ q e. (kind : Kind) (r : ℕ) → s.ports_made ≤ r → message_count kind r e.message ≡ 0) made_marks l.made_marks;
-    carried = carried;
-    gone = λ q k is kind r. l.gone q k (not_end q k is) is kind r;
-    no_entry = no_entry;
-    ended = l.ended;
-    one_kept = l.one_kept;
-    once_kept = l.once_kept;
-    none_stands = l.none_stands;
-    none_carried = λ q k r. elim (eqb_tells q p) [
-      | inl h ↦ elim (eqb_tells k end) [
-        | inl g ↦ subst (λ (x : ℕ). lying s receive r (in_message x k) ≡ 0) (sym h.1) (subst (λ (x : ℕ). lying s receive r (in_message p x) ≡ 0) (sym g.1) (lies receive r ∙ none r))
-        | inr g ↦ l.none_carried q k r (λ x y. g.1 y)
-      ]
-      | inr h ↦ l.none_carried q k r (λ x y. h.1 x)
-    ];
+    sets = l.sets;
+    membership = l.membership;
+    logs = record {
+      unmade_log = λ q above. let b = below_made in log_other q (λ x. omega (arith, b, above, x)) ∙ l.unmade_log q above;
+      within = λ q. at_all (λ q log. s.taken q ≤ length log) s.log p (s.log p ++ entry now m ∷ [])
+          (let w = l.within p in let more = length-append (s.log p) (entry now m ∷ []) in omega (arith, w, more)) (λ q not. l.within q) q;
+      sent_here = entries (λ q e. (e.message.destination ≡ q) × (e.message.kind ≢ receive)) (refl, not_receive) l.sent_here;
+      made_marks = entries (λ q e. (kind : Kind) (r : ℕ) → s.ports_made ≤ r → message_count kind r e.message ≡ 0) made_marks l.made_marks;
+    };
+    messages = record {
+      carried = carried;
+      gone = λ q k is kind r. l.gone q k (not_end q k is) is kind r;
+      no_entry = no_entry;
+      none_carried = λ q k r. elim (eqb_tells q p) [
+        | inl h ↦ elim (eqb_tells k end) [
+          | inl g ↦ subst (λ (x : ℕ). lying s receive r (in_message x k) ≡ 0) (sym h.1) (subst (λ (x : ℕ). lying s receive r (in_message p x) ≡ 0) (sym g.1) (lies receive r ∙ none r))
+          | inr g ↦ l.none_carried q k r (λ x y. g.1 y)
+        ]
+        | inr h ↦ l.none_carried q k r (λ x y. h.1 x)
+      ];
+    };
+    requests = l.requests;
+    standing = l.standing;
   }
 
 -- ---- a send

@@ -3,93 +3,47 @@ use Rattle.std.proofs.Common.{◌≡◌, ℕ, zero, suc, ◌+◌, ◌≤◌, Lis
 use Rattle.std.specs.Prelude.{if◌then◌else◌, ◌==◌, Contains, filter, not}
 use Rattle.std.specs.FinMap as map
 use Rattle.std.proofs.lemmas.Bool.Decides.{eqb_tells}
-use Rattle.mach_types.specs.Tokens.{receive, send, send_once}
-use Rattle.mach_model.specs.State.{State, Target, Names, at, lookup, held, Holds, without_name}
-use Rattle.mach_model.specs.Making.{with_set}
+use Rattle.mach_types.specs.Tokens.{receive, Request, dead_name}
+use Rattle.mach_model.specs.State.{State, Target, Names, at, request_at, lookup, held, Holds, without_name}
+use Rattle.mach_model.specs.Names.{with_set}
 use Rattle.mach_model.specs.Sets.{without_set, JoinsSet}
-use Rattle.mach_model.specs.Status.{NamesReceive}
+use Rattle.mach_model.specs.ReceiveRight.{NamesReceive}
 use Rattle.mach_model.specs.NotYet.{NoRequests}
-use Rattle.mach_model.specs.Lawful.{IsLawful}
+use Rattle.mach_model.specs.Lawful.{LawfulNames, LawfulReceivers, LawfulSets, LawfulMembership, IsLawful}
 use Rattle.mach_model.proofs.Weigh.{held_le_of, pos_or_zero}
 use Rattle.mach_model.proofs.Settling.{alive}
 use Rattle.mach_model.proofs.At.{at_same, at_other, at_own, at_all}
-use Rattle.mach_model.proofs.Names.{kept, get_own, inserted}
-use Rattle.mach_model.proofs.Spaces.{IsNaming, IsNew, get_removed, left, other_unnamed, other_named}
-use Rattle.mach_model.proofs.SetNames.{SetLaw, set_law, IsMember}
-use Rattle.mach_model.proofs.Moving.{task_naming}
+use Rattle.mach_model.proofs.Names.{get_removed, kept, get_own, inserted}
+use Rattle.mach_model.proofs.Spaces.{IsNew, left, other_unnamed, other_named, has_task, tasks_named, all_named}
 use Rattle.mach_model.proofs.CopyingIn.{without_stands}
 
 -- ---- names, sets and members alone change
 
--- One task's names, the tasks of the sets and the sets of the ports are these now.
-pub record Sorts (s new : State) (task : ℕ) : Type 0 where
-  pub rest : new ≡ record s { naming = new.naming; set_owner = new.set_owner; sets_made = new.sets_made; sets_of = new.sets_of; stands = new.stands }
-  pub is_task : s.live_task task ≡ true
-  pub others : (t : ℕ) → (t ≡ task → ⊥) → new.naming t ≡ s.naming t
-  pub own : IsNaming (new.naming task) (held s task receive) (held s task send) (held s task send_once)
-  pub law : SetLaw new.naming new.set_owner new.sets_made
-  pub members : (p set : ℕ) → Contains (new.sets_of p) set → (t : ℕ) × (new.set_owner set ≡ Some t) × Holds s t receive p
-  pub one_set : (p : ℕ) → length (new.sets_of p) ≤ 1
-  pub no_sets : (p : ℕ) → s.live_port p ≡ false → new.sets_of p ≡ []
-  pub stands : NoRequests new
-
-module _ (s new : State) (task : ℕ) (l : IsLawful s) (v : Sorts s new task) where
-  abbrev sorted : State
-  sorted = record s { naming = new.naming; set_owner = new.set_owner; sets_made = new.sets_made; sets_of = new.sets_of; stands = new.stands }
-
-  named : (t : ℕ) → IsNaming (new.naming t) (held s t receive) (held s t send) (held s t send_once)
-  named t = elim (eqb_tells t task) [
-    | inl h ↦ subst (λ (x : ℕ). IsNaming (new.naming x) (held s x receive) (held s x send) (held s x send_once)) (sym h.1) v.own
-    | inr h ↦ subst (λ (m : Names). IsNaming m (held s t receive) (held s t send) (held s t send_once)) (sym (v.others t h.1)) (task_naming s l t)
-  ]
-
-  is_other : (t : ℕ) → s.live_task t ≡ false → t ≡ task → ⊥
-  is_other t dead e = let a = v.is_task in let b : s.live_task task ≡ false = subst (λ (x : ℕ). s.live_task x ≡ false) e dead in cc
-
-  sorted_lawful : IsLawful sorted
-  sorted_lawful = record {
-    made_task = l.made_task;
-    no_task = λ t n dead. ap (λ (m : Names). map.get m n) (v.others t (is_other t dead)) ∙ l.no_task t n dead;
-    not_null = λ t. (named t).not_null;
-    not_dead = λ t. (named t).not_dead;
-    name_fits = λ t. (named t).name_fits;
-    few_names = λ t. (named t).few_names;
-    has_right = λ t. (named t).has_right;
-    is_named = λ t. (named t).is_named;
-    one_name = λ t. (named t).one_name;
-    once_names = λ t. (named t).once_names;
-    references = λ t. (named t).references;
-    few_references = l.few_references;
-    made_port = l.made_port;
-    one_receive = l.one_receive;
-    no_rights = l.no_rights;
+module _ (task : ℕ) (s : State) (l : IsLawful s) (owner : ℕ → Option ℕ) (made : ℕ) (sets_of : ℕ → List ℕ) (receivers : LawfulReceivers s.live_port owner sets_of s.ledger)
+    (membership : LawfulMembership s.live_port sets_of) where
+  -- one task's names, the tasks of the sets, and the sets of the ports
+  sorted_lawful : s.live_task task ≡ true → (names : Names) (stands : Request → Bool) → LawfulNames names (held s task) → LawfulSets (at s.naming task names) owner made →
+      NoRequests stands → IsLawful (record s { naming = at s.naming task names; set_owner = owner; sets_made = made; sets_of = sets_of; stands = stands })
+  sorted_lawful is_task names stands own sets none = record {
+    tasks = tasks_named s.naming (at s.naming task names) task (at_other s.naming task names) s.live_task s.tasks_made l.tasks is_task;
+    naming = all_named s.naming (at s.naming task names) task (at_other s.naming task names) (held s) (held s) l.naming (λ t not kind q. refl)
+        (subst (λ (m : Names). LawfulNames m (held s task)) (sym (at_own s.naming task names)) own);
+    ports = l.ports;
+    numbers = l.numbers;
+    receivers = receivers;
     few_rights = l.few_rights;
-    limit_fits = l.limit_fits;
-    make_send_fits = l.make_send_fits;
-    sequence_fits = l.sequence_fits;
-    no_sets = v.no_sets;
-    made_set = v.law.made_set;
-    set_owned = v.law.set_owned;
-    set_named = v.law.set_named;
-    one_set_name = v.law.one_set_name;
-    members = v.members;
-    one_set = v.one_set;
-    unmade_log = l.unmade_log;
-    within = l.within;
-    sent_here = l.sent_here;
-    made_marks = l.made_marks;
-    carried = l.carried;
-    gone = l.gone;
-    no_entry = l.no_entry;
-    ended = λ r ended kind q. l.ended r (l.none_stands r) kind q;
-    one_kept = l.one_kept;
-    once_kept = l.once_kept;
-    none_stands = v.stands;
-    none_carried = l.none_carried;
+    sets = sets;
+    membership = membership;
+    logs = l.logs;
+    messages = l.messages;
+    requests = l.requests;
+    standing = record { ended = λ r ended. l.ended r (l.none_stands r); none_stands = none };
   }
 
-  pub Sorts-lawful : IsLawful new
-  Sorts-lawful = subst IsLawful (sym v.rest) sorted_lawful
+-- one task's names, with the same rights
+pub named_lawful : (task : ℕ) (s : State) → IsLawful s → s.live_task task ≡ true → (names : Names) (stands : Request → Bool) → LawfulNames names (held s task) →
+    LawfulSets (at s.naming task names) s.set_owner s.sets_made → NoRequests stands → IsLawful (record s { naming = at s.naming task names; stands = stands })
+named_lawful task s l = sorted_lawful task s l s.set_owner s.sets_made s.sets_of l.receivers l.membership
 
 -- ---- owners and names
 
@@ -108,7 +62,7 @@ no_owner o a e f = cc
 no_one : (a : ℕ) → None ≡ Some a → ⊥
 no_one a e = cc
 
-module _ (naming : ℕ → Names) (owner : ℕ → Option ℕ) (made task name : ℕ) (l : SetLaw naming owner made) where
+module _ (naming : ℕ → Names) (owner : ℕ → Option ℕ) (made task name : ℕ) (l : LawfulSets naming owner made) where
   abbrev own : Names
   own = naming task
 
@@ -139,7 +93,7 @@ module _ (naming : ℕ → Names) (owner : ℕ → Option ℕ) (made task name :
         (λ f. kept own name (Target.set made) n (Target.set set) unused f) (λ q not f. f) t e
 
     -- A new set has its name, and its task.
-    pub made_law : SetLaw with_new owned (made + 1)
+    pub made_law : LawfulSets with_new owned (made + 1)
     made_law = record {
       made_set = λ set above. at_other owner made (Some task) set (λ e. omega (arith, e, above)) ∙ l.made_set set (omega (arith, above));
       set_owned = λ t n set e. elim (new_cases t n set e) [
@@ -190,7 +144,7 @@ module _ (naming : ℕ → Names) (owner : ℕ → Option ℕ) (made task name :
         (λ f. get_removed own name n (λ same. not (one_set_of (map.get own n) set gone f (ap (map.get own) same ∙ is))) ∙ f) (λ q not f. f) t e
 
     -- A set that goes has no task, and no name.
-    pub lost_law : SetLaw less disowned made
+    pub lost_law : LawfulSets less disowned made
     lost_law = record {
       made_set = λ set above. at_all (λ set o. made ≤ set → o ≡ None) owner gone None (λ h. refl) (λ q not h. l.made_set q h) set above;
       set_owned = λ t n set e. let h = was t n set e in at_other owner gone None set h.0 ∙ l.set_owned t n set h.1;
@@ -206,26 +160,15 @@ module _ (naming : ℕ → Names) (owner : ℕ → Option ℕ) (made task name :
 set_is_no_port : (set q : ℕ) → Target.set set ≡ Target.port q → ⊥
 set_is_no_port set q e = cc
 
-with_set-sorts : (task name : ℕ) (s : State) → IsLawful s → s.live_task task ≡ true → IsNew (s.naming task) name → Sorts s (with_set task name s) task
-with_set-sorts task name s l is_task new = record {
-  rest = refl;
-  is_task = is_task;
-  others = λ t not. at_other s.naming task (map.insert (s.naming task) name (Target.set s.sets_made)) t not;
-  own = subst (λ (m : Names). IsNaming m (held s task receive) (held s task send) (held s task send_once))
-      (sym (at_own s.naming task (map.insert (s.naming task) name (Target.set s.sets_made))))
-      (other_named (s.naming task) (held s task receive) (held s task send) (held s task send_once) (held s task receive) (held s task send) (held s task send_once) (task_naming s l task)
-      name (Target.set s.sets_made) new tt (set_is_no_port s.sets_made) (λ q. (refl, refl)) (λ q. omega arith));
-  law = made_law s.naming s.set_owner s.sets_made task name (set_law s l) new.unused;
+pub with_set-lawful : (task name : ℕ) (s : State) → IsLawful s → s.live_task task ≡ true → IsNew (s.naming task) name → IsLawful (with_set task name s)
+with_set-lawful task name s l is_task new = sorted_lawful task s l (at s.set_owner s.sets_made (Some task)) (s.sets_made + 1) s.sets_of (record {
+  one_receive = l.one_receive;
   members = λ p set in_it.
       let h = l.members p set in_it in
       (h.0, at_other s.set_owner s.sets_made (Some task) set (λ e. no_owner (s.set_owner set) h.0 (l.made_set set (omega (arith, e))) h.1) ∙ h.1, h.2);
-  one_set = l.one_set;
-  no_sets = l.no_sets;
-  stands = l.none_stands;
-}
-
-pub with_set-lawful : (task name : ℕ) (s : State) → IsLawful s → s.live_task task ≡ true → IsNew (s.naming task) name → IsLawful (with_set task name s)
-with_set-lawful task name s l is_task new = Sorts-lawful s (with_set task name s) task l (with_set-sorts task name s l is_task new)
+}) l.membership is_task (map.insert (s.naming task) name (Target.set s.sets_made)) s.stands
+    (other_named (s.naming task) (held s task) (held s task) (l.naming task) (λ q. refl) (λ q. refl) name (Target.set s.sets_made) new tt (set_is_no_port s.sets_made) (λ q. omega arith))
+    (made_law s.naming s.set_owner s.sets_made task name l.sets new.unused) l.none_stands
 
 -- ---- a port changes its set
 
@@ -233,22 +176,28 @@ one_element : (x y : ℕ) → Contains (x ∷ []) y → x ≡ y
 one_element x y (zero, below, e) = e
 one_element x y (suc k, below, e) = absurd (omega (arith, below))
 
-moved_sorts : (p task : ℕ) (sets : List ℕ) (s : State) → IsLawful s → s.live_task task ≡ true → s.live_port p ≡ true → length sets ≤ 1 →
-    ((set : ℕ) → Contains sets set → IsMember s p set) → Sorts s (record s { sets_of = at s.sets_of p sets }) task
-moved_sorts p task sets s l is_task live few members = record {
-  rest = refl;
-  is_task = is_task;
-  others = λ t not. refl;
-  own = task_naming s l task;
-  law = set_law s l;
-  members = λ q set. at_all (λ q xs. Contains xs set → IsMember s q set) s.sets_of p sets (members set) (λ r not in_it. l.members r set in_it) q;
-  one_set = at_all (λ q xs. length xs ≤ 1) s.sets_of p sets few (λ r not. l.one_set r);
-  no_sets = λ q dead. at_other s.sets_of p sets q (λ e. is_live q dead e) ∙ l.no_sets q dead;
-  stands = l.none_stands;
+joined_lawful : (p : ℕ) (sets : List ℕ) (s : State) → IsLawful s → s.live_port p ≡ true → length sets ≤ 1 →
+    ((set : ℕ) → Contains sets set → (t : ℕ) × (s.set_owner set ≡ Some t) × Holds s t receive p) → IsLawful (record s { sets_of = at s.sets_of p sets })
+joined_lawful p sets s l live few members = record {
+  tasks = l.tasks;
+  naming = l.naming;
+  ports = l.ports;
+  numbers = l.numbers;
+  receivers = record {
+    one_receive = l.one_receive;
+    members = λ q set. at_all (λ q xs. Contains xs set → (t : ℕ) × (s.set_owner set ≡ Some t) × Holds s t receive q) s.sets_of p sets (members set) (λ r not in_it. l.members r set in_it) q;
+  };
+  few_rights = l.few_rights;
+  sets = l.sets;
+  membership = record {
+    no_sets = λ q dead. at_other s.sets_of p sets q (λ e. let a : s.live_port p ≡ false = ap s.live_port (sym e) ∙ dead in cc) ∙ l.no_sets q dead;
+    one_set = at_all (λ q xs. length xs ≤ 1) s.sets_of p sets few (λ r not. l.one_set r);
+  };
+  logs = l.logs;
+  messages = l.messages;
+  requests = l.requests;
+  standing = l.standing;
 }
-  where
-    is_live : (q : ℕ) → s.live_port q ≡ false → q ≡ p → ⊥
-    is_live q dead e = let a : s.live_port p ≡ false = subst (λ (x : ℕ). s.live_port x ≡ false) e dead in let b = live in cc
 
 one_port : (o : Option Target) (p q : ℕ) → o ≡ Some (Target.port p) → o ≡ Some (Target.port q) → q ≡ p
 one_port o p q e f = cc
@@ -260,9 +209,9 @@ names_receive s task name p is some = elim (pos_or_zero (held s task receive p))
   | inr h ↦ h
 ]
 
-pub JoinsSet-lawful : (task member after : ℕ) (old mid : State) → IsLawful old → old.live_task task ≡ true → ¬ ¬ (NamesReceive old task member) → JoinsSet task member after old mid →
+pub JoinsSet-lawful : (task member after : ℕ) (old mid : State) → IsLawful old → ¬ ¬ (NamesReceive old task member) → JoinsSet task member after old mid →
     IsLawful mid
-JoinsSet-lawful task member after old mid l is_task some j = by j.2
+JoinsSet-lawful task member after old mid l some j = by j.2
   where
     own : (old.live_port j.0 ≡ true) × Holds old task receive j.0
     own =
@@ -271,11 +220,9 @@ JoinsSet-lawful task member after old mid l is_task some j = by j.2
 
     by : (after ≡ 0) × (mid ≡ record old { sets_of = at old.sets_of j.0 [] })
         ⊎ ((set : ℕ) × (lookup old task after ≡ Some (Target.set set)) × (mid ≡ record old { sets_of = at old.sets_of j.0 (set ∷ []) })) → IsLawful mid
-    by (inl h) = subst IsLawful (sym h.1) (Sorts-lawful old (record old { sets_of = at old.sets_of j.0 [] }) task l
-        (moved_sorts j.0 task [] old l is_task own.0 (omega arith) (λ set in_it. absurd (omega (arith, in_it.1)))))
-    by (inr h) = subst IsLawful (sym h.2) (Sorts-lawful old (record old { sets_of = at old.sets_of j.0 (h.0 ∷ []) }) task l
-        (moved_sorts j.0 task (h.0 ∷ []) old l is_task own.0 (omega arith)
-        (λ set in_it. (task, ap old.set_owner (sym (one_element h.0 set in_it)) ∙ l.set_owned task after h.0 h.1, own.1))))
+    by (inl h) = subst IsLawful (sym h.1) (joined_lawful j.0 [] old l own.0 (omega arith) (λ set in_it. absurd (omega (arith, in_it.1))))
+    by (inr h) = subst IsLawful (sym h.2) (joined_lawful j.0 (h.0 ∷ []) old l own.0 (omega arith)
+        (λ set in_it. (task, ap old.set_owner (sym (one_element h.0 set in_it)) ∙ l.set_owned task after h.0 h.1, own.1)))
 
 -- ---- a set goes
 
@@ -306,25 +253,18 @@ not_that a b e = elim (eqb_tells a b) [
   | inr h ↦ h.1
 ]
 
-without_set-sorts : (task name set : ℕ) (s : State) → IsLawful s → s.live_task task ≡ true → lookup s task name ≡ Some (Target.set set) → Sorts s (without_set set (without_name task name s)) task
-without_set-sorts task name set s l is_task is = record {
-  rest = refl;
-  is_task = is_task;
-  others = λ t not. at_other s.naming task (map.remove (s.naming task) name) t not;
-  own = subst (λ (m : Names). IsNaming m (held s task receive) (held s task send) (held s task send_once)) (sym (at_own s.naming task (map.remove (s.naming task) name)))
-      (other_unnamed (s.naming task) (held s task receive) (held s task send) (held s task send_once) (held s task receive) (held s task send) (held s task send_once) (task_naming s l task)
-      name (Target.set set) is (set_is_no_port set) (λ q. (refl, refl)) (λ q. omega arith));
-  law = lost_law s.naming s.set_owner s.sets_made task name (set_law s l) set is;
-  members = λ p other in_it.
-      let f = filtered (λ t. not (t == set)) (s.sets_of p) other in_it in
-      let h = l.members p other f.0 in
-      (h.0, at_other s.set_owner set None other (not_that other set f.1) ∙ h.1, h.2);
-  one_set = λ p. let a = fewer (λ t. not (t == set)) (s.sets_of p) in let b = l.one_set p in omega (arith, a, b);
-  no_sets = λ p dead. ap (filter (λ (t : ℕ). not (t == set))) (l.no_sets p dead);
-  stands = without_stands task name s l.none_stands;
-}
-
 -- The task's set goes with its name.
-pub without_set-lawful : (task name set : ℕ) (s : State) → IsLawful s → s.live_task task ≡ true → lookup s task name ≡ Some (Target.set set) →
-    IsLawful (without_set set (without_name task name s))
-without_set-lawful task name set s l is_task is = Sorts-lawful s (without_set set (without_name task name s)) task l (without_set-sorts task name set s l is_task is)
+pub without_set-lawful : (task name set : ℕ) (s : State) → IsLawful s → lookup s task name ≡ Some (Target.set set) → IsLawful (without_set set (without_name task name s))
+without_set-lawful task name set s l is =
+    sorted_lawful task s l (at s.set_owner set None) s.sets_made (λ p. filter (λ t. not (t == set)) (s.sets_of p)) (record {
+      one_receive = l.one_receive;
+      members = λ p other in_it.
+          let f = filtered (λ t. not (t == set)) (s.sets_of p) other in_it in
+          let h = l.members p other f.0 in
+          (h.0, at_other s.set_owner set None other (not_that other set f.1) ∙ h.1, h.2);
+    }) (record {
+      no_sets = λ p dead. ap (filter (λ (t : ℕ). not (t == set))) (l.no_sets p dead);
+      one_set = λ p. let a = fewer (λ t. not (t == set)) (s.sets_of p) in let b = l.one_set p in omega (arith, a, b);
+    }) (has_task l.tasks task name (Target.set set) is) (map.remove (s.naming task) name) (request_at s.stands (dead_name task name) false)
+    (other_unnamed (s.naming task) (held s task) (held s task) (l.naming task) (λ q. refl) (λ q. refl) name (Target.set set) is (set_is_no_port set) (λ q. omega arith))
+    (lost_law s.naming s.set_owner s.sets_made task name l.sets set is) (without_stands task name s l.none_stands)

@@ -1,19 +1,22 @@
 -- The end of a step that kills nothing: it may leave the state as it is, and leaves it so but for the order of the tokens.
-use Rattle.std.proofs.Common.{◌≡◌, ℕ, ◌<◌, ◌≤◌, List, [], ◌∷◌, ◌++◌, Option, Some, None, refl, sym, ap, ◌∙◌, arith, true, false, Bool, inl, inr, length, get_or}
+use Rattle.std.proofs.Common.{◌≡◌, ℕ, ◌+◌, ◌<◌, ◌≤◌, List, [], ◌∷◌, ◌++◌, Option, Some, None, refl, sym, ap, subst, ◌∙◌, arith, true, false, Bool, inl, inr, length, get_or}
 use Rattle.std.specs.Prelude.{option_map, if◌then◌else◌, ◌==◌, ◌&&◌, All, map as list_map, filter}
 use Rattle.std.proofs.Math.Path.{fun_ext}
 use Rattle.std.proofs.lemmas.List.{append-nil}
-use Rattle.std.proofs.lemmas.Bool.{eq-eqb}
-use Rattle.mach_types.specs.Tokens.{Kind, receive, send, send_once, Request, no_senders, port_destroyed, dead_name, Place, in_task, in_message, in_request, Token, count, weigh, Moves, is_of, same_kind}
+use Rattle.std.proofs.lemmas.Bool.{eq-eqb, and_from, false_from_ne_true, true_from_ne_false, cases_Bool}
+use Rattle.mach_types.specs.Tokens.{Kind, receive, send, send_once, Request, no_senders, port_destroyed, dead_name, Place, in_task, in_message, in_request, Token, count, weigh, Moves, is_of, is_held, same_kind}
 use Rattle.mach_types.specs.Messages.{Entry}
-use Rattle.mach_model.specs.State.{State, Target, lookup, same_request}
-use Rattle.mach_model.specs.Dying.{same_place, Dies, orphan, carried_at, IsClosed, IsOrphan, IsSent}
-use Rattle.mach_model.specs.Notices.{Notice, Posted, all_posted_tokens}
+use Rattle.mach_model.specs.State.{State, Target, lookup, held, same_request}
+use Rattle.mach_model.specs.Death.{same_place, Dies, orphan, carried_at, IsClosed, IsOrphan, IsSent}
+use Rattle.mach_model.specs.Notices.{Notice, Owed, Posted, all_posted_tokens}
 use Rattle.mach_model.specs.Settles.{PlaceStays, StaysWith, PaysFor, GoesFrom, settled_target, tokens_of, due_notices, Settles}
 use Rattle.mach_model.specs.Carried.{lying}
-use Rattle.mach_model.specs.Lawful.{IsLawful, is_once}
-use Rattle.mach_model.proofs.Weigh.{both_true, count_some, lying_le_of, held_le_of, pos_or_zero}
+use Rattle.mach_model.specs.Lawful.{IsLawful, LawfulPorts, is_once}
+use Rattle.mach_model.specs.Midway.{MidLawful}
+use Rattle.mach_model.proofs.Weigh.{length-weigh, count_some, lying_le_of, held_le_of, pos_or_zero}
 use Rattle.mach_model.proofs.Names.{alike, some_tally}
+use Rattle.mach_model.proofs.Spaces.{same_naming}
+use Rattle.mach_model.proofs.Moving.{same_receivers}
 
 -- ---- who dies
 
@@ -44,11 +47,11 @@ kind_refl send_once = refl
 pub request_refl : (r : Request) → same_request r r ≡ true
 request_refl (no_senders p) = eq-eqb p p refl
 request_refl (port_destroyed p) = eq-eqb p p refl
-request_refl (dead_name t n) = both_true _ _ (eq-eqb t t refl) (eq-eqb n n refl)
+request_refl (dead_name t n) = and_from _ _ (eq-eqb t t refl) (eq-eqb n n refl)
 
 pub place_refl : (place : Place) → same_place place place ≡ true
 place_refl (in_task t) = eq-eqb t t refl
-place_refl (in_message p k) = both_true _ _ (eq-eqb p p refl) (eq-eqb k k refl)
+place_refl (in_message p k) = and_from _ _ (eq-eqb p p refl) (eq-eqb k k refl)
 place_refl (in_request r) = request_refl r
 
 -- the test of one kind, port and place
@@ -56,23 +59,18 @@ abbrev pub is_at : Kind → ℕ → Place → Token → Bool
 is_at kind q place x = is_of kind q x && same_place place x.place
 
 pub own_test : (x : Token) → is_at x.kind x.port x.place x ≡ true
-own_test x = both_true _ _ (both_true _ _ (kind_refl x.kind) (eq-eqb x.port x.port refl)) (place_refl x.place)
+own_test x = and_from _ _ (and_from _ _ (kind_refl x.kind) (eq-eqb x.port x.port refl)) (place_refl x.place)
 
 -- a port that has a right lives
+pub lives : {live : ℕ → Bool} {made : ℕ} {ledger : List Token} → LawfulPorts live made ledger → (kind : Kind) (p : ℕ) → 0 < count (is_of kind p) ledger → live p ≡ true
+lives {live} l kind p some = true_from_ne_false (live p) (λ e. let z = l.no_rights p e kind in omega (arith, some, z))
+
 pub alive : (s : State) → IsLawful s → (kind : Kind) (p : ℕ) → 0 < count (is_of kind p) s.ledger → s.live_port p ≡ true
-alive s l kind p some = go (s.live_port p) refl
-  where
-    go : (b : Bool) → s.live_port p ≡ b → s.live_port p ≡ true
-    go true e = e
-    go false e = absurd (let z = l.no_rights p e kind in omega (arith, some, z))
+alive s l = lives l.ports
 
 pub place_stays : (s : State) → IsLawful s → (kind : Kind) (q : ℕ) (place : Place) → 0 < lying s kind q place → PlaceStays s place
 place_stays s l kind q (in_task t) some = tt
-place_stays s l kind q (in_message p k) some = go (s.live_port p) refl
-  where
-    go : (b : Bool) → s.live_port p ≡ b → s.live_port p ≡ true
-    go true e = e
-    go false e = absurd (let z = l.gone p k (inr e) kind q in omega (arith, some, z))
+place_stays s l kind q (in_message p k) some = true_from_ne_false (s.live_port p) (λ e. let z = l.gone p k (inr e) kind q in omega (arith, some, z))
 place_stays s l kind q (in_request r) some = absurd (let z = l.ended r (l.none_stands r) kind q in omega (arith, some, z))
 
 pub stays_with : (s : State) → IsLawful s → All (StaysWith s) s.ledger
@@ -83,7 +81,7 @@ stays_with s l k d below =
 
 pub named_lives : (s : State) → IsLawful s → (task name p : ℕ) → lookup s task name ≡ Some (Target.port p) → s.live_port p ≡ true
 named_lives s l task name p is =
-    let some = l.has_right task name p is in
+    let some = (l.naming task).has_right name p is in
     let a = held_le_of task receive p s.ledger in
     let b = held_le_of task send p s.ledger in
     elim (pos_or_zero (count (is_of receive p) s.ledger)) [
@@ -95,7 +93,7 @@ pub once_lives : (s : State) → IsLawful s → (task name p : ℕ) → lookup s
 once_lives s l task name p is =
     let some = some_tally (is_once p) (s.naming task) name (Target.once p) is (eq-eqb p p refl) in
     let a = held_le_of task send_once p s.ledger in
-    alive s l send_once p (omega (arith, some, l.once_names task p, a))
+    alive s l send_once p (omega (arith, some, (l.naming task).once_names p, a))
 
 -- ---- a lawful state may stay
 
@@ -144,6 +142,13 @@ quiet_settles now old mid l = record {
   rest = refl;
 }
 
+-- Nothing is owed.
+pub unowed : (mid : State) (owed : Owed) → owed ≡ [] → IsLawful mid → MidLawful mid owed
+unowed mid owed none l = record { lawful = l; none_owed = none }
+
+pub mid_settles : (now : ℕ) (old mid : State) (owed : Owed) → MidLawful mid owed → Settles now old mid owed mid
+mid_settles now old mid owed m = subst (λ (o : Owed). Settles now old mid o mid) (sym m.none_owed) (quiet_settles now old mid m.lawful)
+
 -- ---- and it does
 
 -- The state stays, but for the order of the tokens.
@@ -161,12 +166,10 @@ empty_mapped f (x ∷ xs) e = absurd (cc)
 
 module _ (now : ℕ) (old mid new : State) (l : IsLawful mid) (s : Settles now old mid [] new) where
   live : (p : ℕ) → new.live_port p ≡ mid.live_port p
-  live p = go (mid.live_port p) (new.live_port p) refl refl
-    where
-      go : (a b : Bool) → mid.live_port p ≡ a → new.live_port p ≡ b → new.live_port p ≡ mid.live_port p
-      go false b e f = s.gone_before p e ∙ sym e
-      go true true e f = f ∙ sym e
-      go true false e f = absurd (no_death mid l p (s.only p e f))
+  live p = elim (cases_Bool (mid.live_port p)) [
+    | inl e ↦ true_from_ne_false (new.live_port p) (λ f. no_death mid l p (s.only p e f)) ∙ sym e
+    | inr e ↦ s.gone_before p e ∙ sym e
+  ]
 
   stays_new : (kind : Kind) (q : ℕ) (place : Place) → 0 < lying mid kind q place → PlaceStays new place
   stays_new kind q (in_task t) some = tt
@@ -219,11 +222,7 @@ module _ (now : ℕ) (old mid new : State) (l : IsLawful mid) (s : Settles now o
       (λ p e. live p ∙ named_lives mid l task name p e) (λ p e. live p ∙ once_lives mid l task name p e))
 
   unsent : (p : ℕ) → s.is_sent p ≡ false
-  unsent p = go (s.is_sent p) refl
-    where
-      go : (b : Bool) → s.is_sent p ≡ b → s.is_sent p ≡ false
-      go false e = e
-      go true e = absurd (never_sent mid l p (s.sent_only p e))
+  unsent p = false_from_ne_true (s.is_sent p) (λ e. never_sent mid l p (s.sent_only p e))
 
   same_set : (p : ℕ) → new.sets_of p ≡ mid.sets_of p
   same_set p = s.sets_of p ∙ rw (unsent p, live p) (sym (kept_set (mid.live_port p) (mid.sets_of p) (l.no_sets p)))
@@ -258,3 +257,36 @@ module _ (now : ℕ) (old mid new : State) (l : IsLawful mid) (s : Settles now o
         let e : weigh h (all_posted_tokens s.posted) ≡ 0 = ap (λ (xs : List Posted). weigh h (all_posted_tokens xs)) none_posted in
         omega (arith, a, b, c, d, e);
   }
+
+-- ---- and that is lawful
+
+module _ (s : State) (ledger : List Token) (l : IsLawful s) (moves : Moves s.ledger ledger [] []) where
+  same : (test : Token → Bool) → count test ledger ≡ count test s.ledger
+  same test = let m = moves (λ x. if test x then 1 else 0) in omega (arith, m)
+
+  reordered_lawful : IsLawful (record s { ledger = ledger })
+  reordered_lawful = record {
+    tasks = l.tasks;
+    naming = λ t. same_naming (s.naming t) (held s t) (λ kind q. count (is_held t kind q) ledger) (l.naming t) (λ kind q. same (is_held t kind q));
+    ports = record { made_port = l.made_port; no_rights = λ q dead kind. same (is_of kind q) ∙ l.no_rights q dead kind };
+    numbers = l.numbers;
+    receivers = same_receivers s.live_port s.set_owner s.sets_of s.ledger ledger l.receivers (λ q. same (is_of receive q)) (λ t q. let e = same (is_held t receive q) in omega (arith, e));
+    few_rights = let m = moves (λ x. 1) in let h = l.few_rights in omega (arith, m, h, length-weigh s.ledger, length-weigh ledger);
+    sets = l.sets;
+    membership = l.membership;
+    logs = l.logs;
+    messages = record {
+      carried = λ p i e live is kind q live_q. same (is_at kind q (in_message p (s.taken p + i))) ∙ l.carried p i e live is kind q live_q;
+      gone = λ p k is kind q. same (is_at kind q (in_message p k)) ∙ l.gone p k is kind q;
+      no_entry = λ p k above kind q. same (is_at kind q (in_message p k)) ∙ l.no_entry p k above kind q;
+      none_carried = λ p k q. same (is_at receive q (in_message p k)) ∙ l.none_carried p k q;
+    };
+    requests = record {
+      one_kept = λ r. let m = same (λ x. same_place (in_request r) x.place) in let h = l.one_kept r in omega (arith, m, h);
+      once_kept = λ r kind q not. same (is_at kind q (in_request r)) ∙ l.once_kept r kind q not;
+    };
+    standing = record { ended = λ r not kind q. same (is_at kind q (in_request r)) ∙ l.ended r not kind q; none_stands = l.none_stands };
+  }
+
+pub IsReordered-lawful : (mid new : State) → IsLawful mid → IsReordered mid new → IsLawful new
+IsReordered-lawful mid new l r = subst IsLawful (sym r.rest) (reordered_lawful mid new.ledger l r.tokens)

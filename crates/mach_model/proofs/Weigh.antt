@@ -1,8 +1,9 @@
 -- Sums over the tokens.
 use Rattle.std.proofs.Common.{◌≡◌, ℕ, suc, zero, ◌+◌, ◌<◌, ◌≤◌, List, [], ◌∷◌, ◌++◌, refl, arith, true, false, Bool, ◌⊎◌, inl, inr, length, get_or}
-use Rattle.std.specs.Prelude.{if◌then◌else◌, ◌&&◌, ◌==◌}
-use Rattle.mach_types.specs.Tokens.{Token, Kind, weigh, count, Moves, is_of, is_held, Place}
-use Rattle.mach_model.specs.Dying.{same_place}
+use Rattle.std.specs.Prelude.{if◌then◌else◌, ◌&&◌}
+use Rattle.std.proofs.lemmas.Bool.{false_from_ne_true}
+use Rattle.mach_types.specs.Tokens.{Token, Kind, weigh, count, is_of, is_held, Place}
+use Rattle.mach_model.specs.Death.{same_place}
 use Rattle.mach_model.specs.State.{State}
 use Rattle.mach_model.specs.Carried.{lying}
 
@@ -18,16 +19,6 @@ pub length-weigh : (xs : List Token) → length xs ≡ weigh (λ x. 1) xs
 length-weigh [] = refl
 length-weigh (x ∷ xs) = omega (arith, length-weigh xs)
 
-pub Moves-refl : (xs : List Token) → Moves xs xs [] []
-Moves-refl xs h = refl
-
-pub Moves-trans : (xs ys zs g c k d : List Token) → Moves xs ys g c → Moves ys zs k d → Moves xs zs (g ++ k) (c ++ d)
-Moves-trans xs ys zs g c k d m n h = omega (arith, m h, n h, weigh-append h g k, weigh-append h c d)
-
--- any token of a port
-abbrev pub is_for : ℕ → Token → Bool
-is_for p x = x.port == p
-
 pub if_le : (a b : Bool) → (a ≡ true → b ≡ true) → (if a then 1 else 0) ≤ (if b then 1 else 0)
 if_le true true f = omega arith
 if_le false b f = omega arith
@@ -41,14 +32,6 @@ pub left_of : (a b : Bool) → (a && b) ≡ true → a ≡ true
 left_of true b e = refl
 left_of false b e = absurd (cc)
 
-pub both_true : (a b : Bool) → a ≡ true → b ≡ true → (a && b) ≡ true
-both_true true b e f = f
-both_true false b e f = absurd (cc)
-
-pub not_true : (b : Bool) → (b ≡ true → ⊥) → b ≡ false
-not_true true f = absurd (f refl)
-not_true false f = refl
-
 pub pos_or_zero : (n : ℕ) → (n ≡ 0) ⊎ (0 < n)
 pos_or_zero zero = inl refl
 pos_or_zero (suc n) = inr (omega arith)
@@ -59,9 +42,6 @@ count_le f g h xs = weigh-le _ _ (λ x. if_le (f x) (g x) (h x)) xs
 pub held_le_of : (task : ℕ) (k : Kind) (p : ℕ) (xs : List Token) → count (is_held task k p) xs ≤ count (is_of k p) xs
 held_le_of task k p xs = count_le (is_held task k p) (is_of k p) (λ x e. left_of _ _ e) xs
 
-pub of_le_for : (k : Kind) (p : ℕ) (xs : List Token) → count (is_of k p) xs ≤ count (is_for p) xs
-of_le_for k p xs = count_le (is_of k p) (is_for p) (λ x e. right_of _ _ e) xs
-
 pub lying_le_of : (s : State) (kind : Kind) (q : ℕ) (place : Place) → lying s kind q place ≤ count (is_of kind q) s.ledger
 lying_le_of s kind q place = count_le (λ x. is_of kind q x && same_place place x.place) (is_of kind q) (λ x e. left_of _ _ e) s.ledger
 
@@ -69,7 +49,7 @@ lying_le_of s kind q place = count_le (λ x. is_of kind q x && same_place place 
 pub count_none : (test : Token → Bool) (xs : List Token) → ((k : ℕ) (d : Token) → k < length xs → test (get_or xs k d) ≡ true → ⊥) → count test xs ≡ 0
 count_none test [] none = refl
 count_none test (x ∷ xs) none =
-    let e = not_true (test x) (none 0 x (omega arith)) in
+    let e = false_from_ne_true (test x) (none 0 x (omega arith)) in
     let rest = count_none test xs (λ k d below. none (suc k) d (omega (arith, below))) in
     rw e (omega (arith, rest))
 

@@ -5,15 +5,14 @@ use Rattle.mach_types.specs.declared.calls.Reply.{Reply}
 use Rattle.mach_types.specs.declared.calls.Waited.{Waited}
 use Rattle.mach_types.specs.Guards.{NoneHolds}
 use Rattle.mach_model.specs.State.{State, opening, at, IsFresh}
-use Rattle.mach_model.specs.Making.{CreatesTask, Makes}
-use Rattle.mach_model.specs.Telling.{TellsReferences, TellsType}
-use Rattle.mach_model.specs.Status.{TellsStatus, ChangesPort}
-use Rattle.mach_model.specs.Losing.{Deallocates, Destroys, Modifies}
-use Rattle.mach_model.specs.Renaming.{names_of, Renames}
+use Rattle.mach_model.specs.Tasks.{CreatesTask}
+use Rattle.mach_model.specs.Names.{Makes, TellsType, names_of, Renames}
+use Rattle.mach_model.specs.References.{TellsReferences, Deallocates, Destroys, Modifies}
+use Rattle.mach_model.specs.ReceiveRight.{TellsStatus, ChangesPort}
 use Rattle.mach_model.specs.Sets.{TellsMembers, JoinsSet}
-use Rattle.mach_model.specs.Handing.{Inserts, Extracts}
-use Rattle.mach_model.specs.Sending.{Sends}
-use Rattle.mach_model.specs.Receiving.{waits_for, Receipt}
+use Rattle.mach_model.specs.Transfer.{Inserts, Extracts}
+use Rattle.mach_model.specs.Send.{Sends}
+use Rattle.mach_model.specs.Receive.{waits_for, Receipt}
 use Rattle.mach_model.specs.Notices.{Owed}
 use Rattle.mach_model.specs.Settles.{Settles}
 use Rattle.mach_model.specs.Refusals.{Refuses, guards}

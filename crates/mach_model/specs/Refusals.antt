@@ -1,5 +1,5 @@
 -- Which code refuses an event: the first guard that holds, from left to right (the order is this project's own).
-use Rattle.std.specs.Prelude.{◌≡◌, ◌≢◌, ℕ, false, ℤ, pos, negsuc, ◌+◌, ◌<◌, ◌≤◌, ◌⊎◌, [], ◌∷◌, length, Option, Some, None}
+use Rattle.std.specs.Prelude.{◌≡◌, ◌≢◌, ℕ, false, ℤ, pos, negsuc, ◌+◌, ◌<◌, ◌≤◌, ◌⊎◌, List, [], ◌∷◌, length, Option, Some, None}
 use Rattle.mach_types.specs.declared.calls.Event.{Event}
 use Rattle.mach_types.specs.declared.calls.Waited.{Waited}
 use Rattle.mach_types.specs.declared.codes.KernReturn.TheVariants.{NoSpace, ResourceShortage, NameExists, InvalidName, InvalidTask, InvalidRight, InvalidValue, UrefsOverflow, InvalidCapability, NotInSet}
@@ -9,12 +9,14 @@ use Rattle.mach_types.specs.Tokens.{receive, in_task}
 use Rattle.mach_types.specs.Guards.{Guards, FirstIs, NoneHolds}
 use Rattle.mach_types.specs.TextGuards.{header_guards}
 use Rattle.mach_model.specs.State.{State, Target, lookup, Holds}
-use Rattle.mach_model.specs.Making.{IsNoTask, IsNoMaking, IsFull}
-use Rattle.mach_model.specs.Status.{NamesReceive}
-use Rattle.mach_model.specs.Handing.{inserted_guards, extracted_guards, CopyRefuses}
-use Rattle.mach_model.specs.Sending.{IsLegalName, IsDeadName, SendRefuses}
-use Rattle.mach_model.specs.Receiving.{IsSet, waits_for, ReceiptRefuses}
-use Rattle.mach_model.specs.Losing.{HasReference, IsCounted, IsUncounted, references_at, IsBelowZero, IsAbove, added_rights}
+use Rattle.mach_model.specs.Tasks.{IsNoTask}
+use Rattle.mach_model.specs.Names.{IsNoMaking, IsFull}
+use Rattle.mach_model.specs.ReceiveRight.{NamesReceive}
+use Rattle.mach_model.specs.Transfer.{inserted_guards, extracted_guards, CopyRefuses}
+use Rattle.mach_model.specs.Send.{IsLegalName, IsDeadName, SendRefuses}
+use Rattle.mach_model.specs.Sets.{IsSet}
+use Rattle.mach_model.specs.Receive.{waits_for, ReceiptRefuses}
+use Rattle.mach_model.specs.References.{HasReference, IsCounted, IsUncounted, references_at, IsBelowZero, IsAbove, added_rights}
 use Rattle.mach_model.specs.NotYet.{IsNotYetDeallocating, IsNotYetDestroying, IsNotYetRemoving}
 
 abbrev pub IsUnused : State → (task name : ℕ) → Type 0
@@ -27,25 +29,61 @@ IsNoName name = (name ≡ null_word) ⊎ (dead_word ≤ name)
 abbrev pub IsDisposition : ℕ → Type 0
 IsDisposition number = (16 ≤ number) × (number ≤ 21)
 
--- what a call on a receive right is refused by
+-- ---- the tasks that an event names, which are judged first
+
+abbrev pub tasks_of : Event → List ℕ
+tasks_of Event.TaskCreate = []
+tasks_of (Event.Allocate task right) = task ∷ []
+tasks_of (Event.AllocateName task right name) = task ∷ []
+tasks_of (Event.Deallocate task name) = task ∷ []
+tasks_of (Event.Destroy task name) = task ∷ []
+tasks_of (Event.ModRefs task name right delta) = task ∷ []
+tasks_of (Event.GetRefs task name right) = task ∷ []
+tasks_of (Event.NameType task name) = task ∷ []
+tasks_of (Event.Names task) = task ∷ []
+tasks_of (Event.Rename task o n) = task ∷ []
+tasks_of (Event.ReceiveStatus task name) = task ∷ []
+tasks_of (Event.SetQlimit task name n) = task ∷ []
+tasks_of (Event.SetMscount task name n) = task ∷ []
+tasks_of (Event.SetSeqno task name n) = task ∷ []
+tasks_of (Event.SetStatus task name) = task ∷ []
+tasks_of (Event.MoveMember task member after) = task ∷ []
+tasks_of (Event.InsertRight task name from poly number) = task ∷ from ∷ []
+tasks_of (Event.ExtractRight task name number to) = task ∷ to ∷ []
+tasks_of (Event.Send task bytes) = task ∷ []
+tasks_of (Event.Receive task name room large) = task ∷ []
+tasks_of (Event.ReceiveAgain task waited room large) = task ∷ []
+
+-- one of the tasks isn't live
+abbrev pub IsOneDead : State → List ℕ → Type 0
+IsOneDead s [] = ⊥
+IsOneDead s (task ∷ []) = IsNoTask s task
+IsOneDead s (task ∷ tasks) = IsNoTask s task ⊎ IsOneDead s tasks
+
+-- ---- what a name has to stand for
+
+abbrev pub used_guards : State → (task name : ℕ) → Guards
+used_guards s task name = (IsUnused s task name, kern_number InvalidName) ∷ []
+
+-- a receive right
 abbrev pub receive_guards : State → (task name : ℕ) → Guards
 receive_guards s task name =
-    (IsNoTask s task, kern_number InvalidTask)
-    ∷ (IsUnused s task name, kern_number InvalidName)
+    (IsUnused s task name, kern_number InvalidName)
     ∷ (¬ (NamesReceive s task name), kern_number InvalidRight)
     ∷ []
 
+-- a port set
 abbrev pub set_guards : State → (task name : ℕ) → Guards
 set_guards s task name =
-    (IsNoTask s task, kern_number InvalidTask)
-    ∷ (IsUnused s task name, kern_number InvalidName)
+    (IsUnused s task name, kern_number InvalidName)
     ∷ (¬ (IsSet (lookup s task name)), kern_number InvalidRight)
     ∷ []
 
+-- ---- the guards of each call, of tasks that live
+
 abbrev pub move_guards : State → (task member after : ℕ) → Guards
 move_guards s task member after =
-    (IsNoTask s task, kern_number InvalidTask)
-    ∷ (IsUnused s task member ⊎ (after ≢ 0) × IsUnused s task after, kern_number InvalidName)
+    (IsUnused s task member ⊎ (after ≢ 0) × IsUnused s task after, kern_number InvalidName)
     ∷ (¬ (NamesReceive s task member) ⊎ (after ≢ 0) × ¬ (IsSet (lookup s task after)), kern_number InvalidRight)
     ∷ ((after ≡ 0) × ((p : ℕ) × (lookup s task member ≡ Some (Target.port p)) × (s.sets_of p ≡ [])), kern_number NotInSet)
     ∷ []
@@ -53,20 +91,17 @@ move_guards s task member after =
 -- what is waited for is gone, or was never there; or the task could not receive from it by a name
 abbrev pub again_guards : State → (task : ℕ) → Waited → Guards
 again_guards s task (Waited.Port p) =
-    (IsNoTask s task, kern_number InvalidTask)
-    ∷ (s.live_port p ≡ false, msg_number ReceivePortDied)
+    (s.live_port p ≡ false, msg_number ReceivePortDied)
     ∷ (¬ (Holds s task receive p) ⊎ (s.sets_of p ≢ []), msg_number ReceivePortChanged)
     ∷ []
 again_guards s task (Waited.Set set) =
-    (IsNoTask s task, kern_number InvalidTask)
-    ∷ (s.set_owner set ≡ None, msg_number ReceivePortDied)
+    (s.set_owner set ≡ None, msg_number ReceivePortDied)
     ∷ (s.set_owner set ≢ Some task, msg_number ReceivePortChanged)
     ∷ []
 
 abbrev pub modify_guards : State → (task name right : ℕ) → ℤ → Guards
 modify_guards s task name right delta =
-    (IsNoTask s task, kern_number InvalidTask)
-    ∷ (4 < right, kern_number InvalidValue)
+    (4 < right, kern_number InvalidValue)
     ∷ (IsUnused s task name, kern_number InvalidName)
     ∷ (references_at s task name right ≡ 0, kern_number InvalidRight)
     ∷ (IsCounted right × IsBelowZero (references_at s task name right) delta ⊎ IsUncounted right × (delta ≢ pos 0) × (delta ≢ negsuc 0), kern_number InvalidValue)
@@ -77,8 +112,7 @@ modify_guards s task name right delta =
 
 abbrev pub insert_guards : State → (task name from poly number : ℕ) → Guards
 insert_guards s task name from poly number =
-    (IsNoTask s task ⊎ IsNoTask s from, kern_number InvalidTask)
-    ∷ (IsNoName name ⊎ ¬ (IsDisposition number), kern_number InvalidValue)
+    (IsNoName name ⊎ ¬ (IsDisposition number), kern_number InvalidValue)
     ∷ (IsNoName poly ⊎ IsDeadName s from poly × (17 ≤ number) × (number ≤ 19), kern_number InvalidCapability)
     ∷ (IsUnused s from poly, kern_number InvalidName)
     ∷ (¬ (IsLegalName s from poly number), kern_number InvalidRight)
@@ -86,74 +120,58 @@ insert_guards s task name from poly number =
 
 abbrev pub extract_guards : State → (task name number to : ℕ) → Guards
 extract_guards s task name number to =
-    (IsNoTask s task ⊎ IsNoTask s to, kern_number InvalidTask)
-    ∷ (¬ (IsDisposition number), kern_number InvalidValue)
+    (¬ (IsDisposition number), kern_number InvalidValue)
     ∷ (IsUnused s task name, kern_number InvalidName)
     ∷ (¬ (IsLegalName s task name number) ⊎ IsDeadName s task name, kern_number InvalidRight)
     ∷ []
 
--- the guards that are judged in the state before
-abbrev pub guards : State → Event → Guards
-guards s Event.TaskCreate = (most_tasks ≤ s.tasks_made, kern_number NoSpace) ∷ []
-guards s (Event.Allocate task right) =
-    (IsNoTask s task, kern_number InvalidTask)
-    ∷ (IsNoMaking right, kern_number InvalidValue)
+abbrev pub call_guards : State → Event → Guards
+call_guards s Event.TaskCreate = (most_tasks ≤ s.tasks_made, kern_number NoSpace) ∷ []
+call_guards s (Event.Allocate task right) =
+    (IsNoMaking right, kern_number InvalidValue)
     ∷ (IsFull s task right, kern_number NoSpace)
     ∷ []
-guards s (Event.AllocateName task right name) =
-    (IsNoTask s task, kern_number InvalidTask)
-    ∷ (IsNoMaking right ⊎ IsNoName name, kern_number InvalidValue)
+call_guards s (Event.AllocateName task right name) =
+    (IsNoMaking right ⊎ IsNoName name, kern_number InvalidValue)
     ∷ (lookup s task name ≢ None, kern_number NameExists)
     ∷ (IsFull s task right, kern_number NoSpace)
     ∷ []
-guards s (Event.Deallocate task name) =
-    (IsNoTask s task, kern_number InvalidTask)
-    ∷ (IsUnused s task name, kern_number InvalidName)
+call_guards s (Event.Deallocate task name) =
+    (IsUnused s task name, kern_number InvalidName)
     ∷ (¬ (HasReference s task (lookup s task name)), kern_number InvalidRight)
     ∷ (IsNotYetDeallocating s task name, kern_number InvalidRight)
     ∷ []
-guards s (Event.Destroy task name) =
-    (IsNoTask s task, kern_number InvalidTask)
-    ∷ (IsUnused s task name, kern_number InvalidName)
+call_guards s (Event.Destroy task name) =
+    (IsUnused s task name, kern_number InvalidName)
     ∷ (IsNotYetDestroying s task name, kern_number InvalidRight)
     ∷ []
-guards s (Event.ModRefs task name right delta) = modify_guards s task name right delta
-guards s (Event.GetRefs task name right) =
-    (IsNoTask s task, kern_number InvalidTask)
-    ∷ (4 < right, kern_number InvalidValue)
-    ∷ (IsUnused s task name, kern_number InvalidName)
-    ∷ []
-guards s (Event.NameType task name) =
-    (IsNoTask s task, kern_number InvalidTask)
-    ∷ (IsUnused s task name, kern_number InvalidName)
-    ∷ []
-guards s (Event.Names task) = (IsNoTask s task, kern_number InvalidTask) ∷ []
-guards s (Event.Rename task o n) =
-    (IsNoTask s task, kern_number InvalidTask)
-    ∷ (IsNoName n, kern_number InvalidValue)
+call_guards s (Event.ModRefs task name right delta) = modify_guards s task name right delta
+call_guards s (Event.GetRefs task name right) = (4 < right, kern_number InvalidValue) ∷ used_guards s task name
+call_guards s (Event.NameType task name) = used_guards s task name
+call_guards s (Event.Names task) = []
+call_guards s (Event.Rename task o n) =
+    (IsNoName n, kern_number InvalidValue)
     ∷ (IsUnused s task o, kern_number InvalidName)
     ∷ (lookup s task n ≢ None, kern_number NameExists)
     ∷ []
-guards s (Event.ReceiveStatus task name) = receive_guards s task name
-guards s (Event.SetQlimit task name n) =
-    (IsNoTask s task, kern_number InvalidTask)
-    ∷ (greatest_limit < n, kern_number InvalidValue)
-    ∷ (IsUnused s task name, kern_number InvalidName)
-    ∷ (¬ (NamesReceive s task name), kern_number InvalidRight)
-    ∷ []
-guards s (Event.SetMscount task name n) = receive_guards s task name
-guards s (Event.SetSeqno task name n) = receive_guards s task name
-guards s (Event.SetStatus task name) = set_guards s task name
-guards s (Event.MoveMember task member after) = move_guards s task member after
-guards s (Event.InsertRight task name from poly number) = insert_guards s task name from poly number
-guards s (Event.ExtractRight task name number to) = extract_guards s task name number to
-guards s (Event.Send task bytes) = (IsNoTask s task, kern_number InvalidTask) ∷ header_guards bytes
-guards s (Event.Receive task name room large) =
-    (IsNoTask s task, kern_number InvalidTask)
-    ∷ (¬ (NamesReceive s task name ⊎ IsSet (lookup s task name)), msg_number ReceiveInvalidName)
+call_guards s (Event.ReceiveStatus task name) = receive_guards s task name
+call_guards s (Event.SetQlimit task name n) = (greatest_limit < n, kern_number InvalidValue) ∷ receive_guards s task name
+call_guards s (Event.SetMscount task name n) = receive_guards s task name
+call_guards s (Event.SetSeqno task name n) = receive_guards s task name
+call_guards s (Event.SetStatus task name) = set_guards s task name
+call_guards s (Event.MoveMember task member after) = move_guards s task member after
+call_guards s (Event.InsertRight task name from poly number) = insert_guards s task name from poly number
+call_guards s (Event.ExtractRight task name number to) = extract_guards s task name number to
+call_guards s (Event.Send task bytes) = header_guards bytes
+call_guards s (Event.Receive task name room large) =
+    (¬ (NamesReceive s task name ⊎ IsSet (lookup s task name)), msg_number ReceiveInvalidName)
     ∷ ((p : ℕ) × (lookup s task name ≡ Some (Target.port p)) × (s.sets_of p ≢ []), msg_number ReceiveInSet)
     ∷ []
-guards s (Event.ReceiveAgain task waited room large) = again_guards s task waited
+call_guards s (Event.ReceiveAgain task waited room large) = again_guards s task waited
+
+-- the guards that are judged in the state before
+abbrev pub guards : State → Event → Guards
+guards s event = (IsOneDead s (tasks_of event), kern_number InvalidTask) ∷ call_guards s event
 
 -- the code for want of memory of an event whose guards are all judged in the state before
 abbrev pub memory_refusal : Event → Option ℕ

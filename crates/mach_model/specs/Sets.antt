@@ -1,6 +1,11 @@
 -- Port sets (Port Manipulation Interface, `mach_port_move_member` and `mach_port_get_set_status`).
-use Rattle.std.specs.Prelude.{◌≡◌, ℕ, ◌<◌, ◌⊎◌, ◌↔◌, List, [], ◌∷◌, filter, ◌==◌, not, Some, None, AllPairs, Contains}
+use Rattle.std.specs.Prelude.{◌≡◌, ℕ, ◌<◌, ◌⊎◌, ◌↔◌, List, [], ◌∷◌, filter, ◌==◌, not, Option, Some, None, AllPairs, Contains}
 use Rattle.mach_model.specs.State.{State, Target, lookup, at}
+
+-- the name is a port set's
+abbrev pub IsSet : Option Target → Type 0
+IsSet (Some (Target.set set)) = Unit {0}
+IsSet target = ⊥
 
 -- the set is gone, and no port is in it
 abbrev pub without_set : (set : ℕ) → State → State

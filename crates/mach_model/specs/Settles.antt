@@ -4,7 +4,7 @@ use Rattle.mach_types.specs.Numbers.{most_references}
 use Rattle.mach_types.specs.Tokens.{send, send_once, Request, no_senders, port_destroyed, dead_name, Place, in_task, in_message, in_request, Token, weigh}
 use Rattle.mach_types.specs.Messages.{Entry}
 use Rattle.mach_model.specs.State.{State, Target, lookup, held, senders}
-use Rattle.mach_model.specs.Dying.{Dies, IsSent}
+use Rattle.mach_model.specs.Death.{Dies, IsSent}
 use Rattle.mach_model.specs.Notices.{Notice, port_deleted, port_sent, no_more_senders, right_unused, name_died, notice_message, Posted, all_posted_tokens}
 
 -- ---- what becomes of each right, from the state after the step's own part to the one after the step

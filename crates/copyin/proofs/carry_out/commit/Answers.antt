@@ -2,11 +2,11 @@ use Rattle.std.proofs.Common.{◌≡◌, ℕ, ◌++◌, List, Option, sym, ap, �
 use Rattle.std.specs.Option.{option_to_list}
 use Rattle.message_codec.specs.declared.words.PortWord.{PortWord}
 use Rattle.port.specs.Ports.{IsLive}
-use Rattle.copyin.specs.declared.message.Carried.{Carried}
-use Rattle.copyin.specs.Kept.{Kept}
+use Rattle.copyin_base.specs.declared.message.Carried.{Carried}
+use Rattle.copyin_base.specs.Kept.{Kept}
 use Rattle.copyin.specs.Planned.{CanGo}
 use Rattle.copyin.specs.Plans.{ChangesWords}
-use Rattle.copyin.specs.Worlds.{WorldView}
+use Rattle.copyin_base.specs.Worlds.{WorldView}
 use Rattle.copyin.proofs.Going.{go_on, first_goes}
 use Rattle.copyin.proofs.Committing.{Carries, own_task, plan_goes, plan_pairs, plan_lives, front_goes, rest_goes, carries_live, carries_spare, commits}
 use Rattle.copyin.proofs.carry_out.commit.Goals as goal

@@ -1,8 +1,9 @@
 use Rattle.std.proofs.Common.{ℕ, ◌+◌, List, [], sym, subst, take, inl, inr, arith}
 use Rattle.std.proofs.lemmas.List.{take_all}
+use Rattle.std.proofs.lemmas.Result.{err_from_is_err_and}
 use Rattle.message_codec.specs.declared.words.PortWord.{PortWord}
 use Rattle.copyin.specs.Judging.{CopiesBody}
-use Rattle.copyin.specs.declared.message.Carried.{Carried}
+use Rattle.copyin_base.specs.declared.message.Carried.{Carried}
 use Rattle.copyin.proofs.Judging.{IsJudged, judged-none, judged-more, judged-bad}
 use Rattle.copyin.proofs.judge.judge_body.Goals as goal
 
@@ -17,21 +18,22 @@ loop-word-preserved c =
     let words = c.args.words.now in
     let next : ℕ = c.loop-word.word-index + 1 in
     let new = c.judge_next.new.touched in
-    let k = c.in_default.ensures.ok in
+    let k = c.in_ok-judge_next.ensures.ok in
     subst (λ (cs : List Carried). IsJudged c.args.touched.now new names (take next words) cs) (sym k.1)
     (judged-more c.args.touched.now c.loop-word.touched new names words c.loop-word.word-index c.word-item.result c.loop-word.rights.items k.0
     c.loop-word-test.true c.word-item.is c.loop-word.invariant k.2 k.3)
 
-pub returns-in-Err-clause-err : goal.returns-in-Err-clause-err
-returns-in-Err-clause-err c =
-    elim c.in-Err.ensures.err [
+pub returns-in_err-judge_next-clause-err : goal.returns-in_err-judge_next-clause-err
+returns-in_err-judge_next-clause-err c =
+    let p = err_from_is_err_and c.from_residual.result c.from_residual.ensures.1 in
+    rw (p.1, p.2) (elim c.in_err-judge_next.ensures.err [
       | inl h ↦ inl h
       | inr h ↦ inr (
         h.0,
         judged-bad c.args.touched.now c.loop-word.touched c.args.space.now.names c.args.words.now c.loop-word.word-index c.word-item.result c.loop-word.rights.items
             c.loop-word-test.true c.word-item.is c.loop-word.invariant h.1,
       )
-    ]
+    ])
 
 pub returns-clause-ok : goal.returns-clause-ok
 returns-clause-ok c = λ now o.

@@ -1,6 +1,6 @@
 use Rattle.std.proofs.Common.{◌≡◌, Some, sym, ◌∙◌, refl}
 use Rattle.std.specs.FinMap as map
-use Rattle.copyin.specs.Worlds.{put}
+use Rattle.copyin_base.specs.Worlds.{put}
 use Rattle.copyin.proofs.judge.judge_name.Goals as goal
 
 pub returns-clause-ok : goal.returns-clause-ok

@@ -3,7 +3,7 @@ use Rattle.std.specs.Prelude.{slice_get}
 use Rattle.mach_types.specs.Numbers.{kind_sent}
 use Rattle.mach_types.specs.Tokens.{send_once}
 use Rattle.name_space.specs.Names.{SpaceView}
-use Rattle.copyin.proofs.Gets.{same_found}
+use Rattle.copyin_base.proofs.Gets.{same_found}
 use Rattle.copyout.specs.Room.{HasNone}
 use Rattle.copyout.proofs.After.{can_take}
 use Rattle.copyout.proofs.give.give_port.Goals as goal

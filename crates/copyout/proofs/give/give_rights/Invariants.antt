@@ -1,6 +1,6 @@
 use Rattle.std.proofs.Common.{ℕ, ◌≤◌, ◌+◌, List, ◌++◌, length, drop}
 use Rattle.std.specs.Prelude.{vec_capacity}
-use Rattle.copyin.specs.Worlds.{WorldView}
+use Rattle.copyin_base.specs.Worlds.{WorldView}
 use Rattle.copyout.specs.Giving.{GivesAll}
 use Rattle.copyout.specs.Ready.{CanGive}
 use Rattle.copyout.proofs.give.give_rights.Given as goal

@@ -1,9 +1,10 @@
 use Rattle.std.proofs.Common.{sym, subst}
-use Rattle.copyin.specs.Kept.{Kept}
+use Rattle.copyin_base.specs.Kept.{Kept}
 use Rattle.std.specs.Prelude.{vec_capacity}
 use Rattle.copyout.specs.Ready.{CanGive, carried_by}
 use Rattle.copyout.proofs.Alike.{can_deliver}
 use Rattle.copyout.proofs.Delivered.{takes_message}
+use Rattle.copyout.proofs.Front.{sequence_is}
 use Rattle.copyout.proofs.receipt.copyout.Goals as goal
 
 pub deliver-requires-clause-can : goal.deliver-requires-clause-can
@@ -15,5 +16,5 @@ deliver-requires-clause-can c =
 pub returns : goal.returns
 returns c =
     let t = c.take_front-message.ensures in
-    takes_message c.args.world.now c.take_front-message.new.world c.deliver.new.world c.args.task c.args.port c.args.local c.sequence_of-sequence.result c.take_front-message.result c.deliver.result
-    t.0 t.1 (c.sequence_of-sequence.ensures t.0.v t.0.there) c.deliver.ensures
+    takes_message c.args.world.now c.take_front-message.new.world c.deliver.new.world c.args.task c.args.port c.args.local c.attributes-sequence.result.sequence c.take_front-message.result c.deliver.result
+    t.0 t.1 (sequence_is c.args.world.now c.args.port c.attributes-sequence.result c.attributes-sequence.ensures t.0.v t.0.there) c.deliver.ensures

@@ -2,8 +2,8 @@ use Rattle.std.proofs.Common.{◌≡◌, ℕ, ◌++◌, List, length, sym, ap, s
 use Rattle.mach_types.specs.Grammar.{body_text}
 use Rattle.message_codec.specs.Received.{header_text, received_body}
 use Rattle.message_codec.specs.Spans.{word_count}
-use Rattle.copyin.specs.declared.message.Carried.{Carried}
-use Rattle.copyin.specs.Kept.{Kept}
+use Rattle.copyin_base.specs.declared.message.Carried.{Carried}
+use Rattle.copyin_base.specs.Kept.{Kept}
 use Rattle.copyout.specs.Giving.{GivesAll}
 use Rattle.copyout.specs.Ready.{CanGive, Delivers, carried_by}
 use Rattle.copyout.proofs.Delivered.{can_reply, can_rights, gives_length, delivers}

@@ -1,9 +1,10 @@
 use Rattle.std.proofs.Common.{◌≡◌, ◌+◌, List, Some, ap, ◌∙◌, drop}
 use Rattle.std.specs.FinMap as map
 use Rattle.port.specs.Ports.{PortsView, with_port}
-use Rattle.copyin.specs.Kept.{Kept}
-use Rattle.copyin.specs.Worlds.{WorldView}
-use Rattle.copyout.proofs.Front.{is_front, same_world}
+use Rattle.copyin_base.specs.Kept.{Kept}
+use Rattle.copyin_base.specs.Worlds.{WorldView}
+use Rattle.copyout.proofs.Front.{is_front}
+use Rattle.copyin_base.proofs.Spaces.{same_world}
 use Rattle.copyout.proofs.receipt.dequeue.Goals as goal
 
 pub returns : goal.returns

@@ -1,5 +1,5 @@
 use Rattle.std.proofs.Common.{◌≡◌, ℕ, [], ◌∷◌, Option, List, sym, refl, subst}
-use Rattle.copyin.specs.declared.message.Carried.{Carried}
+use Rattle.copyin_base.specs.declared.message.Carried.{Carried}
 use Rattle.copyin.specs.Plans.{option_list}
 use Rattle.copyout.specs.Giving.{GivesAll}
 use Rattle.copyout.specs.Takes.{reply_word}

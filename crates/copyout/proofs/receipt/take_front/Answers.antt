@@ -3,8 +3,8 @@ use Rattle.std.specs.Prelude.{is_some}
 use Rattle.std.specs.FinMap as map
 use Rattle.rights.specs.Counts.{number_of}
 use Rattle.rights.specs.Ledger.{LedgerView, counts_of, taken}
-use Rattle.copyin.specs.Kept.{Kept}
-use Rattle.copyin.specs.Worlds.{WorldView}
+use Rattle.copyin_base.specs.Kept.{Kept}
+use Rattle.copyin_base.specs.Worlds.{WorldView}
 use Rattle.copyout.specs.Takes.{destination_right}
 use Rattle.copyout.proofs.Front.{front_raised, takes_front}
 use Rattle.copyout.proofs.receipt.take_front.Goals as goal

@@ -1,7 +1,7 @@
 use Rattle.std.proofs.Common.{◌≡◌, ◌∷◌, ◌+◌, ℕ, Option, List, [], ◌++◌, take, drop, arith, sym, ap, subst, ◌∙◌, refl, add-zero}
 use Rattle.std.proofs.lemmas.List.{take_more}
-use Rattle.copyin.specs.declared.message.Carried.{Carried}
-use Rattle.copyin.specs.Kept.{Kept}
+use Rattle.copyin_base.specs.declared.message.Carried.{Carried}
+use Rattle.copyin_base.specs.Kept.{Kept}
 use Rattle.copyin.specs.Plans.{option_list}
 use Rattle.copyout.specs.Ready.{carried_by}
 use Rattle.copyout.specs.Room.{Needs}

@@ -2,7 +2,7 @@ use Rattle.std.proofs.Common.{◌≡◌, ◌<◌, length, arith, ap, rules, ◌-
 use Rattle.std.proofs.lemmas.Bool.{cases_lt, ltb-true, lt-ltb}
 use Rattle.std.specs.FinMap as map
 use Rattle.mach_types.specs.Numbers.{most_names}
-use Rattle.copyin.specs.Kept.{Kept}
+use Rattle.copyin_base.specs.Kept.{Kept}
 use Rattle.copyout.specs.Ready.{carried_by}
 use Rattle.copyout.proofs.Counted.{too_many, few_enough, starts, short_enough, carried_len}
 use Rattle.copyout.proofs.room.lacks_names.Goals as goal

@@ -6,6 +6,7 @@ use Rattle.mach_types.specs.declared.calls.Reply.{Reply}
 use Rattle.mach_model.specs.State.{opening}
 use Rattle.mach_model.specs.Machine.{Step, RunFrom}
 use Rattle.mach_model.proofs.Runs.{RunFrom-push}
+use Rattle.mach_laws.proofs.Promised.{run_headline}
 use Rattle.kernel_core.proofs.runs.run.Goals as goal
 
 pub loop-event-init : goal.loop-event-init
@@ -27,4 +28,5 @@ returns c =
     let inv = c.loop-event.invariant in
     let events : c.deref-event-items.result.now ≡ c.args.events.items = c.deref-event-items.ensures.value in
     let whole = take_all c.loop-event.event-index c.deref-event-items.result.now c.loop-event-test.false ∙ events in
-    (inv.0, subst (λ (xs : List Event). RunFrom 0 opening xs c.loop-event.replies.items inv.0) whole inv.1, inv.2)
+    let run = subst (λ (xs : List Event). RunFrom 0 opening xs c.loop-event.replies.items inv.0) whole inv.1 in
+    (inv.0, run, run_headline c.args.events.items c.loop-event.replies.items inv.0 run, inv.2)

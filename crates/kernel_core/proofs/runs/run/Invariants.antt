@@ -1,7 +1,7 @@
 use Rattle.std.specs.Prelude.{take}
 use Rattle.mach_model.specs.State.{State, opening}
 use Rattle.mach_model.specs.Machine.{RunFrom}
-use Rattle.copyin.specs.Shows.{Shows}
+use Rattle.copyin_base.specs.Shows.{Shows}
 use Rattle.kernel_core.proofs.runs.run.Given as goal
 
 -- the replies so far are those of a run over the events so far

@@ -1,8 +1,8 @@
-use Rattle.kernel_core_base.proofs.Stepping.{opening_shows, opening_sound}
+use Rattle.kernel_core.proofs.Stepping.{opening_shows, opening_stands}
 use Rattle.kernel_core.proofs.kernel.Kernel.new.Goals as goal
 
 pub returns : goal.returns
 returns c = rw c.new.ensures opening_shows
 
 pub invariant_of-result : goal.invariant_of-result
-invariant_of-result c = rw c.new.ensures opening_sound
+invariant_of-result c = rw c.new.ensures opening_stands

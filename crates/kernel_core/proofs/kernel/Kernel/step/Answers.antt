@@ -1,11 +1,17 @@
 use Rattle.std.proofs.Common.{sym, subst}
-use Rattle.copyin.specs.Worlds.{WorldView}
-use Rattle.copyin.specs.Shows.{Shows}
-use Rattle.kernel_core_base.proofs.Stepping.{stays_sound}
+use Rattle.copyin_base.specs.Worlds.{WorldView}
+use Rattle.copyin_base.specs.Shows.{Shows}
+use Rattle.kernel_core.proofs.Stepping.{acted, declined, still_stands}
 use Rattle.kernel_core.proofs.kernel.Kernel.step.Goals as goal
 
 pub invariant_of-self : goal.invariant_of-self
-invariant_of-self c = stays_sound _ _ _ _ c.self.invariant c.serve.ensures
+invariant_of-self c = still_stands _ _ _ _ c.self.invariant (acted _ _ _ _ _ c.in-Ok.ensures c.settle.ensures)
 
-pub returns : goal.returns
-returns c = λ now s sh. c.serve.ensures.answers now s (subst (λ (w : WorldView). Shows w s) (sym c.self.view_is) sh)
+pub invariant_of-self-in-Err : goal.invariant_of-self-in-Err
+invariant_of-self-in-Err c = still_stands _ _ _ _ c.self.invariant (declined _ _ _ _ c.in-Err.ensures)
+
+pub returns-in-Ok : goal.returns-in-Ok
+returns-in-Ok c = λ now s sh. acted _ _ _ _ _ c.in-Ok.ensures c.settle.ensures now s (subst (λ (w : WorldView). Shows w s) (sym c.self.view_is) sh)
+
+pub returns-in-Err : goal.returns-in-Err
+returns-in-Err c = λ now s sh. rw c.number.ensures (declined _ _ _ _ c.in-Err.ensures now s (subst (λ (w : WorldView). Shows w s) (sym c.self.view_is) sh))

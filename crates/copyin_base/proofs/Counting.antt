@@ -1,0 +1,83 @@
+-- The counts of rights after some were made or went.
+use Rattle.std.proofs.Common.{◌≡◌, ℕ, zero, suc, ◌+◌, List, ◌∷◌, Option, Some, refl, sym, ap, ◌∙◌, arith, Bool, true, inr}
+use Rattle.std.specs.Prelude.{is_some, if◌then◌else◌, ◌==◌}
+use Rattle.std.specs.Option.{unwrap_or}
+use Rattle.std.specs.FinMap as map
+use Rattle.std.proofs.lemmas.Bool.{eq-eqb, ne_eqb}
+use Rattle.mach_types.specs.Tokens.{Kind, receive, send, send_once, Place, Token, token, weigh, count, is_of, same_kind}
+use Rattle.mach_model.proofs.Weigh.{both_test}
+use Rattle.rights.specs.declared.Counts.{Counts}
+use Rattle.rights.specs.declared.RightKind.{RightKind}
+use Rattle.rights.specs.declared.RightKind.TheVariants as right
+use Rattle.rights.specs.Counts.{no_rights, with_more, with_fewer}
+use Rattle.rights.specs.Ledger.{LedgerView, counts_of, made, taken}
+use Rattle.copyin_base.specs.Shows.{CountsAgree}
+use Rattle.copyin_base.proofs.Putting.{each_put}
+
+-- ---- tests of one token
+
+pub one_of : (kind : Kind) (p : ℕ) (place : Place) → same_kind kind kind ≡ true → (if is_of kind p (token kind p place) then suc zero else zero) ≡ suc zero
+one_of kind p place e = rw (e, eq-eqb p p refl) refl
+
+pub none_of_port : (kind c : Kind) (p q : ℕ) (place : Place) → (q ≡ p → ⊥) → (if is_of c q (token kind p place) then suc zero else zero) ≡ zero
+none_of_port kind c p q place not = both_test (same_kind c kind) (p == q) (inr (ne_eqb p q (λ e. not (sym e))))
+
+-- the counts of a right of this kind
+abbrev pub right_of : Kind → RightKind
+right_of receive = right.Receive
+right_of send = right.Send
+right_of send_once = right.SendOnce
+
+-- ---- one port's counts
+
+module _ (l : LedgerView) (live : ℕ → Bool) (tokens : List Token) (a : (q : ℕ) → CountsAgree l live tokens q) where
+  -- They are these now.
+  pub counts_agree : (l2 : LedgerView) (live2 : ℕ → Bool) (tokens2 : List Token) (p : ℕ) (v : Counts) → l2.counts ≡ map.insert l.counts p v → true ≡ live2 p →
+      v.send ≡ count (is_of send p) tokens2 → v.send_once ≡ count (is_of send_once p) tokens2 →
+      ((q : ℕ) → (q ≡ p → ⊥) → (live q ≡ live2 q) × ((c : Kind) → count (is_of c q) tokens ≡ count (is_of c q) tokens2)) → (q : ℕ) → CountsAgree l2 live2 tokens2 q
+  counts_agree l2 live2 tokens2 p v is lives sends onces others q =
+      let each = each_put l.counts p (Some v) (λ q o. (is_some o ≡ live2 q) × ((unwrap_or o no_rights).send ≡ count (is_of send q) tokens2) × ((unwrap_or o no_rights).send_once ≡ count (is_of send_once q) tokens2))
+      (lives, sends, onces) (λ q not. let x = a q in let o = others q not in (x.entered ∙ o.0, x.senders ∙ o.1 send, x.once_rights ∙ o.1 send_once)) q in
+      let at = ap (λ m. map.get m q) is in
+      record {
+        entered = ap is_some at ∙ each.0;
+        senders = ap (λ (o : Option Counts). (unwrap_or o no_rights).send) at ∙ each.1;
+        once_rights = ap (λ (o : Option Counts). (unwrap_or o no_rights).send_once) at ∙ each.2;
+      }
+
+  -- A right of one kind was made, or one went.
+  module _ (kind : Kind) (p : ℕ) (place : Place) (lives : live p ≡ true) where
+    pub right_made : (q : ℕ) → CountsAgree (made l p (right_of kind) 1) live (token kind p place ∷ tokens) q
+    right_made = counts_agree (made l p (right_of kind) 1) live (token kind p place ∷ tokens) p (with_more (right_of kind) 1 (counts_of l p)) refl (sym lives)
+        (sends kind) (onces kind) (λ q not. (refl, λ c. let z = none_of_port kind c p q place not in omega (arith, z)))
+      where
+        sends : (k : Kind) → (with_more (right_of k) 1 (counts_of l p)).send ≡ count (is_of send p) (token k p place ∷ tokens)
+        sends receive = let x = (a p).senders in omega (arith, x)
+        sends send = let x = (a p).senders in let o = one_of send p place refl in omega (arith, x, o)
+        sends send_once = let x = (a p).senders in omega (arith, x)
+
+        onces : (k : Kind) → (with_more (right_of k) 1 (counts_of l p)).send_once ≡ count (is_of send_once p) (token k p place ∷ tokens)
+        onces receive = let x = (a p).once_rights in omega (arith, x)
+        onces send = let x = (a p).once_rights in omega (arith, x)
+        onces send_once = let x = (a p).once_rights in let o = one_of send_once p place refl in omega (arith, x, o)
+
+    pub right_taken : (others : List Token) → ((h : Token → ℕ) → weigh h others + h (token kind p place) ≡ weigh h tokens) → (q : ℕ) → CountsAgree (taken l p (right_of kind) 1) live others q
+    right_taken others parts = counts_agree (taken l p (right_of kind) 1) live others p (with_fewer (right_of kind) 1 (counts_of l p)) refl (sym lives)
+        (sends kind (parts (λ x. if is_of send p x then 1 else 0))) (onces kind (parts (λ x. if is_of send_once p x then 1 else 0)))
+        (λ q not. (refl, λ c. let m = parts (λ x. if is_of c q x then 1 else 0) in let z = none_of_port kind c p q place not in omega (arith, m, z)))
+      where
+        sends : (k : Kind) → count (is_of send p) others + (if is_of send p (token k p place) then suc zero else zero) ≡ count (is_of send p) tokens →
+            (with_fewer (right_of k) 1 (counts_of l p)).send ≡ count (is_of send p) others
+        sends receive m = let x = (a p).senders in omega (arith, x, m)
+        sends send m = let x = (a p).senders in let o = one_of send p place refl in omega (arith, x, m, o)
+        sends send_once m = let x = (a p).senders in omega (arith, x, m)
+
+        onces : (k : Kind) → count (is_of send_once p) others + (if is_of send_once p (token k p place) then suc zero else zero) ≡ count (is_of send_once p) tokens →
+            (with_fewer (right_of k) 1 (counts_of l p)).send_once ≡ count (is_of send_once p) others
+        onces receive m = let x = (a p).once_rights in omega (arith, x, m)
+        onces send m = let x = (a p).once_rights in omega (arith, x, m)
+        onces send_once m = let x = (a p).once_rights in let o = one_of send_once p place refl in omega (arith, x, m, o)
+
+  -- There are as many rights as before.
+  pub counts_same : (tokens2 : List Token) → ((c : Kind) (q : ℕ) → count (is_of c q) tokens2 ≡ count (is_of c q) tokens) → (q : ℕ) → CountsAgree l live tokens2 q
+  counts_same tokens2 same q = let x = a q in record { entered = x.entered; senders = x.senders ∙ sym (same send q); once_rights = x.once_rights ∙ sym (same send_once q) }

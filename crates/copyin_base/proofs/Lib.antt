@@ -1,0 +1,15 @@
+pub mod Gets
+pub mod Spaces
+pub mod Roomier
+pub mod AttributesSet
+pub mod Counting
+pub mod Agreeing
+pub mod Taking
+pub mod Putting
+pub mod Changing
+pub mod NamesChanged
+pub mod Tied
+pub mod Told
+pub mod Acting
+pub mod Finding
+pub mod Exiting

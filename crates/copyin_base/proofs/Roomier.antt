@@ -1,0 +1,105 @@
+-- Tables that are as before but for room, for names or for messages, still agree.
+use Rattle.std.proofs.Common.{◌≡◌, ℕ, Option, Some, None, refl, sym, ap, subst, ◌∙◌}
+use Rattle.std.specs.Prelude.{is_some, slice_get, slice_set}
+use Rattle.std.specs.Option.{option_map}
+use Rattle.std.specs.FinMap as map
+use Rattle.mach_model.specs.State.{State}
+use Rattle.name_space.specs.Names.{Names, SpaceView}
+use Rattle.copyin_base.specs.Worlds.{WorldView, entry_in, entry_at}
+use Rattle.copyin_base.specs.Shows.{Agrees, Shows, target_of}
+use Rattle.copyin_base.specs.Changes.{AddsRoom, MakesRoom, SameButRoom}
+use Rattle.copyin_base.proofs.Gets.{each-set, length-set}
+
+abbrev names_in : Option SpaceView → Option Names
+names_in = option_map (λ (x : SpaceView). x.names)
+
+same_live : (o q : Option SpaceView) → names_in o ≡ names_in q → is_some o ≡ is_some q
+same_live None None e = refl
+same_live (Some x) (Some y) e = refl
+same_live None (Some y) e = absurd (cc)
+same_live (Some x) None e = absurd (cc)
+
+same_entry : (o q : Option SpaceView) (name : ℕ) → names_in o ≡ names_in q → entry_in o name ≡ entry_in q name
+same_entry None None name e = refl
+same_entry (Some x) (Some y) name e = let g : x.names ≡ y.names = cc in ap (λ (m : Names). map.get m name) g
+same_entry None (Some y) name e = absurd (cc)
+same_entry (Some x) None name e = absurd (cc)
+
+same_names : (o q : Option SpaceView) (x : SpaceView) → names_in o ≡ names_in q → o ≡ Some x → (y : SpaceView) × (q ≡ Some y) × (x.names ≡ y.names)
+same_names None q x e is = absurd (cc)
+same_names (Some z) None x e is = absurd (cc)
+same_names (Some z) (Some y) x e is = (y, refl, (let g : z.names ≡ y.names = cc in let h : z ≡ x = cc in ap (λ (m : SpaceView). m.names) (sym h) ∙ g))
+
+-- but for the spaces
+room_spaces : (w v : WorldView) (s : State) → SameButRoom w v → Agrees w s → Agrees (record w { spaces = v.spaces }) s
+room_spaces w v s same a =
+    let entries : (task name : ℕ) → entry_at v task name ≡ entry_at w task name =
+    λ task name. same_entry (slice_get v.spaces task) (slice_get w.spaces task) name (same.names task) in
+    record {
+      spaces = record {
+        live_task = λ task. same_live (slice_get v.spaces task) (slice_get w.spaces task) (same.names task) ∙ a.live_task task;
+        tasks_made = same.tasks ∙ a.tasks_made;
+        naming = λ task name. a.naming task name ∙ ap (option_map target_of) (sym (entries task name));
+        names_kept = λ task x is.
+            let y = same_names (slice_get v.spaces task) (slice_get w.spaces task) x (same.names task) is in
+            ap (λ (m : Names). map.len m) y.2 ∙ a.names_kept task y.0 y.1;
+        counted = λ task name x is. a.counted task name x (sym (entries task name) ∙ is);
+      };
+      rights = record { references = λ task name x p is. a.references task name x p (sym (entries task name) ∙ is) };
+      live_port = a.live_port;
+      ports_made = a.ports_made;
+      ports = a.ports;
+      counts = a.counts;
+      total = a.total;
+      in_sets = a.in_sets;
+      requests = a.requests;
+    }
+
+pub room_agrees : (w v : WorldView) (s : State) → SameButRoom w v → Agrees w s → Agrees v s
+room_agrees w v s same a =
+    let is : record w { spaces = v.spaces } ≡ v = λ i. record { spaces = v.spaces; ports = sym same.ports i; ledger = sym same.ledger i; sets = sym same.sets i } in
+    subst (λ (x : WorldView). Agrees x s) is (room_spaces w v s same a)
+
+pub room_shows : (w v : WorldView) (s : State) → SameButRoom w v → Shows w s → Shows v s
+room_shows w v s same sh = record { agrees = room_agrees w v s same sh.agrees; lawful = sh.lawful }
+
+pub room_refl : (w : WorldView) → SameButRoom w w
+room_refl w = record { tasks = refl; names = λ task. refl; ports = refl; ledger = refl; sets = refl }
+
+pub roomier : (w : WorldView) (task : ℕ) (space : SpaceView) (room : ℕ) → slice_get w.spaces task ≡ Some space → SameButRoom w (record w { spaces = slice_set w.spaces task (record space { room = room }) })
+roomier w task space room there = record {
+  tasks = length-set w.spaces task (record space { room = room });
+  names = each-set w.spaces task (record space { room = room }) space there (λ u x. names_in x ≡ names_in (slice_get w.spaces u)) (sym (ap names_in there)) (λ u not. refl);
+  ports = refl;
+  ledger = refl;
+  sets = refl;
+}
+
+pub room_made : (w v : WorldView) (task : ℕ) → MakesRoom w task v → SameButRoom w v
+room_made w v task m = subst (SameButRoom w) (sym m.rest) (roomier w task m.space m.room m.there)
+
+pub room_added : (w v : WorldView) (task : ℕ) → AddsRoom w task v → SameButRoom w v
+room_added w v task m = subst (SameButRoom w) (sym m.rest) (roomier w task m.space m.room m.there)
+
+-- the same stands under each name
+pub room_entry : (w v : WorldView) → SameButRoom w v → (task name : ℕ) → entry_at v task name ≡ entry_at w task name
+room_entry w v same task name = same_entry (slice_get v.spaces task) (slice_get w.spaces task) name (same.names task)
+
+-- ---- room for messages
+
+-- spare slots are of no account to the machine
+pub slots_agree : (w : WorldView) (s : State) (n : ℕ) → Agrees w s → Agrees (record w { ports = record w.ports { spare = n } }) s
+slots_agree w s n a = record {
+  spaces = a.spaces;
+  rights = a.rights;
+  live_port = a.live_port;
+  ports_made = a.ports_made;
+  ports = a.ports;
+  counts = a.counts;
+  total = a.total;
+  in_sets = a.in_sets;
+  requests = a.requests;
+}
+
+pub slots_show : (w : WorldView) (s : State) (n : ℕ) → Shows w s → Shows (record w { ports = record w.ports { spare = n } }) s
+slots_show w s n sh = record { agrees = slots_agree w s n sh.agrees; lawful = sh.lawful }

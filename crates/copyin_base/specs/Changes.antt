@@ -1,0 +1,80 @@
+-- What the verbs of the tables change: what stands under one name, or the attributes of one port. All else stays.
+use Rattle.std.specs.Prelude.{◌≡◌, ℕ, ◌-◌, ◌<◌, ◌≤◌, Option, Some, None, IfSome, length, slice_get, slice_set, true}
+use Rattle.std.specs.Option.{option_map}
+use Rattle.std.specs.FinMap as map
+use Rattle.mach_types.specs.Numbers.{most_names}
+use Rattle.name_space.specs.declared.Entry.{Entry}
+use Rattle.name_space.specs.Entry.{port_named}
+use Rattle.name_space.specs.Names.{SpaceView, IsUsable, HasNoOther}
+use Rattle.name_space.specs.Names.{port_at as named_at}
+use Rattle.port.specs.declared.Attributes.{Attributes}
+use Rattle.port.specs.Ports.{PortView, with_port}
+use Rattle.copyin_base.specs.Kept.{Kept}
+use Rattle.copyin_base.specs.Worlds.{WorldView, port_at, put}
+
+-- ---- what stands under a name
+
+-- The name is in use, and what is left there is for the port that it was for, if for any.
+pub record CanPutLeft (w : WorldView) (task name : ℕ) (left : Option Entry) : Type 0 where
+  pub space : SpaceView
+  pub there : slice_get w.spaces task ≡ Some space
+  pub used : map.contains_key space.names name ≡ true
+  pub same : IfSome left (λ e. (port : ℕ) → port_named e ≡ Some port → named_at space.names name ≡ Some port)
+
+-- This is left under the name; the name goes where nothing is.
+pub record PutsLeft (old : WorldView) (task name : ℕ) (left : Option Entry) (new : WorldView) : Type 0 where
+  pub space : SpaceView
+  pub there : slice_get old.spaces task ≡ Some space
+  pub rest : new ≡ record old { spaces = slice_set old.spaces task (record space { names = put space.names name left }) }
+
+-- The task may have the entry under the name, in room that was made: the name isn't in use, and no other is for the entry's port.
+pub record CanInsert (w : WorldView) (task name : ℕ) (entry : Entry) : Type 0 where
+  pub space : SpaceView
+  pub there : slice_get w.spaces task ≡ Some space
+  pub usable : IsUsable name
+  pub unused : map.get space.names name ≡ None
+  pub few : map.len space.names < most_names
+  pub room : 0 < space.room
+  pub apart : HasNoOther space.names entry
+
+pub record InsertsEntry (old : WorldView) (task name : ℕ) (entry : Entry) (new : WorldView) : Type 0 where
+  pub space : SpaceView
+  pub there : slice_get old.spaces task ≡ Some space
+  pub rest : new ≡ record old { spaces = slice_set old.spaces task (record { names = map.insert space.names name entry; room = space.room - 1 }) }
+
+-- All is as before, but that the task has room for as many names or more.
+pub record AddsRoom (old : WorldView) (task : ℕ) (new : WorldView) : Type 0 where
+  pub space : SpaceView
+  pub there : slice_get old.spaces task ≡ Some space
+  pub room : ℕ
+  pub more : space.room ≤ room
+  pub rest : new ≡ record old { spaces = slice_set old.spaces task (record space { room = room }) }
+
+-- There is room for a name more of the task.
+pub record MakesRoom (old : WorldView) (task : ℕ) (new : WorldView) : Type 0 where
+  pub space : SpaceView
+  pub there : slice_get old.spaces task ≡ Some space
+  pub room : ℕ
+  pub some : 0 < room
+  pub rest : new ≡ record old { spaces = slice_set old.spaces task (record space { room = room }) }
+
+-- All is as before, but for room for names to come.
+pub record SameButRoom (old new : WorldView) : Type 0 where
+  pub tasks : length new.spaces ≡ length old.spaces
+  pub names : (task : ℕ) → option_map (λ (x : SpaceView). x.names) (slice_get new.spaces task) ≡ option_map (λ (x : SpaceView). x.names) (slice_get old.spaces task)
+  pub ports : new.ports ≡ old.ports
+  pub ledger : new.ledger ≡ old.ledger
+  pub sets : new.sets ≡ old.sets
+
+-- ---- a port
+
+pub record SetsAttributes (old : WorldView) (port : ℕ) (attributes : Attributes) (new : WorldView) : Type 0 where
+  pub v : PortView Kept
+  pub there : port_at old port ≡ Some v
+  pub rest : new ≡ record old { ports = with_port old.ports port (record v { attributes = attributes }) }
+
+-- These are the attributes of a port that is there.
+pub record HasAttributes (w : WorldView) (port : ℕ) (attributes : Attributes) : Type 0 where
+  pub v : PortView Kept
+  pub there : port_at w port ≡ Some v
+  pub are : v.attributes ≡ attributes

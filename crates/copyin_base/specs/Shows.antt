@@ -1,0 +1,107 @@
+-- When the kernel's tables show a state of the machine: they agree with it at each task, name, port and request.
+use Rattle.std.specs.Prelude.{◌≡◌, ℕ, ◌<◌, Bool, List, [], ◌∷◌, length, Option, Some, slice_get, is_some}
+use Rattle.std.specs.Option.{option_map, option_to_list}
+use Rattle.std.specs.FinMap as map
+use Rattle.mach_types.specs.Tokens.{Kind, receive, send, send_once, Request, in_request, Token, count, is_of, is_held}
+use Rattle.mach_types.specs.Messages.{Entry}
+use Rattle.mach_model.specs.State.{State, Target, Names, queue}
+use Rattle.mach_model.specs.ReceiveRight.{one_if}
+use Rattle.mach_model.specs.Carried.{lying}
+use Rattle.mach_model.specs.Lawful.{IsLawful}
+use Rattle.name_space.specs.declared.Entry.{Entry as Named}
+use Rattle.name_space.specs.declared.Entry.TheVariants as named
+use Rattle.name_space.specs.Entry.{port_named, has_receive, send_references}
+use Rattle.name_space.specs.Names.{SpaceView}
+use Rattle.port.specs.Ports.{PortView}
+use Rattle.port_set.specs.declared.SetRecord.{SetRecord}
+use Rattle.port_set.specs.Sets.{SetsView}
+use Rattle.rights.specs.Ledger.{LedgerView, counts_of}
+use Rattle.copyin_base.specs.Kept.{Kept, Keeps}
+use Rattle.copyin_base.specs.Worlds.{WorldView, entry_in, port_at}
+
+abbrev pub target_of : Named → Target
+target_of (named.Receive p) = Target.port p
+target_of (named.Send p n) = Target.port p
+target_of (named.ReceiveAndSend p n) = Target.port p
+target_of (named.SendOnce p) = Target.once p
+target_of (named.DeadName n) = Target.dead n
+target_of (named.Set set) = Target.set set
+
+-- Send references under a name are one or more.
+abbrev pub HasCount : Named → Type 0
+HasCount (named.Send p n) = 0 < n
+HasCount (named.ReceiveAndSend p n) = 0 < n
+HasCount entry = Unit {0}
+
+-- The messages that are kept at the port are these entries, one by one.
+abbrev pub AllKept : (port : ℕ) → List Kept → List Entry → Type 0
+AllKept p [] [] = Unit {0}
+AllKept p (m ∷ ms) (e ∷ es) = Keeps p m e.message × AllKept p ms es
+AllKept p [] (e ∷ es) = ⊥
+AllKept p (m ∷ ms) [] = ⊥
+
+-- ---- the parts of a state that the tables tell of, each over what it speaks of alone
+
+-- Tasks and their names are those of the machine.
+pub record SpacesAgree (spaces : List SpaceView) (live : ℕ → Bool) (number : ℕ) (names : ℕ → Names) : Type 0 where
+  pub live_task : (task : ℕ) → is_some (slice_get spaces task) ≡ live task
+  pub tasks_made : length spaces ≡ number
+  pub naming : (task name : ℕ) → map.get (names task) name ≡ option_map target_of (entry_in (slice_get spaces task) name)
+  pub names_kept : (task : ℕ) (space : SpaceView) → slice_get spaces task ≡ Some space → map.len space.names ≡ map.len (names task)
+  pub counted : (task name : ℕ) (entry : Named) → entry_in (slice_get spaces task) name ≡ Some entry → HasCount entry
+
+-- A port's name counts the task's rights for it.
+pub record ReferencesAgree (spaces : List SpaceView) (tokens : List Token) : Type 0 where
+  pub references : (task name : ℕ) (entry : Named) (p : ℕ) → entry_in (slice_get spaces task) name ≡ Some entry → port_named entry ≡ Some p →
+      (count (is_held task receive p) tokens ≡ one_if (has_receive entry)) × (count (is_held task send p) tokens ≡ send_references entry)
+
+-- The table of a live port tells of its queue and of its attributes.
+pub record PortAgrees (v : PortView Kept) (p : ℕ) (entries : List Entry) (of_limit of_make_send of_sequence : ℕ) (of_sets : List ℕ) : Type 0 where
+  pub waiting : AllKept p v.queue entries
+  pub limit : v.attributes.limit ≡ of_limit
+  pub make_send : v.attributes.make_send ≡ of_make_send
+  pub sequence : v.attributes.sequence ≡ of_sequence
+  pub sets : option_to_list v.attributes.set ≡ of_sets
+
+abbrev pub ShowsPort : PortView Kept → State → ℕ → Type 0
+ShowsPort v s p = PortAgrees v p (queue s p) (s.limit p) (s.make_send p) (s.sequence p) (s.sets_of p)
+
+-- Each count of rights is that of the ledger.
+pub record CountsAgree (ledger : LedgerView) (live : ℕ → Bool) (tokens : List Token) (p : ℕ) : Type 0 where
+  pub entered : map.contains_key ledger.counts p ≡ live p
+  pub senders : (counts_of ledger p).send ≡ count (is_of send p) tokens
+  pub once_rights : (counts_of ledger p).send_once ≡ count (is_of send_once p) tokens
+
+abbrev pub ShowsCounts : WorldView → State → ℕ → Type 0
+ShowsCounts w s p = CountsAgree w.ledger s.live_port s.ledger p
+
+-- Each set stands under its task's name for it.
+pub record SetsAgree (sets : SetsView) (owner : ℕ → Option ℕ) (number : ℕ) (names : ℕ → Names) : Type 0 where
+  pub set_owner : (set : ℕ) → owner set ≡ option_map (λ r. r.owner) (map.get sets.sets set)
+  pub sets_made : sets.made ≡ number
+  pub set_named : (set : ℕ) (r : SetRecord) → map.get sets.sets set ≡ Some r → map.get (names r.owner) r.name ≡ Some (Target.set set)
+
+-- ---- the whole state
+
+-- The tables tell of the whole state, but for what was received and where entries came from.
+pub record Agrees (w : WorldView) (s : State) : Type 0 where
+  pub spaces : SpacesAgree w.spaces s.live_task s.tasks_made s.naming
+  pub open spaces use *
+  pub rights : ReferencesAgree w.spaces s.ledger
+  pub open rights use *
+  -- ports
+  pub live_port : (p : ℕ) → is_some (port_at w p) ≡ s.live_port p
+  pub ports_made : w.ports.made ≡ s.ports_made
+  pub ports : (p : ℕ) (v : PortView Kept) → port_at w p ≡ Some v → ShowsPort v s p
+  -- counts
+  pub counts : (p : ℕ) → ShowsCounts w s p
+  pub total : w.ledger.total ≡ length s.ledger
+  pub in_sets : SetsAgree w.sets s.set_owner s.sets_made s.naming
+  pub open in_sets use *
+  -- no request stands
+  pub requests : (r : Request) (kind : Kind) (q : ℕ) → lying s kind q (in_request r) ≡ 0
+
+-- They agree with a state of which all is true that is true of every state that the machine reaches.
+pub record Shows (w : WorldView) (s : State) : Type 0 where
+  pub agrees : Agrees w s
+  pub lawful : IsLawful s

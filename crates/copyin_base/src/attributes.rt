@@ -1,0 +1,29 @@
+//! The attributes of a port, read and set.
+ghost use Rattle.std.specs.Prelude.{◌≡◌, true, is_some};
+ghost use Rattle.copyin_base.specs.Changes.{HasAttributes, SetsAttributes};
+ghost use Rattle.copyin_base.specs.Worlds.{port_at};
+
+use crate::world::World;
+use mach_types::PortId;
+use port::Attributes;
+
+impl World {
+    /// The attributes of a port that is there. Logarithmic in the ports.
+    pub fn attributes(&self, port: PortId) -> Attributes
+        requires { is_some (port_at self.now port) ≡ true }
+        ensures { HasAttributes self.now port result }
+    {
+        let Some(attributes) = self.ports.attributes(port) else {
+            unreachable!()
+        };
+        attributes
+    }
+
+    /// Sets the attributes of a port that is there. Takes no memory. Logarithmic in the ports.
+    pub fn set_attributes(&mut self, port: PortId, attributes: Attributes)
+        requires { is_some (port_at self.old port) ≡ true }
+        ensures { SetsAttributes self.old port attributes self.new }
+    {
+        self.ports.set_attributes(port, attributes);
+    }
+}

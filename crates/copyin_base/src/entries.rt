@@ -1,0 +1,62 @@
+//! What stands under a name, changed.
+ghost use Rattle.std.specs.Prelude.{◌≡◌, ◌<◌, ◌≤◌, OnOk, IfErr, length};
+ghost use Rattle.mach_types.specs.declared.codes.KernReturn.TheVariants as kern;
+ghost use Rattle.copyin_base.specs.Changes.{CanPutLeft, PutsLeft, CanInsert, InsertsEntry, AddsRoom, MakesRoom};
+
+use crate::world::World;
+use mach_types::{KernReturn, Name, TaskId};
+use name_space::Entry;
+
+impl World {
+    /// Leaves this under a name that is in use; where nothing is left the name goes.
+    ///
+    /// Takes no memory. Logarithmic in the names of the task, but for a move of 16 bytes for each
+    /// greater name where the name goes.
+    pub fn put_left(&mut self, task: TaskId, name: Name, left: Option<Entry>)
+        requires { CanPutLeft self.old task name left }
+        ensures { PutsLeft self.old task name left self.new }
+    {
+        let space = &mut self.spaces[task.number() as usize];
+        match left {
+            Some(entry) => space.replace(name, entry),
+            None => {
+                space.remove(name);
+            }
+        }
+    }
+
+    /// Puts the entry under a name that isn't in use, in room that was made.
+    ///
+    /// Takes no memory. Logarithmic in the names of the task, but for a move of 16 bytes for each
+    /// greater name.
+    pub fn insert_entry(&mut self, task: TaskId, name: Name, entry: Entry)
+        requires { CanInsert self.old task name entry }
+        ensures { InsertsEntry self.old task name entry self.new }
+    {
+        self.spaces[task.number() as usize].insert(name, entry);
+    }
+
+    /// Makes room for so many more names of the task. Room that is there stays and counts.
+    ///
+    /// `KERN_RESOURCE_SHORTAGE` where memory was refused; all is then as before. Constant time, but
+    /// where the names move to a larger place.
+    pub fn reserve_names(&mut self, task: TaskId, number: usize) -> Result<(), KernReturn>
+        requires { task < length self.old.spaces }
+        ensures ok { OnOk result ((r : AddsRoom self.old task self.new) × (number ≤ r.room)) }
+        ensures err { IfErr result (λ code. (code ≡ kern.ResourceShortage) × (self.new ≡ self.old)) }
+    {
+        match self.spaces[task.number() as usize].reserve(number) {
+            Ok(()) => Ok(()),
+            Err(_) => Err(KernReturn::ResourceShortage),
+        }
+    }
+
+    /// Makes room for a name more of the task, as [`World::reserve_names`].
+    pub fn reserve_name(&mut self, task: TaskId) -> Result<(), KernReturn>
+        requires { task < length self.old.spaces }
+        ensures ok { OnOk result (MakesRoom self.old task self.new) }
+        ensures err { IfErr result (λ code. (code ≡ kern.ResourceShortage) × (self.new ≡ self.old)) }
+    {
+        self.reserve_names(task, 1)
+    }
+}

@@ -1,0 +1,17 @@
+//! The kernel's tables, and the verbs that every call on them is made of.
+//!
+//! [`World`] has the tasks' names, the ports with their queues, the counts of rights and the port sets.
+//! `specs/Shows` says when the tables show a state of the machine of `mach_model`, and `specs/Acts` what
+//! a call on them promises.
+#![tactic(auto)]
+
+mod attributes;
+mod code;
+mod entries;
+mod find;
+mod message;
+mod world;
+
+pub use code::Code;
+pub use message::{Carried, Mark, Message};
+pub use world::World;

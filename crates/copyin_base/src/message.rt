@@ -1,0 +1,74 @@
+//! A message as it lies in a queue.
+use mach_types::{Disposition, Name, PortId};
+use message_codec::{Parsed, Spans};
+use port::Message as InSlot;
+use smallvec::SmallVec;
+use std::alloc::Global;
+use std::marker::Model;
+
+/// What stands in a right's place in a queued message.
+#[derive(Clone, Copy, Debug, PartialEq, Eq)]
+pub enum Mark {
+    /// A right for the port.
+    Port(PortId),
+    /// No right: the word was 0.
+    Null,
+    /// A right for a port that was dead when the message was sent.
+    Dead,
+}
+
+/// A right in a queued message.
+#[derive(Clone, Copy, Debug, PartialEq, Eq)]
+pub struct Carried {
+    /// The disposition under which it was sent.
+    pub given: Disposition,
+    /// What it is a right for.
+    pub mark: Mark,
+}
+
+/// A queued message: its bytes as they were sent, where its port words stand, and its rights.
+#[derive(Drop)]
+pub struct Message {
+    /// All its bytes, 24 to 65,536.
+    pub bytes: Vec<u8>,
+    /// What was read of them.
+    pub parsed: Parsed,
+    /// Whether it goes by a send-once right, and not by a send right.
+    pub by_once: bool,
+    /// The right to answer with.
+    pub reply: Option<Carried>,
+    /// The rights of the body's port words, from the front.
+    pub rights: Vec<Carried>,
+}
+
+impl Model for Message {
+    ghost use Rattle.copyin_base.specs.Kept.{Kept, kept_code};
+    ghost use Rattle.copyin_base.specs.contracts.message.Carried as carried;
+
+    ghost Value = { Kept };
+
+    ghost coded = { kept_code carried.the_row.coded };
+
+    ghost view = { λ m. record { bytes = m.bytes.items; id = m.parsed.id; is_complex = m.parsed.is_complex; spans = m.parsed.spans; by_once = m.by_once; reply = m.reply; rights = m.rights.items } };
+}
+
+impl InSlot for Message {
+    /// No bytes, and nothing read of them.
+    fn blank(alloc: Global) -> Message {
+        Message {
+            bytes: Vec::new(alloc),
+            parsed: Parsed {
+                remote_kind: 0,
+                local_kind: 0,
+                remote: Name::null(),
+                local: Name::null(),
+                id: 0,
+                is_complex: false,
+                spans: Spans::from_small_vec(SmallVec::new(alloc)),
+            },
+            by_once: false,
+            reply: None,
+            rights: Vec::new(alloc),
+        }
+    }
+}

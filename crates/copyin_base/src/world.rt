@@ -1,0 +1,98 @@
+//! The kernel's tables.
+ghost use Rattle.std.specs.Prelude.{◌≡◌, ◌<◌, ◌≤◌, ◌↔◌, IsTrue, OnOk, Some, length, slice_get};
+ghost use Rattle.copyin_base.specs.Worlds.{entry_at, no_world};
+
+use crate::message::Message;
+use mach_types::{Name, TaskId};
+use name_space::{Entry, Space};
+use port::Ports;
+use port_set::Sets;
+use rights::Ledger;
+use std::alloc::{AllocError, Global};
+use std::marker::Model;
+
+/// The tasks' names, the ports with their queues, the counts of all rights, and the port sets.
+///
+/// Tasks stand by number. What ties the tables to one another is no part of this type: who holds a
+/// world keeps that it shows a state of the machine.
+#[derive(Drop)]
+pub struct World {
+    /// The names of each task.
+    pub spaces: Vec<Space>,
+    /// The ports.
+    pub ports: Ports<Message>,
+    /// How many rights there are.
+    pub ledger: Ledger,
+    /// The port sets. Which ports are in one is an attribute of the ports.
+    pub sets: Sets,
+}
+
+impl Model for World {
+    ghost use Rattle.name_space.specs.Names.{space_code};
+    ghost use Rattle.name_space.specs.contracts.Entry as entry;
+    ghost use Rattle.port.specs.Ports.{ports_code};
+    ghost use Rattle.port.specs.contracts.Attributes as attributes;
+    ghost use Rattle.rights.specs.Ledger.{ledger_code};
+    ghost use Rattle.rights.specs.contracts.Counts as counts;
+    ghost use Rattle.port_set.specs.Sets.{sets_code};
+    ghost use Rattle.port_set.specs.contracts.SetRecord as set_record;
+    ghost use Rattle.copyin_base.specs.Kept.{kept_code};
+    ghost use Rattle.copyin_base.specs.contracts.message.Carried as carried;
+    ghost use Rattle.copyin_base.specs.Worlds.{WorldView, world_code};
+
+    ghost Value = { WorldView };
+
+    ghost coded = { world_code (space_code entry.the_row.coded) (ports_code (kept_code carried.the_row.coded) attributes.the_row.coded) (ledger_code counts.the_row.coded) (sets_code set_record.the_row.coded) };
+
+    ghost view = { λ w. record { spaces = w.spaces.items; ports = w.ports; ledger = w.ledger; sets = w.sets } };
+}
+
+impl World {
+    /// Nothing was made yet. Takes no memory.
+    pub fn new(alloc: Global) -> World
+        ensures { result ≡ no_world }
+    {
+        World {
+            spaces: Vec::new(alloc),
+            ports: Ports::new(alloc),
+            ledger: Ledger::new(alloc),
+            sets: Sets::new(alloc),
+        }
+    }
+
+    /// Whether the task lives. Constant time.
+    pub fn has_task(&self, task: TaskId) -> bool
+        ensures { IsTrue result ↔ (task < length self.now.spaces) }
+    {
+        (task.number() as usize) < self.spaces.len()
+    }
+
+    /// The task's names. Constant time.
+    pub fn space(&self, task: TaskId) -> &Space
+        requires { task < length self.now.spaces }
+        ensures { slice_get self.now.spaces task ≡ Some result.now }
+    {
+        &self.spaces[task.number() as usize]
+    }
+
+    /// What stands under the task's name, if anything does. Logarithmic in the number of its names.
+    pub fn lookup(&self, task: TaskId, name: Name) -> Option<Entry>
+        ensures { result ≡ entry_at self.now task name }
+    {
+        self.spaces.get(task.number() as usize)?.lookup(name)
+    }
+
+    /// Makes a spare message slot, if there is none. All else is as before.
+    ///
+    /// An error means that memory was refused.
+    pub fn reserve_slot(&mut self) -> Result<(), AllocError>
+        ensures rest { self.new ≡ record self.old { ports = record self.old.ports { spare = self.new.ports.spare } } }
+        ensures ok { OnOk result (0 < self.new.ports.spare) }
+        ensures room { self.old.ports.spare ≤ self.new.ports.spare }
+    {
+        if self.ports.spare() > 0 {
+            return Ok(());
+        }
+        self.ports.reserve_slots(1)
+    }
+}

@@ -1,0 +1,74 @@
+-- A step: a call's own part, and what settles after it; or a refusal. And the opening.
+use Rattle.std.proofs.Common.{◌≡◌, ℕ, Some, None, refl, sym, ap, inl, inr}
+use Rattle.std.specs.FinMap as map
+use Rattle.std.specs.Option.{option_map}
+use Rattle.std.specs.Ordering.{nat_cmp}
+use Rattle.mach_types.specs.declared.calls.Event.{Event}
+use Rattle.mach_types.specs.declared.calls.Reply.{Reply}
+use Rattle.mach_model.specs.State.{State, opening}
+use Rattle.mach_model.specs.Notices.{Owed}
+use Rattle.mach_model.specs.Settles.{Settles}
+use Rattle.mach_model.proofs.Opening.{opening-lawful}
+use Rattle.port.specs.Ports.{PortView}
+use Rattle.port_set.specs.declared.SetRecord.{SetRecord}
+use Rattle.rights.specs.declared.Counts.{Counts}
+use Rattle.copyin_base.specs.Acts.{ShowsMid, Acts, Declines}
+use Rattle.copyin_base.specs.Kept.{Kept}
+use Rattle.copyin_base.specs.Shows.{Agrees, Shows}
+use Rattle.copyin_base.specs.Stands.{Stands}
+use Rattle.copyin_base.specs.Worlds.{WorldView, no_world}
+use Rattle.kernel_core.specs.Answers.{Answers}
+
+-- What was done is settled: a step that is done.
+pub acted : (old mid new : WorldView) (event : Event) (reply : Reply) → Acts old event reply mid →
+    ((now : ℕ) (s t : State) (owed : Owed) → ShowsMid mid t owed → (u : State) × Settles now s t owed u × Shows new u) → Answers old event reply new
+acted old mid new event reply a settles = λ now s sh.
+    let d = a.acts now s sh in
+    let e = settles now s d.mid d.owed d.shows in
+    (e.0, inr (record { unrefused = d.unrefused; mid = d.mid; owed = d.owed; does = d.does; settles = e.1 }), e.2)
+
+-- A refusal is a step that is refused.
+pub declined : (old new : WorldView) (event : Event) (code : ℕ) → Declines old event code new → Answers old event (Reply.Code code) new
+declined old new event code d = λ now s sh. (s, inl (record { code = code; told = refl; refuses = d.refuses s sh; same = refl }), d.shows s sh)
+
+-- After a step the tables show a state again.
+pub still_stands : (old new : WorldView) (event : Event) (reply : Reply) → Stands old → Answers old event reply new → Stands new
+still_stands old new event reply stands answers = let x = answers 0 stands.state stands.shown in record { state = x.0; shown = x.2 }
+
+-- ---- nothing was made yet
+
+pub opening_agrees : Agrees no_world opening
+opening_agrees = record {
+  spaces = record {
+    live_task = λ task. refl;
+    tasks_made = refl;
+    naming = λ task name. map.get-empty nat_cmp name;
+    names_kept = λ task space e. absurd (let e' : None ≡ Some space = e in cc);
+    counted = λ task name x e. absurd (let e' : None ≡ Some x = e in cc);
+  };
+  rights = record { references = λ task name x p e is. absurd (let e' : None ≡ Some x = e in cc) };
+  live_port = λ p. rw (map.get-empty {X = PortView Kept} nat_cmp p) refl;
+  ports_made = refl;
+  ports = λ p v e. absurd (no_port p v e);
+  counts = λ p. record {
+    entered = rw (map.get-empty {X = Counts} nat_cmp p) refl;
+    senders = rw (map.get-empty {X = Counts} nat_cmp p) refl;
+    once_rights = rw (map.get-empty {X = Counts} nat_cmp p) refl;
+  };
+  total = refl;
+  in_sets = record {
+    set_owner = λ set. sym (ap (option_map (λ (r : SetRecord). r.owner)) (map.get-empty {X = SetRecord} nat_cmp set));
+    sets_made = refl;
+    set_named = λ set r e. absurd (let n : map.get no_world.sets.sets set ≡ None = map.get-empty {X = SetRecord} nat_cmp set in cc);
+  };
+  requests = λ r kind q. refl;
+}
+  where
+    no_port : (p : ℕ) (v : PortView Kept) → map.get no_world.ports.ports p ≡ Some v → ⊥
+    no_port p v e = let n : map.get no_world.ports.ports p ≡ None = map.get-empty {X = PortView Kept} nat_cmp p in cc
+
+pub opening_shows : Shows no_world opening
+opening_shows = record { agrees = opening_agrees; lawful = opening-lawful }
+
+pub opening_stands : Stands no_world
+opening_stands = record { state = opening; shown = opening_shows }

@@ -1,0 +1,379 @@
+-- A right handed from a task to another: refused in each state that the tables show, or done.
+use Rattle.std.proofs.Common.{◌≡◌, ◌≢◌, ℕ, ◌+◌, ◌<◌, ◌≤◌, List, [], ◌∷◌, ◌++◌, Option, Some, None, refl, sym, ap, subst, ◌∙◌, arith, true, false, Bool, ◌⊎◌, inl, inr, length}
+use Rattle.std.specs.Prelude.{if◌then◌else◌, nat_lt, slice_get, ◌==◌, ◌&&◌, MatchBool}
+use Rattle.std.proofs.lemmas.Bool.{lt-ltb, le-ltb, ltb-true, ltb-false}
+use Rattle.mach_types.specs.declared.calls.Event.{Event}
+use Rattle.mach_types.specs.declared.calls.Reply.{Reply}
+use Rattle.mach_types.specs.declared.codes.KernReturn.TheVariants.{ResourceShortage}
+use Rattle.mach_types.specs.declared.rights.Disposition.{Disposition}
+use Rattle.mach_types.specs.Guards.{FirstIs, NoneHolds}
+use Rattle.mach_types.specs.Messages.{to_port}
+use Rattle.mach_types.specs.Numbers.{disposition, kind_sent, kind_number, kern_number, dead_word, most_references, most_rights}
+use Rattle.mach_types.specs.Tokens.{Kind, receive, send, send_once, in_task, in_message, Token, token, weigh}
+use Rattle.mach_model.specs.State.{State, Target, lookup, held, with_name}
+use Rattle.mach_model.specs.Carried.{lying}
+use Rattle.mach_model.specs.CopyIn.{CopyRight}
+use Rattle.mach_model.specs.CopyOut.{given_to, NamedOnce, NamedFor}
+use Rattle.mach_model.specs.Refusals.{IsNoName, insert_guards, extract_guards}
+use Rattle.mach_model.specs.Transfer.{target_for, inserted_guards, extracted_guards, pegged, Inserts, Extracts}
+use Rattle.name_space.specs.Names.{SpaceView, IsUsable}
+use Rattle.rights.specs.Ledger.{LedgerView}
+use Rattle.copyin_base.specs.Acts.{Acts, Declines, HasTasks, IsAllowed}
+use Rattle.copyin_base.specs.Changes.{MakesRoom, SameButRoom}
+use Rattle.copyin_base.specs.Shows.{target_of, Agrees, Shows}
+use Rattle.copyin_base.specs.Stands.{Stands}
+use Rattle.copyin_base.specs.Worlds.{WorldView}
+use Rattle.copyin_base.specs.declared.message.Mark.TheVariants as mark
+use Rattle.copyin_base.proofs.Acting.{refused_later, done}
+use Rattle.copyin_base.proofs.Gets.{get-set_same}
+use Rattle.copyin_base.proofs.Roomier.{room_made, room_entry, room_shows}
+use Rattle.copyin_base.proofs.Taking.{Without, take_lying}
+use Rattle.copyin_base.proofs.Told.{space_there}
+use Rattle.copyin.specs.Copies.{CopiesRight}
+use Rattle.copyin.specs.Judging.{made_by_mark}
+use Rattle.copyin.specs.Planned.{CanCopy}
+use Rattle.copyout.specs.Giving.{alone, GivesPort, GivesMark}
+use Rattle.copyout.specs.Putting.{CanPut, PutsPort}
+use Rattle.copyout.specs.Ready.{CanGive}
+use Rattle.copyout.proofs.Given.{Put, port_put, Given, port_given}
+use Rattle.kernel_core.specs.declared.transfer.Going.{Going}
+use Rattle.kernel_core.specs.declared.transfer.TaskName.{TaskName}
+use Rattle.kernel_core.specs.Transfer.{CanGo, MayInsert, MayExtract, left_at, names_in, fewer_if, names_left, rights_then, under_guards, out_guards, insert_later, extract_later}
+use Rattle.kernel_core.proofs.Going.{usable_name, insert_good, extract_good}
+use Rattle.kernel_core.proofs.Judged.{lies, lives, copied_in, sends_are, few, none_inserted, first_inserted, none_extracted, first_extracted}
+use Rattle.kernel_core.proofs.Left.{Left, is_left, went_world, went_left, can_copy}
+use Rattle.kernel_core.proofs.Readied.{few_then, can_put, can_give}
+
+one_given : (o : Option Disposition) (a b : Disposition) → o ≡ Some a → o ≡ Some b → a ≡ b
+one_given o a b x y = let e : Some a ≡ Some b = sym x ∙ y in cc
+
+-- ---- refused, once the right was copied in
+
+module _ (w : WorldView) (task number : ℕ) (g : Going) (goes : CanGo w number g) (below : task < length w.spaces) where
+  abbrev from : ℕ
+  from = g.from
+
+  abbrev poly : ℕ
+  poly = g.name
+
+  abbrev late_kind : Kind
+  late_kind = kind_sent g.given
+
+  space : (x : SpaceView) × (slice_get w.spaces task ≡ Some x)
+  space = space_there w task below
+
+  module _ (s : State) (sh : Shows w s) where
+    abbrev gone : WorldView
+    gone = went_world w s sh task number g goes
+
+    late_left : Left w s task number g gone
+    late_left = went_left w s sh task number g goes space.0 space.1
+
+    late_others : Without (token late_kind g.port (in_message 0 (length (s.log 0)))) late_left.t.ledger
+    late_others = take_lying 0 (length (s.log 0)) late_kind g.port late_left.t.ledger (lies w s task number g gone late_left)
+
+    abbrev late : State
+    late = record late_left.t { ledger = token late_kind g.port (in_task task) ∷ late_others.others }
+
+    late_copy : CopyRight from (in_task task) number poly s (to_port g.port) late
+    late_copy = copied_in w s task number g gone late_left late_others.others late_others.parts
+
+  module _ (name : ℕ) (named : ¬ (IsNoName name)) (poly_named : ¬ (IsNoName poly)) where
+    pub insert_allowed : IsAllowed w (λ s. insert_guards s task name from poly number)
+    insert_allowed = record { allowed = λ s sh. insert_good s from poly number g.port (in_task task) (late s sh) (late_copy s sh) task name named poly_named }
+
+    pub insert_refused : HasTasks w (Event.InsertRight task name from poly number) → (code : ℕ) → FirstIs (insert_later w task name g) code → Declines w (Event.InsertRight task name from poly number) code w
+    insert_refused tasks code first = refused_later w (Event.InsertRight task name from poly number) tasks code record { allowed = λ s sh. insert_allowed.allowed s sh } (λ s sh.
+        (g.port, late s sh, g.given, goes.given, late_copy s sh, inl (first_inserted w s task number g (gone s sh) (late_left s sh) (late_others s sh).others (late_others s sh).parts name code first)))
+
+    pub insert_short : HasTasks w (Event.InsertRight task name from poly number) → NoneHolds (insert_later w task name g) →
+        Declines w (Event.InsertRight task name from poly number) (kern_number ResourceShortage) w
+    insert_short tasks none = refused_later w (Event.InsertRight task name from poly number) tasks (kern_number ResourceShortage) record { allowed = λ s sh. insert_allowed.allowed s sh } (λ s sh.
+        (g.port, late s sh, g.given, goes.given, late_copy s sh, inr (none_inserted w s task number g (gone s sh) (late_left s sh) (late_others s sh).others (late_others s sh).parts name none, refl)))
+
+  pub extract_allowed : IsAllowed w (λ s. extract_guards s from poly number task)
+  extract_allowed = record { allowed = λ s sh. extract_good s from poly number g.port (in_task task) (late s sh) (late_copy s sh) task }
+
+  pub extract_refused : HasTasks w (Event.ExtractRight from poly number task) → (code : ℕ) → FirstIs (extract_later w task g) code → Declines w (Event.ExtractRight from poly number task) code w
+  extract_refused tasks code first = refused_later w (Event.ExtractRight from poly number task) tasks code record { allowed = λ s sh. extract_allowed.allowed s sh } (λ s sh.
+      (g.port, late s sh, g.given, goes.given, late_copy s sh, inl (first_extracted w s task number g (gone s sh) (late_left s sh) (late_others s sh).others (late_others s sh).parts code first)))
+
+  pub extract_short : HasTasks w (Event.ExtractRight from poly number task) → NoneHolds (extract_later w task g) → Declines w (Event.ExtractRight from poly number task) (kern_number ResourceShortage) w
+  extract_short tasks none = refused_later w (Event.ExtractRight from poly number task) tasks (kern_number ResourceShortage) record { allowed = λ s sh. extract_allowed.allowed s sh } (λ s sh.
+      (g.port, late s sh, g.given, goes.given, late_copy s sh, inr (none_extracted w s task number g (gone s sh) (late_left s sh) (late_others s sh).others (late_others s sh).parts none, refl)))
+
+-- ---- done, in tables with room for a name more
+
+module _ (w : WorldView) (task number : ℕ) (g : Going) (goes : CanGo w number g) (ready : WorldView) (m : MakesRoom w task ready) where
+  same : SameButRoom w ready
+  same = room_made w ready task m
+
+  goes_ready : CanGo ready number g
+  goes_ready = record { given = goes.given; entry = goes.entry; found = room_entry w ready same g.from g.name ∙ goes.found; is = goes.is }
+
+  abbrev roomy : SpaceView
+  roomy = record m.space { room = m.room }
+
+  was : slice_get ready.spaces task ≡ Some roomy
+  was = ap (λ (x : WorldView). slice_get x.spaces task) m.rest ∙ get-set_same w.spaces task roomy m.space m.there
+
+  same_at : left_at ready task g ≡ left_at w task g
+  same_at = λ i n. if task == g.from && n == g.name then g.left else room_entry w ready same task n i
+
+  same_names : names_left ready task g ≡ names_left w task g
+  same_names = ap (λ (n : ℕ). fewer_if (task == g.from) g.left n) (ap names_in was ∙ sym (ap names_in m.there))
+
+  same_rights : rights_then ready g ≡ rights_then w g
+  same_rights = ap (λ (l : LedgerView). l.total + made_by_mark g.given (mark.Port g.port)) same.ledger
+
+  insert_ready : (name : ℕ) → NoneHolds (insert_later w task name g) → NoneHolds (insert_later ready task name g)
+  insert_ready name none = subst NoneHolds (λ i. under_guards (sym same_at i) (sym same_names i) (sym same_rights i) name g.port (kind_sent g.given)) none
+
+  extract_ready : NoneHolds (extract_later w task g) → NoneHolds (extract_later ready task g)
+  extract_ready none = subst NoneHolds (λ i. out_guards (sym same_at i) (sym same_names i) (sym same_rights i) g.port (kind_sent g.given)) none
+
+  module _ (s : State) (sh : Shows w s) where
+    shows_ready : Shows ready s
+    shows_ready = room_shows w ready s same sh
+
+    pub ready_copies : ¬ (most_rights < rights_then w g) → CanCopy ready g.from g.name (record { given = g.given; mark = mark.Port g.port })
+    ready_copies few = can_copy ready s shows_ready task number g goes_ready (subst (λ (n : ℕ). n ≤ most_rights) (sym same_rights) (few_then w g few))
+
+    module _ (mid : WorldView) (copies : CopiesRight ready g.from g.given g.name (mark.Port g.port) mid) where
+      abbrev kind : Kind
+      kind = kind_sent g.given
+
+      pub left : Left ready s task number g mid
+      left = is_left ready s shows_ready task number g goes_ready roomy was mid copies
+
+      pub mid_puts : (name : ℕ) → IsUsable name → NoneHolds (insert_later w task name g) → CanPut mid task kind g.port name
+      mid_puts name usable none = can_put ready s task number g mid left roomy was m.some name usable (insert_ready name none)
+
+      pub mid_gives : NoneHolds (extract_later w task g) → CanGive mid task (record { given = g.given; mark = mark.Port g.port } ∷ [])
+      mid_gives none = can_give ready s task number g mid left roomy was m.some (extract_ready none)
+
+      abbrev k : ℕ
+      k = length (s.log 0)
+
+      lie : 0 < lying left.t kind g.port (in_message 0 k)
+      lie = lies ready s task number g mid left
+
+      -- ---- under a name
+
+      module _ (name : ℕ) (none : NoneHolds (insert_later w task name g)) (new : WorldView) (puts : PutsPort mid task kind g.port name new) where
+        pub put : Put left.t 0 k task kind g.port name new
+        put = port_put mid left.t left.agrees 0 k left.copies.keeps task kind g.port name new lie puts
+
+        abbrev copied : State
+        copied = record left.t { ledger = token kind g.port (in_task task) ∷ put.others }
+
+        copy : CopyRight g.from (in_task task) number g.name s (to_port g.port) copied
+        copy = copied_in ready s task number g mid left put.others put.parts
+
+        unrefused : NoneHolds (inserted_guards copied task name g.port kind)
+        unrefused = none_inserted ready s task number g mid left put.others put.parts name (insert_ready name none)
+
+        comes : (c : Kind) → c ≡ kind → given_to c g.port task left.t ≡ token c g.port (in_task task) ∷ []
+        comes receive is = refl
+        comes send_once is = refl
+        comes send is =
+            let a = sends_are ready s task number g mid left put.others put.parts send is in
+            let b : held copied task send g.port ≤ most_references = at_most (held copied task send g.port) unrefused.1.1.0 in
+            let c : nat_lt (held left.t task send g.port) most_references ≡ true = lt-ltb (held left.t task send g.port) most_references (omega (arith, a, b)) in rw c refl
+          where
+            at_most : (n : ℕ) → ¬ (most_references < n) → n ≤ most_references
+            at_most n h = omega (arith, h)
+
+        abbrev inserted : State
+        inserted = record put.named { ledger = token kind g.port (in_task task) ∷ put.others }
+
+        pub insert_agrees : Agrees new inserted
+        insert_agrees = subst (λ (xs : List Token). Agrees new (record put.named { ledger = xs ++ put.others })) (comes kind refl) put.agrees
+
+        same_target : (c : Kind) → target_of (alone c g.port) ≡ target_for c g.port
+        same_target receive = refl
+        same_target send = refl
+        same_target send_once = refl
+
+        named_then : (lookup copied task name ≢ None) × (inserted ≡ copied) ⊎ (lookup copied task name ≡ None) × (inserted ≡ with_name task name (target_for kind g.port) copied)
+        named_then = elim put.under [
+          | inl h ↦ inl ((λ e. let f : None ≡ Some (Target.port g.port) = sym e ∙ h.1 in cc), ap (λ (x : State). record x { ledger = copied.ledger }) h.2)
+          | inr h ↦ inr (h.0, ap (λ (x : State). record x { ledger = copied.ledger }) h.2 ∙ ap (λ (x : Target). with_name task name x copied) (same_target kind))
+        ]
+
+        pub inserts : Inserts task name g.from g.name number s inserted
+        inserts =
+            let same = one_given (disposition number) g.given copy.given goes.given copy.is_given in
+            record {
+              p = g.port;
+              copied = copied;
+              copy = copy;
+              unrefused = subst (λ (d : Disposition). NoneHolds (inserted_guards copied task name g.port (kind_sent d))) same unrefused;
+              named = subst (λ (d : Disposition). (lookup copied task name ≢ None) × (inserted ≡ copied) ⊎ (lookup copied task name ≡ None) × (inserted ≡ with_name task name (target_for (kind_sent d) g.port) copied)) same named_then;
+            }
+
+      -- ---- under a name that the kernel chooses
+
+      module _ (none : NoneHolds (extract_later w task g)) (new_name : ℕ) (new : WorldView) (gives : GivesMark mid task kind (mark.Port g.port) new_name new) where
+        gives_port : GivesPort mid task kind g.port new_name new
+        gives_port = subst (λ (b : Bool). MatchBool b (GivesPort mid task kind g.port new_name new) ((new_name ≡ dead_word) × (new ≡ mid))) (left.agrees.live_port g.port ∙ lives ready s task number g mid left) gives
+
+        pub given : Given left.t 0 k task kind g.port new_name new
+        given = port_given mid left.t left.agrees 0 k left.copies.keeps task kind g.port new_name new lie gives_port
+
+        others : Without (token kind g.port (in_message 0 k)) left.t.ledger
+        others = take_lying 0 k kind g.port left.t.ledger lie
+
+        abbrev out : State
+        out = record left.t { ledger = token kind g.port (in_task task) ∷ others.others }
+
+        copy_out : CopyRight g.from (in_task task) number g.name s (to_port g.port) out
+        copy_out = copied_in ready s task number g mid left others.others others.parts
+
+        named_once : (named : State) → NamedOnce task new_name g.port left.t named → NamedOnce task new_name g.port out (record named { ledger = out.ledger })
+        named_once named (inl h) = inl (h.0, ap (λ (y : State). record y { ledger = out.ledger }) h.1)
+        named_once named (inr h) = inr (h.0, record { room = h.1.room; fresh = h.1.fresh; rest = ap (λ (y : State). record y { ledger = out.ledger }) h.1.rest })
+
+        named_for : (c : Kind) (named : State) → NamedFor c task new_name g.port left.t named → NamedFor c task new_name g.port out (record named { ledger = out.ledger })
+        named_for receive named h = named_once named h
+        named_for send named h = named_once named h
+        named_for send_once named h = record { room = h.room; fresh = h.fresh; rest = ap (λ (y : State). record y { ledger = out.ledger }) h.rest }
+
+        none_pegged : held out task send g.port ≤ most_references → pegged task g.port out ≡ []
+        none_pegged h = let e : nat_lt most_references (held out task send g.port) ≡ false = le-ltb most_references (held out task send g.port) h in rw e refl
+
+        one_pegged : most_references < held out task send g.port → pegged task g.port out ≡ token send g.port (in_task task) ∷ []
+        one_pegged h = let e : nat_lt most_references (held out task send g.port) ≡ true = lt-ltb most_references (held out task send g.port) h in rw e refl
+
+        -- the right comes, or it is pegged
+        other_comes : (c : Kind) → c ≡ kind → held out task send g.port ≡ held left.t task send g.port → (h : Token → ℕ) → weigh h (pegged task g.port out) ≡ 0
+        other_comes c is same h = let b = few ready s task number g mid left others.others others.parts in ap (weigh h) (none_pegged (omega (arith, same, b)))
+
+        comes_out : (c : Kind) → c ≡ kind → (h : Token → ℕ) → weigh h (given_to c g.port task left.t) + weigh h (pegged task g.port out) ≡ h (token c g.port (in_task task))
+        comes_out receive is h =
+            let a = sends_are ready s task number g mid left others.others others.parts receive is in
+            let c = other_comes receive is (omega (arith, a)) h in omega (arith, c)
+        comes_out send_once is h =
+            let a = sends_are ready s task number g mid left others.others others.parts send_once is in
+            let c = other_comes send_once is (omega (arith, a)) h in omega (arith, c)
+        comes_out send is h = by (nat_lt (held left.t task send g.port) most_references) refl
+          where
+            by : (b : Bool) → nat_lt (held left.t task send g.port) most_references ≡ b →
+                weigh h (if b then token send g.port (in_task task) ∷ [] else []) + weigh h (pegged task g.port out) ≡ h (token send g.port (in_task task))
+            by true e =
+                let a = sends_are ready s task number g mid left others.others others.parts send is in
+                let b = ltb-true (held left.t task send g.port) most_references e in
+                let c = ap (weigh h) (none_pegged (omega (arith, a, b))) in omega (arith, c)
+            by false e =
+                let a = sends_are ready s task number g mid left others.others others.parts send is in
+                let b = ltb-false (held left.t task send g.port) most_references e in
+                let c = ap (weigh h) (one_pegged (omega (arith, a, b))) in omega (arith, c)
+
+        pub extracts : Extracts g.from g.name number task new_name (kind_number kind) s given.t
+        extracts =
+            let same = one_given (disposition number) g.given copy_out.given goes.given copy_out.is_given in
+            record {
+              p = g.port;
+              copied = out;
+              copy = copy_out;
+              unrefused = subst (λ (d : Disposition). NoneHolds (extracted_guards out task g.port (kind_sent d))) same (none_extracted ready s task number g mid left others.others others.parts (extract_ready none));
+              kind_is = ap (λ (d : Disposition). kind_number (kind_sent d)) same;
+              named_state = record given.gives.named_state { ledger = out.ledger };
+              named = subst (λ (d : Disposition). NamedFor (kind_sent d) task new_name g.port out (record given.gives.named_state { ledger = out.ledger })) same (named_for kind given.gives.named_state given.gives.named);
+              rest = given.gives.rest;
+              tokens = λ h.
+                  let a = given.gives.tokens h in
+                  let b = others.parts h in
+                  let c = comes_out kind refl h in omega (arith, a, b, c);
+            }
+
+-- ---- what was judged, by where it stands
+
+module _ (w : WorldView) (from : TaskName) (number : ℕ) (g : Going) (from_is : g.from ≡ from.task) (name_is : g.name ≡ from.name) (goes : CanGo w number g) where
+  abbrev at_it : (d : Disposition) (port : ℕ) → Going
+  at_it d port = record { from = from.task; name = from.name; given = d; port = port; left = g.left }
+
+  is_at : (d : Disposition) (port : ℕ) → d ≡ g.given → port ≡ g.port → g ≡ at_it d port
+  is_at d port e f = λ i. record { from = from_is i; name = name_is i; given = sym e i; port = sym f i; left = g.left }
+
+  module _ (to : TaskName) (to_named : ¬ (IsNoName to.name)) (from_named : ¬ (IsNoName from.name)) where
+    pub may_insert : (d : Disposition) (port : ℕ) → d ≡ g.given → port ≡ g.port → NoneHolds (insert_later w to.task to.name g) → MayInsert w to from number d port
+    may_insert d port e f none = record {
+      left = g.left;
+      goes = subst (CanGo w number) (is_at d port e f) goes;
+      to_named = to_named;
+      from_named = from_named;
+      unrefused = subst (λ (x : Going). NoneHolds (insert_later w to.task to.name x)) (is_at d port e f) none;
+    }
+
+    pub insert_declined : (to.task < length w.spaces) × (from.task < length w.spaces) → (code : ℕ) → FirstIs (insert_later w to.task to.name g) code →
+        Declines w (Event.InsertRight to.task to.name from.task from.name number) code w
+    insert_declined tasks code first =
+        let e = is_at g.given g.port refl refl in
+        insert_refused w to.task number (at_it g.given g.port) (subst (CanGo w number) e goes) tasks.0 to.name to_named from_named tasks code
+        (subst (λ (x : Going). FirstIs (insert_later w to.task to.name x) code) e first)
+
+  pub may_extract : (to : ℕ) (d : Disposition) (port : ℕ) → d ≡ g.given → port ≡ g.port → NoneHolds (extract_later w to g) → MayExtract w from number to d port
+  may_extract to d port e f none = record {
+    left = g.left;
+    goes = subst (CanGo w number) (is_at d port e f) goes;
+    unrefused = subst (λ (x : Going). NoneHolds (extract_later w to x)) (is_at d port e f) none;
+  }
+
+  pub extract_declined : (to : ℕ) → (from.task < length w.spaces) × (to < length w.spaces) → (code : ℕ) → FirstIs (extract_later w to g) code →
+      Declines w (Event.ExtractRight from.task from.name number to) code w
+  extract_declined to tasks code first =
+      let e = is_at g.given g.port refl refl in
+      extract_refused w to number (at_it g.given g.port) (subst (CanGo w number) e goes) tasks.1 tasks code (subst (λ (x : Going). FirstIs (extract_later w to x) code) e first)
+
+-- ---- the calls, by what was judged and the room that was made
+
+module _ (w : WorldView) (to from : TaskName) (number : ℕ) (given_by : Disposition) (port : ℕ) (may : MayInsert w to from number given_by port) where
+  abbrev inserting : Going
+  inserting = record { from = from.task; name = from.name; given = given_by; port = port; left = may.left }
+
+  pub insert_short_of : (to.task < length w.spaces) × (from.task < length w.spaces) → Declines w (Event.InsertRight to.task to.name from.task from.name number) (kern_number ResourceShortage) w
+  insert_short_of tasks = insert_short w to.task number inserting may.goes tasks.0 to.name may.to_named may.from_named tasks may.unrefused
+
+  module _ (ready : WorldView) (room : MakesRoom w to.task ready) where
+    pub inserts_copies : Stands w → CanCopy ready from.task from.name (record { given = given_by; mark = mark.Port port })
+    inserts_copies stands = ready_copies w to.task number inserting may.goes ready room stands.state stands.shown (λ many. may.unrefused.1.1.1.0 (inr many))
+
+    module _ (mid : WorldView) (copies : CopiesRight ready from.task given_by from.name (mark.Port port) mid) where
+      pub inserts_puts : Stands w → CanPut mid to.task (kind_sent given_by) port to.name
+      inserts_puts stands = mid_puts w to.task number inserting may.goes ready room stands.state stands.shown mid copies to.name (usable_name to.name may.to_named) may.unrefused
+
+      pub insert_done : (new : WorldView) → PutsPort mid to.task (kind_sent given_by) port to.name new → (to.task < length w.spaces) × (from.task < length w.spaces) →
+          Acts w (Event.InsertRight to.task to.name from.task from.name number) (Reply.Code 0) new
+      insert_done new puts tasks = done w (Event.InsertRight to.task to.name from.task from.name number) (Reply.Code 0) new tasks
+          record { allowed = λ s sh. (insert_allowed w to.task number inserting may.goes tasks.0 to.name may.to_named may.from_named).allowed s sh } (λ now s sh. record {
+            mid = _;
+            owed = [];
+            does = (refl, inserts w to.task number inserting may.goes ready room s sh mid copies to.name may.unrefused new puts, refl);
+            agrees = insert_agrees w to.task number inserting may.goes ready room s sh mid copies to.name may.unrefused new puts;
+          })
+
+module _ (w : WorldView) (from : TaskName) (number to : ℕ) (given_by : Disposition) (port : ℕ) (may : MayExtract w from number to given_by port) where
+  abbrev extracting : Going
+  extracting = record { from = from.task; name = from.name; given = given_by; port = port; left = may.left }
+
+  pub extract_short_of : (from.task < length w.spaces) × (to < length w.spaces) → Declines w (Event.ExtractRight from.task from.name number to) (kern_number ResourceShortage) w
+  extract_short_of tasks = extract_short w to number extracting may.goes tasks.1 tasks may.unrefused
+
+  module _ (ready : WorldView) (room : MakesRoom w to ready) where
+    pub extracts_copies : Stands w → CanCopy ready from.task from.name (record { given = given_by; mark = mark.Port port })
+    extracts_copies stands = ready_copies w to number extracting may.goes ready room stands.state stands.shown (λ many. may.unrefused.0 (inr many))
+
+    module _ (mid : WorldView) (copies : CopiesRight ready from.task given_by from.name (mark.Port port) mid) where
+      pub extracts_gives : Stands w → CanGive mid to (record { given = given_by; mark = mark.Port port } ∷ [])
+      extracts_gives stands = mid_gives w to number extracting may.goes ready room stands.state stands.shown mid copies may.unrefused
+
+      pub extract_done : (new_name : ℕ) (new : WorldView) → GivesMark mid to (kind_sent given_by) (mark.Port port) new_name new → (from.task < length w.spaces) × (to < length w.spaces) →
+          Acts w (Event.ExtractRight from.task from.name number to) (Reply.Right new_name (kind_number (kind_sent given_by))) new
+      extract_done new_name new gives tasks = done w (Event.ExtractRight from.task from.name number to) (Reply.Right new_name (kind_number (kind_sent given_by))) new tasks
+          record { allowed = λ s sh. (extract_allowed w to number extracting may.goes tasks.1).allowed s sh } (λ now s sh. record {
+            mid = _;
+            owed = [];
+            does = (extracts w to number extracting may.goes ready room s sh mid copies may.unrefused new_name new gives, refl);
+            agrees = (given w to number extracting may.goes ready room s sh mid copies may.unrefused new_name new gives).agrees;
+          })

@@ -1,0 +1,38 @@
+use Rattle.std.proofs.Common.{sym, subst}
+use Rattle.mach_types.specs.declared.calls.Reply.{Reply}
+use Rattle.copyin_base.specs.Worlds.{WorldView}
+use Rattle.kernel_core.specs.Receive.{IsReceipt}
+use Rattle.kernel_core.proofs.Receiving.{message_finds, message_waits, receipt_empty, receipt_message, receipt_too_large, stays_for_names, stays_for_memory}
+use Rattle.kernel_core.proofs.receive.take.Goals as goal
+
+pub returns-in_default-clause-ok : goal.returns-in_default-clause-ok
+returns-in_default-clause-ok c = receipt_empty c.args.world.now c.args.task c.requires.there c.args.waited c.requires.may c.args.room c.in_default.ensures
+
+pub name_of-name-requires-clause-has : goal.name_of-name-requires-clause-has
+name_of-name-requires-clause-has c = message_finds c.args.world.now c.requires.stands c.args.task c.in-Some.port c.args.waited c.requires.may c.in-Some.ensures
+
+pub receive-requires-clause-waits : goal.receive-requires-clause-waits
+receive-requires-clause-waits c = message_waits c.args.world.now c.requires.stands c.in-Some.port c.args.waited c.in-Some.ensures
+
+pub returns-in-Ok-clause-ok : goal.returns-in-Ok-clause-ok
+returns-in-Ok-clause-ok c =
+    let x = c.in-Ok.ensures.ok in
+    receipt_message c.args.world.now c.args.task c.requires.there c.args.waited c.requires.may c.args.room c.in-Some.port c.in-Some.ensures.from c.name_of-name.result c.name_of-name.ensures
+    c.in-Ok.bytes x.0 c.receive.new.world x.1 x.2 x.3
+
+pub returns-in-Err-TooLarge-clause-ok : goal.returns-in-Err-TooLarge-clause-ok
+returns-in-Err-TooLarge-clause-ok c =
+    let x = rw c.in-Err-TooLarge.field-0-is at c.in-Err-TooLarge.ensures.err in
+    let w = c.args.world.now in
+    subst (λ (new : WorldView). IsReceipt w c.args.task c.args.waited c.args.room (Reply.TooLarge c.in-Err-TooLarge.length) new) (sym x.0)
+    (receipt_too_large w c.args.task c.requires.there c.args.waited c.requires.may c.args.room c.in-Some.port c.in-Some.ensures.from x.1 x.2 c.in-Err-TooLarge.length x.3.0 x.3.1)
+
+pub returns-in-Err-Names-clause-err : goal.returns-in-Err-Names-clause-err
+returns-in-Err-Names-clause-err c =
+    let x = rw c.in-Err-Names.field-0-is at c.in-Err-Names.ensures.err in
+    (x.0, stays_for_names c.args.world.now c.args.task c.requires.there c.args.waited c.requires.may c.args.room c.in-Some.port c.in-Some.ensures.from x.1 x.2 x.3.0 x.3.1)
+
+pub returns-in-Err-Memory-clause-err : goal.returns-in-Err-Memory-clause-err
+returns-in-Err-Memory-clause-err c =
+    let x = rw c.in-Err-Memory.field-0-is at c.in-Err-Memory.ensures.err in
+    (x.0, stays_for_memory c.args.world.now c.args.task c.requires.there c.args.waited c.requires.may c.args.room c.in-Some.port c.in-Some.ensures.from x.1 x.2 x.3.0 x.3.1)

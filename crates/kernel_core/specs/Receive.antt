@@ -1,0 +1,66 @@
+-- What receiving takes from, and what it does to the tables.
+use Rattle.std.specs.Prelude.{◌≡◌, ◌≢◌, ℕ, ◌<◌, Bool, [], length, Some, false}
+use Rattle.mach_types.specs.declared.calls.Event.{Event}
+use Rattle.mach_types.specs.declared.calls.Reply.{Reply}
+use Rattle.mach_types.specs.declared.calls.Waited.{Waited}
+use Rattle.mach_types.specs.Guards.{Guards, NoneHolds}
+use Rattle.mach_model.specs.State.{State}
+use Rattle.mach_model.specs.Receive.{waits_for, Receipt, ReceiptRefuses}
+use Rattle.mach_model.specs.Refusals.{again_guards, call_guards}
+use Rattle.port.specs.Ports.{PortView}
+use Rattle.copyin_base.specs.Kept.{Kept}
+use Rattle.copyin_base.specs.Shows.{Agrees, Shows}
+use Rattle.copyin_base.specs.Worlds.{WorldView, port_at}
+
+-- ---- where from, in each state that the tables show
+
+-- the guards of a receive by the name, into whatever room
+abbrev pub named_guards : State → (task name : ℕ) → Guards
+named_guards s task name = call_guards s (Event.Receive task name 0 false)
+
+-- The name stands for this, which the task may take from.
+pub record Sources (w : WorldView) (task name : ℕ) (waited : Waited) : Type 0 where
+  pub waits : (s : State) → Shows w s → waits_for task name s waited
+  pub unrefused : (s : State) → Shows w s → NoneHolds (again_guards s task waited)
+
+-- The port is in a set.
+pub record IsMember (w : WorldView) (port : ℕ) : Type 0 where
+  pub some : (s : State) → Shows w s → s.sets_of port ≢ []
+
+-- It is in none.
+pub record IsAlone (w : WorldView) (port : ℕ) : Type 0 where
+  pub none : (s : State) → Shows w s → s.sets_of port ≡ []
+
+-- ---- the ports that a receipt takes from: the port itself, or the set's members
+
+abbrev pub IsOf : Waited → (port : ℕ) → PortView Kept → Type 0
+IsOf (Waited.Port q) p v = p ≡ q
+IsOf (Waited.Set set) p v = v.attributes.set ≡ Some set
+
+pub record IsFrom (w : WorldView) (waited : Waited) (port : ℕ) : Type 0 where
+  pub v : PortView Kept
+  pub there : port_at w port ≡ Some v
+  pub is_of : IsOf waited port v
+
+pub record HasMessage (w : WorldView) (waited : Waited) (port : ℕ) : Type 0 where
+  pub from : IsFrom w waited port
+  pub some : 0 < length from.v.queue
+
+abbrev pub NoneWaits : WorldView → Waited → Type 0
+NoneWaits w waited = (p : ℕ) (v : PortView Kept) → port_at w p ≡ Some v → IsOf waited p v → length v.queue ≡ 0
+
+-- ---- what becomes of it, in each state that the tables show
+
+-- A receipt of the machine, after which the tables agree with its state.
+pub record ReceiptOf (s : State) (task : ℕ) (waited : Waited) (room : ℕ) (large : Bool) (reply : Reply) (new : WorldView) : Type 0 where
+  pub mid : State
+  pub receipt : Receipt s task waited room large reply mid []
+  pub agrees : Agrees new mid
+
+-- It is answered so, whether a longer message was to stay or not.
+pub record IsReceipt (old : WorldView) (task : ℕ) (waited : Waited) (room : ℕ) (reply : Reply) (new : WorldView) : Type 0 where
+  pub receipt : (large : Bool) (s : State) → Shows old s → ReceiptOf s task waited room large reply new
+
+-- A message stays, for want of names or of memory.
+pub record StaysFor (w : WorldView) (task : ℕ) (waited : Waited) (room code : ℕ) : Type 0 where
+  pub refuses : (s : State) → Shows w s → ReceiptRefuses s task waited room code

@@ -1,0 +1,222 @@
+//! Receiving a message.
+ghost use Rattle.std.specs.Prelude.{◌≡◌, ℕ, ◌<◌, Bool, true, IfOk, IfErr, MatchBool, MatchOption, is_some, length};
+ghost use Rattle.mach_types.specs.declared.calls.Event.{Event as AnyEvent};
+ghost use Rattle.mach_types.specs.declared.calls.Waited.TheVariants as AnyWaited;
+ghost use Rattle.mach_types.specs.Numbers.{msg_number};
+ghost use Rattle.mach_model.specs.Refusals.{again_guards};
+ghost use Rattle.copyin_base.specs.Acts.{Serves, IsRefused, IsAllowed};
+ghost use Rattle.copyin_base.specs.Finds.{FindsReceive};
+ghost use Rattle.copyin_base.specs.Stands.{Stands};
+ghost use Rattle.copyin_base.specs.Worlds.{port_at};
+ghost use Rattle.kernel_core.specs.Receive.{named_guards, Sources, IsMember, IsAlone, HasMessage, NoneWaits, IsReceipt, StaysFor};
+
+use copyin_base::{Code, World};
+use copyout::Refusal;
+use mach_types::{MsgReturn, Name, PortId, Reply, SetId, TaskId, Waited};
+use port_set::ready_member;
+use std::alloc::Global;
+
+/// Where a received message goes.
+#[derive(Clone, Copy)]
+pub(crate) struct Buffer {
+    /// The most bytes that there is room for.
+    pub(crate) room: u32,
+    /// Whether a longer message is to stay (`MACH_RCV_LARGE`). It stays anyhow.
+    pub(crate) large: bool,
+}
+
+impl Buffer {
+    /// Room for so many bytes, where a longer message is to stay or not.
+    pub(crate) fn new(room: u32, large: bool) -> Buffer
+        ensures { result ≡ record { room = room; large = large } }
+    {
+        Buffer { room, large }
+    }
+}
+
+/// `Receive` (IPC Interface, `mach_msg` with `MACH_RCV_MSG`): a message from the port whose receive
+/// right is under the name, or from any member of the port set under it that has one. A message that
+/// is longer than the room stays, whether that was asked for or not. The task lives. A refusal leaves
+/// all as it was.
+///
+/// Errors, of which the first is answered: `MACH_RCV_INVALID_NAME` for a name without a receive right
+/// or a set; `MACH_RCV_IN_SET` for a port that is in a set; then as [`take`].
+pub(crate) fn receive(
+    world: &mut World,
+    alloc: Global,
+    task: TaskId,
+    name: Name,
+    buffer: Buffer,
+) -> Result<Reply, Code>
+    requires there { task < length world.old.spaces }
+    requires stands { Stands world.old }
+    ensures { Serves world.old (AnyEvent.Receive task name buffer.room buffer.large) result world.new }
+{
+    let waited = source(world, task, name)?;
+    Ok(take(world, alloc, task, waited, buffer.room)?)
+}
+
+/// `ReceiveAgain` (IPC Interface, `mach_msg` with `MACH_RCV_MSG`, as it goes on once it has waited): a
+/// later try by one that found no message. It goes by identity, whatever became of the name. The task
+/// lives. A refusal leaves all as it was.
+///
+/// Errors, of which the first is answered: `MACH_RCV_PORT_DIED` where the port or set isn't there;
+/// `MACH_RCV_PORT_CHANGED` where the task has neither the port's receive right nor the set, or the port
+/// is in a set; then as [`take`].
+pub(crate) fn receive_again(
+    world: &mut World,
+    alloc: Global,
+    task: TaskId,
+    waited: Waited,
+    buffer: Buffer,
+) -> Result<Reply, Code>
+    requires there { task < length world.old.spaces }
+    requires stands { Stands world.old }
+    ensures { Serves world.old (AnyEvent.ReceiveAgain task waited buffer.room buffer.large) result world.new }
+{
+    judge_again(world, task, &waited)?;
+    Ok(take(world, alloc, task, waited, buffer.room)?)
+}
+
+// ---- where from
+
+/// What a receive by the name takes from: a port that is in no set, whose receive right is under it, or
+/// a port set.
+fn source(world: &World, task: TaskId, name: Name) -> Result<Waited, MsgReturn>
+    requires { Stands world.now }
+    ensures ok { IfOk result (λ waited. Sources world.now task name waited) }
+    ensures err { IfErr result (λ code. IsRefused world.now (λ s. named_guards s task name) (msg_number code)) }
+{
+    let Some(entry) = world.lookup(task, name) else {
+        return Err(MsgReturn::ReceiveInvalidName);
+    };
+    if let Some(set) = entry.set() {
+        return Ok(Waited::Set(set));
+    }
+    let Some(port) = entry.receive_port() else {
+        return Err(MsgReturn::ReceiveInvalidName);
+    };
+    if is_member(world, port) {
+        return Err(MsgReturn::ReceiveInSet);
+    }
+    Ok(Waited::Port(port))
+}
+
+/// Whether the task may still take from what it waited for.
+fn judge_again(world: &World, task: TaskId, waited: &Waited) -> Result<(), MsgReturn>
+    requires { task < length world.now.spaces }
+    ensures ok { IfOk result (λ _. IsAllowed world.now (λ s. again_guards s task waited.now)) }
+    ensures err { IfErr result (λ code. IsRefused world.now (λ s. again_guards s task waited.now) (msg_number code)) }
+{
+    match waited {
+        Waited::Port(port) => judge_port(world, task, *port),
+        Waited::Set(set) => judge_set(world, task, *set),
+    }
+}
+
+/// Whether the port is there and in no set, and the task has its receive right.
+fn judge_port(world: &World, task: TaskId, port: PortId) -> Result<(), MsgReturn>
+    requires { task < length world.now.spaces }
+    ensures ok { IfOk result (λ _. IsAllowed world.now (λ s. again_guards s task (AnyWaited.Port port))) }
+    ensures err { IfErr result (λ code. IsRefused world.now (λ s. again_guards s task (AnyWaited.Port port)) (msg_number code)) }
+{
+    if world.ports.attributes(port).is_none() {
+        return Err(MsgReturn::ReceivePortDied);
+    }
+    if !has_receive(world, task, port) || is_member(world, port) {
+        return Err(MsgReturn::ReceivePortChanged);
+    }
+    Ok(())
+}
+
+/// Whether the set is there, and is the task's.
+fn judge_set(world: &World, task: TaskId, set: SetId) -> Result<(), MsgReturn>
+    ensures ok { IfOk result (λ _. IsAllowed world.now (λ s. again_guards s task (AnyWaited.Set set))) }
+    ensures err { IfErr result (λ code. IsRefused world.now (λ s. again_guards s task (AnyWaited.Set set)) (msg_number code)) }
+{
+    let Some(kept) = world.sets.get(set) else {
+        return Err(MsgReturn::ReceivePortDied);
+    };
+    if kept.owner.number() != task.number() {
+        return Err(MsgReturn::ReceivePortChanged);
+    }
+    Ok(())
+}
+
+/// Whether the port, which is there, is in a set.
+fn is_member(world: &World, port: PortId) -> bool
+    requires { is_some (port_at world.now port) ≡ true }
+    ensures { MatchBool result (IsMember world.now port) (IsAlone world.now port) }
+{
+    world.attributes(port).set.is_some()
+}
+
+/// Whether the task has the port's receive right.
+fn has_receive(world: &World, task: TaskId, port: PortId) -> bool
+    requires { task < length world.now.spaces }
+    ensures { MatchBool result ((name : ℕ) × FindsReceive world.now task name port) (¬ ((name : ℕ) × FindsReceive world.now task name port)) }
+{
+    let Some(name) = world.space(task).name_of_port(port) else {
+        return false;
+    };
+    match world.lookup(task, name) {
+        Some(entry) => entry.has_receive(),
+        None => false,
+    }
+}
+
+// ---- a receipt
+
+/// Receives from what the task may take from: a message; that there is none, or that it is longer than
+/// the room, when it stays. A refusal leaves all as it was.
+///
+/// `MACH_RCV_BODY_ERROR` with `MACH_MSG_IPC_SPACE` where the task's names don't suffice for the
+/// message's rights, or with `MACH_MSG_IPC_KERNEL` where memory was refused. Linear in the number of
+/// ports for a set; else logarithmic in it, and linear in the message.
+fn take(
+    world: &mut World,
+    alloc: Global,
+    task: TaskId,
+    waited: Waited,
+    room: u32,
+) -> Result<Reply, MsgReturn>
+    requires there { task < length world.old.spaces }
+    requires stands { Stands world.old }
+    requires may { IsAllowed world.old (λ s. again_guards s task waited) }
+    ensures ok { IfOk result (λ reply. IsReceipt world.old task waited room reply world.new) }
+    ensures err { IfErr result (λ code. (world.new ≡ world.old) × StaysFor world.old task waited room (msg_number code)) }
+{
+    let Some(port) = ready(world, &waited) else {
+        return Ok(Reply::Empty(waited));
+    };
+    let name = name_of(world, task, port);
+    match copyout::receive(world, alloc, task, port, name, room) {
+        Ok(bytes) => Ok(Reply::Message(bytes)),
+        Err(Refusal::TooLarge(length)) => Ok(Reply::TooLarge(length)),
+        Err(Refusal::Names) => Err(MsgReturn::ReceiveBodyErrorNames),
+        Err(Refusal::Memory) => Err(MsgReturn::ReceiveBodyErrorMemory),
+    }
+}
+
+/// A port that a receipt takes from, and that has a message: of a set's, any.
+fn ready(world: &World, waited: &Waited) -> Option<PortId>
+    ensures { MatchOption result (NoneWaits world.now waited.now) (HasMessage world.now waited.now) }
+{
+    match waited {
+        Waited::Port(port) if world.ports.queued(*port) > 0 => Some(*port),
+        Waited::Port(_) => None,
+        Waited::Set(set) => ready_member(&world.ports, *set),
+    }
+}
+
+/// The task's name for a port whose receive right it has.
+fn name_of(world: &World, task: TaskId, port: PortId) -> Name
+    requires there { task < length world.now.spaces }
+    requires has { (name : ℕ) × FindsReceive world.now task name port }
+    ensures { FindsReceive world.now task result port }
+{
+    match world.space(task).name_of_port(port) {
+        Some(name) => name,
+        None => unreachable!(),
+    }
+}

@@ -1,0 +1,49 @@
+//! Sending a message.
+ghost use Rattle.std.specs.Prelude.{◌≡◌, ◌<◌, IfOk, IfErr, length};
+ghost use Rattle.mach_types.specs.declared.calls.Event.{Event as AnyEvent};
+ghost use Rattle.mach_types.specs.Numbers.{msg_number};
+ghost use Rattle.copyin_base.specs.Acts.{Declines, Serves};
+ghost use Rattle.copyin_base.specs.Stands.{Stands};
+ghost use Rattle.kernel_core.specs.Send.{SendsText};
+
+use copyin::{check, commit};
+use copyin_base::{Code, World};
+use mach_types::{Bytes, MsgReturn, Reply, TaskId};
+use message_codec::parse;
+use std::alloc::Global;
+
+/// `Send` (IPC Interface, `mach_msg` with `MACH_SEND_MSG`). The task lives. A refusal leaves all as it
+/// was but for spare message slots.
+///
+/// Errors, of which the first is answered: those of the text, as [`message_codec::parse`]; those of its
+/// rights and of the message as a whole, as [`copyin::check`]; `MACH_SEND_NO_BUFFER` where memory was
+/// refused. Linear in the message, and logarithmic in the names and ports for each right.
+pub(crate) fn send(
+    world: &mut World,
+    alloc: Global,
+    task: TaskId,
+    bytes: &Bytes,
+) -> Result<Reply, Code>
+    requires there { task < length world.old.spaces }
+    requires stands { Stands world.old }
+    ensures { Serves world.old (AnyEvent.Send task bytes.now) result world.new }
+{
+    send_text(world, alloc, task, bytes.as_slice())?;
+    Ok(Reply::Code(MsgReturn::Success.number()))
+}
+
+/// Reads the text, judges its rights, and only then changes the tables.
+fn send_text(world: &mut World, alloc: Global, task: TaskId, bytes: &[u8]) -> Result<(), MsgReturn>
+    requires there { task < length world.old.spaces }
+    requires stands { Stands world.old }
+    ensures ok { IfOk result (λ _. SendsText world.old task bytes.now world.new) }
+    ensures err { IfErr result (λ code. Declines world.old (AnyEvent.Send task bytes.now) (msg_number code) world.new) }
+{
+    let parsed = parse(alloc, bytes)?;
+    let plan = check(world, alloc, task, parsed, bytes)?;
+    if world.reserve_slot().is_err() {
+        return Err(MsgReturn::SendNoBuffer);
+    }
+    commit(world, plan);
+    Ok(())
+}

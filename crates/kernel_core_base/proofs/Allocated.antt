@@ -1,0 +1,163 @@
+-- What is made under a name, in the tables and in the machine alike, and where nothing more can be.
+use Rattle.std.proofs.Common.{◌≡◌, ℕ, ◌+◌, ◌<◌, ◌≤◌, [], Option, Some, None, refl, sym, ap, subst, ◌∙◌, arith, ◌⊎◌, inl, inr, length}
+use Rattle.std.specs.Prelude.{slice_get, slice_set, is_some, true}
+use Rattle.std.specs.Option.{option_map, option_and_then}
+use Rattle.std.specs.FinMap as map
+use Rattle.mach_types.specs.declared.calls.Event.{Event}
+use Rattle.mach_types.specs.declared.calls.Reply.{Reply}
+use Rattle.mach_types.specs.Numbers.{most_rights, most_identities}
+use Rattle.mach_model.specs.State.{State, Target, with_name, IsFresh}
+use Rattle.mach_model.specs.Names.{Makes, IsNoMaking, IsFull, with_set}
+use Rattle.mach_model.specs.Refusals.{call_guards}
+use Rattle.mach_model.specs.Lawful.{IsLawful}
+use Rattle.name_space.specs.declared.Entry.{Entry}
+use Rattle.name_space.specs.declared.Entry.TheVariants as entry
+use Rattle.name_space.specs.Entry.{port_named}
+use Rattle.name_space.specs.Names.{SpaceView, IsFreshName, IsUsable, HasNoOther}
+use Rattle.rights.specs.declared.RightKind.TheVariants as right
+use Rattle.rights.specs.Ledger.{entered, made}
+use Rattle.copyin_base.specs.Acts.{Acts, IsAllowed}
+use Rattle.copyin_base.specs.Worlds.{WorldView, entry_in, entry_at}
+use Rattle.copyin_base.specs.Shows.{Agrees, target_of}
+use Rattle.copyin_base.specs.Stands.{Stands}
+use Rattle.copyin_base.proofs.Acting.{done}
+use Rattle.copyin_base.proofs.Agreeing.{own_names}
+use Rattle.copyin_base.proofs.Gets.{same_found}
+use Rattle.copyin_base.proofs.NamesChanged.{added_agrees}
+use Rattle.kernel_core_base.specs.declared.names.NewRight.{NewRight}
+use Rattle.kernel_core_base.specs.declared.names.NewRight.TheVariants as new_right
+use Rattle.kernel_core_base.specs.Names.{first_port, right_made, entry_made, HasRoomFor, IsFullFor, HasRoomOf, IsFullOf, CanAdd, Adds}
+use Rattle.kernel_core_base.proofs.PortMade.{allocated, allocates, allocated_agrees, not_made, unknown}
+use Rattle.kernel_core_base.proofs.SetMade.{set_agrees}
+
+-- ---- what can be made, and where it is full
+
+pub is_making : (r : NewRight) → ¬ (IsNoMaking (right_made r))
+is_making new_right.Port h = h.0 refl
+is_making new_right.Set h = h.1 refl
+is_making new_right.DeadName h = h.2 refl
+
+-- what is full of the tables is full of the state
+full_for : (w : WorldView) (s : State) → Agrees w s → (task : ℕ) (r : NewRight) → IsFullFor w r → IsFull s task (right_made r)
+full_for w s a task new_right.Port (inl many) = inr (inl (refl, inl (let t = a.total in omega (arith, t, many))))
+full_for w s a task new_right.Port (inr many) = inr (inl (refl, inr (let t = a.ports_made in omega (arith, t, many))))
+full_for w s a task new_right.Set many = inr (inr (refl, let t = a.sets_made in omega (arith, t, many)))
+full_for w s a task new_right.DeadName f = absurd f
+
+pub full : (w : WorldView) (s : State) → Agrees w s → (task : ℕ) (r : NewRight) → IsFullOf w task r → IsFull s task (right_made r)
+full w s a task r f = elim f.full [
+  | inl many ↦ inl (let n = a.names_kept task f.space f.there in omega (arith, n, many))
+  | inr more ↦ full_for w s a task r more
+]
+
+not_full_for : (w : WorldView) (s : State) → Agrees w s → (r : NewRight) → HasRoomFor w r →
+    ¬ ((right_made r ≡ 1) × ((most_rights ≤ length s.ledger) ⊎ (most_identities ≤ s.ports_made)) ⊎ (right_made r ≡ 3) × (most_identities ≤ s.sets_made))
+not_full_for w s a new_right.Port has (inl (is, inl many)) = let t = a.total in let few = has.0 in omega (arith, t, many, few)
+not_full_for w s a new_right.Port has (inl (is, inr many)) = let t = a.ports_made in let ids = has.1 in omega (arith, t, many, ids)
+not_full_for w s a new_right.Set has (inr (is, many)) = let t = a.sets_made in omega (arith, t, many, has)
+not_full_for w s a new_right.Port has (inr (is, many)) = omega (arith, is)
+not_full_for w s a new_right.Set has (inl (is, many)) = omega (arith, is)
+not_full_for w s a new_right.DeadName has (inl (is, many)) = omega (arith, is)
+not_full_for w s a new_right.DeadName has (inr (is, many)) = omega (arith, is)
+
+pub not_full : (w : WorldView) (s : State) → Agrees w s → (task : ℕ) (r : NewRight) → HasRoomOf w task r → ¬ (IsFull s task (right_made r))
+not_full w s a task r has (inl many) = let n = a.names_kept task has.space has.there in let room = has.room in omega (arith, n, many, room)
+not_full w s a task r has (inr more) = not_full_for w s a r has.more more
+
+-- ---- what may stand under the name
+
+-- no name is for the next port
+apart : (w : WorldView) → Stands w → (task : ℕ) (space : SpaceView) → slice_get w.spaces task ≡ Some space → (r : NewRight) → HasNoOther space.names (entry_made w r)
+apart w stands task space there new_right.Port p n named is = go (map.get space.names n) refl is
+  where
+    go : (o : Option Entry) → map.get space.names n ≡ o → option_and_then port_named o ≡ Some p → ⊥
+    go None e is = cc
+    go (Some x) e is = not_made w stands.state stands.shown.agrees stands.shown.lawful task n x p (ap (λ (o : Option SpaceView). entry_in o n) there ∙ e) is
+        (let same : w.ports.made ≡ p = same_found (Some w.ports.made) w.ports.made p refl named in sym same ∙ stands.shown.agrees.ports_made)
+apart w stands task space there new_right.Set p n named is = absurd (cc)
+apart w stands task space there new_right.DeadName p n named is = absurd (cc)
+
+pub can_add : (w : WorldView) → Stands w → (task : ℕ) (r : NewRight) (name : ℕ) → HasRoomOf w task r → IsUsable name → entry_at w task name ≡ None → CanAdd w task r name
+can_add w stands task r name has usable unused = record {
+  has = has;
+  usable = usable;
+  unused = sym (ap (λ (o : Option SpaceView). entry_in o name) has.there) ∙ unused;
+  unknown = unknown w stands.state stands.shown.agrees stands.shown.lawful;
+  apart = apart w stands task has.space has.there r;
+}
+
+-- ---- what is made
+
+abbrev pub with_right : NewRight → State → (task name : ℕ) → State
+with_right new_right.Port s task name = allocated s task name
+with_right new_right.Set s task name = with_set task name s
+with_right new_right.DeadName s task name = with_name task name (Target.dead 1) s
+
+pub makes : (r : NewRight) (s : State) (task name : ℕ) → Makes task (right_made r) name s (with_right r s task name)
+makes new_right.Port s task name = inl (refl, allocates s task name)
+makes new_right.Set s task name = inr (inl (refl, refl))
+makes new_right.DeadName s task name = inr (inr (refl, refl))
+
+-- the tables with a new port of this number
+abbrev with_number : WorldView → (task name : ℕ) → SpaceView → (room p : ℕ) → WorldView
+with_number w task name space room p = record w {
+  spaces = slice_set w.spaces task (record { names = map.insert space.names name (entry.Receive p); room = room });
+  ports = record w.ports { ports = map.insert w.ports.ports p (first_port task); made = w.ports.made + 1 };
+  ledger = made (entered w.ledger p) p right.Receive 1;
+}
+
+-- the tables with a new set of this number
+abbrev with_set_number : WorldView → (task name : ℕ) → SpaceView → (room set : ℕ) → WorldView
+with_set_number w task name space room set = record w {
+  spaces = slice_set w.spaces task (record { names = map.insert space.names name (entry.Set set); room = room });
+  sets = record { sets = map.insert w.sets.sets set (record { owner = task; name = name }); made = w.sets.made + 1 };
+}
+
+module _ (w v : WorldView) (s : State) (a : Agrees w s) (l : IsLawful s) (task name : ℕ) (unused : entry_at w task name ≡ None) where
+  free : (x : SpaceView) → slice_get w.spaces task ≡ Some x → map.get x.names name ≡ None
+  free x is = sym (ap (λ (o : Option SpaceView). entry_in o name) is) ∙ unused
+
+  pub made_agrees : (r : NewRight) → Adds w task r name v → Agrees v (with_right r s task name)
+  made_agrees new_right.Port adds =
+      subst (λ (x : WorldView). Agrees x (allocated s task name)) (ap (with_number w task name adds.space adds.room) (sym a.ports_made) ∙ sym adds.rest)
+      (allocated_agrees w s a l task name adds.space adds.room adds.there (free adds.space adds.there))
+  made_agrees new_right.Set adds =
+      subst (λ (x : WorldView). Agrees x (with_set task name s)) (ap (with_set_number w task name adds.space adds.room) (sym a.sets_made) ∙ sym adds.rest)
+      (set_agrees w s a task name adds.space adds.room adds.there (free adds.space adds.there))
+  made_agrees new_right.DeadName adds =
+      subst (λ (x : WorldView). Agrees x (with_name task name (Target.dead 1) s)) (sym adds.rest)
+      (added_agrees w s a task adds.space adds.there name (entry.DeadName 1) adds.room (free adds.space adds.there) refl tt)
+
+-- a fresh name in the tables is one in the machine
+pub fresh : (w : WorldView) (s : State) → Agrees w s → (task : ℕ) (space : SpaceView) → slice_get w.spaces task ≡ Some space → (name : ℕ) → IsFreshName space.names name → IsFresh (s.naming task) name
+fresh w s a task space there name f =
+    let named : (n : ℕ) → map.get (s.naming task) n ≡ option_map target_of (map.get space.names n) = (own_names w s a task space there).naming in record {
+      unused = named name ∙ ap (option_map target_of) f.unused;
+      not_null = f.not_null;
+      least = λ n above below. keeps (map.get space.names n) (map.get (s.naming task) n) (named n) (f.least n above below);
+    }
+  where
+    keeps : (o : Option Entry) (t : Option Target) → t ≡ option_map target_of o → is_some o ≡ true → is_some t ≡ true
+    keeps (Some x) t is some = ap is_some is
+    keeps None t is some = absurd (cc)
+
+-- ---- what Allocate and AllocateName promise
+
+module _ (w v : WorldView) (task number name : ℕ) (r : NewRight) (below : task < length w.spaces) (is : right_made r ≡ number) where
+  makes_number : (s : State) → Makes task number name s (with_right r s task name)
+  makes_number s = subst (λ (n : ℕ). Makes task n name s (with_right r s task name)) is (makes r s task name)
+
+  pub allocate_done : IsAllowed w (λ s. call_guards s (Event.Allocate task number)) → (space : SpaceView) → slice_get w.spaces task ≡ Some space → IsFreshName space.names name → Adds w task r name v →
+      Acts w (Event.Allocate task number) (Reply.Name name) v
+  allocate_done good space there f adds = done w (Event.Allocate task number) (Reply.Name name) v below good
+      (λ now s sh. record {
+        mid = with_right r s task name;
+        owed = [];
+        does = (fresh w s sh.agrees task space there name f, makes_number s, refl);
+        agrees = made_agrees w v s sh.agrees sh.lawful task name (ap (λ (o : Option SpaceView). entry_in o name) there ∙ f.unused) r adds;
+      })
+
+  pub allocate_name_done : IsAllowed w (λ s. call_guards s (Event.AllocateName task number name)) → entry_at w task name ≡ None → Adds w task r name v →
+      Acts w (Event.AllocateName task number name) (Reply.Name name) v
+  allocate_name_done good unused adds = done w (Event.AllocateName task number name) (Reply.Name name) v below good
+      (λ now s sh. record { mid = with_right r s task name; owed = []; does = (refl, makes_number s, refl); agrees = made_agrees w v s sh.agrees sh.lawful task name unused r adds })

@@ -1,0 +1,63 @@
+-- What NameType and Names tell is true of each state that the tables show.
+use Rattle.std.proofs.Common.{◌≡◌, ℕ, ◌<◌, [], Option, Some, refl, ap, ◌∙◌, arith, length}
+use Rattle.std.specs.Prelude.{slice_get, nat_lt, if◌then◌else◌}
+use Rattle.std.proofs.lemmas.Bool.Decides.{nat_tests}
+use Rattle.mach_types.specs.declared.calls.Event.{Event}
+use Rattle.mach_types.specs.declared.calls.Reply.{Reply}
+use Rattle.mach_types.specs.declared.rights.Right.TheVariants as right
+use Rattle.mach_types.specs.Numbers.{right_bit, request_bit}
+use Rattle.mach_types.specs.Tokens.{receive, send, dead_name}
+use Rattle.mach_model.specs.State.{State, held}
+use Rattle.mach_model.specs.Names.{target_bits, type_of, names_of}
+use Rattle.name_space.specs.declared.Entry.{Entry}
+use Rattle.name_space.specs.declared.Entry.TheVariants as entry
+use Rattle.name_space.specs.Entry.{type_in}
+use Rattle.name_space.specs.Names.{SpaceView}
+use Rattle.copyin_base.specs.Acts.{Acts}
+use Rattle.copyin_base.specs.Worlds.{WorldView, entry_in, entry_at}
+use Rattle.copyin_base.specs.Shows.{Agrees, Shows, target_of}
+use Rattle.copyin_base.proofs.Acting.{done}
+use Rattle.copyin_base.proofs.Agreeing.{own_names}
+use Rattle.copyin_base.proofs.Told.{used, found}
+use Rattle.kernel_core_base.specs.Names.{types_of}
+use Rattle.kernel_core_base.proofs.Listed.{types_listed}
+
+some_bit : (n bit : ℕ) → 0 < n → (if nat_lt 0 n then bit else 0) ≡ bit
+some_bit n bit some = grind (arith, nat_tests)
+
+-- the bits of what is held
+bits : (w : WorldView) (s : State) → Agrees w s → (task name : ℕ) (e : Entry) → entry_at w task name ≡ Some e → type_in e ≡ target_bits s task (target_of e)
+bits w s a task name (entry.Receive p) is =
+    let r = a.references task name (entry.Receive p) p is refl in
+    let h : held s task receive p ≡ 1 = r.0 in let g : held s task send p ≡ 0 = r.1 in rw (h, g) refl
+bits w s a task name (entry.Send p n) is =
+    let r = a.references task name (entry.Send p n) p is refl in
+    let some : 0 < n = a.counted task name (entry.Send p n) is in
+    let h : held s task receive p ≡ 0 = r.0 in let g : held s task send p ≡ n = r.1 in rw (h, g, some_bit n (right_bit right.Send) some) refl
+bits w s a task name (entry.ReceiveAndSend p n) is =
+    let r = a.references task name (entry.ReceiveAndSend p n) p is refl in
+    let some : 0 < n = a.counted task name (entry.ReceiveAndSend p n) is in
+    let h : held s task receive p ≡ 1 = r.0 in let g : held s task send p ≡ n = r.1 in rw (h, g, some_bit n (right_bit right.Send) some) refl
+bits w s a task name (entry.SendOnce p) is = refl
+bits w s a task name (entry.DeadName n) is = refl
+bits w s a task name (entry.Set set) is = refl
+
+-- the type in the tables is the machine's, as no request stands
+type_whole : (w : WorldView) (s : State) → Shows w s → (task name : ℕ) (e : Entry) → entry_at w task name ≡ Some e → type_in e ≡ type_of s task name (target_of e)
+type_whole w s sh task name e is =
+    let b = bits w s sh.agrees task name e is in
+    let n : (if s.stands (dead_name task name) then request_bit else 0) ≡ 0 = rw (sh.lawful.none_stands (dead_name task name)) refl in
+    omega (arith, b, n)
+
+pub type_told : (w : WorldView) (task name : ℕ) (e : Entry) → task < length w.spaces → entry_at w task name ≡ Some e → Acts w (Event.NameType task name) (Reply.NameType (type_in e)) w
+type_told w task name e below is = done w (Event.NameType task name) (Reply.NameType (type_in e)) w below record { allowed = λ s sh. (used w s sh.agrees task name e is, tt) }
+    (λ now s sh. record { mid = s; owed = []; does = ((target_of e, found w s sh.agrees task name e is, type_whole w s sh task name e is), refl, refl); agrees = sh.agrees })
+
+-- the tables list what the machine does
+listed : (w : WorldView) (s : State) → Shows w s → (task : ℕ) (space : SpaceView) → slice_get w.spaces task ≡ Some space → types_of space.names ≡ names_of s task
+listed w s sh task space there = types_listed space.names (s.naming task) (type_of s task) (own_names w s sh.agrees task space there).naming
+    (λ n e is. type_whole w s sh task n e (ap (λ (o : Option SpaceView). entry_in o n) there ∙ is))
+
+pub names_listed : (w : WorldView) (task : ℕ) (space : SpaceView) → task < length w.spaces → slice_get w.spaces task ≡ Some space → Acts w (Event.Names task) (Reply.Names (types_of space.names)) w
+names_listed w task space below there = done w (Event.Names task) (Reply.Names (types_of space.names)) w below record { allowed = λ s sh. tt }
+    (λ now s sh. record { mid = s; owed = []; does = (listed w s sh task space there, refl, refl); agrees = sh.agrees })

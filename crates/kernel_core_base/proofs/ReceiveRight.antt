@@ -1,0 +1,132 @@
+-- What a task asks of a receive right, and sets.
+use Rattle.std.proofs.Common.{◌≡◌, ℕ, ◌<◌, ◌≤◌, ◌^◌, [], List, Option, Some, None, refl, sym, ap, subst, ◌∙◌, arith, inl, inr, length}
+use Rattle.std.specs.Prelude.{min, nat_lt, Contains}
+use Rattle.std.specs.Option.{option_map, option_to_list, unwrap_or}
+use Rattle.std.specs.FinMap as map
+use Rattle.std.proofs.lemmas.Bool.Decides.{nat_tests}
+use Rattle.mach_types.specs.declared.calls.Event.{Event}
+use Rattle.mach_types.specs.declared.calls.Reply.{Reply}
+use Rattle.mach_types.specs.declared.calls.Status.{Status}
+use Rattle.mach_types.specs.declared.codes.KernReturn.TheVariants.{InvalidValue}
+use Rattle.mach_types.specs.Numbers.{kern_number, greatest_limit}
+use Rattle.mach_types.specs.Tokens.{receive, no_senders, port_destroyed}
+use Rattle.mach_model.specs.State.{State, Target, lookup, Holds, queue, at}
+use Rattle.mach_model.specs.ReceiveRight.{NamesSetOf, TellsStatus, one_if}
+use Rattle.mach_model.specs.Refusals.{receive_guards, call_guards}
+use Rattle.port.specs.declared.Attributes.{Attributes}
+use Rattle.port.specs.Ports.{PortView}
+use Rattle.port_set.specs.declared.SetRecord.{SetRecord}
+use Rattle.rights.specs.Ledger.{counts_of}
+use Rattle.copyin_base.specs.Acts.{IsRefused, Acts, Declines}
+use Rattle.copyin_base.specs.Changes.{HasAttributes, SetsAttributes}
+use Rattle.copyin_base.specs.Finds.{FindsReceive}
+use Rattle.copyin_base.specs.Kept.{Kept}
+use Rattle.copyin_base.specs.Shows.{Shows}
+use Rattle.copyin_base.specs.Stands.{Stands}
+use Rattle.copyin_base.specs.Worlds.{WorldView, port_at}
+use Rattle.copyin_base.proofs.Acting.{done, refused}
+use Rattle.copyin_base.proofs.AttributesSet.{limit_agrees, make_send_agrees, sequence_agrees}
+use Rattle.copyin_base.proofs.Finding.{finds_port, finds_held, receive_allowed, receive_port_lives}
+use Rattle.copyin_base.proofs.Told.{port_there, port_entered}
+use Rattle.kernel_core_base.specs.ReceiveRight.{set_name, status_of, HasPort, TellsPort}
+use Rattle.kernel_core_base.proofs.Holding.{one_in, one_holder}
+use Rattle.kernel_core_base.proofs.Queued.{few_queued, as_many}
+
+-- ---- ReceiveStatus
+
+has_one : (n : ℕ) → min n 1 ≡ one_if (nat_lt 0 n)
+has_one n = grind (arith, nat_tests)
+
+-- the set that a port is in is of the task that has its receive right
+set_told : (w : WorldView) (s : State) → Shows w s → (task p : ℕ) → Holds s task receive p → (o : Option ℕ) → option_to_list o ≡ s.sets_of p → NamesSetOf s task p (set_name w.sets o)
+set_told w s sh task p holds None is = inl (sym is, refl)
+set_told w s sh task p holds (Some set) is = go (map.get w.sets.sets set) refl
+  where
+    within : Contains (s.sets_of p) set
+    within = subst (λ (xs : List ℕ). Contains xs set) is (one_in (Some set) set refl)
+
+    same_task : (t u : ℕ) → Some t ≡ Some u → t ≡ u
+    same_task t u e = cc
+
+    go : (o : Option SetRecord) → map.get w.sets.sets set ≡ o → NamesSetOf s task p (unwrap_or (option_map (λ (r : SetRecord). r.name) o) 0)
+    go None e =
+        let m = sh.lawful.members p set within in
+        absurd (let f : None ≡ Some m.0 = sym (sh.agrees.set_owner set ∙ ap (option_map (λ (r : SetRecord). r.owner)) e) ∙ m.1 in cc)
+    go (Some r) e =
+        let m = sh.lawful.members p set within in
+        let owner : r.owner ≡ m.0 = same_task r.owner m.0 (sym (sh.agrees.set_owner set ∙ ap (option_map (λ (r : SetRecord). r.owner)) e) ∙ m.1) in
+        let same : r.owner ≡ task = owner ∙ one_holder s sh.lawful m.0 task p m.2 holds in
+        inr (set, within, subst (λ (t : ℕ). lookup s t r.name ≡ Some (Target.set set)) same (sh.agrees.set_named set r e))
+
+tells : (w : WorldView) (s : State) → Shows w s → (task name p : ℕ) → FindsReceive w task name p → (v : PortView Kept) → port_at w p ≡ Some v →
+    TellsStatus s task name (status_of w.sets v (counts_of w.ledger p))
+tells w s sh task name p f v there =
+    let a = sh.agrees in
+    let x = a.ports p v there in
+    let c = a.counts p in record {
+      p = p;
+      found = finds_port w task name p f s a;
+      set = set_told w s sh task p (finds_held w task name p f s a) v.attributes.set x.sets;
+      sequence = x.sequence;
+      make_send = x.make_send;
+      limit = x.limit;
+      queued = as_many p v.queue (queue s p) x.waiting;
+      send_once = c.once_rights;
+      has_send = has_one (counts_of w.ledger p).send ∙ ap (λ (n : ℕ). one_if (nat_lt 0 n)) c.senders;
+      port_destroyed = ap one_if (sym (sh.lawful.none_stands (port_destroyed p)));
+      no_senders = ap one_if (sym (sh.lawful.none_stands (no_senders p)));
+    }
+
+-- what the tables have of a port whose receive right is named
+pub has_port : (w : WorldView) (task name p : ℕ) → Stands w → FindsReceive w task name p → HasPort w p
+has_port w task name p stands f =
+    let s = stands.state in
+    let a = stands.shown.agrees in
+    let live = receive_port_lives w task name p f s stands.shown in
+    let x = port_there w s a p live in
+    let few = few_queued s stands.shown.lawful p live in
+    let many = as_many p (x.0).queue (queue s p) (a.ports p x.0 x.1).waiting in
+    record { v = x.0; there = x.1; entered = port_entered w s a p live; few = omega (arith, few, many) }
+
+pub status_told : (w : WorldView) (task name p : ℕ) (status : Status) → task < length w.spaces → FindsReceive w task name p → TellsPort w p status →
+    Acts w (Event.ReceiveStatus task name) (Reply.Status status) w
+status_told w task name p status below f t = done w (Event.ReceiveStatus task name) (Reply.Status status) w below (receive_allowed w task name p f)
+    (λ now s sh. record { mid = s; owed = []; does = (subst (TellsStatus s task name) (sym t.is) (tells w s sh task name p f t.v t.there), refl, refl); agrees = sh.agrees })
+
+-- ---- numbers that are set
+
+module _ (w : WorldView) (task name limit : ℕ) (below : task < length w.spaces) where
+  pub limit_too_great : greatest_limit < limit → Declines w (Event.SetQlimit task name limit) (kern_number InvalidValue) w
+  limit_too_great many = refused w (Event.SetQlimit task name limit) below (kern_number InvalidValue) (record { refused = λ s sh. inl (many, refl) })
+
+  pub limit_refused : limit ≤ greatest_limit → (code : ℕ) → IsRefused w (λ s. receive_guards s task name) code → IsRefused w (λ s. call_guards s (Event.SetQlimit task name limit)) code
+  limit_refused few code r = record { refused = λ s sh. inr ((λ many. omega (arith, few, many)), r.refused s sh) }
+
+module _ (w : WorldView) (task name p : ℕ) (below : task < length w.spaces) (f : FindsReceive w task name p) (b : Attributes) (h : HasAttributes w p b) (new : WorldView) (n : ℕ) where
+  pub limit_set : n ≤ greatest_limit → SetsAttributes w p (record b { limit = n }) new → Acts w (Event.SetQlimit task name n) (Reply.Code 0) new
+  limit_set few r = done w (Event.SetQlimit task name n) (Reply.Code 0) new below
+      (record { allowed = λ s sh. ((λ many. omega (arith, few, many)), (receive_allowed w task name p f).allowed s sh) })
+      (λ now s sh. let a = sh.agrees in record {
+        mid = record s { limit = at s.limit p n };
+        owed = [];
+        does = (refl, (p, finds_port w task name p f s a, finds_held w task name p f s a, refl), refl);
+        agrees = limit_agrees w s a p b h n new r;
+      })
+
+  pub make_send_set : n < 2 ^ 32 → SetsAttributes w p (record b { make_send = n }) new → Acts w (Event.SetMscount task name n) (Reply.Code 0) new
+  make_send_set fits r = done w (Event.SetMscount task name n) (Reply.Code 0) new below (receive_allowed w task name p f)
+      (λ now s sh. let a = sh.agrees in record {
+        mid = record s { make_send = at s.make_send p n };
+        owed = [];
+        does = (refl, fits, (p, finds_port w task name p f s a, finds_held w task name p f s a, refl), refl);
+        agrees = make_send_agrees w s a p b h n new r;
+      })
+
+  pub sequence_set : n < 2 ^ 32 → SetsAttributes w p (record b { sequence = n }) new → Acts w (Event.SetSeqno task name n) (Reply.Code 0) new
+  sequence_set fits r = done w (Event.SetSeqno task name n) (Reply.Code 0) new below (receive_allowed w task name p f)
+      (λ now s sh. let a = sh.agrees in record {
+        mid = record s { sequence = at s.sequence p n };
+        owed = [];
+        does = (refl, fits, (p, finds_port w task name p f s a, finds_held w task name p f s a, refl), refl);
+        agrees = sequence_agrees w s a p b h n new r;
+      })

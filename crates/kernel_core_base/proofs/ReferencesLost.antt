@@ -1,0 +1,237 @@
+-- Deallocate and Destroy: what they do, and what is due is done.
+use Rattle.std.proofs.Common.{◌≡◌, ℕ, zero, suc, ◌+◌, ◌-◌, ◌<◌, ◌≤◌, List, [], ◌∷◌, Option, Some, None, refl, sym, ap, subst, ◌∙◌, arith, Bool, true, false, inl, inr, length}
+use Rattle.std.specs.Prelude.{if◌then◌else◌, ◌||◌, nat_lt, replicate}
+use Rattle.std.proofs.lemmas.Bool.{ltb-true, ltb-false, eq-eqb}
+use Rattle.std.proofs.lemmas.List.Elements.{All-replicate}
+use Rattle.mach_types.specs.declared.calls.Event.{Event}
+use Rattle.mach_types.specs.declared.calls.Reply.{Reply}
+use Rattle.mach_types.specs.declared.rights.Disposition.TheVariants.{MoveSend}
+use Rattle.mach_types.specs.Tokens.{receive, send, in_task, Token, token, weigh, count, is_held}
+use Rattle.mach_model.specs.State.{State, Target, lookup, held, without_name, with_name}
+use Rattle.mach_model.specs.CopyIn.{name_kept}
+use Rattle.mach_model.specs.Machine.{Does}
+use Rattle.mach_model.specs.NotYet.{NamesOnce}
+use Rattle.mach_model.specs.ReceiveRight.{one_if}
+use Rattle.mach_model.specs.References.{LosesOne, LosesAll, SetsSends, HasReference, is_either, with_dead}
+use Rattle.mach_model.specs.Refusals.{call_guards}
+use Rattle.mach_model.specs.Sets.{without_set}
+use Rattle.mach_model.proofs.CopyingIn.{own_right}
+use Rattle.name_space.specs.declared.Entry.{Entry}
+use Rattle.name_space.specs.declared.Entry.TheVariants as entry_of
+use Rattle.name_space.specs.Entry.{port_named, has_receive, send_references, receive_named}
+use Rattle.copyin_base.specs.Acts.{HasTasks, IsAllowed, Acts}
+use Rattle.copyin_base.specs.Worlds.{WorldView, entry_at}
+use Rattle.copyin_base.specs.Shows.{Agrees, Shows, target_of}
+use Rattle.copyin_base.proofs.Acting.{done}
+use Rattle.copyin_base.proofs.Changing.{target_named}
+use Rattle.copyin_base.proofs.Gets.{same_found}
+use Rattle.copyin_base.proofs.Told.{used, found, not_receive}
+use Rattle.kernel_core_base.specs.declared.references.Due.{Due}
+use Rattle.kernel_core_base.specs.declared.references.Due.TheVariants.{Nothing, References, Disbanding}
+use Rattle.kernel_core_base.specs.References.{Carries, deallocated, destroyed}
+use Rattle.kernel_core_base.proofs.ReferencesSet.{Comes, send_set, both_set, dead_set}
+use Rattle.kernel_core_base.proofs.SetRemoved.{removed_agrees}
+use Rattle.kernel_core_base.proofs.TokensMoved.{weigh_alike, weigh_unlike}
+
+test_same : (a b c d : ℕ) → (a < b → c < d) → (c < d → a < b) → nat_lt a b ≡ nat_lt c d
+test_same a b c d f g = go (nat_lt a b) (nat_lt c d) refl refl
+  where
+    go : (x y : Bool) → nat_lt a b ≡ x → nat_lt c d ≡ y → x ≡ y
+    go true true e k = refl
+    go false false e k = refl
+    go true false e k = absurd (let h = f (ltb-true a b e) in let l = ltb-false c d k in omega (arith, h, l))
+    go false true e k = absurd (let h = g (ltb-true c d k) in let l = ltb-false a b e in omega (arith, h, l))
+
+one_send : (s : State) (task name m p : ℕ) (t : State) → lookup s task name ≡ Some (Target.port p) → held s task send p ≡ m + 1 → SetsSends task name p m s t → LosesOne task name MoveSend (Target.port p) s t
+one_send s task name m p t found n sets = record {
+  found = found;
+  rest = sets.rest ∙ ap (λ (b : Bool). record (name_kept (b || nat_lt 0 (held s task receive p)) task name s) { ledger = t.ledger }) (test_same 0 m 1 (held s task send p) (λ h. omega (arith, h, n)) (λ h. omega (arith, h, n)));
+  tokens = λ h.
+      let one : held s task send p - m ≡ 1 = omega (arith, n) in
+      let none : m - held s task send p ≡ 0 = omega (arith, n) in
+      let a : weigh h (replicate (held s task send p - m) (token send p (in_task task))) ≡ h (token send p (in_task task)) + 0 = ap (λ (k : ℕ). weigh h (replicate k (token send p (in_task task)))) one in
+      let b : weigh h (replicate (m - held s task send p) (token send p (in_task task))) ≡ 0 = ap (λ (k : ℕ). weigh h (replicate k (token send p (in_task task)))) none in
+      let e = sets.tokens h in omega (arith, a, b, e);
+}
+
+one_dead : (s : State) (task name n : ℕ) → 0 < n → lookup s task name ≡ Some (Target.dead n) → LosesOne task name MoveSend (Target.dead n) s (with_dead task name (n - 1) s)
+one_dead s task name n some found = record {
+  found = found;
+  rest = go (nat_lt 0 (n - 1)) (nat_lt 1 n) (test_same 0 (n - 1) 1 n (λ h. omega (arith, h, some)) (λ h. omega (arith, h, some)));
+  tokens = λ h. kept (nat_lt 0 (n - 1)) h;
+}
+  where
+    after : Bool → State
+    after b = if b then with_name task name (Target.dead (n - 1)) s else without_name task name s
+
+    go : (b c : Bool) → b ≡ c → after b ≡ record (after c) { ledger = (after b).ledger }
+    go true true e = refl
+    go false false e = refl
+    go true false e = absurd (cc)
+    go false true e = absurd (cc)
+
+    kept : (b : Bool) (h : Token → ℕ) → weigh h (after b).ledger + 0 ≡ weigh h s.ledger + 0
+    kept true h = refl
+    kept false h = refl
+
+count_either : (f g : Token → Bool) (xs : List Token) → count (λ x. f x || g x) xs ≤ count f xs + count g xs
+count_either f g [] = omega arith
+count_either f g (x ∷ xs) = let r = count_either f g xs in let one = go (f x) (g x) in omega (arith, r, one)
+  where
+    go : (a b : Bool) → (if a || b then suc zero else zero) ≤ (if a then suc zero else zero) + (if b then suc zero else zero)
+    go true true = omega arith
+    go true false = omega arith
+    go false true = omega arith
+    go false false = omega arith
+
+either_passes : (task p : ℕ) → is_either task p (token send p (in_task task)) ≡ true
+either_passes task p = rw (eq-eqb p p refl, eq-eqb task task refl) refl
+
+all_sends : (s : State) (task name p : ℕ) (t : State) → held s task receive p ≡ 0 → SetsSends task name p 0 s t → LosesAll (is_either task p) s.ledger t.ledger
+all_sends s task name p t none sets = record {
+  gone = replicate (held s task send p - 0) (token send p (in_task task));
+  moves = λ h. let e = sets.tokens h in let z = come h in omega (arith, e, z);
+  passed = All-replicate (λ (x : Token). is_either task p x ≡ true) (held s task send p - 0) (token send p (in_task task)) (either_passes task p);
+  none_left =
+      let a = count_either (is_held task receive p) (is_held task send p) t.ledger in
+      let r = sets.tokens (λ x. if is_held task receive p x then 1 else 0) in
+      let r0 = weigh_unlike (λ x. if is_held task receive p x then 1 else 0) (held s task send p - 0) (token send p (in_task task)) refl in
+      let r1 = come (λ x. if is_held task receive p x then 1 else 0) in
+      let k = sets.tokens (λ x. if is_held task send p x then 1 else 0) in
+      let k0 = weigh_alike (λ x. if is_held task send p x then 1 else 0) (held s task send p - 0) (token send p (in_task task)) (own_right task send p refl) in
+      let k1 = come (λ x. if is_held task send p x then 1 else 0) in
+      omega (arith, a, r, r0, r1, k, k0, k1, none);
+}
+  where
+    come : (h : Token → ℕ) → weigh h (replicate (0 - held s task send p) (token send p (in_task task))) ≡ 0
+    come h = let z : 0 - held s task send p ≡ 0 = omega arith in ap (λ (k : ℕ). weigh h (replicate k (token send p (in_task task)))) z
+
+all_gone : (s : State) (task name p : ℕ) (t : State) → held s task receive p ≡ 0 → SetsSends task name p 0 s t → t ≡ record (without_name task name s) { ledger = t.ledger }
+all_gone s task name p t none sets = sets.rest ∙ ap (λ (k : ℕ). record (name_kept (nat_lt 0 k) task name s) { ledger = t.ledger }) none
+
+-- ---- what refuses Deallocate and Destroy
+
+module _ (w : WorldView) (s : State) (a : Agrees w s) (task name : ℕ) (e : Entry) (is : entry_at w task name ≡ Some e) where
+  pub named : lookup s task name ≡ Some (target_of e)
+  named = found w s a task name e is
+
+  pub of_port : (p : ℕ) → port_named e ≡ Some p → (held s task receive p ≡ one_if (has_receive e)) × (held s task send p ≡ send_references e)
+  of_port p of = a.references task name e p is of
+
+  referred : HasReference s task (Some (target_of e)) → ¬ ¬ (HasReference s task (lookup s task name))
+  referred h not = not (subst (λ (o : Option Target). HasReference s task o) (sym named) h)
+
+  not_once : ((p : ℕ) → target_of e ≡ Target.once p → ⊥) → ¬ (NamesOnce s task name)
+  not_once not once = not once.0 (same_found (lookup s task name) (target_of e) (Target.once once.0) named once.1)
+
+-- a name that may be deallocated, and one that may be destroyed
+may_deallocate : (w : WorldView) (task name : ℕ) (e : Entry) → entry_at w task name ≡ Some e → ((s : State) → Shows w s → HasReference s task (Some (target_of e))) →
+    ((p : ℕ) → target_of e ≡ Target.once p → ⊥) → IsAllowed w (λ s. call_guards s (Event.Deallocate task name))
+may_deallocate w task name e is has not = record {
+  allowed = λ s sh. (used w s sh.agrees task name e is, (referred w s sh.agrees task name e is (has s sh), (not_once w s sh.agrees task name e is not, tt)));
+}
+
+may_destroy : (w : WorldView) (task name : ℕ) (e : Entry) → entry_at w task name ≡ Some e → receive_named e ≡ None → ((p : ℕ) → target_of e ≡ Target.once p → ⊥) →
+    IsAllowed w (λ s. call_guards s (Event.Destroy task name))
+may_destroy w task name e is none not = record {
+  allowed = λ s sh. (used w s sh.agrees task name e is, ((λ h. elim h [ inl r ↦ not_receive w s sh.agrees task name e is none r | inr o ↦ not_once w s sh.agrees task name e is not o ]), tt));
+}
+
+port_not_once : (p q : ℕ) → Target.port p ≡ Target.once q → ⊥
+port_not_once p q e = cc
+
+dead_not_once : (n q : ℕ) → Target.dead n ≡ Target.once q → ⊥
+dead_not_once n q e = cc
+
+set_not_once : (n q : ℕ) → Target.set n ≡ Target.once q → ⊥
+set_not_once n q e = cc
+
+the_due : (a b : Due) → Some a ≡ Some b → b ≡ a
+the_due a b e = cc
+
+no_due : (b : Due) → None ≡ Some b → ⊥
+no_due b e = cc
+
+-- ---- what is due is done
+
+-- What is due does this to a state.
+abbrev pub Becomes : State → (task name : ℕ) → Due → State → Type 0
+Becomes s task name Nothing t = t ≡ s
+Becomes s task name (References (entry_of.Send p n) m) t = SetsSends task name p m s t
+Becomes s task name (References (entry_of.ReceiveAndSend p n) m) t = SetsSends task name p m s t
+Becomes s task name (References (entry_of.DeadName n) m) t = t ≡ with_dead task name m s
+Becomes s task name (References e m) t = ⊥
+Becomes s task name (Disbanding set) t = t ≡ without_set set (without_name task name s)
+
+-- The references of the entry are counted.
+abbrev pub IsCountedDue : Due → Type 0
+IsCountedDue (References (entry_of.Receive p) m) = ⊥
+IsCountedDue (References (entry_of.SendOnce p) m) = ⊥
+IsCountedDue (References (entry_of.Set set) m) = ⊥
+IsCountedDue due = Unit {0}
+
+comes : (w : WorldView) (s : State) (sh : Shows w s) (task name : ℕ) (due : Due) (v : WorldView) → IsCountedDue due → Carries w task name due v → Comes (λ t. Becomes s task name due t) v
+comes w s sh task name Nothing v counted c = record { t = s; does = refl; agrees = subst (λ (x : WorldView). Agrees x s) (sym c) sh.agrees }
+comes w s sh task name (References (entry_of.Send p n) m) v counted c = send_set w s sh task name m v p n c
+comes w s sh task name (References (entry_of.ReceiveAndSend p n) m) v counted c = both_set w s sh task name m v p n c
+comes w s sh task name (References (entry_of.DeadName n) m) v counted c = record { t = with_dead task name m s; does = refl; agrees = dead_set w s sh task name m v n c }
+comes w s sh task name (References (entry_of.Receive p) m) v counted c = absurd counted
+comes w s sh task name (References (entry_of.SendOnce p) m) v counted c = absurd counted
+comes w s sh task name (References (entry_of.Set set) m) v counted c = absurd counted
+comes w s sh task name (Disbanding set) v counted c = record { t = without_set set (without_name task name s); does = refl; agrees = removed_agrees w s sh.agrees task name set v c }
+
+-- An event that is allowed does this, which is due and is done.
+pub carried : (w : WorldView) (event : Event) (task name : ℕ) (due : Due) (v : WorldView) → HasTasks w event → IsAllowed w (λ s. call_guards s event) → IsCountedDue due →
+    ((now : ℕ) (s : State) → Shows w s → (t : State) → Becomes s task name due t → Does now s event (Reply.Code 0) t []) → Carries w task name due v → Acts w event (Reply.Code 0) v
+carried w event task name due v tasks allowed counted means c = done w event (Reply.Code 0) v tasks allowed
+    (λ now s sh. let x = comes w s sh task name due v counted c in record { mid = x.t; owed = []; does = means now s sh x.t x.does; agrees = x.agrees })
+
+module _ (w : WorldView) (task name : ℕ) (below : task < length w.spaces) (v : WorldView) where
+  lose_one : (e : Entry) (p n : ℕ) → entry_at w task name ≡ Some e → port_named e ≡ Some p → send_references e ≡ n → ((s : State) → Shows w s → 0 < n) →
+      ((s t : State) → Becomes s task name (References e (n - 1)) t → SetsSends task name p (n - 1) s t) → IsCountedDue (References e (n - 1)) →
+      Carries w task name (References e (n - 1)) v → Acts w (Event.Deallocate task name) (Reply.Code 0) v
+  lose_one e p n is of refs some sets counted c = carried w (Event.Deallocate task name) task name (References e (n - 1)) v below
+      (may_deallocate w task name e is (λ s sh. subst (λ (o : Option Target). HasReference s task o) (ap Some (sym (target_named e p of)))
+      (let h = (of_port w s sh.agrees task name e is p of).1 in let m = some s sh in omega (arith, h, refs, m)))
+      (λ q once. port_not_once p q (sym (target_named e p of) ∙ once))) counted
+      (λ now s sh t b. (
+        refl,
+        inl (
+          p,
+          one_send s task name (n - 1) p t (named w s sh.agrees task name e is ∙ ap Some (target_named e p of))
+              (let h = (of_port w s sh.agrees task name e is p of).1 in let m = some s sh in omega (arith, h, refs, m)) (sets s t b),
+          refl,
+        ),
+      )) c
+
+  pub deallocates : (e : Entry) (due : Due) → entry_at w task name ≡ Some e → deallocated e ≡ Some due → Carries w task name due v → Acts w (Event.Deallocate task name) (Reply.Code 0) v
+  deallocates (entry_of.Send p n) due is d c = lose_one (entry_of.Send p n) p n is refl refl (λ s sh. sh.agrees.counted task name (entry_of.Send p n) is) (λ s t b. b) tt
+      (subst (λ (x : Due). Carries w task name x v) (the_due (References (entry_of.Send p n) (n - 1)) due d) c)
+  deallocates (entry_of.ReceiveAndSend p n) due is d c = lose_one (entry_of.ReceiveAndSend p n) p n is refl refl (λ s sh. sh.agrees.counted task name (entry_of.ReceiveAndSend p n) is) (λ s t b. b) tt
+      (subst (λ (x : Due). Carries w task name x v) (the_due (References (entry_of.ReceiveAndSend p n) (n - 1)) due d) c)
+  deallocates (entry_of.DeadName n) due is d c = carried w (Event.Deallocate task name) task name (References (entry_of.DeadName n) (n - 1)) v below
+      (may_deallocate w task name (entry_of.DeadName n) is (λ s sh. tt) (λ q once. dead_not_once n q once)) tt
+      (λ now s sh t b. let at = named w s sh.agrees task name (entry_of.DeadName n) is in
+      (refl, inr (inr (n, subst (LosesOne task name MoveSend (Target.dead n) s) (sym b) (one_dead s task name n ((sh.lawful.naming task).references name (Target.dead n) at).0 at), refl))))
+      (subst (λ (x : Due). Carries w task name x v) (the_due (References (entry_of.DeadName n) (n - 1)) due d) c)
+  deallocates (entry_of.Receive p) due is d c = absurd (no_due due d)
+  deallocates (entry_of.SendOnce p) due is d c = absurd (no_due due d)
+  deallocates (entry_of.Set set) due is d c = absurd (no_due due d)
+
+  pub destroys : (e : Entry) (due : Due) → entry_at w task name ≡ Some e → destroyed e ≡ Some due → Carries w task name due v → Acts w (Event.Destroy task name) (Reply.Code 0) v
+  destroys (entry_of.Send p n) due is d c = carried w (Event.Destroy task name) task name (References (entry_of.Send p n) 0) v below
+      (may_destroy w task name (entry_of.Send p n) is refl (λ q once. port_not_once p q once)) tt
+      (λ now s sh t b. let none = (of_port w s sh.agrees task name (entry_of.Send p n) is p refl).0 in
+      (refl, (Target.port p, named w s sh.agrees task name (entry_of.Send p n) is, (all_sends s task name p t none b, all_gone s task name p t none b, refl))))
+      (subst (λ (x : Due). Carries w task name x v) (the_due (References (entry_of.Send p n) 0) due d) c)
+  destroys (entry_of.DeadName n) due is d c = carried w (Event.Destroy task name) task name (References (entry_of.DeadName n) 0) v below
+      (may_destroy w task name (entry_of.DeadName n) is refl (λ q once. dead_not_once n q once)) tt
+      (λ now s sh t b. (refl, (Target.dead n, named w s sh.agrees task name (entry_of.DeadName n) is, (b, refl))))
+      (subst (λ (x : Due). Carries w task name x v) (the_due (References (entry_of.DeadName n) 0) due d) c)
+  destroys (entry_of.Set set) due is d c = carried w (Event.Destroy task name) task name (Disbanding set) v below
+      (may_destroy w task name (entry_of.Set set) is refl (λ q once. set_not_once set q once)) tt
+      (λ now s sh t b. (refl, (Target.set set, named w s sh.agrees task name (entry_of.Set set) is, (b, refl))))
+      (subst (λ (x : Due). Carries w task name x v) (the_due (Disbanding set) due d) c)
+  destroys (entry_of.Receive p) due is d c = absurd (no_due due d)
+  destroys (entry_of.ReceiveAndSend p n) due is d c = absurd (no_due due d)
+  destroys (entry_of.SendOnce p) due is d c = absurd (no_due due d)

@@ -1,0 +1,98 @@
+-- What is under a name moves to another, in the tables and in the machine alike; what is kept of a set goes along.
+use Rattle.std.proofs.Common.{◌≡◌, ℕ, ◌<◌, [], Option, Some, None, refl, sym, ap, subst, ◌∙◌, Bool, length}
+use Rattle.std.specs.Prelude.{is_some}
+use Rattle.std.specs.Option.{option_map}
+use Rattle.std.specs.FinMap as map
+use Rattle.mach_types.specs.declared.calls.Event.{Event}
+use Rattle.mach_types.specs.declared.calls.Reply.{Reply}
+use Rattle.mach_types.specs.Tokens.{Request}
+use Rattle.mach_model.specs.State.{State, Target, lookup, at}
+use Rattle.mach_model.specs.Names.{renamed_requests, Renames}
+use Rattle.mach_model.specs.Refusals.{call_guards}
+use Rattle.mach_model.specs.Lawful.{IsLawful}
+use Rattle.name_space.specs.declared.Entry.{Entry}
+use Rattle.name_space.specs.declared.Entry.TheVariants as entry
+use Rattle.name_space.specs.Names.{SpaceView}
+use Rattle.port_set.specs.declared.SetRecord.{SetRecord}
+use Rattle.port_set.specs.Sets.{SetsView, IsThere}
+use Rattle.copyin_base.specs.Acts.{Acts, IsAllowed}
+use Rattle.copyin_base.specs.Worlds.{WorldView, entry_in}
+use Rattle.copyin_base.specs.Shows.{Agrees, Shows, SetsAgree, target_of}
+use Rattle.copyin_base.specs.Stands.{Stands}
+use Rattle.copyin_base.proofs.Acting.{done}
+use Rattle.copyin_base.proofs.NamesChanged.{kept_sets, sets_go, moved_agrees, target_found}
+use Rattle.copyin_base.proofs.Told.{found}
+use Rattle.kernel_core_base.specs.Names.{MayRename, MovesEntry, renamed_in, sets_named}
+use Rattle.kernel_core_base.proofs.TokensRenamed.{renamed_weigh}
+
+-- what is kept of a set that a task has
+kept_of : (o : Option SetRecord) (task : ℕ) → Some task ≡ option_map (λ (r : SetRecord). r.owner) o → (r : SetRecord) × (o ≡ Some r) × (r.owner ≡ task)
+kept_of (Some r) task e = (r, refl, (cc))
+kept_of None task e = absurd (cc)
+
+set_kept : (w : WorldView) (s : State) → Agrees w s → IsLawful s → (task name set : ℕ) → lookup s task name ≡ Some (Target.set set) → (r : SetRecord) × (map.get w.sets.sets set ≡ Some r) × (r.owner ≡ task)
+set_kept w s a l task name set named = kept_of (map.get w.sets.sets set) task (sym (l.set_owned task name set named) ∙ a.set_owner set)
+
+module _ (w w1 : WorldView) (task from to : ℕ) (e : Entry) (may : MayRename w task from to e) (moves : MovesEntry w task from to e w1) where
+  names_set : (s : State) → Agrees w s → (set : ℕ) → e ≡ entry.Set set → lookup s task from ≡ Some (Target.set set)
+  names_set s a set kind = found w s a task from e may.found ∙ ap (λ (x : Entry). Some (target_of x)) kind
+
+  -- a set that stands under the name is there, after the names changed too
+  pub set_there : Stands w → (set : ℕ) → e ≡ entry.Set set → IsThere w1.sets set
+  set_there stands set kind =
+      let a = stands.shown.agrees in
+      subst (λ (x : SetsView). IsThere x set) (sym (ap (λ (x : WorldView). x.sets) moves.rest))
+      (ap is_some (set_kept w stands.state a stands.shown.lawful task from set (names_set stands.state a set kind)).1)
+
+  here : map.get moves.space.names from ≡ Some e
+  here = sym (ap (λ (o : Option SpaceView). entry_in o from) moves.there) ∙ may.found
+
+  free : map.get moves.space.names to ≡ None
+  free = sym (ap (λ (o : Option SpaceView). entry_in o to) moves.there) ∙ may.unused
+
+  abbrev after : State → State
+  after s = record s {
+    naming = at s.naming task (map.insert (map.remove (s.naming task) from) to (target_of e));
+    stands = renamed_requests task from to s.stands;
+  }
+
+  module _ (s : State) (sh : Shows w s) where
+    abbrev stands : Request → Bool
+    stands = renamed_requests task from to s.stands
+
+    renames : Renames task from to s (after s)
+    renames = record {
+      target = target_of e;
+      found = target_found w s sh.agrees task moves.space moves.there from to e moves.space.room stands here free;
+      rest = refl;
+      tokens = λ h. renamed_weigh task from to s.ledger sh.agrees.requests h;
+    }
+
+    abbrev Go : SetsView → Type 0
+    Go sets = SetsAgree sets s.set_owner s.sets_made (after s).naming
+
+    other : ((t : ℕ) → target_of e ≡ Target.set t → ⊥) → Go w.sets
+    other not = kept_sets w s sh.agrees task moves.space moves.there from to e moves.space.room stands here free not
+
+    own : (set : ℕ) → e ≡ entry.Set set → Go (renamed_in (map.get w.sets.sets set) w.sets set to)
+    own set kind =
+        let k = set_kept w s sh.agrees sh.lawful task from set (names_set s sh.agrees set kind) in
+        subst (λ (o : Option SetRecord). Go (renamed_in o w.sets set to)) (sym k.1)
+        (sets_go w s sh.agrees task moves.space moves.there from to e moves.space.room stands here free set k.0 (ap target_of kind) k.1 k.2)
+
+    in_sets : (x : Entry) → e ≡ x → Go (sets_named x to w.sets)
+    in_sets (entry.Set set) kind = own set kind
+    in_sets (entry.Receive p) kind = other (λ t g. let f = sym (ap target_of kind) ∙ g in cc)
+    in_sets (entry.Send p n) kind = other (λ t g. let f = sym (ap target_of kind) ∙ g in cc)
+    in_sets (entry.ReceiveAndSend p n) kind = other (λ t g. let f = sym (ap target_of kind) ∙ g in cc)
+    in_sets (entry.SendOnce p) kind = other (λ t g. let f = sym (ap target_of kind) ∙ g in cc)
+    in_sets (entry.DeadName n) kind = other (λ t g. let f = sym (ap target_of kind) ∙ g in cc)
+
+    agrees : (v : WorldView) → v ≡ record w1 { sets = sets_named e to w1.sets } → Agrees v (after s)
+    agrees v named = subst (λ (x : WorldView). Agrees x (after s)) (sym (named ∙ (λ i. record (moves.rest i) { sets = sets_named e to (moves.rest i).sets })))
+        (moved_agrees w s sh.agrees task moves.space moves.there from to e moves.space.room stands here free (sets_named e to w.sets) (in_sets e refl))
+
+  pub rename_done : task < length w.spaces → IsAllowed w (λ s. call_guards s (Event.Rename task from to)) → (v : WorldView) → v ≡ record w1 { sets = sets_named e to w1.sets } →
+      Acts w (Event.Rename task from to) (Reply.Code 0) v
+  rename_done below good v named = done w (Event.Rename task from to) (Reply.Code 0) v below good
+      (λ now s sh. record { mid = after s; owed = []; does = (refl, renames s sh, refl); agrees = agrees s sh v named })

@@ -1,0 +1,19 @@
+use Rattle.std.proofs.Common.{refl}
+use Rattle.mach_types.specs.declared.calls.Event.{Event}
+use Rattle.kernel_core_base.proofs.Allocated.{can_add, allocate_name_done}
+use Rattle.kernel_core_base.proofs.Memory.{no_memory}
+use Rattle.kernel_core_base.proofs.names.allocate_name.Goals as goal
+
+pub add_right-requires : goal.add_right-requires
+add_right-requires c =
+    can_add c.args.world.now c.requires.stands c.args.task c.in_ok-made.made c.args.name c.in_ok-made.ensures.made.room c.in_ok-made.ensures.usable c.in_ok-made.ensures.unused
+
+pub returns-in_err-add_right : goal.returns-in_err-add_right
+returns-in_err-add_right c =
+    no_memory c.args.world.now c.add_right.new.world (Event.AllocateName c.args.task c.args.right c.args.name) c.requires.there c.in_ok-made.ensures.ok (λ s. refl)
+    c.from_residual-in_err-add_right.result c.in_err-add_right.field-0.0 c.from_residual-in_err-add_right.ensures c.in_err-add_right.ensures.err
+
+pub returns : goal.returns
+returns c =
+    allocate_name_done c.args.world.now c.add_right.new.world c.args.task c.args.right c.args.name c.in_ok-made.made c.requires.there c.in_ok-made.ensures.made.number_is
+    c.in_ok-made.ensures.ok c.in_ok-made.ensures.unused c.in_ok-add_right.ensures.ok

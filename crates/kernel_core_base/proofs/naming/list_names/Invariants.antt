@@ -1,7 +1,0 @@
-use Rattle.std.proofs.Common.{◌≡◌, take, map as list_map}
-use Rattle.std.specs.FinMap as map
-use Rattle.kernel_core_base.specs.Naming.{type_found}
-use Rattle.kernel_core_base.proofs.naming.list_names.Given as goal
-
-abbrev pub invariant-loop-name : goal.invariant-loop-name
-invariant-loop-name l = l.entries.items ≡ list_map (λ n. (n, type_found (map.get l.space.names n))) (take l.name-index (map.keys l.space.names))

@@ -1,0 +1,10 @@
+use Rattle.std.proofs.Common.{sym, ◌∙◌}
+use Rattle.kernel_core_base.proofs.ReferencesLost.{deallocates}
+use Rattle.kernel_core_base.proofs.ReferencesModified.{can_deallocate}
+use Rattle.kernel_core_base.proofs.references.deallocate.Goals as goal
+
+pub carry_out-requires-clause-can : goal.carry_out-requires-clause-can
+carry_out-requires-clause-can c = can_deallocate c.args.world.now c.requires.stands c.args.task c.args.name c.in_ok-entry.entry c.in-Some.due c.in_ok-entry.ensures.ok (sym c.deallocate_entry.ensures ∙ c.in-Some.is)
+
+pub returns : goal.returns
+returns c = deallocates c.args.world.now c.args.task c.args.name c.requires.there c.carry_out.new.world c.in_ok-entry.entry c.in-Some.due c.in_ok-entry.ensures.ok (sym c.deallocate_entry.ensures ∙ c.in-Some.is) c.carry_out.ensures

@@ -1,0 +1,34 @@
+use Rattle.std.proofs.Common.{subst, ℤ}
+use Rattle.std.proofs.Math.Facts.{to_z-of_z}
+use Rattle.mach_types.specs.declared.calls.Event.{Event}
+use Rattle.copyin_base.specs.Worlds.{WorldView}
+use Rattle.copyin_base.proofs.Exiting.{exits}
+use Rattle.kernel_core_base.specs.References.{IsChange, CanChange, CannotChange}
+use Rattle.kernel_core_base.proofs.ReferencesJudged.{modify_refused}
+use Rattle.kernel_core_base.proofs.ReferencesModified.{can_modify, modifies}
+use Rattle.kernel_core_base.proofs.references.mod_refs.Goals as goal
+
+pub returns-in_err-right : goal.returns-in_err-right
+returns-in_err-right c =
+    exits c.args.world.now (Event.ModRefs c.args.task c.args.name c.args.right c.args.delta) c.from_residual.result c.in_err-right.field-0.0 c.from_residual.ensures.1 c.requires.there
+    (c.in_err-right.ensures.err c.args.delta)
+
+pub returns-in_err-due : goal.returns-in_err-due
+returns-in_err-due c =
+    let by = subst (λ (z : ℤ). IsChange c.change_of.result z) (to_z-of_z c.ranges.delta) c.change_of.ensures in
+    let cannot = subst (λ (w : WorldView). CannotChange w.ledger.total c.in_ok-right.right c.in_ok-right.entry c.change_of.result c.in_err-due.field-0.0) c.world.view_is c.in_err-due.ensures.err in
+    exits c.args.world.now (Event.ModRefs c.args.task c.args.name c.args.right c.args.delta) c.from_residual-in_err-due.result c.in_err-due.field-0.0 c.from_residual-in_err-due.ensures.1 c.requires.there
+    (modify_refused c.args.world.now c.args.task c.args.name c.args.right c.args.delta c.in_ok-right.right c.in_ok-right.entry c.in_ok-right.ensures.ok c.change_of.result by c.in_err-due.field-0.0 cannot)
+
+pub carry_out-requires-clause-can : goal.carry_out-requires-clause-can
+carry_out-requires-clause-can c =
+    let by = subst (λ (z : ℤ). IsChange c.change_of.result z) (to_z-of_z c.ranges.delta) c.change_of.ensures in
+    let can = subst (λ (w : WorldView). CanChange w.ledger.total c.in_ok-right.right c.in_ok-right.entry c.change_of.result c.in_ok-due.due) c.world.view_is c.in_ok-due.ensures.ok in
+    can_modify c.args.world.now c.requires.stands c.args.task c.args.name c.args.right c.args.delta c.in_ok-right.right c.in_ok-right.entry c.change_of.result c.in_ok-due.due c.in_ok-right.ensures.ok by can
+
+pub returns : goal.returns
+returns c =
+    let by = subst (λ (z : ℤ). IsChange c.change_of.result z) (to_z-of_z c.ranges.delta) c.change_of.ensures in
+    let can = subst (λ (w : WorldView). CanChange w.ledger.total c.in_ok-right.right c.in_ok-right.entry c.change_of.result c.in_ok-due.due) c.world.view_is c.in_ok-due.ensures.ok in
+    modifies c.args.world.now c.requires.stands c.args.task c.args.name c.args.right c.args.delta c.in_ok-right.right c.in_ok-right.entry c.change_of.result c.in_ok-due.due c.carry_out.new.world
+    c.requires.there c.in_ok-right.ensures.ok by can c.carry_out.ensures

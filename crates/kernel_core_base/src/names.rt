@@ -1,0 +1,310 @@
+//! A task's names: allocating a port, a port set or a dead name under one, listing them with their
+//! types, and giving one another number.
+ghost use Rattle.std.specs.Prelude.{◌≡◌, ℕ, ◌<◌, Some, None, length, false, IsTrue, IfOk, IfErr, OnOk, OnErr};
+ghost use Rattle.std.specs.FinMap as map;
+ghost use Rattle.mach_types.specs.declared.calls.Event.{Event};
+ghost use Rattle.mach_types.specs.declared.codes.KernReturn.TheVariants as kern;
+ghost use Rattle.mach_types.specs.Numbers.{kern_number, most_rights, most_identities};
+ghost use Rattle.mach_model.specs.Names.{IsNoMaking};
+ghost use Rattle.mach_model.specs.Refusals.{call_guards};
+ghost use Rattle.name_space.specs.Names.{IsUsable};
+ghost use Rattle.name_space.specs.declared.Entry.{Entry as AnyEntry};
+ghost use Rattle.name_space.specs.declared.Entry.TheVariants as entry_of;
+ghost use Rattle.port_set.specs.Sets.{IsThere, created};
+ghost use Rattle.copyin_base.specs.Acts.{Serves, IsRefused, IsAllowed};
+ghost use Rattle.copyin_base.specs.Changes.{SameButRoom};
+ghost use Rattle.copyin_base.specs.Stands.{Stands};
+ghost use Rattle.copyin_base.specs.Worlds.{entry_at};
+ghost use Rattle.kernel_core_base.specs.declared.names.NewRight.TheVariants as AnyRight;
+ghost use Rattle.kernel_core_base.specs.Names.{right_made, with_new_port, IsFullFor, HasRoomFor, IsFullOf, HasRoomOf, MayMake, CanAdd, Adds, MakesRight, MovesEntry, MayRename, sets_named, type_found, types_of};
+
+use copyin_base::{Code, World};
+use mach_types::limits::MOST_RIGHTS;
+use mach_types::{KernReturn, Name, NameTypes, PortId, Reply, Right, TaskId};
+use name_space::{Entry, Space};
+use port::Holder;
+use rights::RightKind;
+use std::alloc::{AllocError, Global};
+use user_refs::UserRefs;
+
+// What can be made under a name.
+#[derive(Clone, Copy)]
+enum NewRight {
+    // A port, of which the task has the receive right.
+    Port,
+    // A port set, of no ports.
+    Set,
+    // A dead name of one reference.
+    DeadName,
+}
+
+/// `Allocate` (Port Manipulation Interface, `mach_port_allocate`): what the right's number says, under a
+/// fresh name. A receive right, number 1, is of a new port; a port set, number 3, is new and of no
+/// ports; a dead name, number 4, has one reference. The task lives.
+///
+/// `KERN_INVALID_VALUE` for another number; `KERN_NO_SPACE` where the task has 65,535 names, for a port
+/// also where there are 4,294,967,295 rights, and for a port or a set where all its identities were
+/// given; `KERN_RESOURCE_SHORTAGE` for want of memory. Logarithmic in the names of the task and in the
+/// ports or the sets, but for a move of 16 bytes for each greater name, and where tables move to a
+/// larger place.
+pub fn allocate(world: &mut World, task: TaskId, right: u32) -> Result<Reply, Code>
+    requires there { task < length world.old.spaces }
+    requires stands { Stands world.old }
+    ensures { Serves world.old (Event.Allocate task right) result world.new }
+{
+    let made = judge_allocate(world, task, right)?;
+    let name = world.space(task).fresh();
+    add_right(world, task, made, name)?;
+    Ok(Reply::Name(name))
+}
+
+/// `AllocateName` (Port Manipulation Interface, `mach_port_allocate_name`): as [`allocate`], under the
+/// name that is given.
+///
+/// `KERN_INVALID_VALUE` for another number, and for the names 0 and 0xffffffff; `KERN_NAME_EXISTS`
+/// where the task uses the name; then as [`allocate`], also in cost.
+pub fn allocate_name(world: &mut World, task: TaskId, right: u32, name: Name) -> Result<Reply, Code>
+    requires there { task < length world.old.spaces }
+    requires stands { Stands world.old }
+    ensures { Serves world.old (Event.AllocateName task right name) result world.new }
+{
+    let made = judge_allocate_name(world, task, right, name)?;
+    add_right(world, task, made, name)?;
+    Ok(Reply::Name(name))
+}
+
+// What is to be made under a fresh name, or why it isn't.
+fn judge_allocate(world: &World, task: TaskId, right: u32) -> Result<NewRight, KernReturn>
+    requires { task < length world.now.spaces }
+    ensures made { IfOk result (λ made. MayMake world.now task right made) }
+    ensures ok { OnOk result (IsAllowed world.now (λ s. call_guards s (Event.Allocate task right))) }
+    ensures err { IfErr result (λ code. IsRefused world.now (λ s. call_guards s (Event.Allocate task right)) (kern_number code)) }
+{
+    let made = right_to_make(right)?;
+    if is_full(world, task, made) {
+        return Err(KernReturn::NoSpace);
+    }
+    Ok(made)
+}
+
+// What is to be made under the name, or why it isn't.
+fn judge_allocate_name(
+    world: &World,
+    task: TaskId,
+    right: u32,
+    name: Name,
+) -> Result<NewRight, KernReturn>
+    requires { task < length world.now.spaces }
+    ensures made { IfOk result (λ made. MayMake world.now task right made) }
+    ensures usable { OnOk result (IsUsable name) }
+    ensures unused { OnOk result (entry_at world.now task name ≡ None) }
+    ensures ok { OnOk result (IsAllowed world.now (λ s. call_guards s (Event.AllocateName task right name))) }
+    ensures err { IfErr result (λ code. IsRefused world.now (λ s. call_guards s (Event.AllocateName task right name)) (kern_number code)) }
+{
+    let made = right_to_make(right)?;
+    if !name.is_usable() {
+        return Err(KernReturn::InvalidValue);
+    }
+    if world.lookup(task, name).is_some() {
+        return Err(KernReturn::NameExists);
+    }
+    if is_full(world, task, made) {
+        return Err(KernReturn::NoSpace);
+    }
+    Ok(made)
+}
+
+// What can be made of the right of this number.
+fn right_to_make(number: u32) -> Result<NewRight, KernReturn>
+    ensures ok { IfOk result (λ made. right_made made ≡ number) }
+    ensures err { IfErr result (λ code. (code ≡ kern.InvalidValue) × IsNoMaking number) }
+{
+    let Some(right) = Right::from_number(number) else {
+        return Err(KernReturn::InvalidValue);
+    };
+    match right {
+        Right::Receive => Ok(NewRight::Port),
+        Right::PortSet => Ok(NewRight::Set),
+        Right::DeadName => Ok(NewRight::DeadName),
+        Right::Send | Right::SendOnce => Err(KernReturn::InvalidValue),
+    }
+}
+
+// Whether there is no room for one more that the task names.
+fn is_full(world: &World, task: TaskId, right: NewRight) -> bool
+    requires { task < length world.now.spaces }
+    ensures full { IsTrue result → IsFullOf world.now task right }
+    ensures room { result ≡ false → HasRoomOf world.now task right }
+{
+    world.space(task).is_full() || is_used_up(world, right)
+}
+
+// Whether there is no room for one more, wherever it is named.
+fn is_used_up(world: &World, right: NewRight) -> bool
+    ensures full { IsTrue result → IsFullFor world.now right }
+    ensures room { result ≡ false → HasRoomFor world.now right }
+{
+    match right {
+        NewRight::Port => world.ledger.total() == MOST_RIGHTS || world.ports.is_exhausted(),
+        NewRight::Set => world.sets.is_exhausted(),
+        NewRight::DeadName => false,
+    }
+}
+
+// One right more, named by the task. Where memory is refused, nothing changes but room for names to
+// come.
+fn add_right(world: &mut World, task: TaskId, right: NewRight, name: Name) -> Result<(), KernReturn>
+    requires { CanAdd world.old task right name }
+    ensures ok { OnOk result (Adds world.old task right name world.new) }
+    ensures err { IfErr result (λ code. (code ≡ kern.ResourceShortage) × SameButRoom world.old world.new) }
+{
+    world.reserve_name(task)?;
+    let entry = make_right(world, task, right, name)?;
+    world.insert_entry(task, name, entry);
+    Ok(())
+}
+
+// What is made, before it stands under its name.
+fn make_right(
+    world: &mut World,
+    task: TaskId,
+    right: NewRight,
+    name: Name,
+) -> Result<Entry, KernReturn>
+    requires room { HasRoomFor world.old right }
+    requires unknown { map.get world.old.ledger.counts world.old.ports.made ≡ None }
+    ensures ok { IfOk result (λ entry. MakesRight world.old task right name entry world.new) }
+    ensures err { IfErr result (λ code. (code ≡ kern.ResourceShortage) × (world.new ≡ world.old)) }
+{
+    let made = match right {
+        NewRight::Port => make_port(world, task).map(Entry::Receive),
+        NewRight::Set => world.sets.create(task, name).map(Entry::Set),
+        NewRight::DeadName => Ok(Entry::DeadName(UserRefs::one())),
+    };
+    made.map_err(|_| KernReturn::ResourceShortage)
+}
+
+// A new port, whose receive right is with the task. It is counted.
+fn make_port(world: &mut World, task: TaskId) -> Result<PortId, AllocError>
+    requires room { HasRoomFor world.old AnyRight.Port }
+    requires unknown { map.get world.old.ledger.counts world.old.ports.made ≡ None }
+    ensures ok { IfOk result (λ port. (port ≡ world.old.ports.made) × (world.new ≡ with_new_port world.old task)) }
+    ensures err { OnErr result (world.new ≡ world.old) }
+{
+    let id = world.ports.next_id();
+    world.ledger.enter(id)?;
+    match world.ports.allocate(Holder::Task(task)) {
+        Ok(port) => {
+            world.ledger.make(port, RightKind::Receive, 1).unwrap();
+            Ok(port)
+        }
+        Err(error) => {
+            world.ledger.leave(id);
+            Err(error)
+        }
+    }
+}
+
+/// `NameType` (Port Manipulation Interface, `mach_port_type`): a bit for each kind of right that the
+/// task has under the name. The task lives.
+///
+/// `KERN_INVALID_NAME` for a name that isn't in use. Logarithmic in the names of the task.
+pub fn name_type(world: &World, task: TaskId, name: Name) -> Result<Reply, Code>
+    requires there { task < length world.now.spaces }
+    requires stands { Stands world.now }
+    ensures { Serves world.now (Event.NameType task name) result world.now }
+{
+    let entry = world.find(task, name)?;
+    Ok(Reply::NameType(entry.type_bits()))
+}
+
+/// `Names` (Port Manipulation Interface, `mach_port_names`): the names of the task with their types,
+/// names rising. The task lives.
+///
+/// `KERN_RESOURCE_SHORTAGE` for want of memory, of which it takes 12 bytes for each name. Linear in the
+/// names of the task, but for a logarithmic look at each.
+pub fn list_names(world: &World, alloc: Global, task: TaskId) -> Result<Reply, Code>
+    requires there { task < length world.now.spaces }
+    requires stands { Stands world.now }
+    ensures { Serves world.now (Event.Names task) result world.now }
+{
+    match names_with_types(world.space(task), alloc) {
+        Ok(entries) => Ok(Reply::Names(NameTypes::from_vec(entries))),
+        Err(_) => Err(Code::Kern(KernReturn::ResourceShortage)),
+    }
+}
+
+// The names with their types, names rising.
+fn names_with_types(space: &Space, alloc: Global) -> Result<Vec<(Name, u32)>, AllocError>
+    ensures { IfOk result (λ entries. entries.items ≡ types_of space.now.names) }
+{
+    let names = space.names(alloc)?;
+    let mut entries = Vec::new(alloc);
+    entries.reserve(names.len())?;
+    for name in &names {
+        entries.push((*name, type_at(space, *name)))?;
+    }
+    Ok(entries)
+}
+
+// The type of a name, 0 where it isn't in use.
+fn type_at(space: &Space, name: Name) -> u32
+    ensures { result ≡ type_found (map.get space.now.names name) }
+{
+    match space.lookup(name) {
+        Some(entry) => entry.type_bits(),
+        None => 0,
+    }
+}
+
+/// `Rename` (Port Manipulation Interface, `mach_port_rename`): what is under the first name goes under
+/// the second. A set's members, and a port's rights and messages, stay as they are. The task lives.
+///
+/// `KERN_INVALID_VALUE` where the second is 0 or 0xffffffff; `KERN_INVALID_NAME` where the first isn't
+/// in use; `KERN_NAME_EXISTS` where the second is, also by the first itself. Takes no memory.
+/// Logarithmic in the names of the task, but for a move of 16 bytes for each greater name.
+pub fn rename(world: &mut World, task: TaskId, from: Name, to: Name) -> Result<Reply, Code>
+    requires there { task < length world.old.spaces }
+    requires stands { Stands world.old }
+    ensures { Serves world.old (Event.Rename task from to) result world.new }
+{
+    let entry = judge_rename(world, task, from, to)?;
+    move_entry(world, task, from, to);
+    name_set(world, entry, to);
+    Ok(Reply::Code(0))
+}
+
+// What is to be renamed, or why it isn't.
+fn judge_rename(world: &World, task: TaskId, from: Name, to: Name) -> Result<Entry, KernReturn>
+    requires { task < length world.now.spaces }
+    ensures may { IfOk result (λ entry. MayRename world.now task from to entry) }
+    ensures ok { OnOk result (IsAllowed world.now (λ s. call_guards s (Event.Rename task from to))) }
+    ensures err { IfErr result (λ code. IsRefused world.now (λ s. call_guards s (Event.Rename task from to)) (kern_number code)) }
+{
+    if !to.is_usable() {
+        return Err(KernReturn::InvalidValue);
+    }
+    let entry = world.find(task, from)?;
+    if world.lookup(task, to).is_some() {
+        return Err(KernReturn::NameExists);
+    }
+    Ok(entry)
+}
+
+// Moves what is under a name to one that isn't in use, in the task's names alone.
+fn move_entry(world: &mut World, task: TaskId, from: Name, to: Name)
+    requires { (e : AnyEntry) × MayRename world.old task from to e }
+    ensures { (e : AnyEntry) → MayRename world.old task from to e → MovesEntry world.old task from to e world.new }
+{
+    world.spaces[task.number() as usize].rename(from, to);
+}
+
+// Keeps the name for the entry's set, if it is one.
+fn name_set(world: &mut World, entry: Entry, name: Name)
+    requires { (set : ℕ) → entry ≡ entry_of.Set set → IsThere world.old.sets set }
+    ensures { world.new ≡ record world.old { sets = sets_named entry name world.old.sets } }
+{
+    if let Entry::Set(set) = entry {
+        world.sets.rename(set, name);
+    }
+}

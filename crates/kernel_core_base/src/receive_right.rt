@@ -1,0 +1,130 @@
+//! What a task may ask of a receive right, and set.
+ghost use Rattle.std.specs.Prelude.{◌≡◌, ◌<◌, length};
+ghost use Rattle.mach_types.specs.declared.calls.Event.{Event};
+ghost use Rattle.copyin_base.specs.Acts.{Serves};
+ghost use Rattle.copyin_base.specs.Stands.{Stands};
+ghost use Rattle.kernel_core_base.specs.ReceiveRight.{set_name, HasPort, TellsPort};
+
+use copyin_base::{Code, World};
+use mach_types::limits::GREATEST_LIMIT;
+use mach_types::{KernReturn, Name, PortId, Reply, SetId, Status, TaskId};
+use port::Attributes;
+
+/// `ReceiveStatus` (Port Manipulation Interface, `mach_port_get_receive_status`): with the name that the
+/// task, which lives, has for the set that the port is in, 0 where it is in none.
+///
+/// `KERN_INVALID_NAME` for a name that isn't in use; `KERN_INVALID_RIGHT` where it has no receive right.
+/// Logarithmic in the names of the task, in the ports and in the sets.
+#[tactic(auto, using(crate::proofs::ReceiveRight::has_port, crate::proofs::ReceiveRight::status_told))]
+pub fn receive_status(world: &World, task: TaskId, name: Name) -> Result<Reply, Code>
+    requires there { task < length world.now.spaces }
+    requires stands { Stands world.now }
+    ensures { Serves world.now (Event.ReceiveStatus task name) result world.now }
+{
+    let port = world.find_receive(task, name)?;
+    Ok(Reply::Status(status_of(world, port)))
+}
+
+// The status of a port. Nothing can be requested yet.
+fn status_of(world: &World, port: PortId) -> Status
+    requires { HasPort world.now port }
+    ensures { TellsPort world.now port result }
+{
+    let counts = world.ledger.counts(port).unwrap();
+    let attributes = world.attributes(port);
+    Status {
+        set: set_name(world, attributes.set),
+        sequence: attributes.sequence,
+        make_send: attributes.make_send,
+        limit: attributes.limit,
+        queued: world.ports.queued(port) as u32,
+        send_once: counts.send_once,
+        has_send: counts.send.min(1),
+        port_destroyed: 0,
+        no_senders: 0,
+    }
+}
+
+// The name of a set with the task whose set it is, 0 where there is none.
+fn set_name(world: &World, set: Option<SetId>) -> Name
+    ensures { result ≡ set_name world.now.sets set }
+{
+    let Some(set) = set else {
+        return Name::null();
+    };
+    match world.sets.get(set) {
+        Some(kept) => kept.name,
+        None => Name::null(),
+    }
+}
+
+/// `SetQlimit` (Port Manipulation Interface, `mach_port_set_qlimit`): how many messages the queue of the
+/// port takes from send rights, 0 to 16. Messages that are there stay. The task lives.
+///
+/// `KERN_INVALID_VALUE` above 16; `KERN_INVALID_NAME` for a name that isn't in use; `KERN_INVALID_RIGHT`
+/// where it has no receive right. Takes no memory. Logarithmic in the names of the task and in the ports.
+#[tactic(auto, using(copyin_base::proofs::Finding::receive_port_there))]
+pub fn set_qlimit(world: &mut World, task: TaskId, name: Name, limit: u32) -> Result<Reply, Code>
+    requires there { task < length world.old.spaces }
+    requires stands { Stands world.old }
+    ensures { Serves world.old (Event.SetQlimit task name limit) result world.new }
+{
+    if limit > GREATEST_LIMIT {
+        return Err(Code::Kern(KernReturn::InvalidValue));
+    }
+    let port = world.find_receive(task, name)?;
+    let attributes = world.attributes(port);
+    world.set_attributes(
+        port,
+        Attributes {
+            limit,
+            ..attributes
+        },
+    );
+    Ok(Reply::Code(0))
+}
+
+/// `SetMscount` (Port Manipulation Interface, `mach_port_set_mscount`): how many send rights were made
+/// from the receive right, any 32-bit number. The task lives.
+///
+/// `KERN_INVALID_NAME` for a name that isn't in use; `KERN_INVALID_RIGHT` where it has no receive right.
+/// Takes no memory. Logarithmic in the names of the task and in the ports.
+#[tactic(auto, using(copyin_base::proofs::Finding::receive_port_there))]
+pub fn set_mscount(world: &mut World, task: TaskId, name: Name, count: u32) -> Result<Reply, Code>
+    requires there { task < length world.old.spaces }
+    requires stands { Stands world.old }
+    ensures { Serves world.old (Event.SetMscount task name count) result world.new }
+{
+    let port = world.find_receive(task, name)?;
+    let attributes = world.attributes(port);
+    world.set_attributes(
+        port,
+        Attributes {
+            make_send: count,
+            ..attributes
+        },
+    );
+    Ok(Reply::Code(0))
+}
+
+/// `SetSeqno` (Port Manipulation Interface, `mach_port_set_seqno`): the sequence number of the next
+/// message that is received from the port, any 32-bit number.
+///
+/// As [`set_mscount`] in errors and cost.
+#[tactic(auto, using(copyin_base::proofs::Finding::receive_port_there))]
+pub fn set_seqno(world: &mut World, task: TaskId, name: Name, number: u32) -> Result<Reply, Code>
+    requires there { task < length world.old.spaces }
+    requires stands { Stands world.old }
+    ensures { Serves world.old (Event.SetSeqno task name number) result world.new }
+{
+    let port = world.find_receive(task, name)?;
+    let attributes = world.attributes(port);
+    world.set_attributes(
+        port,
+        Attributes {
+            sequence: number,
+            ..attributes
+        },
+    );
+    Ok(Reply::Code(0))
+}

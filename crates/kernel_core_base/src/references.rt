@@ -1,0 +1,357 @@
+//! The references of a right under a name: asked for, taken by one, taken whole, changed by a number.
+ghost use Rattle.std.specs.Prelude.{◌≡◌, ℤ, ◌+◌, ◌<◌, ◌≤◌, Some, IfOk, IfErr, MatchBool, length};
+ghost use Rattle.mach_types.specs.declared.calls.Event.{Event};
+ghost use Rattle.mach_types.specs.declared.rights.Right.TheVariants as right;
+ghost use Rattle.mach_types.specs.Numbers.{kern_number, most_references, most_rights};
+ghost use Rattle.mach_model.specs.Refusals.{call_guards};
+ghost use Rattle.name_space.specs.declared.Entry.TheVariants as AnyEntry;
+ghost use Rattle.name_space.specs.Entry.{port_named, send_references};
+ghost use Rattle.port_set.specs.Sets.{removed, IsDisbanded};
+ghost use Rattle.copyin_base.specs.Acts.{IsRefused, Serves};
+ghost use Rattle.copyin_base.specs.Stands.{Stands};
+ghost use Rattle.copyin_base.specs.Worlds.{entry_at};
+ghost use Rattle.kernel_core_base.specs.References.{left_with, recounted_at, CanCount, CanSet, SetsReferences, RemovesSet, CanCarry, Carries, deallocated, destroyed, IsChange, more_in, CanSum, CannotSum, changed_whole, FindsRight, CanChange, CannotChange};
+
+use copyin_base::{Code, Message, World};
+use mach_types::limits::{MOST_REFERENCES, MOST_RIGHTS};
+use mach_types::{KernReturn, Name, Reply, Right, SetId, TaskId};
+use name_space::Entry;
+use port::Ports;
+use port_set::{Sets, disband};
+use rights::{Ledger, RightKind};
+use user_refs::UserRefs;
+
+// How a number of references changes.
+#[derive(Clone, Copy)]
+enum Change {
+    More(u32),
+    // By one or more.
+    Fewer(u32),
+}
+
+// What a call has to do to a name.
+#[derive(Clone, Copy)]
+enum Due {
+    Nothing,
+    // The references of what stands under the name become so many.
+    References(Entry, u32),
+    // The set under the name goes.
+    Disbanding(SetId),
+}
+
+// ---- what is done
+
+// What is left under a name whose references become so many.
+fn left_under(entry: &Entry, references: u32) -> Option<Entry>
+    requires { references ≤ most_references }
+    ensures { result ≡ left_with entry.now references }
+{
+    let some = UserRefs::new(references);
+    match entry {
+        Entry::Send(port, _) => some.map(|rest| Entry::Send(*port, rest)),
+        Entry::ReceiveAndSend(port, _) => Some(match some {
+            Some(rest) => Entry::ReceiveAndSend(*port, rest),
+            None => Entry::Receive(*port),
+        }),
+        Entry::DeadName(_) => some.map(|rest| Entry::DeadName(rest)),
+        Entry::Receive(_) | Entry::SendOnce(_) | Entry::Set(_) => Some(*entry),
+    }
+}
+
+// Counts the send rights that come or go where those of an entry become so many.
+fn count_sends(ledger: &mut Ledger, entry: &Entry, references: u32)
+    requires { CanCount ledger.old entry.now references }
+    ensures { ledger.new ≡ recounted_at ledger.old (port_named entry.now) (send_references entry.now) references }
+{
+    let Some(port) = entry.port() else {
+        return;
+    };
+    let held = entry.send_references();
+    if held < references {
+        ledger
+            .make(port, RightKind::Send, references - held)
+            .unwrap();
+    } else {
+        ledger.take(port, RightKind::Send, held - references);
+    }
+}
+
+// Makes the references of what stands under a name so many. A name of nothing else goes with the last.
+fn set_references(world: &mut World, task: TaskId, name: Name, entry: Entry, references: u32)
+    requires stands { Stands world.old }
+    requires can { CanSet world.old task name entry references }
+    ensures { SetsReferences world.old task name entry references world.new }
+{
+    world.put_left(task, name, left_under(&entry, references));
+    count_sends(&mut world.ledger, &entry, references);
+}
+
+// A set goes, and its members are in none.
+fn drop_set(sets: &mut Sets, ports: &mut Ports<Message>, set: SetId)
+    ensures sets { sets.new ≡ removed sets.old set }
+    ensures ports { IsDisbanded ports.old ports.new set }
+{
+    sets.remove(set);
+    disband(ports, set);
+}
+
+// Takes the name of a set away, and the set.
+fn remove_set(world: &mut World, task: TaskId, name: Name, set: SetId)
+    requires { entry_at world.old task name ≡ Some (AnyEntry.Set set) }
+    ensures { RemovesSet world.old task name set world.new }
+{
+    world.put_left(task, name, None);
+    drop_set(&mut world.sets, &mut world.ports, set);
+}
+
+fn carry_out(world: &mut World, task: TaskId, name: Name, due: Due)
+    requires stands { Stands world.old }
+    requires can { CanCarry world.old task name due }
+    ensures { Carries world.old task name due world.new }
+{
+    match due {
+        Due::Nothing => {}
+        Due::References(entry, references) => {
+            set_references(world, task, name, entry, references)
+        }
+        Due::Disbanding(set) => remove_set(world, task, name, set),
+    }
+}
+
+// ---- GetRefs
+
+/// `GetRefs` (Port Manipulation Interface, `mach_port_get_refs`): how many references of the right of
+/// this number the task, which lives, has under the name, 0 to 65,535.
+///
+/// `KERN_INVALID_VALUE` for a number above 4; `KERN_INVALID_NAME` for a name that isn't in use.
+/// Logarithmic in the names of the task.
+pub fn get_refs(world: &World, task: TaskId, name: Name, right: u32) -> Result<Reply, Code>
+    requires { task < length world.now.spaces }
+    ensures { Serves world.now (Event.GetRefs task name right) result world.now }
+{
+    let Some(right) = Right::from_number(right) else {
+        return Err(Code::Kern(KernReturn::InvalidValue));
+    };
+    let entry = world.find(task, name)?;
+    Ok(Reply::Refs(entry.references(right)))
+}
+
+// ---- Deallocate and Destroy
+
+// One reference less; none where it isn't a reference that would go.
+fn deallocate_entry(entry: &Entry) -> Option<Due>
+    ensures { result ≡ deallocated entry.now }
+{
+    match entry {
+        Entry::Send(_, references)
+        | Entry::ReceiveAndSend(_, references)
+        | Entry::DeadName(references) => Some(Due::References(*entry, references.count() - 1)),
+        // No send-once right can be lost yet.
+        Entry::Receive(_) | Entry::SendOnce(_) | Entry::Set(_) => None,
+    }
+}
+
+// All goes; none where a receive or send-once right would, which can't be lost yet.
+fn destroy_entry(entry: &Entry) -> Option<Due>
+    ensures { result ≡ destroyed entry.now }
+{
+    match entry {
+        Entry::Send(_, _) | Entry::DeadName(_) => Some(Due::References(*entry, 0)),
+        Entry::Set(set) => Some(Due::Disbanding(*set)),
+        Entry::Receive(_) | Entry::ReceiveAndSend(_, _) | Entry::SendOnce(_) => None,
+    }
+}
+
+/// `Deallocate` (Port Manipulation Interface, `mach_port_deallocate`): one send reference, or one
+/// reference of a dead name, goes from under the name; with the last right or reference the name goes.
+/// Under a name with a receive right and send references one of these goes. The task lives.
+///
+/// `KERN_INVALID_NAME` for a name that isn't in use; `KERN_INVALID_RIGHT` for a receive right alone, a
+/// set, and, as long as none can be lost, a send-once right. A refusal changes nothing. Takes no memory.
+/// Logarithmic in the names of the task and in the ports, but for a move of 16 bytes for each greater
+/// name where the name goes.
+pub fn deallocate(world: &mut World, task: TaskId, name: Name) -> Result<Reply, Code>
+    requires there { task < length world.old.spaces }
+    requires stands { Stands world.old }
+    ensures { Serves world.old (Event.Deallocate task name) result world.new }
+{
+    let entry = world.find(task, name)?;
+    let Some(due) = deallocate_entry(&entry) else {
+        return Err(Code::Kern(KernReturn::InvalidRight));
+    };
+    carry_out(world, task, name, due);
+    Ok(Reply::Code(0))
+}
+
+/// `Destroy` (Port Manipulation Interface, `mach_port_destroy`): all that is under the name goes, and
+/// the name with it. With a set's name the set goes, and its members are in none. The task lives.
+///
+/// `KERN_INVALID_NAME` for a name that isn't in use; `KERN_INVALID_RIGHT`, as long as none can be lost,
+/// for a name with a receive or send-once right. A refusal changes nothing. Takes no memory. Logarithmic
+/// in the names of the task and in the ports, but for a move of 16 bytes for each greater name, and for
+/// a set a logarithmic look at each port.
+pub fn destroy(world: &mut World, task: TaskId, name: Name) -> Result<Reply, Code>
+    requires there { task < length world.old.spaces }
+    requires stands { Stands world.old }
+    ensures { Serves world.old (Event.Destroy task name) result world.new }
+{
+    let entry = world.find(task, name)?;
+    let Some(due) = destroy_entry(&entry) else {
+        return Err(Code::Kern(KernReturn::InvalidRight));
+    };
+    carry_out(world, task, name, due);
+    Ok(Reply::Code(0))
+}
+
+// ---- ModRefs
+
+fn change_of(delta: i32) -> Change
+    ensures { IsChange result delta }
+{
+    if delta < 0 {
+        Change::Fewer(delta.unsigned_abs())
+    } else {
+        Change::More(delta.unsigned_abs())
+    }
+}
+
+// How many references there are after the change.
+fn sum_of(held: u32, change: Change) -> Result<u32, KernReturn>
+    ensures ok { IfOk result (λ sum. CanSum held change sum) }
+    ensures err { IfErr result (λ code. CannotSum held change code) }
+{
+    match change {
+        Change::More(more) => {
+            let sum = held as u64 + more as u64;
+            if sum > u64::from(MOST_REFERENCES) {
+                return Err(KernReturn::UrefsOverflow);
+            }
+            Ok(sum as u32)
+        }
+        Change::Fewer(fewer) => {
+            if fewer > held {
+                return Err(KernReturn::InvalidValue);
+            }
+            Ok(held - fewer)
+        }
+    }
+}
+
+// Whether there would be too many rights.
+fn lacks_rights(ledger: &Ledger, change: Change) -> bool
+    ensures { MatchBool result (most_rights < ledger.now.total + more_in change) (ledger.now.total + more_in change ≤ most_rights) }
+{
+    let total = ledger.total();
+    match change {
+        Change::More(more) => more > MOST_RIGHTS - total,
+        Change::Fewer(_) => false,
+    }
+}
+
+fn judge_sends(ledger: &Ledger, entry: Entry, change: Change) -> Result<Due, KernReturn>
+    ensures ok { IfOk result (λ due. CanChange ledger.now.total right.Send entry change due) }
+    ensures err { IfErr result (λ code. CannotChange ledger.now.total right.Send entry change code) }
+{
+    let sum = sum_of(entry.references(Right::Send), change)?;
+    if lacks_rights(ledger, change) {
+        return Err(KernReturn::NoSpace);
+    }
+    Ok(Due::References(entry, sum))
+}
+
+fn judge_dead(ledger: &Ledger, entry: Entry, change: Change) -> Result<Due, KernReturn>
+    ensures ok { IfOk result (λ due. CanChange ledger.now.total right.DeadName entry change due) }
+    ensures err { IfErr result (λ code. CannotChange ledger.now.total right.DeadName entry change code) }
+{
+    let sum = sum_of(entry.references(Right::DeadName), change)?;
+    Ok(Due::References(entry, sum))
+}
+
+// What is due of a right that has no references; `whole` where it goes.
+fn judge_whole(change: Change, whole: Result<Due, KernReturn>) -> Result<Due, KernReturn>
+    ensures { result ≡ changed_whole change whole }
+{
+    match change {
+        Change::More(0) => Ok(Due::Nothing),
+        Change::Fewer(1) => whole,
+        _ => Err(KernReturn::InvalidValue),
+    }
+}
+
+fn judge_set(ledger: &Ledger, entry: Entry, change: Change) -> Result<Due, KernReturn>
+    ensures ok { IfOk result (λ due. CanChange ledger.now.total right.PortSet entry change due) }
+    ensures err { IfErr result (λ code. CannotChange ledger.now.total right.PortSet entry change code) }
+{
+    let set = entry.set().ok_or(KernReturn::InvalidRight)?;
+    judge_whole(change, Ok(Due::Disbanding(set)))
+}
+
+// What is due where the references of a right that the entry has change so.
+fn judge_change(
+    ledger: &Ledger,
+    right: Right,
+    entry: Entry,
+    change: Change,
+) -> Result<Due, KernReturn>
+    ensures ok { IfOk result (λ due. CanChange ledger.now.total right entry change due) }
+    ensures err { IfErr result (λ code. CannotChange ledger.now.total right entry change code) }
+{
+    match right {
+        Right::Send => judge_sends(ledger, entry, change),
+        Right::DeadName => judge_dead(ledger, entry, change),
+        Right::PortSet => judge_set(ledger, entry, change),
+        // No receive or send-once right can be lost yet.
+        Right::Receive | Right::SendOnce => judge_whole(change, Err(KernReturn::InvalidRight)),
+    }
+}
+
+// The right of this number, and what stands under the name, which has it.
+fn find_right(
+    world: &World,
+    task: TaskId,
+    name: Name,
+    number: u32,
+) -> Result<(Right, Entry), KernReturn>
+    ensures ok { IfOk result (λ r. FindsRight world.now task name number r.0 r.1) }
+    ensures err { IfErr result (λ code. (delta : ℤ) → IsRefused world.now (λ s. call_guards s (Event.ModRefs task name number delta)) (kern_number code)) }
+{
+    let Some(right) = Right::from_number(number) else {
+        return Err(KernReturn::InvalidValue);
+    };
+    let entry = world.find(task, name)?;
+    if entry.references(right) == 0 {
+        return Err(KernReturn::InvalidRight);
+    }
+    Ok((right, entry))
+}
+
+/// `ModRefs` (Port Manipulation Interface, `mach_port_mod_refs`): the references of the right of number
+/// `right`, 0 to 4, under the name change by `delta`. Send references that come are new send rights.
+/// With the last right or reference the name goes. Of a right without references `delta` is 0, which
+/// changes nothing, or -1: the right goes. With a set's the set goes, and its members are in none. The
+/// task lives.
+///
+/// Errors, of which the first is answered: `KERN_INVALID_VALUE` for a number above 4;
+/// `KERN_INVALID_NAME` for a name that isn't in use; `KERN_INVALID_RIGHT` where it lacks the right;
+/// `KERN_INVALID_VALUE` where there would be fewer than no references, or for a `delta` that a right
+/// without references can't have; `KERN_UREFS_OVERFLOW` above 65,535 references; `KERN_NO_SPACE` above
+/// 4,294,967,295 rights; and, as long as none can be lost, `KERN_INVALID_RIGHT` where a receive or
+/// send-once right would go. A refusal changes nothing. Takes no memory. Logarithmic in the names of the
+/// task and in the ports, but for a move of 16 bytes for each greater name where the name goes, and a
+/// logarithmic look at each port where a set does.
+pub fn mod_refs(
+    world: &mut World,
+    task: TaskId,
+    name: Name,
+    right: u32,
+    delta: i32,
+) -> Result<Reply, Code>
+    requires there { task < length world.old.spaces }
+    requires stands { Stands world.old }
+    ensures { Serves world.old (Event.ModRefs task name right delta) result world.new }
+{
+    let (right, entry) = find_right(world, task, name, right)?;
+    let due = judge_change(&world.ledger, right, entry, change_of(delta))?;
+    carry_out(world, task, name, due);
+    Ok(Reply::Code(0))
+}

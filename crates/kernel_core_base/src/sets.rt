@@ -1,0 +1,159 @@
+//! Port sets: their members, and ports that move from set to set.
+ghost use Rattle.std.specs.Prelude.{◌≡◌, ◌≢◌, ◌<◌, IfOk, IfErr, length};
+ghost use Rattle.std.specs.FinMap as map;
+ghost use Rattle.mach_types.specs.declared.calls.Event.{Event};
+ghost use Rattle.mach_types.specs.Numbers.{kern_number};
+ghost use Rattle.mach_model.specs.Refusals.{move_guards};
+ghost use Rattle.copyin_base.specs.Acts.{IsRefused, Serves};
+ghost use Rattle.copyin_base.specs.Stands.{Stands};
+ghost use Rattle.kernel_core_base.specs.Sets.{set_of_port, is_member, members_in, MayMove};
+
+use copyin_base::{Code, World};
+use mach_types::{KernReturn, Name, NameList, PortId, Reply, SetId, TaskId};
+use name_space::Space;
+use port::Attributes;
+use std::alloc::{AllocError, Global};
+
+/// `SetStatus` (Port Manipulation Interface, `mach_port_get_set_status`): the names of the members of
+/// the port set under the name, rising. The task, which lives, has the receive right of each.
+///
+/// `KERN_INVALID_NAME` for a name that isn't in use; `KERN_INVALID_RIGHT` where it is no set's;
+/// `KERN_RESOURCE_SHORTAGE` for want of memory, of which it takes 4 bytes for each name of the task and
+/// up to twice as many for each member. Linear in the names of the task, but for a logarithmic look at
+/// each and at its port.
+pub fn set_status(world: &World, alloc: Global, task: TaskId, name: Name) -> Result<Reply, Code>
+    requires { task < length world.now.spaces }
+    ensures { Serves world.now (Event.SetStatus task name) result world.now }
+{
+    let set = world.find_set(task, name)?;
+    match list_members(world, alloc, world.space(task), set) {
+        Ok(members) => Ok(Reply::Members(NameList::from_vec(members))),
+        Err(_) => Err(Code::Kern(KernReturn::ResourceShortage)),
+    }
+}
+
+// The members' names among those of a task, rising.
+fn list_members(
+    world: &World,
+    alloc: Global,
+    space: &Space,
+    set: SetId,
+) -> Result<Vec<Name>, AllocError>
+    ensures { IfOk result (λ members. members.items ≡ members_in world.now set space.now.names) }
+{
+    let names = space.names(alloc)?;
+    let mut members = Vec::new(alloc);
+    for name in &names {
+        if names_member(world, space, *name, set) {
+            members.push(*name)?;
+        }
+    }
+    Ok(members)
+}
+
+// Whether the name has the receive right of a port in the set.
+fn names_member(world: &World, space: &Space, name: Name, set: SetId) -> bool
+    ensures { result ≡ is_member world.now set (map.get space.now.names name) }
+{
+    let Some(entry) = space.lookup(name) else {
+        return false;
+    };
+    let Some(port) = entry.receive_port() else {
+        return false;
+    };
+    match set_of(world, port) {
+        Some(its) => its.number() == set.number(),
+        None => false,
+    }
+}
+
+// The set that a port is in.
+fn set_of(world: &World, port: PortId) -> Option<SetId>
+    ensures { result ≡ set_of_port world.now port }
+{
+    match world.ports.attributes(port) {
+        Some(attributes) => attributes.set,
+        None => None,
+    }
+}
+
+// A port that changes its set, for this one or for none.
+#[derive(Clone, Copy)]
+struct Moving {
+    port: PortId,
+    set: Option<SetId>,
+}
+
+/// `MoveMember` (Port Manipulation Interface, `mach_port_move_member`): the port whose receive right is
+/// under the first name leaves the set that it is in, and goes into the set under the second name,
+/// unless that is 0. A move into the set that it is in changes nothing. The task lives.
+///
+/// `KERN_INVALID_NAME` for a name that isn't in use; `KERN_INVALID_RIGHT` where the first has no receive
+/// right or the second is no set's; `KERN_NOT_IN_SET` where the port is to leave its set and is in none.
+/// Takes no memory. Logarithmic in the names of the task and in the ports.
+pub fn move_member(
+    world: &mut World,
+    task: TaskId,
+    member: Name,
+    after: Name,
+) -> Result<Reply, Code>
+    requires there { task < length world.old.spaces }
+    requires stands { Stands world.old }
+    ensures { Serves world.old (Event.MoveMember task member after) result world.new }
+{
+    let moving = judge_move(world, task, member, after)?;
+    let attributes = world.attributes(moving.port);
+    world.set_attributes(
+        moving.port,
+        Attributes {
+            set: moving.set,
+            ..attributes
+        },
+    );
+    Ok(Reply::Code(0))
+}
+
+// Which port goes where.
+fn judge_move(world: &World, task: TaskId, member: Name, after: Name) -> Result<Moving, KernReturn>
+    ensures ok { IfOk result (λ m. MayMove world.now task member after m.port m.set) }
+    ensures err { IfErr result (λ code. IsRefused world.now (λ s. move_guards s task member after) (kern_number code)) }
+{
+    if after.number() == 0 {
+        judge_leaving(world, task, member)
+    } else {
+        judge_joining(world, task, member, after)
+    }
+}
+
+// The port that leaves its set.
+fn judge_leaving(world: &World, task: TaskId, member: Name) -> Result<Moving, KernReturn>
+    ensures ok { IfOk result (λ m. MayMove world.now task member 0 m.port m.set) }
+    ensures err { IfErr result (λ code. IsRefused world.now (λ s. move_guards s task member 0) (kern_number code)) }
+{
+    let port = world.find_receive(task, member)?;
+    match set_of(world, port) {
+        Some(_) => Ok(Moving { port, set: None }),
+        None => Err(KernReturn::NotInSet),
+    }
+}
+
+// The port that goes to the set under the second name. That no name is missing comes before what they
+// stand for.
+fn judge_joining(
+    world: &World,
+    task: TaskId,
+    member: Name,
+    after: Name,
+) -> Result<Moving, KernReturn>
+    requires { after ≢ 0 }
+    ensures ok { IfOk result (λ m. MayMove world.now task member after m.port m.set) }
+    ensures err { IfErr result (λ code. IsRefused world.now (λ s. move_guards s task member after) (kern_number code)) }
+{
+    world.find(task, after)?;
+    let port = world.find_receive(task, member)?;
+    let set = world.find_set(task, after)?;
+    Ok(Moving {
+        port,
+        set: Some(set),
+    })
+}

@@ -1,0 +1,193 @@
+-- Copying in from states that differ only in the order of their tokens: the same marks, and states that again differ only so.
+use Rattle.std.proofs.Common.{◌≡◌, ℕ, List, [], ◌∷◌, Option, Some, None, refl, sym, ap, subst, ◌∙◌, arith, true, false, Bool}
+use Rattle.std.specs.Prelude.{if◌then◌else◌, ◌==◌, ◌||◌, nat_lt, MatchBool}
+use Rattle.mach_types.specs.declared.rights.Disposition.{Disposition}
+use Rattle.mach_types.specs.declared.rights.Disposition.TheVariants.{MoveReceive, MoveSend, MoveSendOnce, CopySend, MakeSend, MakeSendOnce}
+use Rattle.mach_types.specs.Numbers.{disposition, kind_sent, null_word, dead_word}
+use Rattle.mach_types.specs.Tokens.{Kind, receive, send, Place, Token, count, is_held, Moves}
+use Rattle.mach_types.specs.Messages.{Form, Mark, ReplyRight, absent, present, Item, plain, rights, Body}
+use Rattle.mach_types.specs.Grammar.{Wire, data_item, port_item, WireBody}
+use Rattle.mach_model.specs.State.{State, Target, lookup, held, at, with_name, without_name}
+use Rattle.mach_model.specs.SentMeans.{target_mark}
+use Rattle.mach_model.specs.CopyIn.{IsLegal, taken_by, put_by, name_kept, changed_by, CopyRight, CopyWord, CopyReply, CopyWords, CopyItem, CopyItems, CopyBody}
+use Rattle.mach_model.proofs.Settling.{IsReordered}
+
+-- ---- states that differ only in the order of their tokens
+
+pub same_state : (s : State) → IsReordered s s
+same_state s = record { rest = refl; tokens = λ h. refl }
+
+pub same_after : (s t new other : State) → IsReordered s t → new ≡ s → other ≡ t → IsReordered new other
+same_after s t new other r e f = rw (e, f) r
+
+pub same_count : (s t : State) → IsReordered s t → (test : Token → Bool) → count test t.ledger ≡ count test s.ledger
+same_count s t r test = let m = r.tokens (λ x. if test x then 1 else 0) in omega (arith, m)
+
+pub same_lookup : (s t : State) → IsReordered s t → (task name : ℕ) → lookup t task name ≡ lookup s task name
+same_lookup s t r task name = ap (λ (x : State). lookup x task name) r.rest
+
+-- no disposition is numbered 0
+no_disposition : (number : ℕ) (d : Disposition) → number ≡ 0 → disposition number ≡ Some d → ⊥
+no_disposition number d zero is = let e : None ≡ Some d = sym (ap disposition zero) ∙ is in cc
+
+-- ---- one right
+
+kept_alike : (b : Bool) (task name : ℕ) (s : State) (first second : List Token) →
+    ◌≡◌ {A = State} (record (name_kept b task name (record s { ledger = first })) { ledger = second }) (record (name_kept b task name s) { ledger = second })
+kept_alike true task name s first second = refl
+kept_alike false task name s first second = refl
+
+fewer_alike : (b : Bool) (task name n : ℕ) (s : State) (first second : List Token) →
+    ◌≡◌ {A = State} (record (if b then with_name task name (Target.dead n) (record s { ledger = first }) else without_name task name (record s { ledger = first })) { ledger = second })
+    (record (if b then with_name task name (Target.dead n) s else without_name task name s) { ledger = second })
+fewer_alike true task name n s first second = refl
+fewer_alike false task name n s first second = refl
+
+receive_alike : (b : Bool) (task name p : ℕ) (s : State) (first second : List Token) →
+    ◌≡◌ {A = State}
+    (record (name_kept b task name (record s { ledger = first })) { sets_of = at s.sets_of p []; make_send = at s.make_send p 0; sequence = at s.sequence p 0; ledger = second })
+    (record (name_kept b task name s) { sets_of = at s.sets_of p []; make_send = at s.make_send p 0; sequence = at s.sequence p 0; ledger = second })
+receive_alike true task name p s first second = refl
+receive_alike false task name p s first second = refl
+
+changed_alike : (d : Disposition) (target : Target) (task name : ℕ) (s : State) (first second : List Token) → ((test : Token → Bool) → count test first ≡ count test s.ledger) →
+    ◌≡◌ {A = State} (record (changed_by d target task name (record s { ledger = first })) { ledger = second }) (record (changed_by d target task name s) { ledger = second })
+changed_alike MoveReceive (Target.port p) task name s first second same =
+    rw (same (is_held task send p)) (receive_alike (nat_lt 0 (held s task send p)) task name p s first second)
+changed_alike MoveSend (Target.port p) task name s first second same =
+    rw (same (is_held task send p), same (is_held task receive p)) (kept_alike (nat_lt 1 (held s task send p) || nat_lt 0 (held s task receive p)) task name s first second)
+changed_alike MoveSend (Target.dead n) task name s first second same = fewer_alike (nat_lt 1 n) task name _ s first second
+changed_alike MoveSendOnce (Target.dead n) task name s first second same = fewer_alike (nat_lt 1 n) task name _ s first second
+changed_alike MakeSend (Target.port p) task name s first second same = refl
+changed_alike MoveSendOnce (Target.once p) task name s first second same = refl
+changed_alike d target task name s first second same = refl
+
+-- what the task may hand on is the same
+pub legal_alike : (s t : State) → IsReordered s t → (task : ℕ) (d : Disposition) (target : Target) → IsLegal s task d target → IsLegal t task d target
+legal_alike s t r task MoveReceive (Target.port p) h = omega (arith, h, same_count s t r (is_held task receive p))
+legal_alike s t r task MoveSend (Target.port p) h = omega (arith, h, same_count s t r (is_held task send p))
+legal_alike s t r task CopySend (Target.port p) h = omega (arith, h, same_count s t r (is_held task send p))
+legal_alike s t r task MakeSend (Target.port p) h = omega (arith, h, same_count s t r (is_held task receive p))
+legal_alike s t r task MakeSendOnce (Target.port p) h = omega (arith, h, same_count s t r (is_held task receive p))
+legal_alike s t r task MoveSendOnce (Target.once p) h = h
+legal_alike s t r task MoveSend (Target.dead n) h = h
+legal_alike s t r task MoveSendOnce (Target.dead n) h = h
+legal_alike s t r task CopySend (Target.dead n) h = h
+legal_alike s t r task d target h = absurd h
+
+-- What one right does is determined, but for the order of the tokens.
+after_alike : (d : Disposition) (target : Target) (task name : ℕ) (place : Place) (s s' t t' : State) → IsReordered s t →
+    s' ≡ record (changed_by d target task name s) { ledger = s'.ledger } → Moves s.ledger s'.ledger (taken_by d target task) (put_by d target place) →
+    t' ≡ record (changed_by d target task name t) { ledger = t'.ledger } → Moves t.ledger t'.ledger (taken_by d target task) (put_by d target place) → IsReordered s' t'
+after_alike d target task name place s s' t t' r e m f n = record {
+  rest = f ∙ ap (λ (x : State). record (changed_by d target task name x) { ledger = t'.ledger }) r.rest
+      ∙ changed_alike d target task name s t.ledger t'.ledger (same_count s t r) ∙ sym (ap (λ (x : State). record x { ledger = t'.ledger }) e);
+  tokens = λ h. let a = m h in let b = n h in let c = r.tokens h in omega (arith, a, b, c);
+}
+
+pub one_target : (o p : Option Target) (a b : Target) → o ≡ Some a → p ≡ Some b → p ≡ o → b ≡ a
+one_target o p a b e f g = cc
+
+pub one_disposition : (number : ℕ) (a b : Disposition) → disposition number ≡ Some a → disposition number ≡ Some b → b ≡ a
+one_disposition number a b e f = cc
+
+one_mark : (o p : Option Mark) (a b : Mark) → o ≡ Some a → p ≡ Some b → p ≡ o → b ≡ a
+one_mark o p a b e f g = cc
+
+-- Two readings of a right from such states, wherever it goes.
+pub record SameRight {task number name : ℕ} {place elsewhere : Place} {s t s' t' : State} {mark other : Mark}
+    (a : CopyRight task place number name s mark s') (b : CopyRight task elsewhere number name t other t') : Type 0 where
+  pub given : b.given ≡ a.given
+  pub target : b.target ≡ a.target
+  pub mark_is : other ≡ mark
+
+pub right_same : (task number name : ℕ) (place elsewhere : Place) (s t s' t' : State) (mark other : Mark) → IsReordered s t →
+    (a : CopyRight task place number name s mark s') (b : CopyRight task elsewhere number name t other t') → SameRight a b
+right_same task number name place elsewhere s t s' t' mark other r a b =
+    let given : b.given ≡ a.given = one_disposition number a.given b.given a.is_given b.is_given in
+    let target : b.target ≡ a.target = one_target _ _ a.target b.target a.found b.found (same_lookup s t r task name) in
+    record {
+      given = given;
+      target = target;
+      mark_is = one_mark _ _ mark other a.mark_is b.mark_is (ap (λ (d : Disposition). target_mark d b.target) given ∙ ap (target_mark a.given) target);
+    }
+
+pub right_alike : (task number name : ℕ) (place : Place) (s t s' t' : State) (mark other : Mark) → IsReordered s t →
+    CopyRight task place number name s mark s' → CopyRight task place number name t other t' → (other ≡ mark) × IsReordered s' t'
+right_alike task number name place s t s' t' mark other r a b =
+    let w = right_same task number name place place s t s' t' mark other r a b in (
+      w.mark_is,
+      after_alike a.given a.target task name place s s' t t' r a.rest a.tokens
+          (b.rest ∙ ap (λ (d : Disposition). record (changed_by d b.target task name t) { ledger = t'.ledger }) w.given
+          ∙ ap (λ (x : Target). record (changed_by a.given x task name t) { ledger = t'.ledger }) w.target)
+          (subst (λ (x : Target). Moves t.ledger t'.ledger (taken_by a.given x task) (put_by a.given x place)) w.target
+          (subst (λ (d : Disposition). Moves t.ledger t'.ledger (taken_by d b.target task) (put_by d b.target place)) w.given b.tokens)),
+    )
+
+-- ---- words
+
+-- one of two cases, told by a test, on both sides
+pub both : (b : Bool) (P Q P' Q' Z : Type 0) → (P → P' → Z) → (Q → Q' → Z) → MatchBool b P Q → MatchBool b P' Q' → Z
+both true P Q P' Q' Z f g x y = f x y
+both false P Q P' Q' Z f g x y = g x y
+
+pub word_alike : (task number word : ℕ) (place : Place) (s t s' t' : State) (mark other : Mark) → IsReordered s t →
+    CopyWord task place number word s mark s' → CopyWord task place number word t other t' → (other ≡ mark) × IsReordered s' t'
+word_alike task number word place s t s' t' mark other r a b =
+    both (word == null_word) _ _ _ _ _ (λ x y. (y.0 ∙ sym x.0, same_after s t s' t' r x.1 y.1))
+    (both (word == dead_word) _ _ _ _ _ (λ x y. (y.0 ∙ sym x.0, same_after s t s' t' r x.1 y.1)) (right_alike task number word place s t s' t' mark other r)) a b
+
+pub reply_alike : (task number word : ℕ) (place : Place) (s t s' t' : State) (reply other : ReplyRight) → IsReordered s t →
+    CopyReply task place number word s reply s' → CopyReply task place number word t other t' → (other ≡ reply) × IsReordered s' t'
+reply_alike task number word place s t s' t' absent absent r a b = (refl, same_after s t s' t' r a.2 b.2)
+reply_alike task number word place s t s' t' (present k m) (present l n) r a b =
+    let w = word_alike task number word place s t s' t' m n r a.3 b.3 in
+    let kind : l ≡ k = b.2 ∙ ap kind_sent (one_disposition number a.0 b.0 a.1 b.1) ∙ sym a.2 in
+    (ap (λ (x : Kind). present x n) kind ∙ ap (present k) w.0, w.1)
+reply_alike task number word place s t s' t' absent (present k m) r a b = absurd (no_disposition number b.0 a.0 b.1)
+reply_alike task number word place s t s' t' (present k m) absent r a b = absurd (no_disposition number a.0 b.0 a.1)
+
+words_alike : (task number : ℕ) (place : Place) (ws : List ℕ) (s t s' t' : State) (marks others : List Mark) → IsReordered s t →
+    CopyWords task place number ws s marks s' → CopyWords task place number ws t others t' → (others ≡ marks) × IsReordered s' t'
+words_alike task number place [] s t s' t' [] [] r a b = (refl, same_after s t s' t' r a b)
+words_alike task number place (w ∷ ws) s t s' t' (m ∷ ms) (n ∷ ns) r a b =
+    let x = word_alike task number w place s t a.0 b.0 m n r a.1 b.1 in
+    let y = words_alike task number place ws a.0 b.0 s' t' ms ns x.1 a.2 b.2 in
+    (ap (λ (z : Mark). z ∷ ns) x.0 ∙ ap (λ (zs : List Mark). m ∷ zs) y.0, y.1)
+words_alike task number place [] s t s' t' (m ∷ ms) others r a b = absurd a
+words_alike task number place [] s t s' t' [] (n ∷ ns) r a b = absurd b
+words_alike task number place (w ∷ ws) s t s' t' [] others r a b = absurd a
+words_alike task number place (w ∷ ws) s t s' t' (m ∷ ms) [] r a b = absurd b
+
+pub item_alike : (task : ℕ) (place : Place) (w : Wire) (s t s' t' : State) (item other : Item) → IsReordered s t →
+    CopyItem task place w s item s' → CopyItem task place w t other t' → (other ≡ item) × IsReordered s' t'
+item_alike task place (data_item f n size c bytes padding) s t s' t' item other r a b = (b.0 ∙ sym a.0, same_after s t s' t' r a.1 b.1)
+item_alike task place (port_item f number ws) s t s' t' (rights g k ms) (rights h l ns) r a b =
+    let x = words_alike task number place ws s t s' t' ms ns r a.4 b.4 in
+    let kind : l ≡ k = b.3 ∙ ap kind_sent (one_disposition number a.0 b.0 a.1 b.1) ∙ sym a.3 in
+    let form : h ≡ g = b.2 ∙ sym a.2 in
+    (ap (λ (y : Form). rights y l ns) form ∙ ap (λ (y : Kind). rights g y ns) kind ∙ ap (rights g k) x.0, x.1)
+item_alike task place (port_item f number ws) s t s' t' (plain g n size c bytes padding) other r a b = absurd a
+item_alike task place (port_item f number ws) s t s' t' (rights g k ms) (plain h n size c bytes padding) r a b = absurd b
+
+items_alike : (task : ℕ) (place : Place) (ws : List Wire) (s t s' t' : State) (items others : List Item) → IsReordered s t →
+    CopyItems task place ws s items s' → CopyItems task place ws t others t' → (others ≡ items) × IsReordered s' t'
+items_alike task place [] s t s' t' [] [] r a b = (refl, same_after s t s' t' r a b)
+items_alike task place (w ∷ ws) s t s' t' (i ∷ is) (j ∷ js) r a b =
+    let x = item_alike task place w s t a.0 b.0 i j r a.1 b.1 in
+    let y = items_alike task place ws a.0 b.0 s' t' is js x.1 a.2 b.2 in
+    (ap (λ (z : Item). z ∷ js) x.0 ∙ ap (λ (zs : List Item). i ∷ zs) y.0, y.1)
+items_alike task place [] s t s' t' (i ∷ is) others r a b = absurd a
+items_alike task place [] s t s' t' [] (j ∷ js) r a b = absurd b
+items_alike task place (w ∷ ws) s t s' t' [] others r a b = absurd a
+items_alike task place (w ∷ ws) s t s' t' (i ∷ is) [] r a b = absurd b
+
+pub body_alike : (task : ℕ) (place : Place) (w : WireBody) (s t s' t' : State) (body other : Body) → IsReordered s t →
+    CopyBody task place w s body s' → CopyBody task place w t other t' → (other ≡ body) × IsReordered s' t'
+body_alike task place (WireBody.raw bytes) s t s' t' (Body.raw xs) (Body.raw ys) r a b = (ap Body.raw (b.0 ∙ sym a.0), same_after s t s' t' r a.1 b.1)
+body_alike task place (WireBody.items ws) s t s' t' (Body.items xs) (Body.items ys) r a b =
+    let x = items_alike task place ws s t s' t' xs ys r a b in (ap Body.items x.0, x.1)
+body_alike task place (WireBody.raw bytes) s t s' t' (Body.items xs) other r a b = absurd a
+body_alike task place (WireBody.raw bytes) s t s' t' (Body.raw xs) (Body.items ys) r a b = absurd b
+body_alike task place (WireBody.items ws) s t s' t' (Body.raw xs) other r a b = absurd a
+body_alike task place (WireBody.items ws) s t s' t' (Body.items xs) (Body.raw ys) r a b = absurd b
