@@ -67,7 +67,8 @@ impl Kernel {
 
     /// Makes one call of a task, whole, and answers it.
     ///
-    /// A refusal is answered by its code and leaves the kernel as it was; so is want of memory.
+    /// A refusal is answered by its code and leaves the state that the kernel shows; so is want of
+    /// memory. Room for names and messages that was made first may stay.
     pub fn step(&mut self, event: &Event) -> Reply
         ensures { Answers self.old event.now result self.new }
     {
