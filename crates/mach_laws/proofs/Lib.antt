@@ -24,3 +24,5 @@ mod Excluding
 mod Measured
 mod Rising
 mod Deciding
+pub mod Counted
+pub mod Followed

@@ -1,5 +1,5 @@
 -- Runs stage by stage: what holds of each state that a run passes.
-use Rattle.std.proofs.Common.{◌≡◌, ℕ, zero, suc, ◌+◌, List, [], ◌∷◌, Some, refl, sym, ap, subst, ◌∙◌, arith, length}
+use Rattle.std.proofs.Common.{◌≡◌, ℕ, zero, suc, ◌+◌, List, [], ◌∷◌, ◌++◌, Some, refl, sym, ap, subst, ◌∙◌, arith, length}
 use Rattle.std.specs.Prelude.{slice_get, map as list_map}
 use Rattle.mach_types.specs.declared.calls.Event.{Event}
 use Rattle.mach_types.specs.declared.calls.Reply.{Reply}
@@ -7,7 +7,7 @@ use Rattle.mach_model.specs.State.{State, opening}
 use Rattle.mach_model.specs.Machine.{Step, RunFrom}
 use Rattle.mach_model.specs.Lawful.{IsLawful}
 use Rattle.mach_model.proofs.Opening.{opening-lawful}
-use Rattle.mach_model.proofs.StepLawful.{Step-lawful}
+use Rattle.mach_model.proofs.StepLawful.{Step-lawful, Run-lawful}
 use Rattle.mach_laws.specs.Paths.{Stage, PathFrom, Path}
 
 -- ---- runs and paths
@@ -38,6 +38,16 @@ pub path_runs : (now : ℕ) (old : State) (path : List Stage) (new : State) → 
 path_runs now old [] new h = h
 path_runs now old (x ∷ xs) new h =
     (x.after, subst (λ (s : State). Step now s x.event x.reply x.after) h.0 h.1, path_runs (now + 1) x.after xs new h.2)
+
+-- a path goes on by one stage
+pub path_push : (now : ℕ) (old : State) (path : List Stage) (s : State) (event : Event) (reply : Reply) (t : State) →
+    PathFrom now old path s → Step (now + length path) s event reply t → PathFrom now old (path ++ record { before = s; event = event; reply = reply; after = t } ∷ []) t
+path_push now old [] s event reply t path step = (path, subst (λ (n : ℕ). Step n s event reply t) (omega arith) step, refl)
+path_push now old (x ∷ xs) s event reply t path step =
+    (path.0, path.1, path_push (now + 1) x.after xs s event reply t path.2 (subst (λ (n : ℕ). Step n s event reply t) (omega arith) step))
+
+pub path_lawful : (path : List Stage) (s : State) → Path path s → IsLawful s
+path_lawful path s is = Run-lawful (list_map (λ (x : Stage). x.event) path) (list_map (λ (x : Stage). x.reply) path) s (path_runs 0 opening path s is)
 
 -- ---- what holds of each state
 

@@ -2,6 +2,7 @@ pub mod Paths
 pub mod Sent
 pub mod Received
 pub mod Order
+pub mod Queued
 pub mod Headline
 pub mod Judging
 pub mod FirstMessage

@@ -5,7 +5,7 @@
 //! `specs/` here need believe nothing else.
 #![tactic(auto)]
 
-ghost use Rattle.std.specs.Prelude.{◌≡◌, ◌≢◌, ℕ, Bool, true, List, [], Some, length, map, slice_get};
+ghost use Rattle.std.specs.Prelude.{◌≡◌, ◌≢◌, ◌+◌, ℕ, Bool, true, List, [], Some, length, map, slice_get};
 ghost use Rattle.mach_types.specs.declared.calls.Event.{Event};
 ghost use Rattle.mach_types.specs.declared.calls.Reply.{Reply};
 ghost use Rattle.mach_types.specs.declared.calls.Waited.{Waited};
@@ -21,6 +21,7 @@ ghost use Rattle.mach_laws.specs.Paths.{Stage, Path};
 ghost use Rattle.mach_laws.specs.Sent.{Accepts};
 ghost use Rattle.mach_laws.specs.Received.{AsksFrom, Delivers, WasSent};
 ghost use Rattle.mach_laws.specs.Order.{InOrder};
+ghost use Rattle.mach_laws.specs.Queued.{queued, accepts, delivers};
 ghost use Rattle.mach_laws.specs.Headline.{Headline};
 ghost use Rattle.mach_laws.specs.Judging.{IsMemoryCode, LacksMemory, IsBySet};
 ghost use Rattle.mach_laws.specs.FirstMessage.{first_events, first_replies};
@@ -94,6 +95,14 @@ pub fn received_means_what_was_sent()
 /// for it, each message once and in the same order.
 pub fn order()
     ensures { (path : List Stage) (s : State) → Path path s → (p : ℕ) → InOrder p path s }
+{}
+
+/// After every run the next step queues one message if it accepts a send, takes one if it is answered with a
+/// message, and otherwise leaves as many queued as there were. The bound on a kernel's slots comes from this.
+pub fn queued_messages()
+    ensures { (events : List Event) (replies : List Reply) (s : State) → Run events replies s →
+        (event : Event) (reply : Reply) (new : State) → Step (length events) s event reply new →
+        queued new + delivers event reply ≡ queued s + accepts event reply }
 {}
 
 /// A call that is answered with another code than 0 changes nothing.
