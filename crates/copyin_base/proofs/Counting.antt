@@ -33,24 +33,31 @@ right_of send_once = right.SendOnce
 module _ (l : LedgerView) (live : ℕ → Bool) (tokens : List Token) (a : (q : ℕ) → CountsAgree l live tokens q) where
   -- They are these now.
   pub counts_agree : (l2 : LedgerView) (live2 : ℕ → Bool) (tokens2 : List Token) (p : ℕ) (v : Counts) → l2.counts ≡ map.insert l.counts p v → true ≡ live2 p →
-      v.send ≡ count (is_of send p) tokens2 → v.send_once ≡ count (is_of send_once p) tokens2 →
+      v.receive ≡ count (is_of receive p) tokens2 → v.send ≡ count (is_of send p) tokens2 → v.send_once ≡ count (is_of send_once p) tokens2 →
       ((q : ℕ) → (q ≡ p → ⊥) → (live q ≡ live2 q) × ((c : Kind) → count (is_of c q) tokens ≡ count (is_of c q) tokens2)) → (q : ℕ) → CountsAgree l2 live2 tokens2 q
-  counts_agree l2 live2 tokens2 p v is lives sends onces others q =
-      let each = each_put l.counts p (Some v) (λ q o. (is_some o ≡ live2 q) × ((unwrap_or o no_rights).send ≡ count (is_of send q) tokens2) × ((unwrap_or o no_rights).send_once ≡ count (is_of send_once q) tokens2))
-      (lives, sends, onces) (λ q not. let x = a q in let o = others q not in (x.entered ∙ o.0, x.senders ∙ o.1 send, x.once_rights ∙ o.1 send_once)) q in
+  counts_agree l2 live2 tokens2 p v is lives receives sends onces others q =
+      let each = each_put l.counts p (Some v) (λ q o. (is_some o ≡ live2 q) × ((unwrap_or o no_rights).receive ≡ count (is_of receive q) tokens2)
+      × ((unwrap_or o no_rights).send ≡ count (is_of send q) tokens2) × ((unwrap_or o no_rights).send_once ≡ count (is_of send_once q) tokens2))
+      (lives, receives, sends, onces) (λ q not. let x = a q in let o = others q not in (x.entered ∙ o.0, x.receivers ∙ o.1 receive, x.senders ∙ o.1 send, x.once_rights ∙ o.1 send_once)) q in
       let at = ap (λ m. map.get m q) is in
       record {
         entered = ap is_some at ∙ each.0;
-        senders = ap (λ (o : Option Counts). (unwrap_or o no_rights).send) at ∙ each.1;
-        once_rights = ap (λ (o : Option Counts). (unwrap_or o no_rights).send_once) at ∙ each.2;
+        receivers = ap (λ (o : Option Counts). (unwrap_or o no_rights).receive) at ∙ each.1;
+        senders = ap (λ (o : Option Counts). (unwrap_or o no_rights).send) at ∙ each.2;
+        once_rights = ap (λ (o : Option Counts). (unwrap_or o no_rights).send_once) at ∙ each.3;
       }
 
   -- A right of one kind was made, or one went.
   module _ (kind : Kind) (p : ℕ) (place : Place) (lives : live p ≡ true) where
     pub right_made : (q : ℕ) → CountsAgree (made l p (right_of kind) 1) live (token kind p place ∷ tokens) q
     right_made = counts_agree (made l p (right_of kind) 1) live (token kind p place ∷ tokens) p (with_more (right_of kind) 1 (counts_of l p)) refl (sym lives)
-        (sends kind) (onces kind) (λ q not. (refl, λ c. let z = none_of_port kind c p q place not in omega (arith, z)))
+        (receives kind) (sends kind) (onces kind) (λ q not. (refl, λ c. let z = none_of_port kind c p q place not in omega (arith, z)))
       where
+        receives : (k : Kind) → (with_more (right_of k) 1 (counts_of l p)).receive ≡ count (is_of receive p) (token k p place ∷ tokens)
+        receives receive = let x = (a p).receivers in let o = one_of receive p place refl in omega (arith, x, o)
+        receives send = let x = (a p).receivers in omega (arith, x)
+        receives send_once = let x = (a p).receivers in omega (arith, x)
+
         sends : (k : Kind) → (with_more (right_of k) 1 (counts_of l p)).send ≡ count (is_of send p) (token k p place ∷ tokens)
         sends receive = let x = (a p).senders in omega (arith, x)
         sends send = let x = (a p).senders in let o = one_of send p place refl in omega (arith, x, o)
@@ -63,9 +70,15 @@ module _ (l : LedgerView) (live : ℕ → Bool) (tokens : List Token) (a : (q : 
 
     pub right_taken : (others : List Token) → ((h : Token → ℕ) → weigh h others + h (token kind p place) ≡ weigh h tokens) → (q : ℕ) → CountsAgree (taken l p (right_of kind) 1) live others q
     right_taken others parts = counts_agree (taken l p (right_of kind) 1) live others p (with_fewer (right_of kind) 1 (counts_of l p)) refl (sym lives)
-        (sends kind (parts (λ x. if is_of send p x then 1 else 0))) (onces kind (parts (λ x. if is_of send_once p x then 1 else 0)))
+        (receives kind (parts (λ x. if is_of receive p x then 1 else 0))) (sends kind (parts (λ x. if is_of send p x then 1 else 0))) (onces kind (parts (λ x. if is_of send_once p x then 1 else 0)))
         (λ q not. (refl, λ c. let m = parts (λ x. if is_of c q x then 1 else 0) in let z = none_of_port kind c p q place not in omega (arith, m, z)))
       where
+        receives : (k : Kind) → count (is_of receive p) others + (if is_of receive p (token k p place) then suc zero else zero) ≡ count (is_of receive p) tokens →
+            (with_fewer (right_of k) 1 (counts_of l p)).receive ≡ count (is_of receive p) others
+        receives receive m = let x = (a p).receivers in let o = one_of receive p place refl in omega (arith, x, m, o)
+        receives send m = let x = (a p).receivers in omega (arith, x, m)
+        receives send_once m = let x = (a p).receivers in omega (arith, x, m)
+
         sends : (k : Kind) → count (is_of send p) others + (if is_of send p (token k p place) then suc zero else zero) ≡ count (is_of send p) tokens →
             (with_fewer (right_of k) 1 (counts_of l p)).send ≡ count (is_of send p) others
         sends receive m = let x = (a p).senders in omega (arith, x, m)
@@ -80,4 +93,4 @@ module _ (l : LedgerView) (live : ℕ → Bool) (tokens : List Token) (a : (q : 
 
   -- There are as many rights as before.
   pub counts_same : (tokens2 : List Token) → ((c : Kind) (q : ℕ) → count (is_of c q) tokens2 ≡ count (is_of c q) tokens) → (q : ℕ) → CountsAgree l live tokens2 q
-  counts_same tokens2 same q = let x = a q in record { entered = x.entered; senders = x.senders ∙ sym (same send q); once_rights = x.once_rights ∙ sym (same send_once q) }
+  counts_same tokens2 same q = let x = a q in record { entered = x.entered; receivers = x.receivers ∙ sym (same receive q); senders = x.senders ∙ sym (same send q); once_rights = x.once_rights ∙ sym (same send_once q) }

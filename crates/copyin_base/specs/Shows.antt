@@ -69,6 +69,7 @@ ShowsPort v s p = PortAgrees v p (queue s p) (s.limit p) (s.make_send p) (s.sequ
 -- Each count of rights is that of the ledger.
 pub record CountsAgree (ledger : LedgerView) (live : ℕ → Bool) (tokens : List Token) (p : ℕ) : Type 0 where
   pub entered : map.contains_key ledger.counts p ≡ live p
+  pub receivers : (counts_of ledger p).receive ≡ count (is_of receive p) tokens
   pub senders : (counts_of ledger p).send ≡ count (is_of send p) tokens
   pub once_rights : (counts_of ledger p).send_once ≡ count (is_of send_once p) tokens
 

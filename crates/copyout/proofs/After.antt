@@ -1,5 +1,5 @@
 -- What stays when a right was given, and what is ready for the next.
-use Rattle.std.proofs.Common.{◌≡◌, ◌≢◌, ℕ, ◌+◌, ◌-◌, ◌<◌, ◌≤◌, List, [], ◌∷◌, Option, Some, None, refl, sym, ap, subst, ◌∙◌, arith, true, false, Bool, inl, inr, ◌⊎◌, length, drop, get_or}
+use Rattle.std.proofs.Common.{◌≡◌, ◌≢◌, ℕ, ◌+◌, ◌-◌, ◌<◌, ◌≤◌, List, [], ◌∷◌, Option, Some, refl, sym, ap, subst, ◌∙◌, arith, true, false, Bool, inl, inr, ◌⊎◌, length, drop, get_or}
 use Rattle.std.specs.Prelude.{slice_get, is_some, MatchBool, if◌then◌else◌, ◌==◌}
 use Rattle.std.proofs.lemmas.Bool.{cases_lt}
 use Rattle.std.proofs.lemmas.List.{at_drop_more, at_drop_all}
@@ -11,7 +11,6 @@ use Rattle.name_space.specs.declared.Entry.{Entry}
 use Rattle.name_space.specs.Entry.{send_references}
 use Rattle.name_space.specs.Names.{SpaceView, port_at as port_named_at}
 use Rattle.name_space.proofs.Keys.{put_here, put_other}
-use Rattle.port.specs.Ports.{PortView, PortsView}
 use Rattle.rights.specs.declared.RightKind.TheVariants as right
 use Rattle.rights.specs.declared.Counts.{Counts}
 use Rattle.rights.specs.Counts.{no_rights, with_fewer}
@@ -20,12 +19,10 @@ use Rattle.std.specs.Option.{unwrap_or}
 use Rattle.copyin_base.specs.declared.message.Carried.{Carried}
 use Rattle.copyin_base.specs.declared.message.Mark.{Mark}
 use Rattle.copyin_base.specs.declared.message.Mark.TheVariants as mark
-use Rattle.copyin_base.specs.Kept.{Kept}
 use Rattle.copyin_base.specs.Worlds.{WorldView, port_at}
-use Rattle.copyin_base.proofs.Agreeing.{live_put}
 use Rattle.copyin_base.proofs.Gets.{get-set_same}
 use Rattle.copyin_base.proofs.Putting.{each_put}
-use Rattle.copyout.specs.Giving.{ledger_joined, holder_given, GivesPort, GivesMark, MarkLacks}
+use Rattle.copyout.specs.Giving.{ledger_joined, GivesPort, GivesMark, MarkLacks}
 use Rattle.copyout.specs.Ready.{send_for, CanGive, CanGivePort, CanTakeName, UsesOneRoom}
 
 pub kind_cases : (kind : Kind) → (kind ≡ send_once) ⊎ (kind ≢ send_once)
@@ -70,15 +67,6 @@ sends-joined send p x m q = sends-if (send_references x == most_references) m p 
 sends-joined receive p x m q = omega arith
 sends-joined send_once p x m q = omega arith
 
--- ---- ports
-
-pub live-held : (kind : Kind) (p task : ℕ) (ports : PortsView Kept) (q : ℕ) (o : Option (PortView Kept)) → map.get ports.ports p ≡ o →
-    is_some (map.get (holder_given kind p task ports o).ports q) ≡ is_some (map.get ports.ports q)
-live-held receive p task ports q (Some v) e = live_put ports.ports p _ (λ x. is_some (map.get ports.ports x)) (ap is_some e) (λ x. refl) q
-live-held receive p task ports q None e = refl
-live-held send p task ports q o e = refl
-live-held send_once p task ports q o e = refl
-
 -- ---- what stays
 
 pub record After (w mid : WorldView) (task : ℕ) (kind : Kind) (one : Mark) : Type 0 where
@@ -96,7 +84,7 @@ after_port : (w mid : WorldView) (task : ℕ) (kind : Kind) (port word : ℕ) �
 after_port w mid task kind port word g = subst (λ (x : WorldView). After w x task kind (mark.Port port)) (sym g.rest) (record {
   space = record { names = g.after; room = g.room };
   there = get-set_same w.spaces task (record { names = g.after; room = g.room }) g.space g.there;
-  live = λ p. live-held kind port task w.ports p (map.get w.ports.ports port) refl;
+  live = λ p. refl;
   entered = λ p h. elim g.given [
     | inl j ↦ subst (λ (m : LedgerView). IsEntered m p) (sym j.1) (entered-joined kind port j.0.entry w.ledger p h)
     | inr t ↦ subst (λ (m : LedgerView). IsEntered m p) (sym t.1) h

@@ -19,10 +19,10 @@ use Rattle.copyin_base.specs.Kept.{Kept}
 use Rattle.copyin_base.specs.Worlds.{WorldView, port_at}
 use Rattle.copyin_base.proofs.Agreeing.{live_put}
 use Rattle.copyin_base.proofs.Gets.{get-set_same, same_found, same_head}
-use Rattle.copyout.specs.Giving.{JoinsName, TakesName, ledger_joined, holder_given, GivesPort, GivesMark, MarkLacks, AllLack}
+use Rattle.copyout.specs.Giving.{JoinsName, TakesName, ledger_joined, GivesPort, GivesMark, MarkLacks, AllLack}
 use Rattle.copyout.specs.Takes.{TakesFront, destination_right}
 use Rattle.copyout.specs.Ready.{CanGive, ReadyFor, carried_by, sends_for}
-use Rattle.copyout.proofs.After.{live-held, entered-put, sends-taken}
+use Rattle.copyout.proofs.After.{entered-put, sends-taken}
 
 pub record Alike (task : ℕ) (a b : WorldView) : Type 0 where
   pub names : (x : SpaceView) → slice_get a.spaces task ≡ Some x → (y : SpaceView) × (slice_get b.spaces task ≡ Some y) × (x.names ≡ y.names)
@@ -62,7 +62,7 @@ same_port a b mid task kind port word e g = elim g.given [
     go l given =
         let there = e.names g.space g.there in
         record {
-          after = record b { spaces = slice_set b.spaces task (record { names = g.after; room = g.room }); ports = holder_given kind port task b.ports (map.get b.ports.ports port); ledger = l };
+          after = record b { spaces = slice_set b.spaces task (record { names = g.after; room = g.room }); ledger = l };
           gives = record {
             space = there.0;
             there = there.1;
@@ -80,8 +80,7 @@ same_port a b mid task kind port word e g = elim g.given [
                   get-set_same b.spaces task (record { names = g.after; room = g.room }) there.0 there.1,
                   ap (λ (y : SpaceView). y.names) (same_found (slice_get mid.spaces task) x (record { names = g.after; room = g.room }) is own),
                 );
-            live = λ p. ap (λ (x : WorldView). is_some (map.get x.ports.ports p)) g.rest ∙ live-held kind port task a.ports p (map.get a.ports.ports port) refl ∙ e.live p
-                ∙ sym (live-held kind port task b.ports p (map.get b.ports.ports port) refl);
+            live = λ p. ap (λ (x : WorldView). is_some (map.get x.ports.ports p)) g.rest ∙ e.live p;
           };
         }
 

@@ -27,7 +27,7 @@ use Rattle.copyin_base.specs.Worlds.{WorldView, entry_in}
 use Rattle.copyin_base.specs.Shows.{target_of, Agrees}
 use Rattle.copyin_base.proofs.Changing.{target_named}
 use Rattle.copyin_base.proofs.Counting.{counts_same}
-use Rattle.copyout.specs.Giving.{joined, alone, ledger_joined, holder_given, GivesPort, GivesMark, HasNoName, NeedsOwn, MarkLacks, AllLack}
+use Rattle.copyout.specs.Giving.{joined, alone, ledger_joined, GivesPort, GivesMark, HasNoName, NeedsOwn, MarkLacks, AllLack}
 use Rattle.copyout.proofs.Given.{port_given, option_named, same_there}
 use Rattle.copyout.proofs.GivenAll.{AreLying, mark_given, own_mark}
 use Rattle.copyout.proofs.Lacking.{EachLacks}
@@ -121,7 +121,6 @@ module _ (w : WorldView) (s : State) (a : Agrees w s) (task : ℕ) (space : Spac
       let x = port_entry (map.get space.names word) p (option_named (map.get space.names word) p (sym (lookup_is word) ∙ is)) in (
         record w {
           spaces = slice_set w.spaces task (record { names = map.insert space.names word (joined kind x.entry); room = space.room });
-          ports = holder_given kind p task w.ports (map.get w.ports.ports p);
           ledger = ledger_joined kind p x.entry w.ledger;
         },
         record {
@@ -139,7 +138,6 @@ module _ (w : WorldView) (s : State) (a : Agrees w s) (task : ℕ) (space : Spac
   gives_alone kind p word x named none n = (
     record w {
       spaces = slice_set w.spaces task (record { names = map.insert space.names word (alone kind p); room = space.room });
-      ports = holder_given kind p task w.ports (map.get w.ports.ports p);
       ledger = w.ledger;
     },
     record {

@@ -16,7 +16,7 @@ use Rattle.copyin_base.specs.declared.message.Mark.TheVariants as mark
 use Rattle.copyin_base.specs.Worlds.{WorldView}
 use Rattle.copyin_base.proofs.Gets.{get-set_same, same_found}
 use Rattle.copyin.specs.Plans.{option_list}
-use Rattle.copyout.specs.Giving.{joined, alone, JoinsName, TakesName, ledger_joined, holder_given, GivesPort, GivesMark, MarkLacks, AllLack}
+use Rattle.copyout.specs.Giving.{joined, alone, JoinsName, TakesName, ledger_joined, GivesPort, GivesMark, MarkLacks, AllLack}
 use Rattle.copyout.specs.Room.{IsNamed, HasNone, Owns, Shares, Needs}
 use Rattle.copyout.proofs.Counting.{has_fresh, named_there, names_own, Follows, follows_same, follows_taken, follows_joined}
 
@@ -70,7 +70,6 @@ module _ (w0 : WorldView) (names0 : Names) (task : ℕ) (earlier : List Carried)
       let live : is_some (map.get w.ports.ports o.port) ≡ true = f.live o.port ∙ o.there in
       let mid : WorldView = record w {
         spaces = slice_set w.spaces task (record { names = map.insert f.space.names fresh.0 (alone (kind_sent c.given) o.port); room = 0 });
-        ports = holder_given (kind_sent c.given) o.port task w.ports (map.get w.ports.ports o.port);
         ledger = w.ledger;
       } in (
         fresh.0,
@@ -134,7 +133,6 @@ module _ (w0 : WorldView) (names0 : Names) (task : ℕ) (earlier : List Carried)
         let entry = named_there (map.get f.space.names named.0) has.0 named.1 in
         let mid : WorldView = record w {
           spaces = slice_set w.spaces task (record { names = map.insert f.space.names named.0 (joined (kind_sent c.given) entry.0); room = 0 });
-          ports = holder_given (kind_sent c.given) has.0 task w.ports (map.get w.ports.ports has.0);
           ledger = ledger_joined (kind_sent c.given) has.0 entry.0 w.ledger;
         } in (
           named.0,

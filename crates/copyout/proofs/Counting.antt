@@ -21,7 +21,6 @@ use Rattle.copyin_base.proofs.Gets.{get-set_same, same_found}
 use Rattle.copyout.specs.Giving.{joined, alone, JoinsName, TakesName, GivesPort}
 use Rattle.copyout.specs.Room.{names_port, named_by, IsThere, IsNamed, HasNone}
 use Rattle.copyout.proofs.Gives.{joined_port, alone_port}
-use Rattle.copyout.proofs.After.{live-held}
 
 -- ---- a fresh name is there
 
@@ -135,7 +134,7 @@ module _ (w0 : WorldView) (names0 : Names) (task : ℕ) (earlier : List Carried)
     there_after = ap (λ (x : WorldView). slice_get x.spaces task) g.rest ∙ get-set_same w.spaces task (record { names = g.after; room = g.room }) g.space g.there
 
     live_after : (p : ℕ) → is_some (map.get mid.ports.ports p) ≡ is_some (map.get w0.ports.ports p)
-    live_after p = ap (λ (x : WorldView). is_some (map.get x.ports.ports p)) g.rest ∙ live-held (kind_sent c.given) port task w.ports p (map.get w.ports.ports port) refl ∙ f.live p
+    live_after p = ap (λ (x : WorldView). is_some (map.get x.ports.ports p)) g.rest ∙ f.live p
 
     -- under a name of its own
     pub follows_taken : (t : TakesName f.space.names (kind_sent c.given) port word g.after) → Follows w0 names0 task (earlier ++ c ∷ []) mid (n + 1)

@@ -23,19 +23,17 @@ use Rattle.name_space.specs.Entry.{port_named, has_receive, send_references}
 use Rattle.name_space.specs.Names.{Names, SpaceView, IsFreshName}
 use Rattle.port.specs.Ports.{PortView, PortsView}
 use Rattle.rights.specs.declared.RightKind.TheVariants as right
-use Rattle.port.specs.declared.Holder.TheVariants as holder
 use Rattle.rights.specs.Ledger.{LedgerView, taken}
 use Rattle.copyin_base.specs.Kept.{Kept}
 use Rattle.copyin_base.specs.Worlds.{WorldView, entry_in, entry_at, port_at}
 use Rattle.copyin_base.specs.Shows.{target_of, HasCount, ShowsPort, CountsAgree, Agrees}
-use Rattle.copyout.specs.Giving.{joined, alone, JoinsName, TakesName, ledger_joined, holder_given, GivesPort}
+use Rattle.copyout.specs.Giving.{joined, alone, JoinsName, TakesName, ledger_joined, GivesPort}
 use Rattle.copyout.specs.Putting.{NewName, PutsPort}
-use Rattle.copyin_base.proofs.Agreeing.{NamesAgree, CountRights, own_names, put_names, ports_put, Near, near_agrees}
+use Rattle.copyin_base.proofs.Agreeing.{NamesAgree, CountRights, own_names, put_names, Near, near_agrees}
 use Rattle.copyin_base.proofs.Counting.{right_of, right_taken, counts_same}
 use Rattle.copyin_base.proofs.Gets.{of_some, same_found}
 use Rattle.copyin_base.proofs.Putting.{each_put, put_same}
 use Rattle.copyin_base.proofs.Told.{port_of}
-use Rattle.copyout.proofs.After.{live-held}
 use Rattle.copyout.proofs.Gives.{joined_keeps, alone_port}
 use Rattle.copyin_base.proofs.Changing.{target_named}
 use Rattle.copyin_base.proofs.Taking.{Without, take_lying}
@@ -172,26 +170,6 @@ module _ (w : WorldView) (s : State) (a : Agrees w s) (tokens : List Token) (o k
       let f : l.total ≡ w.ledger.total - 1 = ap (λ (x : LedgerView). x.total) h.2 in
       omega (arith, m, f, a.total, length-weigh s.ledger, length-weigh tokens)
 
--- ---- ports
-
--- only the holder of a port changes
-module _ (w : WorldView) (s : State) (a : Agrees w s) (p task : ℕ) where
-  abbrev held_by : PortView Kept → PortView Kept
-  held_by v = record v { attributes = record v.attributes { holder = holder.Task task } }
-
-  given_made : (kind : Kind) (o : Option (PortView Kept)) → (holder_given kind p task w.ports o).made ≡ w.ports.made
-  given_made receive (Some v) = refl
-  given_made receive None = refl
-  given_made send o = refl
-  given_made send_once o = refl
-
-  given_ports : (kind : Kind) (o : Option (PortView Kept)) → port_at w p ≡ o → (q : ℕ) (v : PortView Kept) → map.get (holder_given kind p task w.ports o).ports q ≡ Some v → ShowsPort v s q
-  given_ports receive (Some x) e = ports_put w.ports.ports p (held_by x) s
-      (let b = a.ports p x e in record { waiting = b.waiting; limit = b.limit; make_send = b.make_send; sequence = b.sequence; sets = b.sets }) (λ q v not is. a.ports q v is)
-  given_ports receive None e = a.ports
-  given_ports send o e = a.ports
-  given_ports send_once o e = a.ports
-
 -- ---- the right is given
 
 pub option_named : (o : Option Entry) (p : ℕ) → option_map target_of o ≡ Some (Target.port p) → option_and_then port_named o ≡ Some p
@@ -276,17 +254,17 @@ module _ (w : WorldView) (s : State) (a : Agrees w s) (o k : ℕ) (l : IsMoving 
     lookup_is : (name : ℕ) → lookup s task name ≡ option_map target_of (map.get g.space.names name)
     lookup_is name = a.naming task name ∙ ap (option_map target_of) (entry_is name)
 
-    ports_are : w'.ports ≡ holder_given kind p task w.ports (port_at w p)
+    ports_are : w'.ports ≡ w.ports
     ports_are = ap (λ (x : WorldView). x.ports) g.rest
 
     live_kept : (q : ℕ) → is_some (port_at w' q) ≡ is_some (port_at w q)
-    live_kept q = ap (λ (x : PortsView Kept). is_some (map.get x.ports q)) ports_are ∙ live-held kind p task w.ports q (port_at w p) refl
+    live_kept q = ap (λ (x : PortsView Kept). is_some (map.get x.ports q)) ports_are
 
     made_kept : w'.ports.made ≡ w.ports.made
-    made_kept = ap (λ (x : PortsView Kept). x.made) ports_are ∙ given_made w s a p task kind (port_at w p)
+    made_kept = ap (λ (x : PortsView Kept). x.made) ports_are
 
     port_kept : (q : ℕ) (v : PortView Kept) → port_at w' q ≡ Some v → ShowsPort v s q
-    port_kept q v is = given_ports w s a p task kind (port_at w p) refl q v (sym (ap (λ (y : PortsView Kept). map.get y.ports q) ports_are) ∙ is)
+    port_kept q v is = a.ports q v (sym (ap (λ (y : PortsView Kept). map.get y.ports q) ports_are) ∙ is)
 
     was_few : held s task send p ≤ most_references
     was_few = (l.naming task).few_references p

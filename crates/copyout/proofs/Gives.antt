@@ -13,7 +13,7 @@ use Rattle.copyin_base.specs.Worlds.{WorldView, entry_in, entry_at}
 use Rattle.copyin_base.specs.Shows.{target_of, HasCount}
 use Rattle.copyin_base.specs.Changes.{CanPutLeft, PutsLeft, InsertsEntry}
 use Rattle.copyin_base.proofs.Gets.{get-set_same, same_found}
-use Rattle.copyout.specs.Giving.{joined, alone, ledger_joined, holder_given, GivesPort}
+use Rattle.copyout.specs.Giving.{joined, alone, ledger_joined, GivesPort}
 use Rattle.copyout.specs.Ready.{UsesOneRoom}
 
 pub found_in : (w : WorldView) (task name : ℕ) (space : SpaceView) (entry : Entry) → slice_get w.spaces task ≡ Some space → entry_at w task name ≡ Some entry →
@@ -72,26 +72,23 @@ no_other names kind port x is lone p name named here =
     lone a.0 name (here ∙ ap (λ (q : ℕ). Some q) (sym a.1))
 
 -- under the task's name for the port
-module _ (w w1 w2 w3 : WorldView) (task : ℕ) (kind : Kind) (port name : ℕ) (entry left : Entry) (space : SpaceView)
+module _ (w w1 w2 : WorldView) (task : ℕ) (kind : Kind) (port name : ℕ) (entry left : Entry) (space : SpaceView)
     (there : slice_get w.spaces task ≡ Some space) (is : left ≡ joined kind entry)
     (dropped : w1 ≡ record w { ledger = ledger_joined kind port entry w.ledger })
-    (puts : PutsLeft w1 task name (Some left) w2)
-    (holds : w3 ≡ record w2 { ports = holder_given kind port task w2.ports (map.get w2.ports.ports port) }) where
+    (puts : PutsLeft w1 task name (Some left) w2) where
   replaced : w2 ≡ record w1 { spaces = slice_set w1.spaces task (record space { names = map.insert space.names name left }) }
   replaced = subst (λ (x : SpaceView). w2 ≡ record w1 { spaces = slice_set w1.spaces task (record x { names = map.insert x.names name left }) })
       (same_found (slice_get w1.spaces task) puts.space space puts.there (ap (λ (x : WorldView). slice_get x.spaces task) dropped ∙ there)) puts.rest
 
-  pub rest-joined : w3 ≡ record w {
+  pub rest-joined : w2 ≡ record w {
     spaces = slice_set w.spaces task (record space { names = map.insert space.names name (joined kind entry) });
-    ports = holder_given kind port task w.ports (map.get w.ports.ports port);
     ledger = ledger_joined kind port entry w.ledger;
   }
   rest-joined =
-      let f : WorldView → WorldView = λ x. record x { ports = holder_given kind port task x.ports (map.get x.ports.ports port) } in
       let g : Entry → WorldView → WorldView = λ e x. record x { spaces = slice_set x.spaces task (record space { names = map.insert space.names name e }) } in
-      holds ∙ ap f replaced ∙ ap (λ (x : WorldView). f (g left x)) dropped ∙ ap (λ (e : Entry). f (g e (record w { ledger = ledger_joined kind port entry w.ledger }))) is
+      replaced ∙ ap (g left) dropped ∙ ap (λ (e : Entry). g e (record w { ledger = ledger_joined kind port entry w.ledger })) is
 
-  pub gives-joined : kind ≢ send_once → map.get space.names name ≡ Some entry → port_named entry ≡ Some port → GivesPort w task kind port name w3
+  pub gives-joined : kind ≢ send_once → map.get space.names name ≡ Some entry → port_named entry ≡ Some port → GivesPort w task kind port name w2
   gives-joined not_once found named = record {
     space = space;
     there = there;
@@ -102,28 +99,18 @@ module _ (w w1 w2 w3 : WorldView) (task : ℕ) (kind : Kind) (port name : ℕ) (
     rest = rest-joined;
   }
 
-  pub room-joined : UsesOneRoom w w3 task
-  room-joined = uses_room w w3 task space (record space { names = map.insert space.names name (joined kind entry) }) there (ap (λ (x : WorldView). x.spaces) rest-joined) (omega arith)
+  pub room-joined : UsesOneRoom w w2 task
+  room-joined = uses_room w w2 task space (record space { names = map.insert space.names name (joined kind entry) }) there (ap (λ (x : WorldView). x.spaces) rest-joined) (omega arith)
 
 -- under a fresh name
-module _ (w w1 w2 : WorldView) (task : ℕ) (kind : Kind) (port name : ℕ) (x : Entry) (space : SpaceView)
-    (there : slice_get w.spaces task ≡ Some space) (is : x ≡ alone kind port) (puts : InsertsEntry w task name x w1)
-    (holds : w2 ≡ record w1 { ports = holder_given kind port task w1.ports (map.get w1.ports.ports port) }) where
-  inserted : w1 ≡ record w { spaces = slice_set w.spaces task (record { names = map.insert space.names name (alone kind port); room = space.room - 1 }) }
-  inserted =
+module _ (w w1 : WorldView) (task : ℕ) (kind : Kind) (port name : ℕ) (x : Entry) (space : SpaceView)
+    (there : slice_get w.spaces task ≡ Some space) (is : x ≡ alone kind port) (puts : InsertsEntry w task name x w1) where
+  pub rest-taken : w1 ≡ record w { spaces = slice_set w.spaces task (record { names = map.insert space.names name (alone kind port); room = space.room - 1 }) }
+  rest-taken =
       let f : Entry → SpaceView → WorldView = λ e y. record w { spaces = slice_set w.spaces task (record { names = map.insert y.names name e; room = y.room - 1 }) } in
       puts.rest ∙ ap (f x) (same_found (slice_get w.spaces task) puts.space space puts.there there) ∙ ap (λ (e : Entry). f e space) is
 
-  pub rest-taken : w2 ≡ record w {
-    spaces = slice_set w.spaces task (record { names = map.insert space.names name (alone kind port); room = space.room - 1 });
-    ports = holder_given kind port task w.ports (map.get w.ports.ports port);
-    ledger = w.ledger;
-  }
-  rest-taken =
-      let f : WorldView → WorldView = λ x. record x { ports = holder_given kind port task x.ports (map.get x.ports.ports port) } in
-      holds ∙ ap f inserted
-
-  pub gives-taken : IsFreshName space.names name → map.len space.names < most_names → (kind ≢ send_once → (n : ℕ) → port_at space.names n ≢ Some port) → GivesPort w task kind port name w2
+  pub gives-taken : IsFreshName space.names name → map.len space.names < most_names → (kind ≢ send_once → (n : ℕ) → port_at space.names n ≢ Some port) → GivesPort w task kind port name w1
   gives-taken fresh room lone = record {
     space = space;
     there = there;
@@ -134,5 +121,5 @@ module _ (w w1 w2 : WorldView) (task : ℕ) (kind : Kind) (port name : ℕ) (x :
     rest = rest-taken;
   }
 
-  pub room-taken : UsesOneRoom w w2 task
-  room-taken = uses_room w w2 task space (record { names = map.insert space.names name (alone kind port); room = space.room - 1 }) there (ap (λ (x : WorldView). x.spaces) rest-taken) (omega arith)
+  pub room-taken : UsesOneRoom w w1 task
+  room-taken = uses_room w w1 task space (record { names = map.insert space.names name (alone kind port); room = space.room - 1 }) there (ap (λ (x : WorldView). x.spaces) rest-taken) (omega arith)

@@ -10,7 +10,7 @@ use Rattle.name_space.specs.Entry.{port_named}
 use Rattle.name_space.specs.Names.{Names, SpaceView, port_at}
 use Rattle.copyin_base.specs.Worlds.{WorldView, entry_in, entry_at}
 use Rattle.copyin_base.specs.Changes.{CanInsert, InsertsEntry}
-use Rattle.copyout.specs.Giving.{alone, holder_given}
+use Rattle.copyout.specs.Giving.{alone}
 use Rattle.copyout.specs.Ready.{CanJoin}
 use Rattle.copyout.specs.Putting.{PutsPort, CanPut}
 use Rattle.copyout.proofs.Gives.{no_other, rest-taken}
@@ -45,9 +45,9 @@ can_insert w task kind port word x r unused is =
     let free = is_free w task kind port word r unused in
     record { space = r.space; there = r.there; usable = r.usable; unused = free.unused; few = free.room; room = r.room; apart = no_other r.space.names kind port x is free.lone }
 
-pub puts-new : (w w1 w2 : WorldView) (task : ℕ) (kind : Kind) (port word : ℕ) (x : Entry) → (r : CanPut w task kind port word) → is_some (entry_at w task word) ≡ false → x ≡ alone kind port →
-    InsertsEntry w task word x w1 → w2 ≡ record w1 { ports = holder_given kind port task w1.ports (map.get w1.ports.ports port) } → PutsPort w task kind port word w2
-puts-new w w1 w2 task kind port word x r unused is puts holds =
+pub puts-new : (w w1 : WorldView) (task : ℕ) (kind : Kind) (port word : ℕ) (x : Entry) → (r : CanPut w task kind port word) → is_some (entry_at w task word) ≡ false → x ≡ alone kind port →
+    InsertsEntry w task word x w1 → PutsPort w task kind port word w1
+puts-new w w1 task kind port word x r unused is puts =
     let free = is_free w task kind port word r unused in
     record {
       space = r.space;
@@ -56,5 +56,5 @@ puts-new w w1 w2 task kind port word x r unused is puts holds =
       room = r.space.room - 1;
       ledger = w.ledger;
       given = inr (record { unused = free.unused; lone = free.lone; rest = refl }, refl);
-      rest = rest-taken w w1 w2 task kind port word x r.space r.there is puts holds;
+      rest = rest-taken w w1 task kind port word x r.space r.there is puts;
     }

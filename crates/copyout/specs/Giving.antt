@@ -1,5 +1,5 @@
 -- What copying out gives a task: a name for each right of a message, in the tables.
-use Rattle.std.specs.Prelude.{◌≡◌, ◌≢◌, ℕ, ◌+◌, ◌<◌, ◌≤◌, ◌⊎◌, true, List, [], ◌∷◌, slice_get, slice_set, Option, Some, is_some, if◌then◌else◌, ◌==◌, min, MatchBool}
+use Rattle.std.specs.Prelude.{◌≡◌, ◌≢◌, ℕ, ◌+◌, ◌<◌, ◌≤◌, ◌⊎◌, true, List, [], ◌∷◌, slice_get, slice_set, Some, is_some, if◌then◌else◌, ◌==◌, min, MatchBool}
 use Rattle.std.specs.FinMap as map
 use Rattle.mach_types.specs.Numbers.{kind_sent, null_word, dead_word, most_names, most_references}
 use Rattle.mach_types.specs.Tokens.{Kind, receive, send, send_once}
@@ -7,14 +7,11 @@ use Rattle.name_space.specs.declared.Entry.{Entry}
 use Rattle.name_space.specs.declared.Entry.TheVariants as entry
 use Rattle.name_space.specs.Entry.{port_named, send_references}
 use Rattle.name_space.specs.Names.{Names, SpaceView, IsFreshName, port_at}
-use Rattle.port.specs.Ports.{PortView, PortsView, with_port}
-use Rattle.port.specs.declared.Holder.TheVariants as holder
 use Rattle.rights.specs.Ledger.{LedgerView, taken}
 use Rattle.rights.specs.declared.RightKind.TheVariants as right
 use Rattle.copyin_base.specs.declared.message.Carried.{Carried}
 use Rattle.copyin_base.specs.declared.message.Mark.{Mark}
 use Rattle.copyin_base.specs.declared.message.Mark.TheVariants as mark
-use Rattle.copyin_base.specs.Kept.{Kept}
 use Rattle.copyin_base.specs.Worlds.{WorldView}
 
 -- the entry of the port's name with one right more
@@ -51,10 +48,6 @@ abbrev pub ledger_joined : Kind → (port : ℕ) → Entry → LedgerView → Le
 ledger_joined send p x ledger = if send_references x == most_references then taken ledger p right.Send 1 else ledger
 ledger_joined kind p x ledger = ledger
 
-abbrev pub holder_given : Kind → (port task : ℕ) → PortsView Kept → Option (PortView Kept) → PortsView Kept
-holder_given receive p task ports (Some v) = with_port ports p (record v { attributes = record v.attributes { holder = holder.Task task } })
-holder_given kind p task ports v = ports
-
 -- The right for a port that is there comes to the task under this name.
 pub record GivesPort (old : WorldView) (task : ℕ) (kind : Kind) (port word : ℕ) (new : WorldView) : Type 0 where
   pub space : SpaceView
@@ -66,7 +59,6 @@ pub record GivesPort (old : WorldView) (task : ℕ) (kind : Kind) (port word : �
       ⊎ (TakesName space.names kind port word after × (ledger ≡ old.ledger))
   pub rest : new ≡ record old {
     spaces = slice_set old.spaces task (record { names = after; room = room });
-    ports = holder_given kind port task old.ports (map.get old.ports.ports port);
     ledger = ledger;
   }
 

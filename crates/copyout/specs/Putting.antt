@@ -7,7 +7,7 @@ use Rattle.name_space.specs.Names.{Names, SpaceView, IsUsable, port_at}
 use Rattle.rights.specs.Ledger.{LedgerView, IsEntered, counts_of}
 use Rattle.copyin_base.specs.Worlds.{WorldView}
 use Rattle.copyin_base.specs.Worlds.{port_at as table_at}
-use Rattle.copyout.specs.Giving.{alone, JoinsName, ledger_joined, holder_given}
+use Rattle.copyout.specs.Giving.{alone, JoinsName, ledger_joined}
 
 -- A right comes under a name that isn't in use; a send or receive right where the task has no name for the port.
 pub record NewName (names : Names) (kind : Kind) (port word : ℕ) (after : Names) : Type 0 where
@@ -26,7 +26,6 @@ pub record PutsPort (old : WorldView) (task : ℕ) (kind : Kind) (port word : �
       ⊎ (NewName space.names kind port word after × (ledger ≡ old.ledger))
   pub rest : new ≡ record old {
     spaces = slice_set old.spaces task (record { names = after; room = room });
-    ports = holder_given kind port task old.ports (map.get old.ports.ports port);
     ledger = ledger;
   }
 

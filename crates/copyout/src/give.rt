@@ -12,7 +12,7 @@ ghost use Rattle.rights.specs.Ledger.{IsEntered, counts_of, taken};
 ghost use Rattle.copyin_base.specs.declared.message.Carried.{Carried as AnyCarried};
 ghost use Rattle.copyin_base.specs.declared.message.Mark.TheVariants as mark;
 ghost use Rattle.copyin.specs.Plans.{option_list};
-ghost use Rattle.copyout.specs.Giving.{joined, alone, ledger_joined, holder_given, GivesPort, GivesMark, GivesAll};
+ghost use Rattle.copyout.specs.Giving.{joined, alone, ledger_joined, GivesPort, GivesMark, GivesAll};
 ghost use Rattle.copyout.specs.Ready.{CanGivePort, CanJoin, CanTakeName, CanGive, UsesOneRoom};
 
 use crate::room::{has_port, shared_name};
@@ -20,7 +20,6 @@ use copyin_base::{Carried, Mark, World};
 use mach_types::limits::MOST_REFERENCES;
 use mach_types::{Disposition, Name, PortId, Right, TaskId};
 use name_space::Entry;
-use port::{Attributes, Holder};
 use rights::RightKind;
 use user_refs::UserRefs;
 
@@ -99,31 +98,6 @@ fn drop_pegged(world: &mut World, given: Disposition, port: PortId, entry: &Entr
     }
 }
 
-// The port's receive right is with the task.
-fn set_holder(world: &mut World, port: PortId, task: TaskId)
-    requires { is_some (map.get world.old.ports.ports port) ≡ true }
-    ensures { world.new ≡ record world.old { ports = holder_given receive port task world.old.ports (map.get world.old.ports.ports port) } }
-{
-    let attributes = world.attributes(port);
-    world.set_attributes(
-        port,
-        Attributes {
-            holder: Holder::Task(task),
-            ..attributes
-        },
-    );
-}
-
-// The receive right, if that is given, is with the task.
-pub(crate) fn hold(world: &mut World, given: Disposition, port: PortId, task: TaskId)
-    requires { is_some (map.get world.old.ports.ports port) ≡ true }
-    ensures { world.new ≡ record world.old { ports = holder_given (kind_sent given) port task world.old.ports (map.get world.old.ports.ports port) } }
-{
-    if matches!(given.kind(), Right::Receive) {
-        set_holder(world, port, task);
-    }
-}
-
 // The right comes under the task's name for the port.
 pub(crate) fn join(world: &mut World, task: TaskId, given: Disposition, port: PortId, name: Name)
     requires { CanJoin world.old task (kind_sent given) port name }
@@ -133,7 +107,6 @@ pub(crate) fn join(world: &mut World, task: TaskId, given: Disposition, port: Po
     if let Some(entry) = world.lookup(task, name) {
         drop_pegged(world, given, port, &entry);
         world.put_left(task, name, Some(joined(given, &entry)));
-        hold(world, given, port, task);
     }
 }
 
@@ -145,7 +118,6 @@ fn take_name(world: &mut World, task: TaskId, given: Disposition, port: PortId) 
 {
     let name = world.space(task).fresh();
     world.insert_entry(task, name, alone(given, port));
-    hold(world, given, port, task);
     name
 }
 

@@ -2,7 +2,7 @@
 ghost use Rattle.mach_types.specs.Numbers.{kind_sent};
 ghost use Rattle.copyout.specs.Putting.{CanPut, PutsPort};
 
-use crate::give::{alone, hold, join};
+use crate::give::{alone, join};
 use copyin_base::World;
 use mach_types::{Disposition, Name, PortId, TaskId};
 
@@ -19,6 +19,5 @@ pub fn put_right(world: &mut World, task: TaskId, given: Disposition, port: Port
         join(world, task, given, port, name);
     } else {
         world.insert_entry(task, name, alone(given, port));
-        hold(world, given, port, task);
     }
 }

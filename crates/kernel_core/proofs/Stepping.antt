@@ -52,6 +52,7 @@ opening_agrees = record {
   ports = λ p v e. absurd (no_port p v e);
   counts = λ p. record {
     entered = rw (map.get-empty {X = Counts} nat_cmp p) refl;
+    receivers = rw (map.get-empty {X = Counts} nat_cmp p) refl;
     senders = rw (map.get-empty {X = Counts} nat_cmp p) refl;
     once_rights = rw (map.get-empty {X = Counts} nat_cmp p) refl;
   };

@@ -102,7 +102,7 @@ makes new_right.DeadName s task name = inr (inr (refl, refl))
 abbrev with_number : WorldView → (task name : ℕ) → SpaceView → (room p : ℕ) → WorldView
 with_number w task name space room p = record w {
   spaces = slice_set w.spaces task (record { names = map.insert space.names name (entry.Receive p); room = room });
-  ports = record w.ports { ports = map.insert w.ports.ports p (first_port task); made = w.ports.made + 1 };
+  ports = record w.ports { ports = map.insert w.ports.ports p first_port; made = w.ports.made + 1 };
   ledger = made (entered w.ledger p) p right.Receive 1;
 }
 

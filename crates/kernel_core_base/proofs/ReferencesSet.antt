@@ -81,6 +81,9 @@ module _ (w : WorldView) (s : State) (sh : Shows w s) (task name : ℕ) (space :
         others : (q : ℕ) → (q ≡ p → ⊥) → (s.live_port q ≡ s.live_port q) × ((c : Kind) → count (is_of c q) s.ledger ≡ count (is_of c q) ledger)
         others q not = (refl, λ c. sym (same_weight (λ x. if is_of c q x then 1 else 0) (none_of_port send c p q (in_task task) not)))
 
+        receives : (counts_of w.ledger p).receive ≡ count (is_of receive p) ledger
+        receives = (sh.agrees.counts p).receivers ∙ sym (same_weight (λ x. if is_of receive p x then 1 else 0) refl)
+
         onces : (counts_of w.ledger p).send_once ≡ count (is_of send_once p) ledger
         onces = (sh.agrees.counts p).once_rights ∙ sym (same_weight (λ x. if is_of send_once p x then 1 else 0) refl)
 
@@ -92,9 +95,9 @@ module _ (w : WorldView) (s : State) (sh : Shows w s) (task name : ℕ) (space :
         go : (b : Bool) → nat_lt (held s task send p) m ≡ b → (q : ℕ) →
             CountsAgree (if b then made w.ledger p right.Send (m - held s task send p) else taken w.ledger p right.Send (held s task send p - m)) s.live_port ledger q
         go true e = counts_agree w.ledger s.live_port s.ledger sh.agrees.counts (made w.ledger p right.Send (m - held s task send p)) s.live_port ledger p
-            (with_more right.Send (m - held s task send p) (counts_of w.ledger p)) refl (sym live) (let below = ltb-true (held s task send p) m e in let k = sends in omega (arith, below, k)) onces others
+            (with_more right.Send (m - held s task send p) (counts_of w.ledger p)) refl (sym live) receives (let below = ltb-true (held s task send p) m e in let k = sends in omega (arith, below, k)) onces others
         go false e = counts_agree w.ledger s.live_port s.ledger sh.agrees.counts (taken w.ledger p right.Send (held s task send p - m)) s.live_port ledger p
-            (with_fewer right.Send (held s task send p - m) (counts_of w.ledger p)) refl (sym live)
+            (with_fewer right.Send (held s task send p - m) (counts_of w.ledger p)) refl (sym live) receives
             (let above = ltb-false (held s task send p) m e in let k = sends in let le = held_le_of task send p s.ledger in let c = (sh.agrees.counts p).senders in omega (arith, above, k, le, c)) onces others
 
     total : (recounted w.ledger p (held s task send p) m).total ≡ length ledger

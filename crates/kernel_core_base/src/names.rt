@@ -22,7 +22,6 @@ use copyin_base::{Code, World};
 use mach_types::limits::MOST_RIGHTS;
 use mach_types::{KernReturn, Name, NameTypes, PortId, Reply, Right, TaskId};
 use name_space::{Entry, Space};
-use port::Holder;
 use rights::RightKind;
 use std::alloc::{AllocError, Global};
 use user_refs::UserRefs;
@@ -177,23 +176,23 @@ fn make_right(
     ensures err { IfErr result (λ code. (code ≡ kern.ResourceShortage) × (world.new ≡ world.old)) }
 {
     let made = match right {
-        NewRight::Port => make_port(world, task).map(Entry::Receive),
+        NewRight::Port => make_port(world).map(Entry::Receive),
         NewRight::Set => world.sets.create(task, name).map(Entry::Set),
         NewRight::DeadName => Ok(Entry::DeadName(UserRefs::one())),
     };
     made.map_err(|_| KernReturn::ResourceShortage)
 }
 
-// A new port, whose receive right is with the task. It is counted.
-fn make_port(world: &mut World, task: TaskId) -> Result<PortId, AllocError>
+// A new port, and its receive right, which is counted.
+fn make_port(world: &mut World) -> Result<PortId, AllocError>
     requires room { HasRoomFor world.old AnyRight.Port }
     requires unknown { map.get world.old.ledger.counts world.old.ports.made ≡ None }
-    ensures ok { IfOk result (λ port. (port ≡ world.old.ports.made) × (world.new ≡ with_new_port world.old task)) }
+    ensures ok { IfOk result (λ port. (port ≡ world.old.ports.made) × (world.new ≡ with_new_port world.old)) }
     ensures err { OnErr result (world.new ≡ world.old) }
 {
     let id = world.ports.next_id();
     world.ledger.enter(id)?;
-    match world.ports.allocate(Holder::Task(task)) {
+    match world.ports.allocate() {
         Ok(port) => {
             world.ledger.make(port, RightKind::Receive, 1).unwrap();
             Ok(port)

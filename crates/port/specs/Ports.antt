@@ -5,7 +5,6 @@ use Rattle.std.specs.FinMap as map
 use Rattle.std.specs.Ordering.{nat_cmp}
 use Rattle.mach_types.specs.Numbers.{first_limit}
 use Rattle.port.specs.declared.Attributes.{Attributes}
-use Rattle.port.specs.declared.Holder.{Holder}
 
 pub record PortView (M : Type 0) : Type 0 where
   pub queue : List M
@@ -27,8 +26,8 @@ ports_code {M} m a = code_by
     (λ _. refl)
 
 -- a new port's attributes: limit 5, and no message yet sent, made or received
-abbrev pub first_attributes : Holder → Attributes
-first_attributes holder = record { limit = first_limit; make_send = 0; sequence = 0; holder = holder; set = None; next_dying = None; next_ready = None }
+abbrev pub first_attributes : Attributes
+first_attributes = record { limit = first_limit; make_send = 0; sequence = 0; set = None }
 
 module _ {M : Type 0} where
   abbrev pub IsLive : PortsView M → ℕ → Type 0

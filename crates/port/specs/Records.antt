@@ -8,7 +8,6 @@ use Rattle.std.specs.FinMap as map
 use Rattle.std.specs.Ordering.{nat_cmp}
 use Rattle.slab.specs.Slab.{Slab, get}
 use Rattle.port.specs.declared.Record.{Record}
-use Rattle.port.specs.declared.Holder.TheVariants.{Nowhere}
 use Rattle.std.specs.BTreeMap.{BTreeMap}
 use Rattle.std.specs.BTreeMap.{get as key_in}
 use Rattle.port.specs.Ports.{PortView, first_attributes, IsAfter}
@@ -30,7 +29,7 @@ pub record IsNextKey (index : BTreeMap ℕ ℕ) (before found : Option ℕ) : Ty
 
 module _ {M : Type 0} where
   abbrev pub port_in : Option (Record M) → PortView M
-  port_in None = record { queue = []; attributes = first_attributes Nowhere }
+  port_in None = record { queue = []; attributes = first_attributes }
   port_in (Some r) = record { queue = r.queue; attributes = r.attributes }
 
   abbrev pub ports_of : (ℕ → Option (Record M)) → map.FinMap nat_cmp ℕ → map.FinMap nat_cmp (PortView M)

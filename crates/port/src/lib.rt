@@ -15,7 +15,7 @@ ghost use Rattle.port.specs.declared.Record.{Record as AnyRecord};
 ghost use Rattle.port.specs.Records.{IsNextKey};
 
 use mach_types::limits::FIRST_LIMIT;
-use mach_types::{PortId, SetId, TaskId};
+use mach_types::{PortId, SetId};
 use slab::Slab;
 use std::alloc::{AllocError, Global};
 use std::collections::{BTreeMap, LinkedList};
@@ -32,17 +32,6 @@ pub trait Message: Drop {
     fn blank(alloc: Global) -> Self;
 }
 
-/// Where a port's receive right is.
-#[derive(Clone, Copy, Debug, PartialEq, Eq)]
-pub enum Holder {
-    /// A task has it.
-    Task(TaskId),
-    /// A message that is queued at this port carries it.
-    Queued(PortId),
-    /// It was taken from its place, and has no other yet.
-    Nowhere,
-}
-
 /// What a port has beside its queue. Setting it changes nothing else.
 #[derive(Clone, Copy, Debug, PartialEq, Eq)]
 pub struct Attributes {
@@ -52,31 +41,22 @@ pub struct Attributes {
     pub make_send: u32,
     /// The sequence number of the next message received, modulo 2^32.
     pub sequence: u32,
-    /// Where the receive right is.
-    pub holder: Holder,
     /// The port set that the port is in.
     pub set: Option<SetId>,
-    /// The next port of a list of ports that are to die.
-    pub next_dying: Option<PortId>,
-    /// The next port of a set's list of members that have messages.
-    pub next_ready: Option<PortId>,
 }
 
 impl Attributes {
     ghost use Rattle.port.specs.Ports.{first_attributes};
 
     // A new port's.
-    fn first(holder: Holder) -> Attributes
-        ensures { result ≡ first_attributes holder }
+    fn first() -> Attributes
+        ensures { result ≡ first_attributes }
     {
         Attributes {
             limit: FIRST_LIMIT,
             make_send: 0,
             sequence: 0,
-            holder,
             set: None,
-            next_dying: None,
-            next_ready: None,
         }
     }
 }
@@ -296,15 +276,15 @@ impl<M: Message> Ports<M> {
         PortId::new(self.next.unwrap())
     }
 
-    /// Makes a port whose receive right is with the holder: no messages, limit 5, counts 0, in no
-    /// set (Port Manipulation Interface, `mach_port_allocate`). Its identity is the number of ports
-    /// made before. Logarithmic in the number of ports, but where the records move to a larger place.
+    /// Makes a port: no messages, limit 5, counts 0, in no set (Port Manipulation Interface,
+    /// `mach_port_allocate`). Its identity is the number of ports made before. Logarithmic in the
+    /// number of ports, but where the records move to a larger place.
     ///
     /// An error means that memory was refused; all is then as before.
-    pub fn allocate(&mut self, holder: Holder) -> Result<PortId, AllocError>
+    pub fn allocate(&mut self) -> Result<PortId, AllocError>
         requires { self.old.made < most_identities }
         ensures identity { IfOk result (λ id. id ≡ self.old.made) }
-        ensures ok { OnOk result (self.new ≡ record self.old { ports = map.insert self.old.ports self.old.made (record { queue = []; attributes = first_attributes holder }); made = self.old.made + 1 }) }
+        ensures ok { OnOk result (self.new ≡ record self.old { ports = map.insert self.old.ports self.old.made (record { queue = []; attributes = first_attributes }); made = self.old.made + 1 }) }
         ensures err { OnErr result (self.new ≡ self.old) }
     {
         let number = self.next.unwrap();
@@ -314,7 +294,7 @@ impl<M: Message> Ports<M> {
         self.records.insert_reserved(Record {
             id,
             queue: LinkedList::new(*self.spare.allocator()),
-            attributes: Attributes::first(holder),
+            attributes: Attributes::first(),
         });
         self.next = number.checked_add(1);
         Ok(id)
@@ -449,9 +429,9 @@ mod tests {
         let mut ports = Ports::<Note>::new(rt.alloc());
         assert!(rt; !ports.is_exhausted());
         assert_eq!(rt; ports.next_id().number(), 0);
-        let first = ports.allocate(Holder::Task(TaskId::new(0)))?;
+        let first = ports.allocate()?;
         assert!(rt; !ports.is_exhausted());
-        let second = ports.allocate(Holder::Nowhere)?;
+        let second = ports.allocate()?;
         assert_eq!(rt; first.number(), 0);
         assert_eq!(rt; second.number(), 1);
         assert!(rt; !post(&mut ports, first, 1));
@@ -476,7 +456,7 @@ mod tests {
     fn a_gone_port_is_not_found(rt: HostRuntime) -> Result<(), Fail> {
         let mut ports = Ports::<Note>::new(rt.alloc());
         assert!(rt; !ports.is_exhausted());
-        let port = ports.allocate(Holder::Nowhere)?;
+        let port = ports.allocate()?;
         let mut attributes = ports.attributes(port).ok_or("made")?;
         assert_eq!(rt; attributes.limit, 5);
         attributes.limit = 16;
@@ -486,7 +466,7 @@ mod tests {
         ports.remove(port);
         assert!(rt; ports.attributes(port).is_none());
         assert!(rt; !ports.is_exhausted());
-        let other = ports.allocate(Holder::Nowhere)?;
+        let other = ports.allocate()?;
         assert_eq!(rt; other.number(), 1);
         assert!(rt; ports.attributes(port).is_none());
         Ok(())

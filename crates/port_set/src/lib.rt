@@ -205,7 +205,6 @@ pub fn disband<M: Message>(ports: &mut Ports<M>, set: SetId)
 #[cfg(test)]
 mod tests {
     use super::*;
-    use port::Holder;
     use std::test::Fail;
 
     #[derive(Drop)]
@@ -280,9 +279,9 @@ mod tests {
         let (set, other) = (SetId::new(0), SetId::new(1));
         ports.reserve_slots(2)?;
         assert!(rt; !ports.is_exhausted());
-        let first = ports.allocate(Holder::Nowhere)?;
+        let first = ports.allocate()?;
         assert!(rt; !ports.is_exhausted());
-        let second = ports.allocate(Holder::Nowhere)?;
+        let second = ports.allocate()?;
         assert!(rt; post(&mut ports, first));
         assert_eq!(rt; ready(&ports, set), None);
         assert!(rt; join(&mut ports, first, other));

@@ -22,8 +22,8 @@ some_unwrapped : {X : Type 0} (o : Option X) (d : X) → is_some o ≡ true → 
 some_unwrapped None d h = absurd (no_true h)
 some_unwrapped (Some x) d h = refl
 
-module _ (es : List (ℕ × Counts)) (ordered : IsStrictlySortedBy nat_cmp (keys_of es)) (l : LedgerView) (port total unused : ℕ)
-    (view_is : record { counts = map.from_sorted es; total = total; unused = unused } ≡ l) where
+module _ (es : List (ℕ × Counts)) (ordered : IsStrictlySortedBy nat_cmp (keys_of es)) (l : LedgerView) (port total : ℕ)
+    (view_is : record { counts = map.from_sorted es; total = total } ≡ l) where
   pub lookup_is : lookup (is_at (nat_cmp port)) es ≡ map.get l.counts port
   lookup_is = sym (get-from_ordered es port ordered) ∙ ap (λ (v : LedgerView). map.get v.counts port) view_is
 

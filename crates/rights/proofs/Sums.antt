@@ -1,5 +1,5 @@
 -- The counts of one port against the sums over all.
-use Rattle.std.proofs.Common.{◌≡◌, ℕ, ◌+◌, ◌≤◌, List, [], ◌∷◌, ap, sym, ◌∙◌, Some, None, arith}
+use Rattle.std.proofs.Common.{◌≡◌, ℕ, ◌+◌, ◌≤◌, List, ap, sym, ◌∙◌, Some, None, arith}
 use Rattle.std.specs.Option.{unwrap_or, option_map}
 use Rattle.std.specs.List.{sum_by}
 use Rattle.std.specs.List.Sorted.{IsStrictlySortedBy}
@@ -8,20 +8,8 @@ use Rattle.std.specs.Cmp.{nat_cmp_total}
 use Rattle.std.specs.Map.{lookup, keys_of, values_of, remove_entry, set_value}
 use Rattle.std.specs.BTreeMap.{is_at, insert_entry}
 use Rattle.std.proofs.lemmas.Map.Entries.{sum_by-remove_entry, sum_by-set_value, sum_by-insert_entry}
-use Rattle.std.proofs.lemmas.List.Sums.{sum_by-cons}
 use Rattle.rights.specs.declared.Counts.{Counts}
-use Rattle.rights.specs.Counts.{no_rights, all_of}
-
-abbrev pub waiting : Counts → ℕ
-waiting c = c.send_once
-
-pub waiting-le-all : (cs : List Counts) → sum_by waiting cs ≤ sum_by all_of cs
-waiting-le-all [] = omega arith
-waiting-le-all (c ∷ cs) =
-    let rest : sum_by waiting cs ≤ sum_by all_of cs = waiting-le-all cs in
-    let a : sum_by waiting (c ∷ cs) ≡ waiting c + sum_by waiting cs = sum_by-cons waiting c cs in
-    let b : sum_by all_of (c ∷ cs) ≡ all_of c + sum_by all_of cs = sum_by-cons all_of c cs in
-    omega arith
+use Rattle.rights.specs.Counts.{no_rights}
 
 module _ (es : List (ℕ × Counts)) (k : ℕ) (c : Counts) (found : lookup (is_at (nat_cmp k)) es ≡ Some c) where
   pub rest_of : (f : Counts → ℕ) → sum_by f (values_of (remove_entry (is_at (nat_cmp k)) es)) + f c ≡ sum_by f (values_of es)
@@ -29,13 +17,6 @@ module _ (es : List (ℕ × Counts)) (k : ℕ) (c : Counts) (found : lookup (is_
 
   pub one-le-sum : (f : Counts → ℕ) → f c ≤ sum_by f (values_of es)
   one-le-sum f = let h = rest_of f in omega arith
-
-  pub used-le : sum_by waiting (values_of es) + all_of c ≤ sum_by all_of (values_of es) + waiting c
-  used-le =
-      let a = rest_of waiting in
-      let b = rest_of all_of in
-      let few = waiting-le-all (values_of (remove_entry (is_at (nat_cmp k)) es)) in
-      omega arith
 
   -- the sum once another value stands there
   pub sum-stored : (f : Counts → ℕ) (w : Counts) (old new : ℕ) → sum_by f (values_of es) ≡ old → new + f c ≡ old + f w → sum_by f (values_of (set_value (is_at (nat_cmp k)) es w)) ≡ new

@@ -7,7 +7,6 @@ use Rattle.std.specs.Ordering.{nat_cmp}
 use Rattle.rights.specs.declared.Counts.{Counts}
 use Rattle.rights.specs.Counts.{all_of}
 
-pub record IsCounted (entries : List (ℕ × Counts)) (total unused : ℕ) : Type 0 where
+pub record IsCounted (entries : List (ℕ × Counts)) (total : ℕ) : Type 0 where
   pub ordered : IsStrictlySortedBy nat_cmp (keys_of entries)
   pub all_counted : sum_by all_of (values_of entries) ≡ total
-  pub unused_counted : sum_by (λ c. c.send_once) (values_of entries) ≡ unused

@@ -29,11 +29,8 @@ pub enum RightKind {
     Receive,
     /// A send right.
     Send,
-    /// A send-once right that is unused: no queued message goes by it, and a message that will needs
-    /// a slot.
+    /// A send-once right.
     SendOnce,
-    /// A send-once right that is used: it is the destination right of a queued message.
-    Destination,
 }
 
 /// How many rights a port has, wherever they are.
@@ -43,14 +40,12 @@ pub struct Counts {
     pub receive: u32,
     /// Send rights.
     pub send: u32,
-    /// Send-once rights that no queued message goes by.
+    /// Send-once rights.
     pub send_once: u32,
-    /// Send-once rights by which queued messages go.
-    pub destination: u32,
 }
 
 impl Counts {
-    ghost use Rattle.rights.specs.Counts.{no_rights, number_of, with_more, with_fewer, all_of, unused_of};
+    ghost use Rattle.rights.specs.Counts.{no_rights, number_of, with_more, with_fewer, all_of};
 
     /// No rights.
     pub fn none() -> Counts
@@ -60,7 +55,6 @@ impl Counts {
             receive: 0,
             send: 0,
             send_once: 0,
-            destination: 0,
         }
     }
 
@@ -72,7 +66,6 @@ impl Counts {
             RightKind::Receive => self.receive,
             RightKind::Send => self.send,
             RightKind::SendOnce => self.send_once,
-            RightKind::Destination => self.destination,
         }
     }
 
@@ -80,14 +73,12 @@ impl Counts {
         requires { all_of self + number < 2 ^ 32 }
         ensures value { result ≡ with_more kind number self }
         ensures all { all_of result ≡ all_of self + number }
-        ensures unused { result.send_once ≡ self.send_once + unused_of kind number }
     {
         let mut counts = self;
         match kind {
             RightKind::Receive => counts.receive += number,
             RightKind::Send => counts.send += number,
             RightKind::SendOnce => counts.send_once += number,
-            RightKind::Destination => counts.destination += number,
         }
         counts
     }
@@ -96,41 +87,23 @@ impl Counts {
         requires { number ≤ number_of kind self }
         ensures value { result ≡ with_fewer kind number self }
         ensures all { all_of result + number ≡ all_of self }
-        ensures unused { result.send_once + unused_of kind number ≡ self.send_once }
     {
         let mut counts = self;
         match kind {
             RightKind::Receive => counts.receive -= number,
             RightKind::Send => counts.send -= number,
             RightKind::SendOnce => counts.send_once -= number,
-            RightKind::Destination => counts.destination -= number,
         }
         counts
     }
 }
 
-impl RightKind {
-    ghost use Rattle.rights.specs.Counts.{unused_of};
-
-    // How many of so many rights of this kind wait for a message slot.
-    fn unused_of(self, number: u32) -> u32
-        ensures value { result ≡ unused_of self number }
-        ensures few { result ≤ number }
-    {
-        match self {
-            RightKind::SendOnce => number,
-            RightKind::Receive | RightKind::Send | RightKind::Destination => 0,
-        }
-    }
-}
-
-/// The counts of each port that was entered, how many rights there are in all, and how many
-/// send-once rights are unused. An empty ledger has allocated nothing.
+/// The counts of each port that was entered, and how many rights there are in all. An empty ledger
+/// has allocated nothing.
 #[derive(Drop)]
 pub struct Ledger {
     ports: BTreeMap<u64, Counts>,
     total: u32,
-    unused: u32,
 }
 
 impl Model for Ledger {
@@ -144,9 +117,9 @@ impl Model for Ledger {
     ghost use Rattle.std.specs.FinMap as map;
     ghost use Rattle.rights.specs.Counted.{IsCounted};
 
-    ghost view = { λ a. record { counts = map.from_sorted a.ports.entries; total = a.total; unused = a.unused } };
+    ghost view = { λ a. record { counts = map.from_sorted a.ports.entries; total = a.total } };
 
-    ghost invariant = { λ a. IsCounted a.ports.entries a.total a.unused };
+    ghost invariant = { λ a. IsCounted a.ports.entries a.total };
 }
 
 // Puts these counts in place of those that stand under the port.
@@ -163,16 +136,15 @@ fn replace(ports: &mut BTreeMap<u64, Counts>, port: u64, counts: Counts)
 
 impl Ledger {
     ghost use Rattle.rights.specs.Counts.{no_rights, number_of, all_of};
-    ghost use Rattle.rights.specs.Ledger.{IsEntered, counts_of, entered, made, taken, shifted, left};
+    ghost use Rattle.rights.specs.Ledger.{IsEntered, counts_of, entered, made, taken, left};
 
     /// A ledger of no ports. Allocates nothing; constant time.
     pub fn new(alloc: Global) -> Ledger
-        ensures { result ≡ record { counts = map.empty; total = 0; unused = 0 } }
+        ensures { result ≡ record { counts = map.empty; total = 0 } }
     {
         Ledger {
             ports: BTreeMap::new(alloc),
             total: 0,
-            unused: 0,
         }
     }
 
@@ -197,8 +169,7 @@ impl Ledger {
         ensures after { self.new ≡ left self.old port }
     {
         let counts = self.held(port);
-        self.total -= counts.receive + counts.send + counts.send_once + counts.destination;
-        self.unused -= counts.send_once;
+        self.total -= counts.receive + counts.send + counts.send_once;
         self.ports.remove(&port.number());
         counts
     }
@@ -208,22 +179,18 @@ impl Ledger {
         requires { IsEntered self.now port }
         ensures value { result ≡ counts_of self.now port }
         ensures all { all_of result ≤ self.now.total }
-        ensures unused { result.send_once ≤ self.now.unused }
-        ensures used { self.now.unused + all_of result ≤ self.now.total + result.send_once }
     {
         *self.ports.get(&port.number()).unwrap()
     }
 
     // Puts these counts in place of a port's, with the sums that they make.
-    fn store(&mut self, port: PortId, counts: Counts, total: u32, unused: u32)
+    fn store(&mut self, port: PortId, counts: Counts, total: u32)
         requires entered { IsEntered self.old port }
         requires all { total + all_of (counts_of self.old port) ≡ self.old.total + all_of counts }
-        requires unused { unused + (counts_of self.old port).send_once ≡ self.old.unused + counts.send_once }
-        ensures { self.new ≡ record { counts = map.insert self.old.counts port counts; total = total; unused = unused } }
+        ensures { self.new ≡ record { counts = map.insert self.old.counts port counts; total = total } }
     {
         replace(&mut self.ports, port.number(), counts);
         self.total = total;
-        self.unused = unused;
     }
 
     /// The counts of a port, if it was entered. Logarithmic in the number of ports.
@@ -238,14 +205,6 @@ impl Ledger {
         ensures { result ≡ self.now.total }
     {
         self.total
-    }
-
-    /// How many send-once rights are unused: so many message slots have to be kept free. Constant
-    /// time.
-    pub fn unused(&self) -> u32
-        ensures { result ≡ self.now.unused }
-    {
-        self.unused
     }
 
     /// Counts new rights of a port. Logarithmic in the number of ports.
@@ -263,8 +222,7 @@ impl Ledger {
         }
         let counts = self.held(port).with_more(kind, number);
         let total = self.total + number;
-        let unused = self.unused + kind.unused_of(number);
-        self.store(port, counts, total, unused);
+        self.store(port, counts, total);
         Ok(())
     }
 
@@ -276,21 +234,6 @@ impl Ledger {
     {
         let counts = self.held(port).with_fewer(kind, number);
         let total = self.total - number;
-        let unused = self.unused - kind.unused_of(number);
-        self.store(port, counts, total, unused);
-    }
-
-    /// Counts rights of a port under another kind: so a send-once right that becomes the destination
-    /// right of a queued message. The total stays. Logarithmic in the number of ports.
-    pub fn shift(&mut self, port: PortId, from: RightKind, to: RightKind, number: u32)
-        requires entered { IsEntered self.old port }
-        requires there { number ≤ number_of from (counts_of self.old port) }
-        ensures { self.new ≡ shifted self.old port from to number }
-    {
-        let fewer = self.held(port).with_fewer(from, number);
-        let counts = fewer.with_more(to, number);
-        let unused = self.unused - from.unused_of(number) + to.unused_of(number);
-        let total = self.total;
-        self.store(port, counts, total, unused);
+        self.store(port, counts, total);
     }
 }

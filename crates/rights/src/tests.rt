@@ -1,4 +1,4 @@
-//! Rights made, used, taken and gone.
+//! Rights made, taken and gone.
 ghost use Rattle.std.specs.Prelude.{◌≡◌, ◌≤◌, IsTrue, true};
 ghost use Rattle.std.specs.FinMap as map;
 ghost use Rattle.rights.specs.Counts.{number_of};
@@ -29,14 +29,6 @@ fn take(ledger: &mut Ledger, port: PortId, kind: RightKind, number: u32) -> bool
     is_there
 }
 
-fn use_one(ledger: &mut Ledger, port: PortId) -> bool {
-    let is_there = has(ledger, port, RightKind::SendOnce, 1);
-    if is_there {
-        ledger.shift(port, RightKind::SendOnce, RightKind::Destination, 1);
-    }
-    is_there
-}
-
 #[test]
 fn rights_are_counted(rt: HostRuntime) -> Result<(), Fail> {
     let mut ledger = Ledger::new(rt.alloc());
@@ -48,10 +40,8 @@ fn rights_are_counted(rt: HostRuntime) -> Result<(), Fail> {
     assert!(rt; !make(&mut ledger, port, RightKind::Send, u32::MAX - 2));
     assert!(rt; make(&mut ledger, port, RightKind::Send, u32::MAX - 3));
     assert_eq!(rt; ledger.total(), u32::MAX);
-    assert!(rt; use_one(&mut ledger, port));
-    assert_eq!(rt; ledger.unused(), 1);
-    assert!(rt; take(&mut ledger, port, RightKind::Destination, 1));
-    assert!(rt; !take(&mut ledger, port, RightKind::Destination, 1));
+    assert!(rt; take(&mut ledger, port, RightKind::SendOnce, 1));
+    assert!(rt; !take(&mut ledger, port, RightKind::SendOnce, 2));
     assert!(rt; has(&ledger, port, RightKind::SendOnce, 1));
     let counts = ledger.leave(port);
     assert_eq!(rt; counts.send_once, 1);

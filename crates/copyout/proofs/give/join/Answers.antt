@@ -1,6 +1,5 @@
 use Rattle.std.proofs.Common.{◌≡◌, ◌∙◌, sym, ap, Some}
-use Rattle.std.specs.Prelude.{slice_get, is_some}
-use Rattle.std.specs.FinMap as map
+use Rattle.std.specs.Prelude.{slice_get}
 use Rattle.mach_types.specs.Numbers.{kind_sent}
 use Rattle.copyin_base.specs.Worlds.{WorldView}
 use Rattle.copyout.proofs.Gives.{found_in, named_in, can_replace, gives-joined, room-joined}
@@ -13,21 +12,16 @@ put_left-requires c =
     can_replace c.drop_pegged.new.world c.args.task (kind_sent c.args.given) c.args.name c.in-Some.entry c.joined.result r.space there c.joined.ensures
     (found_in c.args.world.now c.args.task c.args.name r.space c.in-Some.entry r.there (sym c.lookup.ensures ∙ c.in-Some.is))
 
-pub hold-requires : goal.hold-requires
-hold-requires c =
-    ap (λ (x : WorldView). is_some (map.get x.ports.ports c.args.port)) c.put_left.ensures.rest
-    ∙ ap (λ (x : WorldView). is_some (map.get x.ports.ports c.args.port)) c.drop_pegged.ensures ∙ c.requires.live
-
 pub returns-in-Some-clause-gives : goal.returns-in-Some-clause-gives
 returns-in-Some-clause-gives c =
     let r = c.requires in
     let found = found_in c.args.world.now c.args.task c.args.name r.space c.in-Some.entry r.there (sym c.lookup.ensures ∙ c.in-Some.is) in
     let named = named_in r.space.names c.args.name c.args.port c.in-Some.entry found r.named in
-    gives-joined c.args.world.now c.drop_pegged.new.world c.put_left.new.self c.hold.new.world c.args.task (kind_sent c.args.given) c.args.port c.args.name c.in-Some.entry c.joined.result r.space
-    r.there c.joined.ensures c.drop_pegged.ensures c.put_left.ensures c.hold.ensures r.not_once found named
+    gives-joined c.args.world.now c.drop_pegged.new.world c.put_left.new.self c.args.task (kind_sent c.args.given) c.args.port c.args.name c.in-Some.entry c.joined.result r.space
+    r.there c.joined.ensures c.drop_pegged.ensures c.put_left.ensures r.not_once found named
 
 pub returns-in-Some-clause-room : goal.returns-in-Some-clause-room
 returns-in-Some-clause-room c =
     let r = c.requires in
-    room-joined c.args.world.now c.drop_pegged.new.world c.put_left.new.self c.hold.new.world c.args.task (kind_sent c.args.given) c.args.port c.args.name c.in-Some.entry c.joined.result r.space
-    r.there c.joined.ensures c.drop_pegged.ensures c.put_left.ensures c.hold.ensures
+    room-joined c.args.world.now c.drop_pegged.new.world c.put_left.new.self c.args.task (kind_sent c.args.given) c.args.port c.args.name c.in-Some.entry c.joined.result r.space
+    r.there c.joined.ensures c.drop_pegged.ensures c.put_left.ensures

@@ -1,8 +1,6 @@
 use Rattle.std.proofs.Common.{◌∙◌, sym, ap}
 use Rattle.std.specs.Prelude.{is_some}
-use Rattle.std.specs.FinMap as map
 use Rattle.mach_types.specs.Numbers.{kind_sent}
-use Rattle.copyin_base.specs.Worlds.{WorldView}
 use Rattle.copyout.proofs.Given.{gives_puts}
 use Rattle.copyout.proofs.Puts.{can_join, can_insert, puts-new}
 use Rattle.copyout.proofs.put.put_right.Goals as goal
@@ -15,12 +13,9 @@ pub insert_entry-requires : goal.insert_entry-requires
 insert_entry-requires c = can_insert c.args.world.now c.args.task (kind_sent c.args.given) c.args.port c.args.name c.alone.result c.requires
     (sym (ap is_some c.lookup.ensures) ∙ sym c.is_some.ensures ∙ c.if-is_some.false) c.alone.ensures
 
-pub hold-requires : goal.hold-requires
-hold-requires c = ap (λ (x : WorldView). is_some (map.get x.ports.ports c.args.port)) c.insert_entry.ensures.rest ∙ c.requires.live
-
 pub returns-then-is_some : goal.returns-then-is_some
 returns-then-is_some c = gives_puts c.args.world.now c.args.task (kind_sent c.args.given) c.args.port c.args.name c.join.new.world c.join.ensures.gives
 
 pub returns-else-is_some : goal.returns-else-is_some
-returns-else-is_some c = puts-new c.args.world.now c.insert_entry.new.self c.hold.new.world c.args.task (kind_sent c.args.given) c.args.port c.args.name c.alone.result c.requires
-    (sym (ap is_some c.lookup.ensures) ∙ sym c.is_some.ensures ∙ c.if-is_some.false) c.alone.ensures c.insert_entry.ensures c.hold.ensures
+returns-else-is_some c = puts-new c.args.world.now c.insert_entry.new.self c.args.task (kind_sent c.args.given) c.args.port c.args.name c.alone.result c.requires
+    (sym (ap is_some c.lookup.ensures) ∙ sym c.is_some.ensures ∙ c.if-is_some.false) c.alone.ensures c.insert_entry.ensures

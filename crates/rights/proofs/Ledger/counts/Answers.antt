@@ -6,4 +6,4 @@ use Rattle.rights.proofs.Ledger.counts.Goals as goal
 
 pub returns : goal.returns
 returns c = c.copied.ensures ∙ c.get.ensures.value ∙ ap (get nat_cmp c.self.inside.ports) c.number.ensures
-    ∙ lookup_is c.self.inside.ports.entries c.self.invariant.ordered c.args.self.now c.args.port c.self.inside.total c.self.inside.unused c.self.view_is
+    ∙ lookup_is c.self.inside.ports.entries c.self.invariant.ordered c.args.self.now c.args.port c.self.inside.total c.self.view_is

@@ -8,5 +8,5 @@ use Rattle.rights.proofs.Ledger.new.Goals as goal
 
 pub returns : goal.returns
 returns c =
-    let opening : map.FinMap nat_cmp Counts → LedgerView = λ counts. record { counts = counts; total = 0; unused = 0 } in
+    let opening : map.FinMap nat_cmp Counts → LedgerView = λ counts. record { counts = counts; total = 0 } in
     ap opening (none_ordered c.new.result.entries c.new.ensures.empty)
