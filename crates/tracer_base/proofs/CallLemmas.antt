@@ -1,12 +1,12 @@
 -- The words of calls.
-use Rattle.std.proofs.Common.{codes, ◌≡◌, ℕ, ◌<◌, ◌^◌, List, [], ◌∷◌, ◌++◌, All, Bool, true, false, refl, sym, ◌∙◌, arith, decimal, append_assoc}
-use Rattle.std.proofs.lemmas.List.Elements.{All-nil, All-cons}
+use Rattle.std.proofs.Common.{codes, ◌≡◌, ℕ, ◌<◌, ◌^◌, List, [], ◌∷◌, ◌++◌, All, Bool, true, false, refl, sym, ◌∙◌, arith, decimal, append_assoc, flat_map}
+use Rattle.std.proofs.lemmas.List.Elements.{All-nil, All-cons, All-head, All-tail}
 use Rattle.std.specs.Fmt.{signed_decimal}
 use Rattle.mach_types.specs.declared.calls.Event.{Event}
 use Rattle.mach_types.specs.declared.calls.Event.TheVariants.{TaskCreate, Allocate, AllocateName, Deallocate, Destroy, ModRefs, GetRefs, NameType, Names, Rename, ReceiveStatus, SetQlimit, SetMscount, SetSeqno, InsertRight, ExtractRight, MoveMember, SetStatus, Send, Receive, ReceiveAgain}
 use Rattle.mach_types.specs.declared.calls.Waited.{Waited}
 use Rattle.mach_types.specs.declared.calls.Waited.TheVariants.{Port, Set}
-use Rattle.tracer_base.specs.Calls.{Fits, call_word, call_arguments, call_text, line_text}
+use Rattle.tracer_base.specs.Calls.{Fits, call_word, call_arguments, call_text, line_text, StartsNoCall}
 use Rattle.tracer_base.specs.Text.{bytes_text, flag_text, waited_words, FitsWaited}
 use Rattle.tracer_base.specs.Words.{Lacks, IsWord}
 use Rattle.tracer_base.proofs.HexLemmas.{IsWord-bytes_text}
@@ -111,3 +111,28 @@ first_line event rest text line others fits same lacks whole =
     let parts = same_parts 10 (call_text event) line rest others (Lacks-line 10 (call_word event ∷ call_arguments event) (omega arith) (plain-call event fits)) lacks
     (sym (append_assoc (call_text event) (10 ∷ []) rest) ∙ same ∙ sym whole) in
     parts.0
+
+-- the line of a call that fits, at the front of a text, is told from what is behind it
+one_line : (event other : Event) (rest behind : List ℕ) → Fits event → Fits other → line_text event ++ rest ≡ line_text other ++ behind → rest ≡ behind
+one_line event other rest behind fits fits_too same =
+    let plain = λ (e : Event) (f : Fits e). Lacks-line 10 (call_word e ∷ call_arguments e) (omega arith) (plain-call e f) in
+    let parts = same_parts 10 (call_text event) (call_text other) rest behind (plain event fits) (plain other fits_too)
+    (sym (append_assoc (call_text event) (10 ∷ []) rest) ∙ same ∙ append_assoc (call_text other) (10 ∷ []) behind) in
+    parts.1
+
+-- a text with a line feed in it is not empty
+some_line : (text rest : List ℕ) → text ++ 10 ∷ rest ≡ [] → ⊥
+some_line [] rest none = absurd cc
+some_line (byte ∷ text) rest none = absurd cc
+
+-- what is left of the text of calls that fit, when some are read, begins with the line of a call that fits
+pub next_line : (done all : List Event) (rest : List ℕ) → All Fits done → All Fits all → flat_map line_text done ++ rest ≡ flat_map line_text all → (rest ≡ [] → ⊥) → StartsNoCall rest → ⊥
+next_line [] [] rest fit fit_all same some bad = some same
+next_line [] (event ∷ all) rest fit fit_all same some bad = bad event (flat_map line_text all) (All-head Fits event all fit_all) (sym same)
+next_line (event ∷ done) [] rest fit fit_all same some bad =
+    let rest_of = flat_map line_text done ++ rest in
+    some_line (call_text event) rest_of (sym (append_assoc (call_text event) (10 ∷ []) rest_of) ∙ sym (append_assoc (line_text event) (flat_map line_text done) rest) ∙ same)
+next_line (event ∷ done) (other ∷ all) rest fit fit_all same some bad =
+    let left = one_line event other (flat_map line_text done ++ rest) (flat_map line_text all) (All-head Fits event done fit) (All-head Fits other all fit_all)
+    (sym (append_assoc (line_text event) (flat_map line_text done) rest) ∙ same) in
+    next_line done all rest (All-tail Fits event done fit) (All-tail Fits other all fit_all) left some bad

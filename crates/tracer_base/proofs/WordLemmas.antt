@@ -5,6 +5,7 @@ use Rattle.std.specs.Str.{IsAscii}
 use Rattle.std.proofs.lemmas.Str.Ascii.{IsAscii-from_all}
 use Rattle.std.proofs.lemmas.Bool.{ne_eqb, and_parts, ltb-true}
 use Rattle.std.proofs.lemmas.List.Elements.{All-weaker, All-nil, All-cons, All-append, All-head, All-tail}
+use Rattle.std.proofs.lemmas.Grind.{flat_map-append}
 use Rattle.std.proofs.lemmas.List.Splits.{slice_split_none, slice_split_at, length-slice_split, join_with_byte-slice_split}
 use Rattle.tracer_base.specs.Replies.{typed_name_text}
 use Rattle.tracer_base.specs.Text.{code_text}
@@ -116,3 +117,7 @@ next_of f P (y ∷ done) (x ∷ all) left small same some = next_of f P done all
 pub line_map : {X : Type 0} (f : X → List ℕ) (word : List ℕ) (xs : List X) → word ++ flat_map (λ x. 32 ∷ f x) xs ≡ line (word ∷ map f xs)
 line_map f word [] = append-nil word
 line_map f word (x ∷ xs) = ap (λ text. word ++ 32 ∷ text) (line_map f (f x) xs)
+
+-- the texts of values, one after another, and of one more
+pub texts_push : {X : Type 0} (f : X → List ℕ) (xs : List X) (x : X) → flat_map f (xs ++ x ∷ []) ≡ flat_map f xs ++ f x
+texts_push f xs x = flat_map-append f xs (x ∷ []) ∙ ap (λ t. flat_map f xs ++ t) (append-nil (f x))

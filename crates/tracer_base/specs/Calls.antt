@@ -1,5 +1,5 @@
 -- The text of calls.
-use Rattle.std.specs.Prelude.{◌≡◌, ℕ, List, [], ◌∷◌, ◌++◌, codes, decimal, ◌<◌, ◌^◌, All, ⊤}
+use Rattle.std.specs.Prelude.{◌≡◌, ℕ, ◌+◌, List, [], ◌∷◌, ◌++◌, codes, decimal, ◌<◌, ◌^◌, All, ⊤, length, flat_map}
 use Rattle.std.specs.Fmt.{signed_decimal}
 use Rattle.mach_types.specs.declared.calls.Event.{Event}
 use Rattle.mach_types.specs.declared.calls.Event.TheVariants.{TaskCreate, Allocate, AllocateName, Deallocate, Destroy, ModRefs, GetRefs, NameType, Names, Rename, ReceiveStatus, SetQlimit, SetMscount, SetSeqno, InsertRight, ExtractRight, MoveMember, SetStatus, Send, Receive, ReceiveAgain}
@@ -89,3 +89,13 @@ line_text event = call_text event ++ 10 ∷ []
 -- no line of a call stands at its beginning
 abbrev pub StartsNoCall : List ℕ → Type 0
 StartsNoCall text = (event : Event) (rest : List ℕ) → Fits event → line_text event ++ rest ≡ text → ⊥
+
+-- line n, from 1, is the first that is no call: calls stand before it, one a line, and there is more behind them
+pub record IsFirstBadLine (text : List ℕ) (n : ℕ) : Type 0 where
+  pub calls : List Event
+  pub fit : All Fits calls
+  pub number : length calls + 1 ≡ n
+  pub rest : List ℕ
+  pub parts : flat_map line_text calls ++ rest ≡ text
+  pub some : 0 < length rest
+  pub bad : StartsNoCall rest

@@ -24,6 +24,7 @@ use std::io::Write;
 /// refused. Time and memory grow with the length of the text.
 pub fn read_call(alloc: Global, text: &[u8]) -> Result<Event, TextFault>
     ensures ok { IfOk result (λ event. call_text event ≡ text.now) }
+    ensures fits { IfOk result Fits }
     ensures each { (event : AnyEvent) → Fits event → call_text event ≡ text.now → IsOkUnless result TextFault.OutOfMemory }
 {
     let mut words = Words::of(text);
@@ -37,6 +38,7 @@ pub fn read_call(alloc: Global, text: &[u8]) -> Result<Event, TextFault>
 fn read_arguments(alloc: Global, keyword: &str, words: &mut Words<'_>) -> Result<Event, TextFault>
     ensures word { IfOk result (λ event. call_word event ≡ keyword.now) }
     ensures arguments { IfOk result (λ event. call_arguments event ++ words.new ≡ words.old) }
+    ensures fits { IfOk result Fits }
     ensures read { (event : AnyEvent) (behind : List (List ℕ)) → Fits event → call_word event ≡ keyword.now
         → call_arguments event ++ behind ≡ words.old → IsRead result words.new behind }
 {
@@ -59,6 +61,7 @@ fn read_name_call(keyword: &str, words: &mut Words<'_>) -> Result<Event, TextFau
     requires { IsNoRightWord keyword.now }
     ensures word { IfOk result (λ event. call_word event ≡ keyword.now) }
     ensures arguments { IfOk result (λ event. call_arguments event ++ words.new ≡ words.old) }
+    ensures fits { IfOk result Fits }
     ensures read { (event : AnyEvent) (behind : List (List ℕ)) → Fits event → call_word event ≡ keyword.now
         → call_arguments event ++ behind ≡ words.old → IsRead result words.new behind }
 {
@@ -95,6 +98,7 @@ fn read_port_call(keyword: &str, words: &mut Words<'_>) -> Result<Event, TextFau
     requires name { IsNoNameWord keyword.now }
     ensures word { IfOk result (λ event. call_word event ≡ keyword.now) }
     ensures arguments { IfOk result (λ event. call_arguments event ++ words.new ≡ words.old) }
+    ensures fits { IfOk result Fits }
     ensures read { (event : AnyEvent) (behind : List (List ℕ)) → Fits event → call_word event ≡ keyword.now
         → call_arguments event ++ behind ≡ words.old → IsRead result words.new behind }
 {
@@ -131,6 +135,7 @@ fn read_port_call(keyword: &str, words: &mut Words<'_>) -> Result<Event, TextFau
 fn read_alloc(words: &mut Words<'_>) -> Result<Event, TextFault>
     ensures word { IfOk result (λ event. call_word event ≡ codes "alloc") }
     ensures arguments { IfOk result (λ event. call_arguments event ++ words.new ≡ words.old) }
+    ensures fits { IfOk result Fits }
     ensures read { (task right : ℕ) (behind : List (List ℕ)) → task < 2 ^ 32 → right < 2 ^ 32 → decimal task ∷ decimal right ∷ behind ≡ words.old
         → IsRead result words.new behind }
 {
@@ -141,6 +146,7 @@ fn read_alloc(words: &mut Words<'_>) -> Result<Event, TextFault>
 fn read_allocname(words: &mut Words<'_>) -> Result<Event, TextFault>
     ensures word { IfOk result (λ event. call_word event ≡ codes "allocname") }
     ensures arguments { IfOk result (λ event. call_arguments event ++ words.new ≡ words.old) }
+    ensures fits { IfOk result Fits }
     ensures read { (task right name : ℕ) (behind : List (List ℕ)) → task < 2 ^ 32 → right < 2 ^ 32 → name < 2 ^ 32 → decimal task ∷ decimal right ∷ decimal name ∷ behind ≡ words.old
         → IsRead result words.new behind }
 {
@@ -152,6 +158,7 @@ fn read_allocname(words: &mut Words<'_>) -> Result<Event, TextFault>
 fn read_modrefs(words: &mut Words<'_>) -> Result<Event, TextFault>
     ensures word { IfOk result (λ event. call_word event ≡ codes "modrefs") }
     ensures arguments { IfOk result (λ event. call_arguments event ++ words.new ≡ words.old) }
+    ensures fits { IfOk result Fits }
     ensures read { (task name right : ℕ) (delta : ℤ) (behind : List (List ℕ)) → task < 2 ^ 32 → name < 2 ^ 32 → right < 2 ^ 32 → FitsDelta delta → decimal task ∷ decimal name ∷ decimal right ∷ signed_decimal delta ∷ behind ≡ words.old
         → IsRead result words.new behind }
 {
@@ -163,6 +170,7 @@ fn read_modrefs(words: &mut Words<'_>) -> Result<Event, TextFault>
 fn read_names(words: &mut Words<'_>) -> Result<Event, TextFault>
     ensures word { IfOk result (λ event. call_word event ≡ codes "names") }
     ensures arguments { IfOk result (λ event. call_arguments event ++ words.new ≡ words.old) }
+    ensures fits { IfOk result Fits }
     ensures read { (task : ℕ) (behind : List (List ℕ)) → task < 2 ^ 32 → decimal task ∷ behind ≡ words.old
         → IsRead result words.new behind }
 {
@@ -174,6 +182,7 @@ fn read_names(words: &mut Words<'_>) -> Result<Event, TextFault>
 fn read_insert(words: &mut Words<'_>) -> Result<Event, TextFault>
     ensures word { IfOk result (λ event. call_word event ≡ codes "insert") }
     ensures arguments { IfOk result (λ event. call_arguments event ++ words.new ≡ words.old) }
+    ensures fits { IfOk result Fits }
     ensures read { (task name from poly disposition : ℕ) (behind : List (List ℕ)) → task < 2 ^ 32 → name < 2 ^ 32 → from < 2 ^ 32 → poly < 2 ^ 32 → disposition < 2 ^ 32
         → decimal task ∷ decimal name ∷ decimal from ∷ decimal poly ∷ decimal disposition ∷ behind ≡ words.old
         → IsRead result words.new behind }
@@ -188,6 +197,7 @@ fn read_insert(words: &mut Words<'_>) -> Result<Event, TextFault>
 fn read_extract(words: &mut Words<'_>) -> Result<Event, TextFault>
     ensures word { IfOk result (λ event. call_word event ≡ codes "extract") }
     ensures arguments { IfOk result (λ event. call_arguments event ++ words.new ≡ words.old) }
+    ensures fits { IfOk result Fits }
     ensures read { (task name disposition to : ℕ) (behind : List (List ℕ)) → task < 2 ^ 32 → name < 2 ^ 32 → disposition < 2 ^ 32 → to < 2 ^ 32
         → decimal task ∷ decimal name ∷ decimal disposition ∷ decimal to ∷ behind ≡ words.old
         → IsRead result words.new behind }
@@ -200,6 +210,7 @@ fn read_extract(words: &mut Words<'_>) -> Result<Event, TextFault>
 fn read_send(alloc: Global, words: &mut Words<'_>) -> Result<Event, TextFault>
     ensures word { IfOk result (λ event. call_word event ≡ codes "send") }
     ensures arguments { IfOk result (λ event. call_arguments event ++ words.new ≡ words.old) }
+    ensures fits { IfOk result Fits }
     ensures read { (task : ℕ) (bytes : List ℕ) (behind : List (List ℕ)) → task < 2 ^ 32 → All (λ byte. byte < 256) bytes → decimal task ∷ bytes_text bytes ∷ behind ≡ words.old
         → IsRead result words.new behind }
 {
@@ -211,6 +222,7 @@ fn read_send(alloc: Global, words: &mut Words<'_>) -> Result<Event, TextFault>
 fn read_recv(words: &mut Words<'_>) -> Result<Event, TextFault>
     ensures word { IfOk result (λ event. call_word event ≡ codes "recv") }
     ensures arguments { IfOk result (λ event. call_arguments event ++ words.new ≡ words.old) }
+    ensures fits { IfOk result Fits }
     ensures read { (task name room : ℕ) (large : Bool) (behind : List (List ℕ)) → task < 2 ^ 32 → name < 2 ^ 32 → room < 2 ^ 32 → decimal task ∷ decimal name ∷ decimal room ∷ flag_text large ∷ behind ≡ words.old
         → IsRead result words.new behind }
 {
@@ -223,6 +235,7 @@ fn read_recv(words: &mut Words<'_>) -> Result<Event, TextFault>
 fn read_again(words: &mut Words<'_>) -> Result<Event, TextFault>
     ensures word { IfOk result (λ event. call_word event ≡ codes "again") }
     ensures arguments { IfOk result (λ event. call_arguments event ++ words.new ≡ words.old) }
+    ensures fits { IfOk result Fits }
     ensures read { (task : ℕ) (waited : AnyWaited) (room : ℕ) (large : Bool) (behind : List (List ℕ)) → task < 2 ^ 32 → FitsWaited waited → room < 2 ^ 32 → decimal task ∷ (waited_words waited ++ decimal room ∷ flag_text large ∷ behind) ≡ words.old
         → IsRead result words.new behind }
 {

@@ -51,6 +51,7 @@ fn parse_pair(high: u8, low: u8) -> Option<u8>
 /// bytes is refused.
 pub fn parse_bytes(alloc: Global, text: &[u8]) -> Result<Bytes, TextFault>
     ensures ok { IfOk result (λ bytes. bytes_text bytes ≡ text.now) }
+    ensures fits { IfOk result (λ bytes. All (λ byte. byte < 256) bytes) }
     ensures each { (bytes : List ℕ) → All (λ byte. byte < 256) bytes → bytes_text bytes ≡ text.now
         → IsOkUnless result OutOfMemory }
 {
@@ -76,6 +77,7 @@ fn split_pair(text: &[u8]) -> Option<(u8, &[u8])>
 /// The bytes that the text spells, two digits a byte. Faults are as for [`parse_bytes`].
 fn parse_pairs(alloc: Global, text: &[u8]) -> Result<Vec<u8>, TextFault>
     ensures ok { IfOk result (λ bytes. hex_digits bytes.items ≡ text.now) }
+    ensures fits { IfOk result (λ bytes. All (λ byte. byte < 256) bytes.items) }
     ensures each { (bytes : List ℕ) → All (λ byte. byte < 256) bytes → hex_digits bytes ≡ text.now
         → IsOkUnless result OutOfMemory }
 {

@@ -1,8 +1,8 @@
 //! Scripts: calls, one a line.
-ghost use Rattle.std.specs.Prelude.{◌≡◌, ℕ, ◌+◌, List, length, ◌++◌, IfOk, Err, flat_map};
+ghost use Rattle.std.specs.Prelude.{◌≡◌, ℕ, List, ◌++◌, All, IfOk, IsOkUnless, Err, flat_map};
 ghost use Rattle.mach_types.specs.declared.calls.Event.{Event as AnyEvent};
 ghost use Rattle.tracer_base.specs.declared.script.ScriptFault.TheVariants.{OutOfMemory};
-ghost use Rattle.tracer_base.specs.Calls.{line_text, StartsNoCall};
+ghost use Rattle.tracer_base.specs.Calls.{Fits, line_text, StartsNoCall, IsFirstBadLine};
 
 use crate::calls::read_call;
 use crate::fault::TextFault;
@@ -32,14 +32,12 @@ impl<T: Drop> From<AllocFailed<T>> for ScriptFault {
 
 /// The calls of a script, in its order. Each line is one call and ends in a line feed.
 ///
-/// `BadCall` comes at the first line that is no call, or that ends without its line feed. Time and
-/// memory grow with the length of the text.
+/// `BadCall` comes at the first line that is no call, or that ends without its line feed, and only
+/// where there is such a line. Time and memory grow with the length of the text.
 pub fn read_script(alloc: Global, text: &[u8]) -> Result<Vec<Event>, ScriptFault>
-    ensures ok { IfOk result (λ events. flat_map line_text events.items ≡ text.now) }
-
-    // The lines before the one that is named are calls, and that one is none.
-    ensures bad { (n : ℕ) → result ≡ Err (ScriptFault.BadCall n) → (events : List AnyEvent) × (rest : List ℕ)
-        × (length events + 1 ≡ n) × (flat_map line_text events ++ rest ≡ text.now) × StartsNoCall rest }
+    ensures ok { IfOk result (λ events. All Fits events.items × (flat_map line_text events.items ≡ text.now)) }
+    ensures each { (events : List AnyEvent) → All Fits events → flat_map line_text events ≡ text.now → IsOkUnless result OutOfMemory }
+    ensures bad { (n : ℕ) → result ≡ Err (ScriptFault.BadCall n) → IsFirstBadLine text.now n }
 {
     let mut events = Vec::new(alloc);
     let mut rest = text;
@@ -54,7 +52,7 @@ pub fn read_script(alloc: Global, text: &[u8]) -> Result<Vec<Event>, ScriptFault
 
 /// The call of the first line, which has this number, and what stands behind its line feed.
 fn read_line(alloc: Global, text: &[u8], number: u64) -> Result<(Event, &[u8]), ScriptFault>
-    ensures ok { IfOk result (λ read. line_text read.0 ++ read.1.now ≡ text.now) }
+    ensures ok { IfOk result (λ read. Fits read.0 × (line_text read.0 ++ read.1.now ≡ text.now)) }
     ensures bad { (n : ℕ) → result ≡ Err (ScriptFault.BadCall n) → (n ≡ number) × StartsNoCall text.now }
 {
     let Some((line, rest)) = split_once(text, b'\n') else {

@@ -93,6 +93,7 @@ impl<'a> Words<'a> {
     /// The next word as a decimal number of 32 bits.
     pub fn number(&mut self) -> Result<u32, TextFault>
         ensures ok { IfOk result (λ number. decimal number ∷ self.new ≡ self.old) }
+        ensures fits { IfOk result (λ number. number < 2 ^ 32) }
         ensures read { (number : ℕ) (behind : List (List ℕ)) → number < 2 ^ 32 → decimal number ∷ behind ≡ self.old
             → IsRead result self.new behind }
     {
@@ -112,6 +113,7 @@ impl<'a> Words<'a> {
     /// another.
     pub fn delta(&mut self) -> Result<i32, TextFault>
         ensures ok { IfOk result (λ delta. signed_decimal delta ∷ self.new ≡ self.old) }
+        ensures fits { IfOk result FitsDelta }
         ensures read { (delta : ℤ) (behind : List (List ℕ)) → FitsDelta delta → signed_decimal delta ∷ behind ≡ self.old
             → IsRead result self.new behind }
     {
@@ -121,6 +123,7 @@ impl<'a> Words<'a> {
     /// The next word as the number of a task.
     pub fn task(&mut self) -> Result<TaskId, TextFault>
         ensures ok { IfOk result (λ task. decimal task ∷ self.new ≡ self.old) }
+        ensures fits { IfOk result (λ task. task < 2 ^ 32) }
         ensures read { (task : ℕ) (behind : List (List ℕ)) → task < 2 ^ 32 → decimal task ∷ behind ≡ self.old
             → IsRead result self.new behind }
     {
@@ -130,6 +133,7 @@ impl<'a> Words<'a> {
     /// The next word as a name.
     pub fn name(&mut self) -> Result<Name, TextFault>
         ensures ok { IfOk result (λ name. decimal name ∷ self.new ≡ self.old) }
+        ensures fits { IfOk result (λ name. name < 2 ^ 32) }
         ensures read { (name : ℕ) (behind : List (List ℕ)) → name < 2 ^ 32 → decimal name ∷ behind ≡ self.old
             → IsRead result self.new behind }
     {
@@ -139,6 +143,7 @@ impl<'a> Words<'a> {
     /// The next two words as a task and a name of the task's.
     pub fn task_and_name(&mut self) -> Result<(TaskId, Name), TextFault>
         ensures ok { IfOk result (λ read. decimal read.0 ∷ decimal read.1 ∷ self.new ≡ self.old) }
+        ensures fits { IfOk result (λ read. (read.0 < 2 ^ 32) × (read.1 < 2 ^ 32)) }
         ensures read { (task name : ℕ) (behind : List (List ℕ)) → task < 2 ^ 32 → name < 2 ^ 32
             → decimal task ∷ decimal name ∷ behind ≡ self.old → IsRead result self.new behind }
     {
@@ -148,6 +153,7 @@ impl<'a> Words<'a> {
     /// The next three words as a task and two names of the task's.
     pub fn task_and_names(&mut self) -> Result<(TaskId, Name, Name), TextFault>
         ensures ok { IfOk result (λ read. decimal read.0 ∷ decimal read.1 ∷ decimal read.2 ∷ self.new ≡ self.old) }
+        ensures fits { IfOk result (λ read. (read.0 < 2 ^ 32) × (read.1 < 2 ^ 32) × (read.2 < 2 ^ 32)) }
         ensures read { (task name other : ℕ) (behind : List (List ℕ)) → task < 2 ^ 32 → name < 2 ^ 32 → other < 2 ^ 32
             → decimal task ∷ decimal name ∷ decimal other ∷ behind ≡ self.old → IsRead result self.new behind }
     {
@@ -158,6 +164,7 @@ impl<'a> Words<'a> {
     /// The next three words as a task, a name of the task's, and a number.
     pub fn task_name_and_number(&mut self) -> Result<(TaskId, Name, u32), TextFault>
         ensures ok { IfOk result (λ read. decimal read.0 ∷ decimal read.1 ∷ decimal read.2 ∷ self.new ≡ self.old) }
+        ensures fits { IfOk result (λ read. (read.0 < 2 ^ 32) × (read.1 < 2 ^ 32) × (read.2 < 2 ^ 32)) }
         ensures read { (task name number : ℕ) (behind : List (List ℕ)) → task < 2 ^ 32 → name < 2 ^ 32 → number < 2 ^ 32
             → decimal task ∷ decimal name ∷ decimal number ∷ behind ≡ self.old → IsRead result self.new behind }
     {
@@ -168,6 +175,7 @@ impl<'a> Words<'a> {
     /// The next word as a decimal number of 64 bits.
     fn identity(&mut self) -> Result<u64, TextFault>
         ensures ok { IfOk result (λ number. decimal number ∷ self.new ≡ self.old) }
+        ensures fits { IfOk result (λ number. number < 2 ^ 64) }
         ensures read { (number : ℕ) (behind : List (List ℕ)) → number < 2 ^ 64 → decimal number ∷ behind ≡ self.old
             → IsRead result self.new behind }
     {
@@ -177,6 +185,7 @@ impl<'a> Words<'a> {
     /// The next two words as what a receive waited for: `p` and a port's identity, or `s` and a set's.
     pub fn waited(&mut self) -> Result<Waited, TextFault>
         ensures ok { IfOk result (λ waited. waited_words waited ++ self.new ≡ self.old) }
+        ensures fits { IfOk result FitsWaited }
         ensures read { (waited : AnyWaited) (behind : List (List ℕ)) → FitsWaited waited → waited_words waited ++ behind ≡ self.old
             → IsRead result self.new behind }
     {
@@ -221,6 +230,7 @@ impl<'a> Words<'a> {
     /// The next word as bytes in hexadecimal, `-` for none.
     pub fn bytes(&mut self, alloc: Global) -> Result<Bytes, TextFault>
         ensures ok { IfOk result (λ bytes. bytes_text bytes ∷ self.new ≡ self.old) }
+        ensures fits { IfOk result (λ bytes. All (λ byte. byte < 256) bytes) }
         ensures read { (bytes : List ℕ) (behind : List (List ℕ)) → All (λ byte. byte < 256) bytes → bytes_text bytes ∷ behind ≡ self.old
             → IsRead result self.new behind }
     {
