@@ -1,6 +1,7 @@
 pub mod Gets
 pub mod Spaces
 pub mod Roomier
+pub mod Spares
 pub mod AttributesSet
 pub mod Counting
 pub mod Agreeing

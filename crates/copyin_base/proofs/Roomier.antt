@@ -7,7 +7,7 @@ use Rattle.mach_model.specs.State.{State}
 use Rattle.name_space.specs.Names.{Names, SpaceView}
 use Rattle.copyin_base.specs.Worlds.{WorldView, entry_in, entry_at}
 use Rattle.copyin_base.specs.Shows.{Agrees, Shows, target_of}
-use Rattle.copyin_base.specs.Changes.{AddsRoom, MakesRoom, SameButRoom}
+use Rattle.copyin_base.specs.Changes.{MakesRoom, SameButRoom}
 use Rattle.copyin_base.proofs.Gets.{each-set, length-set}
 
 abbrev names_in : Option SpaceView → Option Names
@@ -75,11 +75,8 @@ roomier w task space room there = record {
   sets = refl;
 }
 
-pub room_made : (w v : WorldView) (task : ℕ) → MakesRoom w task v → SameButRoom w v
-room_made w v task m = subst (SameButRoom w) (sym m.rest) (roomier w task m.space m.room m.there)
-
-pub room_added : (w v : WorldView) (task : ℕ) → AddsRoom w task v → SameButRoom w v
-room_added w v task m = subst (SameButRoom w) (sym m.rest) (roomier w task m.space m.room m.there)
+pub room_made : (w v : WorldView) (task number : ℕ) → MakesRoom w task number v → SameButRoom w v
+room_made w v task number m = subst (SameButRoom w) (sym m.rest) (roomier w task m.space _ m.there)
 
 -- the same stands under each name
 pub room_entry : (w v : WorldView) → SameButRoom w v → (task name : ℕ) → entry_at v task name ≡ entry_at w task name

@@ -1,5 +1,5 @@
 -- What the verbs of the tables change: what stands under one name, or the attributes of one port. All else stays.
-use Rattle.std.specs.Prelude.{◌≡◌, ℕ, ◌-◌, ◌<◌, ◌≤◌, Option, Some, None, IfSome, length, slice_get, slice_set, true}
+use Rattle.std.specs.Prelude.{◌≡◌, ℕ, ◌-◌, ◌<◌, Option, Some, None, IfSome, length, max, slice_get, slice_set, true}
 use Rattle.std.specs.Option.{option_map}
 use Rattle.std.specs.FinMap as map
 use Rattle.mach_types.specs.Numbers.{most_names}
@@ -42,21 +42,11 @@ pub record InsertsEntry (old : WorldView) (task name : ℕ) (entry : Entry) (new
   pub there : slice_get old.spaces task ≡ Some space
   pub rest : new ≡ record old { spaces = slice_set old.spaces task (record { names = map.insert space.names name entry; room = space.room - 1 }) }
 
--- All is as before, but that the task has room for as many names or more.
-pub record AddsRoom (old : WorldView) (task : ℕ) (new : WorldView) : Type 0 where
+-- There is room for just so many names more of the task, or for as many as there was where that is more.
+pub record MakesRoom (old : WorldView) (task number : ℕ) (new : WorldView) : Type 0 where
   pub space : SpaceView
   pub there : slice_get old.spaces task ≡ Some space
-  pub room : ℕ
-  pub more : space.room ≤ room
-  pub rest : new ≡ record old { spaces = slice_set old.spaces task (record space { room = room }) }
-
--- There is room for a name more of the task.
-pub record MakesRoom (old : WorldView) (task : ℕ) (new : WorldView) : Type 0 where
-  pub space : SpaceView
-  pub there : slice_get old.spaces task ≡ Some space
-  pub room : ℕ
-  pub some : 0 < room
-  pub rest : new ≡ record old { spaces = slice_set old.spaces task (record space { room = room }) }
+  pub rest : new ≡ record old { spaces = slice_set old.spaces task (record space { room = max space.room number }) }
 
 -- All is as before, but for room for names to come.
 pub record SameButRoom (old new : WorldView) : Type 0 where

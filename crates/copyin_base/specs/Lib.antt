@@ -5,3 +5,4 @@ pub mod Stands
 pub mod Acts
 pub mod Finds
 pub mod Changes
+pub mod Wanted

@@ -1,7 +1,8 @@
 //! What stands under a name, changed.
-ghost use Rattle.std.specs.Prelude.{◌≡◌, ◌<◌, ◌≤◌, OnOk, IfErr, length};
+ghost use Rattle.std.specs.Prelude.{◌≡◌, ◌<◌, OnOk, OnErr, IfErr, length};
 ghost use Rattle.mach_types.specs.declared.codes.KernReturn.TheVariants as kern;
-ghost use Rattle.copyin_base.specs.Changes.{CanPutLeft, PutsLeft, CanInsert, InsertsEntry, AddsRoom, MakesRoom};
+ghost use Rattle.copyin_base.specs.Changes.{CanPutLeft, PutsLeft, CanInsert, InsertsEntry, MakesRoom};
+ghost use Rattle.copyin_base.specs.Wanted.{LacksRoom, LacksRoomFor};
 
 use crate::world::World;
 use mach_types::{KernReturn, Name, TaskId};
@@ -36,14 +37,16 @@ impl World {
         self.spaces[task.number() as usize].insert(name, entry);
     }
 
-    /// Makes room for so many more names of the task. Room that is there stays and counts.
+    /// Makes room for so many more names of the task. Room that is there stays and counts: where it is
+    /// less, there is then room for just so many.
     ///
-    /// `KERN_RESOURCE_SHORTAGE` where memory was refused; all is then as before. Constant time, but
-    /// where the names move to a larger place.
+    /// `KERN_RESOURCE_SHORTAGE` where there was less room and memory was refused; all is then as
+    /// before. Constant time, but where the names move to a larger place.
     pub fn reserve_names(&mut self, task: TaskId, number: usize) -> Result<(), KernReturn>
         requires { task < length self.old.spaces }
-        ensures ok { OnOk result ((r : AddsRoom self.old task self.new) × (number ≤ r.room)) }
+        ensures ok { OnOk result (MakesRoom self.old task number self.new) }
         ensures err { IfErr result (λ code. (code ≡ kern.ResourceShortage) × (self.new ≡ self.old)) }
+        ensures lacks { OnErr result (LacksRoomFor self.old task number) }
     {
         match self.spaces[task.number() as usize].reserve(number) {
             Ok(()) => Ok(()),
@@ -54,8 +57,9 @@ impl World {
     /// Makes room for a name more of the task, as [`World::reserve_names`].
     pub fn reserve_name(&mut self, task: TaskId) -> Result<(), KernReturn>
         requires { task < length self.old.spaces }
-        ensures ok { OnOk result (MakesRoom self.old task self.new) }
+        ensures ok { OnOk result (MakesRoom self.old task 1 self.new) }
         ensures err { IfErr result (λ code. (code ≡ kern.ResourceShortage) × (self.new ≡ self.old)) }
+        ensures lacks { OnErr result (LacksRoom self.old task) }
     {
         self.reserve_names(task, 1)
     }

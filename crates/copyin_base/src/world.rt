@@ -1,5 +1,5 @@
 //! The kernel's tables.
-ghost use Rattle.std.specs.Prelude.{◌≡◌, ◌<◌, ◌≤◌, ◌↔◌, IsTrue, OnOk, Some, length, slice_get};
+ghost use Rattle.std.specs.Prelude.{◌≡◌, ◌<◌, ◌↔◌, IsTrue, max, OnOk, OnErr, Some, length, slice_get};
 ghost use Rattle.copyin_base.specs.Worlds.{entry_at, no_world};
 
 use crate::message::Message;
@@ -82,13 +82,14 @@ impl World {
         self.spaces.get(task.number() as usize)?.lookup(name)
     }
 
-    /// Makes a spare message slot, if there is none. All else is as before.
+    /// Makes one spare message slot where there is none; where there are some, nothing changes.
+    /// Constant time.
     ///
-    /// An error means that memory was refused.
+    /// An error means that there was none and memory was refused; all is then as before.
     pub fn reserve_slot(&mut self) -> Result<(), AllocError>
         ensures rest { self.new ≡ record self.old { ports = record self.old.ports { spare = self.new.ports.spare } } }
-        ensures ok { OnOk result (0 < self.new.ports.spare) }
-        ensures room { self.old.ports.spare ≤ self.new.ports.spare }
+        ensures ok { OnOk result (self.new.ports.spare ≡ max self.old.ports.spare 1) }
+        ensures err { OnErr result ((self.old.ports.spare ≡ 0) × (self.new ≡ self.old)) }
     {
         if self.ports.spare() > 0 {
             return Ok(());

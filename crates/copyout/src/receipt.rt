@@ -10,7 +10,7 @@ ghost use Rattle.port.specs.Ports.{PortView, with_port};
 ghost use Rattle.rights.specs.declared.RightKind.TheVariants as right;
 ghost use Rattle.rights.specs.Ledger.{IsEntered, counts_of, taken};
 ghost use Rattle.rights.specs.Counts.{number_of};
-ghost use Rattle.copyin_base.specs.Changes.{AddsRoom};
+ghost use Rattle.copyin_base.specs.Changes.{MakesRoom};
 ghost use Rattle.copyin_base.specs.Kept.{Kept};
 ghost use Rattle.copyin_base.specs.Worlds.{WorldView, port_at};
 ghost use Rattle.copyin.specs.Plans.{option_list};
@@ -259,7 +259,7 @@ pub fn receive(
 ) -> Result<Bytes, Refusal>
     requires there { task < length world.old.spaces }
     requires waits { Waits world.old port }
-    ensures ok { IfOk result (λ bytes. (start : WorldView) × AddsRoom world.old task start × (t : TakesMessage start task port local bytes world.new)
+    ensures ok { IfOk result (λ bytes. (number : ℕ) × (start : WorldView) × MakesRoom world.old task number start × (t : TakesMessage start task port local bytes world.new)
         × (length t.takes.front.bytes ≤ min room most_bytes)) }
     ensures err { IfErr result (λ refusal. (world.new ≡ world.old) × (m : Kept) × HasFront world.old port m × IsRefusedBy world.old task m room refusal) }
 {

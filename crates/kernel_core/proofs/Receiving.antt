@@ -22,7 +22,7 @@ use Rattle.port.specs.Ports.{PortView}
 use Rattle.port.specs.declared.Attributes.{Attributes}
 use Rattle.port_set.specs.declared.SetRecord.{SetRecord}
 use Rattle.copyin_base.specs.Acts.{Acts, Declines, IsRefused, IsAllowed}
-use Rattle.copyin_base.specs.Changes.{AddsRoom, HasAttributes, SameButRoom}
+use Rattle.copyin_base.specs.Changes.{MakesRoom, HasAttributes, SameButRoom}
 use Rattle.copyin_base.specs.Finds.{FindsReceive}
 use Rattle.copyin_base.specs.Kept.{Kept}
 use Rattle.copyin_base.specs.Shows.{target_of, Shows}
@@ -31,7 +31,7 @@ use Rattle.copyin_base.specs.Worlds.{WorldView, entry_at, port_at}
 use Rattle.copyin_base.proofs.Acting.{refused, refused_later, done}
 use Rattle.copyin_base.proofs.Told.{port_of, receive_has, unused, found, names_port, holds_receive, names_receive, not_receive, receive_lives, port_there, among_tasks}
 use Rattle.copyin_base.proofs.Gets.{seen}
-use Rattle.copyin_base.proofs.Roomier.{room_added, room_entry, room_shows}
+use Rattle.copyin_base.proofs.Roomier.{room_made, room_entry, room_shows}
 use Rattle.copyout.specs.Ready.{HasFront, Waits, carried_by}
 use Rattle.copyout.specs.Giving.{AllLack}
 use Rattle.copyout.specs.Takes.{TakesMessage}
@@ -276,11 +276,11 @@ module _ (w : WorldView) (task : ℕ) (below : task < length w.spaces) (waited :
   receipt_empty none = record { receipt = λ large s sh. record { mid = s; receipt = (refl, empty_for w s sh task waited none, refl, refl); agrees = sh.agrees } }
 
   module _ (port : ℕ) (f : IsFrom w waited port) where
-    pub receipt_message : (name : ℕ) → FindsReceive w task name port → (bytes : List ℕ) (start new : WorldView) → AddsRoom w task start → (t : TakesMessage start task port name bytes new) →
+    pub receipt_message : (name : ℕ) → FindsReceive w task name port → (bytes : List ℕ) (number : ℕ) (start new : WorldView) → MakesRoom w task number start → (t : TakesMessage start task port name bytes new) →
         length t.takes.front.bytes ≤ min room most_bytes → IsReceipt w task waited room (Reply.Message bytes) new
-    receipt_message name finds bytes start new mr t fits = record {
+    receipt_message name finds bytes number start new mr t fits = record {
       receipt = λ large s sh.
-          let same : SameButRoom w start = room_added w start task mr in
+          let same : SameButRoom w start = room_made w start task number mr in
           let at : entry_at start task name ≡ Some finds.entry = room_entry w start same task name ∙ finds.found in
           let x = message_received start s (room_shows w start s same sh) task port name bytes new t finds.entry at (receive_has finds.entry port finds.named).0 room fits in
           record { mid = x.t; receipt = (port, from s sh port f, x.receives, refl); agrees = x.shows.agrees };

@@ -1,6 +1,6 @@
 -- A right handed from a task to another: refused in each state that the tables show, or done.
 use Rattle.std.proofs.Common.{◌≡◌, ◌≢◌, ℕ, ◌+◌, ◌<◌, ◌≤◌, List, [], ◌∷◌, ◌++◌, Option, Some, None, refl, sym, ap, subst, ◌∙◌, arith, true, false, Bool, ◌⊎◌, inl, inr, length}
-use Rattle.std.specs.Prelude.{if◌then◌else◌, nat_lt, slice_get, ◌==◌, ◌&&◌, MatchBool}
+use Rattle.std.specs.Prelude.{max, if◌then◌else◌, nat_lt, slice_get, ◌==◌, ◌&&◌, MatchBool}
 use Rattle.std.proofs.lemmas.Bool.{lt-ltb, le-ltb, ltb-true, ltb-false}
 use Rattle.mach_types.specs.declared.calls.Event.{Event}
 use Rattle.mach_types.specs.declared.calls.Reply.{Reply}
@@ -104,15 +104,15 @@ module _ (w : WorldView) (task number : ℕ) (g : Going) (goes : CanGo w number 
 
 -- ---- done, in tables with room for a name more
 
-module _ (w : WorldView) (task number : ℕ) (g : Going) (goes : CanGo w number g) (ready : WorldView) (m : MakesRoom w task ready) where
+module _ (w : WorldView) (task number : ℕ) (g : Going) (goes : CanGo w number g) (ready : WorldView) (m : MakesRoom w task 1 ready) where
   same : SameButRoom w ready
-  same = room_made w ready task m
+  same = room_made w ready task 1 m
 
   goes_ready : CanGo ready number g
   goes_ready = record { given = goes.given; entry = goes.entry; found = room_entry w ready same g.from g.name ∙ goes.found; is = goes.is }
 
   abbrev roomy : SpaceView
-  roomy = record m.space { room = m.room }
+  roomy = record m.space { room = max m.space.room 1 }
 
   was : slice_get ready.spaces task ≡ Some roomy
   was = ap (λ (x : WorldView). slice_get x.spaces task) m.rest ∙ get-set_same w.spaces task roomy m.space m.there
@@ -147,10 +147,10 @@ module _ (w : WorldView) (task number : ℕ) (g : Going) (goes : CanGo w number 
       left = is_left ready s shows_ready task number g goes_ready roomy was mid copies
 
       pub mid_puts : (name : ℕ) → IsUsable name → NoneHolds (insert_later w task name g) → CanPut mid task kind g.port name
-      mid_puts name usable none = can_put ready s task number g mid left roomy was m.some name usable (insert_ready name none)
+      mid_puts name usable none = can_put ready s task number g mid left roomy was (omega arith) name usable (insert_ready name none)
 
       pub mid_gives : NoneHolds (extract_later w task g) → CanGive mid task (record { given = g.given; mark = mark.Port g.port } ∷ [])
-      mid_gives none = can_give ready s task number g mid left roomy was m.some (extract_ready none)
+      mid_gives none = can_give ready s task number g mid left roomy was (omega arith) (extract_ready none)
 
       abbrev k : ℕ
       k = length (s.log 0)
@@ -335,7 +335,7 @@ module _ (w : WorldView) (to from : TaskName) (number : ℕ) (given_by : Disposi
   pub insert_short_of : (to.task < length w.spaces) × (from.task < length w.spaces) → Declines w (Event.InsertRight to.task to.name from.task from.name number) (kern_number ResourceShortage) w
   insert_short_of tasks = insert_short w to.task number inserting may.goes tasks.0 to.name may.to_named may.from_named tasks may.unrefused
 
-  module _ (ready : WorldView) (room : MakesRoom w to.task ready) where
+  module _ (ready : WorldView) (room : MakesRoom w to.task 1 ready) where
     pub inserts_copies : Stands w → CanCopy ready from.task from.name (record { given = given_by; mark = mark.Port port })
     inserts_copies stands = ready_copies w to.task number inserting may.goes ready room stands.state stands.shown (λ many. may.unrefused.1.1.1.0 (inr many))
 
@@ -360,7 +360,7 @@ module _ (w : WorldView) (from : TaskName) (number to : ℕ) (given_by : Disposi
   pub extract_short_of : (from.task < length w.spaces) × (to < length w.spaces) → Declines w (Event.ExtractRight from.task from.name number to) (kern_number ResourceShortage) w
   extract_short_of tasks = extract_short w to number extracting may.goes tasks.1 tasks may.unrefused
 
-  module _ (ready : WorldView) (room : MakesRoom w to ready) where
+  module _ (ready : WorldView) (room : MakesRoom w to 1 ready) where
     pub extracts_copies : Stands w → CanCopy ready from.task from.name (record { given = given_by; mark = mark.Port port })
     extracts_copies stands = ready_copies w to number extracting may.goes ready room stands.state stands.shown (λ many. may.unrefused.0 (inr many))
 

@@ -1,6 +1,6 @@
 -- One right more, named by the task: room for its name, what is made, and its name put together.
-use Rattle.std.proofs.Common.{◌≡◌, ℕ, ◌-◌, ◌<◌, List, Some, refl, sym, ap, subst, ◌∙◌}
-use Rattle.std.specs.Prelude.{slice_get, slice_set}
+use Rattle.std.proofs.Common.{◌≡◌, ℕ, ◌-◌, ◌<◌, List, Some, refl, sym, ap, subst, ◌∙◌, arith}
+use Rattle.std.specs.Prelude.{max, slice_get, slice_set}
 use Rattle.std.specs.FinMap as map
 use Rattle.name_space.specs.declared.Entry.{Entry}
 use Rattle.name_space.specs.Names.{SpaceView, HasNoOther}
@@ -23,9 +23,9 @@ entry_with w spaces new_right.Port = refl
 entry_with w spaces new_right.Set = refl
 entry_with w spaces new_right.DeadName = refl
 
-module _ (w w1 w2 : WorldView) (task name : ℕ) (r : NewRight) (e : Entry) (can : CanAdd w task r name) (room : MakesRoom w task w1) (made : MakesRight w1 task r name e w2) where
+module _ (w w1 w2 : WorldView) (task name : ℕ) (r : NewRight) (e : Entry) (can : CanAdd w task r name) (room : MakesRoom w task 1 w1) (made : MakesRight w1 task r name e w2) where
   abbrev roomy : SpaceView
-  roomy = record room.space { room = room.room }
+  roomy = record room.space { room = max room.space.room 1 }
 
   whole : w2 ≡ record (with_made w task r name) { spaces = slice_set w.spaces task roomy }
   whole = made.rest ∙ ap (λ (x : WorldView). with_made x task r name) room.rest ∙ made_with w (slice_set w.spaces task roomy) task r name
@@ -46,7 +46,7 @@ module _ (w w1 w2 : WorldView) (task name : ℕ) (r : NewRight) (e : Entry) (can
     usable = can.usable;
     unused = ap (λ (x : SpaceView). map.get x.names name) (sym same) ∙ can.unused;
     few = subst (λ (x : SpaceView). map.len x.names < 65535) same can.has.room;
-    room = room.some;
+    room = omega arith;
     apart = subst (λ (x : SpaceView). HasNoOther x.names e) same (subst (HasNoOther can.has.space.names) (sym entry_is) can.apart);
   }
 
@@ -56,8 +56,8 @@ module _ (w w1 w2 : WorldView) (task name : ℕ) (r : NewRight) (e : Entry) (can
       record {
         space = room.space;
         there = room.there;
-        room = room.room - 1;
+        room = max room.space.room 1 - 1;
         rest = i.rest ∙ (λ k. record (whole k) { spaces = slice_set (whole k).spaces task (record { names = map.insert (at k).names name (entry_is k); room = (at k).room - 1 }) })
             ∙ ap (λ (xs : List SpaceView). record (with_made w task r name) { spaces = xs })
-            (set-set w.spaces task roomy (record { names = map.insert room.space.names name (entry_made w r); room = room.room - 1 }));
+            (set-set w.spaces task roomy (record { names = map.insert room.space.names name (entry_made w r); room = max room.space.room 1 - 1 }));
       }

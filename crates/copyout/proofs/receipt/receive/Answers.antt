@@ -6,7 +6,7 @@ pub copyout-requires-clause-ready : goal.copyout-requires-clause-ready
 copyout-requires-clause-ready c =
     let j = c.in_ok-number.ensures.ok in
     let r = c.in-Ok.ensures.ok in
-    ready_after c.args.world.now c.reserve_names.new.self c.args.task c.args.port (vec_capacity c.in_ok-number.names) c.in_ok-number.number c.requires.waits j.0 j.1 r.0 r.1 j.2 j.4 j.6
+    ready_after c.args.world.now c.reserve_names.new.self c.args.task c.args.port (vec_capacity c.in_ok-number.names) c.in_ok-number.number c.requires.waits j.0 j.1 r j.2 j.4 j.6
 
 pub returns-in-Ok : goal.returns-in-Ok
 returns-in-Ok c =
@@ -14,6 +14,6 @@ returns-in-Ok c =
     let r = c.in-Ok.ensures.ok in
     let t = c.copyout.ensures in
     record {
-      ok = (c.reserve_names.new.self, r.0, t, taken_fits c.args.world.now c.reserve_names.new.self c.args.task c.args.port c.args.room j.0 j.1 r.0 j.5 t.mid t.takes);
+      ok = (c.in_ok-number.number, c.reserve_names.new.self, r, t, taken_fits c.args.world.now c.reserve_names.new.self c.args.task c.args.port c.args.room c.in_ok-number.number j.0 j.1 r j.5 t.mid t.takes);
       err = tt;
     }
