@@ -1,6 +1,6 @@
 -- What is made under a name, in the tables and in the machine alike, and where nothing more can be.
-use Rattle.std.proofs.Common.{◌≡◌, ℕ, ◌+◌, ◌<◌, ◌≤◌, [], Option, Some, None, refl, sym, ap, subst, ◌∙◌, arith, ◌⊎◌, inl, inr, length}
-use Rattle.std.specs.Prelude.{slice_get, slice_set, is_some, true}
+use Rattle.std.proofs.Common.{◌≡◌, ℕ, ◌+◌, ◌-◌, ◌<◌, ◌≤◌, [], Option, Some, None, refl, sym, ap, subst, ◌∙◌, arith, ◌⊎◌, inl, inr, length}
+use Rattle.std.specs.Prelude.{slice_get, slice_set, is_some, true, max}
 use Rattle.std.specs.Option.{option_map, option_and_then}
 use Rattle.std.specs.FinMap as map
 use Rattle.mach_types.specs.declared.calls.Event.{Event}
@@ -119,14 +119,14 @@ module _ (w v : WorldView) (s : State) (a : Agrees w s) (l : IsLawful s) (task n
 
   pub made_agrees : (r : NewRight) → Adds w task r name v → Agrees v (with_right r s task name)
   made_agrees new_right.Port adds =
-      subst (λ (x : WorldView). Agrees x (allocated s task name)) (ap (with_number w task name adds.space adds.room) (sym a.ports_made) ∙ sym adds.rest)
-      (allocated_agrees w s a l task name adds.space adds.room adds.there (free adds.space adds.there))
+      subst (λ (x : WorldView). Agrees x (allocated s task name)) (ap (with_number w task name adds.space (max adds.space.room 1 - 1)) (sym a.ports_made) ∙ sym adds.rest)
+      (allocated_agrees w s a l task name adds.space (max adds.space.room 1 - 1) adds.there (free adds.space adds.there))
   made_agrees new_right.Set adds =
-      subst (λ (x : WorldView). Agrees x (with_set task name s)) (ap (with_set_number w task name adds.space adds.room) (sym a.sets_made) ∙ sym adds.rest)
-      (set_agrees w s a task name adds.space adds.room adds.there (free adds.space adds.there))
+      subst (λ (x : WorldView). Agrees x (with_set task name s)) (ap (with_set_number w task name adds.space (max adds.space.room 1 - 1)) (sym a.sets_made) ∙ sym adds.rest)
+      (set_agrees w s a task name adds.space (max adds.space.room 1 - 1) adds.there (free adds.space adds.there))
   made_agrees new_right.DeadName adds =
       subst (λ (x : WorldView). Agrees x (with_name task name (Target.dead 1) s)) (sym adds.rest)
-      (added_agrees w s a task adds.space adds.there name (entry.DeadName 1) adds.room (free adds.space adds.there) refl tt)
+      (added_agrees w s a task adds.space adds.there name (entry.DeadName 1) (max adds.space.room 1 - 1) (free adds.space adds.there) refl tt)
 
 -- a fresh name in the tables is one in the machine
 pub fresh : (w : WorldView) (s : State) → Agrees w s → (task : ℕ) (space : SpaceView) → slice_get w.spaces task ≡ Some space → (name : ℕ) → IsFreshName space.names name → IsFresh (s.naming task) name

@@ -5,6 +5,8 @@ pub mod Allocated
 pub mod Entered
 pub mod RightAdded
 pub mod Memory
+pub mod Spares
+pub mod Wanted
 pub mod Listed
 pub mod NamesTold
 pub mod TokensRenamed

@@ -56,7 +56,6 @@ module _ (w w1 w2 : WorldView) (task name : ℕ) (r : NewRight) (e : Entry) (can
       record {
         space = room.space;
         there = room.there;
-        room = max room.space.room 1 - 1;
         rest = i.rest ∙ (λ k. record (whole k) { spaces = slice_set (whole k).spaces task (record { names = map.insert (at k).names name (entry_is k); room = (at k).room - 1 }) })
             ∙ ap (λ (xs : List SpaceView). record (with_made w task r name) { spaces = xs })
             (set-set w.spaces task roomy (record { names = map.insert room.space.names name (entry_made w r); room = max room.space.room 1 - 1 }));

@@ -3,3 +3,4 @@ pub mod Names
 pub mod References
 pub mod ReceiveRight
 pub mod Sets
+pub mod Wanted

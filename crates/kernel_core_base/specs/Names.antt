@@ -1,6 +1,6 @@
 -- What stands under a task's names after a port, a port set or a dead name was made, and after one was renamed; where nothing more
 -- can be made; and the types of all names.
-use Rattle.std.specs.Prelude.{◌≡◌, ℕ, ◌+◌, ◌<◌, ◌≤◌, ◌⊎◌, List, [], Option, Some, None, slice_get, slice_set}
+use Rattle.std.specs.Prelude.{◌≡◌, ℕ, ◌+◌, ◌-◌, max, ◌<◌, ◌≤◌, ◌⊎◌, List, [], Option, Some, None, slice_get, slice_set}
 use Rattle.std.specs.Prelude as std
 use Rattle.std.specs.FinMap as map
 use Rattle.mach_types.specs.Numbers.{most_names, most_rights, most_identities}
@@ -13,7 +13,9 @@ use Rattle.port_set.specs.declared.SetRecord.{SetRecord}
 use Rattle.port_set.specs.Sets.{SetsView, created, renamed}
 use Rattle.rights.specs.declared.RightKind.TheVariants as right
 use Rattle.rights.specs.Ledger.{entered, made}
+use Rattle.copyin_base.specs.Changes.{SameButRoom}
 use Rattle.copyin_base.specs.Kept.{Kept}
+use Rattle.copyin_base.specs.Wanted.{LacksRoom, KeepsSpares}
 use Rattle.copyin_base.specs.Worlds.{WorldView, entry_at}
 use Rattle.kernel_core_base.specs.declared.names.NewRight.{NewRight}
 use Rattle.kernel_core_base.specs.declared.names.NewRight.TheVariants as new_right
@@ -53,14 +55,19 @@ pub record MakesRight (old : WorldView) (task : ℕ) (right : NewRight) (name : 
   pub made : e ≡ entry_made old right
   pub rest : new ≡ with_made old task right name
 
--- It is made, and the task has it under the name.
+-- It is made, and the task has it under the name, in the room that was made for it.
 pub record Adds (old : WorldView) (task : ℕ) (right : NewRight) (name : ℕ) (new : WorldView) : Type 0 where
   pub space : SpaceView
   pub there : slice_get old.spaces task ≡ Some space
-  pub room : ℕ
   pub rest : new ≡ record (with_made old task right name) {
-    spaces = slice_set old.spaces task (record { names = map.insert space.names name (entry_made old right); room = room });
+    spaces = slice_set old.spaces task (record { names = map.insert space.names name (entry_made old right); room = max space.room 1 - 1 });
   }
+
+-- Memory for it was refused: only room for its name may have been made. For a dead name there was none.
+pub record LacksMemory (old : WorldView) (task : ℕ) (right : NewRight) (new : WorldView) : Type 0 where
+  pub same : SameButRoom old new
+  pub spares : KeepsSpares old new
+  pub room : right ≡ new_right.DeadName → LacksRoom old task
 
 -- ---- where it can't be made
 

@@ -1,6 +1,6 @@
 //! A task's names: allocating a port, a port set or a dead name under one, listing them with their
 //! types, and giving one another number.
-ghost use Rattle.std.specs.Prelude.{◌≡◌, ℕ, ◌<◌, Some, None, length, false, IsTrue, IfOk, IfErr, OnOk, OnErr};
+ghost use Rattle.std.specs.Prelude.{◌≡◌, ◌≢◌, ℕ, ◌<◌, Some, None, length, false, IsTrue, IfOk, IfErr, OnOk, OnErr};
 ghost use Rattle.std.specs.FinMap as map;
 ghost use Rattle.mach_types.specs.declared.calls.Event.{Event};
 ghost use Rattle.mach_types.specs.declared.codes.KernReturn.TheVariants as kern;
@@ -11,12 +11,13 @@ ghost use Rattle.name_space.specs.Names.{IsUsable};
 ghost use Rattle.name_space.specs.declared.Entry.{Entry as AnyEntry};
 ghost use Rattle.name_space.specs.declared.Entry.TheVariants as entry_of;
 ghost use Rattle.port_set.specs.Sets.{IsThere, created};
-ghost use Rattle.copyin_base.specs.Acts.{Serves, IsRefused, IsAllowed};
-ghost use Rattle.copyin_base.specs.Changes.{SameButRoom};
+ghost use Rattle.copyin_base.specs.Acts.{code_number, Serves, IsRefused, IsAllowed};
 ghost use Rattle.copyin_base.specs.Stands.{Stands};
+ghost use Rattle.copyin_base.specs.Wanted.{KeepsSpares};
 ghost use Rattle.copyin_base.specs.Worlds.{entry_at};
 ghost use Rattle.kernel_core_base.specs.declared.names.NewRight.TheVariants as AnyRight;
-ghost use Rattle.kernel_core_base.specs.Names.{right_made, with_new_port, IsFullFor, HasRoomFor, IsFullOf, HasRoomOf, MayMake, CanAdd, Adds, MakesRight, MovesEntry, MayRename, sets_named, type_found, types_of};
+ghost use Rattle.kernel_core_base.specs.Names.{right_made, with_new_port, IsFullFor, HasRoomFor, IsFullOf, HasRoomOf, MayMake, CanAdd, Adds, LacksMemory, MakesRight, MovesEntry, MayRename, sets_named, type_found, types_of};
+ghost use Rattle.kernel_core_base.specs.Wanted.{MayLackMemory};
 
 use copyin_base::{Code, World};
 use mach_types::limits::MOST_RIGHTS;
@@ -43,13 +44,16 @@ enum NewRight {
 ///
 /// `KERN_INVALID_VALUE` for another number; `KERN_NO_SPACE` where the task has 65,535 names, for a port
 /// also where there are 4,294,967,295 rights, and for a port or a set where all its identities were
-/// given; `KERN_RESOURCE_SHORTAGE` for want of memory. Logarithmic in the names of the task and in the
-/// ports or the sets, but for a move of 16 bytes for each greater name, and where tables move to a
-/// larger place.
+/// given; `KERN_RESOURCE_SHORTAGE` for want of memory, of which a dead name takes none where there is
+/// room for its name. A refusal leaves all as it was, but that room for one name may have been made.
+/// Logarithmic in the names of the task and in the ports or the sets, but for a move of 16 bytes for
+/// each greater name, and where tables move to a larger place.
 pub fn allocate(world: &mut World, task: TaskId, right: u32) -> Result<Reply, Code>
     requires there { task < length world.old.spaces }
     requires stands { Stands world.old }
-    ensures { Serves world.old (Event.Allocate task right) result world.new }
+    ensures serves { Serves world.old (Event.Allocate task right) result world.new }
+    ensures wanted { IfErr result (λ code. code_number code ≡ kern_number kern.ResourceShortage → MayLackMemory world.old (Event.Allocate task right)) }
+    ensures spares { KeepsSpares world.old world.new }
 {
     let made = judge_allocate(world, task, right)?;
     let name = world.space(task).fresh();
@@ -65,7 +69,9 @@ pub fn allocate(world: &mut World, task: TaskId, right: u32) -> Result<Reply, Co
 pub fn allocate_name(world: &mut World, task: TaskId, right: u32, name: Name) -> Result<Reply, Code>
     requires there { task < length world.old.spaces }
     requires stands { Stands world.old }
-    ensures { Serves world.old (Event.AllocateName task right name) result world.new }
+    ensures serves { Serves world.old (Event.AllocateName task right name) result world.new }
+    ensures wanted { IfErr result (λ code. code_number code ≡ kern_number kern.ResourceShortage → MayLackMemory world.old (Event.AllocateName task right name)) }
+    ensures spares { KeepsSpares world.old world.new }
 {
     let made = judge_allocate_name(world, task, right, name)?;
     add_right(world, task, made, name)?;
@@ -150,12 +156,11 @@ fn is_used_up(world: &World, right: NewRight) -> bool
     }
 }
 
-// One right more, named by the task. Where memory is refused, nothing changes but room for names to
-// come.
+// One right more, named by the task. Where memory is refused, nothing changes but room for the name.
 fn add_right(world: &mut World, task: TaskId, right: NewRight, name: Name) -> Result<(), KernReturn>
     requires { CanAdd world.old task right name }
     ensures ok { OnOk result (Adds world.old task right name world.new) }
-    ensures err { IfErr result (λ code. (code ≡ kern.ResourceShortage) × SameButRoom world.old world.new) }
+    ensures err { IfErr result (λ code. (code ≡ kern.ResourceShortage) × LacksMemory world.old task right world.new) }
 {
     world.reserve_name(task)?;
     let entry = make_right(world, task, right, name)?;
@@ -173,7 +178,7 @@ fn make_right(
     requires room { HasRoomFor world.old right }
     requires unknown { map.get world.old.ledger.counts world.old.ports.made ≡ None }
     ensures ok { IfOk result (λ entry. MakesRight world.old task right name entry world.new) }
-    ensures err { IfErr result (λ code. (code ≡ kern.ResourceShortage) × (world.new ≡ world.old)) }
+    ensures err { IfErr result (λ code. (code ≡ kern.ResourceShortage) × (world.new ≡ world.old) × (right ≢ AnyRight.DeadName)) }
 {
     let made = match right {
         NewRight::Port => make_port(world).map(Entry::Receive),
@@ -220,12 +225,13 @@ pub fn name_type(world: &World, task: TaskId, name: Name) -> Result<Reply, Code>
 /// `Names` (Port Manipulation Interface, `mach_port_names`): the names of the task with their types,
 /// names rising. The task lives.
 ///
-/// `KERN_RESOURCE_SHORTAGE` for want of memory, of which it takes 12 bytes for each name. Linear in the
-/// names of the task, but for a logarithmic look at each.
+/// `KERN_RESOURCE_SHORTAGE` for want of memory, of which it takes 12 bytes for each name, and none
+/// where there are no names. Linear in the names of the task, but for a logarithmic look at each.
 pub fn list_names(world: &World, alloc: Global, task: TaskId) -> Result<Reply, Code>
     requires there { task < length world.now.spaces }
     requires stands { Stands world.now }
-    ensures { Serves world.now (Event.Names task) result world.now }
+    ensures serves { Serves world.now (Event.Names task) result world.now }
+    ensures wanted { IfErr result (λ code. code_number code ≡ kern_number kern.ResourceShortage → MayLackMemory world.now (Event.Names task)) }
 {
     match names_with_types(world.space(task), alloc) {
         Ok(entries) => Ok(Reply::Names(NameTypes::from_vec(entries))),
@@ -235,10 +241,14 @@ pub fn list_names(world: &World, alloc: Global, task: TaskId) -> Result<Reply, C
 
 // The names with their types, names rising.
 fn names_with_types(space: &Space, alloc: Global) -> Result<Vec<(Name, u32)>, AllocError>
-    ensures { IfOk result (λ entries. entries.items ≡ types_of space.now.names) }
+    ensures ok { IfOk result (λ entries. entries.items ≡ types_of space.now.names) }
+    ensures err { OnErr result (0 < map.len space.now.names) }
 {
-    let names = space.names(alloc)?;
     let mut entries = Vec::new(alloc);
+    if space.is_empty() {
+        return Ok(entries);
+    }
+    let names = space.names(alloc)?;
     entries.reserve(names.len())?;
     for name in &names {
         entries.push((*name, type_at(space, *name)))?;
@@ -265,7 +275,9 @@ fn type_at(space: &Space, name: Name) -> u32
 pub fn rename(world: &mut World, task: TaskId, from: Name, to: Name) -> Result<Reply, Code>
     requires there { task < length world.old.spaces }
     requires stands { Stands world.old }
-    ensures { Serves world.old (Event.Rename task from to) result world.new }
+    ensures serves { Serves world.old (Event.Rename task from to) result world.new }
+    ensures wanted { IfErr result (λ code. code_number code ≡ kern_number kern.ResourceShortage → MayLackMemory world.old (Event.Rename task from to)) }
+    ensures spares { KeepsSpares world.old world.new }
 {
     let entry = judge_rename(world, task, from, to)?;
     move_entry(world, task, from, to);

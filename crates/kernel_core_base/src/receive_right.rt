@@ -3,6 +3,7 @@ ghost use Rattle.std.specs.Prelude.{◌≡◌, ◌<◌, length};
 ghost use Rattle.mach_types.specs.declared.calls.Event.{Event};
 ghost use Rattle.copyin_base.specs.Acts.{Serves};
 ghost use Rattle.copyin_base.specs.Stands.{Stands};
+ghost use Rattle.copyin_base.specs.Wanted.{KeepsSpares};
 ghost use Rattle.kernel_core_base.specs.ReceiveRight.{set_name, HasPort, TellsPort};
 
 use copyin_base::{Code, World};
@@ -67,7 +68,8 @@ fn set_name(world: &World, set: Option<SetId>) -> Name
 pub fn set_qlimit(world: &mut World, task: TaskId, name: Name, limit: u32) -> Result<Reply, Code>
     requires there { task < length world.old.spaces }
     requires stands { Stands world.old }
-    ensures { Serves world.old (Event.SetQlimit task name limit) result world.new }
+    ensures serves { Serves world.old (Event.SetQlimit task name limit) result world.new }
+    ensures spares { KeepsSpares world.old world.new }
 {
     if limit > GREATEST_LIMIT {
         return Err(Code::Kern(KernReturn::InvalidValue));
@@ -93,7 +95,8 @@ pub fn set_qlimit(world: &mut World, task: TaskId, name: Name, limit: u32) -> Re
 pub fn set_mscount(world: &mut World, task: TaskId, name: Name, count: u32) -> Result<Reply, Code>
     requires there { task < length world.old.spaces }
     requires stands { Stands world.old }
-    ensures { Serves world.old (Event.SetMscount task name count) result world.new }
+    ensures serves { Serves world.old (Event.SetMscount task name count) result world.new }
+    ensures spares { KeepsSpares world.old world.new }
 {
     let port = world.find_receive(task, name)?;
     let attributes = world.attributes(port);
@@ -115,7 +118,8 @@ pub fn set_mscount(world: &mut World, task: TaskId, name: Name, count: u32) -> R
 pub fn set_seqno(world: &mut World, task: TaskId, name: Name, number: u32) -> Result<Reply, Code>
     requires there { task < length world.old.spaces }
     requires stands { Stands world.old }
-    ensures { Serves world.old (Event.SetSeqno task name number) result world.new }
+    ensures serves { Serves world.old (Event.SetSeqno task name number) result world.new }
+    ensures spares { KeepsSpares world.old world.new }
 {
     let port = world.find_receive(task, name)?;
     let attributes = world.attributes(port);

@@ -9,6 +9,7 @@ ghost use Rattle.name_space.specs.Entry.{port_named, send_references};
 ghost use Rattle.port_set.specs.Sets.{removed, IsDisbanded};
 ghost use Rattle.copyin_base.specs.Acts.{IsRefused, Serves};
 ghost use Rattle.copyin_base.specs.Stands.{Stands};
+ghost use Rattle.copyin_base.specs.Wanted.{KeepsSpares};
 ghost use Rattle.copyin_base.specs.Worlds.{entry_at};
 ghost use Rattle.kernel_core_base.specs.References.{left_with, recounted_at, CanCount, CanSet, SetsReferences, RemovesSet, CanCarry, Carries, deallocated, destroyed, IsChange, more_in, CanSum, CannotSum, changed_whole, FindsRight, CanChange, CannotChange};
 
@@ -173,7 +174,8 @@ fn destroy_entry(entry: &Entry) -> Option<Due>
 pub fn deallocate(world: &mut World, task: TaskId, name: Name) -> Result<Reply, Code>
     requires there { task < length world.old.spaces }
     requires stands { Stands world.old }
-    ensures { Serves world.old (Event.Deallocate task name) result world.new }
+    ensures serves { Serves world.old (Event.Deallocate task name) result world.new }
+    ensures spares { KeepsSpares world.old world.new }
 {
     let entry = world.find(task, name)?;
     let Some(due) = deallocate_entry(&entry) else {
@@ -193,7 +195,8 @@ pub fn deallocate(world: &mut World, task: TaskId, name: Name) -> Result<Reply, 
 pub fn destroy(world: &mut World, task: TaskId, name: Name) -> Result<Reply, Code>
     requires there { task < length world.old.spaces }
     requires stands { Stands world.old }
-    ensures { Serves world.old (Event.Destroy task name) result world.new }
+    ensures serves { Serves world.old (Event.Destroy task name) result world.new }
+    ensures spares { KeepsSpares world.old world.new }
 {
     let entry = world.find(task, name)?;
     let Some(due) = destroy_entry(&entry) else {
@@ -348,7 +351,8 @@ pub fn mod_refs(
 ) -> Result<Reply, Code>
     requires there { task < length world.old.spaces }
     requires stands { Stands world.old }
-    ensures { Serves world.old (Event.ModRefs task name right delta) result world.new }
+    ensures serves { Serves world.old (Event.ModRefs task name right delta) result world.new }
+    ensures spares { KeepsSpares world.old world.new }
 {
     let (right, entry) = find_right(world, task, name, right)?;
     let due = judge_change(&world.ledger, right, entry, change_of(delta))?;

@@ -6,6 +6,7 @@ ghost use Rattle.mach_types.specs.Numbers.{kern_number};
 ghost use Rattle.mach_model.specs.Refusals.{move_guards};
 ghost use Rattle.copyin_base.specs.Acts.{IsRefused, Serves};
 ghost use Rattle.copyin_base.specs.Stands.{Stands};
+ghost use Rattle.copyin_base.specs.Wanted.{KeepsSpares};
 ghost use Rattle.kernel_core_base.specs.Sets.{set_of_port, is_member, members_in, MayMove};
 
 use copyin_base::{Code, World};
@@ -99,7 +100,8 @@ pub fn move_member(
 ) -> Result<Reply, Code>
     requires there { task < length world.old.spaces }
     requires stands { Stands world.old }
-    ensures { Serves world.old (Event.MoveMember task member after) result world.new }
+    ensures serves { Serves world.old (Event.MoveMember task member after) result world.new }
+    ensures spares { KeepsSpares world.old world.new }
 {
     let moving = judge_move(world, task, member, after)?;
     let attributes = world.attributes(moving.port);

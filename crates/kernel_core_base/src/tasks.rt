@@ -4,6 +4,7 @@ ghost use Rattle.mach_types.specs.declared.calls.Event.{Event};
 ghost use Rattle.mach_types.specs.declared.codes.KernReturn.TheVariants as kern;
 ghost use Rattle.copyin_base.specs.Acts.{Serves};
 ghost use Rattle.copyin_base.specs.Stands.{Stands};
+ghost use Rattle.copyin_base.specs.Wanted.{KeepsSpares};
 ghost use Rattle.kernel_core_base.specs.Tasks.{no_names};
 
 use copyin_base::{Code, World};
@@ -19,7 +20,8 @@ use std::alloc::Global;
 /// Constant time, but where the tasks move to a larger place.
 pub fn create_task(world: &mut World, alloc: Global) -> Result<Reply, Code>
     requires { Stands world.old }
-    ensures { Serves world.old Event.TaskCreate result world.new }
+    ensures serves { Serves world.old Event.TaskCreate result world.new }
+    ensures spares { KeepsSpares world.old world.new }
 {
     let number = world.spaces.len();
     if number >= MOST_TASKS {

@@ -15,12 +15,12 @@ add_right-requires c =
     can_add c.args.world.now c.requires.stands c.args.task c.in_ok-made.made c.fresh-name.result c.in_ok-made.ensures.made.room usable
     (ap (λ (o : Option SpaceView). entry_in o c.fresh-name.result) c.space.ensures ∙ fresh.unused)
 
-pub returns-in_err-add_right : goal.returns-in_err-add_right
-returns-in_err-add_right c =
+pub returns-in_err-add_right-clause-serves : goal.returns-in_err-add_right-clause-serves
+returns-in_err-add_right-clause-serves c =
     no_memory c.args.world.now c.add_right.new.world (Event.Allocate c.args.task c.args.right) c.requires.there c.in_ok-made.ensures.ok (λ s. refl)
-    c.from_residual-in_err-add_right.result c.in_err-add_right.field-0.0 c.from_residual-in_err-add_right.ensures c.in_err-add_right.ensures.err
+    c.from_residual-in_err-add_right.result c.in_err-add_right.field-0.0 c.from_residual-in_err-add_right.ensures (c.in_err-add_right.ensures.err.0, c.in_err-add_right.ensures.err.1.same)
 
-pub returns : goal.returns
-returns c =
+pub returns-clause-serves : goal.returns-clause-serves
+returns-clause-serves c =
     allocate_done c.args.world.now c.add_right.new.world c.args.task c.args.right c.fresh-name.result c.in_ok-made.made c.requires.there c.in_ok-made.ensures.made.number_is
     c.in_ok-made.ensures.ok c.space.result.now c.space.ensures c.fresh-name.ensures.fresh c.in_ok-add_right.ensures.ok

@@ -8,12 +8,12 @@ pub add_right-requires : goal.add_right-requires
 add_right-requires c =
     can_add c.args.world.now c.requires.stands c.args.task c.in_ok-made.made c.args.name c.in_ok-made.ensures.made.room c.in_ok-made.ensures.usable c.in_ok-made.ensures.unused
 
-pub returns-in_err-add_right : goal.returns-in_err-add_right
-returns-in_err-add_right c =
+pub returns-in_err-add_right-clause-serves : goal.returns-in_err-add_right-clause-serves
+returns-in_err-add_right-clause-serves c =
     no_memory c.args.world.now c.add_right.new.world (Event.AllocateName c.args.task c.args.right c.args.name) c.requires.there c.in_ok-made.ensures.ok (λ s. refl)
-    c.from_residual-in_err-add_right.result c.in_err-add_right.field-0.0 c.from_residual-in_err-add_right.ensures c.in_err-add_right.ensures.err
+    c.from_residual-in_err-add_right.result c.in_err-add_right.field-0.0 c.from_residual-in_err-add_right.ensures (c.in_err-add_right.ensures.err.0, c.in_err-add_right.ensures.err.1.same)
 
-pub returns : goal.returns
-returns c =
+pub returns-clause-serves : goal.returns-clause-serves
+returns-clause-serves c =
     allocate_name_done c.args.world.now c.add_right.new.world c.args.task c.args.right c.args.name c.in_ok-made.made c.requires.there c.in_ok-made.ensures.made.number_is
     c.in_ok-made.ensures.ok c.in_ok-made.ensures.unused c.in_ok-add_right.ensures.ok

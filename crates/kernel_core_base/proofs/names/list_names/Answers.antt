@@ -5,7 +5,7 @@ use Rattle.copyin_base.specs.Acts.{Acts}
 use Rattle.kernel_core_base.proofs.NamesTold.{names_listed}
 use Rattle.kernel_core_base.proofs.names.list_names.Goals as goal
 
-pub returns-in-Ok : goal.returns-in-Ok
-returns-in-Ok c =
-    subst (λ (xs : List (ℕ × ℕ)). Acts c.args.world.now (Event.Names c.args.task) (Reply.Names xs) c.args.world.now) (sym (c.from_vec.ensures ∙ c.in-Ok.ensures))
+pub returns-in-Ok-clause-serves : goal.returns-in-Ok-clause-serves
+returns-in-Ok-clause-serves c =
+    subst (λ (xs : List (ℕ × ℕ)). Acts c.args.world.now (Event.Names c.args.task) (Reply.Names xs) c.args.world.now) (sym (c.from_vec.ensures ∙ c.in-Ok.ensures.ok))
     (names_listed c.args.world.now c.args.task c.space.result.now c.requires.there c.space.ensures)

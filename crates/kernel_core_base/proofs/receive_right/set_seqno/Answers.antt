@@ -2,7 +2,7 @@ use Rattle.std.proofs.Common.{arith}
 use Rattle.kernel_core_base.proofs.ReceiveRight.{sequence_set}
 use Rattle.kernel_core_base.proofs.receive_right.set_seqno.Goals as goal
 
-pub returns : goal.returns
-returns c =
+pub returns-clause-serves : goal.returns-clause-serves
+returns-clause-serves c =
     sequence_set c.args.world.now c.args.task c.args.name c.in_ok-port.port c.requires.there c.in_ok-port.ensures.ok c.attributes-attributes.result c.attributes-attributes.ensures
     c.set_attributes.new.self c.args.number (omega arith) c.set_attributes.ensures

@@ -6,5 +6,5 @@ use Rattle.kernel_core_base.proofs.references.deallocate.Goals as goal
 pub carry_out-requires-clause-can : goal.carry_out-requires-clause-can
 carry_out-requires-clause-can c = can_deallocate c.args.world.now c.requires.stands c.args.task c.args.name c.in_ok-entry.entry c.in-Some.due c.in_ok-entry.ensures.ok (sym c.deallocate_entry.ensures ∙ c.in-Some.is)
 
-pub returns : goal.returns
-returns c = deallocates c.args.world.now c.args.task c.args.name c.requires.there c.carry_out.new.world c.in_ok-entry.entry c.in-Some.due c.in_ok-entry.ensures.ok (sym c.deallocate_entry.ensures ∙ c.in-Some.is) c.carry_out.ensures
+pub returns-clause-serves : goal.returns-clause-serves
+returns-clause-serves c = deallocates c.args.world.now c.args.task c.args.name c.requires.there c.carry_out.new.world c.in_ok-entry.entry c.in-Some.due c.in_ok-entry.ensures.ok (sym c.deallocate_entry.ensures ∙ c.in-Some.is) c.carry_out.ensures

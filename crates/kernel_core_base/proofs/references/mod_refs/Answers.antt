@@ -6,15 +6,16 @@ use Rattle.copyin_base.proofs.Exiting.{exits}
 use Rattle.kernel_core_base.specs.References.{IsChange, CanChange, CannotChange}
 use Rattle.kernel_core_base.proofs.ReferencesJudged.{modify_refused}
 use Rattle.kernel_core_base.proofs.ReferencesModified.{can_modify, modifies}
+use Rattle.kernel_core_base.proofs.Spares.{carried_keeps}
 use Rattle.kernel_core_base.proofs.references.mod_refs.Goals as goal
 
-pub returns-in_err-right : goal.returns-in_err-right
-returns-in_err-right c =
+pub returns-in_err-right-clause-serves : goal.returns-in_err-right-clause-serves
+returns-in_err-right-clause-serves c =
     exits c.args.world.now (Event.ModRefs c.args.task c.args.name c.args.right c.args.delta) c.from_residual.result c.in_err-right.field-0.0 c.from_residual.ensures.1 c.requires.there
     (c.in_err-right.ensures.err c.args.delta)
 
-pub returns-in_err-due : goal.returns-in_err-due
-returns-in_err-due c =
+pub returns-in_err-due-clause-serves : goal.returns-in_err-due-clause-serves
+returns-in_err-due-clause-serves c =
     let by = subst (λ (z : ℤ). IsChange c.change_of.result z) (to_z-of_z c.ranges.delta) c.change_of.ensures in
     let cannot = subst (λ (w : WorldView). CannotChange w.ledger.total c.in_ok-right.right c.in_ok-right.entry c.change_of.result c.in_err-due.field-0.0) c.world.view_is c.in_err-due.ensures.err in
     exits c.args.world.now (Event.ModRefs c.args.task c.args.name c.args.right c.args.delta) c.from_residual-in_err-due.result c.in_err-due.field-0.0 c.from_residual-in_err-due.ensures.1 c.requires.there
@@ -26,9 +27,12 @@ carry_out-requires-clause-can c =
     let can = subst (λ (w : WorldView). CanChange w.ledger.total c.in_ok-right.right c.in_ok-right.entry c.change_of.result c.in_ok-due.due) c.world.view_is c.in_ok-due.ensures.ok in
     can_modify c.args.world.now c.requires.stands c.args.task c.args.name c.args.right c.args.delta c.in_ok-right.right c.in_ok-right.entry c.change_of.result c.in_ok-due.due c.in_ok-right.ensures.ok by can
 
-pub returns : goal.returns
-returns c =
+pub returns-clause-serves : goal.returns-clause-serves
+returns-clause-serves c =
     let by = subst (λ (z : ℤ). IsChange c.change_of.result z) (to_z-of_z c.ranges.delta) c.change_of.ensures in
     let can = subst (λ (w : WorldView). CanChange w.ledger.total c.in_ok-right.right c.in_ok-right.entry c.change_of.result c.in_ok-due.due) c.world.view_is c.in_ok-due.ensures.ok in
     modifies c.args.world.now c.requires.stands c.args.task c.args.name c.args.right c.args.delta c.in_ok-right.right c.in_ok-right.entry c.change_of.result c.in_ok-due.due c.carry_out.new.world
     c.requires.there c.in_ok-right.ensures.ok by can c.carry_out.ensures
+
+pub returns-clause-spares : goal.returns-clause-spares
+returns-clause-spares c = carried_keeps c.args.world.now c.carry_out.new.world c.args.task c.args.name c.in_ok-due.due c.carry_out.ensures

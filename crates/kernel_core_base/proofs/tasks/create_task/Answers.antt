@@ -4,8 +4,8 @@ use Rattle.copyin_base.specs.Worlds.{WorldView}
 use Rattle.kernel_core_base.proofs.TaskCreated.{task_created}
 use Rattle.kernel_core_base.proofs.tasks.create_task.Goals as goal
 
-pub returns : goal.returns
-returns c =
+pub returns-clause-serves : goal.returns-clause-serves
+returns-clause-serves c =
     let view : length c.world.inside.spaces.items ≡ length c.args.world.now.spaces = ap (λ (w : WorldView). length w.spaces) c.world.view_is in
     let whole = c.world.inside.spaces.ok.0 in
     let number = c.len-number.ensures in

@@ -1,0 +1,20 @@
+-- Renaming, and what is due to a name, leave what is kept for names and messages to come as it was.
+use Rattle.std.proofs.Common.{◌≡◌, ℕ, ap, ◌∙◌, arith}
+use Rattle.name_space.specs.declared.Entry.{Entry}
+use Rattle.copyin_base.specs.Wanted.{KeepsSpares}
+use Rattle.copyin_base.specs.Worlds.{WorldView}
+use Rattle.copyin_base.proofs.Spares.{keeps_same, keeps_space}
+use Rattle.kernel_core_base.specs.declared.references.Due.{Due}
+use Rattle.kernel_core_base.specs.declared.references.Due.TheVariants.{Nothing, References, Disbanding}
+use Rattle.kernel_core_base.specs.Names.{MovesEntry}
+use Rattle.kernel_core_base.specs.References.{Carries}
+
+module _ (old new : WorldView) (task : ℕ) where
+  pub moved_keeps : (mid : WorldView) (from to : ℕ) (e : Entry) → MovesEntry old task from to e mid → new.spaces ≡ mid.spaces → new.ports ≡ mid.ports → KeepsSpares old new
+  moved_keeps mid from to e m spaces ports = keeps_space old new task m.space _ m.there (spaces ∙ ap (λ (w : WorldView). w.spaces) m.rest) (omega arith)
+      (ap (λ p. p.spare) ports ∙ ap (λ (w : WorldView). w.ports.spare) m.rest)
+
+  pub carried_keeps : (name : ℕ) (due : Due) → Carries old task name due new → KeepsSpares old new
+  carried_keeps name Nothing is = keeps_same old new is
+  carried_keeps name (References e m) r = keeps_space old new task r.space _ r.there (ap (λ (w : WorldView). w.spaces) r.rest) (omega arith) (ap (λ (w : WorldView). w.ports.spare) r.rest)
+  carried_keeps name (Disbanding set) r = keeps_space old new task r.space _ r.there (ap (λ (w : WorldView). w.spaces) r.rest) (omega arith) r.disbanded.spare

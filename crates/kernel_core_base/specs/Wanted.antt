@@ -1,0 +1,22 @@
+-- Where a call here may be refused for want of memory: only where it may have to take some.
+use Rattle.std.specs.Prelude.{◌≡◌, ℕ, ◌<◌, Some, slice_get}
+use Rattle.std.specs.FinMap as map
+use Rattle.mach_types.specs.declared.calls.Event.{Event}
+use Rattle.name_space.specs.Names.{SpaceView}
+use Rattle.copyin_base.specs.Wanted.{LacksRoom}
+use Rattle.copyin_base.specs.Worlds.{WorldView}
+
+-- The task has a name.
+pub record HasName (w : WorldView) (task : ℕ) : Type 0 where
+  pub space : SpaceView
+  pub there : slice_get w.spaces task ≡ Some space
+  pub some : 0 < map.len space.names
+
+-- The call may lack memory. A dead name, number 4, takes none but for its name, and a list none where it is empty.
+abbrev pub MayLackMemory : WorldView → Event → Type 0
+MayLackMemory w Event.TaskCreate = Unit {0}
+MayLackMemory w (Event.Allocate task right) = right ≡ 4 → LacksRoom w task
+MayLackMemory w (Event.AllocateName task right name) = right ≡ 4 → LacksRoom w task
+MayLackMemory w (Event.Names task) = HasName w task
+MayLackMemory w (Event.SetStatus task name) = Unit {0}
+MayLackMemory w event = ⊥
