@@ -1,5 +1,10 @@
 //! The jobs of the program, over any reader and writers.
-ghost use Rattle.std.specs.Prelude.{◌≡◌, ◌≤◌};
+ghost use Rattle.std.specs.Prelude.{◌≡◌, ◌≤◌, ℕ, List, Some, Err, IfOk, IfSome, IfErr, IsErr, OnOk, ◌⊎◌};
+ghost use Rattle.std.specs.Io.KnownBytes.{Appends, Keeps};
+ghost use Rattle.tracer_base.specs.Calls.{IsFirstBadLine};
+ghost use Rattle.tracer_base.specs.declared.script.ScriptFault.TheVariants.{BadCall as ScriptBadCall};
+ghost use Rattle.mach_run.specs.declared.perform.Fault.TheVariants.{BadCall};
+ghost use Rattle.mach_run.specs.Output.{AreReplies, IsOutput};
 
 use kernel_core::Kernel;
 use mach_types::Event;
@@ -7,7 +12,7 @@ use std::alloc::Global;
 use std::io;
 use std::io::{ErrorKind, Read, Write};
 use thiserror::Error;
-use tracer_base::{ScriptFault, read_script, write_reply};
+use tracer_base::{ScriptFault, read_script, write_reply_line};
 
 /// What the program can do.
 #[derive(Clone, Copy, Debug, PartialEq, Eq)]
@@ -34,6 +39,8 @@ pub enum Fault<'a> {
 }
 
 impl<'a> From<ScriptFault> for Fault<'a> {
+    ghost from_gives = { λ read fault. (n : ℕ) → fault ≡ BadCall n → read ≡ ScriptBadCall n };
+
     fn from(fault: ScriptFault) -> Fault<'a> {
         match fault {
             ScriptFault::BadCall(line) => Fault::BadCall(line),
@@ -48,8 +55,11 @@ impl<'a> From<ScriptFault> for Fault<'a> {
 /// What the job makes goes to `out`. A fault is told of on `err`, in one line: `cannot read NAME`
 /// where `file` can't be read, `line N: bad call` for the first line of a script that is no call,
 /// `out of memory` where memory is refused, and `cannot write` where `out` refuses what is written.
+///
+/// Once a run is done, `out` got the replies to the script's calls in a run of the machine, one a line.
 /// The whole file is read before anything runs, and after a fault of the first three kinds nothing
-/// was written to `out`. Time grows with the length of the file and the cost of its calls.
+/// was written to `out`; a script with a line that is no call always ends so. Time grows with the length
+/// of the file and the cost of its calls.
 pub fn perform<R: Read, W: Write, E: Write>(
     alloc: Global,
     job: Job,
@@ -58,7 +68,10 @@ pub fn perform<R: Read, W: Write, E: Write>(
     out: &mut W,
     err: &mut E,
 ) -> u8
-    ensures { result ≤ 1 }
+    ensures status { result ≤ 1 }
+    ensures done { result ≡ 0 → (text : List ℕ) × IsOutput (R.remaining file.old) text × Appends (W.contents out.old) (W.contents out.new) text }
+    ensures bad { (script : List ℕ) (n : ℕ) → R.remaining file.old ≡ Some script → IsFirstBadLine script n
+        → (result ≡ 1) × Keeps (W.contents out.old) (W.contents out.new) }
 {
     let done = match job {
         Job::Run => run(alloc, name, file, out),
@@ -80,12 +93,20 @@ pub fn report<E: Write>(fault: Fault<'_>, err: &mut E) -> u8
 }
 
 /// Reads a script, and then makes its calls in turn on a new kernel, with one reply a line on `out`.
+///
+/// Faults are as for [`perform`]; before any but `CannotWrite`, nothing is written to `out`.
 fn run<'a, R: Read, W: Write>(
     alloc: Global,
     name: &'a str,
     file: &mut R,
     out: &mut W,
-) -> Result<(), Fault<'a>> {
+) -> Result<(), Fault<'a>>
+    ensures done { OnOk result ((text : List ℕ) × IsOutput (R.remaining file.old) text × Appends (W.contents out.old) (W.contents out.new) text) }
+    ensures kept { IfErr result (λ fault. (fault ≡ Fault.CannotWrite) ⊎ Keeps (W.contents out.old) (W.contents out.new)) }
+    ensures line { (n : ℕ) → result ≡ Err (BadCall n) → IfSome (R.remaining file.old) (λ script. IsFirstBadLine script n) }
+    ensures bad { (script : List ℕ) (n : ℕ) → R.remaining file.old ≡ Some script → IsFirstBadLine script n
+        → IsErr result × Keeps (W.contents out.old) (W.contents out.new) }
+{
     let text = read_all(alloc, name, file)?;
     let events = read_script(alloc, text.as_slice())?;
     match answer_all(alloc, events.as_slice(), out) {
@@ -95,7 +116,10 @@ fn run<'a, R: Read, W: Write>(
 }
 
 /// All that the file, which has this name, holds from here on.
-fn read_all<'a, R: Read>(alloc: Global, name: &'a str, file: &mut R) -> Result<Vec<u8>, Fault<'a>> {
+fn read_all<'a, R: Read>(alloc: Global, name: &'a str, file: &mut R) -> Result<Vec<u8>, Fault<'a>>
+    ensures ok { IfOk result (λ text. IfSome (R.remaining file.old) (λ all. text.items ≡ all)) }
+    ensures err { (n : ℕ) → result ≡ Err (BadCall n) → ⊥ }
+{
     let mut text = Vec::new(alloc);
     match file.read_to_end(&mut text) {
         Ok(_) => Ok(text),
@@ -107,12 +131,13 @@ fn read_all<'a, R: Read>(alloc: Global, name: &'a str, file: &mut R) -> Result<V
 /// Makes the calls in turn on a new kernel, and writes their replies, one a line.
 ///
 /// An error is that of `out`; the calls after it are not made.
-fn answer_all<W: Write>(alloc: Global, events: &[Event], out: &mut W) -> io::Result<()> {
+fn answer_all<W: Write>(alloc: Global, events: &[Event], out: &mut W) -> io::Result<()>
+    ensures { OnOk result ((text : List ℕ) × AreReplies events.now text × Appends (W.contents out.old) (W.contents out.new) text) }
+{
     let mut kernel = Kernel::new(alloc);
     for event in events {
         let reply = kernel.step(event);
-        write_reply(&reply, out)?;
-        out.write_all(b"\n")?;
+        write_reply_line(&reply, out)?;
     }
     out.flush()
 }

@@ -1,12 +1,12 @@
 -- The words of calls.
-use Rattle.std.proofs.Common.{codes, ◌≡◌, ℕ, ◌<◌, ◌^◌, List, [], ◌∷◌, ◌++◌, All, Bool, true, false, refl, sym, ◌∙◌, arith, decimal, append_assoc, flat_map}
+use Rattle.std.proofs.Common.{codes, ◌≡◌, ℕ, ◌<◌, ◌^◌, List, [], ◌∷◌, ◌++◌, All, Bool, true, false, refl, sym, ◌∙◌, arith, decimal, append_assoc, ap, length, flat_map}
 use Rattle.std.proofs.lemmas.List.Elements.{All-nil, All-cons, All-head, All-tail}
 use Rattle.std.specs.Fmt.{signed_decimal}
 use Rattle.mach_types.specs.declared.calls.Event.{Event}
 use Rattle.mach_types.specs.declared.calls.Event.TheVariants.{TaskCreate, Allocate, AllocateName, Deallocate, Destroy, ModRefs, GetRefs, NameType, Names, Rename, ReceiveStatus, SetQlimit, SetMscount, SetSeqno, InsertRight, ExtractRight, MoveMember, SetStatus, Send, Receive, ReceiveAgain}
 use Rattle.mach_types.specs.declared.calls.Waited.{Waited}
 use Rattle.mach_types.specs.declared.calls.Waited.TheVariants.{Port, Set}
-use Rattle.tracer_base.specs.Calls.{Fits, call_word, call_arguments, call_text, line_text, StartsNoCall}
+use Rattle.tracer_base.specs.Calls.{Fits, call_word, call_arguments, call_text, line_text, StartsNoCall, IsFirstBadLine}
 use Rattle.tracer_base.specs.Text.{bytes_text, flag_text, waited_words, FitsWaited}
 use Rattle.tracer_base.specs.Words.{Lacks, IsWord}
 use Rattle.tracer_base.proofs.HexLemmas.{IsWord-bytes_text}
@@ -136,3 +136,9 @@ next_line (event ∷ done) (other ∷ all) rest fit fit_all same some bad =
     let left = one_line event other (flat_map line_text done ++ rest) (flat_map line_text all) (All-head Fits event done fit) (All-head Fits other all fit_all)
     (sym (append_assoc (line_text event) (flat_map line_text done) rest) ∙ same) in
     next_line done all rest (All-tail Fits event done fit) (All-tail Fits other all fit_all) left some bad
+
+-- no text of calls that fit has a bad line
+pub no_bad_line : (calls : List Event) (text : List ℕ) (n : ℕ) → All Fits calls → flat_map line_text calls ≡ text → IsFirstBadLine text n → ⊥
+no_bad_line calls text n fit same line =
+    let some : line.rest ≡ [] → ⊥ = λ none. let empty : length line.rest ≡ 0 = ap length none in omega (arith, line.some, empty) in
+    next_line line.calls calls line.rest line.fit fit (line.parts ∙ sym same) some line.bad

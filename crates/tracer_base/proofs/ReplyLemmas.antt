@@ -1,7 +1,7 @@
 -- The words of replies, and what was written piece by piece.
 use Rattle.std.proofs.Common.{◌≡◌, ℕ, ◌<◌, ◌+◌, ◌/◌, ◌%◌, List, [], ◌∷◌, ◌++◌, Option, Some, None, length, take, get_or, sym, ◌∙◌, ap, append_assoc, subst, ◌^◌, All, true, refl, arith, decimal, append-nil}
 use Rattle.std.proofs.lemmas.List.{take_more}
-use Rattle.std.specs.Io.KnownBytes.{Appends}
+use Rattle.std.specs.Io.KnownBytes.{Appends, Keeps}
 use Rattle.std.proofs.lemmas.List.Elements.{All-append, All-cons, All-map, All-weaker}
 use Rattle.mach_types.specs.declared.calls.Reply.{Reply}
 use Rattle.mach_types.specs.declared.calls.Reply.TheVariants.{Code, Task, Name, Refs, NameType, Names, Status, Members, Right, Previous, Message, Empty, TooLarge, NoRecord}
@@ -15,11 +15,28 @@ use Rattle.tracer_base.proofs.WordLemmas.{is_plain, IsWord-plain}
 use Rattle.tracer_base.proofs.HexLemmas.{hex_digits-append, IsWord-bytes_text, IsWord-code_text}
 
 -- two pieces in turn
-appends-more : (a b c : Option (List ℕ)) (xs ys : List ℕ) → Appends a b xs → Appends b c ys → Appends a c (xs ++ ys)
+pub appends-more : (a b c : Option (List ℕ)) (xs ys : List ℕ) → Appends a b xs → Appends b c ys → Appends a c (xs ++ ys)
 appends-more None b c xs ys first next = tt
 appends-more (Some a) None c xs ys first next = absurd first
 appends-more (Some a) (Some b) None xs ys first next = absurd next
 appends-more (Some a) (Some b) (Some c) xs ys first next = next ∙ ap (λ t. t ++ ys) first ∙ append_assoc a xs ys
+
+-- a piece, and nothing more
+pub appends-kept : (a b c : Option (List ℕ)) (xs : List ℕ) → Appends a b xs → Keeps b c → Appends a c xs
+appends-kept None b c xs first kept = tt
+appends-kept (Some a) None c xs first kept = absurd first
+appends-kept (Some a) (Some b) None xs first kept = absurd kept
+appends-kept (Some a) (Some b) (Some c) xs first kept = kept ∙ first
+
+-- nothing yet
+pub appends-none : (a : Option (List ℕ)) → Appends a a []
+appends-none None = tt
+appends-none (Some a) = sym (append-nil a)
+
+-- nothing at all
+pub keeps-same : (a : Option (List ℕ)) → Keeps a a
+keeps-same None = tt
+keeps-same (Some a) = refl
 
 -- a byte's two digits behind those of the bytes before it
 pub appends-byte : (a b c : Option (List ℕ)) (bytes : List ℕ) (i byte : ℕ) → i < length bytes → get_or bytes i 0 ≡ byte → Appends a b (hex_digits (take i bytes))

@@ -53,6 +53,10 @@ reply_arguments NoRecord = []
 abbrev pub reply_text : Reply → List ℕ
 reply_text reply = line (reply_word reply ∷ reply_arguments reply)
 
+-- a line of what a script is answered: a reply, and a line feed
+abbrev pub reply_line : Reply → List ℕ
+reply_line reply = reply_text reply ++ 10 ∷ []
+
 -- each of the nine numbers fits 32 bits
 pub record FitsStatus (status : PortStatus) : Type 0 where
   pub set : status.set < 2 ^ 32

@@ -16,5 +16,5 @@ mod words;
 
 pub use calls::{read_call, write_call};
 pub use fault::TextFault;
-pub use replies::{read_reply, write_reply};
+pub use replies::{read_reply, write_reply, write_reply_line};
 pub use script::{ScriptFault, read_script};

@@ -4,7 +4,7 @@ ghost use Rattle.std.specs.Io.KnownBytes.{Appends};
 ghost use Rattle.mach_types.specs.declared.calls.Reply.{Reply as AnyReply};
 ghost use Rattle.mach_types.specs.declared.calls.Status.{Status as AnyStatus};
 ghost use Rattle.mach_types.specs.declared.calls.Waited.{Waited as AnyWaited};
-ghost use Rattle.tracer_base.specs.Replies.{typed_name_text, status_words, reply_word, reply_arguments, reply_text, FitsReply, FitsStatus, FitsTypedName};
+ghost use Rattle.tracer_base.specs.Replies.{typed_name_text, status_words, reply_word, reply_arguments, reply_text, reply_line, FitsReply, FitsStatus, FitsTypedName};
 ghost use Rattle.tracer_base.specs.Text.{code_text, waited_words, FitsWaited};
 ghost use Rattle.tracer_base.specs.Words.{IsRead};
 
@@ -156,6 +156,14 @@ pub fn write_reply<W: Write>(reply: &Reply, out: &mut W) -> io::Result<()>
         Reply::TooLarge(length) => write!(out, "toolarge {length}"),
         Reply::NoRecord => write!(out, "norecord"),
     }
+}
+
+/// Writes the reply, and a line feed. Errors and cost are as for [`write_reply`].
+pub fn write_reply_line<W: Write>(reply: &Reply, out: &mut W) -> io::Result<()>
+    ensures { OnOk result (Appends (W.contents out.old) (W.contents out.new) (reply_line reply.now)) }
+{
+    write_reply(reply, out)?;
+    out.write_all(b"\n")
 }
 
 /// Writes the text, and then the code as eight digits.
