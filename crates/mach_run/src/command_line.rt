@@ -3,6 +3,32 @@ use crate::perform::Job;
 use clap::{Arg, ArgMatches, Command, Error};
 use std::alloc::Global;
 
+// The calls of a script, for the help.
+const CALLS: &str = "\
+    A script has one call a line: its word, and its arguments, each after one space.\n  \
+    task                          makes a task; T, FROM and TO are tasks, from 0\n  \
+    alloc T RIGHT                 RIGHT 0: send, 1: receive, 2: send-once, 3: port set, 4: dead name\n  \
+    allocname T RIGHT NAME\n  \
+    dealloc T NAME\n  \
+    destroy T NAME\n  \
+    modrefs T NAME RIGHT DELTA    DELTA references more, or fewer with -\n  \
+    refs T NAME RIGHT\n  \
+    type T NAME\n  \
+    names T\n  \
+    rename T OLD NEW\n  \
+    insert T NAME FROM POLY DISP  DISP 16, 17, 18: move receive, send, send-once;\n  \
+    extract T NAME DISP TO        19: copy send; 20, 21: make send, send-once\n  \
+    status T NAME\n  \
+    qlimit T NAME N\n  \
+    mscount T NAME N\n  \
+    seqno T NAME N\n  \
+    move T MEMBER SET             SET 0: into none\n  \
+    members T NAME\n  \
+    send T BYTES                  the message in hexadecimal, - for no bytes\n  \
+    recv T NAME ROOM LARGE        LARGE 1: a longer message stays; else 0\n  \
+    again T p PORT ROOM LARGE\n  \
+    again T s SET ROOM LARGE";
+
 /// What the words ask for.
 #[derive(Clone, Copy, Debug, PartialEq, Eq)]
 pub struct Request<'a> {
@@ -35,6 +61,7 @@ fn program<'a>(alloc: Global) -> Result<Command<'a>, Error> {
     let file = Arg::new(alloc, "FILE").help("The script; standard input where there is none");
     let run = Command::new(alloc, "run")
         .about("Runs a script and prints a reply for each call")
+        .after_help(CALLS)
         .arg(file)?;
     let program = Command::new(alloc, "mach_run")
         .about("Mach 3 port IPC in user space")

@@ -5,6 +5,8 @@
 #![tactic(auto)]
 
 mod command_line;
+#[cfg(test)]
+mod dispositions;
 mod perform;
 #[cfg(test)]
 mod tests;

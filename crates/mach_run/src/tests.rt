@@ -273,3 +273,14 @@ fn refuses_other_words(rt: HostRuntime) -> Result<(), Fail> {
     }
     Ok(())
 }
+
+#[test]
+fn the_help_lists_the_calls(rt: HostRuntime) -> Result<(), Fail> {
+    let words = words(rt.alloc(), "mach_run run --help")?;
+    let Err(error) = read_words(rt.alloc(), words.as_slice()) else {
+        panic!(rt; "the help is refused");
+    };
+    let text = error.to_string(rt.alloc())?;
+    assert!(rt; text.contains("\n  task ") && text.contains("\n  again T s SET ROOM LARGE\n"));
+    Ok(())
+}

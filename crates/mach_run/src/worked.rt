@@ -288,6 +288,55 @@ const SETS_THAT_CHANGE: (&str, &str) = (
     empty p 0\n",
 );
 
+// A message of 80 bytes with a reply and seven right words: made, moved, copied, dead and null ones, and data.
+const MANY_RIGHTS: (&str, &str) = (
+    "task\n\
+    task\n\
+    alloc 0 1\n\
+    alloc 1 1\n\
+    insert 0 2 1 1 20\n\
+    insert 0 3 1 1 21\n\
+    alloc 0 4\n\
+    send 0 131500805000000002000000010000000000000\
+    00a000000142002100100000001000000122001100300000008080510414243444500000013200310\
+    0400000000000000ffffffff1120011002000000\n\
+    recv 1 1 79 0\n\
+    recv 1 1 80 0\n\
+    names 1\n\
+    refs 1 3 0\n\
+    names 0\n\
+    status 0 1\n",
+    "task 0\n\
+    task 1\n\
+    name 1\n\
+    name 1\n\
+    code 00000000\n\
+    code 00000000\n\
+    name 4\n\
+    code 00000000\n\
+    toolarge 80\n\
+    message 1211008050000000020000000100000000000000\
+    0a000000112002100300000003000000122001100400000008080510414243444500000011200310\
+    ffffffff00000000ffffffff1120011001000000\n\
+    names 1:00030000 2:00040000 3:00010000 4:00040000\n\
+    refs 2\n\
+    names 1:00020000 4:00100000\n\
+    status 0 0 2 5 0 1 1 0 0\n",
+);
+
+// A set of which two members have a message each: they come in either order, and then there is none.
+const READY_MEMBERS: &str = "task\n\
+    alloc 0 1\n\
+    alloc 0 1\n\
+    alloc 0 3\n\
+    move 0 1 3\n\
+    move 0 2 3\n\
+    send 0 140000001800000001000000000000000000000007000000\n\
+    send 0 140000001800000002000000000000000000000008000000\n\
+    recv 0 3 24 0\n\
+    recv 0 3 24 0\n\
+    recv 0 3 24 0\n";
+
 /// The replies that a whole run of the script gives, one a line; `None` where it is no script or memory
 /// is refused.
 fn replies_of_run(alloc: Global, script: &[u8]) -> Option<Vec<u8>> {
@@ -437,4 +486,27 @@ fn member_of_a_set_is_answered(rt: HostRuntime) {
 fn sets_that_change_is_answered(rt: HostRuntime) {
     let (script, replies) = SETS_THAT_CHANGE;
     assert!(rt; gives(rt.alloc(), script, replies));
+}
+
+#[test]
+fn many_rights_is_answered(rt: HostRuntime) {
+    let (script, replies) = MANY_RIGHTS;
+    assert!(rt; gives(rt.alloc(), script, replies));
+}
+
+#[test]
+fn ready_members_is_answered(rt: HostRuntime) -> Result<(), Fail> {
+    let made =
+        "task 0\nname 1\nname 2\nname 3\ncode 00000000\ncode 00000000\ncode 00000000\ncode 00000000\n";
+    let first = "message 001100001800000000000000010000000000000007000000\n";
+    let second = "message 001100001800000000000000020000000000000008000000\n";
+    let forth = format!(in rt.alloc(); "{made}{first}{second}empty s 0\n")?;
+    let back = format!(in rt.alloc(); "{made}{second}{first}empty s 0\n")?;
+    let answered = [forth, back].iter().any(|replies| gives(
+        rt.alloc(),
+        READY_MEMBERS,
+        replies.as_str(),
+    ));
+    assert!(rt; answered);
+    Ok(())
 }
