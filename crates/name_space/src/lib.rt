@@ -285,11 +285,8 @@ impl Space {
     ///
     /// An error means that memory was refused; the names are then as before, and so is the room.
     pub fn reserve(&mut self, additional: usize) -> Result<(), AllocError>
-        ensures names { self.new.names ≡ self.old.names }
-        ensures ok { OnOk result (additional ≤ self.new.room) }
-        ensures room { self.old.room ≤ self.new.room }
+        ensures ok { OnOk result (self.new ≡ record self.old { room = max self.old.room additional }) }
         ensures err { OnErr result (self.new ≡ self.old) }
-        ensures after { OnOk result (self.new ≡ record self.old { room = max self.old.room additional }) }
         ensures had_room { additional ≤ self.old.room → IsOk result }
     {
         if additional <= self.room {

@@ -247,10 +247,8 @@ impl<M: Message> Ports<M> {
     ///
     /// An error means that memory was refused; all is then as before.
     pub fn reserve_slots(&mut self, additional: usize) -> Result<(), AllocError>
-        ensures ports { self.new ≡ record self.old { spare = self.new.spare } }
-        ensures ok { OnOk result (self.new.spare ≡ self.old.spare + additional) }
-        ensures err { self.old.spare ≤ self.new.spare }
-        ensures unchanged { OnErr result (self.new ≡ self.old) }
+        ensures ok { OnOk result (self.new ≡ record self.old { spare = self.old.spare + additional }) }
+        ensures err { OnErr result (self.new ≡ self.old) }
     {
         if additional >= MOST_SLOTS - self.slots {
             return Err(AllocError);

@@ -16,7 +16,7 @@ returns-clause-ok c = elim c.match-reserve.branch [
       record {
         space = x.0;
         there = x.1;
-        rest = space_replaced _ _ x.0 (λ y. record y { room = max y.room c.args.number }) _ _ _ _ _ _ _ x.1 c.self.view_is c.number.ensures c.index_mut.ensures.value w.in-Ok.ensures.after;
+        rest = space_replaced _ _ x.0 (λ y. record y { room = max y.room c.args.number }) _ _ _ _ _ _ _ x.1 c.self.view_is c.number.ensures c.index_mut.ensures.value w.in-Ok.ensures.ok;
       })
   | in-Err w ↦ rw w.result-is tt
 ]
