@@ -14,7 +14,7 @@ pub record AreReplies (calls : List Event) (text : List ℕ) : Type 0 where
   pub run : Run calls replies state
   pub lines : flat_map reply_line replies ≡ text
 
--- The text is the replies to the calls of this script, all of it; to calls of which no more is known where the script isn't.
+-- The text is the replies to the calls that the script spells, where it is known; to some calls, where it isn't.
 pub record IsOutput (script : Option (List ℕ)) (text : List ℕ) : Type 0 where
   pub calls : List Event
   pub fit : All Fits calls

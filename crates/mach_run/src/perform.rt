@@ -56,10 +56,10 @@ impl<'a> From<ScriptFault> for Fault<'a> {
 /// where `file` can't be read, `line N: bad call` for the first line of a script that is no call,
 /// `out of memory` where memory is refused, and `cannot write` where `out` refuses what is written.
 ///
-/// Once a run is done, `out` got the replies to the script's calls in a run of the machine, one a line.
+/// Where it is done, `out` has got the replies to the script's calls in a run of the machine, one a line.
 /// The whole file is read before anything runs, and after a fault of the first three kinds nothing
-/// was written to `out`; a script with a line that is no call always ends so. Time grows with the length
-/// of the file and the cost of its calls.
+/// was written to `out`; so ends each script that has a line which is no call. Time grows with the
+/// length of the file and the cost of its calls.
 pub fn perform<R: Read, W: Write, E: Write>(
     alloc: Global,
     job: Job,
@@ -94,7 +94,7 @@ pub fn report<E: Write>(fault: Fault<'_>, err: &mut E) -> u8
 
 /// Reads a script, and then makes its calls in turn on a new kernel, with one reply a line on `out`.
 ///
-/// Faults are as for [`perform`]; before any but `CannotWrite`, nothing is written to `out`.
+/// Faults are as for [`perform`]; after any but `CannotWrite`, nothing was written to `out`.
 fn run<'a, R: Read, W: Write>(
     alloc: Global,
     name: &'a str,

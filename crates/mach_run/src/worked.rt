@@ -2,9 +2,8 @@
 use crate::tests::{Page, ran};
 use kernel_core::run;
 use std::alloc::Global;
-use std::io::Write;
 use std::test::Fail;
-use tracer_base::{read_script, write_reply};
+use tracer_base::{read_script, write_reply_line};
 
 // A send-once right for a port of the sender, in a short descriptor.
 const SEND_ONCE_RIGHT: (&str, &str) = (
@@ -344,8 +343,7 @@ fn replies_of_run(alloc: Global, script: &[u8]) -> Option<Vec<u8>> {
     let (_, replies) = run(alloc, events).ok()?;
     let mut page = Page::new(alloc, usize::MAX);
     for reply in replies.as_slice() {
-        write_reply(reply, &mut page).ok()?;
-        page.write_all(b"\n").ok()?;
+        write_reply_line(reply, &mut page).ok()?;
     }
     Some(page.bytes)
 }
