@@ -63,7 +63,7 @@ pub record Adds (old : WorldView) (task : ℕ) (right : NewRight) (name : ℕ) (
     spaces = slice_set old.spaces task (record { names = map.insert space.names name (entry_made old right); room = max space.room 1 - 1 });
   }
 
--- Memory for it was refused: only room for its name may have been made. For a dead name there was none.
+-- Memory for it was refused: only room for its name may have been made, and a dead name, which takes no more, had none.
 pub record LacksMemory (old : WorldView) (task : ℕ) (right : NewRight) (new : WorldView) : Type 0 where
   pub same : SameButRoom old new
   pub spares : KeepsSpares old new

@@ -12,7 +12,7 @@ pub record HasName (w : WorldView) (task : ℕ) : Type 0 where
   pub there : slice_get w.spaces task ≡ Some space
   pub some : 0 < map.len space.names
 
--- The call may lack memory. A dead name, number 4, takes none but for its name, and a list none where it is empty.
+-- The call may lack memory. A dead name, number 4, takes none but room for its name, a list of no names none, and a call that isn't named here none.
 abbrev pub MayLackMemory : WorldView → Event → Type 0
 MayLackMemory w Event.TaskCreate = Unit {0}
 MayLackMemory w (Event.Allocate task right) = right ≡ 4 → LacksRoom w task
