@@ -18,10 +18,12 @@ use Rattle.copyin_base.specs.declared.message.Carried.{Carried}
 use Rattle.copyin.specs.Judging.{CopiesWord, CopiesReply, CopiesBody, made_by_reply, made_by_all}
 use Rattle.copyin_base.specs.Kept.{Kept}
 use Rattle.copyin.specs.Planned.{CanGo, CopiesAll, IsPlan}
-use Rattle.copyin.specs.Plans.{destination_word, reply_words, ChangesWord, ChangesWords, Commits, option_list, message_for, made_in}
+use Rattle.copyin.specs.Plans.{destination_word, reply_words, Judged, ChangesWord, ChangesWords, Commits, option_list, message_for, made_in}
 use Rattle.copyin_base.specs.Stands.{AreTied, IsTied}
-use Rattle.copyin_base.specs.Worlds.{WorldView}
+use Rattle.copyin_base.specs.Wanted.{room_in, room_of}
+use Rattle.copyin_base.specs.Worlds.{WorldView, put}
 use Rattle.copyin.specs.Copies.{ports_copied, CopiesRight}
+use Rattle.copyin_base.proofs.Gets.{each-set}
 use Rattle.copyin_base.proofs.Spaces.{same_world}
 use Rattle.copyin.proofs.Going.{go_on}
 use Rattle.copyin.proofs.Judging.{goes_by_name}
@@ -154,14 +156,15 @@ changes_append a b d task [] vs (c ∷ cs) ds x y = absurd x
 changes_append a b d task (w ∷ ws) vs [] ds x y = absurd x
 changes_append a b d task (w ∷ ws) vs (c ∷ cs) ds x y = (x.0, x.1, changes_append x.0 b d task ws vs cs ds x.2 y)
 
--- ---- ports stay, and so do spare slots
+-- ---- ports stay, and so do spare slots and room for names
 
 record PortsStay (old new : WorldView) : Type 0 where
   live : (p : ℕ) → IsLive old.ports p → IsLive new.ports p
   spare : new.ports.spare ≡ old.ports.spare
+  rooms : (u : ℕ) → room_of new u ≡ room_of old u
 
 stay_same : (old new : WorldView) → new ≡ old → PortsStay old new
-stay_same old new e = record { live = λ p h. subst (λ (x : WorldView). IsLive x.ports p) (sym e) h; spare = ap (λ (x : WorldView). x.ports.spare) e }
+stay_same old new e = record { live = λ p h. subst (λ (x : WorldView). IsLive x.ports p) (sym e) h; spare = ap (λ (x : WorldView). x.ports.spare) e; rooms = λ u. ap (λ (x : WorldView). room_of x u) e }
 
 stay_word : (old new : WorldView) (task : ℕ) (w : PortWord) (c : Carried) → ChangesWord old task w c new → PortsStay old new
 stay_word old new task w c ch = elim (eqb_tells w.name null_word) [
@@ -175,6 +178,9 @@ stay_word old new task w c ch = elim (eqb_tells w.name null_word) [
         record {
           live = λ p h. subst (λ (ports : PortsView Kept). IsLive ports p) (sym is) (live_copied c.given r.copied.mark old.ports p h);
           spare = ap (λ (ports : PortsView Kept). ports.spare) is ∙ spare_copied c.given r.copied.mark old.ports;
+          rooms = λ u. ap (λ (x : WorldView). room_of x u) r.rest
+              ∙ each-set old.spaces task (record r.space { names = put r.space.names w.name r.copied.left }) r.space r.there (λ i o. room_in o ≡ room_of old i)
+              (sym (ap room_in r.there)) (λ i not. refl) u;
         }
 
 stay_words : (old new : WorldView) (task : ℕ) (ws : List PortWord) (cs : List Carried) → ChangesWords old task ws cs new → PortsStay old new
@@ -184,7 +190,7 @@ stay_words old new task (w ∷ ws) [] ch = absurd ch
 stay_words old new task (w ∷ ws) (c ∷ cs) ch =
     let a = stay_word old ch.0 task w c ch.1 in
     let b = stay_words ch.0 new task ws cs ch.2 in
-    record { live = λ p h. b.live p (a.live p h); spare = b.spare ∙ a.spare }
+    record { live = λ p h. b.live p (a.live p h); spare = b.spare ∙ a.spare; rooms = λ u. b.rooms u ∙ a.rooms u }
 
 -- ---- the whole
 
@@ -201,7 +207,7 @@ stay_all old mid task plan ca =
     let a = stay_word old ca.one task plan.words.destination plan.destination ca.destination in
     let b = stay_words ca.one ca.two task (option_to_list plan.words.reply) (option_to_list plan.message.reply) ca.reply in
     let d = stay_words ca.two mid task plan.words.body.items plan.message.rights ca.body in
-    record { live = λ p h. d.live p (b.live p (a.live p h)); spare = d.spare ∙ b.spare ∙ a.spare }
+    record { live = λ p h. d.live p (b.live p (a.live p h)); spare = d.spare ∙ b.spare ∙ a.spare; rooms = λ u. d.rooms u ∙ b.rooms u ∙ a.rooms u }
 
 pub carries_live : (old mid : WorldView) (task : ℕ) (plan : Plan) (p : ℕ) → Carries old task plan mid → IsLive old.ports p → IsLive mid.ports p
 carries_live old mid task plan p ca h = (stay_all old mid task plan ca).live p h
@@ -220,8 +226,8 @@ some_of (Some x) h = (x, refl)
 abbrev with_queued : PortsView Kept → ℕ → PortView Kept → Kept → (spare : ℕ) → PortsView Kept
 with_queued ports p v m spare = record (with_port ports p (record v { queue = v.queue ++ m ∷ [] })) { spare = spare }
 
-same_queued : (a b : PortsView Kept) (p q : ℕ) (v : PortView Kept) (m k : Kept) (spare : ℕ) → a ≡ b → p ≡ q → m ≡ k → with_queued a p v m spare ≡ with_queued b q v k spare
-same_queued a b p q v m k spare x y z = rw (x, y, z) refl
+same_queued : (a b : PortsView Kept) (p q : ℕ) (v : PortView Kept) (m k : Kept) (n spare : ℕ) → a ≡ b → p ≡ q → m ≡ k → n ≡ spare → with_queued a p v m n ≡ with_queued b q v k spare
+same_queued a b p q v m k n spare x y z w = rw (x, y, z, w) refl
 
 pub commits : (old mid : WorldView) (task : ℕ) (parsed : Parsed) (written : WireBody) (bytes : List ℕ) (plan : Plan) (p : IsPlan old task parsed written bytes plan)
     (spaces : List SpaceView) (ports new_ports : PortsView Kept) (ledger : LedgerView) (sets : SetsView) → Carries old task plan mid → IsLive ports plan.port
@@ -237,6 +243,7 @@ commits old mid task parsed written bytes plan p spaces ports new_ports ledger s
     let e : ports ≡ mid.ports = ap (λ (w : WorldView). w.ports) view in
     let s : spaces ≡ mid.spaces = ap (λ (w : WorldView). w.spaces) view in
     let l : ledger ≡ mid.ledger = ap (λ (w : WorldView). w.ledger) view in
+    let less : ports.spare - 1 ≡ old.ports.spare - 1 = ap (λ (n : ℕ). n - 1) (ap (λ (ps : PortsView Kept). ps.spare) e ∙ carries_spare old mid task plan ca) in
     let reply : option_to_list plan.message.reply ≡ option_list p.plans.judged.reply = ap (λ (m : Kept). option_to_list m.reply) p.message ∙ same_options p.plans.judged.reply in
     let rights : plan.message.rights ≡ p.plans.judged.rights = ap (λ (m : Kept). m.rights) p.message in
     record {
@@ -244,6 +251,12 @@ commits old mid task parsed written bytes plan p spaces ports new_ports ledger s
       changes = rw (p.words.destination, p.words.reply, p.words.body, p.destination, reply, rights) at whole;
       v = v;
       there = ap (λ (ps : PortsView Kept). map.get ps.ports p.plans.judged.port) (sym e) ∙ ap (λ (q : ℕ). map.get ports.ports q) (sym p.port) ∙ found.1;
-      spare = ports.spare - 1;
-      rest = same_world _ _ _ _ _ _ _ _ s (queued v found.1 ∙ same_queued ports mid.ports plan.port p.plans.judged.port v plan.message (message_for bytes p.plans.judged) (ports.spare - 1) e p.port p.message) l (ap (λ (w : WorldView). w.sets) view);
+      rest = same_world _ _ _ _ _ _ _ _ s (queued v found.1 ∙ same_queued ports mid.ports plan.port p.plans.judged.port v plan.message (message_for bytes p.plans.judged) (ports.spare - 1) (old.ports.spare - 1) e p.port p.message less) l (ap (λ (w : WorldView). w.sets) view);
     }
+
+-- A message that is sent leaves as much room for names.
+pub commits_rooms : (old : WorldView) (task : ℕ) (parsed : Parsed) (written : WireBody) (j : Judged old task parsed written) (bytes : List ℕ) (new : WorldView) →
+    Commits old task parsed written j bytes new → (u : ℕ) → room_of new u ≡ room_of old u
+commits_rooms old task parsed written j bytes new c u =
+    ap (λ (x : WorldView). room_of x u) c.rest
+    ∙ (stay_words old c.mid task (destination_word parsed ∷ reply_words parsed ++ body_words written) (j.destination ∷ option_list j.reply ++ j.rights) c.changes).rooms u

@@ -2,7 +2,6 @@
 use Rattle.std.proofs.Common.{◌≡◌, ℕ, ◌+◌, ◌<◌, Option, Some, None, List, [], ◌∷◌, ◌++◌, length, take, drop, get_or, refl, sym, ap, subst, ◌∙◌, ◌⊎◌, inl, inr, false, Result, Ok, Err, IfOk, IfErr}
 use Rattle.std.specs.Prelude.{◌≢◌, ◌==◌}
 use Rattle.std.proofs.lemmas.Bool.Decides.{eqb_tells}
-use Rattle.std.specs.BTreeMap.{BTreeMap}
 use Rattle.std.specs.FinMap as map
 use Rattle.std.proofs.lemmas.List.{take_more, take-append-drop, drop_more}
 use Rattle.mach_types.specs.declared.rights.Disposition.{Disposition}
@@ -11,6 +10,7 @@ use Rattle.message_codec.specs.declared.words.PortWord.{PortWord}
 use Rattle.name_space.specs.declared.Entry.{Entry}
 use Rattle.name_space.specs.Names.{Names}
 use Rattle.copyin.specs.declared.copies.Copied.{Copied}
+use Rattle.copyin.specs.declared.touched.Touched.{Touched}
 use Rattle.copyin_base.specs.declared.message.Carried.{Carried}
 use Rattle.copyin_base.specs.declared.message.Mark.{Mark}
 use Rattle.copyin_base.specs.declared.message.Mark.TheVariants as mark
@@ -71,13 +71,13 @@ body-bad names mid (v ∷ ws) [] w rest so h = absurd so
 body-bad names mid (v ∷ ws) (d ∷ cs) w rest so h = inr (inr (d, so.0, so.1, body-bad so.0 mid ws cs w rest so.2 h))
 
 -- The words so far go, and leave what is over the names.
-pub record IsJudged (old new : BTreeMap ℕ (Option Entry)) (names : Names) (ws : List PortWord) (cs : List Carried) : Type 0 where
+pub record IsJudged (old new : Touched) (names : Names) (ws : List PortWord) (cs : List Carried) : Type 0 where
   pub so : (now : Names) → Overlays old names now → (mid : Names) × CopiesBody now ws cs mid × Overlays new names mid
 
-pub judged-none : (old : BTreeMap ℕ (Option Entry)) (names : Names) → IsJudged old old names [] []
+pub judged-none : (old : Touched) (names : Names) → IsJudged old old names [] []
 judged-none old names = record { so = λ now o. (now, refl, o) }
 
-pub judged-more : (old mid new : BTreeMap ℕ (Option Entry)) (names : Names) (words : List PortWord) (i : ℕ) (w : PortWord) (cs : List Carried) (c : Carried) → i < length words
+pub judged-more : (old mid new : Touched) (names : Names) (words : List PortWord) (i : ℕ) (w : PortWord) (cs : List Carried) (c : Carried) → i < length words
     → w ≡ get_or words i w → IsJudged old mid names (take i words) cs → ¬ (IsLeft w)
     → ((now : Names) → Overlays mid names now → (after : Names) × CopiesWord now w c after × Overlays new names after)
     → IsJudged old new names (take (i + 1) words) (cs ++ c ∷ [])
@@ -89,7 +89,7 @@ judged-more old mid new names words i w cs c h is j not goes = record {
       (b.0, subst (λ (ws : List PortWord). CopiesBody now ws (cs ++ c ∷ []) b.0) (sym more) (body-push now a.0 b.0 (take i words) cs w c a.1 b.1 not), b.2);
 }
 
-pub judged-bad : (old mid : BTreeMap ℕ (Option Entry)) (names : Names) (words : List PortWord) (i : ℕ) (w : PortWord) (cs : List Carried) → i < length words
+pub judged-bad : (old mid : Touched) (names : Names) (words : List PortWord) (i : ℕ) (w : PortWord) (cs : List Carried) → i < length words
     → w ≡ get_or words i w → IsJudged old mid names (take i words) cs
     → ((now : Names) → Overlays mid names now → IsBad now w ⊎ IsLeft w)
     → (now : Names) → Overlays old names now → BodyIsBad now words

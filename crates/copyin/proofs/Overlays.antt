@@ -1,5 +1,5 @@
 -- Names that were touched, over those that stood there.
-use Rattle.std.proofs.Common.{◌≡◌, ℕ, false, Option, Some, None, List, refl, sym, ap, subst, ◌∙◌, inl, inr}
+use Rattle.std.proofs.Common.{◌≡◌, ℕ, ◌<◌, ◌≤◌, false, Option, Some, None, List, [], ◌∷◌, ◌++◌, length, refl, sym, ap, subst, ◌∙◌, inl, inr, arith}
 use Rattle.std.specs.Prelude.{◌≢◌}
 use Rattle.std.proofs.lemmas.Bool.Decides.{eqb_tells}
 use Rattle.std.specs.BTreeMap.{BTreeMap, get, is_at, Updates, IsEmpty}
@@ -13,7 +13,10 @@ use Rattle.std.specs.Ordering.{nat_cmp, is_eq}
 use Rattle.mach_model.proofs.Names.{get_own, get_other, removed_own}
 use Rattle.name_space.specs.declared.Entry.{Entry}
 use Rattle.name_space.specs.Names.{Names}
-use Rattle.copyin.specs.Overlays.{over, Overlays}
+use Rattle.arrayvec.specs.ArrayVec.{ArrayVec, array_vec_len}
+use Rattle.copyin.specs.declared.touched.Touch.{Touch}
+use Rattle.copyin.specs.declared.touched.Touched.{Touched}
+use Rattle.copyin.specs.Overlays.{inline_touched, puts, over, Overlays}
 use Rattle.copyin_base.specs.Worlds.{put}
 
 not_at : (a b : ℕ) → b ≢ a → is_at (nat_cmp a) b ≡ false
@@ -36,17 +39,50 @@ pub get_put_other : (names : Names) (name : ℕ) (left : Option Entry) (q : ℕ)
 get_put_other names name None q not = get-remove_other names name q not
 get_put_other names name (Some e) q not = get_other names name e q not
 
-pub overlays-put : (old new : BTreeMap ℕ (Option Entry)) (names now : Names) (name : ℕ) (left : Option Entry) → Updates nat_cmp old new name (Some left)
-    → Overlays old names now → Overlays new names (put now name left)
-overlays-put old new names now name left u o = record {
-  each = λ q. elim (eqb_tells q name) [
-    | inl h ↦ subst (λ (n : ℕ). map.get (put now name left) n ≡ over (get nat_cmp new n) (map.get names n)) (sym h.1)
-        (get_put now name left ∙ sym (ap (λ (t : Option (Option Entry)). over t (map.get names name)) u.1))
-    | inr h ↦ get_put_other now name left q h.1 ∙ o.each q ∙ sym (ap (λ (t : Option (Option Entry)). over t (map.get names q)) (u.2 q (not_at name q h.1)))
-  ];
-}
+-- names that agree still do after this was put under one
+put_alike : (a b : Names) (name : ℕ) (left : Option Entry) → ((q : ℕ) → map.get a q ≡ map.get b q) → (q : ℕ) → map.get (put a name left) q ≡ map.get (put b name left) q
+put_alike a b name left same q = elim (eqb_tells q name) [
+  | inl h ↦ rw h.1 (get_put a name left ∙ sym (get_put b name left))
+  | inr h ↦ get_put_other a name left q h.1 ∙ same q ∙ sym (get_put_other b name left q h.1)
+]
 
-pub overlays-none : (touched : BTreeMap ℕ (Option Entry)) (names : Names) → IsEmpty touched → Overlays touched names names
-overlays-none touched names empty = record {
-  each = λ q. sym (ap (λ (es : List (ℕ × Option Entry)). over (lookup (is_at (nat_cmp q)) es) (map.get names q)) empty);
-}
+-- ---- the first few
+
+pub puts-push : (names : Names) (ts : List Touch) (t : Touch) → puts names (ts ++ t ∷ []) ≡ put (puts names ts) t.name t.left
+puts-push names [] t = refl
+puts-push names (x ∷ xs) t = puts-push (put names x.name x.left) xs t
+
+none_of_many : (touched : Touched) (q : ℕ) → IsEmpty touched.many → get nat_cmp touched.many q ≡ None
+none_of_many touched q empty = ap (λ (es : List (ℕ × Option Entry)). lookup (is_at (nat_cmp q)) es) empty
+
+pub overlays-few : (old new : Touched) (names now : Names) (t : Touch) → array_vec_len old.few < inline_touched → new.few.items ≡ old.few.items ++ t ∷ [] → new.many ≡ old.many
+    → Overlays old names now → Overlays new names (put now t.name t.left)
+overlays-few old new names now t less few many o =
+    let empty : IsEmpty old.many = o.in_turn less in
+    let alike : (q : ℕ) → map.get now q ≡ map.get (puts names old.few.items) q =
+    λ q. o.each q ∙ ap (λ (x : Option (Option Entry)). over x (map.get (puts names old.few.items) q)) (none_of_many old q empty) in
+    let still : IsEmpty new.many = subst (λ (m : BTreeMap ℕ (Option Entry)). IsEmpty m) (sym many) empty in
+    record {
+      each = λ q.
+          put_alike now (puts names old.few.items) t.name t.left alike q
+          ∙ ap (λ (m : Names). map.get m q) (sym (puts-push names old.few.items t) ∙ ap (puts names) (sym few))
+          ∙ ap (λ (x : Option (Option Entry)). over x (map.get (puts names new.few.items) q)) (sym (none_of_many new q still));
+      in_turn = λ h. still;
+    }
+
+-- ---- and those that came later
+
+pub overlays-many : (old new : Touched) (names now : Names) (name : ℕ) (left : Option Entry) → inline_touched ≤ array_vec_len old.few → new.few ≡ old.few
+    → Updates nat_cmp old.many new.many name (Some left) → Overlays old names now → Overlays new names (put now name left)
+overlays-many old new names now name left full few u o =
+    let base : (q : ℕ) → map.get (puts names old.few.items) q ≡ map.get (puts names new.few.items) q =
+    λ q. ap (λ (f : ArrayVec Touch). map.get (puts names f.items) q) (sym few) in
+    record {
+      each = λ q. elim (eqb_tells q name) [
+        | inl h ↦ subst (λ (n : ℕ). map.get (put now name left) n ≡ over (get nat_cmp new.many n) (map.get (puts names new.few.items) n)) (sym h.1)
+            (get_put now name left ∙ sym (ap (λ (t : Option (Option Entry)). over t (map.get (puts names new.few.items) name)) u.1))
+        | inr h ↦ get_put_other now name left q h.1 ∙ o.each q ∙ ap (over (get nat_cmp old.many q)) (base q)
+            ∙ sym (ap (λ (t : Option (Option Entry)). over t (map.get (puts names new.few.items) q)) (u.2 q (not_at name q h.1)))
+      ];
+      in_turn = λ h. absurd (let e : array_vec_len new.few ≡ array_vec_len old.few = ap (λ (f : ArrayVec Touch). length f.items) few in omega arith);
+    }

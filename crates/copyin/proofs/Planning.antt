@@ -1,5 +1,5 @@
 -- What judging the words of a text says of the plan.
-use Rattle.std.proofs.Common.{◌≡◌, ℕ, ◌+◌, ◌/◌, ◌%◌, ◌^◌, ◌<◌, Bool, Option, Some, None, IsSome, IfSome, List, [], ◌∷◌, refl, sym, ap, subst, ◌∙◌, inl, inr, ◌⊎◌, arith, All}
+use Rattle.std.proofs.Common.{◌≡◌, ℕ, ◌+◌, ◌/◌, ◌%◌, ◌^◌, ◌<◌, Option, Some, None, IsSome, IfSome, List, [], ◌∷◌, length, refl, sym, ap, subst, ◌∙◌, inl, inr, ◌⊎◌, arith, All}
 use Rattle.std.specs.Prelude.{◌≢◌, slice_get}
 use Rattle.std.specs.Option.{option_to_list}
 use Rattle.std.proofs.lemmas.Bool.Decides.{eqb_tells, leb_tells}
@@ -11,11 +11,12 @@ use Rattle.mach_types.specs.declared.rights.Disposition.TheVariants.{MoveSend, M
 use Rattle.mach_types.specs.Grammar.{Header, Wire, data_item, port_item, WireBody, raw, items, IsWire, IsWireBody, NamesPorts, text}
 use Rattle.mach_types.specs.Numbers.{disposition, kind_sent, msg_number, most_rights}
 use Rattle.mach_types.specs.TextGuards.{TextRefuses, BadHeader, IsSendable, word_at}
-use Rattle.mach_types.specs.Tokens.{receive, send, send_once, same_kind}
+use Rattle.mach_types.specs.Tokens.{receive, send, send_once}
+use Rattle.smallvec.specs.SmallVec.{small_vec_len}
 use Rattle.message_codec.specs.declared.text.Parsed.{Parsed}
 use Rattle.message_codec.specs.declared.words.PortWord.{PortWord}
 use Rattle.message_codec.specs.Parses.{Parses}
-use Rattle.message_codec.specs.Words.{items_words, body_words}
+use Rattle.message_codec.specs.Words.{items_words, body_words, inline_words}
 use Rattle.message_codec.proofs.PutWords.{six}
 use Rattle.message_codec.proofs.Shapes.{All-head, All-tail}
 use Rattle.name_space.specs.Names.{SpaceView}
@@ -24,9 +25,8 @@ use Rattle.copyin.specs.declared.judge.Rights.{Rights}
 use Rattle.copyin.specs.declared.judge.Words.{Words}
 use Rattle.copyin.specs.Goes.{AreGiven, LeadsNowhere, GoAll, CannotGo, made_by_rights}
 use Rattle.copyin.specs.Judging.{CopiesName, CopiesReply, CopiesBody, BodyIsBad}
-use Rattle.copyin_base.specs.Kept.{Kept}
 use Rattle.copyin.specs.Planned.{AreWords}
-use Rattle.copyin.specs.Plans.{destination_word, reply_words, Judged, HasSlot, HasNoSlot, CannotPlan, message_for}
+use Rattle.copyin.specs.Plans.{destination_word, reply_words, Judged, HasSlot, HasNoSlot, CannotPlan}
 use Rattle.copyin_base.specs.Stands.{AreTied}
 use Rattle.copyin_base.specs.Worlds.{WorldView}
 use Rattle.copyin.proofs.Keeping.{keeps}
@@ -151,8 +151,8 @@ words_given bytes parsed p words a = record {
 
 module _ (w : WorldView) (task : ℕ) (parsed : Parsed) (written : WireBody) (space : SpaceView) (words : Words) (there : slice_get w.spaces task ≡ Some space)
     (a : AreWords parsed written words) where
-  pub cannot_judge : (code : MsgReturn) → (code ≡ SendNoBuffer) ⊎ CannotGo space.names words code → CannotPlan w task parsed written (msg_number code)
-  cannot_judge code (inl h) = inr (inr (inr (ap msg_number h)))
+  pub cannot_judge : (code : MsgReturn) → (code ≡ SendNoBuffer) × (inline_words < small_vec_len words.body) ⊎ CannotGo space.names words code → CannotPlan w task parsed written (msg_number code)
+  cannot_judge code (inl h) = inr (inr (inr (inr (subst (λ (ws : List PortWord). inline_words < length ws) a.body h.1), ap msg_number h.0)))
   cannot_judge code (inr (inl h)) =
       let nowhere : LeadsNowhere space.names (destination_word parsed) = subst (λ (x : PortWord). LeadsNowhere space.names x) a.destination h.1 in
       inl (space, there, nowhere, ap msg_number h.0)
@@ -210,11 +210,6 @@ module _ (w : WorldView) (task : ℕ) (parsed : Parsed) (written : WireBody) (sp
         ⊎ HasSlot w rights.port rights.destination × (most_rights < w.ledger.total + made_by_rights rights) × (code ≡ SendNoBuffer) → CannotPlan w task parsed written (msg_number code)
     cannot_admit code (inl h) = inr (inr (inl (judged_of, inl (h.0, ap msg_number h.1))))
     cannot_admit code (inr h) = inr (inr (inl (judged_of, inr (h.0, h.1, ap msg_number h.2))))
-
-    pub message_is : (bytes kept : List ℕ) (once : Bool) → kept ≡ bytes → once ≡ same_kind (kind_sent rights.destination.given) send_once
-        → ◌≡◌ {A = Kept} (record { bytes = kept; id = parsed.id; is_complex = parsed.is_complex; spans = parsed.spans; by_once = once; reply = rights.reply; rights = rights.body.items })
-        (message_for bytes judged_of)
-    message_is bytes kept once e o = rw (e, o) refl
 
     pub port_lives : AreTied space.names w.ports w.ledger → IsLive w.ports rights.port
     port_lives tied =

@@ -29,14 +29,14 @@ use Rattle.copyin_base.specs.Kept.{mark_of, reply_of}
 use Rattle.copyin_base.specs.Worlds.{WorldView}
 use Rattle.copyin_base.specs.Shows.{Shows}
 use Rattle.copyin.specs.Judging.{CopiesName, CopiesReply, IsBad, IsLeft, BodyIsBad}
-use Rattle.copyin.specs.Plans.{destination_word, reply_words, CannotPlan}
+use Rattle.copyin.specs.Plans.{MayWantMemory, destination_word, reply_words, CannotPlan}
 use Rattle.copyin.proofs.Stepping.{Along, Went, went, stepped}
 use Rattle.copyin.proofs.Bodies.{words_of}
 use Rattle.copyin.proofs.Numbering.{given_ports}
 use Rattle.copyin.proofs.Texts.{no_answer}
 use Rattle.copyin.proofs.Planned.{Replied, replied, third, copied}
 use Rattle.copyin.proofs.Planned.{message as planned_message}
-use Rattle.copyin.proofs.Sent.{refused_full}
+use Rattle.copyin.proofs.Sent.{refused_full, refused_many}
 use Rattle.copyin.proofs.Refused.{legal_copies}
 
 module _ (w : WorldView) (s : State) (o k task : ℕ) (names : Names) (at : Along w s o k task names) where
@@ -193,8 +193,8 @@ module _ (w : WorldView) (s : State) (sh : Shows w s) (task : ℕ) (bytes : List
       bad_rights : BodyIsBad second (body_words text.written) → BodyRefuses task (in_message p (length (s.log p))) text.written x2.t
       bad_rights bad = bad_body x2.w2 x2.t p (length (s.log p)) task second text.written x2.along text.message.spells.body_fits bad
 
-  -- What the tables refuse for a cause in the message, the machine does.
-  pub cannot : (code : ℕ) → CannotPlan w task parsed text.written code → (code ≡ msg_number SendNoBuffer) ⊎ RightsRefuse s task text.header text.written code
+  -- What the tables refuse, the machine does, or memory may be wanted.
+  pub cannot : (code : ℕ) → CannotPlan w task parsed text.written code → MayWantMemory w task parsed text.written × (code ≡ msg_number SendNoBuffer) ⊎ RightsRefuse s task text.header text.written code
   cannot code (inl h) = inr (inl (bad_destination h.0 h.1 h.2, h.3))
   cannot code (inr (inl (space, there, p, c, to, first, n, inl r))) =
       inr (inr (inl (p, (x1 space there p c to first n).t, to_header space there p c to first n, inl (bad_reply space there p c to first n r.0 r.1 r.2, r.3))))
@@ -213,5 +213,12 @@ module _ (w : WorldView) (s : State) (sh : Shows w s) (task : ℕ) (bytes : List
         subst (FirstIs (sent_guards (planned_message w s sh task bytes parsed text j) (place_of s (planned_message w s sh task bytes parsed text j)) (third w s sh task bytes parsed text j).t)) (sym h.1)
             (refused_full w s sh 0 task bytes parsed text j h.0),
       )))
-  cannot code (inr (inr (inl (j, inr h)))) = inl h.2
-  cannot code (inr (inr (inr e))) = inl e
+  cannot code (inr (inr (inl (j, inr h)))) =
+      inr (inr (inr (
+        planned_message w s sh task bytes parsed text j,
+        (third w s sh task bytes parsed text j).t,
+        copied w s sh task bytes parsed text j,
+        subst (FirstIs (sent_guards (planned_message w s sh task bytes parsed text j) (place_of s (planned_message w s sh task bytes parsed text j)) (third w s sh task bytes parsed text j).t)) (sym h.2)
+            (refused_many w s sh 0 task bytes parsed text j h.0 h.1),
+      )))
+  cannot code (inr (inr (inr h))) = inl h

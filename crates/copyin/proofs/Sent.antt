@@ -1,5 +1,5 @@
 -- A message that is sent: the machine's step, and tables that agree with the state after it.
-use Rattle.std.proofs.Common.{◌≡◌, ℕ, ◌+◌, ◌<◌, ◌≤◌, List, [], ◌∷◌, ◌++◌, Some, refl, sym, ap, subst, ◌∙◌, arith, inl, inr, length, drop}
+use Rattle.std.proofs.Common.{◌≡◌, ℕ, ◌+◌, ◌-◌, ◌<◌, ◌≤◌, List, [], ◌∷◌, ◌++◌, Some, refl, sym, ap, subst, ◌∙◌, arith, inl, inr, length, drop}
 use Rattle.std.specs.Prelude.{◌^◌, is_some}
 use Rattle.std.proofs.lemmas.List.{drop-append-le}
 use Rattle.mach_types.specs.Numbers.{most_rights, msg_number}
@@ -176,5 +176,5 @@ module _ (w : WorldView) (s : State) (sh : Shows w s) (now task : ℕ) (bytes : 
       let within : copied_state.taken j.port ≤ length (copied_state.log j.port) =
       subst (λ (y : State). y.taken j.port ≤ length (y.log j.port)) (sym shaped) (sh.lawful.within j.port) in
       subst (λ (y : WorldView). Agrees y sent_state)
-      (ap (λ (y : WorldView). record y { ports = record (with_port y.ports j.port (record c.v { queue = c.v.queue ++ message_for bytes j ∷ [] })) { spare = c.spare } }) (sym mid_is) ∙ sym c.rest)
-      (appended_agrees x.w2 copied_state x.along.agrees j.port c.v there (message_for bytes j) now m keeps within c.spare)
+      (ap (λ (y : WorldView). record y { ports = record (with_port y.ports j.port (record c.v { queue = c.v.queue ++ message_for bytes j ∷ [] })) { spare = w.ports.spare - 1 } }) (sym mid_is) ∙ sym c.rest)
+      (appended_agrees x.w2 copied_state x.along.agrees j.port c.v there (message_for bytes j) now m keeps within (w.ports.spare - 1))

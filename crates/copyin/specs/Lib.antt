@@ -4,3 +4,4 @@ pub mod Plans
 pub mod Overlays
 pub mod Goes
 pub mod Planned
+pub mod Wanted

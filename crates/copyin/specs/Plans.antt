@@ -1,12 +1,12 @@
 -- What is decided of a message before anything changes, and what is then done.
-use Rattle.std.specs.Prelude.{◌≡◌, ℕ, ◌+◌, ◌<◌, ◌≤◌, ◌⊎◌, List, [], ◌∷◌, ◌++◌, length, slice_get, Option, Some, None, if◌then◌else◌, ◌==◌, MatchBool}
+use Rattle.std.specs.Prelude.{◌≡◌, ℕ, ◌+◌, ◌-◌, ◌<◌, ◌≤◌, ◌⊎◌, List, [], ◌∷◌, ◌++◌, length, slice_get, Option, Some, None, if◌then◌else◌, ◌==◌, MatchBool}
 use Rattle.mach_types.specs.declared.codes.MsgReturn.TheVariants.{SendInvalidDest, SendTimedOut, SendInvalidReply, SendInvalidRight, SendNoBuffer}
 use Rattle.mach_types.specs.Numbers.{kind_sent, msg_number, most_rights, null_word, dead_word}
 use Rattle.mach_types.specs.Tokens.{send, send_once, same_kind}
 use Rattle.mach_types.specs.Grammar.{WireBody}
 use Rattle.message_codec.specs.declared.text.Parsed.{Parsed}
 use Rattle.message_codec.specs.declared.words.PortWord.{PortWord}
-use Rattle.message_codec.specs.Words.{body_words}
+use Rattle.message_codec.specs.Words.{body_words, inline_words}
 use Rattle.name_space.specs.Names.{Names, SpaceView}
 use Rattle.port.specs.Ports.{PortView, with_port}
 use Rattle.copyin_base.specs.declared.message.Carried.{Carried}
@@ -66,6 +66,10 @@ pub record Plans (w : WorldView) (task : ℕ) (parsed : Parsed) (written : WireB
   pub slot : HasSlot w judged.port judged.destination
   pub few : w.ledger.total + made_in judged ≤ most_rights
 
+-- Memory may be wanted: the message may be sent, or has more words than are kept without an allocation.
+abbrev pub MayWantMemory : WorldView → (task : ℕ) → Parsed → WireBody → Type 0
+MayWantMemory w task parsed written = Plans w task parsed written ⊎ (inline_words < length (body_words written))
+
 -- It is refused with this code.
 abbrev pub CannotPlan : (w : WorldView) → (task : ℕ) → Parsed → WireBody → (code : ℕ) → Type 0
 CannotPlan w task parsed written code =
@@ -78,7 +82,7 @@ CannotPlan w task parsed written code =
     ⊎ ((j : Judged w task parsed written)
     × (HasNoSlot w j.port j.destination × (code ≡ msg_number SendTimedOut)
     ⊎ HasSlot w j.port j.destination × (most_rights < w.ledger.total + made_in j) × (code ≡ msg_number SendNoBuffer)))
-    ⊎ (code ≡ msg_number SendNoBuffer)
+    ⊎ MayWantMemory w task parsed written × (code ≡ msg_number SendNoBuffer)
 
 -- ---- what is done
 
@@ -99,12 +103,10 @@ abbrev pub option_list : Option Carried → List Carried
 option_list None = []
 option_list (Some c) = c ∷ []
 
--- The rights go, and the message stands at the end of its port's queue.
+-- The rights go, and the message stands at the end of its port's queue, in a slot that was spare.
 pub record Commits (old : WorldView) (task : ℕ) (parsed : Parsed) (written : WireBody) (j : Judged old task parsed written) (bytes : List ℕ) (new : WorldView) : Type 0 where
   pub mid : WorldView
   pub changes : ChangesWords old task (destination_word parsed ∷ reply_words parsed ++ body_words written) (j.destination ∷ option_list j.reply ++ j.rights) mid
   pub v : PortView Kept
   pub there : port_at mid j.port ≡ Some v
-  -- the number of spare slots is of no account here
-  pub spare : ℕ
-  pub rest : new ≡ record mid { ports = record (with_port mid.ports j.port (record v { queue = v.queue ++ message_for bytes j ∷ [] })) { spare = spare } }
+  pub rest : new ≡ record mid { ports = record (with_port mid.ports j.port (record v { queue = v.queue ++ message_for bytes j ∷ [] })) { spare = old.ports.spare - 1 } }

@@ -1,35 +1,34 @@
 //! Judging a message before anything changes.
-ghost use Rattle.std.specs.Prelude.{◌≡◌, ◌≢◌, ℕ, ◌<◌, ◌≤◌, ◌+◌, ◌⊎◌, ◌↔◌, All, IsSome, IsTrue, Some, None, MatchBool, MatchOption, [], ◌∷◌, ◌++◌, IfSome, IfOk, IfErr, OnOk, length, slice_get};
+ghost use Rattle.std.specs.Prelude.{◌≡◌, ◌≢◌, ℕ, ◌<◌, ◌≤◌, ◌+◌, ◌⊎◌, ◌↔◌, All, IsSome, IsTrue, Some, None, MatchBool, MatchOption, [], ◌∷◌, ◌++◌, IfSome, IfOk, IfErr, OnOk, OnErr, length, slice_get};
 ghost use Rattle.std.specs.Option.{option_to_list};
-ghost use Rattle.std.specs.FinMap as map;
+ghost use Rattle.arrayvec.specs.ArrayVec.{array_vec_len};
+ghost use Rattle.smallvec.specs.SmallVec.{small_vec_len};
 ghost use Rattle.mach_types.specs.declared.codes.MsgReturn.TheVariants.{SendNoBuffer, SendInvalidDest, SendInvalidReply, SendInvalidRight, SendTimedOut};
 ghost use Rattle.mach_types.specs.Grammar.{WireBody};
-ghost use Rattle.mach_types.specs.Tokens.{receive};
+ghost use Rattle.mach_types.specs.Tokens.{receive, send_once, same_kind};
 ghost use Rattle.port.specs.Ports.{IsLive};
 ghost use Rattle.mach_types.specs.Numbers.{disposition, kind_sent, most_rights, msg_number, null_word, dead_word};
 ghost use Rattle.message_codec.specs.Parses.{Parses};
+ghost use Rattle.message_codec.specs.Words.{body_words, inline_words};
 ghost use Rattle.name_space.specs.Names.{Names};
 ghost use Rattle.copyin_base.specs.declared.message.Carried.{Carried as AnyCarried};
 ghost use Rattle.copyin_base.specs.declared.message.Mark.TheVariants as mark_of;
 ghost use Rattle.copyin.specs.Judging.{CopiesName, CopiesWord, CopiesReply, CopiesBody, IsBad, IsLeft, BodyIsBad, made_by, made_by_all};
-ghost use Rattle.copyin.specs.Overlays.{Overlays};
+ghost use Rattle.copyin.specs.Overlays.{IsFull, Overlays};
 ghost use Rattle.copyin.specs.Goes.{AreGiven, RepliesBadly, LeadsNowhere, GoAll, CannotGo, made_by_rights};
 ghost use Rattle.copyin.specs.Planned.{AreWords, IsPlan};
 ghost use Rattle.copyin.specs.Plans.{CannotPlan, HasSlot, HasNoSlot, reply_words};
 ghost use Rattle.copyin_base.specs.Stands.{IsTied};
-ghost use Rattle.copyin_base.specs.Worlds.{put};
 
 use crate::copies::copy_right;
+use crate::touched::Touched;
 use copyin_base::{Carried, Mark, Message, World};
 use mach_types::limits::MOST_RIGHTS;
 use mach_types::{Disposition, MsgReturn, Name, PortId, TaskId};
-use message_codec::{Parsed, PortWord, port_words};
-use name_space::{Entry, Space};
+use message_codec::{INLINE_WORDS, Parsed, PortWord, port_words};
+use name_space::Space;
+use smallvec::SmallVec;
 use std::alloc::{AllocError, Global};
-use std::collections::BTreeMap;
-
-// What stands under each name that was touched; nothing, where it is no name any more.
-type Touched = BTreeMap<u32, Option<Entry>>;
 
 /// The port words of a message.
 #[derive(Drop)]
@@ -39,7 +38,7 @@ pub struct Words {
     /// The word of the right to answer with, where there is one.
     pub reply: Option<PortWord>,
     /// The body's, from the front.
-    pub body: Vec<PortWord>,
+    pub body: SmallVec<PortWord, INLINE_WORDS>,
 }
 
 /// What is done when the message is sent: every right that goes, and the message that is queued. It
@@ -58,27 +57,6 @@ pub struct Plan {
     pub message: Message,
 }
 
-// What stands under the name now.
-fn standing(space: &Space, touched: &Touched, name: Name) -> Option<Entry>
-    ensures { (now : Names) → Overlays touched.now space.now.names now → result ≡ map.get now name }
-{
-    match touched.get(&name.number()) {
-        Some(entry) => *entry,
-        None => space.lookup(name),
-    }
-}
-
-// Puts what is left under a name over what stood there.
-fn touch(touched: &mut Touched, name: Name, left: Option<Entry>) -> Result<(), MsgReturn>
-    ensures ok { OnOk result ((names now : Names) → Overlays touched.old names now → Overlays touched.new names (put now name left)) }
-    ensures err { IfErr result (λ code. code ≡ SendNoBuffer) }
-{
-    match touched.insert(name.number(), left) {
-        Ok(_) => Ok(()),
-        Err(_) => Err(MsgReturn::SendNoBuffer),
-    }
-}
-
 // Judges the right that goes from what stands under the word's name, which is refused with this code.
 fn judge_name(
     space: &Space,
@@ -89,17 +67,20 @@ fn judge_name(
     requires { IsSome (disposition word.disposition) }
     ensures ok { IfOk result (λ c. (now : Names) → Overlays touched.old space.now.names now
         → (after : Names) × CopiesName now word c after × Overlays touched.new space.now.names after) }
-    ensures err { IfErr result (λ code. (code ≡ SendNoBuffer)
+    ensures err { IfErr result (λ code. (code ≡ SendNoBuffer) × IsFull touched.old
         ⊎ (code ≡ refusal) × ((now : Names) → Overlays touched.old space.now.names now → (c : AnyCarried) (after : Names) → ¬ (CopiesName now word c after))) }
+    ensures few { array_vec_len touched.new.few ≤ array_vec_len touched.old.few + 1 }
 {
     let given = Disposition::from_u8(word.disposition).unwrap();
-    let Some(entry) = standing(space, touched, word.name) else {
+    let Some(entry) = touched.standing(space, word.name) else {
         return Err(refusal);
     };
     let Some(copied) = copy_right(given, &entry) else {
         return Err(refusal);
     };
-    touch(touched, word.name, copied.left)?;
+    let Ok(()) = touched.put(word.name, copied.left) else {
+        return Err(MsgReturn::SendNoBuffer);
+    };
     let mark = copied.mark;
     Ok(Carried { given, mark })
 }
@@ -125,8 +106,9 @@ fn judge_word(
     requires { IsSome (disposition word.disposition) }
     ensures ok { IfOk result (λ c. (now : Names) → Overlays touched.old space.now.names now
         → (after : Names) × CopiesWord now word c after × Overlays touched.new space.now.names after) }
-    ensures err { IfErr result (λ code. (code ≡ SendNoBuffer)
+    ensures err { IfErr result (λ code. (code ≡ SendNoBuffer) × IsFull touched.old
         ⊎ (code ≡ refusal) × ((now : Names) → Overlays touched.old space.now.names now → IsBad now word)) }
+    ensures few { array_vec_len touched.new.few ≤ array_vec_len touched.old.few + 1 }
 {
     let given = Disposition::from_u8(word.disposition).unwrap();
     match mark_of_word(word.name) {
@@ -151,8 +133,9 @@ fn judge_body_word(
     requires { IsSome (disposition word.now.disposition) }
     ensures ok { IfOk result (λ c. ¬ (IsLeft word.now) × ((now : Names) → Overlays touched.old space.now.names now
         → (after : Names) × CopiesWord now word.now c after × Overlays touched.new space.now.names after)) }
-    ensures err { IfErr result (λ code. (code ≡ SendNoBuffer)
+    ensures err { IfErr result (λ code. (code ≡ SendNoBuffer) × IsFull touched.old
         ⊎ (code ≡ SendInvalidRight) × ((now : Names) → Overlays touched.old space.now.names now → IsBad now word.now ⊎ IsLeft word.now)) }
+    ensures few { array_vec_len touched.new.few ≤ array_vec_len touched.old.few + 1 }
 {
     if takes_receive(word) {
         return Err(MsgReturn::SendInvalidRight);
@@ -161,8 +144,15 @@ fn judge_body_word(
 }
 
 // Adds a right to those that go.
-fn keep(rights: &mut Vec<Carried>, given: Disposition, mark: Mark) -> Result<(), AllocError>
-    ensures { OnOk result (rights.new.items ≡ rights.old.items ++ record { given = given; mark = mark } ∷ []) }
+fn keep(
+    rights: &mut SmallVec<Carried, INLINE_WORDS>,
+    given: Disposition,
+    mark: Mark,
+) -> Result<(), AllocError>
+    requires inline { inline_words ≤ rights.old.capacity }
+    ensures ok { OnOk result (rights.new.items ≡ rights.old.items ++ record { given = given; mark = mark } ∷ []) }
+    ensures err { OnErr result (inline_words ≤ small_vec_len rights.old) }
+    ensures capacity { inline_words ≤ rights.new.capacity }
 {
     rights.push(Carried { given, mark })?;
     Ok(())
@@ -172,14 +162,17 @@ fn keep(rights: &mut Vec<Carried>, given: Disposition, mark: Mark) -> Result<(),
 fn judge_next(
     space: &Space,
     touched: &mut Touched,
-    rights: &mut Vec<Carried>,
+    rights: &mut SmallVec<Carried, INLINE_WORDS>,
     word: &PortWord,
 ) -> Result<(), MsgReturn>
-    requires { IsSome (disposition word.now.disposition) }
+    requires inline { inline_words ≤ rights.old.capacity }
+    requires given { IsSome (disposition word.now.disposition) }
     ensures ok { OnOk result ((c : AnyCarried) × (rights.new.items ≡ rights.old.items ++ c ∷ []) × ¬ (IsLeft word.now)
         × ((now : Names) → Overlays touched.old space.now.names now → (after : Names) × CopiesWord now word.now c after × Overlays touched.new space.now.names after)) }
-    ensures err { IfErr result (λ code. (code ≡ SendNoBuffer)
+    ensures err { IfErr result (λ code. (code ≡ SendNoBuffer) × (IsFull touched.old ⊎ (inline_words ≤ small_vec_len rights.old))
         ⊎ (code ≡ SendInvalidRight) × ((now : Names) → Overlays touched.old space.now.names now → IsBad now word.now ⊎ IsLeft word.now)) }
+    ensures few { array_vec_len touched.new.few ≤ array_vec_len touched.old.few + 1 }
+    ensures capacity { inline_words ≤ rights.new.capacity }
 {
     let Carried { given, mark } = judge_body_word(space, touched, word)?;
     match keep(rights, given, mark) {
@@ -194,14 +187,15 @@ fn judge_body(
     space: &Space,
     touched: &mut Touched,
     words: &[PortWord],
-) -> Result<Vec<Carried>, MsgReturn>
-    requires { All (λ w. IsSome (disposition w.disposition)) words.now }
+) -> Result<SmallVec<Carried, INLINE_WORDS>, MsgReturn>
+    requires few { array_vec_len touched.old.few ≤ 2 }
+    requires given { All (λ w. IsSome (disposition w.disposition)) words.now }
     ensures ok { IfOk result (λ rights. (now : Names) → Overlays touched.old space.now.names now
         → (after : Names) × CopiesBody now words.now rights.items after) }
-    ensures err { IfErr result (λ code. (code ≡ SendNoBuffer)
+    ensures err { IfErr result (λ code. (code ≡ SendNoBuffer) × (inline_words < length words.now)
         ⊎ (code ≡ SendInvalidRight) × ((now : Names) → Overlays touched.old space.now.names now → BodyIsBad now words.now)) }
 {
-    let mut rights = Vec::new(alloc);
+    let mut rights = SmallVec::new(alloc);
     for word in words {
         judge_next(space, touched, &mut rights, word)?;
     }
@@ -217,8 +211,9 @@ fn judge_reply(
     requires { IfSome word (λ w. IsSome (disposition w.disposition)) }
     ensures ok { IfOk result (λ reply. (now : Names) → Overlays touched.old space.now.names now
         → (after : Names) × CopiesReply now (option_to_list word) reply after × Overlays touched.new space.now.names after) }
-    ensures err { IfErr result (λ code. (code ≡ SendNoBuffer)
+    ensures err { IfErr result (λ code. (code ≡ SendNoBuffer) × IsFull touched.old
         ⊎ (code ≡ SendInvalidReply) × ((now : Names) → Overlays touched.old space.now.names now → RepliesBadly now (option_to_list word))) }
+    ensures few { array_vec_len touched.new.few ≤ array_vec_len touched.old.few + 1 }
 {
     match word {
         None => Ok(None),
@@ -248,8 +243,9 @@ fn judge_destination(
     requires { IsSome (disposition word.disposition) }
     ensures ok { IfOk result (λ d. (d.0.mark ≡ mark_of.Port d.1) × ((now : Names) → Overlays touched.old space.now.names now
         → (after : Names) × CopiesName now word d.0 after × Overlays touched.new space.now.names after)) }
-    ensures err { IfErr result (λ code. (code ≡ SendNoBuffer)
+    ensures err { IfErr result (λ code. (code ≡ SendNoBuffer) × IsFull touched.old
         ⊎ (code ≡ SendInvalidDest) × ((now : Names) → Overlays touched.old space.now.names now → LeadsNowhere now word)) }
+    ensures few { array_vec_len touched.new.few ≤ array_vec_len touched.old.few + 1 }
 {
     let destination = judge_name(space, touched, word, MsgReturn::SendInvalidDest)?;
     match marked_port(&destination) {
@@ -264,16 +260,16 @@ struct Rights {
     destination: Carried,
     port: PortId,
     reply: Option<Carried>,
-    body: Vec<Carried>,
+    body: SmallVec<Carried, INLINE_WORDS>,
 }
 
 // Judges all words of a message: the destination, the reply and the body.
 fn judge_all(alloc: Global, space: &Space, words: &Words) -> Result<Rights, MsgReturn>
     requires { AreGiven words.now }
     ensures ok { IfOk result (λ rights. GoAll space.now.names words.now rights) }
-    ensures err { IfErr result (λ code. (code ≡ SendNoBuffer) ⊎ CannotGo space.now.names words.now code) }
+    ensures err { IfErr result (λ code. (code ≡ SendNoBuffer) × (inline_words < small_vec_len words.now.body) ⊎ CannotGo space.now.names words.now code) }
 {
-    let mut touched = BTreeMap::new(alloc);
+    let mut touched = Touched::new(alloc);
     let (destination, port) = judge_destination(space, &mut touched, words.destination)?;
     let reply = judge_reply(space, &mut touched, words.reply)?;
     let body = judge_body(alloc, space, &mut touched, words.body.as_slice())?;
@@ -369,7 +365,7 @@ fn reply_word(parsed: &Parsed) -> Option<PortWord>
 fn read_words(alloc: Global, parsed: &Parsed, bytes: &[u8]) -> Result<Words, MsgReturn>
     requires { Parses bytes.now parsed.now }
     ensures ok { IfOk result (λ words. (p : Parses bytes.now parsed.now) → AreWords parsed.now p.written words) }
-    ensures err { IfErr result (λ code. code ≡ SendNoBuffer) }
+    ensures err { IfErr result (λ code. (code ≡ SendNoBuffer) × ((p : Parses bytes.now parsed.now) → inline_words < length (body_words p.written))) }
 {
     let Ok(body) = port_words(alloc, bytes, parsed.spans.as_slice()) else {
         return Err(MsgReturn::SendNoBuffer);
@@ -384,6 +380,32 @@ fn read_words(alloc: Global, parsed: &Parsed, bytes: &[u8]) -> Result<Words, Msg
     })
 }
 
+// The message that is queued, with its rights.
+fn message_of(
+    alloc: Global,
+    parsed: Parsed,
+    bytes: &[u8],
+    rights: &Rights,
+) -> Result<Message, AllocError>
+    ensures { IfOk result (λ message. message ≡ record {
+      bytes = bytes.now;
+      id = parsed.id;
+      is_complex = parsed.is_complex;
+      spans = parsed.spans;
+      by_once = same_kind (kind_sent rights.now.destination.given) send_once;
+      reply = rights.now.reply;
+      rights = rights.now.body.items;
+    }) }
+{
+    Ok(Message {
+        bytes: Vec::from_slice(alloc, bytes)?,
+        parsed,
+        by_once: rights.destination.given.is_send_once(),
+        reply: rights.reply,
+        rights: Vec::from_slice(alloc, rights.body.as_slice())?,
+    })
+}
+
 /// Judges a message of the task, of which this was read, and makes the plan by which [`commit`] sends
 /// it. Nothing changes. Each right is judged in what the ones before it left: the destination's, the
 /// reply's, and the body's from the front (IPC Interface, `mach_msg`).
@@ -395,7 +417,7 @@ fn read_words(alloc: Global, parsed: &Parsed, bytes: &[u8]) -> Result<Words, Msg
 ///   right, which no message takes yet.
 /// - [`MsgReturn::SendTimedOut`]: the queue is at its limit, and the message goes by a send right.
 /// - [`MsgReturn::SendNoBuffer`]: there would be more than 4,294,967,295 rights; or memory was refused,
-///   whatever else is wrong.
+///   where the message could be sent or its body has more than [`INLINE_WORDS`] port words.
 ///
 /// Linear in the bytes, and logarithmic in the names of the task and the words so far for each word.
 ///
@@ -416,28 +438,14 @@ pub fn check(
     let words = read_words(alloc, &parsed, bytes)?;
     let rights = judge_all(alloc, world.space(task), &words)?;
     admit(world, &rights)?;
-    let Ok(bytes) = Vec::from_slice(alloc, bytes) else {
+    let Ok(message) = message_of(alloc, parsed, bytes, &rights) else {
         return Err(MsgReturn::SendNoBuffer);
-    };
-    let by_once = rights.destination.given.is_send_once();
-    let Rights {
-        destination,
-        port,
-        reply,
-        body,
-    } = rights;
-    let message = Message {
-        bytes,
-        parsed,
-        by_once,
-        reply,
-        rights: body,
     };
     Ok(Plan {
         task,
         words,
-        destination,
-        port,
+        destination: rights.destination,
+        port: rights.port,
         message,
     })
 }

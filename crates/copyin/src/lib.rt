@@ -6,6 +6,7 @@
 mod carry_out;
 mod copies;
 mod judge;
+mod touched;
 
 pub use carry_out::{commit, copy_name};
 pub use copies::{Copied, copy_right};

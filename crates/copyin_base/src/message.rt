@@ -26,6 +26,16 @@ pub struct Carried {
     pub mark: Mark,
 }
 
+impl Default for Carried {
+    /// No right: an unused place in a list of rights.
+    fn default() -> Carried {
+        Carried {
+            given: Disposition::CopySend,
+            mark: Mark::Null,
+        }
+    }
+}
+
 /// A queued message: its bytes as they were sent, where its port words stand, and its rights.
 #[derive(Drop)]
 pub struct Message {

@@ -5,7 +5,7 @@ use Rattle.std.proofs.lemmas.Bool.{cases_lt}
 use Rattle.std.proofs.lemmas.List.{at_drop_more, at_drop_all}
 use Rattle.std.proofs.lemmas.Bool.Decides.{eqb_tells}
 use Rattle.std.specs.FinMap as map
-use Rattle.mach_types.specs.Numbers.{kind_sent, most_names, most_references}
+use Rattle.mach_types.specs.Numbers.{kind_sent, most_references}
 use Rattle.mach_types.specs.Tokens.{Kind, receive, send, send_once}
 use Rattle.name_space.specs.declared.Entry.{Entry}
 use Rattle.name_space.specs.Entry.{send_references}
@@ -22,8 +22,8 @@ use Rattle.copyin_base.specs.declared.message.Mark.TheVariants as mark
 use Rattle.copyin_base.specs.Worlds.{WorldView, port_at}
 use Rattle.copyin_base.proofs.Gets.{get-set_same}
 use Rattle.copyin_base.proofs.Putting.{each_put}
-use Rattle.copyout.specs.Giving.{ledger_joined, GivesPort, GivesMark, MarkLacks}
-use Rattle.copyout.specs.Ready.{send_for, CanGive, CanGivePort, CanTakeName, UsesOneRoom}
+use Rattle.copyout.specs.Giving.{ledger_joined, GivesPort, GivesMark, NeedsOwn, free_names, free_room, MarkLacks, Lack}
+use Rattle.copyout.specs.Ready.{send_for, CanGive, CanGivePort, CanTakeName}
 
 pub kind_cases : (kind : Kind) → (kind ≡ send_once) ⊎ (kind ≢ send_once)
 kind_cases send = inr (λ h. cc)
@@ -112,21 +112,21 @@ pub can_give_one : (w : WorldView) (task : ℕ) (c : Carried) (cs : List Carried
 can_give_one w task c cs g = record {
   space = g.space;
   there = g.there;
-  room = let h = g.room in omega arith;
   enough = λ h. elim h [ inl a ↦ g.enough (inl a) | inr b ↦ absurd b.3 ];
+  room = λ h. elim h [ inl a ↦ g.room (inl a) | inr b ↦ absurd b.3 ];
   entered = g.entered;
   counted = λ p live. let h = g.counted p live in omega arith;
 }
 
 pub can_give_rest : (w mid : WorldView) (task : ℕ) (c : Carried) (cs : List Carried) (word : ℕ) → CanGive w task (c ∷ cs) →
-    GivesMark w task (kind_sent c.given) c.mark word mid → UsesOneRoom w mid task → CanGive mid task cs
-can_give_rest w mid task c cs word g gives room =
+    GivesMark w task (kind_sent c.given) c.mark word mid → CanGive mid task cs
+can_give_rest w mid task c cs word g gives =
     let a = after_mark w mid task (kind_sent c.given) c.mark word g.space g.there gives in
     record {
       space = a.space;
       there = a.there;
-      room = let h = g.room in let k = room g.space a.space g.there a.there in omega arith;
       enough = λ h. g.enough (inr (word, mid, gives, h));
+      room = λ h. g.room (inr (word, mid, gives, h));
       entered = λ p live. a.entered p (g.entered p (sym (a.live p) ∙ live));
       counted = λ p live. let h = g.counted p (sym (a.live p) ∙ live) in let k = a.sends p in omega arith;
     }
@@ -137,13 +137,20 @@ send_own kind one p e f = subst (λ (k : Kind). send_for k one p ≡ 1) (sym e) 
     own : (p : ℕ) → send_for send (mark.Port p) p ≡ 1
     own p = elim (eqb_tells p p) [ inl h ↦ rw h.0 | inr h ↦ absurd (h.1 refl) ]
 
+-- something is left where the right needs a name of its own
+some_left : (left : SpaceView → ℕ) (w : WorldView) (task : ℕ) (c : Carried) (p : ℕ) → c.mark ≡ mark.Port p → is_some (map.get w.ports.ports p) ≡ true →
+    ¬ (Lack left w task (c ∷ [])) → (space : SpaceView) → slice_get w.spaces task ≡ Some space → NeedsOwn w task (kind_sent c.given) p → 0 < left space
+some_left left w task c p is live suffices space there own = elim (cases_lt 0 (left space)) [
+  | inl h ↦ h
+  | inr h ↦ absurd (suffices (inl (subst (λ (m : Mark). MarkLacks left w task (kind_sent c.given) m) (sym is) (live, (space, there, omega arith), own))))
+]
+
 pub can_give_port : (w : WorldView) (task : ℕ) (c : Carried) (p : ℕ) → c.mark ≡ mark.Port p → is_some (map.get w.ports.ports p) ≡ true → CanGive w task (c ∷ []) →
     CanGivePort w task (kind_sent c.given) p
 can_give_port w task c p is live g = record {
   space = g.space;
   there = g.there;
-  room = let h = g.room in omega arith;
-  enough = λ h. g.enough (inl (subst (λ (m : Mark). MarkLacks w task (kind_sent c.given) m) (sym is) (live, h.0, h.1)));
+  own = λ own. ((let h = some_left free_names w task c p is live g.enough g.space g.there own in omega arith), some_left free_room w task c p is live g.room g.space g.there own);
   live = live;
   entered = g.entered p live;
   counted = λ e. let h = g.counted p live in let k = send_own (kind_sent c.given) c.mark p e is in omega arith;
@@ -151,17 +158,9 @@ can_give_port w task c p is live g = record {
 
 pub can_take : (w : WorldView) (task : ℕ) (kind : Kind) (port : ℕ) (g : CanGivePort w task kind port) →
     (kind ≢ send_once → (name : ℕ) → port_named_at g.space.names name ≢ Some port) → CanTakeName w task kind port
-can_take w task kind port g lone = record {
-  space = g.space;
-  there = g.there;
-  room = g.room;
-  not_full = elim (cases_lt (map.len g.space.names) most_names) [
-    | inl h ↦ h
-    | inr h ↦ absurd (g.enough ((g.space, g.there, h), elim (kind_cases kind) [ inl e ↦ inl e | inr n ↦ inr (g.space, g.there, lone n) ]))
-  ];
-  lone = lone;
-  live = g.live;
-}
+can_take w task kind port g lone =
+    let own = g.own (elim (kind_cases kind) [ inl e ↦ inl e | inr n ↦ inr (g.space, g.there, lone n) ]) in
+    record { space = g.space; there = g.there; room = own.1; not_full = own.0; lone = lone; live = g.live }
 
 -- ---- one element after another
 

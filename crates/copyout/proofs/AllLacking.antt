@@ -1,5 +1,5 @@
 -- A right that the machine may give is given in the tables; so they lack names for the same messages.
-use Rattle.std.proofs.Common.{◌≡◌, ℕ, ◌<◌, ◌≤◌, List, [], ◌∷◌, Option, Some, None, refl, sym, ap, subst, ◌∙◌, arith, true, false, Bool, inl, inr}
+use Rattle.std.proofs.Common.{◌≡◌, ◌-◌, ℕ, ◌<◌, ◌≤◌, List, [], ◌∷◌, Option, Some, None, refl, sym, ap, subst, ◌∙◌, arith, true, false, Bool, inl, inr}
 use Rattle.std.specs.Prelude.{◌≢◌, is_some, slice_get, slice_set, MatchBool, if◌then◌else◌}
 use Rattle.std.specs.Option.{option_map, option_and_then}
 use Rattle.std.specs.FinMap as map
@@ -27,7 +27,7 @@ use Rattle.copyin_base.specs.Worlds.{WorldView, entry_in}
 use Rattle.copyin_base.specs.Shows.{target_of, Agrees}
 use Rattle.copyin_base.proofs.Changing.{target_named}
 use Rattle.copyin_base.proofs.Counting.{counts_same}
-use Rattle.copyout.specs.Giving.{joined, alone, ledger_joined, GivesPort, GivesMark, HasNoName, NeedsOwn, MarkLacks, AllLack}
+use Rattle.copyout.specs.Giving.{joined, alone, ledger_joined, GivesPort, GivesMark, free_names, NoneLeft, NeedsOwn, MarkLacks, LackNames}
 use Rattle.copyout.proofs.Given.{port_given, option_named, same_there}
 use Rattle.copyout.proofs.GivenAll.{AreLying, mark_given, own_mark}
 use Rattle.copyout.proofs.Lacking.{EachLacks}
@@ -129,7 +129,7 @@ module _ (w : WorldView) (s : State) (a : Agrees w s) (task : ℕ) (space : Spac
           after = map.insert space.names word (joined kind x.entry);
           room = space.room;
           ledger = ledger_joined kind p x.entry w.ledger;
-          given = inl (record { not_once = not; entry = x.entry; found = x.found; named = x.named; rest = refl }, refl);
+          given = inl (record { not_once = not; entry = x.entry; found = x.found; named = x.named; rest = refl }, refl, refl);
           rest = refl;
         },
       )
@@ -137,14 +137,14 @@ module _ (w : WorldView) (s : State) (a : Agrees w s) (task : ℕ) (space : Spac
   gives_alone : (kind : Kind) (p word : ℕ) (x : Target) (named : State) → (kind ≢ send_once → (n : ℕ) → lookup s task n ≢ Some (Target.port p)) → Named task word x s named → Gives kind p word
   gives_alone kind p word x named none n = (
     record w {
-      spaces = slice_set w.spaces task (record { names = map.insert space.names word (alone kind p); room = space.room });
+      spaces = slice_set w.spaces task (record { names = map.insert space.names word (alone kind p); room = space.room - 1 });
       ledger = w.ledger;
     },
     record {
       space = space;
       there = there;
       after = map.insert space.names word (alone kind p);
-      room = space.room;
+      room = space.room - 1;
       ledger = w.ledger;
       given = inr (
         record {
@@ -153,6 +153,7 @@ module _ (w : WorldView) (s : State) (a : Agrees w s) (task : ℕ) (space : Spac
           lone = λ not. no_name_too p (none not);
           rest = refl;
         },
+        refl,
         refl,
       );
       rest = refl;
@@ -173,13 +174,13 @@ module _ (w : WorldView) (s : State) (a : Agrees w s) (task : ℕ) (space : Spac
   needs_own send p none = inr (space, there, no_name_too p none)
   needs_own send_once p none = inl refl
 
-  lacks_too : (kind : Kind) (m : Mark) → MachineLacks task kind (mark_of m) s → MarkLacks w task kind m
+  lacks_too : (kind : Kind) (m : Mark) → MachineLacks task kind (mark_of m) s → MarkLacks free_names w task kind m
   lacks_too kind (mark.Port p) h = (a.live_port p ∙ h.0, (space, there, (let full = h.1 in let e = len_is in omega (arith, full, e))), needs_own kind p h.2)
   lacks_too kind mark.Null h = h
   lacks_too kind mark.Dead h = h
 
 module _ (w : WorldView) (s : State) (a : Agrees w s) (task : ℕ) where
-  has_no_room : HasNoName w task → HasNoRoom s task
+  has_no_room : NoneLeft free_names w task → HasNoRoom s task
   has_no_room h = let full = h.2 in let e = len_is w s a task h.0 h.1 in omega (arith, full, e)
 
   needs_name : (kind : Kind) (p : ℕ) → NeedsOwn w task kind p → NeedsName s task kind p
@@ -189,7 +190,7 @@ module _ (w : WorldView) (s : State) (a : Agrees w s) (task : ℕ) where
   needs_name send p (inr h) = no_name w s a task h.0 h.1 p h.2
   needs_name send_once p h = tt
 
-  mark_lacks : (kind : Kind) (m : Mark) → MarkLacks w task kind m → MachineLacks task kind (mark_of m) s
+  mark_lacks : (kind : Kind) (m : Mark) → MarkLacks free_names w task kind m → MachineLacks task kind (mark_of m) s
   mark_lacks kind (mark.Port p) h = (sym (a.live_port p) ∙ h.0, has_no_room h.1, needs_name kind p h.2)
   mark_lacks kind mark.Null h = h
   mark_lacks kind mark.Dead h = h
@@ -252,7 +253,7 @@ later task o k c cs s word mid l is_task lie g =
 
 -- Where the tables lack a name, the machine lacks one.
 pub all_lack : (task o k : ℕ) (cs : List Carried) (w : WorldView) (s : State) → Agrees w s → IsMoving s o k → s.live_task task ≡ true → AreLying s o k cs →
-    AllLack w task cs → EachLacks task (in_message o k) cs s
+    LackNames w task cs → EachLacks task (in_message o k) cs s
 all_lack task o k [] w s a l is_task lie h = h
 all_lack task o k (c ∷ cs) w s a l is_task lie (inl h) = inl (mark_lacks w s a task (kind_sent c.given) c.mark h)
 all_lack task o k (c ∷ cs) w s a l is_task lie (inr h) =
@@ -262,7 +263,7 @@ all_lack task o k (c ∷ cs) w s a l is_task lie (inr h) =
 
 -- Where the machine lacks a name, the tables lack one.
 pub all_lack_too : (task o k : ℕ) (cs : List Carried) (w : WorldView) (s : State) → Agrees w s → IsMoving s o k → s.live_task task ≡ true → AreLying s o k cs →
-    EachLacks task (in_message o k) cs s → AllLack w task cs
+    EachLacks task (in_message o k) cs s → LackNames w task cs
 all_lack_too task o k [] w s a l is_task lie h = h
 all_lack_too task o k (c ∷ cs) w s a l is_task lie (inl h) =
     let space = some_space w s a task (slice_get w.spaces task) (a.live_task task ∙ is_task) in

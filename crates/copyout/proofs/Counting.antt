@@ -1,5 +1,5 @@
 -- The names that rights need, counted from what the task has now: they are too many exactly where names don't suffice.
-use Rattle.std.proofs.Common.{◌≡◌, ◌≢◌, ℕ, zero, suc, ◌+◌, ◌<◌, ◌≤◌, List, [], ◌∷◌, ◌++◌, Option, Some, None, refl, sym, ap, subst, ◌∙◌, arith, true, false, Bool, inl, inr, ◌⊎◌, cond}
+use Rattle.std.proofs.Common.{◌≡◌, ◌≢◌, ℕ, zero, suc, ◌+◌, ◌-◌, ◌<◌, ◌≤◌, List, [], ◌∷◌, ◌++◌, Option, Some, None, refl, sym, ap, subst, ◌∙◌, arith, true, false, Bool, inl, inr, ◌⊎◌, cond}
 use Rattle.std.specs.Prelude.{slice_get, is_some, ◌||◌}
 use Rattle.std.specs.Option.{option_and_then}
 use Rattle.std.proofs.lemmas.Bool.{cases_lt, eqb-true}
@@ -17,8 +17,10 @@ use Rattle.copyin_base.specs.declared.message.Carried.{Carried}
 use Rattle.copyin_base.specs.declared.message.Mark.{Mark}
 use Rattle.copyin_base.specs.declared.message.Mark.TheVariants as mark
 use Rattle.copyin_base.specs.Worlds.{WorldView}
+use Rattle.copyin_base.specs.Kept.{Kept}
+use Rattle.port.specs.Ports.{PortsView}
 use Rattle.copyin_base.proofs.Gets.{get-set_same, same_found}
-use Rattle.copyout.specs.Giving.{joined, alone, JoinsName, TakesName, GivesPort}
+use Rattle.copyout.specs.Giving.{free_names, free_room, joined, alone, JoinsName, TakesName, GivesPort}
 use Rattle.copyout.specs.Room.{names_port, named_by, IsThere, IsNamed, HasNone}
 use Rattle.copyout.proofs.Gives.{joined_port, alone_port}
 
@@ -100,24 +102,35 @@ same_port a b e = cc
 
 -- ---- the tables once the earlier rights were given
 
-pub record Follows (w0 : WorldView) (names0 : Names) (task : ℕ) (earlier : List Carried) (w : WorldView) (n : ℕ) : Type 0 where
+-- What is left of names, or of room for them, hangs on how many there are: it is one less with a name more.
+pub record IsLeft (left : SpaceView → ℕ) : Type 0 where
+  pub lower : (a b : SpaceView) → map.len b.names ≡ map.len a.names + 1 → b.room ≡ a.room - 1 → left b ≡ left a - 1
+  pub same : (a b : SpaceView) → map.len b.names ≡ map.len a.names → b.room ≡ a.room → left b ≡ left a
+
+pub names_are_free : IsLeft free_names
+names_are_free = record { lower = λ a b names room. omega (arith, names); same = λ a b names room. omega (arith, names) }
+
+pub room_is_free : IsLeft free_room
+room_is_free = record { lower = λ a b names room. room; same = λ a b names room. room }
+
+-- So many names the task has then, and so many are left.
+pub record Follows (left : SpaceView → ℕ) (ports0 : PortsView Kept) (names0 : Names) (task : ℕ) (earlier : List Carried) (w : WorldView) (n l : ℕ) : Type 0 where
   pub space : SpaceView
   pub there : slice_get w.spaces task ≡ Some space
   pub size : map.len space.names ≡ n
-  pub live : (p : ℕ) → is_some (map.get w.ports.ports p) ≡ is_some (map.get w0.ports.ports p)
-  pub named : (p : ℕ) → IsThere w0 p → (IsNamed names0 p) ⊎ (named_by earlier p ≡ true) → IsNamed space.names p
+  pub left_is : left space ≡ l
+  pub live : (p : ℕ) → is_some (map.get w.ports.ports p) ≡ is_some (map.get ports0.ports p)
+  pub named : (p : ℕ) → IsThere ports0 p → (IsNamed names0 p) ⊎ (named_by earlier p ≡ true) → IsNamed space.names p
   pub none : (p : ℕ) → HasNone names0 p → named_by earlier p ≡ false → HasNone space.names p
 
-module _ (w0 : WorldView) (names0 : Names) (task : ℕ) (earlier : List Carried) (c : Carried) (w : WorldView) (n : ℕ) (f : Follows w0 names0 task earlier w n) where
-  pushed : List Carried
-  pushed = earlier ++ c ∷ []
-
+module _ (left : SpaceView → ℕ) (is_left : IsLeft left) (ports0 : PortsView Kept) (names0 : Names) (task : ℕ) (earlier : List Carried) (c : Carried) (w : WorldView) (n l : ℕ) (f : Follows left ports0 names0 task earlier w n l) where
   -- nothing changes, and the right names no port that is there
-  pub follows_same : (mid : WorldView) → mid ≡ w → ((q : ℕ) → IsThere w0 q → names_port (kind_sent c.given) c.mark q ≡ true → ⊥) → Follows w0 names0 task (earlier ++ c ∷ []) mid n
-  follows_same mid e not = subst (λ (x : WorldView). Follows w0 names0 task (earlier ++ c ∷ []) x n) (sym e) (record {
+  pub follows_same : (mid : WorldView) → mid ≡ w → ((q : ℕ) → IsThere ports0 q → names_port (kind_sent c.given) c.mark q ≡ true → ⊥) → Follows left ports0 names0 task (earlier ++ c ∷ []) mid n l
+  follows_same mid e not = subst (λ (x : WorldView). Follows left ports0 names0 task (earlier ++ c ∷ []) x n l) (sym e) (record {
     space = f.space;
     there = f.there;
     size = f.size;
+    left_is = f.left_is;
     live = f.live;
     named = λ p there h. f.named p there (elim h [
       | inl a ↦ inl a
@@ -133,15 +146,16 @@ module _ (w0 : WorldView) (names0 : Names) (task : ℕ) (earlier : List Carried)
     there_after : slice_get mid.spaces task ≡ Some (record { names = g.after; room = g.room })
     there_after = ap (λ (x : WorldView). slice_get x.spaces task) g.rest ∙ get-set_same w.spaces task (record { names = g.after; room = g.room }) g.space g.there
 
-    live_after : (p : ℕ) → is_some (map.get mid.ports.ports p) ≡ is_some (map.get w0.ports.ports p)
+    live_after : (p : ℕ) → is_some (map.get mid.ports.ports p) ≡ is_some (map.get ports0.ports p)
     live_after p = ap (λ (x : WorldView). is_some (map.get x.ports.ports p)) g.rest ∙ f.live p
 
     -- under a name of its own
-    pub follows_taken : (t : TakesName f.space.names (kind_sent c.given) port word g.after) → Follows w0 names0 task (earlier ++ c ∷ []) mid (n + 1)
-    follows_taken t = record {
+    pub follows_taken : (t : TakesName f.space.names (kind_sent c.given) port word g.after) → g.room ≡ f.space.room - 1 → Follows left ports0 names0 task (earlier ++ c ∷ []) mid (n + 1) (l - 1)
+    follows_taken t room = record {
       space = record { names = g.after; room = g.room };
       there = there_after;
-      size = ap map.len t.rest ∙ map.len-insert nat_cmp_total f.space.names word (alone (kind_sent c.given) port) ∙ ap (λ b. cond b (map.len f.space.names) (map.len f.space.names + 1)) (ap is_some t.fresh.unused) ∙ ap (λ (k : ℕ). k + 1) f.size;
+      size = more ∙ ap (λ (k : ℕ). k + 1) f.size;
+      left_is = is_left.lower f.space (record { names = g.after; room = g.room }) more room ∙ ap (λ (k : ℕ). k - 1) f.left_is;
       live = live_after;
       named = λ p there h. elim (before p h) [
         | inl a ↦ let at = f.named p there a in (at.0, other p at.0 at.1)
@@ -157,6 +171,9 @@ module _ (w0 : WorldView) (names0 : Names) (task : ℕ) (earlier : List Carried)
           ];
     }
       where
+        more : map.len g.after ≡ map.len f.space.names + 1
+        more = ap map.len t.rest ∙ map.len-insert nat_cmp_total f.space.names word (alone (kind_sent c.given) port) ∙ ap (λ b. cond b (map.len f.space.names) (map.len f.space.names + 1)) (ap is_some t.fresh.unused)
+
         before : (p : ℕ) → (IsNamed names0 p) ⊎ (named_by (earlier ++ c ∷ []) p ≡ true) → ((IsNamed names0 p) ⊎ (named_by earlier p ≡ true)) ⊎ (names_port (kind_sent c.given) c.mark p ≡ true)
         before p h = elim h [
           | inl a ↦ inl (inl a)
@@ -179,11 +196,12 @@ module _ (w0 : WorldView) (names0 : Names) (task : ℕ) (earlier : List Carried)
             (λ e. let free : port_at f.space.names name ≡ None = ap (option_and_then port_named) (ap (map.get f.space.names) e ∙ t.fresh.unused) in cc)) ∙ at
 
     -- under the name that the port has
-    pub follows_joined : (j : JoinsName f.space.names (kind_sent c.given) port word g.after) → IsNamed f.space.names port → Follows w0 names0 task (earlier ++ c ∷ []) mid n
-    follows_joined j has = record {
+    pub follows_joined : (j : JoinsName f.space.names (kind_sent c.given) port word g.after) → g.room ≡ f.space.room → IsNamed f.space.names port → Follows left ports0 names0 task (earlier ++ c ∷ []) mid n l
+    follows_joined j room has = record {
       space = record { names = g.after; room = g.room };
       there = there_after;
-      size = ap map.len j.rest ∙ map.len-insert nat_cmp_total f.space.names word (joined (kind_sent c.given) j.entry) ∙ ap (λ b. cond b (map.len f.space.names) (map.len f.space.names + 1)) (ap is_some j.found) ∙ f.size;
+      size = as_many ∙ f.size;
+      left_is = is_left.same f.space (record { names = g.after; room = g.room }) as_many room ∙ f.left_is;
       live = live_after;
       named = λ p there h. elim h [
         | inl a ↦ let at = f.named p there (inl a) in (at.0, unchanged at.0 ∙ at.1)
@@ -197,6 +215,9 @@ module _ (w0 : WorldView) (names0 : Names) (task : ℕ) (earlier : List Carried)
           f.none p h parts.0 name (sym (unchanged name) ∙ at);
     }
       where
+        as_many : map.len g.after ≡ map.len f.space.names
+        as_many = ap map.len j.rest ∙ map.len-insert nat_cmp_total f.space.names word (joined (kind_sent c.given) j.entry) ∙ ap (λ b. cond b (map.len f.space.names) (map.len f.space.names + 1)) (ap is_some j.found)
+
         unchanged : (name : ℕ) → port_at g.after name ≡ port_at f.space.names name
         unchanged name = elim (equal_or_not name word) [
           | inl e ↦ ap (λ (k : ℕ). port_at g.after k) e

@@ -11,28 +11,28 @@ use Rattle.copyin_base.specs.Worlds.{WorldView}
 use Rattle.copyin.specs.Plans.{option_list}
 use Rattle.copyout.specs.Giving.{GivesMark, GivesAll}
 use Rattle.copyout.specs.Takes.{TakesFront, TakesMessage, reply_number, reply_word, body_names, reversed}
-use Rattle.copyout.specs.Ready.{CanGive, UsesOneRoom, Delivers}
+use Rattle.copyout.specs.Ready.{CanGive, Delivers}
 use Rattle.copyout.proofs.After.{can_give_one, can_give_rest}
 
 pub can_reply : (w : WorldView) (task : ℕ) (reply : Option Carried) (rights : List Carried) → CanGive w task (option_list reply ++ rights) → CanGive w task (option_list reply)
 can_reply w task None rights g = record {
   space = g.space;
   there = g.there;
-  room = omega arith;
   enough = λ h. absurd h;
+  room = λ h. absurd h;
   entered = g.entered;
   counted = λ p live. omega arith;
 }
 can_reply w task (Some c) rights g = can_give_one w task c rights g
 
 pub can_rights : (w mid : WorldView) (task : ℕ) (reply : Option Carried) (rights : List Carried) (words : List ℕ) → CanGive w task (option_list reply ++ rights) →
-    GivesAll w task (option_list reply) words mid → ((c : Carried) → reply ≡ Some c → UsesOneRoom w mid task) → CanGive mid task rights
-can_rights w mid task None rights [] g h room = subst (λ (x : WorldView). CanGive x task rights) (sym h) g
-can_rights w mid task None rights (word ∷ words) g h room = absurd h
-can_rights w mid task (Some c) rights [] g h room = absurd h
-can_rights w mid task (Some c) rights (word ∷ []) g h room =
-    can_give_rest w mid task c rights word g (subst (λ (x : WorldView). GivesMark w task (kind_sent c.given) c.mark word x) (sym h.2) h.1) (room c refl)
-can_rights w mid task (Some c) rights (word ∷ other ∷ words) g h room = absurd h.2
+    GivesAll w task (option_list reply) words mid → CanGive mid task rights
+can_rights w mid task None rights [] g h = subst (λ (x : WorldView). CanGive x task rights) (sym h) g
+can_rights w mid task None rights (word ∷ words) g h = absurd h
+can_rights w mid task (Some c) rights [] g h = absurd h
+can_rights w mid task (Some c) rights (word ∷ []) g h =
+    can_give_rest w mid task c rights word g (subst (λ (x : WorldView). GivesMark w task (kind_sent c.given) c.mark word x) (sym h.2) h.1)
+can_rights w mid task (Some c) rights (word ∷ other ∷ words) g h = absurd h.2
 
 pub gives_length : (w new : WorldView) (task : ℕ) (carried : List Carried) (words : List ℕ) → GivesAll w task carried words new → length words ≡ length carried
 gives_length w new task [] [] h = refl

@@ -99,7 +99,7 @@ module _ (w : WorldView) (s : State) (a : Agrees w s) (l : IsLawful s) (p : ℕ)
 
   abbrev after : WorldView
   after = record w {
-    ports = record (with_port w.ports p shorter) { spare = f.spare };
+    ports = record (with_port w.ports p shorter) { spare = w.ports.spare + 1 };
     ledger = taken w.ledger p (right_by f.front.by_once) 1;
   }
 

@@ -212,7 +212,7 @@ gives_puts w task kind p word w' g = record {
   ledger = g.ledger;
   given = elim g.given [
     | inl h ↦ inl h
-    | inr h ↦ inr (new_of g.space.names kind p word g.after h.0, h.1)
+    | inr h ↦ inr (new_of g.space.names kind p word g.after h.0, h.1, h.2)
   ];
   rest = g.rest;
 }

@@ -1,5 +1,5 @@
 -- One right given: the tables after its steps.
-use Rattle.std.proofs.Common.{◌≡◌, ◌≢◌, ℕ, ◌+◌, ◌-◌, ◌<◌, ◌≤◌, List, Option, Some, None, refl, sym, ap, subst, ◌∙◌, arith, inl, inr}
+use Rattle.std.proofs.Common.{◌≡◌, ◌≢◌, ℕ, ◌-◌, ◌<◌, Option, Some, None, refl, sym, ap, subst, ◌∙◌, arith, inl, inr}
 use Rattle.std.specs.Prelude.{slice_get, slice_set, is_some}
 use Rattle.std.specs.Option.{option_and_then}
 use Rattle.std.specs.FinMap as map
@@ -12,9 +12,8 @@ use Rattle.name_space.specs.Names.{Names, SpaceView, IsFreshName, HasNoOther, po
 use Rattle.copyin_base.specs.Worlds.{WorldView, entry_in, entry_at}
 use Rattle.copyin_base.specs.Shows.{target_of, HasCount}
 use Rattle.copyin_base.specs.Changes.{CanPutLeft, PutsLeft, InsertsEntry}
-use Rattle.copyin_base.proofs.Gets.{get-set_same, same_found}
+use Rattle.copyin_base.proofs.Gets.{same_found}
 use Rattle.copyout.specs.Giving.{joined, alone, ledger_joined, GivesPort}
-use Rattle.copyout.specs.Ready.{UsesOneRoom}
 
 pub found_in : (w : WorldView) (task name : ℕ) (space : SpaceView) (entry : Entry) → slice_get w.spaces task ≡ Some space → entry_at w task name ≡ Some entry →
     map.get space.names name ≡ Some entry
@@ -46,14 +45,6 @@ pub alone_port : (kind : Kind) (port p : ℕ) → port_named (alone kind port) �
 alone_port send port p e = (λ h. cc, cc)
 alone_port receive port p e = (λ h. cc, cc)
 alone_port send_once port p e = absurd (let e' : None ≡ Some p = e in cc)
-
-pub uses_room : (w new : WorldView) (task : ℕ) (space space2 : SpaceView) → slice_get w.spaces task ≡ Some space → new.spaces ≡ slice_set w.spaces task space2 →
-    space.room ≤ space2.room + 1 → UsesOneRoom w new task
-uses_room w new task space space2 there e h a b x y =
-    let ea : space ≡ a = same_found (slice_get w.spaces task) space a there x in
-    let own : slice_get new.spaces task ≡ Some space2 = ap (λ (xs : List SpaceView). slice_get xs task) e ∙ get-set_same w.spaces task space2 space there in
-    let eb : space2 ≡ b = same_found (slice_get new.spaces task) space2 b own y in
-    subst (λ (z : SpaceView). a.room ≤ z.room + 1) eb (subst (λ (z : SpaceView). z.room ≤ space2.room + 1) ea h)
 
 -- the entry may come in place of what stands under the name
 pub can_replace : (w : WorldView) (task : ℕ) (kind : Kind) (name : ℕ) (entry put : Entry) (space : SpaceView) → slice_get w.spaces task ≡ Some space → put ≡ joined kind entry →
@@ -95,12 +86,9 @@ module _ (w w1 w2 : WorldView) (task : ℕ) (kind : Kind) (port name : ℕ) (ent
     after = map.insert space.names name (joined kind entry);
     room = space.room;
     ledger = ledger_joined kind port entry w.ledger;
-    given = inl (record { not_once = not_once; entry = entry; found = found; named = named; rest = refl }, refl);
+    given = inl (record { not_once = not_once; entry = entry; found = found; named = named; rest = refl }, refl, refl);
     rest = rest-joined;
   }
-
-  pub room-joined : UsesOneRoom w w2 task
-  room-joined = uses_room w w2 task space (record space { names = map.insert space.names name (joined kind entry) }) there (ap (λ (x : WorldView). x.spaces) rest-joined) (omega arith)
 
 -- under a fresh name
 module _ (w w1 : WorldView) (task : ℕ) (kind : Kind) (port name : ℕ) (x : Entry) (space : SpaceView)
@@ -117,9 +105,6 @@ module _ (w w1 : WorldView) (task : ℕ) (kind : Kind) (port name : ℕ) (x : En
     after = map.insert space.names name (alone kind port);
     room = space.room - 1;
     ledger = w.ledger;
-    given = inr (record { fresh = fresh; room = room; lone = lone; rest = refl }, refl);
+    given = inr (record { fresh = fresh; room = room; lone = lone; rest = refl }, refl, refl);
     rest = rest-taken;
   }
-
-  pub room-taken : UsesOneRoom w w1 task
-  room-taken = uses_room w w1 task space (record { names = map.insert space.names name (alone kind port); room = space.room - 1 }) there (ap (λ (x : WorldView). x.spaces) rest-taken) (omega arith)

@@ -14,8 +14,8 @@ pub mod Gives
 pub mod After
 pub mod Front
 pub mod Delivered
-pub mod Alike
 pub mod Counting
 pub mod Counted
 pub mod Rooms
 pub mod Puts
+pub mod Spared

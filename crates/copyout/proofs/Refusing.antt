@@ -21,7 +21,7 @@ use Rattle.copyin_base.specs.Kept.{Kept, Keeps, marks_of, items_of, body_of, ite
 use Rattle.copyin.specs.Plans.{option_list}
 use Rattle.copyin_base.specs.Worlds.{WorldView, port_at}
 use Rattle.copyin_base.specs.Shows.{Agrees, Shows}
-use Rattle.copyout.specs.Giving.{AllLack}
+use Rattle.copyout.specs.Giving.{LackNames}
 use Rattle.copyout.proofs.Fronts.{HasFront, shown_empty, shown_front, shown_is_front, shown_lying}
 use Rattle.copyin.proofs.Bodies.{numbers}
 use Rattle.copyout.proofs.GivenBody.{same_tail}
@@ -101,12 +101,12 @@ module _ (w : WorldView) (s : State) (sh : Shows w s) (task port : ℕ) (is_task
       (ap (λ (x : Message). x.body) front.keeps.message_is) m.reply (ap (λ (x : Message). x.reply) front.keeps.message_is) s h
 
   -- The task's names don't suffice for the front message.
-  pub names_lack : AllLack w task carried → MessageLacks task place message s
+  pub names_lack : LackNames w task carried → MessageLacks task place message s
   names_lack h = lack_of (all_lack task port (s.taken port) carried w s sh.agrees (moving s port (s.taken port) sh.lawful) is_task
       (shown_lying w s sh.agrees port v there m behind queued sh.lawful) h)
 
   -- They suffice.
-  pub names_suffice : ¬ (AllLack w task carried) → ¬ (MessageLacks task place message s)
+  pub names_suffice : ¬ (LackNames w task carried) → ¬ (MessageLacks task place message s)
   names_suffice none h = none (all_lack_too task port (s.taken port) carried w s sh.agrees (moving s port (s.taken port) sh.lawful) is_task
       (shown_lying w s sh.agrees port v there m behind queued sh.lawful) (lack_from h))
 
@@ -114,7 +114,7 @@ module _ (w : WorldView) (s : State) (sh : Shows w s) (task port : ℕ) (is_task
     message_fits : message_length message ≤ min room most_bytes
     message_fits = let e = kept_length port m message front.keeps in omega (arith, e, fits)
 
-    pub refuses_names : AllLack w task carried → ReceiptRefuses s task waited room (msg_number ReceiveBodyErrorNames)
+    pub refuses_names : LackNames w task carried → ReceiptRefuses s task waited room (msg_number ReceiveBodyErrorNames)
     refuses_names h = record {
       port = port;
       from = from;
@@ -124,7 +124,7 @@ module _ (w : WorldView) (s : State) (sh : Shows w s) (task port : ℕ) (is_task
       refused = inl (names_lack h, refl);
     }
 
-    pub refuses_memory : ¬ (AllLack w task carried) → ReceiptRefuses s task waited room (msg_number ReceiveBodyErrorMemory)
+    pub refuses_memory : ¬ (LackNames w task carried) → ReceiptRefuses s task waited room (msg_number ReceiveBodyErrorMemory)
     refuses_memory none = record {
       port = port;
       from = from;

@@ -1,18 +1,34 @@
--- Room made for names, and the front message once it was.
-use Rattle.std.proofs.Common.{◌≡◌, ℕ, ◌≤◌, List, Some, sym, ap, subst, ◌∙◌, arith, length}
-use Rattle.std.specs.Prelude.{slice_get, slice_set, is_some, min, max}
+-- Room made for names, the front message once it was, and the room that is left.
+use Rattle.std.proofs.Common.{◌≡◌, ◌≢◌, ℕ, ◌+◌, ◌-◌, ◌<◌, ◌≤◌, List, [], ◌∷◌, Option, Some, refl, sym, ap, subst, ◌∙◌, arith, true, false, Bool, inl, inr, length}
+use Rattle.std.specs.Prelude.{slice_get, slice_set, is_some, max, MatchBool, if◌then◌else◌, ◌==◌}
+use Rattle.std.specs.Option.{unwrap_or}
 use Rattle.std.specs.FinMap as map
-use Rattle.mach_types.specs.Numbers.{most_bytes}
-use Rattle.name_space.specs.Names.{SpaceView}
+use Rattle.mach_types.specs.Numbers.{kind_sent, most_names}
+use Rattle.mach_types.specs.Tokens.{Kind}
+use Rattle.name_space.specs.Names.{Names, SpaceView}
+use Rattle.name_space.proofs.Keys.{put_here, put_other, equal_or_not}
 use Rattle.port.specs.Ports.{PortView}
+use Rattle.rights.specs.declared.RightKind.TheVariants as right
+use Rattle.rights.specs.declared.Counts.{Counts}
+use Rattle.rights.specs.Counts.{no_rights, with_fewer}
+use Rattle.rights.specs.Ledger.{LedgerView, IsEntered, counts_of, taken}
 use Rattle.copyin_base.specs.Changes.{MakesRoom}
+use Rattle.copyin_base.specs.declared.message.Carried.{Carried}
+use Rattle.copyin_base.specs.declared.message.Mark.{Mark}
+use Rattle.copyin_base.specs.declared.message.Mark.TheVariants as mark
 use Rattle.copyin_base.specs.Kept.{Kept}
+use Rattle.copyin_base.specs.Wanted.{room_of, room_in}
 use Rattle.copyin_base.specs.Worlds.{WorldView, port_at}
-use Rattle.copyin_base.proofs.Gets.{get-set_same, same_found, same_head}
-use Rattle.copyout.specs.Giving.{AllLack}
-use Rattle.copyout.specs.Takes.{TakesFront}
-use Rattle.copyout.specs.Ready.{Waits, HasFront, ReadyFor, carried_by}
-use Rattle.copyout.proofs.Alike.{Alike, all_alike}
+use Rattle.copyin_base.proofs.Agreeing.{live_put}
+use Rattle.copyin_base.proofs.Gets.{get-set_same, get-set_other, same_found, same_head}
+use Rattle.copyout.specs.Giving.{LackNames, free_names, free_room, GivesPort, GivesMark, GivesAll}
+use Rattle.copyout.specs.Room.{Needs}
+use Rattle.copyout.specs.Takes.{TakesFront, TakesMessage, destination_right}
+use Rattle.copyout.specs.Ready.{CanGive, Waits, HasFront, MayReceive, ReadyFor, carried_by, sends_for}
+use Rattle.copyout.specs.Wanted.{inline_names, WantsToReceive, ReturnsSlot}
+use Rattle.copyout.proofs.After.{entered-put, sends-taken}
+use Rattle.copyout.proofs.Counted.{too_few, enough, left_then, starts}
+use Rattle.copyout.proofs.Counting.{names_are_free, room_is_free}
 
 abbrev pub waits_kept : (w : WorldView) (xs : List SpaceView) (port : ℕ) → Waits w port → Waits (record w { spaces = xs }) port
 waits_kept w xs port x = record {
@@ -35,32 +51,146 @@ same_front w port x m f =
     let v : x.v ≡ f.v = same_found (port_at w port) x.v f.v x.there f.there in
     same_head f.v.queue x.front m x.behind f.behind (ap (λ (v : PortView Kept). v.queue) (sym v) ∙ x.queue) f.queue
 
-pub ready_after : (w w2 : WorldView) (task port capacity number : ℕ) (x : Waits w port) (m : Kept) → HasFront w port m → (r : MakesRoom w task number w2) → number ≡ length (carried_by m) →
-    length m.rights ≤ capacity → ¬ (AllLack w task (carried_by m)) → ReadyFor w2 task port capacity
-ready_after w w2 task port capacity number x m f r is fit none =
-    let space2 : SpaceView = record { names = r.space.names; room = max r.space.room number } in
-    let own : slice_get w2.spaces task ≡ Some space2 = ap (λ (y : WorldView). slice_get y.spaces task) r.rest ∙ get-set_same w.spaces task space2 r.space r.there in
-    let front : x.front ≡ m = same_front w port x m f in
-    let alike : Alike task w2 w = record {
-      names = λ y there. (r.space, r.there, ap (λ (z : SpaceView). z.names) (same_found (slice_get w2.spaces task) y space2 there own));
-      live = λ p. ap (λ (y : WorldView). is_some (map.get y.ports.ports p)) r.rest;
-    } in
-    let after : WorldView = record w { spaces = slice_set w.spaces task space2 } in
+pub ready_after : (w w2 : WorldView) (task port room capacity needed : ℕ) (x : Waits w port) (m : MayReceive w task port room needed) → (r : MakesRoom w task needed w2) →
+    length m.front.rights ≤ capacity → ReadyFor w2 task port capacity
+ready_after w w2 task port room capacity needed x m r fit =
+    let space2 : SpaceView = record { names = r.space.names; room = max r.space.room needed } in
+    let front : x.front ≡ m.front = same_front w port x m.front m.waits in
+    let names : m.space.names ≡ r.space.names = ap (λ (y : SpaceView). y.names) (same_found (slice_get w.spaces task) m.space r.space m.there r.there) in
     subst (λ (y : WorldView). ReadyFor y task port capacity) (sym r.rest) (record {
       waits = waits_kept w (slice_set w.spaces task space2) port x;
       space = space2;
       there = get-set_same w.spaces task space2 r.space r.there;
-      room = subst (λ (k : Kept). length (carried_by k) ≤ max r.space.room number) (sym front) (omega arith);
-      enough = λ h. none (all_alike w2 w task (carried_by m) alike
-          (subst (λ (k : Kept). AllLack w2 task (carried_by k)) front (subst (λ (y : WorldView). AllLack y task (carried_by x.front)) (sym r.rest) h)));
+      needed = needed;
+      needs = subst (λ (k : Kept). Needs w.ports r.space.names [] (carried_by k) needed) (sym front) (subst (λ (y : Names). Needs w.ports y [] (carried_by m.front) needed) names m.needs);
+      names = subst (λ (y : Names). needed ≤ most_names - map.len y) names m.names;
+      room = omega arith;
       words_fit = subst (λ (k : Kept). length k.rights ≤ capacity) (sym front) fit;
     })
 
+-- ---- what can be given once the front message was taken
+
+-- the ports that are there, and what the task has, are the same
+front_live : (w mid : WorldView) (port : ℕ) (t : TakesFront w port mid) (p : ℕ) → is_some (port_at mid p) ≡ is_some (port_at w p)
+front_live w mid port t p = ap (λ (x : WorldView). is_some (port_at x p)) t.rest ∙ live_put w.ports.ports port _ (λ q. is_some (port_at w q)) (ap is_some t.there) (λ q. refl) p
+
+front_there : (w mid : WorldView) (task port : ℕ) (t : TakesFront w port mid) (space : SpaceView) → slice_get w.spaces task ≡ Some space → slice_get mid.spaces task ≡ Some space
+front_there w mid task port t space there = ap (λ (x : WorldView). slice_get x.spaces task) t.rest ∙ there
+
+sends_dest : (once : Bool) (m : LedgerView) (p q : ℕ) →
+    (counts_of m q).send ≤ (counts_of (taken m p (if once then right.SendOnce else right.Send) 1) q).send + (if once then 0 else if p == q then 1 else 0)
+sends_dest false m p q = sends-taken m p q
+sends_dest true m p q = elim (equal_or_not q p) [
+  | inl e ↦ subst (λ (k : ℕ). (counts_of m k).send ≤ (counts_of (taken m p right.SendOnce 1) k).send + 0) (sym e)
+      (let f : (counts_of (taken m p right.SendOnce 1) p).send ≡ (counts_of m p).send = ap (λ (o : Option Counts). (unwrap_or o no_rights).send) (put_here m.counts p (with_fewer right.SendOnce 1 (counts_of m p))) in omega arith)
+  | inr n ↦ let f : (counts_of (taken m p right.SendOnce 1) q).send ≡ (counts_of m q).send = ap (λ (o : Option Counts). (unwrap_or o no_rights).send) (put_other m.counts p (with_fewer right.SendOnce 1 (counts_of m p)) q n) in omega arith
+]
+
+pub can_deliver : (w mid : WorldView) (task port capacity : ℕ) (r : ReadyFor w task port capacity) (t : TakesFront w port mid) → CanGive mid task (carried_by t.front)
+can_deliver w mid task port capacity r t =
+    let same : r.waits.front ≡ t.front = same_front w port r.waits t.front (record { v = t.v; there = t.there; behind = t.behind; queue = t.queue }) in
+    let ledger : mid.ledger ≡ taken w.ledger port (destination_right t.front) 1 = ap (λ (x : WorldView). x.ledger) t.rest in
+    let live = front_live w mid port t in
+    let there = front_there w mid task port t r.space r.there in
+    let needs : Needs w.ports r.space.names [] (carried_by t.front) r.needed = subst (λ (m : Kept). Needs w.ports r.space.names [] (carried_by m) r.needed) same r.needs in
+    record {
+      space = r.space;
+      there = there;
+      enough = enough free_names names_are_free w.ports r.space.names task [] (carried_by t.front) mid _ _ r.needed (starts free_names w.ports mid task r.space there live) needs r.names;
+      room = enough free_room room_is_free w.ports r.space.names task [] (carried_by t.front) mid _ _ r.needed (starts free_room w.ports mid task r.space there live) needs r.room;
+      entered = λ p is. subst (λ (l : LedgerView). IsEntered l p) (sym ledger) (entered-put w.ledger port p (with_fewer (destination_right t.front) 1 (counts_of w.ledger port)) (r.waits.entered p (sym (live p) ∙ is)));
+      counted = λ p is.
+          let h : sends_for (carried_by t.front) p + (if t.front.by_once then 0 else if port == p then 1 else 0) ≤ (counts_of w.ledger p).send =
+          subst (λ (m : Kept). sends_for (carried_by m) p + (if m.by_once then 0 else if port == p then 1 else 0) ≤ (counts_of w.ledger p).send) same (r.waits.counted p (sym (live p) ∙ is)) in
+          let k = sends_dest t.front.by_once w.ledger port p in
+          subst (λ (l : LedgerView). sends_for (carried_by t.front) p ≤ (counts_of l p).send) (sym ledger) (omega arith);
+    }
+
 -- the message that was taken is the one that was judged
-pub taken_fits : (w w2 : WorldView) (task port room number : ℕ) (m : Kept) → HasFront w port m → MakesRoom w task number w2 → length m.bytes ≤ min room most_bytes →
-    (new : WorldView) (t : TakesFront w2 port new) → length t.front.bytes ≤ min room most_bytes
-taken_fits w w2 task port room number m f r fits new t =
+pub judged_front : (w w2 : WorldView) (task port number : ℕ) (m : Kept) → HasFront w port m → MakesRoom w task number w2 → (mid : WorldView) (t : TakesFront w2 port mid) → m ≡ t.front
+judged_front w w2 task port number m f r mid t =
     let there : port_at w port ≡ Some t.v = ap (λ (y : WorldView). port_at y port) (sym r.rest) ∙ t.there in
     let v : f.v ≡ t.v = same_found (port_at w port) f.v t.v f.there there in
-    let front : m ≡ t.front = same_head t.v.queue m t.front f.behind t.behind (ap (λ (v : PortView Kept). v.queue) (sym v) ∙ f.queue) t.queue in
-    subst (λ (k : Kept). length k.bytes ≤ min room most_bytes) front fits
+    same_head t.v.queue m t.front f.behind t.behind (ap (λ (v : PortView Kept). v.queue) (sym v) ∙ f.queue) t.queue
+
+-- ---- what is left of room
+
+-- What other tasks have, and how many slots are spare, stays.
+record Beside (task : ℕ) (w new : WorldView) : Type 0 where
+  others : (n : ℕ) → n ≢ task → slice_get new.spaces n ≡ slice_get w.spaces n
+  spare : new.ports.spare ≡ w.ports.spare
+
+beside_same : (task : ℕ) (w new : WorldView) → new ≡ w → Beside task w new
+beside_same task w new e = record { others = λ n not. ap (λ (x : WorldView). slice_get x.spaces n) e; spare = ap (λ (x : WorldView). x.ports.spare) e }
+
+beside_port : (b : Bool) (task : ℕ) (w new : WorldView) (kind : Kind) (port word dead : ℕ) → MatchBool b (GivesPort w task kind port word new) ((word ≡ dead) × (new ≡ w)) → Beside task w new
+beside_port true task w new kind port word dead g = record {
+  others = λ n not. ap (λ (x : WorldView). slice_get x.spaces n) g.rest ∙ get-set_other w.spaces task (record { names = g.after; room = g.room }) n not;
+  spare = ap (λ (x : WorldView). x.ports.spare) g.rest;
+}
+beside_port false task w new kind port word dead h = beside_same task w new h.1
+
+beside_mark : (task : ℕ) (w new : WorldView) (kind : Kind) (one : Mark) (word : ℕ) → GivesMark w task kind one word new → Beside task w new
+beside_mark task w new kind (mark.Port p) word h = beside_port (is_some (map.get w.ports.ports p)) task w new kind p word _ h
+beside_mark task w new kind mark.Null word h = beside_same task w new h.1
+beside_mark task w new kind mark.Dead word h = beside_same task w new h.1
+
+beside_all : (task : ℕ) (w new : WorldView) (carried : List Carried) (words : List ℕ) → GivesAll w task carried words new → Beside task w new
+beside_all task w new [] [] h = beside_same task w new h
+beside_all task w new [] (word ∷ words) h = absurd h
+beside_all task w new (c ∷ cs) [] h = absurd h
+beside_all task w new (c ∷ cs) (word ∷ words) h =
+    let one = beside_mark task w h.0 (kind_sent c.given) c.mark word h.1 in
+    let rest = beside_all task h.0 new cs words h.2 in
+    record { others = λ n not. rest.others n not ∙ one.others n not; spare = rest.spare ∙ one.spare }
+
+-- Just so much room was made as the names need: no more is left than there was, and the message's slot is spare.
+pub returns_slot : (w w2 new : WorldView) (task port room needed local : ℕ) (bytes : List ℕ) (m : MayReceive w task port room needed) (r : MakesRoom w task needed w2) →
+    TakesMessage w2 task port local bytes new → ReturnsSlot w new
+returns_slot w w2 new task port room needed local bytes m r t =
+    let mid : WorldView = t.mid in
+    let space2 : SpaceView = record { names = r.space.names; room = max r.space.room needed } in
+    let there : slice_get mid.spaces task ≡ Some space2 =
+    front_there w2 mid task port t.takes space2 (ap (λ (y : WorldView). slice_get y.spaces task) r.rest ∙ get-set_same w.spaces task space2 r.space r.there) in
+    let live : (p : ℕ) → is_some (port_at mid p) ≡ is_some (port_at w p) = λ p. front_live w2 mid port t.takes p ∙ ap (λ (y : WorldView). is_some (port_at y p)) r.rest in
+    let front : m.front ≡ t.takes.front = judged_front w w2 task port needed m.front m.waits r mid t.takes in
+    let names : m.space.names ≡ r.space.names = ap (λ (y : SpaceView). y.names) (same_found (slice_get w.spaces task) m.space r.space m.there r.there) in
+    let needs : Needs w.ports r.space.names [] (carried_by t.takes.front) needed =
+    subst (λ (k : Kept). Needs w.ports r.space.names [] (carried_by k) needed) front (subst (λ (y : Names). Needs w.ports y [] (carried_by m.front) needed) names m.needs) in
+    let left = left_then free_room room_is_free w.ports r.space.names task [] (carried_by t.takes.front) mid _ _ needed (starts free_room w.ports mid task space2 there live) needs t.words new t.gives in
+    let beside = beside_all task mid new (carried_by t.takes.front) t.words t.gives in
+    let old_room : room_of w task ≡ r.space.room = ap room_in r.there in
+    let new_room : room_of new task ≡ left.0.room = ap room_in left.1 in
+    record {
+      rooms = λ other. elim (equal_or_not other task) [
+        | inl e ↦ subst (λ (n : ℕ). room_of new n ≤ room_of w n) (sym e) (let x = left.2 in omega (arith, x, old_room, new_room))
+        | inr not ↦
+            let same : room_of new other ≡ room_of w other = ap room_in (beside.others other not ∙ ap (λ (x : WorldView). slice_get x.spaces other) t.takes.rest
+            ∙ ap (λ (x : WorldView). slice_get x.spaces other) r.rest ∙ get-set_other w.spaces task space2 other not) in omega (arith, same)
+      ];
+      slots = beside.spare ∙ ap (λ (x : WorldView). x.ports.spare) t.takes.rest ∙ ap (λ (x : WorldView). x.ports.spare + 1) r.rest;
+    }
+
+-- ---- whether the names suffice
+
+module _ (w : WorldView) (task : ℕ) (m : Kept) (space : SpaceView) (needed : ℕ) (there : slice_get w.spaces task ≡ Some space) (needs : Needs w.ports space.names [] (carried_by m) needed) where
+  pub names_enough : needed ≤ free_names space → ¬ (LackNames w task (carried_by m))
+  names_enough few = enough free_names names_are_free w.ports space.names task [] (carried_by m) w _ _ needed (starts free_names w.ports w task space there (λ p. refl)) needs few
+
+  pub names_lack : map.len space.names ≤ most_names → free_names space < needed → LackNames w task (carried_by m)
+  names_lack most many = too_few free_names names_are_free w.ports space.names task [] (carried_by m) w _ _ needed (starts free_names w.ports w task space there (λ p. refl)) needs (omega (arith, most)) many
+
+-- ---- where memory is wanted
+
+pub wants_words : (w : WorldView) (task port : ℕ) (m : Kept) → HasFront w port m → inline_names < length m.rights → WantsToReceive w task port
+wants_words w task port m front many = record { front = m; waits = front; wanted = inl many }
+
+pub wants_room : (w : WorldView) (task port room needed : ℕ) (m : MayReceive w task port room needed) → room_of w task < needed → WantsToReceive w task port
+wants_room w task port room needed m less =
+    let own : room_of w task ≡ m.space.room = ap room_in m.there in
+    let few : m.space.room + map.len m.space.names ≤ most_names = let names = m.names in omega (arith, names, own, less) in
+    record {
+      front = m.front;
+      waits = m.waits;
+      wanted = inr (too_few free_room room_is_free w.ports m.space.names task [] (carried_by m.front) w _ _ needed (starts free_room w.ports w task m.space m.there (λ p. refl)) m.needs (omega (arith, few)) (omega (arith, own, less)));
+    }

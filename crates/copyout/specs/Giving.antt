@@ -1,5 +1,5 @@
 -- What copying out gives a task: a name for each right of a message, in the tables.
-use Rattle.std.specs.Prelude.{◌≡◌, ◌≢◌, ℕ, ◌+◌, ◌<◌, ◌≤◌, ◌⊎◌, true, List, [], ◌∷◌, slice_get, slice_set, Some, is_some, if◌then◌else◌, ◌==◌, min, MatchBool}
+use Rattle.std.specs.Prelude.{◌≡◌, ◌≢◌, ℕ, ◌+◌, ◌-◌, ◌<◌, ◌⊎◌, true, List, [], ◌∷◌, slice_get, slice_set, Some, is_some, if◌then◌else◌, ◌==◌, min, MatchBool}
 use Rattle.std.specs.FinMap as map
 use Rattle.mach_types.specs.Numbers.{kind_sent, null_word, dead_word, most_names, most_references}
 use Rattle.mach_types.specs.Tokens.{Kind, receive, send, send_once}
@@ -55,8 +55,8 @@ pub record GivesPort (old : WorldView) (task : ℕ) (kind : Kind) (port word : �
   pub after : Names
   pub room : ℕ
   pub ledger : LedgerView
-  pub given : ((j : JoinsName space.names kind port word after) × (ledger ≡ ledger_joined kind port j.entry old.ledger))
-      ⊎ (TakesName space.names kind port word after × (ledger ≡ old.ledger))
+  pub given : ((j : JoinsName space.names kind port word after) × (ledger ≡ ledger_joined kind port j.entry old.ledger) × (room ≡ space.room))
+      ⊎ (TakesName space.names kind port word after × (ledger ≡ old.ledger) × (room ≡ space.room - 1))
   pub rest : new ≡ record old {
     spaces = slice_set old.spaces task (record { names = after; room = room });
     ledger = ledger;
@@ -75,24 +75,40 @@ GivesAll old task (c ∷ cs) (w ∷ ws) new = (mid : WorldView) × GivesMark old
 GivesAll old task [] (w ∷ ws) new = ⊥
 GivesAll old task (c ∷ cs) [] new = ⊥
 
--- ---- want of names
+-- ---- want of names, and of room for them
 
--- the task's names leave no room for another
-abbrev pub HasNoName : WorldView → (task : ℕ) → Type 0
-HasNoName w task = (space : SpaceView) × (slice_get w.spaces task ≡ Some space) × (most_names ≤ map.len space.names)
+-- how many names more the task may have
+abbrev pub free_names : SpaceView → ℕ
+free_names space = most_names - map.len space.names
+
+-- for how many names more there is room
+abbrev pub free_room : SpaceView → ℕ
+free_room space = space.room
+
+-- none is left to the task
+abbrev pub NoneLeft : (left : SpaceView → ℕ) → WorldView → (task : ℕ) → Type 0
+NoneLeft left w task = (space : SpaceView) × (slice_get w.spaces task ≡ Some space) × (left space ≡ 0)
 
 -- the right needs a name of its own
 abbrev pub NeedsOwn : WorldView → (task : ℕ) → Kind → (port : ℕ) → Type 0
 NeedsOwn w task kind p = (kind ≡ send_once) ⊎ ((space : SpaceView) × (slice_get w.spaces task ≡ Some space) × ((name : ℕ) → port_at space.names name ≢ Some p))
 
-abbrev pub MarkLacks : WorldView → (task : ℕ) → Kind → Mark → Type 0
-MarkLacks w task kind (mark.Port p) = (is_some (map.get w.ports.ports p) ≡ true) × HasNoName w task × NeedsOwn w task kind p
-MarkLacks w task kind mark.Null = ⊥
-MarkLacks w task kind mark.Dead = ⊥
+abbrev pub MarkLacks : (left : SpaceView → ℕ) → WorldView → (task : ℕ) → Kind → Mark → Type 0
+MarkLacks left w task kind (mark.Port p) = (is_some (map.get w.ports.ports p) ≡ true) × NoneLeft left w task × NeedsOwn w task kind p
+MarkLacks left w task kind mark.Null = ⊥
+MarkLacks left w task kind mark.Dead = ⊥
 
--- There is none for one of them, once those before it were given.
-abbrev pub AllLack : WorldView → (task : ℕ) → List Carried → Type 0
-AllLack w task [] = ⊥
-AllLack w task (c ∷ cs) =
-    MarkLacks w task (kind_sent c.given) c.mark
-    ⊎ ((word : ℕ) × (mid : WorldView) × GivesMark w task (kind_sent c.given) c.mark word mid × AllLack mid task cs)
+-- There is none left for one of them, once those before it were given.
+abbrev pub Lack : (left : SpaceView → ℕ) → WorldView → (task : ℕ) → List Carried → Type 0
+Lack left w task [] = ⊥
+Lack left w task (c ∷ cs) =
+    MarkLacks left w task (kind_sent c.given) c.mark
+    ⊎ ((word : ℕ) × (mid : WorldView) × GivesMark w task (kind_sent c.given) c.mark word mid × Lack left mid task cs)
+
+-- The task's names don't suffice for the rights.
+abbrev pub LackNames : WorldView → (task : ℕ) → List Carried → Type 0
+LackNames w task carried = Lack free_names w task carried
+
+-- They need more names than there is room for.
+abbrev pub LackRoom : WorldView → (task : ℕ) → List Carried → Type 0
+LackRoom w task carried = Lack free_room w task carried

@@ -1,5 +1,5 @@
 -- Giving a task a right under a name that the caller chose: the task's name for the port, or one that isn't in use.
-use Rattle.std.specs.Prelude.{◌≡◌, ◌≢◌, ℕ, ◌<◌, ◌≤◌, ◌⊎◌, true, slice_get, slice_set, Some, None, is_some}
+use Rattle.std.specs.Prelude.{◌≡◌, ◌≢◌, ℕ, ◌-◌, ◌<◌, ◌≤◌, ◌⊎◌, true, slice_get, slice_set, Some, None, is_some}
 use Rattle.std.specs.FinMap as map
 use Rattle.mach_types.specs.Numbers.{most_names}
 use Rattle.mach_types.specs.Tokens.{Kind, send, send_once}
@@ -22,8 +22,8 @@ pub record PutsPort (old : WorldView) (task : ℕ) (kind : Kind) (port word : �
   pub after : Names
   pub room : ℕ
   pub ledger : LedgerView
-  pub given : ((j : JoinsName space.names kind port word after) × (ledger ≡ ledger_joined kind port j.entry old.ledger))
-      ⊎ (NewName space.names kind port word after × (ledger ≡ old.ledger))
+  pub given : ((j : JoinsName space.names kind port word after) × (ledger ≡ ledger_joined kind port j.entry old.ledger) × (room ≡ space.room))
+      ⊎ (NewName space.names kind port word after × (ledger ≡ old.ledger) × (room ≡ space.room - 1))
   pub rest : new ≡ record old {
     spaces = slice_set old.spaces task (record { names = after; room = room });
     ledger = ledger;
@@ -39,7 +39,7 @@ MayName names kind port word =
 pub record CanPut (w : WorldView) (task : ℕ) (kind : Kind) (port word : ℕ) : Type 0 where
   pub space : SpaceView
   pub there : slice_get w.spaces task ≡ Some space
-  pub room : 0 < space.room
+  pub room : map.get space.names word ≡ None → 0 < space.room
   pub usable : IsUsable word
   pub may : MayName space.names kind port word
   pub live : is_some (table_at w port) ≡ true

@@ -1,4 +1,4 @@
--- What must be so before rights are given: room is made, the names suffice, and the rights are counted.
+-- What must be so before rights are given: the names suffice, room is made, and the rights are counted.
 use Rattle.std.specs.Prelude.{◌≡◌, ◌≢◌, ℕ, ◌+◌, ◌<◌, ◌≤◌, true, List, [], ◌∷◌, ◌++◌, length, slice_get, Some, is_some, if◌then◌else◌, ◌==◌, min}
 use Rattle.std.specs.FinMap as map
 use Rattle.mach_types.specs.Numbers.{kind_sent, most_bytes, most_names}
@@ -17,7 +17,8 @@ use Rattle.copyin_base.specs.declared.message.Mark.TheVariants as mark
 use Rattle.copyin_base.specs.Kept.{Kept}
 use Rattle.copyin_base.specs.Worlds.{WorldView, port_at}
 use Rattle.copyin.specs.Plans.{option_list}
-use Rattle.copyout.specs.Giving.{HasNoName, NeedsOwn, AllLack, GivesAll}
+use Rattle.copyout.specs.Giving.{NeedsOwn, LackNames, LackRoom, free_names, GivesAll}
+use Rattle.copyout.specs.Room.{Needs}
 use Rattle.copyout.specs.Takes.{destination_right, reversed, body_names}
 use Rattle.copyout.specs.declared.receipt.Refusal.{Refusal}
 use Rattle.copyout.specs.declared.receipt.Refusal.TheVariants as refusal
@@ -39,8 +40,8 @@ sends_for (c ∷ cs) p = send_for (kind_sent c.given) c.mark p + sends_for cs p
 pub record CanGive (w : WorldView) (task : ℕ) (carried : List Carried) : Type 0 where
   pub space : SpaceView
   pub there : slice_get w.spaces task ≡ Some space
-  pub room : length carried ≤ space.room
-  pub enough : ¬ (AllLack w task carried)
+  pub enough : ¬ (LackNames w task carried)
+  pub room : ¬ (LackRoom w task carried)
   pub entered : AllEntered w
   pub counted : (p : ℕ) → is_some (port_at w p) ≡ true → sends_for carried p ≤ (counts_of w.ledger p).send
 
@@ -48,8 +49,7 @@ pub record CanGive (w : WorldView) (task : ℕ) (carried : List Carried) : Type 
 pub record CanGivePort (w : WorldView) (task : ℕ) (kind : Kind) (port : ℕ) : Type 0 where
   pub space : SpaceView
   pub there : slice_get w.spaces task ≡ Some space
-  pub room : 0 < space.room
-  pub enough : ¬ (HasNoName w task × NeedsOwn w task kind port)
+  pub own : NeedsOwn w task kind port → (map.len space.names < most_names) × (0 < space.room)
   pub live : is_some (port_at w port) ≡ true
   pub entered : IsEntered w.ledger port
   pub counted : kind ≡ send → 1 ≤ (counts_of w.ledger port).send
@@ -73,12 +73,15 @@ pub record CanTakeName (w : WorldView) (task : ℕ) (kind : Kind) (port : ℕ) :
   pub lone : kind ≢ send_once → (name : ℕ) → port_named_at space.names name ≢ Some port
   pub live : is_some (port_at w port) ≡ true
 
--- The task has room for at least so many names as before, but for one.
-abbrev pub UsesOneRoom : (old new : WorldView) → (task : ℕ) → Type 0
-UsesOneRoom old new task = (a b : SpaceView) → slice_get old.spaces task ≡ Some a → slice_get new.spaces task ≡ Some b → a.room ≤ b.room + 1
-
 abbrev pub carried_by : Kept → List Carried
 carried_by m = option_list m.reply ++ m.rights
+
+-- This is the port's front message.
+pub record HasFront (w : WorldView) (port : ℕ) (m : Kept) : Type 0 where
+  pub v : PortView Kept
+  pub there : port_at w port ≡ Some v
+  pub behind : List Kept
+  pub queue : v.queue ≡ m ∷ behind
 
 -- A message waits at the port: its bytes are laid out with a right for each port word, and its rights are in the ledger.
 pub record Waits (w : WorldView) (port : ℕ) : Type 0 where
@@ -96,13 +99,25 @@ pub record Waits (w : WorldView) (port : ℕ) : Type 0 where
   pub counted : (p : ℕ) → is_some (port_at w p) ≡ true →
       sends_for (carried_by front) p + (if front.by_once then 0 else if port == p then 1 else 0) ≤ (counts_of w.ledger p).send
 
--- The front message, its names and room for the receiver's words.
+-- The front message may be received: it fits, and its rights need so many names, which the task may have.
+pub record MayReceive (w : WorldView) (task port room needed : ℕ) : Type 0 where
+  pub front : Kept
+  pub waits : HasFront w port front
+  pub fits : length front.bytes ≤ min room most_bytes
+  pub space : SpaceView
+  pub there : slice_get w.spaces task ≡ Some space
+  pub needs : Needs w.ports space.names [] (carried_by front) needed
+  pub names : needed ≤ free_names space
+
+-- It can be taken: there is room for the names that its rights need, and for the words of its body.
 pub record ReadyFor (w : WorldView) (task port capacity : ℕ) : Type 0 where
   pub waits : Waits w port
   pub space : SpaceView
   pub there : slice_get w.spaces task ≡ Some space
-  pub room : length (carried_by waits.front) ≤ space.room
-  pub enough : ¬ (AllLack w task (carried_by waits.front))
+  pub needed : ℕ
+  pub needs : Needs w.ports space.names [] (carried_by waits.front) needed
+  pub names : needed ≤ free_names space
+  pub room : needed ≤ space.room
   pub words_fit : length waits.front.rights ≤ capacity
 
 -- What comes of a message that was taken from its queue: its rights are given, and its bytes are as the receiver gets them.
@@ -112,15 +127,9 @@ pub record Delivers (old : WorldView) (task : ℕ) (m : Kept) (local sequence : 
   pub text : (written : WireBody) → IsLaidOut m.bytes m.spans written →
       bytes ≡ header_text (reversed m local sequence words) ++ body_text (received_body written (body_names m.reply words))
 
-pub record HasFront (w : WorldView) (port : ℕ) (m : Kept) : Type 0 where
-  pub v : PortView Kept
-  pub there : port_at w port ≡ Some v
-  pub behind : List Kept
-  pub queue : v.queue ≡ m ∷ behind
-
 -- ---- why a message isn't received: its length is judged first, then names, then memory
 
 abbrev pub IsRefusedBy : WorldView → (task : ℕ) → Kept → (room : ℕ) → Refusal → Type 0
 IsRefusedBy w task m room (refusal.TooLarge n) = (n ≡ length m.bytes) × (min room most_bytes < length m.bytes)
-IsRefusedBy w task m room refusal.Names = (length m.bytes ≤ min room most_bytes) × AllLack w task (carried_by m)
-IsRefusedBy w task m room refusal.Memory = (length m.bytes ≤ min room most_bytes) × ¬ (AllLack w task (carried_by m))
+IsRefusedBy w task m room refusal.Names = (length m.bytes ≤ min room most_bytes) × LackNames w task (carried_by m)
+IsRefusedBy w task m room refusal.Memory = (length m.bytes ≤ min room most_bytes) × ¬ (LackNames w task (carried_by m))

@@ -18,17 +18,15 @@ use Rattle.copyout.specs.Giving.{GivesAll}
 abbrev pub destination_right : Kept → RightKind
 destination_right m = if m.by_once then right.SendOnce else right.Send
 
--- The port's front message goes, its number is used, and its destination right is consumed.
+-- The port's front message goes, its number is used, its slot is spare, and its destination right is consumed.
 pub record TakesFront (old : WorldView) (port : ℕ) (new : WorldView) : Type 0 where
   pub v : PortView Kept
   pub there : port_at old port ≡ Some v
   pub front : Kept
   pub behind : List Kept
   pub queue : v.queue ≡ front ∷ behind
-  -- the number of spare slots is of no account here
-  pub spare : ℕ
   pub rest : new ≡ record old {
-    ports = record (with_port old.ports port (record { queue = behind; attributes = record v.attributes { sequence = (v.attributes.sequence + 1) % 2 ^ 32 } })) { spare = spare };
+    ports = record (with_port old.ports port (record { queue = behind; attributes = record v.attributes { sequence = (v.attributes.sequence + 1) % 2 ^ 32 } })) { spare = old.ports.spare + 1 };
     ledger = taken old.ledger port (destination_right front) 1;
   }
 

@@ -13,7 +13,7 @@ ghost use Rattle.copyin_base.specs.declared.message.Carried.{Carried as AnyCarri
 ghost use Rattle.copyin_base.specs.declared.message.Mark.TheVariants as mark;
 ghost use Rattle.copyin.specs.Plans.{option_list};
 ghost use Rattle.copyout.specs.Giving.{joined, alone, ledger_joined, GivesPort, GivesMark, GivesAll};
-ghost use Rattle.copyout.specs.Ready.{CanGivePort, CanJoin, CanTakeName, CanGive, UsesOneRoom};
+ghost use Rattle.copyout.specs.Ready.{CanGivePort, CanJoin, CanTakeName, CanGive};
 
 use crate::room::{has_port, shared_name};
 use copyin_base::{Carried, Mark, World};
@@ -21,6 +21,7 @@ use mach_types::limits::MOST_REFERENCES;
 use mach_types::{Disposition, Name, PortId, Right, TaskId};
 use name_space::Entry;
 use rights::RightKind;
+use smallvec::SmallVec;
 use user_refs::UserRefs;
 
 // What stands under a name of the right's own.
@@ -101,8 +102,7 @@ fn drop_pegged(world: &mut World, given: Disposition, port: PortId, entry: &Entr
 // The right comes under the task's name for the port.
 pub(crate) fn join(world: &mut World, task: TaskId, given: Disposition, port: PortId, name: Name)
     requires { CanJoin world.old task (kind_sent given) port name }
-    ensures gives { GivesPort world.old task (kind_sent given) port name world.new }
-    ensures room { UsesOneRoom world.old world.new task }
+    ensures { GivesPort world.old task (kind_sent given) port name world.new }
 {
     if let Some(entry) = world.lookup(task, name) {
         drop_pegged(world, given, port, &entry);
@@ -113,8 +113,7 @@ pub(crate) fn join(world: &mut World, task: TaskId, given: Disposition, port: Po
 // The right comes under a fresh name.
 fn take_name(world: &mut World, task: TaskId, given: Disposition, port: PortId) -> Name
     requires { CanTakeName world.old task (kind_sent given) port }
-    ensures gives { GivesPort world.old task (kind_sent given) port result world.new }
-    ensures room { UsesOneRoom world.old world.new task }
+    ensures { GivesPort world.old task (kind_sent given) port result world.new }
 {
     let name = world.space(task).fresh();
     world.insert_entry(task, name, alone(given, port));
@@ -124,8 +123,7 @@ fn take_name(world: &mut World, task: TaskId, given: Disposition, port: PortId) 
 // Gives a right for a port that is there.
 fn give_port(world: &mut World, task: TaskId, given: Disposition, port: PortId) -> Name
     requires { CanGivePort world.old task (kind_sent given) port }
-    ensures gives { GivesPort world.old task (kind_sent given) port result world.new }
-    ensures room { UsesOneRoom world.old world.new task }
+    ensures { GivesPort world.old task (kind_sent given) port result world.new }
 {
     match shared_name(world.space(task), given, port) {
         Some(name) => {
@@ -142,12 +140,11 @@ fn give_port(world: &mut World, task: TaskId, given: Disposition, port: PortId) 
 /// references is dropped.
 ///
 /// [`Name::null`] where there is no right, and [`Name::dead`] where its port is gone: nothing changes
-/// then. Takes no memory. Logarithmic in the number of the task's names and of ports, but for a move
+/// then. Room is used for a fresh name alone. Takes no memory. Logarithmic in the number of the task's names and of ports, but for a move
 /// of 16 bytes for each greater name.
 pub fn give_right(world: &mut World, task: TaskId, carried: &Carried) -> Name
     requires { CanGive world.old task (carried.now ∷ []) }
-    ensures gives { GivesMark world.old task (kind_sent carried.now.given) carried.now.mark result world.new }
-    ensures room { UsesOneRoom world.old world.new task }
+    ensures { GivesMark world.old task (kind_sent carried.now.given) carried.now.mark result world.new }
 {
     match &carried.mark {
         Mark::Null => Name::null(),
@@ -162,13 +159,16 @@ pub fn give_right(world: &mut World, task: TaskId, carried: &Carried) -> Name
     }
 }
 
-/// Gives the task the rights in their order, and adds the name of each to `names`.
-///
-/// Takes no memory, and time for each as [`give_right`].
-pub fn give_rights(world: &mut World, task: TaskId, rights: &[Carried], names: &mut Vec<Name>)
+// Gives the task the rights in their order, and adds the name of each to `names`.
+pub(crate) fn give_rights(
+    world: &mut World,
+    task: TaskId,
+    rights: &[Carried],
+    names: &mut SmallVec<Name, 8>,
+)
     requires can { CanGive world.old task rights.now }
     requires none { names.old.items ≡ [] }
-    requires room { length rights.now ≤ vec_capacity names.old }
+    requires room { length rights.now ≤ names.old.capacity }
     ensures { GivesAll world.old task rights.now names.new.items world.new }
 {
     for carried in rights {

@@ -1,7 +1,7 @@
 //! Copying rights out: what a receiver gets of a queued message.
 //!
-//! [`receive`] judges and takes a port's front message; [`lacks_names`] says whether the receiver's
-//! names suffice, [`give_right`] gives one right, and [`put_right`] gives it a name that the caller chose.
+//! [`receive`] judges and takes a port's front message, [`give_right`] gives one right, and [`put_right`]
+//! gives it a name that the caller chose.
 #![tactic(auto)]
 
 mod give;
@@ -9,7 +9,6 @@ mod put;
 mod receipt;
 mod room;
 
-pub use give::{give_right, give_rights};
+pub use give::give_right;
 pub use put::put_right;
-pub use receipt::{Refusal, copyout, receive};
-pub use room::lacks_names;
+pub use receipt::{Refusal, receive};

@@ -14,19 +14,22 @@ ghost use Rattle.copyin_base.specs.Changes.{MakesRoom};
 ghost use Rattle.copyin_base.specs.Kept.{Kept};
 ghost use Rattle.copyin_base.specs.Worlds.{WorldView, port_at};
 ghost use Rattle.copyin.specs.Plans.{option_list};
-ghost use Rattle.copyout.specs.Giving.{AllLack, GivesAll};
+ghost use Rattle.copyout.specs.Giving.{GivesAll};
 ghost use Rattle.copyout.specs.Takes.{TakesFront, TakesMessage, destination_right, reply_number, reply_word};
-ghost use Rattle.copyout.specs.Ready.{CanGive, UsesOneRoom, Waits, HasFront, ReadyFor, Delivers, IsRefusedBy, carried_by};
+ghost use Rattle.copyout.specs.Ready.{CanGive, Waits, HasFront, MayReceive, ReadyFor, Delivers, IsRefusedBy, carried_by};
+ghost use Rattle.copyout.specs.Wanted.{WantsToReceive, ReturnsSlot};
+ghost use Rattle.copyout.specs.declared.receipt.Refusal.TheVariants as refused;
 
 use crate::give::{give_right, give_rights};
-use crate::room::lacks_names;
+use crate::room::needed_names;
 use copyin_base::{Carried, Message, World};
 use mach_types::bits::COMPLEX;
-use mach_types::limits::MOST_BYTES;
+use mach_types::limits::{MOST_BYTES, MOST_NAMES};
 use mach_types::{Bytes, Name, PortId, TaskId};
 use message_codec::{Header, Parsed, put_received};
 use port::Attributes;
 use rights::RightKind;
+use smallvec::SmallVec;
 use std::alloc::Global;
 
 /// Why a message isn't received. It stays, and all is as before.
@@ -118,8 +121,7 @@ fn take_front(world: &mut World, port: PortId) -> Message
 // Gives the task the right to answer with, if there is one, and answers its name.
 fn give_reply(world: &mut World, task: TaskId, reply: &Option<Carried>) -> Name
     requires { CanGive world.old task (option_list reply.now) }
-    ensures gives { (words : List ℕ) × GivesAll world.old task (option_list reply.now) words world.new × (result ≡ reply_word reply.now words) }
-    ensures room { (carried : Carried) → reply.now ≡ Some carried → UsesOneRoom world.old world.new task }
+    ensures { (words : List ℕ) × GivesAll world.old task (option_list reply.now) words world.new × (result ≡ reply_word reply.now words) }
 {
     match reply {
         Some(carried) => give_right(world, task, carried),
@@ -146,14 +148,14 @@ fn deliver(
     message: Message,
     local: Name,
     sequence: u32,
-    names: Vec<Name>,
+    names: SmallVec<Name, 8>,
 ) -> Bytes
     requires can { CanGive world.old task (carried_by message) }
     requires laid_out { (written : WireBody) × IsLaidOut message.bytes message.spans written }
     requires a_right_each { length message.rights ≡ word_count message.spans }
     requires few { length message.bytes ≤ most_bytes }
     requires none { names.items ≡ [] }
-    requires room { length message.rights ≤ vec_capacity names }
+    requires room { length message.rights ≤ names.capacity }
     ensures { Delivers world.old task message local sequence result world.new }
 {
     let Message {
@@ -177,20 +179,16 @@ fn deliver(
     spell(bytes, &parsed, &header, &names)
 }
 
-/// Receives the port's front message under the task's name `local` for the port (IPC Interface,
-/// `mach_msg` with `MACH_RCV_MSG`): the header is reversed, and the rights have the receiver's names,
-/// that of the right to answer with first. `names` is empty, and has room for the rights of the body.
-///
-/// Takes no memory; room for names was made by [`name_space::Space::reserve`]. The time grows with the
-/// number of rights.
-pub fn copyout(
+// Takes the port's front message and gives its rights. `names` is empty, and has room for the rights of
+// the body; room for the names that are needed was made, so it takes no memory.
+fn take_message(
     world: &mut World,
     task: TaskId,
     port: PortId,
     local: Name,
-    names: Vec<Name>,
+    names: SmallVec<Name, 8>,
 ) -> Bytes
-    requires ready { ReadyFor world.old task port (vec_capacity names) }
+    requires ready { ReadyFor world.old task port names.capacity }
     requires none { names.items ≡ [] }
     ensures { TakesMessage world.old task port local result world.new }
 {
@@ -199,20 +197,20 @@ pub fn copyout(
     deliver(world, task, message, local, sequence, names)
 }
 
-// How many rights the message carries, and room for the names of those of its body; or why it isn't
-// received.
+// How many names the rights of the front message need, and room for the names of those of its body; or
+// why it isn't received.
 fn judge(
     world: &World,
     alloc: Global,
     task: TaskId,
     port: PortId,
     room: u32,
-) -> Result<(usize, Vec<Name>), Refusal>
+) -> Result<(usize, SmallVec<Name, 8>), Refusal>
     requires there { task < length world.now.spaces }
     requires waits { (m : Kept) × HasFront world.now port m × (length m.bytes ≤ most_bytes) }
-    ensures ok { IfOk result (λ r. (m : Kept) × HasFront world.now port m × (r.0 ≡ length (carried_by m)) × (r.1.items ≡ []) × (length m.rights ≤ vec_capacity r.1)
-        × (length m.bytes ≤ min room most_bytes) × ¬ (AllLack world.now task (carried_by m))) }
+    ensures ok { IfOk result (λ r. (may : MayReceive world.now task port room r.0) × (r.1.items ≡ []) × (length may.front.rights ≤ r.1.capacity)) }
     ensures err { IfErr result (λ refusal. (m : Kept) × HasFront world.now port m × IsRefusedBy world.now task m room refusal) }
+    ensures wanted { IfErr result (λ refusal. refusal ≡ refused.Memory → WantsToReceive world.now task port) }
 {
     let Some(message) = world.ports.front(port) else {
         unreachable!()
@@ -221,34 +219,36 @@ fn judge(
     if length > MOST_BYTES.min(room as usize) {
         return Err(Refusal::TooLarge(length as u32));
     }
-    if lacks_names(world, task, message) {
+    let space = world.space(task);
+    let needed = needed_names(world, space, message);
+    if needed > MOST_NAMES - space.len() {
         return Err(Refusal::Names);
     }
-    let mut names = Vec::new(alloc);
+    let mut names = SmallVec::new(alloc);
     match names.reserve(message.rights.len()) {
-        Ok(()) => Ok((count_rights(message), names)),
+        Ok(()) => Ok((needed, names)),
         Err(_) => Err(Refusal::Memory),
     }
 }
 
-// How many rights the message carries.
-fn count_rights(message: &Message) -> usize
-    ensures { result ≡ length (carried_by message.now) }
-{
-    let replies = if message.reply.is_some() { 1 } else { 0 };
-    replies + message.rights.len()
-}
-
-/// Receives the port's front message, if there is room for its length, names for its rights and
-/// memory, which is judged in this order.
+/// Receives the port's front message under the task's name `local` for the port (IPC Interface,
+/// `mach_msg` with `MACH_RCV_MSG`), if there is room for its length, names for its rights and memory,
+/// which is judged in this order: the header is reversed, and the rights have the receiver's names, that
+/// of the right to answer with first.
+///
+/// Memory is wanted for the names alone that the rights need and there is no room for, and for the words
+/// of a body with more than 8 rights: a message without rights is always received. Room for names is no
+/// more than before, and the message's slot is spare then.
 ///
 /// # Errors
 /// The message stays, and all is then as before.
 /// - [`Refusal::TooLarge`]: it has more bytes than `room`, or more than 65,536.
-/// - [`Refusal::Names`]: it isn't too large, and the task's names don't suffice ([`lacks_names`]).
-/// - [`Refusal::Memory`]: neither, and memory was refused.
+/// - [`Refusal::Names`]: it isn't too large, and the task's names don't suffice: for a right that needs a
+///   name of its own there is none, once those before it were given.
+/// - [`Refusal::Memory`]: neither, memory was wanted, and it was refused.
 ///
-/// The time grows with the number of rights; see [`lacks_names`].
+/// The time grows with the number of rights, and with its square for rights for ports that the task has
+/// no name for: each is compared with those before it.
 pub fn receive(
     world: &mut World,
     alloc: Global,
@@ -259,13 +259,15 @@ pub fn receive(
 ) -> Result<Bytes, Refusal>
     requires there { task < length world.old.spaces }
     requires waits { Waits world.old port }
-    ensures ok { IfOk result (λ bytes. (number : ℕ) × (start : WorldView) × MakesRoom world.old task number start × (t : TakesMessage start task port local bytes world.new)
+    ensures ok { IfOk result (λ bytes. (needed : ℕ) × (start : WorldView) × MakesRoom world.old task needed start × (t : TakesMessage start task port local bytes world.new)
         × (length t.takes.front.bytes ≤ min room most_bytes)) }
+    ensures kept { OnOk result (ReturnsSlot world.old world.new) }
     ensures err { IfErr result (λ refusal. (world.new ≡ world.old) × (m : Kept) × HasFront world.old port m × IsRefusedBy world.old task m room refusal) }
+    ensures wanted { IfErr result (λ refusal. refusal ≡ refused.Memory → WantsToReceive world.old task port) }
 {
-    let (number, names) = judge(world, alloc, task, port, room)?;
-    match world.reserve_names(task, number) {
-        Ok(()) => Ok(copyout(world, task, port, local, names)),
+    let (needed, names) = judge(world, alloc, task, port, room)?;
+    match world.reserve_names(task, needed) {
+        Ok(()) => Ok(take_message(world, task, port, local, names)),
         Err(_) => Err(Refusal::Memory),
     }
 }

@@ -1,4 +1,4 @@
-//! Whether the receiver's names suffice for the rights of a message.
+//! How many names of the receiver the rights of a message need.
 ghost use Rattle.std.specs.Prelude.{◌≡◌, ◌≢◌, ℕ, ◌+◌, ◌<◌, ◌≤◌, ◌↔◌, ◌++◌, [], ◌∷◌, ◌⊎◌, List, Some, None, is_some, true, false, IsTrue, MatchBool, IfSome, IfNone, length, slice_get};
 ghost use Rattle.std.specs.FinMap as map;
 ghost use Rattle.mach_types.specs.Numbers.{kind_sent};
@@ -7,13 +7,11 @@ ghost use Rattle.name_space.specs.Names.{SpaceView, port_at};
 ghost use Rattle.copyin_base.specs.declared.message.Carried.{Carried as AnyCarried};
 ghost use Rattle.copyin_base.specs.declared.message.Mark.TheVariants as mark;
 ghost use Rattle.copyin.specs.Plans.{option_list};
-ghost use Rattle.copyout.specs.Giving.{AllLack};
 ghost use Rattle.copyout.specs.Ready.{carried_by};
 ghost use Rattle.copyout.specs.Room.{names_port, named_by, IsThere, IsNamed, HasNone, Owns, Shares, Needs};
 
 use copyin_base::{Carried, Mark, Message, World};
-use mach_types::limits::MOST_NAMES;
-use mach_types::{Disposition, Name, PortId, TaskId};
+use mach_types::{Disposition, Name, PortId};
 use name_space::Space;
 
 // Whether the receiver has a name for the port once the right was given.
@@ -70,7 +68,7 @@ pub(crate) fn has_port(world: &World, port: PortId) -> bool
 
 // The port that the right is for, if it is there.
 fn port_there(world: &World, carried: &Carried) -> Option<PortId>
-    ensures some { IfSome result (λ p. (carried.now.mark ≡ mark.Port p) × IsThere world.now p) }
+    ensures some { IfSome result (λ p. (carried.now.mark ≡ mark.Port p) × IsThere world.now.ports p) }
     ensures none { IfNone result ((p : ℕ) → carried.now.mark ≡ mark.Port p → is_some (map.get world.now.ports.ports p) ≡ false) }
 {
     match &carried.mark {
@@ -101,8 +99,8 @@ fn needs_own(
     earlier: &[Carried],
     carried: &Carried,
 ) -> bool
-    ensures { MatchBool result (Owns world.now space.now.names (option_list reply.now ++ earlier.now) carried.now)
-        (Shares world.now space.now.names (option_list reply.now ++ earlier.now) carried.now) }
+    ensures { MatchBool result (Owns world.now.ports space.now.names (option_list reply.now ++ earlier.now) carried.now)
+        (Shares world.now.ports space.now.names (option_list reply.now ++ earlier.now) carried.now) }
 {
     match port_there(world, carried) {
         Some(port) => carried.given.is_send_once() || !has_name(space, reply, earlier, port),
@@ -119,8 +117,8 @@ fn own_names(
     carried: &Carried,
 ) -> usize
     ensures few { result ≤ 1 }
-    ensures needs { (rest : List AnyCarried) (m : ℕ) → Needs world.now space.now.names ((option_list reply.now ++ earlier.now) ++ carried.now ∷ []) rest m
-        → Needs world.now space.now.names (option_list reply.now ++ earlier.now) (carried.now ∷ rest) (result + m) }
+    ensures needs { (rest : List AnyCarried) (m : ℕ) → Needs world.now.ports space.now.names ((option_list reply.now ++ earlier.now) ++ carried.now ∷ []) rest m
+        → Needs world.now.ports space.now.names (option_list reply.now ++ earlier.now) (carried.now ∷ rest) (result + m) }
 {
     if needs_own(world, space, reply, earlier, carried) {
         1
@@ -132,7 +130,7 @@ fn own_names(
 // How many names of its own the right to answer with needs.
 fn reply_own(world: &World, space: &Space, reply: &Option<Carried>) -> usize
     ensures few { result ≤ 1 }
-    ensures needs { (rest : List AnyCarried) (m : ℕ) → Needs world.now space.now.names (option_list reply.now) rest m → Needs world.now space.now.names [] (option_list reply.now ++ rest) (result + m) }
+    ensures needs { (rest : List AnyCarried) (m : ℕ) → Needs world.now.ports space.now.names (option_list reply.now) rest m → Needs world.now.ports space.now.names [] (option_list reply.now ++ rest) (result + m) }
 {
     match reply {
         Some(carried) => own_names(world, space, &None, &[], carried),
@@ -140,9 +138,13 @@ fn reply_own(world: &World, space: &Space, reply: &Option<Carried>) -> usize
     }
 }
 
-// How many names of their own the rights of the message need.
-fn count_own(world: &World, space: &Space, message: &Message) -> usize
-    ensures { Needs world.now space.now.names [] (carried_by message.now) result }
+/// How many names of their own the rights of the message need: exactly so many more names the task has
+/// once they were given.
+///
+/// Takes no memory. Each right for a port without a name is compared with those before it; for the
+/// others the time is logarithmic in the number of names and of ports.
+pub(crate) fn needed_names(world: &World, space: &Space, message: &Message) -> usize
+    ensures { Needs world.now.ports space.now.names [] (carried_by message.now) result }
 {
     let mut count = reply_own(world, space, &message.reply);
     let rights = message.rights.as_slice();
@@ -150,21 +152,4 @@ fn count_own(world: &World, space: &Space, message: &Message) -> usize
         count += own_names(world, space, &message.reply, &rights[..i], &rights[i]);
     }
     count
-}
-
-/// Whether the task's names don't suffice for the rights of the message: for a right that needs a name
-/// of its own there is none, once those before it were given.
-///
-/// Takes no memory. Constant time where as many names are free as the message has rights; else, near
-/// 65,535 names, each right is compared with those before it.
-pub fn lacks_names(world: &World, task: TaskId, message: &Message) -> bool
-    requires { task < length world.now.spaces }
-    ensures { IsTrue result ↔ AllLack world.now task (carried_by message.now) }
-{
-    let space = world.space(task);
-    let free = MOST_NAMES - space.len();
-    if message.rights.len() < free {
-        return false;
-    }
-    count_own(world, space, message) > free
 }

@@ -28,7 +28,7 @@ use Rattle.copyin_base.specs.Shows.{target_of}
 use Rattle.copyin_base.proofs.Changing.{target_named}
 use Rattle.copyin_base.proofs.Told.{port_of}
 use Rattle.kernel_core.specs.declared.transfer.Going.{Going}
-use Rattle.kernel_core.specs.Transfer.{left_at, names_left, rights_then, port_under, references_under, IsElsewhere, IsTaken, Overflows, LacksRoom, under_guards, insert_later, extract_later}
+use Rattle.kernel_core.specs.Transfer.{left_at, names_left, rights_then, port_under, references_under, IsElsewhere, IsTaken, Overflows, LacksSpace, under_guards, insert_later, extract_later}
 use Rattle.kernel_core.proofs.Left.{Left}
 
 -- ---- the right that is put
@@ -308,7 +308,7 @@ module _ (w : WorldView) (s : State) (task number : ℕ) (g : Going) (mid : Worl
 
 -- where the entry under the name and whether it is new were asked before
 pub no_room : (stand : ℕ → Option Entry) (names rights name port : ℕ) (sort : Kind) (e : Option Entry) (is_new : Bool) → e ≡ stand name → is_some e ≡ not is_new →
-    ¬ (IsElsewhere stand name port sort) → ¬ (IsTaken e port sort) → ¬ (Overflows e sort) → LacksRoom names rights (is_new ≡ true) → FirstIs (under_guards stand names rights name port sort) (kern_number NoSpace)
+    ¬ (IsElsewhere stand name port sort) → ¬ (IsTaken e port sort) → ¬ (Overflows e sort) → LacksSpace names rights (is_new ≡ true) → FirstIs (under_guards stand names rights name port sort) (kern_number NoSpace)
 no_room stand names rights name port sort e is_new is new here free fits lacks =
     inr (here, inr (subst (λ (x : Option Entry). ¬ (IsTaken x port sort)) is free, inr (subst (λ (x : Option Entry). ¬ (Overflows x sort)) is fits, inl (wants lacks, refl))))
   where
@@ -316,6 +316,6 @@ no_room stand names rights name port sort e is_new is new here free fits lacks =
     nothing None e = refl
     nothing (Some x) e = absurd (cc)
 
-    wants : LacksRoom names rights (is_new ≡ true) → LacksRoom names rights (stand name ≡ None)
+    wants : LacksSpace names rights (is_new ≡ true) → LacksSpace names rights (stand name ≡ None)
     wants (inl h) = inl (h.0, sym is ∙ nothing e (new ∙ ap not h.1))
     wants (inr h) = inr h

@@ -3,7 +3,10 @@ mod Waits
 mod Ready
 mod Receiving
 mod Sending
+mod Wanting
 mod Stepping
+mod Keeping
+mod Sparing
 mod Left
 mod Judged
 mod Readied

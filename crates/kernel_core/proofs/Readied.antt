@@ -1,5 +1,5 @@
 -- A right that is judged can be copied in, and then put or given.
-use Rattle.std.proofs.Common.{◌≡◌, ◌≢◌, ℕ, ◌+◌, ◌<◌, ◌≤◌, [], ◌∷◌, Option, Some, None, refl, sym, ap, subst, ◌∙◌, arith, true, ◌⊎◌, inl, inr, length}
+use Rattle.std.proofs.Common.{◌≡◌, ◌≢◌, ℕ, ◌+◌, ◌-◌, ◌<◌, ◌≤◌, [], ◌∷◌, Option, Some, None, refl, sym, ap, subst, ◌∙◌, arith, true, ◌⊎◌, inl, inr, length}
 use Rattle.std.specs.Prelude.{is_some, slice_get}
 use Rattle.std.specs.Option.{option_and_then}
 use Rattle.std.specs.FinMap as map
@@ -19,7 +19,7 @@ use Rattle.copyin_base.specs.declared.message.Carried.{Carried}
 use Rattle.copyin_base.specs.declared.message.Mark.TheVariants as mark
 use Rattle.copyin_base.specs.Worlds.{WorldView, entry_in, port_at}
 use Rattle.copyin_base.proofs.Gets.{seen, same_found}
-use Rattle.copyout.specs.Giving.{HasNoName, NeedsOwn}
+use Rattle.copyout.specs.Giving.{NeedsOwn, NoneLeft, free_names, free_room}
 use Rattle.copyout.specs.Ready.{AllEntered, send_for, CanGive}
 use Rattle.copyout.specs.Putting.{CanPut}
 use Rattle.kernel_core.specs.declared.transfer.Going.{Going}
@@ -30,15 +30,15 @@ use Rattle.kernel_core.proofs.Judged.{lies, lives, not_not}
 pub few_then : (w : WorldView) (g : Going) → ¬ (most_rights < rights_then w g) → rights_then w g ≤ most_rights
 few_then w g not = omega (arith, not)
 
-module _ (w : WorldView) (s : State) (task number : ℕ) (g : Going) (mid : WorldView) (l : Left w s task number g mid) (x : SpaceView) (was : slice_get w.spaces task ≡ Some x) (wide : 0 < x.room) where
+module _ (w : WorldView) (s : State) (task number : ℕ) (g : Going) (mid : WorldView) (l : Left w s task number g mid) (x : SpaceView) (was : slice_get w.spaces task ≡ Some x) where
   abbrev kind : Kind
   kind = kind_sent g.given
 
   abbrev at : ℕ → Option Entry
   at n = left_at w task g n
 
-  wide_then : 0 < l.space.room
-  wide_then = let r = l.room x was in omega (arith, r, wide)
+  wide_then : 0 < x.room → 0 < l.space.room
+  wide_then wide = let r = l.room x was in omega (arith, r, wide)
 
   is_there : is_some (port_at mid g.port) ≡ true
   is_there = l.agrees.live_port g.port ∙ lives w s task number g mid l
@@ -61,11 +61,11 @@ module _ (w : WorldView) (s : State) (task number : ℕ) (g : Going) (mid : Worl
   some_not : (e : Entry) → Some e ≢ None
   some_not e f = cc
 
-  pub can_put : (name : ℕ) → IsUsable name → NoneHolds (insert_later w task name g) → CanPut mid task kind g.port name
-  can_put name usable none = record {
+  pub can_put : (name : ℕ) → IsUsable name → (at name ≡ None → 0 < x.room) → NoneHolds (insert_later w task name g) → CanPut mid task kind g.port name
+  can_put name usable wide none = record {
     space = l.space;
     there = l.there;
-    room = wide_then;
+    room = λ unused. wide_then (wide (sym (stands name) ∙ unused));
     usable = usable;
     may = elim (seen (at name)) [
       | inl h ↦
@@ -102,24 +102,32 @@ module _ (w : WorldView) (s : State) (task number : ℕ) (g : Going) (mid : Worl
     | inr h ↦ rw h.0 (omega arith)
   ]
 
-  pub can_give : NoneHolds (extract_later w task g) → CanGive mid task (carried ∷ [])
-  can_give none = record {
+  pub can_give : ((kind ≡ send_once) ⊎ ((n : ℕ) → port_under (at n) ≢ Some g.port) → 0 < x.room) → NoneHolds (extract_later w task g) → CanGive mid task (carried ∷ [])
+  can_give wide none = record {
     space = l.space;
     there = l.there;
-    room = let r = wide_then in omega (arith, r);
     enough = λ lacks. elim lacks [
       | inl h ↦ none.0 (inl (many h.1, needs h.2))
+      | inr h ↦ h.3
+    ];
+    room = λ lacks. elim lacks [
+      | inl h ↦ some_left h.1 (wide_then (wide (needs h.2)))
       | inr h ↦ h.3
     ];
     entered = entered;
     counted = λ p live. one_send kind refl p;
   }
     where
-      many : HasNoName mid task → most_names ≤ names_left w task g
+      many : NoneLeft free_names mid task → most_names ≤ names_left w task g
       many h =
           let same : h.0 ≡ l.space = same_found (slice_get mid.spaces task) h.0 l.space h.1 l.there in
-          let full : most_names ≤ map.len l.space.names = subst (λ (x : SpaceView). most_names ≤ map.len x.names) same h.2 in
+          let full : most_names - map.len l.space.names ≡ 0 = ap (λ (x : SpaceView). most_names - map.len x.names) (sym same) ∙ h.2 in
           let e = l.names in omega (arith, full, e)
+
+      some_left : NoneLeft free_room mid task → 0 < l.space.room → ⊥
+      some_left h some =
+          let same : h.0 ≡ l.space = same_found (slice_get mid.spaces task) h.0 l.space h.1 l.there in
+          let full : l.space.room ≡ 0 = ap (λ (x : SpaceView). x.room) (sym same) ∙ h.2 in omega (arith, full, some)
 
       needs : NeedsOwn mid task kind g.port → (kind ≡ send_once) ⊎ ((n : ℕ) → port_under (at n) ≢ Some g.port)
       needs (inl h) = inl h

@@ -33,7 +33,7 @@ use Rattle.copyin_base.proofs.Told.{port_of, receive_has, unused, found, names_p
 use Rattle.copyin_base.proofs.Gets.{seen}
 use Rattle.copyin_base.proofs.Roomier.{room_made, room_entry, room_shows}
 use Rattle.copyout.specs.Ready.{HasFront, Waits, carried_by}
-use Rattle.copyout.specs.Giving.{AllLack}
+use Rattle.copyout.specs.Giving.{LackNames}
 use Rattle.copyout.specs.Takes.{TakesMessage}
 use Rattle.copyout.proofs.Fronts.{shown_empty}
 use Rattle.copyout.proofs.MessageTaken.{message_received}
@@ -296,10 +296,10 @@ module _ (w : WorldView) (task : ℕ) (below : task < length w.spaces) (waited :
         };
       }
 
-      pub stays_for_names : length m.bytes ≤ min room most_bytes → AllLack w task (carried_by m) → StaysFor w task waited room (msg_number ReceiveBodyErrorNames)
+      pub stays_for_names : length m.bytes ≤ min room most_bytes → LackNames w task (carried_by m) → StaysFor w task waited room (msg_number ReceiveBodyErrorNames)
       stays_for_names fits lack = record { refuses = λ s sh. refuses_names w s sh task port (live s sh) h.v h.there m h.behind h.queue waited (from s sh port f) room fits lack }
 
-      pub stays_for_memory : length m.bytes ≤ min room most_bytes → ¬ (AllLack w task (carried_by m)) → StaysFor w task waited room (msg_number ReceiveBodyErrorMemory)
+      pub stays_for_memory : length m.bytes ≤ min room most_bytes → ¬ (LackNames w task (carried_by m)) → StaysFor w task waited room (msg_number ReceiveBodyErrorMemory)
       stays_for_memory fits lack = record { refuses = λ s sh. refuses_memory w s sh task port (live s sh) h.v h.there m h.behind h.queue waited (from s sh port f) room fits lack }
 
 -- ---- the calls

@@ -1,5 +1,6 @@
 -- A send: refused in each state that the tables show, or done.
-use Rattle.std.proofs.Common.{◌≡◌, ℕ, ◌<◌, List, refl, sym, ap, subst, ◌⊎◌, inl, inr, length}
+use Rattle.std.proofs.Common.{◌≡◌, ℕ, ◌-◌, ◌<◌, List, refl, sym, ap, subst, ◌∙◌, ◌⊎◌, inl, inr, arith, length}
+use Rattle.std.specs.Prelude.{max}
 use Rattle.mach_types.specs.declared.calls.Event.{Event}
 use Rattle.mach_types.specs.declared.calls.Reply.{Reply}
 use Rattle.mach_types.specs.declared.codes.MsgReturn.{MsgReturn}
@@ -24,7 +25,8 @@ use Rattle.copyin.specs.Plans.{Judged, CannotPlan, Commits}
 use Rattle.copyin.proofs.Texts.{good_header, none_first}
 use Rattle.copyin.proofs.RefusedWords.{cannot}
 use Rattle.copyin.proofs.Sent.{sent_state, sends, sent_agrees}
-use Rattle.kernel_core.specs.Send.{with_slots, SendsText}
+use Rattle.copyin.proofs.Committing.{commits_rooms}
+use Rattle.kernel_core.specs.Send.{with_slots, with_slot, SendsText, UsesSlot}
 
 -- ---- spare slots are of no account to a plan
 
@@ -65,11 +67,15 @@ still_tied w w2 n task e t = subst (λ (x : WorldView). IsTied x task) (sym e) r
   tied = λ space there. let a = t.tied space there in record { live = a.live; entered = a.entered; not_null = a.not_null; not_dead = a.not_dead };
 }
 
-pub sends_text : (w w2 new : WorldView) (n task : ℕ) (bytes : List ℕ) (parsed : Parsed) (text : Parses bytes parsed) (plan : Plan) → w2 ≡ with_slots w n → IsPlan w task parsed text.written bytes plan →
+-- the slot that was made, if there was none
+pub slotted : (w w2 : WorldView) → w2 ≡ with_slots w w2.ports.spare → w2.ports.spare ≡ max w.ports.spare 1 → w2 ≡ with_slot w
+slotted w w2 e n = e ∙ ap (with_slots w) n
+
+pub sends_text : (w w2 new : WorldView) (task : ℕ) (bytes : List ℕ) (parsed : Parsed) (text : Parses bytes parsed) (plan : Plan) → w2 ≡ with_slot w → IsPlan w task parsed text.written bytes plan →
     ((p : IsPlan w2 task parsed text.written bytes plan) → Commits w2 task parsed text.written p.plans.judged bytes new) → SendsText w task bytes new
-sends_text w w2 new n task bytes parsed text plan e p =
+sends_text w w2 new task bytes parsed text plan e p =
     subst (λ (x : WorldView). ((q : IsPlan x task parsed text.written bytes plan) → Commits x task parsed text.written q.plans.judged bytes new) → SendsText w task bytes new) (sym e)
-    (λ commits. let q = plan_at w n task parsed text.written bytes plan p in record { slots = n; parsed = parsed; text = text; plans = q.plans; commits = commits q })
+    (λ commits. let q = plan_at w (max w.ports.spare 1) task parsed text.written bytes plan p in record { parsed = parsed; text = text; plans = q.plans; commits = commits q })
 
 -- ---- refused
 
@@ -85,21 +91,18 @@ module _ (w : WorldView) (task : ℕ) (below : task < length w.spaces) (bytes : 
       later (msg_number code) (none_first (header_guards bytes) (λ c first. text.message.unrefused c (inl first))) (λ s sh. inr (text.header, text.written, text.message.spells, inl (ap msg_number is)))
 
   module _ (parsed : Parsed) (text : Parses bytes parsed) where
-    pub plan_declined : (code : ℕ) → CannotPlan w task parsed text.written code → Declines w (Event.Send task bytes) code w
-    plan_declined code h = later code (good_header bytes parsed text) (λ s sh. inr (text.header, text.written, text.message.spells, cannot w s sh task bytes parsed text code h))
+    pub no_memory : Declines w (Event.Send task bytes) (msg_number SendNoBuffer) w
+    no_memory = later (msg_number SendNoBuffer) (good_header bytes parsed text) (λ s sh. inr (text.header, text.written, text.message.spells, inl refl))
 
-    pub slot_declined : (new : WorldView) (n : ℕ) → new ≡ with_slots w n → Declines w (Event.Send task bytes) (msg_number SendNoBuffer) new
-    slot_declined new n e = subst (Declines w (Event.Send task bytes) (msg_number SendNoBuffer)) (sym e) record {
-      refuses = (later (msg_number SendNoBuffer) (good_header bytes parsed text) (λ s sh. inr (text.header, text.written, text.message.spells, inl refl))).refuses;
-      shows = λ s sh. slots_show w s n sh;
-    }
+    pub plan_declined : (code : ℕ) → CannotPlan w task parsed text.written code → Declines w (Event.Send task bytes) code w
+    plan_declined code h = later code (good_header bytes parsed text) (λ s sh. inr (text.header, text.written, text.message.spells, elim (cannot w s sh task bytes parsed text code h) [ inl may ↦ inl may.1 | inr why ↦ inr why ]))
 
   -- ---- done
 
   pub send_done : (new : WorldView) → SendsText w task bytes new → Acts w (Event.Send task bytes) (Reply.Code 0) new
   send_done new d = done w (Event.Send task bytes) (Reply.Code 0) new below record { allowed = λ s sh. good_header bytes d.parsed d.text } (λ now s sh.
-      let start = with_slots w d.slots in
-      let sh2 = slots_show w s d.slots sh in
+      let start = with_slot w in
+      let sh2 = slots_show w s (max w.ports.spare 1) sh in
       let j = d.plans.judged in
       record {
         mid = sent_state start s sh2 now task bytes d.parsed d.text j;
@@ -107,3 +110,9 @@ module _ (w : WorldView) (task : ℕ) (below : task < length w.spaces) (bytes : 
         does = (refl, sends start s sh2 now task bytes d.parsed d.text j d.plans.slot d.plans.few, refl);
         agrees = sent_agrees start s sh2 now task bytes d.parsed d.text j new d.commits;
       })
+
+  pub uses_slot : (new : WorldView) → SendsText w task bytes new → UsesSlot w new
+  uses_slot new d = record {
+    slots = let e : new.ports.spare ≡ max w.ports.spare 1 - 1 = ap (λ (x : WorldView). x.ports.spare) d.commits.rest in omega (arith, e);
+    rooms = λ u. commits_rooms (with_slot w) task d.parsed d.text.written d.plans.judged bytes new d.commits u;
+  }

@@ -1,6 +1,6 @@
 -- A right handed from a task to another: refused in each state that the tables show, or done.
 use Rattle.std.proofs.Common.{◌≡◌, ◌≢◌, ℕ, ◌+◌, ◌<◌, ◌≤◌, List, [], ◌∷◌, ◌++◌, Option, Some, None, refl, sym, ap, subst, ◌∙◌, arith, true, false, Bool, ◌⊎◌, inl, inr, length}
-use Rattle.std.specs.Prelude.{max, if◌then◌else◌, nat_lt, slice_get, ◌==◌, ◌&&◌, MatchBool}
+use Rattle.std.specs.Prelude.{if◌then◌else◌, max, nat_lt, slice_get, ◌==◌, ◌&&◌, MatchBool}
 use Rattle.std.proofs.lemmas.Bool.{lt-ltb, le-ltb, ltb-true, ltb-false}
 use Rattle.mach_types.specs.declared.calls.Event.{Event}
 use Rattle.mach_types.specs.declared.calls.Reply.{Reply}
@@ -16,6 +16,7 @@ use Rattle.mach_model.specs.CopyIn.{CopyRight}
 use Rattle.mach_model.specs.CopyOut.{given_to, NamedOnce, NamedFor}
 use Rattle.mach_model.specs.Refusals.{IsNoName, insert_guards, extract_guards}
 use Rattle.mach_model.specs.Transfer.{target_for, inserted_guards, extracted_guards, pegged, Inserts, Extracts}
+use Rattle.name_space.specs.declared.Entry.{Entry}
 use Rattle.name_space.specs.Names.{SpaceView, IsUsable}
 use Rattle.rights.specs.Ledger.{LedgerView}
 use Rattle.copyin_base.specs.Acts.{Acts, Declines, HasTasks, IsAllowed}
@@ -37,8 +38,9 @@ use Rattle.copyout.specs.Putting.{CanPut, PutsPort}
 use Rattle.copyout.specs.Ready.{CanGive}
 use Rattle.copyout.proofs.Given.{Put, port_put, Given, port_given}
 use Rattle.kernel_core.specs.declared.transfer.Going.{Going}
+use Rattle.kernel_core.specs.declared.transfer.Handed.{Handed}
 use Rattle.kernel_core.specs.declared.transfer.TaskName.{TaskName}
-use Rattle.kernel_core.specs.Transfer.{CanGo, MayInsert, MayExtract, left_at, names_in, fewer_if, names_left, rights_then, under_guards, out_guards, insert_later, extract_later}
+use Rattle.kernel_core.specs.Transfer.{CanGo, WantsName, port_under, going_from, names_needed, MayInsert, MayExtract, left_at, names_in, fewer_if, names_left, rights_then, under_guards, out_guards, insert_later, extract_later}
 use Rattle.kernel_core.proofs.Going.{usable_name, insert_good, extract_good}
 use Rattle.kernel_core.proofs.Judged.{lies, lives, copied_in, sends_are, few, none_inserted, first_inserted, none_extracted, first_extracted}
 use Rattle.kernel_core.proofs.Left.{Left, is_left, went_world, went_left, can_copy}
@@ -102,23 +104,31 @@ module _ (w : WorldView) (task number : ℕ) (g : Going) (goes : CanGo w number 
   extract_short tasks none = refused_later w (Event.ExtractRight from poly number task) tasks (kern_number ResourceShortage) record { allowed = λ s sh. extract_allowed.allowed s sh } (λ s sh.
       (g.port, late s sh, g.given, goes.given, late_copy s sh, inr (none_extracted w s task number g (gone s sh) (late_left s sh) (late_others s sh).others (late_others s sh).parts none, refl)))
 
--- ---- done, in tables with room for a name more
+-- ---- done, in tables where room was made
 
-module _ (w : WorldView) (task number : ℕ) (g : Going) (goes : CanGo w number g) (ready : WorldView) (m : MakesRoom w task 1 ready) where
+-- where the right needs a name more there is room for it
+some_room : {P : Type 0} (is_new : Bool) (room : ℕ) → MatchBool is_new P (¬ P) → P → 0 < max room (if is_new then 1 else 0)
+some_room true room needs p = omega arith
+some_room false room needs p = absurd (needs p)
+
+module _ (w : WorldView) (task number : ℕ) (g : Going) (goes : CanGo w number g) (ready : WorldView) (n : ℕ) (m : MakesRoom w task n ready) where
   same : SameButRoom w ready
-  same = room_made w ready task 1 m
+  same = room_made w ready task n m
 
   goes_ready : CanGo ready number g
   goes_ready = record { given = goes.given; entry = goes.entry; found = room_entry w ready same g.from g.name ∙ goes.found; is = goes.is }
 
   abbrev roomy : SpaceView
-  roomy = record m.space { room = max m.space.room 1 }
+  roomy = record m.space { room = max m.space.room n }
 
   was : slice_get ready.spaces task ≡ Some roomy
   was = ap (λ (x : WorldView). slice_get x.spaces task) m.rest ∙ get-set_same w.spaces task roomy m.space m.there
 
   same_at : left_at ready task g ≡ left_at w task g
   same_at = λ i n. if task == g.from && n == g.name then g.left else room_entry w ready same task n i
+
+  at_same : (n : ℕ) → left_at ready task g n ≡ left_at w task g n
+  at_same n = ap (λ (f : ℕ → Option Entry). f n) same_at
 
   same_names : names_left ready task g ≡ names_left w task g
   same_names = ap (λ (n : ℕ). fewer_if (task == g.from) g.left n) (ap names_in was ∙ sym (ap names_in m.there))
@@ -146,11 +156,11 @@ module _ (w : WorldView) (task number : ℕ) (g : Going) (goes : CanGo w number 
       pub left : Left ready s task number g mid
       left = is_left ready s shows_ready task number g goes_ready roomy was mid copies
 
-      pub mid_puts : (name : ℕ) → IsUsable name → NoneHolds (insert_later w task name g) → CanPut mid task kind g.port name
-      mid_puts name usable none = can_put ready s task number g mid left roomy was (omega arith) name usable (insert_ready name none)
+      pub mid_puts : (name : ℕ) → IsUsable name → (left_at w task g name ≡ None → 0 < max m.space.room n) → NoneHolds (insert_later w task name g) → CanPut mid task kind g.port name
+      mid_puts name usable wide none = can_put ready s task number g mid left roomy was name usable (λ unused. wide (sym (at_same name) ∙ unused)) (insert_ready name none)
 
-      pub mid_gives : NoneHolds (extract_later w task g) → CanGive mid task (record { given = g.given; mark = mark.Port g.port } ∷ [])
-      mid_gives none = can_give ready s task number g mid left roomy was (omega arith) (extract_ready none)
+      pub mid_gives : (WantsName w task g → 0 < max m.space.room n) → NoneHolds (extract_later w task g) → CanGive mid task (record { given = g.given; mark = mark.Port g.port } ∷ [])
+      mid_gives wide none = can_give ready s task number g mid left roomy was (λ wants. wide (subst (λ (f : ℕ → Option Entry). (kind_sent g.given ≡ send_once) ⊎ ((k : ℕ) → port_under (f k) ≢ Some g.port)) same_at wants)) (extract_ready none)
 
       abbrev k : ℕ
       k = length (s.log 0)
@@ -290,90 +300,106 @@ module _ (w : WorldView) (task number : ℕ) (g : Going) (goes : CanGo w number 
 -- ---- what was judged, by where it stands
 
 module _ (w : WorldView) (from : TaskName) (number : ℕ) (g : Going) (from_is : g.from ≡ from.task) (name_is : g.name ≡ from.name) (goes : CanGo w number g) where
-  abbrev at_it : (d : Disposition) (port : ℕ) → Going
-  at_it d port = record { from = from.task; name = from.name; given = d; port = port; left = g.left }
+  is_at : (handed : Handed) → handed.given ≡ g.given → handed.port ≡ g.port → g ≡ going_from from handed g.left
+  is_at handed e f = λ i. record { from = from_is i; name = name_is i; given = sym e i; port = sym f i; left = g.left }
 
-  is_at : (d : Disposition) (port : ℕ) → d ≡ g.given → port ≡ g.port → g ≡ at_it d port
-  is_at d port e f = λ i. record { from = from_is i; name = name_is i; given = sym e i; port = sym f i; left = g.left }
+  abbrev it : Handed
+  it = record { given = g.given; port = g.port; is_new = false }
 
   module _ (to : TaskName) (to_named : ¬ (IsNoName to.name)) (from_named : ¬ (IsNoName from.name)) where
-    pub may_insert : (d : Disposition) (port : ℕ) → d ≡ g.given → port ≡ g.port → NoneHolds (insert_later w to.task to.name g) → MayInsert w to from number d port
-    may_insert d port e f none = record {
-      left = g.left;
-      goes = subst (CanGo w number) (is_at d port e f) goes;
-      to_named = to_named;
-      from_named = from_named;
-      unrefused = subst (λ (x : Going). NoneHolds (insert_later w to.task to.name x)) (is_at d port e f) none;
-    }
+    pub may_insert : (handed : Handed) → handed.given ≡ g.given → handed.port ≡ g.port → NoneHolds (insert_later w to.task to.name g) →
+        MatchBool handed.is_new (left_at w to.task g to.name ≡ None) (left_at w to.task g to.name ≢ None) → MayInsert w to from number handed
+    may_insert handed e f none is_new =
+        let at = is_at handed e f in
+        record {
+          left = g.left;
+          goes = subst (CanGo w number) at goes;
+          to_named = to_named;
+          from_named = from_named;
+          unrefused = subst (λ (x : Going). NoneHolds (insert_later w to.task to.name x)) at none;
+          is_new = subst (λ (x : Going). MatchBool handed.is_new (left_at w to.task x to.name ≡ None) (left_at w to.task x to.name ≢ None)) at is_new;
+        }
 
     pub insert_declined : (to.task < length w.spaces) × (from.task < length w.spaces) → (code : ℕ) → FirstIs (insert_later w to.task to.name g) code →
         Declines w (Event.InsertRight to.task to.name from.task from.name number) code w
     insert_declined tasks code first =
-        let e = is_at g.given g.port refl refl in
-        insert_refused w to.task number (at_it g.given g.port) (subst (CanGo w number) e goes) tasks.0 to.name to_named from_named tasks code
+        let e = is_at it refl refl in
+        insert_refused w to.task number (going_from from it g.left) (subst (CanGo w number) e goes) tasks.0 to.name to_named from_named tasks code
         (subst (λ (x : Going). FirstIs (insert_later w to.task to.name x) code) e first)
 
-  pub may_extract : (to : ℕ) (d : Disposition) (port : ℕ) → d ≡ g.given → port ≡ g.port → NoneHolds (extract_later w to g) → MayExtract w from number to d port
-  may_extract to d port e f none = record {
-    left = g.left;
-    goes = subst (CanGo w number) (is_at d port e f) goes;
-    unrefused = subst (λ (x : Going). NoneHolds (extract_later w to x)) (is_at d port e f) none;
-  }
+  pub may_extract : (to : ℕ) (handed : Handed) → handed.given ≡ g.given → handed.port ≡ g.port → NoneHolds (extract_later w to g) →
+      MatchBool handed.is_new (WantsName w to g) (¬ (WantsName w to g)) → MayExtract w from number to handed
+  may_extract to handed e f none is_new =
+      let at = is_at handed e f in
+      record {
+        left = g.left;
+        goes = subst (CanGo w number) at goes;
+        unrefused = subst (λ (x : Going). NoneHolds (extract_later w to x)) at none;
+        is_new = subst (λ (x : Going). MatchBool handed.is_new (WantsName w to x) (¬ (WantsName w to x))) at is_new;
+      }
 
   pub extract_declined : (to : ℕ) → (from.task < length w.spaces) × (to < length w.spaces) → (code : ℕ) → FirstIs (extract_later w to g) code →
       Declines w (Event.ExtractRight from.task from.name number to) code w
   extract_declined to tasks code first =
-      let e = is_at g.given g.port refl refl in
-      extract_refused w to number (at_it g.given g.port) (subst (CanGo w number) e goes) tasks.1 tasks code (subst (λ (x : Going). FirstIs (extract_later w to x) code) e first)
+      let e = is_at it refl refl in
+      extract_refused w to number (going_from from it g.left) (subst (CanGo w number) e goes) tasks.1 tasks code (subst (λ (x : Going). FirstIs (extract_later w to x) code) e first)
 
 -- ---- the calls, by what was judged and the room that was made
 
-module _ (w : WorldView) (to from : TaskName) (number : ℕ) (given_by : Disposition) (port : ℕ) (may : MayInsert w to from number given_by port) where
+module _ (w : WorldView) (to from : TaskName) (number : ℕ) (handed : Handed) (may : MayInsert w to from number handed) where
   abbrev inserting : Going
-  inserting = record { from = from.task; name = from.name; given = given_by; port = port; left = may.left }
+  inserting = going_from from handed may.left
 
-  pub insert_short_of : (to.task < length w.spaces) × (from.task < length w.spaces) → Declines w (Event.InsertRight to.task to.name from.task from.name number) (kern_number ResourceShortage) w
+  abbrev to_insert : Event
+  to_insert = Event.InsertRight to.task to.name from.task from.name number
+
+  pub insert_short_of : (to.task < length w.spaces) × (from.task < length w.spaces) → Declines w to_insert (kern_number ResourceShortage) w
   insert_short_of tasks = insert_short w to.task number inserting may.goes tasks.0 to.name may.to_named may.from_named tasks may.unrefused
 
-  module _ (ready : WorldView) (room : MakesRoom w to.task 1 ready) where
-    pub inserts_copies : Stands w → CanCopy ready from.task from.name (record { given = given_by; mark = mark.Port port })
-    inserts_copies stands = ready_copies w to.task number inserting may.goes ready room stands.state stands.shown (λ many. may.unrefused.1.1.1.0 (inr many))
+  module _ (ready : WorldView) (n : ℕ) (room : MakesRoom w to.task n ready) where
+    pub inserts_copies : Stands w → CanCopy ready from.task from.name (record { given = handed.given; mark = mark.Port handed.port })
+    inserts_copies stands = ready_copies w to.task number inserting may.goes ready n room stands.state stands.shown (λ many. may.unrefused.1.1.1.0 (inr many))
 
-    module _ (mid : WorldView) (copies : CopiesRight ready from.task given_by from.name (mark.Port port) mid) where
-      pub inserts_puts : Stands w → CanPut mid to.task (kind_sent given_by) port to.name
-      inserts_puts stands = mid_puts w to.task number inserting may.goes ready room stands.state stands.shown mid copies to.name (usable_name to.name may.to_named) may.unrefused
+    module _ (mid : WorldView) (copies : CopiesRight ready from.task handed.given from.name (mark.Port handed.port) mid) where
+      pub inserts_puts : n ≡ names_needed handed → Stands w → CanPut mid to.task (kind_sent handed.given) handed.port to.name
+      inserts_puts as_many stands = mid_puts w to.task number inserting may.goes ready n room stands.state stands.shown mid copies to.name (usable_name to.name may.to_named)
+          (λ unused. subst (λ (k : ℕ). 0 < max room.space.room k) (sym as_many) (some_room handed.is_new room.space.room may.is_new unused)) may.unrefused
 
-      pub insert_done : (new : WorldView) → PutsPort mid to.task (kind_sent given_by) port to.name new → (to.task < length w.spaces) × (from.task < length w.spaces) →
-          Acts w (Event.InsertRight to.task to.name from.task from.name number) (Reply.Code 0) new
-      insert_done new puts tasks = done w (Event.InsertRight to.task to.name from.task from.name number) (Reply.Code 0) new tasks
+      pub insert_done : (new : WorldView) → PutsPort mid to.task (kind_sent handed.given) handed.port to.name new → (to.task < length w.spaces) × (from.task < length w.spaces) →
+          Acts w to_insert (Reply.Code 0) new
+      insert_done new puts tasks = done w to_insert (Reply.Code 0) new tasks
           record { allowed = λ s sh. (insert_allowed w to.task number inserting may.goes tasks.0 to.name may.to_named may.from_named).allowed s sh } (λ now s sh. record {
             mid = _;
             owed = [];
-            does = (refl, inserts w to.task number inserting may.goes ready room s sh mid copies to.name may.unrefused new puts, refl);
-            agrees = insert_agrees w to.task number inserting may.goes ready room s sh mid copies to.name may.unrefused new puts;
+            does = (refl, inserts w to.task number inserting may.goes ready n room s sh mid copies to.name may.unrefused new puts, refl);
+            agrees = insert_agrees w to.task number inserting may.goes ready n room s sh mid copies to.name may.unrefused new puts;
           })
 
-module _ (w : WorldView) (from : TaskName) (number to : ℕ) (given_by : Disposition) (port : ℕ) (may : MayExtract w from number to given_by port) where
+module _ (w : WorldView) (from : TaskName) (number to : ℕ) (handed : Handed) (may : MayExtract w from number to handed) where
   abbrev extracting : Going
-  extracting = record { from = from.task; name = from.name; given = given_by; port = port; left = may.left }
+  extracting = going_from from handed may.left
 
-  pub extract_short_of : (from.task < length w.spaces) × (to < length w.spaces) → Declines w (Event.ExtractRight from.task from.name number to) (kern_number ResourceShortage) w
+  abbrev to_extract : Event
+  to_extract = Event.ExtractRight from.task from.name number to
+
+  pub extract_short_of : (from.task < length w.spaces) × (to < length w.spaces) → Declines w to_extract (kern_number ResourceShortage) w
   extract_short_of tasks = extract_short w to number extracting may.goes tasks.1 tasks may.unrefused
 
-  module _ (ready : WorldView) (room : MakesRoom w to 1 ready) where
-    pub extracts_copies : Stands w → CanCopy ready from.task from.name (record { given = given_by; mark = mark.Port port })
-    extracts_copies stands = ready_copies w to number extracting may.goes ready room stands.state stands.shown (λ many. may.unrefused.0 (inr many))
+  module _ (ready : WorldView) (n : ℕ) (room : MakesRoom w to n ready) where
+    pub extracts_copies : Stands w → CanCopy ready from.task from.name (record { given = handed.given; mark = mark.Port handed.port })
+    extracts_copies stands = ready_copies w to number extracting may.goes ready n room stands.state stands.shown (λ many. may.unrefused.0 (inr many))
 
-    module _ (mid : WorldView) (copies : CopiesRight ready from.task given_by from.name (mark.Port port) mid) where
-      pub extracts_gives : Stands w → CanGive mid to (record { given = given_by; mark = mark.Port port } ∷ [])
-      extracts_gives stands = mid_gives w to number extracting may.goes ready room stands.state stands.shown mid copies may.unrefused
+    module _ (mid : WorldView) (copies : CopiesRight ready from.task handed.given from.name (mark.Port handed.port) mid) where
+      pub extracts_gives : n ≡ names_needed handed → Stands w → CanGive mid to (record { given = handed.given; mark = mark.Port handed.port } ∷ [])
+      extracts_gives as_many stands = mid_gives w to number extracting may.goes ready n room stands.state stands.shown mid copies
+          (λ wants. subst (λ (k : ℕ). 0 < max room.space.room k) (sym as_many) (some_room handed.is_new room.space.room may.is_new wants)) may.unrefused
 
-      pub extract_done : (new_name : ℕ) (new : WorldView) → GivesMark mid to (kind_sent given_by) (mark.Port port) new_name new → (from.task < length w.spaces) × (to < length w.spaces) →
-          Acts w (Event.ExtractRight from.task from.name number to) (Reply.Right new_name (kind_number (kind_sent given_by))) new
-      extract_done new_name new gives tasks = done w (Event.ExtractRight from.task from.name number to) (Reply.Right new_name (kind_number (kind_sent given_by))) new tasks
+      pub extract_done : (new_name : ℕ) (new : WorldView) → GivesMark mid to (kind_sent handed.given) (mark.Port handed.port) new_name new → (from.task < length w.spaces) × (to < length w.spaces) →
+          Acts w to_extract (Reply.Right new_name (kind_number (kind_sent handed.given))) new
+      extract_done new_name new gives tasks = done w to_extract (Reply.Right new_name (kind_number (kind_sent handed.given))) new tasks
           record { allowed = λ s sh. (extract_allowed w to number extracting may.goes tasks.1).allowed s sh } (λ now s sh. record {
             mid = _;
             owed = [];
-            does = (extracts w to number extracting may.goes ready room s sh mid copies may.unrefused new_name new gives, refl);
-            agrees = (given w to number extracting may.goes ready room s sh mid copies may.unrefused new_name new gives).agrees;
+            does = (extracts w to number extracting may.goes ready n room s sh mid copies may.unrefused new_name new gives, refl);
+            agrees = (given w to number extracting may.goes ready n room s sh mid copies may.unrefused new_name new gives).agrees;
           })

@@ -2,3 +2,4 @@ pub mod Answers
 pub mod Transfer
 pub mod Send
 pub mod Receive
+pub mod Wanted

@@ -1,5 +1,5 @@
 -- What receiving takes from, and what it does to the tables.
-use Rattle.std.specs.Prelude.{◌≡◌, ◌≢◌, ℕ, ◌<◌, Bool, [], length, Some, false}
+use Rattle.std.specs.Prelude.{◌≡◌, ◌≢◌, ℕ, ◌+◌, ◌<◌, ◌≤◌, Bool, [], length, max, Option, Some, None, false}
 use Rattle.mach_types.specs.declared.calls.Event.{Event}
 use Rattle.mach_types.specs.declared.calls.Reply.{Reply}
 use Rattle.mach_types.specs.declared.calls.Waited.{Waited}
@@ -7,9 +7,12 @@ use Rattle.mach_types.specs.Guards.{Guards, NoneHolds}
 use Rattle.mach_model.specs.State.{State}
 use Rattle.mach_model.specs.Receive.{waits_for, Receipt, ReceiptRefuses}
 use Rattle.mach_model.specs.Refusals.{again_guards, call_guards}
+use Rattle.name_space.specs.declared.Entry.{Entry}
+use Rattle.name_space.specs.declared.Entry.TheVariants as entry
 use Rattle.port.specs.Ports.{PortView}
 use Rattle.copyin_base.specs.Kept.{Kept}
 use Rattle.copyin_base.specs.Shows.{Agrees, Shows}
+use Rattle.copyin_base.specs.Wanted.{room_of}
 use Rattle.copyin_base.specs.Worlds.{WorldView, port_at}
 
 -- ---- where from, in each state that the tables show
@@ -17,6 +20,13 @@ use Rattle.copyin_base.specs.Worlds.{WorldView, port_at}
 -- the guards of a receive by the name, into whatever room
 abbrev pub named_guards : State → (task name : ℕ) → Guards
 named_guards s task name = call_guards s (Event.Receive task name 0 false)
+
+-- what a receive by a name takes from, by what stands under the name
+abbrev pub waited_at : Entry → Option Waited
+waited_at (entry.Receive p) = Some (Waited.Port p)
+waited_at (entry.ReceiveAndSend p n) = Some (Waited.Port p)
+waited_at (entry.Set set) = Some (Waited.Set set)
+waited_at x = None
 
 -- The name stands for this, which the task may take from.
 pub record Sources (w : WorldView) (task name : ℕ) (waited : Waited) : Type 0 where
@@ -60,6 +70,16 @@ pub record ReceiptOf (s : State) (task : ℕ) (waited : Waited) (room : ℕ) (la
 -- It is answered so, whether a longer message was to stay or not.
 pub record IsReceipt (old : WorldView) (task : ℕ) (waited : Waited) (room : ℕ) (reply : Reply) (new : WorldView) : Type 0 where
   pub receipt : (large : Bool) (s : State) → Shows old s → ReceiptOf s task waited room large reply new
+
+-- how many messages the answer gives
+abbrev pub given_by : Reply → ℕ
+given_by (Reply.Message bytes) = 1
+given_by reply = 0
+
+-- Room for names grows by one at most, from none, and the slot of a message that is given is spare again.
+pub record FreesSlot (old : WorldView) (reply : Reply) (new : WorldView) : Type 0 where
+  pub rooms : (task : ℕ) → room_of new task ≤ max (room_of old task) 1
+  pub slots : new.ports.spare ≡ old.ports.spare + given_by reply
 
 -- A message stays, for want of names or of memory.
 pub record StaysFor (w : WorldView) (task : ℕ) (waited : Waited) (room code : ℕ) : Type 0 where

@@ -1,5 +1,5 @@
 -- Handing a right from a task to another, in the tables: what goes, what is left then, and what refuses it there.
-use Rattle.std.specs.Prelude.{◌≡◌, ◌≢◌, ℕ, ◌+◌, ◌-◌, ◌<◌, ◌≤◌, ◌⊎◌, Bool, [], ◌∷◌, Option, Some, None, slice_get, if◌then◌else◌, ◌==◌, ◌&&◌}
+use Rattle.std.specs.Prelude.{◌≡◌, ◌≢◌, ℕ, ◌+◌, ◌-◌, ◌<◌, ◌≤◌, ◌⊎◌, Bool, [], ◌∷◌, Option, Some, None, slice_get, if◌then◌else◌, ◌==◌, ◌&&◌, MatchBool}
 use Rattle.std.specs.Option.{option_and_then}
 use Rattle.std.specs.FinMap as map
 use Rattle.mach_types.specs.declared.rights.Disposition.{Disposition}
@@ -19,6 +19,7 @@ use Rattle.copyin_base.specs.Worlds.{WorldView, entry_at}
 use Rattle.copyin.specs.Copies.{copied_from}
 use Rattle.copyin.specs.Judging.{made_by_mark}
 use Rattle.kernel_core.specs.declared.transfer.Going.{Going}
+use Rattle.kernel_core.specs.declared.transfer.Handed.{Handed}
 use Rattle.kernel_core.specs.declared.transfer.TaskName.{TaskName}
 
 -- ---- the right that goes
@@ -81,8 +82,8 @@ abbrev pub Overflows : Option Entry → Kind → Type 0
 Overflows entry kind = (kind ≡ send) × (most_references ≤ references_under entry)
 
 -- There is no room for the right, or for its name where that is new.
-abbrev pub LacksRoom : (names rights : ℕ) → (IsNew : Type 0) → Type 0
-LacksRoom names rights IsNew = (most_names ≤ names) × IsNew ⊎ (most_rights < rights)
+abbrev pub LacksSpace : (names rights : ℕ) → (IsNew : Type 0) → Type 0
+LacksSpace names rights IsNew = (most_names ≤ names) × IsNew ⊎ (most_rights < rights)
 
 -- what refuses the right under a name, by what stands under each name, how many names there are, and how many rights
 abbrev pub under_guards : (ℕ → Option Entry) → (names rights name port : ℕ) → Kind → Guards
@@ -90,12 +91,12 @@ under_guards at names rights name p kind =
     (IsElsewhere at name p kind, kern_number RightExists)
     ∷ (IsTaken (at name) p kind, kern_number NameExists)
     ∷ (Overflows (at name) kind, kern_number UrefsOverflow)
-    ∷ (LacksRoom names rights (at name ≡ None), kern_number NoSpace)
+    ∷ (LacksSpace names rights (at name ≡ None), kern_number NoSpace)
     ∷ []
 
 -- what refuses it where the kernel chooses the name
 abbrev pub out_guards : (ℕ → Option Entry) → (names rights port : ℕ) → Kind → Guards
-out_guards at names rights p kind = (LacksRoom names rights ((kind ≡ send_once) ⊎ ((n : ℕ) → port_under (at n) ≢ Some p)), kern_number NoSpace) ∷ []
+out_guards at names rights p kind = (LacksSpace names rights ((kind ≡ send_once) ⊎ ((n : ℕ) → port_under (at n) ≢ Some p)), kern_number NoSpace) ∷ []
 
 abbrev pub insert_later : WorldView → (task name : ℕ) → Going → Guards
 insert_later w task name g = under_guards (left_at w task g) (names_left w task g) (rights_then w g) name g.port (kind_sent g.given)
@@ -103,16 +104,32 @@ insert_later w task name g = under_guards (left_at w task g) (names_left w task 
 abbrev pub extract_later : WorldView → (task : ℕ) → Going → Guards
 extract_later w task g = out_guards (left_at w task g) (names_left w task g) (rights_then w g) g.port (kind_sent g.given)
 
--- A right for the port may be inserted so, where there is memory.
-pub record MayInsert (w : WorldView) (to from : TaskName) (number : ℕ) (given : Disposition) (port : ℕ) : Type 0 where
+-- ---- what may be handed on
+
+-- the right that goes so from a name, where this is left under it
+abbrev pub going_from : TaskName → Handed → (left : Option Entry) → Going
+going_from from handed left = record { from = from.task; name = from.name; given = handed.given; port = handed.port; left = left }
+
+-- how many names more it needs
+abbrev pub names_needed : Handed → ℕ
+names_needed handed = if handed.is_new then 1 else 0
+
+-- Where the kernel chooses the name, the right wants one of its own.
+abbrev pub WantsName : WorldView → (task : ℕ) → Going → Type 0
+WantsName w task g = (kind_sent g.given ≡ send_once) ⊎ ((n : ℕ) → port_under (left_at w task g n) ≢ Some g.port)
+
+-- The right may be inserted so, where there is memory.
+pub record MayInsert (w : WorldView) (to from : TaskName) (number : ℕ) (handed : Handed) : Type 0 where
   pub left : Option Entry
-  pub goes : CanGo w number (record { from = from.task; name = from.name; given = given; port = port; left = left })
+  pub goes : CanGo w number (going_from from handed left)
   pub to_named : ¬ (IsNoName to.name)
   pub from_named : ¬ (IsNoName from.name)
-  pub unrefused : NoneHolds (insert_later w to.task to.name (record { from = from.task; name = from.name; given = given; port = port; left = left }))
+  pub unrefused : NoneHolds (insert_later w to.task to.name (going_from from handed left))
+  pub is_new : MatchBool handed.is_new (left_at w to.task (going_from from handed left) to.name ≡ None) (left_at w to.task (going_from from handed left) to.name ≢ None)
 
--- A right for the port may be extracted so, where there is memory.
-pub record MayExtract (w : WorldView) (from : TaskName) (number to : ℕ) (given : Disposition) (port : ℕ) : Type 0 where
+-- The right may be extracted so, where there is memory.
+pub record MayExtract (w : WorldView) (from : TaskName) (number to : ℕ) (handed : Handed) : Type 0 where
   pub left : Option Entry
-  pub goes : CanGo w number (record { from = from.task; name = from.name; given = given; port = port; left = left })
-  pub unrefused : NoneHolds (extract_later w to (record { from = from.task; name = from.name; given = given; port = port; left = left }))
+  pub goes : CanGo w number (going_from from handed left)
+  pub unrefused : NoneHolds (extract_later w to (going_from from handed left))
+  pub is_new : MatchBool handed.is_new (WantsName w to (going_from from handed left)) (¬ (WantsName w to (going_from from handed left)))

@@ -1,13 +1,15 @@
 //! A kernel, and its steps.
 ghost use Rattle.std.specs.Prelude.{◌≡◌, ◌++◌, IfOk, IfErr, MatchBool};
 ghost use Rattle.std.specs.Option.{option_to_list};
+ghost use Rattle.mach_types.specs.declared.codes.KernReturn.TheVariants as kern;
 ghost use Rattle.mach_types.specs.Numbers.{kern_number};
 ghost use Rattle.mach_model.specs.State.{opening};
 ghost use Rattle.mach_model.specs.Refusals.{tasks_of};
-ghost use Rattle.copyin_base.specs.Acts.{AreTasks, HasTasks, Declines, Serves};
+ghost use Rattle.copyin_base.specs.Acts.{AreTasks, HasTasks, Declines};
 ghost use Rattle.copyin_base.specs.Shows.{Shows};
 ghost use Rattle.copyin_base.specs.Stands.{Stands};
 ghost use Rattle.kernel_core.specs.Answers.{Answers};
+ghost use Rattle.kernel_core.specs.Wanted.{Wanted, Spares, Performs};
 
 use crate::receive::{Buffer, receive, receive_again};
 use crate::send::send;
@@ -57,7 +59,8 @@ impl Model for Kernel {
 impl Kernel {
     /// A kernel in which nothing was made yet. Takes no memory.
     pub fn new(alloc: Global) -> Kernel
-        ensures { Shows result opening }
+        ensures shows { Shows result opening }
+        ensures none { result.ports.spare ≡ 0 }
     {
         Kernel {
             alloc,
@@ -68,9 +71,13 @@ impl Kernel {
     /// Makes one call of a task, whole, and answers it.
     ///
     /// A refusal is answered by its code and leaves the state that the kernel shows; so is want of
-    /// memory. Room for names and messages that was made first may stay.
+    /// memory, which is answered only where the call may want some: `specs/Wanted` says where. Room for
+    /// one name that was made first may stay. A message slot is made only where none is spare and a
+    /// message is accepted, and is spare again once the message was received.
     pub fn step(&mut self, event: &Event) -> Reply
-        ensures { Answers self.old event.now result self.new }
+        ensures answers { Answers self.old event.now result self.new }
+        ensures wanted { Wanted self.old event.now result }
+        ensures spares { Spares self.old event.now result self.new }
     {
         match act(&mut self.world, self.alloc, event) {
             Ok(reply) => {
@@ -87,7 +94,7 @@ impl Kernel {
 /// `KERN_INVALID_TASK` where a task that it names doesn't live; then as the call.
 fn act(world: &mut World, alloc: Global, event: &Event) -> Result<Reply, Code>
     requires { Stands world.old }
-    ensures { Serves world.old event.now result world.new }
+    ensures { Performs world.old event.now result world.new }
 {
     check_tasks(world, event)?;
     serve(world, alloc, event)
@@ -96,7 +103,7 @@ fn act(world: &mut World, alloc: Global, event: &Event) -> Result<Reply, Code>
 /// Whether the tasks that the call names live: `KERN_INVALID_TASK` where one doesn't. Constant time.
 fn check_tasks(world: &World, event: &Event) -> Result<(), KernReturn>
     ensures ok { IfOk result (λ _. HasTasks world.now event.now) }
-    ensures err { IfErr result (λ code. Declines world.now event.now (kern_number code) world.now) }
+    ensures err { IfErr result (λ code. (code ≡ kern.InvalidTask) × Declines world.now event.now (kern_number code) world.now) }
 {
     let (task, other) = tasks_of(event);
     if lives(world, task) && lives(world, other) {
@@ -150,7 +157,7 @@ fn tasks_of(event: &Event) -> (Option<TaskId>, Option<TaskId>)
 fn serve(world: &mut World, alloc: Global, event: &Event) -> Result<Reply, Code>
     requires there { HasTasks world.old event.now }
     requires stands { Stands world.old }
-    ensures { Serves world.old event.now result world.new }
+    ensures { Performs world.old event.now result world.new }
 {
     match event {
         Event::TaskCreate => create_task(world, alloc),

@@ -1,14 +1,17 @@
 //! Receiving a message.
-ghost use Rattle.std.specs.Prelude.{◌≡◌, ℕ, ◌<◌, Bool, true, IfOk, IfErr, MatchBool, MatchOption, is_some, length};
+ghost use Rattle.std.specs.Prelude.{◌≡◌, ℕ, ◌<◌, Bool, true, Some, IfOk, IfErr, MatchBool, MatchOption, is_some, length};
+ghost use Rattle.std.specs.Option.{option_and_then};
+ghost use Rattle.mach_types.specs.declared.codes.MsgReturn.TheVariants as msg;
 ghost use Rattle.mach_types.specs.declared.calls.Event.{Event as AnyEvent};
 ghost use Rattle.mach_types.specs.declared.calls.Waited.TheVariants as AnyWaited;
 ghost use Rattle.mach_types.specs.Numbers.{msg_number};
 ghost use Rattle.mach_model.specs.Refusals.{again_guards};
-ghost use Rattle.copyin_base.specs.Acts.{Serves, IsRefused, IsAllowed};
+ghost use Rattle.copyin_base.specs.Acts.{code_number, Serves, IsRefused, IsAllowed};
 ghost use Rattle.copyin_base.specs.Finds.{FindsReceive};
 ghost use Rattle.copyin_base.specs.Stands.{Stands};
-ghost use Rattle.copyin_base.specs.Worlds.{port_at};
-ghost use Rattle.kernel_core.specs.Receive.{named_guards, Sources, IsMember, IsAlone, HasMessage, NoneWaits, IsReceipt, StaysFor};
+ghost use Rattle.copyin_base.specs.Worlds.{entry_at, port_at};
+ghost use Rattle.kernel_core.specs.Receive.{named_guards, Sources, IsMember, IsAlone, HasMessage, NoneWaits, IsReceipt, StaysFor, waited_at, FreesSlot};
+ghost use Rattle.kernel_core.specs.Wanted.{WantsToTake, WantsMemory, Spares, answer};
 
 use copyin_base::{Code, World};
 use copyout::Refusal;
@@ -50,7 +53,9 @@ pub(crate) fn receive(
 ) -> Result<Reply, Code>
     requires there { task < length world.old.spaces }
     requires stands { Stands world.old }
-    ensures { Serves world.old (AnyEvent.Receive task name buffer.room buffer.large) result world.new }
+    ensures serves { Serves world.old (AnyEvent.Receive task name buffer.room buffer.large) result world.new }
+    ensures wanted { IfErr result (λ code. code_number code ≡ msg_number msg.ReceiveBodyErrorMemory → WantsMemory world.old (AnyEvent.Receive task name buffer.room buffer.large)) }
+    ensures spares { Spares world.old (AnyEvent.Receive task name buffer.room buffer.large) (answer result) world.new }
 {
     let waited = source(world, task, name)?;
     Ok(take(world, alloc, task, waited, buffer.room)?)
@@ -72,7 +77,9 @@ pub(crate) fn receive_again(
 ) -> Result<Reply, Code>
     requires there { task < length world.old.spaces }
     requires stands { Stands world.old }
-    ensures { Serves world.old (AnyEvent.ReceiveAgain task waited buffer.room buffer.large) result world.new }
+    ensures serves { Serves world.old (AnyEvent.ReceiveAgain task waited buffer.room buffer.large) result world.new }
+    ensures wanted { IfErr result (λ code. code_number code ≡ msg_number msg.ReceiveBodyErrorMemory → WantsToTake world.old task waited) }
+    ensures spares { Spares world.old (AnyEvent.ReceiveAgain task waited buffer.room buffer.large) (answer result) world.new }
 {
     judge_again(world, task, &waited)?;
     Ok(take(world, alloc, task, waited, buffer.room)?)
@@ -85,6 +92,7 @@ pub(crate) fn receive_again(
 fn source(world: &World, task: TaskId, name: Name) -> Result<Waited, MsgReturn>
     requires { Stands world.now }
     ensures ok { IfOk result (λ waited. Sources world.now task name waited) }
+    ensures found { IfOk result (λ waited. option_and_then waited_at (entry_at world.now task name) ≡ Some waited) }
     ensures err { IfErr result (λ code. IsRefused world.now (λ s. named_guards s task name) (msg_number code)) }
 {
     let Some(entry) = world.lookup(task, name) else {
@@ -185,6 +193,8 @@ fn take(
     requires may { IsAllowed world.old (λ s. again_guards s task waited) }
     ensures ok { IfOk result (λ reply. IsReceipt world.old task waited room reply world.new) }
     ensures err { IfErr result (λ code. (world.new ≡ world.old) × StaysFor world.old task waited room (msg_number code)) }
+    ensures wanted { IfErr result (λ code. msg_number code ≡ msg_number msg.ReceiveBodyErrorMemory → WantsToTake world.old task waited) }
+    ensures spares { IfOk result (λ reply. FreesSlot world.old reply world.new) }
 {
     let Some(port) = ready(world, &waited) else {
         return Ok(Reply::Empty(waited));

@@ -3,6 +3,7 @@ ghost use Rattle.std.specs.Prelude.{IfOk};
 ghost use Rattle.mach_model.specs.State.{State};
 ghost use Rattle.mach_model.specs.Machine.{Run};
 ghost use Rattle.mach_laws.specs.Headline.{Headline};
+ghost use Rattle.mach_laws.specs.Queued.{SlotsWithin};
 ghost use Rattle.copyin_base.specs.Shows.{Shows};
 
 use crate::kernel::Kernel;
@@ -12,12 +13,15 @@ use std::alloc::{AllocError, Global};
 /// Makes these calls on a new kernel, one after another, and gives the kernel that they leave with
 /// their answers in order. They are a run of the machine, to a state that the kernel shows, and all is
 /// true of it that `mach_laws`' `Headline` says: what received messages mean, in which order they come,
-/// and that each live port has one receive right.
+/// and that each live port has one receive right. The kernel's spare message slots and its queued
+/// messages are together at most one more than there were ever messages queued before a call
+/// (`SlotsWithin`).
 ///
 /// An error means that memory for the list of answers was refused. Where a step is refused memory,
 /// that is its answer, and the run goes on.
 pub fn run(alloc: Global, events: Vec<Event>) -> Result<(Kernel, Vec<Reply>), AllocError>
-    ensures { IfOk result (λ done. (s : State) × Run events.items done.1.items s × Headline events.items done.1.items s × Shows done.0 s) }
+    ensures { IfOk result (λ done. (s : State) × Run events.items done.1.items s × Shows done.0 s
+        × (h : Headline events.items done.1.items s) × SlotsWithin done.0.ports.spare h.stages s) }
 {
     let mut kernel = Kernel::new(alloc);
     let mut replies = Vec::new(alloc);

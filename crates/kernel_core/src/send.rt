@@ -1,10 +1,12 @@
 //! Sending a message.
-ghost use Rattle.std.specs.Prelude.{◌≡◌, ◌<◌, IfOk, IfErr, length};
+ghost use Rattle.std.specs.Prelude.{◌≡◌, ◌<◌, IfOk, IfErr, OnOk, OnErr, length};
 ghost use Rattle.mach_types.specs.declared.calls.Event.{Event as AnyEvent};
+ghost use Rattle.mach_types.specs.declared.codes.MsgReturn.TheVariants.{SendNoBuffer};
 ghost use Rattle.mach_types.specs.Numbers.{msg_number};
-ghost use Rattle.copyin_base.specs.Acts.{Declines, Serves};
+ghost use Rattle.copyin_base.specs.Acts.{Declines, Serves, code_number};
 ghost use Rattle.copyin_base.specs.Stands.{Stands};
-ghost use Rattle.kernel_core.specs.Send.{SendsText};
+ghost use Rattle.copyin.specs.Wanted.{WantsToSend};
+ghost use Rattle.kernel_core.specs.Send.{SendsText, UsesSlot};
 
 use copyin::{check, commit};
 use copyin_base::{Code, World};
@@ -13,11 +15,11 @@ use message_codec::parse;
 use std::alloc::Global;
 
 /// `Send` (IPC Interface, `mach_msg` with `MACH_SEND_MSG`). The task lives. A refusal leaves all as it
-/// was but for spare message slots.
+/// was.
 ///
 /// Errors, of which the first is answered: those of the text, as [`message_codec::parse`]; those of its
 /// rights and of the message as a whole, as [`copyin::check`]; `MACH_SEND_NO_BUFFER` where memory was
-/// refused. Linear in the message, and logarithmic in the names and ports for each right.
+/// refused for a slot in the queue. Linear in the message, and logarithmic in the names and ports for each right.
 pub(crate) fn send(
     world: &mut World,
     alloc: Global,
@@ -26,7 +28,12 @@ pub(crate) fn send(
 ) -> Result<Reply, Code>
     requires there { task < length world.old.spaces }
     requires stands { Stands world.old }
-    ensures { Serves world.old (AnyEvent.Send task bytes.now) result world.new }
+    ensures serves { Serves world.old (AnyEvent.Send task bytes.now) result world.new }
+    ensures sent { OnOk result (UsesSlot world.old world.new) }
+    ensures refused { OnErr result (world.new ≡ world.old) }
+
+    // Memory is wanted only where the message could be sent, or isn't short.
+    ensures wanted { IfErr result (λ code. code_number code ≡ msg_number SendNoBuffer → WantsToSend world.old task bytes.now) }
 {
     send_text(world, alloc, task, bytes.as_slice())?;
     Ok(Reply::Code(MsgReturn::Success.number()))
@@ -37,13 +44,15 @@ fn send_text(world: &mut World, alloc: Global, task: TaskId, bytes: &[u8]) -> Re
     requires there { task < length world.old.spaces }
     requires stands { Stands world.old }
     ensures ok { IfOk result (λ _. SendsText world.old task bytes.now world.new) }
-    ensures err { IfErr result (λ code. Declines world.old (AnyEvent.Send task bytes.now) (msg_number code) world.new) }
+    ensures err { IfErr result (λ code. Declines world.old (AnyEvent.Send task bytes.now) (msg_number code) world.old) }
+    ensures refused { OnErr result (world.new ≡ world.old) }
+    ensures wanted { IfErr result (λ code. msg_number code ≡ msg_number SendNoBuffer → WantsToSend world.old task bytes.now) }
 {
     let parsed = parse(alloc, bytes)?;
     let plan = check(world, alloc, task, parsed, bytes)?;
-    if world.reserve_slot().is_err() {
+    let Ok(()) = world.reserve_slot() else {
         return Err(MsgReturn::SendNoBuffer);
-    }
+    };
     commit(world, plan);
     Ok(())
 }

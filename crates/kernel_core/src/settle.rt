@@ -1,5 +1,5 @@
 //! The end of a step.
-ghost use Rattle.std.specs.Prelude.{ℕ};
+ghost use Rattle.std.specs.Prelude.{◌≡◌, ℕ};
 ghost use Rattle.mach_model.specs.State.{State};
 ghost use Rattle.mach_model.specs.Notices.{Owed};
 ghost use Rattle.mach_model.specs.Settles.{Settles};
@@ -13,6 +13,7 @@ use copyin_base::World;
 ///
 /// Takes no memory, and can't fail.
 pub(crate) fn settle(world: &mut World)
-    ensures { (now : ℕ) (old mid : State) (owed : Owed) → ShowsMid world.old mid owed
+    ensures settles { (now : ℕ) (old mid : State) (owed : Owed) → ShowsMid world.old mid owed
         → (new : State) × Settles now old mid owed new × Shows world.new new }
+    ensures same { world.new ≡ world.old }
 {}

@@ -6,10 +6,12 @@ ghost use Rattle.mach_types.specs.Guards.{FirstIs, NoneHolds};
 ghost use Rattle.mach_types.specs.Numbers.{disposition, kind_sent, kern_number, most_names, most_references, most_rights};
 ghost use Rattle.mach_types.specs.Tokens.{send};
 ghost use Rattle.mach_model.specs.Refusals.{IsNoName, insert_guards, extract_guards};
-ghost use Rattle.copyin_base.specs.Acts.{Declines, Serves, IsRefused};
+ghost use Rattle.copyin_base.specs.Acts.{code_number, Declines, Serves, IsRefused};
 ghost use Rattle.copyin_base.specs.Stands.{Stands};
+ghost use Rattle.copyin_base.specs.Wanted.{KeepsSpares};
 ghost use Rattle.copyin_base.specs.declared.message.Mark.TheVariants as mark_of;
-ghost use Rattle.kernel_core.specs.Transfer.{CanGo, MayInsert, MayExtract, going_guards, left_at, names_left, rights_then, port_under, references_under, IsElsewhere, IsTaken, Overflows, LacksRoom, insert_later, extract_later};
+ghost use Rattle.kernel_core.specs.Transfer.{CanGo, MayInsert, MayExtract, WantsName, names_needed, going_guards, left_at, names_left, rights_then, port_under, references_under, IsElsewhere, IsTaken, Overflows, LacksSpace, insert_later, extract_later};
+ghost use Rattle.kernel_core.specs.Wanted.{WantsToInsert, WantsToExtract};
 
 use copyin::{copy_name, copy_right};
 use copyin_base::{Carried, Code, Mark, World};
@@ -46,8 +48,9 @@ impl TaskName {
 /// `INVALID_NAME` where nothing stands under it; `INVALID_RIGHT` where it lacks the right;
 /// `RIGHT_EXISTS` where the task has the port under another name; `NAME_EXISTS` where something else
 /// stands under the name; `UREFS_OVERFLOW` at 65,535 references; `NO_SPACE` at 65,535 names or
-/// 4,294,967,295 rights; `RESOURCE_SHORTAGE` where memory was refused. Logarithmic in the names and
-/// ports, but for a move of 16 bytes for each greater name.
+/// 4,294,967,295 rights; `RESOURCE_SHORTAGE` where it needs a name for which the task has no room, and
+/// memory was refused. Logarithmic in the names and ports, but for a move of 16 bytes for each greater
+/// name.
 pub(crate) fn insert(
     world: &mut World,
     to: &TaskName,
@@ -56,10 +59,13 @@ pub(crate) fn insert(
 ) -> Result<Reply, Code>
     requires there { (to.now.task < length world.old.spaces) × (from.now.task < length world.old.spaces) }
     requires stands { Stands world.old }
-    ensures { Serves world.old (AnyEvent.InsertRight to.now.task to.now.name from.now.task from.now.name number) result world.new }
+    ensures serves { Serves world.old (AnyEvent.InsertRight to.now.task to.now.name from.now.task from.now.name number) result world.new }
+    ensures wanted { IfErr result (λ code. code_number code ≡ kern_number kern.ResourceShortage → WantsToInsert world.old to.now from.now number) }
+    ensures spares { KeepsSpares world.old world.new }
 {
-    let (given, port) = judge_insert(world, to, from, number)?;
-    world.reserve_name(to.task)?;
+    let handed = judge_insert(world, to, from, number)?;
+    world.reserve_names(to.task, handed.count_names())?;
+    let Handed { given, port, .. } = handed;
     let mark = Mark::Port(port);
     copy_name(world, from.task, from.name, Carried { given, mark });
     put_right(world, to.task, given, port, to.name);
@@ -84,10 +90,13 @@ pub(crate) fn extract(
 ) -> Result<Reply, Code>
     requires there { (from.now.task < length world.old.spaces) × (to < length world.old.spaces) }
     requires stands { Stands world.old }
-    ensures { Serves world.old (AnyEvent.ExtractRight from.now.task from.now.name number to) result world.new }
+    ensures serves { Serves world.old (AnyEvent.ExtractRight from.now.task from.now.name number to) result world.new }
+    ensures wanted { IfErr result (λ code. code_number code ≡ kern_number kern.ResourceShortage → WantsToExtract world.old from.now number to) }
+    ensures spares { KeepsSpares world.old world.new }
 {
-    let (given, port) = judge_extract(world, from, number, to)?;
-    world.reserve_name(to)?;
+    let handed = judge_extract(world, from, number, to)?;
+    world.reserve_names(to, handed.count_names())?;
+    let Handed { given, port, .. } = handed;
     let mark = Mark::Port(port);
     let carried = Carried { given, mark };
     copy_name(world, from.task, from.name, carried);
@@ -96,6 +105,26 @@ pub(crate) fn extract(
 }
 
 // ---- the right that goes
+
+/// How a right may be handed on.
+#[derive(Clone, Copy)]
+struct Handed {
+    /// By which disposition it goes.
+    given: Disposition,
+    /// What it is a right for.
+    port: PortId,
+    /// Whether it needs a name more of the task that it comes to, once it was copied in.
+    is_new: bool,
+}
+
+impl Handed {
+    /// How many names more it needs.
+    fn count_names(&self) -> usize
+        ensures { result ≡ names_needed self.now }
+    {
+        usize::from(self.is_new)
+    }
+}
 
 /// A right that goes from a name.
 #[derive(Clone, Copy)]
@@ -118,10 +147,12 @@ fn judge_insert(
     to: &TaskName,
     from: &TaskName,
     number: u32,
-) -> Result<(Disposition, PortId), KernReturn>
+) -> Result<Handed, KernReturn>
     requires there { (to.now.task < length world.now.spaces) × (from.now.task < length world.now.spaces) }
-    ensures ok { IfOk result (λ r. MayInsert world.now to.now from.now number r.0 r.1) }
+    requires stands { Stands world.now }
+    ensures ok { IfOk result (λ handed. MayInsert world.now to.now from.now number handed) }
     ensures err { IfErr result (λ code. Declines world.now (AnyEvent.InsertRight to.now.task to.now.name from.now.task from.now.name number) (kern_number code) world.now) }
+    ensures early { IfErr result (λ code. kern_number code ≢ kern_number kern.ResourceShortage) }
 {
     match &may_insert(world, to, from, number) {
         Ok(going) => going.check_insert(world, to.task, to.name),
@@ -135,10 +166,12 @@ fn judge_extract(
     from: &TaskName,
     number: u32,
     to: TaskId,
-) -> Result<(Disposition, PortId), KernReturn>
+) -> Result<Handed, KernReturn>
     requires there { (from.now.task < length world.now.spaces) × (to < length world.now.spaces) }
-    ensures ok { IfOk result (λ r. MayExtract world.now from.now number to r.0 r.1) }
+    requires stands { Stands world.now }
+    ensures ok { IfOk result (λ handed. MayExtract world.now from.now number to handed) }
     ensures err { IfErr result (λ code. Declines world.now (AnyEvent.ExtractRight from.now.task from.now.name number to) (kern_number code) world.now) }
+    ensures early { IfErr result (λ code. kern_number code ≢ kern_number kern.ResourceShortage) }
 {
     match &may_extract(world, from, number) {
         Ok(going) => going.check_extract(world, to),
@@ -306,23 +339,30 @@ impl Going {
     }
 
     /// Whether there is no room for the right, or for the name where it is new.
-    fn lacks_room(&self, world: &World, task: TaskId, is_new: bool) -> bool
+    fn lacks_space(&self, world: &World, task: TaskId, is_new: bool) -> bool
         requires there { task < length world.now.spaces }
-        ensures { MatchBool result (LacksRoom (names_left world.now task self.now) (rights_then world.now self.now) (is_new ≡ true)) (¬ (LacksRoom (names_left world.now task self.now) (rights_then world.now self.now) (is_new ≡ true))) }
+        ensures { MatchBool result (LacksSpace (names_left world.now task self.now) (rights_then world.now self.now) (is_new ≡ true)) (¬ (LacksSpace (names_left world.now task self.now) (rights_then world.now self.now) (is_new ≡ true))) }
     {
         is_new && self.count_left(world, task) >= MOST_NAMES || self.lacks_rights(world)
     }
 
+    /// How it may be handed on.
+    fn handed(&self, is_new: bool) -> Handed
+        ensures { result ≡ record { given = self.now.given; port = self.now.port; is_new = is_new } }
+    {
+        Handed {
+            given: self.given,
+            port: self.port,
+            is_new,
+        }
+    }
+
     /// Whether it can come under this name.
-    fn check_insert(
-        &self,
-        world: &World,
-        task: TaskId,
-        name: Name,
-    ) -> Result<(Disposition, PortId), KernReturn>
+    fn check_insert(&self, world: &World, task: TaskId, name: Name) -> Result<Handed, KernReturn>
         requires there { task < length world.now.spaces }
         requires goes { (number : ℕ) × CanGo world.now number self.now }
-        ensures ok { IfOk result (λ r. (r.0 ≡ self.now.given) × (r.1 ≡ self.now.port) × NoneHolds (insert_later world.now task name self.now)) }
+        ensures ok { IfOk result (λ handed. (handed.given ≡ self.now.given) × (handed.port ≡ self.now.port) × NoneHolds (insert_later world.now task name self.now)
+            × MatchBool handed.is_new (left_at world.now task self.now name ≡ None) (left_at world.now task self.now name ≢ None)) }
         ensures err { IfErr result (λ code. FirstIs (insert_later world.now task name self.now) (kern_number code)) }
     {
         let entry = self.entry_left(world, task, name);
@@ -335,24 +375,26 @@ impl Going {
         if self.overflows(&entry) {
             return Err(KernReturn::UrefsOverflow);
         }
-        if self.lacks_room(world, task, entry.is_none()) {
+        let is_new = entry.is_none();
+        if self.lacks_space(world, task, is_new) {
             return Err(KernReturn::NoSpace);
         }
-        Ok((self.given, self.port))
+        Ok(self.handed(is_new))
     }
 
     /// Whether it can come to the task, under a name that the kernel chooses.
-    fn check_extract(&self, world: &World, to: TaskId) -> Result<(Disposition, PortId), KernReturn>
+    fn check_extract(&self, world: &World, to: TaskId) -> Result<Handed, KernReturn>
         requires there { to < length world.now.spaces }
         requires goes { (number : ℕ) × CanGo world.now number self.now }
-        ensures ok { IfOk result (λ r. (r.0 ≡ self.now.given) × (r.1 ≡ self.now.port) × NoneHolds (extract_later world.now to self.now)) }
+        ensures ok { IfOk result (λ handed. (handed.given ≡ self.now.given) × (handed.port ≡ self.now.port) × NoneHolds (extract_later world.now to self.now)
+            × MatchBool handed.is_new (WantsName world.now to self.now) (¬ (WantsName world.now to self.now))) }
         ensures err { IfErr result (λ code. FirstIs (extract_later world.now to self.now) (kern_number code)) }
     {
         let is_new = self.given.is_send_once() || self.name_left(world, to).is_none();
-        if self.lacks_room(world, to, is_new) {
+        if self.lacks_space(world, to, is_new) {
             return Err(KernReturn::NoSpace);
         }
-        Ok((self.given, self.port))
+        Ok(self.handed(is_new))
     }
 }
 

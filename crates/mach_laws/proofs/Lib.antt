@@ -17,9 +17,9 @@ mod Naming
 mod Grouped
 mod SendCodes
 mod Reordered
-mod Refusing
+pub mod Refusing
 mod Giving
-mod Spelled
+pub mod Spelled
 mod Excluding
 mod Measured
 mod Rising

@@ -36,8 +36,8 @@ impl TaskId {
 /// A number by which a task names a right (Port Manipulation Interface, `mach_port_t`).
 ///
 /// Any 32-bit number can stand here. Two of them are never names of rights: [`Name::NULL`] and
-/// [`Name::DEAD`].
-#[derive(Clone, Copy, Debug, PartialEq, Eq)]
+/// [`Name::DEAD`]. The default is the null name.
+#[derive(Clone, Copy, Debug, Default, PartialEq, Eq)]
 pub struct Name(u32);
 
 impl Model for Name {

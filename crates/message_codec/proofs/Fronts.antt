@@ -1,6 +1,6 @@
 -- What stands at the front of a descriptor's text.
-use Rattle.std.proofs.Common.{◌≡◌, ◌≢◌, ℕ, ◌+◌, ◌*◌, ◌/◌, ◌%◌, ◌^◌, ◌<◌, ◌≤◌, ◌⊎◌, inl, inr, List, [], ◌∷◌, ◌++◌, length, refl, sym, ap, subst, ◌∙◌, arith, length-append}
-use Rattle.mach_types.specs.Grammar.{word, half, descriptor_text, FitsForm, NamesPorts}
+use Rattle.std.proofs.Common.{◌≡◌, ℕ, ◌+◌, ◌*◌, ◌/◌, ◌%◌, ◌^◌, ◌<◌, inl, inr, List, ◌++◌, length, refl, sym, ◌∙◌, arith}
+use Rattle.mach_types.specs.Grammar.{descriptor_text, FitsForm, NamesPorts}
 use Rattle.mach_types.specs.Messages.{Form, short, long}
 use Rattle.mach_types.specs.TextGuards.{BadType, DescriptorFields, IsDescriptorLength, is_bit, word_at}
 use Rattle.type_descriptor.specs.Describes.{form_length}

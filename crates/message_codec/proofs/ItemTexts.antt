@@ -1,22 +1,19 @@
 -- The item that stands behind a descriptor which was read.
-use Rattle.std.proofs.Common.{◌≡◌, ◌≢◌, ℕ, zero, suc, ◌+◌, ◌-◌, ◌*◌, ◌/◌, ◌%◌, ◌^◌, ◌<◌, ◌≤◌, ◌⊎◌, inl, inr, Bool, true, false, Option, Some, None, List, [], ◌∷◌, ◌++◌, length, take, drop, get_or, refl, sym, ap, subst, ◌∙◌, arith, length-append, append_assoc, All}
+use Rattle.std.proofs.Common.{◌≡◌, ℕ, zero, suc, ◌+◌, ◌-◌, ◌*◌, ◌/◌, ◌%◌, ◌^◌, ◌<◌, ◌≤◌, inl, inr, Bool, true, false, Option, Some, None, List, [], ◌∷◌, ◌++◌, length, take, drop, refl, sym, ap, subst, ◌∙◌, arith, length-append, append_assoc, All}
 use Rattle.std.proofs.lemmas.Bool.{cases_eq}
 use Rattle.std.proofs.lemmas.List.{drop_at, drop-drop, take-append-drop, length-drop, length-take-le, get_or-drop}
-use Rattle.std.specs.Option.{option_to_list}
 use Rattle.mach_types.specs.declared.codes.MsgReturn.TheVariants.{SendMsgTooSmall}
-use Rattle.mach_types.specs.Guards.{FirstIs}
 use Rattle.mach_types.specs.Numbers.{msg_number}
-use Rattle.mach_types.specs.Grammar.{word, words_text, Wire, data_item, port_item, wire_text, IsWire, descriptor_text, FitsForm, NamesPorts}
-use Rattle.mach_types.specs.Messages.{Form, short, long}
-use Rattle.mach_types.specs.TextGuards.{DescriptorFields, IsDescriptorLength, ItemRefuses, descriptor_guards, item_guards, BadType, is_bit, word_at, data_length}
+use Rattle.mach_types.specs.Grammar.{word, words_text, data_item, port_item, descriptor_text, NamesPorts}
+use Rattle.mach_types.specs.TextGuards.{IsDescriptorLength, ItemRefuses, word_at, data_length}
 use Rattle.type_descriptor.specs.declared.descriptor.Descriptor.{Descriptor}
-use Rattle.type_descriptor.specs.Describes.{Describes, DescriptorRefuses, IsDescriptor, form_of, form_length, text_of}
+use Rattle.type_descriptor.specs.Describes.{Describes, DescriptorRefuses, form_of, form_length, text_of}
 use Rattle.type_descriptor.proofs.ByteWords.{AreBytes, word-word_at, word_at-lt}
 use Rattle.message_codec.specs.declared.spans.Span.{Span}
 use Rattle.message_codec.specs.Reading.{DescriptorSpan, ReadsItem}
-use Rattle.message_codec.specs.Spans.{is_long, wire_spans}
-use Rattle.message_codec.proofs.Fronts.{IsFront, front_of, length-descriptor_text, small_name}
-use Rattle.message_codec.proofs.Shapes.{All-cons, form_length-mod, length-words_text, shape_of, text_not_refused}
+use Rattle.message_codec.specs.Spans.{is_long}
+use Rattle.message_codec.proofs.Fronts.{IsFront, front_of, length-descriptor_text}
+use Rattle.message_codec.proofs.Shapes.{All-cons, form_length-mod, length-words_text}
 
 -- ---- words
 

@@ -1,5 +1,5 @@
 -- Whole texts: what a judged header and a judged body make.
-use Rattle.std.proofs.Common.{◌≡◌, ◌≢◌, ℕ, ◌+◌, ◌-◌, ◌*◌, ◌/◌, ◌%◌, ◌^◌, ◌<◌, ◌≤◌, ◌⊎◌, IsTrue, Bool, true, false, Result, Ok, Err, IfOk, IfErr, List, [], ◌∷◌, ◌++◌, length, drop, refl, sym, ap, ◌∙◌, inl, inr, arith, All, subst}
+use Rattle.std.proofs.Common.{◌≡◌, ℕ, ◌+◌, ◌*◌, ◌/◌, ◌%◌, ◌^◌, ◌<◌, ◌≤◌, ◌⊎◌, IsTrue, Bool, true, false, Result, Ok, Err, IfOk, IfErr, List, [], ◌∷◌, ◌++◌, length, drop, refl, sym, ap, ◌∙◌, inl, inr, arith, All, subst}
 use Rattle.std.proofs.lemmas.Bool.{cases_eq}
 use Rattle.std.proofs.lemmas.List.{length-drop}
 use Rattle.std.specs.Prelude.{◌↔◌}
@@ -13,7 +13,6 @@ use Rattle.type_descriptor.proofs.ByteWords.{AreBytes, word-word_at, word_at-lt,
 use Rattle.message_codec.specs.declared.spans.Span.{Span}
 use Rattle.message_codec.specs.Parses.{header_at, is_items, IsMessage, ReadsBody, IsCrowded}
 use Rattle.message_codec.specs.Reading.{ReadsItems, HasMany}
-use Rattle.message_codec.specs.Spans.{body_spans}
 use Rattle.message_codec.proofs.Shapes.{text_not_refused}
 
 -- ---- headers

@@ -1,13 +1,13 @@
 -- What a receiver gets, item by item.
-use Rattle.std.proofs.Common.{◌≡◌, ℕ, ◌+◌, ◌-◌, ◌*◌, ◌/◌, ◌%◌, ◌^◌, ◌<◌, ◌≤◌, cond, Bool, true, false, List, [], ◌∷◌, ◌++◌, length, take, drop, get_or, set, refl, sym, ap, subst, ◌∙◌, arith, length-append, append_assoc, All}
-use Rattle.std.proofs.lemmas.List.{length-drop, length-take-le, drop_more}
-use Rattle.mach_types.specs.Grammar.{word, words_text, Wire, data_item, port_item, wire_text, wires_text, IsWire, WireBody, raw, items, body_text, IsWireBody, descriptor_text, FitsForm, NamesPorts}
+use Rattle.std.proofs.Common.{◌≡◌, ℕ, ◌+◌, ◌-◌, ◌*◌, ◌^◌, ◌<◌, ◌≤◌, List, [], ◌∷◌, ◌++◌, length, take, drop, set, refl, sym, ap, subst, ◌∙◌, arith, length-append, append_assoc, All}
+use Rattle.std.proofs.lemmas.List.{length-drop, length-take-le}
+use Rattle.mach_types.specs.Grammar.{words_text, Wire, data_item, port_item, wire_text, wires_text, IsWire, WireBody, raw, items, body_text, descriptor_text, FitsForm, NamesPorts}
 use Rattle.mach_types.specs.Messages.{Form, short, long}
 use Rattle.type_descriptor.specs.Describes.{form_length}
 use Rattle.message_codec.specs.declared.spans.Span.{Span}
 use Rattle.message_codec.specs.Putting.{with_kind, with_words, with_span, with_spans}
 use Rattle.message_codec.specs.Received.{received_kind, received_wires, received_body, IsLaidOut}
-use Rattle.message_codec.specs.Spans.{is_long, wire_spans, spans_at, body_spans, kind_place, words_place, word_count, SpansFit}
+use Rattle.message_codec.specs.Spans.{is_long, spans_at, kind_place, words_place, word_count, SpansFit}
 use Rattle.message_codec.proofs.Fronts.{length-descriptor_text}
 use Rattle.message_codec.proofs.PutWords.{with_words-at, with_kind-at, kind_offset, received_kind-ports}
 use Rattle.message_codec.proofs.Shapes.{All-head, All-tail, length-words_text}

@@ -1,14 +1,12 @@
 -- Words written one after another, and the byte of a kind.
-use Rattle.std.proofs.Common.{◌≡◌, ℕ, ◌+◌, ◌-◌, ◌*◌, ◌/◌, ◌%◌, ◌^◌, ◌<◌, ◌≤◌, ◌⊎◌, inl, inr, Bool, true, false, List, [], ◌∷◌, ◌++◌, length, take, drop, get_or, set, refl, sym, ap, subst, ◌∙◌, arith, length-append, append_assoc}
+use Rattle.std.proofs.Common.{◌≡◌, ℕ, ◌+◌, ◌*◌, ◌/◌, ◌%◌, ◌^◌, ◌<◌, ◌≤◌, ◌⊎◌, inl, inr, List, [], ◌∷◌, ◌++◌, length, take, drop, get_or, set, refl, sym, ap, ◌∙◌, arith, length-append, append_assoc}
 use Rattle.std.proofs.lemmas.Bool.{cases_eq}
-use Rattle.std.proofs.lemmas.List.{append-nil, drop_at, take_at, set_at, drop-drop, take_more, length-take-le, get_or_read}
+use Rattle.std.proofs.lemmas.List.{drop_at, take_at, set_at, drop-drop, take_more, length-take-le, get_or_read}
 use Rattle.mach_types.specs.Grammar.{word, half, words_text, descriptor_text, FitsForm, NamesPorts}
 use Rattle.mach_types.specs.Messages.{Form, short, long}
-use Rattle.type_descriptor.specs.Describes.{form_length}
 use Rattle.type_descriptor.proofs.ByteWords.{one_more_word}
 use Rattle.message_codec.specs.Putting.{with_words}
 use Rattle.message_codec.specs.Received.{received_kind}
-use Rattle.message_codec.proofs.Fronts.{length-descriptor_text}
 use Rattle.message_codec.proofs.Shapes.{length-words_text}
 
 -- ---- words

@@ -1,15 +1,13 @@
 -- The port words that are read are those of the text.
-use Rattle.std.proofs.Common.{◌≡◌, ℕ, zero, suc, ◌+◌, ◌*◌, ◌^◌, ◌<◌, ◌≤◌, List, [], ◌∷◌, ◌++◌, length, take, drop, map, get_or, refl, sym, ap, subst, ◌∙◌, arith, length-append, append_assoc, All}
-use Rattle.std.proofs.lemmas.List.{take_more, map-append, get_or-append-add, take-append-drop, length-take-le, append-nil}
-use Rattle.mach_types.specs.Grammar.{word, words_text, Wire, data_item, port_item, wire_text, wires_text, IsWire, WireBody, raw, items, body_text, descriptor_text}
-use Rattle.mach_types.specs.Messages.{Form, short, long}
+use Rattle.std.proofs.Common.{◌≡◌, ℕ, zero, suc, ◌+◌, ◌*◌, ◌^◌, ◌<◌, ◌≤◌, List, [], ◌∷◌, ◌++◌, length, take, get_or, refl, sym, ap, subst, ◌∙◌, arith, length-append, append_assoc, All}
+use Rattle.std.proofs.lemmas.List.{take_more, map-append, get_or-append-add, take-append-drop, length-take-le, length-map, append-nil}
+use Rattle.mach_types.specs.Grammar.{word, words_text, Wire, data_item, port_item, wire_text, wires_text, IsWire, WireBody, raw, items, descriptor_text}
 use Rattle.mach_types.specs.TextGuards.{word_at}
-use Rattle.type_descriptor.specs.Describes.{form_length}
 use Rattle.type_descriptor.proofs.ByteWords.{word_at-word}
 use Rattle.message_codec.specs.declared.spans.Span.{Span}
 use Rattle.message_codec.specs.declared.words.PortWord.{PortWord}
 use Rattle.message_codec.specs.Received.{IsLaidOut}
-use Rattle.message_codec.specs.Spans.{is_long, wire_spans, spans_at, words_place, SpansFit}
+use Rattle.message_codec.specs.Spans.{is_long, spans_at, words_place, SpansFit}
 use Rattle.message_codec.specs.Words.{named, items_words, body_words, StandsAt}
 use Rattle.message_codec.proofs.Fronts.{length-descriptor_text}
 use Rattle.message_codec.proofs.PutSpans.{words_place-is}
@@ -133,3 +131,14 @@ pub read-all : (bytes : List ℕ) (spans : List Span) (words : List PortWord) (w
 read-all bytes spans words written is laid =
     let t = is.whole (body_words written) (laid_out-say bytes spans written laid) in
     sym (t.2 ∙ ap (λ (os : List PortWord). words ++ os) t.1 ∙ append-nil words)
+
+-- The words so far and those of a further span are no more than the text has.
+pub read-less : (bytes : List ℕ) (spans rest : List Span) (s : Span) (words : List PortWord) (written : WireBody) → IsRead bytes spans (s ∷ rest) words → IsLaidOut bytes spans written
+    → length words + s.number ≤ length (body_words written)
+read-less bytes spans rest s words written is laid =
+    let t = is.whole (body_words written) (laid_out-say bytes spans written laid) in
+    let u = t.1 in
+    let all : length (body_words written) ≡ length words + length t.0 = ap length t.2 ∙ length-append words t.0 in
+    let left : length t.0 ≡ length (named s.disposition u.0) + length u.1 = ap length u.4 ∙ length-append (named s.disposition u.0) u.1 in
+    let one : length (named s.disposition u.0) ≡ s.number = length-map {B = PortWord} u.0 (λ w. record { disposition = s.disposition; name = w }) ∙ u.2 in
+    omega arith

@@ -1,10 +1,10 @@
 -- What is read of a message's text.
-use Rattle.std.specs.Prelude.{◌≡◌, ℕ, ◌/◌, ◌%◌, ◌^◌, ◌<◌, Bool, true, false, List, length, drop}
-use Rattle.mach_types.specs.Grammar.{Header, WireBody, raw, items, body_text, Spells}
+use Rattle.std.specs.Prelude.{◌≡◌, ℕ, ◌/◌, ◌%◌, ◌^◌, ◌<◌, Bool, true, false, List, length}
+use Rattle.mach_types.specs.Grammar.{Header, WireBody, raw, items, Spells}
 use Rattle.mach_types.specs.TextGuards.{TextRefuses, is_bit, word_at}
 use Rattle.message_codec.specs.declared.spans.Span.{Span}
 use Rattle.message_codec.specs.declared.text.Parsed.{Parsed}
-use Rattle.message_codec.specs.Spans.{body_spans}
+use Rattle.message_codec.specs.Spans.{body_spans, inline_spans}
 
 abbrev pub is_items : WireBody → Bool
 is_items (raw bytes) = false
@@ -53,4 +53,4 @@ pub record IsCrowded (bytes : List ℕ) : Type 0 where
   pub header : Header
   pub written : WireBody
   pub message : IsMessage bytes header written
-  pub many : 8 < length (body_spans written)
+  pub many : inline_spans < length (body_spans written)

@@ -4,7 +4,7 @@ use Rattle.std.specs.Option.{option_to_list}
 use Rattle.mach_types.specs.Grammar.{Wire, wire_text, wires_text, IsWire, NamesPorts}
 use Rattle.type_descriptor.specs.declared.descriptor.Descriptor.{Descriptor}
 use Rattle.message_codec.specs.declared.spans.Span.{Span}
-use Rattle.message_codec.specs.Spans.{wire_spans, spans_at}
+use Rattle.message_codec.specs.Spans.{wire_spans, spans_at, inline_spans}
 
 -- the span of an item with this descriptor at this offset
 abbrev pub DescriptorSpan : Descriptor → (at : ℕ) → Option Span → Type 0
@@ -28,9 +28,9 @@ pub record ReadsItems (bytes : List ℕ) (spans : List Span) : Type 0 where
   pub fits : All IsWire xs
   pub spans_are : spans ≡ spans_at 24 xs
 
--- The whole body is items, more than 8 of them with port words.
+-- The whole body is items, and those with port words are more than are kept without an allocation.
 pub record HasMany (bytes : List ℕ) : Type 0 where
   pub xs : List Wire
   pub text : drop 24 bytes ≡ wires_text xs
   pub fits : All IsWire xs
-  pub many : 8 < length (spans_at 24 xs)
+  pub many : inline_spans < length (spans_at 24 xs)

@@ -29,6 +29,10 @@ kind_place s = s.at + (if s.long then 4 else 0)
 abbrev pub words_place : Span → ℕ
 words_place s = s.at + (if s.long then 12 else 4)
 
+-- of how many items with words the spans are kept without an allocation
+abbrev pub inline_spans : ℕ
+inline_spans = 8
+
 -- how many words there are
 abbrev pub word_count : List Span → ℕ
 word_count [] = 0

@@ -18,6 +18,10 @@ abbrev pub body_words : WireBody → List PortWord
 body_words (raw bytes) = []
 body_words (items xs) = items_words xs
 
+-- how many words are kept without an allocation
+abbrev pub inline_words : ℕ
+inline_words = 4
+
 -- These words stand in the bytes, from an offset on.
 pub record StandsAt (bytes : List ℕ) (at : ℕ) (names : List ℕ) : Type 0 where
   pub each : (k : ℕ) → k < length names → word_at bytes (at + 4 * k) ≡ slice_index names k

@@ -18,4 +18,4 @@ pub use header::Header;
 pub use received::put_received;
 pub use spans::{Span, Spans};
 pub use text::{Parsed, parse};
-pub use words::{PortWord, port_words};
+pub use words::{INLINE_WORDS, PortWord, port_words};

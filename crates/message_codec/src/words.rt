@@ -1,14 +1,19 @@
 //! The port words of a message.
-ghost use Rattle.std.specs.Prelude.{◌≡◌, ℕ, ◌+◌, ◌*◌, ◌≤◌, ◌++◌, List, length, IfOk, OnOk};
+ghost use Rattle.std.specs.Prelude.{◌≡◌, ℕ, ◌+◌, ◌*◌, ◌<◌, ◌≤◌, ◌++◌, List, length, IfOk, OnOk, OnErr};
+ghost use Rattle.smallvec.specs.SmallVec.{small_vec_len};
 ghost use Rattle.mach_types.specs.Grammar.{WireBody};
 ghost use Rattle.message_codec.specs.Received.{IsLaidOut};
 ghost use Rattle.message_codec.specs.Spans.{words_place};
-ghost use Rattle.message_codec.specs.Words.{body_words, named, StandsAt};
+ghost use Rattle.message_codec.specs.Words.{body_words, inline_words, named, StandsAt};
 
 use crate::spans::Span;
 use mach_types::Name;
+use smallvec::SmallVec;
 use std::alloc::{AllocError, Global};
 use type_descriptor::read_word;
+
+/// How many port words of a body are kept without an allocation.
+pub const INLINE_WORDS: usize = 4;
 
 /// A port word as it was sent.
 #[derive(Clone, Copy, Debug, PartialEq, Eq)]
@@ -19,11 +24,28 @@ pub struct PortWord {
     pub name: Name,
 }
 
+impl Default for PortWord {
+    /// No word: an unused place in a list of words.
+    fn default() -> PortWord {
+        PortWord {
+            disposition: 0,
+            name: Name::null(),
+        }
+    }
+}
+
 // Adds the words of one item.
-fn read_words(words: &mut Vec<PortWord>, bytes: &[u8], span: &Span) -> Result<(), AllocError>
+fn read_words(
+    words: &mut SmallVec<PortWord, INLINE_WORDS>,
+    bytes: &[u8],
+    span: &Span,
+) -> Result<(), AllocError>
     requires room { words_place span.now + 4 * span.now.number ≤ length bytes.now }
-    ensures { OnOk result ((names : List ℕ) → StandsAt bytes.now (words_place span.now) names → length names ≡ span.now.number
+    requires inline { inline_words ≤ words.old.capacity }
+    ensures ok { OnOk result ((names : List ℕ) → StandsAt bytes.now (words_place span.now) names → length names ≡ span.now.number
         → words.new.items ≡ words.old.items ++ named span.now.disposition names) }
+    ensures err { OnErr result (inline_words < small_vec_len words.old + span.now.number) }
+    ensures capacity { inline_words ≤ words.new.capacity }
 {
     let disposition = span.disposition;
     let start = span.words_at();
@@ -37,12 +59,17 @@ fn read_words(words: &mut Vec<PortWord>, bytes: &[u8], span: &Span) -> Result<()
 /// The port words of a message's body, from the front, each with the disposition of its item. Linear in
 /// their number.
 ///
-/// An error means that memory was refused.
-pub fn port_words(alloc: Global, bytes: &[u8], spans: &[Span]) -> Result<Vec<PortWord>, AllocError>
+/// Up to [`INLINE_WORDS`] take no memory. An error means that it was refused for more.
+pub fn port_words(
+    alloc: Global,
+    bytes: &[u8],
+    spans: &[Span],
+) -> Result<SmallVec<PortWord, INLINE_WORDS>, AllocError>
     requires laid_out { (written : WireBody) × IsLaidOut bytes.now spans.now written }
-    ensures { IfOk result (λ words. (written : WireBody) → IsLaidOut bytes.now spans.now written → words.items ≡ body_words written) }
+    ensures ok { IfOk result (λ words. (written : WireBody) → IsLaidOut bytes.now spans.now written → words.items ≡ body_words written) }
+    ensures err { OnErr result ((written : WireBody) → IsLaidOut bytes.now spans.now written → inline_words < length (body_words written)) }
 {
-    let mut words = Vec::new(alloc);
+    let mut words = SmallVec::new(alloc);
     for span in spans {
         read_words(&mut words, bytes, span)?;
     }

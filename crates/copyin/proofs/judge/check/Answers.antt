@@ -1,6 +1,6 @@
-use Rattle.std.proofs.Common.{refl}
+use Rattle.std.proofs.Common.{refl, inl, inr}
 use Rattle.std.proofs.lemmas.Result.{err_from_is_err_and}
-use Rattle.copyin.proofs.Planning.{words_given, cannot_judge, cannot_admit, judged_of, message_is, port_lives, destination_sends, remote_sendable}
+use Rattle.copyin.proofs.Planning.{words_given, cannot_judge, cannot_admit, judged_of, port_lives, destination_sends, remote_sendable}
 use Rattle.copyin.proofs.judge.check.Goals as goal
 
 pub judge_all-requires : goal.judge_all-requires
@@ -46,6 +46,19 @@ returns-clause-ok c = λ p.
       words = a;
       destination = refl;
       port = refl;
-      message = message_is c.args.world.now c.args.task c.args.parsed p.written c.space.result.now c.in_ok-words.words c.space.ensures a rights c.in_ok-rights.ensures.ok
-          c.args.bytes.now c.in-Ok.bytes.items c.is_send_once-by_once.result c.in-Ok.ensures.items c.is_send_once-by_once.ensures.value;
+      message = c.in-Ok.ensures;
     }
+
+pub returns-in_default-clause-err : goal.returns-in_default-clause-err
+returns-in_default-clause-err c = λ p.
+    let a = c.in_ok-words.ensures.ok p in
+    let rights = c.in_ok-rights.rights in
+    let may = c.in_ok-admit.ensures.ok in
+    inr (inr (inr (
+      inl record {
+        judged = judged_of c.args.world.now c.args.task c.args.parsed p.written c.space.result.now c.in_ok-words.words c.space.ensures a rights c.in_ok-rights.ensures.ok;
+        slot = may.0;
+        few = may.1;
+      },
+      refl,
+    )))

@@ -17,5 +17,5 @@ returns-clause-ok c = λ now o.
         mark = refl;
         left = refl;
       },
-      c.in_ok-touch.ensures.ok _ now o,
+      c.in-Ok.ensures.ok _ now o,
     )

@@ -20,14 +20,14 @@ loop-carried-preserved c =
     let names : c.push_reserved.new.self.items ≡ c.loop-carried.names.items ++ c.give_right-name.result ∷ [] = c.push_reserved.ensures.items in
     record {
       can = can_give_rest c.loop-carried.world c.give_right-name.new.world c.args.task c.carried-item.result (drop (i + 1) c.args.rights.now) c.give_right-name.result
-          (subst (λ (xs : List Carried). CanGive c.loop-carried.world c.args.task xs) e c.loop-carried.invariant.can) c.give_right-name.ensures.gives c.give_right-name.ensures.room;
+          (subst (λ (xs : List Carried). CanGive c.loop-carried.world c.args.task xs) e c.loop-carried.invariant.can) c.give_right-name.ensures;
       room = let h = c.loop-carried.invariant.room in let k = c.push_reserved.ensures.capacity in let a = ap length e in let b = ap length names in
           omega (arith, length-append c.loop-carried.names.items (c.give_right-name.result ∷ []));
       gives = λ more new h.
           subst (λ (ws : List ℕ). GivesAll c.args.world.now c.args.task c.args.rights.now ws new) (sym (append_assoc c.loop-carried.names.items (c.give_right-name.result ∷ []) more) ∙ ap (λ (ws : List ℕ). ws ++ more) (sym names))
           (c.loop-carried.invariant.gives (c.give_right-name.result ∷ more) new
           (subst (λ (xs : List Carried). GivesAll c.loop-carried.world c.args.task xs (c.give_right-name.result ∷ more) new) (sym e)
-          (c.give_right-name.new.world, c.give_right-name.ensures.gives, h)));
+          (c.give_right-name.new.world, c.give_right-name.ensures, h)));
     }
 
 pub returns : goal.returns

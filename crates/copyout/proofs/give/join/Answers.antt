@@ -2,7 +2,7 @@ use Rattle.std.proofs.Common.{◌≡◌, ◌∙◌, sym, ap, Some}
 use Rattle.std.specs.Prelude.{slice_get}
 use Rattle.mach_types.specs.Numbers.{kind_sent}
 use Rattle.copyin_base.specs.Worlds.{WorldView}
-use Rattle.copyout.proofs.Gives.{found_in, named_in, can_replace, gives-joined, room-joined}
+use Rattle.copyout.proofs.Gives.{found_in, named_in, can_replace, gives-joined}
 use Rattle.copyout.proofs.give.join.Goals as goal
 
 pub put_left-requires : goal.put_left-requires
@@ -12,16 +12,10 @@ put_left-requires c =
     can_replace c.drop_pegged.new.world c.args.task (kind_sent c.args.given) c.args.name c.in-Some.entry c.joined.result r.space there c.joined.ensures
     (found_in c.args.world.now c.args.task c.args.name r.space c.in-Some.entry r.there (sym c.lookup.ensures ∙ c.in-Some.is))
 
-pub returns-in-Some-clause-gives : goal.returns-in-Some-clause-gives
-returns-in-Some-clause-gives c =
+pub returns-in-Some : goal.returns-in-Some
+returns-in-Some c =
     let r = c.requires in
     let found = found_in c.args.world.now c.args.task c.args.name r.space c.in-Some.entry r.there (sym c.lookup.ensures ∙ c.in-Some.is) in
     let named = named_in r.space.names c.args.name c.args.port c.in-Some.entry found r.named in
     gives-joined c.args.world.now c.drop_pegged.new.world c.put_left.new.self c.args.task (kind_sent c.args.given) c.args.port c.args.name c.in-Some.entry c.joined.result r.space
     r.there c.joined.ensures c.drop_pegged.ensures c.put_left.ensures r.not_once found named
-
-pub returns-in-Some-clause-room : goal.returns-in-Some-clause-room
-returns-in-Some-clause-room c =
-    let r = c.requires in
-    room-joined c.args.world.now c.drop_pegged.new.world c.put_left.new.self c.args.task (kind_sent c.args.given) c.args.port c.args.name c.in-Some.entry c.joined.result r.space
-    r.there c.joined.ensures c.drop_pegged.ensures c.put_left.ensures

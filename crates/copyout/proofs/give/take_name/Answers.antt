@@ -3,7 +3,7 @@ use Rattle.std.specs.Prelude.{slice_get}
 use Rattle.mach_types.specs.Numbers.{kind_sent}
 use Rattle.name_space.specs.Names.{SpaceView, IsFreshName}
 use Rattle.copyin_base.proofs.Gets.{same_found}
-use Rattle.copyout.proofs.Gives.{no_other, gives-taken, room-taken}
+use Rattle.copyout.proofs.Gives.{no_other, gives-taken}
 use Rattle.copyout.proofs.give.take_name.Goals as goal
 
 pub insert_entry-requires : goal.insert_entry-requires
@@ -22,15 +22,10 @@ insert_entry-requires c =
       apart = no_other r.space.names (kind_sent c.args.given) c.args.port c.alone.result c.alone.ensures r.lone;
     }
 
-pub returns-clause-gives : goal.returns-clause-gives
-returns-clause-gives c =
+pub returns : goal.returns
+returns c =
     let r = c.requires in
     let fresh : IsFreshName r.space.names c.fresh-name.result =
     subst (λ (x : SpaceView). IsFreshName x.names c.fresh-name.result) (same_found (slice_get c.args.world.now.spaces c.args.task) c.space.result.now r.space c.space.ensures r.there) c.fresh-name.ensures.fresh in
     gives-taken c.args.world.now c.insert_entry.new.self c.args.task (kind_sent c.args.given) c.args.port c.fresh-name.result c.alone.result r.space r.there c.alone.ensures c.insert_entry.ensures
     fresh r.not_full r.lone
-
-pub returns-clause-room : goal.returns-clause-room
-returns-clause-room c =
-    let r = c.requires in
-    room-taken c.args.world.now c.insert_entry.new.self c.args.task (kind_sent c.args.given) c.args.port c.fresh-name.result c.alone.result r.space r.there c.alone.ensures c.insert_entry.ensures

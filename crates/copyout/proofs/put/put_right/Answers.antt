@@ -14,7 +14,7 @@ insert_entry-requires c = can_insert c.args.world.now c.args.task (kind_sent c.a
     (sym (ap is_some c.lookup.ensures) ∙ sym c.is_some.ensures ∙ c.if-is_some.false) c.alone.ensures
 
 pub returns-then-is_some : goal.returns-then-is_some
-returns-then-is_some c = gives_puts c.args.world.now c.args.task (kind_sent c.args.given) c.args.port c.args.name c.join.new.world c.join.ensures.gives
+returns-then-is_some c = gives_puts c.args.world.now c.args.task (kind_sent c.args.given) c.args.port c.args.name c.join.new.world c.join.ensures
 
 pub returns-else-is_some : goal.returns-else-is_some
 returns-else-is_some c = puts-new c.args.world.now c.insert_entry.new.self c.args.task (kind_sent c.args.given) c.args.port c.args.name c.alone.result c.requires

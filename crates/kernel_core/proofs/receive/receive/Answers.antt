@@ -1,17 +1,44 @@
+use Rattle.std.proofs.Common.{refl}
 use Rattle.std.proofs.lemmas.Result.{err_from_is_err_and}
+use Rattle.copyin_base.proofs.Spares.{keeps_same}
+use Rattle.kernel_core.proofs.Keeping.{spared}
 use Rattle.kernel_core.proofs.Receiving.{named_declined, named_stays, named_received}
+use Rattle.kernel_core.proofs.Sparing.{not_short_named, named_spares}
 use Rattle.kernel_core.proofs.receive.receive.Goals as goal
 
-pub returns : goal.returns
-returns c = named_received c.args.world.now c.args.task c.args.buffer.room c.args.buffer.large c.requires.there c.args.name c.in_ok-waited.waited c.in_ok-waited.ensures.ok c.in_ok-take.field-0 c.take.new.world c.in_ok-take.ensures.ok
+pub returns-clause-serves : goal.returns-clause-serves
+returns-clause-serves c = named_received c.args.world.now c.args.task c.args.buffer.room c.args.buffer.large c.requires.there c.args.name c.in_ok-waited.waited c.in_ok-waited.ensures.ok c.in_ok-take.field-0 c.take.new.world c.in_ok-take.ensures.ok
 
-pub returns-in_err-waited : goal.returns-in_err-waited
-returns-in_err-waited c =
+pub returns-clause-spares : goal.returns-clause-spares
+returns-clause-spares c = named_spares c.args.world.now c.args.task c.args.name c.args.buffer.room c.args.buffer.large c.in_ok-take.field-0 c.take.new.world c.in_ok-take.ensures.spares
+
+pub returns-in_err-waited-clause-serves : goal.returns-in_err-waited-clause-serves
+returns-in_err-waited-clause-serves c =
     let p = err_from_is_err_and c.from_residual.result c.from_residual.ensures.1 in
     rw (p.1, p.2) (named_declined c.args.world.now c.args.task c.args.buffer.room c.args.buffer.large c.requires.there c.args.name _ c.in_err-waited.ensures.err)
 
-pub returns-in_err-take : goal.returns-in_err-take
-returns-in_err-take c =
+pub returns-in_err-waited-clause-wanted : goal.returns-in_err-waited-clause-wanted
+returns-in_err-waited-clause-wanted c =
+    let p = err_from_is_err_and c.from_residual.result c.from_residual.ensures.1 in
+    rw (p.1, p.2) (λ e. absurd (not_short_named c.args.world.now c.args.task c.args.name _ c.requires.stands c.in_err-waited.ensures.err e))
+
+pub returns-in_err-waited-clause-spares : goal.returns-in_err-waited-clause-spares
+returns-in_err-waited-clause-spares c =
+    let p = err_from_is_err_and c.from_residual.result c.from_residual.ensures.1 in
+    rw (p.1, p.2) (spared _ _ _ _ (keeps_same c.args.world.now c.args.world.now refl) refl)
+
+pub returns-in_err-take-clause-serves : goal.returns-in_err-take-clause-serves
+returns-in_err-take-clause-serves c =
     let p = err_from_is_err_and c.from_residual-in_err-take.result c.from_residual-in_err-take.ensures.1 in
     let stays = c.in_err-take.ensures.err in
     rw (p.1, p.2, stays.0) (named_stays c.args.world.now c.args.task c.args.buffer.room c.args.buffer.large c.requires.there c.args.name c.in_ok-waited.waited c.in_ok-waited.ensures.ok _ stays.1)
+
+pub returns-in_err-take-clause-wanted : goal.returns-in_err-take-clause-wanted
+returns-in_err-take-clause-wanted c =
+    let p = err_from_is_err_and c.from_residual-in_err-take.result c.from_residual-in_err-take.ensures.1 in
+    rw (p.1, p.2) (λ e. (c.in_ok-waited.waited, c.in_ok-waited.ensures.found, c.in_err-take.ensures.wanted e))
+
+pub returns-in_err-take-clause-spares : goal.returns-in_err-take-clause-spares
+returns-in_err-take-clause-spares c =
+    let p = err_from_is_err_and c.from_residual-in_err-take.result c.from_residual-in_err-take.ensures.1 in
+    rw (p.1, p.2) (spared _ _ _ _ (keeps_same c.args.world.now c.take.new.world c.in_err-take.ensures.err.0) refl)

@@ -3,6 +3,7 @@ use Rattle.mach_types.specs.declared.calls.Reply.{Reply}
 use Rattle.copyin_base.specs.Worlds.{WorldView}
 use Rattle.kernel_core.specs.Receive.{IsReceipt}
 use Rattle.kernel_core.proofs.Receiving.{message_finds, message_waits, receipt_empty, receipt_message, receipt_too_large, stays_for_names, stays_for_memory}
+use Rattle.kernel_core.proofs.Sparing.{one_freed}
 use Rattle.kernel_core.proofs.receive.take.Goals as goal
 
 pub returns-in_default-clause-ok : goal.returns-in_default-clause-ok
@@ -36,3 +37,9 @@ pub returns-in-Err-Memory-clause-err : goal.returns-in-Err-Memory-clause-err
 returns-in-Err-Memory-clause-err c =
     let x = rw c.in-Err-Memory.field-0-is at c.in-Err-Memory.ensures.err in
     (x.0, stays_for_memory c.args.world.now c.args.task c.requires.there c.args.waited c.requires.may c.args.room c.in-Some.port c.in-Some.ensures.from x.1 x.2 x.3.0 x.3.1)
+
+pub returns-in-Ok-clause-spares : goal.returns-in-Ok-clause-spares
+returns-in-Ok-clause-spares c = one_freed c.args.world.now c.receive.new.world c.in-Ok.bytes c.in-Ok.ensures.kept
+
+pub returns-in-Err-Memory-clause-wanted : goal.returns-in-Err-Memory-clause-wanted
+returns-in-Err-Memory-clause-wanted c = λ e. record { port = c.in-Some.port; has = c.in-Some.ensures; wants = c.in-Err-Memory.ensures.wanted c.in-Err-Memory.field-0-is }

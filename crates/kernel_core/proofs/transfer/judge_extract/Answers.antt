@@ -17,7 +17,7 @@ returns-in-Ok-clause-ok c =
     let from = c.args.from.now in
     let g = c.in-Ok.going in
     let may = of_ok c.may_extract.result (λ (x : Going). (x.from ≡ from.task) × (x.name ≡ from.name) × CanGo w c.args.number x) g c.in-Ok.is c.may_extract.ensures.ok in
-    if_ok c.check_extract.result _ _ c.check_extract.ensures.ok (λ r h. may_extract w from c.args.number g may.0 may.1 may.2 c.args.to r.0 r.1 h.0 h.1 h.2)
+    if_ok c.check_extract.result _ _ c.check_extract.ensures.ok (λ handed h. may_extract w from c.args.number g may.0 may.1 may.2 c.args.to handed h.0 h.1 h.2 h.3)
 
 pub returns-in-Ok-clause-err : goal.returns-in-Ok-clause-err
 returns-in-Ok-clause-err c =

@@ -18,7 +18,7 @@ returns-in-Ok-clause-ok c =
     let from = c.args.from.now in
     let g = c.in-Ok.going in
     let may = of_ok c.may_insert.result (λ (x : Going). (x.from ≡ from.task) × (x.name ≡ from.name) × CanGo w c.args.number x × ¬ (IsNoName to.name) × ¬ (IsNoName from.name)) g c.in-Ok.is c.may_insert.ensures.ok in
-    if_ok c.check_insert.result _ _ c.check_insert.ensures.ok (λ r h. may_insert w from c.args.number g may.0 may.1 may.2 to may.3 may.4 r.0 r.1 h.0 h.1 h.2)
+    if_ok c.check_insert.result _ _ c.check_insert.ensures.ok (λ handed h. may_insert w from c.args.number g may.0 may.1 may.2 to may.3 may.4 handed h.0 h.1 h.2 h.3)
 
 pub returns-in-Ok-clause-err : goal.returns-in-Ok-clause-err
 returns-in-Ok-clause-err c =

@@ -13,14 +13,14 @@ use Rattle.mach_run.specs.Output.{AreReplies}
 use Rattle.mach_run.proofs.perform.answer_all.Goals as goal
 
 pub loop-event-init : goal.loop-event-init
-loop-event-init g c = ([], opening, refl, c.new-kernel.ensures, appends-none _)
+loop-event-init g c = ([], opening, refl, c.new-kernel.ensures.shows, appends-none _)
 
 pub loop-event-preserved : goal.loop-event-preserved
 loop-event-preserved g c =
     let inv = c.loop-event.invariant in
     let before = take c.loop-event.event-index c.args.events.now in
     let reply = c.step-reply.result in
-    let step = c.step-reply.ensures (length before) inv.1 inv.3 in
+    let step = c.step-reply.ensures.answers (length before) inv.1 inv.3 in
     let more = take_more c.args.events.now c.loop-event.event-index c.event-item.result c.loop-event-test.true in
     let pushed = RunFrom-push 0 opening before inv.0 inv.1 c.event-item.result reply step.0 inv.2
     (subst (λ (n : ℕ). Step n inv.1 c.event-item.result reply step.0) (omega arith) step.1) in

@@ -1,4 +1,3 @@
-use Rattle.std.proofs.Common.{sym}
 use Rattle.message_codec.proofs.Walking.{walk-kept, walk-lacks, fact_at_err, fact_at_ok}
 use Rattle.message_codec.proofs.items.read_spans.Goals as goal
 

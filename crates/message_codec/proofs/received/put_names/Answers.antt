@@ -1,4 +1,4 @@
-use Rattle.std.proofs.Common.{List, ℕ, ◌≡◌, ◌++◌, ◌+◌, take, drop, arith, ap, sym, subst, ◌∙◌}
+use Rattle.std.proofs.Common.{ℕ, ◌≡◌, ◌++◌, ◌+◌, take, drop, arith, ap, ◌∙◌}
 use Rattle.mach_types.specs.Grammar.{word}
 use Rattle.message_codec.proofs.PutWords.{names-step}
 use Rattle.message_codec.proofs.received.put_names.Goals as goal

@@ -1,5 +1,4 @@
-use Rattle.std.proofs.Common.{List, ℕ, ◌≡◌, ◌≤◌, ◌++◌, length, drop, arith, ap, sym, subst, ◌∙◌, refl}
-use Rattle.message_codec.specs.Putting.{with_spans}
+use Rattle.std.proofs.Common.{◌≡◌, length, ◌∙◌, refl}
 use Rattle.message_codec.specs.Received.{header_text}
 use Rattle.message_codec.specs.Spans.{SpansFit}
 use Rattle.message_codec.proofs.PutSpans.{laid_out-fit, laid_out-received}

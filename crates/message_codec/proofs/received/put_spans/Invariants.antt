@@ -1,4 +1,4 @@
-use Rattle.std.proofs.Common.{◌≡◌, ◌+◌, ◌*◌, ◌++◌, length, take, drop}
+use Rattle.std.proofs.Common.{◌≡◌, length, drop}
 use Rattle.message_codec.specs.Putting.{with_spans}
 use Rattle.message_codec.specs.Spans.{word_count, SpansFit}
 use Rattle.message_codec.proofs.received.put_spans.Given as goal

@@ -1,4 +1,4 @@
-use Rattle.std.proofs.Common.{List, ℕ, IsTrue, false, true, ◌≡◌, refl, sym, ap, subst, arith}
+use Rattle.std.proofs.Common.{List, ℕ, refl, sym, subst, arith}
 use Rattle.mach_types.specs.TextGuards.{word_at, is_bit}
 use Rattle.type_descriptor.proofs.ByteWords.{AreBytes, not_true}
 use Rattle.message_codec.proofs.Messages.{raw-body, body-read, body-refused}

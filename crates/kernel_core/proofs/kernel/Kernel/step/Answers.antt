@@ -5,13 +5,13 @@ use Rattle.kernel_core.proofs.Stepping.{acted, declined, still_stands}
 use Rattle.kernel_core.proofs.kernel.Kernel.step.Goals as goal
 
 pub invariant_of-self : goal.invariant_of-self
-invariant_of-self c = still_stands _ _ _ _ c.self.invariant (acted _ _ _ _ _ c.in-Ok.ensures c.settle.ensures)
+invariant_of-self c = still_stands _ _ _ _ c.self.invariant (acted _ _ _ _ _ c.in-Ok.ensures.serves c.settle.ensures.settles)
 
 pub invariant_of-self-in-Err : goal.invariant_of-self-in-Err
-invariant_of-self-in-Err c = still_stands _ _ _ _ c.self.invariant (declined _ _ _ _ c.in-Err.ensures)
+invariant_of-self-in-Err c = still_stands _ _ _ _ c.self.invariant (declined _ _ _ _ c.in-Err.ensures.serves)
 
-pub returns-in-Ok : goal.returns-in-Ok
-returns-in-Ok c = λ now s sh. acted _ _ _ _ _ c.in-Ok.ensures c.settle.ensures now s (subst (λ (w : WorldView). Shows w s) (sym c.self.view_is) sh)
+pub returns-in-Ok-clause-answers : goal.returns-in-Ok-clause-answers
+returns-in-Ok-clause-answers c = λ now s sh. acted _ _ _ _ _ c.in-Ok.ensures.serves c.settle.ensures.settles now s (subst (λ (w : WorldView). Shows w s) (sym c.self.view_is) sh)
 
-pub returns-in-Err : goal.returns-in-Err
-returns-in-Err c = λ now s sh. rw c.number.ensures (declined _ _ _ _ c.in-Err.ensures now s (subst (λ (w : WorldView). Shows w s) (sym c.self.view_is) sh))
+pub returns-in-Err-clause-answers : goal.returns-in-Err-clause-answers
+returns-in-Err-clause-answers c = λ now s sh. rw c.number.ensures (declined _ _ _ _ c.in-Err.ensures.serves now s (subst (λ (w : WorldView). Shows w s) (sym c.self.view_is) sh))

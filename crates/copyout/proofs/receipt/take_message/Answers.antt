@@ -1,17 +1,16 @@
 use Rattle.std.proofs.Common.{sym, subst}
 use Rattle.copyin_base.specs.Kept.{Kept}
-use Rattle.std.specs.Prelude.{vec_capacity}
 use Rattle.copyout.specs.Ready.{CanGive, carried_by}
-use Rattle.copyout.proofs.Alike.{can_deliver}
+use Rattle.copyout.proofs.Rooms.{can_deliver}
 use Rattle.copyout.proofs.Delivered.{takes_message}
 use Rattle.copyout.proofs.Front.{sequence_is}
-use Rattle.copyout.proofs.receipt.copyout.Goals as goal
+use Rattle.copyout.proofs.receipt.take_message.Goals as goal
 
 pub deliver-requires-clause-can : goal.deliver-requires-clause-can
 deliver-requires-clause-can c =
     let t = c.take_front-message.ensures in
     subst (λ (m : Kept). CanGive c.take_front-message.new.world c.args.task (carried_by m)) (sym t.1)
-    (can_deliver c.args.world.now c.take_front-message.new.world c.args.task c.args.port (vec_capacity c.args.names) c.requires.ready t.0)
+    (can_deliver c.args.world.now c.take_front-message.new.world c.args.task c.args.port (c.args.names.capacity) c.requires.ready t.0)
 
 pub returns : goal.returns
 returns c =

@@ -1,0 +1,91 @@
+//! A task's names while a message is judged: what is left under those that were touched.
+ghost use Rattle.std.specs.Prelude.{◌≡◌, ◌+◌, ◌≤◌, OnOk, OnErr};
+ghost use Rattle.std.specs.FinMap as map;
+ghost use Rattle.arrayvec.specs.ArrayVec.{array_vec_len};
+ghost use Rattle.name_space.specs.Names.{Names};
+ghost use Rattle.copyin.specs.Overlays.{IsFull, Overlays, puts};
+ghost use Rattle.copyin_base.specs.Worlds.{put};
+
+use arrayvec::ArrayVec;
+use mach_types::Name;
+use name_space::{Entry, Space};
+use std::alloc::{AllocError, Global};
+use std::collections::BTreeMap;
+
+// How many are kept without an allocation: the destination's, the reply's and those of the words of a
+// body that are.
+const INLINE_TOUCHED: usize = 6;
+
+// What is left under a name; nothing, where it is no name any more.
+#[derive(Clone, Copy, Default)]
+pub(crate) struct Touch {
+    pub(crate) name: u32,
+    pub(crate) left: Option<Entry>,
+}
+
+/// The names that were touched: the first few, and over them those that came later.
+#[derive(Drop)]
+pub(crate) struct Touched {
+    pub(crate) few: ArrayVec<Touch, INLINE_TOUCHED>,
+    pub(crate) many: BTreeMap<u32, Option<Entry>>,
+}
+
+// What stands under the name after the first few.
+fn after_few(space: &Space, few: &[Touch], name: Name) -> Option<Entry>
+    ensures { result ≡ map.get (puts space.now.names few.now) name }
+{
+    let mut standing = space.lookup(name);
+    for touch in few {
+        standing = after_touch(standing, touch, name);
+    }
+    standing
+}
+
+// What stands under the name after this was touched.
+fn after_touch(standing: Option<Entry>, touch: &Touch, name: Name) -> Option<Entry>
+    ensures { (names : Names) → standing ≡ map.get names name → result ≡ map.get (put names touch.now.name touch.now.left) name }
+{
+    if touch.name == name.number() {
+        touch.left
+    } else {
+        standing
+    }
+}
+
+impl Touched {
+    /// None yet. Takes no memory.
+    pub(crate) fn new(alloc: Global) -> Touched
+        ensures names { (names : Names) → Overlays result names names }
+        ensures none { array_vec_len result.few ≡ 0 }
+    {
+        Touched {
+            few: ArrayVec::new(),
+            many: BTreeMap::new(alloc),
+        }
+    }
+
+    /// What stands under the name now.
+    pub(crate) fn standing(&self, space: &Space, name: Name) -> Option<Entry>
+        ensures { (now : Names) → Overlays self.now space.now.names now → result ≡ map.get now name }
+    {
+        match self.many.get(&name.number()) {
+            Some(entry) => *entry,
+            None => after_few(space, self.few.as_slice(), name),
+        }
+    }
+
+    /// Puts what is left under a name over what stood there.
+    pub(crate) fn put(&mut self, name: Name, left: Option<Entry>) -> Result<(), AllocError>
+        ensures ok { OnOk result ((names now : Names) → Overlays self.old names now → Overlays self.new names (put now name left)) }
+        ensures err { OnErr result (IsFull self.old) }
+        ensures few { array_vec_len self.new.few ≤ array_vec_len self.old.few + 1 }
+    {
+        let name = name.number();
+        if !self.few.is_full() {
+            self.few.push(Touch { name, left });
+            return Ok(());
+        }
+        self.many.insert(name, left)?;
+        Ok(())
+    }
+}
