@@ -1,115 +1,142 @@
--- The words of a body copied in, item by item.
-use Rattle.std.proofs.Common.{◌≡◌, ℕ, zero, suc, ◌+◌, List, [], ◌∷◌, ◌++◌, refl, sym, ap, subst, ◌∙◌, arith, length, take, drop, All}
-use Rattle.std.specs.Prelude.{map as list_map, replicate}
+-- The words of a body copied in, one after the other, and the body that their rights make.
+use Rattle.std.proofs.Common.{◌≡◌, ℕ, suc, ◌+◌, List, [], ◌∷◌, ◌++◌, refl, sym, ap, subst, ◌∙◌, arith, length, take, drop, All}
+use Rattle.std.specs.Prelude.{map as list_map, replicate, flat_map}
 use Rattle.std.proofs.lemmas.List.{map-append}
-use Rattle.mach_types.specs.Numbers.{disposition_number}
-use Rattle.mach_types.specs.Tokens.{in_message}
+use Rattle.mach_types.specs.Numbers.{disposition, disposition_number, kind_sent}
+use Rattle.mach_types.specs.Tokens.{Kind, in_message}
+use Rattle.mach_types.specs.Messages.{Mark as MachineMark}
 use Rattle.mach_types.specs.Grammar.{Wire, data_item, port_item, WireBody, IsWire, IsWireBody}
+use Rattle.mach_types.specs.Bodies.{wire_words, item_rights, AllZip, SameItem, Through}
+use Rattle.mach_types.specs.Bodies.{body_words as machine_words}
 use Rattle.mach_model.specs.State.{State}
-use Rattle.mach_model.specs.CopyIn.{CopyWords, CopyItems, CopyBody}
+use Rattle.mach_model.specs.SentMeans.{IsSent}
+use Rattle.mach_model.specs.CopyIn.{CopyCarried, CopyBody}
 use Rattle.mach_model.proofs.Moving.{shape, shape-trans, shape-same}
 use Rattle.message_codec.specs.declared.words.PortWord.{PortWord}
-use Rattle.message_codec.specs.Words.{items_words, body_words}
+use Rattle.message_codec.specs.Words.{named, items_words, body_words}
 use Rattle.message_codec.proofs.Shapes.{All-head, All-tail}
 use Rattle.name_space.specs.Names.{Names}
 use Rattle.copyin_base.specs.declared.message.Carried.{Carried}
-use Rattle.copyin_base.specs.Kept.{marks_of, items_of, body_of, items_given, body_given}
+use Rattle.copyin_base.specs.Kept.{mark_of, marks_of, kind_of, items_of, body_of, items_given, body_given}
 use Rattle.copyin_base.specs.Worlds.{WorldView}
 use Rattle.copyin.specs.Judging.{CopiesBody, made_by_all}
 use Rattle.copyin.specs.Plans.{ChangesWords}
-use Rattle.copyin.proofs.Stepping.{Along, stepped, words_append}
-use Rattle.copyin.proofs.Numbering.{number_of, kind_given, given_ports}
+use Rattle.copyin.proofs.Stepping.{Along, stepped}
+use Rattle.copyin.proofs.Numbering.{of_number, number_of, kind_given, given_ports}
 
-abbrev pub words_of : (number : ℕ) → List ℕ → List PortWord
-words_of number ws = list_map (λ w. record { disposition = number; name = w }) ws
+-- words and rights as the machine has them
+abbrev pub pairs : List PortWord → List (ℕ × ℕ)
+pairs ws = list_map (λ w. (w.disposition, w.name)) ws
+
+abbrev pub rights_of : List Carried → List (Kind × MachineMark)
+rights_of cs = list_map (λ c. (kind_sent c.given, mark_of c.mark)) cs
 
 abbrev pub numbers : List Carried → List ℕ
 numbers cs = list_map (λ c. disposition_number c.given) cs
 
--- ---- the words of one item, and what comes after them
+abbrev pub dispositions : List PortWord → List ℕ
+dispositions ws = list_map (λ w. w.disposition) ws
 
-pub record Part (w : WorldView) (s : State) (o k task number : ℕ) (ws : List ℕ) (more : List PortWord) (cs : List Carried) (left : Names) : Type 0 where
-  pub w2 : WorldView
-  pub t : State
-  pub names : Names
-  pub along : Along w2 t o k task names
-  pub copy : CopyWords task (in_message o k) number ws s (marks_of (take (length ws) cs)) t
-  pub changes : ChangesWords w task (words_of number ws) (take (length ws) cs) w2
-  pub rest : t ≡ shape s t
-  pub later : CopiesBody names more (drop (length ws) cs) left
-  pub given : numbers (take (length ws) cs) ≡ replicate (length ws) number
-  pub total : w2.ledger.total ≡ w.ledger.total + made_by_all (take (length ws) cs)
+-- ---- word by word
 
-pub part : (w : WorldView) (s : State) (o k task : ℕ) (names : Names) (number : ℕ) (ws : List ℕ) (more : List PortWord) (cs : List Carried) (left : Names) → Along w s o k task names →
-    CopiesBody names (words_of number ws ++ more) cs left → Part w s o k task number ws more cs left
-part w s o k task names number [] more cs left at b =
-    record { w2 = w; t = s; names = names; along = at; copy = refl; changes = refl; rest = shape-same s s refl; later = b; given = refl; total = omega arith }
-part w s o k task names number (v ∷ ws) more [] left at b = absurd b
-part w s o k task names number (v ∷ ws) more (c ∷ cs) left at b =
-    let x = stepped w s o k task names (record { disposition = number; name = v }) c b.0 at b.1 in
-    let y = part x.w2 x.t o k task b.0 number ws more cs left x.along b.2 in
-    record {
-      w2 = y.w2;
-      t = y.t;
-      names = y.names;
-      along = y.along;
-      copy = (x.t, x.copy, y.copy, b.3);
-      changes = (x.w2, x.changes, y.changes);
-      rest = shape-trans s x.t y.t x.rest y.rest;
-      later = y.later;
-      given = ap (λ (n : ℕ). n ∷ numbers (take (length ws) cs)) (number_of number c.given x.given) ∙ ap (λ (ns : List ℕ). number ∷ ns) y.given;
-      total = omega (arith, x.total, y.total);
-    }
-
--- ---- all items
-
-pub record Whole (w : WorldView) (s : State) (o k task : ℕ) (xs : List Wire) (cs : List Carried) (left : Names) : Type 0 where
+pub record Part (w : WorldView) (s : State) (o k task : ℕ) (ws : List PortWord) (cs : List Carried) (left : Names) : Type 0 where
   pub w2 : WorldView
   pub t : State
   pub along : Along w2 t o k task left
-  pub copy : CopyItems task (in_message o k) xs s (items_of xs cs) t
-  pub changes : ChangesWords w task (items_words xs) cs w2
+  pub copy : Through (CopyCarried task (in_message o k)) s (pairs ws) (rights_of cs) t
+  pub changes : ChangesWords w task ws cs w2
   pub rest : t ≡ shape s t
-  pub given : numbers cs ≡ items_given xs
+  pub given : numbers cs ≡ dispositions ws
   pub total : w2.ledger.total ≡ w.ledger.total + made_by_all cs
 
-take_drop : {A : Type 0} (n : ℕ) (xs : List A) → take n xs ++ drop n xs ≡ xs
-take_drop zero xs = refl
-take_drop (suc n) [] = refl
-take_drop (suc n) (x ∷ xs) = ap (λ (ys : List _). x ∷ ys) (take_drop n xs)
-
-made_split : (n : ℕ) (cs : List Carried) → made_by_all cs ≡ made_by_all (take n cs) + made_by_all (drop n cs)
-made_split zero cs = omega arith
-made_split (suc n) [] = refl
-made_split (suc n) (c ∷ cs) = let e = made_split n cs in omega (arith, e)
-
-pub whole : (w : WorldView) (s : State) (o k task : ℕ) (names : Names) (xs : List Wire) (cs : List Carried) (left : Names) → Along w s o k task names → All IsWire xs →
-    CopiesBody names (items_words xs) cs left → Whole w s o k task xs cs left
-whole w s o k task names [] [] left at are b =
+pub part : (w : WorldView) (s : State) (o k task : ℕ) (names : Names) (ws : List PortWord) (cs : List Carried) (left : Names) → Along w s o k task names → CopiesBody names ws cs left →
+    Part w s o k task ws cs left
+part w s o k task names [] [] left at b =
     record { w2 = w; t = s; along = record { agrees = at.agrees; moving = at.moving; space = at.space; there = at.there; names_are = at.names_are ∙ sym b }; copy = refl; changes = refl; rest = shape-same s s refl; given = refl; total = omega arith }
-whole w s o k task names [] (c ∷ cs) left at are b = absurd b
-whole w s o k task names (data_item f n z c bytes padding ∷ xs) cs left at are b =
-    let x = data_item f n z c bytes padding in
-    let y = whole w s o k task names xs cs left at (All-tail IsWire x xs are) b in
-    record { w2 = y.w2; t = y.t; along = y.along; copy = (s, (refl, refl), y.copy); changes = y.changes; rest = y.rest; given = y.given; total = y.total }
-whole w s o k task names (port_item f number ws ∷ xs) cs left at are b =
-    let i = port_item f number ws in
-    let is = All-head IsWire i xs are in
-    let d = given_ports number is.1 in
-    let x = part w s o k task names number ws (items_words xs) cs left at b in
-    let y = whole x.w2 x.t o k task x.names xs (drop (length ws) cs) left x.along (All-tail IsWire i xs are) x.later in
+part w s o k task names [] (c ∷ cs) left at b = absurd b
+part w s o k task names (v ∷ ws) [] left at b = absurd b
+part w s o k task names (v ∷ ws) (c ∷ cs) left at b =
+    let x = stepped w s o k task names v c b.0 at b.1.0 in
+    let y = part x.w2 x.t o k task b.0 ws cs left x.along b.2 in
     record {
       w2 = y.w2;
       t = y.t;
       along = y.along;
-      copy = (x.t, (d.0, d.1, refl, kind_given number d.0 d.1, x.copy), y.copy);
-      changes = subst (λ (ds : List Carried). ChangesWords w task (words_of number ws ++ items_words xs) ds y.w2) (take_drop (length ws) cs)
-          (words_append w x.w2 task (words_of number ws) (items_words xs) (take (length ws) cs) (drop (length ws) cs) y.w2 x.changes y.changes);
+      copy = (x.t, (x.copy, b.1.1), y.copy);
+      changes = (x.w2, x.changes, y.changes);
       rest = shape-trans s x.t y.t x.rest y.rest;
-      given = ap numbers (sym (take_drop (length ws) cs)) ∙ map-append (λ (c : Carried). disposition_number c.given) (take (length ws) cs) (drop (length ws) cs)
-          ∙ ap (λ (ns : List ℕ). ns ++ numbers (drop (length ws) cs)) x.given ∙ ap (λ (ns : List ℕ). replicate (length ws) number ++ ns) y.given;
-      total = let e = made_split (length ws) cs in omega (arith, x.total, y.total, e);
+      given = ap (λ (n : ℕ). n ∷ numbers cs) (number_of v.disposition c.given x.given) ∙ ap (λ (ns : List ℕ). v.disposition ∷ ns) y.given;
+      total = omega (arith, x.total, y.total);
     }
+
+-- ---- the words are those of the machine
+
+named_pairs : (n : ℕ) (words : List ℕ) → pairs (named n words) ≡ list_map (λ (w : ℕ). (n, w)) words
+named_pairs n [] = refl
+named_pairs n (w ∷ ws) = ap (λ (ps : List (ℕ × ℕ)). (n, w) ∷ ps) (named_pairs n ws)
+
+items_pairs : (xs : List Wire) → pairs (items_words xs) ≡ flat_map wire_words xs
+items_pairs [] = refl
+items_pairs (data_item f n z c bytes padding ∷ xs) = items_pairs xs
+items_pairs (port_item f n words ∷ xs) =
+    map-append (λ (w : PortWord). (w.disposition, w.name)) (named n words) (items_words xs)
+    ∙ ap (λ (ps : List (ℕ × ℕ)). ps ++ pairs (items_words xs)) (named_pairs n words) ∙ ap (λ (ps : List (ℕ × ℕ)). list_map (λ (w : ℕ). (n, w)) words ++ ps) (items_pairs xs)
+
+pub body_pairs : (written : WireBody) → pairs (body_words written) ≡ machine_words written
+body_pairs (WireBody.raw bytes) = refl
+body_pairs (WireBody.items xs) = items_pairs xs
+
+named_numbers : (n : ℕ) (words : List ℕ) → dispositions (named n words) ≡ replicate (length words) n
+named_numbers n [] = refl
+named_numbers n (w ∷ ws) = ap (λ (ns : List ℕ). n ∷ ns) (named_numbers n ws)
+
+items_numbers : (xs : List Wire) → dispositions (items_words xs) ≡ items_given xs
+items_numbers [] = refl
+items_numbers (data_item f n z c bytes padding ∷ xs) = items_numbers xs
+items_numbers (port_item f n words ∷ xs) =
+    map-append (λ (w : PortWord). w.disposition) (named n words) (items_words xs)
+    ∙ ap (λ (ns : List ℕ). ns ++ dispositions (items_words xs)) (named_numbers n words) ∙ ap (λ (ns : List ℕ). replicate (length words) n ++ ns) (items_numbers xs)
+
+-- ---- and so are the rights
+
+-- those of one item, and those that come after them
+record Front (n : ℕ) (words : List ℕ) (cs : List Carried) (more : List ℕ) : Type 0 where
+  rights : rights_of cs ≡ list_map (λ (m : MachineMark). (kind_of n, m)) (marks_of (take (length words) cs)) ++ rights_of (drop (length words) cs)
+  later : numbers (drop (length words) cs) ≡ more
+  many : length (marks_of (take (length words) cs)) ≡ length words
+
+front : (n : ℕ) (words : List ℕ) (cs : List Carried) (more : List ℕ) → numbers cs ≡ replicate (length words) n ++ more → Front n words cs more
+front n [] cs more e = record { rights = refl; later = e; many = refl }
+front n (w ∷ ws) [] more e = absurd (let f : [] ≡ n ∷ (replicate (length ws) n ++ more) = e in cc)
+front n (w ∷ ws) (c ∷ cs) more e =
+    let both : disposition_number c.given ∷ numbers cs ≡ n ∷ (replicate (length ws) n ++ more) = e in
+    let one : disposition_number c.given ≡ n = cc in
+    let rest : numbers cs ≡ replicate (length ws) n ++ more = cc in
+    let y = front n ws cs more rest in
+    let kind : kind_sent c.given ≡ kind_of n = sym (kind_given n c.given (ap disposition (sym one) ∙ of_number c.given)) in
+    record {
+      rights = ap (λ (x : Kind). (x, mark_of c.mark) ∷ rights_of cs) kind ∙ ap (λ (rs : List (Kind × MachineMark)). (kind_of n, mark_of c.mark) ∷ rs) y.rights;
+      later = y.later;
+      many = ap suc y.many;
+    }
+
+items_rights : (xs : List Wire) (cs : List Carried) → numbers cs ≡ items_given xs → rights_of cs ≡ flat_map item_rights (items_of xs cs)
+items_rights [] [] e = refl
+items_rights [] (c ∷ cs) e = absurd (let f : disposition_number c.given ∷ numbers cs ≡ [] = e in cc)
+items_rights (data_item f n z c bytes padding ∷ xs) cs e = items_rights xs cs e
+items_rights (port_item f n words ∷ xs) cs e =
+    let x = front n words cs (items_given xs) e in
+    x.rights ∙ ap (λ (rs : List (Kind × MachineMark)). list_map (λ (m : MachineMark). (kind_of n, m)) (marks_of (take (length words) cs)) ++ rs) (items_rights xs (drop (length words) cs) x.later)
+
+same_items : (xs : List Wire) (cs : List Carried) → All IsWire xs → numbers cs ≡ items_given xs → AllZip (SameItem IsSent) xs (items_of xs cs)
+same_items [] cs are e = tt
+same_items (data_item f n z c bytes padding ∷ xs) cs are e = (refl, same_items xs cs (All-tail IsWire (data_item f n z c bytes padding) xs are) e)
+same_items (port_item f n words ∷ xs) cs are e =
+    let x = front n words cs (items_given xs) e in
+    let d = given_ports n (All-head IsWire (port_item f n words) xs are).1 in
+    ((refl, (d.0, d.1, kind_given n d.0 d.1), x.many), same_items xs (drop (length words) cs) (All-tail IsWire (port_item f n words) xs are) x.later)
+
+-- ---- the whole body
 
 pub record WholeBody (w : WorldView) (s : State) (o k task : ℕ) (written : WireBody) (cs : List Carried) (left : Names) : Type 0 where
   pub w2 : WorldView
@@ -124,8 +151,21 @@ pub record WholeBody (w : WorldView) (s : State) (o k task : ℕ) (written : Wir
 pub whole_body : (w : WorldView) (s : State) (o k task : ℕ) (names : Names) (written : WireBody) (cs : List Carried) (left : Names) → Along w s o k task names → IsWireBody written →
     CopiesBody names (body_words written) cs left → WholeBody w s o k task written cs left
 whole_body w s o k task names (WireBody.raw bytes) [] left at fits b =
-    record { w2 = w; t = s; along = record { agrees = at.agrees; moving = at.moving; space = at.space; there = at.there; names_are = at.names_are ∙ sym b }; copy = (refl, refl); changes = refl; rest = shape-same s s refl; given = refl; total = omega arith }
+    let x = part w s o k task names [] [] left at b in
+    record { w2 = x.w2; t = x.t; along = x.along; copy = (refl, x.copy); changes = x.changes; rest = x.rest; given = refl; total = x.total }
 whole_body w s o k task names (WireBody.raw bytes) (c ∷ cs) left at fits b = absurd b
 whole_body w s o k task names (WireBody.items xs) cs left at fits b =
-    let x = whole w s o k task names xs cs left at fits b in
-    record { w2 = x.w2; t = x.t; along = x.along; copy = x.copy; changes = x.changes; rest = x.rest; given = x.given; total = x.total }
+    let x = part w s o k task names (items_words xs) cs left at b in
+    let given : numbers cs ≡ items_given xs = x.given ∙ items_numbers xs in
+    let words : Through (CopyCarried task (in_message o k)) s (flat_map wire_words xs) (rights_of cs) x.t =
+    subst (λ (ps : List (ℕ × ℕ)). Through (CopyCarried task (in_message o k)) s ps (rights_of cs) x.t) (items_pairs xs) x.copy in
+    record {
+      w2 = x.w2;
+      t = x.t;
+      along = x.along;
+      copy = (same_items xs cs fits given, subst (λ (rs : List (Kind × MachineMark)). Through (CopyCarried task (in_message o k)) s (flat_map wire_words xs) rs x.t) (items_rights xs cs given) words);
+      changes = x.changes;
+      rest = x.rest;
+      given = given;
+      total = x.total;
+    }

@@ -6,6 +6,7 @@ use Rattle.std.proofs.lemmas.Bool.Decides.{eqb_tells}
 use Rattle.std.specs.FinMap as map
 use Rattle.mach_types.specs.Grammar.{WireBody}
 use Rattle.mach_types.specs.Numbers.{null_word, dead_word, most_rights}
+use Rattle.mach_model.proofs.Walks.{Through-append}
 use Rattle.message_codec.specs.declared.text.Parsed.{Parsed}
 use Rattle.message_codec.specs.declared.words.PortWord.{PortWord}
 use Rattle.message_codec.specs.Words.{body_words}
@@ -35,7 +36,7 @@ body_all : (names : Names) (ws : List PortWord) (cs : List Carried) (after : Nam
 body_all names [] [] after so = so
 body_all names [] (c ∷ cs) after so = absurd so
 body_all names (w ∷ ws) [] after so = absurd so
-body_all names (w ∷ ws) (c ∷ cs) after so = (so.0, so.1, body_all so.0 ws cs after so.2)
+body_all names (w ∷ ws) (c ∷ cs) after so = (so.0, so.1.0, body_all so.0 ws cs after so.2)
 
 reply_all : (names : Names) (ws : List PortWord) (reply : Option Carried) (after : Names) → CopiesReply names ws reply after → CopiesAll names ws (option_to_list reply) after
 reply_all names [] None after so = so
@@ -44,12 +45,6 @@ reply_all names (w ∷ []) None after so = absurd so
 reply_all names (w ∷ []) (Some c) after so = (after, so, refl)
 reply_all names (w ∷ v ∷ ws) None after so = absurd so
 reply_all names (w ∷ v ∷ ws) (Some c) after so = absurd so
-
-all_append : (a b d : Names) (ws vs : List PortWord) (cs ds : List Carried) → CopiesAll a ws cs b → CopiesAll b vs ds d → CopiesAll a (ws ++ vs) (cs ++ ds) d
-all_append a b d [] vs [] ds x y = subst (λ (n : Names). CopiesAll n vs ds d) x y
-all_append a b d [] vs (c ∷ cs) ds x y = absurd x
-all_append a b d (w ∷ ws) vs [] ds x y = absurd x
-all_append a b d (w ∷ ws) vs (c ∷ cs) ds x y = (x.0, x.1, all_append x.0 b d ws vs cs ds x.2 y)
 
 all_length : (a b : Names) (ws : List PortWord) (cs : List Carried) → CopiesAll a ws cs b → length ws ≡ length cs
 all_length a b [] [] x = refl
@@ -94,7 +89,7 @@ module _ (w : WorldView) (task : ℕ) (parsed : Parsed) (written : WireBody) (by
     copies = (
       p.plans.judged.first,
       first_word,
-      all_append p.plans.judged.first p.plans.judged.second p.plans.judged.last (reply_words parsed) (body_words written) (option_to_list p.plans.judged.reply) p.plans.judged.rights
+      Through-append CopiesWord p.plans.judged.first p.plans.judged.second p.plans.judged.last (reply_words parsed) (body_words written) (option_to_list p.plans.judged.reply) p.plans.judged.rights
           (reply_all p.plans.judged.first (reply_words parsed) p.plans.judged.reply p.plans.judged.second p.plans.judged.copies_reply)
           (body_all p.plans.judged.second (body_words written) p.plans.judged.rights p.plans.judged.last p.plans.judged.copies_body),
     );
@@ -149,12 +144,6 @@ rest_goes old new task [] vs [] ds go ch = subst (λ (x : WorldView). CanGo x ta
 rest_goes old new task [] vs (c ∷ cs) ds go ch = absurd ch
 rest_goes old new task (w ∷ ws) vs [] ds go ch = absurd ch
 rest_goes old new task (w ∷ ws) vs (c ∷ cs) ds go ch = rest_goes ch.0 new task ws vs cs ds (go_on old ch.0 task w (ws ++ vs) c (cs ++ ds) go ch.1) ch.2
-
-changes_append : (a b d : WorldView) (task : ℕ) (ws vs : List PortWord) (cs ds : List Carried) → ChangesWords a task ws cs b → ChangesWords b task vs ds d → ChangesWords a task (ws ++ vs) (cs ++ ds) d
-changes_append a b d task [] vs [] ds x y = subst (λ (n : WorldView). ChangesWords n task vs ds d) x y
-changes_append a b d task [] vs (c ∷ cs) ds x y = absurd x
-changes_append a b d task (w ∷ ws) vs [] ds x y = absurd x
-changes_append a b d task (w ∷ ws) vs (c ∷ cs) ds x y = (x.0, x.1, changes_append x.0 b d task ws vs cs ds x.2 y)
 
 -- ---- ports stay, and so do spare slots and room for names
 
@@ -237,7 +226,7 @@ pub commits : (old mid : WorldView) (task : ℕ) (parsed : Parsed) (written : Wi
 commits old mid task parsed written bytes plan p spaces ports new_ports ledger sets ca live view queued =
     let found = some_of (map.get ports.ports plan.port) live in
     let v : PortView Kept = found.0 in
-    let all = changes_append ca.one ca.two mid task (option_to_list plan.words.reply) plan.words.body.items (option_to_list plan.message.reply) plan.message.rights ca.reply ca.body in
+    let all = Through-append (λ old w c new. ChangesWord old task w c new) ca.one ca.two mid (option_to_list plan.words.reply) plan.words.body.items (option_to_list plan.message.reply) plan.message.rights ca.reply ca.body in
     let whole : ChangesWords old task (plan.words.destination ∷ (option_to_list plan.words.reply ++ plan.words.body.items)) (plan.destination ∷ (option_to_list plan.message.reply ++ plan.message.rights)) mid =
     (ca.one, ca.destination, all) in
     let e : ports ≡ mid.ports = ap (λ (w : WorldView). w.ports) view in

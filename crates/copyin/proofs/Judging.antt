@@ -6,6 +6,7 @@ use Rattle.std.specs.FinMap as map
 use Rattle.std.proofs.lemmas.List.{take_more, take-append-drop, drop_more}
 use Rattle.mach_types.specs.declared.rights.Disposition.{Disposition}
 use Rattle.mach_types.specs.Numbers.{disposition, null_word, dead_word}
+use Rattle.mach_model.proofs.Walks.{Through-append, OneFails-after}
 use Rattle.message_codec.specs.declared.words.PortWord.{PortWord}
 use Rattle.name_space.specs.declared.Entry.{Entry}
 use Rattle.name_space.specs.Names.{Names}
@@ -16,7 +17,7 @@ use Rattle.copyin_base.specs.declared.message.Mark.{Mark}
 use Rattle.copyin_base.specs.declared.message.Mark.TheVariants as mark
 use Rattle.copyin.specs.Copies.{copied_from}
 use Rattle.copyin.specs.Goes.{LeadsNowhere}
-use Rattle.copyin.specs.Judging.{CopiesName, CopiesWord, CopiesBody, IsBad, IsLeft, BodyIsBad}
+use Rattle.copyin.specs.Judging.{CopiesName, CopiesWord, CopiesCarried, CopiesBody, IsBad, IsLeft, BodyIsBad}
 use Rattle.copyin.specs.Overlays.{Overlays}
 
 same_value : {X : Type 0} (o : Option X) (x y : X) → o ≡ Some x → o ≡ Some y → x ≡ y
@@ -55,21 +56,6 @@ none_copied names w d e given found none c after is =
 
 -- ---- a body, word by word
 
-body-push : (names mid after : Names) (ws : List PortWord) (cs : List Carried) (w : PortWord) (c : Carried) → CopiesBody names ws cs mid → CopiesWord mid w c after → ¬ (IsLeft w)
-    → CopiesBody names (ws ++ w ∷ []) (cs ++ c ∷ []) after
-body-push names mid after [] [] w c so word not = (after, subst (λ (n : Names). CopiesWord n w c after) so word, refl, not)
-body-push names mid after [] (d ∷ cs) w c so word not = absurd so
-body-push names mid after (v ∷ ws) [] w c so word not = absurd so
-body-push names mid after (v ∷ ws) (d ∷ cs) w c so word not = (so.0, so.1, body-push so.0 mid after ws cs w c so.2 word not, so.3)
-
-body-bad : (names mid : Names) (ws : List PortWord) (cs : List Carried) (w : PortWord) (rest : List PortWord) → CopiesBody names ws cs mid → IsBad mid w ⊎ IsLeft w
-    → BodyIsBad names (ws ++ w ∷ rest)
-body-bad names mid [] [] w rest so (inl bad) = inl (subst (λ (n : Names). IsBad n w) so bad)
-body-bad names mid [] [] w rest so (inr is) = inr (inl is)
-body-bad names mid [] (d ∷ cs) w rest so h = absurd so
-body-bad names mid (v ∷ ws) [] w rest so h = absurd so
-body-bad names mid (v ∷ ws) (d ∷ cs) w rest so h = inr (inr (d, so.0, so.1, body-bad so.0 mid ws cs w rest so.2 h))
-
 -- The words so far go, and leave what is over the names.
 pub record IsJudged (old new : Touched) (names : Names) (ws : List PortWord) (cs : List Carried) : Type 0 where
   pub so : (now : Names) → Overlays old names now → (mid : Names) × CopiesBody now ws cs mid × Overlays new names mid
@@ -86,7 +72,7 @@ judged-more old mid new names words i w cs c h is j not goes = record {
       let a = j.so now o in
       let b = goes a.0 a.2 in
       let more : take (i + 1) words ≡ take i words ++ w ∷ [] = take_more words i w h ∙ ap (λ (x : PortWord). take i words ++ x ∷ []) (sym is) in
-      (b.0, subst (λ (ws : List PortWord). CopiesBody now ws (cs ++ c ∷ []) b.0) (sym more) (body-push now a.0 b.0 (take i words) cs w c a.1 b.1 not), b.2);
+      (b.0, subst (λ (ws : List PortWord). CopiesBody now ws (cs ++ c ∷ []) b.0) (sym more) (Through-append CopiesCarried now a.0 b.0 (take i words) (w ∷ []) cs (c ∷ []) a.1 (b.0, (b.1, not), refl)), b.2);
 }
 
 pub judged-bad : (old mid : Touched) (names : Names) (words : List PortWord) (i : ℕ) (w : PortWord) (cs : List Carried) → i < length words
@@ -97,7 +83,8 @@ judged-bad old mid names words i w cs h is j bad now o =
     let a = j.so now o in
     let rest : drop i words ≡ w ∷ drop (i + 1) words = drop_more words i w h ∙ ap (λ (x : PortWord). x ∷ drop (i + 1) words) (sym is) in
     let whole : take i words ++ w ∷ drop (i + 1) words ≡ words = ap (λ (ws : List PortWord). take i words ++ ws) (sym rest) ∙ take-append-drop i words in
-    subst (λ (ws : List PortWord). BodyIsBad now ws) whole (body-bad now a.0 (take i words) cs w (drop (i + 1) words) a.1 (bad a.0 a.2))
+    subst (λ (ws : List PortWord). BodyIsBad now ws) whole (OneFails-after (λ names w. IsBad names w ⊎ IsLeft w) (λ names w after. (c : Carried) × CopiesWord names w c after) CopiesCarried (λ m v d n goes. (d, goes.0))
+    now a.0 (take i words) (w ∷ drop (i + 1) words) cs a.1 (inl (bad a.0 a.2)))
 
 -- ---- words that are no names, and names
 

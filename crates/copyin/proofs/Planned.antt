@@ -14,6 +14,7 @@ use Rattle.mach_model.specs.CopyIn.{CopyRight, CopyReply}
 use Rattle.mach_model.specs.Send.{Copied}
 use Rattle.mach_model.proofs.Moving.{moving, shape, shape-trans}
 use Rattle.mach_model.proofs.Carrying.{NoneMoved, none_moved}
+use Rattle.mach_model.proofs.Walks.{Through-append}
 use Rattle.message_codec.specs.declared.text.Parsed.{Parsed}
 use Rattle.message_codec.specs.declared.words.PortWord.{PortWord}
 use Rattle.message_codec.specs.Parses.{Parses}
@@ -27,7 +28,7 @@ use Rattle.copyin.specs.Copies.{CopiesRight}
 use Rattle.copyin_base.specs.Shows.{target_of, Shows}
 use Rattle.copyin.specs.Judging.{CopiesReply, made_by_reply}
 use Rattle.copyin.specs.Plans.{destination_word, reply_words, Judged, made_in, message_for, ChangesWord, ChangesWords, option_list}
-use Rattle.copyin.proofs.Stepping.{Along, Went, went, stepped, words_append}
+use Rattle.copyin.proofs.Stepping.{Along, Went, went, stepped}
 use Rattle.copyin.proofs.Bodies.{WholeBody, whole_body}
 use Rattle.copyin.proofs.Texts.{good_header, no_answer}
 use Rattle.copyin.proofs.Numbering.{number_of}
@@ -87,7 +88,7 @@ module _ (w : WorldView) (s : State) (o k task : ℕ) (names : Names) (at : Alon
   go false e None h = absurd h
   go false e (Some c) h =
       let x = stepped w s o k task names (record { disposition = parsed.local_kind; name = parsed.local }) c left at h in
-      record { w2 = x.w2; t = x.t; along = x.along; copy = (c.given, x.given, refl, x.copy); changes = (x.w2, x.changes, refl); rest = x.rest; total = x.total }
+      record { w2 = x.w2; t = x.t; along = x.along; copy = ((c.given, x.given, refl), x.copy); changes = (x.w2, x.changes, refl); rest = x.rest; total = x.total }
 
   pub replied : CopiesReply names (reply_words parsed) reply left → Replied w s o k task parsed.local_kind parsed.local (reply_words parsed) reply left
   replied h = go (parsed.local_kind == 0) refl reply h
@@ -181,5 +182,5 @@ module _ (w : WorldView) (s : State) (sh : Shows w s) (task : ℕ) (bytes : List
       let ok = usable w s j.port (length (s.log j.port)) task j.space.names start parsed.remote j.copies_destination.entry j.copies_destination.found in (
         first.w2,
         name_changes w first.w2 task (destination_word parsed) j.destination ok.0 ok.1 first.changes,
-        words_append first.w2 second.w2 task (reply_words parsed) (body_words text.written) (option_list j.reply) j.rights third.w2 second.changes third.changes,
+        Through-append (λ old w c new. ChangesWord old task w c new) first.w2 second.w2 third.w2 (reply_words parsed) (body_words text.written) (option_list j.reply) j.rights second.changes third.changes,
       )

@@ -1,26 +1,24 @@
 -- Words that can't be copied in, one after the other: the machine refuses them too.
-use Rattle.std.proofs.Common.{◌≡◌, ℕ, List, [], ◌∷◌, ◌++◌, Option, Some, None, refl, sym, ap, subst, ◌∙◌, Bool, true, false, ◌⊎◌, inl, inr, length, All}
+use Rattle.std.proofs.Common.{◌≡◌, ℕ, List, [], ◌∷◌, Option, Some, None, refl, sym, ap, subst, ◌∙◌, Bool, true, false, ◌⊎◌, inl, inr, length}
 use Rattle.std.specs.Prelude.{◌≢◌, ◌==◌, if◌then◌else◌, slice_get}
-use Rattle.std.proofs.lemmas.Bool.Decides.{eqb_tells}
 use Rattle.mach_types.specs.declared.rights.Disposition.{Disposition}
 use Rattle.mach_types.specs.declared.rights.Disposition.TheVariants.{MoveReceive}
 use Rattle.mach_types.specs.declared.codes.MsgReturn.TheVariants.{SendNoBuffer}
-use Rattle.mach_types.specs.Numbers.{disposition_number, kind_sent, null_word, dead_word, msg_number}
+use Rattle.mach_types.specs.Numbers.{msg_number}
 use Rattle.mach_types.specs.Tokens.{in_message}
-use Rattle.mach_types.specs.Messages.{to_port, dead, rights}
+use Rattle.mach_types.specs.Messages.{to_port, dead}
 use Rattle.mach_types.specs.Messages.{Mark as MachineMark}
-use Rattle.mach_types.specs.Grammar.{Wire, data_item, port_item, WireBody, IsWire, IsWireBody}
+use Rattle.mach_types.specs.Bodies.{OneFails}
 use Rattle.mach_model.specs.State.{State, Target, lookup}
 use Rattle.mach_model.specs.SentMeans.{target_mark}
-use Rattle.mach_model.specs.CopyIn.{CopyRight, CopyWords, CopyReply}
-use Rattle.mach_model.specs.Send.{IsLegalName, IsDeadName, IsBadWord, WordsRefuse, ItemsRefuse, BodyRefuses, IsBadDestination, ReplyRefuses, RightsRefuse, sent_guards, place_of}
+use Rattle.mach_model.specs.CopyIn.{CopyRight, CopyWord, CopyReply}
+use Rattle.mach_model.specs.Send.{IsLegalName, IsDeadName, IsBadWord, IsRefused, DestinationRefuses, ReplyRefuses, BodyRefuses, WholeRefuses, RightsRefuse, sent_guards, place_at}
 use Rattle.mach_types.specs.Guards.{FirstIs}
 use Rattle.mach_model.proofs.Moving.{moving}
 use Rattle.message_codec.specs.declared.text.Parsed.{Parsed}
 use Rattle.message_codec.specs.declared.words.PortWord.{PortWord}
 use Rattle.message_codec.specs.Parses.{Parses}
-use Rattle.message_codec.specs.Words.{items_words, body_words}
-use Rattle.message_codec.proofs.Shapes.{All-head, All-tail}
+use Rattle.message_codec.specs.Words.{body_words}
 use Rattle.name_space.specs.Names.{Names, SpaceView}
 use Rattle.copyin_base.specs.declared.message.Carried.{Carried}
 use Rattle.copyin_base.specs.declared.message.Mark.{Mark}
@@ -28,11 +26,10 @@ use Rattle.copyin_base.specs.declared.message.Mark.TheVariants as mark
 use Rattle.copyin_base.specs.Kept.{mark_of, reply_of}
 use Rattle.copyin_base.specs.Worlds.{WorldView}
 use Rattle.copyin_base.specs.Shows.{Shows}
-use Rattle.copyin.specs.Judging.{CopiesName, CopiesReply, IsBad, IsLeft, BodyIsBad}
-use Rattle.copyin.specs.Plans.{MayWantMemory, destination_word, reply_words, CannotPlan}
+use Rattle.copyin.specs.Judging.{CopiesName, CopiesReply, IsBad, BodyIsBad}
+use Rattle.copyin.specs.Plans.{MayWantMemory, destination_word, reply_words, Judged, CannotPlan}
 use Rattle.copyin.proofs.Stepping.{Along, Went, went, stepped}
-use Rattle.copyin.proofs.Bodies.{words_of}
-use Rattle.copyin.proofs.Numbering.{given_ports}
+use Rattle.copyin.proofs.Bodies.{pairs, body_pairs}
 use Rattle.copyin.proofs.Texts.{no_answer}
 use Rattle.copyin.proofs.Planned.{Replied, replied, third, copied}
 use Rattle.copyin.proofs.Planned.{message as planned_message}
@@ -43,68 +40,16 @@ module _ (w : WorldView) (s : State) (o k task : ℕ) (names : Names) (at : Alon
   pub bad_word : (word : PortWord) → IsBad names word → IsBadWord s task word.disposition word.name
   bad_word word bad = (bad.0, bad.1, λ legal. let x = legal_copies w s o k task names at word.name word.disposition legal in bad.2 x.0 x.1 x.2)
 
--- whether a word is one that isn't taken yet
-is_left : (word : PortWord) → IsLeft word ⊎ ¬ (IsLeft word)
-is_left word = elim (eqb_tells word.disposition (disposition_number MoveReceive)) [
-  | inl a ↦ elim (eqb_tells word.name null_word) [
-    | inl b ↦ inr (λ h. h.1 b.1)
-    | inr b ↦ elim (eqb_tells word.name dead_word) [
-      | inl c ↦ inr (λ h. h.2 c.1)
-      | inr c ↦ inl (a.1, b.1, c.1)
-    ]
-  ]
-  | inr a ↦ inr (λ h. a.1 h.0)
-]
+-- ---- a body
 
--- ---- the words of one item, and what comes after them
-
-pub record Later (w : WorldView) (s : State) (o k task number : ℕ) (ws : List ℕ) (more : List PortWord) : Type 0 where
-  pub w2 : WorldView
-  pub t : State
-  pub names : Names
-  pub along : Along w2 t o k task names
-  pub marks : List MachineMark
-  pub copy : CopyWords task (in_message o k) number ws s marks t
-  pub bad : BodyIsBad names more
-
-pub bad_part : (w : WorldView) (s : State) (o k task : ℕ) (names : Names) (number : ℕ) (ws : List ℕ) (more : List PortWord) → Along w s o k task names →
-    BodyIsBad names (words_of number ws ++ more) → WordsRefuse task (in_message o k) number ws s ⊎ Later w s o k task number ws more
-bad_part w s o k task names number [] more at bad = inr record { w2 = w; t = s; names = names; along = at; marks = []; copy = refl; bad = bad }
-bad_part w s o k task names number (v ∷ ws) more at (inl bad) = inl (inl (bad_word w s o k task names at (record { disposition = number; name = v }) bad))
-bad_part w s o k task names number (v ∷ ws) more at (inr (inl left)) = inl (inr (inl left))
-bad_part w s o k task names number (v ∷ ws) more at (inr (inr h)) =
-    let word : PortWord = record { disposition = number; name = v } in
-    let x = stepped w s o k task names word h.0 h.1 at h.2 in
-    elim (is_left word) [
-      | inl left ↦ inl (inr (inl left))
-      | inr not ↦ elim (bad_part x.w2 x.t o k task h.1 number ws more x.along h.3) [
-        | inl r ↦ inl (inr (inr (mark_of h.0.mark, x.t, x.copy, r)))
-        | inr y ↦ inr record { w2 = y.w2; t = y.t; names = y.names; along = y.along; marks = mark_of h.0.mark ∷ y.marks; copy = (x.t, x.copy, y.copy, not); bad = y.bad }
-      ]
-    ]
-
-pub bad_items : (w : WorldView) (s : State) (o k task : ℕ) (names : Names) (xs : List Wire) → Along w s o k task names → All IsWire xs → BodyIsBad names (items_words xs) →
-    ItemsRefuse task (in_message o k) xs s
-bad_items w s o k task names [] at are bad = bad
-bad_items w s o k task names (data_item f n z c bytes padding ∷ xs) at are bad = bad_items w s o k task names xs at (All-tail IsWire (data_item f n z c bytes padding) xs are) bad
-bad_items w s o k task names (port_item f number ws ∷ xs) at are bad =
-    let i = port_item f number ws in
-    let is = All-head IsWire i xs are in
-    let d = given_ports number is.1 in
-    elim (bad_part w s o k task names number ws (items_words xs) at bad) [
-      | inl r ↦ inl r
-      | inr y ↦ inr (
-        rights f (kind_sent d.0) y.marks,
-        y.t,
-        (d.0, d.1, refl, refl, y.copy),
-        bad_items y.w2 y.t o k task y.names xs y.along (All-tail IsWire i xs are) y.bad,
-      )
-    ]
-
-pub bad_body : (w : WorldView) (s : State) (o k task : ℕ) (names : Names) (written : WireBody) → Along w s o k task names → IsWireBody written → BodyIsBad names (body_words written) →
-    BodyRefuses task (in_message o k) written s
-bad_body w s o k task names (WireBody.raw bytes) at fits bad = bad
-bad_body w s o k task names (WireBody.items xs) at fits bad = bad_items w s o k task names xs at fits bad
+pub bad_words : (w : WorldView) (s : State) (o k task : ℕ) (names : Names) (ws : List PortWord) → Along w s o k task names → BodyIsBad names ws →
+    OneFails (IsRefused task) (λ old v new. (m : MachineMark) × CopyWord task (in_message o k) v.0 v.1 old m new) s (pairs ws)
+bad_words w s o k task names [] at bad = bad
+bad_words w s o k task names (v ∷ ws) at (inl (inl bad)) = inl (inl (bad_word w s o k task names at v bad))
+bad_words w s o k task names (v ∷ ws) at (inl (inr left)) = inl (inr left)
+bad_words w s o k task names (v ∷ ws) at (inr (mid, (c, word), rest)) =
+    let x = stepped w s o k task names v c mid at word in
+    inr (x.t, (mark_of c.mark, x.copy), bad_words x.w2 x.t o k task mid ws x.along rest)
 
 -- ---- the whole message
 
@@ -141,17 +86,20 @@ module _ (w : WorldView) (s : State) (sh : Shows w s) (task : ℕ) (bytes : List
           let x = legal_copies w s 0 (length (s.log 0)) task space.names (start_at 0 space there) parsed.remote parsed.remote_kind l in
           would_be x.0 x.1 x.2 x.0.mark refl x.3
 
-    decided : (o : Option Target) → lookup s task parsed.remote ≡ o → IsBadDestination s task parsed.remote_kind parsed.remote
+    abbrev BadAs : (number name : ℕ) → Type 0
+    BadAs number name = ¬ (IsLegalName s task name number) ⊎ IsDeadName s task name
+
+    decided : (o : Option Target) → lookup s task parsed.remote ≡ o → BadAs parsed.remote_kind parsed.remote
     decided (Some (Target.dead n)) e = inr (n, e)
     decided None e = inl (λ l. let d = would_be_dead l in let f : None ≡ Some (Target.dead d.0) = sym e ∙ d.1 in cc)
     decided (Some (Target.port p)) e = inl (λ l. let d = would_be_dead l in let f : Some (Target.port p) ≡ Some (Target.dead d.0) = sym e ∙ d.1 in cc)
     decided (Some (Target.once p)) e = inl (λ l. let d = would_be_dead l in let f : Some (Target.once p) ≡ Some (Target.dead d.0) = sym e ∙ d.1 in cc)
     decided (Some (Target.set n)) e = inl (λ l. let d = would_be_dead l in let f : Some (Target.set n) ≡ Some (Target.dead d.0) = sym e ∙ d.1 in cc)
 
-    bad_destination : IsBadDestination s task text.header.remote_kind text.header.remote
+    bad_destination : DestinationRefuses s task text.header
     bad_destination =
-        subst (λ (n : ℕ). IsBadDestination s task n text.header.remote) text.remote_kind
-        (subst (λ (n : ℕ). IsBadDestination s task parsed.remote_kind n) text.remote (decided (lookup s task parsed.remote) refl))
+        subst (λ (n : ℕ). BadAs n text.header.remote) text.remote_kind
+        (subst (λ (n : ℕ). BadAs parsed.remote_kind n) text.remote (decided (lookup s task parsed.remote) refl))
 
   -- ---- what comes after the destination
 
@@ -174,12 +122,17 @@ module _ (w : WorldView) (s : State) (sh : Shows w s) (task : ℕ) (bytes : List
     not_none true e r is = absurd (let f : [] ≡ r ∷ [] = is in cc)
     not_none false e r is = ((λ z. let f : parsed.local_kind == 0 ≡ true = ap (λ (m : ℕ). m == 0) z in cc), (let f : record { disposition = parsed.local_kind; name = parsed.local } ∷ [] ≡ r ∷ [] = is in cc))
 
-    bad_reply : (r : PortWord) → reply_words parsed ≡ r ∷ [] → IsBad first r → ReplyRefuses x1.t task text.header.local_kind text.header.local
+    bad_reply : (r : PortWord) → reply_words parsed ≡ r ∷ [] → IsBad first r → ReplyRefuses s task text.header
     bad_reply r is bad =
         let y = not_none (parsed.local_kind == 0) refl r is in
         let z = bad_word x1.w2 x1.t p (length (s.log p)) task first x1.along (record { disposition = parsed.local_kind; name = parsed.local }) (subst (IsBad first) y.1 bad) in
-        subst (λ (m : ℕ). ReplyRefuses x1.t task text.header.local_kind m) text.local
-        (subst (λ (m : ℕ). ReplyRefuses x1.t task m parsed.local) text.local_kind (y.0, z))
+        record {
+          port = p;
+          first = x1.t;
+          destination = to_header;
+          some = λ e. y.0 (text.local_kind ∙ e);
+          bad = subst (λ (m : ℕ). IsBadWord x1.t task text.header.local_kind m) text.local (subst (λ (m : ℕ). IsBadWord x1.t task m parsed.local) text.local_kind z);
+        }
 
     module _ (reply : Option Carried) (second : Names) (r : CopiesReply first (reply_words parsed) reply second) where
       x2 : Replied x1.w2 x1.t p (length (s.log p)) task parsed.local_kind parsed.local (reply_words parsed) reply second
@@ -190,35 +143,34 @@ module _ (w : WorldView) (s : State) (sh : Shows w s) (task : ℕ) (bytes : List
           subst (λ (m : ℕ). CopyReply task (in_message p (length (s.log p))) text.header.local_kind m x1.t (reply_of reply) x2.t) text.local
           (subst (λ (m : ℕ). CopyReply task (in_message p (length (s.log p))) m parsed.local x1.t (reply_of reply) x2.t) text.local_kind x2.copy)
 
-      bad_rights : BodyIsBad second (body_words text.written) → BodyRefuses task (in_message p (length (s.log p))) text.written x2.t
-      bad_rights bad = bad_body x2.w2 x2.t p (length (s.log p)) task second text.written x2.along text.message.spells.body_fits bad
+      bad_rights : BodyIsBad second (body_words text.written) → BodyRefuses s task text.header text.written
+      bad_rights bad = record {
+        port = p;
+        first = x1.t;
+        destination = to_header;
+        answer = reply_of reply;
+        second = x2.t;
+        reply = reply_header;
+        refused = subst (OneFails (IsRefused task) (λ old v new. (m : MachineMark) × CopyWord task (in_message p (length (s.log p))) v.0 v.1 old m new) x2.t) (body_pairs text.written)
+            (bad_words x2.w2 x2.t p (length (s.log p)) task second (body_words text.written) x2.along bad);
+      }
+
+  -- ---- the message as a whole
+
+  whole_refused : (j : Judged w task parsed text.written) (code : ℕ) →
+      FirstIs (sent_guards (planned_message w s sh task bytes parsed text j) (place_at s j.port) (third w s sh task bytes parsed text j).t) code → WholeRefuses s task text.header text.written code
+  whole_refused j code first = record {
+    m = planned_message w s sh task bytes parsed text j;
+    copied_state = (third w s sh task bytes parsed text j).t;
+    copied = copied w s sh task bytes parsed text j;
+    refused = first;
+  }
 
   -- What the tables refuse, the machine does, or memory may be wanted.
   pub cannot : (code : ℕ) → CannotPlan w task parsed text.written code → MayWantMemory w task parsed text.written × (code ≡ msg_number SendNoBuffer) ⊎ RightsRefuse s task text.header text.written code
   cannot code (inl h) = inr (inl (bad_destination h.0 h.1 h.2, h.3))
-  cannot code (inr (inl (space, there, p, c, to, first, n, inl r))) =
-      inr (inr (inl (p, (x1 space there p c to first n).t, to_header space there p c to first n, inl (bad_reply space there p c to first n r.0 r.1 r.2, r.3))))
-  cannot code (inr (inl (space, there, p, c, to, first, n, inr b))) =
-      inr (inr (inl (
-        p,
-        (x1 space there p c to first n).t,
-        to_header space there p c to first n,
-        inr (reply_of b.0, (x2 space there p c to first n b.0 b.1 b.2).t, reply_header space there p c to first n b.0 b.1 b.2, bad_rights space there p c to first n b.0 b.1 b.2 b.3, b.4),
-      )))
-  cannot code (inr (inr (inl (j, inl h)))) =
-      inr (inr (inr (
-        planned_message w s sh task bytes parsed text j,
-        (third w s sh task bytes parsed text j).t,
-        copied w s sh task bytes parsed text j,
-        subst (FirstIs (sent_guards (planned_message w s sh task bytes parsed text j) (place_of s (planned_message w s sh task bytes parsed text j)) (third w s sh task bytes parsed text j).t)) (sym h.1)
-            (refused_full w s sh 0 task bytes parsed text j h.0),
-      )))
-  cannot code (inr (inr (inl (j, inr h)))) =
-      inr (inr (inr (
-        planned_message w s sh task bytes parsed text j,
-        (third w s sh task bytes parsed text j).t,
-        copied w s sh task bytes parsed text j,
-        subst (FirstIs (sent_guards (planned_message w s sh task bytes parsed text j) (place_of s (planned_message w s sh task bytes parsed text j)) (third w s sh task bytes parsed text j).t)) (sym h.2)
-            (refused_many w s sh 0 task bytes parsed text j h.0 h.1),
-      )))
+  cannot code (inr (inl (space, there, p, c, to, first, n, inl r))) = inr (inr (inl (bad_reply space there p c to first n r.0 r.1 r.2, r.3)))
+  cannot code (inr (inl (space, there, p, c, to, first, n, inr b))) = inr (inr (inr (inl (bad_rights space there p c to first n b.0 b.1 b.2 b.3, b.4))))
+  cannot code (inr (inr (inl (j, inl h)))) = inr (inr (inr (inr (subst (WholeRefuses s task text.header text.written) (sym h.1) (whole_refused j _ (refused_full w s sh 0 task bytes parsed text j h.0))))))
+  cannot code (inr (inr (inl (j, inr h)))) = inr (inr (inr (inr (subst (WholeRefuses s task text.header text.written) (sym h.2) (whole_refused j _ (refused_many w s sh 0 task bytes parsed text j h.0 h.1))))))
   cannot code (inr (inr (inr h))) = inl h

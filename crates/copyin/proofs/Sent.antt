@@ -8,7 +8,7 @@ use Rattle.mach_types.specs.Tokens.{send, send_once}
 use Rattle.mach_types.specs.Messages.{Message, Entry}
 use Rattle.mach_types.specs.Guards.{FirstIs, NoneHolds}
 use Rattle.mach_model.specs.State.{State, at, queue}
-use Rattle.mach_model.specs.Send.{Sends, ClosesLoop, sent_guards, place_of}
+use Rattle.mach_model.specs.Send.{Sends, ClosesLoop, sent_guards, place_at}
 use Rattle.mach_model.specs.Send.{entry as logged}
 use Rattle.mach_model.proofs.At.{at_own, at_other}
 use Rattle.mach_model.proofs.Moving.{shape}
@@ -100,7 +100,7 @@ module _ (w : WorldView) (s : State) (sh : Shows w s) (now task : ℕ) (bytes : 
   shaped : copied_state ≡ shape s copied_state
   shaped = shape_is w s sh task bytes parsed text j
 
-  no_loop : ¬ (ClosesLoop copied_state j.port (place_of s m))
+  no_loop : ¬ (ClosesLoop copied_state j.port (place_at s j.port))
   no_loop = never_loops task text.header text.written s m copied_state sh.lawful (none_receives w s sh task bytes parsed text j) (copied w s sh task bytes parsed text j)
 
   -- the port that it goes to, and its queue
@@ -133,13 +133,13 @@ module _ (w : WorldView) (s : State) (sh : Shows w s) (now task : ℕ) (bytes : 
   rights_are : length copied_state.ledger ≡ w.ledger.total + made_in j
   rights_are = let t = (third w s sh task bytes parsed text j).along.agrees.total in let n = total_is w s sh task bytes parsed text j in omega (arith, t, n)
 
-  pub unrefused : HasSlot w j.port j.destination → w.ledger.total + made_in j ≤ most_rights → NoneHolds (sent_guards m (place_of s m) copied_state)
+  pub unrefused : HasSlot w j.port j.destination → w.ledger.total + made_in j ≤ most_rights → NoneHolds (sent_guards m (place_at s j.port) copied_state)
   unrefused slot few = (no_loop, (not_full slot, ((λ many. let r = rights_are in omega (arith, many, r, few)), tt)))
 
-  pub refused_full : HasNoSlot w j.port j.destination → FirstIs (sent_guards m (place_of s m) copied_state) (msg_number SendTimedOut)
+  pub refused_full : HasNoSlot w j.port j.destination → FirstIs (sent_guards m (place_at s j.port) copied_state) (msg_number SendTimedOut)
   refused_full h = inr (no_loop, inl (is_full h, refl))
 
-  pub refused_many : HasSlot w j.port j.destination → most_rights < w.ledger.total + made_in j → FirstIs (sent_guards m (place_of s m) copied_state) (msg_number SendNoBuffer)
+  pub refused_many : HasSlot w j.port j.destination → most_rights < w.ledger.total + made_in j → FirstIs (sent_guards m (place_at s j.port) copied_state) (msg_number SendNoBuffer)
   refused_many slot many = inr (no_loop, inr (not_full slot, inl (let r = rights_are in omega (arith, many, r), refl)))
 
   abbrev pub sent_state : State

@@ -1,5 +1,5 @@
 -- The words of a message copied in one by one: from the names that each leaves to the machine's states.
-use Rattle.std.proofs.Common.{◌≡◌, ℕ, ◌+◌, List, [], ◌∷◌, ◌++◌, Some, refl, sym, ap, subst, ◌∙◌, arith, Bool, true, false}
+use Rattle.std.proofs.Common.{◌≡◌, ℕ, ◌+◌, List, [], ◌∷◌, Some, refl, sym, ap, subst, ◌∙◌, arith, Bool, true, false}
 use Rattle.std.specs.Prelude.{◌==◌, MatchBool, slice_get}
 use Rattle.std.specs.FinMap as map
 use Rattle.mach_types.specs.declared.rights.Disposition.{Disposition}
@@ -173,11 +173,3 @@ words_once w task (v ∷ ws) (c ∷ cs) a b x y =
     words_once y.0 task ws cs a b (subst (λ (m : WorldView). ChangesWords m task ws cs a) same x.2) y.2
 words_once w task [] (c ∷ cs) a b x y = absurd x
 words_once w task (v ∷ ws) [] a b x y = absurd x
-
--- one list of words after the other
-pub words_append : (w mid : WorldView) (task : ℕ) (vs ws : List PortWord) (bs cs : List Carried) (new : WorldView) → ChangesWords w task vs bs mid → ChangesWords mid task ws cs new →
-    ChangesWords w task (vs ++ ws) (bs ++ cs) new
-words_append w mid task [] ws [] cs new x y = subst (λ (m : WorldView). ChangesWords m task ws cs new) x y
-words_append w mid task (v ∷ vs) ws (b ∷ bs) cs new x y = (x.0, x.1, words_append x.0 mid task vs ws bs cs new x.2 y)
-words_append w mid task [] ws (b ∷ bs) cs new x y = absurd x
-words_append w mid task (v ∷ vs) ws [] cs new x y = absurd x

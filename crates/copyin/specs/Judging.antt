@@ -3,6 +3,7 @@ use Rattle.std.specs.Prelude.{◌≡◌, ◌≢◌, ℕ, ◌+◌, ◌⊎◌, Lis
 use Rattle.std.specs.FinMap as map
 use Rattle.mach_types.specs.declared.rights.Disposition.{Disposition}
 use Rattle.mach_types.specs.declared.rights.Disposition.TheVariants.{MoveReceive, CopySend, MakeSend, MakeSendOnce}
+use Rattle.mach_types.specs.Bodies.{Through, OneFails}
 use Rattle.mach_types.specs.Numbers.{disposition, disposition_number, null_word, dead_word}
 use Rattle.message_codec.specs.declared.words.PortWord.{PortWord}
 use Rattle.name_space.specs.declared.Entry.{Entry}
@@ -38,11 +39,11 @@ CopiesWord names w c after =
 abbrev pub IsLeft : PortWord → Type 0
 IsLeft w = (w.disposition ≡ disposition_number MoveReceive) × (w.name ≢ null_word) × (w.name ≢ dead_word)
 
+abbrev pub CopiesCarried : Names → PortWord → Carried → Names → Type 0
+CopiesCarried names w c after = CopiesWord names w c after × ¬ (IsLeft w)
+
 abbrev pub CopiesBody : Names → List PortWord → List Carried → Names → Type 0
-CopiesBody names [] [] after = after ≡ names
-CopiesBody names (w ∷ ws) (c ∷ cs) after = (mid : Names) × CopiesWord names w c mid × CopiesBody mid ws cs after × ¬ (IsLeft w)
-CopiesBody names [] (c ∷ cs) after = ⊥
-CopiesBody names (w ∷ ws) [] after = ⊥
+CopiesBody = Through CopiesCarried
 
 abbrev pub CopiesReply : Names → List PortWord → Option Carried → Names → Type 0
 CopiesReply names [] None after = after ≡ names
@@ -55,8 +56,7 @@ IsBad names w = (w.name ≢ null_word) × (w.name ≢ dead_word) × ((c : Carrie
 
 -- A word of the body is bad, once those before it were copied in.
 abbrev pub BodyIsBad : Names → List PortWord → Type 0
-BodyIsBad names [] = ⊥
-BodyIsBad names (w ∷ ws) = IsBad names w ⊎ IsLeft w ⊎ ((c : Carried) × (mid : Names) × CopiesWord names w c mid × BodyIsBad mid ws)
+BodyIsBad = OneFails (λ names w. IsBad names w ⊎ IsLeft w) (λ names w after. (c : Carried) × CopiesWord names w c after)
 
 -- how many rights are made by a right that is copied in
 abbrev pub made_by_mark : Disposition → Mark → ℕ

@@ -1,7 +1,8 @@
 -- What a plan holds.
-use Rattle.std.specs.Prelude.{◌≡◌, ℕ, ◌+◌, ◌≤◌, List, [], ◌∷◌, Some, slice_get}
+use Rattle.std.specs.Prelude.{◌≡◌, ℕ, ◌+◌, ◌≤◌, List, Some, slice_get}
 use Rattle.std.specs.Option.{option_to_list}
 use Rattle.std.specs.FinMap as map
+use Rattle.mach_types.specs.Bodies.{Through}
 use Rattle.mach_types.specs.Grammar.{WireBody}
 use Rattle.mach_types.specs.Numbers.{most_rights}
 use Rattle.message_codec.specs.declared.text.Parsed.{Parsed}
@@ -40,10 +41,7 @@ pub record IsPlan (w : WorldView) (task : ℕ) (parsed : Parsed) (written : Wire
 
 -- Each right can be copied in, in what the ones before left.
 abbrev pub CopiesAll : Names → List PortWord → List Carried → Names → Type 0
-CopiesAll names [] [] after = after ≡ names
-CopiesAll names (w ∷ ws) (c ∷ cs) after = (mid : Names) × CopiesWord names w c mid × CopiesAll mid ws cs after
-CopiesAll names [] (c ∷ cs) after = ⊥
-CopiesAll names (w ∷ ws) [] after = ⊥
+CopiesAll = Through CopiesWord
 
 -- The words can be carried out in these tables, and there is room for the rights that they make.
 pub record CanGo (w : WorldView) (task : ℕ) (ws : List PortWord) (cs : List Carried) : Type 0 where

@@ -3,6 +3,7 @@ use Rattle.std.specs.Prelude.{◌≡◌, ℕ, ◌+◌, ◌-◌, ◌<◌, ◌≤�
 use Rattle.mach_types.specs.declared.codes.MsgReturn.TheVariants.{SendInvalidDest, SendTimedOut, SendInvalidReply, SendInvalidRight, SendNoBuffer}
 use Rattle.mach_types.specs.Numbers.{kind_sent, msg_number, most_rights, null_word, dead_word}
 use Rattle.mach_types.specs.Tokens.{send, send_once, same_kind}
+use Rattle.mach_types.specs.Bodies.{Through}
 use Rattle.mach_types.specs.Grammar.{WireBody}
 use Rattle.message_codec.specs.declared.text.Parsed.{Parsed}
 use Rattle.message_codec.specs.declared.words.PortWord.{PortWord}
@@ -94,10 +95,7 @@ ChangesWord old task w c new =
     (CopiesRight old task c.given w.name c.mark new))
 
 abbrev pub ChangesWords : WorldView → (task : ℕ) → List PortWord → List Carried → WorldView → Type 0
-ChangesWords old task [] [] new = new ≡ old
-ChangesWords old task (w ∷ ws) (c ∷ cs) new = (mid : WorldView) × ChangesWord old task w c mid × ChangesWords mid task ws cs new
-ChangesWords old task [] (c ∷ cs) new = ⊥
-ChangesWords old task (w ∷ ws) [] new = ⊥
+ChangesWords old task = Through (λ old w c new. ChangesWord old task w c new) old
 
 abbrev pub option_list : Option Carried → List Carried
 option_list None = []

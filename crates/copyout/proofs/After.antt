@@ -112,8 +112,8 @@ pub can_give_one : (w : WorldView) (task : ℕ) (c : Carried) (cs : List Carried
 can_give_one w task c cs g = record {
   space = g.space;
   there = g.there;
-  enough = λ h. elim h [ inl a ↦ g.enough (inl a) | inr b ↦ absurd b.3 ];
-  room = λ h. elim h [ inl a ↦ g.room (inl a) | inr b ↦ absurd b.3 ];
+  enough = λ h. elim h [ inl a ↦ g.enough (inl a) | inr b ↦ absurd b.2 ];
+  room = λ h. elim h [ inl a ↦ g.room (inl a) | inr b ↦ absurd b.2 ];
   entered = g.entered;
   counted = λ p live. let h = g.counted p live in omega arith;
 }
@@ -125,8 +125,8 @@ can_give_rest w mid task c cs word g gives =
     record {
       space = a.space;
       there = a.there;
-      enough = λ h. g.enough (inr (word, mid, gives, h));
-      room = λ h. g.room (inr (word, mid, gives, h));
+      enough = λ h. g.enough (inr (mid, (word, gives), h));
+      room = λ h. g.room (inr (mid, (word, gives), h));
       entered = λ p live. a.entered p (g.entered p (sym (a.live p) ∙ live));
       counted = λ p live. let h = g.counted p (sym (a.live p) ∙ live) in let k = a.sends p in omega arith;
     }

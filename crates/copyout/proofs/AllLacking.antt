@@ -3,9 +3,9 @@ use Rattle.std.proofs.Common.{◌≡◌, ◌-◌, ℕ, ◌<◌, ◌≤◌, List,
 use Rattle.std.specs.Prelude.{◌≢◌, is_some, slice_get, slice_set, MatchBool, if◌then◌else◌}
 use Rattle.std.specs.Option.{option_map, option_and_then}
 use Rattle.std.specs.FinMap as map
-use Rattle.mach_types.specs.Numbers.{kind_sent, kind_number, dead_word}
+use Rattle.mach_types.specs.Numbers.{kind_sent, dead_word}
 use Rattle.mach_types.specs.Tokens.{Kind, receive, send, send_once, Place, in_message, Token, count, is_of}
-use Rattle.mach_types.specs.Messages.{present}
+use Rattle.mach_types.specs.Bodies.{OneFails}
 use Rattle.mach_model.specs.State.{State, Target, lookup, IsFresh}
 use Rattle.mach_model.specs.Carried.{mark_count, lying}
 use Rattle.mach_model.specs.CopyOut.{Named, NamedOnce, NamedFor, GiveRight, GiveMark, HasNoRoom, NeedsName}
@@ -13,8 +13,6 @@ use Rattle.mach_model.specs.CopyOut.{MarkLacks as MachineLacks}
 use Rattle.mach_model.proofs.Weigh.{length-weigh}
 use Rattle.mach_model.proofs.Moving.{IsMoving}
 use Rattle.mach_model.proofs.Settling.{IsReordered}
-use Rattle.mach_model.proofs.CopyingOut.{Removes}
-use Rattle.mach_model.proofs.CopyingMarks.{GiveReply-removes}
 use Rattle.name_space.specs.declared.Entry.{Entry}
 use Rattle.name_space.specs.Entry.{port_named}
 use Rattle.name_space.specs.Names.{SpaceView, IsFreshName}
@@ -29,8 +27,8 @@ use Rattle.copyin_base.proofs.Changing.{target_named}
 use Rattle.copyin_base.proofs.Counting.{counts_same}
 use Rattle.copyout.specs.Giving.{joined, alone, ledger_joined, GivesPort, GivesMark, free_names, NoneLeft, NeedsOwn, MarkLacks, LackNames}
 use Rattle.copyout.proofs.Given.{port_given, option_named, same_there}
-use Rattle.copyout.proofs.GivenAll.{AreLying, mark_given, own_mark}
-use Rattle.copyout.proofs.Lacking.{EachLacks}
+use Rattle.copyout.proofs.GivenAll.{AreLying, mark_given, own_mark, later}
+use Rattle.copyout.proofs.Rights.{rights_of}
 
 -- ---- the order of tokens
 
@@ -232,24 +230,9 @@ module _ (w : WorldView) (s : State) (a : Agrees w s) (task : ℕ) where
 
 -- ---- all of them
 
--- what is so once the first was given
-record Later (s mid : State) (o k : ℕ) (task : ℕ) (cs : List Carried) : Type 0 where
-  moving : IsMoving mid o k
-  is_task : mid.live_task task ≡ true
-  lie : AreLying mid o k cs
-
-later : (task o k : ℕ) (c : Carried) (cs : List Carried) (s : State) (word : ℕ) (mid : State) → IsMoving s o k → s.live_task task ≡ true → AreLying s o k (c ∷ cs) →
-    GiveMark task (in_message o k) (kind_sent c.given) (mark_of c.mark) s word mid → Later s mid o k task cs
-later task o k c cs s word mid l is_task lie g =
-    let less : Removes s mid o k (λ kind q. mark_count kind q (kind_sent c.given) (mark_of c.mark)) =
-    GiveReply-removes task o k (present (kind_sent c.given) (mark_of c.mark)) s (kind_number (kind_sent c.given)) word mid l is_task (refl, g) in
-    record {
-      moving = less.keeps;
-      is_task = ap (λ (x : State). x.live_task task) less.rest ∙ is_task;
-      lie = λ kind q live.
-          let live' : s.live_port q ≡ true = sym (ap (λ (x : State). x.live_port q) less.rest) ∙ live in
-          let m = less.lies kind q live' in let n = lie kind q live' in omega (arith, m, n);
-    }
+-- There is no name for one of these rights, once those before it were given.
+abbrev pub EachLacks : (task : ℕ) → Place → List Carried → State → Type 0
+EachLacks task place cs s = OneFails (λ old r. MachineLacks task r.0 r.1 old) (λ old r new. (word : ℕ) × GiveMark task place r.0 r.1 old word new) s (rights_of cs)
 
 -- Where the tables lack a name, the machine lacks one.
 pub all_lack : (task o k : ℕ) (cs : List Carried) (w : WorldView) (s : State) → Agrees w s → IsMoving s o k → s.live_task task ≡ true → AreLying s o k cs →
@@ -257,9 +240,9 @@ pub all_lack : (task o k : ℕ) (cs : List Carried) (w : WorldView) (s : State) 
 all_lack task o k [] w s a l is_task lie h = h
 all_lack task o k (c ∷ cs) w s a l is_task lie (inl h) = inl (mark_lacks w s a task (kind_sent c.given) c.mark h)
 all_lack task o k (c ∷ cs) w s a l is_task lie (inr h) =
-    let one = mark_given w s a o k l task (kind_sent c.given) h.0 h.1 c.mark (λ q live. let m = lie (kind_sent c.given) q live in omega (arith, m)) h.2 in
-    let next = later task o k c cs s h.0 one.t l is_task lie one.gives in
-    inr (h.0, one.t, one.gives, all_lack task o k cs h.1 one.t one.agrees next.moving next.is_task next.lie h.3)
+    let one = mark_given w s a o k l task (kind_sent c.given) h.1.0 h.0 c.mark (λ q live. let m = lie (kind_sent c.given) q live in omega (arith, m)) h.1.1 in
+    let next = later task o k c cs s h.1.0 one.t l is_task lie one.gives in
+    inr (one.t, (h.1.0, one.gives), all_lack task o k cs h.0 one.t one.agrees next.0 next.1 next.2 h.2)
 
 -- Where the machine lacks a name, the tables lack one.
 pub all_lack_too : (task o k : ℕ) (cs : List Carried) (w : WorldView) (s : State) → Agrees w s → IsMoving s o k → s.live_task task ≡ true → AreLying s o k cs →
@@ -269,6 +252,6 @@ all_lack_too task o k (c ∷ cs) w s a l is_task lie (inl h) =
     let space = some_space w s a task (slice_get w.spaces task) (a.live_task task ∙ is_task) in
     inl (lacks_too w s a task space.0 space.1 (kind_sent c.given) c.mark h)
 all_lack_too task o k (c ∷ cs) w s a l is_task lie (inr h) =
-    let one = mark_too w s a task o k l is_task (kind_sent c.given) h.0 h.1 c.mark (λ q live. let m = lie (kind_sent c.given) q live in omega (arith, m)) h.2 in
-    let next = later task o k c cs s h.0 h.1 l is_task lie h.2 in
-    inr (h.0, one.w2, one.gives, all_lack_too task o k cs one.w2 h.1 one.agrees next.moving next.is_task next.lie h.3)
+    let one = mark_too w s a task o k l is_task (kind_sent c.given) h.1.0 h.0 c.mark (λ q live. let m = lie (kind_sent c.given) q live in omega (arith, m)) h.1.1 in
+    let next = later task o k c cs s h.1.0 h.0 l is_task lie h.1.1 in
+    inr (one.w2, (h.1.0, one.gives), all_lack_too task o k cs one.w2 h.0 one.agrees next.0 next.1 next.2 h.2)

@@ -174,12 +174,12 @@ module _ (left : SpaceView → ℕ) (is_left : IsLeft left) (ports0 : PortsView 
     | inl o ↦ elim (cases_lt 0 l) [
       | inl some ↦
           let g = give_own left is_left ports0 names0 task earlier c w n l f o.0 (omega arith) in
-          inr (g.0, g.1, g.2, too_few (earlier ++ c ∷ []) cs g.1 (n + 1) (l - 1) o.1.0 (after_own left is_left ports0 names0 task earlier c w n l f g.1 g.0 o.0 g.2) o.1.2 (omega arith) (let e = o.1.1 in omega arith))
+          inr (g.1, (g.0, g.2), too_few (earlier ++ c ∷ []) cs g.1 (n + 1) (l - 1) o.1.0 (after_own left is_left ports0 names0 task earlier c w n l f g.1 g.0 o.0 g.2) o.1.2 (omega arith) (let e = o.1.1 in omega arith))
       | inr none ↦ inl (lacks_own left is_left ports0 names0 task earlier c w n l f o.0 (omega arith))
     ]
     | inr s ↦
         let g = give_shared left is_left ports0 names0 task earlier c w n l f s.0 in
-        inr (g.0, g.1, g.2, too_few (earlier ++ c ∷ []) cs g.1 n l k (after_shared left is_left ports0 names0 task earlier c w n l f g.1 g.0 s.0 g.2) s.1 most less)
+        inr (g.1, (g.0, g.2), too_few (earlier ++ c ∷ []) cs g.1 n l k (after_shared left is_left ports0 names0 task earlier c w n l f g.1 g.0 s.0 g.2) s.1 most less)
   ]
 
   -- As many are left as they need.
@@ -188,11 +188,11 @@ module _ (left : SpaceView → ℕ) (is_left : IsLeft left) (ports0 : PortsView 
   enough earlier (c ∷ cs) w n l k f needs few h = elim needs [
     | inl o ↦ elim h [
       | inl lack ↦ own_suffices left is_left ports0 names0 task earlier c w n l f o.0 (let e = o.1.1 in omega arith) lack
-      | inr r ↦ enough (earlier ++ c ∷ []) cs r.1 (n + 1) (l - 1) o.1.0 (after_own left is_left ports0 names0 task earlier c w n l f r.1 r.0 o.0 r.2) o.1.2 (let e = o.1.1 in omega arith) r.3
+      | inr r ↦ enough (earlier ++ c ∷ []) cs r.0 (n + 1) (l - 1) o.1.0 (after_own left is_left ports0 names0 task earlier c w n l f r.0 r.1.0 o.0 r.1.1) o.1.2 (let e = o.1.1 in omega arith) r.2
     ]
     | inr s ↦ elim h [
       | inl lack ↦ shared_suffices left is_left ports0 names0 task earlier c w n l f s.0 lack
-      | inr r ↦ enough (earlier ++ c ∷ []) cs r.1 n l k (after_shared left is_left ports0 names0 task earlier c w n l f r.1 r.0 s.0 r.2) s.1 few r.3
+      | inr r ↦ enough (earlier ++ c ∷ []) cs r.0 n l k (after_shared left is_left ports0 names0 task earlier c w n l f r.0 r.1.0 s.0 r.1.1) s.1 few r.2
     ]
   ]
 

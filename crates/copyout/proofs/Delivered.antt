@@ -8,13 +8,13 @@ use Rattle.message_codec.specs.Received.{header_text, received_body, IsLaidOut}
 use Rattle.copyin_base.specs.declared.message.Carried.{Carried}
 use Rattle.copyin_base.specs.Kept.{Kept}
 use Rattle.copyin_base.specs.Worlds.{WorldView}
-use Rattle.copyin.specs.Plans.{option_list}
+use Rattle.std.specs.Option.{option_to_list}
 use Rattle.copyout.specs.Giving.{GivesMark, GivesAll}
 use Rattle.copyout.specs.Takes.{TakesFront, TakesMessage, reply_number, reply_word, body_names, reversed}
 use Rattle.copyout.specs.Ready.{CanGive, Delivers}
 use Rattle.copyout.proofs.After.{can_give_one, can_give_rest}
 
-pub can_reply : (w : WorldView) (task : ℕ) (reply : Option Carried) (rights : List Carried) → CanGive w task (option_list reply ++ rights) → CanGive w task (option_list reply)
+pub can_reply : (w : WorldView) (task : ℕ) (reply : Option Carried) (rights : List Carried) → CanGive w task (option_to_list reply ++ rights) → CanGive w task (option_to_list reply)
 can_reply w task None rights g = record {
   space = g.space;
   there = g.there;
@@ -25,8 +25,8 @@ can_reply w task None rights g = record {
 }
 can_reply w task (Some c) rights g = can_give_one w task c rights g
 
-pub can_rights : (w mid : WorldView) (task : ℕ) (reply : Option Carried) (rights : List Carried) (words : List ℕ) → CanGive w task (option_list reply ++ rights) →
-    GivesAll w task (option_list reply) words mid → CanGive mid task rights
+pub can_rights : (w mid : WorldView) (task : ℕ) (reply : Option Carried) (rights : List Carried) (words : List ℕ) → CanGive w task (option_to_list reply ++ rights) →
+    GivesAll w task (option_to_list reply) words mid → CanGive mid task rights
 can_rights w mid task None rights [] g h = subst (λ (x : WorldView). CanGive x task rights) (sym h) g
 can_rights w mid task None rights (word ∷ words) g h = absurd h
 can_rights w mid task (Some c) rights [] g h = absurd h
@@ -42,11 +42,11 @@ gives_length w new task (c ∷ cs) (word ∷ words) h = let e = gives_length h.0
 
 record Both (w new : WorldView) (task : ℕ) (reply : Option Carried) (rights : List Carried) (first names : List ℕ) : Type 0 where
   words : List ℕ
-  gives : GivesAll w task (option_list reply ++ rights) words new
+  gives : GivesAll w task (option_to_list reply ++ rights) words new
   remote : reply_word reply words ≡ reply_word reply first
   body : body_names reply words ≡ names
 
-both : (w mid new : WorldView) (task : ℕ) (reply : Option Carried) (rights : List Carried) (first names : List ℕ) → GivesAll w task (option_list reply) first mid →
+both : (w mid new : WorldView) (task : ℕ) (reply : Option Carried) (rights : List Carried) (first names : List ℕ) → GivesAll w task (option_to_list reply) first mid →
     GivesAll mid task rights names new → Both w new task reply rights first names
 both w mid new task None rights [] names h k = record { words = names; gives = subst (λ (x : WorldView). GivesAll x task rights names new) h k; remote = refl; body = refl }
 both w mid new task None rights (word ∷ words) names h k = absurd h
@@ -64,7 +64,7 @@ same_header : (h : Header) (bits size remote local sequence id : ℕ) → h.bits
 same_header h bits size remote local sequence id a b c d e f = λ i. record { bits = a i; size = b i; remote = c i; local = d i; sequence = e i; id = f i }
 
 pub delivers : (old mid new : WorldView) (task : ℕ) (m : Kept) (local sequence : ℕ) (first names bytes : List ℕ) (h : Header) →
-    GivesAll old task (option_list m.reply) first mid → GivesAll mid task m.rights names new →
+    GivesAll old task (option_to_list m.reply) first mid → GivesAll mid task m.rights names new →
     h.bits ≡ reply_number m.reply + (if m.by_once then 18 else 17) * 2 ^ 8 + (if m.is_complex then 2 ^ 31 else 0) →
     h.size ≡ length m.bytes → h.remote ≡ reply_word m.reply first → h.local ≡ local → h.sequence ≡ sequence → h.id ≡ m.id →
     ((written : WireBody) → IsLaidOut m.bytes m.spans written → bytes ≡ header_text h ++ body_text (received_body written names)) →

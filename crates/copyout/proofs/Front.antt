@@ -28,12 +28,6 @@ is_front ports port v m found behind there queue is =
     let f : PortView Kept → Option Kept = λ p. slice_get p.queue 0 in
     same_some found m (is ∙ ap (option_and_then f) there ∙ ap (λ (l : List Kept). slice_get l 0) queue)
 
--- what is found in front is the front message
-pub front_found : (w : WorldView) (ports : PortsView Kept) (port : ℕ) (m found : Kept) → ports ≡ w.ports → HasFront w port m →
-    Some found ≡ option_and_then (λ p. slice_get p.queue 0) (map.get ports.ports port) → HasFront w port found
-front_found w ports port m found e f is =
-    subst (HasFront w port) (sym (is_front ports port f.v m found f.behind (ap (λ (p : PortsView Kept). map.get p.ports port) e ∙ f.there) f.queue is)) f
-
 pub sequence_is : (w : WorldView) (port : ℕ) (x : Attributes) → HasAttributes w port x → (v : PortView Kept) → port_at w port ≡ Some v → x.sequence ≡ v.attributes.sequence
 sequence_is w port x has v there =
     ap (λ (a : Attributes). a.sequence) (sym has.are) ∙ ap (λ (u : PortView Kept). u.attributes.sequence) (same_found (port_at w port) has.v v has.there there)

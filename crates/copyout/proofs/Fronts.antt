@@ -1,19 +1,19 @@
 -- The front message of a port, in the tables and in the machine.
-use Rattle.std.proofs.Common.{◌≡◌, ℕ, ◌+◌, List, [], ◌∷◌, ◌++◌, Option, Some, refl, sym, ap, subst, ◌∙◌, arith, true, zero, suc, drop}
+use Rattle.std.proofs.Common.{◌≡◌, ℕ, ◌+◌, List, [], ◌∷◌, Option, Some, refl, sym, ap, subst, ◌∙◌, arith, true, zero, suc, drop}
 use Rattle.std.specs.Prelude.{is_some, slice_get}
 use Rattle.mach_types.specs.Tokens.{in_message}
 use Rattle.mach_types.specs.Messages.{Entry}
 use Rattle.mach_model.specs.State.{State, queue}
-use Rattle.mach_model.specs.Carried.{lying, message_count}
+use Rattle.mach_model.specs.Carried.{lying}
 use Rattle.mach_model.specs.Receive.{IsFront}
 use Rattle.mach_model.specs.Lawful.{IsLawful}
 use Rattle.port.specs.Ports.{PortView}
-use Rattle.copyin_base.specs.Kept.{Kept, Keeps, message_of}
-use Rattle.copyin.specs.Plans.{option_list}
+use Rattle.copyin_base.specs.Kept.{Kept, Keeps}
 use Rattle.copyin_base.specs.Worlds.{WorldView, port_at}
 use Rattle.copyin_base.specs.Shows.{AllKept, Agrees}
 use Rattle.copyout.proofs.GivenAll.{AreLying}
-use Rattle.copyout.proofs.GivenBody.{message_counted}
+use Rattle.copyout.proofs.Rights.{message_counted}
+use Rattle.copyout.specs.Ready.{carried_by}
 
 -- The queue begins with an entry that is this message.
 pub record HasFront (p : ℕ) (m : Kept) (behind : List Kept) (es : List Entry) : Type 0 where
@@ -68,10 +68,9 @@ module _ (w : WorldView) (s : State) (a : Agrees w s) (p : ℕ) (v : PortView Ke
     shown_lives = sym (a.live_port p) ∙ ap (λ (o : Option (PortView Kept)). is_some o) there
 
     -- Its rights lie at its entry.
-    pub shown_lying : IsLawful s → AreLying s p (s.taken p) (option_list m.reply ++ m.rights)
+    pub shown_lying : IsLawful s → AreLying s p (s.taken p) (carried_by m)
     shown_lying l kind q live =
         let c = l.carried p 0 shown_front.first shown_lives (ap (λ (es : List Entry). slice_get es 0) shown_front.parts) kind q live in
         let same : lying s kind q (in_message p (s.taken p + 0)) ≡ lying s kind q (in_message p (s.taken p)) = ap (λ (i : ℕ). lying s kind q (in_message p i)) (omega arith) in
-        let is : message_count kind q shown_front.first.message ≡ message_count kind q (message_of p m shown_front.keeps.written) = ap (message_count kind q) shown_front.keeps.message_is in
-        let n = message_counted kind q m.reply shown_front.keeps.written m.rights shown_front.keeps.given in
-        omega (arith, c, same, is, n)
+        let n = message_counted p m shown_front.first.message shown_front.keeps kind q in
+        omega (arith, c, same, n)

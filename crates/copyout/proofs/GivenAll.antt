@@ -1,17 +1,18 @@
 -- Rights that the tables give one after the other are given so by the machine.
-use Rattle.std.proofs.Common.{◌≡◌, ℕ, ◌+◌, ◌<◌, ◌≤◌, List, [], ◌∷◌, refl, sym, ap, subst, ◌∙◌, arith, true, false, Bool}
+use Rattle.std.proofs.Common.{◌≡◌, ℕ, ◌<◌, ◌≤◌, List, [], ◌∷◌, refl, sym, ap, subst, ◌∙◌, arith, true, false, Bool}
 use Rattle.std.specs.Prelude.{is_some, MatchBool}
 use Rattle.std.proofs.lemmas.Bool.{eq-eqb}
-use Rattle.mach_types.specs.Numbers.{kind_sent, kind_number, dead_word}
-use Rattle.mach_types.specs.Tokens.{Kind, receive, send, send_once, Place, in_message, same_kind}
-use Rattle.mach_types.specs.Messages.{to_port, present}
+use Rattle.mach_types.specs.Numbers.{kind_sent, dead_word}
+use Rattle.mach_types.specs.Tokens.{Kind, receive, send, send_once, in_message, same_kind}
+use Rattle.mach_types.specs.Messages.{to_port}
 use Rattle.mach_types.specs.Messages.{Mark as MachineMark}
+use Rattle.mach_types.specs.Bodies.{Through}
 use Rattle.mach_model.specs.State.{State}
-use Rattle.mach_model.specs.CopyOut.{GiveRight, GiveMark}
-use Rattle.mach_model.specs.Carried.{mark_count, lying}
+use Rattle.mach_model.specs.CopyOut.{GiveRight, GiveMark, GiveWord}
+use Rattle.mach_model.specs.Carried.{mark_count, rights_count, lying}
 use Rattle.mach_model.proofs.Moving.{IsMoving}
 use Rattle.mach_model.proofs.CopyingOut.{Removes}
-use Rattle.mach_model.proofs.CopyingMarks.{GiveReply-removes}
+use Rattle.mach_model.proofs.CopyingMarks.{words_remove}
 use Rattle.copyin_base.specs.declared.message.Carried.{Carried}
 use Rattle.copyin_base.specs.declared.message.Mark.{Mark}
 use Rattle.copyin_base.specs.declared.message.Mark.TheVariants as mark
@@ -20,22 +21,11 @@ use Rattle.copyin_base.specs.Worlds.{WorldView, port_at}
 use Rattle.copyin_base.specs.Shows.{Agrees}
 use Rattle.copyout.specs.Giving.{GivesPort, GivesMark, GivesAll}
 use Rattle.copyout.proofs.Given.{port_given}
-
--- The machine gives these rights, from the front.
-abbrev pub GiveEach : (task : ℕ) → Place → List Carried → State → List ℕ → State → Type 0
-GiveEach task place [] old [] new = new ≡ old
-GiveEach task place (c ∷ cs) old (w ∷ ws) new = (mid : State) × GiveMark task place (kind_sent c.given) (mark_of c.mark) old w mid × GiveEach task place cs mid ws new
-GiveEach task place [] old (w ∷ ws) new = ⊥
-GiveEach task place (c ∷ cs) old [] new = ⊥
-
--- how many rights of this kind for the port are among them
-abbrev pub each_count : Kind → ℕ → List Carried → ℕ
-each_count k q [] = 0
-each_count k q (c ∷ cs) = mark_count k q (kind_sent c.given) (mark_of c.mark) + each_count k q cs
+use Rattle.copyout.proofs.Rights.{right_of, rights_of, seconds}
 
 -- As many rights for live ports lie at the entry, or more.
 abbrev pub AreLying : State → (o k : ℕ) → List Carried → Type 0
-AreLying s o k cs = (kind : Kind) (q : ℕ) → s.live_port q ≡ true → each_count kind q cs ≤ lying s kind q (in_message o k)
+AreLying s o k cs = (kind : Kind) (q : ℕ) → s.live_port q ≡ true → rights_count kind q (rights_of cs) ≤ lying s kind q (in_message o k)
 
 -- ---- one
 
@@ -86,24 +76,31 @@ module _ (w : WorldView) (s : State) (a : Agrees w s) (o k : ℕ) (l : IsMoving 
 
 -- ---- each
 
--- The state once all were given.
-pub record AllGiven (task o k : ℕ) (cs : List Carried) (s : State) (words : List ℕ) (w' : WorldView) : Type 0 where
+-- what is so once one was given
+pub later : (task o k : ℕ) (c : Carried) (cs : List Carried) (s : State) (word : ℕ) (mid : State) → IsMoving s o k → s.live_task task ≡ true → AreLying s o k (c ∷ cs) →
+    GiveMark task (in_message o k) (kind_sent c.given) (mark_of c.mark) s word mid → IsMoving mid o k × (mid.live_task task ≡ true) × AreLying mid o k cs
+later task o k c cs s word mid l is_task lie g =
+    let less : Removes s mid o k (λ kind q. rights_count kind q (right_of c ∷ [])) = words_remove task o k ((0, word) ∷ []) s (right_of c ∷ []) mid l is_task (mid, g, refl) in (
+      less.keeps,
+      ap (λ (x : State). x.live_task task) less.rest ∙ is_task,
+      λ kind q live.
+          let live' : s.live_port q ≡ true = sym (ap (λ (x : State). x.live_port q) less.rest) ∙ live in
+          let m = less.lies kind q live' in let n = lie kind q live' in omega (arith, m, n),
+    )
+
+-- The state once all were given, the words being these but for their numbers.
+pub record AllGiven (task o k : ℕ) (cs : List Carried) (s : State) (ws : List (ℕ × ℕ)) (w' : WorldView) : Type 0 where
   pub t : State
-  pub gives : GiveEach task (in_message o k) cs s words t
+  pub gives : Through (GiveWord task (in_message o k)) s ws (rights_of cs) t
   pub agrees : Agrees w' t
 
-pub all_given : (cs : List Carried) (words : List ℕ) (w : WorldView) (s : State) → Agrees w s → (o k : ℕ) → IsMoving s o k → (task : ℕ) → s.live_task task ≡ true → AreLying s o k cs →
-    (w' : WorldView) → GivesAll w task cs words w' → AllGiven task o k cs s words w'
+pub all_given : (cs : List Carried) (ws : List (ℕ × ℕ)) (w : WorldView) (s : State) → Agrees w s → (o k : ℕ) → IsMoving s o k → (task : ℕ) → s.live_task task ≡ true → AreLying s o k cs →
+    (w' : WorldView) → GivesAll w task cs (seconds ws) w' → AllGiven task o k cs s ws w'
 all_given [] [] w s a o k l task is_task lie w' g = record { t = s; gives = refl; agrees = subst (λ (x : WorldView). Agrees x s) (sym g) a }
 all_given (c ∷ cs) (n ∷ ns) w s a o k l task is_task lie w' g =
-    let one = mark_given w s a o k l task (kind_sent c.given) n g.0 c.mark (λ q live. let m = lie (kind_sent c.given) q live in omega (arith, m)) g.1 in
-    let less : Removes s one.t o k (λ kind q. mark_count kind q (kind_sent c.given) (mark_of c.mark)) =
-    GiveReply-removes task o k (present (kind_sent c.given) (mark_of c.mark)) s (kind_number (kind_sent c.given)) n one.t l is_task (refl, one.gives) in
-    let rest = all_given cs ns g.0 one.t one.agrees o k less.keeps task (ap (λ (x : State). x.live_task task) less.rest ∙ is_task)
-    (λ kind q live.
-    let live' : s.live_port q ≡ true = sym (ap (λ (x : State). x.live_port q) less.rest) ∙ live in
-    let m = less.lies kind q live' in let n = lie kind q live' in omega (arith, m, n))
-    w' g.2 in
+    let one = mark_given w s a o k l task (kind_sent c.given) n.1 g.0 c.mark (λ q live. let m = lie (kind_sent c.given) q live in omega (arith, m)) g.1 in
+    let next = later task o k c cs s n.1 one.t l is_task lie one.gives in
+    let rest = all_given cs ns g.0 one.t one.agrees o k next.0 task next.1 next.2 w' g.2 in
     record { t = rest.t; gives = (one.t, one.gives, rest.gives); agrees = rest.agrees }
 all_given [] (n ∷ ns) w s a o k l task is_task lie w' g = absurd g
 all_given (c ∷ cs) [] w s a o k l task is_task lie w' g = absurd g

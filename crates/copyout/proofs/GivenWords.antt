@@ -3,26 +3,25 @@ use Rattle.std.proofs.Common.{◌≡◌, ℕ, ◌+◌, ◌^◌, ◌<◌, List, [
 use Rattle.std.specs.Prelude.{map, replicate, MatchBool}
 use Rattle.std.specs.FinMap as names
 use Rattle.std.proofs.lemmas.List.{length-take-le, length-drop}
-use Rattle.mach_types.specs.Numbers.{kind_sent, kind_number, disposition_number}
+use Rattle.mach_types.specs.Numbers.{disposition_number}
 use Rattle.mach_types.specs.Tokens.{Kind, receive, send, send_once, Place, in_message}
-use Rattle.mach_types.specs.Messages.{to_port, null, dead, present}
+use Rattle.mach_types.specs.Messages.{to_port, null, dead}
 use Rattle.mach_types.specs.Messages.{Mark as MachineMark}
 use Rattle.mach_types.specs.Grammar.{Wire, data_item, port_item, WireBody, wire_text, wires_text, words_text, descriptor_text, body_text}
+use Rattle.mach_types.specs.Bodies.{Through}
 use Rattle.mach_model.specs.State.{State, Target, Names, lookup}
-use Rattle.mach_model.specs.CopyOut.{Named, NamedFor, GiveRight, GiveMark}
-use Rattle.mach_model.specs.Carried.{mark_count}
+use Rattle.mach_model.specs.CopyOut.{Named, NamedFor, GiveRight, GiveMark, GiveWord}
 use Rattle.mach_model.proofs.At.{at_own}
 use Rattle.mach_model.proofs.Names.{get_own, kept}
 use Rattle.mach_model.proofs.Moving.{IsMoving}
-use Rattle.mach_model.proofs.CopyingOut.{Removes}
-use Rattle.mach_model.proofs.CopyingMarks.{GiveReply-removes}
+use Rattle.mach_model.proofs.CopyingMarks.{words_remove}
 use Rattle.message_codec.specs.Received.{received_kind, received_wires, received_body}
 use Rattle.message_codec.specs.Spans.{spans_at, body_spans, word_count}
 use Rattle.message_codec.proofs.Fronts.{length-descriptor_text}
 use Rattle.message_codec.proofs.Shapes.{All-cons, length-words_text}
 use Rattle.copyin_base.specs.declared.message.Carried.{Carried}
-use Rattle.copyin_base.specs.Kept.{mark_of, items_given, body_given}
-use Rattle.copyout.proofs.GivenAll.{GiveEach}
+use Rattle.copyin_base.specs.Kept.{items_given, body_given}
+use Rattle.copyout.proofs.Rights.{seconds}
 
 -- ---- a name that was given
 
@@ -82,34 +81,26 @@ mark_keeps task place kind (to_port p) old word new g other y is = either (old.l
     (λ d. ap (λ (s : State). lookup s task other) d.1 ∙ is) g
 
 -- The task keeps its names.
-pub each_keeps : (task : ℕ) (place : Place) (cs : List Carried) (old : State) (words : List ℕ) (new : State) → GiveEach task place cs old words new →
+pub each_keeps : (task : ℕ) (place : Place) (old : State) (ws : List (ℕ × ℕ)) (rs : List (Kind × MachineMark)) (new : State) → Through (GiveWord task place) old ws rs new →
     (other : ℕ) (y : Target) → lookup old task other ≡ Some y → lookup new task other ≡ Some y
-each_keeps task place [] old [] new g other y is = ap (λ (s : State). lookup s task other) g ∙ is
-each_keeps task place (c ∷ cs) old (w ∷ ws) new g other y is =
-    each_keeps task place cs g.0 ws new g.2 other y (mark_keeps task place (kind_sent c.given) (mark_of c.mark) old w g.0 g.1 other y is)
-each_keeps task place [] old (w ∷ ws) new g other y is = absurd g
-each_keeps task place (c ∷ cs) old [] new g other y is = absurd g
+each_keeps task place old [] [] new g other y is = ap (λ (s : State). lookup s task other) g ∙ is
+each_keeps task place old (w ∷ ws) (r ∷ rs) new g other y is = each_keeps task place g.0 ws rs new g.2 other y (mark_keeps task place r.0 r.1 old w.1 g.0 g.1 other y is)
+each_keeps task place old (w ∷ ws) [] new g other y is = absurd g
+each_keeps task place old [] (r ∷ rs) new g other y is = absurd g
 
 abbrev pub IsWord : ℕ → Type 0
 IsWord w = w < 2 ^ 32
 
 -- The words fit.
-pub each_fits : (task o k : ℕ) (cs : List Carried) (old : State) (words : List ℕ) (new : State) → IsMoving old o k → old.live_task task ≡ true →
-    GiveEach task (in_message o k) cs old words new → All IsWord words
-each_fits task o k [] old [] new l is_task g = λ i d below. absurd (omega arith)
-each_fits task o k (c ∷ cs) old (w ∷ ws) new l is_task g =
-    let less : Removes old g.0 o k (λ kind q. mark_count kind q (kind_sent c.given) (mark_of c.mark)) =
-    GiveReply-removes task o k (present (kind_sent c.given) (mark_of c.mark)) old (kind_number (kind_sent c.given)) w g.0 l is_task (refl, g.1) in
-    All-cons IsWord w ws (mark_fits task o k (kind_sent c.given) (mark_of c.mark) old w g.0 less.keeps g.1)
-    (each_fits task o k cs g.0 ws new less.keeps (ap (λ (x : State). x.live_task task) less.rest ∙ is_task) g.2)
-each_fits task o k [] old (w ∷ ws) new l is_task g = absurd g
-each_fits task o k (c ∷ cs) old [] new l is_task g = absurd g
-
-pub each_length : (task : ℕ) (place : Place) (cs : List Carried) (old : State) (words : List ℕ) (new : State) → GiveEach task place cs old words new → length words ≡ length cs
-each_length task place [] old [] new g = refl
-each_length task place (c ∷ cs) old (w ∷ ws) new g = let e = each_length task place cs g.0 ws new g.2 in omega (arith, e)
-each_length task place [] old (w ∷ ws) new g = absurd g
-each_length task place (c ∷ cs) old [] new g = absurd g
+pub each_fits : (task o k : ℕ) (old : State) (ws : List (ℕ × ℕ)) (rs : List (Kind × MachineMark)) (new : State) → IsMoving old o k → old.live_task task ≡ true →
+    Through (GiveWord task (in_message o k)) old ws rs new → All IsWord (seconds ws)
+each_fits task o k old [] [] new l is_task g = λ i d below. absurd (omega arith)
+each_fits task o k old (w ∷ ws) (r ∷ rs) new l is_task g =
+    let less = words_remove task o k (w ∷ []) old (r ∷ []) g.0 l is_task (g.0, g.1, refl) in
+    All-cons IsWord w.1 (seconds ws) (mark_fits task o k r.0 r.1 old w.1 g.0 less.keeps g.1)
+    (each_fits task o k g.0 ws rs new less.keeps (ap (λ (x : State). x.live_task task) less.rest ∙ is_task) g.2)
+each_fits task o k old (w ∷ ws) [] new l is_task g = absurd g
+each_fits task o k old [] (r ∷ rs) new l is_task g = absurd g
 
 -- ---- lengths
 

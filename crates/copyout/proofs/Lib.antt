@@ -1,12 +1,11 @@
 pub mod Takings
+pub mod Rights
 pub mod Given
 pub mod GivenAll
-pub mod GivenBody
 pub mod Fronts
 pub mod FrontTaken
 pub mod GivenWords
 pub mod MessageTaken
-pub mod Lacking
 pub mod AllLacking
 pub mod Refusing
 pub mod Waiting

@@ -7,14 +7,16 @@ use Rattle.std.proofs.lemmas.List.Elements.{All-drop}
 use Rattle.mach_types.specs.declared.calls.Waited.{Waited}
 use Rattle.mach_types.specs.Numbers.{kind_sent, kind_number, most_bytes}
 use Rattle.mach_types.specs.Tokens.{Kind, receive, send, send_once, in_message}
-use Rattle.mach_types.specs.Messages.{Message}
+use Rattle.mach_types.specs.Messages.{Mark, Message}
 use Rattle.mach_types.specs.Grammar.{WireBody, Spells, IsHeader, body_text}
 use Rattle.mach_types.specs.Grammar as wire
 use Rattle.mach_model.specs.State.{State, Target, lookup, queue}
 use Rattle.mach_model.specs.ReceiveRight.{one_if}
-use Rattle.mach_model.specs.CopyOut.{GiveReply, GiveBody}
+use Rattle.mach_types.specs.Bodies.{reply_words, body_words, message_rights, SameReply, SameBody, Through}
+use Rattle.mach_model.specs.CopyOut.{GiveWord}
+use Rattle.mach_model.specs.ReceivedMeans.{IsReceived}
 use Rattle.mach_model.specs.Receive.{TakesFrom, Receives}
-use Rattle.mach_model.specs.Carried.{reply_count, body_count}
+use Rattle.mach_model.specs.Carried.{rights_count}
 use Rattle.mach_model.specs.Lawful.{IsLawful}
 use Rattle.mach_model.proofs.Moving.{IsMoving}
 use Rattle.mach_model.proofs.ReceiveLawful.{taken_moving, lies, Receives-lawful}
@@ -27,15 +29,16 @@ use Rattle.name_space.specs.declared.Entry.{Entry as Named}
 use Rattle.name_space.specs.Entry.{port_named, has_receive}
 use Rattle.name_space.specs.Names.{SpaceView}
 use Rattle.copyin_base.specs.declared.message.Carried.{Carried}
-use Rattle.copyin_base.specs.Kept.{Kept, reply_of, body_of, body_given}
-use Rattle.copyin.specs.Plans.{option_list}
+use Rattle.copyin_base.specs.Kept.{Kept, body_given}
 use Rattle.copyin_base.specs.Worlds.{WorldView, entry_in, entry_at}
 use Rattle.copyin_base.specs.Shows.{target_of, Agrees, Shows}
 use Rattle.copyout.specs.Takes.{TakesMessage, reversed, reply_number, reply_word, body_names}
 use Rattle.copyin_base.proofs.Changing.{target_named}
 use Rattle.copyout.proofs.GivenAll.{AreLying, AllGiven, all_given}
-use Rattle.copyout.proofs.GivenBody.{ReplyGiven, reply_given, body_is_given, message_counted}
-use Rattle.copyout.proofs.GivenWords.{each_keeps, IsWord, each_fits, each_length, body_words_count, rights_length, length-body}
+use Rattle.copyout.specs.Giving.{GivesAll}
+use Rattle.copyout.proofs.Delivered.{gives_length}
+use Rattle.copyout.proofs.Rights.{rights_of, seconds, message_kept, BodyReceived, body_received, reply_received, words_received}
+use Rattle.copyout.proofs.GivenWords.{each_keeps, IsWord, each_fits, body_words_count, rights_length, length-body}
 use Rattle.copyout.proofs.Fronts.{HasFront, shown_is_front}
 use Rattle.copyout.proofs.FrontTaken.{kind_by, front, port_lives, kind_of_front, taken_state, taken_moves, front_agrees}
 
@@ -49,10 +52,6 @@ reply_fits : (reply : Option Carried) (words : List ℕ) → All IsWord words �
 reply_fits None words fit = omega arith
 reply_fits (Some c) [] fit = omega arith
 reply_fits (Some c) (w ∷ ws) fit = fit 0 w (omega arith)
-
-names_length : (reply : Option Carried) (cs : List Carried) (words : List ℕ) → length words ≡ length (option_list reply ++ cs) → length (body_names reply words) ≡ length cs
-names_length None cs words e = e
-names_length (Some c) cs words e = omega (arith, e, length-drop 1 words)
 
 number_fits : (reply : Option Carried) → reply_number reply < 2 ^ 8
 number_fits None = omega arith
@@ -97,7 +96,7 @@ module _ (w : WorldView) (s : State) (sh : Shows w s) (task port local : ℕ) (b
   kept = m.takes.front
 
   abbrev carried : List Carried
-  carried = option_list kept.reply ++ kept.rights
+  carried = option_to_list kept.reply ++ kept.rights
 
   abbrev a : Agrees w s
   a = sh.agrees
@@ -129,29 +128,46 @@ module _ (w : WorldView) (s : State) (sh : Shows w s) (task port local : ℕ) (b
   are_lying : AreLying t0 port (s.taken port) carried
   are_lying kind q live =
       let c = lies s port is.first t0.ledger l lives (shown_is_front w s a port m.takes.v m.takes.there kept m.takes.behind m.takes.queue) (taken_moves w s a l port m.mid m.takes) kind q live in
-      let r : reply_count kind q is.first.message.reply ≡ reply_count kind q (reply_of kept.reply) = ap (λ (y : Message). reply_count kind q y.reply) is.keeps.message_is in
-      let b : body_count kind q is.first.message.body ≡ body_count kind q (body_of written kept.rights) = ap (λ (y : Message). body_count kind q y.body) is.keeps.message_is in
-      let n = message_counted kind q kept.reply written kept.rights is.keeps.given in
-      omega (arith, c, r, b, n)
-
-  all : AllGiven task port (s.taken port) carried t0 m.words w'
-  all = all_given carried m.words m.mid t0 (front_agrees w s a l port m.mid m.takes) port (s.taken port) on_way task is_task are_lying w' m.gives
-
-  reply_first : ReplyGiven task (in_message port (s.taken port)) kept.reply kept.rights t0 m.words all.t
-  reply_first = reply_given task (in_message port (s.taken port)) kept.reply kept.rights t0 m.words all.t all.gives
+      let n : rights_count kind q (message_rights is.first.message) ≡ rights_count kind q (rights_of carried) = ap (rights_count kind q) (message_kept port kept is.first.message is.keeps) in
+      omega (arith, c, n)
 
   abbrev names : List ℕ
   names = body_names kept.reply m.words
 
+  words_length : length m.words ≡ length carried
+  words_length = gives_length m.mid w' task carried m.words m.gives
+
+  long : length (option_to_list kept.reply) ≤ length m.words
+  long = let e = words_length in omega (arith, e, length-append (option_to_list kept.reply) kept.rights)
+
+  names_long : length names ≡ length kept.rights
+  names_long = by_reply kept.reply m.words words_length
+    where
+      by_reply : (reply : Option Carried) (words : List ℕ) → length words ≡ length (option_to_list reply ++ kept.rights) → length (body_names reply words) ≡ length kept.rights
+      by_reply None words e = e
+      by_reply (Some c) words e = omega (arith, e, length-drop 1 words)
+
+  body_first : BodyReceived written kept.rights names
+  body_first = body_received written is.keeps.laid_out.fits kept.rights names is.keeps.given names_long
+
+  -- the words that the text has, each with its number
+  abbrev ws : List (ℕ × ℕ)
+  ws = reply_words (reply_number kept.reply) (reply_word kept.reply m.words) ++ body_words (received_body written names)
+
+  words_are : seconds ws ≡ m.words
+  words_are = words_received kept.reply m.words (body_words (received_body written names)) long body_first.are
+
+  all : AllGiven task port (s.taken port) carried t0 ws w'
+  all = all_given carried ws m.mid t0 (front_agrees w s a l port m.mid m.takes) port (s.taken port) on_way task is_task are_lying w'
+      (subst (λ (xs : List ℕ). GivesAll m.mid task carried xs w') (sym words_are) m.gives)
+
   -- ---- the bytes
 
   words_fit : All IsWord m.words
-  words_fit = each_fits task port (s.taken port) carried t0 m.words all.t on_way is_task all.gives
+  words_fit = subst (All IsWord) words_are (each_fits task port (s.taken port) t0 ws (rights_of carried) all.t on_way is_task all.gives)
 
   names_count : length names ≡ word_count (body_spans written)
-  names_count =
-      names_length kept.reply kept.rights m.words (each_length task (in_message port (s.taken port)) carried t0 m.words all.t all.gives)
-      ∙ rights_length kept.rights (body_given written) is.keeps.given ∙ body_words_count written
+  names_count = names_long ∙ rights_length kept.rights (body_given written) is.keeps.given ∙ body_words_count written
 
   abbrev head : Header
   head = reversed kept local m.takes.v.attributes.sequence m.words
@@ -213,13 +229,11 @@ module _ (w : WorldView) (s : State) (sh : Shows w s) (task port local : ℕ) (b
       takes = record { front = shown_is_front w s a port m.takes.v m.takes.there kept m.takes.behind m.takes.queue; rest = refl; tokens = taken_moves w s a l port m.mid m.takes };
       header = header;
       written = received_body written names;
-      second = reply_first.second;
-      reply = subst (λ (y : Message). GiveReply task (in_message port (s.taken port)) y.reply t0 (reply_number kept.reply) (reply_word kept.reply m.words) reply_first.second)
-          (sym is.keeps.message_is) reply_first.gives;
-      body = subst (λ (y : Message). GiveBody task (in_message port (s.taken port)) y.body reply_first.second (received_body written names) all.t) (sym is.keeps.message_is)
-          (body_is_given task (in_message port (s.taken port)) written is.keeps.laid_out.fits kept.rights reply_first.second names all.t is.keeps.given reply_first.others);
+      reply = subst (λ (y : Message). SameReply IsReceived (reply_number kept.reply) (reply_word kept.reply m.words) y.reply) (sym is.keeps.message_is) (reply_received kept.reply m.words long);
+      body = subst (λ (y : Message). SameBody IsReceived (received_body written names) y.body) (sym is.keeps.message_is) body_first.same;
+      rights = subst (λ (rs : List (Kind × Mark)). Through (GiveWord task (in_message port (s.taken port))) t0 ws rs all.t) (sym (message_kept port kept is.first.message is.keeps)) all.gives;
       kind = local_is kept.by_once ∙ sym (ap kind_number (kind_of_front w s a l port m.mid m.takes));
-      local = each_keeps task (in_message port (s.taken port)) carried t0 m.words all.t all.gives local (Target.port port) local_name;
+      local = each_keeps task (in_message port (s.taken port)) t0 ws (rights_of carried) all.t all.gives local (Target.port port) local_name;
       size = sym length_is;
       sequence = sequence_is;
       id = sym (ap (λ (y : Message). y.id) is.keeps.message_is);

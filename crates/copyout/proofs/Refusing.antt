@@ -1,31 +1,31 @@
 -- A front message that isn't received: for want of names, or for its length.
-use Rattle.std.proofs.Common.{◌≡◌, ℕ, ◌<◌, ◌≤◌, Bool, sym, subst, ◌∙◌, inl, inr, List, [], ◌∷◌, ◌++◌, Some, refl, ap, arith, true, zero, suc, length, take, drop, length-append}
-use Rattle.std.specs.Prelude.{replicate, min}
+use Rattle.std.proofs.Common.{◌≡◌, ℕ, ◌<◌, ◌≤◌, Bool, sym, subst, ◌∙◌, inl, inr, List, [], ◌∷◌, ◌++◌, Some, refl, ap, arith, true, length, drop, length-append}
+use Rattle.std.specs.Prelude.{min}
 use Rattle.std.proofs.lemmas.List.{length-drop}
 use Rattle.mach_types.specs.declared.calls.Reply.{Reply}
 use Rattle.mach_types.specs.declared.calls.Waited.{Waited}
 use Rattle.mach_types.specs.declared.codes.MsgReturn.TheVariants.{ReceiveBodyErrorMemory, ReceiveBodyErrorNames}
-use Rattle.mach_types.specs.Numbers.{disposition_number, most_bytes, msg_number}
-use Rattle.mach_types.specs.Tokens.{Place, in_message}
+use Rattle.mach_types.specs.Numbers.{most_bytes, msg_number}
+use Rattle.mach_types.specs.Tokens.{Kind, Place, in_message}
 use Rattle.mach_types.specs.Messages.{Form, short, long, Message}
+use Rattle.mach_types.specs.Messages.{Mark as MachineMark}
+use Rattle.mach_types.specs.Bodies.{OneFails}
 use Rattle.mach_types.specs.Grammar.{Wire, data_item, port_item, WireBody, wire_text, wires_text, words_text, descriptor_text, body_text}
 use Rattle.mach_model.specs.State.{State, queue}
-use Rattle.mach_model.specs.CopyOut.{MessageLacks}
+use Rattle.mach_model.specs.CopyOut.{GiveMark, MarkLacks, MessageLacks}
 use Rattle.mach_model.specs.ReceivedMeans.{form_length, items_length, body_length, message_length}
 use Rattle.mach_model.specs.Receive.{TakesFrom, Receipt, ReceiptRefuses}
 use Rattle.mach_model.proofs.Moving.{moving}
 use Rattle.message_codec.proofs.Shapes.{length-words_text}
 use Rattle.port.specs.Ports.{PortView}
 use Rattle.copyin_base.specs.declared.message.Carried.{Carried}
-use Rattle.copyin_base.specs.Kept.{Kept, Keeps, marks_of, items_of, body_of, items_given, body_given, message_of}
-use Rattle.copyin.specs.Plans.{option_list}
+use Rattle.copyin_base.specs.Kept.{Kept, Keeps, items_of, body_of, items_given, body_given, message_of}
+use Rattle.std.specs.Option.{option_to_list}
 use Rattle.copyin_base.specs.Worlds.{WorldView, port_at}
 use Rattle.copyin_base.specs.Shows.{Agrees, Shows}
 use Rattle.copyout.specs.Giving.{LackNames}
 use Rattle.copyout.proofs.Fronts.{HasFront, shown_empty, shown_front, shown_is_front, shown_lying}
-use Rattle.copyin.proofs.Bodies.{numbers}
-use Rattle.copyout.proofs.GivenBody.{same_tail}
-use Rattle.copyout.proofs.Lacking.{EachLacks, message_lacks, message_lacks_each}
+use Rattle.copyout.proofs.Rights.{numbers, item_kept, message_kept}
 use Rattle.copyout.proofs.AllLacking.{all_lack, all_lack_too}
 
 -- ---- how long a message is
@@ -33,16 +33,6 @@ use Rattle.copyout.proofs.AllLacking.{all_lack, all_lack_too}
 length-descriptor : (form : Form) (name size number : ℕ) → length (descriptor_text form name size number) ≡ form_length form
 length-descriptor short name size number = refl
 length-descriptor long name size number = refl
-
--- as many marks as an item has words, and the others
-marks_length : (number n : ℕ) (cs : List Carried) (rest : List ℕ) → numbers cs ≡ replicate n number ++ rest → (length (marks_of (take n cs)) ≡ n) × (numbers (drop n cs) ≡ rest)
-marks_length number zero cs rest e = (refl, e)
-marks_length number (suc n) [] rest e = absurd (let e' : [] ≡ number ∷ (replicate n number ++ rest) = e in cc)
-marks_length number (suc n) (c ∷ cs) rest e =
-    let e' : disposition_number c.given ∷ numbers cs ≡ number ∷ (replicate n number ++ rest) = e in
-    let x = marks_length number n cs rest (same_tail (disposition_number c.given) number (numbers cs) (replicate n number ++ rest) e') in
-    let more = x.0 in
-    (omega (arith, more), x.1)
 
 items_long : (xs : List Wire) (cs : List Carried) → numbers cs ≡ items_given xs → items_length (items_of xs cs) ≡ length (wires_text xs)
 items_long [] cs e = refl
@@ -54,9 +44,9 @@ items_long (data_item form name size number bytes padding ∷ xs) cs e =
     let c = length-append (wire_text (data_item form name size number bytes padding)) (wires_text xs) in
     omega (arith, more, d, a, b, c)
 items_long (port_item form number sent ∷ xs) cs e =
-    let x = marks_length number (length sent) cs (items_given xs) e in
-    let more = items_long xs (drop (length sent) cs) x.1 in
-    let marks = x.0 in
+    let x = item_kept number (length sent) cs (items_given xs) e in
+    let more = items_long xs (drop (length sent) cs) x.left in
+    let marks = x.many in
     let d = length-descriptor form number 32 (length sent) in
     let a = length-append (descriptor_text form number 32 (length sent)) (words_text sent) in
     let b = length-words_text sent in
@@ -90,25 +80,20 @@ module _ (w : WorldView) (s : State) (sh : Shows w s) (task port : ℕ) (is_task
   place = in_message port (s.taken port)
 
   abbrev carried : List Carried
-  carried = option_list m.reply ++ m.rights
+  carried = option_to_list m.reply ++ m.rights
 
-  lack_of : EachLacks task place carried s → MessageLacks task place message s
-  lack_of h = message_lacks task place message front.keeps.written m.rights front.keeps.given
-      (ap (λ (x : Message). x.body) front.keeps.message_is) m.reply (ap (λ (x : Message). x.reply) front.keeps.message_is) s h
-
-  lack_from : MessageLacks task place message s → EachLacks task place carried s
-  lack_from h = message_lacks_each task place message front.keeps.written m.rights front.keeps.given
-      (ap (λ (x : Message). x.body) front.keeps.message_is) m.reply (ap (λ (x : Message). x.reply) front.keeps.message_is) s h
+  abbrev Fails : List (Kind × MachineMark) → Type 0
+  Fails rs = OneFails (λ old r. MarkLacks task r.0 r.1 old) (λ old r new. (word : ℕ) × GiveMark task place r.0 r.1 old word new) s rs
 
   -- The task's names don't suffice for the front message.
   pub names_lack : LackNames w task carried → MessageLacks task place message s
-  names_lack h = lack_of (all_lack task port (s.taken port) carried w s sh.agrees (moving s port (s.taken port) sh.lawful) is_task
+  names_lack h = subst Fails (sym (message_kept port m message front.keeps)) (all_lack task port (s.taken port) carried w s sh.agrees (moving s port (s.taken port) sh.lawful) is_task
       (shown_lying w s sh.agrees port v there m behind queued sh.lawful) h)
 
   -- They suffice.
   pub names_suffice : ¬ (LackNames w task carried) → ¬ (MessageLacks task place message s)
   names_suffice none h = none (all_lack_too task port (s.taken port) carried w s sh.agrees (moving s port (s.taken port) sh.lawful) is_task
-      (shown_lying w s sh.agrees port v there m behind queued sh.lawful) (lack_from h))
+      (shown_lying w s sh.agrees port v there m behind queued sh.lawful) (subst Fails (message_kept port m message front.keeps) h))
 
   module _ (waited : Waited) (from : TakesFrom s task waited port) (room : ℕ) (fits : length m.bytes ≤ min room most_bytes) where
     message_fits : message_length message ≤ min room most_bytes

@@ -25,7 +25,7 @@ use Rattle.copyout.specs.Giving.{LackNames, free_names, free_room, GivesPort, Gi
 use Rattle.copyout.specs.Room.{Needs}
 use Rattle.copyout.specs.Takes.{TakesFront, TakesMessage, destination_right}
 use Rattle.copyout.specs.Ready.{CanGive, Waits, HasFront, MayReceive, ReadyFor, carried_by, sends_for}
-use Rattle.copyout.specs.Wanted.{inline_names, WantsToReceive, ReturnsSlot}
+use Rattle.copyout.specs.Wanted.{WantsToReceive, ReturnsSlot}
 use Rattle.copyout.proofs.After.{entered-put, sends-taken}
 use Rattle.copyout.proofs.Counted.{too_few, enough, left_then, starts}
 use Rattle.copyout.proofs.Counting.{names_are_free, room_is_free}
@@ -181,9 +181,6 @@ module _ (w : WorldView) (task : ℕ) (m : Kept) (space : SpaceView) (needed : �
   names_lack most many = too_few free_names names_are_free w.ports space.names task [] (carried_by m) w _ _ needed (starts free_names w.ports w task space there (λ p. refl)) needs (omega (arith, most)) many
 
 -- ---- where memory is wanted
-
-pub wants_words : (w : WorldView) (task port : ℕ) (m : Kept) → HasFront w port m → inline_names < length m.rights → WantsToReceive w task port
-wants_words w task port m front many = record { front = m; waits = front; wanted = inl many }
 
 pub wants_room : (w : WorldView) (task port room needed : ℕ) (m : MayReceive w task port room needed) → room_of w task < needed → WantsToReceive w task port
 wants_room w task port room needed m less =

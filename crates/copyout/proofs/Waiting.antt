@@ -1,87 +1,95 @@
--- What the tables have of a message that waits: a right for each port word, and each right counted.
-use Rattle.std.proofs.Common.{◌≡◌, ℕ, ◌+◌, ◌≤◌, List, ◌∷◌, ◌++◌, Some, refl, sym, ap, subst, ◌∙◌, arith, true, false, Bool, length}
-use Rattle.std.specs.Prelude.{if◌then◌else◌, ◌==◌, is_some, slice_get}
+-- A message that waits in tables that show a state can be received: its rights are counted, and its bytes are laid out.
+use Rattle.std.proofs.Common.{◌≡◌, ℕ, ◌+◌, ◌≤◌, List, [], ◌∷◌, Some, refl, sym, ap, ◌∙◌, arith, true, false, Bool}
+use Rattle.std.specs.Prelude.{slice_get, if◌then◌else◌, ◌==◌}
 use Rattle.std.proofs.lemmas.Bool.{eq-eqb}
-use Rattle.mach_types.specs.Tokens.{Kind, send, send_once, in_message, count, is_of}
-use Rattle.mach_types.specs.Messages.{to_port, Message, Entry}
+use Rattle.mach_types.specs.Numbers.{kind_sent}
+use Rattle.mach_types.specs.Tokens.{Kind, receive, send, send_once, in_message, count, is_of}
+use Rattle.mach_types.specs.Messages.{Entry, to_port}
 use Rattle.mach_model.specs.State.{State, queue}
-use Rattle.mach_model.specs.Carried.{mark_count, message_count}
-use Rattle.mach_model.specs.Lawful.{IsLawful}
+use Rattle.mach_model.specs.Carried.{mark_count, rights_count}
 use Rattle.mach_model.proofs.Weigh.{lying_le_of}
 use Rattle.message_codec.specs.Spans.{word_count}
 use Rattle.port.specs.Ports.{PortView}
 use Rattle.rights.specs.Counts.{number_of}
-use Rattle.rights.specs.Ledger.{IsEntered, counts_of}
-use Rattle.copyin_base.specs.Kept.{Kept, Keeps, message_of}
-use Rattle.copyin.specs.Plans.{option_list}
+use Rattle.rights.specs.Ledger.{counts_of}
+use Rattle.copyin_base.specs.declared.message.Carried.{Carried}
+use Rattle.copyin_base.specs.declared.message.Mark.{Mark}
+use Rattle.copyin_base.specs.declared.message.Mark.TheVariants as mark
+use Rattle.copyin_base.specs.Kept.{Kept, mark_of, body_given}
 use Rattle.copyin_base.specs.Worlds.{WorldView, port_at}
-use Rattle.copyin_base.specs.Shows.{Agrees}
+use Rattle.copyin_base.specs.Shows.{Shows}
+use Rattle.copyout.specs.Ready.{send_for, sends_for, carried_by, AllEntered, Waits}
 use Rattle.copyout.specs.Takes.{destination_right}
+use Rattle.copyout.proofs.Rights.{rights_of, message_counted}
+use Rattle.copyout.proofs.GivenWords.{rights_length, body_words_count}
 use Rattle.copyout.proofs.Fronts.{HasFront, shown_front, shown_lives}
-use Rattle.copyout.proofs.GivenAll.{each_count}
-use Rattle.copyout.proofs.GivenBody.{message_counted}
-use Rattle.copyout.proofs.GivenWords.{body_words_count, rights_length}
 
--- There is a right for each port word.
-pub right_each : (port : ℕ) (m : Kept) (message : Message) → Keeps port m message → length m.rights ≡ word_count m.spans
-right_each port m message k = rights_length m.rights _ k.given ∙ body_words_count k.written ∙ sym (ap word_count k.laid_out.spans_are)
+send_counted : (kind : Kind) (m : Mark) (p : ℕ) → send_for kind m p ≡ mark_count send p kind (mark_of m)
+send_counted send (mark.Port q) p = refl
+send_counted receive (mark.Port q) p = refl
+send_counted send_once (mark.Port q) p = refl
+send_counted send mark.Null p = refl
+send_counted receive mark.Null p = refl
+send_counted send_once mark.Null p = refl
+send_counted send mark.Dead p = refl
+send_counted receive mark.Dead p = refl
+send_counted send_once mark.Dead p = refl
 
--- Each port that is there is in the ledger.
-pub each_entered : (w : WorldView) (s : State) → Agrees w s → (p : ℕ) → is_some (port_at w p) ≡ true → IsEntered w.ledger p
-each_entered w s a p there = (a.counts p).entered ∙ sym (a.live_port p) ∙ there
+sends_counted : (cs : List Carried) (p : ℕ) → sends_for cs p ≡ rights_count send p (rights_of cs)
+sends_counted [] p = refl
+sends_counted (c ∷ cs) p = let a = send_counted (kind_sent c.given) c.mark p in let b = sends_counted cs p in omega (arith, a, b)
 
--- one right of a message is the one by which it goes
-abbrev pub destination_count : Kept → (port p : ℕ) → ℕ
-destination_count m port p = if m.by_once then 0 else if port == p then 1 else 0
+pub all_entered : (w : WorldView) (s : State) → Shows w s → AllEntered w
+all_entered w s sh p live = (sh.agrees.counts p).entered ∙ sym (sh.agrees.live_port p) ∙ live
 
-send_count : (b : Bool) (port p : ℕ) → mark_count send p (if b then send_once else send) (to_port port) ≡ (if b then 0 else if port == p then 1 else 0)
-send_count true port p = refl
-send_count false port p = refl
+module _ (w : WorldView) (s : State) (sh : Shows w s) (p : ℕ) (v : PortView Kept) (there : port_at w p ≡ Some v) (m : Kept) (behind : List Kept) (queued : v.queue ≡ m ∷ behind) where
+  front : HasFront p m behind (queue s p)
+  front = shown_front w s sh.agrees p v there m behind queued
 
-module _ (w : WorldView) (s : State) (a : Agrees w s) (l : IsLawful s) (port : ℕ) (v : PortView Kept) (there : port_at w port ≡ Some v) (m : Kept) (behind : List Kept) (queued : v.queue ≡ m ∷ behind) where
-  abbrev front : HasFront port m behind (queue s port)
-  front = shown_front w s a port v there m behind queued
+  -- what lies at its entry is counted
+  lies : (kind : Kind) (q : ℕ) → s.live_port q ≡ true → mark_count kind q (if m.by_once then send_once else send) (to_port p) + rights_count kind q (rights_of (carried_by m)) ≤ count (is_of kind q) s.ledger
+  lies kind q live =
+      let c = sh.lawful.carried p 0 front.first (shown_lives w s sh.agrees p v there m behind queued) (ap (λ (es : List Entry). slice_get es 0) front.parts) kind q live in
+      let n = message_counted p m front.first.message front.keeps kind q in
+      let le = lying_le_of s kind q (in_message p (s.taken p + 0)) in
+      omega (arith, c, n, le)
 
-  abbrev kind_by : Bool → Kind
-  kind_by b = if b then send_once else send
+  by_kind : (b : Bool) → mark_count (if b then send_once else send) p (if b then send_once else send) (to_port p) ≡ 1
+  by_kind true = rw (eq-eqb p p refl) refl
+  by_kind false = rw (eq-eqb p p refl) refl
 
-  -- what the message carries is counted in the machine's ledger
-  carried_counted : (kind : Kind) (p : ℕ) → s.live_port p ≡ true →
-      mark_count kind p (kind_by m.by_once) (to_port port) + each_count kind p (option_list m.reply ++ m.rights) ≤ count (is_of kind p) s.ledger
-  carried_counted kind p live =
-      let c = l.carried port 0 front.first (shown_lives w s a port v there m behind queued) (ap (λ (es : List Entry). slice_get es 0) front.parts) kind p live in
-      let is : message_count kind p front.first.message ≡ message_count kind p (message_of port m front.keeps.written) = ap (message_count kind p) front.keeps.message_is in
-      let n = message_counted kind p m.reply front.keeps.written m.rights front.keeps.given in
-      let le = lying_le_of s kind p (in_message port (s.taken port + 0)) in
-      omega (arith, c, is, n, le)
+  its_send : (b : Bool) (q : ℕ) → (if b then 0 else if p == q then 1 else 0) ≡ mark_count send q (if b then send_once else send) (to_port p)
+  its_send true q = refl
+  its_send false q = refl
 
-  -- Its send rights are counted, that by which it goes with them.
-  pub sends_counted : (p : ℕ) → is_some (port_at w p) ≡ true → each_count send p (option_list m.reply ++ m.rights) + destination_count m port p ≤ (counts_of w.ledger p).send
-  sends_counted p is_there =
-      let c = carried_counted send p (sym (a.live_port p) ∙ is_there) in
-      let d = send_count m.by_once port p in
-      let e = (a.counts p).senders in
-      omega (arith, c, d, e)
+  destination : (b : Bool) → m.by_once ≡ b → 1 ≤ number_of (destination_right m) (counts_of w.ledger p)
+  destination true e =
+      let live = shown_lives w s sh.agrees p v there m behind queued in
+      let l = lies send_once p live in
+      let k : mark_count send_once p (if m.by_once then send_once else send) (to_port p) ≡ 1 = ap (λ (x : Bool). mark_count send_once p (if x then send_once else send) (to_port p)) e ∙ by_kind true in
+      let c = (sh.agrees.counts p).once_rights in rw e (omega (arith, l, k, c))
+  destination false e =
+      let live = shown_lives w s sh.agrees p v there m behind queued in
+      let l = lies send p live in
+      let k : mark_count send p (if m.by_once then send_once else send) (to_port p) ≡ 1 = ap (λ (x : Bool). mark_count send p (if x then send_once else send) (to_port p)) e ∙ by_kind false in
+      let c = (sh.agrees.counts p).senders in rw e (omega (arith, l, k, c))
 
-  -- The right by which it goes is counted.
-  pub destination_counted : 1 ≤ number_of (destination_right m) (counts_of w.ledger port)
-  destination_counted = go m.by_once refl
-    where
-      own : (b : Bool) → mark_count (kind_by b) port (kind_by b) (to_port port) ≡ 1
-      own true = rw (eq-eqb port port refl) refl
-      own false = rw (eq-eqb port port refl) refl
-
-      is_counted : 1 ≤ count (is_of (kind_by m.by_once) port) s.ledger
-      is_counted =
-          let c = carried_counted (kind_by m.by_once) port (shown_lives w s a port v there m behind queued) in
-          let o = own m.by_once in omega (arith, c, o)
-
-      go : (b : Bool) → m.by_once ≡ b → 1 ≤ number_of (destination_right m) (counts_of w.ledger port)
-      go true e =
-          let n : number_of (destination_right m) (counts_of w.ledger port) ≡ (counts_of w.ledger port).send_once = rw e refl in
-          let c : 1 ≤ count (is_of send_once port) s.ledger = subst (λ (b : Bool). 1 ≤ count (is_of (kind_by b) port) s.ledger) e is_counted in
-          let f = (a.counts port).once_rights in omega (arith, n, c, f)
-      go false e =
-          let n : number_of (destination_right m) (counts_of w.ledger port) ≡ (counts_of w.ledger port).send = rw e refl in
-          let c : 1 ≤ count (is_of send port) s.ledger = subst (λ (b : Bool). 1 ≤ count (is_of (kind_by b) port) s.ledger) e is_counted in
-          let f = (a.counts port).senders in omega (arith, n, c, f)
+  pub waits : Waits w p
+  waits = record {
+    v = v;
+    there = there;
+    front = m;
+    behind = behind;
+    queue = queued;
+    written = front.keeps.written;
+    laid_out = front.keeps.laid_out;
+    a_right_each = rights_length m.rights (body_given front.keeps.written) front.keeps.given ∙ body_words_count front.keeps.written ∙ ap word_count (sym front.keeps.laid_out.spans_are);
+    few = front.keeps.few;
+    entered = all_entered w s sh;
+    destination = destination m.by_once refl;
+    counted = λ q live.
+        let l = lies send q (sym (sh.agrees.live_port q) ∙ live) in
+        let a = sends_counted (carried_by m) q in
+        let b = its_send m.by_once q in
+        let c = (sh.agrees.counts q).senders in omega (arith, l, a, b, c);
+  }

@@ -1,8 +1,9 @@
 -- What copying out gives a task: a name for each right of a message, in the tables.
-use Rattle.std.specs.Prelude.{◌≡◌, ◌≢◌, ℕ, ◌+◌, ◌-◌, ◌<◌, ◌⊎◌, true, List, [], ◌∷◌, slice_get, slice_set, Some, is_some, if◌then◌else◌, ◌==◌, min, MatchBool}
+use Rattle.std.specs.Prelude.{◌≡◌, ◌≢◌, ℕ, ◌+◌, ◌-◌, ◌<◌, ◌⊎◌, true, List, slice_get, slice_set, Some, is_some, if◌then◌else◌, ◌==◌, min, MatchBool}
 use Rattle.std.specs.FinMap as map
 use Rattle.mach_types.specs.Numbers.{kind_sent, null_word, dead_word, most_names, most_references}
 use Rattle.mach_types.specs.Tokens.{Kind, receive, send, send_once}
+use Rattle.mach_types.specs.Bodies.{Through, OneFails}
 use Rattle.name_space.specs.declared.Entry.{Entry}
 use Rattle.name_space.specs.declared.Entry.TheVariants as entry
 use Rattle.name_space.specs.Entry.{port_named, send_references}
@@ -69,11 +70,9 @@ GivesMark old task kind (mark.Port p) word new =
 GivesMark old task kind mark.Null word new = (word ≡ null_word) × (new ≡ old)
 GivesMark old task kind mark.Dead word new = (word ≡ dead_word) × (new ≡ old)
 
+-- the rights are given from the front, each under its name
 abbrev pub GivesAll : WorldView → (task : ℕ) → List Carried → List ℕ → WorldView → Type 0
-GivesAll old task [] [] new = new ≡ old
-GivesAll old task (c ∷ cs) (w ∷ ws) new = (mid : WorldView) × GivesMark old task (kind_sent c.given) c.mark w mid × GivesAll mid task cs ws new
-GivesAll old task [] (w ∷ ws) new = ⊥
-GivesAll old task (c ∷ cs) [] new = ⊥
+GivesAll old task carried words new = Through (λ w c word mid. GivesMark w task (kind_sent c.given) c.mark word mid) old carried words new
 
 -- ---- want of names, and of room for them
 
@@ -86,24 +85,22 @@ abbrev pub free_room : SpaceView → ℕ
 free_room space = space.room
 
 -- none is left to the task
-abbrev pub NoneLeft : (left : SpaceView → ℕ) → WorldView → (task : ℕ) → Type 0
-NoneLeft left w task = (space : SpaceView) × (slice_get w.spaces task ≡ Some space) × (left space ≡ 0)
+abbrev pub NoneLeft : (free : SpaceView → ℕ) → WorldView → (task : ℕ) → Type 0
+NoneLeft free w task = (space : SpaceView) × (slice_get w.spaces task ≡ Some space) × (free space ≡ 0)
 
 -- the right needs a name of its own
 abbrev pub NeedsOwn : WorldView → (task : ℕ) → Kind → (port : ℕ) → Type 0
 NeedsOwn w task kind p = (kind ≡ send_once) ⊎ ((space : SpaceView) × (slice_get w.spaces task ≡ Some space) × ((name : ℕ) → port_at space.names name ≢ Some p))
 
-abbrev pub MarkLacks : (left : SpaceView → ℕ) → WorldView → (task : ℕ) → Kind → Mark → Type 0
-MarkLacks left w task kind (mark.Port p) = (is_some (map.get w.ports.ports p) ≡ true) × NoneLeft left w task × NeedsOwn w task kind p
-MarkLacks left w task kind mark.Null = ⊥
-MarkLacks left w task kind mark.Dead = ⊥
+abbrev pub MarkLacks : (free : SpaceView → ℕ) → WorldView → (task : ℕ) → Kind → Mark → Type 0
+MarkLacks free w task kind (mark.Port p) = (is_some (map.get w.ports.ports p) ≡ true) × NoneLeft free w task × NeedsOwn w task kind p
+MarkLacks free w task kind mark.Null = ⊥
+MarkLacks free w task kind mark.Dead = ⊥
 
--- There is none left for one of them, once those before it were given.
-abbrev pub Lack : (left : SpaceView → ℕ) → WorldView → (task : ℕ) → List Carried → Type 0
-Lack left w task [] = ⊥
-Lack left w task (c ∷ cs) =
-    MarkLacks left w task (kind_sent c.given) c.mark
-    ⊎ ((word : ℕ) × (mid : WorldView) × GivesMark w task (kind_sent c.given) c.mark word mid × Lack left mid task cs)
+-- None is left for one of them, once those before it were given.
+abbrev pub Lack : (free : SpaceView → ℕ) → WorldView → (task : ℕ) → List Carried → Type 0
+Lack free w task carried =
+    OneFails (λ v c. MarkLacks free v task (kind_sent c.given) c.mark) (λ v c mid. (word : ℕ) × GivesMark v task (kind_sent c.given) c.mark word mid) w carried
 
 -- The task's names don't suffice for the rights.
 abbrev pub LackNames : WorldView → (task : ℕ) → List Carried → Type 0

@@ -16,7 +16,7 @@ use Rattle.copyin_base.specs.declared.message.Mark.{Mark}
 use Rattle.copyin_base.specs.declared.message.Mark.TheVariants as mark
 use Rattle.copyin_base.specs.Kept.{Kept}
 use Rattle.copyin_base.specs.Worlds.{WorldView, port_at}
-use Rattle.copyin.specs.Plans.{option_list}
+use Rattle.std.specs.Option.{option_to_list}
 use Rattle.copyout.specs.Giving.{NeedsOwn, LackNames, LackRoom, free_names, GivesAll}
 use Rattle.copyout.specs.Room.{Needs}
 use Rattle.copyout.specs.Takes.{destination_right, reversed, body_names}
@@ -74,7 +74,7 @@ pub record CanTakeName (w : WorldView) (task : ℕ) (kind : Kind) (port : ℕ) :
   pub live : is_some (port_at w port) ≡ true
 
 abbrev pub carried_by : Kept → List Carried
-carried_by m = option_list m.reply ++ m.rights
+carried_by m = option_to_list m.reply ++ m.rights
 
 -- This is the port's front message.
 pub record HasFront (w : WorldView) (port : ℕ) (m : Kept) : Type 0 where

@@ -11,7 +11,7 @@ use Rattle.rights.specs.declared.RightKind.TheVariants as right
 use Rattle.copyin_base.specs.declared.message.Carried.{Carried}
 use Rattle.copyin_base.specs.Kept.{Kept}
 use Rattle.copyin_base.specs.Worlds.{WorldView, port_at}
-use Rattle.copyin.specs.Plans.{option_list}
+use Rattle.std.specs.Option.{option_to_list}
 use Rattle.copyout.specs.Giving.{GivesAll}
 
 -- the right by which it goes
@@ -59,6 +59,6 @@ pub record TakesMessage (old : WorldView) (task port local : ℕ) (bytes : List 
   pub mid : WorldView
   pub takes : TakesFront old port mid
   pub words : List ℕ
-  pub gives : GivesAll mid task (option_list takes.front.reply ++ takes.front.rights) words new
+  pub gives : GivesAll mid task (option_to_list takes.front.reply ++ takes.front.rights) words new
   pub text : (written : WireBody) → IsLaidOut takes.front.bytes takes.front.spans written →
       bytes ≡ header_text (reversed takes.front local takes.v.attributes.sequence words) ++ body_text (received_body written (body_names takes.front.reply words))

@@ -1,5 +1,5 @@
 //! Taking a port's front message.
-ghost use Rattle.std.specs.Prelude.{◌≡◌, ◌≢◌, ℕ, ◌+◌, ◌*◌, ◌%◌, ◌^◌, ◌<◌, ◌≤◌, ◌++◌, [], ◌∷◌, true, Bool, Some, None, length, min, slice_get, slice_set, is_some, IfOk, IfErr, OnOk, OnErr, if◌then◌else◌, vec_len, vec_capacity, List};
+ghost use Rattle.std.specs.Prelude.{◌≡◌, ◌≢◌, ℕ, ◌+◌, ◌*◌, ◌%◌, ◌^◌, ◌<◌, ◌≤◌, ◌++◌, [], ◌∷◌, true, Bool, Some, None, length, min, slice_get, slice_set, is_some, IfOk, IfErr, OnOk, OnErr, MatchBool, if◌then◌else◌, vec_len, vec_capacity, List};
 ghost use Rattle.std.specs.FinMap as map;
 ghost use Rattle.mach_types.specs.Numbers.{most_bytes};
 ghost use Rattle.mach_types.specs.Grammar.{WireBody, body_text};
@@ -13,11 +13,11 @@ ghost use Rattle.rights.specs.Counts.{number_of};
 ghost use Rattle.copyin_base.specs.Changes.{MakesRoom};
 ghost use Rattle.copyin_base.specs.Kept.{Kept};
 ghost use Rattle.copyin_base.specs.Worlds.{WorldView, port_at};
-ghost use Rattle.copyin.specs.Plans.{option_list};
+ghost use Rattle.std.specs.Option.{option_to_list};
 ghost use Rattle.copyout.specs.Giving.{GivesAll};
 ghost use Rattle.copyout.specs.Takes.{TakesFront, TakesMessage, destination_right, reply_number, reply_word};
 ghost use Rattle.copyout.specs.Ready.{CanGive, Waits, HasFront, MayReceive, ReadyFor, Delivers, IsRefusedBy, carried_by};
-ghost use Rattle.copyout.specs.Wanted.{WantsToReceive, ReturnsSlot};
+ghost use Rattle.copyout.specs.Wanted.{inline_names, WantsToReceive, ReturnsSlot};
 ghost use Rattle.copyout.specs.declared.receipt.Refusal.TheVariants as refused;
 
 use crate::give::{give_right, give_rights};
@@ -30,7 +30,7 @@ use message_codec::{Header, Parsed, put_received};
 use port::Attributes;
 use rights::RightKind;
 use smallvec::SmallVec;
-use std::alloc::Global;
+use std::alloc::{AllocError, Global};
 
 /// Why a message isn't received. It stays, and all is as before.
 #[derive(Clone, Copy, Debug, PartialEq, Eq)]
@@ -120,8 +120,8 @@ fn take_front(world: &mut World, port: PortId) -> Message
 
 // Gives the task the right to answer with, if there is one, and answers its name.
 fn give_reply(world: &mut World, task: TaskId, reply: &Option<Carried>) -> Name
-    requires { CanGive world.old task (option_list reply.now) }
-    ensures { (words : List ℕ) × GivesAll world.old task (option_list reply.now) words world.new × (result ≡ reply_word reply.now words) }
+    requires { CanGive world.old task (option_to_list reply.now) }
+    ensures { (words : List ℕ) × GivesAll world.old task (option_to_list reply.now) words world.new × (result ≡ reply_word reply.now words) }
 {
     match reply {
         Some(carried) => give_right(world, task, carried),
@@ -197,6 +197,34 @@ fn take_message(
     deliver(world, task, message, local, sequence, names)
 }
 
+// The port's front message.
+fn front(world: &World, port: PortId) -> &Message
+    requires { (m : Kept) × HasFront world.now port m }
+    ensures { HasFront world.now port result.now }
+{
+    match world.ports.front(port) {
+        Some(message) => message,
+        None => unreachable!(),
+    }
+}
+
+// Whether the message has more bytes than there is room for, or than may be.
+fn is_too_large(message: &Message, room: u32) -> bool
+    ensures { MatchBool result (min room most_bytes < length message.now.bytes) (length message.now.bytes ≤ min room most_bytes) }
+{
+    message.bytes.len() > MOST_BYTES.min(room as usize)
+}
+
+// Room for a name for each right of the body: in place for up to 8.
+fn reserve_words(alloc: Global, message: &Message) -> Result<SmallVec<Name, 8>, AllocError>
+    ensures ok { IfOk result (λ names. (names.items ≡ []) × (length message.now.rights ≤ names.capacity)) }
+    ensures wanted { OnErr result (inline_names < length message.now.rights) }
+{
+    let mut names = SmallVec::new(alloc);
+    names.reserve(message.rights.len())?;
+    Ok(names)
+}
+
 // How many names the rights of the front message need, and room for the names of those of its body; or
 // why it isn't received.
 fn judge(
@@ -212,21 +240,17 @@ fn judge(
     ensures err { IfErr result (λ refusal. (m : Kept) × HasFront world.now port m × IsRefusedBy world.now task m room refusal) }
     ensures wanted { IfErr result (λ refusal. refusal ≡ refused.Memory → WantsToReceive world.now task port) }
 {
-    let Some(message) = world.ports.front(port) else {
-        unreachable!()
-    };
-    let length = message.bytes.len();
-    if length > MOST_BYTES.min(room as usize) {
-        return Err(Refusal::TooLarge(length as u32));
+    let message = front(world, port);
+    if is_too_large(message, room) {
+        return Err(Refusal::TooLarge(message.bytes.len() as u32));
     }
     let space = world.space(task);
     let needed = needed_names(world, space, message);
     if needed > MOST_NAMES - space.len() {
         return Err(Refusal::Names);
     }
-    let mut names = SmallVec::new(alloc);
-    match names.reserve(message.rights.len()) {
-        Ok(()) => Ok((needed, names)),
+    match reserve_words(alloc, message) {
+        Ok(names) => Ok((needed, names)),
         Err(_) => Err(Refusal::Memory),
     }
 }

@@ -6,7 +6,7 @@ ghost use Rattle.mach_types.specs.Tokens.{send_once};
 ghost use Rattle.name_space.specs.Names.{SpaceView, port_at};
 ghost use Rattle.copyin_base.specs.declared.message.Carried.{Carried as AnyCarried};
 ghost use Rattle.copyin_base.specs.declared.message.Mark.TheVariants as mark;
-ghost use Rattle.copyin.specs.Plans.{option_list};
+ghost use Rattle.std.specs.Option.{option_to_list};
 ghost use Rattle.copyout.specs.Ready.{carried_by};
 ghost use Rattle.copyout.specs.Room.{names_port, named_by, IsThere, IsNamed, HasNone, Owns, Shares, Needs};
 
@@ -38,7 +38,7 @@ fn is_named_by(carried: &[Carried], port: PortId) -> bool
 
 // Whether the right to answer with gives a name for the port.
 fn reply_names(reply: &Option<Carried>, port: PortId) -> bool
-    ensures { result ≡ named_by (option_list reply.now) port }
+    ensures { result ≡ named_by (option_to_list reply.now) port }
 {
     match reply {
         Some(carried) => names_port(carried, port),
@@ -85,8 +85,8 @@ fn port_there(world: &World, carried: &Carried) -> Option<PortId>
 
 // Whether the port has a name in the space, or will have one once the earlier rights were given.
 fn has_name(space: &Space, reply: &Option<Carried>, earlier: &[Carried], port: PortId) -> bool
-    ensures { MatchBool result (IsNamed space.now.names port ⊎ (named_by (option_list reply.now ++ earlier.now) port ≡ true))
-        (HasNone space.now.names port × (named_by (option_list reply.now ++ earlier.now) port ≡ false)) }
+    ensures { MatchBool result (IsNamed space.now.names port ⊎ (named_by (option_to_list reply.now ++ earlier.now) port ≡ true))
+        (HasNone space.now.names port × (named_by (option_to_list reply.now ++ earlier.now) port ≡ false)) }
 {
     space.name_of_port(port).is_some() || reply_names(reply, port) || is_named_by(earlier, port)
 }
@@ -99,8 +99,8 @@ fn needs_own(
     earlier: &[Carried],
     carried: &Carried,
 ) -> bool
-    ensures { MatchBool result (Owns world.now.ports space.now.names (option_list reply.now ++ earlier.now) carried.now)
-        (Shares world.now.ports space.now.names (option_list reply.now ++ earlier.now) carried.now) }
+    ensures { MatchBool result (Owns world.now.ports space.now.names (option_to_list reply.now ++ earlier.now) carried.now)
+        (Shares world.now.ports space.now.names (option_to_list reply.now ++ earlier.now) carried.now) }
 {
     match port_there(world, carried) {
         Some(port) => carried.given.is_send_once() || !has_name(space, reply, earlier, port),
@@ -117,8 +117,8 @@ fn own_names(
     carried: &Carried,
 ) -> usize
     ensures few { result ≤ 1 }
-    ensures needs { (rest : List AnyCarried) (m : ℕ) → Needs world.now.ports space.now.names ((option_list reply.now ++ earlier.now) ++ carried.now ∷ []) rest m
-        → Needs world.now.ports space.now.names (option_list reply.now ++ earlier.now) (carried.now ∷ rest) (result + m) }
+    ensures needs { (rest : List AnyCarried) (m : ℕ) → Needs world.now.ports space.now.names ((option_to_list reply.now ++ earlier.now) ++ carried.now ∷ []) rest m
+        → Needs world.now.ports space.now.names (option_to_list reply.now ++ earlier.now) (carried.now ∷ rest) (result + m) }
 {
     if needs_own(world, space, reply, earlier, carried) {
         1
@@ -130,7 +130,7 @@ fn own_names(
 // How many names of its own the right to answer with needs.
 fn reply_own(world: &World, space: &Space, reply: &Option<Carried>) -> usize
     ensures few { result ≤ 1 }
-    ensures needs { (rest : List AnyCarried) (m : ℕ) → Needs world.now.ports space.now.names (option_list reply.now) rest m → Needs world.now.ports space.now.names [] (option_list reply.now ++ rest) (result + m) }
+    ensures needs { (rest : List AnyCarried) (m : ℕ) → Needs world.now.ports space.now.names (option_to_list reply.now) rest m → Needs world.now.ports space.now.names [] (option_to_list reply.now ++ rest) (result + m) }
 {
     match reply {
         Some(carried) => own_names(world, space, &None, &[], carried),

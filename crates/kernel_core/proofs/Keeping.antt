@@ -9,7 +9,7 @@ use Rattle.mach_types.specs.Numbers.{kern_number}
 use Rattle.mach_model.specs.State.{State}
 use Rattle.mach_model.specs.Notices.{Owed}
 use Rattle.mach_model.specs.Machine.{Step, Does}
-use Rattle.mach_laws.specs.Queued.{accepts, delivers}
+use Rattle.mach_laws.specs.Order.{accepts, delivers}
 use Rattle.mach_laws.proofs.Counted.{Step-counted}
 use Rattle.copyin_base.specs.declared.code.Code.{Code}
 use Rattle.copyin_base.specs.declared.code.Code.TheVariants.{Kern}

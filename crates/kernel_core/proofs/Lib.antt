@@ -1,5 +1,4 @@
 mod Results
-mod Waits
 mod Ready
 mod Receiving
 mod Sending

@@ -108,11 +108,11 @@ module _ (w : WorldView) (s : State) (task number : ℕ) (g : Going) (mid : Worl
     there = l.there;
     enough = λ lacks. elim lacks [
       | inl h ↦ none.0 (inl (many h.1, needs h.2))
-      | inr h ↦ h.3
+      | inr h ↦ h.2
     ];
     room = λ lacks. elim lacks [
       | inl h ↦ some_left h.1 (wide_then (wide (needs h.2)))
-      | inr h ↦ h.3
+      | inr h ↦ h.2
     ];
     entered = entered;
     counted = λ p live. one_send kind refl p;

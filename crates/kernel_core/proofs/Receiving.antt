@@ -41,7 +41,7 @@ use Rattle.copyout.proofs.Refusing.{refuses_names, refuses_memory, receipt_large
 use Rattle.kernel_core.specs.Receive.{named_guards, Sources, IsMember, IsAlone, IsOf, IsFrom, HasMessage, NoneWaits, IsReceipt, StaysFor}
 use Rattle.kernel_core_base.proofs.Holding.{in_one, one_in, none_in, some_in, held_lives, one_true}
 use Rattle.kernel_core.proofs.Judged.{not_not}
-use Rattle.kernel_core.proofs.Waits.{waits}
+use Rattle.copyout.proofs.Waiting.{waits}
 
 -- ---- what isn't otherwise
 

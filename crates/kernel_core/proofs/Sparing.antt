@@ -14,7 +14,7 @@ use Rattle.mach_types.specs.Numbers.{dead_word, kern_number, msg_number}
 use Rattle.mach_types.specs.Tokens.{Kind}
 use Rattle.mach_model.specs.State.{State}
 use Rattle.mach_model.specs.Refusals.{again_guards}
-use Rattle.mach_laws.specs.Queued.{accepts, delivers}
+use Rattle.mach_laws.specs.Order.{accepts, delivers}
 use Rattle.name_space.specs.declared.Entry.{Entry}
 use Rattle.port.specs.Ports.{PortView, PortsView}
 use Rattle.copyin_base.specs.declared.message.Mark.{Mark}

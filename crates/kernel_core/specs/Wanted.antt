@@ -7,7 +7,7 @@ use Rattle.mach_types.specs.declared.calls.Waited.{Waited}
 use Rattle.mach_types.specs.declared.codes.KernReturn.TheVariants.{ResourceShortage}
 use Rattle.mach_types.specs.declared.codes.MsgReturn.TheVariants.{SendNoBuffer, ReceiveBodyErrorMemory}
 use Rattle.mach_types.specs.Numbers.{kern_number, msg_number}
-use Rattle.mach_laws.specs.Queued.{accepts, delivers}
+use Rattle.mach_laws.specs.Order.{accepts, delivers}
 use Rattle.copyin_base.specs.declared.code.Code.{Code}
 use Rattle.copyin_base.specs.Acts.{code_number, Serves}
 use Rattle.copyin_base.specs.Wanted.{room_of, LacksRoom}

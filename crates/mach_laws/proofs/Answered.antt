@@ -1,6 +1,6 @@
 -- What a refusal leaves, and when a receive may answer that there is no message.
-use Rattle.std.proofs.Common.{◌≡◌, ℕ, List, [], ◌∷◌, Option, Some, refl, sym, subst, Bool, inl, inr}
-use Rattle.std.specs.Prelude.{◌≢◌, Contains}
+use Rattle.std.proofs.Common.{◌≡◌, ℕ, List, [], ◌∷◌, Option, Some, refl, sym, ap, subst, Bool, inl, inr}
+use Rattle.std.specs.Prelude.{◌≢◌}
 use Rattle.mach_types.specs.declared.calls.Event.{Event}
 use Rattle.mach_types.specs.declared.calls.Reply.{Reply}
 use Rattle.mach_types.specs.declared.calls.Waited.{Waited}
@@ -8,7 +8,6 @@ use Rattle.mach_model.specs.State.{State, Target, lookup, queue}
 use Rattle.mach_model.specs.Receive.{waits_for, TakesFrom, IsEmptyFor}
 use Rattle.mach_model.specs.Notices.{Owed}
 use Rattle.mach_model.specs.Machine.{Does, Step}
-use Rattle.mach_model.specs.Lawful.{IsLawful}
 use Rattle.mach_laws.specs.Received.{AsksFrom}
 
 does_code : (now : ℕ) (old : State) (event : Event) (code : ℕ) (mid : State) (owed : Owed) → Does now old event (Reply.Code code) mid owed → code ≡ 0
@@ -33,11 +32,18 @@ refusal_leaves now old event code new (inr d) some = absurd (some (does_code now
 pub one_port : (o : Option Target) (p q : ℕ) → o ≡ Some (Target.port p) → o ≡ Some (Target.port q) → p ≡ q
 one_port o p q is other = cc
 
-one_set : (o : Option Target) (a b : ℕ) → o ≡ Some (Target.set a) → o ≡ Some (Target.set b) → a ≡ b
+pub one_set : (o : Option Target) (a b : ℕ) → o ≡ Some (Target.set a) → o ≡ Some (Target.set b) → a ≡ b
 one_set o a b is other = cc
 
 port_or_set : (o : Option Target) (p set : ℕ) → o ≡ Some (Target.port p) → o ≡ Some (Target.set set) → ⊥
 port_or_set o p set is other = cc
+
+-- a name is waited for as one thing
+pub one_waited : (s : State) (task name : ℕ) (a b : Waited) → waits_for task name s a → waits_for task name s b → b ≡ a
+one_waited s task name (Waited.Port p) (Waited.Port q) a b = ap Waited.Port (one_port _ q p b.0 a.0)
+one_waited s task name (Waited.Set p) (Waited.Set q) a b = ap Waited.Set (one_set _ q p b a)
+one_waited s task name (Waited.Port p) (Waited.Set q) a b = absurd (port_or_set _ p q a.0 b)
+one_waited s task name (Waited.Set p) (Waited.Port q) a b = absurd (port_or_set _ q p b.0 a)
 
 no_sets : (xs : List ℕ) → ¬ (xs ≢ []) → xs ≡ []
 no_sets [] f = refl
@@ -60,21 +66,13 @@ empty_is_empty now old task name room large told new (inr d) p is =
     let x = d.does in
     nothing_waits old task name p x.0 is (no_sets (old.sets_of p) (λ some. d.unrefused.1.1.0 (p, is, some))) x.1 x.2.1
 
--- no member of a set has a message
-no_member_waits : (s : State) (task name p set : ℕ) (waited : Waited) → IsLawful s → lookup s task name ≡ Some (Target.set set) → Contains (s.sets_of p) set → waits_for task name s waited →
-    IsEmptyFor s task waited → queue s p ≡ []
-no_member_waits s task name p set (Waited.Port q) l is member waits empty = absurd (port_or_set (lookup s task name) q set waits.0 is)
-no_member_waits s task name p set (Waited.Set other) l is member waits empty =
-    let same = one_set (lookup s task name) set other is waits in
-    empty p (l.set_owned task name other waits, subst (λ (x : ℕ). Contains (s.sets_of p) x) same member)
-
--- After every run, a receive or a later try is answered that there is none only where none is queued at any port that it may take from.
-pub empty_is_none : (now : ℕ) (old : State) (event : Event) (told : Waited) (new : State) → IsLawful old → Step now old event (Reply.Empty told) new → (task p : ℕ) → AsksFrom old event task p → queue old p ≡ []
-empty_is_none now old event told new l (inl r) task p asks = absurd (no_code told r.code r.told)
-empty_is_none now old (Event.Receive caller name room large) told new l (inr d) task p (same, inl is) =
-    empty_is_empty now old caller name room large told new (inr d) p (subst (λ (t : ℕ). lookup old t name ≡ Some (Target.port p)) (sym same) is)
-empty_is_none now old (Event.Receive caller name room large) told new l (inr d) task p (same, inr h) =
-    no_member_waits old caller name p h.0 d.does.0 l (subst (λ (t : ℕ). lookup old t name ≡ Some (Target.set h.0)) (sym same) h.1) h.2 d.does.1 d.does.2.1
-empty_is_none now old (Event.ReceiveAgain caller waited room large) told new l (inr d) task p asks =
+-- A receive or a later try is answered that there is none only where none is queued at any port that it may take from.
+pub empty_is_none : (now : ℕ) (old : State) (event : Event) (told : Waited) (new : State) → Step now old event (Reply.Empty told) new → (task p : ℕ) → AsksFrom old event task p → queue old p ≡ []
+empty_is_none now old event told new (inl r) task p asks = absurd (no_code told r.code r.told)
+empty_is_none now old (Event.Receive caller name room large) told new (inr d) task p (same, waited, waits, takes) =
+    let waits' = subst (λ (t : ℕ). waits_for t name old waited) (sym same) waits in
+    let takes' = subst (λ (t : ℕ). TakesFrom old t waited p) (sym same) takes in
+    d.does.2.1 p (subst (λ (w : Waited). TakesFrom old caller w p) (one_waited old caller name d.does.0 waited d.does.1 waits') takes')
+empty_is_none now old (Event.ReceiveAgain caller waited room large) told new (inr d) task p asks =
     d.does.1 p (subst (λ (t : ℕ). TakesFrom old t waited p) (sym asks.0) asks.1)
-empty_is_none now old event told new l (inr d) task p asks = absurd asks
+empty_is_none now old event told new (inr d) task p asks = absurd asks

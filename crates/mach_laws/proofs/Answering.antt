@@ -9,7 +9,7 @@ use Rattle.mach_types.specs.Messages.{to_port, present, Body, Message}
 use Rattle.mach_types.specs.Grammar.{WireBody, Header}
 use Rattle.mach_model.specs.State.{State, Target, lookup, without_name, with_name}
 use Rattle.mach_model.specs.CopyIn.{CopyRight}
-use Rattle.mach_model.specs.CopyOut.{GiveReply}
+use Rattle.mach_model.specs.CopyOut.{GiveWord}
 use Rattle.mach_model.specs.Send.{Copied, entry}
 use Rattle.mach_model.specs.Machine.{Run}
 use Rattle.mach_laws.specs.Answering.{asking_text, asked_text, answering_text, answered_text, answering_events, answering_replies}
@@ -42,7 +42,7 @@ asks = record {
   second = asking_copied;
   destination = makes 0 MakeSend refl (grind (gets, rules)) (omega arith) refl refl;
   kind = refl;
-  reply = (MakeSendOnce, refl, refl, makes 1 MakeSendOnce refl (grind (gets, rules)) (omega arith) refl refl);
+  reply = ((MakeSendOnce, refl, refl), makes 1 MakeSendOnce refl (grind (gets, rules)) (omega arith) refl refl);
   id = refl;
   body = (refl, refl);
 }
@@ -66,25 +66,22 @@ asked_named = with_name 0 3 (Target.once 1) asked_taken
 abbrev a5 : State
 a5 = record asked_named { ledger = token send_once 1 (in_task 0) ∷ a3.ledger }
 
-gives : GiveReply 0 (in_message 0 0) asking.reply asked_taken 18 3 a5
-gives = (
-  refl,
-  record {
-    named_state = asked_named;
-    named = record {
-      room = grind (gets, rules);
-      fresh = fresh_next (Target.port 1) fresh_two (grind (gets, rules));
-      rest = refl;
-    };
+gives : GiveWord 0 (in_message 0 0) asked_taken (18, 3) (send_once, to_port 1) a5
+gives = record {
+  named_state = asked_named;
+  named = record {
+    room = grind (gets, rules);
+    fresh = fresh_next (Target.port 1) fresh_two (grind (gets, rules));
     rest = refl;
-    tokens = λ h. omega arith;
-  },
-)
+  };
+  rest = refl;
+  tokens = λ h. omega arith;
+}
 
 fifth : Plays 4 a4 (Event.Receive 0 1 24 false) (Reply.Message asked_text) a5
 fifth =
     received fourth.1 refl (grind (gets, rules)) (omega arith) refl
-    (receives 18 3 1 (entry 3 asking) (WireBody.raw []) asked_taken.ledger a5 refl (λ h. omega arith) gives (refl, refl) (grind (gets, rules))
+    (receives 18 3 1 (entry 3 asking) (WireBody.raw []) asked_taken.ledger refl (λ h. omega arith) refl refl (a5, gives, refl) (grind (gets, rules))
     (spelled refl (omega arith) (omega arith) refl) (omega arith))
 
 once_named : lookup a5 0 3 ≡ Some (Target.once 1)
@@ -126,7 +123,7 @@ a7 = without_front 1 a3.ledger a6
 ninth : Plays 8 a6 (Event.Receive 0 2 24 false) (Reply.Message answered_text) a7
 ninth =
     received eighth.1 refl (grind (gets, rules)) (omega arith) refl
-    (receives 0 0 2 (entry 6 answering) (WireBody.raw []) a3.ledger a7 refl (λ h. omega arith) (refl, refl, refl) (refl, refl) (grind (gets, rules))
+    (receives 0 0 2 (entry 6 answering) (WireBody.raw []) a3.ledger refl (λ h. omega arith) (refl, refl) refl refl (grind (gets, rules))
     (spelled refl (omega arith) (omega arith) refl) (omega arith))
 
 pub answered_run : (s : State) × Run answering_events answering_replies s

@@ -11,6 +11,7 @@ use Rattle.mach_types.specs.Numbers.{kind_sent, kind_number, msg_number, most_by
 use Rattle.mach_types.specs.Tokens.{in_task, in_message, send_once, no_senders, port_destroyed, count, is_of}
 use Rattle.mach_types.specs.Messages.{Entry, to_port}
 use Rattle.mach_types.specs.Grammar.{WireBody, Header, body_text, text}
+use Rattle.mach_types.specs.Bodies.{message_rights, SameReply, SameBody, Through}
 use Rattle.mach_types.specs.Guards.{NoneHolds}
 use Rattle.mach_types.specs.TextGuards.{header_guards}
 use Rattle.mach_model.specs.State.{State, Target, Names, IsFresh, queue, senders}
@@ -18,11 +19,11 @@ use Rattle.mach_model.specs.References.{references}
 use Rattle.mach_model.specs.Names.{type_of}
 use Rattle.mach_model.specs.ReceiveRight.{NamesSetOf, TellsStatus, one_if}
 use Rattle.mach_model.specs.Sets.{TellsMembers}
-use Rattle.mach_model.specs.CopyOut.{NamedFor, GiveReply, GiveBody}
+use Rattle.mach_model.specs.CopyOut.{NamedFor, GiveWord}
 use Rattle.mach_model.specs.Transfer.{inserted_guards, extracted_guards, Extracts}
 use Rattle.mach_model.specs.Send.{SendRefuses}
 use Rattle.mach_model.specs.Receive.{IsFront, Receives, Receipt, ReceiptRefuses}
-use Rattle.mach_model.specs.ReceivedMeans.{message_length}
+use Rattle.mach_model.specs.ReceivedMeans.{message_length, IsReceived, received_words}
 use Rattle.mach_model.specs.Notices.{Owed}
 use Rattle.mach_model.specs.Refusals.{guards, RefusesLater, Refuses}
 use Rattle.mach_model.specs.Machine.{Does, Step}
@@ -31,13 +32,15 @@ use Rattle.mach_model.proofs.Moving.{moving}
 use Rattle.mach_model.proofs.HandLawful.{halfway}
 use Rattle.message_codec.proofs.Messages.{message_not_refused}
 use Rattle.mach_laws.specs.Judging.{IsMemoryCode, LacksMemory, IsBySet}
+use Rattle.mach_laws.proofs.Answered.{one_port, one_set, one_waited}
+use Rattle.mach_laws.proofs.Bodies.{received_each, one_received}
 use Rattle.mach_laws.proofs.Reordered.{same_state, one_target, right_same, right_alike}
 use Rattle.mach_laws.proofs.Refusing.{itself, none_is_first, one_first, inserted_same, extracted_same, rights_alike, hand_alike, same_port}
-use Rattle.mach_laws.proofs.Giving.{SameNames, HasOneName, one_fresh, named_for, reply_given, body_given}
+use Rattle.mach_laws.proofs.Giving.{SameNames, HasOneName, one_fresh, named_for, words_given}
 use Rattle.mach_laws.proofs.Spelled.{one_header, one_refusal}
-use Rattle.mach_laws.proofs.Measured.{text_long, given_long}
+use Rattle.mach_laws.proofs.Measured.{text_long, received_long}
 use Rattle.mach_laws.proofs.Rising.{one_rising}
-use Rattle.mach_laws.proofs.Excluding.{one_port, one_set, text_taken, one_entry, no_front, names_taken, one_waited, by_set, memory_only, refused_not_done}
+use Rattle.mach_laws.proofs.Excluding.{text_taken, one_entry, no_front, names_taken, by_set, memory_only, refused_not_done}
 
 -- ---- two refusals
 
@@ -145,22 +148,25 @@ bytes_alike s task p room bytes others mid other l a b =
       one = subst HasOneName (sym x.naming) x.one;
     } in
     let place = in_message p (s.taken p) in
-    let reply = reply_given task place place a.e.message.reply a.header.remote_kind b.header.remote_kind a.header.remote b.header.remote a.taken b.taken a.second b.second start a.reply
-    (subst (λ (z : Entry). GiveReply task place z.message.reply b.taken b.header.remote_kind b.header.remote b.second) e b.reply) in
-    let body = body_given task place place a.e.message.body a.written b.written a.second b.second mid other reply.2 a.body (subst (λ (z : Entry). GiveBody task place z.message.body b.second b.written other) e b.body) in
+    let reply = subst (λ (z : Entry). SameReply IsReceived b.header.remote_kind b.header.remote z.message.reply) e b.reply in
+    let body = subst (λ (z : Entry). SameBody IsReceived b.written z.message.body) e b.body in
+    let given = words_given task place place (received_words a.header a.written) (received_words b.header b.written) (message_rights a.e.message) a.taken b.taken mid other start
+    (received_each a.header a.written a.e.message a.reply a.body) (received_each b.header b.written a.e.message reply body) a.rights
+    (subst (λ (z : Entry). Through (GiveWord task place) b.taken (received_words b.header b.written) (message_rights z.message) other) e b.rights) in
+    let same = one_received b.header a.header b.written a.written a.e.message reply a.reply body a.body given.0 in
     let local : b.header.local ≡ a.header.local =
-    body.1.one b.header.local a.header.local p (sym (ap (λ (z : Names). map.get z b.header.local) body.1.naming) ∙ b.local) a.local in
+    given.1.one b.header.local a.header.local p (sym (ap (λ (z : Names). map.get z b.header.local) given.1.naming) ∙ b.local) a.local in
     let size : b.header.size ≡ a.header.size =
-    b.size ∙ ap length b.spells.is_text ∙ text_long b.header b.written ∙ ap (λ (z : WireBody). 24 + length (body_text z)) body.0 ∙ sym (text_long a.header a.written) ∙ sym (ap length a.spells.is_text) ∙ sym a.size in
-    let header = one_header b.header a.header reply.0 (b.kind ∙ ap (λ (z : Entry). kind_number z.message.kind) e ∙ sym a.kind) size reply.1 local (b.sequence ∙ sym a.sequence)
+    b.size ∙ ap length b.spells.is_text ∙ text_long b.header b.written ∙ ap (λ (z : WireBody). 24 + length (body_text z)) same.text ∙ sym (text_long a.header a.written) ∙ sym (ap length a.spells.is_text) ∙ sym a.size in
+    let header = one_header b.header a.header same.number (b.kind ∙ ap (λ (z : Entry). kind_number z.message.kind) e ∙ sym a.kind) size same.word local (b.sequence ∙ sym a.sequence)
     (b.id ∙ ap (λ (z : Entry). z.message.id) e ∙ sym a.id) in
-    a.spells.is_text ∙ sym (b.spells.is_text ∙ ap (λ (z : Header). text z b.written) header ∙ ap (text a.header) body.0)
+    a.spells.is_text ∙ sym (b.spells.is_text ∙ ap (λ (z : Header). text z b.written) header ∙ ap (text a.header) same.text)
 
 -- a message that fits isn't too long
 fits_not : (s : State) (task p q room n : ℕ) (bytes : List ℕ) (mid : State) (e : Entry) → q ≡ p → Receives task p room bytes s mid → IsFront s q e → n ≡ message_length e.message → min room most_bytes < n → ⊥
 fits_not s task p q room n bytes mid e is r front len less =
     let same : r.e ≡ e = one_entry _ r.e e r.takes.front (subst (λ (x : ℕ). IsFront s x e) is front) in
-    let long = given_long task (in_message p (s.taken p)) r.e.message.body r.header r.written r.second mid r.body in
+    let long = received_long r.header r.written r.e.message.body r.body in
     let size = ap length r.spells.is_text in
     let m = ap (λ (x : Entry). message_length x.message) same in
     let fits = r.fits in

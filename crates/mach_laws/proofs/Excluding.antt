@@ -9,15 +9,16 @@ use Rattle.mach_types.specs.Numbers.{msg_number}
 use Rattle.mach_types.specs.Tokens.{in_task, in_message}
 use Rattle.mach_types.specs.Messages.{Entry}
 use Rattle.mach_types.specs.Grammar.{WireBody, Header, Spells}
+use Rattle.mach_types.specs.Bodies.{message_rights}
 use Rattle.mach_types.specs.Guards.{NoneHolds}
 use Rattle.mach_types.specs.TextGuards.{header_guards}
-use Rattle.mach_model.specs.State.{State, Target, queue}
+use Rattle.mach_model.specs.State.{State, queue}
 use Rattle.mach_model.specs.Transfer.{inserted_guards, extracted_guards}
 use Rattle.mach_model.specs.Send.{Sends, RightsRefuse, SendRefuses}
 use Rattle.mach_model.specs.Sets.{IsSet}
 use Rattle.mach_model.specs.Receive.{waits_for, IsFront, Receives, Receipt, ReceiptRefuses}
 use Rattle.mach_model.specs.CopyOut.{MessageLacks}
-use Rattle.mach_model.specs.ReceivedMeans.{message_length}
+use Rattle.mach_model.specs.ReceivedMeans.{message_length, received_words}
 use Rattle.mach_model.specs.Notices.{Owed}
 use Rattle.mach_model.specs.Refusals.{guards, memory_refusal, RefusesLater, Refuses}
 use Rattle.mach_model.specs.Machine.{Does, Done}
@@ -25,8 +26,9 @@ use Rattle.mach_model.specs.Lawful.{IsLawful}
 use Rattle.mach_model.proofs.At.{slice_get_drop}
 use Rattle.message_codec.proofs.Messages.{message_not_refused}
 use Rattle.mach_laws.specs.Judging.{IsMemoryCode, IsBySet}
+use Rattle.mach_laws.proofs.Answered.{one_waited}
 use Rattle.mach_laws.proofs.Refusing.{itself, none_is_first, inserted_same, extracted_same, rights_taken, hand_taken}
-use Rattle.mach_laws.proofs.Giving.{SameNames, message_lacks}
+use Rattle.mach_laws.proofs.Giving.{SameNames, rights_lack}
 use Rattle.mach_laws.proofs.Spelled.{one_message}
 
 -- ---- sends
@@ -69,8 +71,8 @@ lacking : (s : State) (task p room code : ℕ) (bytes : List ℕ) (mid : State) 
 lacking s task p room code bytes mid l not h q is r = elim h.refused [
   | inl g ↦
       let same : h.e ≡ r.e = one_entry _ h.e r.e h.front (subst (λ (x : ℕ). IsFront s x r.e) (sym is) r.takes.front) in
-      message_lacks task (in_message h.port (s.taken h.port)) (in_message q (s.taken q)) r.e.message r.header.remote_kind r.header.remote r.written s r.taken r.second mid (names_taken task q room bytes s mid l r)
-      (subst (λ (x : Entry). MessageLacks task (in_message h.port (s.taken h.port)) x.message s) same g.0) r.reply r.body
+      rights_lack task (in_message h.port (s.taken h.port)) (in_message q (s.taken q)) (received_words r.header r.written) (message_rights r.e.message) s r.taken mid (names_taken task q room bytes s mid l r)
+      (subst (λ (x : Entry). MessageLacks task (in_message h.port (s.taken h.port)) x.message s) same g.0) r.rights
   | inr g ↦ not (inr (inr g.1))
 ]
 
@@ -87,22 +89,6 @@ receipt_taken s task (Waited.Port p) room large code (Reply.TooLarge n) mid owed
 receipt_taken s task (Waited.Port p) room large code reply mid owed l not other h d = d
 
 -- ---- what a name stands for
-
-pub one_port : (o : Option Target) (p q : ℕ) → o ≡ Some (Target.port p) → o ≡ Some (Target.port q) → p ≡ q
-one_port o p q a b = cc
-
-pub one_set : (o : Option Target) (p q : ℕ) → o ≡ Some (Target.set p) → o ≡ Some (Target.set q) → p ≡ q
-one_set o p q a b = cc
-
-not_both : (o : Option Target) (p q : ℕ) → o ≡ Some (Target.port p) → o ≡ Some (Target.set q) → ⊥
-not_both o p q a b = cc
-
--- a name is waited for as one thing
-pub one_waited : (s : State) (task name : ℕ) (a b : Waited) → waits_for task name s a → waits_for task name s b → b ≡ a
-one_waited s task name (Waited.Port p) (Waited.Port q) a b = ap Waited.Port (one_port _ q p b.0 a.0)
-one_waited s task name (Waited.Set p) (Waited.Set q) a b = ap Waited.Set (one_set _ q p b a)
-one_waited s task name (Waited.Port p) (Waited.Set q) a b = absurd (not_both _ p q a.0 b)
-one_waited s task name (Waited.Set p) (Waited.Port q) a b = absurd (not_both _ q p b.0 a)
 
 -- what is waited for by a set's name
 pub by_set : (s : State) (task name room : ℕ) (large : Bool) (waited : Waited) → waits_for task name s waited →

@@ -59,7 +59,7 @@ s4 = without_front 0 s2.ledger s3
 fourth : Plays 3 s3 (Event.Receive 0 1 24 false) (Reply.Message received_text) s4
 fourth =
     received third.1 refl port_named (omega arith) refl
-    (receives 0 0 1 (entry 2 greeting) (WireBody.raw []) s2.ledger s4 refl (λ h. omega arith) (refl, refl, refl) (refl, refl) port_named
+    (receives 0 0 1 (entry 2 greeting) (WireBody.raw []) s2.ledger refl (λ h. omega arith) (refl, refl) refl refl port_named
     (spelled refl (omega arith) (omega arith) refl) (omega arith))
 
 fifth : Plays 4 s4 (Event.ReceiveStatus 0 1) (Reply.Status status_after) s4

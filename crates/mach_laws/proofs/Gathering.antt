@@ -7,8 +7,9 @@ use Rattle.mach_types.specs.declared.rights.Disposition.TheVariants.{CopySend, M
 use Rattle.mach_types.specs.Tokens.{send, in_task, in_message, token}
 use Rattle.mach_types.specs.Messages.{short, to_port, absent, rights, Body, Message}
 use Rattle.mach_types.specs.Grammar.{port_item, WireBody, Header}
+use Rattle.mach_types.specs.Bodies.{body_words, message_rights, Through}
 use Rattle.mach_model.specs.State.{State, Target, lookup}
-use Rattle.mach_model.specs.CopyOut.{GiveBody}
+use Rattle.mach_model.specs.CopyOut.{GiveWord}
 use Rattle.mach_model.specs.Send.{Copied, entry}
 use Rattle.mach_model.specs.Machine.{Run}
 use Rattle.mach_laws.specs.Gathering.{sharing_text, shared_text, shared_status, gathering_events, gathering_replies}
@@ -81,20 +82,12 @@ shares = record {
   reply = (refl, refl, refl);
   id = refl;
   body = (
-    c3,
+    ((refl, (MakeSend, refl, refl), refl), tt),
     (
-      MakeSend,
-      refl,
-      refl,
-      refl,
-      (
-        c2,
-        makes 0 MakeSend refl zero_one (omega arith) refl refl,
-        (c3, makes 0 MakeSend refl zero_one (omega arith) refl refl, refl, (λ h. omega (arith, h.0))),
-        (λ h. omega (arith, h.0)),
-      ),
+      c2,
+      (makes 0 MakeSend refl zero_one (omega arith) refl refl, (λ h. omega (arith, h.0))),
+      (c3, (makes 0 MakeSend refl zero_one (omega arith) refl refl, (λ h. omega (arith, h.0))), refl),
     ),
-    refl,
   );
 }
 
@@ -123,25 +116,17 @@ b8 = record d1 { ledger = token send 0 (in_task 1) ∷ token send 0 (in_task 1) 
 one_two : lookup b7 1 2 ≡ Some (Target.port 0)
 one_two = grind (gets, rules)
 
-gives : GiveBody 1 (in_message 1 0) sharing.body shared_taken shared_wires b8
+gives : Through (GiveWord 1 (in_message 1 0)) shared_taken (body_words shared_wires) (message_rights sharing) b8
 gives = (
-  b8,
-  (
-    refl,
-    refl,
-    (
-      d1,
-      record { named_state = shared_taken; named = inl (one_two, refl); rest = refl; tokens = λ h. omega arith },
-      (b8, record { named_state = d1; named = inl (one_two, refl); rest = refl; tokens = λ h. omega arith }, refl),
-    ),
-  ),
-  refl,
+  d1,
+  record { named_state = shared_taken; named = inl (one_two, refl); rest = refl; tokens = λ h. omega arith },
+  (b8, record { named_state = d1; named = inl (one_two, refl); rest = refl; tokens = λ h. omega arith }, refl),
 )
 
 eighth : Plays 7 b7 (Event.Receive 1 1 36 false) (Reply.Message shared_text) b8
 eighth =
     received seventh.1 refl (grind (gets, rules)) (omega arith) refl
-    (receives 0 0 1 (entry 6 sharing) shared_wires shared_taken.ledger shared_taken refl (λ h. omega arith) (refl, refl, refl) gives (grind (gets, rules))
+    (receives 0 0 1 (entry 6 sharing) shared_wires shared_taken.ledger refl (λ h. omega arith) (refl, refl) ((refl, refl, refl), tt) gives (grind (gets, rules))
     (spelled refl (omega arith) (omega arith) (two_words 17 2 2 (omega arith, omega arith) (omega arith))) (omega arith))
 
 -- ---- three references, and three send rights made

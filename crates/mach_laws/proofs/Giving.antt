@@ -4,10 +4,11 @@ use Rattle.std.specs.Prelude.{MatchBool}
 use Rattle.std.specs.FinMap as map
 use Rattle.mach_types.specs.Numbers.{dead_word}
 use Rattle.mach_types.specs.Tokens.{Kind, receive, send, send_once, Place}
-use Rattle.mach_types.specs.Messages.{Form, Mark, to_port, null, dead, ReplyRight, absent, present, Item, plain, rights, Body, Message}
-use Rattle.mach_types.specs.Grammar.{Wire, data_item, port_item, WireBody}
+use Rattle.mach_types.specs.Messages.{Mark, to_port, null, dead}
+use Rattle.mach_types.specs.Bodies.{AllZip, Through, OneFails}
 use Rattle.mach_model.specs.State.{State, Target, Names, lookup, IsFresh}
-use Rattle.mach_model.specs.CopyOut.{Named, NamedOnce, NamedFor, GiveRight, GiveMark, GiveReply, GiveMarks, GiveItem, GiveItems, GiveBody, HasNoRoom, NeedsName, MarkLacks, ReplyLacks, MarksLack, ItemsLack, BodyLacks, MessageLacks}
+use Rattle.mach_model.specs.CopyOut.{Named, NamedOnce, NamedFor, GiveRight, GiveMark, GiveWord, HasNoRoom, NeedsName, MarkLacks}
+use Rattle.mach_model.specs.ReceivedMeans.{IsReceived}
 use Rattle.mach_model.proofs.At.{at_same}
 use Rattle.mach_model.proofs.Names.{inserted}
 use Rattle.mach_laws.proofs.Receiving.{either}
@@ -98,56 +99,21 @@ mark_given task place elsewhere kind (to_port p) v w s t new other r a b =
     (λ x y. (y.0 ∙ sym x.0, names_stay task s t new other r x.1 y.1)) a
     (subst (λ (f : ℕ → Bool). MatchBool (f p) (GiveRight task elsewhere kind p t w other) ((w ≡ dead_word) × (other ≡ t))) r.live b)
 
-pub reply_given : (task : ℕ) (place elsewhere : Place) (reply : ReplyRight) (i j v w : ℕ) (s t new other : State) → SameNames task s t →
-    GiveReply task place reply s i v new → GiveReply task elsewhere reply t j w other → (j ≡ i) × (w ≡ v) × SameNames task new other
-reply_given task place elsewhere absent i j v w s t new other r a b = (b.0 ∙ sym a.0, b.1 ∙ sym a.1, names_stay task s t new other r a.2 b.2)
-reply_given task place elsewhere (present kind mark) i j v w s t new other r a b =
-    let x = mark_given task place elsewhere kind mark v w s t new other r a.1 b.1 in (b.0 ∙ sym a.0, x.0, x.1)
+abbrev pair : (number word : ℕ) → ℕ × ℕ
+pair number word = (number, word)
 
-marks_given : (task : ℕ) (place elsewhere : Place) (kind : Kind) (marks : List Mark) (vs ws : List ℕ) (s t new other : State) → SameNames task s t →
-    GiveMarks task place kind marks s vs new → GiveMarks task elsewhere kind marks t ws other → (ws ≡ vs) × SameNames task new other
-marks_given task place elsewhere kind [] [] [] s t new other r a b = (refl, names_stay task s t new other r a b)
-marks_given task place elsewhere kind (m ∷ ms) (v ∷ vs) (w ∷ ws) s t new other r a b =
-    let x = mark_given task place elsewhere kind m v w s t a.0 b.0 r a.1 b.1 in
-    let y = marks_given task place elsewhere kind ms vs ws a.0 b.0 new other x.1 a.2 b.2 in
-    (ap (λ (z : ℕ). z ∷ ws) x.0 ∙ ap (λ (zs : List ℕ). v ∷ zs) y.0, y.1)
-marks_given task place elsewhere kind [] (v ∷ vs) ws s t new other r a b = absurd a
-marks_given task place elsewhere kind [] [] (w ∷ ws) s t new other r a b = absurd b
-marks_given task place elsewhere kind (m ∷ ms) [] ws s t new other r a b = absurd a
-marks_given task place elsewhere kind (m ∷ ms) (v ∷ vs) [] s t new other r a b = absurd b
-
-item_given : (task : ℕ) (place elsewhere : Place) (item : Item) (v w : Wire) (s t new other : State) → SameNames task s t →
-    GiveItem task place item s v new → GiveItem task elsewhere item t w other → (w ≡ v) × SameNames task new other
-item_given task place elsewhere (plain f n size c bytes padding) v w s t new other r a b = (b.0 ∙ sym a.0, names_stay task s t new other r a.1 b.1)
-item_given task place elsewhere (rights f kind marks) (port_item g i vs) (port_item h j ws) s t new other r a b =
-    let x = marks_given task place elsewhere kind marks vs ws s t new other r a.2 b.2 in
-    let form : h ≡ g = b.0 ∙ sym a.0 in
-    let number : j ≡ i = b.1 ∙ sym a.1 in
-    (ap (λ (y : Form). port_item y j ws) form ∙ ap (λ (y : ℕ). port_item g y ws) number ∙ ap (port_item g i) x.0, x.1)
-item_given task place elsewhere (rights f kind marks) (data_item g n size c bytes padding) w s t new other r a b = absurd a
-item_given task place elsewhere (rights f kind marks) (port_item g i vs) (data_item h n size c bytes padding) s t new other r a b = absurd b
-
-items_given : (task : ℕ) (place elsewhere : Place) (items : List Item) (vs ws : List Wire) (s t new other : State) → SameNames task s t →
-    GiveItems task place items s vs new → GiveItems task elsewhere items t ws other → (ws ≡ vs) × SameNames task new other
-items_given task place elsewhere [] [] [] s t new other r a b = (refl, names_stay task s t new other r a b)
-items_given task place elsewhere (i ∷ is) (v ∷ vs) (w ∷ ws) s t new other r a b =
-    let x = item_given task place elsewhere i v w s t a.0 b.0 r a.1 b.1 in
-    let y = items_given task place elsewhere is vs ws a.0 b.0 new other x.1 a.2 b.2 in
-    (ap (λ (z : Wire). z ∷ ws) x.0 ∙ ap (λ (zs : List Wire). v ∷ zs) y.0, y.1)
-items_given task place elsewhere [] (v ∷ vs) ws s t new other r a b = absurd a
-items_given task place elsewhere [] [] (w ∷ ws) s t new other r a b = absurd b
-items_given task place elsewhere (i ∷ is) [] ws s t new other r a b = absurd a
-items_given task place elsewhere (i ∷ is) (v ∷ vs) [] s t new other r a b = absurd b
-
-pub body_given : (task : ℕ) (place elsewhere : Place) (body : Body) (v w : WireBody) (s t new other : State) → SameNames task s t →
-    GiveBody task place body s v new → GiveBody task elsewhere body t w other → (w ≡ v) × SameNames task new other
-body_given task place elsewhere (Body.raw bytes) (WireBody.raw xs) (WireBody.raw ys) s t new other r a b = (ap WireBody.raw (b.0 ∙ sym a.0), names_stay task s t new other r a.1 b.1)
-body_given task place elsewhere (Body.items is) (WireBody.items vs) (WireBody.items ws) s t new other r a b =
-    let x = items_given task place elsewhere is vs ws s t new other r a b in (ap WireBody.items x.0, x.1)
-body_given task place elsewhere (Body.raw bytes) (WireBody.items vs) w s t new other r a b = absurd a
-body_given task place elsewhere (Body.raw bytes) (WireBody.raw xs) (WireBody.items ws) s t new other r a b = absurd b
-body_given task place elsewhere (Body.items is) (WireBody.raw xs) w s t new other r a b = absurd a
-body_given task place elsewhere (Body.items is) (WireBody.items vs) (WireBody.raw ys) s t new other r a b = absurd b
+pub words_given : (task : ℕ) (place elsewhere : Place) (vs ws : List (ℕ × ℕ)) (rs : List (Kind × Mark)) (s t new other : State) → SameNames task s t →
+    AllZip (λ (v : ℕ × ℕ) (r : Kind × Mark). IsReceived v.0 r.0) vs rs → AllZip (λ (w : ℕ × ℕ) (r : Kind × Mark). IsReceived w.0 r.0) ws rs →
+    Through (GiveWord task place) s vs rs new → Through (GiveWord task elsewhere) t ws rs other → (ws ≡ vs) × SameNames task new other
+words_given task place elsewhere [] [] [] s t new other r x y a b = (refl, names_stay task s t new other r a b)
+words_given task place elsewhere (v ∷ vs) (w ∷ ws) (m ∷ ms) s t new other r x y a b =
+    let here = mark_given task place elsewhere m.0 m.1 v.1 w.1 s t a.0 b.0 r a.1 b.1 in
+    let rest = words_given task place elsewhere vs ws ms a.0 b.0 new other here.1 x.1 y.1 a.2 b.2 in
+    (ap (λ (z : ℕ). pair z w.1 ∷ ws) (y.0 ∙ sym x.0) ∙ ap (λ (z : ℕ). pair v.0 z ∷ ws) here.0 ∙ ap (λ (zs : List (ℕ × ℕ)). v ∷ zs) rest.0, rest.1)
+words_given task place elsewhere [] ws (m ∷ ms) s t new other r x y a b = absurd a
+words_given task place elsewhere [] (w ∷ ws) [] s t new other r x y a b = absurd b
+words_given task place elsewhere (v ∷ vs) ws [] s t new other r x y a b = absurd a
+words_given task place elsewhere (v ∷ vs) [] (m ∷ ms) s t new other r x y a b = absurd b
 
 -- ---- want of names
 
@@ -170,37 +136,11 @@ mark_lacks task place kind (to_port p) w s t new r h g =
     either (t.live_port p) _ _ ⊥ (λ e x. right_lacks kind task w p s t x.named_state r h.1 h.2 x.named)
     (λ e x. let f : true ≡ false = sym h.0 ∙ sym (ap (λ (f : ℕ → Bool). f p) r.live) ∙ e in cc) g
 
-marks_lack : (task : ℕ) (place elsewhere : Place) (kind : Kind) (marks : List Mark) (ws : List ℕ) (s t new : State) → SameNames task s t → MarksLack task place kind marks s →
-    GiveMarks task elsewhere kind marks t ws new → ⊥
-marks_lack task place elsewhere kind [] ws s t new r h g = h
-marks_lack task place elsewhere kind (m ∷ ms) [] s t new r h g = g
-marks_lack task place elsewhere kind (m ∷ ms) (w ∷ ws) s t new r (inl h) g = mark_lacks task elsewhere kind m w s t g.0 r h g.1
-marks_lack task place elsewhere kind (m ∷ ms) (w ∷ ws) s t new r (inr (word, mid, gives, h)) g =
-    marks_lack task place elsewhere kind ms ws mid g.0 new (mark_given task place elsewhere kind m word w s t mid g.0 r gives g.1).1 h g.2
-
-items_lack : (task : ℕ) (place elsewhere : Place) (items : List Item) (ws : List Wire) (s t new : State) → SameNames task s t → ItemsLack task place items s →
-    GiveItems task elsewhere items t ws new → ⊥
-items_lack task place elsewhere [] ws s t new r h g = h
-items_lack task place elsewhere (x ∷ xs) [] s t new r h g = g
-items_lack task place elsewhere (plain f n size c bytes padding ∷ xs) (w ∷ ws) s t new r h g =
-    items_lack task place elsewhere xs ws s g.0 new (names_stay task s t s g.0 r refl g.1.1) h g.2
-items_lack task place elsewhere (rights f kind marks ∷ xs) (port_item e number words ∷ ws) s t new r (inl h) g = marks_lack task place elsewhere kind marks words s t g.0 r h g.1.2
-items_lack task place elsewhere (rights f kind marks ∷ xs) (port_item e number words ∷ ws) s t new r (inr (others, mid, gives, h)) g =
-    items_lack task place elsewhere xs ws mid g.0 new (marks_given task place elsewhere kind marks others words s t mid g.0 r gives g.1.2).1 h g.2
-items_lack task place elsewhere (rights f kind marks ∷ xs) (data_item e n size c bytes padding ∷ ws) s t new r h g = g.1
-
-body_lacks : (task : ℕ) (place elsewhere : Place) (body : Body) (w : WireBody) (s t new : State) → SameNames task s t → BodyLacks task place body s → GiveBody task elsewhere body t w new → ⊥
-body_lacks task place elsewhere (Body.raw bytes) w s t new r h g = h
-body_lacks task place elsewhere (Body.items xs) (WireBody.items ws) s t new r h g = items_lack task place elsewhere xs ws s t new r h g
-body_lacks task place elsewhere (Body.items xs) (WireBody.raw bytes) s t new r h g = g
-
-reply_lacks : (task : ℕ) (place : Place) (reply : ReplyRight) (number word : ℕ) (s t new : State) → SameNames task s t → ReplyLacks task reply s → GiveReply task place reply t number word new → ⊥
-reply_lacks task place absent number word s t new r h g = h
-reply_lacks task place (present kind mark) number word s t new r h g = mark_lacks task place kind mark word s t new r h g.1
-
 -- A message whose rights lack names isn't received.
-pub message_lacks : (task : ℕ) (place elsewhere : Place) (m : Message) (number word : ℕ) (w : WireBody) (s t mid new : State) → SameNames task s t → MessageLacks task place m s →
-    GiveReply task elsewhere m.reply t number word mid → GiveBody task elsewhere m.body mid w new → ⊥
-message_lacks task place elsewhere m number word w s t mid new r (inl h) reply body = reply_lacks task elsewhere m.reply number word s t mid r h reply
-message_lacks task place elsewhere m number word w s t mid new r (inr (i, v, other, gives, h)) reply body =
-    body_lacks task place elsewhere m.body w other mid new (reply_given task place elsewhere m.reply i number v word s t other mid r gives reply).2 h body
+pub rights_lack : (task : ℕ) (place elsewhere : Place) (ws : List (ℕ × ℕ)) (rs : List (Kind × Mark)) (s t new : State) → SameNames task s t →
+    OneFails (λ old r. MarkLacks task r.0 r.1 old) (λ old r new. (word : ℕ) × GiveMark task place r.0 r.1 old word new) s rs → Through (GiveWord task elsewhere) t ws rs new → ⊥
+rights_lack task place elsewhere ws [] s t new r h g = h
+rights_lack task place elsewhere [] (m ∷ ms) s t new r h g = g
+rights_lack task place elsewhere (w ∷ ws) (m ∷ ms) s t new r (inl h) g = mark_lacks task elsewhere m.0 m.1 w.1 s t g.0 r h g.1
+rights_lack task place elsewhere (w ∷ ws) (m ∷ ms) s t new r (inr (mid, (word, gives), h)) g =
+    rights_lack task place elsewhere ws ms mid g.0 new (mark_given task place elsewhere m.0 m.1 word w.1 s t mid g.0 r gives g.1).1 h g.2

@@ -117,7 +117,7 @@ g6 = without_front 0 s2.ledger g5
 
 takes : Receives 0 0 24 received_text g5 g6
 takes =
-    receives 0 0 1 (entry 6 greeting) (WireBody.raw []) s2.ledger g6 refl (λ h. omega arith) (refl, refl, refl) (refl, refl) one_named
+    receives 0 0 1 (entry 6 greeting) (WireBody.raw []) s2.ledger refl (λ h. omega arith) (refl, refl) refl refl one_named
     (spelled refl (omega arith) (omega arith) refl) (omega arith)
 
 ninth : Plays 8 g5 (Event.Receive 0 2 24 false) (Reply.Message received_text) g6

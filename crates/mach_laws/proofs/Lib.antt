@@ -1,3 +1,4 @@
+mod Bodies
 mod Meanings
 mod Receiving
 mod Apart

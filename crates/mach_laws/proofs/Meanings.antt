@@ -10,15 +10,16 @@ use Rattle.std.specs.declared.cmp.Ordering.TheVariants.{Less, Equal, Greater}
 use Rattle.std.proofs.lemmas.Bool.Decides.{eqb_tells}
 use Rattle.mach_types.specs.declared.rights.Disposition.{Disposition}
 use Rattle.mach_types.specs.declared.rights.Disposition.TheVariants.{MoveReceive, MoveSend, MoveSendOnce, CopySend, MakeSend, MakeSendOnce}
-use Rattle.mach_types.specs.Numbers.{disposition, kind_sent, null_word, dead_word}
+use Rattle.mach_types.specs.Numbers.{disposition, null_word, dead_word}
 use Rattle.mach_types.specs.Tokens.{Kind, Place}
-use Rattle.mach_types.specs.Messages.{Mark, null, dead, ReplyRight, absent, present, Item, plain, rights, Body}
-use Rattle.mach_types.specs.Grammar.{Wire, data_item, port_item, WireBody}
+use Rattle.mach_types.specs.Messages.{Mark, null, dead, ReplyRight, absent, present}
+use Rattle.mach_types.specs.Bodies.{body_words, body_rights, AllZip, Through}
 use Rattle.mach_model.specs.State.{State, Target, Names, lookup, without_name, with_name}
-use Rattle.mach_model.specs.SentMeans.{target_mark, name_mark, word_mark, ReplyMeans, WordsMean, ItemMeans, ItemsMean, BodyMeans, SentMeans}
-use Rattle.mach_model.specs.CopyIn.{name_kept, changed_by, CopyRight, CopyWord, CopyReply, CopyWords, CopyItem, CopyItems, CopyBody}
-use Rattle.mach_model.specs.Send.{Sends, place_of}
+use Rattle.mach_model.specs.SentMeans.{IsSent, target_mark, name_mark, word_mark, WordMeans, ReplyMeans, SentMeans}
+use Rattle.mach_model.specs.CopyIn.{name_kept, changed_by, CopyRight, CopyWord, CopyReply, CopyCarried}
+use Rattle.mach_model.specs.Send.{Sends, place_at}
 use Rattle.mach_model.proofs.At.{at_same}
+use Rattle.mach_model.proofs.Walks.{SameBody-each}
 use Rattle.mach_laws.proofs.Receiving.{either}
 
 -- What a name means in the later names it means in the earlier ones.
@@ -113,45 +114,24 @@ CopyReply-means : (task : ℕ) (place : Place) (number word : ℕ) (names : Name
     Reads names (old.naming task) → CopyReply task place number word old reply new → ReplyMeans names number word reply
 CopyReply-means task place number word names old absent new reads h = (h.0, h.1)
 CopyReply-means task place number word names old (present kind mark) new reads h =
-    record { given = h.0; is_given = h.1; kind_is = h.2; mark_is = CopyWord-means task place number word h.0 names old mark new h.1 reads h.3 }
+    record { given = h.0.0; is_given = h.0.1; kind_is = h.0.2; mark_is = CopyWord-means task place number word h.0.0 names old mark new h.0.1 reads h.1 }
 
 CopyReply-reads : (task : ℕ) (place : Place) (number word : ℕ) (old : State) (reply : ReplyRight) (new : State) →
     CopyReply task place number word old reply new → Reads (old.naming task) (new.naming task)
 CopyReply-reads task place number word old absent new h = Reads-same task old new h.2
-CopyReply-reads task place number word old (present kind mark) new h = CopyWord-reads task place number word old mark new h.3
+CopyReply-reads task place number word old (present kind mark) new h = CopyWord-reads task place number word old mark new h.1
 
-CopyWords-means : (task : ℕ) (place : Place) (number : ℕ) (given : Disposition) (names : Names) (words : List ℕ) (old : State) (marks : List Mark) (new : State) →
-    disposition number ≡ Some given → Reads names (old.naming task) → CopyWords task place number words old marks new →
-    WordsMean names number words (kind_sent given) marks × Reads names (new.naming task)
-CopyWords-means task place number given names [] old [] new is reads h = (tt, Reads-trans names _ _ reads (Reads-same task old new h))
-CopyWords-means task place number given names (w ∷ ws) old (m ∷ ms) new is reads h =
-    let rest = CopyWords-means task place number given names ws h.0 ms new is (Reads-trans names _ _ reads (CopyWord-reads task place number w old m h.0 h.1)) h.2 in
-    ((record { given = given; is_given = is; kind_is = refl; mark_is = CopyWord-means task place number w given names old m h.0 is reads h.1 }, rest.0), rest.1)
-CopyWords-means task place number given names [] old (m ∷ ms) new is reads h = absurd h
-CopyWords-means task place number given names (w ∷ ws) old [] new is reads h = absurd h
-
-CopyItem-means : (task : ℕ) (place : Place) (names : Names) (w : Wire) (old : State) (item : Item) (new : State) →
-    Reads names (old.naming task) → CopyItem task place w old item new → ItemMeans names w item × Reads names (new.naming task)
-CopyItem-means task place names (data_item f n s c bytes padding) old item new reads h = (h.0, Reads-trans names _ _ reads (Reads-same task old new h.1))
-CopyItem-means task place names (port_item f number words) old (rights g kind marks) new reads h =
-    let m = CopyWords-means task place number h.0 names words old marks new h.1 reads h.4 in
-    ((h.2, (h.0, h.1, h.3), subst (λ (k : Kind). WordsMean names number words k marks) (sym h.3) m.0), m.1)
-CopyItem-means task place names (port_item f number words) old (plain g n s c bytes padding) new reads h = absurd h
-
-CopyItems-means : (task : ℕ) (place : Place) (names : Names) (ws : List Wire) (old : State) (xs : List Item) (new : State) →
-    Reads names (old.naming task) → CopyItems task place ws old xs new → ItemsMean names ws xs
-CopyItems-means task place names [] old [] new reads h = tt
-CopyItems-means task place names (w ∷ ws) old (x ∷ xs) new reads h =
-    let m = CopyItem-means task place names w old x h.0 reads h.1 in (m.0, CopyItems-means task place names ws h.0 xs new m.1 h.2)
-CopyItems-means task place names [] old (x ∷ xs) new reads h = absurd h
-CopyItems-means task place names (w ∷ ws) old [] new reads h = absurd h
-
-CopyBody-means : (task : ℕ) (place : Place) (names : Names) (w : WireBody) (old : State) (body : Body) (new : State) →
-    Reads names (old.naming task) → CopyBody task place w old body new → BodyMeans names w body
-CopyBody-means task place names (WireBody.raw bytes) old (Body.raw others) new reads h = h.0
-CopyBody-means task place names (WireBody.items ws) old (Body.items xs) new reads h = CopyItems-means task place names ws old xs new reads h
-CopyBody-means task place names (WireBody.raw bytes) old (Body.items xs) new reads h = absurd h
-CopyBody-means task place names (WireBody.items ws) old (Body.raw others) new reads h = absurd h
+-- the words of a body, read through earlier names
+Carried-means : (task : ℕ) (place : Place) (names : Names) (ws : List (ℕ × ℕ)) (old : State) (rs : List (Kind × Mark)) (new : State) → Reads names (old.naming task) →
+    AllZip (λ (w : ℕ × ℕ) (r : Kind × Mark). IsSent w.0 r.0) ws rs → Through (CopyCarried task place) old ws rs new →
+    AllZip (λ (w : ℕ × ℕ) (r : Kind × Mark). WordMeans names w.0 w.1 r.0 r.1) ws rs
+Carried-means task place names [] old [] new reads are h = tt
+Carried-means task place names (w ∷ ws) old (r ∷ rs) new reads are h = (
+  record { given = are.0.0; is_given = are.0.1; kind_is = are.0.2; mark_is = CopyWord-means task place w.0 w.1 are.0.0 names old r.1 h.0 are.0.1 reads h.1.0 },
+  Carried-means task place names ws h.0 rs new (Reads-trans names _ _ reads (CopyWord-reads task place w.0 w.1 old r.1 h.0 h.1.0)) are.1 h.2,
+)
+Carried-means task place names [] old (r ∷ rs) new reads are h = absurd h
+Carried-means task place names (w ∷ ws) old [] new reads are h = absurd h
 
 -- Words that are no names stand in no name space.
 pub record NoBadNames (names : Names) : Type 0 where
@@ -184,5 +164,7 @@ Sends-means now task bytes old new good s =
       destination = record { given = c.destination.given; is_given = c.destination.is_given; kind_is = c.kind; mark_is = named_word (old.naming task) _ _ _ good mark };
       reply = CopyReply-means _ _ _ _ (old.naming task) c.first s.m.reply c.second reads c.reply;
       id = c.id;
-      body = CopyBody-means task (place_of old s.m) (old.naming task) s.written c.second s.m.body s.copied_state (Reads-trans (old.naming task) _ _ reads (CopyReply-reads _ _ _ _ _ s.m.reply _ c.reply)) c.body;
+      body = c.body.0;
+      rights = Carried-means task (place_at old s.m.destination) (old.naming task) (body_words s.written) c.second (body_rights s.m.body) s.copied_state
+          (Reads-trans (old.naming task) _ _ reads (CopyReply-reads _ _ _ _ _ s.m.reply _ c.reply)) (SameBody-each IsSent s.written s.m.body c.body.0) c.body.1;
     }

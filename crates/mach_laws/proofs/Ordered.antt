@@ -1,47 +1,28 @@
 -- A port's messages are received in the order in which they were accepted, each once.
-use Rattle.std.proofs.Common.{◌≡◌, ℕ, zero, suc, ◌+◌, ◌≤◌, List, [], ◌∷◌, ◌++◌, Some, refl, sym, ap, subst, ◌∙◌, arith, true, false, Bool, inl, inr, length, take, append_assoc}
-use Rattle.std.specs.Prelude.{slice_get, option_to_list, if◌then◌else◌, ◌==◌}
+use Rattle.std.proofs.Common.{◌≡◌, ℕ, zero, suc, ◌+◌, ◌-◌, ◌≤◌, List, [], ◌∷◌, ◌++◌, Some, refl, sym, ap, subst, ◌∙◌, arith, inl, inr, length, take, drop, append_assoc}
+use Rattle.std.specs.Prelude.{slice_get}
 use Rattle.std.proofs.lemmas.Bool.Decides.{eqb_tells}
-use Rattle.std.proofs.lemmas.Bool.{eq-eqb, ne_eqb}
-use Rattle.std.proofs.lemmas.List.{append-nil, take-append-le, take-append-drop}
-use Rattle.std.proofs.lemmas.Option.{slice_get_past}
+use Rattle.std.proofs.lemmas.List.{append-nil, take-append-le, take-append-drop, drop_all, drop_at}
 use Rattle.mach_types.specs.declared.calls.Event.{Event}
-use Rattle.mach_types.specs.declared.calls.Reply.{Reply}
 use Rattle.mach_types.specs.Messages.{Entry}
 use Rattle.mach_model.specs.State.{State, opening, queue}
 use Rattle.mach_model.specs.Send.{entry}
 use Rattle.mach_model.specs.Machine.{Step}
 use Rattle.mach_model.specs.Lawful.{IsLawful}
+use Rattle.mach_model.proofs.At.{slice_get_drop}
 use Rattle.mach_model.proofs.Opening.{opening-lawful}
 use Rattle.mach_model.proofs.StepLawful.{Step-lawful}
 use Rattle.mach_laws.specs.Paths.{Stage, PathFrom, Path}
-use Rattle.mach_laws.specs.Received.{AsksFrom}
-use Rattle.mach_laws.specs.Order.{new_entry, front_entry, if_accepted, if_received, accepted, received, InOrder}
+use Rattle.mach_laws.specs.Order.{accepts, delivers, accepted_by, received_by, accepted, received, InOrder}
 use Rattle.mach_laws.proofs.Steps.{Passes, Step-passes}
 
-none_accepted : (event : Event) (reply : Reply) → if_accepted event reply [] ≡ []
-none_accepted (Event.Send task bytes) (Reply.Code code) = go (code == 0)
-  where
-    go : (b : Bool) → ◌≡◌ {A = List Entry} (if b then [] else []) []
-    go true = refl
-    go false = refl
-none_accepted event reply = refl
+take_none : (n : ℕ) → ◌≡◌ {A = List Entry} (take n []) []
+take_none zero = refl
+take_none (suc n) = refl
 
-none_received : (event : Event) (reply : Reply) → if_received event reply [] ≡ []
-none_received (Event.Receive task name room large) (Reply.Message bytes) = refl
-none_received (Event.ReceiveAgain task waited room large) (Reply.Message bytes) = refl
-none_received event reply = refl
-
--- an event that asks for a message receives it
-all_received : (s : State) (event : Event) (bytes : List ℕ) (task p : ℕ) (entries : List Entry) → AsksFrom s event task p → if_received event (Reply.Message bytes) entries ≡ entries
-all_received s (Event.Receive caller name room large) bytes task p entries asks = refl
-all_received s (Event.ReceiveAgain caller waited room large) bytes task p entries asks = refl
-all_received s event bytes task p entries asks = absurd asks
-
--- one more at the end
-last_entry : {A : Type 0} (xs : List A) (y : A) → slice_get (xs ++ y ∷ []) (length xs) ≡ Some y
-last_entry [] y = refl
-last_entry (x ∷ xs) y = last_entry xs y
+take_first : {A : Type 0} (xs : List A) (y : A) → slice_get xs 0 ≡ Some y → take 1 xs ≡ y ∷ []
+take_first [] y is = absurd (cc)
+take_first (x ∷ xs) y is = let same : x ≡ y = cc in ap (λ z. z ∷ []) same
 
 take_one : {A : Type 0} (n : ℕ) (xs : List A) (y : A) → slice_get xs n ≡ Some y → take (n + 1) xs ≡ take n xs ++ y ∷ []
 take_one n [] y is = absurd (cc)
@@ -52,48 +33,44 @@ take_one (suc n) (x ∷ xs) y is =
 
 -- ---- what one stage accepts
 
-same_accepted : (x : Stage) (p : ℕ) → x.after.log p ≡ x.before.log p → x.after.log p ≡ x.before.log p ++ if_accepted x.event x.reply (new_entry p x)
+same_accepted : (x : Stage) (p : ℕ) → x.after.log p ≡ x.before.log p → x.after.log p ≡ x.before.log p ++ accepted_by p x
 same_accepted x p same =
-    let none : new_entry p x ≡ [] =
-    ap option_to_list (ap (λ (xs : List Entry). slice_get xs (length (x.before.log p))) same ∙ slice_get_past (x.before.log p) (length (x.before.log p)) (omega arith)) in
-    same ∙ sym (append-nil (x.before.log p)) ∙ ap (λ (xs : List Entry). x.before.log p ++ xs) (sym (ap (if_accepted x.event x.reply) none ∙ none_accepted x.event x.reply))
+    let none : drop (length (x.before.log p)) (x.after.log p) ≡ [] = drop_all (length (x.before.log p)) (x.after.log p) (let e = ap length same in omega (arith, e)) in
+    same ∙ sym (append-nil (x.before.log p)) ∙ ap (λ (xs : List Entry). x.before.log p ++ xs) (sym (ap (take (accepts x.event x.reply)) none ∙ take_none (accepts x.event x.reply)))
 
-stage_accepts : (now : ℕ) (x : Stage) (p : ℕ) → IsLawful x.before → Step now x.before x.event x.reply x.after →
-    x.after.log p ≡ x.before.log p ++ if_accepted x.event x.reply (new_entry p x)
+stage_accepts : (now : ℕ) (x : Stage) (p : ℕ) → IsLawful x.before → Step now x.before x.event x.reply x.after → x.after.log p ≡ x.before.log p ++ accepted_by p x
 stage_accepts now x p l step = go (Step-passes now x.before x.event x.reply x.after l step)
   where
-    go : Passes now x.before x.event x.reply x.after → x.after.log p ≡ x.before.log p ++ if_accepted x.event x.reply (new_entry p x)
+    go : Passes now x.before x.event x.reply x.after → x.after.log p ≡ x.before.log p ++ accepted_by p x
     go (inl u) = same_accepted x p (u.log p)
     go (inr (inr d)) = same_accepted x p (d.log p)
     go (inr (inl a)) = elim (eqb_tells p a.accepts.m.destination) [
       | inl h ↦
-          let log : x.after.log p ≡ x.before.log p ++ entry now a.accepts.m ∷ [] =
-          subst (λ (q : ℕ). x.after.log q ≡ x.before.log q ++ entry now a.accepts.m ∷ []) (sym h.1) a.accepts.appended in
-          let new : new_entry p x ≡ entry now a.accepts.m ∷ [] =
-          ap option_to_list (ap (λ (xs : List Entry). slice_get xs (length (x.before.log p))) log ∙ last_entry (x.before.log p) (entry now a.accepts.m)) in
-          let by : if_accepted x.event x.reply (new_entry p x) ≡ new_entry p x =
-          ap (λ (e : Event). if_accepted e x.reply (new_entry p x)) a.is_event ∙ ap (λ (r : Reply). if_accepted (Event.Send a.task a.bytes) r (new_entry p x)) a.is_reply in
-          log ∙ ap (λ (xs : List Entry). x.before.log p ++ xs) (sym (by ∙ new))
+          let new = entry now a.accepts.m ∷ [] in
+          let log : x.after.log p ≡ x.before.log p ++ new = subst (λ (q : ℕ). x.after.log q ≡ x.before.log q ++ new) (sym h.1) a.accepts.appended in
+          let added : drop (length (x.before.log p)) (x.after.log p) ≡ new = ap (drop (length (x.before.log p))) log ∙ drop_at (x.before.log p) new (length (x.before.log p)) refl in
+          let one : accepts x.event x.reply ≡ 1 = ap (λ (e : Event). accepts e x.reply) a.is_event ∙ ap (accepts (Event.Send a.task a.bytes)) a.is_reply in
+          log ∙ ap (λ (xs : List Entry). x.before.log p ++ xs) (sym (ap (take (accepts x.event x.reply)) added ∙ ap (λ (n : ℕ). take n new) one))
       | inr h ↦ same_accepted x p (a.accepts.others p h.1)
     ]
 
 -- ---- what one stage takes
 
-same_received : (x : Stage) (p : ℕ) → x.after.taken p ≡ x.before.taken p → if_received x.event x.reply (front_entry p x) ≡ []
-same_received x p same =
-    let none : front_entry p x ≡ [] = rw (eq-eqb (x.after.taken p) (x.before.taken p) same) in
-    ap (if_received x.event x.reply) none ∙ none_received x.event x.reply
+-- so many entries from the front of the port's queue, if the stage delivers them
+abbrev front_gone : Stage → ℕ → ℕ → List Entry
+front_gone x p n = take (delivers x.event x.reply) (take n (queue x.before p))
 
 stage_takes : (now : ℕ) (x : Stage) (p : ℕ) → IsLawful x.before → Step now x.before x.event x.reply x.after →
-    take (x.after.taken p) (x.before.log p) ≡ take (x.before.taken p) (x.before.log p) ++ if_received x.event x.reply (front_entry p x)
+    take (x.after.taken p) (x.before.log p) ≡ take (x.before.taken p) (x.before.log p) ++ received_by p x
 stage_takes now x p l step = go (Step-passes now x.before x.event x.reply x.after l step)
   where
-    none : x.after.taken p ≡ x.before.taken p → take (x.after.taken p) (x.before.log p) ≡ take (x.before.taken p) (x.before.log p) ++ if_received x.event x.reply (front_entry p x)
+    none : x.after.taken p ≡ x.before.taken p → take (x.after.taken p) (x.before.log p) ≡ take (x.before.taken p) (x.before.log p) ++ received_by p x
     none same =
+        let zero_gone : x.after.taken p - x.before.taken p ≡ 0 = omega (arith, same) in
         ap (λ (n : ℕ). take n (x.before.log p)) same ∙ sym (append-nil (take (x.before.taken p) (x.before.log p)))
-        ∙ ap (λ (xs : List Entry). take (x.before.taken p) (x.before.log p) ++ xs) (sym (same_received x p same))
+        ∙ ap (λ (xs : List Entry). take (x.before.taken p) (x.before.log p) ++ xs) (sym (ap (front_gone x p) zero_gone ∙ take_none (delivers x.event x.reply)))
 
-    go : Passes now x.before x.event x.reply x.after → take (x.after.taken p) (x.before.log p) ≡ take (x.before.taken p) (x.before.log p) ++ if_received x.event x.reply (front_entry p x)
+    go : Passes now x.before x.event x.reply x.after → take (x.after.taken p) (x.before.log p) ≡ take (x.before.taken p) (x.before.log p) ++ received_by p x
     go (inl u) = none (u.taken p)
     go (inr (inl a)) = none (a.taken p)
     go (inr (inr d)) = elim (eqb_tells p d.delivers.port) [
@@ -101,12 +78,12 @@ stage_takes now x p l step = go (Step-passes now x.before x.event x.reply x.afte
           let taken : x.after.taken p ≡ x.before.taken p + 1 = subst (λ (q : ℕ). x.after.taken q ≡ x.before.taken q + 1) (sym h.1) d.delivers.taken in
           let front : slice_get (x.before.log p) (x.before.taken p) ≡ Some d.delivers.e =
           subst (λ (q : ℕ). slice_get (x.before.log q) (x.before.taken q) ≡ Some d.delivers.e) (sym h.1) d.delivers.front in
-          let one : front_entry p x ≡ d.delivers.e ∷ [] =
-          rw (ne_eqb (x.after.taken p) (x.before.taken p) (λ e. omega (arith, e, taken))) (ap option_to_list front) in
-          let by : if_received x.event x.reply (front_entry p x) ≡ front_entry p x =
-          ap (λ (r : Reply). if_received x.event r (front_entry p x)) d.is_reply ∙ all_received x.before x.event d.bytes d.delivers.task d.delivers.port (front_entry p x) d.delivers.asks in
+          let one_gone : x.after.taken p - x.before.taken p ≡ 1 = omega (arith, taken) in
+          let first : take 1 (queue x.before p) ≡ d.delivers.e ∷ [] =
+          take_first (queue x.before p) d.delivers.e (slice_get_drop (x.before.taken p) (x.before.log p) 0 ∙ ap (slice_get (x.before.log p)) (omega arith) ∙ front) in
+          let one : delivers x.event x.reply ≡ 1 = ap (delivers x.event) d.is_reply in
           ap (λ (n : ℕ). take n (x.before.log p)) taken ∙ take_one (x.before.taken p) (x.before.log p) d.delivers.e front
-          ∙ ap (λ (xs : List Entry). take (x.before.taken p) (x.before.log p) ++ xs) (sym (by ∙ one))
+          ∙ ap (λ (xs : List Entry). take (x.before.taken p) (x.before.log p) ++ xs) (sym (ap (front_gone x p) one_gone ∙ ap (take (delivers x.event x.reply)) first ∙ ap (λ (n : ℕ). take n (d.delivers.e ∷ [])) one))
       | inr h ↦ none (d.delivers.others p h.1)
     ]
 
@@ -118,15 +95,15 @@ path_accepts now old (x ∷ xs) new p l path =
     let before : IsLawful x.before = subst IsLawful (sym path.0) l in
     let one = stage_accepts now x p before path.1 in
     let more = path_accepts (now + 1) x.after xs new p (Step-lawful now x.before x.event x.reply x.after path.1 before) path.2 in
-    let all : new.log p ≡ x.before.log p ++ (if_accepted x.event x.reply (new_entry p x) ++ accepted p xs) =
-    more ∙ ap (λ (ys : List Entry). ys ++ accepted p xs) one ∙ append_assoc (x.before.log p) (if_accepted x.event x.reply (new_entry p x)) (accepted p xs) in
-    subst (λ (s : State). new.log p ≡ s.log p ++ (if_accepted x.event x.reply (new_entry p x) ++ accepted p xs)) path.0 all
+    let all : new.log p ≡ x.before.log p ++ (accepted_by p x ++ accepted p xs) =
+    more ∙ ap (λ (ys : List Entry). ys ++ accepted p xs) one ∙ append_assoc (x.before.log p) (accepted_by p x) (accepted p xs) in
+    subst (λ (s : State). new.log p ≡ s.log p ++ (accepted_by p x ++ accepted p xs)) path.0 all
 
 -- a longer log begins with the same entries
 take_kept : (now : ℕ) (x : Stage) (p : ℕ) → IsLawful x.before → Step now x.before x.event x.reply x.after →
     (n : ℕ) → n ≤ length (x.before.log p) → take n (x.after.log p) ≡ take n (x.before.log p)
 take_kept now x p l step n within =
-    ap (take n) (stage_accepts now x p l step) ∙ take-append-le n (x.before.log p) (if_accepted x.event x.reply (new_entry p x)) within
+    ap (take n) (stage_accepts now x p l step) ∙ take-append-le n (x.before.log p) (accepted_by p x) within
 
 path_takes : (now : ℕ) (old : State) (path : List Stage) (new : State) (p : ℕ) → IsLawful old → PathFrom now old path new →
     take (new.taken p) (new.log p) ≡ take (old.taken p) (old.log p) ++ received p path
@@ -137,9 +114,9 @@ path_takes now old (x ∷ xs) new p l path =
     let one = stage_takes now x p before path.1 in
     let more = path_takes (now + 1) x.after xs new p after path.2 in
     let kept : take (x.after.taken p) (x.after.log p) ≡ take (x.after.taken p) (x.before.log p) = taken_kept x now before path.1 in
-    let all : take (new.taken p) (new.log p) ≡ take (x.before.taken p) (x.before.log p) ++ (if_received x.event x.reply (front_entry p x) ++ received p xs) =
-    more ∙ ap (λ (ys : List Entry). ys ++ received p xs) (kept ∙ one) ∙ append_assoc (take (x.before.taken p) (x.before.log p)) (if_received x.event x.reply (front_entry p x)) (received p xs) in
-    subst (λ (s : State). take (new.taken p) (new.log p) ≡ take (s.taken p) (s.log p) ++ (if_received x.event x.reply (front_entry p x) ++ received p xs)) path.0 all
+    let all : take (new.taken p) (new.log p) ≡ take (x.before.taken p) (x.before.log p) ++ (received_by p x ++ received p xs) =
+    more ∙ ap (λ (ys : List Entry). ys ++ received p xs) (kept ∙ one) ∙ append_assoc (take (x.before.taken p) (x.before.log p)) (received_by p x) (received p xs) in
+    subst (λ (s : State). take (new.taken p) (new.log p) ≡ take (s.taken p) (s.log p) ++ (received_by p x ++ received p xs)) path.0 all
   where
     -- a stage takes no entry that it accepts itself
     taken_kept : (x : Stage) (now : ℕ) → IsLawful x.before → Step now x.before x.event x.reply x.after →

@@ -17,6 +17,7 @@ use Rattle.mach_types.specs.Numbers.{disposition, kind_sent, kind_number, null_w
 use Rattle.mach_types.specs.Tokens.{Kind, receive, send, send_once, no_senders, port_destroyed, Place, in_task, in_message, Token, token, Moves, weigh, count, is_of}
 use Rattle.mach_types.specs.Messages.{short, to_port, absent, Body, Message, Entry}
 use Rattle.mach_types.specs.Grammar.{port_item, NamesPorts, IsWire, WireBody, Header, IsWireBody, Spells, text}
+use Rattle.mach_types.specs.Bodies.{reply_words, body_words, message_rights, SameReply, SameBody, Through}
 use Rattle.mach_types.specs.Guards.{NoneHolds}
 use Rattle.mach_types.specs.TextGuards.{BadHeader, header_guards, word_at}
 use Rattle.mach_model.specs.State.{State, Target, Names, lookup, held, Holds, senders, queue, at, with_name, IsFresh}
@@ -24,10 +25,11 @@ use Rattle.mach_model.specs.Tasks.{IsNoTask}
 use Rattle.mach_model.specs.Names.{with_port, Makes, IsNoMaking, IsFull, type_of}
 use Rattle.mach_model.specs.CopyIn.{IsLegal, taken_by, changed_by, CopyRight}
 use Rattle.mach_model.specs.SentMeans.{target_mark}
-use Rattle.mach_model.specs.CopyOut.{GiveReply, GiveBody}
+use Rattle.mach_model.specs.CopyOut.{GiveWord}
+use Rattle.mach_model.specs.ReceivedMeans.{IsReceived}
 use Rattle.mach_model.specs.Carried.{lying}
 use Rattle.mach_model.specs.Transfer.{Inserts}
-use Rattle.mach_model.specs.Send.{place_of, entry, Copied, Sends}
+use Rattle.mach_model.specs.Send.{place_at, entry, Copied, Sends}
 use Rattle.mach_model.specs.Receive.{IsFront, with_taken, Receives}
 use Rattle.mach_model.specs.References.{references}
 use Rattle.mach_model.specs.ReceiveRight.{one_if, TellsStatus}
@@ -196,7 +198,7 @@ module _ {now : ℕ} {s : State} (l : IsLawful s) {task : ℕ} (lives : s.live_t
 
   -- The bytes spell a message, whose rights can be copied in; none of them is a receive right.
   pub sent : {bytes : List ℕ} (header : Header) (written : WireBody) (m : Message) (copied : State) → NoneHolds (header_guards bytes) → Spells bytes header written →
-      Copied task header written s m copied → ((p : ℕ) → lying copied receive p (place_of s m) ≡ lying s receive p (place_of s m)) →
+      Copied task header written s m copied → ((p : ℕ) → lying copied receive p (place_at s m.destination) ≡ lying s receive p (place_at s m.destination)) →
       length (queue copied m.destination) < copied.limit m.destination → length copied.ledger ≤ most_rights →
       Plays now s (Event.Send task bytes) (Reply.Code 0) (with_entry now m copied)
   sent {bytes} header written m copied good spells is_copied no_receive room few =
@@ -283,21 +285,22 @@ module _ {now : ℕ} {s : State} (l : IsLawful s) {task : ℕ} (lives : s.live_t
       }
 
 -- A receipt of the port's front message: what is under which names afterwards, and so the bytes.
-pub receives : {task p room : ℕ} {bytes : List ℕ} {old new : State} (remote_kind remote local : ℕ) (e : Entry) (written : WireBody) (ledger : List Token) (second : State) → IsFront old p e →
+pub receives : {task p room : ℕ} {bytes : List ℕ} {old new : State} (remote_kind remote local : ℕ) (e : Entry) (written : WireBody) (ledger : List Token) → IsFront old p e →
     Moves old.ledger ledger (token e.message.kind p (in_message p (old.taken p)) ∷ []) [] →
-    GiveReply task (in_message p (old.taken p)) e.message.reply (without_front p ledger old) remote_kind remote second →
-    GiveBody task (in_message p (old.taken p)) e.message.body second written new → lookup new task local ≡ Some (Target.port p) →
+    SameReply IsReceived remote_kind remote e.message.reply → SameBody IsReceived written e.message.body →
+    Through (GiveWord task (in_message p (old.taken p))) (without_front p ledger old) (reply_words remote_kind remote ++ body_words written) (message_rights e.message) new →
+    lookup new task local ≡ Some (Target.port p) →
     Spells bytes (record { remote_kind = remote_kind; local_kind = kind_number e.message.kind; size = length bytes; remote = remote; local = local; sequence = old.sequence p; id = e.message.id }) written →
     length bytes ≤ min room most_bytes → Receives task p room bytes old new
-receives {p = p} {bytes = bytes} {old = old} remote_kind remote local e written ledger second front tokens reply body found spells fits = record {
+receives {p = p} {bytes = bytes} {old = old} remote_kind remote local e written ledger front tokens reply body rights found spells fits = record {
   e = e;
   taken = without_front p ledger old;
   takes = record { front = front; rest = refl; tokens = tokens };
   header = record { remote_kind = remote_kind; local_kind = kind_number e.message.kind; size = length bytes; remote = remote; local = local; sequence = old.sequence p; id = e.message.id };
   written = written;
-  second = second;
   reply = reply;
   body = body;
+  rights = rights;
   kind = refl;
   local = found;
   size = refl;

@@ -5,15 +5,16 @@ use Rattle.std.specs.FinMap as map
 use Rattle.std.proofs.lemmas.Bool.{eq-eqb, ltb-false}
 use Rattle.mach_types.specs.Numbers.{most_references}
 use Rattle.mach_types.specs.Tokens.{Kind, receive, send, send_once, Place, in_task, in_message, token, weigh, is_of, is_held, is_in_task}
-use Rattle.mach_types.specs.Messages.{Mark, to_port, null, dead, ReplyRight, absent, present, Item, plain, rights, Body, mark_asof, reply_asof, item_asof, body_asof, asof}
-use Rattle.mach_types.specs.Grammar.{Wire, data_item, port_item, WireBody}
+use Rattle.mach_types.specs.Messages.{Mark, to_port, null, dead, mark_asof, asof}
+use Rattle.mach_types.specs.Bodies.{message_rights, AllZip, Through}
 use Rattle.mach_model.specs.State.{State, Target, Names, lookup, held, Holds}
-use Rattle.mach_model.specs.ReceivedMeans.{ReceivedWord, ReceivedWords, ReceivedItem, ReceivedItems, ReceivedBody, ReceivedReply}
-use Rattle.mach_model.specs.CopyOut.{given_to, Named, NamedOnce, NamedFor, GiveRight, GiveMark, GiveReply, GiveMarks, GiveItem, GiveItems, GiveBody}
+use Rattle.mach_model.specs.ReceivedMeans.{ReceivedWord, received_words}
+use Rattle.mach_model.specs.CopyOut.{given_to, Named, NamedOnce, NamedFor, GiveRight, GiveMark, GiveWord}
 use Rattle.mach_model.specs.Receive.{Receives}
 use Rattle.mach_model.proofs.At.{at_same}
 use Rattle.mach_model.proofs.Weigh.{both_test}
 use Rattle.mach_model.proofs.Names.{kept, get_own}
+use Rattle.mach_laws.proofs.Bodies.{right_asof, rights_asof}
 
 -- Each name of the earlier names stands for the same in the later.
 abbrev pub Grows : Names → Names → Type 0
@@ -135,6 +136,10 @@ GiveRight-word task place kind p before old w new away g r =
           omega (arith, t, z, given_holds kind p task old)),
     )
 
+-- The task holds the rights that the words name.
+abbrev pub MeanReceived : (task : ℕ) → (before after : State) → List (ℕ × ℕ) → List (Kind × Mark) → Type 0
+MeanReceived task before after ws rs = AllZip (λ (w : ℕ × ℕ) (r : Kind × Mark). ReceivedWord task before after r.0 r.1 w.1) ws rs
+
 -- a word that has its meaning keeps it when more is given
 keeps_word : (task : ℕ) (before mid after : State) (kind : Kind) (mark : Mark) (w : ℕ) → Gives task mid after → ReceivedWord task before mid kind mark w → ReceivedWord task before after kind mark w
 keeps_word task before mid after kind null w g h = h
@@ -167,103 +172,38 @@ GiveMark-means task place kind (to_port p) before old w new away g h =
     ))
     h
 
-pub GiveReply-means : (task : ℕ) (place : Place) (reply : ReplyRight) (before old : State) (number w : ℕ) (new : State) → is_in_task task place ≡ false →
-    Grows (before.naming task) (old.naming task) → GiveReply task place reply old number w new →
-    Gives task old new × ReceivedReply task before new (reply_asof old.live_port reply) number w
-GiveReply-means task place absent before old number w new away g h = (Gives-same task old new h.2, (h.0, h.1))
-GiveReply-means task place (present kind mark) before old number w new away g h =
-    let m = GiveMark-means task place kind mark before old w new away g h.1 in (m.0, (h.0, m.1))
+-- words that have their meanings keep them
+pub keeps_words : (task : ℕ) (before mid after : State) (ws : List (ℕ × ℕ)) (rs : List (Kind × Mark)) → Gives task mid after → MeanReceived task before mid ws rs → MeanReceived task before after ws rs
+keeps_words task before mid after [] [] g h = tt
+keeps_words task before mid after (w ∷ ws) (r ∷ rs) g h = (keeps_word task before mid after r.0 r.1 w.1 g h.0, keeps_words task before mid after ws rs g h.1)
+keeps_words task before mid after [] (r ∷ rs) g h = absurd h
+keeps_words task before mid after (w ∷ ws) [] g h = absurd h
 
-live_marks : (task : ℕ) (before after : State) (kind : Kind) (f g : ℕ → Bool) (ms : List Mark) (ws : List ℕ) → f ≡ g →
-    ReceivedWords task before after kind (list_map (mark_asof f) ms) ws → ReceivedWords task before after kind (list_map (mark_asof g) ms) ws
-live_marks task before after kind f g ms ws e h = subst (λ (x : ℕ → Bool). ReceivedWords task before after kind (list_map (mark_asof x) ms) ws) e h
-
-pub GiveMarks-means : (task : ℕ) (place : Place) (kind : Kind) (marks : List Mark) (before old : State) (ws : List ℕ) (new : State) → is_in_task task place ≡ false →
-    Grows (before.naming task) (old.naming task) → GiveMarks task place kind marks old ws new →
-    Gives task old new × ReceivedWords task before new kind (list_map (mark_asof old.live_port) marks) ws
-GiveMarks-means task place kind [] before old [] new away g h = (Gives-same task old new h, tt)
-GiveMarks-means task place kind (m ∷ ms) before old (w ∷ ws) new away g h =
-    let a = GiveMark-means task place kind m before old w h.0 away g h.1 in
-    let b = GiveMarks-means task place kind ms before h.0 ws new away (Grows-trans (before.naming task) (old.naming task) (h.0.naming task) g a.0.grows) h.2 in (
+-- The words that a message's rights become mean these rights, where those for dead ports are dead.
+pub words_mean : (task : ℕ) (place : Place) (ws : List (ℕ × ℕ)) (before old : State) (rs : List (Kind × Mark)) (new : State) → is_in_task task place ≡ false →
+    Grows (before.naming task) (old.naming task) → Through (GiveWord task place) old ws rs new →
+    Gives task old new × MeanReceived task before new ws (list_map (right_asof old.live_port) rs)
+words_mean task place [] before old [] new away g h = (Gives-same task old new h, tt)
+words_mean task place (w ∷ ws) before old (r ∷ rs) new away g h =
+    let a = GiveMark-means task place r.0 r.1 before old w.1 h.0 away g h.1 in
+    let b = words_mean task place ws before h.0 rs new away (Grows-trans (before.naming task) (old.naming task) (h.0.naming task) g a.0.grows) h.2 in (
       Gives-trans task old h.0 new a.0 b.0,
       (
-        keeps_word task before h.0 new kind (mark_asof old.live_port m) w b.0 a.1,
-        live_marks task before new kind h.0.live_port old.live_port ms ws a.0.live b.1,
+        keeps_word task before h.0 new r.0 (mark_asof old.live_port r.1) w.1 b.0 a.1,
+        subst (λ (f : ℕ → Bool). MeanReceived task before new ws (list_map (right_asof f) rs)) a.0.live b.1,
       ),
     )
-GiveMarks-means task place kind [] before old (w ∷ ws) new away g h = absurd h
-GiveMarks-means task place kind (m ∷ ms) before old [] new away g h = absurd h
+words_mean task place [] before old (r ∷ rs) new away g h = absurd h
+words_mean task place (w ∷ ws) before old [] new away g h = absurd h
 
-keeps_words : (task : ℕ) (before mid after : State) (kind : Kind) (marks : List Mark) (ws : List ℕ) → Gives task mid after → ReceivedWords task before mid kind marks ws → ReceivedWords task before after kind marks ws
-keeps_words task before mid after kind [] [] g h = tt
-keeps_words task before mid after kind (m ∷ ms) (w ∷ ws) g h = (keeps_word task before mid after kind m w g h.0, keeps_words task before mid after kind ms ws g h.1)
-keeps_words task before mid after kind [] (w ∷ ws) g h = absurd h
-keeps_words task before mid after kind (m ∷ ms) [] g h = absurd h
-
-keeps_item : (task : ℕ) (before mid after : State) (item : Item) (w : Wire) → Gives task mid after → ReceivedItem task before mid item w → ReceivedItem task before after item w
-keeps_item task before mid after (plain f n s c bytes padding) w g h = h
-keeps_item task before mid after (rights f kind marks) (port_item e number words) g h = (h.0, h.1, keeps_words task before mid after kind marks words g h.2)
-keeps_item task before mid after (rights f kind marks) (data_item e n s c bytes padding) g h = absurd h
-
-pub GiveItem-means : (task : ℕ) (place : Place) (item : Item) (before old : State) (w : Wire) (new : State) → is_in_task task place ≡ false →
-    Grows (before.naming task) (old.naming task) → GiveItem task place item old w new →
-    Gives task old new × ReceivedItem task before new (item_asof old.live_port item) w
-GiveItem-means task place (plain f n s c bytes padding) before old w new away g h = (Gives-same task old new h.1, h.0)
-GiveItem-means task place (rights f kind marks) before old (port_item e number words) new away g h =
-    let m = GiveMarks-means task place kind marks before old words new away g h.2 in (m.0, (h.0, h.1, m.1))
-GiveItem-means task place (rights f kind marks) before old (data_item e n s c bytes padding) new away g h = absurd h
-
-GiveItems-means : (task : ℕ) (place : Place) (xs : List Item) (before old : State) (ws : List Wire) (new : State) → is_in_task task place ≡ false →
-    Grows (before.naming task) (old.naming task) → GiveItems task place xs old ws new →
-    Gives task old new × ReceivedItems task before new (list_map (item_asof old.live_port) xs) ws
-GiveItems-means task place [] before old [] new away g h = (Gives-same task old new h, tt)
-GiveItems-means task place (x ∷ xs) before old (w ∷ ws) new away g h =
-    let a = GiveItem-means task place x before old w h.0 away g h.1 in
-    let b = GiveItems-means task place xs before h.0 ws new away (Grows-trans (before.naming task) (old.naming task) (h.0.naming task) g a.0.grows) h.2 in (
-      Gives-trans task old h.0 new a.0 b.0,
-      (
-        keeps_item task before h.0 new (item_asof old.live_port x) w b.0 a.1,
-        subst (λ (f : ℕ → Bool). ReceivedItems task before new (list_map (item_asof f) xs) ws) a.0.live b.1,
-      ),
-    )
-GiveItems-means task place [] before old (w ∷ ws) new away g h = absurd h
-GiveItems-means task place (x ∷ xs) before old [] new away g h = absurd h
-
-pub GiveBody-means : (task : ℕ) (place : Place) (body : Body) (before old : State) (w : WireBody) (new : State) → is_in_task task place ≡ false →
-    Grows (before.naming task) (old.naming task) → GiveBody task place body old w new →
-    Gives task old new × ReceivedBody task before new (body_asof old.live_port body) w
-GiveBody-means task place (Body.raw bytes) before old (WireBody.raw others) new away g h = (Gives-same task old new h.1, h.0)
-GiveBody-means task place (Body.items xs) before old (WireBody.items ws) new away g h = GiveItems-means task place xs before old ws new away g h
-GiveBody-means task place (Body.raw bytes) before old (WireBody.items ws) new away g h = absurd h
-GiveBody-means task place (Body.items xs) before old (WireBody.raw others) new away g h = absurd h
-
-keeps_items : (task : ℕ) (before mid after : State) (xs : List Item) (ws : List Wire) → Gives task mid after → ReceivedItems task before mid xs ws → ReceivedItems task before after xs ws
-keeps_items task before mid after [] [] g h = tt
-keeps_items task before mid after (x ∷ xs) (w ∷ ws) g h = (keeps_item task before mid after x w g h.0, keeps_items task before mid after xs ws g h.1)
-keeps_items task before mid after [] (w ∷ ws) g h = absurd h
-keeps_items task before mid after (x ∷ xs) [] g h = absurd h
-
-pub keeps_body : (task : ℕ) (before mid after : State) (body : Body) (w : WireBody) → Gives task mid after → ReceivedBody task before mid body w → ReceivedBody task before after body w
-keeps_body task before mid after (Body.raw bytes) (WireBody.raw others) g h = h
-keeps_body task before mid after (Body.items xs) (WireBody.items ws) g h = keeps_items task before mid after xs ws g h
-keeps_body task before mid after (Body.raw bytes) (WireBody.items ws) g h = absurd h
-keeps_body task before mid after (Body.items xs) (WireBody.raw others) g h = absurd h
-
-pub keeps_reply : (task : ℕ) (before mid after : State) (reply : ReplyRight) (number w : ℕ) → Gives task mid after → ReceivedReply task before mid reply number w → ReceivedReply task before after reply number w
-keeps_reply task before mid after absent number w g h = h
-keeps_reply task before mid after (present kind mark) number w g h = (h.0, keeps_word task before mid after kind mark w g h.1)
-
--- What was received: the reply and the body mean what was queued, with rights for dead ports dead.
+-- What was received: the rights mean what was queued, with rights for dead ports dead.
 pub Receives-means : (task port room : ℕ) (bytes : List ℕ) (old new : State) (r : Receives task port room bytes old new) →
-    ReceivedReply task old new (asof old.live_port r.e.message).reply r.header.remote_kind r.header.remote
-    × ReceivedBody task old new (asof old.live_port r.e.message).body r.written
+    Gives task r.taken new × MeanReceived task old new (received_words r.header r.written) (message_rights (asof old.live_port r.e.message))
 Receives-means task port room bytes old new r =
     let grows : Grows (old.naming task) (r.taken.naming task) = λ n x e. ap (λ (s : State). lookup s task n) r.takes.rest ∙ e in
     let live : r.taken.live_port ≡ old.live_port = ap (λ (s : State). s.live_port) r.takes.rest in
-    let a = GiveReply-means task (in_message port (old.taken port)) r.e.message.reply old r.taken r.header.remote_kind r.header.remote r.second refl grows r.reply in
-    let b = GiveBody-means task (in_message port (old.taken port)) r.e.message.body old r.second r.written new refl
-    (Grows-trans (old.naming task) (r.taken.naming task) (r.second.naming task) grows a.0.grows) r.body in (
-      keeps_reply task old r.second new (reply_asof old.live_port r.e.message.reply) r.header.remote_kind r.header.remote b.0
-          (subst (λ (f : ℕ → Bool). ReceivedReply task old r.second (reply_asof f r.e.message.reply) r.header.remote_kind r.header.remote) live a.1),
-      subst (λ (f : ℕ → Bool). ReceivedBody task old new (body_asof f r.e.message.body) r.written) (a.0.live ∙ live) b.1,
+    let m = words_mean task (in_message port (old.taken port)) (received_words r.header r.written) old r.taken (message_rights r.e.message) new refl grows r.rights in (
+      m.0,
+      subst (MeanReceived task old new (received_words r.header r.written)) (sym (rights_asof old.live_port r.e.message))
+          (subst (λ (f : ℕ → Bool). MeanReceived task old new (received_words r.header r.written) (list_map (right_asof f) (message_rights r.e.message))) live m.1),
     )

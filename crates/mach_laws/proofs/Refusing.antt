@@ -8,19 +8,20 @@ use Rattle.mach_types.specs.declared.codes.KernReturn.TheVariants.{ResourceShort
 use Rattle.mach_types.specs.declared.codes.MsgReturn.TheVariants.{SendInvalidReply, SendInvalidRight}
 use Rattle.mach_types.specs.Numbers.{disposition, kind_sent, kern_number, msg_number, null_word, dead_word}
 use Rattle.mach_types.specs.Tokens.{Kind, receive, send, Place, in_message, is_of, is_held}
-use Rattle.mach_types.specs.Messages.{Mark, to_port, ReplyRight, absent, present, Item, plain, rights, Body, Message}
-use Rattle.mach_types.specs.Grammar.{Wire, data_item, port_item, WireBody, Header}
+use Rattle.mach_types.specs.Messages.{Mark, to_port, ReplyRight, absent, present, Message}
+use Rattle.mach_types.specs.Grammar.{WireBody, Header}
+use Rattle.mach_types.specs.Bodies.{body_words, body_rights, Through, OneFails}
 use Rattle.mach_types.specs.Guards.{Guards, FirstIs, NoneHolds}
 use Rattle.mach_model.specs.State.{State, Target}
 use Rattle.mach_model.specs.SentMeans.{target_mark}
 use Rattle.mach_model.specs.Death.{same_place, Reaches, here, there}
-use Rattle.mach_model.specs.CopyIn.{CopyRight, CopyWord, CopyReply, CopyWords, CopyItems, CopyBody}
+use Rattle.mach_model.specs.CopyIn.{CopyRight, CopyWord, CopyReply, CopyCarried, CopyBody}
 use Rattle.mach_model.specs.Transfer.{inserted_guards, extracted_guards, CopyRefuses}
-use Rattle.mach_model.specs.Send.{place_of, Copied, ClosesLoop, sent_guards, IsLegalName, IsBadWord, WordsRefuse, ItemsRefuse, BodyRefuses, IsBadDestination, ReplyRefuses, RightsRefuse}
+use Rattle.mach_model.specs.Send.{place_at, Copied, ClosesLoop, sent_guards, IsLegalName, IsBadWord, IsRefused, DestinationRefuses, ReplyRefuses, BodyRefuses, WholeRefuses, RightsRefuse}
 use Rattle.mach_model.proofs.Settling.{IsReordered}
 use Rattle.mach_model.proofs.Weigh.{length-weigh}
 use Rattle.mach_laws.proofs.Receiving.{either}
-use Rattle.mach_laws.proofs.Reordered.{same_state, same_after, same_count, same_lookup, legal_alike, one_target, one_disposition, right_same, right_alike, word_alike, reply_alike, item_alike, body_alike}
+use Rattle.mach_laws.proofs.Reordered.{same_state, same_count, same_lookup, legal_alike, one_target, one_disposition, right_same, right_alike, word_alike, reply_alike, body_alike}
 
 -- ---- guards
 
@@ -124,31 +125,18 @@ word_taken task number word place s t t' mark r bad c =
     either (word == null_word) _ _ ⊥ (λ is h. bad.0 (is_same word null_word is)) (λ is.
     either (word == dead_word) _ _ ⊥ (λ b h. bad.1 (is_same word dead_word b)) (λ b h. bad.2 (copied_name task number word place s t t' mark r h))) c
 
-words_taken : (task number : ℕ) (place : Place) (ws : List ℕ) (s t t' : State) (marks : List Mark) → IsReordered s t → WordsRefuse task place number ws s → CopyWords task place number ws t marks t' → ⊥
-words_taken task number place [] s t t' marks r h c = h
-words_taken task number place (w ∷ ws) s t t' [] r h c = c
-words_taken task number place (w ∷ ws) s t t' (m ∷ ms) r (inl bad) c = word_taken task number w place s t c.0 m r bad c.1
-words_taken task number place (w ∷ ws) s t t' (m ∷ ms) r (inr (inl yet)) c = c.3 yet
-words_taken task number place (w ∷ ws) s t t' (m ∷ ms) r (inr (inr (mark, mid, copies, refuse))) c =
-    words_taken task number place ws mid c.0 t' ms (word_alike task number w place s t mid c.0 mark m r copies c.1).1 refuse c.2
+words_taken : (task : ℕ) (place : Place) (ws : List (ℕ × ℕ)) (s t t' : State) (rs : List (Kind × Mark)) → IsReordered s t →
+    OneFails (IsRefused task) (λ old w new. (mark : Mark) × CopyWord task place w.0 w.1 old mark new) s ws → Through (CopyCarried task place) t ws rs t' → ⊥
+words_taken task place [] s t t' rs r h c = h
+words_taken task place (w ∷ ws) s t t' [] r h c = c
+words_taken task place (w ∷ ws) s t t' (m ∷ ms) r (inl (inl bad)) c = word_taken task w.0 w.1 place s t c.0 m.1 r bad c.1.0
+words_taken task place (w ∷ ws) s t t' (m ∷ ms) r (inl (inr yet)) c = c.1.1 yet
+words_taken task place (w ∷ ws) s t t' (m ∷ ms) r (inr (mid, (mark, copies), refuse)) c =
+    words_taken task place ws mid c.0 t' ms (word_alike task w.0 w.1 place s t mid c.0 mark m.1 r copies c.1.0).1 refuse c.2
 
-items_taken : (task : ℕ) (place : Place) (ws : List Wire) (s t t' : State) (items : List Item) → IsReordered s t → ItemsRefuse task place ws s → CopyItems task place ws t items t' → ⊥
-items_taken task place [] s t t' items r h c = h
-items_taken task place (w ∷ ws) s t t' [] r h c = c
-items_taken task place (data_item f n size count bytes padding ∷ ws) s t t' (x ∷ xs) r h c = items_taken task place ws s c.0 t' xs (same_after s t s c.0 r refl c.1.1) h c.2
-items_taken task place (port_item f number words ∷ ws) s t t' (rights g k ms ∷ xs) r (inl h) c = words_taken task number place words s t c.0 ms r h c.1.4
-items_taken task place (port_item f number words ∷ ws) s t t' (plain g n size count bytes padding ∷ xs) r (inl h) c = c.1
-items_taken task place (port_item f number words ∷ ws) s t t' (x ∷ xs) r (inr (item, mid, copies, refuse)) c =
-    items_taken task place ws mid c.0 t' xs (item_alike task place (port_item f number words) s t mid c.0 item x r copies c.1).1 refuse c.2
-
-body_taken : (task : ℕ) (place : Place) (w : WireBody) (s t t' : State) (body : Body) → IsReordered s t → BodyRefuses task place w s → CopyBody task place w t body t' → ⊥
-body_taken task place (WireBody.raw bytes) s t t' body r h c = h
-body_taken task place (WireBody.items ws) s t t' (Body.items xs) r h c = items_taken task place ws s t t' xs r h c
-body_taken task place (WireBody.items ws) s t t' (Body.raw bytes) r h c = c
-
-reply_taken : (task number word : ℕ) (place : Place) (s t t' : State) (reply : ReplyRight) → IsReordered s t → ReplyRefuses s task number word → CopyReply task place number word t reply t' → ⊥
-reply_taken task number word place s t t' absent r h c = h.0 c.0
-reply_taken task number word place s t t' (present k m) r h c = word_taken task number word place s t t' m r h.1 c.3
+reply_taken : (task number word : ℕ) (place : Place) (s t t' : State) (reply : ReplyRight) → IsReordered s t → number ≢ 0 → IsBadWord s task number word → CopyReply task place number word t reply t' → ⊥
+reply_taken task number word place s t t' absent r some bad c = some c.0
+reply_taken task number word place s t t' (present k m) r some bad c = word_taken task number word place s t t' m r bad c.1
 
 dead_no_port : (d : Disposition) (n p : ℕ) → target_mark d (Target.dead n) ≡ Some (to_port p) → ⊥
 dead_no_port MoveReceive n p e = cc
@@ -158,9 +146,9 @@ dead_no_port CopySend n p e = cc
 dead_no_port MakeSend n p e = cc
 dead_no_port MakeSendOnce n p e = cc
 
-destination_taken : (task number name p : ℕ) (place : Place) (s t' : State) → IsBadDestination s task number name → CopyRight task place number name s (to_port p) t' → ⊥
-destination_taken task number name p place s t' (inl bad) c = bad (copied_name task number name place s s t' (to_port p) (same_state s) c)
-destination_taken task number name p place s t' (inr (n, is)) c =
+destination_taken : (task : ℕ) (header : Header) (p : ℕ) (place : Place) (s t' : State) → DestinationRefuses s task header → CopyRight task place header.remote_kind header.remote s (to_port p) t' → ⊥
+destination_taken task header p place s t' (inl bad) c = bad (copied_name task header.remote_kind header.remote place s s t' (to_port p) (same_state s) c)
+destination_taken task header p place s t' (inr (n, is)) c =
     let e : c.target ≡ Target.dead n = one_target _ _ (Target.dead n) c.target is c.found refl in
     dead_no_port c.given n p (sym (ap (target_mark c.given) e) ∙ c.mark_is)
 
@@ -175,91 +163,88 @@ one_message m n d k r i b =
     ∙ ap (λ x. record n { destination = m.destination; kind = m.kind; reply = x }) r
     ∙ ap (λ x. record n { destination = m.destination; kind = m.kind; reply = m.reply; id = x }) i ∙ ap (λ x. record m { body = x }) b
 
--- where a message's rights lie at this port
-abbrev next_entry : State → (port : ℕ) → Place
-next_entry s p = in_message p (length (s.log p))
+module _ (task : ℕ) (header : Header) (written : WireBody) (s : State) where
+  -- the destination's right, copied in for a message to this port
+  abbrev ToPort : (port : ℕ) → State → Type 0
+  ToPort p first = CopyRight task (place_at s p) header.remote_kind header.remote s (to_port p) first
 
--- one message is copied in, whatever the order of the tokens
-copied_alike : (task : ℕ) (header : Header) (written : WireBody) (s : State) (m n : Message) (mid other : State) →
-    Copied task header written s m mid → Copied task header written s n other → (n ≡ m) × IsReordered mid other
-copied_alike task header written s m n mid other a b =
-    let w = right_same task header.remote_kind header.remote (place_of s m) (place_of s n) s s a.first b.first (to_port m.destination) (to_port n.destination) (same_state s) a.destination b.destination in
-    let d : n.destination ≡ m.destination = same_port n.destination m.destination w.mark_is in
-    let place : place_of s n ≡ place_of s m = ap (next_entry s) d in
-    let first = right_alike task header.remote_kind header.remote (place_of s m) s s a.first b.first (to_port m.destination) (to_port n.destination) (same_state s) a.destination
-    (subst (λ (x : Place). CopyRight task x header.remote_kind header.remote s (to_port n.destination) b.first) place b.destination) in
-    let reply = reply_alike task header.local_kind header.local (place_of s m) a.first b.first a.second b.second m.reply n.reply first.1 a.reply
-    (subst (λ (x : Place). CopyReply task x header.local_kind header.local b.first n.reply b.second) place b.reply) in
-    let body = body_alike task (place_of s m) written a.second b.second mid other m.body n.body reply.1 a.body (subst (λ (x : Place). CopyBody task x written b.second n.body other) place b.body) in
-    (one_message m n d (b.kind ∙ ap kind_sent w.given ∙ sym a.kind) reply.0 (b.id ∙ sym a.id) body.0, body.1)
+  -- and the reply's
+  abbrev Answers : (port : ℕ) → (first : State) → ReplyRight → (second : State) → Type 0
+  Answers p first answer second = CopyReply task (place_at s p) header.local_kind header.local first answer second
 
--- the destination can be copied in, and a word after it can't
-abbrev LaterRefuses : State → (task : ℕ) → Header → WireBody → (code port : ℕ) → Type 0
-LaterRefuses s task header written code p =
-    (first : State) × CopyRight task (next_entry s p) header.remote_kind header.remote s (to_port p) first
-    × (ReplyRefuses first task header.local_kind header.local × (code ≡ msg_number SendInvalidReply)
-    ⊎ ((reply : ReplyRight) × (second : State) × CopyReply task (next_entry s p) header.local_kind header.local first reply second
-    × BodyRefuses task (next_entry s p) written second × (code ≡ msg_number SendInvalidRight)))
+  -- one destination is copied in, whatever the order of the tokens
+  to_one : (p q : ℕ) (first other : State) → ToPort p first → ToPort q other → (q ≡ p) × IsReordered first other
+  to_one p q first other a b =
+      let same = same_port q p (right_same task header.remote_kind header.remote (place_at s p) (place_at s q) s s first other (to_port p) (to_port q) (same_state s) a b).mark_is in (
+        same,
+        (right_alike task header.remote_kind header.remote (place_at s p) s s first other (to_port p) (to_port q) (same_state s) a
+            (subst (λ (x : ℕ). CopyRight task (place_at s x) header.remote_kind header.remote s (to_port q) other) same b)).1,
+      )
 
-word_after_taken : (task : ℕ) (header : Header) (written : WireBody) (s : State) (m : Message) (mid : State) (code p : ℕ) → Copied task header written s m mid → LaterRefuses s task header written code p → ⊥
-word_after_taken task header written s m mid code p c h =
-    let w = right_same task header.remote_kind header.remote (place_of s m) (next_entry s p) s s c.first h.0 (to_port m.destination) (to_port p) (same_state s) c.destination h.1 in
-    go (subst (LaterRefuses s task header written code) (same_port p m.destination w.mark_is) h)
-  where
-    go : LaterRefuses s task header written code m.destination → ⊥
-    go (first, copies, h) =
-        let r = (right_alike task header.remote_kind header.remote (place_of s m) s s first c.first (to_port m.destination) (to_port m.destination) (same_state s) copies c.destination).1 in
-        elim h [
-          | inl g ↦ reply_taken task header.local_kind header.local (place_of s m) first c.first c.second m.reply r g.0 c.reply
-          | inr g ↦
-              let q = (reply_alike task header.local_kind header.local (place_of s m) first c.first g.1 c.second g.0 m.reply r g.2 c.reply).1 in
-              body_taken task (place_of s m) written g.1 c.second mid m.body q g.3 c.body
-        ]
+  -- and so is one message
+  copied_alike : (m n : Message) (mid other : State) → Copied task header written s m mid → Copied task header written s n other → (n ≡ m) × IsReordered mid other
+  copied_alike m n mid other a b =
+      let p = m.destination in
+      let w = right_same task header.remote_kind header.remote (place_at s p) (place_at s n.destination) s s a.first b.first (to_port p) (to_port n.destination) (same_state s) a.destination b.destination in
+      let first = to_one p n.destination a.first b.first a.destination b.destination in
+      let reply = reply_alike task header.local_kind header.local (place_at s p) a.first b.first a.second b.second m.reply n.reply first.1 a.reply
+      (subst (λ (x : ℕ). Answers x b.first n.reply b.second) first.0 b.reply) in
+      let body = body_alike task (place_at s p) written a.second b.second mid other m.body n.body reply.1 a.body (subst (λ (x : ℕ). CopyBody task (place_at s x) written b.second n.body other) first.0 b.body) in
+      (one_message m n first.0 (b.kind ∙ ap kind_sent w.given ∙ sym a.kind) reply.0 (b.id ∙ sym a.id) body.0, body.1)
 
--- a message that is refused for its rights isn't sent
-pub rights_taken : (task : ℕ) (header : Header) (written : WireBody) (s : State) (m : Message) (mid : State) (code : ℕ) → Copied task header written s m mid →
-    NoneHolds (sent_guards m (place_of s m) mid) → RightsRefuse s task header written code → ⊥
-rights_taken task header written s m mid code c good (inl h) = destination_taken task header.remote_kind header.remote m.destination (place_of s m) s c.first h.0 c.destination
-rights_taken task header written s m mid code c good (inr (inl (p, first, copies, h))) = word_after_taken task header written s m mid code p c (first, copies, h)
-rights_taken task header written s m mid code c good (inr (inr (n, other, copied, first))) =
-    let w = copied_alike task header written s n m other mid copied c in
-    none_is_first (sent_guards n (place_of s n) other) (sent_guards n (place_of s n) mid) code (sent_same other mid w.1 n (place_of s n)) first
-    (subst (λ (x : Message). NoneHolds (sent_guards x (place_of s x) mid)) w.0 good)
+  -- a refused reply isn't copied in
+  reply_refused : (p : ℕ) (first : State) (answer : ReplyRight) (second : State) → ToPort p first → Answers p first answer second → ReplyRefuses s task header → ⊥
+  reply_refused p first answer second a b h =
+      reply_taken task header.local_kind header.local (place_at s p) h.first first second answer (to_one h.port p h.first first h.destination a).1 h.some h.bad b
 
--- two words of one message are refused alike
-later_alike : (task : ℕ) (header : Header) (written : WireBody) (s : State) (code other p q : ℕ) → LaterRefuses s task header written code p → LaterRefuses s task header written other q → code ≡ other
-later_alike task header written s code other p q a b =
-    let w = right_same task header.remote_kind header.remote (next_entry s p) (next_entry s q) s s a.0 b.0 (to_port p) (to_port q) (same_state s) a.1 b.1 in
-    go a (subst (LaterRefuses s task header written other) (same_port q p w.mark_is) b)
-  where
-    go : LaterRefuses s task header written code p → LaterRefuses s task header written other p → code ≡ other
-    go (f, x, h) (g, y, i) =
-        let r = (right_alike task header.remote_kind header.remote (next_entry s p) s s f g (to_port p) (to_port p) (same_state s) x y).1 in
-        elim h [
-          | inl u ↦ elim i [
-            | inl v ↦ u.1 ∙ sym v.1
-            | inr v ↦ absurd (reply_taken task header.local_kind header.local (next_entry s p) f g v.1 v.0 r u.0 v.2)
-          ]
-          | inr u ↦ elim i [
-            | inl v ↦ absurd (reply_taken task header.local_kind header.local (next_entry s p) g f u.1 u.0 (reordered_back f g r) v.0 u.2)
-            | inr v ↦ u.4 ∙ sym v.4
-          ]
-        ]
+  -- nor a refused body
+  body_refused : (m : Message) (mid : State) → Copied task header written s m mid → BodyRefuses s task header written → ⊥
+  body_refused m mid c h =
+      let first = to_one h.port m.destination h.first c.first h.destination c.destination in
+      let reply = subst (λ (x : ℕ). Answers x c.first m.reply c.second) first.0 c.reply in
+      let body = subst (λ (x : ℕ). CopyBody task (place_at s x) written c.second m.body mid) first.0 c.body in
+      let second = (reply_alike task header.local_kind header.local (place_at s h.port) h.first c.first h.second c.second h.answer m.reply first.1 h.reply reply).1 in
+      words_taken task (place_at s h.port) (body_words written) h.second c.second mid (body_rights m.body) second h.refused body.1
 
--- the rights of one message are refused with one code
-pub rights_alike : (task : ℕ) (header : Header) (written : WireBody) (s : State) (code other : ℕ) → RightsRefuse s task header written code → RightsRefuse s task header written other → code ≡ other
-rights_alike task header written s code other (inl a) (inl b) = a.1 ∙ sym b.1
-rights_alike task header written s code other (inl a) (inr (inl b)) = absurd (destination_taken task header.remote_kind header.remote b.0 (next_entry s b.0) s b.1 a.0 b.2)
-rights_alike task header written s code other (inl a) (inr (inr b)) = absurd (destination_taken task header.remote_kind header.remote b.0.destination (place_of s b.0) s b.2.first a.0 b.2.destination)
-rights_alike task header written s code other (inr (inl b)) (inl a) = absurd (destination_taken task header.remote_kind header.remote b.0 (next_entry s b.0) s b.1 a.0 b.2)
-rights_alike task header written s code other (inr (inl (p, f, x, h))) (inr (inl (q, g, y, i))) = later_alike task header written s code other p q (f, x, h) (g, y, i)
-rights_alike task header written s code other (inr (inl (p, f, x, h))) (inr (inr b)) = absurd (word_after_taken task header written s b.0 b.1 code p b.2 (f, x, h))
-rights_alike task header written s code other (inr (inr b)) (inl a) = absurd (destination_taken task header.remote_kind header.remote b.0.destination (place_of s b.0) s b.2.first a.0 b.2.destination)
-rights_alike task header written s code other (inr (inr b)) (inr (inl (q, g, y, i))) = absurd (word_after_taken task header written s b.0 b.1 other q b.2 (g, y, i))
-rights_alike task header written s code other (inr (inr (m, mid, c, first))) (inr (inr (n, end, d, second))) =
-    let w = copied_alike task header written s m n mid end c d in
-    one_first (sent_guards m (place_of s m) mid) (sent_guards m (place_of s m) end) code other (sent_same mid end w.1 m (place_of s m)) first
-    (subst (λ (x : Message). FirstIs (sent_guards x (place_of s x) end) other) w.0 second)
+  -- a message that is refused for its rights isn't sent
+  pub rights_taken : (m : Message) (mid : State) (code : ℕ) → Copied task header written s m mid → NoneHolds (sent_guards m (place_at s m.destination) mid) → RightsRefuse s task header written code → ⊥
+  rights_taken m mid code c good (inl h) = destination_taken task header m.destination (place_at s m.destination) s c.first h.0 c.destination
+  rights_taken m mid code c good (inr (inl h)) = reply_refused m.destination c.first m.reply c.second c.destination c.reply h.0
+  rights_taken m mid code c good (inr (inr (inl h))) = body_refused m mid c h.0
+  rights_taken m mid code c good (inr (inr (inr h))) =
+      let w = copied_alike h.m m h.copied_state mid h.copied c in
+      let place = place_at s h.m.destination in
+      none_is_first (sent_guards h.m place h.copied_state) (sent_guards h.m place mid) code (sent_same h.copied_state mid w.1 h.m place) h.refused
+      (subst (λ (x : Message). NoneHolds (sent_guards x (place_at s x.destination) mid)) w.0 good)
+
+  -- what is refused later has its destination copied in
+  has_destination : (code : ℕ) → DestinationRefuses s task header →
+      ReplyRefuses s task header × (code ≡ msg_number SendInvalidReply) ⊎ BodyRefuses s task header written × (code ≡ msg_number SendInvalidRight) ⊎ WholeRefuses s task header written code → ⊥
+  has_destination code bad (inl h) = destination_taken task header h.0.port (place_at s h.0.port) s h.0.first bad h.0.destination
+  has_destination code bad (inr (inl h)) = destination_taken task header h.0.port (place_at s h.0.port) s h.0.first bad h.0.destination
+  has_destination code bad (inr (inr h)) = destination_taken task header h.m.destination (place_at s h.m.destination) s h.copied.first bad h.copied.destination
+
+  -- and its reply
+  has_reply : (code : ℕ) → ReplyRefuses s task header → BodyRefuses s task header written × (code ≡ msg_number SendInvalidRight) ⊎ WholeRefuses s task header written code → ⊥
+  has_reply code bad (inl h) = reply_refused h.0.port h.0.first h.0.answer h.0.second h.0.destination h.0.reply bad
+  has_reply code bad (inr h) = reply_refused h.m.destination h.copied.first h.m.reply h.copied.second h.copied.destination h.copied.reply bad
+
+  -- the rights of one message are refused with one code
+  pub rights_alike : (code other : ℕ) → RightsRefuse s task header written code → RightsRefuse s task header written other → code ≡ other
+  rights_alike code other (inl a) (inl b) = a.1 ∙ sym b.1
+  rights_alike code other (inl a) (inr b) = absurd (has_destination other a.0 b)
+  rights_alike code other (inr a) (inl b) = absurd (has_destination code b.0 a)
+  rights_alike code other (inr (inl a)) (inr (inl b)) = a.1 ∙ sym b.1
+  rights_alike code other (inr (inl a)) (inr (inr b)) = absurd (has_reply other a.0 b)
+  rights_alike code other (inr (inr a)) (inr (inl b)) = absurd (has_reply code b.0 a)
+  rights_alike code other (inr (inr (inl a))) (inr (inr (inl b))) = a.1 ∙ sym b.1
+  rights_alike code other (inr (inr (inl a))) (inr (inr (inr b))) = absurd (body_refused b.m b.copied_state b.copied a.0)
+  rights_alike code other (inr (inr (inr a))) (inr (inr (inl b))) = absurd (body_refused a.m a.copied_state a.copied b.0)
+  rights_alike code other (inr (inr (inr a))) (inr (inr (inr b))) =
+      let w = copied_alike a.m b.m a.copied_state b.copied_state a.copied b.copied in
+      let place = place_at s a.m.destination in
+      one_first (sent_guards a.m place a.copied_state) (sent_guards a.m place b.copied_state) code other (sent_same a.copied_state b.copied_state w.1 a.m place) a.refused
+      (subst (λ (x : Message). FirstIs (sent_guards x (place_at s x.destination) b.copied_state) other) w.0 b.refused)
 
 -- ---- handing a right over
 

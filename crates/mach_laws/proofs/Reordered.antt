@@ -5,12 +5,15 @@ use Rattle.mach_types.specs.declared.rights.Disposition.{Disposition}
 use Rattle.mach_types.specs.declared.rights.Disposition.TheVariants.{MoveReceive, MoveSend, MoveSendOnce, CopySend, MakeSend, MakeSendOnce}
 use Rattle.mach_types.specs.Numbers.{disposition, kind_sent, null_word, dead_word}
 use Rattle.mach_types.specs.Tokens.{Kind, receive, send, Place, Token, count, is_held, Moves}
-use Rattle.mach_types.specs.Messages.{Form, Mark, ReplyRight, absent, present, Item, plain, rights, Body}
-use Rattle.mach_types.specs.Grammar.{Wire, data_item, port_item, WireBody}
+use Rattle.mach_types.specs.Messages.{Mark, ReplyRight, absent, present, Body}
+use Rattle.mach_types.specs.Grammar.{WireBody}
+use Rattle.mach_types.specs.Bodies.{body_words, body_rights, AllZip, Through}
 use Rattle.mach_model.specs.State.{State, Target, lookup, held, at, with_name, without_name}
-use Rattle.mach_model.specs.SentMeans.{target_mark}
-use Rattle.mach_model.specs.CopyIn.{IsLegal, taken_by, put_by, name_kept, changed_by, CopyRight, CopyWord, CopyReply, CopyWords, CopyItem, CopyItems, CopyBody}
+use Rattle.mach_model.specs.SentMeans.{IsSent, target_mark}
+use Rattle.mach_model.specs.CopyIn.{IsLegal, taken_by, put_by, name_kept, changed_by, CopyRight, CopyWord, CopyReply, CopyCarried, CopyBody}
 use Rattle.mach_model.proofs.Settling.{IsReordered}
+use Rattle.mach_model.proofs.Walks.{SameBody-each}
+use Rattle.mach_laws.proofs.Bodies.{one_body}
 
 -- ---- states that differ only in the order of their tokens
 
@@ -137,57 +140,37 @@ word_alike task number word place s t s' t' mark other r a b =
     both (word == null_word) _ _ _ _ _ (λ x y. (y.0 ∙ sym x.0, same_after s t s' t' r x.1 y.1))
     (both (word == dead_word) _ _ _ _ _ (λ x y. (y.0 ∙ sym x.0, same_after s t s' t' r x.1 y.1)) (right_alike task number word place s t s' t' mark other r)) a b
 
+same_sent : (number : ℕ) (k l : Kind) → IsSent number k → IsSent number l → k ≡ l
+same_sent number k l a b = a.2 ∙ ap kind_sent (one_disposition number b.0 a.0 b.1 a.1) ∙ sym b.2
+
 pub reply_alike : (task number word : ℕ) (place : Place) (s t s' t' : State) (reply other : ReplyRight) → IsReordered s t →
     CopyReply task place number word s reply s' → CopyReply task place number word t other t' → (other ≡ reply) × IsReordered s' t'
 reply_alike task number word place s t s' t' absent absent r a b = (refl, same_after s t s' t' r a.2 b.2)
 reply_alike task number word place s t s' t' (present k m) (present l n) r a b =
-    let w = word_alike task number word place s t s' t' m n r a.3 b.3 in
-    let kind : l ≡ k = b.2 ∙ ap kind_sent (one_disposition number a.0 b.0 a.1 b.1) ∙ sym a.2 in
-    (ap (λ (x : Kind). present x n) kind ∙ ap (present k) w.0, w.1)
-reply_alike task number word place s t s' t' absent (present k m) r a b = absurd (no_disposition number b.0 a.0 b.1)
-reply_alike task number word place s t s' t' (present k m) absent r a b = absurd (no_disposition number a.0 b.0 a.1)
+    let w = word_alike task number word place s t s' t' m n r a.1 b.1 in
+    (ap (λ (x : Kind). present x n) (same_sent number l k b.0 a.0) ∙ ap (present k) w.0, w.1)
+reply_alike task number word place s t s' t' absent (present k m) r a b = absurd (no_disposition number b.0.0 a.0 b.0.1)
+reply_alike task number word place s t s' t' (present k m) absent r a b = absurd (no_disposition number a.0.0 b.0 a.0.1)
 
-words_alike : (task number : ℕ) (place : Place) (ws : List ℕ) (s t s' t' : State) (marks others : List Mark) → IsReordered s t →
-    CopyWords task place number ws s marks s' → CopyWords task place number ws t others t' → (others ≡ marks) × IsReordered s' t'
-words_alike task number place [] s t s' t' [] [] r a b = (refl, same_after s t s' t' r a b)
-words_alike task number place (w ∷ ws) s t s' t' (m ∷ ms) (n ∷ ns) r a b =
-    let x = word_alike task number w place s t a.0 b.0 m n r a.1 b.1 in
-    let y = words_alike task number place ws a.0 b.0 s' t' ms ns x.1 a.2 b.2 in
-    (ap (λ (z : Mark). z ∷ ns) x.0 ∙ ap (λ (zs : List Mark). m ∷ zs) y.0, y.1)
-words_alike task number place [] s t s' t' (m ∷ ms) others r a b = absurd a
-words_alike task number place [] s t s' t' [] (n ∷ ns) r a b = absurd b
-words_alike task number place (w ∷ ws) s t s' t' [] others r a b = absurd a
-words_alike task number place (w ∷ ws) s t s' t' (m ∷ ms) [] r a b = absurd b
+abbrev pair : Kind → Mark → Kind × Mark
+pair kind mark = (kind, mark)
 
-pub item_alike : (task : ℕ) (place : Place) (w : Wire) (s t s' t' : State) (item other : Item) → IsReordered s t →
-    CopyItem task place w s item s' → CopyItem task place w t other t' → (other ≡ item) × IsReordered s' t'
-item_alike task place (data_item f n size c bytes padding) s t s' t' item other r a b = (b.0 ∙ sym a.0, same_after s t s' t' r a.1 b.1)
-item_alike task place (port_item f number ws) s t s' t' (rights g k ms) (rights h l ns) r a b =
-    let x = words_alike task number place ws s t s' t' ms ns r a.4 b.4 in
-    let kind : l ≡ k = b.3 ∙ ap kind_sent (one_disposition number a.0 b.0 a.1 b.1) ∙ sym a.3 in
-    let form : h ≡ g = b.2 ∙ sym a.2 in
-    (ap (λ (y : Form). rights y l ns) form ∙ ap (λ (y : Kind). rights g y ns) kind ∙ ap (rights g k) x.0, x.1)
-item_alike task place (port_item f number ws) s t s' t' (plain g n size c bytes padding) other r a b = absurd a
-item_alike task place (port_item f number ws) s t s' t' (rights g k ms) (plain h n size c bytes padding) r a b = absurd b
-
-items_alike : (task : ℕ) (place : Place) (ws : List Wire) (s t s' t' : State) (items others : List Item) → IsReordered s t →
-    CopyItems task place ws s items s' → CopyItems task place ws t others t' → (others ≡ items) × IsReordered s' t'
-items_alike task place [] s t s' t' [] [] r a b = (refl, same_after s t s' t' r a b)
-items_alike task place (w ∷ ws) s t s' t' (i ∷ is) (j ∷ js) r a b =
-    let x = item_alike task place w s t a.0 b.0 i j r a.1 b.1 in
-    let y = items_alike task place ws a.0 b.0 s' t' is js x.1 a.2 b.2 in
-    (ap (λ (z : Item). z ∷ js) x.0 ∙ ap (λ (zs : List Item). i ∷ zs) y.0, y.1)
-items_alike task place [] s t s' t' (i ∷ is) others r a b = absurd a
-items_alike task place [] s t s' t' [] (j ∷ js) r a b = absurd b
-items_alike task place (w ∷ ws) s t s' t' [] others r a b = absurd a
-items_alike task place (w ∷ ws) s t s' t' (i ∷ is) [] r a b = absurd b
+carried_alike : (task : ℕ) (place : Place) (ws : List (ℕ × ℕ)) (s t s' t' : State) (rs qs : List (Kind × Mark)) → IsReordered s t →
+    AllZip (λ (w : ℕ × ℕ) (r : Kind × Mark). IsSent w.0 r.0) ws rs → AllZip (λ (w : ℕ × ℕ) (r : Kind × Mark). IsSent w.0 r.0) ws qs →
+    Through (CopyCarried task place) s ws rs s' → Through (CopyCarried task place) t ws qs t' → (qs ≡ rs) × IsReordered s' t'
+carried_alike task place [] s t s' t' [] [] r x y a b = (refl, same_after s t s' t' r a b)
+carried_alike task place (w ∷ ws) s t s' t' (m ∷ ms) (n ∷ ns) r x y a b =
+    let here = word_alike task w.0 w.1 place s t a.0 b.0 m.1 n.1 r a.1.0 b.1.0 in
+    let rest = carried_alike task place ws a.0 b.0 s' t' ms ns here.1 x.1 y.1 a.2 b.2 in
+    let kind : n.0 ≡ m.0 = same_sent w.0 n.0 m.0 y.0 x.0 in
+    (ap (λ (z : Kind). pair z n.1 ∷ ns) kind ∙ ap (λ (z : Mark). pair m.0 z ∷ ns) here.0 ∙ ap (λ (zs : List (Kind × Mark)). m ∷ zs) rest.0, rest.1)
+carried_alike task place [] s t s' t' (m ∷ ms) ns r x y a b = absurd a
+carried_alike task place [] s t s' t' [] (n ∷ ns) r x y a b = absurd b
+carried_alike task place (w ∷ ws) s t s' t' [] ns r x y a b = absurd a
+carried_alike task place (w ∷ ws) s t s' t' (m ∷ ms) [] r x y a b = absurd b
 
 pub body_alike : (task : ℕ) (place : Place) (w : WireBody) (s t s' t' : State) (body other : Body) → IsReordered s t →
     CopyBody task place w s body s' → CopyBody task place w t other t' → (other ≡ body) × IsReordered s' t'
-body_alike task place (WireBody.raw bytes) s t s' t' (Body.raw xs) (Body.raw ys) r a b = (ap Body.raw (b.0 ∙ sym a.0), same_after s t s' t' r a.1 b.1)
-body_alike task place (WireBody.items ws) s t s' t' (Body.items xs) (Body.items ys) r a b =
-    let x = items_alike task place ws s t s' t' xs ys r a b in (ap Body.items x.0, x.1)
-body_alike task place (WireBody.raw bytes) s t s' t' (Body.items xs) other r a b = absurd a
-body_alike task place (WireBody.raw bytes) s t s' t' (Body.raw xs) (Body.items ys) r a b = absurd b
-body_alike task place (WireBody.items ws) s t s' t' (Body.raw xs) other r a b = absurd a
-body_alike task place (WireBody.items ws) s t s' t' (Body.items xs) (Body.raw ys) r a b = absurd b
+body_alike task place w s t s' t' body other r a b =
+    let x = carried_alike task place (body_words w) s t s' t' (body_rights body) (body_rights other) r (SameBody-each IsSent w body a.0) (SameBody-each IsSent w other b.0) a.1 b.1 in
+    (one_body IsSent same_sent w other body b.0 a.0 x.0, x.1)

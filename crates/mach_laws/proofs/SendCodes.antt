@@ -12,7 +12,7 @@ use Rattle.mach_types.specs.Grammar.{Header, WireBody, Spells}
 use Rattle.mach_types.specs.Guards.{Guards, FirstIs}
 use Rattle.mach_types.specs.TextGuards.{item_guards}
 use Rattle.mach_model.specs.State.{State}
-use Rattle.mach_model.specs.Send.{RightsRefuse, Copied, sent_guards, place_of}
+use Rattle.mach_model.specs.Send.{RightsRefuse, Copied, sent_guards, place_at}
 use Rattle.mach_model.specs.Refusals.{guards, Refuses}
 use Rattle.mach_model.specs.Machine.{Step}
 use Rattle.mach_laws.proofs.Spelled.{one_message}
@@ -48,15 +48,13 @@ module _ (s : State) (task : ℕ) (bytes : List ℕ) where
 
   rights_code : (header : Header) (written : WireBody) (code : ℕ) → Spells bytes header written → RightsRefuse s task header written code → SendCode s task bytes code
   rights_code header written code spells (inl h) = other (omega (arith, h.1)) (λ e. omega (arith, e, h.1))
-  rights_code header written code spells (inr (inl h)) = elim h.3 [
-    | inl g ↦ other (omega (arith, g.1)) (λ e. omega (arith, e, g.1))
-    | inr g ↦ other (omega (arith, g.4)) (λ e. omega (arith, e, g.4))
-  ]
-  rights_code header written code spells (inr (inr h)) = FirstIs-code (SendCode s task bytes) (sent_guards h.0 (place_of s h.0) h.1) code
-      ((λ g. other (omega arith) (λ e. omega (arith, e))), ((λ g. full g.0), ((λ g. other (omega arith) (λ e. omega (arith, e))), tt))) h.3
+  rights_code header written code spells (inr (inl h)) = other (omega (arith, h.1)) (λ e. omega (arith, e, h.1))
+  rights_code header written code spells (inr (inr (inl h))) = other (omega (arith, h.1)) (λ e. omega (arith, e, h.1))
+  rights_code header written code spells (inr (inr (inr h))) = FirstIs-code (SendCode s task bytes) (sent_guards h.m (place_at s h.m.destination) h.copied_state) code
+      ((λ g. other (omega arith) (λ e. omega (arith, e))), ((λ g. full g.0), ((λ g. other (omega arith) (λ e. omega (arith, e))), tt))) h.refused
     where
-      full : h.0.kind ≡ send → SendCode s task bytes 0x10000004
-      full kind = record { some = omega arith; full = λ e. record { header = header; written = written; spells = spells; m = h.0; copied_state = h.1; copied = h.2; kind = kind } }
+      full : h.m.kind ≡ send → SendCode s task bytes 0x10000004
+      full kind = record { some = omega arith; full = λ e. record { header = header; written = written; spells = spells; m = h.m; copied_state = h.copied_state; copied = h.copied; kind = kind } }
 
   pub send_code : (code : ℕ) → Refuses s (Event.Send task bytes) code → SendCode s task bytes code
   send_code code (inl h) = FirstIs-code (SendCode s task bytes) (guards s (Event.Send task bytes)) code

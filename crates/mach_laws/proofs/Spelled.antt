@@ -9,18 +9,10 @@ use Rattle.type_descriptor.specs.Describes.{form_length}
 use Rattle.type_descriptor.proofs.ByteWords.{word_at-word}
 use Rattle.message_codec.proofs.Fronts.{IsFront, front_of, length-descriptor_text}
 use Rattle.message_codec.proofs.Shapes.{All-head, All-tail, not_refused, rest_same}
+use Rattle.mach_laws.proofs.Bodies.{append_split}
 use Rattle.mach_laws.proofs.Refusing.{itself, one_first}
 
 -- ---- lists
-
-append_split : {A : Type 0} (xs ys u v : List A) → length xs ≡ length ys → xs ++ u ≡ ys ++ v → (xs ≡ ys) × (u ≡ v)
-append_split [] [] u v l e = (refl, e)
-append_split (x ∷ xs) (y ∷ ys) u v l e =
-    let first : x ≡ y = cc in
-    let rest = append_split xs ys u v (omega (arith, l)) (ap (drop 1) e) in
-    (ap (λ z. z ∷ xs) first ∙ ap (λ zs. y ∷ zs) rest.0, rest.1)
-append_split [] (y ∷ ys) u v l e = absurd (omega (arith, l))
-append_split (x ∷ xs) [] u v l e = absurd (omega (arith, l))
 
 one_word : (n m : ℕ) (u v : List ℕ) → n < 2 ^ 32 → m < 2 ^ 32 → word n ++ u ≡ word m ++ v → (n ≡ m) × (u ≡ v)
 one_word n m u v small less e = (sym (word_at-word n u small) ∙ ap (λ (xs : List ℕ). word_at xs 0) e ∙ word_at-word m v less, ap (drop 4) e)

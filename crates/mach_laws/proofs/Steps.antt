@@ -1,5 +1,5 @@
 -- What one step from a lawful state does to the logs, and takes from them.
-use Rattle.std.proofs.Common.{◌≡◌, ℕ, ◌+◌, ◌%◌, ◌^◌, List, [], ◌∷◌, ◌++◌, Some, refl, sym, ap, subst, ◌∙◌, arith, true, false, Bool, ◌⊎◌, inl, inr}
+use Rattle.std.proofs.Common.{◌≡◌, ℕ, ◌+◌, ◌%◌, ◌^◌, List, [], ◌∷◌, ◌++◌, refl, sym, ap, subst, ◌∙◌, arith, true, false, Bool, ◌⊎◌, inl, inr}
 use Rattle.std.specs.Prelude.{if◌then◌else◌}
 use Rattle.mach_types.specs.declared.calls.Event.{Event}
 use Rattle.mach_types.specs.declared.calls.Reply.{Reply}
@@ -7,11 +7,11 @@ use Rattle.mach_types.specs.declared.calls.Waited.{Waited}
 use Rattle.mach_types.specs.Guards.{NoneHolds}
 use Rattle.mach_types.specs.Tokens.{receive, in_message, token, is_of, is_held}
 use Rattle.mach_types.specs.Messages.{Entry, asof}
-use Rattle.mach_model.specs.State.{State, Target, lookup, Holds, at}
+use Rattle.mach_model.specs.State.{State, lookup, Holds, at}
 use Rattle.mach_model.specs.Sets.{JoinsSet}
 use Rattle.mach_model.specs.Transfer.{Inserts, Extracts}
 use Rattle.mach_model.specs.Send.{Sends, entry}
-use Rattle.mach_model.specs.Receive.{waits_for, TakesFrom, Receives}
+use Rattle.mach_model.specs.Receive.{TakesFrom, Receives}
 use Rattle.mach_model.specs.Notices.{Owed}
 use Rattle.mach_model.specs.ReceivedMeans.{ReceivedMeans}
 use Rattle.mach_model.specs.Refusals.{guards}
@@ -26,11 +26,12 @@ use Rattle.mach_model.proofs.ReceiveLawful.{Receives-removes}
 use Rattle.mach_model.proofs.HandLawful.{hands_shape, Inserts-hands, Extracts-hands}
 use Rattle.mach_model.proofs.StepLawful.{Done-mid, TakesFrom-holds, TakesFrom-live, not_false}
 use Rattle.mach_laws.specs.Sent.{Accepts}
-use Rattle.mach_laws.specs.Received.{NamesSource, AsksFrom, Delivers}
+use Rattle.mach_laws.specs.Received.{AsksFrom}
+use Rattle.mach_laws.specs.Delivered.{Delivers}
 use Rattle.mach_laws.proofs.SendCodes.{same_code, send_code}
 use Rattle.mach_laws.proofs.Untouched.{Untouched, LiveStay, by_rest, makes_untouched, deallocates_untouched, destroys_untouched, modifies_untouched}
 use Rattle.mach_laws.proofs.Meanings.{Sends-means}
-use Rattle.mach_laws.proofs.Receiving.{Gives, Gives-trans, GiveReply-means, GiveBody-means}
+use Rattle.mach_laws.proofs.Receiving.{Gives, Receives-means}
 use Rattle.mach_laws.proofs.Apart.{Receives-received, ReceivedMeans-later}
 
 -- ---- what an event leaves as it is
@@ -90,10 +91,6 @@ Step-accepts now old task bytes new l (inr d) =
 
 -- ---- receipts
 
-source_of : (s : State) (task name p : ℕ) (waited : Waited) → waits_for task name s waited → TakesFrom s task waited p → NamesSource s task name p
-source_of s task name p (Waited.Port q) w t = inl (w.0 ∙ ap (λ (x : ℕ). Some (Target.port x)) (sym t.0))
-source_of s task name p (Waited.Set set) w t = inr (set, w, t.1)
-
 reordered_gives : (task : ℕ) (mid new : State) → IsReordered mid new → Gives task mid new
 reordered_gives task mid new r = record {
   grows = λ n x e. ap (λ (s : State). lookup s task n) r.rest ∙ e;
@@ -104,10 +101,7 @@ reordered_gives task mid new r = record {
 
 -- what a receiver has once the message was taken, it keeps
 given : (task port room : ℕ) (bytes : List ℕ) (old mid : State) (r : Receives task port room bytes old mid) → Gives task r.taken mid
-given task port room bytes old mid r =
-    let place = in_message port (old.taken port) in
-    Gives-trans task r.taken r.second mid (GiveReply-means task place r.e.message.reply r.taken r.taken r.header.remote_kind r.header.remote r.second refl (λ n x e. e) r.reply).0
-    (GiveBody-means task place r.e.message.body r.second r.second r.written mid refl (λ n x e. e) r.body).0
+given task port room bytes old mid r = (Receives-means task port room bytes old mid r).0
 
 -- a receipt uses the number that its port is at
 numbered : (task port room : ℕ) (bytes : List ℕ) (old mid : State) → Receives task port room bytes old mid → mid.sequence port ≡ (old.sequence port + 1) % 2 ^ 32
@@ -152,7 +146,7 @@ Receives-delivers task room bytes old mid new waited p event l is_task t r o ask
 Does-delivers : (now : ℕ) (old : State) (event : Event) (bytes : List ℕ) (mid : State) (owed : Owed) (new : State) → IsLawful old → NoneHolds (guards old event) →
     Does now old event (Reply.Message bytes) mid owed → IsReordered mid new → Delivers event bytes old new × ((q : ℕ) → new.log q ≡ old.log q) × LiveStay old new
 Does-delivers now old (Event.Receive task name room large) bytes mid owed new l g d r =
-    Receives-delivers task room bytes old mid new d.0 d.2.0 (Event.Receive task name room large) l (not_false (old.live_task task) g.0) d.2.1 d.2.2 r (refl, source_of old task name d.2.0 d.0 d.1 d.2.1)
+    Receives-delivers task room bytes old mid new d.0 d.2.0 (Event.Receive task name room large) l (not_false (old.live_task task) g.0) d.2.1 d.2.2 r (refl, d.0, d.1, d.2.1)
 Does-delivers now old (Event.ReceiveAgain task waited room large) bytes mid owed new l g d r =
     Receives-delivers task room bytes old mid new waited d.0 (Event.ReceiveAgain task waited room large) l (not_false (old.live_task task) g.0) d.1 d.2 r (refl, d.1)
 Does-delivers now old event bytes mid owed new l g d r = absurd d

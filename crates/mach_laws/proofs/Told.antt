@@ -15,7 +15,8 @@ use Rattle.mach_model.proofs.At.{snoc_cases}
 use Rattle.mach_model.proofs.Opening.{opening-lawful}
 use Rattle.mach_model.proofs.StepLawful.{Step-lawful}
 use Rattle.mach_laws.specs.Paths.{Stage, Path}
-use Rattle.mach_laws.specs.Received.{AsksFrom, Delivers, WasSent}
+use Rattle.mach_laws.specs.Received.{AsksFrom, WasSent}
+use Rattle.mach_laws.specs.Delivered.{Delivers}
 use Rattle.mach_laws.proofs.Steps.{AcceptsBy, Passes, Step-passes, Step-delivers}
 use Rattle.mach_laws.proofs.Walking.{at_stages}
 

@@ -1,4 +1,4 @@
--- What a run promises, in one statement.
+-- What a run promises, in one statement (this project's own).
 use Rattle.std.specs.Prelude.{◌≡◌, ℕ, true, List, map, slice_get, Some}
 use Rattle.mach_types.specs.declared.calls.Event.{Event}
 use Rattle.mach_types.specs.declared.calls.Reply.{Reply}

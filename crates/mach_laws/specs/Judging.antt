@@ -1,4 +1,4 @@
--- What a law on refusals leaves open: want of memory, and the member of a set.
+-- What a law on refusals leaves open: want of memory, and the member of a set (this project's own).
 use Rattle.std.specs.Prelude.{◌≡◌, ℕ, ◌⊎◌}
 use Rattle.mach_types.specs.declared.calls.Event.{Event}
 use Rattle.mach_types.specs.declared.calls.Reply.{Reply}

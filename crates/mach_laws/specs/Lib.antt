@@ -1,6 +1,7 @@
 pub mod Paths
 pub mod Sent
 pub mod Received
+pub mod Delivered
 pub mod Order
 pub mod Queued
 pub mod Headline

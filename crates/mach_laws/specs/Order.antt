@@ -1,39 +1,38 @@
--- The order of a port's messages, over a run's stages.
-use Rattle.std.specs.Prelude.{◌≡◌, ℕ, List, [], ◌∷◌, ◌++◌, length, slice_get, take, option_to_list, if◌then◌else◌, ◌==◌}
+-- The order of a port's messages, over a run's stages (this project's own).
+use Rattle.std.specs.Prelude.{◌≡◌, ℕ, ◌-◌, List, [], ◌∷◌, ◌++◌, length, take, drop, if◌then◌else◌, ◌==◌}
 use Rattle.mach_types.specs.declared.calls.Event.{Event}
 use Rattle.mach_types.specs.declared.calls.Reply.{Reply}
 use Rattle.mach_types.specs.Messages.{Entry}
 use Rattle.mach_model.specs.State.{State, queue}
 use Rattle.mach_laws.specs.Paths.{Stage}
 
--- the first entry of the port's log that wasn't there before the stage
-abbrev pub new_entry : ℕ → Stage → List Entry
-new_entry p x = option_to_list (slice_get (x.after.log p) (length (x.before.log p)))
+-- how many entries a call with this answer accepts: a send that is answered with 0 accepts one
+abbrev pub accepts : Event → Reply → ℕ
+accepts (Event.Send task bytes) (Reply.Code code) = if code == 0 then 1 else 0
+accepts event reply = 0
 
--- the entry in front of the port, if the stage took one
-abbrev pub front_entry : ℕ → Stage → List Entry
-front_entry p x = if x.after.taken p == x.before.taken p then [] else option_to_list (slice_get (x.before.log p) (x.before.taken p))
+-- how many it delivers: one that is answered with a message delivers one; only a receive, or a later try, is
+abbrev pub delivers : Event → Reply → ℕ
+delivers event (Reply.Message bytes) = 1
+delivers event reply = 0
 
--- Only a send that is answered with 0 accepts an entry.
-abbrev pub if_accepted : Event → Reply → List Entry → List Entry
-if_accepted (Event.Send task bytes) (Reply.Code code) entries = if code == 0 then entries else []
-if_accepted event reply entries = []
+-- what came to the end of the port's log in the stage, if it accepts that
+abbrev pub accepted_by : ℕ → Stage → List Entry
+accepted_by p x = take (accepts x.event x.reply) (drop (length (x.before.log p)) (x.after.log p))
 
--- Only a receive, or a later try, that is answered with a message receives one.
-abbrev pub if_received : Event → Reply → List Entry → List Entry
-if_received (Event.Receive task name room large) (Reply.Message bytes) entries = entries
-if_received (Event.ReceiveAgain task waited room large) (Reply.Message bytes) entries = entries
-if_received event reply entries = []
+-- what went from the front of the port's queue in the stage, if it delivers that
+abbrev pub received_by : ℕ → Stage → List Entry
+received_by p x = take (delivers x.event x.reply) (take (x.after.taken p - x.before.taken p) (queue x.before p))
 
 -- what the stages accepted for the port, in the order of the stages
 abbrev pub accepted : ℕ → List Stage → List Entry
 accepted p [] = []
-accepted p (x ∷ xs) = if_accepted x.event x.reply (new_entry p x) ++ accepted p xs
+accepted p (x ∷ xs) = accepted_by p x ++ accepted p xs
 
 -- what tasks received from the port, in the order of the stages
 abbrev pub received : ℕ → List Stage → List Entry
 received p [] = []
-received p (x ∷ xs) = if_received x.event x.reply (front_entry p x) ++ received p xs
+received p (x ∷ xs) = received_by p x ++ received p xs
 
 -- What was accepted for the port is its log. What was received from it, and then what is queued, is what was accepted, in the same order.
 pub record InOrder (p : ℕ) (path : List Stage) (s : State) : Type 0 where

@@ -1,4 +1,4 @@
--- A run, stage by stage: laws that speak of two of its steps are said over these.
+-- A run, stage by stage: laws that speak of two of its steps are said over these (this project's own).
 use Rattle.std.specs.Prelude.{◌≡◌, ℕ, ◌+◌, List, [], ◌∷◌}
 use Rattle.mach_types.specs.declared.calls.Event.{Event}
 use Rattle.mach_types.specs.declared.calls.Reply.{Reply}

@@ -1,4 +1,4 @@
--- What it means that a send is accepted.
+-- What it means that a send is accepted (IPC Interface, `mach_msg` with MACH_SEND_MSG).
 use Rattle.std.specs.Prelude.{◌≡◌, ◌≢◌, ℕ, List, [], ◌∷◌, ◌++◌}
 use Rattle.mach_types.specs.Messages.{Message}
 use Rattle.mach_model.specs.State.{State}

@@ -19,7 +19,8 @@ ghost use Rattle.mach_model.specs.Machine.{Done, Step, Run};
 ghost use Rattle.mach_model.specs.Lawful.{IsLawful};
 ghost use Rattle.mach_laws.specs.Paths.{Stage, Path};
 ghost use Rattle.mach_laws.specs.Sent.{Accepts};
-ghost use Rattle.mach_laws.specs.Received.{AsksFrom, Delivers, WasSent};
+ghost use Rattle.mach_laws.specs.Received.{AsksFrom, WasSent};
+ghost use Rattle.mach_laws.specs.Delivered.{Delivers};
 ghost use Rattle.mach_laws.specs.Order.{InOrder};
 ghost use Rattle.mach_laws.specs.Queued.{queued, accepts, delivers};
 ghost use Rattle.mach_laws.specs.Headline.{Headline};
@@ -135,15 +136,13 @@ pub fn once_is_never_full()
         (header : Header) (written : WireBody) → Spells bytes header written → (header.remote_kind ≢ 18) × (header.remote_kind ≢ 21) }
 {}
 
-/// A receive by a port's name is answered that there is no message only where none is queued; and after
-/// every run that is the answer to a receive by a set's name, or to a later try, only where none is
-/// queued at any port that it may take from.
+/// A receive by a port's name is answered that there is no message only where none is queued; a receive by a
+/// set's name, or a later try, only where none is queued at any port that it may take from.
 pub fn empty_means_empty()
     ensures named { (now : ℕ) (old new : State) (task name room : ℕ) (large : Bool) (told : Waited) →
         Step now old (Event.Receive task name room large) (Reply.Empty told) new →
         (p : ℕ) → lookup old task name ≡ Some (Target.port p) → queue old p ≡ [] }
-    ensures asked { (events : List Event) (replies : List Reply) (s : State) → Run events replies s →
-        (event : Event) (told : Waited) (new : State) → Step (length events) s event (Reply.Empty told) new →
+    ensures asked { (now : ℕ) (s : State) (event : Event) (told : Waited) (new : State) → Step now s event (Reply.Empty told) new →
         (task p : ℕ) → AsksFrom s event task p → queue s p ≡ [] }
 {}
 

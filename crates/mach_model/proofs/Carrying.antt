@@ -1,24 +1,27 @@
 -- No message carries a receive right, as long as words of bodies that would move one are refused; and none goes by one. So no send
 -- closes a loop.
-use Rattle.std.proofs.Common.{◌≡◌, ℕ, ◌+◌, ◌/◌, ◌%◌, ◌^◌, ◌<◌, ◌≤◌, List, [], ◌∷◌, Some, None, refl, sym, ap, ◌∙◌, arith, true, false, Bool, inl, inr, length}
+use Rattle.std.proofs.Common.{◌≡◌, ℕ, ◌/◌, ◌%◌, ◌^◌, ◌<◌, ◌≤◌, List, [], ◌∷◌, Some, None, refl, sym, ap, ◌∙◌, arith, true, false, Bool, inl, inr, length}
 use Rattle.std.specs.Prelude.{if◌then◌else◌, ◌==◌, ◌≢◌}
 use Rattle.std.proofs.lemmas.Bool.Decides.{eqb_tells}
 use Rattle.mach_types.specs.declared.rights.Disposition.{Disposition}
 use Rattle.mach_types.specs.declared.rights.Disposition.TheVariants.{MoveReceive, MoveSend, MoveSendOnce, CopySend, MakeSend, MakeSendOnce}
 use Rattle.mach_types.specs.Numbers.{disposition, kind_sent, null_word, dead_word}
 use Rattle.mach_types.specs.Tokens.{Kind, receive, send, send_once, Place}
-use Rattle.mach_types.specs.Messages.{Mark, to_port, null, dead, ReplyRight, absent, present, Item, plain, rights, Body, Message}
-use Rattle.mach_types.specs.Grammar.{Wire, data_item, port_item, WireBody, Header, Spells, text}
+use Rattle.mach_types.specs.Messages.{Mark, to_port, null, dead, ReplyRight, absent, present, Body, Message}
+use Rattle.mach_types.specs.Grammar.{WireBody, Header, Spells, text}
+use Rattle.mach_types.specs.Bodies.{body_words, body_rights, reply_rights, Through, AllZip}
 use Rattle.mach_types.specs.Guards.{NoneHolds}
 use Rattle.mach_types.specs.TextGuards.{header_guards, word_at, BadHeader, IsSendable}
 use Rattle.mach_model.specs.State.{State}
-use Rattle.mach_model.specs.CopyIn.{CopyWord, CopyReply, CopyWords, CopyItem, CopyItems, CopyBody}
-use Rattle.mach_model.specs.Send.{Sends, Copied, ClosesLoop, place_of}
-use Rattle.mach_model.specs.Carried.{mark_count, marks_count, reply_count, items_count, body_count, message_count}
+use Rattle.mach_model.specs.SentMeans.{IsSent}
+use Rattle.mach_model.specs.CopyIn.{CopyWord, CopyReply, CopyCarried, CopyBody}
+use Rattle.mach_model.specs.Send.{Sends, Copied, ClosesLoop, place_at}
+use Rattle.mach_model.specs.Carried.{mark_count, rights_count, message_count}
 use Rattle.mach_model.specs.NotYet.{IsNotYetCarried}
 use Rattle.mach_model.specs.Lawful.{IsLawful}
 use Rattle.mach_model.proofs.Moving.{moving}
-use Rattle.mach_model.proofs.CopyingWords.{either, Copied-adds}
+use Rattle.mach_model.proofs.Walks.{SameBody-each}
+use Rattle.mach_model.proofs.CopyingWords.{either, rights_count-append, Copied-adds}
 
 -- ---- no message goes by a receive right
 
@@ -82,6 +85,9 @@ not_receive n CopySend other is e = cc
 not_receive n MakeSend other is e = cc
 not_receive n MakeSendOnce other is e = cc
 
+sent_none : (n : ℕ) (kind : Kind) → n ≢ 16 → IsSent n kind → kind ≢ receive
+sent_none n kind other is e = not_receive n is.0 other is.1 (sym is.2 ∙ e)
+
 pub by_a_send : (now task : ℕ) (bytes : List ℕ) (old mid : State) → NoneHolds (header_guards bytes) → (s : Sends now task bytes old mid) → s.m.kind ≢ receive
 by_a_send now task bytes old mid good s e =
     let none = none_moved bytes s.header s.written good s.spells in
@@ -104,55 +110,32 @@ apart a b e same = elim (eqb_tells a b) [
   | inr h ↦ h.1 same
 ]
 
-word_none : (task : ℕ) (place : Place) (number word : ℕ) (given : Disposition) (old : State) (mark : Mark) (new : State) → disposition number ≡ Some given → ¬ (IsNotYetCarried number word) →
-    CopyWord task place number word old mark new → (q : ℕ) → mark_count receive q (kind_sent given) mark ≡ 0
-word_none task place number word given old mark new is not h q = elim (eqb_tells number 16) [
+word_none : (task : ℕ) (place : Place) (number word : ℕ) (kind : Kind) (old : State) (mark : Mark) (new : State) → IsSent number kind → ¬ (IsNotYetCarried number word) →
+    CopyWord task place number word old mark new → (q : ℕ) → mark_count receive q kind mark ≡ 0
+word_none task place number word kind old mark new is not h q = elim (eqb_tells number 16) [
   | inl n ↦
-      either (word == null_word) _ _ _ (λ x. ap (mark_count receive q (kind_sent given)) x.0)
-      (λ some. either (word == dead_word) _ _ _ (λ x. ap (mark_count receive q (kind_sent given)) x.0)
+      either (word == null_word) _ _ _ (λ x. ap (mark_count receive q kind) x.0)
+      (λ some. either (word == dead_word) _ _ _ (λ x. ap (mark_count receive q kind) x.0)
       (λ live r. absurd (not (n.1, apart word null_word some, apart word dead_word live)))) h
-  | inr n ↦ no_mark (kind_sent given) (not_receive number given n.1 is) q mark
+  | inr n ↦ no_mark kind (sent_none number kind n.1 is) q mark
 ]
 
 reply_none : (task : ℕ) (place : Place) (number word : ℕ) (old : State) (reply : ReplyRight) (new : State) → number ≢ 16 → CopyReply task place number word old reply new → (q : ℕ) →
-    reply_count receive q reply ≡ 0
+    rights_count receive q (reply_rights reply) ≡ 0
 reply_none task place number word old absent new not h q = refl
-reply_none task place number word old (present kind mark) new not h q =
-    ap (λ (k : Kind). mark_count receive q k mark) h.2 ∙ no_mark (kind_sent h.0) (not_receive number h.0 not h.1) q mark
+reply_none task place number word old (present kind mark) new not h q = let e = no_mark kind (sent_none number kind not h.0) q mark in omega (arith, e)
 
-words_none : (task : ℕ) (place : Place) (number : ℕ) (given : Disposition) (words : List ℕ) (old : State) (marks : List Mark) (new : State) → disposition number ≡ Some given →
-    CopyWords task place number words old marks new → (q : ℕ) → marks_count receive q (kind_sent given) marks ≡ 0
-words_none task place number given [] old [] new is h q = refl
-words_none task place number given (w ∷ ws) old (m ∷ ms) new is h q =
-    let a = word_none task place number w given old m h.0 is h.3 h.1 q in
-    let b = words_none task place number given ws h.0 ms new is h.2 q in omega (arith, a, b)
-words_none task place number given [] old (m ∷ ms) new is h q = absurd h
-words_none task place number given (w ∷ ws) old [] new is h q = absurd h
+words_none : (task : ℕ) (place : Place) (ws : List (ℕ × ℕ)) (old : State) (rs : List (Kind × Mark)) (new : State) → AllZip (λ (w : ℕ × ℕ) (r : Kind × Mark). IsSent w.0 r.0) ws rs →
+    Through (CopyCarried task place) old ws rs new → (q : ℕ) → rights_count receive q rs ≡ 0
+words_none task place [] old [] new are h q = refl
+words_none task place (w ∷ ws) old (r ∷ rs) new are h q =
+    let a = word_none task place w.0 w.1 r.0 old r.1 h.0 are.0 h.1.1 h.1.0 q in
+    let b = words_none task place ws h.0 rs new are.1 h.2 q in omega (arith, a, b)
+words_none task place [] old (r ∷ rs) new are h q = absurd h
+words_none task place (w ∷ ws) old [] new are h q = absurd h
 
-item_none : (task : ℕ) (place : Place) (wire : Wire) (old : State) (item : Item) (new : State) → CopyItem task place wire old item new → (q : ℕ) → items_count receive q (item ∷ []) ≡ 0
-item_none task place (data_item f n s c bytes padding) old item new h q = ap (λ (x : Item). items_count receive q (x ∷ [])) h.0
-item_none task place (port_item f number words) old (rights g kind marks) new h q =
-    let a = words_none task place number h.0 words old marks new h.1 h.4 q in
-    let b = ap (λ (k : Kind). marks_count receive q k marks) h.3 in omega (arith, a, b)
-item_none task place (port_item f number words) old (plain g n s c bytes padding) new h q = absurd h
-
-first_item : (q : ℕ) (x : Item) (xs : List Item) → items_count receive q (x ∷ xs) ≡ items_count receive q (x ∷ []) + items_count receive q xs
-first_item q (plain f n s d bytes padding) xs = omega arith
-first_item q (rights f kind marks) xs = omega arith
-
-items_none : (task : ℕ) (place : Place) (wires : List Wire) (old : State) (xs : List Item) (new : State) → CopyItems task place wires old xs new → (q : ℕ) → items_count receive q xs ≡ 0
-items_none task place [] old [] new h q = refl
-items_none task place (w ∷ ws) old (x ∷ xs) new h q =
-    let a = item_none task place w old x h.0 h.1 q in
-    let b = items_none task place ws h.0 xs new h.2 q in omega (arith, a, b, first_item q x xs)
-items_none task place [] old (x ∷ xs) new h q = absurd h
-items_none task place (w ∷ ws) old [] new h q = absurd h
-
-body_none : (task : ℕ) (place : Place) (written : WireBody) (old : State) (body : Body) (new : State) → CopyBody task place written old body new → (q : ℕ) → body_count receive q body ≡ 0
-body_none task place (WireBody.raw bytes) old (Body.raw others) new h q = refl
-body_none task place (WireBody.items ws) old (Body.items xs) new h q = items_none task place ws old xs new h q
-body_none task place (WireBody.raw bytes) old (Body.items xs) new h q = absurd h
-body_none task place (WireBody.items ws) old (Body.raw others) new h q = absurd h
+body_none : (task : ℕ) (place : Place) (written : WireBody) (old : State) (body : Body) (new : State) → CopyBody task place written old body new → (q : ℕ) → rights_count receive q (body_rights body) ≡ 0
+body_none task place written old body new h q = words_none task place (body_words written) old (body_rights body) new (SameBody-each IsSent written body h.0) h.1 q
 
 -- A message that is made of a text carries no receive right.
 pub copied_none : (task : ℕ) (header : Header) (written : WireBody) (old : State) (m : Message) (new : State) → NoneMoved header → Copied task header written old m new → (q : ℕ) →
@@ -160,15 +143,16 @@ pub copied_none : (task : ℕ) (header : Header) (written : WireBody) (old : Sta
 copied_none task header written old m new none c q =
     let a = ap (λ (k : Kind). mark_count receive q k (to_port m.destination)) c.kind in
     let a' = no_mark (kind_sent c.destination.given) (not_receive header.remote_kind c.destination.given none.remote c.destination.is_given) q (to_port m.destination) in
-    let b = reply_none task (place_of old m) header.local_kind header.local c.first m.reply c.second none.local c.reply q in
-    let d = body_none task (place_of old m) written c.second m.body new c.body q in omega (arith, a, a', b, d)
+    let b = reply_none task (place_at old m.destination) header.local_kind header.local c.first m.reply c.second none.local c.reply q in
+    let d = body_none task (place_at old m.destination) written c.second m.body new c.body q in
+    let e = rights_count-append receive q (reply_rights m.reply) (body_rights m.body) in omega (arith, a, a', b, d, e)
 
 pub carries_none : (now task : ℕ) (bytes : List ℕ) (old mid : State) → NoneHolds (header_guards bytes) → (s : Sends now task bytes old mid) → (q : ℕ) → message_count receive q s.m ≡ 0
 carries_none now task bytes old mid good s q = copied_none task s.header s.written old s.m s.copied_state (none_moved bytes s.header s.written good s.spells) s.copied q
 
 -- So it closes no loop.
 pub never_loops : (task : ℕ) (header : Header) (written : WireBody) (old : State) (m : Message) (new : State) → IsLawful old → NoneMoved header → Copied task header written old m new →
-    ¬ (ClosesLoop new m.destination (place_of old m))
+    ¬ (ClosesLoop new m.destination (place_at old m.destination))
 never_loops task header written old m new l none c loop =
     let end = length (old.log m.destination) in
     let a = (Copied-adds task header written old m new (moving old m.destination end l) c).lies receive loop.0 in

@@ -13,8 +13,7 @@ use Rattle.mach_model.specs.Death.{same_place}
 use Rattle.mach_model.specs.SentMeans.{target_mark}
 use Rattle.mach_model.specs.CopyIn.{IsLegal, taken_by, put_by, name_kept, changed_by, CopyRight}
 use Rattle.mach_model.specs.Carried.{mark_count, lying}
-use Rattle.mach_model.specs.NotYet.{NoRequests}
-use Rattle.mach_model.specs.Lawful.{is_once, HasReferences, LawfulNames, LawfulPorts, LawfulNumbers, LawfulReceivers, LawfulMembership}
+use Rattle.mach_model.specs.Lawful.{NoRequests, is_once, HasReferences, LawfulNames, LawfulPorts, LawfulNumbers, LawfulReceivers, LawfulMembership}
 use Rattle.mach_model.proofs.Weigh.{both_test, held_le_of}
 use Rattle.mach_model.proofs.At.{at_all}
 use Rattle.mach_model.proofs.Names.{some_tally}

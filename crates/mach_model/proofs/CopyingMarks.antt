@@ -1,19 +1,19 @@
--- Copying out a whole message: the reply, and each mark of the body. What they carry is then no longer on its way.
+-- Copying out the rights of a message, one by one. What they carry is then no longer on its way.
 use Rattle.std.proofs.Common.{◌≡◌, ℕ, zero, suc, ◌+◌, ◌≤◌, List, [], ◌∷◌, refl, sym, ap, subst, ◌∙◌, arith, true, false, Bool, inl, inr, length}
 use Rattle.std.specs.Prelude.{if◌then◌else◌, ◌==◌, nat_lt}
 use Rattle.std.proofs.lemmas.Bool.{ne_eqb, ltb-true, ltb-false}
 use Rattle.mach_types.specs.Numbers.{most_references}
 use Rattle.mach_types.specs.Tokens.{Kind, receive, send, send_once, in_task, in_message, Token, token, is_held, same_kind, Moves}
-use Rattle.mach_types.specs.Messages.{Mark, to_port, null, dead, ReplyRight, absent, present, Item, plain, rights, Body}
-use Rattle.mach_types.specs.Grammar.{Wire, data_item, port_item, WireBody}
+use Rattle.mach_types.specs.Messages.{Mark, to_port, null, dead}
+use Rattle.mach_types.specs.Bodies.{Through}
 use Rattle.mach_model.specs.State.{State, Target, held, with_name}
-use Rattle.mach_model.specs.CopyOut.{given_to, Named, NamedOnce, NamedFor, GiveMark, GiveReply, GiveMarks, GiveItem, GiveItems, GiveBody}
-use Rattle.mach_model.specs.Carried.{mark_count, marks_count, reply_count, items_count, body_count, lying}
+use Rattle.mach_model.specs.CopyOut.{given_to, Named, NamedOnce, NamedFor, GiveMark, GiveWord}
+use Rattle.mach_model.specs.Carried.{mark_count, rights_count, lying}
 use Rattle.mach_model.proofs.Weigh.{both_test}
 use Rattle.mach_model.proofs.Names.{fresh_fits}
 use Rattle.mach_model.proofs.Spaces.{IsNew}
 use Rattle.mach_model.proofs.Moving.{IsMoving, shape-same, shape-trans}
-use Rattle.mach_model.proofs.CopyingWords.{either, first_item}
+use Rattle.mach_model.proofs.CopyingWords.{either}
 use Rattle.mach_model.proofs.CopyingOut.{Removes, come_held, come_same, come_port, come_once, gone_removes}
 
 removes_none : (s new : State) (o k : ℕ) (less : Kind → ℕ → ℕ) → IsMoving s o k → new ≡ s → ((c : Kind) (q : ℕ) → s.live_port q ≡ true → less c q ≡ 0) → Removes s new o k less
@@ -104,51 +104,12 @@ GiveMark-removes task o k kind (to_port p) old word new l is_task h =
 still_task : (task o k : ℕ) (s new : State) (less : Kind → ℕ → ℕ) → Removes s new o k less → s.live_task task ≡ true → new.live_task task ≡ true
 still_task task o k s new less r is = ap (λ (x : State). x.live_task task) r.rest ∙ is
 
-pub GiveReply-removes : (task o k : ℕ) (reply : ReplyRight) (old : State) (number word : ℕ) (new : State) → IsMoving old o k → old.live_task task ≡ true →
-    GiveReply task (in_message o k) reply old number word new → Removes old new o k (λ c q. reply_count c q reply)
-GiveReply-removes task o k absent old number word new l is_task h = removes_none old new o k _ l h.2 (λ c q live. refl)
-GiveReply-removes task o k (present kind mark) old number word new l is_task h = GiveMark-removes task o k kind mark old word new l is_task h.1
-
-GiveMarks-removes : (task o k : ℕ) (kind : Kind) (marks : List Mark) (old : State) (words : List ℕ) (new : State) → IsMoving old o k → old.live_task task ≡ true →
-    GiveMarks task (in_message o k) kind marks old words new → Removes old new o k (λ c q. marks_count c q kind marks)
-GiveMarks-removes task o k kind [] old [] new l is_task h = removes_none old new o k _ l h (λ c q live. refl)
-GiveMarks-removes task o k kind (m ∷ ms) old (w ∷ ws) new l is_task h =
-    let a = GiveMark-removes task o k kind m old w h.0 l is_task h.1 in
-    let b = GiveMarks-removes task o k kind ms h.0 ws new a.keeps (still_task task o k old h.0 _ a is_task) h.2 in
+pub words_remove : (task o k : ℕ) (ws : List (ℕ × ℕ)) (old : State) (rs : List (Kind × Mark)) (new : State) → IsMoving old o k → old.live_task task ≡ true →
+    Through (GiveWord task (in_message o k)) old ws rs new → Removes old new o k (λ c q. rights_count c q rs)
+words_remove task o k [] old [] new l is_task h = removes_none old new o k _ l h (λ c q live. refl)
+words_remove task o k (w ∷ ws) old (r ∷ rs) new l is_task h =
+    let a = GiveMark-removes task o k r.0 r.1 old w.1 h.0 l is_task h.1 in
+    let b = words_remove task o k ws h.0 rs new a.keeps (still_task task o k old h.0 _ a is_task) h.2 in
     removes_both old h.0 new o k _ _ _ a b (λ c q. refl)
-GiveMarks-removes task o k kind [] old (w ∷ ws) new l is_task h = absurd h
-GiveMarks-removes task o k kind (m ∷ ms) old [] new l is_task h = absurd h
-
-GiveItem-removes : (task o k : ℕ) (item : Item) (old : State) (wire : Wire) (new : State) → IsMoving old o k → old.live_task task ≡ true →
-    GiveItem task (in_message o k) item old wire new → Removes old new o k (λ c q. items_count c q (item ∷ []))
-GiveItem-removes task o k (plain f n s c bytes padding) old wire new l is_task h = removes_none old new o k _ l h.1 (λ c q live. refl)
-GiveItem-removes task o k (rights f kind marks) old (port_item g number words) new l is_task h =
-    let a = GiveMarks-removes task o k kind marks old words new l is_task h.2 in
-    record { keeps = a.keeps; rest = a.rest; few = a.few; lies = λ c q live. let m = a.lies c q live in omega (arith, m) }
-GiveItem-removes task o k (rights f kind marks) old (data_item g n s c bytes padding) new l is_task h = absurd h
-
-GiveItems-removes : (task o k : ℕ) (xs : List Item) (old : State) (wires : List Wire) (new : State) → IsMoving old o k → old.live_task task ≡ true →
-    GiveItems task (in_message o k) xs old wires new → Removes old new o k (λ c q. items_count c q xs)
-GiveItems-removes task o k [] old [] new l is_task h = removes_none old new o k _ l h (λ c q live. refl)
-GiveItems-removes task o k (x ∷ xs) old (w ∷ ws) new l is_task h =
-    let a = GiveItem-removes task o k x old w h.0 l is_task h.1 in
-    let b = GiveItems-removes task o k xs h.0 ws new a.keeps (still_task task o k old h.0 _ a is_task) h.2 in
-    removes_both old h.0 new o k _ _ _ a b (λ c q. first_item c q x xs)
-GiveItems-removes task o k [] old (w ∷ ws) new l is_task h = absurd h
-GiveItems-removes task o k (x ∷ xs) old [] new l is_task h = absurd h
-
-pub GiveBody-removes : (task o k : ℕ) (body : Body) (old : State) (written : WireBody) (new : State) → IsMoving old o k → old.live_task task ≡ true →
-    GiveBody task (in_message o k) body old written new → Removes old new o k (λ c q. body_count c q body)
-GiveBody-removes task o k (Body.raw bytes) old (WireBody.raw others) new l is_task h = removes_none old new o k _ l h.1 (λ c q live. refl)
-GiveBody-removes task o k (Body.items xs) old (WireBody.items ws) new l is_task h = GiveItems-removes task o k xs old ws new l is_task h
-GiveBody-removes task o k (Body.raw bytes) old (WireBody.items ws) new l is_task h = absurd h
-GiveBody-removes task o k (Body.items xs) old (WireBody.raw others) new l is_task h = absurd h
-
--- what copying out the reply and then the body removes
-pub GiveBoth-removes : (task o k : ℕ) (reply : ReplyRight) (body : Body) (old second : State) (number word : ℕ) (written : WireBody) (new : State) → IsMoving old o k → old.live_task task ≡ true →
-    GiveReply task (in_message o k) reply old number word second → GiveBody task (in_message o k) body second written new →
-    Removes old new o k (λ c q. reply_count c q reply + body_count c q body)
-GiveBoth-removes task o k reply body old second number word written new l is_task r b =
-    let x = GiveReply-removes task o k reply old number word second l is_task r in
-    let y = GiveBody-removes task o k body second written new x.keeps (still_task task o k old second _ x is_task) b in
-    removes_both old second new o k _ _ _ x y (λ c q. refl)
+words_remove task o k [] old (r ∷ rs) new l is_task h = absurd h
+words_remove task o k (w ∷ ws) old [] new l is_task h = absurd h

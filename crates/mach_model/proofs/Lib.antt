@@ -1,4 +1,5 @@
 pub mod Weigh
+pub mod Walks
 pub mod At
 pub mod Names
 pub mod Spaces

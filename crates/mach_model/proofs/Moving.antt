@@ -12,8 +12,7 @@ use Rattle.mach_types.specs.Messages.{Entry}
 use Rattle.mach_model.specs.State.{State, Names, at, held, queue}
 use Rattle.mach_model.specs.Death.{same_place}
 use Rattle.mach_model.specs.Carried.{message_count, lying_among, lying}
-use Rattle.mach_model.specs.NotYet.{NoRequests}
-use Rattle.mach_model.specs.Lawful.{LawfulTasks, LawfulNames, LawfulPorts, LawfulNumbers, LawfulReceivers, LawfulSets, LawfulMembership, LawfulLogs, LawfulRequests, LawfulStanding, IsLawful}
+use Rattle.mach_model.specs.Lawful.{NoRequests, LawfulTasks, LawfulNames, LawfulPorts, LawfulNumbers, LawfulReceivers, LawfulSets, LawfulMembership, LawfulLogs, LawfulRequests, LawfulStanding, IsLawful}
 use Rattle.mach_model.proofs.At.{at_same, at_other, elsewhere}
 use Rattle.mach_model.proofs.Spaces.{tasks_named, all_named}
 use Rattle.mach_model.proofs.SetNames.{SameSets, SameSets-refl, kept_set_law}

@@ -7,9 +7,11 @@ use Rattle.std.proofs.lemmas.Bool.{cases_Bool}
 use Rattle.mach_types.specs.Numbers.{most_rights}
 use Rattle.mach_types.specs.Tokens.{Kind, receive, send, send_once, Place, in_message, in_request, Token, token, count, is_of, is_held, same_kind, Moves}
 use Rattle.mach_types.specs.Messages.{to_port, Entry}
+use Rattle.mach_types.specs.Bodies.{message_rights}
 use Rattle.mach_model.specs.State.{State, held, queue}
 use Rattle.mach_model.specs.Death.{same_place}
-use Rattle.mach_model.specs.Carried.{mark_count, reply_count, body_count, message_count, lying}
+use Rattle.mach_model.specs.Carried.{mark_count, rights_count, message_count, lying}
+use Rattle.mach_model.specs.ReceivedMeans.{received_words}
 use Rattle.mach_model.specs.Receive.{IsFront, with_taken, Receives}
 use Rattle.mach_model.specs.Lawful.{IsLawful}
 use Rattle.mach_model.proofs.Weigh.{length-weigh, both_test, lying_le_of}
@@ -18,7 +20,7 @@ use Rattle.mach_model.proofs.Spaces.{same_naming}
 use Rattle.mach_model.proofs.Moving.{IsMoving, shape, same_receivers, arrived}
 use Rattle.mach_model.proofs.CopyingIn.{at_entry}
 use Rattle.mach_model.proofs.CopyingOut.{Removes}
-use Rattle.mach_model.proofs.CopyingMarks.{GiveBoth-removes}
+use Rattle.mach_model.proofs.CopyingMarks.{words_remove}
 
 -- ---- the front entry is taken: its rights are on their way, but for its destination's
 
@@ -60,7 +62,7 @@ module _ (s : State) (p : ℕ) (e : Entry) (ledger : List Token) (l : IsLawful s
   lying_less kind q place = let m = tokens_for (λ x. is_of kind q x && same_place place x.place) in omega (arith, m)
 
   -- what is on its way is what the reply and the body carry
-  pub lies : (kind : Kind) (q : ℕ) → s.live_port q ≡ true → lying new kind q (in_message p k) ≡ reply_count kind q e.message.reply + body_count kind q e.message.body
+  pub lies : (kind : Kind) (q : ℕ) → s.live_port q ≡ true → lying new kind q (in_message p k) ≡ rights_count kind q (message_rights e.message)
   lies kind q live_q =
       let m = tokens_for (λ x. is_of kind q x && same_place (in_message p k) x.place) in
       let own = at_entry kind q p k e.message.kind p in
@@ -144,12 +146,12 @@ module _ (s : State) (p : ℕ) (e : Entry) (ledger : List Token) (l : IsLawful s
 
 -- what a receipt does from the state in which the entry was taken
 pub Receives-removes : (task port room : ℕ) (bytes : List ℕ) (old mid : State) → IsLawful old → old.live_port port ≡ true → old.live_task task ≡ true → (r : Receives task port room bytes old mid) →
-    Removes r.taken mid port (old.taken port) (λ c q. reply_count c q r.e.message.reply + body_count c q r.e.message.body)
+    Removes r.taken mid port (old.taken port) (λ c q. rights_count c q (message_rights r.e.message))
 Receives-removes task port room bytes old mid l live is_task r =
     let k = old.taken port in
     let moving = subst (λ (x : State). IsMoving x port k) (sym r.takes.rest) (taken_moving old port r.e r.taken.ledger l live r.takes.front r.takes.tokens) in
     let task_lives = ap (λ (x : State). x.live_task task) r.takes.rest ∙ is_task in
-    GiveBoth-removes task port k r.e.message.reply r.e.message.body r.taken r.second r.header.remote_kind r.header.remote r.written mid moving task_lives r.reply r.body
+    words_remove task port k (received_words r.header r.written) r.taken (message_rights r.e.message) mid moving task_lives r.rights
 
 pub Receives-lawful : (task port room : ℕ) (bytes : List ℕ) (old mid : State) → IsLawful old → old.live_port port ≡ true → old.live_task task ≡ true → Receives task port room bytes old mid → IsLawful mid
 Receives-lawful task port room bytes old mid l live is_task r =

@@ -7,8 +7,7 @@ use Rattle.mach_types.specs.Tokens.{Request, dead_name, Place, in_task, in_messa
 use Rattle.mach_model.specs.State.{State, Names, lookup, held, at, same_request}
 use Rattle.mach_model.specs.Carried.{lying}
 use Rattle.mach_model.specs.Names.{renamed_place, renamed_token, renamed_requests, Renames}
-use Rattle.mach_model.specs.NotYet.{NoRequests}
-use Rattle.mach_model.specs.Lawful.{IsLawful}
+use Rattle.mach_model.specs.Lawful.{NoRequests, IsLawful}
 use Rattle.mach_model.proofs.Weigh.{count_some}
 use Rattle.mach_model.proofs.Settling.{is_at, own_test, IsReordered-lawful}
 use Rattle.mach_model.proofs.Spaces.{has_task, renamed}

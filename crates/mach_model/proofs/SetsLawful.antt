@@ -8,8 +8,7 @@ use Rattle.mach_model.specs.State.{State, Target, Names, at, request_at, lookup,
 use Rattle.mach_model.specs.Names.{with_set}
 use Rattle.mach_model.specs.Sets.{without_set, JoinsSet}
 use Rattle.mach_model.specs.ReceiveRight.{NamesReceive}
-use Rattle.mach_model.specs.NotYet.{NoRequests}
-use Rattle.mach_model.specs.Lawful.{LawfulNames, LawfulReceivers, LawfulSets, LawfulMembership, IsLawful}
+use Rattle.mach_model.specs.Lawful.{NoRequests, LawfulNames, LawfulReceivers, LawfulSets, LawfulMembership, IsLawful}
 use Rattle.mach_model.proofs.Weigh.{held_le_of, pos_or_zero}
 use Rattle.mach_model.proofs.Settling.{alive}
 use Rattle.mach_model.proofs.At.{at_same, at_other, at_own, at_all}

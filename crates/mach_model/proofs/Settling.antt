@@ -7,7 +7,7 @@ use Rattle.std.proofs.lemmas.Bool.{eq-eqb, and_from, false_from_ne_true, true_fr
 use Rattle.mach_types.specs.Tokens.{Kind, receive, send, send_once, Request, no_senders, port_destroyed, dead_name, Place, in_task, in_message, in_request, Token, count, weigh, Moves, is_of, is_held, same_kind}
 use Rattle.mach_types.specs.Messages.{Entry}
 use Rattle.mach_model.specs.State.{State, Target, lookup, held, same_request}
-use Rattle.mach_model.specs.Death.{same_place, Dies, orphan, carried_at, IsClosed, IsOrphan, IsSent}
+use Rattle.mach_model.specs.Death.{same_place, CarriedAt, IsSaved, Dies, orphan, carried_at, IsOrphan, IsSent}
 use Rattle.mach_model.specs.Notices.{Notice, Owed, Posted, all_posted_tokens}
 use Rattle.mach_model.specs.Settles.{PlaceStays, StaysWith, PaysFor, GoesFrom, settled_target, tokens_of, due_notices, Settles}
 use Rattle.mach_model.specs.Carried.{lying}
@@ -19,6 +19,11 @@ use Rattle.mach_model.proofs.Spaces.{same_naming}
 use Rattle.mach_model.proofs.Moving.{same_receivers}
 
 -- ---- who dies
+
+-- Dies is contained in each set that is closed in this way.
+pub record IsClosed (mid : State) (S : ℕ → Type 0) : Type 0 where
+  pub orphans : (p : ℕ) → IsOrphan mid p → ¬ (IsSaved mid p) → S p
+  pub carried : (p q : ℕ) → S q → CarriedAt mid p q → ¬ (IsSaved mid p) → S p
 
 pub Dies-least : (mid : State) (S : ℕ → Type 0) → IsClosed mid S → (p : ℕ) → Dies mid p → S p
 Dies-least mid S closed r (orphan p is not_saved) = closed.orphans p is not_saved
@@ -113,32 +118,34 @@ kept_set false o f = f refl
 -- From a lawful state after a step's own part that owes nothing, the step may end as it is.
 pub quiet_settles : (now : ℕ) (old mid : State) → IsLawful mid → Settles now old mid [] mid
 quiet_settles now old mid l = record {
-  dies = λ p d. absurd (no_death mid l p d);
-  only = λ p a b. absurd (cc);
-  gone_before = λ p h. h;
-  staying = mid.ledger;
-  paying = [];
-  going = [];
-  parts = λ h. omega arith;
-  stay = stays_with mid l;
-  pay = λ k d below. absurd (omega arith);
-  go = λ k d below. absurd (omega arith);
-  posted = [];
-  due = refl;
-  ledger = λ h. omega arith;
-  logs = λ p. ([], sym (append-nil _), refl);
-  stand = λ k d below. absurd (omega arith);
-  cover = λ p k above below. absurd (omega arith);
-  naming = λ task name. same_target mid mid task name (lookup mid task name) (named_lives mid l task name) (once_lives mid l task name);
-  ended = λ r stands ends. absurd (let e = l.none_stands r in cc);
-  ends_only = λ r stands gone. absurd (cc);
-  unmade = λ r h. h;
-  is_sent = λ p. false;
-  sent = λ p is. absurd (never_sent mid l p is);
-  sent_only = λ p e. absurd (cc);
-  sets_of = λ p. kept_set (mid.live_port p) (mid.sets_of p) (l.no_sets p);
-  make_send = λ p. refl;
-  sequence = λ p. refl;
+  deaths = record { dies = λ p d. absurd (no_death mid l p d); only = λ p a b. absurd (cc); gone_before = λ p h. h };
+  rights = record {
+    staying = mid.ledger;
+    paying = [];
+    going = [];
+    parts = λ h. omega arith;
+    stay = stays_with mid l;
+    pay = λ k d below. absurd (omega arith);
+    go = λ k d below. absurd (omega arith);
+  };
+  notices = record {
+    posted = [];
+    due = refl;
+    ledger = λ h. omega arith;
+    logs = λ p. ([], sym (append-nil _), refl);
+    stand = λ k d below. absurd (omega arith);
+    cover = λ p k above below. absurd (omega arith);
+  };
+  names = λ task name. same_target mid mid task name (lookup mid task name) (named_lives mid l task name) (once_lives mid l task name);
+  requests = record { ended = λ r stands ends. absurd (let e = l.none_stands r in cc); only = λ r stands gone. absurd (cc); unmade = λ r h. h };
+  ports = record {
+    is_sent = λ p. false;
+    sent = λ p is. absurd (never_sent mid l p is);
+    sent_only = λ p e. absurd (cc);
+    sets_of = λ p. kept_set (mid.live_port p) (mid.sets_of p) (l.no_sets p);
+    make_send = λ p. refl;
+    sequence = λ p. refl;
+  };
   rest = refl;
 }
 
@@ -167,8 +174,8 @@ empty_mapped f (x ∷ xs) e = absurd (cc)
 module _ (now : ℕ) (old mid new : State) (l : IsLawful mid) (s : Settles now old mid [] new) where
   live : (p : ℕ) → new.live_port p ≡ mid.live_port p
   live p = elim (cases_Bool (mid.live_port p)) [
-    | inl e ↦ true_from_ne_false (new.live_port p) (λ f. no_death mid l p (s.only p e f)) ∙ sym e
-    | inr e ↦ s.gone_before p e ∙ sym e
+    | inl e ↦ true_from_ne_false (new.live_port p) (λ f. no_death mid l p (s.deaths.only p e f)) ∙ sym e
+    | inr e ↦ s.deaths.gone_before p e ∙ sym e
   ]
 
   stays_new : (kind : Kind) (q : ℕ) (place : Place) → 0 < lying mid kind q place → PlaceStays new place
@@ -202,39 +209,39 @@ module _ (now : ℕ) (old mid new : State) (l : IsLawful mid) (s : Settles now o
           let f = live x.port in cc
       left (inr h) = h.1 (stays_new x.kind x.port x.place some)
 
-  none_paying : s.paying ≡ []
-  none_paying = none_pays s.paying s.pay (λ test. let e = s.parts (λ x. if test x then 1 else 0) in omega (arith, e))
+  none_paying : s.rights.paying ≡ []
+  none_paying = none_pays s.rights.paying s.rights.pay (λ test. let e = s.rights.parts (λ x. if test x then 1 else 0) in omega (arith, e))
 
-  none_going : s.going ≡ []
-  none_going = none_goes s.going s.go (λ test. let e = s.parts (λ x. if test x then 1 else 0) in omega (arith, e))
+  none_going : s.rights.going ≡ []
+  none_going = none_goes s.rights.going s.rights.go (λ test. let e = s.rights.parts (λ x. if test x then 1 else 0) in omega (arith, e))
 
-  none_posted : s.posted ≡ []
-  none_posted = empty_mapped (λ (x : Posted). (x.port, x.notice)) s.posted (s.due ∙ ap (λ (xs : List (Token × Notice)). due_notices (xs ++ [])) none_paying)
+  none_posted : s.notices.posted ≡ []
+  none_posted = empty_mapped (λ (x : Posted). (x.port, x.notice)) s.notices.posted (s.notices.due ∙ ap (λ (xs : List (Token × Notice)). due_notices (xs ++ [])) none_paying)
 
   same_log : (p : ℕ) → new.log p ≡ mid.log p
   same_log p =
-      let h = s.logs p in
+      let h = s.notices.logs p in
       let e : h.0 ≡ [] = empty_list h.0 (h.2 ∙ ap (λ (xs : List Posted). length (filter (λ (x : Posted). x.port == p) xs)) none_posted) in
       h.1 ∙ ap (λ (xs : List Entry). mid.log p ++ xs) e ∙ append-nil (mid.log p)
 
   same_name : (task name : ℕ) → lookup new task name ≡ lookup mid task name
-  same_name task name = s.naming task name ∙ sym (same_target mid new task name (lookup mid task name)
+  same_name task name = s.names task name ∙ sym (same_target mid new task name (lookup mid task name)
       (λ p e. live p ∙ named_lives mid l task name p e) (λ p e. live p ∙ once_lives mid l task name p e))
 
-  unsent : (p : ℕ) → s.is_sent p ≡ false
-  unsent p = false_from_ne_true (s.is_sent p) (λ e. never_sent mid l p (s.sent_only p e))
+  unsent : (p : ℕ) → s.ports.is_sent p ≡ false
+  unsent p = false_from_ne_true (s.ports.is_sent p) (λ e. never_sent mid l p (s.ports.sent_only p e))
 
   same_set : (p : ℕ) → new.sets_of p ≡ mid.sets_of p
-  same_set p = s.sets_of p ∙ rw (unsent p, live p) (sym (kept_set (mid.live_port p) (mid.sets_of p) (l.no_sets p)))
+  same_set p = s.ports.sets_of p ∙ rw (unsent p, live p) (sym (kept_set (mid.live_port p) (mid.sets_of p) (l.no_sets p)))
 
   same_make_send : (p : ℕ) → new.make_send p ≡ mid.make_send p
-  same_make_send p = s.make_send p ∙ rw (unsent p)
+  same_make_send p = s.ports.make_send p ∙ rw (unsent p)
 
   same_sequence : (p : ℕ) → new.sequence p ≡ mid.sequence p
-  same_sequence p = s.sequence p ∙ rw (unsent p)
+  same_sequence p = s.ports.sequence p ∙ rw (unsent p)
 
   same_stands : (r : Request) → new.stands r ≡ mid.stands r
-  same_stands r = s.unmade r (l.none_stands r) ∙ sym (l.none_stands r)
+  same_stands r = s.requests.unmade r (l.none_stands r) ∙ sym (l.none_stands r)
 
   -- From a lawful state after a step's own part that owes nothing, the step ends with that state.
   pub settles_quietly : IsReordered mid new
@@ -250,11 +257,11 @@ module _ (now : ℕ) (old mid new : State) (l : IsLawful mid) (s : Settles now o
       sequence = fun_ext same_sequence i;
     });
     tokens = λ h.
-        let a = s.ledger h in
-        let b = s.parts h in
-        let c : weigh h (tokens_of s.paying) ≡ 0 = ap (λ (xs : List (Token × Notice)). weigh h (tokens_of xs)) none_paying in
-        let d : weigh h s.going ≡ 0 = ap (weigh h) none_going in
-        let e : weigh h (all_posted_tokens s.posted) ≡ 0 = ap (λ (xs : List Posted). weigh h (all_posted_tokens xs)) none_posted in
+        let a = s.notices.ledger h in
+        let b = s.rights.parts h in
+        let c : weigh h (tokens_of s.rights.paying) ≡ 0 = ap (λ (xs : List (Token × Notice)). weigh h (tokens_of xs)) none_paying in
+        let d : weigh h s.rights.going ≡ 0 = ap (weigh h) none_going in
+        let e : weigh h (all_posted_tokens s.notices.posted) ≡ 0 = ap (λ (xs : List Posted). weigh h (all_posted_tokens xs)) none_posted in
         omega (arith, a, b, c, d, e);
   }
 

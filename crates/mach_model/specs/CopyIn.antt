@@ -1,13 +1,14 @@
--- Copying in: what a right word takes from the sender and puts into the message.
+-- Copying in: what a right word takes from the sender and puts into the message (IPC Interface, `mach_msg` with MACH_SEND_MSG).
 use Rattle.std.specs.Prelude.{◌≡◌, ℕ, ◌+◌, ◌-◌, ◌%◌, ◌^◌, Bool, List, [], ◌∷◌, Some, if◌then◌else◌, ◌==◌, ◌||◌, nat_lt, MatchBool}
 use Rattle.mach_types.specs.declared.rights.Disposition.{Disposition}
 use Rattle.mach_types.specs.declared.rights.Disposition.TheVariants.{MoveReceive, MoveSend, MoveSendOnce, CopySend, MakeSend, MakeSendOnce}
 use Rattle.mach_types.specs.Numbers.{disposition, kind_sent, null_word, dead_word}
-use Rattle.mach_types.specs.Tokens.{receive, send, send_once, Place, in_task, Token, token, Moves}
-use Rattle.mach_types.specs.Messages.{Mark, null, dead, ReplyRight, absent, present, Item, plain, rights, Body}
+use Rattle.mach_types.specs.Tokens.{Kind, receive, send, send_once, Place, in_task, Token, token, Moves}
+use Rattle.mach_types.specs.Messages.{Mark, null, dead, ReplyRight, absent, present, Body}
 use Rattle.mach_model.specs.State.{State, Target, lookup, held, Holds, at, without_name, with_name}
-use Rattle.mach_types.specs.Grammar.{Wire, data_item, port_item, WireBody}
-use Rattle.mach_model.specs.SentMeans.{target_mark}
+use Rattle.mach_types.specs.Grammar.{WireBody}
+use Rattle.mach_types.specs.Bodies.{body_words, body_rights, SameBody, Through}
+use Rattle.mach_model.specs.SentMeans.{IsSent, target_mark}
 use Rattle.mach_model.specs.NotYet.{IsNotYetCarried}
 
 -- The task holds what the disposition needs. A dead name may be sent on, but no right made from it.
@@ -78,31 +79,11 @@ CopyWord task place number word old mark new =
 
 abbrev pub CopyReply : (task : ℕ) → Place → (number word : ℕ) → State → ReplyRight → State → Type 0
 CopyReply task place number word old absent new = (number ≡ 0) × (word ≡ null_word) × (new ≡ old)
-CopyReply task place number word old (present kind mark) new =
-    (given : Disposition) × (disposition number ≡ Some given) × (kind ≡ kind_sent given) × CopyWord task place number word old mark new
+CopyReply task place number word old (present kind mark) new = IsSent number kind × CopyWord task place number word old mark new
 
--- the words of a body under one descriptor, from the first
-abbrev pub CopyWords : (task : ℕ) → Place → (number : ℕ) → List ℕ → State → List Mark → State → Type 0
-CopyWords task place number [] old [] new = new ≡ old
-CopyWords task place number (w ∷ ws) old (m ∷ ms) new =
-    (mid : State) × CopyWord task place number w old m mid × CopyWords task place number ws mid ms new × ¬ (IsNotYetCarried number w)
-CopyWords task place number [] old (m ∷ ms) new = ⊥
-CopyWords task place number (w ∷ ws) old [] new = ⊥
-
-abbrev pub CopyItem : (task : ℕ) → Place → Wire → State → Item → State → Type 0
-CopyItem task place (data_item f n s c bytes padding) old item new = (item ≡ plain f n s c bytes padding) × (new ≡ old)
-CopyItem task place (port_item f number words) old (rights g kind marks) new =
-    (given : Disposition) × (disposition number ≡ Some given) × (g ≡ f) × (kind ≡ kind_sent given) × CopyWords task place number words old marks new
-CopyItem task place (port_item f number words) old (plain g n s c bytes padding) new = ⊥
-
-abbrev pub CopyItems : (task : ℕ) → Place → List Wire → State → List Item → State → Type 0
-CopyItems task place [] old [] new = new ≡ old
-CopyItems task place (w ∷ ws) old (x ∷ xs) new = (mid : State) × CopyItem task place w old x mid × CopyItems task place ws mid xs new
-CopyItems task place [] old (x ∷ xs) new = ⊥
-CopyItems task place (w ∷ ws) old [] new = ⊥
+-- a word of the body, and the right that it becomes
+abbrev pub CopyCarried : (task : ℕ) → Place → State → ℕ × ℕ → Kind × Mark → State → Type 0
+CopyCarried task place old w r new = CopyWord task place w.0 w.1 old r.1 new × ¬ (IsNotYetCarried w.0 w.1)
 
 abbrev pub CopyBody : (task : ℕ) → Place → WireBody → State → Body → State → Type 0
-CopyBody task place (WireBody.raw bytes) old (Body.raw others) new = (others ≡ bytes) × (new ≡ old)
-CopyBody task place (WireBody.items ws) old (Body.items xs) new = CopyItems task place ws old xs new
-CopyBody task place (WireBody.raw bytes) old (Body.items xs) new = ⊥
-CopyBody task place (WireBody.items ws) old (Body.raw others) new = ⊥
+CopyBody task place written old body new = SameBody IsSent written body × Through (CopyCarried task place) old (body_words written) (body_rights body) new

@@ -8,7 +8,16 @@ use Rattle.mach_types.specs.Messages.{Entry}
 use Rattle.mach_model.specs.State.{State, Target, Names, held}
 use Rattle.mach_model.specs.Death.{same_place}
 use Rattle.mach_model.specs.Carried.{message_count, lying_among}
-use Rattle.mach_model.specs.NotYet.{NoRequests, NoneCarried}
+
+-- ---- as long as the rules of NotYet stand
+
+-- No receive right lies in a message.
+abbrev pub NoneCarried : (ledger : List Token) → Type 0
+NoneCarried ledger = (p k q : ℕ) → lying_among ledger receive q (in_message p k) ≡ 0
+
+-- Nothing can be requested.
+abbrev pub NoRequests : (stands : Request → Bool) → Type 0
+NoRequests stands = (r : Request) → stands r ≡ false
 
 -- ---- tasks and their names
 

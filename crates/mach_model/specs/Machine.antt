@@ -1,5 +1,5 @@
--- The machine: what each event may be answered, and the states before and after; runs.
-use Rattle.std.specs.Prelude.{◌≡◌, ℕ, ◌+◌, ◌^◌, ◌<◌, ◌⊎◌, List, [], ◌∷◌, map}
+-- The machine: what each event may be answered, and the states before and after; runs (this project's own).
+use Rattle.std.specs.Prelude.{◌≡◌, ℕ, ◌+◌, ◌^◌, ◌<◌, ◌⊎◌, List, [], ◌∷◌}
 use Rattle.mach_types.specs.declared.calls.Event.{Event}
 use Rattle.mach_types.specs.declared.calls.Reply.{Reply}
 use Rattle.mach_types.specs.declared.calls.Waited.{Waited}
@@ -74,12 +74,3 @@ RunFrom now old (e ∷ es) [] new = ⊥
 -- These replies to these events lead from nothing to this state.
 abbrev pub Run : List Event → List Reply → State → Type 0
 Run events replies new = RunFrom 0 opening events replies new
-
--- A call as it was recorded.
-pub record Entered : Type 0 where
-  pub caller : ℕ
-  pub event : Event
-  pub reply : Reply
-
-abbrev pub IsLegal : List Entered → Type 0
-IsLegal history = (new : State) × Run (map (λ x. x.event) history) (map (λ x. x.reply) history) new

@@ -1,12 +1,10 @@
--- What the kernel doesn't do yet. Each rule here refuses more, or keeps more, than the machine will in the end; it goes when
+-- What the kernel doesn't do yet (this project's own). Each rule here refuses more, or keeps more, than the machine will in the end; it goes when
 -- the work that it waits for is there.
-use Rattle.std.specs.Prelude.{◌≡◌, ◌≢◌, ◌⊎◌, ℕ, ℤ, negsuc, Bool, false, List, Some}
+use Rattle.std.specs.Prelude.{◌≡◌, ◌≢◌, ◌⊎◌, ℕ, ℤ, negsuc, Bool, Some}
 use Rattle.mach_types.specs.declared.rights.Disposition.TheVariants.{MoveReceive}
 use Rattle.mach_types.specs.Numbers.{disposition_number, null_word, dead_word}
-use Rattle.mach_types.specs.Tokens.{receive, in_message, Request, Token}
 use Rattle.mach_model.specs.State.{State, Target, lookup}
 use Rattle.mach_model.specs.ReceiveRight.{NamesReceive}
-use Rattle.mach_model.specs.Carried.{lying_among}
 
 -- No receive right, and no send-once right, can be lost: a call that would lose one is refused where it would otherwise succeed.
 abbrev pub NamesOnce : State → (task name : ℕ) → Type 0
@@ -25,14 +23,6 @@ IsNotYetRemoving right delta = ((right ≡ 1) ⊎ (right ≡ 2)) × (delta ≡ n
 abbrev pub IsNotYetCarried : (number word : ℕ) → Type 0
 IsNotYetCarried number word = (number ≡ disposition_number MoveReceive) × (word ≢ null_word) × (word ≢ dead_word)
 
--- So no receive right lies in a message.
-abbrev pub NoneCarried : (ledger : List Token) → Type 0
-NoneCarried ledger = (p k q : ℕ) → lying_among ledger receive q (in_message p k) ≡ 0
-
 -- A message that is longer than the room stays, whether that was asked for or not: no right can be lost yet.
 abbrev pub LeavesLarge : (large : Bool) → (old mid : State) → Type 0
 LeavesLarge large old mid = mid ≡ old
-
--- Nothing can be requested.
-abbrev pub NoRequests : (stands : Request → Bool) → Type 0
-NoRequests stands = (r : Request) → stands r ≡ false

@@ -7,9 +7,10 @@ use Rattle.mach_types.specs.Numbers.{kind_number, most_bytes, msg_number}
 use Rattle.mach_types.specs.Tokens.{receive, in_message, token, Moves}
 use Rattle.mach_types.specs.Messages.{Entry}
 use Rattle.mach_types.specs.Grammar.{WireBody, Header, Spells}
+use Rattle.mach_types.specs.Bodies.{message_rights, SameReply, SameBody, Through}
 use Rattle.mach_model.specs.State.{State, Target, lookup, at, Holds, queue}
-use Rattle.mach_model.specs.CopyOut.{GiveReply, GiveBody, MessageLacks}
-use Rattle.mach_model.specs.ReceivedMeans.{message_length}
+use Rattle.mach_model.specs.CopyOut.{GiveWord, MessageLacks}
+use Rattle.mach_model.specs.ReceivedMeans.{message_length, IsReceived, received_words}
 use Rattle.mach_model.specs.Notices.{Owed}
 use Rattle.mach_model.specs.NotYet.{LeavesLarge}
 
@@ -51,9 +52,9 @@ pub record Receives (task port room : ℕ) (bytes : List ℕ) (old mid : State) 
   pub takes : Takes port e old taken
   pub header : Header
   pub written : WireBody
-  pub second : State
-  pub reply : GiveReply task (in_message port (old.taken port)) e.message.reply taken header.remote_kind header.remote second
-  pub body : GiveBody task (in_message port (old.taken port)) e.message.body second written mid
+  pub reply : SameReply IsReceived header.remote_kind header.remote e.message.reply
+  pub body : SameBody IsReceived written e.message.body
+  pub rights : Through (GiveWord task (in_message port (old.taken port))) taken (received_words header written) (message_rights e.message) mid
   pub kind : header.local_kind ≡ kind_number e.message.kind
   pub local : lookup mid task header.local ≡ Some (Target.port port)
   pub size : header.size ≡ length bytes

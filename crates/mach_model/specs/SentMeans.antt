@@ -1,13 +1,18 @@
 -- What the bytes of a sent message mean, read through the sender's names (IPC Interface, `mach_msg`).
-use Rattle.std.specs.Prelude.{◌≡◌, ℕ, List, [], ◌∷◌, Option, Some, None, if◌then◌else◌, ◌==◌}
+use Rattle.std.specs.Prelude.{◌≡◌, ℕ, List, Option, Some, None, if◌then◌else◌, ◌==◌}
 use Rattle.std.specs.FinMap as map
 use Rattle.mach_types.specs.declared.rights.Disposition.{Disposition}
 use Rattle.mach_types.specs.declared.rights.Disposition.TheVariants.{MoveSend, MoveSendOnce, CopySend}
 use Rattle.mach_types.specs.Numbers.{disposition, kind_sent, null_word, dead_word}
 use Rattle.mach_types.specs.Tokens.{Kind}
-use Rattle.mach_types.specs.Messages.{Mark, to_port, null, dead, ReplyRight, absent, present, Item, plain, rights, Body, Message}
+use Rattle.mach_types.specs.Messages.{Mark, to_port, null, dead, ReplyRight, absent, present, Message}
 use Rattle.mach_model.specs.State.{Target, Names}
-use Rattle.mach_types.specs.Grammar.{Wire, data_item, port_item, WireBody, Header, Spells}
+use Rattle.mach_types.specs.Grammar.{WireBody, Header, Spells}
+use Rattle.mach_types.specs.Bodies.{body_words, body_rights, SameBody, AllZip}
+
+-- a right of this kind is sent by the disposition of this number
+abbrev pub IsSent : (number : ℕ) → Kind → Type 0
+IsSent number kind = (given : Disposition) × (disposition number ≡ Some given) × (kind ≡ kind_sent given)
 
 -- what a name that stands for this means under a disposition
 abbrev pub target_mark : Disposition → Target → Option Mark
@@ -40,30 +45,6 @@ abbrev pub ReplyMeans : Names → (number word : ℕ) → ReplyRight → Type 0
 ReplyMeans names number word absent = (number ≡ 0) × (word ≡ null_word)
 ReplyMeans names number word (present kind mark) = WordMeans names number word kind mark
 
-abbrev pub WordsMean : Names → ℕ → List ℕ → Kind → List Mark → Type 0
-WordsMean names number [] kind [] = Unit {0}
-WordsMean names number (w ∷ ws) kind (m ∷ ms) = WordMeans names number w kind m × WordsMean names number ws kind ms
-WordsMean names number [] kind (m ∷ ms) = ⊥
-WordsMean names number (w ∷ ws) kind [] = ⊥
-
-abbrev pub ItemMeans : Names → Wire → Item → Type 0
-ItemMeans names (data_item f n s c bytes padding) item = item ≡ plain f n s c bytes padding
-ItemMeans names (port_item f number words) (rights g kind marks) =
-    (g ≡ f) × ((given : Disposition) × (disposition number ≡ Some given) × (kind ≡ kind_sent given)) × WordsMean names number words kind marks
-ItemMeans names (port_item f number words) (plain g n s c bytes padding) = ⊥
-
-abbrev pub ItemsMean : Names → List Wire → List Item → Type 0
-ItemsMean names [] [] = Unit {0}
-ItemsMean names (w ∷ ws) (x ∷ xs) = ItemMeans names w x × ItemsMean names ws xs
-ItemsMean names [] (x ∷ xs) = ⊥
-ItemsMean names (w ∷ ws) [] = ⊥
-
-abbrev pub BodyMeans : Names → WireBody → Body → Type 0
-BodyMeans names (WireBody.raw bytes) (Body.raw others) = others ≡ bytes
-BodyMeans names (WireBody.items ws) (Body.items xs) = ItemsMean names ws xs
-BodyMeans names (WireBody.raw bytes) (Body.items xs) = ⊥
-BodyMeans names (WireBody.items ws) (Body.raw others) = ⊥
-
 -- The bytes, read through the sender's names, mean this message.
 pub record SentMeans (names : Names) (bytes : List ℕ) (m : Message) : Type 0 where
   pub header : Header
@@ -72,4 +53,5 @@ pub record SentMeans (names : Names) (bytes : List ℕ) (m : Message) : Type 0 w
   pub destination : WordMeans names header.remote_kind header.remote m.kind (to_port m.destination)
   pub reply : ReplyMeans names header.local_kind header.local m.reply
   pub id : m.id ≡ header.id
-  pub body : BodyMeans names written m.body
+  pub body : SameBody IsSent written m.body
+  pub rights : AllZip (λ w r. WordMeans names w.0 w.1 r.0 r.1) (body_words written) (body_rights m.body)

@@ -5,7 +5,7 @@ use Rattle.mach_types.specs.Tokens.{send, send_once, Request, no_senders, port_d
 use Rattle.mach_types.specs.Messages.{Entry}
 use Rattle.mach_model.specs.State.{State, Target, lookup, held, senders}
 use Rattle.mach_model.specs.Death.{Dies, IsSent}
-use Rattle.mach_model.specs.Notices.{Notice, port_deleted, port_sent, no_more_senders, right_unused, name_died, notice_message, Posted, all_posted_tokens}
+use Rattle.mach_model.specs.Notices.{Notice, port_deleted, port_sent, no_more_senders, right_unused, name_died, Owed, notice_message, Posted, all_posted_tokens}
 
 -- ---- what becomes of each right, from the state after the step's own part to the one after the step
 
@@ -64,49 +64,65 @@ Ends old mid new (dead_name task name) = BecameDead mid new (lookup mid task nam
 
 -- ---- the end of a step
 
-abbrev pub due_notices : List (Token × Notice) → List (ℕ × Notice)
+abbrev pub due_notices : Owed → List (ℕ × Notice)
 due_notices xs = map (λ x. (x.0.port, x.1)) xs
 
-abbrev pub tokens_of : List (Token × Notice) → List Token
+abbrev pub tokens_of : Owed → List Token
 tokens_of xs = map (λ x. x.0) xs
 
--- From the state before the step, the state after its own part, and the unused rights that this part owes a notice,
--- the step goes on to the new state.
-pub record Settles (now : ℕ) (old mid : State) (owed : List (Token × Notice)) (new : State) : Type 0 where
-  -- exactly the least set dies
+-- The ports of the least set die, and no other; none lives again.
+pub record DeathsSettle (mid new : State) : Type 0 where
   pub dies : (p : ℕ) → Dies mid p → new.live_port p ≡ false
   pub only : (p : ℕ) → mid.live_port p ≡ true → new.live_port p ≡ false → Dies mid p
   pub gone_before : (p : ℕ) → mid.live_port p ≡ false → new.live_port p ≡ false
-  -- each right stays, pays for a notice or goes
+
+-- Each right stays, pays for a notice or goes.
+pub record RightsSettle (mid new : State) : Type 0 where
   pub staying : List Token
-  pub paying : List (Token × Notice)
+  pub paying : Owed
   pub going : List Token
   pub parts : (h : Token → ℕ) → weigh h mid.ledger ≡ weigh h staying + weigh h (tokens_of paying) + weigh h going
   pub stay : All (StaysWith new) staying
   pub pay : All (λ x. PaysFor mid new x.0 x.1) paying
   pub go : All (GoesFrom new) going
-  -- the notices are those paid for here, and those owed to a port that lives
+
+-- The notices are those paid for here, and those owed to a port that lives; they are appended, each once, in any order.
+pub record NoticesSettle (now : ℕ) (mid : State) (owed : Owed) (new : State) (staying : List Token) (paying : Owed) : Type 0 where
   pub posted : List Posted
   pub due : map (λ x. (x.port, x.notice)) posted ≡ due_notices (paying ++ filter (λ x. new.live_port x.0.port) owed)
   pub ledger : (h : Token → ℕ) → weigh h new.ledger ≡ weigh h staying + weigh h (all_posted_tokens posted)
-  -- they are appended, each once, in any order
   pub logs : (p : ℕ) → (added : List Entry) × (new.log p ≡ mid.log p ++ added) × (length added ≡ length (filter (λ (x : Posted). x.port == p) posted))
   pub stand : All (λ (x : Posted). (length (mid.log x.port) ≤ x.entry) × (slice_get (new.log x.port) x.entry ≡ Some record { origin = now; message = notice_message x.port x.notice })) posted
   pub cover : (p k : ℕ) → length (mid.log p) ≤ k → k < length (new.log p) → Any (λ (x : Posted). (x.port ≡ p) × (x.entry ≡ k)) posted
-  -- names
-  pub naming : (task name : ℕ) → lookup new task name ≡ option_map (settled_target mid new task name) (lookup mid task name)
-  -- requests
+
+-- A name stands for what it stood for, or is dead.
+abbrev pub NamesSettle : (mid new : State) → Type 0
+NamesSettle mid new = (task name : ℕ) → lookup new task name ≡ option_map (settled_target mid new task name) (lookup mid task name)
+
+-- Exactly the requests end whose time has come, and none is made.
+pub record RequestsSettle (old mid new : State) : Type 0 where
   pub ended : (r : Request) → mid.stands r ≡ true → Ends old mid new r → new.stands r ≡ false
-  pub ends_only : (r : Request) → mid.stands r ≡ true → new.stands r ≡ false → Ends old mid new r
+  pub only : (r : Request) → mid.stands r ≡ true → new.stands r ≡ false → Ends old mid new r
   pub unmade : (r : Request) → mid.stands r ≡ false → new.stands r ≡ false
-  -- a port that is sent away leaves its sets, and its counts are 0; a dead one leaves its sets too
+
+-- A port that is sent away leaves its sets, and its counts are 0; a dead one leaves its sets too.
+pub record PortsSettle (mid new : State) : Type 0 where
   pub is_sent : ℕ → Bool
   pub sent : (p : ℕ) → IsSent mid p → is_sent p ≡ true
   pub sent_only : (p : ℕ) → is_sent p ≡ true → IsSent mid p
   pub sets_of : (p : ℕ) → new.sets_of p ≡ (if is_sent p then [] else if new.live_port p then mid.sets_of p else [])
   pub make_send : (p : ℕ) → new.make_send p ≡ (if is_sent p then 0 else mid.make_send p)
   pub sequence : (p : ℕ) → new.sequence p ≡ (if is_sent p then 0 else mid.sequence p)
-  -- all else stays
+
+-- From the state before the step, the state after its own part, and the unused rights that this part owes a notice, the step goes on to
+-- the new state; all else stays.
+pub record Settles (now : ℕ) (old mid : State) (owed : Owed) (new : State) : Type 0 where
+  pub deaths : DeathsSettle mid new
+  pub rights : RightsSettle mid new
+  pub notices : NoticesSettle now mid owed new rights.staying rights.paying
+  pub names : NamesSettle mid new
+  pub requests : RequestsSettle old mid new
+  pub ports : PortsSettle mid new
   pub rest : new ≡ record mid {
     live_port = new.live_port;
     naming = new.naming;

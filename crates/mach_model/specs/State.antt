@@ -1,5 +1,5 @@
--- The machine's state, and how parts of it are read and changed.
-use Rattle.std.specs.Prelude.{◌≡◌, ℕ, ◌<◌, Bool, true, false, List, [], Option, None, length, drop, if◌then◌else◌, ◌==◌, ◌&&◌}
+-- The machine's state, and how parts of it are read and changed (this project's own).
+use Rattle.std.specs.Prelude.{◌≡◌, ℕ, ◌<◌, Bool, true, false, List, [], Option, None, drop, if◌then◌else◌, ◌==◌, ◌&&◌}
 use Rattle.std.specs.FinMap as map
 use Rattle.std.specs.Ordering.{nat_cmp}
 use Rattle.mach_types.specs.Tokens.{Kind, send, Request, no_senders, port_destroyed, dead_name, Token, count, is_of, is_held}
@@ -76,9 +76,6 @@ Holds s task kind p = 0 < held s task kind p
 
 abbrev pub senders : State → ℕ → ℕ
 senders s p = count (is_of send p) s.ledger
-
-abbrev pub rights_made : State → ℕ
-rights_made s = length s.ledger
 
 -- a fresh name: the least unused number from 1
 pub record IsFresh (names : Names) (name : ℕ) : Type 0 where

@@ -4,7 +4,7 @@ use Rattle.std.specs.Prelude.{◌≡◌, ◌≢◌, ℕ, ◌<◌, ◌⊎◌, Lis
 use Rattle.mach_types.specs.declared.rights.Disposition.{Disposition}
 use Rattle.mach_types.specs.declared.codes.KernReturn.TheVariants.{NoSpace, ResourceShortage, NameExists, UrefsOverflow, RightExists}
 use Rattle.mach_types.specs.Numbers.{disposition, kind_sent, kind_number, most_references, most_rights, kern_number}
-use Rattle.mach_types.specs.Tokens.{Kind, receive, send, send_once, Place, in_task, Token, token, Moves}
+use Rattle.mach_types.specs.Tokens.{Kind, send, send_once, Place, in_task, Token, token, Moves}
 use Rattle.mach_types.specs.Messages.{to_port}
 use Rattle.mach_types.specs.Guards.{Guards, FirstIs, NoneHolds}
 use Rattle.mach_model.specs.State.{State, Target, lookup, held, with_name}
@@ -14,8 +14,7 @@ use Rattle.mach_model.specs.CopyOut.{HasNoRoom, NeedsName, NamedFor}
 -- what a name of the right stands for
 abbrev pub target_for : Kind → (port : ℕ) → Target
 target_for send_once p = Target.once p
-target_for receive p = Target.port p
-target_for send p = Target.port p
+target_for kind p = Target.port p
 
 -- ---- into a task, under a name that the caller gives
 

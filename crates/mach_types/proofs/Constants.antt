@@ -2,7 +2,8 @@
 use Rattle.std.specs.Prelude.{◌≡◌, refl}
 use Rattle.mach_types.specs.declared.bits.TheConstants.{COMPLEX}
 use Rattle.mach_types.specs.declared.limits.TheConstants.{MOST_TASKS, MOST_NAMES, MOST_REFERENCES, MOST_RIGHTS, GREATEST_LIMIT, FIRST_LIMIT, MOST_BYTES}
-use Rattle.mach_types.specs.Numbers.{most_tasks, most_names, most_references, most_rights, greatest_limit, first_limit, most_bytes, complex_flag}
+use Rattle.mach_types.specs.Numbers.{most_tasks, most_names, most_references, most_rights, greatest_limit, first_limit, most_bytes}
+use Rattle.mach_types.specs.Bits.{complex_flag}
 
 tasks : MOST_TASKS ≡ most_tasks
 tasks = refl

@@ -1,4 +1,4 @@
--- Whole texts of messages: six words, then raw bytes or a list of items.
+-- Whole texts of messages (IPC Interface, `mach_msg_header_t`, `mach_msg_type_t`): six words, then raw bytes or a list of items.
 use Rattle.std.specs.Prelude.{◌≡◌, ℕ, ◌+◌, ◌*◌, ◌/◌, ◌%◌, ◌^◌, ◌<◌, ◌≤◌, List, [], ◌∷◌, ◌++◌, length, All}
 use Rattle.mach_types.specs.Messages.{Form, short, long}
 

@@ -1,4 +1,4 @@
--- Refusals: guards in order, of which the first that holds gives the code.
+-- Refusals: guards in order, of which the first that holds gives the code (this project's own).
 use Rattle.std.specs.Prelude.{◌≡◌, ℕ, ◌⊎◌, List, [], ◌∷◌}
 
 -- A guard and its code.

@@ -1,6 +1,9 @@
 pub mod Tokens
 pub mod Messages
 pub mod Numbers
+pub mod Rights
+pub mod Bits
 pub mod Grammar
+pub mod Bodies
 pub mod Guards
 pub mod TextGuards

@@ -1,4 +1,4 @@
--- Messages as they lie in a queue: rights stand for ports, and no task's name stands in them.
+-- Messages as they lie in a queue: rights stand for ports, and no task's name stands in them (this project's own).
 use Rattle.std.specs.Prelude.{ℕ, Bool, List, map, if◌then◌else◌}
 use Rattle.mach_types.specs.Tokens.{Kind}
 

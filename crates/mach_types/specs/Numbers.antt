@@ -1,5 +1,5 @@
--- The numbers of the interface: rights, dispositions, kinds, options, codes and limits.
-use Rattle.std.specs.Prelude.{◌≡◌, ℕ, ◌+◌, ◌^◌, Bool, true, false, Option, Some, None, if◌then◌else◌, ◌==◌}
+-- The numbers of the interface, each with its name in C (Port Manipulation Interface and IPC Interface): rights, dispositions, kinds, codes; and limits.
+use Rattle.std.specs.Prelude.{ℕ, ◌+◌, ◌^◌, Option, Some, None, if◌then◌else◌, ◌==◌}
 use Rattle.mach_types.specs.declared.rights.Disposition.{Disposition}
 use Rattle.mach_types.specs.declared.rights.Disposition.TheVariants.{MoveReceive, MoveSend, MoveSendOnce, CopySend, MakeSend, MakeSendOnce}
 use Rattle.mach_types.specs.declared.rights.Right.{Right}
@@ -13,11 +13,11 @@ use Rattle.mach_types.specs.Tokens.{Kind, receive, send, send_once}
 -- ---- rights and dispositions
 
 abbrev pub right_number : Right → ℕ
-right_number Send = 0
-right_number Receive = 1
-right_number SendOnce = 2
-right_number PortSet = 3
-right_number DeadName = 4
+right_number Send = 0  -- MACH_PORT_RIGHT_SEND
+right_number Receive = 1  -- MACH_PORT_RIGHT_RECEIVE
+right_number SendOnce = 2  -- MACH_PORT_RIGHT_SEND_ONCE
+right_number PortSet = 3  -- MACH_PORT_RIGHT_PORT_SET
+right_number DeadName = 4  -- MACH_PORT_RIGHT_DEAD_NAME
 
 -- the bit of a right in the type of a name
 abbrev pub right_bit : Right → ℕ
@@ -28,12 +28,12 @@ abbrev pub request_bit : ℕ
 request_bit = 0x80000000
 
 abbrev pub disposition_number : Disposition → ℕ
-disposition_number MoveReceive = 16
-disposition_number MoveSend = 17
-disposition_number MoveSendOnce = 18
-disposition_number CopySend = 19
-disposition_number MakeSend = 20
-disposition_number MakeSendOnce = 21
+disposition_number MoveReceive = 16  -- MACH_MSG_TYPE_MOVE_RECEIVE
+disposition_number MoveSend = 17  -- MACH_MSG_TYPE_MOVE_SEND
+disposition_number MoveSendOnce = 18  -- MACH_MSG_TYPE_MOVE_SEND_ONCE
+disposition_number CopySend = 19  -- MACH_MSG_TYPE_COPY_SEND
+disposition_number MakeSend = 20  -- MACH_MSG_TYPE_MAKE_SEND
+disposition_number MakeSendOnce = 21  -- MACH_MSG_TYPE_MAKE_SEND_ONCE
 
 abbrev pub disposition : ℕ → Option Disposition
 disposition n =
@@ -53,33 +53,11 @@ kind_sent CopySend = send
 kind_sent MakeSend = send
 kind_sent MakeSendOnce = send_once
 
-abbrev pub right_of : Kind → Right
-right_of receive = Receive
-right_of send = Send
-right_of send_once = SendOnce
-
--- the right is one of this kind
-abbrev pub IsOfKind : Kind → Right → Type 0
-IsOfKind kind Receive = kind ≡ receive
-IsOfKind kind Send = kind ≡ send
-IsOfKind kind SendOnce = kind ≡ send_once
-IsOfKind kind PortSet = ⊥
-IsOfKind kind DeadName = ⊥
-
--- whether the right that is sent is made from one that stays
-abbrev pub makes_right : Disposition → Bool
-makes_right MoveReceive = false
-makes_right MoveSend = false
-makes_right MoveSendOnce = false
-makes_right CopySend = true
-makes_right MakeSend = true
-makes_right MakeSendOnce = true
-
 -- the number that stands for a kind in a received message
 abbrev pub kind_number : Kind → ℕ
-kind_number receive = 16
-kind_number send = 17
-kind_number send_once = 18
+kind_number receive = 16  -- MACH_MSG_TYPE_PORT_RECEIVE
+kind_number send = 17  -- MACH_MSG_TYPE_PORT_SEND
+kind_number send_once = 18  -- MACH_MSG_TYPE_PORT_SEND_ONCE
 
 -- ---- names
 
@@ -124,58 +102,37 @@ most_bytes = 65536
 -- ---- codes
 
 abbrev pub kern_number : KernReturn → ℕ
-kern_number kern.Success = 0
-kern_number kern.NoSpace = 3
-kern_number kern.InvalidArgument = 4
-kern_number kern.ResourceShortage = 6
-kern_number kern.AlreadyInSet = 11
-kern_number kern.NotInSet = 12
-kern_number kern.NameExists = 13
-kern_number kern.InvalidName = 15
-kern_number kern.InvalidTask = 16
-kern_number kern.InvalidRight = 17
-kern_number kern.InvalidValue = 18
-kern_number kern.UrefsOverflow = 19
-kern_number kern.InvalidCapability = 20
-kern_number kern.RightExists = 21
+kern_number kern.Success = 0  -- KERN_SUCCESS
+kern_number kern.NoSpace = 3  -- KERN_NO_SPACE
+kern_number kern.InvalidArgument = 4  -- KERN_INVALID_ARGUMENT
+kern_number kern.ResourceShortage = 6  -- KERN_RESOURCE_SHORTAGE
+kern_number kern.AlreadyInSet = 11  -- KERN_ALREADY_IN_SET
+kern_number kern.NotInSet = 12  -- KERN_NOT_IN_SET
+kern_number kern.NameExists = 13  -- KERN_NAME_EXISTS
+kern_number kern.InvalidName = 15  -- KERN_INVALID_NAME
+kern_number kern.InvalidTask = 16  -- KERN_INVALID_TASK
+kern_number kern.InvalidRight = 17  -- KERN_INVALID_RIGHT
+kern_number kern.InvalidValue = 18  -- KERN_INVALID_VALUE
+kern_number kern.UrefsOverflow = 19  -- KERN_UREFS_OVERFLOW
+kern_number kern.InvalidCapability = 20  -- KERN_INVALID_CAPABILITY
+kern_number kern.RightExists = 21  -- KERN_RIGHT_EXISTS
 
 abbrev pub msg_number : MsgReturn → ℕ
-msg_number msg.Success = 0
-msg_number msg.SendInvalidData = 0x10000002
-msg_number msg.SendInvalidDest = 0x10000003
-msg_number msg.SendTimedOut = 0x10000004
-msg_number msg.SendMsgTooSmall = 0x10000008
-msg_number msg.SendInvalidReply = 0x10000009
-msg_number msg.SendInvalidRight = 0x1000000a
-msg_number msg.SendNoBuffer = 0x1000000d
-msg_number msg.SendInvalidType = 0x1000000f
-msg_number msg.SendInvalidHeader = 0x10000010
-msg_number msg.ReceiveInvalidName = 0x10004002
-msg_number msg.ReceiveTimedOut = 0x10004003
-msg_number msg.ReceiveTooLarge = 0x10004004
-msg_number msg.ReceivePortChanged = 0x10004006
-msg_number msg.ReceivePortDied = 0x10004009
-msg_number msg.ReceiveInSet = 0x1000400a
-msg_number msg.ReceiveBodyErrorMemory = 0x1000480c
-msg_number msg.ReceiveBodyErrorNames = 0x1000600c
-
--- ---- options of mach_msg
-
-abbrev pub send_msg_option : ℕ
-send_msg_option = 1
-
-abbrev pub rcv_msg_option : ℕ
-rcv_msg_option = 2
-
-abbrev pub send_timeout_option : ℕ
-send_timeout_option = 0x10
-
-abbrev pub rcv_timeout_option : ℕ
-rcv_timeout_option = 0x100
-
-abbrev pub rcv_large_option : ℕ
-rcv_large_option = 0x800
-
--- the bit of a header for a body of items
-abbrev pub complex_flag : ℕ
-complex_flag = 0x80000000
+msg_number msg.Success = 0  -- MACH_MSG_SUCCESS
+msg_number msg.SendInvalidData = 0x10000002  -- MACH_SEND_INVALID_DATA
+msg_number msg.SendInvalidDest = 0x10000003  -- MACH_SEND_INVALID_DEST
+msg_number msg.SendTimedOut = 0x10000004  -- MACH_SEND_TIMED_OUT
+msg_number msg.SendMsgTooSmall = 0x10000008  -- MACH_SEND_MSG_TOO_SMALL
+msg_number msg.SendInvalidReply = 0x10000009  -- MACH_SEND_INVALID_REPLY
+msg_number msg.SendInvalidRight = 0x1000000a  -- MACH_SEND_INVALID_RIGHT
+msg_number msg.SendNoBuffer = 0x1000000d  -- MACH_SEND_NO_BUFFER
+msg_number msg.SendInvalidType = 0x1000000f  -- MACH_SEND_INVALID_TYPE
+msg_number msg.SendInvalidHeader = 0x10000010  -- MACH_SEND_INVALID_HEADER
+msg_number msg.ReceiveInvalidName = 0x10004002  -- MACH_RCV_INVALID_NAME
+msg_number msg.ReceiveTimedOut = 0x10004003  -- MACH_RCV_TIMED_OUT
+msg_number msg.ReceiveTooLarge = 0x10004004  -- MACH_RCV_TOO_LARGE
+msg_number msg.ReceivePortChanged = 0x10004006  -- MACH_RCV_PORT_CHANGED
+msg_number msg.ReceivePortDied = 0x10004009  -- MACH_RCV_PORT_DIED
+msg_number msg.ReceiveInSet = 0x1000400a  -- MACH_RCV_IN_SET
+msg_number msg.ReceiveBodyErrorMemory = 0x1000480c  -- MACH_RCV_BODY_ERROR | MACH_MSG_IPC_KERNEL
+msg_number msg.ReceiveBodyErrorNames = 0x1000600c  -- MACH_RCV_BODY_ERROR | MACH_MSG_IPC_SPACE

@@ -1,4 +1,4 @@
--- Which texts are no messages, and the code that says so. The whole text is judged before any right.
+-- Which texts are no messages, and the code that says so. The whole text is judged before any right; the order is this project's own.
 use Rattle.std.specs.Prelude.{◌≡◌, ◌≢◌, ℕ, ◌+◌, ◌*◌, ◌/◌, ◌%◌, ◌^◌, ◌<◌, ◌≤◌, ◌⊎◌, List, [], ◌∷◌, ◌++◌, length, slice_index, drop, All}
 use Rattle.mach_types.specs.Numbers.{most_bytes, msg_number}
 use Rattle.mach_types.specs.declared.codes.MsgReturn.TheVariants.{SendMsgTooSmall, SendInvalidData, SendInvalidHeader, SendInvalidType}

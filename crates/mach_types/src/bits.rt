@@ -1,6 +1,6 @@
 //! Named bits: of a message's header, and the options of `mach_msg`.
 ghost use Rattle.std.specs.Prelude.{⊤, ◌≡◌, ◌==◌, [], ◌∷◌, codes};
-ghost use Rattle.mach_types.specs.Numbers.{send_msg_option, rcv_msg_option, send_timeout_option, rcv_timeout_option, rcv_large_option};
+ghost use Rattle.mach_types.specs.Bits.{send_msg_option, rcv_msg_option, send_timeout_option, rcv_timeout_option, rcv_large_option};
 
 use bitflags::{Flag, Flags, bitflag_items};
 

@@ -2,7 +2,8 @@
 //!
 //! What stands in `specs/` is what every other crate's contracts speak in: numbers (`Numbers`),
 //! rights as tokens (`Tokens`), messages as they lie in a queue (`Messages`), the texts of messages
-//! (`Grammar`) and the order of refusals (`Guards`, `TextGuards`).
+//! (`Grammar`), their rights and words one by one (`Bodies`) and the order of refusals (`Guards`,
+//! `TextGuards`).
 #![tactic(auto)]
 
 pub mod bits;
