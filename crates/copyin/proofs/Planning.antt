@@ -19,14 +19,14 @@ use Rattle.message_codec.specs.Parses.{Parses}
 use Rattle.message_codec.specs.Words.{items_words, body_words, inline_words}
 use Rattle.message_codec.proofs.PutWords.{six}
 use Rattle.message_codec.proofs.Shapes.{All-head, All-tail}
-use Rattle.name_space.specs.Names.{SpaceView}
+use Rattle.name_space.specs.Names.{Names, SpaceView}
 use Rattle.port.specs.Ports.{IsLive}
 use Rattle.copyin.specs.declared.judge.Rights.{Rights}
 use Rattle.copyin.specs.declared.judge.Words.{Words}
-use Rattle.copyin.specs.Goes.{AreGiven, LeadsNowhere, GoAll, CannotGo, made_by_rights}
+use Rattle.copyin.specs.Goes.{AreGiven, LeadsNowhere, Starts, GoAll, CannotGo, made_by_rights}
 use Rattle.copyin.specs.Judging.{CopiesName, CopiesReply, CopiesBody, BodyIsBad}
 use Rattle.copyin.specs.Planned.{AreWords}
-use Rattle.copyin.specs.Plans.{destination_word, reply_words, Judged, HasSlot, HasNoSlot, CannotPlan}
+use Rattle.copyin.specs.Plans.{reply_words, Judged, Begins, HasSlot, HasNoSlot, CannotPlan}
 use Rattle.copyin_base.specs.Stands.{AreTied}
 use Rattle.copyin_base.specs.Worlds.{WorldView}
 use Rattle.copyin.proofs.Keeping.{keeps}
@@ -151,42 +151,35 @@ words_given bytes parsed p words a = record {
 
 module _ (w : WorldView) (task : ℕ) (parsed : Parsed) (written : WireBody) (space : SpaceView) (words : Words) (there : slice_get w.spaces task ≡ Some space)
     (a : AreWords parsed written words) where
+  begins : (first : Names) → Starts space.names words first → Begins w task parsed first
+  begins first st = record {
+    space = space;
+    there = there;
+    port = st.port;
+    destination = st.destination;
+    to_port = st.to_port;
+    copies = subst (λ (x : PortWord). CopiesName space.names x st.destination first) a.destination st.copies;
+  }
+
   pub cannot_judge : (code : MsgReturn) → (code ≡ SendNoBuffer) × (inline_words < small_vec_len words.body) ⊎ CannotGo space.names words code → CannotPlan w task parsed written (msg_number code)
-  cannot_judge code (inl h) = inr (inr (inr (inr (subst (λ (ws : List PortWord). inline_words < length ws) a.body h.1), ap msg_number h.0)))
+  cannot_judge code (inl h) = inr (inr (inr (inr (inr (subst (λ (ws : List PortWord). inline_words < length ws) a.body h.1), ap msg_number h.0))))
   cannot_judge code (inr (inl h)) =
-      let nowhere : LeadsNowhere space.names (destination_word parsed) = subst (λ (x : PortWord). LeadsNowhere space.names x) a.destination h.1 in
-      inl (space, there, nowhere, ap msg_number h.0)
+      inl (record { space = space; there = there; nowhere = subst (λ (x : PortWord). LeadsNowhere space.names x) a.destination h.1 }, ap msg_number h.0)
   cannot_judge code (inr (inr (inl h))) =
-      let st = h.1.1 in
       let bad = h.1.2 in
-      inr (inl (
-        space,
-        there,
-        st.port,
-        st.destination,
-        st.to_port,
-        h.1.0,
-        subst (λ (x : PortWord). CopiesName space.names x st.destination h.1.0) a.destination st.copies,
-        inl (bad.0, sym a.reply ∙ bad.1, bad.2, ap msg_number h.0),
-      ))
+      inr (inl (record { first = h.1.0; begins = begins h.1.0 h.1.1; word = bad.0; is = sym a.reply ∙ bad.1; bad = bad.2 }, ap msg_number h.0))
   cannot_judge code (inr (inr (inr h))) =
-      let st = h.1.1 in
-      inr (inl (
-        space,
-        there,
-        st.port,
-        st.destination,
-        st.to_port,
-        h.1.0,
-        subst (λ (x : PortWord). CopiesName space.names x st.destination h.1.0) a.destination st.copies,
-        inr (
-          h.1.2,
-          h.1.3,
-          subst (λ (ws : List PortWord). CopiesReply h.1.0 ws h.1.2 h.1.3) a.reply h.1.4,
-          subst (λ (ws : List PortWord). BodyIsBad h.1.3 ws) a.body h.1.5,
-          ap msg_number h.0,
-        ),
-      ))
+      inr (inr (inl (
+        record {
+          first = h.1.0;
+          begins = begins h.1.0 h.1.1;
+          reply = h.1.2;
+          second = h.1.3;
+          copies = subst (λ (ws : List PortWord). CopiesReply h.1.0 ws h.1.2 h.1.3) a.reply h.1.4;
+          bad = subst (λ (ws : List PortWord). BodyIsBad h.1.3 ws) a.body h.1.5;
+        },
+        ap msg_number h.0,
+      )))
 
   module _ (rights : Rights) (g : GoAll space.names words rights) where
     abbrev pub judged_of : Judged w task parsed written
@@ -208,8 +201,8 @@ module _ (w : WorldView) (task : ℕ) (parsed : Parsed) (written : WireBody) (sp
 
     pub cannot_admit : (code : MsgReturn) → HasNoSlot w rights.port rights.destination × (code ≡ SendTimedOut)
         ⊎ HasSlot w rights.port rights.destination × (most_rights < w.ledger.total + made_by_rights rights) × (code ≡ SendNoBuffer) → CannotPlan w task parsed written (msg_number code)
-    cannot_admit code (inl h) = inr (inr (inl (judged_of, inl (h.0, ap msg_number h.1))))
-    cannot_admit code (inr h) = inr (inr (inl (judged_of, inr (h.0, h.1, ap msg_number h.2))))
+    cannot_admit code (inl h) = inr (inr (inr (inl (judged_of, inl (h.0, ap msg_number h.1)))))
+    cannot_admit code (inr h) = inr (inr (inr (inl (judged_of, inr (h.0, h.1, ap msg_number h.2)))))
 
     pub port_lives : AreTied space.names w.ports w.ledger → IsLive w.ports rights.port
     port_lives tied =

@@ -168,9 +168,10 @@ module _ (w : WorldView) (s : State) (sh : Shows w s) (task : ℕ) (bytes : List
 
   -- What the tables refuse, the machine does, or memory may be wanted.
   pub cannot : (code : ℕ) → CannotPlan w task parsed text.written code → MayWantMemory w task parsed text.written × (code ≡ msg_number SendNoBuffer) ⊎ RightsRefuse s task text.header text.written code
-  cannot code (inl h) = inr (inl (bad_destination h.0 h.1 h.2, h.3))
-  cannot code (inr (inl (space, there, p, c, to, first, n, inl r))) = inr (inr (inl (bad_reply space there p c to first n r.0 r.1 r.2, r.3)))
-  cannot code (inr (inl (space, there, p, c, to, first, n, inr b))) = inr (inr (inr (inl (bad_rights space there p c to first n b.0 b.1 b.2 b.3, b.4))))
-  cannot code (inr (inr (inl (j, inl h)))) = inr (inr (inr (inr (subst (WholeRefuses s task text.header text.written) (sym h.1) (whole_refused j _ (refused_full w s sh 0 task bytes parsed text j h.0))))))
-  cannot code (inr (inr (inl (j, inr h)))) = inr (inr (inr (inr (subst (WholeRefuses s task text.header text.written) (sym h.2) (whole_refused j _ (refused_many w s sh 0 task bytes parsed text j h.0 h.1))))))
-  cannot code (inr (inr (inr h))) = inl h
+  cannot code (inl (h, is)) = inr (inl (bad_destination h.space h.there h.nowhere, is))
+  cannot code (inr (inl (h, is))) = let b = h.begins in inr (inr (inl (bad_reply b.space b.there b.port b.destination b.to_port h.first b.copies h.word h.is h.bad, is)))
+  cannot code (inr (inr (inl (h, is)))) =
+      let b = h.begins in inr (inr (inr (inl (bad_rights b.space b.there b.port b.destination b.to_port h.first b.copies h.reply h.second h.copies h.bad, is))))
+  cannot code (inr (inr (inr (inl (j, inl h))))) = inr (inr (inr (inr (subst (WholeRefuses s task text.header text.written) (sym h.1) (whole_refused j _ (refused_full w s sh 0 task bytes parsed text j h.0))))))
+  cannot code (inr (inr (inr (inl (j, inr h))))) = inr (inr (inr (inr (subst (WholeRefuses s task text.header text.written) (sym h.2) (whole_refused j _ (refused_many w s sh 0 task bytes parsed text j h.0 h.1))))))
+  cannot code (inr (inr (inr (inr h)))) = inl h

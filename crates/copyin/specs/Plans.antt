@@ -71,18 +71,52 @@ pub record Plans (w : WorldView) (task : ℕ) (parsed : Parsed) (written : WireB
 abbrev pub MayWantMemory : WorldView → (task : ℕ) → Parsed → WireBody → Type 0
 MayWantMemory w task parsed written = Plans w task parsed written ⊎ (inline_words < length (body_words written))
 
--- It is refused with this code.
-abbrev pub CannotPlan : (w : WorldView) → (task : ℕ) → Parsed → WireBody → (code : ℕ) → Type 0
-CannotPlan w task parsed written code =
-    ((space : SpaceView) × (slice_get w.spaces task ≡ Some space)
-    × ((p : ℕ) (c : Carried) (after : Names) → c.mark ≡ mark.Port p → ¬ (CopiesName space.names (destination_word parsed) c after)) × (code ≡ msg_number SendInvalidDest))
-    ⊎ ((space : SpaceView) × (slice_get w.spaces task ≡ Some space)
-    × (p : ℕ) × (c : Carried) × (c.mark ≡ mark.Port p) × (first : Names) × CopiesName space.names (destination_word parsed) c first
-    × (((r : PortWord) × (reply_words parsed ≡ r ∷ []) × IsBad first r × (code ≡ msg_number SendInvalidReply))
-    ⊎ ((reply : Option Carried) × (second : Names) × CopiesReply first (reply_words parsed) reply second × BodyIsBad second (body_words written) × (code ≡ msg_number SendInvalidRight))))
-    ⊎ ((j : Judged w task parsed written)
+-- No right for a port goes by the word of the destination.
+pub record BadDestination (w : WorldView) (task : ℕ) (parsed : Parsed) : Type 0 where
+  pub space : SpaceView
+  pub there : slice_get w.spaces task ≡ Some space
+  pub nowhere : (p : ℕ) (c : Carried) (after : Names) → c.mark ≡ mark.Port p → ¬ (CopiesName space.names (destination_word parsed) c after)
+
+-- A right for a port goes by it, and leaves these names.
+pub record Begins (w : WorldView) (task : ℕ) (parsed : Parsed) (first : Names) : Type 0 where
+  pub space : SpaceView
+  pub there : slice_get w.spaces task ≡ Some space
+  pub port : ℕ
+  pub destination : Carried
+  pub to_port : destination.mark ≡ mark.Port port
+  pub copies : CopiesName space.names (destination_word parsed) destination first
+
+-- Then the word of the reply is bad.
+pub record BadReply (w : WorldView) (task : ℕ) (parsed : Parsed) : Type 0 where
+  pub first : Names
+  pub begins : Begins w task parsed first
+  pub word : PortWord
+  pub is : reply_words parsed ≡ word ∷ []
+  pub bad : IsBad first word
+
+-- Then the reply's right goes, and a word of the body is bad.
+pub record BadBody (w : WorldView) (task : ℕ) (parsed : Parsed) (written : WireBody) : Type 0 where
+  pub first : Names
+  pub begins : Begins w task parsed first
+  pub reply : Option Carried
+  pub second : Names
+  pub copies : CopiesReply first (reply_words parsed) reply second
+  pub bad : BodyIsBad second (body_words written)
+
+-- All rights can go, but the queue is full, or there would be too many rights.
+abbrev pub IsTooMuch : WorldView → (task : ℕ) → Parsed → WireBody → (code : ℕ) → Type 0
+IsTooMuch w task parsed written code =
+    (j : Judged w task parsed written)
     × (HasNoSlot w j.port j.destination × (code ≡ msg_number SendTimedOut)
-    ⊎ HasSlot w j.port j.destination × (most_rights < w.ledger.total + made_in j) × (code ≡ msg_number SendNoBuffer)))
+    ⊎ HasSlot w j.port j.destination × (most_rights < w.ledger.total + made_in j) × (code ≡ msg_number SendNoBuffer))
+
+-- It is refused with this code.
+abbrev pub CannotPlan : WorldView → (task : ℕ) → Parsed → WireBody → (code : ℕ) → Type 0
+CannotPlan w task parsed written code =
+    BadDestination w task parsed × (code ≡ msg_number SendInvalidDest)
+    ⊎ BadReply w task parsed × (code ≡ msg_number SendInvalidReply)
+    ⊎ BadBody w task parsed written × (code ≡ msg_number SendInvalidRight)
+    ⊎ IsTooMuch w task parsed written code
     ⊎ MayWantMemory w task parsed written × (code ≡ msg_number SendNoBuffer)
 
 -- ---- what is done

@@ -1,5 +1,6 @@
 use Rattle.std.proofs.Common.{refl, inl, inr}
 use Rattle.std.proofs.lemmas.Result.{err_from_is_err_and}
+use Rattle.copyin.specs.Plans.{Plans}
 use Rattle.copyin.proofs.Planning.{words_given, cannot_judge, cannot_admit, judged_of, port_lives, destination_sends, remote_sendable}
 use Rattle.copyin.proofs.judge.check.Goals as goal
 
@@ -54,11 +55,9 @@ returns-in_default-clause-err c = λ p.
     let a = c.in_ok-words.ensures.ok p in
     let rights = c.in_ok-rights.rights in
     let may = c.in_ok-admit.ensures.ok in
-    inr (inr (inr (
-      inl record {
-        judged = judged_of c.args.world.now c.args.task c.args.parsed p.written c.space.result.now c.in_ok-words.words c.space.ensures a rights c.in_ok-rights.ensures.ok;
-        slot = may.0;
-        few = may.1;
-      },
-      refl,
-    )))
+    let plans : Plans c.args.world.now c.args.task c.args.parsed p.written = record {
+      judged = judged_of c.args.world.now c.args.task c.args.parsed p.written c.space.result.now c.in_ok-words.words c.space.ensures a rights c.in_ok-rights.ensures.ok;
+      slot = may.0;
+      few = may.1;
+    } in
+    inr (inr (inr (inr (inl plans, refl))))
