@@ -14,7 +14,7 @@ use thiserror::Error;
 /// What the program can do.
 #[derive(Clone, Copy, Debug, PartialEq, Eq)]
 pub enum Job<'a> {
-    /// Prints the workloads and the worlds.
+    /// Prints the names of the workloads and the worlds.
     List,
     /// Makes each workload once in the small world, and the first in each world.
     Check,
@@ -108,15 +108,13 @@ fn written<'a>(write: io::Result<()>) -> Result<(), Fault<'a>> {
     }
 }
 
-/// Prints each workload and each world in a line, with what it is.
+/// Prints the names of the workloads, and then those of the worlds, one a line.
 fn list<'a, W: Write>(out: &mut W) -> Result<(), Fault<'a>> {
     for workload in WORKLOADS {
-        let (name, about) = (workload.name(), workload.about());
-        written(writeln!(out, "{name}: {about}"))?;
+        written(writeln!(out, "{}", workload.name()))?;
     }
     for world in WORLDS {
-        let (name, about) = (world.name(), world.about());
-        written(writeln!(out, "--world {name}: {about}"))?;
+        written(writeln!(out, "--world {}", world.name()))?;
     }
     Ok(())
 }

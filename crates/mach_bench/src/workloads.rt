@@ -114,34 +114,6 @@ impl Workload {
         }
     }
 
-    /// What one operation is, in words.
-    pub fn about(self) -> &'static str {
-        match self {
-            Workload::SendReceive => "24 bytes sent and received by one task",
-            Workload::RightNamed => "a message with a send right to a task that names the port",
-            Workload::RightFresh => "the same, to one that doesn't; the fresh name is deallocated",
-            Workload::RequestAnswer => "a request, and its answer by a send-once right",
-            Workload::Raw4096 => "4,096 bytes of raw body sent and received",
-            Workload::Items64 => "a message of 64 items of one right each",
-            Workload::Rights64 => "a message of one item of 64 rights",
-            Workload::Set1000 => "a message to each of 1,000 members in turn, received by the set",
-            Workload::SetReceive => "a message to one member, received by the set",
-            Workload::Allocate10000 => "a port made, 10,000 in a row",
-            Workload::DeadName => "a dead name made and deallocated",
-            Workload::SetMade => "a port set made and destroyed",
-            Workload::Insert => "a send right inserted and deallocated",
-            Workload::Extract => "a send right extracted and deallocated",
-            Workload::References => "send references changed by one",
-            Workload::Type65535 => "the type of a name, random of 65,535",
-            Workload::Name32768 => "name 32,768 of 65,535 goes and comes again",
-            Workload::Deallocate60000 => "a send right deallocated, 60,000 in a row, names rising",
-            Workload::Status => "the status of a port",
-            Workload::Rename => "a name changed for another",
-            Workload::MoveMember => "a port put into the set and taken out",
-            Workload::Names => "the task's names listed",
-        }
-    }
-
     /// The workload of this name.
     pub fn named(name: &str) -> Option<Workload> {
         WORKLOADS

@@ -64,20 +64,6 @@ impl World {
         }
     }
 
-    /// What it has, in words.
-    pub fn about(self) -> &'static str {
-        match self {
-            World::Small => "nothing else",
-            World::Tasks => "60,000 tasks more",
-            World::PortsBefore => "60,000 ports of another task, made before",
-            World::PortsAfter => "60,000 ports of another task, made after",
-            World::Names => "65,000 dead names of the task",
-            World::ReceiveRights => "60,000 receive rights of the task",
-            World::Members => "60,000 members of the task's set",
-            World::Queued => "1,000 messages at another port of the task",
-        }
-    }
-
     /// The world of this name.
     pub fn named(name: &str) -> Option<World> {
         WORLDS.into_iter().find(|world| world.name() == name)
