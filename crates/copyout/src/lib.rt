@@ -1,7 +1,7 @@
 //! Copying rights out: what a receiver gets of a queued message.
 //!
-//! [`receive`] judges and takes a port's front message, [`give_right`] gives one right, and [`put_right`]
-//! gives it a name that the caller chose.
+//! [`receive`] judges and takes a port's front message, [`room_needed`] counts the names that its
+//! rights need, [`give_right`] gives one right, and [`put_right`] gives it a name that the caller chose.
 #![tactic(auto)]
 
 mod give;
@@ -12,3 +12,4 @@ mod room;
 pub use give::give_right;
 pub use put::put_right;
 pub use receipt::{Refusal, receive};
+pub use room::room_needed;

@@ -21,7 +21,7 @@ ghost use Rattle.copyout.specs.Wanted.{inline_names, WantsToReceive, ReturnsSlot
 ghost use Rattle.copyout.specs.declared.receipt.Refusal.TheVariants as refused;
 
 use crate::give::{give_right, give_rights};
-use crate::room::needed_names;
+use crate::room::room_needed;
 use copyin_base::{Carried, Message, World};
 use mach_types::bits::COMPLEX;
 use mach_types::limits::{MOST_BYTES, MOST_NAMES};
@@ -245,7 +245,7 @@ fn judge(
         return Err(Refusal::TooLarge(message.bytes.len() as u32));
     }
     let space = world.space(task);
-    let needed = needed_names(world, space, message);
+    let needed = room_needed(world, space, message);
     if needed > MOST_NAMES - space.len() {
         return Err(Refusal::Names);
     }

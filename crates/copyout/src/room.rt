@@ -143,7 +143,7 @@ fn reply_own(world: &World, space: &Space, reply: &Option<Carried>) -> usize
 ///
 /// Takes no memory. Each right for a port without a name is compared with those before it; for the
 /// others the time is logarithmic in the number of names and of ports.
-pub(crate) fn needed_names(world: &World, space: &Space, message: &Message) -> usize
+pub fn room_needed(world: &World, space: &Space, message: &Message) -> usize
     ensures { Needs world.now.ports space.now.names [] (carried_by message.now) result }
 {
     let mut count = reply_own(world, space, &message.reply);

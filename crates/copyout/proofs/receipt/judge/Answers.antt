@@ -11,8 +11,8 @@ returns-then-needed-len-clause-err c =
       c.front-message.ensures,
       (
         c.if-is_too_large.ensures,
-        names_lack c.args.world.now c.args.task c.front-message.result.now c.space-space.result.now c.needed_names-needed.result
-            c.space-space.ensures c.needed_names-needed.ensures (omega (arith, size, few)) (omega (arith, size, above)),
+        names_lack c.args.world.now c.args.task c.front-message.result.now c.space-space.result.now c.room_needed-needed.result
+            c.space-space.ensures c.room_needed-needed.ensures (omega (arith, size, few)) (omega (arith, size, above)),
       ),
     )
 
@@ -27,7 +27,7 @@ returns-in-Ok-clause-ok c =
         fits = c.if-is_too_large.ensures;
         space = c.space-space.result.now;
         there = c.space-space.ensures;
-        needs = c.needed_names-needed.ensures;
+        needs = c.room_needed-needed.ensures;
         names = omega (arith, size, below);
       },
       names.0,
@@ -42,7 +42,7 @@ returns-in-Err-clause-err c =
       c.front-message.ensures,
       (
         c.if-is_too_large.ensures,
-        names_enough c.args.world.now c.args.task c.front-message.result.now c.space-space.result.now c.needed_names-needed.result
-            c.space-space.ensures c.needed_names-needed.ensures (omega (arith, size, below)),
+        names_enough c.args.world.now c.args.task c.front-message.result.now c.space-space.result.now c.room_needed-needed.result
+            c.space-space.ensures c.room_needed-needed.ensures (omega (arith, size, below)),
       ),
     )

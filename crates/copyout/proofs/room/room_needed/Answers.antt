@@ -7,7 +7,7 @@ use Rattle.copyout.specs.Ready.{carried_by}
 use Rattle.copyout.specs.Room.{Needs}
 use Rattle.copyout.proofs.After.{next_item, no_item}
 use Rattle.copyout.proofs.Counted.{counts_on}
-use Rattle.copyout.proofs.room.needed_names.Goals as goal
+use Rattle.copyout.proofs.room.room_needed.Goals as goal
 
 pub loop-i-preserved : goal.loop-i-preserved
 loop-i-preserved c =

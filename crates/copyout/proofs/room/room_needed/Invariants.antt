@@ -1,7 +1,7 @@
 use Rattle.std.proofs.Common.{ℕ, ◌+◌, ◌≤◌, [], ◌++◌, take, drop}
 use Rattle.std.specs.Option.{option_to_list}
 use Rattle.copyout.specs.Room.{Needs}
-use Rattle.copyout.proofs.room.needed_names.Given as goal
+use Rattle.copyout.proofs.room.room_needed.Given as goal
 
 abbrev pub invariant-loop-i : goal.invariant-loop-i
 invariant-loop-i l = record {
