@@ -26,6 +26,9 @@ use std::{env, io};
 /// The status where the command line has no such words.
 const USAGE: u8 = 2;
 
+/// How many bytes of output are gathered before they are written.
+const WRITTEN_AT_ONCE: usize = 65_536;
+
 fn main(rt: HostRuntime) -> ExitCode {
     let mut errors = rt.stderr();
     ExitCode::from(answer(&rt, rt.stdout(), &mut errors))
@@ -89,7 +92,7 @@ fn start<R: Read, W: Write + Drop, E: Write>(
     out: W,
     err: &mut E,
 ) -> u8 {
-    match BufWriter::new(alloc, out) {
+    match BufWriter::with_capacity(alloc, WRITTEN_AT_ONCE, out) {
         Ok(mut out) => perform(alloc, job, name, file, &mut out, err),
         Err(_) => report(Fault::OutOfMemory, err),
     }

@@ -2,12 +2,10 @@
 use Rattle.std.proofs.Common.{◌≡◌, ℕ, ℤ, pos, negsuc, suc, ◌+◌, ◌<◌, ◌≤◌, ◌^◌, List, ◌∷◌, length, slice_index, get_or, decimal, Option, Some, Result, Ok, Err, IfSome, All, refl, sym, ap, ◌∙◌, rules, arith, inl, inr}
 use Rattle.std.specs.Fmt.{signed_decimal}
 use Rattle.std.specs.Result.{result_ok}
-use Rattle.std.specs.Str.{IsUtf8}
 use Rattle.std.specs.Str.Parse.{ParsesUnsigned, digits_value}
 use Rattle.std.specs.Int.{IsInRange}
 use Rattle.std.proofs.Math.Nat.{eq-zero-or-pos}
-use Rattle.std.proofs.lemmas.Str.{IsUtf8-from_ascii}
-use Rattle.std.proofs.lemmas.Fmt.{IsAscii-decimal, decimal_digit, decimal_nonempty, first_decimal, digits_decimal, decimal-digits_value}
+use Rattle.std.proofs.lemmas.Fmt.{decimal_digit, decimal_nonempty, first_decimal, digits_decimal, decimal-digits_value}
 use Rattle.std.proofs.lemmas.Str.Parse.{IsNumeralModel, numerals_by_value, tells_by_index, parse_plain}
 use Rattle.std.proofs.lemmas.List.Elements.{All-from_get_or, All-cons}
 use Rattle.tracer_base.specs.Numbers.{HasPlainStart, FitsDelta}
@@ -39,10 +37,6 @@ decimal-parsed {E} text (Ok n) plain parsed =
     let read = parse_plain own {E = E} 64 text (Ok n) parsed (λ e. omega (arith, e)) in
     rw read.1 (decimal-digits_value own text read.0.0 read.0.1 plain.alone read.0.2)
 decimal-parsed text (Err e) plain parsed = search rules
-
--- a number's text is text
-pub IsUtf8-decimal : (n : ℕ) → n < 2 ^ 64 → IsUtf8 (decimal n)
-IsUtf8-decimal n small = IsUtf8-from_ascii (decimal n) (IsAscii-decimal n small)
 
 -- what holds of each digit holds of each byte of a number's text
 pub All-decimal : (P : ℕ → Type 0) → ((byte : ℕ) → IsInRange 48 57 byte → P byte) → (n : ℕ) → n < 2 ^ 64 → All P (decimal n)

@@ -1,5 +1,5 @@
 -- The words of replies, and what was written piece by piece.
-use Rattle.std.proofs.Common.{◌≡◌, ℕ, ◌<◌, ◌+◌, ◌/◌, ◌%◌, List, [], ◌∷◌, ◌++◌, Option, Some, None, length, take, get_or, sym, ◌∙◌, ap, append_assoc, subst, ◌^◌, All, true, refl, arith, decimal, append-nil}
+use Rattle.std.proofs.Common.{◌≡◌, ℕ, ◌<◌, ◌+◌, ◌/◌, ◌%◌, List, [], ◌∷◌, ◌++◌, Option, Some, None, length, take, get_or, sym, ◌∙◌, ap, append_assoc, subst, ◌^◌, All, true, refl, arith, decimal, append-nil, Result, Ok, Err, OnOk}
 use Rattle.std.proofs.lemmas.List.{take_more}
 use Rattle.std.specs.Io.KnownBytes.{Appends, Keeps}
 use Rattle.std.proofs.lemmas.List.Elements.{All-append, All-cons, All-map, All-weaker}
@@ -47,6 +47,19 @@ appends-byte a b c bytes i byte low here first next =
     let same : hex_digits (take i bytes) ++ hex_digits (byte ∷ []) ≡ hex_digits (take (i + 1) bytes) =
     ap (λ n. hex_digits (take i bytes) ++ hex_digits (n ∷ [])) (sym here) ∙ sym split in
     subst (Appends a c) same (appends-more a b c (hex_digits (take i bytes)) (hex_digits (byte ∷ [])) first next)
+
+-- what is left of the bytes when four more are written
+pub parts_more : (done four rest others bytes : List ℕ) → done ++ rest ≡ bytes → four ++ others ≡ rest → (done ++ four) ++ others ≡ bytes
+parts_more done four rest others bytes so_far next = append_assoc done four others ∙ ap (λ t. done ++ t) next ∙ so_far
+
+-- the digits of more bytes behind those of the bytes before them
+pub appends-digits : (a b c : Option (List ℕ)) (xs ys bytes : List ℕ) → xs ++ ys ≡ bytes → Appends a b (hex_digits xs) → Appends b c (hex_digits ys) → Appends a c (hex_digits bytes)
+appends-digits a b c xs ys bytes parts first next =
+    subst (Appends a c) (sym (hex_digits-append xs ys) ∙ ap hex_digits parts) (appends-more a b c (hex_digits xs) (hex_digits ys) first next)
+
+pub ok-digits : {T E : Type 0} (r : Result T E) (a b c : Option (List ℕ)) (xs ys bytes : List ℕ) → xs ++ ys ≡ bytes → Appends a b (hex_digits xs) → OnOk r (Appends b c (hex_digits ys)) → OnOk r (Appends a c (hex_digits bytes))
+ok-digits (Ok _) a b c xs ys bytes parts first next = appends-digits a b c xs ys bytes parts first next
+ok-digits (Err _) a b c xs ys bytes parts first next = tt
 
 -- a reply's keyword is plain
 pub is_plain-reply_word : (reply : Reply) → is_plain (reply_word reply) ≡ true

@@ -81,7 +81,9 @@ fn parse_pairs(alloc: Global, text: &[u8]) -> Result<Vec<u8>, TextFault>
     ensures each { (bytes : List ℕ) → All (λ byte. byte < 256) bytes → hex_digits bytes ≡ text.now
         → IsOkUnless result OutOfMemory }
 {
-    let mut bytes = Vec::new(alloc);
+    let Ok(mut bytes) = Vec::with_capacity(alloc, text.len() / 2) else {
+        return Err(TextFault::OutOfMemory);
+    };
     let mut rest = text;
     while !rest.is_empty() {
         let (byte, others) = split_pair(rest).ok_or(TextFault::Bad)?;
@@ -119,8 +121,37 @@ pub fn write_bytes<W: Write>(bytes: &[u8], out: &mut W) -> io::Result<()>
     }
 }
 
-/// Writes the bytes, two digits a byte. Errors are as for [`write_bytes`].
-pub fn write_pairs<W: Write>(bytes: &[u8], out: &mut W) -> io::Result<()>
+/// Writes the bytes, two digits a byte, four bytes at a time. Errors are as for [`write_bytes`].
+fn write_pairs<W: Write>(bytes: &[u8], out: &mut W) -> io::Result<()>
+    ensures { OnOk result (Appends (W.contents out.old) (W.contents out.new) (hex_digits bytes.now)) }
+{
+    let mut rest = bytes;
+    while let Some((four, others)) = rest.split_first_chunk() {
+        write_four(*four, out)?;
+        rest = others;
+    }
+    write_last(rest, out)
+}
+
+/// Writes the eight digits of the four bytes. Errors are as for [`write_bytes`].
+pub fn write_four<W: Write>(bytes: [u8; 4], out: &mut W) -> io::Result<()>
+    ensures { OnOk result (Appends (W.contents out.old) (W.contents out.new) (hex_digits bytes)) }
+{
+    let [first, second, third, fourth] = bytes;
+    out.write_all(&[
+        digit_of(first / 16),
+        digit_of(first % 16),
+        digit_of(second / 16),
+        digit_of(second % 16),
+        digit_of(third / 16),
+        digit_of(third % 16),
+        digit_of(fourth / 16),
+        digit_of(fourth % 16),
+    ])
+}
+
+/// Writes the bytes, two digits a byte, one byte at a time.
+fn write_last<W: Write>(bytes: &[u8], out: &mut W) -> io::Result<()>
     ensures { OnOk result (Appends (W.contents out.old) (W.contents out.new) (hex_digits bytes.now)) }
 {
     for byte in bytes {

@@ -25,7 +25,7 @@ pub fn parse_u64(text: &[u8]) -> Option<u64>
     if !has_plain_start(text) {
         return None;
     }
-    str::from_utf8(text).ok()?.parse::<u64>().ok()
+    fast_float::parse_u64(text).ok()
 }
 
 /// The number that the text spells, as for [`parse_u64`], where it fits 32 bits.

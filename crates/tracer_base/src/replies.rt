@@ -9,7 +9,7 @@ ghost use Rattle.tracer_base.specs.Text.{code_text, waited_words, FitsWaited};
 ghost use Rattle.tracer_base.specs.Words.{IsRead};
 
 use crate::fault::TextFault;
-use crate::hexadecimal::{write_bytes, write_pairs};
+use crate::hexadecimal::{write_bytes, write_four};
 use crate::words::Words;
 use mach_types::{Name, NameList, NameTypes, Reply, Status, Waited};
 use std::alloc::Global;
@@ -171,7 +171,7 @@ fn write_code<W: Write>(text: &[u8], code: u32, out: &mut W) -> io::Result<()>
     ensures { OnOk result (Appends (W.contents out.old) (W.contents out.new) (text.now ++ code_text code)) }
 {
     out.write_all(text)?;
-    write_pairs(&code.to_be_bytes(), out)
+    write_four(code.to_be_bytes(), out)
 }
 
 /// Writes `names`, and each name with its type.

@@ -12,6 +12,7 @@ use crate::fault::TextFault;
 use crate::hexadecimal::{parse_bytes, parse_code};
 use crate::numbers::{parse_i32, parse_u8, parse_u32, parse_u64};
 use mach_types::{Bytes, Name, PortId, SetId, TaskId, Waited};
+use memchr::memchr;
 use std::alloc::Global;
 use std::marker::Model;
 
@@ -21,7 +22,7 @@ pub fn split_once(text: &[u8], byte: u8) -> Option<(&[u8], &[u8])>
     ensures first { IfSome result (λ parts. Lacks byte parts.0.now) }
     ensures none { IfNone result (Lacks byte text.now) }
 {
-    let end = text.iter().position(|other| *other == byte)?;
+    let end = memchr(byte, text)?;
     Some((&text[..end], &text[end + 1..]))
 }
 

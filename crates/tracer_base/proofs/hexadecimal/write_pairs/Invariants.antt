@@ -1,8 +1,12 @@
-use Rattle.std.proofs.Common.{take}
+use Rattle.std.proofs.Common.{ℕ, List, ◌≡◌, ◌++◌, length}
 use Rattle.std.specs.Io.KnownBytes.{Appends}
 use Rattle.tracer_base.specs.Text.{hex_digits}
 use Rattle.tracer_base.proofs.hexadecimal.write_pairs.Given as goal
 
--- the digits of the bytes before this one are written
-abbrev pub invariant-loop-byte : goal.invariant-loop-byte
-invariant-loop-byte g l = Appends (g.W.Write.contents l.fn.out) (g.W.Write.contents l.out) (hex_digits (take l.byte-index l.bytes))
+-- the digits of the bytes before those that are left are written
+abbrev pub invariant-loop-four : goal.invariant-loop-four
+invariant-loop-four g l =
+    (done : List ℕ) × (done ++ l.rest ≡ l.fn.bytes) × Appends (g.W.Write.contents l.fn.out) (g.W.Write.contents l.out) (hex_digits done)
+
+abbrev pub decreases-loop-four : goal.decreases-loop-four
+decreases-loop-four g l = length l.rest
