@@ -1,11 +1,11 @@
 -- Decimal numbers and their texts.
-use Rattle.std.proofs.Common.{◌≡◌, ℕ, ℤ, pos, negsuc, suc, ◌+◌, ◌<◌, ◌≤◌, ◌^◌, List, ◌∷◌, length, slice_index, get_or, decimal, Option, Some, Result, Ok, Err, IfSome, All, refl, sym, ap, ◌∙◌, rules, arith, inl, inr}
+use Rattle.std.proofs.Common.{◌≡◌, ℕ, ℤ, pos, negsuc, suc, ◌+◌, ◌-◌, ◌<◌, ◌≤◌, ◌^◌, List, [], ◌∷◌, length, slice_index, get_or, decimal, Option, Some, Result, Ok, Err, IfSome, All, refl, sym, ap, ◌∙◌, rules, arith, inl, inr}
 use Rattle.std.specs.Fmt.{signed_decimal}
 use Rattle.std.specs.Result.{result_ok}
 use Rattle.std.specs.Str.Parse.{ParsesUnsigned, digits_value}
 use Rattle.std.specs.Int.{IsInRange}
 use Rattle.std.proofs.Math.Nat.{eq-zero-or-pos}
-use Rattle.std.proofs.lemmas.Fmt.{decimal_digit, decimal_nonempty, first_decimal, digits_decimal, decimal-digits_value}
+use Rattle.std.proofs.lemmas.Fmt.{decimal_digit, decimal_nonempty, first_decimal, digits_decimal, decimal_injective, decimal-digits_value}
 use Rattle.std.proofs.lemmas.Str.Parse.{IsNumeralModel, numerals_by_value, tells_by_index, parse_plain}
 use Rattle.std.proofs.lemmas.List.Elements.{All-from_get_or, All-cons}
 use Rattle.tracer_base.specs.Numbers.{HasPlainStart, FitsDelta}
@@ -37,6 +37,21 @@ decimal-parsed {E} text (Ok n) plain parsed =
     let read = parse_plain own {E = E} 64 text (Ok n) parsed (λ e. omega (arith, e)) in
     rw read.1 (decimal-digits_value own text read.0.0 read.0.1 plain.alone read.0.2)
 decimal-parsed text (Err e) plain parsed = search rules
+
+-- a text of one digit is that of the digit's value
+pub decimal-one : (text : List ℕ) → HasPlainStart text → 1 ≤ length text → length text < 2 → decimal (slice_index text 0 - 48) ≡ text
+decimal-one [] plain some short = absurd (omega (arith, some))
+decimal-one (digit ∷ []) plain some short =
+    let least : 48 ≤ digit = plain.least in
+    let most : digit ≤ 57 = plain.most in
+    decimal_digit (digit - 48) (omega arith) ∙ ap (λ (byte : ℕ). byte ∷ []) (omega arith)
+decimal-one (digit ∷ next ∷ rest) plain some short = absurd (omega (arith, short))
+
+-- and of no other number
+pub only-one : (text : List ℕ) (n : ℕ) → HasPlainStart text → 1 ≤ length text → length text < 2 → n < 2 ^ 64 → decimal n ≡ text → slice_index text 0 - 48 ≡ n
+only-one text n plain some short small same =
+    let most : slice_index text 0 ≤ 57 = plain.most in
+    decimal_injective (slice_index text 0 - 48) n (omega arith) small (decimal-one text plain some short ∙ sym same)
 
 -- what holds of each digit holds of each byte of a number's text
 pub All-decimal : (P : ℕ → Type 0) → ((byte : ℕ) → IsInRange 48 57 byte → P byte) → (n : ℕ) → n < 2 ^ 64 → All P (decimal n)

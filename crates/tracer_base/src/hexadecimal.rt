@@ -10,16 +10,15 @@ use std::alloc::Global;
 use std::io;
 use std::io::Write;
 
+/// The digits, by their values.
+const DIGITS: [u8; 16] = *b"0123456789abcdef";
+
 /// The digit of a value below 16: `0` to `9` and `a` to `f`.
 fn digit_of(value: u8) -> u8
     requires { value < 16 }
     ensures { result ≡ hex_digit value }
 {
-    if value < 10 {
-        b'0' + value
-    } else {
-        b'a' + (value - 10)
-    }
+    DIGITS[usize::from(value)]
 }
 
 /// The value of a digit, below 16; `None` for what is no digit, capital letters among it.

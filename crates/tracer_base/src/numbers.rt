@@ -25,7 +25,10 @@ pub fn parse_u64(text: &[u8]) -> Option<u64>
     if !has_plain_start(text) {
         return None;
     }
-    fast_float::parse_u64(text).ok()
+    match text {
+        [digit] => Some(u64::from(*digit - b'0')),
+        _ => fast_float::parse_u64(text).ok(),
+    }
 }
 
 /// The number that the text spells, as for [`parse_u64`], where it fits 32 bits.
