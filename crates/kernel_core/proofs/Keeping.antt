@@ -1,10 +1,10 @@
 -- What a call keeps, and which code it tells of want of memory by, made of what its parts promise.
-use Rattle.std.proofs.Common.{◌≡◌, ◌≢◌, ℕ, zero, suc, ◌+◌, ◌<◌, ◌≤◌, Some, None, Result, Ok, Err, IfErr, refl, sym, ap, subst, ◌∙◌, arith, inl, inr}
-use Rattle.std.specs.Prelude.{max, OnOk, OnErr}
+use Rattle.std.proofs.Common.{◌≡◌, ◌≢◌, ℕ, ◌<◌, ◌≤◌, Result, Ok, Err, IfErr, refl, sym, subst, arith, inl, inr}
+use Rattle.std.specs.Prelude.{OnOk, OnErr}
 use Rattle.std.proofs.lemmas.Bool.Decides.{eqb_tells}
 use Rattle.mach_types.specs.declared.calls.Event.{Event}
 use Rattle.mach_types.specs.declared.calls.Reply.{Reply}
-use Rattle.mach_types.specs.declared.codes.KernReturn.TheVariants.{InvalidTask, ResourceShortage}
+use Rattle.mach_types.specs.declared.codes.KernReturn.TheVariants.{InvalidTask}
 use Rattle.mach_types.specs.Numbers.{kern_number}
 use Rattle.mach_model.specs.State.{State}
 use Rattle.mach_model.specs.Notices.{Owed}
@@ -15,7 +15,7 @@ use Rattle.copyin_base.specs.declared.code.Code.{Code}
 use Rattle.copyin_base.specs.declared.code.Code.TheVariants.{Kern}
 use Rattle.copyin_base.specs.Acts.{code_number, Acts, Declines, Serves}
 use Rattle.copyin_base.specs.Stands.{Stands}
-use Rattle.copyin_base.specs.Wanted.{room_of, KeepsSpares}
+use Rattle.copyin_base.specs.Wanted.{KeepsSpares}
 use Rattle.copyin_base.specs.Worlds.{WorldView}
 use Rattle.copyin_base.proofs.Spares.{keeps_refl, keeps_same}
 use Rattle.kernel_core.specs.Send.{UsesSlot}

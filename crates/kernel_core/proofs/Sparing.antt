@@ -1,6 +1,6 @@
 -- Where the calls that hand, send and receive rights want memory, and what they keep for names and messages to come.
-use Rattle.std.proofs.Common.{◌≡◌, ◌≢◌, ℕ, ◌<◌, ◌≤◌, List, Option, Some, None, IfErr, Err, refl, sym, ap, subst, ◌∙◌, arith, inl, inr, true, false, Bool}
-use Rattle.std.specs.Prelude.{if◌then◌else◌, MatchBool, max, is_some}
+use Rattle.std.proofs.Common.{◌≡◌, ◌≢◌, ℕ, ◌<◌, ◌≤◌, Option, Some, None, refl, ap, ◌∙◌, arith, inl, inr, true, false, Bool}
+use Rattle.std.specs.Prelude.{if◌then◌else◌, MatchBool}
 use Rattle.std.specs.FinMap as map
 use Rattle.mach_types.specs.declared.calls.Event.{Event}
 use Rattle.mach_types.specs.declared.calls.Reply.{Reply}
@@ -10,9 +10,8 @@ use Rattle.mach_types.specs.declared.codes.MsgReturn.TheVariants.{ReceiveBodyErr
 use Rattle.mach_types.specs.declared.rights.Disposition.{Disposition}
 use Rattle.mach_types.specs.declared.rights.Disposition.TheVariants.{MakeSend, MoveReceive}
 use Rattle.mach_types.specs.Guards.{FirstIs}
-use Rattle.mach_types.specs.Numbers.{dead_word, kern_number, msg_number}
+use Rattle.mach_types.specs.Numbers.{kern_number, msg_number}
 use Rattle.mach_types.specs.Tokens.{Kind}
-use Rattle.mach_model.specs.State.{State}
 use Rattle.mach_model.specs.Refusals.{again_guards}
 use Rattle.mach_laws.specs.Order.{accepts, delivers}
 use Rattle.name_space.specs.declared.Entry.{Entry}
@@ -25,7 +24,7 @@ use Rattle.copyin_base.specs.Kept.{Kept}
 use Rattle.copyin_base.specs.Stands.{Stands}
 use Rattle.copyin_base.specs.Wanted.{room_of, KeepsSpares}
 use Rattle.copyin_base.specs.Worlds.{WorldView}
-use Rattle.copyin_base.proofs.Spares.{keeps_refl, keeps_trans, keeps_same, keeps_space}
+use Rattle.copyin_base.proofs.Spares.{keeps_trans, keeps_space}
 use Rattle.copyin.specs.Copies.{CopiesRight, port_copied, ports_copied}
 use Rattle.copyout.specs.Giving.{GivesMark}
 use Rattle.copyout.specs.Putting.{PutsPort}

@@ -2,7 +2,6 @@
 use Rattle.std.specs.Prelude.{◌≡◌, ◌≢◌, ℕ, ◌+◌, ◌-◌, ◌<◌, ◌≤◌, ◌⊎◌, Bool, [], ◌∷◌, Option, Some, None, slice_get, if◌then◌else◌, ◌==◌, ◌&&◌, MatchBool}
 use Rattle.std.specs.Option.{option_and_then}
 use Rattle.std.specs.FinMap as map
-use Rattle.mach_types.specs.declared.rights.Disposition.{Disposition}
 use Rattle.mach_types.specs.declared.codes.KernReturn.{KernReturn}
 use Rattle.mach_types.specs.declared.codes.KernReturn.TheVariants.{NoSpace, NameExists, UrefsOverflow, RightExists, InvalidName, InvalidRight}
 use Rattle.mach_types.specs.Numbers.{disposition, kind_sent, kern_number, most_names, most_references, most_rights}

@@ -1,5 +1,5 @@
 -- The replies so far and the kernel are those of a run over the events so far.
-use Rattle.std.proofs.Common.{◌≡◌, ℕ, List, [], refl, sym, subst, ◌∙◌, arith, length, take}
+use Rattle.std.proofs.Common.{◌≡◌, List, [], sym, subst, ◌∙◌, length, take}
 use Rattle.std.proofs.lemmas.List.{take_more, take_all}
 use Rattle.mach_types.specs.declared.calls.Event.{Event}
 use Rattle.mach_types.specs.declared.calls.Reply.{Reply}
