@@ -64,8 +64,8 @@ pub record Wanted (old : WorldView) (event : Event) (reply : Reply) : Type 0 whe
 
 -- ---- room for names and messages
 
--- A task's room for names grows by one at most, from none. A message slot is made only where none is spare and a message is accepted,
--- and is spare again where a message is given.
+-- A task's room for names grows by one at most, from none. A message slot is made only where none is spare, and then one; a message that
+-- is accepted uses one, which is spare again where the message is given.
 pub record Spares (old : WorldView) (event : Event) (reply : Reply) (new : WorldView) : Type 0 where
   pub rooms : (task : ℕ) → room_of new task ≤ max (room_of old task) 1
   pub slots : new.ports.spare + accepts event reply ≤ max old.ports.spare 1 + delivers event reply

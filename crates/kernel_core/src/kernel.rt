@@ -72,8 +72,8 @@ impl Kernel {
     ///
     /// A refusal is answered by its code and leaves the state that the kernel shows; so is want of
     /// memory, which is answered only where the call may want some: `specs/Wanted` says where. Room for
-    /// one name that was made first may stay. A message slot is made only where none is spare and a
-    /// message is accepted, and is spare again once the message was received.
+    /// one name that was made first may stay. A message slot is made only where none is spare, and then
+    /// one; an accepted message uses one, which is spare again once the message was received.
     pub fn step(&mut self, event: &Event) -> Reply
         ensures answers { Answers self.old event.now result self.new }
         ensures wanted { Wanted self.old event.now result }
