@@ -2,8 +2,6 @@
 use Rattle.std.proofs.Common.{◌≡◌, ◌≢◌, inl, inr, ℕ, ◌+◌, ◌<◌, ◌≤◌, ◌^◌, refl, ap, sym, subst, ◌∙◌, Option, Some, None, List, [], length, get_or, IsTrue, Bool, true, false, not, is_some, arith}
 use Rattle.std.specs.Option.{SomeIff}
 use Rattle.std.specs.List.{sum_by}
-use Rattle.std.specs.List.Sorted.{IsStrictlySortedBy}
-use Rattle.std.specs.Map.{keys_of}
 use Rattle.std.specs.Ordering.{nat_cmp}
 use Rattle.std.specs.FinMap as map
 use Rattle.slab.specs.Slab.{Slab, get}
@@ -11,7 +9,6 @@ use Rattle.port.specs.declared.Record.{Record}
 use Rattle.port.specs.Ports.{PortView, PortsView}
 use Rattle.port.specs.Records.{ports_of, port_in, queued_in, IsIndexed, IsSound, made_of}
 use Rattle.port.proofs.Keys.{same_some, some_or_none, equal_or_not, out_here, out_other, same_gets}
-use Rattle.port.proofs.Ordered.{none_ordered}
 use Rattle.port.proofs.View.{len-with_values}
 use Rattle.port.proofs.Records.{Keyed, port_of, Turns, ports-came, indexed-came, ports-went, indexed-went}
 use Rattle.port.proofs.Sound.{sum_same, no_true}
@@ -25,13 +22,11 @@ module _ {M : Type 0} where
   nothing_at : (s : Slab (Record M)) → s.slots ≡ [] → (k : ℕ) (r : Record M) → get s k ≡ Some r → ⊥
   nothing_at s e k r h = some_or_none r _ h (ap (λ (l : List (Option (Record M))). get_or l k None) e)
 
-  pub sound-empty : (s : Slab (Record M)) (es : List (ℕ × ℕ)) (spare : List M) → s.slots ≡ [] → es ≡ [] → IsStrictlySortedBy nat_cmp (keys_of es) → spare ≡ [] → IsSound s es (Some 0) spare 0
-  sound-empty s es spare e f ordered g =
-      let none : map.from_sorted {R = nat_cmp} es ≡ map.empty = none_ordered es f in
+  pub sound-empty : (s : Slab (Record M)) (keys : Keyed) (spare : List M) → s.slots ≡ [] → keys ≡ map.empty → spare ≡ [] → IsSound s keys (Some 0) spare 0
+  sound-empty s keys spare e none g =
       let no_sum : sum_by queued_in s.slots ≡ 0 = ap (λ (l : List (Option (Record M))). sum_by queued_in l) e in
       let no_spare : length spare ≡ 0 = ap length g in
       record {
-        ordered = ordered;
         indexed = record {
           found = λ q k h. absurd (nothing_in _ none q k h);
           held = λ k r h. absurd (nothing_at s e k r h);
@@ -47,19 +42,18 @@ module _ {M : Type 0} where
 
   -- ---- with one port more
 
-  module _ (s t : Slab (Record M)) (es fs : List (ℕ × ℕ)) (next then : Option ℕ) (spare : List M) (slots : ℕ) (so : IsSound s es next spare slots)
-      (v : PortsView M) (view_is : record { ports = ports_of (get s) (map.from_sorted es); made = made_of next; spare = length spare } ≡ v)
+  module _ (s t : Slab (Record M)) (keys new_keys : Keyed) (next then : Option ℕ) (spare : List M) (slots : ℕ) (so : IsSound s keys next spare slots)
+      (v : PortsView M) (view_is : record { ports = ports_of (get s) keys; made = made_of next; spare = length spare } ≡ v)
       (key : ℕ) (a : Record M) (vacant : get s key ≡ None) (changed : get t key ≡ Some a) (others : (other : ℕ) → other ≢ key → get t other ≡ get s other)
-      (id : a.id ≡ made_of next) (quiet : length a.queue ≡ 0) (ordered : IsStrictlySortedBy nat_cmp (keys_of fs))
-      (put : map.from_sorted {R = nat_cmp} fs ≡ map.insert (map.from_sorted es) (made_of next) key) (more : made_of then ≡ made_of next + 1) (fits : (n : ℕ) → then ≡ Some n → n < 2 ^ 64) where
+      (id : a.id ≡ made_of next) (quiet : length a.queue ≡ 0)
+      (put : new_keys ≡ map.insert keys (made_of next) key) (more : made_of then ≡ made_of next + 1) (fits : (n : ℕ) → then ≡ Some n → n < 2 ^ 64) where
     turns-came : Turns (get s) (get t) key (Some a)
     turns-came = record { changed = changed; others = others }
 
-    pub sound-came : IsSound t fs then spare slots
+    pub sound-came : IsSound t new_keys then spare slots
     sound-came = record {
-      ordered = ordered;
-      indexed = subst (λ n. IsIndexed (get t) (map.from_sorted fs) n) (sym more) (subst (λ (m : Keyed). IsIndexed (get t) m (made_of next + 1)) (sym put)
-          (indexed-came (get s) (get t) (map.from_sorted es) (made_of next) so.indexed key a vacant turns-came id));
+      indexed = subst (λ n. IsIndexed (get t) new_keys n) (sym more) (subst (λ (m : Keyed). IsIndexed (get t) m (made_of next + 1)) (sym put)
+          (indexed-came (get s) (get t) keys (made_of next) so.indexed key a vacant turns-came id));
       counted = ap (λ n. n + length spare) (sum_same t.slots s.slots (λ k. elim (equal_or_not k key) [
         | inl e ↦ ap (λ b. queued_in (get t b)) e ∙ ap queued_in changed ∙ quiet ∙ sym (ap (λ b. queued_in (get s b)) e ∙ ap queued_in vacant)
         | inr d ↦ ap queued_in (others k d)
@@ -68,30 +62,29 @@ module _ {M : Type 0} where
       next_fits = fits;
     }
 
-    pub view-came : ◌≡◌ {A = PortsView M} record { ports = ports_of (get t) (map.from_sorted fs); made = made_of then; spare = length spare }
+    pub view-came : ◌≡◌ {A = PortsView M} record { ports = ports_of (get t) new_keys; made = made_of then; spare = length spare }
         record { ports = map.insert v.ports v.made (port_of a); made = v.made + 1; spare = v.spare }
     view-came =
         let mk : map.FinMap nat_cmp (PortView M) → ℕ → PortsView M = λ ports made. record { ports = ports; made = made; spare = length spare } in
         ap (λ (m : Keyed). mk (ports_of (get t) m) (made_of then)) put
-        ∙ ap (λ ports. mk ports (made_of then)) (ports-came (get s) (get t) (map.from_sorted es) (made_of next) so.indexed key a vacant turns-came id)
-        ∙ ap (mk (map.insert (ports_of (get s) (map.from_sorted es)) (made_of next) (port_of a))) more
+        ∙ ap (λ ports. mk ports (made_of then)) (ports-came (get s) (get t) keys (made_of next) so.indexed key a vacant turns-came id)
+        ∙ ap (mk (map.insert (ports_of (get s) keys) (made_of next) (port_of a))) more
         ∙ ap (λ (b : PortsView M). let c : PortsView M = record { ports = map.insert b.ports b.made (port_of a); made = b.made + 1; spare = b.spare } in c) view_is
 
   -- ---- with one port less
 
-  module _ (s t : Slab (Record M)) (es fs : List (ℕ × ℕ)) (next : Option ℕ) (spare : List M) (slots : ℕ) (so : IsSound s es next spare slots)
-      (v : PortsView M) (view_is : record { ports = ports_of (get s) (map.from_sorted es); made = made_of next; spare = length spare } ≡ v)
-      (id key : ℕ) (r : Record M) (found : map.get (map.from_sorted {R = nat_cmp} es) id ≡ Some key) (here : get s key ≡ Some r) (quiet : length r.queue ≡ 0)
-      (changed : get t key ≡ None) (others : (other : ℕ) → other ≢ key → get t other ≡ get s other) (ordered : IsStrictlySortedBy nat_cmp (keys_of fs))
-      (out : map.from_sorted {R = nat_cmp} fs ≡ map.remove (map.from_sorted es) id) where
+  module _ (s t : Slab (Record M)) (keys new_keys : Keyed) (next : Option ℕ) (spare : List M) (slots : ℕ) (so : IsSound s keys next spare slots)
+      (v : PortsView M) (view_is : record { ports = ports_of (get s) keys; made = made_of next; spare = length spare } ≡ v)
+      (id key : ℕ) (r : Record M) (found : map.get keys id ≡ Some key) (here : get s key ≡ Some r) (quiet : length r.queue ≡ 0)
+      (changed : get t key ≡ None) (others : (other : ℕ) → other ≢ key → get t other ≡ get s other)
+      (out : new_keys ≡ map.remove keys id) where
     turns-went : Turns (get s) (get t) key None
     turns-went = record { changed = changed; others = others }
 
-    pub sound-went : IsSound t fs next spare slots
+    pub sound-went : IsSound t new_keys next spare slots
     sound-went = record {
-      ordered = ordered;
       indexed = subst (λ (m : Keyed). IsIndexed (get t) m (made_of next)) (sym out)
-          (indexed-went (get s) (get t) (map.from_sorted es) (made_of next) so.indexed id key found turns-went);
+          (indexed-went (get s) (get t) keys (made_of next) so.indexed id key found turns-went);
       counted = ap (λ n. n + length spare) (sum_same t.slots s.slots (λ k. elim (equal_or_not k key) [
         | inl e ↦ ap (λ b. queued_in (get t b)) e ∙ ap queued_in changed ∙ sym (ap (λ b. queued_in (get s b)) e ∙ ap queued_in here ∙ quiet)
         | inr d ↦ ap queued_in (others k d)
@@ -100,12 +93,12 @@ module _ {M : Type 0} where
       next_fits = so.next_fits;
     }
 
-    pub view-went : ◌≡◌ {A = PortsView M} record { ports = ports_of (get t) (map.from_sorted fs); made = made_of next; spare = length spare }
+    pub view-went : ◌≡◌ {A = PortsView M} record { ports = ports_of (get t) new_keys; made = made_of next; spare = length spare }
         record { ports = map.remove v.ports id; made = v.made; spare = v.spare }
     view-went =
         let mk : map.FinMap nat_cmp (PortView M) → PortsView M = λ ports. record { ports = ports; made = made_of next; spare = length spare } in
         ap (λ (m : Keyed). mk (ports_of (get t) m)) out
-        ∙ ap mk (ports-went (get s) (get t) (map.from_sorted es) (made_of next) so.indexed id key found turns-went)
+        ∙ ap mk (ports-went (get s) (get t) keys (made_of next) so.indexed id key found turns-went)
         ∙ ap (λ (b : PortsView M). let c : PortsView M = record { ports = map.remove b.ports id; made = b.made; spare = b.spare } in c) view_is
 
 -- the count of identities once one more was given

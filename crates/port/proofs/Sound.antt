@@ -11,10 +11,7 @@ use Rattle.port.specs.declared.Record.{Record}
 use Rattle.port.specs.Ports.{PortView, PortsView}
 use Rattle.port.specs.Records.{ports_of, queued_in, IsSound, made_of}
 use Rattle.port.proofs.Keys.{same_some, some_or_none}
-use Rattle.port.proofs.Records.{port_of, Turns, port_at, no_port_at, live_key, ports-changed, indexed-changed}
-use Rattle.std.specs.Map.{lookup}
-use Rattle.std.specs.BTreeMap.{is_at}
-use Rattle.port.proofs.Ordered.{get-from_ordered}
+use Rattle.port.proofs.Records.{Keyed, port_of, Turns, port_at, no_port_at, live_key, ports-changed, indexed-changed}
 
 pub no_true : false ≡ true → ⊥
 no_true e = cc
@@ -38,27 +35,26 @@ module _ {M : Type 0} where
         let one : queued_in (get_or s.slots key None) ≡ length r.queue = ap queued_in here in
         omega arith
 
-  module _ (s : Slab (Record M)) (es : List (ℕ × ℕ)) (next : Option ℕ) (spare left : List M) (slots : ℕ) (so : IsSound s es next spare slots)
-      (v : PortsView M) (view_is : record { ports = ports_of (get s) (map.from_sorted es); made = made_of next; spare = length spare } ≡ v)
-      (id key : ℕ) (r a : Record M) (found : map.get (map.from_sorted {R = nat_cmp} es) id ≡ Some key) (here : get s key ≡ Some r) (same : a.id ≡ r.id)
+  module _ (s : Slab (Record M)) (keys : Keyed) (next : Option ℕ) (spare left : List M) (slots : ℕ) (so : IsSound s keys next spare slots)
+      (v : PortsView M) (view_is : record { ports = ports_of (get s) keys; made = made_of next; spare = length spare } ≡ v)
+      (id key : ℕ) (r a : Record M) (found : map.get keys id ≡ Some key) (here : get s key ≡ Some r) (same : a.id ≡ r.id)
       (balance : length a.queue + length left ≡ length r.queue + length spare) where
     pub is_port : (p : PortView M) → map.get v.ports id ≡ Some p → p ≡ port_of r
-    is_port p h = same_some p (port_of r) (sym h ∙ sym (ap (λ (b : PortsView M). map.get b.ports id) view_is) ∙ port_at (get s) (map.from_sorted es) id key r found here)
+    is_port p h = same_some p (port_of r) (sym h ∙ sym (ap (λ (b : PortsView M). map.get b.ports id) view_is) ∙ port_at (get s) keys id key r found here)
 
-    pub sound-set : IsSound (with_value s key a) es next left slots
+    pub sound-set : IsSound (with_value s key a) keys next left slots
     sound-set = record {
-      ordered = so.ordered;
-      indexed = indexed-changed (get s) (get (with_value s key a)) (map.from_sorted es) (made_of next) so.indexed id key r a found here (turns-set s key r a here) same;
+      indexed = indexed-changed (get s) (get (with_value s key a)) keys (made_of next) so.indexed id key r a found here (turns-set s key r a here) same;
       counted = let e = so.counted in let f = sum-set s key r a here in omega arith;
       few = so.few;
       next_fits = so.next_fits;
     }
 
-    pub view-set : ◌≡◌ {A = PortsView M} record { ports = ports_of (get (with_value s key a)) (map.from_sorted es); made = made_of next; spare = length left }
+    pub view-set : ◌≡◌ {A = PortsView M} record { ports = ports_of (get (with_value s key a)) keys; made = made_of next; spare = length left }
         record { ports = map.insert v.ports id (port_of a); made = v.made; spare = length left }
     view-set =
         let mk : map.FinMap nat_cmp (PortView M) → ℕ → PortsView M = λ ports made. record { ports = ports; made = made; spare = length left } in
-        ap (λ ports. mk ports (made_of next)) (ports-changed (get s) (get (with_value s key a)) (map.from_sorted es) (made_of next) so.indexed id key r a found here (turns-set s key r a here) same)
+        ap (λ ports. mk ports (made_of next)) (ports-changed (get s) (get (with_value s key a)) keys (made_of next) so.indexed id key r a found here (turns-set s key r a here) same)
         ∙ ap (λ (b : PortsView M). mk (map.insert b.ports id (port_of a)) b.made) view_is
 
   -- ---- after a port has come
@@ -86,22 +82,19 @@ module _ {M : Type 0} where
 
   -- ---- a port by its identity
 
-  module _ (s : Slab (Record M)) (es : List (ℕ × ℕ)) (next : Option ℕ) (spare : List M) (slots : ℕ) (so : IsSound s es next spare slots)
-      (v : PortsView M) (view_is : record { ports = ports_of (get s) (map.from_sorted es); made = made_of next; spare = length spare } ≡ v) (id : ℕ) where
-    pub keyed : (o : Option ℕ) → o ≡ lookup (is_at (nat_cmp id)) es → map.get (map.from_sorted {R = nat_cmp} es) id ≡ o
-    keyed o e = get-from_ordered es id so.ordered ∙ sym e
-
-    pub record_at : (k : ℕ) → map.get (map.from_sorted {R = nat_cmp} es) id ≡ Some k → (r : Record M) × (get s k ≡ Some r) × (r.id ≡ id)
+  module _ (s : Slab (Record M)) (keys : Keyed) (next : Option ℕ) (spare : List M) (slots : ℕ) (so : IsSound s keys next spare slots)
+      (v : PortsView M) (view_is : record { ports = ports_of (get s) keys; made = made_of next; spare = length spare } ≡ v) (id : ℕ) where
+    pub record_at : (k : ℕ) → map.get keys id ≡ Some k → (r : Record M) × (get s k ≡ Some r) × (r.id ≡ id)
     record_at k h = so.indexed.found id k h
 
-    pub live_port : (k : ℕ) (r : Record M) → map.get (map.from_sorted {R = nat_cmp} es) id ≡ Some k → get s k ≡ Some r → map.get v.ports id ≡ Some (port_of r)
-    live_port k r h g = sym (ap (λ (b : PortsView M). map.get b.ports id) view_is) ∙ port_at (get s) (map.from_sorted es) id k r h g
+    pub live_port : (k : ℕ) (r : Record M) → map.get keys id ≡ Some k → get s k ≡ Some r → map.get v.ports id ≡ Some (port_of r)
+    live_port k r h g = sym (ap (λ (b : PortsView M). map.get b.ports id) view_is) ∙ port_at (get s) keys id k r h g
 
-    pub gone_port : map.get (map.from_sorted {R = nat_cmp} es) id ≡ None → map.get v.ports id ≡ None
-    gone_port h = sym (ap (λ (b : PortsView M). map.get b.ports id) view_is) ∙ no_port_at (get s) (map.from_sorted es) id h
+    pub gone_port : map.get keys id ≡ None → map.get v.ports id ≡ None
+    gone_port h = sym (ap (λ (b : PortsView M). map.get b.ports id) view_is) ∙ no_port_at (get s) keys id h
 
-    pub live_at : map.contains_key v.ports id ≡ true → (k : ℕ) × (map.get (map.from_sorted {R = nat_cmp} es) id ≡ Some k)
-    live_at h = live_key (get s) (map.from_sorted es) id (ap (λ (b : PortsView M). map.contains_key b.ports id) view_is ∙ h)
+    pub live_at : map.contains_key v.ports id ≡ true → (k : ℕ) × (map.get keys id ≡ Some k)
+    live_at h = live_key (get s) keys id (ap (λ (b : PortsView M). map.contains_key b.ports id) view_is ∙ h)
 
   -- the front as a list has it
   pub front_got : (o : Option (Bor M)) (l : List M) → (IsSome o → 0 < length l) → (0 < length l → IsSome o) → IfSome o (λ x. x.now ≡ get_or l 0 x.now) → option_copied o ≡ slice_get l 0

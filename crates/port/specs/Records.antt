@@ -2,15 +2,11 @@
 use Rattle.std.specs.Prelude.{◌≡◌, ℕ, ◌+◌, ◌<◌, ◌≤◌, ◌^◌, true, is_some, List, [], Option, Some, None, length}
 use Rattle.std.specs.Prelude as std
 use Rattle.std.specs.List.{sum_by}
-use Rattle.std.specs.List.Sorted.{IsStrictlySortedBy}
-use Rattle.std.specs.Map.{keys_of}
 use Rattle.std.specs.FinMap as map
 use Rattle.std.specs.Ordering.{nat_cmp}
 use Rattle.slab.specs.Slab.{Slab, get}
 use Rattle.port.specs.declared.Record.{Record}
-use Rattle.std.specs.BTreeMap.{BTreeMap}
-use Rattle.std.specs.BTreeMap.{get as key_in}
-use Rattle.port.specs.Ports.{PortView, first_attributes, IsAfter}
+use Rattle.port.specs.Ports.{PortView, first_attributes}
 
 -- the map with each value v replaced by f v
 abbrev pub with_values : {X : Type 0} → (ℕ → X) → map.FinMap nat_cmp ℕ → map.FinMap nat_cmp X
@@ -20,12 +16,6 @@ with_values f m = map.from_sorted (std.map (λ e. (e.0, f e.1)) (map.entries m))
 abbrev pub made_of : Option ℕ → ℕ
 made_of None = 2 ^ 64
 made_of (Some next) = next
-
--- the least key of the index after the one before
-pub record IsNextKey (index : BTreeMap ℕ ℕ) (before found : Option ℕ) : Type 0 where
-  pub there : (id : ℕ) → found ≡ Some id → is_some (key_in nat_cmp index id) ≡ true
-  pub later : (id : ℕ) → found ≡ Some id → IsAfter before id
-  pub least : (q : ℕ) → is_some (key_in nat_cmp index q) ≡ true → IsAfter before q → (id : ℕ) × (found ≡ Some id) × (id ≤ q)
 
 module _ {M : Type 0} where
   abbrev pub port_in : Option (Record M) → PortView M
@@ -46,9 +36,8 @@ module _ {M : Type 0} where
     pub held : (key : ℕ) (r : Record M) → at key ≡ Some r → map.get keys r.id ≡ Some key
     pub given : (id key : ℕ) → map.get keys id ≡ Some key → id < made
 
-  pub record IsSound (s : Slab (Record M)) (entries : List (ℕ × ℕ)) (next : Option ℕ) (spare : List M) (slots : ℕ) : Type 0 where
-    pub ordered : IsStrictlySortedBy nat_cmp (keys_of entries)
-    pub indexed : IsIndexed (get s) (map.from_sorted entries) (made_of next)
+  pub record IsSound (s : Slab (Record M)) (keys : map.FinMap nat_cmp ℕ) (next : Option ℕ) (spare : List M) (slots : ℕ) : Type 0 where
+    pub indexed : IsIndexed (get s) keys (made_of next)
     pub counted : sum_by queued_in s.slots + length spare ≡ slots
     pub few : slots < 2 ^ 63
     pub next_fits : (n : ℕ) → next ≡ Some n → n < 2 ^ 64

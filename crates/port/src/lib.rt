@@ -9,19 +9,20 @@ ghost use Rattle.std.specs.Prelude.{◌≡◌, ◌≢◌, ℕ, ◌+◌, ◌-◌,
 ghost use Rattle.std.specs.Option.{option_map, option_and_then};
 ghost use Rattle.std.specs.FinMap as map;
 ghost use Rattle.std.specs.Ordering.{nat_cmp};
-ghost use Rattle.std.specs.BTreeMap.{get as key_in};
+ghost use Rattle.number_map.specs.Maps.{MapView};
 ghost use Rattle.slab.specs.Slab.{get, with_value};
 ghost use Rattle.port.specs.declared.Record.{Record as AnyRecord};
-ghost use Rattle.port.specs.Records.{IsNextKey};
+ghost use Rattle.port.specs.Ports.{IsAfter};
+ghost use Rattle.port.specs.Records.{made_of};
 
 use mach_types::limits::FIRST_LIMIT;
 use mach_types::{PortId, SetId};
+use number_map::NumberMap;
 use slab::Slab;
 use std::alloc::{AllocError, Global};
-use std::collections::{BTreeMap, LinkedList};
+use std::collections::LinkedList;
 use std::marker::Model;
 use std::mem;
-use std::ops::Bound;
 
 // A list has fewer elements than this.
 const MOST_SLOTS: usize = 1 << 63;
@@ -69,15 +70,14 @@ struct Record<M> {
     attributes: Attributes,
 }
 
-// A port without messages takes its record in the slab, and a pair of numbers in the index, whose
-// nodes are at least five elevenths full: fewer than 200 bytes.
+// A port without messages takes its record in the slab, and its place in the index.
 const _: () = prove!(mem::size_of::<Record<u8>>() <= 112);
 
 /// Ports by identity, and spare message slots. Without ports and slots nothing is allocated.
 #[derive(Drop)]
 pub struct Ports<M: Message> {
     records: Slab<Record<M>>,
-    by_id: BTreeMap<u64, usize>,
+    by_id: NumberMap<usize>,
     next: Option<u64>,
     spare: LinkedList<M>,
     slots: usize,
@@ -92,17 +92,16 @@ impl<M: Message> Model for Ports<M> {
 
     ghost coded = { ports_code M.code attributes.the_row.coded };
 
-    ghost use Rattle.std.specs.FinMap as map;
     ghost use Rattle.slab.specs.Slab.{get};
     ghost use Rattle.port.specs.Records.{ports_of, made_of, IsSound};
 
     ghost view = { λ a. record {
-      ports = ports_of (get a.records) (map.from_sorted a.by_id.entries);
+      ports = ports_of (get a.records) a.by_id.map;
       made = made_of a.next;
       spare = length a.spare;
     } };
 
-    ghost invariant = { λ a. IsSound a.records a.by_id.entries a.next a.spare a.slots };
+    ghost invariant = { λ a. IsSound a.records a.by_id.map a.next a.spare a.slots };
 }
 
 // So many slots that no message is in.
@@ -196,27 +195,32 @@ fn set_at<M: Message>(records: &mut Slab<Record<M>>, key: usize, attributes: Att
 }
 
 // The key of a port's record, if the port is there.
-fn key_of(by_id: &BTreeMap<u64, usize>, port: PortId) -> Option<usize>
-    ensures { result ≡ key_in nat_cmp by_id.now port }
+fn key_of(by_id: &NumberMap<usize>, port: PortId) -> Option<usize>
+    ensures { result ≡ map.get by_id.now.map port }
 {
-    by_id.get(&port.number()).copied()
+    by_id.get(port.number())
 }
 
-// The least key of all.
-fn first_key(by_id: &BTreeMap<u64, usize>) -> Option<PortId>
-    ensures { IsNextKey by_id.now None result }
+// Whether the number was given out, where this is the next, or none is left.
+fn is_given(next: Option<u64>, number: u64) -> bool
+    ensures { IsTrue result ↔ (number < made_of next) }
 {
-    let (id, _) = by_id.range(..).next()?;
-    Some(PortId::new(*id))
+    match next {
+        Some(next) => number < next,
+        None => true,
+    }
 }
 
-// The least key after this one.
-fn key_after(by_id: &BTreeMap<u64, usize>, before: PortId) -> Option<PortId>
-    ensures { IsNextKey by_id.now (Some before) result }
+// The number after this one's, or, after none, the first.
+fn number_after(before: Option<PortId>) -> Option<u64>
+    ensures passed { (q : ℕ) → IsAfter before q → made_of result ≤ q }
+    ensures after { (q : ℕ) → result ≡ Some q → IsAfter before q }
+    ensures fits { (q : ℕ) → result ≡ Some q → q < 2 ^ 64 }
 {
-    let later = (Bound::Excluded(before.number()), Bound::Unbounded);
-    let (id, _) = by_id.range(later).next()?;
-    Some(PortId::new(*id))
+    match before {
+        Some(port) => port.number().checked_add(1),
+        None => Some(0),
+    }
 }
 
 impl<M: Message> Ports<M> {
@@ -229,7 +233,7 @@ impl<M: Message> Ports<M> {
     {
         Ports {
             records: Slab::new(alloc),
-            by_id: BTreeMap::new(alloc),
+            by_id: NumberMap::new(alloc),
             next: Some(0),
             spare: LinkedList::new(alloc),
             slots: 0,
@@ -275,8 +279,8 @@ impl<M: Message> Ports<M> {
     }
 
     /// Makes a port: no messages, limit 5, counts 0, in no set (Port Manipulation Interface,
-    /// `mach_port_allocate`). Its identity is the number of ports made before. Logarithmic in the
-    /// number of ports, but where the records move to a larger place.
+    /// `mach_port_allocate`). Its identity is the number of ports made before. Constant time,
+    /// but where the records or the index move to a larger place.
     ///
     /// An error means that memory was refused; all is then as before.
     pub fn allocate(&mut self) -> Result<PortId, AllocError>
@@ -288,23 +292,24 @@ impl<M: Message> Ports<M> {
         let number = self.next.unwrap();
         let id = PortId::new(number);
         self.records.reserve(1)?;
-        self.by_id.insert(number, self.records.vacant_key())?;
-        self.records.insert_reserved(Record {
+        self.by_id.reserve(1)?;
+        let key = self.records.insert_reserved(Record {
             id,
             queue: LinkedList::new(*self.spare.allocator()),
             attributes: Attributes::first(),
         });
+        self.by_id.insert(number, key);
         self.next = number.checked_add(1);
         Ok(id)
     }
 
     /// Removes a port that has no messages; what was allocated for it is freed or kept for others.
-    /// Takes no memory. Logarithmic in the number of ports.
+    /// Takes no memory. Constant time.
     pub fn remove(&mut self, port: PortId)
         requires { (p : PortView M) → map.get self.old.ports port ≡ Some p → length p.queue ≡ 0 }
         ensures { self.new ≡ record self.old { ports = map.remove self.old.ports port } }
     {
-        match self.by_id.remove(&port.number()) {
+        match self.by_id.remove(port.number()) {
             Some(key) => {
                 self.records.remove(key);
             }
@@ -312,7 +317,7 @@ impl<M: Message> Ports<M> {
         }
     }
 
-    /// A port's attributes, if the port is there. Logarithmic in the number of ports.
+    /// A port's attributes, if the port is there. Constant time.
     pub fn attributes(&self, port: PortId) -> Option<Attributes>
         ensures { result ≡ option_map (λ p. p.attributes) (map.get self.now.ports port) }
     {
@@ -321,17 +326,24 @@ impl<M: Message> Ports<M> {
     }
 
     /// The port with the least identity after this one, or, after none, with the least of all: so one
-    /// goes over all ports. Logarithmic in the number of ports.
+    /// goes over all ports. Linear in the number of identities between the two.
     pub fn next_after(&self, before: Option<PortId>) -> Option<PortId>
         ensures { IsNext self.now before result }
     {
-        match before {
-            Some(port) => key_after(&self.by_id, port),
-            None => first_key(&self.by_id),
+        let mut candidate = number_after(before);
+        while let Some(number) = candidate {
+            if !is_given(self.next, number) {
+                return None;
+            }
+            if self.by_id.get(number).is_some() {
+                return Some(PortId::new(number));
+            }
+            candidate = number.checked_add(1);
         }
+        None
     }
 
-    /// Sets a port's attributes. Takes no memory. Logarithmic in the number of ports.
+    /// Sets a port's attributes. Takes no memory. Constant time.
     pub fn set_attributes(&mut self, port: PortId, attributes: Attributes)
         requires { IsLive self.old port }
         ensures { (p : PortView M) → map.get self.old.ports port ≡ Some p → self.new ≡ with_port self.old port (record p { attributes = attributes }) }
@@ -340,7 +352,7 @@ impl<M: Message> Ports<M> {
         set_at(&mut self.records, key, attributes);
     }
 
-    /// How many messages a port has, 0 where it is gone. Logarithmic in the number of ports.
+    /// How many messages a port has, 0 where it is gone. Constant time.
     pub fn queued(&self, port: PortId) -> usize
         ensures live { (p : PortView M) → map.get self.now.ports port ≡ Some p → result ≡ length p.queue }
         ensures gone { map.get self.now.ports port ≡ None → result ≡ 0 }
@@ -351,8 +363,7 @@ impl<M: Message> Ports<M> {
         }
     }
 
-    /// The message at the front of a port's queue, if the port is there and has one. Logarithmic in
-    /// the number of ports.
+    /// The message at the front of a port's queue, if the port is there and has one. Constant time.
     pub fn front(&self, port: PortId) -> Option<&M>
         ensures { option_copied result ≡ option_and_then (λ p. slice_get p.queue 0) (map.get self.now.ports port) }
     {
@@ -360,8 +371,7 @@ impl<M: Message> Ports<M> {
         self.records[key].queue.front()
     }
 
-    /// Puts a message at the end of a port's queue, in a spare slot. Takes no memory. Logarithmic in
-    /// the number of ports.
+    /// Puts a message at the end of a port's queue, in a spare slot. Takes no memory. Constant time.
     pub fn enqueue(&mut self, port: PortId, message: M)
         requires live { IsLive self.old port }
         requires spare { 0 < self.old.spare }
@@ -373,8 +383,7 @@ impl<M: Message> Ports<M> {
     }
 
     /// Takes the message at the front of a port's queue; its slot is spare again. `None` where the
-    /// port is gone or has none, and all is then as before. Takes no memory. Logarithmic in the number
-    /// of ports.
+    /// port is gone or has none, and all is then as before. Takes no memory. Constant time.
     pub fn dequeue(&mut self, port: PortId) -> Option<M>
         ensures front { result ≡ option_and_then (λ p. slice_get p.queue 0) (map.get self.old.ports port) }
         ensures taken { (p : PortView M) → map.get self.old.ports port ≡ Some p → IfSome result (λ m. self.new ≡ record (with_port self.old port (record p { queue = drop 1 p.queue })) { spare = self.old.spare + 1 }) }

@@ -1,12 +1,11 @@
 use Rattle.std.proofs.Common.{◌≡◌, ◌≢◌, ◌+◌, ◌<◌, ◌^◌, ℕ, None, ap, sym, ◌∙◌, List, [], length}
 use Rattle.std.specs.FinMap as map
-use Rattle.std.specs.Ordering.{nat_cmp}
+use Rattle.number_map.specs.Maps.{MapView}
 use Rattle.slab.specs.Slab.{Slab, get}
 use Rattle.port.specs.declared.Attributes.{Attributes}
 use Rattle.port.specs.declared.Record.{Record}
 use Rattle.port.specs.Ports.{PortView, PortsView}
 use Rattle.port.specs.Records.{made_of}
-use Rattle.port.proofs.Ordered.{insert-from_ordered}
 use Rattle.port.proofs.Grown.{made_more, next_in_range, sound-came, view-came}
 use Rattle.port.proofs.Ports.allocate.Goals as goal
 
@@ -16,15 +15,14 @@ invariant_of-self-2 g c =
     let number : made_of c.self.inside.next ≡ c.unwrap-number.result = ap made_of c.unwrap-number.ensures in
     let few : c.unwrap-number.result < 2 ^ 64 = c.self.invariant.next_fits c.unwrap-number.result c.unwrap-number.ensures in
     let kept : (k : ℕ) → get c.reserve.new.self k ≡ get c.self.inside.records k = λ k. ap (λ (s : Slab (Record g.row.M.Denot)). get s k) c.reserve.ensures.rest_kept in
-    let vacant : get c.self.inside.records c.insert_reserved.result ≡ None = sym (kept c.insert_reserved.result) ∙ c.insert_reserved.ensures.was_vacant in
-    let others : (other : ℕ) → other ≢ c.insert_reserved.result → get c.insert_reserved.new.self other ≡ get c.self.inside.records other = λ other d. c.insert_reserved.ensures.updates.others other d ∙ kept other in
-    let key : c.vacant_key.result ≡ c.insert_reserved.result = c.vacant_key.ensures.value ∙ sym c.insert_reserved.ensures.key in
-    let put : map.from_sorted {R = nat_cmp} c.insert.new.self.entries ≡ map.insert (map.from_sorted c.self.inside.by_id.entries) (made_of c.self.inside.next) c.insert_reserved.result =
-    insert-from_ordered c.self.inside.by_id.entries c.insert.new.self.entries c.unwrap-number.result c.self.invariant.ordered c.insert.ensures.ordered c.vacant_key.result c.in_ok-insert.ensures.updates.0
-    ∙ ap (map.insert (map.from_sorted c.self.inside.by_id.entries) c.unwrap-number.result) key
-    ∙ ap (λ n. map.insert (map.from_sorted c.self.inside.by_id.entries) n c.insert_reserved.result) (sym number) in
-    sound-came c.self.inside.records c.insert_reserved.new.self c.self.inside.by_id.entries c.insert.new.self.entries c.self.inside.next c.checked_add-self-inside.result c.self.inside.spare c.self.inside.slots c.self.invariant c.args.self.now c.self.view_is
-    c.insert_reserved.result a vacant c.insert_reserved.ensures.updates.changed others (c.new-id.ensures ∙ sym number) (ap length c.new.ensures) c.insert.ensures.ordered put
+    let vacant : get c.self.inside.records c.insert_reserved-key.result ≡ None = sym (kept c.insert_reserved-key.result) ∙ c.insert_reserved-key.ensures.was_vacant in
+    let others : (other : ℕ) → other ≢ c.insert_reserved-key.result → get c.insert_reserved-key.new.self other ≡ get c.self.inside.records other = λ other d. c.insert_reserved-key.ensures.updates.others other d ∙ kept other in
+    let put : c.insert.new.self.map ≡ map.insert c.self.inside.by_id.map (made_of c.self.inside.next) c.insert_reserved-key.result =
+    ap (λ (w : MapView ℕ). w.map) c.insert.ensures
+    ∙ ap (λ (w : MapView ℕ). map.insert w.map c.unwrap-number.result c.insert_reserved-key.result) c.in_ok-reserve-2.ensures.ok
+    ∙ ap (λ n. map.insert c.self.inside.by_id.map n c.insert_reserved-key.result) (sym number) in
+    sound-came c.self.inside.records c.insert_reserved-key.new.self c.self.inside.by_id.map c.insert.new.self.map c.self.inside.next c.checked_add-self-inside.result c.self.inside.spare c.self.inside.slots c.self.invariant c.args.self.now c.self.view_is
+    c.insert_reserved-key.result a vacant c.insert_reserved-key.ensures.updates.changed others (c.new-id.ensures ∙ sym number) (ap length c.new.ensures) put
     (made_more c.checked_add-self-inside.result c.unwrap-number.result c.checked_add-self-inside.ensures few ∙ ap (λ n. n + 1) (sym number)) (next_in_range c.checked_add-self-inside.result c.unwrap-number.result c.checked_add-self-inside.ensures)
 
 pub returns-clause-ok : goal.returns-clause-ok
@@ -33,19 +31,18 @@ returns-clause-ok g c =
     let number : made_of c.self.inside.next ≡ c.unwrap-number.result = ap made_of c.unwrap-number.ensures in
     let few : c.unwrap-number.result < 2 ^ 64 = c.self.invariant.next_fits c.unwrap-number.result c.unwrap-number.ensures in
     let kept : (k : ℕ) → get c.reserve.new.self k ≡ get c.self.inside.records k = λ k. ap (λ (s : Slab (Record g.row.M.Denot)). get s k) c.reserve.ensures.rest_kept in
-    let vacant : get c.self.inside.records c.insert_reserved.result ≡ None = sym (kept c.insert_reserved.result) ∙ c.insert_reserved.ensures.was_vacant in
-    let others : (other : ℕ) → other ≢ c.insert_reserved.result → get c.insert_reserved.new.self other ≡ get c.self.inside.records other = λ other d. c.insert_reserved.ensures.updates.others other d ∙ kept other in
-    let key : c.vacant_key.result ≡ c.insert_reserved.result = c.vacant_key.ensures.value ∙ sym c.insert_reserved.ensures.key in
-    let put : map.from_sorted {R = nat_cmp} c.insert.new.self.entries ≡ map.insert (map.from_sorted c.self.inside.by_id.entries) (made_of c.self.inside.next) c.insert_reserved.result =
-    insert-from_ordered c.self.inside.by_id.entries c.insert.new.self.entries c.unwrap-number.result c.self.invariant.ordered c.insert.ensures.ordered c.vacant_key.result c.in_ok-insert.ensures.updates.0
-    ∙ ap (map.insert (map.from_sorted c.self.inside.by_id.entries) c.unwrap-number.result) key
-    ∙ ap (λ n. map.insert (map.from_sorted c.self.inside.by_id.entries) n c.insert_reserved.result) (sym number) in
+    let vacant : get c.self.inside.records c.insert_reserved-key.result ≡ None = sym (kept c.insert_reserved-key.result) ∙ c.insert_reserved-key.ensures.was_vacant in
+    let others : (other : ℕ) → other ≢ c.insert_reserved-key.result → get c.insert_reserved-key.new.self other ≡ get c.self.inside.records other = λ other d. c.insert_reserved-key.ensures.updates.others other d ∙ kept other in
+    let put : c.insert.new.self.map ≡ map.insert c.self.inside.by_id.map (made_of c.self.inside.next) c.insert_reserved-key.result =
+    ap (λ (w : MapView ℕ). w.map) c.insert.ensures
+    ∙ ap (λ (w : MapView ℕ). map.insert w.map c.unwrap-number.result c.insert_reserved-key.result) c.in_ok-reserve-2.ensures.ok
+    ∙ ap (λ n. map.insert c.self.inside.by_id.map n c.insert_reserved-key.result) (sym number) in
     let after : List g.row.M.Denot → Attributes → PortsView g.row.M.Denot = λ l b. record {
       ports = map.insert c.args.self.now.ports c.args.self.now.made (let q : PortView g.row.M.Denot = record { queue = l; attributes = b } in q);
       made = c.args.self.now.made + 1;
       spare = c.args.self.now.spare;
     } in
-    view-came c.self.inside.records c.insert_reserved.new.self c.self.inside.by_id.entries c.insert.new.self.entries c.self.inside.next c.checked_add-self-inside.result c.self.inside.spare c.self.inside.slots c.self.invariant c.args.self.now c.self.view_is
-    c.insert_reserved.result a vacant c.insert_reserved.ensures.updates.changed others (c.new-id.ensures ∙ sym number) (ap length c.new.ensures) c.insert.ensures.ordered put
+    view-came c.self.inside.records c.insert_reserved-key.new.self c.self.inside.by_id.map c.insert.new.self.map c.self.inside.next c.checked_add-self-inside.result c.self.inside.spare c.self.inside.slots c.self.invariant c.args.self.now c.self.view_is
+    c.insert_reserved-key.result a vacant c.insert_reserved-key.ensures.updates.changed others (c.new-id.ensures ∙ sym number) (ap length c.new.ensures) put
     (made_more c.checked_add-self-inside.result c.unwrap-number.result c.checked_add-self-inside.ensures few ∙ ap (λ n. n + 1) (sym number)) (next_in_range c.checked_add-self-inside.result c.unwrap-number.result c.checked_add-self-inside.ensures)
     ∙ ap (λ l. after l c.first.result) c.new.ensures ∙ ap (after []) c.first.ensures

@@ -3,15 +3,15 @@ use Rattle.std.specs.FinMap as map
 use Rattle.std.specs.Ordering.{nat_cmp}
 use Rattle.slab.specs.Slab.{get}
 use Rattle.port.specs.Ports.{PortView, PortsView}
-use Rattle.port.proofs.Ordered.{none_ordered}
+use Rattle.number_map.specs.Maps.{MapView}
 use Rattle.port.proofs.Grown.{sound-empty, ports-empty}
 use Rattle.port.proofs.Ports.new.Goals as goal
 
 pub invariant_of-result : goal.invariant_of-result
-invariant_of-result g c = sound-empty c.new.result c.new-2.result.entries c.new-3.result c.new.ensures.empty c.new-2.ensures.empty c.new-2.ensures.ordered c.new-3.ensures
+invariant_of-result g c = sound-empty c.new.result c.new-2.result.map c.new-3.result c.new.ensures.empty (ap (λ (w : MapView ℕ). w.map) c.new-2.ensures) c.new-3.ensures
 
 pub returns : goal.returns
 returns g c =
     let mk : map.FinMap nat_cmp (PortView g.row.M.Denot) → ℕ → PortsView g.row.M.Denot = λ ports n. record { ports = ports; made = 0; spare = n } in
-    ap (λ ports. mk ports (length c.new-3.result)) (ports-empty (get c.new.result) (map.from_sorted {R = nat_cmp} c.new-2.result.entries) (none_ordered c.new-2.result.entries c.new-2.ensures.empty))
+    ap (λ ports. mk ports (length c.new-3.result)) (ports-empty (get c.new.result) c.new-2.result.map (ap (λ (w : MapView ℕ). w.map) c.new-2.ensures))
     ∙ ap (λ l. mk map.empty (length l)) c.new-3.ensures

@@ -1,12 +1,26 @@
-use Rattle.std.proofs.Common.{subst, sym, Some, None, Option, ℕ}
-use Rattle.port.specs.Ports.{IsNext}
-use Rattle.port.proofs.Next.{next_port}
+use Rattle.std.proofs.Common.{ℕ, Option, sym, subst, ap, ◌∙◌, is_some}
+use Rattle.port.proofs.Next.{IsWalked, walked_on, walked_out, walked_to, walked_all, not_given}
 use Rattle.port.proofs.Ports.next_after.Goals as goal
 
-pub returns-in-Some : goal.returns-in-Some
-returns-in-Some g c = subst (λ (before : Option ℕ). IsNext c.args.self.now before c.key_after.result) (sym c.in-Some.is)
-    (next_port c.self.inside.records c.self.inside.by_id c.self.inside.next c.self.inside.spare c.self.inside.slots c.self.invariant c.args.self.now c.self.view_is (Some c.in-Some.port) c.key_after.result c.key_after.ensures)
+pub returns-then-not-is_given : goal.returns-then-not-is_given
+returns-then-not-is_given g c =
+    walked_out c.self.inside.records c.self.inside.by_id.map c.self.inside.next c.self.inside.spare c.self.inside.slots c.self.invariant c.args.self.now c.self.view_is
+    c.args.before c.in-Some.number (subst (λ (o : Option ℕ). IsWalked c.args.self.now c.args.before o) c.in-Some.is c.loop-candidate.invariant)
+    (not_given c.is_given.result c.in-Some.number _ c.is_given.ensures.1 c.if-not-is_given.true)
 
-pub returns-in-None : goal.returns-in-None
-returns-in-None g c = subst (λ (before : Option ℕ). IsNext c.args.self.now before c.first_key.result) (sym c.in-None.is)
-    (next_port c.self.inside.records c.self.inside.by_id c.self.inside.next c.self.inside.spare c.self.inside.slots c.self.invariant c.args.self.now c.self.view_is None c.first_key.result c.first_key.ensures)
+pub returns-then-is_some : goal.returns-then-is_some
+returns-then-is_some g c =
+    walked_to c.self.inside.records c.self.inside.by_id.map c.self.inside.next c.self.inside.spare c.self.inside.slots c.self.invariant c.args.self.now c.self.view_is
+    c.args.before c.in-Some.number (subst (λ (o : Option ℕ). IsWalked c.args.self.now c.args.before o) c.in-Some.is c.loop-candidate.invariant)
+    c.new.result c.new.ensures (ap is_some (sym c.get.ensures) ∙ sym c.is_some.ensures ∙ c.if-is_some.true)
+
+pub loop-candidate-preserved : goal.loop-candidate-preserved
+loop-candidate-preserved g c =
+    walked_on c.self.inside.records c.self.inside.by_id.map c.self.inside.next c.self.inside.spare c.self.inside.slots c.self.invariant c.args.self.now c.self.view_is
+    c.args.before c.in-Some.number (subst (λ (o : Option ℕ). IsWalked c.args.self.now c.args.before o) c.in-Some.is c.loop-candidate.invariant)
+    c.checked_add-candidate.result c.checked_add-candidate.ensures (ap is_some (sym c.get.ensures) ∙ sym c.is_some.ensures ∙ c.if-is_some.false)
+
+pub returns : goal.returns
+returns g c =
+    walked_all c.self.inside.records c.self.inside.by_id.map c.self.inside.next c.self.inside.spare c.self.inside.slots c.self.invariant c.args.self.now c.self.view_is
+    c.args.before (subst (λ (o : Option ℕ). IsWalked c.args.self.now c.args.before o) c.in_default.is c.loop-candidate.invariant)
