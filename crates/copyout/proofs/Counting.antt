@@ -67,12 +67,12 @@ or_false : (a : Bool) → a || false ≡ a
 or_false true = refl
 or_false false = refl
 
-named_by-push : (xs : List Carried) (c : Carried) (p : ℕ) → named_by (xs ++ c ∷ []) p ≡ named_by xs p || names_port (kind_sent c.given) c.mark p
+pub named_by-push : (xs : List Carried) (c : Carried) (p : ℕ) → named_by (xs ++ c ∷ []) p ≡ named_by xs p || names_port (kind_sent c.given) c.mark p
 named_by-push [] c p = or_false (names_port (kind_sent c.given) c.mark p)
 named_by-push (x ∷ xs) c p =
     ap (λ b. names_port (kind_sent x.given) x.mark p || b) (named_by-push xs c p) ∙ sym (or_assoc (names_port (kind_sent x.given) x.mark p) (named_by xs p) (names_port (kind_sent c.given) c.mark p))
 
-or_true : (a b : Bool) → a || b ≡ true → (a ≡ true) ⊎ (b ≡ true)
+pub or_true : (a b : Bool) → a || b ≡ true → (a ≡ true) ⊎ (b ≡ true)
 or_true true b h = inl refl
 or_true false b h = inr h
 

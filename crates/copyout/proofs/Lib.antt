@@ -18,3 +18,4 @@ pub mod Counted
 pub mod Rooms
 pub mod Puts
 pub mod Spared
+pub mod Marking

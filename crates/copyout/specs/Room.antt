@@ -1,5 +1,5 @@
 -- How many names the rights of a message need, told from the names that the task has now. No public clause cites this module.
-use Rattle.std.specs.Prelude.{◌≡◌, ◌≢◌, ℕ, ◌+◌, ◌⊎◌, Bool, true, false, ◌||◌, ◌==◌, List, [], ◌∷◌, ◌++◌, Some, is_some}
+use Rattle.std.specs.Prelude.{◌≡◌, ◌≢◌, ℕ, ◌+◌, ◌⊎◌, Bool, true, false, ◌||◌, ◌==◌, List, [], ◌∷◌, ◌++◌, ◌%◌, Some, is_some, length, slice_get}
 use Rattle.std.specs.FinMap as map
 use Rattle.mach_types.specs.Numbers.{kind_sent}
 use Rattle.mach_types.specs.Tokens.{Kind, receive, send, send_once}
@@ -29,6 +29,13 @@ IsNamed names p = (name : ℕ) × (port_at names name ≡ Some p)
 
 abbrev pub HasNone : Names → (port : ℕ) → Type 0
 HasNone names p = (name : ℕ) → port_at names name ≢ Some p
+
+abbrev pub IsMarked : (marks : List Bool) → (port : ℕ) → Type 0
+IsMarked marks p = slice_get marks (p % length marks) ≡ Some true
+
+-- Each port that the task has no name for, and that one of the rights gives a name for, is marked.
+abbrev pub Marks : (marks : List Bool) → Names → List Carried → Type 0
+Marks marks names carried = (p : ℕ) → HasNone names p → named_by carried p ≡ true → IsMarked marks p
 
 -- Behind these rights the right needs a name of its own.
 pub record Owns (ports : PortsView Kept) (names : Names) (earlier : List Carried) (c : Carried) : Type 0 where

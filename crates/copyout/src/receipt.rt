@@ -271,8 +271,7 @@ fn judge(
 ///   name of its own there is none, once those before it were given.
 /// - [`Refusal::Memory`]: neither, memory was wanted, and it was refused.
 ///
-/// The time grows with the number of rights, and with its square for rights for ports that the task has
-/// no name for: each is compared with those before it.
+/// The time grows with the number of rights, but where there are more than 1,000, as [`room_needed`] does.
 pub fn receive(
     world: &mut World,
     alloc: Global,

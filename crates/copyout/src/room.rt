@@ -1,5 +1,5 @@
 //! How many names of the receiver the rights of a message need.
-ghost use Rattle.std.specs.Prelude.{◌≡◌, ◌≢◌, ℕ, ◌+◌, ◌<◌, ◌≤◌, ◌↔◌, ◌++◌, [], ◌∷◌, ◌⊎◌, List, Some, None, is_some, true, false, IsTrue, MatchBool, IfSome, IfNone, length, slice_get};
+ghost use Rattle.std.specs.Prelude.{◌≡◌, ◌≢◌, ℕ, ◌+◌, ◌<◌, ◌≤◌, ◌↔◌, ◌++◌, ◌%◌, [], ◌∷◌, List, Some, None, is_some, true, false, IsTrue, MatchBool, IfSome, IfNone, length, slice_get, slice_set};
 ghost use Rattle.std.specs.FinMap as map;
 ghost use Rattle.mach_types.specs.Numbers.{kind_sent};
 ghost use Rattle.mach_types.specs.Tokens.{send_once};
@@ -8,11 +8,17 @@ ghost use Rattle.copyin_base.specs.declared.message.Carried.{Carried as AnyCarri
 ghost use Rattle.copyin_base.specs.declared.message.Mark.TheVariants as mark;
 ghost use Rattle.std.specs.Option.{option_to_list};
 ghost use Rattle.copyout.specs.Ready.{carried_by};
-ghost use Rattle.copyout.specs.Room.{names_port, named_by, IsThere, IsNamed, HasNone, Owns, Shares, Needs};
+ghost use Rattle.copyout.specs.Room.{names_port, named_by, HasNone, Owns, Shares, Needs, IsMarked, Marks};
 
 use copyin_base::{Carried, Mark, Message, World};
 use mach_types::{Disposition, Name, PortId};
 use name_space::Space;
+
+// So few rights are all compared with those before them.
+const FEW: usize = 8;
+
+// In so many places the ports of more rights are marked.
+const PLACES: usize = 1024;
 
 // Whether the receiver has a name for the port once the right was given.
 fn names_port(carried: &Carried, port: PortId) -> bool
@@ -66,46 +72,69 @@ pub(crate) fn has_port(world: &World, port: PortId) -> bool
     world.ports.attributes(port).is_some()
 }
 
-// The port that the right is for, if it is there.
-fn port_there(world: &World, carried: &Carried) -> Option<PortId>
-    ensures some { IfSome result (λ p. (carried.now.mark ≡ mark.Port p) × IsThere world.now.ports p) }
-    ensures none { IfNone result ((p : ℕ) → carried.now.mark ≡ mark.Port p → is_some (map.get world.now.ports.ports p) ≡ false) }
+// Where a port is marked.
+fn place_of(marks: &[bool], port: PortId) -> usize
+    requires { 0 < length marks.now }
+    ensures { result ≡ port % length marks.now }
 {
-    match &carried.mark {
-        Mark::Port(port) => {
-            if has_port(world, *port) {
-                Some(*port)
-            } else {
-                None
-            }
-        }
-        Mark::Null | Mark::Dead => None,
-    }
+    (port.number() % marks.len() as u64) as usize
 }
 
-// Whether the port has a name in the space, or will have one once the earlier rights were given.
-fn has_name(space: &Space, reply: &Option<Carried>, earlier: &[Carried], port: PortId) -> bool
-    ensures { MatchBool result (IsNamed space.now.names port ⊎ (named_by (option_to_list reply.now ++ earlier.now) port ≡ true))
-        (HasNone space.now.names port × (named_by (option_to_list reply.now ++ earlier.now) port ≡ false)) }
+// Whether the right to answer with, or an earlier one, gives a name for the port, which is marked then:
+// they are compared only where it is.
+fn is_named_before(
+    marks: &[bool],
+    reply: &Option<Carried>,
+    earlier: &[Carried],
+    port: PortId,
+) -> bool
+    requires some { 0 < length marks.now }
+    requires marked { named_by (option_to_list reply.now ++ earlier.now) port ≡ true → IsMarked marks.now port }
+    ensures { result ≡ named_by (option_to_list reply.now ++ earlier.now) port }
 {
-    space.name_of_port(port).is_some() || reply_names(reply, port) || is_named_by(earlier, port)
+    marks[place_of(marks, port)] && (reply_names(reply, port) || is_named_by(earlier, port))
 }
 
-// Whether the right needs a name of its own, behind the earlier ones.
+// Marks a port.
+fn mark_port(marks: &mut [bool], port: PortId)
+    requires { 0 < length marks.old }
+    ensures { marks.new ≡ slice_set marks.old (port % length marks.old) true }
+{
+    let place = place_of(marks, port);
+    marks[place] = true;
+}
+
+// Whether the right needs a name of its own, behind the earlier ones. Each port that these name, and
+// the task doesn't, is marked, and so is the right's then.
 fn needs_own(
     world: &World,
     space: &Space,
     reply: &Option<Carried>,
     earlier: &[Carried],
     carried: &Carried,
+    marks: &mut [bool],
 ) -> bool
-    ensures { MatchBool result (Owns world.now.ports space.now.names (option_to_list reply.now ++ earlier.now) carried.now)
+    requires some { 0 < length marks.old }
+    requires marked { Marks marks.old space.now.names (option_to_list reply.now ++ earlier.now) }
+    ensures some { length marks.new ≡ length marks.old }
+    ensures marked { Marks marks.new space.now.names ((option_to_list reply.now ++ earlier.now) ++ carried.now ∷ []) }
+    ensures needs { MatchBool result (Owns world.now.ports space.now.names (option_to_list reply.now ++ earlier.now) carried.now)
         (Shares world.now.ports space.now.names (option_to_list reply.now ++ earlier.now) carried.now) }
 {
-    match port_there(world, carried) {
-        Some(port) => carried.given.is_send_once() || !has_name(space, reply, earlier, port),
-        None => false,
+    let Mark::Port(port) = carried.mark else {
+        return false;
+    };
+    if carried.given.is_send_once() {
+        return has_port(world, port);
     }
+    if space.name_of_port(port).is_some() {
+        return false;
+    }
+    if is_named_before(marks, reply, earlier, port) {
+        return false;
+    }
+    mark_port(marks, port);
+    has_port(world, port)
 }
 
 // How many names of its own the right needs, behind the earlier ones: 1 or none.
@@ -115,41 +144,74 @@ fn own_names(
     reply: &Option<Carried>,
     earlier: &[Carried],
     carried: &Carried,
+    marks: &mut [bool],
 ) -> usize
+    requires some { 0 < length marks.old }
+    requires marked { Marks marks.old space.now.names (option_to_list reply.now ++ earlier.now) }
     ensures few { result ≤ 1 }
+    ensures some { length marks.new ≡ length marks.old }
+    ensures marked { Marks marks.new space.now.names ((option_to_list reply.now ++ earlier.now) ++ carried.now ∷ []) }
     ensures needs { (rest : List AnyCarried) (m : ℕ) → Needs world.now.ports space.now.names ((option_to_list reply.now ++ earlier.now) ++ carried.now ∷ []) rest m
         → Needs world.now.ports space.now.names (option_to_list reply.now ++ earlier.now) (carried.now ∷ rest) (result + m) }
 {
-    if needs_own(world, space, reply, earlier, carried) {
+    if needs_own(world, space, reply, earlier, carried, marks) {
         1
     } else {
         0
     }
 }
 
-// How many names of its own the right to answer with needs.
-fn reply_own(world: &World, space: &Space, reply: &Option<Carried>) -> usize
+// How many names of its own the right to answer with needs. Its port is marked.
+fn reply_own(world: &World, space: &Space, reply: &Option<Carried>, marks: &mut [bool]) -> usize
+    requires some { 0 < length marks.old }
     ensures few { result ≤ 1 }
+    ensures some { length marks.new ≡ length marks.old }
+    ensures marked { Marks marks.new space.now.names (option_to_list reply.now) }
     ensures needs { (rest : List AnyCarried) (m : ℕ) → Needs world.now.ports space.now.names (option_to_list reply.now) rest m → Needs world.now.ports space.now.names [] (option_to_list reply.now ++ rest) (result + m) }
 {
     match reply {
-        Some(carried) => own_names(world, space, &None, &[], carried),
+        Some(carried) => own_names(world, space, &None, &[], carried, marks),
         None => 0,
     }
+}
+
+// How many names of their own the rights need, that to answer with first. The marks are of any kind.
+fn count_names(
+    world: &World,
+    space: &Space,
+    reply: &Option<Carried>,
+    rights: &[Carried],
+    marks: &mut [bool],
+) -> usize
+    requires { 0 < length marks.old }
+    ensures { Needs world.now.ports space.now.names [] (option_to_list reply.now ++ rights.now) result }
+{
+    let mut count = reply_own(world, space, reply, marks);
+    for i in 0..rights.len() {
+        count += own_names(world, space, reply, &rights[..i], &rights[i], marks);
+    }
+    count
+}
+
+// How many names of their own many rights need, that to answer with first.
+fn count_many(world: &World, space: &Space, reply: &Option<Carried>, rights: &[Carried]) -> usize
+    ensures { Needs world.now.ports space.now.names [] (option_to_list reply.now ++ rights.now) result }
+{
+    count_names(world, space, reply, rights, &mut [false; PLACES])
 }
 
 /// How many names of their own the rights of the message need: exactly so many more names the task has
 /// once they were given.
 ///
-/// Takes no memory. Each right for a port without a name is compared with those before it; for the
-/// others the time is logarithmic in the number of names and of ports.
+/// Takes no memory. Linear in the number of rights, but where there are more than 1,000: those for ports
+/// that the task has no name for are then compared with some of those before them.
 pub fn room_needed(world: &World, space: &Space, message: &Message) -> usize
     ensures { Needs world.now.ports space.now.names [] (carried_by message.now) result }
 {
-    let mut count = reply_own(world, space, &message.reply);
     let rights = message.rights.as_slice();
-    for i in 0..rights.len() {
-        count += own_names(world, space, &message.reply, &rights[..i], &rights[i]);
+    if rights.len() > FEW {
+        count_many(world, space, &message.reply, rights)
+    } else {
+        count_names(world, space, &message.reply, rights, &mut [false; 1])
     }
-    count
 }
