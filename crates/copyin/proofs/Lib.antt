@@ -13,6 +13,7 @@ pub mod RefusedWords
 pub mod Overlays
 pub mod Judging
 pub mod Keeping
+pub mod Leaving
 pub mod Going
 pub mod Planning
 pub mod Committing

@@ -6,10 +6,12 @@ use Rattle.mach_types.specs.declared.codes.MsgReturn.{MsgReturn}
 use Rattle.mach_types.specs.declared.codes.MsgReturn.TheVariants.{SendInvalidDest, SendInvalidReply, SendInvalidRight}
 use Rattle.message_codec.specs.declared.words.PortWord.{PortWord}
 use Rattle.name_space.specs.Names.{Names}
+use Rattle.copyin.specs.declared.judge.Destination.{Destination}
 use Rattle.copyin.specs.declared.judge.Rights.{Rights}
 use Rattle.copyin.specs.declared.judge.Words.{Words}
 use Rattle.copyin_base.specs.declared.message.Carried.{Carried}
 use Rattle.copyin_base.specs.declared.message.Mark.TheVariants as mark
+use Rattle.copyin_base.specs.Worlds.{put}
 use Rattle.copyin.specs.Judging.{CopiesName, CopiesReply, CopiesBody, IsBad, BodyIsBad, made_by, made_by_reply, made_by_all}
 
 -- Each word has a disposition.
@@ -23,6 +25,11 @@ RepliesBadly names ws = (w : PortWord) × (ws ≡ w ∷ []) × IsBad names w
 
 abbrev pub LeadsNowhere : Names → PortWord → Type 0
 LeadsNowhere names w = (p : ℕ) (c : Carried) (after : Names) → c.mark ≡ mark.Port p → ¬ (CopiesName names w c after)
+
+-- The destination's right goes to this port from what stands under the word's name, and this is left there.
+pub record StartsAt (names : Names) (w : PortWord) (d : Destination) : Type 0 where
+  pub to_port : d.carried.mark ≡ mark.Port d.port
+  pub copies : CopiesName names w d.carried (put names w.name d.left)
 
 -- All rights go, the destination's to a port.
 pub record GoAll (names : Names) (words : Words) (rights : Rights) : Type 0 where

@@ -6,7 +6,7 @@ ghost use Rattle.mach_types.specs.Numbers.{most_rights};
 ghost use Rattle.message_codec.specs.declared.text.Parsed.{Parsed as AnyParsed};
 ghost use Rattle.rights.specs.Ledger.{IsEntered};
 ghost use Rattle.copyin_base.specs.declared.message.Mark.TheVariants as mark_of;
-ghost use Rattle.copyin.specs.Judging.{made_by_mark};
+ghost use Rattle.copyin.specs.Judging.{made_by, made_by_mark};
 ghost use Rattle.copyin.specs.Planned.{IsPlan, CanGo, CanCopy};
 ghost use Rattle.copyin.specs.Plans.{ChangesWord, ChangesWords, Commits};
 ghost use Rattle.copyin_base.specs.Stands.{IsTied};
@@ -71,12 +71,21 @@ fn count_right(ledger: &mut Ledger, given: Disposition, mark: Mark)
     }
 }
 
-/// The right under the name goes by its disposition: what is left stays under the name, the port
-/// changes as the disposition says, and a right that is made is counted.
-///
-/// Takes no memory. Logarithmic in the names of the task and in the ports, but for a move of 16 bytes
-/// for each greater name where the name goes.
-pub fn copy_name(world: &mut World, task: TaskId, name: Name, carried: Carried)
+// A right is made from one that stays: the port changes as the disposition says, and it is counted.
+fn make_right(world: &mut World, carried: Carried)
+    requires entered { (port : ℕ) → carried.mark ≡ mark_of.Port port → IsEntered world.old.ledger port }
+    requires room { world.old.ledger.total + made_by carried ≤ most_rights }
+    ensures { world.new ≡ record world.old {
+      ports = ports_copied carried.given carried.mark world.old.ports;
+      ledger = ledger_copied carried.given carried.mark world.old.ledger;
+    } }
+{
+    renew_port(&mut world.ports, carried.given, carried.mark);
+    count_right(&mut world.ledger, carried.given, carried.mark);
+}
+
+// A right goes from under the name, and what is left stays there.
+fn move_right(world: &mut World, task: TaskId, name: Name, carried: Carried)
     requires { CanCopy world.old task name carried }
     ensures { CopiesRight world.old task carried.given name carried.mark world.new }
 {
@@ -85,6 +94,22 @@ pub fn copy_name(world: &mut World, task: TaskId, name: Name, carried: Carried)
     world.put_left(task, name, copied.left);
     renew_port(&mut world.ports, carried.given, copied.mark);
     count_right(&mut world.ledger, carried.given, copied.mark);
+}
+
+/// The right under the name goes by its disposition: what is left stays under the name, the port
+/// changes as the disposition says, and a right that is made is counted.
+///
+/// Takes no memory. Logarithmic in the names of the task and in the ports, but for a move of 16 bytes
+/// for each greater name where the name goes. A right that is made from one that stays looks up no name.
+pub fn copy_name(world: &mut World, task: TaskId, name: Name, carried: Carried)
+    requires { CanCopy world.old task name carried }
+    ensures { CopiesRight world.old task carried.given name carried.mark world.new }
+{
+    if carried.given.makes_right() {
+        make_right(world, carried);
+    } else {
+        move_right(world, task, name, carried);
+    }
 }
 
 // A word's right goes, if the word is a name.

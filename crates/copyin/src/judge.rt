@@ -15,7 +15,7 @@ ghost use Rattle.copyin_base.specs.declared.message.Carried.{Carried as AnyCarri
 ghost use Rattle.copyin_base.specs.declared.message.Mark.TheVariants as mark_of;
 ghost use Rattle.copyin.specs.Judging.{CopiesName, CopiesWord, CopiesReply, CopiesBody, IsBad, IsLeft, BodyIsBad, made_by, made_by_all};
 ghost use Rattle.copyin.specs.Overlays.{IsFull, Overlays};
-ghost use Rattle.copyin.specs.Goes.{AreGiven, RepliesBadly, LeadsNowhere, GoAll, CannotGo, made_by_rights};
+ghost use Rattle.copyin.specs.Goes.{AreGiven, RepliesBadly, LeadsNowhere, StartsAt, GoAll, CannotGo, made_by_rights};
 ghost use Rattle.copyin.specs.Planned.{AreWords, IsPlan};
 ghost use Rattle.copyin.specs.Plans.{CannotPlan, HasSlot, HasNoSlot, reply_words};
 ghost use Rattle.copyin_base.specs.Stands.{IsTied};
@@ -26,7 +26,7 @@ use copyin_base::{Carried, Mark, Message, World};
 use mach_types::limits::MOST_RIGHTS;
 use mach_types::{Disposition, MsgReturn, Name, PortId, TaskId};
 use message_codec::{INLINE_WORDS, Parsed, PortWord, port_words};
-use name_space::Space;
+use name_space::{Entry, Space};
 use smallvec::SmallVec;
 use std::alloc::{AllocError, Global};
 
@@ -234,22 +234,38 @@ fn marked_port(carried: &Carried) -> Option<PortId>
     }
 }
 
+// The destination's right.
+#[derive(Clone, Copy)]
+struct Destination {
+    carried: Carried,
+    // The port for which it is.
+    port: PortId,
+    // What it leaves under its name.
+    left: Option<Entry>,
+}
+
 // Judges the word of the destination: only a right for a port will do.
-fn judge_destination(
-    space: &Space,
-    touched: &mut Touched,
-    word: PortWord,
-) -> Result<(Carried, PortId), MsgReturn>
+fn judge_destination(space: &Space, word: PortWord) -> Result<Destination, MsgReturn>
     requires { IsSome (disposition word.disposition) }
-    ensures ok { IfOk result (λ d. (d.0.mark ≡ mark_of.Port d.1) × ((now : Names) → Overlays touched.old space.now.names now
-        → (after : Names) × CopiesName now word d.0 after × Overlays touched.new space.now.names after)) }
-    ensures err { IfErr result (λ code. (code ≡ SendNoBuffer) × IsFull touched.old
-        ⊎ (code ≡ SendInvalidDest) × ((now : Names) → Overlays touched.old space.now.names now → LeadsNowhere now word)) }
-    ensures few { array_vec_len touched.new.few ≤ array_vec_len touched.old.few + 1 }
+    ensures ok { IfOk result (λ d. StartsAt space.now.names word d) }
+    ensures err { IfErr result (λ code. (code ≡ SendInvalidDest) × LeadsNowhere space.now.names word) }
 {
-    let destination = judge_name(space, touched, word, MsgReturn::SendInvalidDest)?;
-    match marked_port(&destination) {
-        Some(port) => Ok((destination, port)),
+    let given = Disposition::from_u8(word.disposition).unwrap();
+    let Some(entry) = space.lookup(word.name) else {
+        return Err(MsgReturn::SendInvalidDest);
+    };
+    let Some(copied) = copy_right(given, &entry) else {
+        return Err(MsgReturn::SendInvalidDest);
+    };
+    let mark = copied.mark;
+    let left = copied.left;
+    let carried = Carried { given, mark };
+    match marked_port(&carried) {
+        Some(port) => Ok(Destination {
+            carried,
+            port,
+            left,
+        }),
         None => Err(MsgReturn::SendInvalidDest),
     }
 }
@@ -269,12 +285,24 @@ fn judge_all(alloc: Global, space: &Space, words: &Words) -> Result<Rights, MsgR
     ensures ok { IfOk result (λ rights. GoAll space.now.names words.now rights) }
     ensures err { IfErr result (λ code. (code ≡ SendNoBuffer) × (inline_words < small_vec_len words.now.body) ⊎ CannotGo space.now.names words.now code) }
 {
-    let mut touched = Touched::new(alloc);
-    let (destination, port) = judge_destination(space, &mut touched, words.destination)?;
+    let Destination {
+        carried,
+        port,
+        left,
+    } = judge_destination(space, words.destination)?;
+    if words.reply.is_none() && words.body.is_empty() {
+        return Ok(Rights {
+            destination: carried,
+            port,
+            reply: None,
+            body: SmallVec::new(alloc),
+        });
+    }
+    let mut touched = Touched::first(alloc, words.destination.name, left);
     let reply = judge_reply(space, &mut touched, words.reply)?;
     let body = judge_body(alloc, space, &mut touched, words.body.as_slice())?;
     Ok(Rights {
-        destination,
+        destination: carried,
         port,
         reply,
         body,

@@ -53,13 +53,18 @@ fn after_touch(standing: Option<Entry>, touch: &Touch, name: Name) -> Option<Ent
 }
 
 impl Touched {
-    /// None yet. Takes no memory.
-    pub(crate) fn new(alloc: Global) -> Touched
-        ensures names { (names : Names) → Overlays result names names }
-        ensures none { array_vec_len result.few ≡ 0 }
+    /// One name, under which that is left. Takes no memory.
+    pub(crate) fn first(alloc: Global, name: Name, left: Option<Entry>) -> Touched
+        ensures names { (names : Names) → Overlays result names (put names name left) }
+        ensures one { array_vec_len result.few ≡ 1 }
     {
+        let mut few = ArrayVec::new();
+        few.push(Touch {
+            name: name.number(),
+            left,
+        });
         Touched {
-            few: ArrayVec::new(),
+            few,
             many: BTreeMap::new(alloc),
         }
     }
