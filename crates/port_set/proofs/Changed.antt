@@ -1,46 +1,66 @@
 -- Sets once one came, was changed or went.
-use Rattle.std.proofs.Common.{◌≡◌, ℕ, ◌+◌, ◌<◌, ◌^◌, cond, ap, sym, ◌∙◌, Option, Some, None, List}
+use Rattle.std.proofs.Common.{◌≡◌, inl, inr, ℕ, ◌+◌, ◌<◌, ◌^◌, true, false, refl, ap, sym, ◌∙◌, Option, Some, None, is_some, arith}
 use Rattle.std.specs.Option.{SomeIff}
-use Rattle.std.specs.List.Sorted.{IsStrictlySortedBy}
-use Rattle.std.specs.Ordering.{nat_cmp, eq_by_cmp}
-use Rattle.std.specs.Map.{lookup, keys_of}
-use Rattle.std.specs.BTreeMap.{is_at}
+use Rattle.std.specs.Ordering.{nat_cmp}
 use Rattle.std.specs.FinMap as map
 use Rattle.port.specs.Records.{made_of}
-use Rattle.port.proofs.Ordered.{insert-from_ordered, remove-from_ordered}
-use Rattle.port.proofs.Grown.{made_more}
+use Rattle.port.proofs.Keys.{equal_or_not, put_other, out_here, out_other, same_some}
+use Rattle.port.proofs.Grown.{made_more, next_in_range}
 use Rattle.port_set.specs.declared.SetRecord.{SetRecord}
-use Rattle.port_set.specs.Sets.{SetsView}
 use Rattle.port_set.specs.Kept.{IsKept}
 
-abbrev view_of : List (ℕ × SetRecord) → Option ℕ → SetsView
-view_of es next = record { sets = map.from_sorted es; made = made_of next }
+abbrev pub Records : Type 0
+Records = map.FinMap nat_cmp SetRecord
 
-module _ (es fs : List (ℕ × SetRecord)) (next : Option ℕ) (kept : IsKept es next) (v : SetsView) (view_is : view_of es next ≡ v)
-    (ordered : IsStrictlySortedBy nat_cmp (keys_of fs)) (set : ℕ) where
-  pub view-put : (r : SetRecord) → ((q : ℕ) → lookup (is_at (nat_cmp q)) fs ≡ cond (eq_by_cmp nat_cmp set q) (Some r) (lookup (is_at (nat_cmp q)) es)) →
-      view_of fs next ≡ record { sets = map.insert v.sets set r; made = v.made }
-  view-put r is =
-      let mk : map.FinMap nat_cmp SetRecord → SetsView = λ sets. record { sets = sets; made = made_of next } in
-      ap mk (insert-from_ordered es fs set kept.ordered ordered r is)
-      ∙ ap (λ (w : SetsView). let x : SetsView = record { sets = map.insert w.sets set r; made = w.made } in x) view_is
+no_true : false ≡ true → ⊥
+no_true e = cc
 
-  pub view-out : ((q : ℕ) → lookup (is_at (nat_cmp q)) fs ≡ cond (eq_by_cmp nat_cmp set q) None (lookup (is_at (nat_cmp q)) es)) →
-      view_of fs next ≡ record { sets = map.remove v.sets set; made = v.made }
-  view-out is =
-      let mk : map.FinMap nat_cmp SetRecord → SetsView = λ sets. record { sets = sets; made = made_of next } in
-      ap mk (remove-from_ordered es fs set kept.ordered ordered is)
-      ∙ ap (λ (w : SetsView). let x : SetsView = record { sets = map.remove w.sets set; made = w.made } in x) view_is
+none_of : {A : Type 0} (o : Option A) → (is_some o ≡ true → ⊥) → o ≡ None
+none_of None h = refl
+none_of (Some x) h = absurd (h refl)
 
-  -- where the set is the next, which is then counted
-  pub view-came : (then : Option ℕ) → next ≡ Some set → SomeIff then (set + 1 < 2 ^ 64) (set + 1) → (r : SetRecord) →
-      ((q : ℕ) → lookup (is_at (nat_cmp q)) fs ≡ cond (eq_by_cmp nat_cmp set q) (Some r) (lookup (is_at (nat_cmp q)) es)) →
-      view_of fs then ≡ record { sets = map.insert v.sets v.made r; made = v.made + 1 }
-  view-came then is_next more r is =
-      let number : set ≡ v.made = sym (ap made_of is_next) ∙ ap (λ (w : SetsView). w.made) view_is in
-      let grown : made_of then ≡ set + 1 = made_more then set more (kept.next_fits set is_next) in
-      let mk : ℕ → SetsView = λ made. record { sets = map.from_sorted fs; made = made } in
-      let put : map.FinMap nat_cmp SetRecord → SetsView = λ sets. record { sets = sets; made = set + 1 } in
-      ap mk grown ∙ ap put (insert-from_ordered es fs set kept.ordered ordered r is)
-      ∙ ap (λ (w : SetsView). let x : SetsView = record { sets = map.insert w.sets set r; made = set + 1 } in x) view_is
-      ∙ ap (λ (n : ℕ). let x : SetsView = record { sets = map.insert v.sets n r; made = n + 1 } in x) number
+pub kept-empty : (m : Records) → m ≡ map.empty → IsKept m (Some 0)
+kept-empty m e = record {
+  given = λ q h. absurd (no_true (sym (ap is_some (ap (λ (n : Records). map.get n q) e ∙ map.get-empty nat_cmp q)) ∙ h));
+  next_fits = λ n h. let zero_is : 0 ≡ n = same_some 0 n h in omega arith;
+}
+
+module _ (m : Records) (next : Option ℕ) (kept : IsKept m next) (set : ℕ) where
+  -- the next is not there yet
+  pub not_yet : next ≡ Some set → map.get m set ≡ None
+  not_yet is = none_of (map.get m set) (λ h. let less : set < made_of next = kept.given set h in let at : made_of next ≡ set = ap made_of is in omega arith)
+
+  pub kept-put : map.contains_key m set ≡ true → (n : Records) (r : SetRecord) → n ≡ map.insert m set r → IsKept n next
+  kept-put there n r e = record {
+    given = λ q h. elim (equal_or_not q set) [
+      | inl same ↦ kept.given q (ap (map.contains_key m) same ∙ there)
+      | inr d ↦ kept.given q (ap is_some (sym (ap (λ (x : Records). map.get x q) e ∙ put_other m set r q d)) ∙ h)
+    ];
+    next_fits = kept.next_fits;
+  }
+
+  pub kept-out : (n : Records) → n ≡ map.remove m set → IsKept n next
+  kept-out n e = record {
+    given = λ q h. elim (equal_or_not q set) [
+      | inl same ↦ absurd (no_true (sym (ap is_some (ap (λ (x : Records). map.get x q) e ∙ ap (map.get (map.remove m set)) same ∙ out_here m set)) ∙ h))
+      | inr d ↦ kept.given q (ap is_some (sym (ap (λ (x : Records). map.get x q) e ∙ out_other m set q d)) ∙ h)
+    ];
+    next_fits = kept.next_fits;
+  }
+
+  module _ (then : Option ℕ) (is_next : next ≡ Some set) (more : SomeIff then (set + 1 < 2 ^ 64) (set + 1)) (n : Records) (r : SetRecord) (e : n ≡ map.insert m set r) where
+    grown : made_of then ≡ set + 1
+    grown = made_more then set more (kept.next_fits set is_next)
+
+    pub kept-came : IsKept n then
+    kept-came = record {
+      given = λ q h. elim (equal_or_not q set) [
+        | inl same ↦ let at = grown in omega arith
+        | inr d ↦
+            let less : q < made_of next = kept.given q (ap is_some (sym (ap (λ (x : Records). map.get x q) e ∙ put_other m set r q d)) ∙ h) in
+            let at : made_of next ≡ set = ap made_of is_next in
+            let now = grown in
+            omega arith
+      ];
+      next_fits = next_in_range then set more;
+    }

@@ -1,15 +1,15 @@
 -- How sets are kept. No public clause cites this module.
-use Rattle.std.specs.Prelude.{◌≡◌, ◌≢◌, ℕ, ◌+◌, ◌-◌, ◌<◌, ◌≤◌, ◌^◌, List, length, Option, Some, None}
-use Rattle.std.specs.List.Sorted.{IsStrictlySortedBy}
-use Rattle.std.specs.Map.{keys_of}
+use Rattle.std.specs.Prelude.{◌≡◌, ◌≢◌, ℕ, ◌+◌, ◌-◌, ◌<◌, ◌≤◌, ◌^◌, length, true, Option, Some, None}
 use Rattle.std.specs.Ordering.{nat_cmp}
 use Rattle.std.specs.FinMap as map
 use Rattle.port.specs.Ports.{PortView, PortsView, with_port, IsAfter}
+use Rattle.port.specs.Records.{made_of}
 use Rattle.port_set.specs.declared.SetRecord.{SetRecord}
 use Rattle.port_set.specs.Sets.{in_set}
 
-pub record IsKept (entries : List (ℕ × SetRecord)) (next : Option ℕ) : Type 0 where
-  pub ordered : IsStrictlySortedBy nat_cmp (keys_of entries)
+-- each set's identity was given, and another is next
+pub record IsKept (sets : map.FinMap nat_cmp SetRecord) (next : Option ℕ) : Type 0 where
+  pub given : (set : ℕ) → map.contains_key sets set ≡ true → set < made_of next
   pub next_fits : (n : ℕ) → next ≡ Some n → n < 2 ^ 64
 
 module _ {M : Type 0} where

@@ -8,16 +8,15 @@
 ghost use Rattle.std.specs.Prelude.{◌≡◌, ℕ, ◌+◌, ◌<◌, ◌≤◌, ◌↔◌, IsTrue, Some, None, IsSome, IfSome, IfNone, IfOk, OnOk, OnErr, length};
 ghost use Rattle.std.specs.FinMap as map;
 ghost use Rattle.std.specs.Ordering.{nat_cmp};
-ghost use Rattle.std.specs.BTreeMap.{get as record_in, IsOrdered, Updates};
 ghost use Rattle.port.specs.Ports.{PortView, IsLive, with_port};
 ghost use Rattle.port_set.specs.Sets.{in_set, IsReady, NoneReady, IsDisbanded};
 ghost use Rattle.port_set.specs.Kept.{IsLeft};
 ghost use Rattle.port_set.specs.declared.SetRecord.{SetRecord as AnyRecord};
 
 use mach_types::{Name, PortId, SetId, TaskId};
+use number_map::NumberMap;
 use port::{Message, Ports};
 use std::alloc::{AllocError, Global};
-use std::collections::BTreeMap;
 use std::marker::Model;
 
 /// What is kept of a set.
@@ -32,7 +31,7 @@ pub struct SetRecord {
 /// Sets by identity. Without sets nothing is allocated.
 #[derive(Drop)]
 pub struct Sets {
-    records: BTreeMap<u64, SetRecord>,
+    records: NumberMap<SetRecord>,
     next: Option<u64>,
 }
 
@@ -44,24 +43,12 @@ impl Model for Sets {
 
     ghost coded = { sets_code set_record.the_row.coded };
 
-    ghost use Rattle.std.specs.FinMap as map;
     ghost use Rattle.port.specs.Records.{made_of};
     ghost use Rattle.port_set.specs.Kept.{IsKept};
 
-    ghost view = { λ a. record { sets = map.from_sorted a.records.entries; made = made_of a.next } };
+    ghost view = { λ a. record { sets = a.records.map; made = made_of a.next } };
 
-    ghost invariant = { λ a. IsKept a.records.entries a.next };
-}
-
-// Puts this record in place of the one that stands under the number.
-fn replace(records: &mut BTreeMap<u64, SetRecord>, number: u64, kept: SetRecord)
-    requires { IsSome (record_in nat_cmp records.old number) }
-    ensures updates { Updates nat_cmp records.old records.new number (Some kept) }
-    ensures ordered { IsOrdered nat_cmp records.new }
-{
-    if let Some(held) = records.get_mut(&number) {
-        *held = kept;
-    }
+    ghost invariant = { λ a. IsKept a.records.map a.next };
 }
 
 impl Sets {
@@ -73,7 +60,7 @@ impl Sets {
         ensures { result ≡ no_sets }
     {
         Sets {
-            records: BTreeMap::new(alloc),
+            records: NumberMap::new(alloc),
             next: Some(0),
         }
     }
@@ -93,16 +80,16 @@ impl Sets {
         SetId::new(self.next.unwrap())
     }
 
-    /// A set's record, if the set is there. Logarithmic in the number of sets.
+    /// A set's record, if the set is there. Constant time.
     pub fn get(&self, set: SetId) -> Option<SetRecord>
         ensures { result ≡ map.get self.now.sets set }
     {
-        self.records.get(&set.number()).copied()
+        self.records.get(set.number())
     }
 
     /// Makes a set of this task's under this name (Port Manipulation Interface,
     /// `mach_port_allocate`); no port is in it. Its identity is the number of sets made before.
-    /// Logarithmic in the number of sets.
+    /// Constant time, but where all records move to a larger place.
     ///
     /// An error means that memory was refused; all is then as before. Nothing else here takes memory.
     pub fn create(&mut self, owner: TaskId, name: Name) -> Result<SetId, AllocError>
@@ -112,33 +99,34 @@ impl Sets {
         ensures err { OnErr result (self.new ≡ self.old) }
     {
         let number = self.next.unwrap();
-        self.records.insert(number, SetRecord { owner, name })?;
+        self.records.reserve(1)?;
+        self.records.insert(number, SetRecord { owner, name });
         self.next = number.checked_add(1);
         Ok(SetId::new(number))
     }
 
     /// Keeps another name for a set, whose task stays (Port Manipulation Interface,
-    /// `mach_port_rename`). Logarithmic in the number of sets.
+    /// `mach_port_rename`). Constant time.
     pub fn rename(&mut self, set: SetId, name: Name)
         requires { IsThere self.old set }
         ensures { (r : AnyRecord) → map.get self.old.sets set ≡ Some r → self.new ≡ renamed self.old set r name }
     {
         let mut kept = self.get(set).unwrap();
         kept.name = name;
-        replace(&mut self.records, set.number(), kept);
+        self.records.set(set.number(), kept);
     }
 
     /// Removes a set, if it is there (Port Manipulation Interface, `mach_port_destroy`); its members
-    /// are to be [`disband`]ed. Logarithmic in the number of sets.
+    /// are to be [`disband`]ed. Constant time.
     pub fn remove(&mut self, set: SetId)
         ensures { self.new ≡ removed self.old set }
     {
-        self.records.remove(&set.number());
+        self.records.remove(set.number());
     }
 }
 
 /// Puts a port into a set, out of the one that it was in, or into none (Port Manipulation Interface,
-/// `mach_port_move_member`). Takes no memory. Logarithmic in the number of ports.
+/// `mach_port_move_member`). Takes no memory. Constant time.
 pub fn move_member<M: Message>(ports: &mut Ports<M>, member: PortId, set: Option<SetId>)
     requires { IsLive ports.old member }
     ensures { (p : PortView M) → map.get ports.old.ports member ≡ Some p → ports.new ≡ with_port ports.old member (in_set p set) }
@@ -163,8 +151,8 @@ fn is_member<M: Message>(ports: &Ports<M>, port: PortId, set: SetId) -> bool
 }
 
 /// A member of the set that has a message, if there is one (IPC Interface, `mach_msg`, receiving by
-/// a port set). Takes no memory. Goes over the ports until it finds one: each takes a logarithm of
-/// their number.
+/// a port set). Takes no memory. Goes over the identities of ports until it finds
+/// one.
 pub fn ready_member<M: Message>(ports: &Ports<M>, set: SetId) -> Option<PortId>
     ensures some { IfSome result (λ port. IsReady ports.now set port) }
     ensures none { IfNone result (NoneReady ports.now set) }
@@ -190,8 +178,7 @@ fn leave<M: Message>(ports: &mut Ports<M>, port: PortId, set: SetId)
 }
 
 /// Takes all members out of a set, so that they are in none (Port Manipulation Interface,
-/// `mach_port_destroy`). Takes no memory. Goes over all ports: each takes a logarithm of their
-/// number.
+/// `mach_port_destroy`). Takes no memory. Goes over the identities of all ports.
 pub fn disband<M: Message>(ports: &mut Ports<M>, set: SetId)
     ensures { IsDisbanded ports.old ports.new set }
 {

@@ -1,3 +1,2 @@
-pub mod Ordered
 pub mod Sums
 pub mod Found

@@ -8,8 +8,6 @@
 ghost use Rattle.std.specs.Prelude.{◌≡◌, ◌≢◌, ℕ, ◌+◌, ◌<◌, ◌≤◌, ◌^◌, ◌↔◌, Some, None, IsSome, OnOk, OnErr, MatchResult};
 ghost use Rattle.std.specs.FinMap as map;
 ghost use Rattle.std.specs.Ordering.{nat_cmp};
-ghost use Rattle.std.specs.BTreeMap.{get, is_at, IsOrdered, Updates};
-ghost use Rattle.std.specs.Map.{set_value};
 ghost use Rattle.mach_types.specs.Numbers.{most_rights};
 ghost use Rattle.mach_types.specs.declared.codes.KernReturn.TheVariants.{NoSpace};
 
@@ -18,8 +16,8 @@ mod tests;
 
 use mach_types::limits::MOST_RIGHTS;
 use mach_types::{KernReturn, PortId};
+use number_map::NumberMap;
 use std::alloc::{AllocError, Global};
-use std::collections::BTreeMap;
 use std::marker::Model;
 
 /// A right as the ledger counts it.
@@ -102,7 +100,7 @@ impl Counts {
 /// has allocated nothing.
 #[derive(Drop)]
 pub struct Ledger {
-    ports: BTreeMap<u64, Counts>,
+    ports: NumberMap<Counts>,
     total: u32,
 }
 
@@ -114,24 +112,11 @@ impl Model for Ledger {
 
     ghost coded = { ledger_code counts.the_row.coded };
 
-    ghost use Rattle.std.specs.FinMap as map;
     ghost use Rattle.rights.specs.Counted.{IsCounted};
 
-    ghost view = { λ a. record { counts = map.from_sorted a.ports.entries; total = a.total } };
+    ghost view = { λ a. record { counts = a.ports.map; total = a.total } };
 
-    ghost invariant = { λ a. IsCounted a.ports.entries a.total };
-}
-
-// Puts these counts in place of those that stand under the port.
-fn replace(ports: &mut BTreeMap<u64, Counts>, port: u64, counts: Counts)
-    requires { IsSome (get nat_cmp ports.old port) }
-    ensures entries { ports.new.entries ≡ set_value (is_at (nat_cmp port)) ports.old.entries counts }
-    ensures updates { Updates nat_cmp ports.old ports.new port (Some counts) }
-    ensures ordered { IsOrdered nat_cmp ports.new }
-{
-    if let Some(held) = ports.get_mut(&port) {
-        *held = counts;
-    }
+    ghost invariant = { λ a. IsCounted a.ports.map a.total };
 }
 
 impl Ledger {
@@ -143,12 +128,13 @@ impl Ledger {
         ensures { result ≡ record { counts = map.empty; total = 0 } }
     {
         Ledger {
-            ports: BTreeMap::new(alloc),
+            ports: NumberMap::new(alloc),
             total: 0,
         }
     }
 
-    /// Enters a port, which has no rights yet. Logarithmic in the number of ports.
+    /// Enters a port, which has no rights yet. Constant time, but where all counts
+    /// move to a larger place.
     ///
     /// An error means that memory was refused; the ledger is then as before. Nothing else here but
     /// this takes memory.
@@ -157,12 +143,12 @@ impl Ledger {
         ensures ok { OnOk result (self.new ≡ entered self.old port) }
         ensures err { OnErr result (self.new ≡ self.old) }
     {
-        self.ports.insert(port.number(), Counts::none())?;
+        self.ports.reserve(1)?;
+        self.ports.insert(port.number(), Counts::none());
         Ok(())
     }
 
-    /// Removes a port with all its rights, and answers what they were. Logarithmic in the number of
-    /// ports.
+    /// Removes a port with all its rights, and answers what they were. Constant time.
     pub fn leave(&mut self, port: PortId) -> Counts
         requires { IsEntered self.old port }
         ensures counts { result ≡ counts_of self.old port }
@@ -170,7 +156,7 @@ impl Ledger {
     {
         let counts = self.held(port);
         self.total -= counts.receive + counts.send + counts.send_once;
-        self.ports.remove(&port.number());
+        self.ports.remove(port.number());
         counts
     }
 
@@ -180,7 +166,7 @@ impl Ledger {
         ensures value { result ≡ counts_of self.now port }
         ensures all { all_of result ≤ self.now.total }
     {
-        *self.ports.get(&port.number()).unwrap()
+        self.ports.get(port.number()).unwrap()
     }
 
     // Puts these counts in place of a port's, with the sums that they make.
@@ -189,15 +175,15 @@ impl Ledger {
         requires all { total + all_of (counts_of self.old port) ≡ self.old.total + all_of counts }
         ensures { self.new ≡ record { counts = map.insert self.old.counts port counts; total = total } }
     {
-        replace(&mut self.ports, port.number(), counts);
+        self.ports.set(port.number(), counts);
         self.total = total;
     }
 
-    /// The counts of a port, if it was entered. Logarithmic in the number of ports.
+    /// The counts of a port, if it was entered. Constant time.
     pub fn counts(&self, port: PortId) -> Option<Counts>
         ensures { result ≡ map.get self.now.counts port }
     {
-        self.ports.get(&port.number()).copied()
+        self.ports.get(port.number())
     }
 
     /// How many rights there are, at most 4,294,967,295. Constant time.
@@ -207,7 +193,7 @@ impl Ledger {
         self.total
     }
 
-    /// Counts new rights of a port. Logarithmic in the number of ports.
+    /// Counts new rights of a port. Constant time.
     ///
     /// `KERN_NO_SPACE` where there would be more than 4,294,967,295 rights in all, and only then; the
     /// ledger is then as before.
@@ -226,7 +212,7 @@ impl Ledger {
         Ok(())
     }
 
-    /// Counts rights of a port as gone. Logarithmic in the number of ports.
+    /// Counts rights of a port as gone. Constant time.
     pub fn take(&mut self, port: PortId, kind: RightKind, number: u32)
         requires entered { IsEntered self.old port }
         requires there { number ≤ number_of kind (counts_of self.old port) }

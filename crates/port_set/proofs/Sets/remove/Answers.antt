@@ -1,9 +1,11 @@
 use Rattle.std.proofs.Common.{ap, ◌∙◌}
-use Rattle.port_set.specs.Sets.{removed}
-use Rattle.port_set.proofs.Changed.{view-out}
+use Rattle.std.specs.FinMap as map
+use Rattle.number_map.specs.Maps.{MapView}
+use Rattle.port_set.specs.declared.SetRecord.{SetRecord}
+use Rattle.port_set.proofs.Changed.{kept-out}
 use Rattle.port_set.proofs.Sets.remove.Goals as goal
 
-pub returns : goal.returns
-returns c = view-out c.self.inside.records.entries c.remove.new.self.entries c.self.inside.next c.self.invariant c.args.self.now c.self.view_is
-    c.remove.ensures.ordered c.number.result c.remove.ensures.updates.0
-    ∙ ap (λ k. removed c.args.self.now k) c.number.ensures
+pub invariant_of-self : goal.invariant_of-self
+invariant_of-self c =
+    kept-out c.self.inside.records.map c.self.inside.next c.self.invariant c.args.set c.remove.new.self.map
+    (ap (λ (w : MapView SetRecord). w.map) c.remove.ensures.after ∙ ap (map.remove c.self.inside.records.map) c.number.ensures)

@@ -1,15 +1,12 @@
-use Rattle.std.proofs.Common.{ap, sym, ◌∙◌}
-use Rattle.std.specs.BTreeMap.{get}
-use Rattle.std.specs.Ordering.{nat_cmp}
-use Rattle.std.specs.Option.{option_copied, unwrap_or}
-use Rattle.rights.specs.Counts.{no_rights}
-use Rattle.rights.proofs.Found.{lookup_is, copied_some}
+use Rattle.std.proofs.Common.{◌≡◌, ◌≤◌, sym, subst, rules}
+use Rattle.rights.specs.declared.Counts.{Counts}
+use Rattle.rights.specs.Counts.{all_of}
+use Rattle.rights.specs.Ledger.{counts_of}
+use Rattle.rights.proofs.Found.{counts-le-total}
 use Rattle.rights.proofs.Ledger.held.Goals as goal
 
-pub unwrap-requires : goal.unwrap-requires
-unwrap-requires c = copied_some c.get.result _ (c.get.ensures.value ∙ ap (get nat_cmp c.self.inside.ports) c.number.ensures
-    ∙ lookup_is c.self.inside.ports.entries c.self.invariant.ordered c.args.self.now c.args.port c.self.inside.total c.self.view_is) c.requires
-
-pub returns-clause-value : goal.returns-clause-value
-returns-clause-value c = ap (λ o. unwrap_or o no_rights) (ap option_copied (sym c.unwrap.ensures) ∙ c.get.ensures.value ∙ ap (get nat_cmp c.self.inside.ports) c.number.ensures
-    ∙ lookup_is c.self.inside.ports.entries c.self.invariant.ordered c.args.self.now c.args.port c.self.inside.total c.self.view_is)
+pub returns-clause-all : goal.returns-clause-all
+returns-clause-all c =
+    let is : c.unwrap.result ≡ counts_of c.args.self.now c.args.port = search rules in
+    subst (λ (v : Counts). all_of v ≤ c.args.self.now.total) (sym is)
+    (counts-le-total c.self.inside.ports.map c.self.inside.total c.self.invariant c.args.self.now c.self.view_is c.args.port c.requires)

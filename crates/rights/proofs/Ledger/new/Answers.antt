@@ -1,12 +1,8 @@
 use Rattle.std.proofs.Common.{ap}
-use Rattle.rights.specs.Ledger.{LedgerView}
-use Rattle.std.specs.FinMap as map
-use Rattle.std.specs.Ordering.{nat_cmp}
+use Rattle.number_map.specs.Maps.{MapView}
 use Rattle.rights.specs.declared.Counts.{Counts}
-use Rattle.rights.proofs.Ordered.{none_ordered}
+use Rattle.rights.proofs.Found.{counted-empty}
 use Rattle.rights.proofs.Ledger.new.Goals as goal
 
-pub returns : goal.returns
-returns c =
-    let opening : map.FinMap nat_cmp Counts → LedgerView = λ counts. record { counts = counts; total = 0 } in
-    ap opening (none_ordered c.new.result.entries c.new.ensures.empty)
+pub invariant_of-result : goal.invariant_of-result
+invariant_of-result c = counted-empty c.new.result.map (ap (λ (w : MapView Counts). w.map) c.new.ensures)
