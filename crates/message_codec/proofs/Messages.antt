@@ -1,5 +1,5 @@
 -- Whole texts: what a judged header and a judged body make.
-use Rattle.std.proofs.Common.{◌≡◌, ℕ, ◌+◌, ◌*◌, ◌/◌, ◌%◌, ◌^◌, ◌<◌, ◌≤◌, ◌⊎◌, IsTrue, Bool, true, false, Result, Ok, Err, IfOk, IfErr, List, [], ◌∷◌, ◌++◌, length, drop, refl, sym, ap, ◌∙◌, inl, inr, arith, All, subst}
+use Rattle.std.proofs.Common.{◌≡◌, ℕ, ◌+◌, ◌*◌, ◌/◌, ◌%◌, ◌^◌, ◌<◌, ◌≤◌, ◌⊎◌, IsTrue, Bool, true, false, Result, Ok, Err, IfErr, OnOk, List, [], ◌∷◌, ◌++◌, length, drop, refl, sym, ap, ◌∙◌, inl, inr, arith, All, subst}
 use Rattle.std.proofs.lemmas.Bool.{cases_eq}
 use Rattle.std.proofs.lemmas.List.{length-drop}
 use Rattle.std.specs.Prelude.{◌↔◌}
@@ -150,10 +150,10 @@ flag-is_items false bytes spans r both = sym (r.if_plain (λ h. absurd (let e : 
 
 -- ---- what the walk over the items answers
 
-pub body-read : {A B : Type 0} (r : Result A B) (items_of : A → List Span) (bytes : List ℕ) → AreBytes bytes → NoneHolds (header_guards bytes) → is_bit (word_at bytes 0) 31
-    → IfOk r (λ v. ReadsItems bytes (items_of v)) → IfOk r (λ v. ReadsBody bytes (items_of v))
-body-read (Ok v) items_of bytes are none complex read = items-body bytes (items_of v) are none complex read
-body-read (Err e) items_of bytes are none complex read = tt
+pub body-read : {A B : Type 0} (r : Result A B) (spans : List Span) (bytes : List ℕ) → AreBytes bytes → NoneHolds (header_guards bytes) → is_bit (word_at bytes 0) 31
+    → OnOk r (ReadsItems bytes spans) → OnOk r (ReadsBody bytes spans)
+body-read (Ok v) spans bytes are none complex read = items-body bytes spans are none complex read
+body-read (Err e) spans bytes are none complex read = tt
 
 pub body-refused : {A : Type 0} (r : Result A MsgReturn) (bytes : List ℕ) → AreBytes bytes → NoneHolds (header_guards bytes) → is_bit (word_at bytes 0) 31
     → IfErr r (λ code. ItemsRefuse (drop 24 bytes) (msg_number code) ⊎ (code ≡ SendNoBuffer) × HasMany bytes)

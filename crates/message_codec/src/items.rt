@@ -1,5 +1,5 @@
 //! The items of a body.
-ghost use Rattle.std.specs.Prelude.{◌≡◌, ◌+◌, ◌-◌, ◌%◌, ◌<◌, ◌≤◌, ◌⊎◌, ◌++◌, length, drop, IfOk, IfErr, OnOk, OnErr, IsSome};
+ghost use Rattle.std.specs.Prelude.{◌≡◌, ◌+◌, ◌-◌, ◌%◌, ◌<◌, ◌≤◌, ◌⊎◌, ◌++◌, [], length, drop, IfOk, IfErr, OnOk, OnErr, IsSome};
 ghost use Rattle.std.specs.Option.{option_to_list};
 ghost use Rattle.smallvec.specs.SmallVec.{small_vec_len};
 ghost use Rattle.mach_types.specs.declared.codes.MsgReturn.TheVariants.{SendNoBuffer};
@@ -7,12 +7,13 @@ ghost use Rattle.mach_types.specs.Numbers.{most_bytes, msg_number};
 ghost use Rattle.mach_types.specs.TextGuards.{ItemRefuses, ItemsRefuse, data_length};
 ghost use Rattle.type_descriptor.specs.Describes.{Describes, form_of, form_length};
 ghost use Rattle.message_codec.specs.Reading.{DescriptorSpan, ReadsItem, ReadsItems, HasMany};
+ghost use Rattle.message_codec.specs.Spans.{inline_spans};
 
 use crate::header::HEADER_BYTES;
 use crate::spans::Span;
 use mach_types::MsgReturn;
 use smallvec::SmallVec;
-use std::alloc::{AllocError, Global};
+use std::alloc::AllocError;
 use type_descriptor::{Descriptor, data_len, descriptor_len, read_descriptor};
 
 /// An item that was read.
@@ -72,21 +73,23 @@ fn keep(spans: &mut SmallVec<Span, 8>, span: Option<Span>) -> Result<(), AllocEr
     Ok(())
 }
 
-/// The spans of all items. The whole body is judged before want of memory.
-pub(crate) fn read_spans(alloc: Global, bytes: &[u8]) -> Result<SmallVec<Span, 8>, MsgReturn>
+/// Puts the spans of all items into a list that has none. The whole body is judged before want of
+/// memory.
+pub(crate) fn read_spans(spans: &mut SmallVec<Span, 8>, bytes: &[u8]) -> Result<(), MsgReturn>
+    requires none { spans.old.items ≡ [] }
+    requires inline { spans.old.capacity ≡ inline_spans }
     requires room { 24 ≤ length bytes.now }
     requires whole { length bytes.now % 4 ≡ 0 }
     requires fits { length bytes.now ≤ most_bytes }
-    ensures ok { IfOk result (λ spans. ReadsItems bytes.now spans.items) }
+    ensures ok { OnOk result (ReadsItems bytes.now spans.new.items) }
     ensures err { IfErr result (λ code. ItemsRefuse (drop 24 bytes.now) (msg_number code)
         ⊎ (code ≡ SendNoBuffer) × HasMany bytes.now) }
 {
-    let mut spans = SmallVec::new(alloc);
     let mut lacks_memory = false;
     let mut at = HEADER_BYTES;
     while at < bytes.len() {
         let item = read_item(bytes, at)?;
-        if keep(&mut spans, item.span).is_err() {
+        if keep(spans, item.span).is_err() {
             lacks_memory = true;
         }
         at = item.end;
@@ -94,5 +97,5 @@ pub(crate) fn read_spans(alloc: Global, bytes: &[u8]) -> Result<SmallVec<Span, 8
     if lacks_memory {
         return Err(MsgReturn::SendNoBuffer);
     }
-    Ok(spans)
+    Ok(())
 }

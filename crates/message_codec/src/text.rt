@@ -1,11 +1,12 @@
 //! Reading a message's text.
-ghost use Rattle.std.specs.Prelude.{◌≡◌, ◌⊎◌, IfOk, IfErr};
+ghost use Rattle.std.specs.Prelude.{◌≡◌, ◌⊎◌, [], IfOk, IfErr, OnOk};
 ghost use Rattle.mach_types.specs.declared.codes.MsgReturn.TheVariants.{SendNoBuffer};
 ghost use Rattle.mach_types.specs.Numbers.{msg_number};
 ghost use Rattle.mach_types.specs.Grammar.{Header as AnyHeader, WireBody, Spells};
 ghost use Rattle.mach_types.specs.Guards.{NoneHolds};
 ghost use Rattle.mach_types.specs.TextGuards.{TextRefuses, header_guards};
 ghost use Rattle.message_codec.specs.Parses.{Parses, ReadsBody, IsCrowded};
+ghost use Rattle.message_codec.specs.Spans.{inline_spans};
 
 use crate::header::{check_header, is_complex, local_kind, remote_kind};
 use crate::items::read_spans;
@@ -35,17 +36,19 @@ pub struct Parsed {
     pub spans: Spans,
 }
 
-/// The spans of a body whose header is judged already.
-fn read_body(alloc: Global, bytes: &[u8]) -> Result<SmallVec<Span, 8>, MsgReturn>
-    requires { NoneHolds (header_guards bytes.now) }
-    ensures ok { IfOk result (λ spans. ReadsBody bytes.now spans.items) }
+/// Puts the spans of a body whose header is judged already into a list that has none.
+fn read_body(spans: &mut SmallVec<Span, 8>, bytes: &[u8]) -> Result<(), MsgReturn>
+    requires judged { NoneHolds (header_guards bytes.now) }
+    requires none { spans.old.items ≡ [] }
+    requires inline { spans.old.capacity ≡ inline_spans }
+    ensures ok { OnOk result (ReadsBody bytes.now spans.new.items) }
     ensures err { IfErr result (λ code. TextRefuses bytes.now (msg_number code)
         ⊎ (code ≡ SendNoBuffer) × IsCrowded bytes.now) }
 {
     if is_complex(read_word(bytes, 0)) {
-        read_spans(alloc, bytes)
+        read_spans(spans, bytes)
     } else {
-        Ok(SmallVec::new(alloc))
+        Ok(())
     }
 }
 
@@ -77,7 +80,8 @@ pub fn parse(alloc: Global, bytes: &[u8]) -> Result<Parsed, MsgReturn>
         → IfErr result (λ code. (code ≡ SendNoBuffer) × IsCrowded bytes.now) }
 {
     check_header(bytes)?;
-    let spans = read_body(alloc, bytes)?;
+    let mut spans = SmallVec::new(alloc);
+    read_body(&mut spans, bytes)?;
     let bits = read_word(bytes, 0);
     Ok(Parsed {
         remote_kind: remote_kind(bits),

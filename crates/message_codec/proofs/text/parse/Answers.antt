@@ -8,7 +8,7 @@ returns-in_err-check_header-clause-err c =
     let p = err_from_is_err_and c.from_residual.result c.from_residual.ensures.1 in
     rw (p.1, p.2) (inl (inl c.in_err-check_header.ensures.err))
 
-pub returns-in_err-spans-clause-whole : goal.returns-in_err-spans-clause-whole
-returns-in_err-spans-clause-whole c =
-    let p = err_from_is_err_and c.from_residual-in_err-spans.result c.from_residual-in_err-spans.ensures.1 in
-    rw (p.1, p.2) (λ header written spells none. only_crowded {A = ℕ} (Err c.in_err-spans.field-0.0) c.args.bytes.now header written spells none c.in_err-spans.ensures.err)
+pub returns-in_err-read_body-clause-whole : goal.returns-in_err-read_body-clause-whole
+returns-in_err-read_body-clause-whole c =
+    let p = err_from_is_err_and c.from_residual-in_err-read_body.result c.from_residual-in_err-read_body.ensures.1 in
+    rw (p.1, p.2) (λ header written spells none. only_crowded {A = ℕ} (Err c.in_err-read_body.field-0.0) c.args.bytes.now header written spells none c.in_err-read_body.ensures.err)

@@ -9,14 +9,14 @@ returns-then-is_complex-clause-ok c =
     let bytes : List ℕ = c.args.bytes.now in
     let are : AreBytes bytes = record { below = λ k. omega (arith, c.type_inv.bytes k) } in
     let complex : is_bit (word_at bytes 0) 31 = subst (λ (n : ℕ). is_bit n 31) c.read_word.ensures (c.if-is_complex.ensures.0 refl) in
-    body-read c.read_spans.result (λ v. v.items) bytes are c.requires complex c.read_spans.ensures.ok
+    body-read c.read_spans.result c.read_spans.new.spans.items bytes are c.requires.judged complex c.read_spans.ensures.ok
 
 pub returns-then-is_complex-clause-err : goal.returns-then-is_complex-clause-err
 returns-then-is_complex-clause-err c =
     let bytes : List ℕ = c.args.bytes.now in
     let are : AreBytes bytes = record { below = λ k. omega (arith, c.type_inv.bytes k) } in
     let complex : is_bit (word_at bytes 0) 31 = subst (λ (n : ℕ). is_bit n 31) c.read_word.ensures (c.if-is_complex.ensures.0 refl) in
-    body-refused c.read_spans.result bytes are c.requires complex c.read_spans.ensures.err
+    body-refused c.read_spans.result bytes are c.requires.judged complex c.read_spans.ensures.err
 
 pub returns-else-is_complex-clause-ok : goal.returns-else-is_complex-clause-ok
 returns-else-is_complex-clause-ok c =
@@ -24,4 +24,4 @@ returns-else-is_complex-clause-ok c =
     let are : AreBytes bytes = record { below = λ k. omega (arith, c.type_inv.bytes k) } in
     let plain : ¬ (is_bit (word_at bytes 0) 31) =
     λ h. not_true (c.if-is_complex.ensures.1 (subst (λ (n : ℕ). is_bit n 31) (sym c.read_word.ensures) h)) in
-    raw-body bytes c.new.result.items are c.requires plain c.new.ensures.items
+    raw-body bytes c.args.spans.now.items are c.requires.judged plain c.requires.none
