@@ -1,9 +1,12 @@
 -- Bytes and their digits.
-use Rattle.std.proofs.Common.{◌≡◌, ℕ, ◌<◌, ◌/◌, ◌%◌, List, [], ◌∷◌, ◌++◌, All, length, get_or, zero, suc, refl, sym, ◌∙◌, ap, arith, rules, append_assoc}
+use Rattle.std.proofs.Common.{◌≡◌, ℕ, ◌+◌, ◌-◌, ◌*◌, ◌<◌, ◌≤◌, ◌/◌, ◌%◌, ◌==◌, List, [], ◌∷◌, ◌++◌, All, length, get_or, take, map, nat_lt, if◌then◌else◌, zero, suc, refl, sym, ◌∙◌, ap, arith, rules, append_assoc}
 use Rattle.std.specs.Int.{w32, to_be_bytes, from_be_bytes}
 use Rattle.std.proofs.lemmas.Bool.Decides.{nat_tests}
 use Rattle.std.proofs.lemmas.List.Elements.{All-nil, All-cons, All-head, All-tail}
-use Rattle.std.proofs.lemmas.List.{nil_from_length}
+use Rattle.std.proofs.lemmas.List.{nil_from_length, take_more, length-take-le}
+use Rattle.std.proofs.lemmas.List.FromFn.{get_or-map-range_with_len}
+use Rattle.std.specs.List.{range_with_len}
+use Rattle.tracer_base.specs.declared.hexadecimal.TheConstants.{PAIRS, VALUES}
 use Rattle.std.proofs.lemmas.Nat.{be_bytes_4}
 use Rattle.tracer_base.specs.Text.{hex_digit, hex_digits, bytes_text, code_text}
 use Rattle.tracer_base.specs.Words.{IsWord}
@@ -11,6 +14,65 @@ use Rattle.tracer_base.specs.Words.{IsWord}
 pub hex_digits-append : (xs ys : List ℕ) → hex_digits (xs ++ ys) ≡ hex_digits xs ++ hex_digits ys
 hex_digits-append [] ys = refl
 hex_digits-append (x ∷ xs) ys = ap (λ text. hex_digit (x / 16) ∷ hex_digit (x % 16) ∷ text) (hex_digits-append xs ys)
+
+-- the digit at a place of the text of all bytes, rising
+abbrev digit_at : ℕ → ℕ
+digit_at place = if place % 2 == 0 then hex_digit (place / 2 / 16) else hex_digit (place / 2 % 16)
+
+pairs_rule : PAIRS ≡ map digit_at (range_with_len 0 512)
+pairs_rule = refl
+
+pair_at : (place : ℕ) → place < 512 → get_or PAIRS place 0 ≡ digit_at place
+pair_at place low = ap (λ (l : List ℕ). get_or l place 0) pairs_rule ∙ get_or-map-range_with_len digit_at 0 512 place place 0 low (omega arith)
+
+pub high_in_pairs : (byte : ℕ) → byte < 256 → get_or PAIRS (2 * byte) 0 ≡ hex_digit (byte / 16)
+high_in_pairs byte small =
+    let even : 2 * byte % 2 ≡ 0 = omega arith in
+    let half : 2 * byte / 2 ≡ byte = omega arith in
+    pair_at (2 * byte) (omega arith) ∙ rw (even, half) refl
+
+pub low_in_pairs : (byte : ℕ) → byte < 256 → get_or PAIRS (2 * byte + 1) 0 ≡ hex_digit (byte % 16)
+low_in_pairs byte small =
+    let odd : (2 * byte + 1) % 2 ≡ 1 = omega arith in
+    let half : (2 * byte + 1) / 2 ≡ byte = omega arith in
+    pair_at (2 * byte + 1) (omega arith) ∙ rw (odd, half) refl
+
+-- the value of the digit of this code, 255 where it is no digit's
+abbrev pub digit_value : ℕ → ℕ
+digit_value code = if nat_lt code 48 then 255 else (if nat_lt code 58 then code - 48 else (if nat_lt code 97 then 255 else (if nat_lt code 103 then code - 87 else 255)))
+
+values_rule : VALUES ≡ map digit_value (range_with_len 0 256)
+values_rule = refl
+
+pub value_in_values : (code : ℕ) → code < 256 → get_or VALUES code 0 ≡ digit_value code
+value_in_values code low = ap (λ (l : List ℕ). get_or l code 0) values_rule ∙ get_or-map-range_with_len digit_value 0 256 code code 0 low (omega arith)
+
+pub digit_value-spelled : (code value : ℕ) → digit_value code ≡ value → value < 16 → hex_digit value ≡ code
+digit_value-spelled code value is small = grind (arith, nat_tests)
+
+pub digit_value-hex_digit : (code value : ℕ) → value < 16 → hex_digit value ≡ code → digit_value code ≡ value
+digit_value-hex_digit code value small is = grind (arith, nat_tests)
+
+-- one more byte's digits behind those of the bytes before it
+pub digits_more : (bytes : List ℕ) (i byte : ℕ) (so_far now : List ℕ) → i < length bytes → get_or bytes i 0 ≡ byte → so_far ≡ hex_digits (take i bytes)
+    → now ≡ (so_far ++ hex_digit (byte / 16) ∷ []) ++ hex_digit (byte % 16) ∷ [] → now ≡ hex_digits (take (i + 1) bytes)
+digits_more bytes i byte so_far now low here before made =
+    let split : hex_digits (take (i + 1) bytes) ≡ hex_digits (take i bytes) ++ hex_digits (get_or bytes i 0 ∷ []) =
+    ap hex_digits (take_more bytes i 0 low) ∙ hex_digits-append (take i bytes) (get_or bytes i 0 ∷ []) in
+    let same : so_far ++ hex_digits (byte ∷ []) ≡ hex_digits (take (i + 1) bytes) =
+    ap (λ t. t ++ hex_digits (byte ∷ [])) before ∙ ap (λ n. hex_digits (take i bytes) ++ hex_digits (n ∷ [])) (sym here) ∙ sym split in
+    made ∙ append_assoc so_far (hex_digit (byte / 16) ∷ []) (hex_digit (byte % 16) ∷ []) ∙ same
+
+pub length-hex_digits : (bytes : List ℕ) → length (hex_digits bytes) ≡ 2 * length bytes
+length-hex_digits [] = refl
+length-hex_digits (byte ∷ bytes) = let inner = length-hex_digits bytes in omega (arith, inner)
+
+-- two digits more than those of the bytes before one of a block fit the block's
+pub digits_fit : (bytes : List ℕ) (i : ℕ) (digits : List ℕ) → i < length bytes → length bytes ≤ 32 → digits ≡ hex_digits (take i bytes) → length digits + 2 ≤ 64
+digits_fit bytes i digits low block before =
+    let count = ap length before ∙ length-hex_digits (take i bytes) in
+    let taken : length (take i bytes) ≡ i = length-take-le i bytes (omega arith) in
+    omega (arith, count, taken)
 
 -- one more byte is read
 pub reads_more : (bytes : List ℕ) (byte : ℕ) (rest others text : List ℕ) → hex_digits bytes ++ rest ≡ text → hex_digits (byte ∷ []) ++ others ≡ rest → hex_digits (bytes ++ byte ∷ []) ++ others ≡ text

@@ -1,13 +1,12 @@
 -- The words of replies, and what was written piece by piece.
-use Rattle.std.proofs.Common.{◌≡◌, ℕ, ◌<◌, ◌+◌, ◌/◌, ◌%◌, List, [], ◌∷◌, ◌++◌, Option, Some, None, length, take, get_or, sym, ◌∙◌, ap, append_assoc, subst, ◌^◌, All, true, refl, arith, decimal, append-nil, Result, Ok, Err, OnOk}
-use Rattle.std.proofs.lemmas.List.{take_more}
+use Rattle.std.proofs.Common.{◌≡◌, ℕ, ◌<◌, List, [], ◌∷◌, ◌++◌, Option, Some, None, sym, ◌∙◌, ap, append_assoc, subst, ◌^◌, All, true, refl, arith, decimal, append-nil, Result, Ok, Err, OnOk}
 use Rattle.std.specs.Io.KnownBytes.{Appends, Keeps}
 use Rattle.std.proofs.lemmas.List.Elements.{All-append, All-cons, All-map, All-weaker}
 use Rattle.mach_types.specs.declared.calls.Reply.{Reply}
 use Rattle.mach_types.specs.declared.calls.Reply.TheVariants.{Code, Task, Name, Refs, NameType, Names, Status, Members, Right, Previous, Message, Empty, TooLarge, NoRecord}
 use Rattle.mach_types.specs.declared.calls.Status.{Status as PortStatus}
 use Rattle.tracer_base.specs.Replies.{typed_name_text, status_words, reply_word, reply_arguments, FitsTypedName, FitsStatus, FitsReply}
-use Rattle.tracer_base.specs.Text.{hex_digit, hex_digits, bytes_text, code_text, waited_words}
+use Rattle.tracer_base.specs.Text.{hex_digits, bytes_text, code_text, waited_words}
 use Rattle.tracer_base.specs.Words.{IsWord}
 use Rattle.tracer_base.proofs.CallLemmas.{none, before, number, one, three, waited}
 use Rattle.tracer_base.proofs.NumberLemmas.{IsWord-decimal}
@@ -38,19 +37,9 @@ pub keeps-same : (a : Option (List ℕ)) → Keeps a a
 keeps-same None = tt
 keeps-same (Some a) = refl
 
--- a byte's two digits behind those of the bytes before it
-pub appends-byte : (a b c : Option (List ℕ)) (bytes : List ℕ) (i byte : ℕ) → i < length bytes → get_or bytes i 0 ≡ byte → Appends a b (hex_digits (take i bytes))
-    → Appends b c (hex_digit (byte / 16) ∷ hex_digit (byte % 16) ∷ []) → Appends a c (hex_digits (take (i + 1) bytes))
-appends-byte a b c bytes i byte low here first next =
-    let split : hex_digits (take (i + 1) bytes) ≡ hex_digits (take i bytes) ++ hex_digits (get_or bytes i 0 ∷ []) =
-    ap hex_digits (take_more bytes i 0 low) ∙ hex_digits-append (take i bytes) (get_or bytes i 0 ∷ []) in
-    let same : hex_digits (take i bytes) ++ hex_digits (byte ∷ []) ≡ hex_digits (take (i + 1) bytes) =
-    ap (λ n. hex_digits (take i bytes) ++ hex_digits (n ∷ [])) (sym here) ∙ sym split in
-    subst (Appends a c) same (appends-more a b c (hex_digits (take i bytes)) (hex_digits (byte ∷ [])) first next)
-
--- what is left of the bytes when four more are written
-pub parts_more : (done four rest others bytes : List ℕ) → done ++ rest ≡ bytes → four ++ others ≡ rest → (done ++ four) ++ others ≡ bytes
-parts_more done four rest others bytes so_far next = append_assoc done four others ∙ ap (λ t. done ++ t) next ∙ so_far
+-- what is left of the bytes when a block more is written
+pub parts_more : (done block rest others bytes : List ℕ) → done ++ rest ≡ bytes → block ++ others ≡ rest → (done ++ block) ++ others ≡ bytes
+parts_more done block rest others bytes so_far next = append_assoc done block others ∙ ap (λ t. done ++ t) next ∙ so_far
 
 -- the digits of more bytes behind those of the bytes before them
 pub appends-digits : (a b c : Option (List ℕ)) (xs ys bytes : List ℕ) → xs ++ ys ≡ bytes → Appends a b (hex_digits xs) → Appends b c (hex_digits ys) → Appends a c (hex_digits bytes)

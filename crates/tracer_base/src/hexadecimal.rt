@@ -1,24 +1,60 @@
 //! Bytes as hexadecimal digits.
-ghost use Rattle.std.specs.Prelude.{◌≡◌, ℕ, List, ◌<◌, ◌^◌, ◌+◌, ◌*◌, ◌/◌, ◌%◌, IfSome, IfOk, Some, IsOkUnless, All, IsSome, [], ◌∷◌, ◌++◌, OnOk};
+ghost use Rattle.std.specs.Prelude.{◌≡◌, ℕ, List, length, ◌≤◌, ◌<◌, ◌^◌, ◌+◌, ◌*◌, ◌/◌, ◌%◌, IfSome, IfOk, Some, IsOkUnless, All, IsSome, [], ◌∷◌, ◌++◌, OnOk};
 ghost use Rattle.std.specs.Io.KnownBytes.{Appends};
 ghost use Rattle.tracer_base.specs.declared.fault.TextFault.TheVariants.{OutOfMemory};
 ghost use Rattle.tracer_base.specs.Text.{hex_digit, hex_digits, bytes_text, code_text};
 
 use crate::fault::TextFault;
+use arrayvec::ArrayVec;
 use mach_types::Bytes;
 use std::alloc::Global;
 use std::io;
 use std::io::Write;
 
-/// The digits, by their values.
-const DIGITS: [u8; 16] = *b"0123456789abcdef";
+/// How many bytes have their digits written at once.
+const BLOCK: usize = 32;
 
-/// The digit of a value below 16: `0` to `9` and `a` to `f`.
-fn digit_of(value: u8) -> u8
-    requires { value < 16 }
-    ensures { result ≡ hex_digit value }
+/// The two digits of each byte, one byte after another.
+const PAIRS: [u8; 512] = *b"\
+    000102030405060708090a0b0c0d0e0f101112131415161718191a1b1c1d1e1f\
+    202122232425262728292a2b2c2d2e2f303132333435363738393a3b3c3d3e3f\
+    404142434445464748494a4b4c4d4e4f505152535455565758595a5b5c5d5e5f\
+    606162636465666768696a6b6c6d6e6f707172737475767778797a7b7c7d7e7f\
+    808182838485868788898a8b8c8d8e8f909192939495969798999a9b9c9d9e9f\
+    a0a1a2a3a4a5a6a7a8a9aaabacadaeafb0b1b2b3b4b5b6b7b8b9babbbcbdbebf\
+    c0c1c2c3c4c5c6c7c8c9cacbcccdcecfd0d1d2d3d4d5d6d7d8d9dadbdcdddedf\
+    e0e1e2e3e4e5e6e7e8e9eaebecedeeeff0f1f2f3f4f5f6f7f8f9fafbfcfdfeff";
+
+/// The values of the digits, by their codes, and 255 for each code of no digit.
+const VALUES: [u8; 256] = [
+    255, 255, 255, 255, 255, 255, 255, 255, 255, 255, 255, 255, 255, 255, 255, 255, 255, 255, 255,
+    255, 255, 255, 255, 255, 255, 255, 255, 255, 255, 255, 255, 255, 255, 255, 255, 255, 255, 255,
+    255, 255, 255, 255, 255, 255, 255, 255, 255, 255, 0, 1, 2, 3, 4, 5, 6, 7, 8, 9, 255, 255, 255,
+    255, 255, 255, 255, 255, 255, 255, 255, 255, 255, 255, 255, 255, 255, 255, 255, 255, 255, 255,
+    255, 255, 255, 255, 255, 255, 255, 255, 255, 255, 255, 255, 255, 255, 255, 255, 255, 10, 11,
+    12, 13, 14, 15, 255, 255, 255, 255, 255, 255, 255, 255, 255, 255, 255, 255, 255, 255, 255, 255,
+    255, 255, 255, 255, 255, 255, 255, 255, 255, 255, 255, 255, 255, 255, 255, 255, 255, 255, 255,
+    255, 255, 255, 255, 255, 255, 255, 255, 255, 255, 255, 255, 255, 255, 255, 255, 255, 255, 255,
+    255, 255, 255, 255, 255, 255, 255, 255, 255, 255, 255, 255, 255, 255, 255, 255, 255, 255, 255,
+    255, 255, 255, 255, 255, 255, 255, 255, 255, 255, 255, 255, 255, 255, 255, 255, 255, 255, 255,
+    255, 255, 255, 255, 255, 255, 255, 255, 255, 255, 255, 255, 255, 255, 255, 255, 255, 255, 255,
+    255, 255, 255, 255, 255, 255, 255, 255, 255, 255, 255, 255, 255, 255, 255, 255, 255, 255, 255,
+    255, 255, 255, 255, 255, 255, 255, 255, 255, 255, 255, 255, 255, 255, 255, 255, 255, 255, 255,
+    255, 255, 255, 255,
+];
+
+/// The first digit of the byte: `0` to `9` and `a` to `f`.
+fn high_digit(byte: u8) -> u8
+    ensures { result ≡ hex_digit (byte / 16) }
 {
-    DIGITS[usize::from(value)]
+    PAIRS[2 * usize::from(byte)]
+}
+
+/// The second digit of the byte.
+fn low_digit(byte: u8) -> u8
+    ensures { result ≡ hex_digit (byte % 16) }
+{
+    PAIRS[2 * usize::from(byte) + 1]
 }
 
 /// The value of a digit, below 16; `None` for what is no digit, capital letters among it.
@@ -27,11 +63,8 @@ fn value_of(digit: u8) -> Option<u8>
     ensures spelled { IfSome result (λ value. hex_digit value ≡ digit) }
     ensures each { (value : ℕ) → value < 16 → hex_digit value ≡ digit → result ≡ Some value }
 {
-    match digit {
-        b'0'..=b'9' => Some(digit - b'0'),
-        b'a'..=b'f' => Some(digit - b'a' + 10),
-        _ => None,
-    }
+    let value = VALUES[usize::from(digit)];
+    if value < 16 { Some(value) } else { None }
 }
 
 /// The byte of two digits.
@@ -120,16 +153,29 @@ pub fn write_bytes<W: Write>(bytes: &[u8], out: &mut W) -> io::Result<()>
     }
 }
 
-/// Writes the bytes, two digits a byte, four bytes at a time. Errors are as for [`write_bytes`].
+/// Writes the bytes, two digits a byte, a block at a time. Errors are as for [`write_bytes`].
 fn write_pairs<W: Write>(bytes: &[u8], out: &mut W) -> io::Result<()>
     ensures { OnOk result (Appends (W.contents out.old) (W.contents out.new) (hex_digits bytes.now)) }
 {
     let mut rest = bytes;
-    while let Some((four, others)) = rest.split_first_chunk() {
-        write_four(*four, out)?;
+    while let Some((block, others)) = rest.split_first_chunk::<BLOCK>() {
+        out.write_all(digits_of(block).as_slice())?;
         rest = others;
     }
-    write_last(rest, out)
+    out.write_all(digits_of(rest).as_slice())
+}
+
+/// The digits of a block's bytes, two digits a byte.
+fn digits_of(bytes: &[u8]) -> ArrayVec<u8, 64>
+    requires { length bytes.now ≤ 32 }
+    ensures { result.items ≡ hex_digits bytes.now }
+{
+    let mut digits = ArrayVec::new();
+    for byte in bytes {
+        digits.push(high_digit(*byte));
+        digits.push(low_digit(*byte));
+    }
+    digits
 }
 
 /// Writes the eight digits of the four bytes. Errors are as for [`write_bytes`].
@@ -138,30 +184,13 @@ pub fn write_four<W: Write>(bytes: [u8; 4], out: &mut W) -> io::Result<()>
 {
     let [first, second, third, fourth] = bytes;
     out.write_all(&[
-        digit_of(first / 16),
-        digit_of(first % 16),
-        digit_of(second / 16),
-        digit_of(second % 16),
-        digit_of(third / 16),
-        digit_of(third % 16),
-        digit_of(fourth / 16),
-        digit_of(fourth % 16),
+        high_digit(first),
+        low_digit(first),
+        high_digit(second),
+        low_digit(second),
+        high_digit(third),
+        low_digit(third),
+        high_digit(fourth),
+        low_digit(fourth),
     ])
-}
-
-/// Writes the bytes, two digits a byte, one byte at a time.
-fn write_last<W: Write>(bytes: &[u8], out: &mut W) -> io::Result<()>
-    ensures { OnOk result (Appends (W.contents out.old) (W.contents out.new) (hex_digits bytes.now)) }
-{
-    for byte in bytes {
-        write_byte(*byte, out)?;
-    }
-    Ok(())
-}
-
-/// Writes the two digits of the byte.
-fn write_byte<W: Write>(byte: u8, out: &mut W) -> io::Result<()>
-    ensures { OnOk result (Appends (W.contents out.old) (W.contents out.new) (hex_digits (byte ∷ []))) }
-{
-    out.write_all(&[digit_of(byte / 16), digit_of(byte % 16)])
 }

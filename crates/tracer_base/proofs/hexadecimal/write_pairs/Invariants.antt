@@ -4,9 +4,9 @@ use Rattle.tracer_base.specs.Text.{hex_digits}
 use Rattle.tracer_base.proofs.hexadecimal.write_pairs.Given as goal
 
 -- the digits of the bytes before those that are left are written
-abbrev pub invariant-loop-four : goal.invariant-loop-four
-invariant-loop-four g l =
+abbrev pub invariant-loop-block : goal.invariant-loop-block
+invariant-loop-block g l =
     (done : List ℕ) × (done ++ l.rest ≡ l.fn.bytes) × Appends (g.W.Write.contents l.fn.out) (g.W.Write.contents l.out) (hex_digits done)
 
-abbrev pub decreases-loop-four : goal.decreases-loop-four
-decreases-loop-four g l = length l.rest
+abbrev pub decreases-loop-block : goal.decreases-loop-block
+decreases-loop-block g l = length l.rest
