@@ -1,8 +1,9 @@
 //! The items of a body.
-ghost use Rattle.std.specs.Prelude.{◌≡◌, ◌+◌, ◌-◌, ◌%◌, ◌<◌, ◌≤◌, ◌⊎◌, ◌++◌, [], length, drop, IfOk, IfErr, OnOk, OnErr, IsSome};
+ghost use Rattle.std.specs.Prelude.{◌≡◌, ◌+◌, ◌-◌, ◌%◌, ◌^◌, ◌<◌, ◌≤◌, ◌⊎◌, ◌++◌, [], length, drop, IfOk, IfErr, OnOk, OnErr, IsSome};
 ghost use Rattle.std.specs.Option.{option_to_list};
 ghost use Rattle.smallvec.specs.SmallVec.{small_vec_len};
 ghost use Rattle.mach_types.specs.declared.codes.MsgReturn.TheVariants.{SendNoBuffer};
+ghost use Rattle.mach_types.specs.Grammar.{NamesPorts};
 ghost use Rattle.mach_types.specs.Numbers.{most_bytes, msg_number};
 ghost use Rattle.mach_types.specs.TextGuards.{ItemRefuses, ItemsRefuse, data_length};
 ghost use Rattle.type_descriptor.specs.Describes.{Describes, form_of, form_length};
@@ -27,7 +28,8 @@ struct Item {
 
 /// The span of the item with this descriptor at this offset, if it has port words.
 fn span_of(descriptor: &Descriptor, at: u32) -> Option<Span>
-    requires { descriptor.now.name < 256 }
+    requires name { descriptor.now.name < 256 }
+    requires few { NamesPorts descriptor.now.name → descriptor.now.number < 2 ^ 16 }
     ensures { DescriptorSpan descriptor.now at result }
 {
     if !(16..=21).contains(&descriptor.name) {
@@ -37,7 +39,7 @@ fn span_of(descriptor: &Descriptor, at: u32) -> Option<Span>
         at,
         long: descriptor.long,
         disposition: descriptor.name as u8,
-        number: descriptor.number,
+        number: descriptor.number as u16,
     })
 }
 

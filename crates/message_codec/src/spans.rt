@@ -16,8 +16,8 @@ pub struct Span {
     pub long: bool,
     /// The disposition of each word, 16 to 21.
     pub disposition: u8,
-    /// How many words there are.
-    pub number: u32,
+    /// How many words there are: at most 16,384, as a message has no more bytes than 65,536.
+    pub number: u16,
 }
 
 impl Span {

@@ -24,14 +24,14 @@ pub struct Parsed {
     pub remote_kind: u8,
     /// The disposition of the reply right, 17 to 21, or 0 where there is none.
     pub local_kind: u8,
+    /// Whether the body is a list of items.
+    pub is_complex: bool,
     /// The sender's name of the destination.
     pub remote: Name,
     /// The sender's name of the reply right, 0 where there is none.
     pub local: Name,
     /// The id.
     pub id: u32,
-    /// Whether the body is a list of items.
-    pub is_complex: bool,
     /// Where the port words of the body stand.
     pub spans: Spans,
 }
