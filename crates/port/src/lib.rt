@@ -5,7 +5,7 @@
 //! given from 0 and never again: one whose port is gone finds nothing.
 #![tactic(auto)]
 
-ghost use Rattle.std.specs.Prelude.{◌≡◌, ◌≢◌, ℕ, ◌+◌, ◌-◌, ◌<◌, ◌≤◌, ◌^◌, ◌↔◌, ◌++◌, ◌∷◌, [], List, length, IsTrue, true, Some, None, IsSome, IfSome, IfOk, IfNone, OnOk, OnErr, option_copied, slice_get, drop};
+ghost use Rattle.std.specs.Prelude.{◌≡◌, ◌≢◌, ℕ, ◌+◌, ◌-◌, ◌<◌, ◌≤◌, ◌%◌, ◌^◌, ◌↔◌, ◌++◌, ◌∷◌, [], List, length, IsTrue, true, Some, None, IsSome, IfSome, IfOk, IfNone, OnOk, OnErr, option_copied, slice_get, drop};
 ghost use Rattle.std.specs.Option.{option_map, option_and_then};
 ghost use Rattle.std.specs.FinMap as map;
 ghost use Rattle.std.specs.Ordering.{nat_cmp};
@@ -184,6 +184,25 @@ fn pop_at<M: Message>(
     ensures spare { length spare.new ≡ length spare.old + 1 }
 {
     pop(&mut records[key].queue, spare, blank)
+}
+
+// Takes the message at the front of the queue of the port under the key, and raises its sequence number.
+fn take_at<M: Message>(
+    records: &mut Slab<Record<M>>,
+    key: usize,
+    spare: &mut LinkedList<M>,
+    blank: M,
+) -> M
+    requires there { IsSome (get records.old key) }
+    requires some { (r : AnyRecord M) → get records.old key ≡ Some r → 0 < length r.queue }
+    requires fit { (r : AnyRecord M) → get records.old key ≡ Some r → length r.queue + length spare.old < 2 ^ 63 }
+    ensures after { (r : AnyRecord M) → get records.old key ≡ Some r → (rest : List M) × (r.queue ≡ result ∷ rest)
+        × (records.new ≡ with_value records.old key (record r { queue = rest; attributes = record r.attributes { sequence = (r.attributes.sequence + 1) % 2 ^ 32 } })) }
+    ensures spare { length spare.new ≡ length spare.old + 1 }
+{
+    let record = &mut records[key];
+    record.attributes.sequence = record.attributes.sequence.wrapping_add(1);
+    pop(&mut record.queue, spare, blank)
 }
 
 // Sets the attributes of the port under the key.
@@ -395,6 +414,23 @@ impl<M: Message> Ports<M> {
         }
         let blank = M::blank(*self.spare.allocator());
         Some(pop_at(&mut self.records, key, &mut self.spare, blank))
+    }
+
+    /// Receives a port's front message: takes it as [`Ports::dequeue`], and uses its sequence number, so
+    /// that the port's rises by one, modulo 2^32. `None` where the port is gone or has none, and all is
+    /// then as before. Takes no memory. Logarithmic in the number of ports.
+    pub fn take(&mut self, port: PortId) -> Option<M>
+        ensures front { result ≡ option_and_then (λ p. slice_get p.queue 0) (map.get self.old.ports port) }
+        ensures taken { (p : PortView M) → map.get self.old.ports port ≡ Some p → IfSome result (λ m.
+            self.new ≡ record (with_port self.old port (record p { queue = drop 1 p.queue; attributes = record p.attributes { sequence = (p.attributes.sequence + 1) % 2 ^ 32 } })) { spare = self.old.spare + 1 }) }
+        ensures none { IfNone result (self.new ≡ self.old) }
+    {
+        let key = key_of(&self.by_id, port)?;
+        if self.records[key].queue.is_empty() {
+            return None;
+        }
+        let blank = M::blank(*self.spare.allocator());
+        Some(take_at(&mut self.records, key, &mut self.spare, blank))
     }
 }
 
