@@ -1,5 +1,5 @@
 -- A port's front message taken from its queue.
-use Rattle.std.proofs.Common.{◌≡◌, ℕ, ◌+◌, List, ◌∷◌, Option, Some, refl, sym, ap, subst, ◌∙◌, inl, inr}
+use Rattle.std.proofs.Common.{◌≡◌, ℕ, ◌+◌, List, ◌∷◌, Option, Some, sym, ap, subst, ◌∙◌, inl, inr}
 use Rattle.std.specs.Prelude.{slice_get, ◌%◌, ◌^◌}
 use Rattle.std.specs.Option.{option_and_then}
 use Rattle.std.specs.Ordering.{nat_cmp}
@@ -11,10 +11,9 @@ use Rattle.port.specs.declared.Attributes.{Attributes}
 use Rattle.copyin_base.specs.Changes.{HasAttributes}
 use Rattle.copyin_base.specs.Kept.{Kept}
 use Rattle.copyin_base.proofs.Gets.{same_found}
-use Rattle.copyin_base.proofs.Spaces.{same_world}
 use Rattle.copyin_base.specs.Worlds.{WorldView, port_at}
 use Rattle.copyout.specs.Takes.{TakesFront, destination_right}
-use Rattle.copyout.specs.Ready.{HasFront}
+use Rattle.copyout.specs.Ready.{HasFront, Waits}
 
 pub put_twice : {X : Type 0} (m : map.FinMap nat_cmp X) (k : ℕ) (a b : X) → map.insert (map.insert m k a) k b ≡ map.insert m k b
 put_twice m k a b = same_gets _ _ (λ q. elim (equal_or_not q k) [
@@ -32,34 +31,18 @@ pub sequence_is : (w : WorldView) (port : ℕ) (x : Attributes) → HasAttribute
 sequence_is w port x has v there =
     ap (λ (a : Attributes). a.sequence) (sym has.are) ∙ ap (λ (u : PortView Kept). u.attributes.sequence) (same_found (port_at w port) has.v v has.there there)
 
-abbrev pub raised : PortView Kept → PortView Kept
-raised v = record v { attributes = record v.attributes { sequence = (v.attributes.sequence + 1) % 2 ^ 32 } }
+abbrev pub front_waits : (w : WorldView) (port : ℕ) (x : Waits w port) → HasFront w port x.front
+front_waits w port x = record { v = x.v; there = x.there; behind = x.behind; queue = x.queue }
 
--- the queue's front is the same once the number was raised
-abbrev pub front_raised : (w w1 : WorldView) (port : ℕ) (v : PortView Kept) (m : Kept) (behind : List Kept) → v.queue ≡ m ∷ behind →
-    w1 ≡ record w { ports = with_port w.ports port (raised v) } → HasFront w1 port m
-front_raised w w1 port v m behind queue e = record {
-  v = raised v;
-  there = ap (λ (x : WorldView). port_at x port) e ∙ put_here w.ports.ports port (raised v);
-  behind = behind;
-  queue = queue;
+abbrev pub takes_front : (w w1 w2 : WorldView) (port : ℕ) (x : Waits w port) →
+    w1 ≡ record w { ports = record (with_port w.ports port (record { queue = x.behind; attributes = record x.v.attributes { sequence = (x.v.attributes.sequence + 1) % 2 ^ 32 } })) { spare = w.ports.spare + 1 } } →
+    w2 ≡ record w1 { ledger = taken w1.ledger port (destination_right x.front) 1 } →
+    TakesFront w port w2
+takes_front w w1 w2 port x e1 e2 = record {
+  v = x.v;
+  there = x.there;
+  front = x.front;
+  behind = x.behind;
+  queue = x.queue;
+  rest = e2 ∙ ap (λ (y : WorldView). record y { ledger = taken y.ledger port (destination_right x.front) 1 }) e1;
 }
-
-abbrev pub takes_front : (w w1 w2 w3 : WorldView) (port : ℕ) (v : PortView Kept) (m : Kept) (behind : List Kept) → port_at w port ≡ Some v → v.queue ≡ m ∷ behind →
-    w1 ≡ record w { ports = with_port w.ports port (raised v) } →
-    w2 ≡ record w1 { ports = record (with_port w1.ports port (record (raised v) { queue = behind })) { spare = w1.ports.spare + 1 } } →
-    w3 ≡ record w2 { ledger = taken w2.ledger port (destination_right m) 1 } →
-    TakesFront w port w3
-takes_front w w1 w2 w3 port v m behind there queue e1 e2 e3 =
-    let f : WorldView → WorldView = λ x. record x { ledger = taken x.ledger port (destination_right m) 1 } in
-    let g : WorldView → WorldView = λ x. record x { ports = record (with_port x.ports port (record (raised v) { queue = behind })) { spare = x.ports.spare + 1 } } in
-    record {
-      v = v;
-      there = there;
-      front = m;
-      behind = behind;
-      queue = queue;
-      rest = e3 ∙ ap f e2 ∙ ap (λ (x : WorldView). f (g x)) e1
-          ∙ same_world w.spaces w.spaces _ _ (taken w.ledger port (destination_right m) 1) (taken w.ledger port (destination_right m) 1) w.sets w.sets refl
-          (ap (λ (ports : map.FinMap nat_cmp (PortView Kept)). record w.ports { ports = ports; spare = w.ports.spare + 1 }) (put_twice w.ports.ports port (raised v) (record (raised v) { queue = behind }))) refl refl;
-    }

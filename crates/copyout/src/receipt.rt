@@ -6,7 +6,7 @@ ghost use Rattle.mach_types.specs.Grammar.{WireBody, body_text};
 ghost use Rattle.message_codec.specs.Received.{IsLaidOut, header_text, received_body};
 ghost use Rattle.message_codec.specs.Spans.{word_count};
 ghost use Rattle.name_space.specs.Names.{SpaceView};
-ghost use Rattle.port.specs.Ports.{PortView, with_port};
+ghost use Rattle.port.specs.Ports.{with_port};
 ghost use Rattle.rights.specs.declared.RightKind.TheVariants as right;
 ghost use Rattle.rights.specs.Ledger.{IsEntered, counts_of, taken};
 ghost use Rattle.rights.specs.Counts.{number_of};
@@ -27,7 +27,6 @@ use mach_types::bits::COMPLEX;
 use mach_types::limits::{MOST_BYTES, MOST_NAMES};
 use mach_types::{Bytes, Name, PortId, TaskId};
 use message_codec::{Header, Parsed, put_received};
-use port::Attributes;
 use rights::RightKind;
 use smallvec::SmallVec;
 use std::alloc::{AllocError, Global};
@@ -64,30 +63,13 @@ fn header_bits(reply: &Option<Carried>, by_once: bool, is_complex: bool) -> u32
     reply_number(reply) + local * 0x100 + complex
 }
 
-// The number of the port's next message is used.
-fn raise_sequence(world: &mut World, port: PortId)
-    requires { is_some (port_at world.old port) ≡ true }
-    ensures { (v : PortView Kept) → port_at world.old port ≡ Some v →
-        world.new ≡ record world.old { ports = with_port world.old.ports port (record v { attributes = record v.attributes { sequence = (v.attributes.sequence + 1) % 2 ^ 32 } }) } }
-{
-    let attributes = world.attributes(port);
-    let sequence = attributes.sequence.wrapping_add(1);
-    world.set_attributes(
-        port,
-        Attributes {
-            sequence,
-            ..attributes
-        },
-    );
-}
-
-// Takes the port's front message from the queue.
+// Takes the port's front message from the queue; its number is used.
 fn dequeue(world: &mut World, port: PortId) -> Message
     requires { (m : Kept) × HasFront world.old port m }
     ensures { (m : Kept) (f : HasFront world.old port m) → (result ≡ m)
-        × (world.new ≡ record world.old { ports = record (with_port world.old.ports port (record f.v { queue = f.behind })) { spare = world.old.ports.spare + 1 } }) }
+        × (world.new ≡ record world.old { ports = record (with_port world.old.ports port (record { queue = f.behind; attributes = record f.v.attributes { sequence = (f.v.attributes.sequence + 1) % 2 ^ 32 } })) { spare = world.old.ports.spare + 1 } }) }
 {
-    match world.ports.dequeue(port) {
+    match world.ports.take(port) {
         Some(message) => message,
         None => unreachable!(),
     }
@@ -112,7 +94,6 @@ fn take_front(world: &mut World, port: PortId) -> Message
     requires { Waits world.old port }
     ensures { (t : TakesFront world.old port world.new) × (result ≡ t.front) }
 {
-    raise_sequence(world, port);
     let message = dequeue(world, port);
     consume(world, port, &message);
     message
