@@ -1,5 +1,5 @@
 -- What judging the words of a text says of the plan.
-use Rattle.std.proofs.Common.{◌≡◌, ℕ, ◌+◌, ◌/◌, ◌%◌, ◌^◌, ◌<◌, Option, Some, None, IsSome, IfSome, List, [], ◌∷◌, length, refl, sym, ap, subst, ◌∙◌, inl, inr, ◌⊎◌, arith, All}
+use Rattle.std.proofs.Common.{◌≡◌, ℕ, ◌+◌, ◌/◌, ◌%◌, ◌^◌, ◌<◌, ◌≤◌, Option, Some, None, IsSome, IfSome, List, [], ◌∷◌, length, refl, sym, ap, subst, ◌∙◌, inl, inr, ◌⊎◌, arith, All}
 use Rattle.std.specs.Prelude.{◌≢◌, slice_get}
 use Rattle.std.specs.Option.{option_to_list}
 use Rattle.std.proofs.lemmas.Bool.Decides.{eqb_tells, leb_tells}
@@ -21,12 +21,13 @@ use Rattle.message_codec.proofs.PutWords.{six}
 use Rattle.message_codec.proofs.Shapes.{All-head, All-tail}
 use Rattle.name_space.specs.Names.{Names, SpaceView}
 use Rattle.port.specs.Ports.{IsLive}
+use Rattle.copyin_base.specs.declared.message.Carried.{Carried}
 use Rattle.copyin.specs.declared.judge.Rights.{Rights}
 use Rattle.copyin.specs.declared.judge.Words.{Words}
 use Rattle.copyin.specs.Goes.{AreGiven, LeadsNowhere, Starts, GoAll, CannotGo, made_by_rights}
 use Rattle.copyin.specs.Judging.{CopiesName, CopiesReply, CopiesBody, BodyIsBad}
 use Rattle.copyin.specs.Planned.{AreWords}
-use Rattle.copyin.specs.Plans.{reply_words, Judged, Begins, HasSlot, HasNoSlot, CannotPlan}
+use Rattle.copyin.specs.Plans.{reply_words, Judged, Plans, Begins, HasSlot, HasNoSlot, CannotPlan}
 use Rattle.copyin_base.specs.Stands.{AreTied}
 use Rattle.copyin_base.specs.Worlds.{WorldView}
 use Rattle.copyin.proofs.Keeping.{keeps}
@@ -181,7 +182,7 @@ module _ (w : WorldView) (task : ℕ) (parsed : Parsed) (written : WireBody) (sp
         ap msg_number h.0,
       )))
 
-  module _ (rights : Rights) (g : GoAll space.names words rights) where
+  module _ (rights : Rights) (carried : List Carried) (g : GoAll space.names words rights carried) where
     abbrev pub judged_of : Judged w task parsed written
     judged_of = record {
       space = space;
@@ -192,17 +193,25 @@ module _ (w : WorldView) (task : ℕ) (parsed : Parsed) (written : WireBody) (sp
       first = g.first;
       copies_destination = subst (λ (x : PortWord). CopiesName space.names x rights.destination g.first) a.destination g.destination;
       reply = rights.reply;
-      second = g.second;
-      copies_reply = subst (λ (ws : List PortWord). CopiesReply g.first ws rights.reply g.second) a.reply g.reply;
-      rights = rights.body.items;
-      last = g.last;
-      copies_body = subst (λ (ws : List PortWord). CopiesBody g.second ws rights.body.items g.last) a.body g.body;
+      second = g.others.second;
+      copies_reply = subst (λ (ws : List PortWord). CopiesReply g.first ws rights.reply g.others.second) a.reply g.others.reply;
+      rights = carried;
+      last = g.others.last;
+      copies_body = subst (λ (ws : List PortWord). CopiesBody g.others.second ws carried g.others.last) a.body g.others.body;
     }
 
-    pub cannot_admit : (code : MsgReturn) → HasNoSlot w rights.port rights.destination × (code ≡ SendTimedOut)
-        ⊎ HasSlot w rights.port rights.destination × (most_rights < w.ledger.total + made_by_rights rights) × (code ≡ SendNoBuffer) → CannotPlan w task parsed written (msg_number code)
-    cannot_admit code (inl h) = inr (inr (inr (inl (judged_of, inl (h.0, ap msg_number h.1)))))
-    cannot_admit code (inr h) = inr (inr (inr (inl (judged_of, inr (h.0, h.1, ap msg_number h.2)))))
+    pub cannot_admit : (cs : List Carried) → cs ≡ carried → (code : MsgReturn) → HasNoSlot w rights.port rights.destination × (code ≡ SendTimedOut)
+        ⊎ HasSlot w rights.port rights.destination × (most_rights < w.ledger.total + made_by_rights rights cs) × (code ≡ SendNoBuffer) → CannotPlan w task parsed written (msg_number code)
+    cannot_admit cs same code (inl h) = inr (inr (inr (inl (judged_of, inl (h.0, ap msg_number h.1)))))
+    cannot_admit cs same code (inr h) =
+        inr (inr (inr (inl (judged_of, inr (h.0, subst (λ (xs : List Carried). most_rights < w.ledger.total + made_by_rights rights xs) same h.1, ap msg_number h.2)))))
+
+    abbrev pub admitted : (cs : List Carried) → cs ≡ carried → HasSlot w rights.port rights.destination × (w.ledger.total + made_by_rights rights cs ≤ most_rights) → Plans w task parsed written
+    admitted cs same may = record {
+      judged = judged_of;
+      slot = may.0;
+      few = subst (λ (xs : List Carried). w.ledger.total + made_by_rights rights xs ≤ most_rights) same may.1;
+    }
 
     pub port_lives : AreTied space.names w.ports w.ledger → IsLive w.ports rights.port
     port_lives tied =

@@ -31,15 +31,26 @@ pub record StartsAt (names : Names) (w : PortWord) (d : Destination) : Type 0 wh
   pub to_port : d.carried.mark ≡ mark.Port d.port
   pub copies : CopiesName names w d.carried (put names w.name d.left)
 
+-- The rights beside the destination's go.
+pub record OthersGo (first : Names) (words : Words) (given : Option Carried) (rights : List Carried) : Type 0 where
+  pub second : Names
+  pub reply : CopiesReply first (option_to_list words.reply) given second
+  pub last : Names
+  pub body : CopiesBody second words.body.items rights last
+
+-- One of them can't.
+abbrev pub OthersCannot : Names → Words → MsgReturn → Type 0
+OthersCannot first words code =
+    (code ≡ SendInvalidReply) × RepliesBadly first (option_to_list words.reply)
+    ⊎ (code ≡ SendInvalidRight) × ((reply : Option Carried) × (second : Names)
+    × CopiesReply first (option_to_list words.reply) reply second × BodyIsBad second words.body.items)
+
 -- All rights go, the destination's to a port.
-pub record GoAll (names : Names) (words : Words) (rights : Rights) : Type 0 where
+pub record GoAll (names : Names) (words : Words) (rights : Rights) (carried : List Carried) : Type 0 where
   pub to_port : rights.destination.mark ≡ mark.Port rights.port
   pub first : Names
   pub destination : CopiesName names words.destination rights.destination first
-  pub second : Names
-  pub reply : CopiesReply first (option_to_list words.reply) rights.reply second
-  pub last : Names
-  pub body : CopiesBody second words.body.items rights.body.items last
+  pub others : OthersGo first words rights.reply carried
 
 -- The destination may go, and leaves these names.
 pub record Starts (names : Names) (words : Words) (first : Names) : Type 0 where
@@ -55,5 +66,5 @@ CannotGo names words code =
     ⊎ (code ≡ SendInvalidRight) × ((first : Names) × Starts names words first × (reply : Option Carried) × (second : Names)
     × CopiesReply first (option_to_list words.reply) reply second × BodyIsBad second words.body.items)
 
-abbrev pub made_by_rights : Rights → ℕ
-made_by_rights rights = made_by rights.destination + made_by_reply rights.reply + made_by_all rights.body.items
+abbrev pub made_by_rights : Rights → List Carried → ℕ
+made_by_rights rights carried = made_by rights.destination + made_by_reply rights.reply + made_by_all carried

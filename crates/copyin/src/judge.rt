@@ -15,10 +15,11 @@ ghost use Rattle.copyin_base.specs.declared.message.Carried.{Carried as AnyCarri
 ghost use Rattle.copyin_base.specs.declared.message.Mark.TheVariants as mark_of;
 ghost use Rattle.copyin.specs.Judging.{CopiesName, CopiesWord, CopiesReply, CopiesBody, IsBad, IsLeft, BodyIsBad, made_by, made_by_all};
 ghost use Rattle.copyin.specs.Overlays.{IsFull, Overlays};
-ghost use Rattle.copyin.specs.Goes.{AreGiven, RepliesBadly, LeadsNowhere, StartsAt, GoAll, CannotGo, made_by_rights};
+ghost use Rattle.copyin.specs.Goes.{AreGiven, RepliesBadly, LeadsNowhere, StartsAt, OthersGo, OthersCannot, GoAll, CannotGo, made_by_rights};
 ghost use Rattle.copyin.specs.Planned.{AreWords, IsPlan};
 ghost use Rattle.copyin.specs.Plans.{CannotPlan, HasSlot, HasNoSlot, reply_words};
 ghost use Rattle.copyin_base.specs.Stands.{IsTied};
+ghost use Rattle.copyin_base.specs.Worlds.{put};
 
 use crate::copies::copy_right;
 use crate::touched::Touched;
@@ -181,25 +182,27 @@ fn judge_next(
     }
 }
 
-// Judges the words of the body, each in what the one before left.
+// Judges the words of the body, each in what the one before left, and puts their rights into a list
+// that has none.
 fn judge_body(
-    alloc: Global,
     space: &Space,
     touched: &mut Touched,
+    rights: &mut SmallVec<Carried, INLINE_WORDS>,
     words: &[PortWord],
-) -> Result<SmallVec<Carried, INLINE_WORDS>, MsgReturn>
+) -> Result<(), MsgReturn>
     requires few { array_vec_len touched.old.few ≤ 2 }
+    requires none { rights.old.items ≡ [] }
+    requires inline { inline_words ≤ rights.old.capacity }
     requires given { All (λ w. IsSome (disposition w.disposition)) words.now }
-    ensures ok { IfOk result (λ rights. (now : Names) → Overlays touched.old space.now.names now
-        → (after : Names) × CopiesBody now words.now rights.items after) }
+    ensures ok { OnOk result ((now : Names) → Overlays touched.old space.now.names now
+        → (after : Names) × CopiesBody now words.now rights.new.items after) }
     ensures err { IfErr result (λ code. (code ≡ SendNoBuffer) × (inline_words < length words.now)
         ⊎ (code ≡ SendInvalidRight) × ((now : Names) → Overlays touched.old space.now.names now → BodyIsBad now words.now)) }
 {
-    let mut rights = SmallVec::new(alloc);
     for word in words {
-        judge_next(space, touched, &mut rights, word)?;
+        judge_next(space, touched, rights, word)?;
     }
-    Ok(rights)
+    Ok(())
 }
 
 // Judges the word of the right to answer with.
@@ -270,19 +273,26 @@ fn judge_destination(space: &Space, word: PortWord) -> Result<Destination, MsgRe
     }
 }
 
-// The rights that go with a message.
-#[derive(Drop)]
+// The rights of a message's header.
+#[derive(Clone, Copy)]
 struct Rights {
     destination: Carried,
     port: PortId,
     reply: Option<Carried>,
-    body: SmallVec<Carried, INLINE_WORDS>,
 }
 
-// Judges all words of a message: the destination, the reply and the body.
-fn judge_all(alloc: Global, space: &Space, words: &Words) -> Result<Rights, MsgReturn>
-    requires { AreGiven words.now }
-    ensures ok { IfOk result (λ rights. GoAll space.now.names words.now rights) }
+// Judges all words of a message: the destination, the reply and the body, whose rights it puts into a
+// list that has none.
+fn judge_all(
+    alloc: Global,
+    space: &Space,
+    words: &Words,
+    body: &mut SmallVec<Carried, INLINE_WORDS>,
+) -> Result<Rights, MsgReturn>
+    requires given { AreGiven words.now }
+    requires none { body.old.items ≡ [] }
+    requires inline { inline_words ≤ body.old.capacity }
+    ensures ok { IfOk result (λ rights. GoAll space.now.names words.now rights body.new.items) }
     ensures err { IfErr result (λ code. (code ≡ SendNoBuffer) × (inline_words < small_vec_len words.now.body) ⊎ CannotGo space.now.names words.now code) }
 {
     let Destination {
@@ -295,18 +305,35 @@ fn judge_all(alloc: Global, space: &Space, words: &Words) -> Result<Rights, MsgR
             destination: carried,
             port,
             reply: None,
-            body: SmallVec::new(alloc),
         });
     }
-    let mut touched = Touched::first(alloc, words.destination.name, left);
-    let reply = judge_reply(space, &mut touched, words.reply)?;
-    let body = judge_body(alloc, space, &mut touched, words.body.as_slice())?;
+    let reply = judge_others(alloc, space, words, left, body)?;
     Ok(Rights {
         destination: carried,
         port,
         reply,
-        body,
     })
+}
+
+// Judges the reply and the body, where this is left under the destination's name.
+fn judge_others(
+    alloc: Global,
+    space: &Space,
+    words: &Words,
+    left: Option<Entry>,
+    body: &mut SmallVec<Carried, INLINE_WORDS>,
+) -> Result<Option<Carried>, MsgReturn>
+    requires given { AreGiven words.now }
+    requires none { body.old.items ≡ [] }
+    requires inline { inline_words ≤ body.old.capacity }
+    ensures ok { IfOk result (λ reply. OthersGo (put space.now.names words.now.destination.name left) words.now reply body.new.items) }
+    ensures err { IfErr result (λ code. (code ≡ SendNoBuffer) × (inline_words < small_vec_len words.now.body)
+        ⊎ OthersCannot (put space.now.names words.now.destination.name left) words.now code) }
+{
+    let mut touched = Touched::first(alloc, words.destination.name, left);
+    let reply = judge_reply(space, &mut touched, words.reply)?;
+    judge_body(space, &mut touched, body, words.body.as_slice())?;
+    Ok(reply)
 }
 
 // Whether the port's queue takes a message under this destination right.
@@ -348,29 +375,29 @@ fn count_all_made(rights: &[Carried]) -> u64
 }
 
 // Whether there may be as many rights as the message makes.
-fn has_room(world: &World, rights: &Rights) -> bool
-    ensures { IsTrue result ↔ (world.now.ledger.total + made_by_rights rights.now ≤ most_rights) }
+fn has_room(world: &World, rights: &Rights, body: &[Carried]) -> bool
+    ensures { IsTrue result ↔ (world.now.ledger.total + made_by_rights rights.now body.now ≤ most_rights) }
 {
     let reply = match rights.reply {
         Some(carried) => count_made(carried),
         None => 0,
     };
-    let made = count_made(rights.destination) + reply + count_all_made(rights.body.as_slice());
+    let made = count_made(rights.destination) + reply + count_all_made(body);
     world.ledger.total() as u64 + made <= MOST_RIGHTS as u64
 }
 
 // Judges the queue, and the limit of rights.
-fn admit(world: &World, rights: &Rights) -> Result<(), MsgReturn>
+fn admit(world: &World, rights: &Rights, body: &[Carried]) -> Result<(), MsgReturn>
     requires live { IsLive world.now.ports rights.now.port }
     requires sends { kind_sent rights.now.destination.given ≢ receive }
-    ensures ok { IfOk result (λ _. HasSlot world.now rights.now.port rights.now.destination × (world.now.ledger.total + made_by_rights rights.now ≤ most_rights)) }
+    ensures ok { IfOk result (λ _. HasSlot world.now rights.now.port rights.now.destination × (world.now.ledger.total + made_by_rights rights.now body.now ≤ most_rights)) }
     ensures err { IfErr result (λ code. HasNoSlot world.now rights.now.port rights.now.destination × (code ≡ SendTimedOut)
-        ⊎ HasSlot world.now rights.now.port rights.now.destination × (most_rights < world.now.ledger.total + made_by_rights rights.now) × (code ≡ SendNoBuffer)) }
+        ⊎ HasSlot world.now rights.now.port rights.now.destination × (most_rights < world.now.ledger.total + made_by_rights rights.now body.now) × (code ≡ SendNoBuffer)) }
 {
     if !has_slot(world, rights.port, rights.destination) {
         return Err(MsgReturn::SendTimedOut);
     }
-    if !has_room(world, rights) {
+    if !has_room(world, rights, body) {
         return Err(MsgReturn::SendNoBuffer);
     }
     Ok(())
@@ -408,30 +435,17 @@ fn read_words(alloc: Global, parsed: &Parsed, bytes: &[u8]) -> Result<Words, Msg
     })
 }
 
-// The message that is queued, with its rights.
-fn message_of(
+// What a queued message keeps of its bytes and of its body's rights.
+fn copies_of(
     alloc: Global,
-    parsed: Parsed,
     bytes: &[u8],
-    rights: &Rights,
-) -> Result<Message, AllocError>
-    ensures { IfOk result (λ message. message ≡ record {
-      bytes = bytes.now;
-      id = parsed.id;
-      is_complex = parsed.is_complex;
-      spans = parsed.spans;
-      by_once = same_kind (kind_sent rights.now.destination.given) send_once;
-      reply = rights.now.reply;
-      rights = rights.now.body.items;
-    }) }
+    rights: &[Carried],
+) -> Result<(Vec<u8>, Vec<Carried>), AllocError>
+    ensures { IfOk result (λ copies. (copies.0.items ≡ bytes.now) × (copies.1.items ≡ rights.now)) }
 {
-    Ok(Message {
-        bytes: Vec::from_slice(alloc, bytes)?,
-        parsed,
-        by_once: rights.destination.given.is_send_once(),
-        reply: rights.reply,
-        rights: Vec::from_slice(alloc, rights.body.as_slice())?,
-    })
+    let bytes = Vec::from_slice(alloc, bytes)?;
+    let rights = Vec::from_slice(alloc, rights)?;
+    Ok((bytes, rights))
 }
 
 /// Judges a message of the task, of which this was read, and makes the plan by which [`commit`] sends
@@ -464,16 +478,28 @@ pub fn check(
     ensures err { IfErr result (λ code. (p : Parses bytes.now parsed) → CannotPlan world.now task parsed p.written (msg_number code)) }
 {
     let words = read_words(alloc, &parsed, bytes)?;
-    let rights = judge_all(alloc, world.space(task), &words)?;
-    admit(world, &rights)?;
-    let Ok(message) = message_of(alloc, parsed, bytes, &rights) else {
+    let mut body = SmallVec::new(alloc);
+    let rights = judge_all(alloc, world.space(task), &words, &mut body)?;
+    admit(world, &rights, body.as_slice())?;
+    let Ok((bytes, carried)) = copies_of(alloc, bytes, body.as_slice()) else {
         return Err(MsgReturn::SendNoBuffer);
     };
+    let Rights {
+        destination,
+        port,
+        reply,
+    } = rights;
     Ok(Plan {
         task,
         words,
-        destination: rights.destination,
-        port: rights.port,
-        message,
+        destination,
+        port,
+        message: Message {
+            bytes,
+            parsed,
+            by_once: destination.given.is_send_once(),
+            reply,
+            rights: carried,
+        },
     })
 }

@@ -9,11 +9,11 @@ use Rattle.copyin.proofs.judge.judge_body.Goals as goal
 
 pub loop-word-init : goal.loop-word-init
 loop-word-init c = record {
-  judged = subst (λ (cs : List Carried). IsJudged c.args.touched.now c.args.touched.now c.args.space.now.names [] cs) (sym c.new-rights.ensures.items)
+  judged = subst (λ (cs : List Carried). IsJudged c.args.touched.now c.args.touched.now c.args.space.now.names [] cs) (sym c.requires.none)
       (judged-none c.args.touched.now c.args.space.now.names);
   few = omega (arith, c.requires.few);
-  so_far = ap length c.new-rights.ensures.items;
-  inline = omega (arith, c.new-rights.ensures.capacity);
+  so_far = ap length c.requires.none;
+  inline = omega (arith, c.requires.inline);
 }
 
 pub judge_next-requires-clause-inline : goal.judge_next-requires-clause-inline
