@@ -1,44 +1,15 @@
-//! A workload in a world, on a kernel of its own.
-use crate::plans::{Plan, opening};
-use crate::workloads::Workload;
-use crate::worlds::World;
+//! A kernel that is made ready for a workload, and the calls to measure.
 use kernel_core::Kernel;
 use mach_types::{Event, Reply};
 use std::alloc::{AllocError, Global};
 
-/// Which calls are made.
-#[derive(Clone, Copy, Debug, PartialEq, Eq)]
-pub enum Part {
-    /// Those that make the world, and what the workload needs.
-    Setup,
-    /// Those that are measured.
-    Cycle,
-}
-
-impl Part {
-    /// Its word.
-    pub fn name(self) -> &'static str {
-        match self {
-            Part::Setup => "setup",
-            Part::Cycle => "cycle",
-        }
-    }
-}
-
-/// A call that was refused though it should be done: its number in its list, from 0.
-#[derive(Clone, Copy, Debug, PartialEq, Eq)]
-pub struct Refused {
-    /// The list in which it stands.
-    pub part: Part,
-    /// Its place there.
-    pub index: usize,
-}
-
 /// What stops a measurement.
-#[derive(Clone, Copy, Debug, PartialEq, Eq)]
+#[derive(Clone, Copy)]
 pub enum Stop {
-    /// A call was refused.
-    Refused(Refused),
+    /// A call that makes the kernel ready was refused: its number, from 1.
+    Setup(usize),
+    /// A call that is measured was refused: its number in the cycle, from 1.
+    Cycle(usize),
     /// Memory was refused.
     OutOfMemory,
 }
@@ -49,61 +20,67 @@ impl From<AllocError> for Stop {
     }
 }
 
-impl From<Refused> for Stop {
-    fn from(refused: Refused) -> Stop {
-        Stop::Refused(refused)
-    }
-}
-
-/// A kernel that stands ready, with the calls to measure.
+/// A kernel, with the calls of one cycle.
 #[derive(Drop)]
 pub struct Bench {
+    /// What gives memory.
+    pub alloc: Global,
+    /// How many operations a cycle is.
+    pub operations: u32,
     kernel: Kernel,
-    plan: Plan,
+    made: usize,
+    cycle: Vec<Event>,
 }
 
 impl Bench {
-    /// A new kernel with the world and what the workload needs.
-    pub fn new(alloc: Global, workload: Workload, world: World) -> Result<Bench, Stop> {
-        let mut kernel = Kernel::new(alloc);
-        let plan = workload.plan(alloc)?;
-        let around = world.events(alloc)?;
-        make_calls(&mut kernel, opening(alloc)?.as_slice(), Part::Setup)?;
-        if !world.is_made_after() {
-            make_calls(&mut kernel, around.as_slice(), Part::Setup)?;
+    /// An empty kernel, with no calls to measure. A cycle is one operation, unless that is set.
+    pub fn new(alloc: Global) -> Bench {
+        Bench {
+            alloc,
+            operations: 1,
+            kernel: Kernel::new(alloc),
+            made: 0,
+            cycle: Vec::new(alloc),
         }
-        make_calls(&mut kernel, plan.setup.as_slice(), Part::Setup)?;
-        if world.is_made_after() {
-            make_calls(&mut kernel, around.as_slice(), Part::Setup)?;
-        }
-        Ok(Bench { kernel, plan })
     }
 
-    /// How many operations so many cycles are.
-    pub fn operations(&self, times: u32) -> u64 {
-        u64::from(self.plan.operations).saturating_mul(u64::from(times))
+    /// Makes a call at once, to make the kernel ready.
+    pub fn make(&mut self, event: &Event) -> Result<(), Stop> {
+        self.made = self.made.saturating_add(1);
+        if is_refused(&self.kernel.step(event)) {
+            return Err(Stop::Setup(self.made));
+        }
+        Ok(())
+    }
+
+    /// Puts a call at the end of the cycle.
+    pub fn add(&mut self, event: Event) -> Result<(), Stop> {
+        match self.cycle.push(event) {
+            Ok(()) => Ok(()),
+            Err(_) => Err(Stop::OutOfMemory),
+        }
     }
 
     /// Makes the cycle so many times.
-    pub fn run(&mut self, times: u32) -> Result<(), Refused> {
-        measured(&mut self.kernel, self.plan.cycle.as_slice(), times)
+    pub fn run(&mut self, times: u32) -> Result<(), Stop> {
+        measured(&mut self.kernel, self.cycle.as_slice(), times)
     }
 }
 
 /// Makes the calls so many times: the function in which instructions are counted.
 #[inline(never)]
-fn measured(kernel: &mut Kernel, events: &[Event], times: u32) -> Result<(), Refused> {
+fn measured(kernel: &mut Kernel, events: &[Event], times: u32) -> Result<(), Stop> {
     for _ in 0..times {
-        make_calls(kernel, events, Part::Cycle)?;
+        make_calls(kernel, events)?;
     }
     Ok(())
 }
 
 /// Makes the calls in turn, up to the first that is refused.
-fn make_calls(kernel: &mut Kernel, events: &[Event], part: Part) -> Result<(), Refused> {
+fn make_calls(kernel: &mut Kernel, events: &[Event]) -> Result<(), Stop> {
     for (index, event) in events.iter().enumerate() {
         if is_refused(&kernel.step(event)) {
-            return Err(Refused { part, index });
+            return Err(Stop::Cycle(index.saturating_add(1)));
         }
     }
     Ok(())

@@ -1,61 +1,56 @@
 //! The words of the command line.
 use crate::perform::{Job, Run};
-use clap::{Arg, ArgMatches, Command, Error, value_parser};
-use std::alloc::Global;
 
-/// Reads the words, the program's own name first.
-///
-/// An error comes where the words name no job of the program, ask for help, or memory is refused;
-/// its kind tells which, and its text shows the usage.
-pub fn read_words<'a>(alloc: Global, words: &'a [String]) -> Result<Job<'a>, Error> {
-    let matches = program(alloc)?.try_get_matches_from(words)?;
-    Ok(job_of(&matches))
-}
+/// How the program is called.
+pub const USAGE: &str = "Workloads of Mach 3 port IPC, to measure
 
-/// The job that the subcommand stands for.
-fn job_of<'a>(matches: &ArgMatches<'a>) -> Job<'a> {
-    match matches.subcommand() {
-        Some(("run", of_run)) => Job::Run(Run {
-            workload: of_run.get_str("NAME").unwrap_or(""),
-            world: of_run.get_str("world").unwrap_or("small"),
-            times: of_run.get_one::<u32>("times").unwrap_or(1),
-        }),
-        Some(("check", _)) => Job::Check,
-        _ => Job::List,
+Usage: mach_bench list
+       mach_bench check
+       mach_bench run NAME [--world W] [--times N]
+       mach_bench help
+
+list   prints the workloads and the worlds
+check  makes each workload once, and the first in each world
+run    makes the cycle of one workload N times (1) in one world (small), by the clock
+";
+
+/// Reads the words, the program's own name first; nothing where they name no job.
+pub fn read_words<'a>(words: &'a [String]) -> Option<Job<'a>> {
+    match words {
+        [_, job] => match job.as_str() {
+            "list" => Some(Job::List),
+            "check" => Some(Job::Check),
+            "help" | "--help" | "-h" => Some(Job::Help),
+            _ => None,
+        },
+        [_, job, rest @ ..] if job.as_str() == "run" => read_run(rest),
+        _ => None,
     }
 }
 
-/// The program's subcommands, with their options.
-fn program<'a>(alloc: Global) -> Result<Command<'a>, Error> {
-    let program = Command::new(alloc, "mach_bench")
-        .about("Workloads of Mach 3 port IPC, to measure")
-        .subcommand_required(true)
-        .subcommand(Command::new(alloc, "list").about("Prints the workloads and the worlds"))?
-        .subcommand(Command::new(alloc, "check").about(
-            "Makes each workload once, and the first in each world",
-        ))?
-        .subcommand(run(alloc)?)?;
-    Ok(program)
-}
-
-/// The subcommand that measures.
-fn run<'a>(alloc: Global) -> Result<Command<'a>, Error> {
-    let name = Arg::new(alloc, "NAME").required(true).help("The workload");
-    let world = Arg::new(alloc, "world")
-        .long("world")
-        .value_name("W")
-        .default_value("small")
-        .help("What else the kernel has");
-    let times = Arg::new(alloc, "times")
-        .long("times")
-        .value_name("N")
-        .default_value("1")
-        .value_parser(value_parser!(u32))
-        .help("How many cycles are made");
-    let run = Command::new(alloc, "run")
-        .about("Makes one workload in one world, by the clock")
-        .arg(name)?
-        .arg(world)?
-        .arg(times)?;
-    Ok(run)
+/// Reads what stands after `run`: a workload's name, and options before it or after it, each with its value.
+fn read_run<'a>(words: &'a [String]) -> Option<Job<'a>> {
+    let mut run = Run::new("", "small");
+    let mut option = "";
+    for word in words {
+        let word = word.as_str();
+        match option {
+            "--world" => run.world = word,
+            "--times" => run.times = word.parse::<u32>().ok()?,
+            _ => {}
+        }
+        let has_value = !option.is_empty();
+        option = "";
+        if has_value {
+            continue;
+        }
+        if word == "--world" || word == "--times" {
+            option = word;
+        } else if run.workload.is_empty() {
+            run.workload = word;
+        } else {
+            return None;
+        }
+    }
+    (option.is_empty() && !run.workload.is_empty()).then_some(Job::Run(run))
 }

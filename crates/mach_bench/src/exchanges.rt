@@ -1,9 +1,9 @@
 //! Workloads of messages.
-use crate::messages::{Sent, header, header_of_items, header_with_reply, push_item};
-use crate::plans::{
-    HOME, PEER, Plan, RECEIVE, SET, calls, give, give_up, make_named, put, receive, send,
+use crate::bench::{Bench, Stop};
+use crate::calls::{
+    COMPLEX, COPY_SEND, HOME, MAKE_SEND, MAKE_SEND_ONCE, MOVE_SEND_ONCE, PEER, RECEIVE, SET, give,
+    give_up, header, item_of, make_named, put, receive, send,
 };
-use mach_types::{Disposition, Event};
 use std::alloc::{AllocError, Global};
 
 /// `HOME`'s name of the port at which it receives.
@@ -12,146 +12,128 @@ const SERVICE: u32 = 1;
 /// `PEER`'s name of a send right to that port.
 const TO_SERVICE: u32 = 100;
 
-/// How many rights a message of many carries.
-const RIGHTS: u8 = 64;
+/// The name above the last of the 64 rights that a message of many carries, from 1 on.
+const RIGHTS_END: u32 = 65;
 
 /// `HOME`'s name of the first port of the set of 1,000.
 const FIRST_MEMBER: u32 = 1_001;
 
 /// The name above that of the last.
-const LAST_MEMBER: u32 = 2_001;
+const MEMBERS_END: u32 = 2_001;
 
-/// The right to send that a message makes from the receive right under the name.
-fn made(name: u32) -> Sent {
-    Sent::new(Disposition::MakeSend, name)
+/// The task sends these words, and `HOME` receives by the name.
+fn exchange(bench: &mut Bench, task: u32, words: &[u32], name: u32) -> Result<(), Stop> {
+    bench.add(send(bench.alloc, task, words)?)?;
+    bench.add(receive(HOME, name))
 }
 
-/// The send right by which `PEER` sends.
-fn service() -> Sent {
-    Sent::new(Disposition::CopySend, TO_SERVICE)
+/// `HOME` sends 24 bytes to its own port, and receives them by the name of that or of its set.
+fn to_self(bench: &mut Bench, port: u32, name: u32) -> Result<(), Stop> {
+    exchange(bench, HOME, &header(MAKE_SEND, port, 0), name)
 }
 
 /// `HOME`'s port, to which `PEER` has a send right, and a port of `PEER`'s, under 1.
-fn two_tasks(alloc: Global) -> Result<Vec<Event>, AllocError> {
-    calls(
-        alloc,
-        [
-            make_named(HOME, RECEIVE, SERVICE),
-            give(PEER, TO_SERVICE, HOME, SERVICE),
-            make_named(PEER, RECEIVE, 1),
-        ],
-    )
+fn two_tasks(bench: &mut Bench) -> Result<(), Stop> {
+    bench.make(&make_named(HOME, RECEIVE, SERVICE))?;
+    bench.make(&give(PEER, TO_SERVICE, HOME, SERVICE))?;
+    bench.make(&make_named(PEER, RECEIVE, 1))
 }
 
-/// The message is sent by `HOME` to itself, and received.
-fn to_self(alloc: Global, text: Vec<u8>) -> Result<Plan, AllocError> {
-    let setup = calls(alloc, [make_named(HOME, RECEIVE, SERVICE)])?;
-    let cycle = calls(alloc, [send(HOME, text), receive(HOME, SERVICE)])?;
-    Ok(Plan::new(setup, cycle))
+/// `PEER` sends `HOME` a message with one send right.
+fn send_right(bench: &mut Bench) -> Result<(), Stop> {
+    let [bits, size, to, reply, sequence, id] = header(COMPLEX | COPY_SEND, TO_SERVICE, 0);
+    let item = item_of(MAKE_SEND, false);
+    let words = [bits, size, to, reply, sequence, id, item, 1];
+    exchange(bench, PEER, &words, SERVICE)
 }
 
 /// 24 bytes, to self.
-pub fn send_receive(alloc: Global) -> Result<Plan, AllocError> {
-    to_self(alloc, header(alloc, made(SERVICE))?)
+pub fn send_receive(bench: &mut Bench) -> Result<(), Stop> {
+    bench.make(&make_named(HOME, RECEIVE, SERVICE))?;
+    to_self(bench, SERVICE, SERVICE)
 }
 
 /// A body of 4,096 bytes, to self.
-pub fn raw_4096(alloc: Global) -> Result<Plan, AllocError> {
-    let mut text = header(alloc, made(SERVICE))?;
-    text.extend_from_slice(&[0; 4_096])?;
-    to_self(alloc, text)
+pub fn raw_4096(bench: &mut Bench) -> Result<(), Stop> {
+    bench.make(&make_named(HOME, RECEIVE, SERVICE))?;
+    let mut words = Vec::from_slice(bench.alloc, &header(MAKE_SEND, SERVICE, 0))?;
+    words.extend_from_slice(&[0; 1_024])?;
+    exchange(bench, HOME, words.as_slice(), SERVICE)
 }
 
 /// A message with one send right, whose port `HOME` has under 2.
-pub fn right_named(alloc: Global) -> Result<Plan, AllocError> {
-    let mut setup = two_tasks(alloc)?;
-    setup.push(give(HOME, 2, PEER, 1))?;
-    let mut text = header_of_items(alloc, service())?;
-    push_item(&mut text, made(1), 1)?;
-    let cycle = calls(alloc, [send(PEER, text), receive(HOME, SERVICE)])?;
-    Ok(Plan::new(setup, cycle))
+pub fn right_named(bench: &mut Bench) -> Result<(), Stop> {
+    two_tasks(bench)?;
+    bench.make(&give(HOME, 2, PEER, 1))?;
+    send_right(bench)
 }
 
 /// A message with one send right, which comes under the fresh name 2, and goes.
-pub fn right_fresh(alloc: Global) -> Result<Plan, AllocError> {
-    let setup = two_tasks(alloc)?;
-    let mut text = header_of_items(alloc, service())?;
-    push_item(&mut text, made(1), 1)?;
-    let cycle = calls(
-        alloc,
-        [send(PEER, text), receive(HOME, SERVICE), give_up(HOME, 2)],
-    )?;
-    Ok(Plan::new(setup, cycle))
+pub fn right_fresh(bench: &mut Bench) -> Result<(), Stop> {
+    two_tasks(bench)?;
+    send_right(bench)?;
+    bench.add(give_up(2))
 }
 
 /// A request of `PEER`'s with a send-once right, which comes under the fresh name 2, and the answer by it.
-pub fn request_answer(alloc: Global) -> Result<Plan, AllocError> {
-    let setup = two_tasks(alloc)?;
-    let reply = Sent::new(Disposition::MakeSendOnce, 1);
-    let request = header_with_reply(alloc, service(), reply)?;
-    let answer = header(alloc, Sent::new(Disposition::MoveSendOnce, 2))?;
-    let cycle = calls(
-        alloc,
-        [
-            send(PEER, request),
-            receive(HOME, SERVICE),
-            send(HOME, answer),
-            receive(PEER, 1),
-        ],
-    )?;
-    Ok(Plan::new(setup, cycle))
+pub fn request_answer(bench: &mut Bench) -> Result<(), Stop> {
+    two_tasks(bench)?;
+    let bits = COPY_SEND | MAKE_SEND_ONCE << 8;
+    exchange(bench, PEER, &header(bits, TO_SERVICE, 1), SERVICE)?;
+    bench.add(send(bench.alloc, HOME, &header(MOVE_SEND_ONCE, 2, 0))?)?;
+    bench.add(receive(PEER, 1))
 }
 
-/// `PEER`'s 64 ports under 1 to 64, which `HOME` has under 2 to 65.
-fn many_ports(alloc: Global) -> Result<Vec<Event>, AllocError> {
-    let mut setup = two_tasks(alloc)?;
-    setup.push(give(HOME, 2, PEER, 1))?;
-    for index in 1..RIGHTS {
-        let name = u32::from(index) + 1;
-        setup.push(make_named(PEER, RECEIVE, name))?;
-        setup.push(give(HOME, name + 1, PEER, name))?;
+/// The words of a message of `PEER`'s with 64 rights from under 1 to 64, in an item each or in one.
+fn many_words(alloc: Global, is_together: bool) -> Result<Vec<u32>, AllocError> {
+    let mut words = Vec::from_slice(alloc, &header(COMPLEX | COPY_SEND, TO_SERVICE, 0))?;
+    for name in 1..RIGHTS_END {
+        if name == 1 || !is_together {
+            words.push(item_of(MAKE_SEND, is_together))?;
+        }
+        words.push(name)?;
     }
-    Ok(setup)
+    Ok(words)
 }
 
-/// 64 rights, in an item each.
-pub fn rights_apart(alloc: Global) -> Result<Plan, AllocError> {
-    let mut text = header_of_items(alloc, service())?;
-    for index in 0..RIGHTS {
-        push_item(&mut text, made(u32::from(index) + 1), 1)?;
+/// 64 rights to ports that `HOME` has under 2 to 65, in an item each or in one.
+pub fn many_rights(bench: &mut Bench, is_together: bool) -> Result<(), Stop> {
+    two_tasks(bench)?;
+    bench.make(&give(HOME, 2, PEER, 1))?;
+    for name in 2..RIGHTS_END {
+        bench.make(&make_named(PEER, RECEIVE, name))?;
+        bench.make(&give(HOME, name + 1, PEER, name))?;
     }
-    let cycle = calls(alloc, [send(PEER, text), receive(HOME, SERVICE)])?;
-    Ok(Plan::new(many_ports(alloc)?, cycle))
-}
-
-/// 64 rights, in one item.
-pub fn rights_together(alloc: Global) -> Result<Plan, AllocError> {
-    let mut text = header_of_items(alloc, service())?;
-    push_item(&mut text, made(1), RIGHTS)?;
-    let cycle = calls(alloc, [send(PEER, text), receive(HOME, SERVICE)])?;
-    Ok(Plan::new(many_ports(alloc)?, cycle))
+    let words = many_words(bench.alloc, is_together)?;
+    exchange(bench, PEER, words.as_slice(), SERVICE)
 }
 
 /// A message to each of 1,000 members of the set in turn, received by the set before the next is sent.
-pub fn set_of_1000(alloc: Global) -> Result<Plan, AllocError> {
-    let mut setup = Vec::new(alloc);
-    let mut cycle = Vec::new(alloc);
-    for name in FIRST_MEMBER..LAST_MEMBER {
-        setup.push(make_named(HOME, RECEIVE, name))?;
-        setup.push(put(name, SET))?;
-        cycle.push(send(HOME, header(alloc, made(name))?))?;
-        cycle.push(receive(HOME, SET))?;
+pub fn set_of_1000(bench: &mut Bench) -> Result<(), Stop> {
+    bench.operations = MEMBERS_END - FIRST_MEMBER;
+    for name in FIRST_MEMBER..MEMBERS_END {
+        bench.make(&make_named(HOME, RECEIVE, name))?;
+        bench.make(&put(name, SET))?;
+        to_self(bench, name, SET)?;
     }
-    Ok(Plan::counted(setup, cycle, 1_000))
+    Ok(())
 }
 
 /// A message to a port in the set, received by the set.
-pub fn set_receive(alloc: Global) -> Result<Plan, AllocError> {
-    let setup = calls(
-        alloc,
-        [make_named(HOME, RECEIVE, SERVICE), put(SERVICE, SET)],
-    )?;
-    let text = header(alloc, made(SERVICE))?;
-    let cycle = calls(alloc, [send(HOME, text), receive(HOME, SET)])?;
-    Ok(Plan::new(setup, cycle))
+pub fn set_receive(bench: &mut Bench) -> Result<(), Stop> {
+    bench.make(&make_named(HOME, RECEIVE, SERVICE))?;
+    bench.make(&put(SERVICE, SET))?;
+    to_self(bench, SERVICE, SET)
+}
+
+/// Two ports in the set, which begin with a message each: one more to each in turn, and the set receives after each.
+pub fn set_of_two(bench: &mut Bench) -> Result<(), Stop> {
+    bench.operations = 2;
+    for name in [SERVICE, 2] {
+        bench.make(&make_named(HOME, RECEIVE, name))?;
+        bench.make(&put(name, SET))?;
+        bench.make(&send(bench.alloc, HOME, &header(MAKE_SEND, name, 0))?)?;
+    }
+    to_self(bench, SERVICE, SET)?;
+    to_self(bench, 2, SET)
 }

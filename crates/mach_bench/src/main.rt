@@ -4,27 +4,23 @@
 #![tactic(auto)]
 
 mod bench;
+mod calls;
 mod command_line;
 mod exchanges;
-mod messages;
 mod names;
 mod perform;
-mod plans;
-#[cfg(test)]
-mod tests;
 mod workloads;
 mod worlds;
 
-use clap::error::ErrorKind;
-use command_line::read_words;
+use command_line::{USAGE, read_words};
 use perform::{Fault, perform, report};
 use std::io::Write;
 use std::process::ExitCode;
 use std::rt::{Clock, Env};
 use std::{env, io};
 
-/// The status where the command line has no such words.
-const USAGE: u8 = 2;
+/// The status where the command line names no job.
+const NO_JOB: u8 = 2;
 
 fn main(rt: HostRuntime) -> ExitCode {
     let (mut out, mut err) = (rt.stdout(), rt.stderr());
@@ -33,7 +29,7 @@ fn main(rt: HostRuntime) -> ExitCode {
 
 /// Does what the words of the command line ask for, and answers the status.
 ///
-/// Words that name no job are told of on `err`, with the program's usage: status 2.
+/// Words that name no job are answered by the program's usage on `err`: status 2.
 fn answer<R: Env + Clock + AllocGlobal, W: Write, E: Write>(
     rt: &R,
     out: &mut W,
@@ -44,19 +40,19 @@ fn answer<R: Env + Clock + AllocGlobal, W: Write, E: Write>(
         Err(error) if error.kind() == io::ErrorKind::OutOfMemory => {
             return report(Fault::OutOfMemory, err);
         }
-        Err(_) => {
-            let _ = err.write_all(b"error: a word is not UTF-8\n\nUsage: mach_bench <COMMAND>\n");
-            return USAGE;
-        }
+        Err(_) => return refuse(err),
     };
-    match read_words(rt.alloc(), words.as_slice()) {
-        Ok(job) => perform(rt, rt.alloc(), job, out, err),
-        Err(error) if error.kind() == ErrorKind::OutOfMemory => report(Fault::OutOfMemory, err),
-        Err(error) => {
-            let _ = write!(err, "{error}");
-            USAGE
-        }
+    match read_words(words.as_slice()) {
+        Some(job) => perform(rt, rt.alloc(), job, out, err),
+        None => refuse(err),
     }
+}
+
+/// Tells on `err` how the program is called.
+fn refuse<E: Write>(err: &mut E) -> u8 {
+    let _ = err.write_all(b"error: these words name no job\n\n");
+    let _ = err.write_all(USAGE.as_bytes());
+    NO_JOB
 }
 
 /// The words of the command line, the program's own name first.

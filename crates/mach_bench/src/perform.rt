@@ -1,19 +1,21 @@
 //! The jobs of the program, over any clock and writers.
 ghost use Rattle.std.specs.Prelude.{◌≤◌, ◌≡◌};
 
-use crate::bench::{Bench, Refused, Stop};
+use crate::bench::{Bench, Stop};
+use crate::command_line::USAGE;
 use crate::workloads::{WORKLOADS, Workload};
 use crate::worlds::{WORLDS, World};
 use std::alloc::Global;
-use std::io;
 use std::io::Write;
 use std::rt::Clock;
 use std::time::Instant;
-use thiserror::Error;
+use std::{fmt, io};
 
 /// What the program can do.
-#[derive(Clone, Copy, Debug, PartialEq, Eq)]
+#[derive(Clone, Copy)]
 pub enum Job<'a> {
+    /// Prints how the program is called.
+    Help,
     /// Prints the names of the workloads and the worlds.
     List,
     /// Makes each workload once in the small world, and the first in each world.
@@ -23,7 +25,7 @@ pub enum Job<'a> {
 }
 
 /// What is to be run.
-#[derive(Clone, Copy, Debug, PartialEq, Eq)]
+#[derive(Clone, Copy)]
 pub struct Run<'a> {
     /// The name of the workload.
     pub workload: &'a str,
@@ -33,27 +35,56 @@ pub struct Run<'a> {
     pub times: u32,
 }
 
+impl<'a> Run<'a> {
+    /// One cycle of this workload in this world.
+    pub fn new(workload: &'a str, world: &'a str) -> Run<'a> {
+        Run {
+            workload,
+            world,
+            times: 1,
+        }
+    }
+}
+
 /// What stops a job. Its text is the line that tells of it.
-#[derive(Clone, Copy, Debug, PartialEq, Eq, Error)]
+#[derive(Clone, Copy)]
 pub enum Fault<'a> {
     /// No workload has this name.
-    #[error("no workload {0}: see mach_bench list")]
     NoWorkload(&'a str),
     /// No world has this name.
-    #[error("no world {0}: see mach_bench list")]
     NoWorld(&'a str),
-    /// A call was refused that should be done: of which workload, in which world, which part, and its number there, from 1.
-    #[error("{0} in {1}: call {3} of the {2} was refused")]
-    Refused(&'a str, &'a str, &'a str, usize),
+    /// A call was refused that should be done: of which run, in which part of it, and its number there, from 1.
+    Refused(Run<'a>, &'static str, usize),
     /// The clock can't be read.
-    #[error("cannot read the clock")]
     NoClock,
     /// What is told can't be written.
-    #[error("cannot write")]
     CannotWrite,
     /// Memory was refused.
-    #[error("out of memory")]
     OutOfMemory,
+}
+
+impl<'a> fmt::Display for Fault<'a> {
+    fn fmt<W: fmt::Write>(&self, f: &mut fmt::Formatter<W>) -> fmt::Result {
+        match self {
+            Fault::NoWorkload(name) => write!(f, "no workload {name}: see mach_bench list"),
+            Fault::NoWorld(name) => write!(f, "no world {name}: see mach_bench list"),
+            Fault::Refused(
+                Run {
+                    workload,
+                    world,
+                    ..
+                },
+                part,
+                number,
+            ) => write!(
+                f,
+                "{workload} in {world}: call {number} of the {part} was refused"
+            ),
+            Fault::NoClock => write!(f, "cannot read the clock"),
+            Fault::CannotWrite => write!(f, "cannot write"),
+            Fault::OutOfMemory => write!(f, "out of memory"),
+        }
+    }
 }
 
 /// Does the job, and answers the program's status: 0 where it is done, 1 where a fault stopped it.
@@ -83,6 +114,7 @@ fn do_job<'a, C: Clock, W: Write>(
     out: &mut W,
 ) -> Result<(), Fault<'a>> {
     match job {
+        Job::Help => written(out.write_all(USAGE.as_bytes()))?,
         Job::List => list(out)?,
         Job::Check => check(alloc, out)?,
         Job::Run(run) => measure(clock, alloc, run, out)?,
@@ -110,36 +142,33 @@ fn written<'a>(write: io::Result<()>) -> Result<(), Fault<'a>> {
 
 /// Prints the names of the workloads, and then those of the worlds, one a line.
 fn list<'a, W: Write>(out: &mut W) -> Result<(), Fault<'a>> {
-    for workload in WORKLOADS {
-        written(writeln!(out, "{}", workload.name()))?;
+    for (name, _) in WORKLOADS {
+        written(writeln!(out, "{name}"))?;
     }
-    for world in WORLDS {
-        written(writeln!(out, "--world {}", world.name()))?;
+    for (name, _) in WORLDS {
+        written(writeln!(out, "--world {name}"))?;
     }
     Ok(())
 }
 
 /// Makes each workload once in the small world, and the first in each other; no time is told.
 fn check<'a, W: Write>(alloc: Global, out: &mut W) -> Result<(), Fault<'a>> {
-    for workload in WORKLOADS {
-        check_one(alloc, workload, World::Small, out)?;
+    for (name, _) in WORKLOADS {
+        check_one(alloc, Run::new(name, "small"), out)?;
     }
-    for world in WORLDS.into_iter().skip(1) {
-        check_one(alloc, Workload::SendReceive, world, out)?;
+    for (name, _) in WORLDS {
+        if name != "small" {
+            check_one(alloc, Run::new("send-receive", name), out)?;
+        }
     }
     Ok(())
 }
 
 /// Makes one cycle, and prints how many operations it is.
-fn check_one<'a, W: Write>(
-    alloc: Global,
-    workload: Workload,
-    world: World,
-    out: &mut W,
-) -> Result<(), Fault<'a>> {
-    let mut bench = stands(Bench::new(alloc, workload, world), workload, world)?;
-    stands(bench.run(1), workload, world)?;
-    let (name, place, operations) = (workload.name(), world.name(), bench.operations(1));
+fn check_one<'a, W: Write>(alloc: Global, run: Run<'a>, out: &mut W) -> Result<(), Fault<'a>> {
+    let mut bench = ready(alloc, run)?;
+    done(bench.run(1), run)?;
+    let (name, place, operations) = (run.workload, run.world, bench.operations);
     written(writeln!(out, "{name} in {place}: {operations} operations"))
 }
 
@@ -150,37 +179,47 @@ fn measure<'a, C: Clock, W: Write>(
     run: Run<'a>,
     out: &mut W,
 ) -> Result<(), Fault<'a>> {
-    let workload = Workload::named(run.workload).ok_or(Fault::NoWorkload(run.workload))?;
-    let world = World::named(run.world).ok_or(Fault::NoWorld(run.world))?;
-    let mut bench = stands(Bench::new(alloc, workload, world), workload, world)?;
-    let start = clock_read(Instant::now(clock))?;
-    stands(bench.run(run.times), workload, world)?;
-    let took = clock_read(start.elapsed(clock))?.as_nanos();
-    let operations = bench.operations(run.times);
-    let each = took.checked_div(u128::from(operations)).unwrap_or(0);
+    let mut bench = ready(alloc, run)?;
+    let Ok(start) = Instant::now(clock) else {
+        return Err(Fault::NoClock);
+    };
+    done(bench.run(run.times), run)?;
+    let Ok(took) = start.elapsed(clock) else {
+        return Err(Fault::NoClock);
+    };
+    let operations = u64::from(bench.operations).saturating_mul(u64::from(run.times));
+    let each = took
+        .as_nanos()
+        .checked_div(u128::from(operations))
+        .unwrap_or(0);
+    let (name, place) = (run.workload, run.world);
     written(writeln!(
         out,
-        "{} in {}: {operations} operations, {each} ns each",
-        run.workload, run.world,
+        "{name} in {place}: {operations} operations, {each} ns each"
     ))
 }
 
-/// What was read of the clock, or that it can't be.
-fn clock_read<'a, T: Drop>(read: io::Result<T>) -> Result<T, Fault<'a>> {
-    read.map_err(|_| Fault::NoClock)
+/// A kernel with the world and what the workload needs.
+fn ready<'a>(alloc: Global, run: Run<'a>) -> Result<Bench, Fault<'a>> {
+    let Some(workload) = Workload::named(run.workload) else {
+        return Err(Fault::NoWorkload(run.workload));
+    };
+    let Some(world) = World::named(run.world) else {
+        return Err(Fault::NoWorld(run.world));
+    };
+    let mut bench = Bench::new(alloc);
+    done(world.open(&mut bench), run)?;
+    done(workload.prepare(&mut bench), run)?;
+    done(world.close(&mut bench), run)?;
+    Ok(bench)
 }
 
-/// What stands ready or was done, or the fault that tells why not.
-fn stands<'a, T: Drop, S: Into<Stop>>(
-    made: Result<T, S>,
-    workload: Workload,
-    world: World,
-) -> Result<T, Fault<'a>> {
-    made.map_err(|stop| match stop.into() {
-        Stop::OutOfMemory => Fault::OutOfMemory,
-        Stop::Refused(Refused { part, index }) => {
-            let number = index.saturating_add(1);
-            Fault::Refused(workload.name(), world.name(), part.name(), number)
-        }
-    })
+/// Tells of which run a stop is.
+fn done<'a>(made: Result<(), Stop>, run: Run<'a>) -> Result<(), Fault<'a>> {
+    match made {
+        Ok(()) => Ok(()),
+        Err(Stop::Setup(number)) => Err(Fault::Refused(run, "setup", number)),
+        Err(Stop::Cycle(number)) => Err(Fault::Refused(run, "cycle", number)),
+        Err(Stop::OutOfMemory) => Err(Fault::OutOfMemory),
+    }
 }

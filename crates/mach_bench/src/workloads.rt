@@ -1,17 +1,16 @@
 //! What is measured: each workload by its name, with its calls.
+use crate::bench::{Bench, Stop};
 use crate::exchanges::{
-    raw_4096, request_answer, right_fresh, right_named, rights_apart, rights_together,
-    send_receive, set_of_1000, set_receive,
+    many_rights, raw_4096, request_answer, right_fresh, right_named, send_receive, set_of_1000,
+    set_of_two, set_receive,
 };
 use crate::names::{
     allocate, dead_name, deallocate, extract, first_name, insert, list_names, move_member,
     references, rename_name, set_made, status, type_of_name,
 };
-use crate::plans::Plan;
-use std::alloc::{AllocError, Global};
 
 /// A workload.
-#[derive(Clone, Copy, Debug, PartialEq, Eq)]
+#[derive(Clone, Copy)]
 pub enum Workload {
     /// 24 bytes sent and received, by one task.
     SendReceive,
@@ -31,6 +30,8 @@ pub enum Workload {
     Set1000,
     /// A message to the one port of the workload in the set, received by the set.
     SetReceive,
+    /// Two ports in the set, both with messages: one more to each in turn, received by the set.
+    Set2,
     /// 10,000 ports made in a row.
     Allocate10000,
     /// A dead name made and deallocated.
@@ -59,93 +60,70 @@ pub enum Workload {
     Names,
 }
 
-/// All workloads.
-pub const WORKLOADS: [Workload; 22] = [
-    Workload::SendReceive,
-    Workload::RightNamed,
-    Workload::RightFresh,
-    Workload::RequestAnswer,
-    Workload::Raw4096,
-    Workload::Items64,
-    Workload::Rights64,
-    Workload::Set1000,
-    Workload::SetReceive,
-    Workload::Allocate10000,
-    Workload::DeadName,
-    Workload::SetMade,
-    Workload::Insert,
-    Workload::Extract,
-    Workload::References,
-    Workload::Type65535,
-    Workload::Name32768,
-    Workload::Deallocate60000,
-    Workload::Status,
-    Workload::Rename,
-    Workload::MoveMember,
-    Workload::Names,
+/// All workloads, each with its word on the command line.
+pub const WORKLOADS: [(&str, Workload); 23] = [
+    ("send-receive", Workload::SendReceive),
+    ("right-named", Workload::RightNamed),
+    ("right-fresh", Workload::RightFresh),
+    ("request-answer", Workload::RequestAnswer),
+    ("raw-4096", Workload::Raw4096),
+    ("items-64", Workload::Items64),
+    ("rights-64", Workload::Rights64),
+    ("set-1000", Workload::Set1000),
+    ("set-receive", Workload::SetReceive),
+    ("set-2", Workload::Set2),
+    ("allocate-10000", Workload::Allocate10000),
+    ("dead-name", Workload::DeadName),
+    ("set-made", Workload::SetMade),
+    ("insert", Workload::Insert),
+    ("extract", Workload::Extract),
+    ("references", Workload::References),
+    ("type-65535", Workload::Type65535),
+    ("name-32768", Workload::Name32768),
+    ("deallocate-60000", Workload::Deallocate60000),
+    ("status", Workload::Status),
+    ("rename", Workload::Rename),
+    ("move-member", Workload::MoveMember),
+    ("names", Workload::Names),
 ];
 
 impl Workload {
-    /// Its word on the command line.
-    pub fn name(self) -> &'static str {
-        match self {
-            Workload::SendReceive => "send-receive",
-            Workload::RightNamed => "right-named",
-            Workload::RightFresh => "right-fresh",
-            Workload::RequestAnswer => "request-answer",
-            Workload::Raw4096 => "raw-4096",
-            Workload::Items64 => "items-64",
-            Workload::Rights64 => "rights-64",
-            Workload::Set1000 => "set-1000",
-            Workload::SetReceive => "set-receive",
-            Workload::Allocate10000 => "allocate-10000",
-            Workload::DeadName => "dead-name",
-            Workload::SetMade => "set-made",
-            Workload::Insert => "insert",
-            Workload::Extract => "extract",
-            Workload::References => "references",
-            Workload::Type65535 => "type-65535",
-            Workload::Name32768 => "name-32768",
-            Workload::Deallocate60000 => "deallocate-60000",
-            Workload::Status => "status",
-            Workload::Rename => "rename",
-            Workload::MoveMember => "move-member",
-            Workload::Names => "names",
-        }
-    }
-
     /// The workload of this name.
     pub fn named(name: &str) -> Option<Workload> {
-        WORKLOADS
-            .into_iter()
-            .find(|workload| workload.name() == name)
+        for (known, workload) in WORKLOADS {
+            if known == name {
+                return Some(workload);
+            }
+        }
+        None
     }
 
-    /// Its calls.
-    pub fn plan(self, alloc: Global) -> Result<Plan, AllocError> {
+    /// Makes the bench's kernel ready, and gives it the calls of the cycle.
+    pub fn prepare(self, bench: &mut Bench) -> Result<(), Stop> {
         match self {
-            Workload::SendReceive => send_receive(alloc),
-            Workload::RightNamed => right_named(alloc),
-            Workload::RightFresh => right_fresh(alloc),
-            Workload::RequestAnswer => request_answer(alloc),
-            Workload::Raw4096 => raw_4096(alloc),
-            Workload::Items64 => rights_apart(alloc),
-            Workload::Rights64 => rights_together(alloc),
-            Workload::Set1000 => set_of_1000(alloc),
-            Workload::SetReceive => set_receive(alloc),
-            Workload::Allocate10000 => allocate(alloc),
-            Workload::DeadName => dead_name(alloc),
-            Workload::SetMade => set_made(alloc),
-            Workload::Insert => insert(alloc),
-            Workload::Extract => extract(alloc),
-            Workload::References => references(alloc),
-            Workload::Type65535 => type_of_name(alloc),
-            Workload::Name32768 => first_name(alloc),
-            Workload::Deallocate60000 => deallocate(alloc),
-            Workload::Status => status(alloc),
-            Workload::Rename => rename_name(alloc),
-            Workload::MoveMember => move_member(alloc),
-            Workload::Names => list_names(alloc),
+            Workload::SendReceive => send_receive(bench),
+            Workload::RightNamed => right_named(bench),
+            Workload::RightFresh => right_fresh(bench),
+            Workload::RequestAnswer => request_answer(bench),
+            Workload::Raw4096 => raw_4096(bench),
+            Workload::Items64 => many_rights(bench, false),
+            Workload::Rights64 => many_rights(bench, true),
+            Workload::Set1000 => set_of_1000(bench),
+            Workload::SetReceive => set_receive(bench),
+            Workload::Set2 => set_of_two(bench),
+            Workload::Allocate10000 => allocate(bench),
+            Workload::DeadName => dead_name(bench),
+            Workload::SetMade => set_made(bench),
+            Workload::Insert => insert(bench),
+            Workload::Extract => extract(bench),
+            Workload::References => references(bench),
+            Workload::Type65535 => type_of_name(bench),
+            Workload::Name32768 => first_name(bench),
+            Workload::Deallocate60000 => deallocate(bench),
+            Workload::Status => status(bench),
+            Workload::Rename => rename_name(bench),
+            Workload::MoveMember => move_member(bench),
+            Workload::Names => list_names(bench),
         }
     }
 }

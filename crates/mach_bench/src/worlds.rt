@@ -1,8 +1,10 @@
 //! What stands in a kernel beside that which is measured.
-use crate::messages::{Sent, header};
-use crate::plans::{DEAD_NAME, HOME, OTHER, RECEIVE, SET, make, make_named, put, send};
-use mach_types::{Disposition, Event};
-use std::alloc::{AllocError, Global};
+use crate::bench::{Bench, Stop};
+use crate::calls::{
+    DEAD_NAME, HOME, MAKE_SEND_ONCE, OTHER, PORT_SET, RECEIVE, SET, header, make, make_named, put,
+    send,
+};
+use mach_types::Event;
 
 /// The name above the last that a world fills: it fills names up to here, and leaves those below to workloads.
 const END: u32 = 65_536;
@@ -17,7 +19,7 @@ const NAMES: u32 = 65_000;
 const QUEUED: u32 = 1_000;
 
 /// A world: what a kernel has that an operation doesn't touch.
-#[derive(Clone, Copy, Debug, PartialEq, Eq)]
+#[derive(Clone, Copy)]
 pub enum World {
     /// Nothing.
     Small,
@@ -27,8 +29,10 @@ pub enum World {
     PortsBefore,
     /// 60,000 ports of another task, made after the workload's.
     PortsAfter,
-    /// 65,000 dead names of the task, above the workload's.
+    /// 65,000 dead names of the task, above the workload's, up to 65,535.
     Names,
+    /// 60,000 dead names of the task above 65,535.
+    HighNames,
     /// 60,000 receive rights of the task, above the workload's names.
     ReceiveRights,
     /// The same, and all those ports are members of the task's set.
@@ -37,90 +41,88 @@ pub enum World {
     Queued,
 }
 
-/// All worlds, the small one first.
-pub const WORLDS: [World; 8] = [
-    World::Small,
-    World::Tasks,
-    World::PortsBefore,
-    World::PortsAfter,
-    World::Names,
-    World::ReceiveRights,
-    World::Members,
-    World::Queued,
+/// All worlds, the small one first, each with its word on the command line.
+pub const WORLDS: [(&str, World); 9] = [
+    ("small", World::Small),
+    ("tasks", World::Tasks),
+    ("ports-before", World::PortsBefore),
+    ("ports-after", World::PortsAfter),
+    ("names", World::Names),
+    ("high-names", World::HighNames),
+    ("receive-rights", World::ReceiveRights),
+    ("members", World::Members),
+    ("queued", World::Queued),
 ];
 
 impl World {
-    /// Its word on the command line.
-    pub fn name(self) -> &'static str {
+    /// The world of this name.
+    pub fn named(name: &str) -> Option<World> {
+        for (known, world) in WORLDS {
+            if known == name {
+                return Some(world);
+            }
+        }
+        None
+    }
+
+    /// Makes what comes before the workload's own calls: three tasks, a set of the first, and the world.
+    pub fn open(self, bench: &mut Bench) -> Result<(), Stop> {
+        for _ in 0..3 {
+            bench.make(&Event::TaskCreate)?;
+        }
+        bench.make(&make_named(HOME, PORT_SET, SET))?;
         match self {
-            World::Small => "small",
-            World::Tasks => "tasks",
-            World::PortsBefore => "ports-before",
-            World::PortsAfter => "ports-after",
-            World::Names => "names",
-            World::ReceiveRights => "receive-rights",
-            World::Members => "members",
-            World::Queued => "queued",
+            World::Small | World::PortsAfter => Ok(()),
+            World::Tasks => repeat(bench, &Event::TaskCreate),
+            World::PortsBefore => repeat(bench, &make(OTHER, RECEIVE)),
+            World::Names => fill(bench, END - NAMES, END, DEAD_NAME),
+            World::HighNames => fill(bench, END, END + MANY, DEAD_NAME),
+            World::ReceiveRights => fill(bench, END - MANY, END, RECEIVE),
+            World::Members => members(bench),
+            World::Queued => queue(bench),
         }
     }
 
-    /// The world of this name.
-    pub fn named(name: &str) -> Option<World> {
-        WORLDS.into_iter().find(|world| world.name() == name)
-    }
-
-    /// Whether it is made after the workload's own calls, and not before them.
-    pub fn is_made_after(self) -> bool {
-        matches!(self, World::PortsAfter)
-    }
-
-    /// The calls that make it.
-    pub fn events(self, alloc: Global) -> Result<Vec<Event>, AllocError> {
+    /// Makes what comes after them.
+    pub fn close(self, bench: &mut Bench) -> Result<(), Stop> {
         match self {
-            World::Small => Ok(Vec::new(alloc)),
-            World::Tasks => repeated(alloc, Event::TaskCreate),
-            World::PortsBefore | World::PortsAfter => repeated(alloc, make(OTHER, RECEIVE)),
-            World::Names => names_to_the_end(alloc, NAMES, DEAD_NAME),
-            World::ReceiveRights => names_to_the_end(alloc, MANY, RECEIVE),
-            World::Members => members(alloc),
-            World::Queued => queued(alloc),
+            World::PortsAfter => repeat(bench, &make(OTHER, RECEIVE)),
+            _ => Ok(()),
         }
     }
 }
 
 /// The same call `MANY` times.
-fn repeated(alloc: Global, event: Event) -> Result<Vec<Event>, AllocError> {
-    let mut events = Vec::new(alloc);
+fn repeat(bench: &mut Bench, event: &Event) -> Result<(), Stop> {
     for _ in 0..MANY {
-        events.push(event.clone()?)?;
+        bench.make(event)?;
     }
-    Ok(events)
+    Ok(())
 }
 
-/// Fills the task's last names with rights of this number.
-fn names_to_the_end(alloc: Global, number: u32, right: u32) -> Result<Vec<Event>, AllocError> {
-    let mut events = Vec::new(alloc);
-    for name in END.saturating_sub(number)..END {
-        events.push(make_named(HOME, right, name))?;
+/// Fills the task's names, from the first on and below the end, with rights of this number.
+fn fill(bench: &mut Bench, first: u32, end: u32, right: u32) -> Result<(), Stop> {
+    for name in first..end {
+        bench.make(&make_named(HOME, right, name))?;
     }
-    Ok(events)
+    Ok(())
 }
 
 /// Makes the ports, and puts each into the set.
-fn members(alloc: Global) -> Result<Vec<Event>, AllocError> {
-    let mut events = names_to_the_end(alloc, MANY, RECEIVE)?;
-    for name in END.saturating_sub(MANY)..END {
-        events.push(put(name, SET))?;
+fn members(bench: &mut Bench) -> Result<(), Stop> {
+    fill(bench, END - MANY, END, RECEIVE)?;
+    for name in END - MANY..END {
+        bench.make(&put(name, SET))?;
     }
-    Ok(events)
+    Ok(())
 }
 
 /// Makes a port, and sends to it by send-once rights, which no queue limit stops.
-fn queued(alloc: Global) -> Result<Vec<Event>, AllocError> {
-    let mut events = names_to_the_end(alloc, 1, RECEIVE)?;
-    let to = Sent::new(Disposition::MakeSendOnce, END.saturating_sub(1));
+fn queue(bench: &mut Bench) -> Result<(), Stop> {
+    bench.make(&make_named(HOME, RECEIVE, END - 1))?;
+    let sent = send(bench.alloc, HOME, &header(MAKE_SEND_ONCE, END - 1, 0))?;
     for _ in 0..QUEUED {
-        events.push(send(HOME, header(alloc, to)?))?;
+        bench.make(&sent)?;
     }
-    Ok(events)
+    Ok(())
 }

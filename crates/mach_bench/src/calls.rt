@@ -1,4 +1,4 @@
-//! Lists of calls: what is made first, and what is measured.
+//! The calls of which workloads and worlds are made, and the bytes of messages.
 use mach_types::{Bytes, Event, Name, TaskId};
 use std::alloc::{AllocError, Global};
 
@@ -23,48 +23,29 @@ pub const PORT_SET: u32 = 3;
 /// The number of a dead name.
 pub const DEAD_NAME: u32 = 4;
 
+/// The number of the disposition move send once.
+pub const MOVE_SEND_ONCE: u32 = 18;
+
+/// The number of the disposition copy send.
+pub const COPY_SEND: u32 = 19;
+
 /// The number of the disposition make send.
 pub const MAKE_SEND: u32 = 20;
 
-/// What a workload consists of.
-#[derive(Drop)]
-pub struct Plan {
-    /// The calls that are made once, before all that is measured.
-    pub setup: Vec<Event>,
-    /// The calls of one cycle.
-    pub cycle: Vec<Event>,
-    /// How many operations a cycle is.
-    pub operations: u32,
+/// The number of the disposition make send once.
+pub const MAKE_SEND_ONCE: u32 = 21;
+
+/// The bit of a message's header that says that rights stand in its body.
+pub const COMPLEX: u32 = 0x8000_0000;
+
+/// The words of a header: its bits, destination and reply; size, sequence number and id are 0.
+pub fn header(bits: u32, to: u32, reply: u32) -> [u32; 6] {
+    [bits, 0, to, reply, 0, 0]
 }
 
-impl Plan {
-    /// A plan whose cycle is one operation.
-    pub fn new(setup: Vec<Event>, cycle: Vec<Event>) -> Plan {
-        Plan::counted(setup, cycle, 1)
-    }
-
-    /// A plan whose cycle is so many operations.
-    pub fn counted(setup: Vec<Event>, cycle: Vec<Event>, operations: u32) -> Plan {
-        Plan {
-            setup,
-            cycle,
-            operations,
-        }
-    }
-}
-
-/// These calls, as a list.
-pub fn calls<const N: usize>(alloc: Global, calls: [Event; N]) -> Result<Vec<Event>, AllocError> {
-    Ok(Vec::from_array(alloc, calls)?)
-}
-
-/// The calls with which every kernel begins: three tasks, and a port set of the first.
-pub fn opening(alloc: Global) -> Result<Vec<Event>, AllocError> {
-    let set = make_named(HOME, PORT_SET, SET);
-    calls(
-        alloc,
-        [Event::TaskCreate, Event::TaskCreate, Event::TaskCreate, set],
-    )
+/// The word before an item of rights of this disposition, one or 64 of them.
+pub fn item_of(disposition: u32, is_long: bool) -> u32 {
+    disposition | if is_long { 0x1040_2000 } else { 0x1001_2000 }
 }
 
 /// Makes a right of this number, under a fresh name.
@@ -77,14 +58,14 @@ pub fn make_named(task: u32, right: u32, name: u32) -> Event {
     Event::AllocateName(TaskId::new(task), right, Name::new(name))
 }
 
-/// Gives up one reference under the name.
-pub fn give_up(task: u32, name: u32) -> Event {
-    Event::Deallocate(TaskId::new(task), Name::new(name))
+/// Gives up one reference of `HOME`'s under the name.
+pub fn give_up(name: u32) -> Event {
+    Event::Deallocate(TaskId::new(HOME), Name::new(name))
 }
 
-/// Changes the send references under the name.
-pub fn change(task: u32, name: u32, delta: i32) -> Event {
-    Event::ModRefs(TaskId::new(task), Name::new(name), 0, delta)
+/// Changes `HOME`'s send references under the name.
+pub fn change(name: u32, delta: i32) -> Event {
+    Event::ModRefs(TaskId::new(HOME), Name::new(name), 0, delta)
 }
 
 /// Gives the task, under the name, a send right made from what another has under a name.
@@ -103,9 +84,13 @@ pub fn rename(from: u32, to: u32) -> Event {
     Event::Rename(TaskId::new(HOME), Name::new(from), Name::new(to))
 }
 
-/// Sends these bytes.
-pub fn send(task: u32, text: Vec<u8>) -> Event {
-    Event::Send(TaskId::new(task), Bytes::from_vec(text))
+/// Sends the message of these words.
+pub fn send(alloc: Global, task: u32, words: &[u32]) -> Result<Event, AllocError> {
+    let mut text = Vec::new(alloc);
+    for word in words {
+        text.extend_from_slice(&word.to_le_bytes())?;
+    }
+    Ok(Event::Send(TaskId::new(task), Bytes::from_vec(text)))
 }
 
 /// Receives by the name, with room for every message.
