@@ -3,4 +3,5 @@ pub mod Place
 pub mod Indexed
 pub mod View
 pub mod Keys
+pub mod Places
 pub mod Records

@@ -10,12 +10,13 @@ use Rattle.mach_types.specs.Numbers.{dead_word, most_names}
 use Rattle.name_space.specs.declared.Entry.{Entry}
 use Rattle.name_space.specs.declared.Record.{Record}
 use Rattle.name_space.specs.Entry.{port_named}
-use Rattle.name_space.specs.Names.{Names, SpaceView, port_at, HasNoOther, IsFreshName}
+use Rattle.name_space.specs.Names.{Names, SpaceView, port_at, HasNoOther, HasPlace, IsFreshName}
 use Rattle.name_space.specs.Linked.{linked, unlinked, lost}
-use Rattle.name_space.specs.Records.{names_of, entry_in, IsIndexed, HasRoom, IsSound}
+use Rattle.name_space.specs.Records.{names_of, entry_in, IsIndexed, HasRoom, places_kept, ports_kept, IsSound}
 use Rattle.name_space.specs.Index.{IndexView}
 use Rattle.slab.specs.Slab.{Slab, get, slab_len}
 use Rattle.name_space.proofs.View.{get-with_values, len-with_values}
+use Rattle.name_space.proofs.Places.{at_most_one, places-put, places-used, places-replaced, ports-put, ports-used, ports-out, ports-replaced, ports-renamed}
 use Rattle.name_space.proofs.Keys.{same_some, some_or_none, equal_or_not, is_or_not, put_here, put_other, out_here, out_other, same_gets, linked_here, linked_other, unlinked_here, unlinked_other, len-put, len-out, fewer, eqb-same, put_back, put_over, relinked, unlinked-lost}
 
 abbrev pub At : Type 0
@@ -226,10 +227,11 @@ module _ (at new : At) (n p : Keyed) (x : IsIndexed at n p) (name : ℕ) (entry 
 
 -- ---- whole spaces
 
-pub sound : (s : Slab Record) (n p : IndexView) (room : ℕ) (N P : Keyed) → n.map ≡ N → p.map ≡ P → IsIndexed (get s) N P → HasRoom s n p room → IsSound s n p room
-sound s n p room N P e f x h = record {
+pub sound : (s : Slab Record) (n p : IndexView) (room : ℕ) (kept : Option ℕ) (N P : Keyed) → n.map ≡ N → p.map ≡ P → IsIndexed (get s) N P →
+    (all : Names) → names_of (get s) n.map ≡ all → HasRoom s n p (room + places_kept kept all) (room + ports_kept kept all) → IsSound s n p room kept
+sound s n p room kept N P e f x all is h = record {
   indexed = subst (λ (a : Keyed). IsIndexed (get s) a p.map) (sym e) (subst (λ (b : Keyed). IsIndexed (get s) N b) (sym f) x);
-  has_room = h;
+  has_room = subst (λ (a : Names). HasRoom s n p (room + places_kept kept a) (room + ports_kept kept a)) (sym is) h;
 }
 
 nothing_in : {X : Type 0} (k : ℕ) (x : X) → map.get (map.empty {R = nat_cmp}) k ≡ Some x → ⊥
@@ -238,13 +240,13 @@ nothing_in k x h = some_or_none x _ h (map.get-empty nat_cmp k)
 nothing_at : (s : Slab Record) → s.slots ≡ [] → (k : ℕ) (r : Record) → get s k ≡ Some r → ⊥
 nothing_at s e k r h = some_or_none r _ h (ap (λ (l : List (Option Record)). slice_index_or l k None) e)
 
-pub sound-empty : (s : Slab Record) (n p : IndexView) → s.slots ≡ [] → n.map ≡ map.empty → p.map ≡ map.empty → IsSound s n p 0
+pub sound-empty : (s : Slab Record) (n p : IndexView) → s.slots ≡ [] → n.map ≡ map.empty → p.map ≡ map.empty → IsSound s n p 0 None
 sound-empty s n p e f g =
     let none : map.len (map.empty {X = ℕ} {R = nat_cmp}) ≡ 0 = map.len-empty nat_cmp ℕ in
     let names : map.len n.map ≡ 0 = ap (λ (m : Keyed). map.len m) f ∙ none in
     let ports : map.len p.map ≡ 0 = ap (λ (m : Keyed). map.len m) g ∙ none in
     let held : slab_len s ≡ 0 = ap (λ (l : List (Option Record)). count_by is_some l) e in
-    sound s n p 0 map.empty map.empty f g
+    sound s n p 0 None map.empty map.empty f g
     record {
       named = λ q k h. absurd (nothing_in q k h);
       held = λ k r h. absurd (nothing_at s e k r h);
@@ -255,6 +257,7 @@ sound-empty s n p e f g =
       fits = λ q k h. absurd (nothing_in q k h);
       few = omega arith;
     }
+    _ refl
     record { names_fit = omega arith; ports_fit = omega arith; records_fit = omega arith }
 
 pub names-empty : (at : At) (n : Keyed) → n ≡ map.empty → names_of at n ≡ map.empty
@@ -278,7 +281,7 @@ on_some (Some k) P h = h
 
 -- ---- a space with one record more
 
-module _ (s t : Slab Record) (n m p q : IndexView) (room : ℕ) (v : SpaceView) (view_is : record { names = names_of (get s) n.map; room = room } ≡ v) (so : IsSound s n p room)
+module _ (s t : Slab Record) (n m p q : IndexView) (room : ℕ) (kept : Option ℕ) (v : SpaceView) (view_is : record { names = names_of (get s) n.map; room = room; kept = kept } ≡ v) (so : IsSound s n p room kept)
     (name key : ℕ) (entry : Entry) (vacant : get s key ≡ None) (changed : get t key ≡ Some record { name = name; entry = entry }) (others : (other : ℕ) → other ≢ key → get t other ≡ get s other)
     (long : slab_len t ≡ slab_len s + 1) (wide : t.capacity ≡ s.capacity) (unused : map.get v.names name ≡ None)
     (came : m ≡ record { map = map.insert n.map name key; capacity = n.capacity }) (linking : q ≡ record { map = linked (port_named entry) key p.map; capacity = p.capacity }) where
@@ -288,23 +291,56 @@ module _ (s t : Slab Record) (n m p q : IndexView) (room : ℕ) (v : SpaceView) 
   pub absent_key : map.get n.map name ≡ None
   absent_key = unused_key (get s) n.map name (ap (λ (a : SpaceView). map.get a.names name) view_is ∙ unused)
 
+  unused_name : map.get (names_of (get s) n.map) name ≡ None
+  unused_name = ap (λ (a : SpaceView). map.get a.names name) view_is ∙ unused
+
+  -- there is a place for one more, and what is left of them is kept
+  pub place_used : HasPlace v name → (room - 1) + places_kept kept (map.insert (names_of (get s) n.map) name entry) + 1 ≤ room + places_kept kept (names_of (get s) n.map)
+  place_used place = elim place [
+    | inl fresh ↦
+        let some : 0 < room = subst (λ (a : SpaceView). 0 < a.room) (sym view_is) fresh.1 in
+        let no_more = places-put kept (names_of (get s) n.map) name entry in
+        omega arith
+    | inr own ↦
+        let used = places-used kept (names_of (get s) n.map) name entry (ap (λ (a : SpaceView). a.kept) view_is ∙ own) unused_name in
+        let before = used.0 in
+        let after = used.1 in
+        omega arith
+  ]
+
+  pub port_place_used : HasPlace v name → (room - 1) + ports_kept kept (map.insert (names_of (get s) n.map) name entry) + map.len (linked (port_named entry) key p.map) ≤ room + ports_kept kept (names_of (get s) n.map) + map.len p.map
+  port_place_used place = elim place [
+    | inl fresh ↦
+        let some : 0 < room = subst (λ (a : SpaceView). 0 < a.room) (sym view_is) fresh.1 in
+        let no_more = ports-put kept (names_of (get s) n.map) name entry unused_name in
+        let one = len-linked (port_named entry) key p.map in
+        omega arith
+    | inr own ↦
+        let used = ports-used kept (names_of (get s) n.map) name entry (ap (λ (a : SpaceView). a.kept) view_is ∙ own) unused_name key p.map in
+        let before = used.0 in
+        let after = used.1 in
+        omega arith
+  ]
+
+  pub one_fits : HasPlace v name → 0 < room + places_kept kept (names_of (get s) n.map)
+  one_fits place = let h = place_used place in omega arith
+
   names-came : m.map ≡ map.insert n.map name key
   names-came = ap (λ (a : IndexView). a.map) came
 
-  pub view-inserted : ◌≡◌ {A = SpaceView} record { names = names_of (get t) m.map; room = room - 1 } record { names = map.insert v.names name entry; room = v.room - 1 }
+  pub view-inserted : ◌≡◌ {A = SpaceView} record { names = names_of (get t) m.map; room = room - 1; kept = kept } record v { names = map.insert v.names name entry; room = v.room - 1 }
   view-inserted =
-      let mk : Names → ℕ → SpaceView = λ a r. record { names = a; room = r } in
+      let mk : Names → ℕ → SpaceView = λ a r. record { names = a; room = r; kept = kept } in
       ap (λ (a : Keyed). mk (names_of (get t) a) (room - 1)) names-came
       ∙ ap (λ a. mk a (room - 1)) (names-inserted (get s) (get t) n.map p.map so.indexed name entry key vacant turns absent_key)
-      ∙ ap (λ (a : SpaceView). mk (map.insert a.names name entry) (a.room - 1)) view_is
+      ∙ ap (λ (a : SpaceView). let b : SpaceView = record a { names = map.insert a.names name entry; room = a.room - 1 } in b) view_is
 
-  pub sound-inserted : HasNoOther v.names entry → name ≢ 0 → name ≢ dead_word → name < 2 ^ 32 → map.len v.names < most_names → 0 < room → IsSound t m q (room - 1)
-  sound-inserted apart not_null not_dead fits few some =
+  pub sound-inserted : HasNoOther v.names entry → name ≢ 0 → name ≢ dead_word → name < 2 ^ 32 → map.len v.names < most_names → HasPlace v name → IsSound t m q (room - 1) kept
+  sound-inserted apart not_null not_dead fits few place =
       let own_apart : HasNoOther (names_of (get s) n.map) entry = subst (λ (a : SpaceView). HasNoOther a.names entry) (sym view_is) apart in
       let all : map.len (names_of (get s) n.map) ≡ map.len v.names = ap (λ (a : SpaceView). map.len a.names) view_is in
       let len : map.len (names_of (get s) n.map) ≡ map.len n.map = len-with_values (λ k. entry_in (get s k)) n.map in
       let one : map.len (map.insert n.map name key) ≤ map.len n.map + 1 = len-put n.map name key (omega arith) in
-      let two : map.len (linked (port_named entry) key p.map) ≤ map.len p.map + 1 = len-linked (port_named entry) key p.map in
       let ma : map.len m.map ≡ map.len (map.insert n.map name key) = ap (λ (a : IndexView). map.len a.map) came in
       let mc : m.capacity ≡ n.capacity = ap (λ (a : IndexView). a.capacity) came in
       let qa : map.len q.map ≡ map.len (linked (port_named entry) key p.map) = ap (λ (a : IndexView). map.len a.map) linking in
@@ -312,8 +348,11 @@ module _ (s t : Slab Record) (n m p q : IndexView) (room : ℕ) (v : SpaceView) 
       let h1 = so.has_room.names_fit in
       let h2 = so.has_room.ports_fit in
       let h3 = so.has_room.records_fit in
-      sound t m q (room - 1) _ _ names-came (ap (λ (a : IndexView). a.map) linking)
+      let h4 = place_used place in
+      let h5 = port_place_used place in
+      sound t m q (room - 1) kept _ _ names-came (ap (λ (a : IndexView). a.map) linking)
       (indexed-inserted (get s) (get t) n.map p.map so.indexed name entry key vacant turns absent_key own_apart not_null not_dead fits (omega arith))
+      (map.insert (names_of (get s) n.map) name entry) (ap (names_of (get t)) names-came ∙ names-inserted (get s) (get t) n.map p.map so.indexed name entry key vacant turns absent_key)
       record { names_fit = omega arith; ports_fit = omega arith; records_fit = omega arith }
 
   pub no_port_key : HasNoOther v.names entry → (port : ℕ) → port_named entry ≡ Some port → map.get p.map port ≡ None
@@ -322,7 +361,7 @@ module _ (s t : Slab Record) (n m p q : IndexView) (room : ℕ) (v : SpaceView) 
 
 -- ---- a space with one record less
 
-module _ (s t : Slab Record) (n m p q : IndexView) (room : ℕ) (v : SpaceView) (view_is : record { names = names_of (get s) n.map; room = room } ≡ v) (so : IsSound s n p room)
+module _ (s t : Slab Record) (n m p q : IndexView) (room : ℕ) (kept : Option ℕ) (v : SpaceView) (view_is : record { names = names_of (get s) n.map; room = room; kept = kept } ≡ v) (so : IsSound s n p room kept)
     (name key : ℕ) (entry : Entry) (was : get s key ≡ Some record { name = name; entry = entry }) (changed : get t key ≡ None) (others : (other : ℕ) → other ≢ key → get t other ≡ get s other)
     (long : slab_len t + 1 ≡ slab_len s) (wide : t.capacity ≡ s.capacity)
     (went : m ≡ record { map = map.remove n.map name; capacity = n.capacity }) (unlinking : q ≡ record { map = unlinked (port_named entry) p.map; capacity = p.capacity }) where
@@ -332,17 +371,17 @@ module _ (s t : Slab Record) (n m p q : IndexView) (room : ℕ) (v : SpaceView) 
   names-went : m.map ≡ map.remove n.map name
   names-went = ap (λ (a : IndexView). a.map) went
 
-  pub view-removed : ◌≡◌ {A = SpaceView} record { names = names_of (get t) m.map; room = room } record { names = map.remove v.names name; room = v.room }
+  pub view-removed : ◌≡◌ {A = SpaceView} record { names = names_of (get t) m.map; room = room; kept = kept } record v { names = map.remove v.names name }
   view-removed =
-      let mk : Names → ℕ → SpaceView = λ a r. record { names = a; room = r } in
+      let mk : Names → ℕ → SpaceView = λ a r. record { names = a; room = r; kept = kept } in
       ap (λ (a : Keyed). mk (names_of (get t) a) room) names-went
       ∙ ap (λ a. mk a room) (names-removed (get s) (get t) n.map p.map so.indexed name entry key was turns_out)
-      ∙ ap (λ (a : SpaceView). mk (map.remove a.names name) a.room) view_is
+      ∙ ap (λ (a : SpaceView). let b : SpaceView = record a { names = map.remove a.names name } in b) view_is
 
-  pub sound-removed : IsSound t m q room
+  pub sound-removed : IsSound t m q room kept
   sound-removed =
-      let one : map.len (map.remove n.map name) ≤ map.len n.map = len-out n.map name (omega arith) in
-      let two : map.len (unlinked (port_named entry) p.map) ≤ map.len p.map = len-unlinked (port_named entry) p.map in
+      let key_is : map.get n.map name ≡ Some key = so.indexed.held key _ was in
+      let one : map.len (map.remove n.map name) < map.len n.map = fewer n.map name key key_is (omega arith) in
       let ma : map.len m.map ≡ map.len (map.remove n.map name) = ap (λ (a : IndexView). map.len a.map) went in
       let mc : m.capacity ≡ n.capacity = ap (λ (a : IndexView). a.capacity) went in
       let qa : map.len q.map ≡ map.len (unlinked (port_named entry) p.map) = ap (λ (a : IndexView). map.len a.map) unlinking in
@@ -350,8 +389,11 @@ module _ (s t : Slab Record) (n m p q : IndexView) (room : ℕ) (v : SpaceView) 
       let h1 = so.has_room.names_fit in
       let h2 = so.has_room.ports_fit in
       let h3 = so.has_room.records_fit in
-      sound t m q room _ _ names-went (ap (λ (a : IndexView). a.map) unlinking)
+      let h4 = at_most_one kept (map.remove (names_of (get s) n.map) name) in
+      let h5 = ports-out kept (names_of (get s) n.map) name entry (entry_at (get s) n.map name key _ key_is was) key p.map (λ port is. so.indexed.port_held key _ port was is) in
+      sound t m q room kept _ _ names-went (ap (λ (a : IndexView). a.map) unlinking)
       (indexed-removed (get s) (get t) n.map p.map so.indexed name entry key was turns_out)
+      (map.remove (names_of (get s) n.map) name) (ap (names_of (get t)) names-went ∙ names-removed (get s) (get t) n.map p.map so.indexed name entry key was turns_out)
       record { names_fit = omega arith; ports_fit = omega arith; records_fit = omega arith }
 
 -- ---- a record in the place of another
@@ -401,13 +443,13 @@ module _ (at new : At) (n p : Keyed) (x : IsIndexed at n p) (name : ℕ) (before
       indexed-inserted gone new (map.remove n name) (unlinked (port_named before) p) without to entry key goes.changed comes unused no_other not_null not_dead fits (fewer n name key (x.held key _ was) x.few)
 
 -- taking out a name that is not there
-pub no_name : (v : SpaceView) (name : ℕ) → map.get v.names name ≡ None → v ≡ record { names = map.remove v.names name; room = v.room }
+pub no_name : (v : SpaceView) (name : ℕ) → map.get v.names name ≡ None → v ≡ record v { names = map.remove v.names name }
 no_name v name none =
     let same : map.remove v.names name ≡ v.names = same_gets _ _ (λ q. elim (equal_or_not q name) [
       | inl e ↦ ap (map.get (map.remove v.names name)) e ∙ out_here v.names name ∙ sym none ∙ ap (map.get v.names) (sym e)
       | inr d ↦ out_other v.names name q d
     ]) in
-    ap (λ (a : Names). let w : SpaceView = record { names = a; room = v.room } in w) (sym same)
+    ap (λ (a : Names). let w : SpaceView = record v { names = a } in w) (sym same)
 
 pub record_there : (at : At) (n p : Keyed) → IsIndexed at n p → (name key : ℕ) (r : Record) → map.get n name ≡ Some key → at key ≡ Some r → at key ≡ Some record { name = name; entry = r.entry }
 record_there at n p x name key r found here =
@@ -417,7 +459,7 @@ record_there at n p x name key r found here =
 
 -- ---- a space with another entry under a name
 
-module _ (s t : Slab Record) (n p : IndexView) (room : ℕ) (v : SpaceView) (view_is : record { names = names_of (get s) n.map; room = room } ≡ v) (so : IsSound s n p room)
+module _ (s t : Slab Record) (n p : IndexView) (room : ℕ) (kept : Option ℕ) (v : SpaceView) (view_is : record { names = names_of (get s) n.map; room = room; kept = kept } ≡ v) (so : IsSound s n p room kept)
     (name key : ℕ) (r : Record) (entry : Entry) (found : map.get n.map name ≡ Some key) (here : get s key ≡ Some r)
     (changed : get t key ≡ Some record { name = name; entry = entry }) (others : (other : ℕ) → other ≢ key → get t other ≡ get s other)
     (long : slab_len t ≡ slab_len s) (wide : t.capacity ≡ s.capacity) (keeps : (port : ℕ) → port_named entry ≡ Some port → port_at v.names name ≡ Some port) where
@@ -439,26 +481,30 @@ module _ (s t : Slab Record) (n p : IndexView) (room : ℕ) (v : SpaceView) (vie
   used_name : (a : ℕ) → map.get n.map a ≡ None → name ≢ a
   used_name a none e = some_or_none key _ found (ap (map.get n.map) e ∙ none)
 
-  pub view-replaced : ◌≡◌ {A = SpaceView} record { names = names_of (get t) n.map; room = room } record { names = map.insert v.names name entry; room = v.room }
+  pub view-replaced : ◌≡◌ {A = SpaceView} record { names = names_of (get t) n.map; room = room; kept = kept } record v { names = map.insert v.names name entry }
   view-replaced =
-      let mk : Names → ℕ → SpaceView = λ a b. record { names = a; room = b } in
+      let mk : Names → ℕ → SpaceView = λ a b. record { names = a; room = b; kept = kept } in
       ap (λ (a : Keyed). mk (names_of (get t) a) room) (sym same_names)
       ∙ ap (λ a. mk a room) (names-renewed (get s) (get t) n.map p.map x name r.entry key was name entry turns_to (out_here n.map name) same_port ∙ put_over (names_of (get s) n.map) name entry)
-      ∙ ap (λ (a : SpaceView). mk (map.insert a.names name entry) a.room) view_is
+      ∙ ap (λ (a : SpaceView). let b : SpaceView = record a { names = map.insert a.names name entry } in b) view_is
 
-  pub sound-replaced : (q : IndexView) → q ≡ record { map = unlinked (lost (port_named r.entry) (port_named entry)) p.map; capacity = p.capacity } → IsSound t n q room
+  pub sound-replaced : (q : IndexView) → q ≡ record { map = unlinked (lost (port_named r.entry) (port_named entry)) p.map; capacity = p.capacity } → IsSound t n q room kept
   sound-replaced q unlinking =
       let new : IsIndexed (get t) (map.insert (map.remove n.map name) name key) (linked (port_named entry) key (unlinked (port_named r.entry) p.map)) =
       indexed-renewed (get s) (get t) n.map p.map x name r.entry key was name entry turns_to (out_here n.map name) same_port (used_name 0 x.not_null) (used_name dead_word x.not_dead) (x.fits name key found) in
       let ports : q.map ≡ unlinked (lost (port_named r.entry) (port_named entry)) p.map = ap (λ (a : IndexView). a.map) unlinking in
-      let few : map.len (unlinked (lost (port_named r.entry) (port_named entry)) p.map) ≤ map.len p.map = len-unlinked (lost (port_named r.entry) (port_named entry)) p.map in
       let qa : map.len q.map ≡ map.len (unlinked (lost (port_named r.entry) (port_named entry)) p.map) = ap (λ (a : Keyed). map.len a) ports in
       let qc : q.capacity ≡ p.capacity = ap (λ (a : IndexView). a.capacity) unlinking in
       let h1 = so.has_room.names_fit in
       let h2 = so.has_room.ports_fit in
       let h3 = so.has_room.records_fit in
-      sound t n q room _ _ (sym same_names) (ports ∙ unlinked-lost (port_named r.entry) (port_named entry) key p.map (λ k is. (same_port k is, x.port_held key r k here (same_port k is)))) new
-      record { names_fit = h1; ports_fit = omega arith; records_fit = omega arith }
+      let own : map.get (names_of (get s) n.map) name ≡ Some r.entry = entry_at (get s) n.map name key r found here in
+      let h4 = places-replaced kept (names_of (get s) n.map) name r.entry entry own in
+      let h5 = ports-replaced kept (names_of (get s) n.map) name r.entry entry own same_port key p.map (λ port is. x.port_held key r port here is) in
+      sound t n q room kept _ _ (sym same_names) (ports ∙ unlinked-lost (port_named r.entry) (port_named entry) key p.map (λ k is. (same_port k is, x.port_held key r k here (same_port k is)))) new
+      (map.insert (names_of (get s) n.map) name entry)
+      (ap (names_of (get t)) (sym same_names) ∙ names-renewed (get s) (get t) n.map p.map x name r.entry key was name entry turns_to (out_here n.map name) same_port ∙ put_over (names_of (get s) n.map) name entry)
+      record { names_fit = omega arith; ports_fit = omega arith; records_fit = omega arith }
 
 -- ---- a space with another name for an entry
 
@@ -472,7 +518,7 @@ less_than_all n name key room found h =
     let less : map.len (map.remove n.map name) < map.len n.map = fewer n.map name key found (omega arith) in
     omega arith
 
-module _ (s t : Slab Record) (n m p : IndexView) (room : ℕ) (v : SpaceView) (view_is : record { names = names_of (get s) n.map; room = room } ≡ v) (so : IsSound s n p room)
+module _ (s t : Slab Record) (n m p : IndexView) (room : ℕ) (kept : Option ℕ) (v : SpaceView) (view_is : record { names = names_of (get s) n.map; room = room; kept = kept } ≡ v) (so : IsSound s n p room kept)
     (name key to : ℕ) (r : Record) (found : map.get n.map name ≡ Some key) (here : get s key ≡ Some r)
     (changed : get t key ≡ Some record { name = to; entry = r.entry }) (others : (other : ℕ) → other ≢ key → get t other ≡ get s other)
     (long : slab_len t ≡ slab_len s) (wide : t.capacity ≡ s.capacity) (unused : map.get v.names to ≡ None)
@@ -486,15 +532,15 @@ module _ (s t : Slab Record) (n m p : IndexView) (room : ℕ) (v : SpaceView) (v
   no_key_yet : map.get (map.remove n.map name) to ≡ None
   no_key_yet = no_key_left (get s) n.map name key to found (ap (λ (a : SpaceView). map.get a.names to) view_is ∙ unused)
 
-  pub view-renamed : ◌≡◌ {A = SpaceView} record { names = names_of (get t) m.map; room = room } record { names = map.insert (map.remove v.names name) to r.entry; room = v.room }
+  pub view-renamed : ◌≡◌ {A = SpaceView} record { names = names_of (get t) m.map; room = room - 1; kept = kept } record v { names = map.insert (map.remove v.names name) to r.entry; room = v.room - 1 }
   view-renamed =
-      let mk : Names → ℕ → SpaceView = λ a b. record { names = a; room = b } in
-      ap (λ (a : IndexView). mk (names_of (get t) a.map) room) renamed
-      ∙ ap (λ a. mk a room) (names-renewed (get s) (get t) n.map p.map so.indexed name r.entry key was_so to r.entry turns_name no_key_yet (λ port is. is))
-      ∙ ap (λ (a : SpaceView). mk (map.insert (map.remove a.names name) to r.entry) a.room) view_is
+      let mk : Names → ℕ → SpaceView = λ a b. record { names = a; room = b; kept = kept } in
+      ap (λ (a : IndexView). mk (names_of (get t) a.map) (room - 1)) renamed
+      ∙ ap (λ a. mk a (room - 1)) (names-renewed (get s) (get t) n.map p.map so.indexed name r.entry key was_so to r.entry turns_name no_key_yet (λ port is. is))
+      ∙ ap (λ (a : SpaceView). let b : SpaceView = record a { names = map.insert (map.remove a.names name) to r.entry; room = a.room - 1 } in b) view_is
 
-  pub sound-renamed : to ≢ 0 → to ≢ dead_word → to < 2 ^ 32 → IsSound t m p room
-  sound-renamed not_null not_dead fits =
+  pub sound-renamed : v.kept ≡ Some to → to ≢ 0 → to ≢ dead_word → to < 2 ^ 32 → IsSound t m p (room - 1) kept
+  sound-renamed own not_null not_dead fits =
       let new : IsIndexed (get t) (map.insert (map.remove n.map name) to key) (linked (port_named r.entry) key (unlinked (port_named r.entry) p.map)) =
       indexed-renewed (get s) (get t) n.map p.map so.indexed name r.entry key was_so to r.entry turns_name no_key_yet (λ port is. is) not_null not_dead fits in
       let same_ports : linked (port_named r.entry) key (unlinked (port_named r.entry) p.map) ≡ p.map = relinked (port_named r.entry) key p.map (λ k is. so.indexed.port_held key r k here is) in
@@ -505,7 +551,14 @@ module _ (s t : Slab Record) (n m p : IndexView) (room : ℕ) (v : SpaceView) (v
       let h1 = so.has_room.names_fit in
       let h2 = so.has_room.ports_fit in
       let h3 = so.has_room.records_fit in
-      sound t m p room _ _ (ap (λ (a : IndexView). a.map) renamed) (sym same_ports) new record { names_fit = omega arith; ports_fit = h2; records_fit = omega arith }
+      let is : kept ≡ Some to = ap (λ (a : SpaceView). a.kept) view_is ∙ own in
+      let others : Names = map.remove (names_of (get s) n.map) name in
+      let h4 = ports-renamed kept (names_of (get s) n.map) to is (ap (λ (a : SpaceView). map.get a.names to) view_is ∙ unused) (map.insert others to r.entry) in
+      let h5 = places-used kept others to r.entry is (ap (λ (a : Names). map.get a to) (sym (names-removed (get s) (λ k. if k == key then None else get s k) n.map p.map so.indexed name r.entry key was_so (goes (get s) (get t) n.map p.map so.indexed name r.entry key was_so to r.entry turns_name no_key_yet (λ port is. is)))) ∙ no_entry_at (λ k. if k == key then None else get s k) (map.remove n.map name) to no_key_yet) in
+      let none = h5.1 in
+      sound t m p (room - 1) kept _ _ (ap (λ (a : IndexView). a.map) renamed) (sym same_ports) new
+      (map.insert others to r.entry) (ap (λ (a : IndexView). names_of (get t) a.map) renamed ∙ names-renewed (get s) (get t) n.map p.map so.indexed name r.entry key was_so to r.entry turns_name no_key_yet (λ port is. is))
+      record { names_fit = omega arith; ports_fit = omega arith; records_fit = omega arith }
 
 -- the record that the pair at place i leads to has the key at place i as its name
 pub key_in_turn : (at : At) (n p : Keyed) → IsIndexed at n p → (l : Pairs) → l ≡ map.entries n → (i : ℕ) → i < length l → map.get n (key_at l i) ≡ Some (value_at l i) →

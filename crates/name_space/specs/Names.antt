@@ -1,6 +1,6 @@
--- What contracts see of a task's names: a finite map, and for how many more names there is room.
-use Rattle.std.specs.Prelude.{◌≡◌, ◌≢◌, ℕ, ◌<◌, true, Option, Some, None, refl}
-use Rattle.std.specs.Coded.{Coded, code_by, coded×, coded_ℕ}
+-- What contracts see of a task's names: a finite map, and for which names to come there is a place.
+use Rattle.std.specs.Prelude.{◌≡◌, ◌≢◌, ◌⊎◌, ℕ, ◌<◌, true, Option, Some, None, refl}
+use Rattle.std.specs.Coded.{Coded, code_by, coded×, coded_ℕ, coded_option}
 use Rattle.std.specs.Option.{option_and_then}
 use Rattle.std.specs.FinMap as map
 use Rattle.std.specs.Ordering.{nat_cmp}
@@ -13,10 +13,14 @@ Names = map.FinMap nat_cmp Entry
 
 pub record SpaceView : Type 0 where
   pub names : Names
+  -- for how many fresh names there is room
   pub room : ℕ
+  -- the name for which a place is kept
+  pub kept : Option ℕ
 
 abbrev pub space_code : Coded Entry → Coded SpaceView
-space_code code = code_by (Names × ℕ) (coded× (map.code coded_ℕ code) coded_ℕ) (λ v. (v.names, v.room)) (λ p. record { names = p.0; room = p.1 }) (λ _. refl)
+space_code code =
+    code_by (Names × (ℕ × Option ℕ)) (coded× (map.code coded_ℕ code) (coded× coded_ℕ (coded_option coded_ℕ))) (λ v. (v.names, (v.room, v.kept))) (λ p. record { names = p.0; room = p.1.0; kept = p.1.1 }) (λ _. refl)
 
 -- a number under which something may stand
 pub record IsUsable (name : ℕ) : Type 0 where
@@ -36,3 +40,7 @@ pub record IsFreshName {X : Type 0} (names : map.FinMap nat_cmp X) (name : ℕ) 
   pub unused : map.get names name ≡ None
   pub not_null : 0 < name
   pub least : (n : ℕ) → 0 < n → n < name → map.contains_key names n ≡ true
+
+-- A name that isn't in use can be put in without memory: the fresh one, in room, or the one for which a place is kept.
+abbrev pub HasPlace : SpaceView → (name : ℕ) → Type 0
+HasPlace v name = (IsFreshName v.names name × (0 < v.room)) ⊎ (v.kept ≡ Some name)

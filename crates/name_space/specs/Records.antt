@@ -1,5 +1,5 @@
 -- How a space keeps its records. No public clause cites this module.
-use Rattle.std.specs.Prelude.{◌≡◌, ◌≢◌, ℕ, ◌+◌, ◌<◌, ◌≤◌, ◌^◌, List, Option, Some, None}
+use Rattle.std.specs.Prelude.{◌≡◌, ◌≢◌, ℕ, ◌+◌, ◌<◌, ◌≤◌, ◌^◌, Bool, List, Option, Some, None, is_some, if◌then◌else◌}
 use Rattle.std.specs.Prelude as std
 use Rattle.std.specs.FinMap as map
 use Rattle.std.specs.Ordering.{nat_cmp}
@@ -9,7 +9,7 @@ use Rattle.name_space.specs.declared.Entry.{Entry}
 use Rattle.name_space.specs.declared.Entry.TheVariants.{DeadName}
 use Rattle.name_space.specs.declared.Record.{Record}
 use Rattle.name_space.specs.Entry.{port_named}
-use Rattle.name_space.specs.Names.{Names}
+use Rattle.name_space.specs.Names.{Names, port_at}
 use Rattle.name_space.specs.Index.{IndexView}
 
 -- the map with each value v replaced by f v
@@ -35,11 +35,34 @@ pub record IsIndexed (at : ℕ → Option Record) (names ports : map.FinMap nat_
   pub fits : (name key : ℕ) → map.get names name ≡ Some key → name < 2 ^ 32
   pub few : map.len names ≤ most_names
 
-pub record HasRoom (s : Slab Record) (names ports : IndexView) (room : ℕ) : Type 0 where
-  pub names_fit : map.len names.map + room ≤ names.capacity
-  pub ports_fit : map.len ports.map + room ≤ ports.capacity
-  pub records_fit : slab_len s + room ≤ s.capacity
+-- So many names more fit, and so many ports.
+pub record HasRoom (s : Slab Record) (names ports : IndexView) (more_names more_ports : ℕ) : Type 0 where
+  pub names_fit : map.len names.map + more_names ≤ names.capacity
+  pub ports_fit : map.len ports.map + more_ports ≤ ports.capacity
+  pub records_fit : slab_len s + more_names ≤ s.capacity
 
-pub record IsSound (s : Slab Record) (names ports : IndexView) (room : ℕ) : Type 0 where
+-- The same is there, with no less capacity.
+pub record Grows (s t : Slab Record) (names wider_names ports wider_ports : IndexView) : Type 0 where
+  pub same_records : t ≡ record s { capacity = t.capacity }
+  pub more_records : s.capacity ≤ t.capacity
+  pub same_names : wider_names.map ≡ names.map
+  pub more_names : names.capacity ≤ wider_names.capacity
+  pub same_ports : wider_ports.map ≡ ports.map
+  pub more_ports : ports.capacity ≤ wider_ports.capacity
+
+abbrev pub one_unless : Bool → ℕ
+one_unless b = if b then 0 else 1
+
+-- the place that is kept for a name while it isn't in use
+abbrev pub places_kept : Option ℕ → Names → ℕ
+places_kept None names = 0
+places_kept (Some name) names = one_unless (map.contains_key names name)
+
+-- the place that is kept for its port while it has none
+abbrev pub ports_kept : Option ℕ → Names → ℕ
+ports_kept None names = 0
+ports_kept (Some name) names = one_unless (is_some (port_at names name))
+
+pub record IsSound (s : Slab Record) (names ports : IndexView) (room : ℕ) (kept : Option ℕ) : Type 0 where
   pub indexed : IsIndexed (get s) names.map ports.map
-  pub has_room : HasRoom s names ports room
+  pub has_room : HasRoom s names ports (room + places_kept kept (names_of (get s) names.map)) (room + ports_kept kept (names_of (get s) names.map))

@@ -1,8 +1,9 @@
 //! One task's names: a finite map from names to what stands under them.
 //!
 //! At most 65,535 names, each any 32-bit number but 0 and 0xffffffff. A port has one name at most by
-//! receive or send rights, and the name is found by the port. Room for names to come is made by
-//! [`Space::reserve`]; nothing else but [`Space::names`] takes memory.
+//! receive or send rights, and the name is found by the port. Room for fresh names to come is made by
+//! [`Space::reserve`], a place for one chosen name by [`Space::reserve_name`]; nothing else but
+//! [`Space::names`] takes memory.
 #![tactic(auto)]
 
 ghost use Rattle.std.specs.Prelude.{◌≡◌, ◌≢◌, ℕ, ◌+◌, ◌-◌, ◌<◌, ◌≤◌, ◌↔◌, IsTrue, true, max, Some, None, IfOk, IfSome, IfNone, IsOk, OnSome, OnOk, OnErr};
@@ -11,6 +12,7 @@ ghost use Rattle.slab.specs.Slab.{ContainsKey, Updates, slab_len};
 ghost use Rattle.mach_types.specs.Numbers.{most_names, most_references};
 ghost use Rattle.name_space.specs.Entry.{port_named};
 ghost use Rattle.name_space.specs.Linked.{linked, unlinked, lost};
+ghost use Rattle.name_space.specs.Records.{HasRoom, Grows};
 
 mod index;
 
@@ -147,6 +149,8 @@ pub struct Space {
     by_name: Index,
     by_port: Index,
     room: usize,
+    // The name for which a place is kept.
+    kept: Option<Name>,
 }
 
 impl Model for Space {
@@ -160,9 +164,9 @@ impl Model for Space {
     ghost use Rattle.slab.specs.Slab.{get};
     ghost use Rattle.name_space.specs.Records.{names_of, IsSound};
 
-    ghost view = { λ a. record { names = names_of (get a.records) a.by_name.map; room = a.room } };
+    ghost view = { λ a. record { names = names_of (get a.records) a.by_name.map; room = a.room; kept = a.kept } };
 
-    ghost invariant = { λ a. IsSound a.records a.by_name a.by_port a.room };
+    ghost invariant = { λ a. IsSound a.records a.by_name a.by_port a.room a.kept };
 }
 
 // Adds a port's key, if there is a port.
@@ -207,20 +211,40 @@ fn store(records: &mut Slab<Record>, key: usize, renewed: Record)
     }
 }
 
+// Makes places for so many fresh names, and for one that is kept.
+fn make_places(
+    records: &mut Slab<Record>,
+    names: &mut Index,
+    ports: &mut Index,
+    fresh: usize,
+) -> Result<(), AllocError>
+    ensures ok { OnOk result (HasRoom records.new names.new ports.new (fresh + 1) (fresh + 1)) }
+    ensures grows { Grows records.old records.new names.old names.new ports.old ports.new }
+{
+    let Some(places) = fresh.checked_add(1) else {
+        return Err(AllocError);
+    };
+    records.reserve(places)?;
+    names.reserve(places)?;
+    ports.reserve(places)
+}
+
 impl Space {
     ghost use Rattle.name_space.specs.declared.Entry.{Entry as AnyEntry};
-    ghost use Rattle.name_space.specs.Names.{IsUsable, IsFreshName, HasNoOther, port_at};
+    ghost use Rattle.name_space.specs.Names.{IsUsable, IsFreshName, HasPlace, HasNoOther, port_at};
 
     /// A space without names. Allocates nothing; constant time.
     pub fn new(alloc: Global) -> Space
         ensures names { result.names ≡ map.empty }
         ensures room { result.room ≡ 0 }
+        ensures kept { result.kept ≡ None }
     {
         Space {
             records: Slab::new(alloc),
             by_name: Index::new(alloc),
             by_port: Index::new(alloc),
             room: 0,
+            kept: None,
         }
     }
 
@@ -246,7 +270,7 @@ impl Space {
         self.len() >= MOST_NAMES
     }
 
-    /// For how many more names there is room. Constant time.
+    /// For how many more fresh names there is room. Constant time.
     pub fn room(&self) -> usize
         ensures { result ≡ self.now.room }
     {
@@ -279,9 +303,9 @@ impl Space {
         Some(self.records[key].name)
     }
 
-    /// Makes room for so many more names, so that as many calls of [`Space::insert`] take no memory.
-    /// Room that is there stays and counts: where it is less, there is then room for just so many.
-    /// Linear in the number of names where memory is taken.
+    /// Makes room for so many fresh names, so that as many calls of [`Space::insert`], each with the
+    /// fresh name of its turn, take no memory. Room that is there stays and counts: where it is less,
+    /// there is then room for just so many. Linear in the number of names where memory is taken.
     ///
     /// An error means that memory was refused; the names are then as before, and so is the room.
     pub fn reserve(&mut self, additional: usize) -> Result<(), AllocError>
@@ -292,28 +316,68 @@ impl Space {
         if additional <= self.room {
             return Ok(());
         }
-        self.records.reserve(additional)?;
-        self.by_name.reserve(additional)?;
-        self.by_port.reserve(additional)?;
+        make_places(
+            &mut self.records,
+            &mut self.by_name,
+            &mut self.by_port,
+            additional,
+        )?;
         self.room = additional;
         Ok(())
     }
 
-    /// Puts the entry under a name that is not in use, in room that was made. Takes no memory.
+    /// Keeps a place for the name, in use or not, so that [`Space::insert`] and [`Space::rename`] can
+    /// put an entry under it without memory. The place stays the name's own, also after the name went
+    /// in and out of use, until one is kept for another name. Linear in the number of names where
+    /// memory is taken.
+    ///
+    /// An error means that memory was refused, and that the place was not kept before; all is then as
+    /// it was.
+    pub fn reserve_name(&mut self, name: Name) -> Result<(), AllocError>
+        requires usable { IsUsable name }
+        ensures ok { OnOk result (self.new ≡ record self.old { kept = Some name }) }
+        ensures err { OnErr result (self.new ≡ self.old) }
+        ensures wanted { OnErr result (self.old.kept ≢ Some name) }
+    {
+        if self.keeps(name) {
+            return Ok(());
+        }
+        make_places(
+            &mut self.records,
+            &mut self.by_name,
+            &mut self.by_port,
+            self.room,
+        )?;
+        self.kept = Some(name);
+        Ok(())
+    }
+
+    // Whether a place is kept for the name.
+    fn keeps(&self, name: Name) -> bool
+        ensures { IsTrue result ↔ (self.now.kept ≡ Some name) }
+    {
+        match self.kept {
+            Some(kept) => kept.number() == name.number(),
+            None => false,
+        }
+    }
+
+    /// Puts the entry under a name that is not in use, in a place that was made: the fresh name where
+    /// there is room for one, or the name for which a place is kept. Takes no memory.
     ///
     /// Logarithmic in the number of names, but for a move of 16 bytes for each greater name.
     pub fn insert(&mut self, name: Name, entry: Entry)
         requires usable { IsUsable name }
         requires unused { map.get self.old.names name ≡ None }
         requires not_full { map.len self.old.names < most_names }
-        requires room { 0 < self.old.room }
+        requires place { HasPlace self.old name }
         requires apart { HasNoOther self.old.names entry }
-        ensures { self.new ≡ record { names = map.insert self.old.names name entry; room = self.old.room - 1 } }
+        ensures { self.new ≡ record self.old { names = map.insert self.old.names name entry; room = self.old.room - 1 } }
     {
         let key = self.records.insert_reserved(Record { name, entry });
         self.by_name.insert(name.number() as u64, key);
         link(&mut self.by_port, entry.port(), key);
-        self.room -= 1;
+        self.room = self.room.saturating_sub(1);
     }
 
     /// Puts the entry in place of what stands under a name. It is of the same port by receive or
@@ -330,8 +394,9 @@ impl Space {
         unlink(&mut self.by_port, port);
     }
 
-    /// Takes a name out of use, and answers what stood under it. Room stays as it is. Logarithmic in
-    /// the number of names, but for a move of 16 bytes for each greater name.
+    /// Takes a name out of use, and answers what stood under it. Room stays as it is, and the place that
+    /// is kept for a name. Logarithmic in the number of names, but for a move of 16 bytes for each
+    /// greater name.
     pub fn remove(&mut self, name: Name) -> Option<Entry>
         ensures value { result ≡ map.get self.old.names name }
         ensures after { self.new ≡ record self.old { names = map.remove self.old.names name } }
@@ -344,19 +409,21 @@ impl Space {
     }
 
     /// Gives what stands under a name another name that is not in use (Port Manipulation Interface,
-    /// `mach_port_rename`). Takes no memory and no room. Logarithmic in the number of names, but for a
-    /// move of 16 bytes for each greater name.
+    /// `mach_port_rename`), for which a place is kept. Takes no memory. Logarithmic in the number of
+    /// names, but for a move of 16 bytes for each greater name.
     pub fn rename(&mut self, from: Name, to: Name)
         requires usable { IsUsable to }
         requires used { map.contains_key self.old.names from ≡ true }
         requires unused { map.get self.old.names to ≡ None }
-        ensures { (entry : AnyEntry) → map.get self.old.names from ≡ Some entry → self.new ≡ record self.old { names = map.insert (map.remove self.old.names from) to entry } }
+        requires place { self.old.kept ≡ Some to }
+        ensures { (entry : AnyEntry) → map.get self.old.names from ≡ Some entry → self.new ≡ record self.old { names = map.insert (map.remove self.old.names from) to entry; room = self.old.room - 1 } }
     {
         let key = self.by_name.get(from.number() as u64).unwrap();
         let entry = self.records[key].entry;
         self.by_name.remove(from.number() as u64);
         self.by_name.insert(to.number() as u64, key);
         store(&mut self.records, key, Record { name: to, entry });
+        self.room = self.room.saturating_sub(1);
     }
 
     /// The names, rising. Linear in their number.
@@ -389,14 +456,15 @@ mod tests {
     use std::test::Fail;
 
     // Puts an entry under a name, if the space can take it.
-    fn put(space: &mut Space, name: u32, entry: Entry) -> bool {
+    fn put(space: &mut Space, name: u32, entry: Entry) -> Result<bool, AllocError> {
         let name = Name::new(name);
         let is_new = entry.port().is_none() && name.is_usable() && space.lookup(name).is_none();
-        if !is_new || space.is_full() || space.room() == 0 {
-            return false;
+        if !is_new || space.is_full() {
+            return Ok(false);
         }
+        space.reserve_name(name)?;
         space.insert(name, entry);
-        true
+        Ok(true)
     }
 
     type Told = (u32, u32, Option<PortId>, Option<PortId>, Option<SetId>);
@@ -428,10 +496,11 @@ mod tests {
         let mut space = Space::new(rt.alloc());
         assert!(rt; space.is_empty());
         space.reserve(3)?;
-        assert!(rt; put(&mut space, 1, Entry::SendOnce(PortId::new(7))));
-        assert!(rt; put(&mut space, 0xffff_fffe, Entry::DeadName(UserRefs::one())));
-        assert!(rt; put(&mut space, 3, Entry::Set(SetId::new(0))));
-        assert!(rt; !put(&mut space, 0, Entry::Set(SetId::new(0))));
+        assert_eq!(rt; space.room(), 3);
+        assert!(rt; put(&mut space, 1, Entry::SendOnce(PortId::new(7)))?);
+        assert!(rt; put(&mut space, 0xffff_fffe, Entry::DeadName(UserRefs::one()))?);
+        assert!(rt; put(&mut space, 3, Entry::Set(SetId::new(0)))?);
+        assert!(rt; !put(&mut space, 0, Entry::Set(SetId::new(0)))?);
         assert_eq!(rt; space.room(), 0);
         assert_eq!(rt; space.len(), 3);
         assert_eq!(rt; space.fresh().number(), 2);
@@ -452,9 +521,9 @@ mod tests {
         let mut space = Space::new(rt.alloc());
         let port = PortId::new(7);
         assert!(rt; space.name_of_port(port).is_none());
-        space.reserve(1)?;
         let name = Name::new(9);
         assert!(rt; !space.is_full() && space.lookup(name).is_none());
+        space.reserve_name(name)?;
         space.insert(name, Entry::Receive(port));
         assert_eq!(rt; space.name_of_port(port).ok_or("named")?.number(), 9);
         space.replace(name, Entry::ReceiveAndSend(port, UserRefs::one()));
@@ -463,6 +532,7 @@ mod tests {
         assert_eq!(rt; entry.send_references(), 1);
         let other = Name::new(4);
         assert!(rt; space.lookup(other).is_none());
+        space.reserve_name(other)?;
         space.rename(name, other);
         assert_eq!(rt; space.name_of_port(port).ok_or("named")?.number(), 4);
         assert_eq!(rt; space.any_name().ok_or("named")?.number(), 4);

@@ -33,7 +33,7 @@ was_there c =
 
 pub invariant_of-self : goal.invariant_of-self
 invariant_of-self c = sound-removed
-    c.self.inside.records c.remove-entry.new.self c.self.inside.by_name c.remove.new.self c.self.inside.by_port c.unlink.new.ports c.self.inside.room c.args.self.now c.self.view_is c.self.invariant
+    c.self.inside.records c.remove-entry.new.self c.self.inside.by_name c.remove.new.self c.self.inside.by_port c.unlink.new.ports c.self.inside.room c.self.inside.kept c.args.self.now c.self.view_is c.self.invariant
     c.args.name c.in_ok-key.key c.remove-entry.result.entry (was_there c) c.remove-entry.ensures.updates.changed c.remove-entry.ensures.updates.others c.remove-entry.ensures.len c.remove-entry.ensures.capacity
     (c.remove.ensures ∙ ap (λ a. with_map c.self.inside.by_name (map.remove c.self.inside.by_name.map a)) c.number-2.ensures)
     (c.unlink.ensures ∙ ap (λ o. with_map c.self.inside.by_port (unlinked o c.self.inside.by_port.map)) c.port.ensures)
@@ -46,7 +46,7 @@ returns-clause-value c =
 
 pub returns-clause-after : goal.returns-clause-after
 returns-clause-after c = view-removed
-    c.self.inside.records c.remove-entry.new.self c.self.inside.by_name c.remove.new.self c.self.inside.by_port c.unlink.new.ports c.self.inside.room c.args.self.now c.self.view_is c.self.invariant
+    c.self.inside.records c.remove-entry.new.self c.self.inside.by_name c.remove.new.self c.self.inside.by_port c.unlink.new.ports c.self.inside.room c.self.inside.kept c.args.self.now c.self.view_is c.self.invariant
     c.args.name c.in_ok-key.key c.remove-entry.result.entry (was_there c) c.remove-entry.ensures.updates.changed c.remove-entry.ensures.updates.others c.remove-entry.ensures.len c.remove-entry.ensures.capacity
     (c.remove.ensures ∙ ap (λ a. with_map c.self.inside.by_name (map.remove c.self.inside.by_name.map a)) c.number-2.ensures)
     (c.unlink.ensures ∙ ap (λ o. with_map c.self.inside.by_port (unlinked o c.self.inside.by_port.map)) c.port.ensures)

@@ -17,7 +17,7 @@ invariant_of-self c =
     let key : map.get c.self.inside.by_name.map c.args.name ≡ Some c.unwrap-key.result = ap (map.get c.self.inside.by_name.map) (sym c.number.ensures) ∙ sym c.get.ensures ∙ c.unwrap-key.ensures in
     let without : Option ℕ → IndexView = λ o. record c.self.inside.by_port { map = unlinked o c.self.inside.by_port.map } in
     sound-replaced
-    c.self.inside.records c.store.new.records c.self.inside.by_name c.self.inside.by_port c.self.inside.room c.args.self.now c.self.view_is c.self.invariant
+    c.self.inside.records c.store.new.records c.self.inside.by_name c.self.inside.by_port c.self.inside.room c.self.inside.kept c.args.self.now c.self.view_is c.self.invariant
     c.args.name c.unwrap-key.result c.index.result.now c.args.entry key c.index.ensures c.store.ensures.updates.changed c.store.ensures.updates.others c.store.ensures.len c.store.ensures.capacity c.requires.same
     c.unlink.new.ports (c.unlink.ensures ∙ ap without c.port_lost-port.ensures)
 
@@ -25,5 +25,5 @@ pub returns : goal.returns
 returns c =
     let key : map.get c.self.inside.by_name.map c.args.name ≡ Some c.unwrap-key.result = ap (map.get c.self.inside.by_name.map) (sym c.number.ensures) ∙ sym c.get.ensures ∙ c.unwrap-key.ensures in
     view-replaced
-    c.self.inside.records c.store.new.records c.self.inside.by_name c.self.inside.by_port c.self.inside.room c.args.self.now c.self.view_is c.self.invariant
+    c.self.inside.records c.store.new.records c.self.inside.by_name c.self.inside.by_port c.self.inside.room c.self.inside.kept c.args.self.now c.self.view_is c.self.invariant
     c.args.name c.unwrap-key.result c.index.result.now c.args.entry key c.index.ensures c.store.ensures.updates.changed c.store.ensures.updates.others c.store.ensures.len c.store.ensures.capacity c.requires.same
