@@ -78,7 +78,7 @@ module _ (w : WorldView) (s : State) (a : Agrees w s) (task name : ℕ) (naming 
   module _ (left : Option Entry) (room : ℕ) (ports : PortsView Kept) (ledger : LedgerView) (t : State)
       (own : t.naming task ≡ put (s.naming task) name (option_map target_of left)) where
     abbrev space2 : SpaceView
-    space2 = record { names = put space.names name left; room = room }
+    space2 = record space { names = put space.names name left; room = room }
 
     abbrev w2 : WorldView
     w2 = record w { spaces = slice_set w.spaces task space2; ports = ports; ledger = ledger }

@@ -41,12 +41,12 @@ module _ (w : WorldView) (s : State) (a : Agrees w s) (task : ℕ) (space : Spac
 
   pub names_agree : (names : TableNames) (room : ℕ) (own : Names) (stands : Request → Bool) (sets : SetsView) (owner : ℕ → Option ℕ) (made : ℕ) →
       NamesAgree names own → CountRights names task s.ledger → SetsAgree sets owner made (at s.naming task own) →
-      Agrees (record w { spaces = slice_set w.spaces task (record { names = names; room = room }); sets = sets })
+      Agrees (record w { spaces = slice_set w.spaces task (record space { names = names; room = room }); sets = sets })
       (record s { naming = at s.naming task own; stands = stands; set_owner = owner; sets_made = made })
   names_agree names room own stands sets owner made named counted in_sets = record {
-    spaces = spaces_agree w.spaces task space (record { names = names; room = room }) there s.live_task s.tasks_made s.naming (at s.naming task own) a.spaces
+    spaces = spaces_agree w.spaces task space (record space { names = names; room = room }) there s.live_task s.tasks_made s.naming (at s.naming task own) a.spaces
         (subst (NamesAgree names) (sym (at_own s.naming task own)) named) (others own);
-    rights = references_agree w.spaces task space (record { names = names; room = room }) there s.ledger s.ledger a.rights counted (λ u not kind q. refl);
+    rights = references_agree w.spaces task space (record space { names = names; room = room }) there s.ledger s.ledger a.rights counted (λ u not kind q. refl);
     live_port = a.live_port;
     ports_made = a.ports_made;
     ports = a.ports;
@@ -73,14 +73,14 @@ module _ (w : WorldView) (s : State) (a : Agrees w s) (task : ℕ) (space : Spac
     stands_still n x is = put_other (s.naming task) name (Some (target_of e)) n (λ same. no_some x (sym not_named ∙ ap (map.get (s.naming task)) (sym same) ∙ is)) ∙ is
 
     pub with_sets : (sets : SetsView) (owner : ℕ → Option ℕ) (made : ℕ) → SetsAgree sets owner made (at s.naming task more_own) →
-        Agrees (record w { spaces = slice_set w.spaces task (record { names = more; room = room }); sets = sets })
+        Agrees (record w { spaces = slice_set w.spaces task (record space { names = more; room = room }); sets = sets })
         (record s { naming = at s.naming task more_own; set_owner = owner; sets_made = made })
     with_sets sets owner made in_sets = names_agree more room more_own s.stands sets owner made
         (put_names space.names (s.naming task) (own_names w s a task space there) name (Some e) (of_some e HasCount count))
         (put_rights space.names task s.ledger (own_rights w s a task space there) name (Some e) (λ x p is named. absurd (no_some p (sym no_port ∙ ap port_named (same_found (Some x) e x (sym is) refl) ∙ named))))
         in_sets
 
-    pub added_agrees : Agrees (record w { spaces = slice_set w.spaces task (record { names = more; room = room }) }) (record s { naming = at s.naming task more_own })
+    pub added_agrees : Agrees (record w { spaces = slice_set w.spaces task (record space { names = more; room = room }) }) (record s { naming = at s.naming task more_own })
     added_agrees = with_sets w.sets s.set_owner s.sets_made (kept_by more_own (λ n set is. stands_still n (Target.set set) is))
 
   -- ---- a name that moves
@@ -108,7 +108,7 @@ module _ (w : WorldView) (s : State) (a : Agrees w s) (task : ℕ) (space : Spac
     stood n x same is = same_found (map.get (s.naming task) from) (target_of e) x target_found (ap (map.get (s.naming task)) (sym same) ∙ is)
 
     pub moved_agrees : (sets : SetsView) → SetsAgree sets s.set_owner s.sets_made (at s.naming task moved_own) →
-        Agrees (record w { spaces = slice_set w.spaces task (record { names = moved; room = room }); sets = sets }) (record s { naming = at s.naming task moved_own; stands = stands })
+        Agrees (record w { spaces = slice_set w.spaces task (record space { names = moved; room = room }); sets = sets }) (record s { naming = at s.naming task moved_own; stands = stands })
     moved_agrees sets in_sets = names_agree moved room moved_own stands sets s.set_owner s.sets_made
         (put_names _ _ (put_names space.names (s.naming task) (own_names w s a task space there) from None (λ x is. absurd (no_some x is))) to (Some e)
         (of_some e HasCount ((own_names w s a task space there).counted from e found)))

@@ -7,7 +7,7 @@ use Rattle.mach_model.specs.State.{State}
 use Rattle.name_space.specs.Names.{Names, SpaceView}
 use Rattle.copyin_base.specs.Worlds.{WorldView, entry_in, entry_at}
 use Rattle.copyin_base.specs.Shows.{Agrees, Shows, target_of}
-use Rattle.copyin_base.specs.Changes.{MakesRoom, SameButRoom}
+use Rattle.copyin_base.specs.Changes.{MakesRoom, KeepsPlace, SameButRoom}
 use Rattle.copyin_base.proofs.Gets.{each-set, length-set}
 
 abbrev names_in : Option SpaceView → Option Names
@@ -66,17 +66,20 @@ room_shows w v s same sh = record { agrees = room_agrees w v s same sh.agrees; l
 pub room_refl : (w : WorldView) → SameButRoom w w
 room_refl w = record { tasks = refl; names = λ task. refl; ports = refl; ledger = refl; sets = refl }
 
-pub roomier : (w : WorldView) (task : ℕ) (space : SpaceView) (room : ℕ) → slice_get w.spaces task ≡ Some space → SameButRoom w (record w { spaces = slice_set w.spaces task (record space { room = room }) })
-roomier w task space room there = record {
-  tasks = length-set w.spaces task (record space { room = room });
-  names = each-set w.spaces task (record space { room = room }) space there (λ u x. names_in x ≡ names_in (slice_get w.spaces u)) (sym (ap names_in there)) (λ u not. refl);
+pub roomier : (w : WorldView) (task : ℕ) (space : SpaceView) (room : ℕ) (kept : Option ℕ) → slice_get w.spaces task ≡ Some space → SameButRoom w (record w { spaces = slice_set w.spaces task (record space { room = room; kept = kept }) })
+roomier w task space room kept there = record {
+  tasks = length-set w.spaces task (record space { room = room; kept = kept });
+  names = each-set w.spaces task (record space { room = room; kept = kept }) space there (λ u x. names_in x ≡ names_in (slice_get w.spaces u)) (sym (ap names_in there)) (λ u not. refl);
   ports = refl;
   ledger = refl;
   sets = refl;
 }
 
 pub room_made : (w v : WorldView) (task number : ℕ) → MakesRoom w task number v → SameButRoom w v
-room_made w v task number m = subst (SameButRoom w) (sym m.rest) (roomier w task m.space _ m.there)
+room_made w v task number m = subst (SameButRoom w) (sym m.rest) (roomier w task m.space _ m.space.kept m.there)
+
+pub place_kept : (w v : WorldView) (task name : ℕ) → KeepsPlace w task name v → SameButRoom w v
+place_kept w v task name m = subst (SameButRoom w) (sym m.rest) (roomier w task m.space m.space.room (Some name) m.there)
 
 -- the same stands under each name
 pub room_entry : (w v : WorldView) → SameButRoom w v → (task name : ℕ) → entry_at v task name ≡ entry_at w task name

@@ -5,7 +5,7 @@ use Rattle.std.specs.FinMap as map
 use Rattle.mach_types.specs.Numbers.{most_names}
 use Rattle.name_space.specs.declared.Entry.{Entry}
 use Rattle.name_space.specs.Entry.{port_named}
-use Rattle.name_space.specs.Names.{SpaceView, IsUsable, HasNoOther}
+use Rattle.name_space.specs.Names.{SpaceView, IsUsable, HasPlace, HasNoOther}
 use Rattle.name_space.specs.Names.{port_at as named_at}
 use Rattle.port.specs.declared.Attributes.{Attributes}
 use Rattle.port.specs.Ports.{PortView, with_port}
@@ -27,28 +27,34 @@ pub record PutsLeft (old : WorldView) (task name : ℕ) (left : Option Entry) (n
   pub there : slice_get old.spaces task ≡ Some space
   pub rest : new ≡ record old { spaces = slice_set old.spaces task (record space { names = put space.names name left }) }
 
--- The task may have the entry under the name, in room that was made: the name isn't in use, and no other is for the entry's port.
+-- The task may have the entry under the name, in a place that was made: the name isn't in use, and no other is for the entry's port.
 pub record CanInsert (w : WorldView) (task name : ℕ) (entry : Entry) : Type 0 where
   pub space : SpaceView
   pub there : slice_get w.spaces task ≡ Some space
   pub usable : IsUsable name
   pub unused : map.get space.names name ≡ None
   pub few : map.len space.names < most_names
-  pub room : 0 < space.room
+  pub place : HasPlace space name
   pub apart : HasNoOther space.names entry
 
 pub record InsertsEntry (old : WorldView) (task name : ℕ) (entry : Entry) (new : WorldView) : Type 0 where
   pub space : SpaceView
   pub there : slice_get old.spaces task ≡ Some space
-  pub rest : new ≡ record old { spaces = slice_set old.spaces task (record { names = map.insert space.names name entry; room = space.room - 1 }) }
+  pub rest : new ≡ record old { spaces = slice_set old.spaces task (record space { names = map.insert space.names name entry; room = space.room - 1 }) }
 
--- There is room for just so many names more of the task, or for as many as there was where that is more.
+-- There is room for just so many fresh names of the task, or for as many as there was where that is more.
 pub record MakesRoom (old : WorldView) (task number : ℕ) (new : WorldView) : Type 0 where
   pub space : SpaceView
   pub there : slice_get old.spaces task ≡ Some space
   pub rest : new ≡ record old { spaces = slice_set old.spaces task (record space { room = max space.room number }) }
 
--- All is as before, but for room for names to come.
+-- A place is kept for this name of the task, and for no other.
+pub record KeepsPlace (old : WorldView) (task name : ℕ) (new : WorldView) : Type 0 where
+  pub space : SpaceView
+  pub there : slice_get old.spaces task ≡ Some space
+  pub rest : new ≡ record old { spaces = slice_set old.spaces task (record space { kept = Some name }) }
+
+-- All is as before, but for places for names to come.
 pub record SameButRoom (old new : WorldView) : Type 0 where
   pub tasks : length new.spaces ≡ length old.spaces
   pub names : (task : ℕ) → option_map (λ (x : SpaceView). x.names) (slice_get new.spaces task) ≡ option_map (λ (x : SpaceView). x.names) (slice_get old.spaces task)

@@ -1,5 +1,5 @@
 -- Where memory is wanted, and what is kept of it for what is to come.
-use Rattle.std.specs.Prelude.{◌≡◌, ℕ, ◌<◌, ◌≤◌, max, Option, Some, None, slice_get}
+use Rattle.std.specs.Prelude.{◌≡◌, ◌≢◌, ℕ, ◌<◌, ◌≤◌, max, Option, Some, None, slice_get}
 use Rattle.name_space.specs.Names.{SpaceView}
 use Rattle.copyin_base.specs.Worlds.{WorldView}
 
@@ -7,19 +7,31 @@ abbrev pub room_in : Option SpaceView → ℕ
 room_in (Some space) = space.room
 room_in None = 0
 
--- for how many more names of the task there is room; 0 where the task isn't there
+-- for how many fresh names of the task there is room; 0 where the task isn't there
 abbrev pub room_of : WorldView → (task : ℕ) → ℕ
 room_of w task = room_in (slice_get w.spaces task)
 
--- There is less room than for so many names more of the task.
+-- There is less room than for so many fresh names of the task.
 abbrev pub LacksRoomFor : WorldView → (task number : ℕ) → Type 0
 LacksRoomFor w task number = room_of w task < number
 
--- There is no room for a name more of the task.
+-- There is no room for a fresh name of the task.
 abbrev pub LacksRoom : WorldView → (task : ℕ) → Type 0
 LacksRoom w task = room_of w task ≡ 0
 
--- What is kept for names and messages to come grows by a name's at most.
+abbrev pub kept_in : Option SpaceView → Option ℕ
+kept_in (Some space) = space.kept
+kept_in None = None
+
+-- the name of the task for which a place is kept
+abbrev pub kept_of : WorldView → (task : ℕ) → Option ℕ
+kept_of w task = kept_in (slice_get w.spaces task)
+
+-- No place is kept for the name of the task that is chosen.
+abbrev pub LacksPlace : WorldView → (task name : ℕ) → Type 0
+LacksPlace w task name = kept_of w task ≢ Some name
+
+-- Room for fresh names grows by one name at most, and spare slots stay.
 pub record KeepsSpares (old new : WorldView) : Type 0 where
   pub rooms : (task : ℕ) → room_of new task ≤ max (room_of old task) 1
   pub slots : new.ports.spare ≡ old.ports.spare

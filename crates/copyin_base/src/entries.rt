@@ -1,8 +1,9 @@
 //! What stands under a name, changed.
 ghost use Rattle.std.specs.Prelude.{◌≡◌, ◌<◌, OnOk, OnErr, IfErr, length};
 ghost use Rattle.mach_types.specs.declared.codes.KernReturn.TheVariants as kern;
-ghost use Rattle.copyin_base.specs.Changes.{CanPutLeft, PutsLeft, CanInsert, InsertsEntry, MakesRoom};
-ghost use Rattle.copyin_base.specs.Wanted.{LacksRoom, LacksRoomFor};
+ghost use Rattle.name_space.specs.Names.{IsUsable};
+ghost use Rattle.copyin_base.specs.Changes.{CanPutLeft, PutsLeft, CanInsert, InsertsEntry, MakesRoom, KeepsPlace};
+ghost use Rattle.copyin_base.specs.Wanted.{LacksRoomFor, LacksPlace};
 
 use crate::world::World;
 use mach_types::{KernReturn, Name, TaskId};
@@ -26,7 +27,8 @@ impl World {
         }
     }
 
-    /// Puts the entry under a name that isn't in use, in room that was made.
+    /// Puts the entry under a name that isn't in use, in a place that was made: the fresh name where
+    /// there is room for one, or the name for which a place is kept.
     ///
     /// Takes no memory. Logarithmic in the names of the task, but for a move of 16 bytes for each
     /// greater name.
@@ -37,7 +39,7 @@ impl World {
         self.spaces[task.number() as usize].insert(name, entry);
     }
 
-    /// Makes room for so many more names of the task. Room that is there stays and counts: where it is
+    /// Makes room for so many fresh names of the task. Room that is there stays and counts: where it is
     /// less, there is then room for just so many.
     ///
     /// `KERN_RESOURCE_SHORTAGE` where there was less room and memory was refused; all is then as
@@ -54,13 +56,21 @@ impl World {
         }
     }
 
-    /// Makes room for a name more of the task, as [`World::reserve_names`].
-    pub fn reserve_name(&mut self, task: TaskId) -> Result<(), KernReturn>
-        requires { task < length self.old.spaces }
-        ensures ok { OnOk result (MakesRoom self.old task 1 self.new) }
+    /// Keeps a place for this name of the task, in use or not, and for no other, so that an entry can
+    /// come under it without memory.
+    ///
+    /// `KERN_RESOURCE_SHORTAGE` where it wasn't kept and memory was refused; all is then as before.
+    /// Constant time, but where the names move to a larger place.
+    pub fn reserve_name(&mut self, task: TaskId, name: Name) -> Result<(), KernReturn>
+        requires there { task < length self.old.spaces }
+        requires usable { IsUsable name }
+        ensures ok { OnOk result (KeepsPlace self.old task name self.new) }
         ensures err { IfErr result (λ code. (code ≡ kern.ResourceShortage) × (self.new ≡ self.old)) }
-        ensures lacks { OnErr result (LacksRoom self.old task) }
+        ensures lacks { OnErr result (LacksPlace self.old task name) }
     {
-        self.reserve_names(task, 1)
+        match self.spaces[task.number() as usize].reserve_name(name) {
+            Ok(()) => Ok(()),
+            Err(_) => Err(KernReturn::ResourceShortage),
+        }
     }
 }

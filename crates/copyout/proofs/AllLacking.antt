@@ -118,7 +118,7 @@ module _ (w : WorldView) (s : State) (a : Agrees w s) (task : ℕ) (space : Spac
   gives_joined kind p word not is =
       let x = port_entry (map.get space.names word) p (option_named (map.get space.names word) p (sym (lookup_is word) ∙ is)) in (
         record w {
-          spaces = slice_set w.spaces task (record { names = map.insert space.names word (joined kind x.entry); room = space.room });
+          spaces = slice_set w.spaces task (record space { names = map.insert space.names word (joined kind x.entry); room = space.room });
           ledger = ledger_joined kind p x.entry w.ledger;
         },
         record {
@@ -135,7 +135,7 @@ module _ (w : WorldView) (s : State) (a : Agrees w s) (task : ℕ) (space : Spac
   gives_alone : (kind : Kind) (p word : ℕ) (x : Target) (named : State) → (kind ≢ send_once → (n : ℕ) → lookup s task n ≢ Some (Target.port p)) → Named task word x s named → Gives kind p word
   gives_alone kind p word x named none n = (
     record w {
-      spaces = slice_set w.spaces task (record { names = map.insert space.names word (alone kind p); room = space.room - 1 });
+      spaces = slice_set w.spaces task (record space { names = map.insert space.names word (alone kind p); room = space.room - 1 });
       ledger = w.ledger;
     },
     record {

@@ -68,7 +68,7 @@ module _ (left : SpaceView → ℕ) (is_left : IsLeft left) (ports0 : PortsView 
       let fresh = has_fresh f.space.names in
       let live : is_some (map.get w.ports.ports o.port) ≡ true = f.live o.port ∙ o.there in
       let mid : WorldView = record w {
-        spaces = slice_set w.spaces task (record { names = map.insert f.space.names fresh.0 (alone (kind_sent c.given) o.port); room = f.space.room - 1 });
+        spaces = slice_set w.spaces task (record f.space { names = map.insert f.space.names fresh.0 (alone (kind_sent c.given) o.port); room = f.space.room - 1 });
         ledger = w.ledger;
       } in (
         fresh.0,
@@ -132,7 +132,7 @@ module _ (left : SpaceView → ℕ) (is_left : IsLeft left) (ports0 : PortsView 
         let named : IsNamed f.space.names has.0 = f.named has.0 has.2 has.4 in
         let entry = named_there (map.get f.space.names named.0) has.0 named.1 in
         let mid : WorldView = record w {
-          spaces = slice_set w.spaces task (record { names = map.insert f.space.names named.0 (joined (kind_sent c.given) entry.0); room = f.space.room });
+          spaces = slice_set w.spaces task (record f.space { names = map.insert f.space.names named.0 (joined (kind_sent c.given) entry.0); room = f.space.room });
           ledger = ledger_joined (kind_sent c.given) has.0 entry.0 w.ledger;
         } in (
           named.0,

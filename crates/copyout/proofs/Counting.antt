@@ -143,8 +143,8 @@ module _ (left : SpaceView → ℕ) (is_left : IsLeft left) (ports0 : PortsView 
     same_space : g.space ≡ f.space
     same_space = same_found (slice_get w.spaces task) g.space f.space g.there f.there
 
-    there_after : slice_get mid.spaces task ≡ Some (record { names = g.after; room = g.room })
-    there_after = ap (λ (x : WorldView). slice_get x.spaces task) g.rest ∙ get-set_same w.spaces task (record { names = g.after; room = g.room }) g.space g.there
+    there_after : slice_get mid.spaces task ≡ Some (record g.space { names = g.after; room = g.room })
+    there_after = ap (λ (x : WorldView). slice_get x.spaces task) g.rest ∙ get-set_same w.spaces task (record g.space { names = g.after; room = g.room }) g.space g.there
 
     live_after : (p : ℕ) → is_some (map.get mid.ports.ports p) ≡ is_some (map.get ports0.ports p)
     live_after p = ap (λ (x : WorldView). is_some (map.get x.ports.ports p)) g.rest ∙ f.live p
@@ -152,10 +152,10 @@ module _ (left : SpaceView → ℕ) (is_left : IsLeft left) (ports0 : PortsView 
     -- under a name of its own
     pub follows_taken : (t : TakesName f.space.names (kind_sent c.given) port word g.after) → g.room ≡ f.space.room - 1 → Follows left ports0 names0 task (earlier ++ c ∷ []) mid (n + 1) (l - 1)
     follows_taken t room = record {
-      space = record { names = g.after; room = g.room };
+      space = record g.space { names = g.after; room = g.room };
       there = there_after;
       size = more ∙ ap (λ (k : ℕ). k + 1) f.size;
-      left_is = is_left.lower f.space (record { names = g.after; room = g.room }) more room ∙ ap (λ (k : ℕ). k - 1) f.left_is;
+      left_is = is_left.lower f.space (record g.space { names = g.after; room = g.room }) more room ∙ ap (λ (k : ℕ). k - 1) f.left_is;
       live = live_after;
       named = λ p there h. elim (before p h) [
         | inl a ↦ let at = f.named p there a in (at.0, other p at.0 at.1)
@@ -198,10 +198,10 @@ module _ (left : SpaceView → ℕ) (is_left : IsLeft left) (ports0 : PortsView 
     -- under the name that the port has
     pub follows_joined : (j : JoinsName f.space.names (kind_sent c.given) port word g.after) → g.room ≡ f.space.room → IsNamed f.space.names port → Follows left ports0 names0 task (earlier ++ c ∷ []) mid n l
     follows_joined j room has = record {
-      space = record { names = g.after; room = g.room };
+      space = record g.space { names = g.after; room = g.room };
       there = there_after;
       size = as_many ∙ f.size;
-      left_is = is_left.same f.space (record { names = g.after; room = g.room }) as_many room ∙ f.left_is;
+      left_is = is_left.same f.space (record g.space { names = g.after; room = g.room }) as_many room ∙ f.left_is;
       live = live_after;
       named = λ p there h. elim h [
         | inl a ↦ let at = f.named p there (inl a) in (at.0, unchanged at.0 ∙ at.1)

@@ -338,7 +338,7 @@ module _ (w : WorldView) (s : State) (a : Agrees w s) (o k : ℕ) (l : IsMoving 
           below_most m n same few not = omega (arith, same, few, not)
       join_settled send_once is = absurd (j.not_once (sym is))
 
-      join_changes : Near w w' s same_name task (record { names = g.after; room = g.room })
+      join_changes : Near w w' s same_name task (record g.space { names = g.after; room = g.room })
       join_changes =
           let settled : Settled s task kind p w.ledger w'.ledger = subst (λ (x : LedgerView). Settled s task kind p w.ledger x) (sym (ap (λ (x : WorldView). x.ledger) g.rest)) (join_settled kind refl) in
           record {
@@ -364,7 +364,7 @@ module _ (w : WorldView) (s : State) (a : Agrees w s) (o k : ℕ) (l : IsMoving 
       same_for send_once is = absurd (j.not_once (sym is))
 
       join_agrees : Agrees w' same_name
-      join_agrees = near_agrees w w' s same_name a task g.space (record { names = g.after; room = g.room }) g.there join_changes
+      join_agrees = near_agrees w w' s same_name a task g.space (record g.space { names = g.after; room = g.room }) g.there join_changes
 
       join_put : Put s o k task kind p word w'
       join_put = record {
@@ -469,7 +469,7 @@ module _ (w : WorldView) (s : State) (a : Agrees w s) (o k : ℕ) (l : IsMoving 
           subst (λ (y : Kind). given_to y p task s ≡ token y p (in_task task) ∷ []) is (rw below refl)
       new_settled send_once is = subst (λ (y : Kind). given_to y p task s ≡ token y p (in_task task) ∷ []) is refl
 
-      new_changes : Near w w' s new_name task (record { names = g.after; room = g.room })
+      new_changes : Near w w' s new_name task (record g.space { names = g.after; room = g.room })
       new_changes =
           let settled : Settled s task kind p w.ledger w'.ledger = inl (new_settled kind refl, ap (λ (y : WorldView). y.ledger) g.rest ∙ e) in
           record {
@@ -490,7 +490,7 @@ module _ (w : WorldView) (s : State) (a : Agrees w s) (o k : ℕ) (l : IsMoving 
           }
 
       new_agrees : Agrees w' new_name
-      new_agrees = near_agrees w w' s new_name a task g.space (record { names = g.after; room = g.room }) g.there new_changes
+      new_agrees = near_agrees w w' s new_name a task g.space (record g.space { names = g.after; room = g.room }) g.there new_changes
 
       new_put : Put s o k task kind p word w'
       new_put = record {

@@ -93,9 +93,9 @@ module _ (w w1 w2 : WorldView) (task : ℕ) (kind : Kind) (port name : ℕ) (ent
 -- under a fresh name
 module _ (w w1 : WorldView) (task : ℕ) (kind : Kind) (port name : ℕ) (x : Entry) (space : SpaceView)
     (there : slice_get w.spaces task ≡ Some space) (is : x ≡ alone kind port) (puts : InsertsEntry w task name x w1) where
-  pub rest-taken : w1 ≡ record w { spaces = slice_set w.spaces task (record { names = map.insert space.names name (alone kind port); room = space.room - 1 }) }
+  pub rest-taken : w1 ≡ record w { spaces = slice_set w.spaces task (record space { names = map.insert space.names name (alone kind port); room = space.room - 1 }) }
   rest-taken =
-      let f : Entry → SpaceView → WorldView = λ e y. record w { spaces = slice_set w.spaces task (record { names = map.insert y.names name e; room = y.room - 1 }) } in
+      let f : Entry → SpaceView → WorldView = λ e y. record w { spaces = slice_set w.spaces task (record y { names = map.insert y.names name e; room = y.room - 1 }) } in
       puts.rest ∙ ap (f x) (same_found (slice_get w.spaces task) puts.space space puts.there there) ∙ ap (λ (e : Entry). f e space) is
 
   pub gives-taken : IsFreshName space.names name → map.len space.names < most_names → (kind ≢ send_once → (n : ℕ) → port_at space.names n ≢ Some port) → GivesPort w task kind port name w1

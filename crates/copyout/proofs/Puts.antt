@@ -43,7 +43,7 @@ is_free w task kind port word r unused = elim r.may [
 pub can_insert : (w : WorldView) (task : ℕ) (kind : Kind) (port word : ℕ) (x : Entry) → (r : CanPut w task kind port word) → is_some (entry_at w task word) ≡ false → x ≡ alone kind port → CanInsert w task word x
 can_insert w task kind port word x r unused is =
     let free = is_free w task kind port word r unused in
-    record { space = r.space; there = r.there; usable = r.usable; unused = free.unused; few = free.room; room = r.room free.unused; apart = no_other r.space.names kind port x is free.lone }
+    record { space = r.space; there = r.there; usable = r.usable; unused = free.unused; few = free.room; place = r.place free.unused; apart = no_other r.space.names kind port x is free.lone }
 
 pub puts-new : (w w1 : WorldView) (task : ℕ) (kind : Kind) (port word : ℕ) (x : Entry) → (r : CanPut w task kind port word) → is_some (entry_at w task word) ≡ false → x ≡ alone kind port →
     InsertsEntry w task word x w1 → PutsPort w task kind port word w1

@@ -54,7 +54,7 @@ same_front w port x m f =
 pub ready_after : (w w2 : WorldView) (task port room capacity needed : ℕ) (x : Waits w port) (m : MayReceive w task port room needed) → (r : MakesRoom w task needed w2) →
     length m.front.rights ≤ capacity → ReadyFor w2 task port capacity
 ready_after w w2 task port room capacity needed x m r fit =
-    let space2 : SpaceView = record { names = r.space.names; room = max r.space.room needed } in
+    let space2 : SpaceView = record r.space { room = max r.space.room needed } in
     let front : x.front ≡ m.front = same_front w port x m.front m.waits in
     let names : m.space.names ≡ r.space.names = ap (λ (y : SpaceView). y.names) (same_found (slice_get w.spaces task) m.space r.space m.there r.there) in
     subst (λ (y : WorldView). ReadyFor y task port capacity) (sym r.rest) (record {
@@ -125,7 +125,7 @@ beside_same task w new e = record { others = λ n not. ap (λ (x : WorldView). s
 
 beside_port : (b : Bool) (task : ℕ) (w new : WorldView) (kind : Kind) (port word dead : ℕ) → MatchBool b (GivesPort w task kind port word new) ((word ≡ dead) × (new ≡ w)) → Beside task w new
 beside_port true task w new kind port word dead g = record {
-  others = λ n not. ap (λ (x : WorldView). slice_get x.spaces n) g.rest ∙ get-set_other w.spaces task (record { names = g.after; room = g.room }) n not;
+  others = λ n not. ap (λ (x : WorldView). slice_get x.spaces n) g.rest ∙ get-set_other w.spaces task (record g.space { names = g.after; room = g.room }) n not;
   spare = ap (λ (x : WorldView). x.ports.spare) g.rest;
 }
 beside_port false task w new kind port word dead h = beside_same task w new h.1
@@ -149,7 +149,7 @@ pub returns_slot : (w w2 new : WorldView) (task port room needed local : ℕ) (b
     TakesMessage w2 task port local bytes new → ReturnsSlot w new
 returns_slot w w2 new task port room needed local bytes m r t =
     let mid : WorldView = t.mid in
-    let space2 : SpaceView = record { names = r.space.names; room = max r.space.room needed } in
+    let space2 : SpaceView = record r.space { room = max r.space.room needed } in
     let there : slice_get mid.spaces task ≡ Some space2 =
     front_there w2 mid task port t.takes space2 (ap (λ (y : WorldView). slice_get y.spaces task) r.rest ∙ get-set_same w.spaces task space2 r.space r.there) in
     let live : (p : ℕ) → is_some (port_at mid p) ≡ is_some (port_at w p) = λ p. front_live w2 mid port t.takes p ∙ ap (λ (y : WorldView). is_some (port_at y p)) r.rest in

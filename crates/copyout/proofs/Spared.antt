@@ -13,7 +13,7 @@ use Rattle.copyout.specs.Putting.{PutsPort}
 use Rattle.copyout.proofs.Given.{gives_puts}
 
 pub put_keeps : (w new : WorldView) (task : ℕ) (kind : Kind) (port word : ℕ) → PutsPort w task kind port word new → KeepsSpares w new
-put_keeps w new task kind port word g = keeps_space w new task g.space (record { names = g.after; room = g.room }) g.there (ap (λ (x : WorldView). x.spaces) g.rest) few (ap (λ (x : WorldView). x.ports.spare) g.rest)
+put_keeps w new task kind port word g = keeps_space w new task g.space (record g.space { names = g.after; room = g.room }) g.there (ap (λ (x : WorldView). x.spaces) g.rest) few (ap (λ (x : WorldView). x.ports.spare) g.rest)
   where
     few : g.room ≤ max g.space.room 1
     few = elim g.given [

@@ -59,7 +59,7 @@ pub record GivesPort (old : WorldView) (task : ℕ) (kind : Kind) (port word : �
   pub given : ((j : JoinsName space.names kind port word after) × (ledger ≡ ledger_joined kind port j.entry old.ledger) × (room ≡ space.room))
       ⊎ (TakesName space.names kind port word after × (ledger ≡ old.ledger) × (room ≡ space.room - 1))
   pub rest : new ≡ record old {
-    spaces = slice_set old.spaces task (record { names = after; room = room });
+    spaces = slice_set old.spaces task (record space { names = after; room = room });
     ledger = ledger;
   }
 
@@ -80,7 +80,7 @@ GivesAll old task carried words new = Through (λ w c word mid. GivesMark w task
 abbrev pub free_names : SpaceView → ℕ
 free_names space = most_names - map.len space.names
 
--- for how many names more there is room
+-- for how many fresh names there is room
 abbrev pub free_room : SpaceView → ℕ
 free_room space = space.room
 

@@ -3,7 +3,7 @@ use Rattle.std.specs.Prelude.{◌≡◌, ◌≢◌, ℕ, ◌-◌, ◌<◌, ◌�
 use Rattle.std.specs.FinMap as map
 use Rattle.mach_types.specs.Numbers.{most_names}
 use Rattle.mach_types.specs.Tokens.{Kind, send, send_once}
-use Rattle.name_space.specs.Names.{Names, SpaceView, IsUsable, port_at}
+use Rattle.name_space.specs.Names.{Names, SpaceView, IsUsable, HasPlace, port_at}
 use Rattle.rights.specs.Ledger.{LedgerView, IsEntered, counts_of}
 use Rattle.copyin_base.specs.Worlds.{WorldView}
 use Rattle.copyin_base.specs.Worlds.{port_at as table_at}
@@ -25,7 +25,7 @@ pub record PutsPort (old : WorldView) (task : ℕ) (kind : Kind) (port word : �
   pub given : ((j : JoinsName space.names kind port word after) × (ledger ≡ ledger_joined kind port j.entry old.ledger) × (room ≡ space.room))
       ⊎ (NewName space.names kind port word after × (ledger ≡ old.ledger) × (room ≡ space.room - 1))
   pub rest : new ≡ record old {
-    spaces = slice_set old.spaces task (record { names = after; room = room });
+    spaces = slice_set old.spaces task (record space { names = after; room = room });
     ledger = ledger;
   }
 
@@ -39,7 +39,7 @@ MayName names kind port word =
 pub record CanPut (w : WorldView) (task : ℕ) (kind : Kind) (port word : ℕ) : Type 0 where
   pub space : SpaceView
   pub there : slice_get w.spaces task ≡ Some space
-  pub room : map.get space.names word ≡ None → 0 < space.room
+  pub place : map.get space.names word ≡ None → HasPlace space word
   pub usable : IsUsable word
   pub may : MayName space.names kind port word
   pub live : is_some (table_at w port) ≡ true

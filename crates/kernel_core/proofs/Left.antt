@@ -64,6 +64,7 @@ pub record Left (w : WorldView) (s : State) (task number : ℕ) (g : Going) (mid
   pub space : SpaceView
   pub there : slice_get mid.spaces task ≡ Some space
   pub room : (x : SpaceView) → slice_get w.spaces task ≡ Some x → space.room ≡ x.room
+  pub kept : (x : SpaceView) → slice_get w.spaces task ≡ Some x → space.kept ≡ x.kept
   pub names : map.len space.names ≡ names_left w task g
   pub rights : mid.ledger.total ≡ rights_then w g
 
@@ -143,6 +144,7 @@ module _ (w : WorldView) (s : State) (sh : Shows w s) (task number : ℕ) (g : G
       space : SpaceView
       there : slice_get mid.spaces task ≡ Some space
       room : space.room ≡ x.room
+      kept : space.kept ≡ x.kept
       names : map.len space.names ≡ names_left w task g
 
     own : Own
@@ -154,12 +156,14 @@ module _ (w : WorldView) (s : State) (sh : Shows w s) (task number : ℕ) (g : G
             space = after_space;
             there = ap (λ (x : ℕ). slice_get mid.spaces x) h.1 ∙ mid_own;
             room = ap (λ (y : SpaceView). y.room) same;
+            kept = ap (λ (y : SpaceView). y.kept) same;
             names = rw h.0 (len_after g.left ∙ ap (fewer_if true g.left) count);
           }
       | inr h ↦ record {
         space = x;
         there = mid_other task h.1 ∙ was;
         room = refl;
+        kept = refl;
         names = rw h.0 (sym (ap names_in was) ∙ sym (not_fewer g.left (names_in (slice_get w.spaces task))));
       }
     ]
@@ -178,6 +182,7 @@ module _ (w : WorldView) (s : State) (sh : Shows w s) (task number : ℕ) (g : G
           space = own.space;
           there = own.there;
           room = λ y e. own.room ∙ ap (λ (z : SpaceView). z.room) (same_found (slice_get w.spaces task) x y was e);
+          kept = λ y e. own.kept ∙ ap (λ (z : SpaceView). z.kept) (same_found (slice_get w.spaces task) x y was e);
           names = own.names;
           rights = ap (λ (x : WorldView). x.ledger.total) (sym same_mid) ∙ it_went.total;
         }

@@ -61,11 +61,11 @@ module _ (w : WorldView) (s : State) (task number : ℕ) (g : Going) (mid : Worl
   some_not : (e : Entry) → Some e ≢ None
   some_not e f = cc
 
-  pub can_put : (name : ℕ) → IsUsable name → (at name ≡ None → 0 < x.room) → NoneHolds (insert_later w task name g) → CanPut mid task kind g.port name
-  can_put name usable wide none = record {
+  pub can_put : (name : ℕ) → IsUsable name → (at name ≡ None → x.kept ≡ Some name) → NoneHolds (insert_later w task name g) → CanPut mid task kind g.port name
+  can_put name usable is_kept none = record {
     space = l.space;
     there = l.there;
-    room = λ unused. wide_then (wide (sym (stands name) ∙ unused));
+    place = λ unused. inr (l.kept x was ∙ is_kept (sym (stands name) ∙ unused));
     usable = usable;
     may = elim (seen (at name)) [
       | inl h ↦

@@ -19,12 +19,12 @@ use Rattle.port.specs.Ports.{PortView, PortsView}
 use Rattle.copyin_base.specs.declared.message.Mark.{Mark}
 use Rattle.copyin_base.specs.declared.message.Mark.TheVariants as mark
 use Rattle.copyin_base.specs.Acts.{IsRefused}
-use Rattle.copyin_base.specs.Changes.{MakesRoom}
+use Rattle.copyin_base.specs.Changes.{MakesRoom, KeepsPlace}
 use Rattle.copyin_base.specs.Kept.{Kept}
 use Rattle.copyin_base.specs.Stands.{Stands}
-use Rattle.copyin_base.specs.Wanted.{room_of, KeepsSpares}
+use Rattle.copyin_base.specs.Wanted.{room_of, LacksPlace, KeepsSpares}
 use Rattle.copyin_base.specs.Worlds.{WorldView}
-use Rattle.copyin_base.proofs.Spares.{keeps_trans, keeps_space}
+use Rattle.copyin_base.proofs.Spares.{keeps_trans, keeps_same, keeps_space, place_keeps}
 use Rattle.copyin.specs.Copies.{CopiesRight, port_copied, ports_copied}
 use Rattle.copyout.specs.Giving.{GivesMark}
 use Rattle.copyout.specs.Putting.{PutsPort}
@@ -55,10 +55,12 @@ lacks : (P : Type 0) (is_new : Bool) (room : ℕ) → MatchBool is_new P (¬ P) 
 lacks P true room p less = (p, omega (arith, less))
 lacks P false room q less = absurd (omega (arith, less))
 
-pub wants_insert : (w : WorldView) (to from : TaskName) (number : ℕ) (handed : Handed) → MayInsert w to from number handed → room_of w to.task < names_needed handed → WantsToInsert w to from number
-wants_insert w to from number handed may less =
-    let l = lacks _ handed.is_new (room_of w to.task) may.is_new less in
-    record { handed = handed; may = may; is_new = l.0; lacks = l.1 }
+pub wants_insert : (w : WorldView) (to from : TaskName) (number : ℕ) (handed : Handed) → MayInsert w to from number handed → handed.is_new ≡ true → LacksPlace w to.task to.name → WantsToInsert w to from number
+wants_insert w to from number handed may is_new without = record { handed = handed; may = may; is_new = needs handed.is_new may.is_new is_new; lacks = without }
+  where
+    needs : {P : Type 0} (b : Bool) → MatchBool b P (¬ P) → b ≡ true → P
+    needs true p e = p
+    needs false p e = absurd (cc)
 
 pub wants_extract : (w : WorldView) (from : TaskName) (number to : ℕ) (handed : Handed) → MayExtract w from number to handed → room_of w to < names_needed handed → WantsToExtract w from number to
 wants_extract w from number to handed may less =
@@ -81,17 +83,21 @@ few_needed true = omega arith
 few_needed false = omega arith
 
 module _ (old new : WorldView) (task : ℕ) where
-  ready_keeps : (handed : Handed) → MakesRoom old task (names_needed handed) new → KeepsSpares old new
+  pub ready_keeps : (handed : Handed) → MakesRoom old task (names_needed handed) new → KeepsSpares old new
   ready_keeps handed m =
       keeps_space old new task m.space _ m.there (ap (λ (w : WorldView). w.spaces) m.rest) (let n = few_needed handed.is_new in omega (arith, n)) (ap (λ (w : WorldView). w.ports.spare) m.rest)
+
+  pub placed_keeps : (is_new : Bool) (name : ℕ) → MatchBool is_new (KeepsPlace old task name new) (new ≡ old) → KeepsSpares old new
+  placed_keeps true name k = place_keeps old new task name k
+  placed_keeps false name e = keeps_same old new e
 
   copied_keeps : (d : Disposition) (name : ℕ) (one : Mark) → CopiesRight old task d name one new → KeepsSpares old new
   copied_keeps d name one c =
       keeps_space old new task c.space _ c.there (ap (λ (w : WorldView). w.spaces) c.rest) (omega arith) (ap (λ (w : WorldView). w.ports.spare) c.rest ∙ spare_copied d c.copied.mark old.ports)
 
-module _ (w ready mid new : WorldView) (from to : ℕ) (handed : Handed) (room : MakesRoom w to (names_needed handed) ready) (d : Disposition) (name : ℕ) (one : Mark) (copies : CopiesRight ready from d name one mid) where
+module _ (w ready mid new : WorldView) (from to : ℕ) (ready_kept : KeepsSpares w ready) (d : Disposition) (name : ℕ) (one : Mark) (copies : CopiesRight ready from d name one mid) where
   so_far : KeepsSpares w mid
-  so_far = keeps_trans w ready mid (ready_keeps w ready to handed room) (copied_keeps ready mid from d name one copies)
+  so_far = keeps_trans w ready mid ready_kept (copied_keeps ready mid from d name one copies)
 
   pub insert_keeps : (kind : Kind) (port word : ℕ) → PutsPort mid to kind port word new → KeepsSpares w new
   insert_keeps kind port word puts = keeps_trans w mid new so_far (put_keeps mid new to kind port word puts)

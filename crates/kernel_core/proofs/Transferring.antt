@@ -1,6 +1,8 @@
 -- A right handed from a task to another: refused in each state that the tables show, or done.
 use Rattle.std.proofs.Common.{◌≡◌, ◌≢◌, ℕ, ◌+◌, ◌<◌, ◌≤◌, List, [], ◌∷◌, ◌++◌, Option, Some, None, refl, sym, ap, subst, ◌∙◌, arith, true, false, Bool, ◌⊎◌, inl, inr, length}
 use Rattle.std.specs.Prelude.{if◌then◌else◌, max, nat_lt, slice_get, ◌==◌, ◌&&◌, MatchBool}
+use Rattle.std.specs.Option.{option_map}
+use Rattle.std.specs.FinMap as map
 use Rattle.std.proofs.lemmas.Bool.{lt-ltb, le-ltb, ltb-true, ltb-false}
 use Rattle.mach_types.specs.declared.calls.Event.{Event}
 use Rattle.mach_types.specs.declared.calls.Reply.{Reply}
@@ -17,17 +19,17 @@ use Rattle.mach_model.specs.CopyOut.{given_to, NamedOnce, NamedFor}
 use Rattle.mach_model.specs.Refusals.{IsNoName, insert_guards, extract_guards}
 use Rattle.mach_model.specs.Transfer.{target_for, inserted_guards, extracted_guards, pegged, Inserts, Extracts}
 use Rattle.name_space.specs.declared.Entry.{Entry}
-use Rattle.name_space.specs.Names.{SpaceView, IsUsable}
+use Rattle.name_space.specs.Names.{Names, SpaceView, IsUsable}
 use Rattle.rights.specs.Ledger.{LedgerView}
 use Rattle.copyin_base.specs.Acts.{Acts, Declines, HasTasks, IsAllowed}
-use Rattle.copyin_base.specs.Changes.{MakesRoom, SameButRoom}
+use Rattle.copyin_base.specs.Changes.{MakesRoom, KeepsPlace, SameButRoom}
 use Rattle.copyin_base.specs.Shows.{target_of, Agrees, Shows}
 use Rattle.copyin_base.specs.Stands.{Stands}
 use Rattle.copyin_base.specs.Worlds.{WorldView}
 use Rattle.copyin_base.specs.declared.message.Mark.TheVariants as mark
 use Rattle.copyin_base.proofs.Acting.{refused_later, done}
 use Rattle.copyin_base.proofs.Gets.{get-set_same}
-use Rattle.copyin_base.proofs.Roomier.{room_made, room_entry, room_shows}
+use Rattle.copyin_base.proofs.Roomier.{room_made, place_kept, room_refl, room_entry, room_shows}
 use Rattle.copyin_base.proofs.Taking.{Without, take_lying}
 use Rattle.copyin_base.proofs.Told.{space_there}
 use Rattle.copyin.specs.Copies.{CopiesRight}
@@ -106,23 +108,31 @@ module _ (w : WorldView) (task number : ℕ) (g : Going) (goes : CanGo w number 
 
 -- ---- done, in tables where room was made
 
+-- as many names, where they are the same
+as_many : (o q : Option SpaceView) → option_map (λ (x : SpaceView). x.names) o ≡ option_map (λ (x : SpaceView). x.names) q → names_in o ≡ names_in q
+as_many None None e = refl
+as_many (Some x) (Some y) e = let same : x.names ≡ y.names = cc in ap (λ (m : Names). map.len m) same
+as_many None (Some y) e = absurd (cc)
+as_many (Some x) None e = absurd (cc)
+
 -- where the right needs a name more there is room for it
 some_room : {P : Type 0} (is_new : Bool) (room : ℕ) → MatchBool is_new P (¬ P) → P → 0 < max room (if is_new then 1 else 0)
 some_room true room needs p = omega arith
 some_room false room needs p = absurd (needs p)
 
-module _ (w : WorldView) (task number : ℕ) (g : Going) (goes : CanGo w number g) (ready : WorldView) (n : ℕ) (m : MakesRoom w task n ready) where
+-- The tables after a place was made: all is as before, and this is so of the task's names.
+pub record Readies (w : WorldView) (task : ℕ) (Placed : SpaceView → Type 0) (ready : WorldView) : Type 0 where
+  pub same : SameButRoom w ready
+  pub space : SpaceView
+  pub there : slice_get ready.spaces task ≡ Some space
+  pub placed : Placed space
+
+module _ (w : WorldView) (task number : ℕ) (g : Going) (goes : CanGo w number g) (ready : WorldView) (Placed : SpaceView → Type 0) (m : Readies w task Placed ready) where
   same : SameButRoom w ready
-  same = room_made w ready task n m
+  same = m.same
 
   goes_ready : CanGo ready number g
   goes_ready = record { given = goes.given; entry = goes.entry; found = room_entry w ready same g.from g.name ∙ goes.found; is = goes.is }
-
-  abbrev roomy : SpaceView
-  roomy = record m.space { room = max m.space.room n }
-
-  was : slice_get ready.spaces task ≡ Some roomy
-  was = ap (λ (x : WorldView). slice_get x.spaces task) m.rest ∙ get-set_same w.spaces task roomy m.space m.there
 
   same_at : left_at ready task g ≡ left_at w task g
   same_at = λ i n. if task == g.from && n == g.name then g.left else room_entry w ready same task n i
@@ -131,7 +141,7 @@ module _ (w : WorldView) (task number : ℕ) (g : Going) (goes : CanGo w number 
   at_same n = ap (λ (f : ℕ → Option Entry). f n) same_at
 
   same_names : names_left ready task g ≡ names_left w task g
-  same_names = ap (λ (n : ℕ). fewer_if (task == g.from) g.left n) (ap names_in was ∙ sym (ap names_in m.there))
+  same_names = ap (λ (n : ℕ). fewer_if (task == g.from) g.left n) (as_many (slice_get ready.spaces task) (slice_get w.spaces task) (same.names task))
 
   same_rights : rights_then ready g ≡ rights_then w g
   same_rights = ap (λ (l : LedgerView). l.total + made_by_mark g.given (mark.Port g.port)) same.ledger
@@ -154,13 +164,13 @@ module _ (w : WorldView) (task number : ℕ) (g : Going) (goes : CanGo w number 
       kind = kind_sent g.given
 
       pub left : Left ready s task number g mid
-      left = is_left ready s shows_ready task number g goes_ready roomy was mid copies
+      left = is_left ready s shows_ready task number g goes_ready m.space m.there mid copies
 
-      pub mid_puts : (name : ℕ) → IsUsable name → (left_at w task g name ≡ None → 0 < max m.space.room n) → NoneHolds (insert_later w task name g) → CanPut mid task kind g.port name
-      mid_puts name usable wide none = can_put ready s task number g mid left roomy was name usable (λ unused. wide (sym (at_same name) ∙ unused)) (insert_ready name none)
+      pub mid_puts : (name : ℕ) → IsUsable name → (left_at w task g name ≡ None → m.space.kept ≡ Some name) → NoneHolds (insert_later w task name g) → CanPut mid task kind g.port name
+      mid_puts name usable is_kept none = can_put ready s task number g mid left m.space m.there name usable (λ unused. is_kept (sym (at_same name) ∙ unused)) (insert_ready name none)
 
-      pub mid_gives : (WantsName w task g → 0 < max m.space.room n) → NoneHolds (extract_later w task g) → CanGive mid task (record { given = g.given; mark = mark.Port g.port } ∷ [])
-      mid_gives wide none = can_give ready s task number g mid left roomy was (λ wants. wide (subst (λ (f : ℕ → Option Entry). (kind_sent g.given ≡ send_once) ⊎ ((k : ℕ) → port_under (f k) ≢ Some g.port)) same_at wants)) (extract_ready none)
+      pub mid_gives : (WantsName w task g → 0 < m.space.room) → NoneHolds (extract_later w task g) → CanGive mid task (record { given = g.given; mark = mark.Port g.port } ∷ [])
+      mid_gives wide none = can_give ready s task number g mid left m.space m.there (λ wants. wide (subst (λ (f : ℕ → Option Entry). (kind_sent g.given ≡ send_once) ⊎ ((k : ℕ) → port_under (f k) ≢ Some g.port)) same_at wants)) (extract_ready none)
 
       abbrev k : ℕ
       k = length (s.log 0)
@@ -356,14 +366,36 @@ module _ (w : WorldView) (to from : TaskName) (number : ℕ) (handed : Handed) (
   pub insert_short_of : (to.task < length w.spaces) × (from.task < length w.spaces) → Declines w to_insert (kern_number ResourceShortage) w
   insert_short_of tasks = insert_short w to.task number inserting may.goes tasks.0 to.name may.to_named may.from_named tasks may.unrefused
 
-  module _ (ready : WorldView) (n : ℕ) (room : MakesRoom w to.task n ready) where
+  -- a place is kept for the name, where the right needs one
+  abbrev Placed : SpaceView → Type 0
+  Placed x = left_at w to.task inserting to.name ≡ None → x.kept ≡ Some to.name
+
+  placed : to.task < length w.spaces → (ready : WorldView) (is_new : Bool) → MatchBool is_new (left_at w to.task inserting to.name ≡ None) (left_at w to.task inserting to.name ≢ None) →
+      MatchBool is_new (KeepsPlace w to.task to.name ready) (ready ≡ w) → Readies w to.task Placed ready
+  placed below ready true needs k = record {
+    same = place_kept w ready to.task to.name k;
+    space = record k.space { kept = Some to.name };
+    there = ap (λ (x : WorldView). slice_get x.spaces to.task) k.rest ∙ get-set_same w.spaces to.task (record k.space { kept = Some to.name }) k.space k.there;
+    placed = λ unused. refl;
+  }
+  placed below ready false not e = let x = space_there w to.task below in record {
+    same = subst (SameButRoom w) (sym e) (room_refl w);
+    space = x.0;
+    there = ap (λ (v : WorldView). slice_get v.spaces to.task) e ∙ x.1;
+    placed = λ unused. absurd (not unused);
+  }
+
+  module _ (ready : WorldView) (kept : MatchBool handed.is_new (KeepsPlace w to.task to.name ready) (ready ≡ w)) (below : to.task < length w.spaces) where
+    room : Readies w to.task Placed ready
+    room = placed below ready handed.is_new may.is_new kept
+
     pub inserts_copies : Stands w → CanCopy ready from.task from.name (record { given = handed.given; mark = mark.Port handed.port })
-    inserts_copies stands = ready_copies w to.task number inserting may.goes ready n room stands.state stands.shown (λ many. may.unrefused.1.1.1.0 (inr many))
+    inserts_copies stands = ready_copies w to.task number inserting may.goes ready Placed room stands.state stands.shown (λ many. may.unrefused.1.1.1.0 (inr many))
 
     module _ (mid : WorldView) (copies : CopiesRight ready from.task handed.given from.name (mark.Port handed.port) mid) where
-      pub inserts_puts : n ≡ names_needed handed → Stands w → CanPut mid to.task (kind_sent handed.given) handed.port to.name
-      inserts_puts as_many stands = mid_puts w to.task number inserting may.goes ready n room stands.state stands.shown mid copies to.name (usable_name to.name may.to_named)
-          (λ unused. subst (λ (k : ℕ). 0 < max room.space.room k) (sym as_many) (some_room handed.is_new room.space.room may.is_new unused)) may.unrefused
+      pub inserts_puts : Stands w → CanPut mid to.task (kind_sent handed.given) handed.port to.name
+      inserts_puts stands = mid_puts w to.task number inserting may.goes ready Placed room stands.state stands.shown mid copies to.name (usable_name to.name may.to_named)
+          room.placed may.unrefused
 
       pub insert_done : (new : WorldView) → PutsPort mid to.task (kind_sent handed.given) handed.port to.name new → (to.task < length w.spaces) × (from.task < length w.spaces) →
           Acts w to_insert (Reply.Code 0) new
@@ -371,8 +403,8 @@ module _ (w : WorldView) (to from : TaskName) (number : ℕ) (handed : Handed) (
           record { allowed = λ s sh. (insert_allowed w to.task number inserting may.goes tasks.0 to.name may.to_named may.from_named).allowed s sh } (λ now s sh. record {
             mid = _;
             owed = [];
-            does = (refl, inserts w to.task number inserting may.goes ready n room s sh mid copies to.name may.unrefused new puts, refl);
-            agrees = insert_agrees w to.task number inserting may.goes ready n room s sh mid copies to.name may.unrefused new puts;
+            does = (refl, inserts w to.task number inserting may.goes ready Placed room s sh mid copies to.name may.unrefused new puts, refl);
+            agrees = insert_agrees w to.task number inserting may.goes ready Placed room s sh mid copies to.name may.unrefused new puts;
           })
 
 module _ (w : WorldView) (from : TaskName) (number to : ℕ) (handed : Handed) (may : MayExtract w from number to handed) where
@@ -385,14 +417,29 @@ module _ (w : WorldView) (from : TaskName) (number to : ℕ) (handed : Handed) (
   pub extract_short_of : (from.task < length w.spaces) × (to < length w.spaces) → Declines w to_extract (kern_number ResourceShortage) w
   extract_short_of tasks = extract_short w to number extracting may.goes tasks.1 tasks may.unrefused
 
-  module _ (ready : WorldView) (n : ℕ) (room : MakesRoom w to n ready) where
+  -- there is room for the name, where the right needs one
+  abbrev Roomy : SpaceView → Type 0
+  Roomy x = WantsName w to extracting → 0 < x.room
+
+  module _ (ready : WorldView) (n : ℕ) (made : MakesRoom w to n ready) (needed : n ≡ names_needed handed) where
+    abbrev roomy : SpaceView
+    roomy = record made.space { room = max made.space.room n }
+
+    roomed : Readies w to Roomy ready
+    roomed = record {
+      same = room_made w ready to n made;
+      space = roomy;
+      there = ap (λ (x : WorldView). slice_get x.spaces to) made.rest ∙ get-set_same w.spaces to roomy made.space made.there;
+      placed = λ wants. subst (λ (k : ℕ). 0 < max made.space.room k) (sym needed) (some_room handed.is_new made.space.room may.is_new wants);
+    }
+
     pub extracts_copies : Stands w → CanCopy ready from.task from.name (record { given = handed.given; mark = mark.Port handed.port })
-    extracts_copies stands = ready_copies w to number extracting may.goes ready n room stands.state stands.shown (λ many. may.unrefused.0 (inr many))
+    extracts_copies stands = ready_copies w to number extracting may.goes ready Roomy roomed stands.state stands.shown (λ many. may.unrefused.0 (inr many))
 
     module _ (mid : WorldView) (copies : CopiesRight ready from.task handed.given from.name (mark.Port handed.port) mid) where
-      pub extracts_gives : n ≡ names_needed handed → Stands w → CanGive mid to (record { given = handed.given; mark = mark.Port handed.port } ∷ [])
-      extracts_gives as_many stands = mid_gives w to number extracting may.goes ready n room stands.state stands.shown mid copies
-          (λ wants. subst (λ (k : ℕ). 0 < max room.space.room k) (sym as_many) (some_room handed.is_new room.space.room may.is_new wants)) may.unrefused
+      pub extracts_gives : Stands w → CanGive mid to (record { given = handed.given; mark = mark.Port handed.port } ∷ [])
+      extracts_gives stands = mid_gives w to number extracting may.goes ready Roomy roomed stands.state stands.shown mid copies
+          roomed.placed may.unrefused
 
       pub extract_done : (new_name : ℕ) (new : WorldView) → GivesMark mid to (kind_sent handed.given) (mark.Port handed.port) new_name new → (from.task < length w.spaces) × (to < length w.spaces) →
           Acts w to_extract (Reply.Right new_name (kind_number (kind_sent handed.given))) new
@@ -400,6 +447,6 @@ module _ (w : WorldView) (from : TaskName) (number to : ℕ) (handed : Handed) (
           record { allowed = λ s sh. (extract_allowed w to number extracting may.goes tasks.1).allowed s sh } (λ now s sh. record {
             mid = _;
             owed = [];
-            does = (extracts w to number extracting may.goes ready n room s sh mid copies may.unrefused new_name new gives, refl);
-            agrees = (given w to number extracting may.goes ready n room s sh mid copies may.unrefused new_name new gives).agrees;
+            does = (extracts w to number extracting may.goes ready Roomy roomed s sh mid copies may.unrefused new_name new gives, refl);
+            agrees = (given w to number extracting may.goes ready Roomy roomed s sh mid copies may.unrefused new_name new gives).agrees;
           })

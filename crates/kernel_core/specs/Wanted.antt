@@ -10,7 +10,7 @@ use Rattle.mach_types.specs.Numbers.{kern_number, msg_number}
 use Rattle.mach_laws.specs.Order.{accepts, delivers}
 use Rattle.copyin_base.specs.declared.code.Code.{Code}
 use Rattle.copyin_base.specs.Acts.{code_number, Serves}
-use Rattle.copyin_base.specs.Wanted.{room_of, LacksRoom}
+use Rattle.copyin_base.specs.Wanted.{room_of, LacksRoom, LacksPlace}
 use Rattle.copyin_base.specs.Worlds.{WorldView, entry_at}
 use Rattle.copyin.specs.Wanted.{WantsToSend}
 use Rattle.copyout.specs.Wanted.{WantsToReceive}
@@ -29,12 +29,12 @@ memory_code (Event.Receive task name room large) = msg_number ReceiveBodyErrorMe
 memory_code (Event.ReceiveAgain task waited room large) = msg_number ReceiveBodyErrorMemory
 memory_code event = kern_number ResourceShortage
 
--- A right may be inserted so, but for a name that the task has no room for.
+-- A right may be inserted so, but for a name for which the task has no place.
 pub record WantsToInsert (w : WorldView) (to from : TaskName) (number : ℕ) : Type 0 where
   pub handed : Handed
   pub may : MayInsert w to from number handed
   pub is_new : left_at w to.task (going_from from handed may.left) to.name ≡ None
-  pub lacks : LacksRoom w to.task
+  pub lacks : LacksPlace w to.task to.name
 
 -- A right may be extracted so, but for a name that the task has no room for.
 pub record WantsToExtract (w : WorldView) (from : TaskName) (number to : ℕ) : Type 0 where

@@ -1,14 +1,16 @@
 //! Handing a right from a task to another.
-ghost use Rattle.std.specs.Prelude.{◌≡◌, ◌≢◌, ℕ, ◌<◌, ◌≤◌, ◌⊎◌, true, Some, None, IfOk, IfErr, IfSome, MatchBool, length};
+ghost use Rattle.std.specs.Prelude.{◌≡◌, ◌≢◌, ℕ, ◌<◌, ◌≤◌, ◌⊎◌, true, Some, None, IfOk, IfErr, OnOk, OnErr, IfSome, MatchBool, length};
 ghost use Rattle.mach_types.specs.declared.calls.Event.{Event as AnyEvent};
 ghost use Rattle.mach_types.specs.declared.codes.KernReturn.TheVariants as kern;
 ghost use Rattle.mach_types.specs.Guards.{FirstIs, NoneHolds};
 ghost use Rattle.mach_types.specs.Numbers.{disposition, kind_sent, kern_number, most_names, most_references, most_rights};
 ghost use Rattle.mach_types.specs.Tokens.{send};
+ghost use Rattle.name_space.specs.Names.{IsUsable};
 ghost use Rattle.mach_model.specs.Refusals.{IsNoName, insert_guards, extract_guards};
 ghost use Rattle.copyin_base.specs.Acts.{code_number, Declines, Serves, IsRefused};
 ghost use Rattle.copyin_base.specs.Stands.{Stands};
-ghost use Rattle.copyin_base.specs.Wanted.{KeepsSpares};
+ghost use Rattle.copyin_base.specs.Changes.{KeepsPlace};
+ghost use Rattle.copyin_base.specs.Wanted.{LacksPlace, KeepsSpares};
 ghost use Rattle.copyin_base.specs.declared.message.Mark.TheVariants as mark_of;
 ghost use Rattle.kernel_core.specs.Transfer.{CanGo, MayInsert, MayExtract, WantsName, names_needed, going_guards, left_at, names_left, rights_then, port_under, references_under, IsElsewhere, IsTaken, Overflows, LacksSpace, insert_later, extract_later};
 ghost use Rattle.kernel_core.specs.Wanted.{WantsToInsert, WantsToExtract};
@@ -48,9 +50,9 @@ impl TaskName {
 /// `INVALID_NAME` where nothing stands under it; `INVALID_RIGHT` where it lacks the right;
 /// `RIGHT_EXISTS` where the task has the port under another name; `NAME_EXISTS` where something else
 /// stands under the name; `UREFS_OVERFLOW` at 65,535 references; `NO_SPACE` at 65,535 names or
-/// 4,294,967,295 rights; `RESOURCE_SHORTAGE` where it needs a name for which the task has no room, and
-/// memory was refused. Logarithmic in the names and ports, but for a move of 16 bytes for each greater
-/// name.
+/// 4,294,967,295 rights; `RESOURCE_SHORTAGE` where the name is new, no place was kept for it, and
+/// memory for one was refused. Logarithmic in the names and ports, but for a move of 16 bytes for each
+/// greater name.
 pub(crate) fn insert(
     world: &mut World,
     to: &TaskName,
@@ -64,7 +66,7 @@ pub(crate) fn insert(
     ensures spares { KeepsSpares world.old world.new }
 {
     let handed = judge_insert(world, to, from, number)?;
-    world.reserve_names(to.task, handed.count_names())?;
+    keep_place(world, to, &handed)?;
     let Handed { given, port, .. } = handed;
     let mark = Mark::Port(port);
     copy_name(world, from.task, from.name, Carried { given, mark });
@@ -102,6 +104,21 @@ pub(crate) fn extract(
     copy_name(world, from.task, from.name, carried);
     let name = give_right(world, to, &carried);
     Ok(Reply::Right(name, given.kind_number()))
+}
+
+/// Keeps a place for the name that the right comes under, where it needs one.
+fn keep_place(world: &mut World, to: &TaskName, handed: &Handed) -> Result<(), KernReturn>
+    requires there { to.now.task < length world.old.spaces }
+    requires usable { IsUsable to.now.name }
+    ensures ok { OnOk result (MatchBool handed.now.is_new (KeepsPlace world.old to.now.task to.now.name world.new) (world.new ≡ world.old)) }
+    ensures err { IfErr result (λ code. (code ≡ kern.ResourceShortage) × (world.new ≡ world.old)) }
+    ensures lacks { OnErr result ((handed.now.is_new ≡ true) × LacksPlace world.old to.now.task to.now.name) }
+{
+    if handed.is_new {
+        world.reserve_name(to.task, to.name)
+    } else {
+        Ok(())
+    }
 }
 
 // ---- the right that goes

@@ -1,11 +1,11 @@
 -- What is made under a name, in the tables and in the machine alike, and where nothing more can be.
-use Rattle.std.proofs.Common.{◌≡◌, ℕ, ◌+◌, ◌-◌, ◌<◌, ◌≤◌, [], Option, Some, None, refl, sym, ap, subst, ◌∙◌, arith, ◌⊎◌, inl, inr, length}
+use Rattle.std.proofs.Common.{◌≡◌, ℕ, ◌+◌, ◌-◌, ◌<◌, ◌≤◌, List, [], Option, Some, None, refl, sym, ap, subst, ◌∙◌, arith, ◌⊎◌, inl, inr, length}
 use Rattle.std.specs.Prelude.{slice_get, slice_set, is_some, true, max}
 use Rattle.std.specs.Option.{option_map, option_and_then}
 use Rattle.std.specs.FinMap as map
 use Rattle.mach_types.specs.declared.calls.Event.{Event}
 use Rattle.mach_types.specs.declared.calls.Reply.{Reply}
-use Rattle.mach_types.specs.Numbers.{most_rights, most_identities}
+use Rattle.mach_types.specs.Numbers.{most_names, most_rights, most_identities}
 use Rattle.mach_model.specs.State.{State, Target, with_name, IsFresh}
 use Rattle.mach_model.specs.Names.{Makes, IsNoMaking, IsFull, with_set}
 use Rattle.mach_model.specs.Refusals.{call_guards}
@@ -13,17 +13,19 @@ use Rattle.mach_model.specs.Lawful.{IsLawful}
 use Rattle.name_space.specs.declared.Entry.{Entry}
 use Rattle.name_space.specs.declared.Entry.TheVariants as entry
 use Rattle.name_space.specs.Entry.{port_named}
-use Rattle.name_space.specs.Names.{SpaceView, IsFreshName, IsUsable, HasNoOther}
+use Rattle.name_space.specs.Names.{Names, SpaceView, IsFreshName, IsUsable, HasPlace, HasNoOther}
 use Rattle.rights.specs.declared.RightKind.TheVariants as right
 use Rattle.rights.specs.Ledger.{entered, made}
 use Rattle.copyin_base.specs.Acts.{Acts, IsAllowed}
+use Rattle.copyin_base.specs.Changes.{MakesRoom, KeepsPlace, SameButRoom}
 use Rattle.copyin_base.specs.Worlds.{WorldView, entry_in, entry_at}
 use Rattle.copyin_base.specs.Shows.{Agrees, target_of}
 use Rattle.copyin_base.specs.Stands.{Stands}
 use Rattle.copyin_base.proofs.Acting.{done}
 use Rattle.copyin_base.proofs.Agreeing.{own_names}
-use Rattle.copyin_base.proofs.Gets.{same_found}
+use Rattle.copyin_base.proofs.Gets.{get-set_same, same_found}
 use Rattle.copyin_base.proofs.NamesChanged.{added_agrees}
+use Rattle.copyin_base.proofs.Roomier.{room_made, place_kept, room_entry, room_agrees, room_shows}
 use Rattle.kernel_core_base.specs.declared.names.NewRight.{NewRight}
 use Rattle.kernel_core_base.specs.declared.names.NewRight.TheVariants as new_right
 use Rattle.kernel_core_base.specs.Names.{first_port, right_made, entry_made, HasRoomFor, IsFullFor, HasRoomOf, IsFullOf, CanAdd, Adds}
@@ -77,14 +79,57 @@ apart w stands task space there new_right.Port p n named is = go (map.get space.
 apart w stands task space there new_right.Set p n named is = absurd (cc)
 apart w stands task space there new_right.DeadName p n named is = absurd (cc)
 
-pub can_add : (w : WorldView) → Stands w → (task : ℕ) (r : NewRight) (name : ℕ) → HasRoomOf w task r → IsUsable name → entry_at w task name ≡ None → CanAdd w task r name
-can_add w stands task r name has usable unused = record {
+can_add : (w : WorldView) → Stands w → (task : ℕ) (r : NewRight) (name : ℕ) → (has : HasRoomOf w task r) → IsUsable name → entry_at w task name ≡ None → HasPlace has.space name → CanAdd w task r name
+can_add w stands task r name has usable unused place = record {
   has = has;
   usable = usable;
+  place = place;
   unused = sym (ap (λ (o : Option SpaceView). entry_in o name) has.there) ∙ unused;
   unknown = unknown w stands.state stands.shown.agrees stands.shown.lawful;
   apart = apart w stands task has.space has.there r;
 }
+
+-- ---- once a place was made for the name
+
+room_for : (w : WorldView) (spaces : List SpaceView) (r : NewRight) → HasRoomFor w r → HasRoomFor (record w { spaces = spaces }) r
+room_for w spaces new_right.Port has = has
+room_for w spaces new_right.Set has = has
+room_for w spaces new_right.DeadName has = has
+
+module _ (w w1 : WorldView) (task : ℕ) (r : NewRight) (has : HasRoomOf w task r) (space placed : SpaceView) (there : slice_get w.spaces task ≡ Some space) (names : placed.names ≡ space.names)
+    (rest : w1 ≡ record w { spaces = slice_set w.spaces task placed }) where
+  has_still : HasRoomOf w1 task r
+  has_still =
+      let same : has.space ≡ space = same_found (slice_get w.spaces task) has.space space has.there there in
+      record {
+        space = placed;
+        there = ap (λ (x : WorldView). slice_get x.spaces task) rest ∙ get-set_same w.spaces task placed space there;
+        room = subst (λ (m : Names). map.len m < most_names) (ap (λ (x : SpaceView). x.names) same ∙ sym names) has.room;
+        more = subst (λ (x : WorldView). HasRoomFor x r) (sym rest) (room_for w (slice_set w.spaces task placed) r has.more);
+      }
+
+stands_still : (w w1 : WorldView) → SameButRoom w w1 → Stands w → Stands w1
+stands_still w w1 same stands = record { state = stands.state; shown = room_shows w w1 stands.state same stands.shown }
+
+pub can_add_fresh : (w w1 : WorldView) → Stands w → (task : ℕ) (r : NewRight) (name : ℕ) → HasRoomOf w task r → MakesRoom w task 1 w1 → (space : SpaceView) → slice_get w1.spaces task ≡ Some space →
+    IsFreshName space.names name → name ≤ most_names + 1 → CanAdd w1 task r name
+unfolding has_still
+can_add_fresh w w1 stands task r name has m space there fresh small =
+    let some = fresh.not_null in
+    let roomy : SpaceView = record m.space { room = max m.space.room 1 } in
+    let still : HasRoomOf w1 task r = has_still w w1 task r has m.space roomy m.there refl m.rest in
+    let same : space ≡ roomy = same_found (slice_get w1.spaces task) space roomy there still.there in
+    can_add w1 (stands_still w w1 (room_made w w1 task 1 m) stands) task r name still
+    record { not_null = λ e. omega (arith, some, e); not_dead = λ e. omega (arith, small, e) }
+    (ap (λ (o : Option SpaceView). entry_in o name) there ∙ fresh.unused)
+    (inl (subst (λ (x : SpaceView). IsFreshName x.names name) same fresh, omega arith))
+
+pub can_add_kept : (w w1 : WorldView) → Stands w → (task : ℕ) (r : NewRight) (name : ℕ) → HasRoomOf w task r → KeepsPlace w task name w1 → IsUsable name → entry_at w task name ≡ None → CanAdd w1 task r name
+unfolding has_still
+can_add_kept w w1 stands task r name has m usable unused =
+    let same : SameButRoom w w1 = place_kept w w1 task name m in
+    can_add w1 (stands_still w w1 same stands) task r name (has_still w w1 task r has m.space (record m.space { kept = Some name }) m.there refl m.rest) usable
+    (room_entry w w1 same task name ∙ unused) (inr refl)
 
 -- ---- what is made
 
@@ -101,7 +146,7 @@ makes new_right.DeadName s task name = inr (inr (refl, refl))
 -- the tables with a new port of this number
 abbrev with_number : WorldView → (task name : ℕ) → SpaceView → (room p : ℕ) → WorldView
 with_number w task name space room p = record w {
-  spaces = slice_set w.spaces task (record { names = map.insert space.names name (entry.Receive p); room = room });
+  spaces = slice_set w.spaces task (record space { names = map.insert space.names name (entry.Receive p); room = room });
   ports = record w.ports { ports = map.insert w.ports.ports p first_port; made = w.ports.made + 1 };
   ledger = made (entered w.ledger p) p right.Receive 1;
 }
@@ -109,7 +154,7 @@ with_number w task name space room p = record w {
 -- the tables with a new set of this number
 abbrev with_set_number : WorldView → (task name : ℕ) → SpaceView → (room set : ℕ) → WorldView
 with_set_number w task name space room set = record w {
-  spaces = slice_set w.spaces task (record { names = map.insert space.names name (entry.Set set); room = room });
+  spaces = slice_set w.spaces task (record space { names = map.insert space.names name (entry.Set set); room = room });
   sets = record { sets = map.insert w.sets.sets set (record { owner = task; name = name }); made = w.sets.made + 1 };
 }
 
@@ -119,14 +164,14 @@ module _ (w v : WorldView) (s : State) (a : Agrees w s) (l : IsLawful s) (task n
 
   pub made_agrees : (r : NewRight) → Adds w task r name v → Agrees v (with_right r s task name)
   made_agrees new_right.Port adds =
-      subst (λ (x : WorldView). Agrees x (allocated s task name)) (ap (with_number w task name adds.space (max adds.space.room 1 - 1)) (sym a.ports_made) ∙ sym adds.rest)
-      (allocated_agrees w s a l task name adds.space (max adds.space.room 1 - 1) adds.there (free adds.space adds.there))
+      subst (λ (x : WorldView). Agrees x (allocated s task name)) (ap (with_number w task name adds.space (adds.space.room - 1)) (sym a.ports_made) ∙ sym adds.rest)
+      (allocated_agrees w s a l task name adds.space (adds.space.room - 1) adds.there (free adds.space adds.there))
   made_agrees new_right.Set adds =
-      subst (λ (x : WorldView). Agrees x (with_set task name s)) (ap (with_set_number w task name adds.space (max adds.space.room 1 - 1)) (sym a.sets_made) ∙ sym adds.rest)
-      (set_agrees w s a task name adds.space (max adds.space.room 1 - 1) adds.there (free adds.space adds.there))
+      subst (λ (x : WorldView). Agrees x (with_set task name s)) (ap (with_set_number w task name adds.space (adds.space.room - 1)) (sym a.sets_made) ∙ sym adds.rest)
+      (set_agrees w s a task name adds.space (adds.space.room - 1) adds.there (free adds.space adds.there))
   made_agrees new_right.DeadName adds =
       subst (λ (x : WorldView). Agrees x (with_name task name (Target.dead 1) s)) (sym adds.rest)
-      (added_agrees w s a task adds.space adds.there name (entry.DeadName 1) (max adds.space.room 1 - 1) (free adds.space adds.there) refl tt)
+      (added_agrees w s a task adds.space adds.there name (entry.DeadName 1) (adds.space.room - 1) (free adds.space adds.there) refl tt)
 
 -- a fresh name in the tables is one in the machine
 pub fresh : (w : WorldView) (s : State) → Agrees w s → (task : ℕ) (space : SpaceView) → slice_get w.spaces task ≡ Some space → (name : ℕ) → IsFreshName space.names name → IsFresh (s.naming task) name
@@ -143,21 +188,21 @@ fresh w s a task space there name f =
 
 -- ---- what Allocate and AllocateName promise
 
-module _ (w v : WorldView) (task number name : ℕ) (r : NewRight) (below : task < length w.spaces) (is : right_made r ≡ number) where
+module _ (w w1 v : WorldView) (same : SameButRoom w w1) (task number name : ℕ) (r : NewRight) (below : task < length w.spaces) (is : right_made r ≡ number) where
   makes_number : (s : State) → Makes task number name s (with_right r s task name)
   makes_number s = subst (λ (n : ℕ). Makes task n name s (with_right r s task name)) is (makes r s task name)
 
-  pub allocate_done : IsAllowed w (λ s. call_guards s (Event.Allocate task number)) → (space : SpaceView) → slice_get w.spaces task ≡ Some space → IsFreshName space.names name → Adds w task r name v →
+  pub allocate_done : IsAllowed w (λ s. call_guards s (Event.Allocate task number)) → (space : SpaceView) → slice_get w1.spaces task ≡ Some space → IsFreshName space.names name → Adds w1 task r name v →
       Acts w (Event.Allocate task number) (Reply.Name name) v
   allocate_done good space there f adds = done w (Event.Allocate task number) (Reply.Name name) v below good
       (λ now s sh. record {
         mid = with_right r s task name;
         owed = [];
-        does = (fresh w s sh.agrees task space there name f, makes_number s, refl);
-        agrees = made_agrees w v s sh.agrees sh.lawful task name (ap (λ (o : Option SpaceView). entry_in o name) there ∙ f.unused) r adds;
+        does = (fresh w1 s (room_agrees w w1 s same sh.agrees) task space there name f, makes_number s, refl);
+        agrees = made_agrees w1 v s (room_agrees w w1 s same sh.agrees) sh.lawful task name (ap (λ (o : Option SpaceView). entry_in o name) there ∙ f.unused) r adds;
       })
 
-  pub allocate_name_done : IsAllowed w (λ s. call_guards s (Event.AllocateName task number name)) → entry_at w task name ≡ None → Adds w task r name v →
+  pub allocate_name_done : IsAllowed w (λ s. call_guards s (Event.AllocateName task number name)) → entry_at w task name ≡ None → Adds w1 task r name v →
       Acts w (Event.AllocateName task number name) (Reply.Name name) v
   allocate_name_done good unused adds = done w (Event.AllocateName task number name) (Reply.Name name) v below good
-      (λ now s sh. record { mid = with_right r s task name; owed = []; does = (refl, makes_number s, refl); agrees = made_agrees w v s sh.agrees sh.lawful task name unused r adds })
+      (λ now s sh. record { mid = with_right r s task name; owed = []; does = (refl, makes_number s, refl); agrees = made_agrees w1 v s (room_agrees w w1 s same sh.agrees) sh.lawful task name (room_entry w w1 same task name ∙ unused) r adds })

@@ -128,7 +128,7 @@ module _ (w : WorldView) (s : State) (a : Agrees w s) (l : IsLawful s) where
     requests r kind q = let z = both_test (is_of kind q (token receive new (in_task task))) false (inr refl) in omega (arith, z)
 
     abbrev own : SpaceView
-    own = record { names = map.insert space.names name right; room = room }
+    own = record space { names = map.insert space.names name right; room = room }
 
     pub allocated_agrees : Agrees (record w { spaces = slice_set w.spaces task own; ports = more_ports; ledger = more_counts }) t
     allocated_agrees = record {

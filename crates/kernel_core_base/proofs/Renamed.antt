@@ -1,5 +1,5 @@
 -- What is under a name moves to another, in the tables and in the machine alike; what is kept of a set goes along.
-use Rattle.std.proofs.Common.{◌≡◌, ℕ, ◌<◌, [], Option, Some, None, refl, sym, ap, subst, ◌∙◌, Bool, length}
+use Rattle.std.proofs.Common.{◌≡◌, ℕ, ◌-◌, ◌<◌, [], Option, Some, None, refl, sym, ap, subst, ◌∙◌, Bool, length}
 use Rattle.std.specs.Prelude.{is_some}
 use Rattle.std.specs.Option.{option_map}
 use Rattle.std.specs.FinMap as map
@@ -16,22 +16,40 @@ use Rattle.name_space.specs.Names.{SpaceView}
 use Rattle.port_set.specs.declared.SetRecord.{SetRecord}
 use Rattle.port_set.specs.Sets.{SetsView, IsThere}
 use Rattle.copyin_base.specs.Acts.{Acts, IsAllowed}
+use Rattle.copyin_base.specs.Changes.{KeepsPlace, SameButRoom}
+use Rattle.copyin_base.specs.Wanted.{kept_in, kept_of}
 use Rattle.copyin_base.specs.Worlds.{WorldView, entry_in}
 use Rattle.copyin_base.specs.Shows.{Agrees, Shows, SetsAgree, target_of}
 use Rattle.copyin_base.specs.Stands.{Stands}
 use Rattle.copyin_base.proofs.Acting.{done}
+use Rattle.copyin_base.proofs.Gets.{get-set_same}
+use Rattle.copyin_base.proofs.Roomier.{place_kept, room_entry, room_shows}
 use Rattle.copyin_base.proofs.NamesChanged.{kept_sets, sets_go, moved_agrees, target_found}
 use Rattle.copyin_base.proofs.Told.{found}
 use Rattle.kernel_core_base.specs.Names.{MayRename, MovesEntry, renamed_in, sets_named}
 use Rattle.kernel_core_base.proofs.TokensRenamed.{renamed_weigh}
 
--- what is kept of a set that a task has
-kept_of : (o : Option SetRecord) (task : ℕ) → Some task ≡ option_map (λ (r : SetRecord). r.owner) o → (r : SetRecord) × (o ≡ Some r) × (r.owner ≡ task)
-kept_of (Some r) task e = (r, refl, (cc))
-kept_of None task e = absurd (cc)
+-- ---- once a place is kept for the name
+
+module _ (w w1 : WorldView) (task to : ℕ) (m : KeepsPlace w task to w1) where
+  pub may_still : (from : ℕ) (e : Entry) → MayRename w task from to e → MayRename w1 task from to e
+  may_still from e may =
+      let same = place_kept w w1 task to m in
+      record { found = room_entry w w1 same task from ∙ may.found; unused = room_entry w w1 same task to ∙ may.unused; usable = may.usable }
+
+  pub is_kept : kept_of w1 task ≡ Some to
+  is_kept = ap (λ (x : WorldView). kept_of x task) m.rest ∙ ap kept_in (get-set_same w.spaces task (record m.space { kept = Some to }) m.space m.there)
+
+  pub stand_still : Stands w → Stands w1
+  stand_still stands = record { state = stands.state; shown = room_shows w w1 stands.state (place_kept w w1 task to m) stands.shown }
+
+-- what is known of a set that a task has
+set_of : (o : Option SetRecord) (task : ℕ) → Some task ≡ option_map (λ (r : SetRecord). r.owner) o → (r : SetRecord) × (o ≡ Some r) × (r.owner ≡ task)
+set_of (Some r) task e = (r, refl, (cc))
+set_of None task e = absurd (cc)
 
 set_kept : (w : WorldView) (s : State) → Agrees w s → IsLawful s → (task name set : ℕ) → lookup s task name ≡ Some (Target.set set) → (r : SetRecord) × (map.get w.sets.sets set ≡ Some r) × (r.owner ≡ task)
-set_kept w s a l task name set named = kept_of (map.get w.sets.sets set) task (sym (l.set_owned task name set named) ∙ a.set_owner set)
+set_kept w s a l task name set named = set_of (map.get w.sets.sets set) task (sym (l.set_owned task name set named) ∙ a.set_owner set)
 
 module _ (w w1 : WorldView) (task from to : ℕ) (e : Entry) (may : MayRename w task from to e) (moves : MovesEntry w task from to e w1) where
   names_set : (s : State) → Agrees w s → (set : ℕ) → e ≡ entry.Set set → lookup s task from ≡ Some (Target.set set)
@@ -63,7 +81,7 @@ module _ (w w1 : WorldView) (task from to : ℕ) (e : Entry) (may : MayRename w 
     renames : Renames task from to s (after s)
     renames = record {
       target = target_of e;
-      found = target_found w s sh.agrees task moves.space moves.there from to e moves.space.room stands here free;
+      found = target_found w s sh.agrees task moves.space moves.there from to e (moves.space.room - 1) stands here free;
       rest = refl;
       tokens = λ h. renamed_weigh task from to s.ledger sh.agrees.requests h;
     }
@@ -72,13 +90,13 @@ module _ (w w1 : WorldView) (task from to : ℕ) (e : Entry) (may : MayRename w 
     Go sets = SetsAgree sets s.set_owner s.sets_made (after s).naming
 
     other : ((t : ℕ) → target_of e ≡ Target.set t → ⊥) → Go w.sets
-    other not = kept_sets w s sh.agrees task moves.space moves.there from to e moves.space.room stands here free not
+    other not = kept_sets w s sh.agrees task moves.space moves.there from to e (moves.space.room - 1) stands here free not
 
     own : (set : ℕ) → e ≡ entry.Set set → Go (renamed_in (map.get w.sets.sets set) w.sets set to)
     own set kind =
         let k = set_kept w s sh.agrees sh.lawful task from set (names_set s sh.agrees set kind) in
         subst (λ (o : Option SetRecord). Go (renamed_in o w.sets set to)) (sym k.1)
-        (sets_go w s sh.agrees task moves.space moves.there from to e moves.space.room stands here free set k.0 (ap target_of kind) k.1 k.2)
+        (sets_go w s sh.agrees task moves.space moves.there from to e (moves.space.room - 1) stands here free set k.0 (ap target_of kind) k.1 k.2)
 
     in_sets : (x : Entry) → e ≡ x → Go (sets_named x to w.sets)
     in_sets (entry.Set set) kind = own set kind
@@ -90,9 +108,10 @@ module _ (w w1 : WorldView) (task from to : ℕ) (e : Entry) (may : MayRename w 
 
     agrees : (v : WorldView) → v ≡ record w1 { sets = sets_named e to w1.sets } → Agrees v (after s)
     agrees v named = subst (λ (x : WorldView). Agrees x (after s)) (sym (named ∙ (λ i. record (moves.rest i) { sets = sets_named e to (moves.rest i).sets })))
-        (moved_agrees w s sh.agrees task moves.space moves.there from to e moves.space.room stands here free (sets_named e to w.sets) (in_sets e refl))
+        (moved_agrees w s sh.agrees task moves.space moves.there from to e (moves.space.room - 1) stands here free (sets_named e to w.sets) (in_sets e refl))
 
-  pub rename_done : task < length w.spaces → IsAllowed w (λ s. call_guards s (Event.Rename task from to)) → (v : WorldView) → v ≡ record w1 { sets = sets_named e to w1.sets } →
-      Acts w (Event.Rename task from to) (Reply.Code 0) v
-  rename_done below good v named = done w (Event.Rename task from to) (Reply.Code 0) v below good
-      (λ now s sh. record { mid = after s; owed = []; does = (refl, renames s sh, refl); agrees = agrees s sh v named })
+  -- from the tables before a place was kept
+  pub rename_done : (old : WorldView) → SameButRoom old w → task < length old.spaces → IsAllowed old (λ s. call_guards s (Event.Rename task from to)) → (v : WorldView) →
+      v ≡ record w1 { sets = sets_named e to w1.sets } → Acts old (Event.Rename task from to) (Reply.Code 0) v
+  rename_done old same below good v named = done old (Event.Rename task from to) (Reply.Code 0) v below good
+      (λ now s sh. let here = room_shows old w s same sh in record { mid = after s; owed = []; does = (refl, renames s here, refl); agrees = agrees s here v named })

@@ -49,5 +49,5 @@ module _ (w : WorldView) (s : State) (a : Agrees w s) (task name : ℕ) (space :
         (of_some first (λ r. map.get (t.naming r.owner) r.name ≡ Some (Target.set new)) own_named) (λ set not. old_sets.set_named set);
   }
 
-  pub set_agrees : Agrees (record w { spaces = slice_set w.spaces task (record { names = map.insert space.names name (entry.Set new); room = room }); sets = more_sets }) t
+  pub set_agrees : Agrees (record w { spaces = slice_set w.spaces task (record space { names = map.insert space.names name (entry.Set new); room = room }); sets = more_sets }) t
   set_agrees = with_sets w s a task space there name (entry.Set new) room unused refl tt more_sets t.set_owner t.sets_made in_sets

@@ -1,21 +1,19 @@
 -- What stands under a task's names after a port, a port set or a dead name was made, and after one was renamed; where nothing more
 -- can be made; and the types of all names.
-use Rattle.std.specs.Prelude.{◌≡◌, ℕ, ◌+◌, ◌-◌, max, ◌<◌, ◌≤◌, ◌⊎◌, List, [], Option, Some, None, slice_get, slice_set}
+use Rattle.std.specs.Prelude.{◌≡◌, ℕ, ◌+◌, ◌-◌, ◌<◌, ◌≤◌, ◌⊎◌, List, [], Option, Some, None, slice_get, slice_set}
 use Rattle.std.specs.Prelude as std
 use Rattle.std.specs.FinMap as map
 use Rattle.mach_types.specs.Numbers.{most_names, most_rights, most_identities}
 use Rattle.name_space.specs.declared.Entry.{Entry}
 use Rattle.name_space.specs.declared.Entry.TheVariants as entry
 use Rattle.name_space.specs.Entry.{type_in}
-use Rattle.name_space.specs.Names.{Names, SpaceView, IsUsable, HasNoOther}
+use Rattle.name_space.specs.Names.{Names, SpaceView, IsUsable, HasPlace, HasNoOther}
 use Rattle.port.specs.Ports.{PortView, first_attributes}
 use Rattle.port_set.specs.declared.SetRecord.{SetRecord}
 use Rattle.port_set.specs.Sets.{SetsView, created, renamed}
 use Rattle.rights.specs.declared.RightKind.TheVariants as right
 use Rattle.rights.specs.Ledger.{entered, made}
-use Rattle.copyin_base.specs.Changes.{SameButRoom}
 use Rattle.copyin_base.specs.Kept.{Kept}
-use Rattle.copyin_base.specs.Wanted.{LacksRoom, KeepsSpares}
 use Rattle.copyin_base.specs.Worlds.{WorldView, entry_at}
 use Rattle.kernel_core_base.specs.declared.names.NewRight.{NewRight}
 use Rattle.kernel_core_base.specs.declared.names.NewRight.TheVariants as new_right
@@ -55,19 +53,13 @@ pub record MakesRight (old : WorldView) (task : ℕ) (right : NewRight) (name : 
   pub made : e ≡ entry_made old right
   pub rest : new ≡ with_made old task right name
 
--- It is made, and the task has it under the name, in the room that was made for it.
+-- It is made, and the task has it under the name, in the place that was made for it.
 pub record Adds (old : WorldView) (task : ℕ) (right : NewRight) (name : ℕ) (new : WorldView) : Type 0 where
   pub space : SpaceView
   pub there : slice_get old.spaces task ≡ Some space
   pub rest : new ≡ record (with_made old task right name) {
-    spaces = slice_set old.spaces task (record { names = map.insert space.names name (entry_made old right); room = max space.room 1 - 1 });
+    spaces = slice_set old.spaces task (record space { names = map.insert space.names name (entry_made old right); room = space.room - 1 });
   }
-
--- Memory for it was refused: only room for its name may have been made, and a dead name, which takes no more, had none.
-pub record LacksMemory (old : WorldView) (task : ℕ) (right : NewRight) (new : WorldView) : Type 0 where
-  pub same : SameButRoom old new
-  pub spares : KeepsSpares old new
-  pub room : right ≡ new_right.DeadName → LacksRoom old task
 
 -- ---- where it can't be made
 
@@ -99,11 +91,12 @@ pub record MayMake (w : WorldView) (task number : ℕ) (right : NewRight) : Type
   pub number_is : right_made right ≡ number
   pub room : HasRoomOf w task right
 
--- The task may have it under the name; neither the ledger nor the task's names know the next port.
+-- The task may have it under the name, for which there is a place; neither the ledger nor the task's names know the next port.
 pub record CanAdd (w : WorldView) (task : ℕ) (right : NewRight) (name : ℕ) : Type 0 where
   pub has : HasRoomOf w task right
   pub usable : IsUsable name
   pub unused : map.get has.space.names name ≡ None
+  pub place : HasPlace has.space name
   pub unknown : map.get w.ledger.counts w.ports.made ≡ None
   pub apart : HasNoOther has.space.names (entry_made w right)
 
@@ -115,11 +108,11 @@ pub record MayRename (w : WorldView) (task from to : ℕ) (e : Entry) : Type 0 w
   pub unused : entry_at w task to ≡ None
   pub usable : IsUsable to
 
--- What is under the first name of the task goes under the second, in its names alone.
+-- What is under the first name of the task goes under the second, for which a place is kept, in its names alone.
 pub record MovesEntry (old : WorldView) (task from to : ℕ) (e : Entry) (new : WorldView) : Type 0 where
   pub space : SpaceView
   pub there : slice_get old.spaces task ≡ Some space
-  pub rest : new ≡ record old { spaces = slice_set old.spaces task (record space { names = map.insert (map.remove space.names from) to e }) }
+  pub rest : new ≡ record old { spaces = slice_set old.spaces task (record space { names = map.insert (map.remove space.names from) to e; room = space.room - 1 }) }
 
 -- the sets after their task's name for one of them, if it is there
 abbrev pub renamed_in : Option SetRecord → SetsView → (set name : ℕ) → SetsView

@@ -3,7 +3,7 @@ use Rattle.std.specs.Prelude.{◌≡◌, ℕ, ◌<◌, Some, slice_get}
 use Rattle.std.specs.FinMap as map
 use Rattle.mach_types.specs.declared.calls.Event.{Event}
 use Rattle.name_space.specs.Names.{SpaceView}
-use Rattle.copyin_base.specs.Wanted.{LacksRoom}
+use Rattle.copyin_base.specs.Wanted.{LacksRoom, LacksPlace}
 use Rattle.copyin_base.specs.Worlds.{WorldView}
 
 -- The task has a name.
@@ -12,11 +12,13 @@ pub record HasName (w : WorldView) (task : ℕ) : Type 0 where
   pub there : slice_get w.spaces task ≡ Some space
   pub some : 0 < map.len space.names
 
--- The call may lack memory. A dead name, number 4, takes none but room for its name, a list of no names none, and a call that isn't named here none.
+-- The call may lack memory. A dead name, number 4, takes none but a place for its name, a name that is changed none but its own place, a
+-- list of no names none, and a call that isn't named here none.
 abbrev pub MayLackMemory : WorldView → Event → Type 0
 MayLackMemory w Event.TaskCreate = Unit {0}
 MayLackMemory w (Event.Allocate task right) = right ≡ 4 → LacksRoom w task
-MayLackMemory w (Event.AllocateName task right name) = right ≡ 4 → LacksRoom w task
+MayLackMemory w (Event.AllocateName task right name) = right ≡ 4 → LacksPlace w task name
 MayLackMemory w (Event.Names task) = HasName w task
+MayLackMemory w (Event.Rename task from to) = LacksPlace w task to
 MayLackMemory w (Event.SetStatus task name) = Unit {0}
 MayLackMemory w event = ⊥

@@ -13,10 +13,10 @@ ghost use Rattle.name_space.specs.declared.Entry.TheVariants as entry_of;
 ghost use Rattle.port_set.specs.Sets.{IsThere, created};
 ghost use Rattle.copyin_base.specs.Acts.{code_number, Serves, IsRefused, IsAllowed};
 ghost use Rattle.copyin_base.specs.Stands.{Stands};
-ghost use Rattle.copyin_base.specs.Wanted.{KeepsSpares};
+ghost use Rattle.copyin_base.specs.Wanted.{KeepsSpares, kept_of};
 ghost use Rattle.copyin_base.specs.Worlds.{entry_at};
 ghost use Rattle.kernel_core_base.specs.declared.names.NewRight.TheVariants as AnyRight;
-ghost use Rattle.kernel_core_base.specs.Names.{right_made, with_new_port, IsFullFor, HasRoomFor, IsFullOf, HasRoomOf, MayMake, CanAdd, Adds, LacksMemory, MakesRight, MovesEntry, MayRename, sets_named, type_found, types_of};
+ghost use Rattle.kernel_core_base.specs.Names.{right_made, with_new_port, IsFullFor, HasRoomFor, IsFullOf, HasRoomOf, MayMake, CanAdd, Adds, MakesRight, MovesEntry, MayRename, sets_named, type_found, types_of};
 ghost use Rattle.kernel_core_base.specs.Wanted.{MayLackMemory};
 
 use copyin_base::{Code, World};
@@ -56,6 +56,7 @@ pub fn allocate(world: &mut World, task: TaskId, right: u32) -> Result<Reply, Co
     ensures spares { KeepsSpares world.old world.new }
 {
     let made = judge_allocate(world, task, right)?;
+    world.reserve_names(task, 1)?;
     let name = world.space(task).fresh();
     add_right(world, task, made, name)?;
     Ok(Reply::Name(name))
@@ -65,7 +66,8 @@ pub fn allocate(world: &mut World, task: TaskId, right: u32) -> Result<Reply, Co
 /// name that is given.
 ///
 /// `KERN_INVALID_VALUE` for another number, and for the names 0 and 0xffffffff; `KERN_NAME_EXISTS`
-/// where the task uses the name; then as [`allocate`], also in cost.
+/// where the task uses the name; then as [`allocate`], also in cost, but that a dead name takes no
+/// memory where a place is kept for this very name, and that a refusal may leave a place kept for it.
 pub fn allocate_name(world: &mut World, task: TaskId, right: u32, name: Name) -> Result<Reply, Code>
     requires there { task < length world.old.spaces }
     requires stands { Stands world.old }
@@ -74,6 +76,7 @@ pub fn allocate_name(world: &mut World, task: TaskId, right: u32, name: Name) ->
     ensures spares { KeepsSpares world.old world.new }
 {
     let made = judge_allocate_name(world, task, right, name)?;
+    world.reserve_name(task, name)?;
     add_right(world, task, made, name)?;
     Ok(Reply::Name(name))
 }
@@ -156,13 +159,13 @@ fn is_used_up(world: &World, right: NewRight) -> bool
     }
 }
 
-// One right more, named by the task. Where memory is refused, nothing changes but room for the name.
+// One right more, named by the task, in a place that was made for the name. Where memory is refused,
+// nothing changes.
 fn add_right(world: &mut World, task: TaskId, right: NewRight, name: Name) -> Result<(), KernReturn>
     requires { CanAdd world.old task right name }
     ensures ok { OnOk result (Adds world.old task right name world.new) }
-    ensures err { IfErr result (λ code. (code ≡ kern.ResourceShortage) × LacksMemory world.old task right world.new) }
+    ensures err { IfErr result (λ code. (code ≡ kern.ResourceShortage) × (world.new ≡ world.old) × (right ≢ AnyRight.DeadName)) }
 {
-    world.reserve_name(task)?;
     let entry = make_right(world, task, right, name)?;
     world.insert_entry(task, name, entry);
     Ok(())
@@ -270,8 +273,10 @@ fn type_at(space: &Space, name: Name) -> u32
 /// the second. A set's members, and a port's rights and messages, stay as they are. The task lives.
 ///
 /// `KERN_INVALID_VALUE` where the second is 0 or 0xffffffff; `KERN_INVALID_NAME` where the first isn't
-/// in use; `KERN_NAME_EXISTS` where the second is, also by the first itself. Takes no memory.
-/// Logarithmic in the names of the task, but for a move of 16 bytes for each greater name.
+/// in use; `KERN_NAME_EXISTS` where the second is, also by the first itself; `KERN_RESOURCE_SHORTAGE`
+/// where no place was kept for the second name and memory for one was refused. A refusal leaves all as
+/// it was. Logarithmic in the names of the task, but for a move of 16 bytes for each greater name, and
+/// where the names move to a larger place.
 pub fn rename(world: &mut World, task: TaskId, from: Name, to: Name) -> Result<Reply, Code>
     requires there { task < length world.old.spaces }
     requires stands { Stands world.old }
@@ -280,6 +285,7 @@ pub fn rename(world: &mut World, task: TaskId, from: Name, to: Name) -> Result<R
     ensures spares { KeepsSpares world.old world.new }
 {
     let entry = judge_rename(world, task, from, to)?;
+    world.reserve_name(task, to)?;
     move_entry(world, task, from, to);
     name_set(world, entry, to);
     Ok(Reply::Code(0))
@@ -302,9 +308,11 @@ fn judge_rename(world: &World, task: TaskId, from: Name, to: Name) -> Result<Ent
     Ok(entry)
 }
 
-// Moves what is under a name to one that isn't in use, in the task's names alone.
+// Moves what is under a name to one that isn't in use, for which a place is kept, in the task's names
+// alone.
 fn move_entry(world: &mut World, task: TaskId, from: Name, to: Name)
-    requires { (e : AnyEntry) × MayRename world.old task from to e }
+    requires may { (e : AnyEntry) × MayRename world.old task from to e }
+    requires place { kept_of world.old task ≡ Some to }
     ensures { (e : AnyEntry) → MayRename world.old task from to e → MovesEntry world.old task from to e world.new }
 {
     world.spaces[task.number() as usize].rename(from, to);

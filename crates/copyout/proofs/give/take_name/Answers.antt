@@ -1,4 +1,4 @@
-use Rattle.std.proofs.Common.{subst, arith}
+use Rattle.std.proofs.Common.{subst, inl, arith}
 use Rattle.std.specs.Prelude.{slice_get}
 use Rattle.mach_types.specs.Numbers.{kind_sent}
 use Rattle.name_space.specs.Names.{SpaceView, IsFreshName}
@@ -18,7 +18,7 @@ insert_entry-requires c =
       usable = record { not_null = λ e. let a = f.fresh.not_null in omega (arith, a, e); not_dead = λ e. let a = f.small in omega (arith, a, e) };
       unused = fresh.unused;
       few = r.not_full;
-      room = r.room;
+      place = inl (fresh, r.room);
       apart = no_other r.space.names (kind_sent c.args.given) c.args.port c.alone.result c.alone.ensures r.lone;
     }
 

@@ -1,0 +1,28 @@
+use Rattle.std.proofs.Common.{◌∙◌, ap, sym, Some}
+use Rattle.name_space.specs.Names.{SpaceView}
+use Rattle.copyin_base.specs.Wanted.{kept_in}
+use Rattle.copyin_base.proofs.Spaces.{space_replaced, space_read}
+use Rattle.copyin_base.proofs.Told.{space_there}
+use Rattle.copyin_base.proofs.world.World.reserve_name.Goals as goal
+use Rattle.copyin_base.proofs.world.World.reserve_name.Goals.{in-Ok, in-Err}
+
+pub returns-clause-ok : goal.returns-clause-ok
+returns-clause-ok c = elim c.match-reserve_name.branch [
+  | in-Ok w ↦ rw w.result-is (
+      let x = space_there c.args.self.now c.args.task c.requires.there in
+      record {
+        space = x.0;
+        there = x.1;
+        rest = space_replaced _ _ x.0 (λ y. record y { kept = Some c.args.name }) _ _ _ _ _ _ _ x.1 c.self.view_is c.number.ensures c.index_mut.ensures.value w.in-Ok.ensures.ok;
+      })
+  | in-Err w ↦ rw w.result-is tt
+]
+
+pub returns-clause-lacks : goal.returns-clause-lacks
+returns-clause-lacks c = elim c.match-reserve_name.branch [
+  | in-Ok w ↦ rw w.result-is tt
+  | in-Err w ↦ rw w.result-is (
+      let x = space_there c.args.self.now c.args.task c.requires.there in
+      let here = space_read c.args.self.now c.args.task x.0 _ _ _ _ _ c.index_mut.result.now x.1 c.self.view_is c.number.ensures c.index_mut.ensures.value in
+      λ kept. w.in-Err.ensures.wanted (ap (λ (y : SpaceView). y.kept) here ∙ ap kept_in (sym x.1) ∙ kept))
+]
