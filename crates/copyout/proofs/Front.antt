@@ -1,10 +1,9 @@
 -- A port's front message taken from its queue.
-use Rattle.std.proofs.Common.{◌≡◌, ℕ, ◌+◌, List, ◌∷◌, Option, Some, sym, ap, subst, ◌∙◌, inl, inr}
+use Rattle.std.proofs.Common.{◌≡◌, ℕ, ◌+◌, List, ◌∷◌, Option, Some, sym, ap, ◌∙◌}
 use Rattle.std.specs.Prelude.{slice_get, ◌%◌, ◌^◌}
 use Rattle.std.specs.Option.{option_and_then}
-use Rattle.std.specs.Ordering.{nat_cmp}
 use Rattle.std.specs.FinMap as map
-use Rattle.name_space.proofs.Keys.{put_here, put_other, equal_or_not, same_some, same_gets}
+use Rattle.name_space.proofs.Keys.{same_some}
 use Rattle.port.specs.Ports.{PortView, PortsView, with_port}
 use Rattle.rights.specs.Ledger.{taken}
 use Rattle.port.specs.declared.Attributes.{Attributes}
@@ -14,12 +13,6 @@ use Rattle.copyin_base.proofs.Gets.{same_found}
 use Rattle.copyin_base.specs.Worlds.{WorldView, port_at}
 use Rattle.copyout.specs.Takes.{TakesFront, destination_right}
 use Rattle.copyout.specs.Ready.{HasFront, Waits}
-
-pub put_twice : {X : Type 0} (m : map.FinMap nat_cmp X) (k : ℕ) (a b : X) → map.insert (map.insert m k a) k b ≡ map.insert m k b
-put_twice m k a b = same_gets _ _ (λ q. elim (equal_or_not q k) [
-  | inl e ↦ subst (λ (n : ℕ). map.get (map.insert (map.insert m k a) k b) n ≡ map.get (map.insert m k b) n) (sym e) (put_here (map.insert m k a) k b ∙ sym (put_here m k b))
-  | inr n ↦ put_other (map.insert m k a) k b q n ∙ put_other m k a q n ∙ sym (put_other m k b q n)
-])
 
 pub is_front : (ports : PortsView Kept) (port : ℕ) (v : PortView Kept) (m found : Kept) (behind : List Kept) → map.get ports.ports port ≡ Some v → v.queue ≡ m ∷ behind →
     Some found ≡ option_and_then (λ p. slice_get p.queue 0) (map.get ports.ports port) → found ≡ m
