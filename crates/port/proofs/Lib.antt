@@ -1,4 +1,3 @@
-pub mod Ordered
 pub mod View
 pub mod Keys
 pub mod Records

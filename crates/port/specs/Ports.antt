@@ -1,5 +1,5 @@
 -- What contracts see of ports: each live port's queue and attributes, how many were made, and how many slots are spare.
-use Rattle.std.specs.Prelude.{◌≡◌, ℕ, ◌<◌, ◌≤◌, List, Option, Some, None, true, refl}
+use Rattle.std.specs.Prelude.{◌≡◌, ℕ, ◌+◌, ◌<◌, ◌≤◌, ◌%◌, ◌^◌, List, Option, Some, None, true, refl}
 use Rattle.std.specs.Coded.{Coded, code_by, coded×, coded_ℕ, coded_list}
 use Rattle.std.specs.FinMap as map
 use Rattle.std.specs.Ordering.{nat_cmp}
@@ -28,6 +28,14 @@ ports_code {M} m a = code_by
 -- a new port's attributes: limit 5, and no message yet sent, made or received
 abbrev pub first_attributes : Attributes
 first_attributes = record { limit = first_limit; make_send = 0; sequence = 0; set = None }
+
+-- a send right more was made from the receive right
+abbrev pub one_made : Attributes → Attributes
+one_made a = record a { make_send = (a.make_send + 1) % 2 ^ 32 }
+
+-- a message more was received
+abbrev pub one_received : Attributes → Attributes
+one_received a = record a { sequence = (a.sequence + 1) % 2 ^ 32 }
 
 module _ {M : Type 0} where
   abbrev pub IsLive : PortsView M → ℕ → Type 0

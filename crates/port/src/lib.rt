@@ -5,14 +5,14 @@
 //! given from 0 and never again: one whose port is gone finds nothing.
 #![tactic(auto)]
 
-ghost use Rattle.std.specs.Prelude.{◌≡◌, ◌≢◌, ℕ, ◌+◌, ◌-◌, ◌<◌, ◌≤◌, ◌%◌, ◌^◌, ◌↔◌, ◌++◌, ◌∷◌, [], List, length, IsTrue, true, Some, None, IsSome, IfSome, IfOk, IfNone, OnOk, OnErr, option_copied, slice_get, drop};
+ghost use Rattle.std.specs.Prelude.{◌≡◌, ◌≢◌, ℕ, ◌+◌, ◌-◌, ◌<◌, ◌≤◌, ◌^◌, ◌↔◌, ◌++◌, ◌∷◌, [], List, length, IsTrue, true, false, Some, None, IsSome, IfSome, IfOk, IfNone, OnOk, OnErr, option_copied, slice_get, drop};
 ghost use Rattle.std.specs.Option.{option_map, option_and_then};
 ghost use Rattle.std.specs.FinMap as map;
 ghost use Rattle.std.specs.Ordering.{nat_cmp};
 ghost use Rattle.number_map.specs.Maps.{MapView};
 ghost use Rattle.slab.specs.Slab.{get, with_value};
 ghost use Rattle.port.specs.declared.Record.{Record as AnyRecord};
-ghost use Rattle.port.specs.Ports.{IsAfter};
+ghost use Rattle.port.specs.Ports.{IsAfter, one_made, one_received};
 ghost use Rattle.port.specs.Records.{made_of};
 
 use mach_types::limits::FIRST_LIMIT;
@@ -186,7 +186,7 @@ fn pop_at<M: Message>(
     pop(&mut records[key].queue, spare, blank)
 }
 
-// Takes the message at the front of the queue of the port under the key, and raises its sequence number.
+// Takes the message at the front of the queue of the port under the key, and raises the sequence number.
 fn take_at<M: Message>(
     records: &mut Slab<Record<M>>,
     key: usize,
@@ -196,13 +196,21 @@ fn take_at<M: Message>(
     requires there { IsSome (get records.old key) }
     requires some { (r : AnyRecord M) → get records.old key ≡ Some r → 0 < length r.queue }
     requires fit { (r : AnyRecord M) → get records.old key ≡ Some r → length r.queue + length spare.old < 2 ^ 63 }
-    ensures after { (r : AnyRecord M) → get records.old key ≡ Some r → (rest : List M) × (r.queue ≡ result ∷ rest)
-        × (records.new ≡ with_value records.old key (record r { queue = rest; attributes = record r.attributes { sequence = (r.attributes.sequence + 1) % 2 ^ 32 } })) }
+    ensures after { (r : AnyRecord M) → get records.old key ≡ Some r → (rest : List M) × (r.queue ≡ result ∷ rest) × (records.new ≡ with_value records.old key (record r { queue = rest; attributes = one_received r.attributes })) }
     ensures spare { length spare.new ≡ length spare.old + 1 }
 {
     let record = &mut records[key];
     record.attributes.sequence = record.attributes.sequence.wrapping_add(1);
     pop(&mut record.queue, spare, blank)
+}
+
+// Counts a send right made from the receive right of the port under the key.
+fn count_at<M: Message>(records: &mut Slab<Record<M>>, key: usize)
+    requires { IsSome (get records.old key) }
+    ensures { (r : AnyRecord M) → get records.old key ≡ Some r → records.new ≡ with_value records.old key (record r { attributes = one_made r.attributes }) }
+{
+    let attributes = &mut records[key].attributes;
+    attributes.make_send = attributes.make_send.wrapping_add(1);
 }
 
 // Sets the attributes of the port under the key.
@@ -371,6 +379,32 @@ impl<M: Message> Ports<M> {
         set_at(&mut self.records, key, attributes);
     }
 
+    /// Counts a send right made from the port's receive right, modulo 2^32; where the port is gone,
+    /// nothing changes. Takes no memory. Constant time.
+    pub fn count_make_send(&mut self, port: PortId)
+        ensures live { (p : PortView M) → map.get self.old.ports port ≡ Some p → self.new ≡ with_port self.old port (record p { attributes = one_made p.attributes }) }
+        ensures gone { map.get self.old.ports port ≡ None → self.new ≡ self.old }
+    {
+        match key_of(&self.by_id, port) {
+            Some(key) => count_at(&mut self.records, key),
+            None => {}
+        }
+    }
+
+    /// Whether the port is there and has fewer messages than its limit. Constant time.
+    pub fn has_room(&self, port: PortId) -> bool
+        ensures live { (p : PortView M) → map.get self.now.ports port ≡ Some p → (IsTrue result ↔ (length p.queue < p.attributes.limit)) }
+        ensures gone { map.get self.now.ports port ≡ None → result ≡ false }
+    {
+        match key_of(&self.by_id, port) {
+            Some(key) => {
+                let record = &self.records[key];
+                record.queue.len() < record.attributes.limit as usize
+            }
+            None => false,
+        }
+    }
+
     /// How many messages a port has, 0 where it is gone. Constant time.
     pub fn queued(&self, port: PortId) -> usize
         ensures live { (p : PortView M) → map.get self.now.ports port ≡ Some p → result ≡ length p.queue }
@@ -416,13 +450,12 @@ impl<M: Message> Ports<M> {
         Some(pop_at(&mut self.records, key, &mut self.spare, blank))
     }
 
-    /// Receives a port's front message: takes it as [`Ports::dequeue`], and uses its sequence number, so
-    /// that the port's rises by one, modulo 2^32. `None` where the port is gone or has none, and all is
-    /// then as before. Takes no memory. Logarithmic in the number of ports.
+    /// Takes the message at the front of a port's queue, and raises the port's sequence number by one
+    /// modulo 2^32; the message's slot is spare again. `None` where the port is gone or has none, and
+    /// all is then as before. Takes no memory. Constant time.
     pub fn take(&mut self, port: PortId) -> Option<M>
         ensures front { result ≡ option_and_then (λ p. slice_get p.queue 0) (map.get self.old.ports port) }
-        ensures taken { (p : PortView M) → map.get self.old.ports port ≡ Some p → IfSome result (λ m.
-            self.new ≡ record (with_port self.old port (record p { queue = drop 1 p.queue; attributes = record p.attributes { sequence = (p.attributes.sequence + 1) % 2 ^ 32 } })) { spare = self.old.spare + 1 }) }
+        ensures taken { (p : PortView M) → map.get self.old.ports port ≡ Some p → IfSome result (λ m. self.new ≡ record (with_port self.old port (record p { queue = drop 1 p.queue; attributes = one_received p.attributes })) { spare = self.old.spare + 1 }) }
         ensures none { IfNone result (self.new ≡ self.old) }
     {
         let key = key_of(&self.by_id, port)?;
@@ -483,6 +516,7 @@ mod tests {
         assert!(rt; post(&mut ports, first, 8));
         assert!(rt; !post(&mut ports, second, 9));
         assert_eq!(rt; ports.queued(first), 2);
+        assert!(rt; ports.has_room(first));
         assert_eq!(rt; ports.queued(second), 0);
         assert_eq!(rt; front_number(&ports, first), Some(7));
         assert_eq!(rt; take_number(&mut ports, first), Some(7));
@@ -490,7 +524,9 @@ mod tests {
         assert!(rt; post(&mut ports, second, 9));
         assert_eq!(rt; take_number(&mut ports, first), Some(8));
         assert_eq!(rt; take_number(&mut ports, first), None);
-        assert_eq!(rt; take_number(&mut ports, second), Some(9));
+        assert_eq!(rt; ports.take(second).map(|note| note.0), Some(9));
+        assert!(rt; ports.take(second).is_none());
+        assert_eq!(rt; ports.attributes(second).ok_or("made")?.sequence, 1);
         assert_eq!(rt; ports.spare(), 2);
         Ok(())
     }
@@ -506,7 +542,10 @@ mod tests {
         ports.set_attributes(port, attributes);
         assert_eq!(rt; ports.attributes(port).ok_or("made")?.limit, 16);
         assert_eq!(rt; ports.queued(port), 0);
+        ports.count_make_send(port);
+        assert_eq!(rt; ports.attributes(port).ok_or("made")?.make_send, 1);
         ports.remove(port);
+        assert!(rt; !ports.has_room(port));
         assert!(rt; ports.attributes(port).is_none());
         assert!(rt; !ports.is_exhausted());
         let other = ports.allocate()?;
