@@ -8,6 +8,7 @@ mod command_line;
 #[cfg(test)]
 mod dispositions;
 mod perform;
+mod reading;
 #[cfg(test)]
 mod tests;
 #[cfg(test)]

@@ -2,17 +2,17 @@
 ghost use Rattle.std.specs.Prelude.{◌≡◌, ◌≤◌, ℕ, List, Some, Err, IfOk, IfSome, IfErr, IsErr, OnOk, ◌⊎◌};
 ghost use Rattle.std.specs.Io.KnownBytes.{Appends, Keeps};
 ghost use Rattle.tracer_base.specs.Calls.{IsFirstBadLine};
-ghost use Rattle.tracer_base.specs.declared.script.ScriptFault.TheVariants.{BadCall as ScriptBadCall};
-ghost use Rattle.mach_run.specs.declared.perform.Fault.TheVariants.{BadCall};
+ghost use Rattle.mach_run.specs.declared.perform.Fault.TheVariants.{BadCall, OutOfMemory};
 ghost use Rattle.mach_run.specs.Output.{AreReplies, IsOutput};
 
+use crate::reading::read_calls;
 use kernel_core::Kernel;
 use mach_types::Event;
-use std::alloc::Global;
+use std::alloc::{AllocFailed, Global};
 use std::io;
-use std::io::{ErrorKind, Read, Write};
+use std::io::{Read, Write};
 use thiserror::Error;
-use tracer_base::{ScriptFault, read_script, write_reply_line};
+use tracer_base::write_reply_line;
 
 /// What the program can do.
 #[derive(Clone, Copy, Debug, PartialEq, Eq)]
@@ -38,14 +38,11 @@ pub enum Fault<'a> {
     OutOfMemory,
 }
 
-impl<'a> From<ScriptFault> for Fault<'a> {
-    ghost from_gives = { λ read fault. (n : ℕ) → fault ≡ BadCall n → read ≡ ScriptBadCall n };
+impl<'a, T: Drop> From<AllocFailed<T>> for Fault<'a> {
+    ghost from_gives = { λ _ fault. fault ≡ OutOfMemory };
 
-    fn from(fault: ScriptFault) -> Fault<'a> {
-        match fault {
-            ScriptFault::BadCall(line) => Fault::BadCall(line),
-            ScriptFault::OutOfMemory => Fault::OutOfMemory,
-        }
+    fn from(_error: AllocFailed<T>) -> Fault<'a> {
+        Fault::OutOfMemory
     }
 }
 
@@ -107,24 +104,10 @@ fn run<'a, R: Read, W: Write>(
     ensures bad { (script : List ℕ) (n : ℕ) → R.remaining file.old ≡ Some script → IsFirstBadLine script n
         → IsErr result × Keeps (W.contents out.old) (W.contents out.new) }
 {
-    let text = read_all(alloc, name, file)?;
-    let events = read_script(alloc, text.as_slice())?;
+    let events = read_calls(alloc, name, file)?;
     match answer_all(alloc, events.as_slice(), out) {
         Ok(()) => Ok(()),
         Err(_) => Err(Fault::CannotWrite),
-    }
-}
-
-/// All that the file, which has this name, holds from here on.
-fn read_all<'a, R: Read>(alloc: Global, name: &'a str, file: &mut R) -> Result<Vec<u8>, Fault<'a>>
-    ensures ok { IfOk result (λ text. IfSome (R.remaining file.old) (λ all. text.items ≡ all)) }
-    ensures err { (n : ℕ) → result ≡ Err (BadCall n) → ⊥ }
-{
-    let mut text = Vec::new(alloc);
-    match file.read_to_end(&mut text) {
-        Ok(_) => Ok(text),
-        Err(error) if error.kind() == ErrorKind::OutOfMemory => Err(Fault::OutOfMemory),
-        Err(_) => Err(Fault::CannotRead(name)),
     }
 }
 
