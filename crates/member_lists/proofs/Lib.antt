@@ -1,0 +1,5 @@
+pub mod Times
+pub mod Linked
+pub mod Sound
+pub mod Changed
+pub mod Listed

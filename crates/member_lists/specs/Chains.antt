@@ -1,0 +1,101 @@
+-- How lists are kept: in chains, each of which the lists share whose numbers are the same modulo 1,024. No public clause cites this module.
+use Rattle.std.specs.Prelude.{◌≡◌, ◌≢◌, ℕ, zero, suc, ◌+◌, ◌%◌, ◌<◌, ◌≤◌, Bool, true, false, cond, eqb, List, [], ◌∷◌, map, length, Option, Some, None, slice_get, slice_index_or}
+use Rattle.std.specs.Option.{option_map_or}
+use Rattle.std.specs.List.{filter}
+use Rattle.std.specs.FinMap as finite
+use Rattle.std.specs.Ordering.{nat_cmp}
+use Rattle.member_lists.specs.declared.Link.{Link}
+use Rattle.member_lists.specs.declared.Ends.{Ends}
+
+abbrev pub blank_link : Link
+blank_link = record { list = 0; before = None; behind = None }
+
+abbrev pub blank_ends : Ends
+blank_ends = record { first = None; last = None }
+
+-- ---- writes
+
+-- the item behind this one, if there is one, is another; nothing else is changed
+pub record IsBehindSet (old new : List Link) (item behind : Option ℕ) : Type 0 where
+  pub set : (x : ℕ) (link : Link) → item ≡ Some x → slice_get old x ≡ Some link → slice_get new x ≡ Some (record link { behind = behind })
+  pub others : (x : ℕ) → item ≢ Some x → slice_get new x ≡ slice_get old x
+  pub len : length new ≡ length old
+
+-- the item before this one, if there is one, is another; nothing else is changed
+pub record IsBeforeSet (old new : List Link) (item before : Option ℕ) : Type 0 where
+  pub set : (x : ℕ) (link : Link) → item ≡ Some x → slice_get old x ≡ Some link → slice_get new x ≡ Some (record link { before = before })
+  pub others : (x : ℕ) → item ≢ Some x → slice_get new x ≡ slice_get old x
+  pub len : length new ≡ length old
+
+-- the other where nothing is beside, and else what was there
+abbrev pub pick : (beside other was : Option ℕ) → Option ℕ
+pick None other was = other
+pick (Some _) other was = was
+
+-- ---- lists
+
+-- at most so many items, from this one on
+abbrev pub walk : List Link → ℕ → Option ℕ → List ℕ
+walk links zero from = []
+walk links (suc n) None = []
+walk links (suc n) (Some x) = option_map_or (λ link. x ∷ walk links n link.behind) (slice_get links x) []
+
+-- the item has this list's number
+abbrev pub is_in : List Link → ℕ → ℕ → Bool
+is_in links list x = option_map_or (λ link. eqb link.list list) (slice_get links x) false
+
+abbrev pub ends_at : List Ends → ℕ → Ends
+ends_at chains chain = slice_index_or chains chain blank_ends
+
+abbrev pub list_in : List Link → List Ends → ℕ → List ℕ
+list_in links chains list = filter (is_in links list) (walk links (length links) (ends_at chains (list % 1024)).first)
+
+abbrev pub has_items : List ℕ → Bool
+has_items [] = false
+has_items (x ∷ xs) = true
+
+-- the lists that have items: the number of each stands in a link
+abbrev pub lists_of : List Link → List Ends → finite.FinMap nat_cmp (List ℕ)
+lists_of links chains = finite.from_entries (filter (λ e. has_items e.1) (map (λ (link : Link). (link.list, list_in links chains link.list)) links))
+
+-- ---- chains
+
+-- the first of these, or else this
+abbrev pub first_or : List ℕ → Option ℕ → Option ℕ
+first_or [] next = next
+first_or (x ∷ xs) next = Some x
+
+-- the last of these, or else this
+abbrev pub last_or : Option ℕ → List ℕ → Option ℕ
+last_or before [] = before
+last_or before (x ∷ xs) = last_or (Some x) xs
+
+-- how often the item stands there
+abbrev pub times : ℕ → List ℕ → ℕ
+times x [] = 0
+times x (y ∷ ys) = cond (eqb x y) 1 0 + times x ys
+
+-- the item has a link, with these neighbours
+pub record IsBetween (links : List Link) (x : ℕ) (before behind : Option ℕ) : Type 0 where
+  pub link : Link
+  pub there : slice_get links x ≡ Some link
+  pub before_is : link.before ≡ before
+  pub behind_is : link.behind ≡ behind
+
+-- the items are linked both ways, from the one before them to the one behind
+abbrev pub IsLinked : List Link → Option ℕ → List ℕ → Option ℕ → Type 0
+IsLinked links before [] behind = Unit {0}
+IsLinked links before (x ∷ xs) behind = IsBetween links x before (first_or xs behind) × IsLinked links (Some x) xs behind
+
+-- these are the items of a chain
+pub record IsChain (links : List Link) (ends : Ends) (chain : ℕ) (xs : List ℕ) : Type 0 where
+  pub linked : IsLinked links None xs None
+  pub first : ends.first ≡ first_or xs None
+  pub last : ends.last ≡ last_or None xs
+  pub homed : (x : ℕ) (link : Link) → 0 < times x xs → slice_get links x ≡ Some link → link.list % 1024 ≡ chain
+  pub once : (x : ℕ) → times x xs ≤ 1
+
+pub record IsSound (links : List Link) (chains : List Ends) : Type 0 where
+  pub chained : ℕ → List ℕ
+  pub chain : (c : ℕ) → IsChain links (ends_at chains c) c (chained c)
+  pub made : 0 < length links → 1024 ≤ length chains

@@ -1,0 +1,34 @@
+-- What contracts see of lists of items: each list that has items, by its number, and how many items there is room for.
+use Rattle.std.specs.Prelude.{ℕ, not, eqb, List, [], ◌∷◌, unwrap_or, refl}
+use Rattle.std.specs.List.{Contains, filter}
+use Rattle.std.specs.Coded.{Coded, code_by, coded×, coded_ℕ, coded_list}
+use Rattle.std.specs.FinMap as map
+use Rattle.std.specs.Ordering.{nat_cmp}
+
+pub record ListsView : Type 0 where
+  pub lists : map.FinMap nat_cmp (List ℕ)
+  pub items : ℕ
+
+abbrev pub lists_code : Coded ListsView
+lists_code = code_by
+    (map.FinMap nat_cmp (List ℕ) × ℕ) (coded× (map.code coded_ℕ (coded_list coded_ℕ)) coded_ℕ)
+    (λ v. (v.lists, v.items))
+    (λ p. record { lists = p.0; items = p.1 })
+    (λ _. refl)
+
+-- the items of a list in order, none where no such list stands
+abbrev pub list_of : ListsView → ℕ → List ℕ
+list_of v list = unwrap_or (map.get v.lists list) []
+
+-- an item that is in no list
+abbrev pub IsApart : ListsView → ℕ → Type 0
+IsApart v item = (list : ℕ) → ¬ (Contains (list_of v list) item)
+
+-- one list has these items, and stands no longer where it has none; each other is as it was
+abbrev pub with_list : ListsView → ℕ → List ℕ → ListsView
+with_list v list [] = record v { lists = map.remove v.lists list }
+with_list v list (x ∷ xs) = record v { lists = map.insert v.lists list (x ∷ xs) }
+
+-- the items but this one, in their order
+abbrev pub without : ℕ → List ℕ → List ℕ
+without item = filter (λ x. not (eqb x item))
