@@ -4,3 +4,5 @@ pub mod Records
 pub mod Sound
 pub mod Grown
 pub mod Next
+pub mod Moved
+pub mod Readied

@@ -1,5 +1,5 @@
 -- What contracts see of ports: each live port's queue and attributes, how many were made, and how many slots are spare.
-use Rattle.std.specs.Prelude.{◌≡◌, ℕ, ◌+◌, ◌<◌, ◌≤◌, ◌%◌, ◌^◌, List, Option, Some, None, true, refl}
+use Rattle.std.specs.Prelude.{◌≡◌, ℕ, ◌+◌, ◌<◌, ◌≤◌, ◌%◌, ◌^◌, List, Option, Some, None, true, length, refl}
 use Rattle.std.specs.Coded.{Coded, code_by, coded×, coded_ℕ, coded_list}
 use Rattle.std.specs.FinMap as map
 use Rattle.std.specs.Ordering.{nat_cmp}
@@ -56,3 +56,14 @@ module _ {M : Type 0} where
     pub later : (id : ℕ) → found ≡ Some id → IsAfter before id
     pub given : (id : ℕ) → found ≡ Some id → id < v.made
     pub least : (q : ℕ) → IsLive v q → IsAfter before q → (id : ℕ) × (found ≡ Some id) × (id ≤ q)
+
+  -- the port is there, in the set, and has a message
+  pub record IsReadyIn (v : PortsView M) (set port : ℕ) : Type 0 where
+    pub view : PortView M
+    pub there : map.get v.ports port ≡ Some view
+    pub member : view.attributes.set ≡ Some set
+    pub some : 0 < length view.queue
+
+  -- no port in the set has a message
+  pub record NoneReadyIn (v : PortsView M) (set : ℕ) : Type 0 where
+    pub empty : (port : ℕ) (p : PortView M) → map.get v.ports port ≡ Some p → p.attributes.set ≡ Some set → length p.queue ≡ 0

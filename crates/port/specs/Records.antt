@@ -1,11 +1,13 @@
 -- How ports are kept. No public clause cites this module.
-use Rattle.std.specs.Prelude.{◌≡◌, ℕ, ◌+◌, ◌<◌, ◌≤◌, ◌^◌, true, is_some, List, [], Option, Some, None, length}
+use Rattle.std.specs.Prelude.{◌≡◌, ℕ, ◌+◌, ◌<◌, ◌≤◌, ◌^◌, true, is_some, List, [], ◌∷◌, Option, Some, None, length}
 use Rattle.std.specs.Prelude as std
-use Rattle.std.specs.List.{sum_by}
+use Rattle.std.specs.List.{sum_by, Contains}
 use Rattle.std.specs.FinMap as map
 use Rattle.std.specs.Ordering.{nat_cmp}
 use Rattle.slab.specs.Slab.{Slab, get}
+use Rattle.member_lists.specs.Lists.{ListsView, list_of}
 use Rattle.port.specs.declared.Record.{Record}
+use Rattle.port.specs.Ready.{StandsIn}
 use Rattle.port.specs.Ports.{PortView, first_attributes}
 
 -- the map with each value v replaced by f v
@@ -41,3 +43,21 @@ module _ {M : Type 0} where
     pub counted : sum_by queued_in s.slots + length spare ≡ slots
     pub few : slots < 2 ^ 63
     pub next_fits : (n : ℕ) → next ≡ Some n → n < 2 ^ 64
+
+  -- the set that a port is ready in, if it has a message
+  abbrev pub ready_if : List M → Option ℕ → Option ℕ
+  ready_if [] set = None
+  ready_if (m ∷ ms) set = set
+
+  abbrev pub ready_set : Record M → Option ℕ
+  ready_set r = ready_if r.queue r.attributes.set
+
+  -- The ready ports stand in the lists of their sets, by their keys.
+  pub record IsReadied (at : ℕ → Option (Record M)) (ready : ListsView) : Type 0 where
+    pub stands : (key : ℕ) (r : Record M) → at key ≡ Some r → StandsIn ready key (ready_set r)
+    pub held : (key l : ℕ) → Contains (list_of ready l) key → (r : Record M) × (at key ≡ Some r)
+    pub room : (key : ℕ) (r : Record M) → at key ≡ Some r → key < ready.items
+
+  pub record IsKept (s : Slab (Record M)) (keys : map.FinMap nat_cmp ℕ) (next : Option ℕ) (spare : List M) (slots : ℕ) (ready : ListsView) : Type 0 where
+    pub sound : IsSound s keys next spare slots
+    pub readied : IsReadied (get s) ready

@@ -12,11 +12,13 @@ ghost use Rattle.std.specs.Ordering.{nat_cmp};
 ghost use Rattle.number_map.specs.Maps.{MapView};
 ghost use Rattle.slab.specs.Slab.{get, with_value};
 ghost use Rattle.port.specs.declared.Record.{Record as AnyRecord};
+ghost use Rattle.port.specs.Ready.{StandsIn, IsMoved};
 ghost use Rattle.port.specs.Ports.{IsAfter, one_made, one_received};
-ghost use Rattle.port.specs.Records.{made_of};
+ghost use Rattle.port.specs.Records.{made_of, ready_set};
 
 use mach_types::limits::FIRST_LIMIT;
 use mach_types::{PortId, SetId};
+use member_lists::Lists;
 use number_map::NumberMap;
 use slab::Slab;
 use std::alloc::{AllocError, Global};
@@ -78,6 +80,7 @@ const _: () = prove!(mem::size_of::<Record<u8>>() <= 112);
 pub struct Ports<M: Message> {
     records: Slab<Record<M>>,
     by_id: NumberMap<usize>,
+    ready: Lists,
     next: Option<u64>,
     spare: LinkedList<M>,
     slots: usize,
@@ -93,7 +96,7 @@ impl<M: Message> Model for Ports<M> {
     ghost coded = { ports_code M.code attributes.the_row.coded };
 
     ghost use Rattle.slab.specs.Slab.{get};
-    ghost use Rattle.port.specs.Records.{ports_of, made_of, IsSound};
+    ghost use Rattle.port.specs.Records.{ports_of, made_of, IsKept};
 
     ghost view = { λ a. record {
       ports = ports_of (get a.records) a.by_id.map;
@@ -101,7 +104,7 @@ impl<M: Message> Model for Ports<M> {
       spare = length a.spare;
     } };
 
-    ghost invariant = { λ a. IsSound a.records a.by_id.map a.next a.spare a.slots };
+    ghost invariant = { λ a. IsKept a.records a.by_id.map a.next a.spare a.slots a.ready };
 }
 
 // So many slots that no message is in.
@@ -221,6 +224,66 @@ fn set_at<M: Message>(records: &mut Slab<Record<M>>, key: usize, attributes: Att
     records[key].attributes = attributes;
 }
 
+// The number of the set that the port under the key is ready in: its set, where it has a message.
+fn ready_at<M: Message>(records: &Slab<Record<M>>, key: usize) -> Option<u64>
+    requires { IsSome (get records.now key) }
+    ensures { (r : AnyRecord M) → get records.now key ≡ Some r → result ≡ ready_set r }
+{
+    let record = &records[key];
+    if record.queue.is_empty() {
+        return None;
+    }
+    let set = record.attributes.set?;
+    Some(set.number())
+}
+
+// Takes the port under the key out of the ready ones of this set, if it is ready in one.
+fn leave(ready: &mut Lists, key: usize, was: Option<u64>)
+    requires { StandsIn ready.old key was }
+    ensures { IsMoved ready.old ready.new key None }
+{
+    if let Some(set) = was {
+        ready.remove(set, key);
+    }
+}
+
+// Puts the port under the key at the end of the ready ones of this set, if it is ready in one.
+fn join(ready: &mut Lists, key: usize, now: Option<u64>)
+    requires room { key < ready.old.items }
+    requires apart { StandsIn ready.old key None }
+    ensures { IsMoved ready.old ready.new key now }
+{
+    if let Some(set) = now {
+        ready.push(set, key);
+    }
+}
+
+// Whether the two are the same number, or none.
+fn is_same(one: Option<u64>, other: Option<u64>) -> bool
+    ensures { IsTrue result → one ≡ other }
+{
+    match one {
+        Some(one) => match other {
+            Some(other) => one == other,
+            None => false,
+        },
+        None => other.is_none(),
+    }
+}
+
+// Puts the port under the key among the ready ones of another set; it keeps its place in the same.
+fn renew(ready: &mut Lists, key: usize, was: Option<u64>, now: Option<u64>)
+    requires room { key < ready.old.items }
+    requires was { StandsIn ready.old key was }
+    ensures { IsMoved ready.old ready.new key now }
+{
+    if is_same(was, now) {
+        return;
+    }
+    leave(&mut *ready, key, was);
+    join(ready, key, now);
+}
+
 // The key of a port's record, if the port is there.
 fn key_of(by_id: &NumberMap<usize>, port: PortId) -> Option<usize>
     ensures { result ≡ map.get by_id.now.map port }
@@ -252,7 +315,7 @@ fn number_after(before: Option<PortId>) -> Option<u64>
 
 impl<M: Message> Ports<M> {
     ghost use Rattle.mach_types.specs.Numbers.{most_identities};
-    ghost use Rattle.port.specs.Ports.{PortView, IsLive, with_port, first_attributes, IsNext};
+    ghost use Rattle.port.specs.Ports.{PortView, IsLive, with_port, first_attributes, IsNext, IsReadyIn, NoneReadyIn};
 
     /// No ports, and no slots. Allocates nothing; constant time.
     pub fn new(alloc: Global) -> Ports<M>
@@ -261,6 +324,7 @@ impl<M: Message> Ports<M> {
         Ports {
             records: Slab::new(alloc),
             by_id: NumberMap::new(alloc),
+            ready: Lists::new(alloc),
             next: Some(0),
             spare: LinkedList::new(alloc),
             slots: 0,
@@ -320,6 +384,7 @@ impl<M: Message> Ports<M> {
         let id = PortId::new(number);
         self.records.reserve(1)?;
         self.by_id.reserve(1)?;
+        self.ready.reserve(self.records.capacity())?;
         let key = self.records.insert_reserved(Record {
             id,
             queue: LinkedList::new(*self.spare.allocator()),
@@ -370,13 +435,27 @@ impl<M: Message> Ports<M> {
         None
     }
 
+    /// A port of the set that has a message, if there is one: each in its turn, as one whose message
+    /// is taken goes to the end. Constant time, but for ports that are ready in sets whose numbers
+    /// are the same modulo 1,024.
+    pub fn first_ready(&self, set: SetId) -> Option<PortId>
+        ensures some { IfSome result (λ port. IsReadyIn self.now set port) }
+        ensures none { IfNone result (NoneReadyIn self.now set) }
+    {
+        let key = self.ready.first(set.number())?;
+        Some(self.records[key].id)
+    }
+
     /// Sets a port's attributes. Takes no memory. Constant time.
     pub fn set_attributes(&mut self, port: PortId, attributes: Attributes)
         requires { IsLive self.old port }
         ensures { (p : PortView M) → map.get self.old.ports port ≡ Some p → self.new ≡ with_port self.old port (record p { attributes = attributes }) }
     {
         let key = key_of(&self.by_id, port).unwrap();
+        let was = ready_at(&self.records, key);
         set_at(&mut self.records, key, attributes);
+        let now = ready_at(&self.records, key);
+        renew(&mut self.ready, key, was, now);
     }
 
     /// Counts a send right made from the port's receive right, modulo 2^32; where the port is gone,
@@ -432,7 +511,10 @@ impl<M: Message> Ports<M> {
             self.new ≡ record (with_port self.old port (record p { queue = p.queue ++ message ∷ [] })) { spare = self.old.spare - 1 } }
     {
         let key = key_of(&self.by_id, port).unwrap();
+        let was = ready_at(&self.records, key);
         push_at(&mut self.records, key, &mut self.spare, message);
+        let now = ready_at(&self.records, key);
+        renew(&mut self.ready, key, was, now);
     }
 
     /// Takes the message at the front of a port's queue; its slot is spare again. `None` where the
@@ -447,7 +529,12 @@ impl<M: Message> Ports<M> {
             return None;
         }
         let blank = M::blank(*self.spare.allocator());
-        Some(pop_at(&mut self.records, key, &mut self.spare, blank))
+        let was = ready_at(&self.records, key);
+        leave(&mut self.ready, key, was);
+        let message = pop_at(&mut self.records, key, &mut self.spare, blank);
+        let now = ready_at(&self.records, key);
+        join(&mut self.ready, key, now);
+        Some(message)
     }
 
     /// Takes the message at the front of a port's queue, and raises the port's sequence number by one
@@ -463,7 +550,12 @@ impl<M: Message> Ports<M> {
             return None;
         }
         let blank = M::blank(*self.spare.allocator());
-        Some(take_at(&mut self.records, key, &mut self.spare, blank))
+        let was = ready_at(&self.records, key);
+        leave(&mut self.ready, key, was);
+        let message = take_at(&mut self.records, key, &mut self.spare, blank);
+        let now = ready_at(&self.records, key);
+        join(&mut self.ready, key, now);
+        Some(message)
     }
 }
 

@@ -1,11 +1,14 @@
-use Rattle.std.proofs.Common.{◌≡◌, ◌≢◌, ◌+◌, ◌<◌, ◌^◌, ℕ, None, ap, sym, ◌∙◌, List, [], length}
+use Rattle.std.proofs.Common.{◌≡◌, ◌≢◌, ◌+◌, ◌<◌, ◌^◌, ℕ, None, ap, sym, ◌∙◌, List, [], length, max, subst, arith}
 use Rattle.std.specs.FinMap as map
+use Rattle.std.specs.Ordering.{nat_cmp}
+use Rattle.member_lists.specs.Lists.{ListsView}
 use Rattle.number_map.specs.Maps.{MapView}
 use Rattle.slab.specs.Slab.{Slab, get}
 use Rattle.port.specs.declared.Attributes.{Attributes}
 use Rattle.port.specs.declared.Record.{Record}
 use Rattle.port.specs.Ports.{PortView, PortsView}
-use Rattle.port.specs.Records.{made_of}
+use Rattle.port.specs.Records.{made_of, IsReadied, IsKept}
+use Rattle.port.proofs.Readied.{readied-came, kept-capacity}
 use Rattle.port.proofs.Grown.{made_more, next_in_range, sound-came, view-came}
 use Rattle.port.proofs.Ports.allocate.Goals as goal
 
@@ -13,7 +16,7 @@ pub invariant_of-self-2 : goal.invariant_of-self-2
 invariant_of-self-2 g c =
     let a : Record g.row.M.Denot = record { id = c.new-id.result; queue = c.new.result; attributes = c.first.result } in
     let number : made_of c.self.inside.next ≡ c.unwrap-number.result = ap made_of c.unwrap-number.ensures in
-    let few : c.unwrap-number.result < 2 ^ 64 = c.self.invariant.next_fits c.unwrap-number.result c.unwrap-number.ensures in
+    let few : c.unwrap-number.result < 2 ^ 64 = c.self.invariant.sound.next_fits c.unwrap-number.result c.unwrap-number.ensures in
     let kept : (k : ℕ) → get c.reserve.new.self k ≡ get c.self.inside.records k = λ k. ap (λ (s : Slab (Record g.row.M.Denot)). get s k) c.reserve.ensures.rest_kept in
     let vacant : get c.self.inside.records c.insert_reserved-key.result ≡ None = sym (kept c.insert_reserved-key.result) ∙ c.insert_reserved-key.ensures.was_vacant in
     let others : (other : ℕ) → other ≢ c.insert_reserved-key.result → get c.insert_reserved-key.new.self other ≡ get c.self.inside.records other = λ other d. c.insert_reserved-key.ensures.updates.others other d ∙ kept other in
@@ -21,15 +24,21 @@ invariant_of-self-2 g c =
     ap (λ (w : MapView ℕ). w.map) c.insert.ensures
     ∙ ap (λ (w : MapView ℕ). map.insert w.map c.unwrap-number.result c.insert_reserved-key.result) c.in_ok-reserve-2.ensures.ok
     ∙ ap (λ n. map.insert c.self.inside.by_id.map n c.insert_reserved-key.result) (sym number) in
-    sound-came c.self.inside.records c.insert_reserved-key.new.self c.self.inside.by_id.map c.insert.new.self.map c.self.inside.next c.checked_add-self-inside.result c.self.inside.spare c.self.inside.slots c.self.invariant c.args.self.now c.self.view_is
-    c.insert_reserved-key.result a vacant c.insert_reserved-key.ensures.updates.changed others (c.new-id.ensures ∙ sym number) (ap length c.new.ensures) put
-    (made_more c.checked_add-self-inside.result c.unwrap-number.result c.checked_add-self-inside.ensures few ∙ ap (λ n. n + 1) (sym number)) (next_in_range c.checked_add-self-inside.result c.unwrap-number.result c.checked_add-self-inside.ensures)
+    record {
+      sound = sound-came c.self.inside.records c.insert_reserved-key.new.self c.self.inside.by_id.map c.insert.new.self.map c.self.inside.next c.checked_add-self-inside.result c.self.inside.spare c.self.inside.slots c.self.invariant.sound c.args.self.now c.self.view_is
+          c.insert_reserved-key.result a vacant c.insert_reserved-key.ensures.updates.changed others (c.new-id.ensures ∙ sym number) (ap length c.new.ensures) put
+          (made_more c.checked_add-self-inside.result c.unwrap-number.result c.checked_add-self-inside.ensures few ∙ ap (λ n. n + 1) (sym number)) (next_in_range c.checked_add-self-inside.result c.unwrap-number.result c.checked_add-self-inside.ensures);
+      readied = subst (λ w. IsReadied (get c.insert_reserved-key.new.self) w) (sym c.in_ok-reserve-3.ensures.ok)
+          (readied-came (get c.self.inside.records) (get c.insert_reserved-key.new.self) c.self.inside.ready c.self.invariant.readied c.insert_reserved-key.result a (max c.self.inside.ready.items c.capacity.result) vacant
+          (record { changed = c.insert_reserved-key.ensures.updates.changed; others = others }) (ap length c.new.ensures)
+          (omega (arith, c.insert_reserved-key.ensures.key_in_range, c.insert_reserved-key.ensures.capacity, c.capacity.ensures.value)) (omega arith));
+    }
 
 pub returns-clause-ok : goal.returns-clause-ok
 returns-clause-ok g c =
     let a : Record g.row.M.Denot = record { id = c.new-id.result; queue = c.new.result; attributes = c.first.result } in
     let number : made_of c.self.inside.next ≡ c.unwrap-number.result = ap made_of c.unwrap-number.ensures in
-    let few : c.unwrap-number.result < 2 ^ 64 = c.self.invariant.next_fits c.unwrap-number.result c.unwrap-number.ensures in
+    let few : c.unwrap-number.result < 2 ^ 64 = c.self.invariant.sound.next_fits c.unwrap-number.result c.unwrap-number.ensures in
     let kept : (k : ℕ) → get c.reserve.new.self k ≡ get c.self.inside.records k = λ k. ap (λ (s : Slab (Record g.row.M.Denot)). get s k) c.reserve.ensures.rest_kept in
     let vacant : get c.self.inside.records c.insert_reserved-key.result ≡ None = sym (kept c.insert_reserved-key.result) ∙ c.insert_reserved-key.ensures.was_vacant in
     let others : (other : ℕ) → other ≢ c.insert_reserved-key.result → get c.insert_reserved-key.new.self other ≡ get c.self.inside.records other = λ other d. c.insert_reserved-key.ensures.updates.others other d ∙ kept other in
@@ -42,7 +51,21 @@ returns-clause-ok g c =
       made = c.args.self.now.made + 1;
       spare = c.args.self.now.spare;
     } in
-    view-came c.self.inside.records c.insert_reserved-key.new.self c.self.inside.by_id.map c.insert.new.self.map c.self.inside.next c.checked_add-self-inside.result c.self.inside.spare c.self.inside.slots c.self.invariant c.args.self.now c.self.view_is
+    view-came c.self.inside.records c.insert_reserved-key.new.self c.self.inside.by_id.map c.insert.new.self.map c.self.inside.next c.checked_add-self-inside.result c.self.inside.spare c.self.inside.slots c.self.invariant.sound c.args.self.now c.self.view_is
     c.insert_reserved-key.result a vacant c.insert_reserved-key.ensures.updates.changed others (c.new-id.ensures ∙ sym number) (ap length c.new.ensures) put
     (made_more c.checked_add-self-inside.result c.unwrap-number.result c.checked_add-self-inside.ensures few ∙ ap (λ n. n + 1) (sym number)) (next_in_range c.checked_add-self-inside.result c.unwrap-number.result c.checked_add-self-inside.ensures)
     ∙ ap (λ l. after l c.first.result) c.new.ensures ∙ ap (after []) c.first.ensures
+
+pub invariant_of-self : goal.invariant_of-self
+invariant_of-self g c = kept-capacity c.self.inside.records c.reserve.new.self c.self.inside.by_id.map c.self.inside.next c.self.inside.spare c.self.inside.slots c.self.inside.ready c.reserve.ensures.rest_kept c.self.invariant
+
+pub invariant_of-self-in_err-reserve-2 : goal.invariant_of-self-in_err-reserve-2
+invariant_of-self-in_err-reserve-2 g c =
+    subst (λ (m : map.FinMap nat_cmp ℕ). IsKept c.reserve.new.self m c.self.inside.next c.self.inside.spare c.self.inside.slots c.self.inside.ready) (sym (ap (λ (w : MapView ℕ). w.map) c.in_err-reserve-2.ensures.err))
+    (kept-capacity c.self.inside.records c.reserve.new.self c.self.inside.by_id.map c.self.inside.next c.self.inside.spare c.self.inside.slots c.self.inside.ready c.reserve.ensures.rest_kept c.self.invariant)
+
+pub invariant_of-self-in_err-reserve-3 : goal.invariant_of-self-in_err-reserve-3
+invariant_of-self-in_err-reserve-3 g c =
+    subst (λ (m : map.FinMap nat_cmp ℕ). IsKept c.reserve.new.self m c.self.inside.next c.self.inside.spare c.self.inside.slots c.reserve-3.new.self) (sym (ap (λ (w : MapView ℕ). w.map) c.in_ok-reserve-2.ensures.ok))
+    (subst (λ (w : ListsView). IsKept c.reserve.new.self c.self.inside.by_id.map c.self.inside.next c.self.inside.spare c.self.inside.slots w) (sym c.in_err-reserve-3.ensures.err)
+    (kept-capacity c.self.inside.records c.reserve.new.self c.self.inside.by_id.map c.self.inside.next c.self.inside.spare c.self.inside.slots c.self.inside.ready c.reserve.ensures.rest_kept c.self.invariant))

@@ -1,4 +1,7 @@
-use Rattle.std.proofs.Common.{◌∙◌, ap, length, ℕ}
+use Rattle.std.proofs.Common.{◌∙◌, ap, length, ℕ, List, Option, None, get_or}
+use Rattle.member_lists.specs.Lists.{ListsView}
+use Rattle.port.specs.declared.Record.{Record}
+use Rattle.port.proofs.Readied.{readied-none}
 use Rattle.std.specs.FinMap as map
 use Rattle.std.specs.Ordering.{nat_cmp}
 use Rattle.slab.specs.Slab.{get}
@@ -8,10 +11,13 @@ use Rattle.port.proofs.Grown.{sound-empty, ports-empty}
 use Rattle.port.proofs.Ports.new.Goals as goal
 
 pub invariant_of-result : goal.invariant_of-result
-invariant_of-result g c = sound-empty c.new.result c.new-2.result.map c.new-3.result c.new.ensures.empty (ap (λ (w : MapView ℕ). w.map) c.new-2.ensures) c.new-3.ensures
+invariant_of-result g c = record {
+  sound = sound-empty c.new.result c.new-2.result.map c.new-4.result c.new.ensures.empty (ap (λ (w : MapView ℕ). w.map) c.new-2.ensures) c.new-4.ensures;
+  readied = readied-none (get c.new.result) c.new-3.result (λ k. ap (λ (l : List (Option (Record g.row.M.Denot))). get_or l k None) c.new.ensures.empty) (ap (λ (w : ListsView). w.lists) c.new-3.ensures);
+}
 
 pub returns : goal.returns
 returns g c =
     let mk : map.FinMap nat_cmp (PortView g.row.M.Denot) → ℕ → PortsView g.row.M.Denot = λ ports n. record { ports = ports; made = 0; spare = n } in
-    ap (λ ports. mk ports (length c.new-3.result)) (ports-empty (get c.new.result) c.new-2.result.map (ap (λ (w : MapView ℕ). w.map) c.new-2.ensures))
-    ∙ ap (λ l. mk map.empty (length l)) c.new-3.ensures
+    ap (λ ports. mk ports (length c.new-4.result)) (ports-empty (get c.new.result) c.new-2.result.map (ap (λ (w : MapView ℕ). w.map) c.new-2.ensures))
+    ∙ ap (λ l. mk map.empty (length l)) c.new-4.ensures

@@ -4,33 +4,38 @@ use Rattle.std.specs.Ordering.{nat_cmp}
 use Rattle.number_map.specs.Maps.{MapView}
 use Rattle.slab.specs.Slab.{get}
 use Rattle.port.specs.Ports.{PortView, PortsView}
-use Rattle.port.specs.Records.{ports_of, made_of, IsSound}
+use Rattle.port.specs.Records.{ports_of, made_of, IsKept}
 use Rattle.port.proofs.Records.{port_of}
 use Rattle.port.proofs.Sound.{record_at, live_port, gone_port}
+use Rattle.port.proofs.Readied.{readied-went}
 use Rattle.port.proofs.Grown.{sound-went, view-went, remove-absent}
 use Rattle.port.proofs.Ports.remove.Goals as goal
 
 pub remove-requires-in-Some : goal.remove-requires-in-Some
 remove-requires-in-Some g c =
     let found : map.get c.self.inside.by_id.map c.args.port ≡ Some c.in-Some.key = sym (c.in-Some.ensures.value ∙ ap (map.get c.self.inside.by_id.map) c.number.ensures) in
-    ap is_some (record_at c.self.inside.records c.self.inside.by_id.map c.self.inside.next c.self.inside.spare c.self.inside.slots c.self.invariant c.args.self.now c.self.view_is c.args.port c.in-Some.key found).1
+    ap is_some (record_at c.self.inside.records c.self.inside.by_id.map c.self.inside.next c.self.inside.spare c.self.inside.slots c.self.invariant.sound c.args.self.now c.self.view_is c.args.port c.in-Some.key found).1
 
 pub invariant_of-self : goal.invariant_of-self
 invariant_of-self g c =
     let found : map.get c.self.inside.by_id.map c.args.port ≡ Some c.in-Some.key = sym (c.in-Some.ensures.value ∙ ap (map.get c.self.inside.by_id.map) c.number.ensures) in
-    let quiet : length c.remove-in-Some.result.queue ≡ 0 = (c.requires (port_of c.remove-in-Some.result) (live_port c.self.inside.records c.self.inside.by_id.map c.self.inside.next c.self.inside.spare c.self.inside.slots c.self.invariant c.args.self.now c.self.view_is c.args.port c.in-Some.key c.remove-in-Some.result found c.remove-in-Some.ensures.value)) in
+    let quiet : length c.remove-in-Some.result.queue ≡ 0 = (c.requires (port_of c.remove-in-Some.result) (live_port c.self.inside.records c.self.inside.by_id.map c.self.inside.next c.self.inside.spare c.self.inside.slots c.self.invariant.sound c.args.self.now c.self.view_is c.args.port c.in-Some.key c.remove-in-Some.result found c.remove-in-Some.ensures.value)) in
     let out : c.remove.new.self.map ≡ map.remove c.self.inside.by_id.map c.args.port =
     ap (λ (w : MapView ℕ). w.map) c.remove.ensures.after ∙ ap (map.remove c.self.inside.by_id.map) c.number.ensures in
-    sound-went c.self.inside.records c.remove-in-Some.new.self c.self.inside.by_id.map c.remove.new.self.map c.self.inside.next c.self.inside.spare c.self.inside.slots c.self.invariant c.args.self.now c.self.view_is
-    c.args.port c.in-Some.key c.remove-in-Some.result found c.remove-in-Some.ensures.value quiet c.remove-in-Some.ensures.updates.changed c.remove-in-Some.ensures.updates.others out
+    record {
+      sound = sound-went c.self.inside.records c.remove-in-Some.new.self c.self.inside.by_id.map c.remove.new.self.map c.self.inside.next c.self.inside.spare c.self.inside.slots c.self.invariant.sound c.args.self.now c.self.view_is
+          c.args.port c.in-Some.key c.remove-in-Some.result found c.remove-in-Some.ensures.value quiet c.remove-in-Some.ensures.updates.changed c.remove-in-Some.ensures.updates.others out;
+      readied = readied-went (get c.self.inside.records) (get c.remove-in-Some.new.self) c.self.inside.ready c.self.invariant.readied c.in-Some.key c.remove-in-Some.result c.remove-in-Some.ensures.value
+          (record { changed = c.remove-in-Some.ensures.updates.changed; others = c.remove-in-Some.ensures.updates.others }) quiet;
+    }
 
 pub returns-in-Some : goal.returns-in-Some
 returns-in-Some g c =
     let found : map.get c.self.inside.by_id.map c.args.port ≡ Some c.in-Some.key = sym (c.in-Some.ensures.value ∙ ap (map.get c.self.inside.by_id.map) c.number.ensures) in
-    let quiet : length c.remove-in-Some.result.queue ≡ 0 = (c.requires (port_of c.remove-in-Some.result) (live_port c.self.inside.records c.self.inside.by_id.map c.self.inside.next c.self.inside.spare c.self.inside.slots c.self.invariant c.args.self.now c.self.view_is c.args.port c.in-Some.key c.remove-in-Some.result found c.remove-in-Some.ensures.value)) in
+    let quiet : length c.remove-in-Some.result.queue ≡ 0 = (c.requires (port_of c.remove-in-Some.result) (live_port c.self.inside.records c.self.inside.by_id.map c.self.inside.next c.self.inside.spare c.self.inside.slots c.self.invariant.sound c.args.self.now c.self.view_is c.args.port c.in-Some.key c.remove-in-Some.result found c.remove-in-Some.ensures.value)) in
     let out : c.remove.new.self.map ≡ map.remove c.self.inside.by_id.map c.args.port =
     ap (λ (w : MapView ℕ). w.map) c.remove.ensures.after ∙ ap (map.remove c.self.inside.by_id.map) c.number.ensures in
-    view-went c.self.inside.records c.remove-in-Some.new.self c.self.inside.by_id.map c.remove.new.self.map c.self.inside.next c.self.inside.spare c.self.inside.slots c.self.invariant c.args.self.now c.self.view_is
+    view-went c.self.inside.records c.remove-in-Some.new.self c.self.inside.by_id.map c.remove.new.self.map c.self.inside.next c.self.inside.spare c.self.inside.slots c.self.invariant.sound c.args.self.now c.self.view_is
     c.args.port c.in-Some.key c.remove-in-Some.result found c.remove-in-Some.ensures.value quiet c.remove-in-Some.ensures.updates.changed c.remove-in-Some.ensures.updates.others out
 
 pub returns-in-None : goal.returns-in-None
@@ -39,10 +44,10 @@ returns-in-None g c =
     let view : map.FinMap nat_cmp ℕ → PortsView g.row.M.Denot = λ keys. record { ports = ports_of (get c.self.inside.records) keys; made = made_of c.self.inside.next; spare = length c.self.inside.spare } in
     let after : map.FinMap nat_cmp (PortView g.row.M.Denot) → PortsView g.row.M.Denot = λ ports. record { ports = ports; made = c.args.self.now.made; spare = c.args.self.now.spare } in
     let same : c.remove.new.self.map ≡ c.self.inside.by_id.map = ap (λ (w : MapView ℕ). w.map) c.remove.ensures.after ∙ ap (map.remove c.self.inside.by_id.map) c.number.ensures ∙ remove-absent c.self.inside.by_id.map c.args.port none in
-    ap view same ∙ c.self.view_is ∙ ap after (sym (remove-absent c.args.self.now.ports c.args.port (gone_port c.self.inside.records c.self.inside.by_id.map c.self.inside.next c.self.inside.spare c.self.inside.slots c.self.invariant c.args.self.now c.self.view_is c.args.port none)))
+    ap view same ∙ c.self.view_is ∙ ap after (sym (remove-absent c.args.self.now.ports c.args.port (gone_port c.self.inside.records c.self.inside.by_id.map c.self.inside.next c.self.inside.spare c.self.inside.slots c.self.invariant.sound c.args.self.now c.self.view_is c.args.port none)))
 
 pub invariant_of-self-in-None : goal.invariant_of-self-in-None
 invariant_of-self-in-None g c =
     let none : map.get c.self.inside.by_id.map c.args.port ≡ None = sym (c.in-None.ensures.value ∙ ap (map.get c.self.inside.by_id.map) c.number.ensures) in
     let same : c.remove.new.self.map ≡ c.self.inside.by_id.map = ap (λ (w : MapView ℕ). w.map) c.remove.ensures.after ∙ ap (map.remove c.self.inside.by_id.map) c.number.ensures ∙ remove-absent c.self.inside.by_id.map c.args.port none in
-    subst (λ (keys : map.FinMap nat_cmp ℕ). IsSound c.self.inside.records keys c.self.inside.next c.self.inside.spare c.self.inside.slots) (sym same) c.self.invariant
+    subst (λ (keys : map.FinMap nat_cmp ℕ). IsKept c.self.inside.records keys c.self.inside.next c.self.inside.spare c.self.inside.slots c.self.inside.ready) (sym same) c.self.invariant
