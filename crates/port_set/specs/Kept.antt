@@ -13,10 +13,6 @@ pub record IsKept (sets : map.FinMap nat_cmp SetRecord) (next : Option ℕ) : Ty
   pub next_fits : (n : ℕ) → next ≡ Some n → n < 2 ^ 64
 
 module _ {M : Type 0} where
-  -- no member of the set has a message among the ports up to this one
-  pub record NoneUpTo (v : PortsView M) (set : ℕ) (last : Option ℕ) : Type 0 where
-    pub empty : (b : ℕ) → last ≡ Some b → (q : ℕ) (p : PortView M) → q ≤ b → map.get v.ports q ≡ Some p → p.attributes.set ≡ Some set → length p.queue ≡ 0
-
   -- one port is out of the set if it was in it, and else all is as it was
   pub record IsLeft (old new : PortsView M) (port set : ℕ) : Type 0 where
     pub member : (p : PortView M) → map.get old.ports port ≡ Some p → p.attributes.set ≡ Some set → new ≡ with_port old port (in_set p None)

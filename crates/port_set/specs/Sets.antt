@@ -4,6 +4,7 @@ use Rattle.std.specs.Coded.{Coded, code_by, coded×, coded_ℕ}
 use Rattle.std.specs.FinMap as map
 use Rattle.std.specs.Ordering.{nat_cmp}
 use Rattle.port.specs.Ports.{PortView, PortsView}
+pub use Rattle.port.specs.Ports.{IsReadyIn as IsReady, NoneReadyIn as NoneReady}
 use Rattle.port_set.specs.declared.SetRecord.{SetRecord}
 
 pub record SetsView : Type 0 where
@@ -38,17 +39,6 @@ module _ {M : Type 0} where
   -- the port in this set, or in none; its queue and all else of it stay
   abbrev pub in_set : PortView M → Option ℕ → PortView M
   in_set p set = record p { attributes = record p.attributes { set = set } }
-
-  -- the port is there, a member of the set, and has a message
-  pub record IsReady (v : PortsView M) (set port : ℕ) : Type 0 where
-    pub view : PortView M
-    pub there : map.get v.ports port ≡ Some view
-    pub member : view.attributes.set ≡ Some set
-    pub some : 0 < length view.queue
-
-  -- no member of the set has a message
-  pub record NoneReady (v : PortsView M) (set : ℕ) : Type 0 where
-    pub empty : (port : ℕ) (p : PortView M) → map.get v.ports port ≡ Some p → p.attributes.set ≡ Some set → length p.queue ≡ 0
 
   -- Each member of the set is in no set now; each other port, and the counts, are as they were.
   pub record IsDisbanded (old new : PortsView M) (set : ℕ) : Type 0 where
