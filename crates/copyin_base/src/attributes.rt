@@ -8,7 +8,7 @@ use mach_types::PortId;
 use port::Attributes;
 
 impl World {
-    /// The attributes of a port that is there. Logarithmic in the ports.
+    /// The attributes of a port that is there. Constant time.
     pub fn attributes(&self, port: PortId) -> Attributes
         requires { is_some (port_at self.now port) ≡ true }
         ensures { HasAttributes self.now port result }
@@ -19,7 +19,7 @@ impl World {
         attributes
     }
 
-    /// Sets the attributes of a port that is there. Takes no memory. Logarithmic in the ports.
+    /// Sets the attributes of a port that is there. Takes no memory. Constant time.
     pub fn set_attributes(&mut self, port: PortId, attributes: Attributes)
         requires { is_some (port_at self.old port) ≡ true }
         ensures { SetsAttributes self.old port attributes self.new }

@@ -140,8 +140,8 @@ fn give_port(world: &mut World, task: TaskId, given: Disposition, port: PortId) 
 /// references is dropped.
 ///
 /// [`Name::null`] where there is no right, and [`Name::dead`] where its port is gone: nothing changes
-/// then. Room is used for a fresh name alone. Takes no memory. Logarithmic in the number of the task's names and of ports, but for a move
-/// of 16 bytes for each greater name.
+/// then. Room is used for a fresh name alone. Takes no memory. Logarithmic in the number of the
+/// task's names, but for a move of 16 bytes for each greater name.
 pub fn give_right(world: &mut World, task: TaskId, carried: &Carried) -> Name
     requires { CanGive world.old task (carried.now ∷ []) }
     ensures { GivesMark world.old task (kind_sent carried.now.given) carried.now.mark result world.new }

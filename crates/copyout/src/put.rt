@@ -10,8 +10,8 @@ use mach_types::{Disposition, Name, PortId, TaskId};
 /// one that isn't in use (Port Manipulation Interface, `mach_port_insert_right`).
 ///
 /// A name that isn't in use has a place that was made: it is the fresh one where there is room for one,
-/// or the one for which a place is kept. Takes no memory. Logarithmic in the number of the task's names
-/// and of ports, but for a move of 16 bytes for each greater name.
+/// or the one for which a place is kept. Takes no memory. Logarithmic in the number of the task's names,
+/// but for a move of 16 bytes for each greater name.
 pub fn put_right(world: &mut World, task: TaskId, given: Disposition, port: PortId, name: Name)
     requires { CanPut world.old task (kind_sent given) port name }
     ensures { PutsPort world.old task (kind_sent given) port name world.new }

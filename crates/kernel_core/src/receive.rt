@@ -179,8 +179,7 @@ fn has_receive(world: &World, task: TaskId, port: PortId) -> bool
 /// the room, when it stays. A refusal leaves all as it was.
 ///
 /// `MACH_RCV_BODY_ERROR` with `MACH_MSG_IPC_SPACE` where the task's names don't suffice for the
-/// message's rights, or with `MACH_MSG_IPC_KERNEL` where memory was refused. Linear in the number of
-/// ports for a set; else logarithmic in it, and linear in the message.
+/// message's rights, or with `MACH_MSG_IPC_KERNEL` where memory was refused. Linear in the message.
 fn take(
     world: &mut World,
     alloc: Global,

@@ -51,8 +51,7 @@ impl TaskName {
 /// `RIGHT_EXISTS` where the task has the port under another name; `NAME_EXISTS` where something else
 /// stands under the name; `UREFS_OVERFLOW` at 65,535 references; `NO_SPACE` at 65,535 names or
 /// 4,294,967,295 rights; `RESOURCE_SHORTAGE` where the name is new, no place was kept for it, and
-/// memory for one was refused. Logarithmic in the names and ports, but for a move of 16 bytes for each
-/// greater name.
+/// memory for one was refused. Logarithmic in the names, but for a move of 16 bytes for each greater name.
 pub(crate) fn insert(
     world: &mut World,
     to: &TaskName,
@@ -82,8 +81,8 @@ pub(crate) fn insert(
 /// Errors, of which the first is answered: `INVALID_VALUE` where the number is no disposition's;
 /// `INVALID_NAME` where nothing stands under the name; `INVALID_RIGHT` where it lacks the right, or is
 /// dead; `NO_SPACE` at 65,535 names where a name is needed once the right was copied in, or at
-/// 4,294,967,295 rights; `RESOURCE_SHORTAGE` where memory was refused. Logarithmic in the names and
-/// ports, but for a move of 16 bytes for each greater name.
+/// 4,294,967,295 rights; `RESOURCE_SHORTAGE` where memory was refused. Logarithmic in the
+/// names, but for a move of 16 bytes for each greater name.
 pub(crate) fn extract(
     world: &mut World,
     from: &TaskName,

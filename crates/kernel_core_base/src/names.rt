@@ -46,8 +46,7 @@ enum NewRight {
 /// also where there are 4,294,967,295 rights, and for a port or a set where all its identities were
 /// given; `KERN_RESOURCE_SHORTAGE` for want of memory, of which a dead name takes none where there is
 /// room for its name. A refusal leaves all as it was, but that room for one name may have been made.
-/// Logarithmic in the names of the task and in the ports or the sets, but for a move of 16 bytes for
-/// each greater name, and where tables move to a larger place.
+/// Logarithmic in the names of the task, but for a move of 16 bytes for each greater name, and where tables move to a larger place.
 pub fn allocate(world: &mut World, task: TaskId, right: u32) -> Result<Reply, Code>
     requires there { task < length world.old.spaces }
     requires stands { Stands world.old }

@@ -15,7 +15,7 @@ use port::Attributes;
 /// task, which lives, has for the set that the port is in, 0 where it is in none.
 ///
 /// `KERN_INVALID_NAME` for a name that isn't in use; `KERN_INVALID_RIGHT` where it has no receive right.
-/// Logarithmic in the names of the task, in the ports and in the sets.
+/// Logarithmic in the names of the task.
 #[tactic(auto, using(crate::proofs::ReceiveRight::has_port, crate::proofs::ReceiveRight::status_told))]
 pub fn receive_status(world: &World, task: TaskId, name: Name) -> Result<Reply, Code>
     requires there { task < length world.now.spaces }
@@ -63,7 +63,7 @@ fn set_name(world: &World, set: Option<SetId>) -> Name
 /// port takes from send rights, 0 to 16. Messages that are there stay. The task lives.
 ///
 /// `KERN_INVALID_VALUE` above 16; `KERN_INVALID_NAME` for a name that isn't in use; `KERN_INVALID_RIGHT`
-/// where it has no receive right. Takes no memory. Logarithmic in the names of the task and in the ports.
+/// where it has no receive right. Takes no memory. Logarithmic in the names of the task.
 #[tactic(auto, using(copyin_base::proofs::Finding::receive_port_there))]
 pub fn set_qlimit(world: &mut World, task: TaskId, name: Name, limit: u32) -> Result<Reply, Code>
     requires there { task < length world.old.spaces }
@@ -90,7 +90,7 @@ pub fn set_qlimit(world: &mut World, task: TaskId, name: Name, limit: u32) -> Re
 /// from the receive right, any 32-bit number. The task lives.
 ///
 /// `KERN_INVALID_NAME` for a name that isn't in use; `KERN_INVALID_RIGHT` where it has no receive right.
-/// Takes no memory. Logarithmic in the names of the task and in the ports.
+/// Takes no memory. Logarithmic in the names of the task.
 #[tactic(auto, using(copyin_base::proofs::Finding::receive_port_there))]
 pub fn set_mscount(world: &mut World, task: TaskId, name: Name, count: u32) -> Result<Reply, Code>
     requires there { task < length world.old.spaces }

@@ -169,7 +169,7 @@ fn destroy_entry(entry: &Entry) -> Option<Due>
 ///
 /// `KERN_INVALID_NAME` for a name that isn't in use; `KERN_INVALID_RIGHT` for a receive right alone, a
 /// set, and, as long as none can be lost, a send-once right. A refusal changes nothing. Takes no memory.
-/// Logarithmic in the names of the task and in the ports, but for a move of 16 bytes for each greater
+/// Logarithmic in the names of the task, but for a move of 16 bytes for each greater
 /// name where the name goes.
 pub fn deallocate(world: &mut World, task: TaskId, name: Name) -> Result<Reply, Code>
     requires there { task < length world.old.spaces }
@@ -190,8 +190,8 @@ pub fn deallocate(world: &mut World, task: TaskId, name: Name) -> Result<Reply, 
 ///
 /// `KERN_INVALID_NAME` for a name that isn't in use; `KERN_INVALID_RIGHT`, as long as none can be lost,
 /// for a name with a receive or send-once right. A refusal changes nothing. Takes no memory. Logarithmic
-/// in the names of the task and in the ports, but for a move of 16 bytes for each greater name, and for
-/// a set a logarithmic look at each port.
+/// in the names of the task, but for a move of 16 bytes for each greater name, and for a set a look at
+/// each identity that a port was given.
 pub fn destroy(world: &mut World, task: TaskId, name: Name) -> Result<Reply, Code>
     requires there { task < length world.old.spaces }
     requires stands { Stands world.old }
@@ -340,8 +340,8 @@ fn find_right(
 /// without references can't have; `KERN_UREFS_OVERFLOW` above 65,535 references; `KERN_NO_SPACE` above
 /// 4,294,967,295 rights; and, as long as none can be lost, `KERN_INVALID_RIGHT` where a receive or
 /// send-once right would go. A refusal changes nothing. Takes no memory. Logarithmic in the names of the
-/// task and in the ports, but for a move of 16 bytes for each greater name where the name goes, and a
-/// logarithmic look at each port where a set does.
+/// task, but for a move of 16 bytes for each greater name where the name goes, and a look at each
+/// identity that a port was given where a set does.
 pub fn mod_refs(
     world: &mut World,
     task: TaskId,

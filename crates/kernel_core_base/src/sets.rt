@@ -21,7 +21,7 @@ use std::alloc::{AllocError, Global};
 /// `KERN_INVALID_NAME` for a name that isn't in use; `KERN_INVALID_RIGHT` where it is no set's;
 /// `KERN_RESOURCE_SHORTAGE` for want of memory, of which it takes 4 bytes for each name of the task and
 /// up to twice as many for each member. Linear in the names of the task, but for a logarithmic look at
-/// each and at its port.
+/// each.
 pub fn set_status(world: &World, alloc: Global, task: TaskId, name: Name) -> Result<Reply, Code>
     requires { task < length world.now.spaces }
     ensures { Serves world.now (Event.SetStatus task name) result world.now }
@@ -91,7 +91,7 @@ struct Moving {
 ///
 /// `KERN_INVALID_NAME` for a name that isn't in use; `KERN_INVALID_RIGHT` where the first has no receive
 /// right or the second is no set's; `KERN_NOT_IN_SET` where the port is to leave its set and is in none.
-/// Takes no memory. Logarithmic in the names of the task and in the ports.
+/// Takes no memory. Logarithmic in the names of the task.
 pub fn move_member(
     world: &mut World,
     task: TaskId,
