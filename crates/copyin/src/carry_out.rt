@@ -3,6 +3,7 @@ ghost use Rattle.std.specs.Prelude.{◌≡◌, ℕ, ◌<◌, ◌≤◌, ◌+◌,
 ghost use Rattle.std.specs.Option.{option_to_list};
 ghost use Rattle.mach_types.specs.Grammar.{WireBody};
 ghost use Rattle.mach_types.specs.Numbers.{most_rights};
+ghost use Rattle.mach_types.specs.declared.rights.Disposition.TheVariants as disposition_of;
 ghost use Rattle.message_codec.specs.declared.text.Parsed.{Parsed as AnyParsed};
 ghost use Rattle.rights.specs.Ledger.{IsEntered};
 ghost use Rattle.copyin_base.specs.declared.message.Mark.TheVariants as mark_of;
@@ -15,10 +16,28 @@ ghost use Rattle.copyin.specs.Copies.{ports_copied, ledger_copied, CopiesRight};
 use crate::copies::copy_right;
 use crate::judge::Plan;
 use copyin_base::{Carried, Mark, Message, World};
-use mach_types::{Disposition, Name, TaskId};
+use mach_types::{Disposition, Name, PortId, TaskId};
 use message_codec::PortWord;
 use port::{Attributes, Ports};
 use rights::{Ledger, RightKind};
+
+// The receive right goes from its port, whose counts start again and which is in no set.
+fn leave_port(ports: &mut Ports<Message>, port: PortId)
+    ensures { ports.new ≡ ports_copied disposition_of.MoveReceive (mark_of.Port port) ports.old }
+{
+    let Some(attributes) = ports.attributes(port) else {
+        return;
+    };
+    ports.set_attributes(
+        port,
+        Attributes {
+            make_send: 0,
+            sequence: 0,
+            set: None,
+            ..attributes
+        },
+    );
+}
 
 // Sets what a right changes of its port when it goes.
 fn renew_port(ports: &mut Ports<Message>, given: Disposition, mark: Mark)
@@ -27,26 +46,9 @@ fn renew_port(ports: &mut Ports<Message>, given: Disposition, mark: Mark)
     let Mark::Port(port) = &mark else {
         return;
     };
-    let Some(attributes) = ports.attributes(*port) else {
-        return;
-    };
     match given {
-        Disposition::MakeSend => ports.set_attributes(
-            *port,
-            Attributes {
-                make_send: attributes.make_send.wrapping_add(1),
-                ..attributes
-            },
-        ),
-        Disposition::MoveReceive => ports.set_attributes(
-            *port,
-            Attributes {
-                make_send: 0,
-                sequence: 0,
-                set: None,
-                ..attributes
-            },
-        ),
+        Disposition::MakeSend => ports.count_make_send(*port),
+        Disposition::MoveReceive => leave_port(ports, *port),
         _ => {}
     }
 }

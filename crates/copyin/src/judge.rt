@@ -342,13 +342,7 @@ fn has_slot(world: &World, port: PortId, destination: Carried) -> bool
     requires sends { kind_sent destination.given ≢ receive }
     ensures { MatchBool result (HasSlot world.now port destination) (HasNoSlot world.now port destination) }
 {
-    if destination.given.is_send_once() {
-        return true;
-    }
-    match world.ports.attributes(port) {
-        Some(attributes) => world.ports.queued(port) < attributes.limit as usize,
-        None => unreachable!(),
-    }
+    destination.given.is_send_once() || world.ports.has_room(port)
 }
 
 // How many rights are made by this one: one, or none.
