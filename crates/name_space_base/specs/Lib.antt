@@ -1,0 +1,4 @@
+pub mod Bits
+pub mod Page
+pub mod Pages
+pub mod Sound
