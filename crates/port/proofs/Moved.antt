@@ -1,6 +1,5 @@
 -- Where an item stands once it left a list or joined one.
-use Rattle.std.proofs.Common.{◌≡◌, ◌≢◌, inl, inr, ℕ, ◌+◌, ◌<◌, ◌≤◌, Bool, true, false, not, eqb, Option, Some, None, List, [], ◌∷◌, ◌++◌, refl, ap, sym, subst, ◌∙◌, arith, Contains}
-use Rattle.std.specs.List.{filter}
+use Rattle.std.proofs.Common.{◌≡◌, ◌≢◌, inl, inr, ℕ, not, eqb, Option, Some, None, List, [], ◌∷◌, ◌++◌, refl, ap, sym, subst, ◌∙◌, arith, Contains}
 use Rattle.std.proofs.lemmas.List.Elements.{Contains-append_left, Contains-push_cases}
 use Rattle.member_lists.specs.Lists.{ListsView, list_of, with_list, without, IsApart}
 use Rattle.member_lists.proofs.Times.{times_from_Contains, Contains_from_times, times-filter_in, times-filter_passes, times-filter_most, eqb_same, eqb_other}

@@ -1,5 +1,5 @@
 -- The ready ports once a port changed, came or went.
-use Rattle.std.proofs.Common.{◌≡◌, ◌≢◌, inl, inr, ℕ, ◌+◌, ◌<◌, ◌≤◌, zero, suc, max, true, Option, Some, None, IfSome, IfNone, is_some, List, [], ◌∷◌, length, slice_get, refl, ap, sym, subst, ◌∙◌, arith, Contains}
+use Rattle.std.proofs.Common.{◌≡◌, inl, inr, ℕ, ◌<◌, ◌≤◌, Option, Some, None, is_some, List, [], ◌∷◌, length, slice_get, refl, ap, sym, subst, ◌∙◌, arith, Contains}
 use Rattle.std.specs.FinMap as map
 use Rattle.std.proofs.lemmas.Option.{slice_get_within, get_or_from_slice_get}
 use Rattle.member_lists.specs.Lists.{ListsView, list_of}
@@ -7,7 +7,7 @@ use Rattle.member_lists.proofs.Listed.{apart_if_none}
 use Rattle.slab.specs.Slab.{Slab, get, with_value}
 use Rattle.port.specs.declared.Record.{Record}
 use Rattle.port.specs.Ports.{PortView, PortsView, IsReadyIn, NoneReadyIn}
-use Rattle.port.specs.Ready.{StandsIn, IsMoved}
+use Rattle.port.specs.Ready.{IsMoved}
 use Rattle.port.specs.Records.{ports_of, made_of, ready_if, ready_set, IsReadied, IsSound, IsKept}
 use Rattle.port.proofs.Keys.{same_some, some_or_none, equal_or_not}
 use Rattle.port.proofs.Records.{Keyed, port_of, Turns}

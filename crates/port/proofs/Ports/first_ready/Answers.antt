@@ -1,4 +1,4 @@
-use Rattle.std.proofs.Common.{◌≡◌, ℕ, Some, None, is_some, ap, sym, ◌∙◌, slice_get}
+use Rattle.std.proofs.Common.{◌≡◌, Some, None, is_some, ap, sym, ◌∙◌, slice_get}
 use Rattle.member_lists.specs.Lists.{list_of}
 use Rattle.port.proofs.Readied.{first_held, ready_first, none_ready}
 use Rattle.port.proofs.Ports.first_ready.Goals as goal

@@ -5,7 +5,6 @@ use Rattle.port.specs.declared.Record.{Record}
 use Rattle.port.specs.Ports.{PortView, PortsView}
 use Rattle.port.specs.Records.{ports_of, made_of, ready_set, IsReadied, IsSound}
 use Rattle.port.specs.Ready.{StandsIn, IsMoved}
-use Rattle.port.proofs.Moved.{moved_on}
 use Rattle.port.proofs.Readied.{readied-set}
 use Rattle.port.proofs.Records.{port_of}
 use Rattle.port.proofs.Sound.{record_at, live_at, is_port, turns-set, sound-set, view-set}
