@@ -633,9 +633,9 @@ mod tests {
         attributes.limit = 16;
         ports.set_attributes(port, attributes);
         assert_eq!(rt; ports.attributes(port).ok_or("made")?.limit, 16);
-        assert_eq!(rt; ports.queued(port), 0);
         ports.count_make_send(port);
         assert_eq!(rt; ports.attributes(port).ok_or("made")?.make_send, 1);
+        assert_eq!(rt; ports.queued(port), 0);
         ports.remove(port);
         assert!(rt; !ports.has_room(port));
         assert!(rt; ports.attributes(port).is_none());
