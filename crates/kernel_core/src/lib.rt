@@ -8,14 +8,10 @@
 #![tactic(auto)]
 
 mod kernel;
-#[cfg(test)]
-mod names_tests;
 mod receive;
 mod runs;
 mod send;
 mod settle;
-#[cfg(test)]
-mod tests;
 mod transfer;
 
 pub use kernel::Kernel;

@@ -440,6 +440,3 @@ fn is_send(given: Disposition) -> bool
 {
     matches!(given.kind(), Right::Send)
 }
-
-#[cfg(test)]
-mod tests;

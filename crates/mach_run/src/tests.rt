@@ -86,19 +86,6 @@ fn one_reply_a_line(rt: HostRuntime) {
 }
 
 #[test]
-fn the_first_script(rt: HostRuntime) {
-    let script = "task\nalloc 0 1\n\
-        send 0 140000001800000001000000000000000000000007000000\n\
-        recv 0 1 24 0\nstatus 0 1\n";
-    let want = "task 0\nname 1\ncode 00000000\n\
-        message 001100001800000000000000010000000000000007000000\n\
-        status 0 1 1 5 0 0 0 0 0\n";
-    let (status, out, err) = ran(rt.alloc(), script.as_bytes());
-    assert!(rt; status == 0 && err.is_empty());
-    assert_eq!(rt; out.as_slice(), want.as_bytes());
-}
-
-#[test]
 fn the_largest_numbers(rt: HostRuntime) {
     let (status, out, _) = ran(
         rt.alloc(),

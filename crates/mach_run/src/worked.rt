@@ -5,6 +5,20 @@ use std::alloc::Global;
 use std::test::Fail;
 use tracer_base::{read_script, write_reply_line};
 
+// The smallest message, and the status that it leaves.
+const SMALLEST_MESSAGE: (&str, &str) = (
+    "task\n\
+    alloc 0 1\n\
+    send 0 140000001800000001000000000000000000000007000000\n\
+    recv 0 1 24 0\n\
+    status 0 1\n",
+    "task 0\n\
+    name 1\n\
+    code 00000000\n\
+    message 001100001800000000000000010000000000000007000000\n\
+    status 0 1 1 5 0 0 0 0 0\n",
+);
+
 // A send-once right for a port of the sender, in a short descriptor.
 const SEND_ONCE_RIGHT: (&str, &str) = (
     "task\n\
@@ -356,6 +370,13 @@ fn gives(alloc: Global, script: &str, replies: &str) -> bool {
         Some(page) => performed && page.as_slice() == replies.as_bytes(),
         None => false,
     }
+}
+
+/// A kernel that always wants memory, or loses the message, fails here.
+#[test]
+fn smallest_message_is_answered(rt: HostRuntime) {
+    let (script, replies) = SMALLEST_MESSAGE;
+    assert!(rt; gives(rt.alloc(), script, replies));
 }
 
 #[test]
