@@ -8,7 +8,7 @@ use Rattle.mach_model.specs.Notices.{Owed}
 use Rattle.mach_model.specs.Refusals.{Refuses, RefusesLater, IsOneDead, guards, call_guards, tasks_of}
 use Rattle.mach_model.specs.Machine.{Does}
 use Rattle.mach_model.specs.Settles.{Settles}
-use Rattle.mach_model.proofs.StepLawful.{Does-mid}
+use Rattle.mach_model.proofs.StepQuiet.{Does-still}
 use Rattle.mach_model.proofs.Settling.{mid_settles}
 use Rattle.copyin_base.specs.Worlds.{WorldView}
 use Rattle.copyin_base.specs.Shows.{Agrees, Shows}
@@ -56,11 +56,11 @@ done old event reply new tasks good does = record {
   acts = λ now s sh.
       let unrefused : NoneHolds (guards s event) = (tasks_live old s sh.agrees event tasks, good.allowed s sh) in
       let d = does now s sh in
-      record { unrefused = unrefused; mid = d.mid; owed = d.owed; does = d.does; shows = record { agrees = d.agrees; lawful = Does-mid now s event reply d.mid d.owed unrefused d.does sh.lawful } };
+      record { unrefused = unrefused; mid = d.mid; owed = d.owed; does = d.does; shows = record { agrees = d.agrees; lawful = Does-still now s event reply d.mid d.owed unrefused d.does sh.lawful sh.quiet } };
 }
 
 -- ---- the end of a step
 
 -- Nothing is lost yet, so what is midway is the end.
 pub settled : (w : WorldView) (now : ℕ) (old mid : State) (owed : Owed) → ShowsMid w mid owed → (new : State) × Settles now old mid owed new × Shows w new
-settled w now old mid owed m = (mid, mid_settles now old mid owed m.lawful, record { agrees = m.agrees; lawful = m.lawful.lawful })
+settled w now old mid owed m = (mid, mid_settles now old mid owed m.lawful, record { agrees = m.agrees; lawful = m.lawful.lawful; quiet = m.lawful.quiet })

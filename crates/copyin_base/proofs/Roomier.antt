@@ -61,7 +61,7 @@ room_agrees w v s same a =
     subst (λ (x : WorldView). Agrees x s) is (room_spaces w v s same a)
 
 pub room_shows : (w v : WorldView) (s : State) → SameButRoom w v → Shows w s → Shows v s
-room_shows w v s same sh = record { agrees = room_agrees w v s same sh.agrees; lawful = sh.lawful }
+room_shows w v s same sh = record { agrees = room_agrees w v s same sh.agrees; lawful = sh.lawful; quiet = sh.quiet }
 
 pub room_refl : (w : WorldView) → SameButRoom w w
 room_refl w = record { tasks = refl; names = λ task. refl; ports = refl; ledger = refl; sets = refl }
@@ -102,4 +102,4 @@ slots_agree w s n a = record {
 }
 
 pub slots_show : (w : WorldView) (s : State) (n : ℕ) → Shows w s → Shows (record w { ports = record w.ports { spare = n } }) s
-slots_show w s n sh = record { agrees = slots_agree w s n sh.agrees; lawful = sh.lawful }
+slots_show w s n sh = record { agrees = slots_agree w s n sh.agrees; lawful = sh.lawful; quiet = sh.quiet }

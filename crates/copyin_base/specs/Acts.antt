@@ -6,7 +6,7 @@ use Rattle.mach_types.specs.Numbers.{kern_number, msg_number}
 use Rattle.mach_types.specs.Guards.{Guards, FirstIs, NoneHolds}
 use Rattle.mach_model.specs.State.{State}
 use Rattle.mach_model.specs.Notices.{Owed}
-use Rattle.mach_model.specs.Midway.{MidLawful}
+use Rattle.mach_model.specs.Midway.{IsStill}
 use Rattle.mach_model.specs.Refusals.{Refuses, guards, tasks_of}
 use Rattle.mach_model.specs.Machine.{Does}
 use Rattle.copyin_base.specs.declared.code.Code.{Code}
@@ -20,10 +20,10 @@ code_number (Message code) = msg_number code
 
 -- ---- a step's own part
 
--- The tables show the state midway, where this is owed.
+-- The tables show the state midway, where this is owed: nothing, as long as the rules of NotYet stand.
 pub record ShowsMid (w : WorldView) (mid : State) (owed : Owed) : Type 0 where
   pub agrees : Agrees w mid
-  pub lawful : MidLawful mid owed
+  pub lawful : IsStill mid owed
 
 -- What was judged in the state allows the event, whose own part is done: the tables show the state midway.
 pub record IsDone (now : ℕ) (s : State) (event : Event) (reply : Reply) (new : WorldView) : Type 0 where

@@ -8,6 +8,7 @@ use Rattle.mach_model.specs.State.{State, Target, Names, queue}
 use Rattle.mach_model.specs.ReceiveRight.{one_if}
 use Rattle.mach_model.specs.Carried.{lying}
 use Rattle.mach_model.specs.Lawful.{IsLawful}
+use Rattle.mach_model.specs.NotYet.{IsQuiet}
 use Rattle.name_space.specs.declared.Entry.{Entry as Named}
 use Rattle.name_space.specs.declared.Entry.TheVariants as named
 use Rattle.name_space.specs.Entry.{port_named, has_receive, send_references}
@@ -102,7 +103,8 @@ pub record Agrees (w : WorldView) (s : State) : Type 0 where
   -- no request stands
   pub requests : (r : Request) (kind : Kind) (q : ℕ) → lying s kind q (in_request r) ≡ 0
 
--- They agree with a state of which all is true that is true of every state that the machine reaches.
+-- They agree with a state of which all is true that is true of every state that the machine reaches, as long as the rules of NotYet stand.
 pub record Shows (w : WorldView) (s : State) : Type 0 where
   pub agrees : Agrees w s
   pub lawful : IsLawful s
+  pub quiet : IsQuiet s

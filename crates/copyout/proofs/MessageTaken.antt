@@ -19,7 +19,8 @@ use Rattle.mach_model.specs.Receive.{TakesFrom, Receives}
 use Rattle.mach_model.specs.Carried.{rights_count}
 use Rattle.mach_model.specs.Lawful.{IsLawful}
 use Rattle.mach_model.proofs.Moving.{IsMoving}
-use Rattle.mach_model.proofs.ReceiveLawful.{taken_moving, lies, Receives-lawful}
+use Rattle.mach_model.proofs.ReceiveLawful.{taken_moving, lies}
+use Rattle.mach_model.proofs.StepQuiet.{Receives-still}
 use Rattle.message_codec.specs.declared.header.Header.{Header}
 use Rattle.message_codec.specs.Parses.{is_items}
 use Rattle.message_codec.specs.Received.{header_text, received_body}
@@ -243,11 +244,9 @@ module _ (w : WorldView) (s : State) (sh : Shows w s) (task port local : ℕ) (b
 
     -- The message is received, and the tables show the state that this leaves.
     pub message_received : Received s task port room bytes w'
-    message_received = record {
-      t = all.t;
-      receives = receives;
-      shows = record { agrees = all.agrees; lawful = Receives-lawful task port room bytes s all.t l lives is_task receives };
-    }
+    message_received =
+        let still = Receives-still task port room bytes s all.t l sh.quiet lives is_task receives in
+        record { t = all.t; receives = receives; shows = record { agrees = all.agrees; lawful = still.lawful; quiet = still.quiet } }
 
   -- The port may be taken from: the task has its receive right, and it is in no set.
   pub takes_from : has_receive x ≡ true → m.takes.v.attributes.set ≡ None → TakesFrom s task (Waited.Port port) port

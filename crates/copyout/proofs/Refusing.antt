@@ -123,7 +123,7 @@ module _ (w : WorldView) (s : State) (sh : Shows w s) (task port : ℕ) (is_task
   pub receipt_large : (waited : Waited) → TakesFrom s task waited port → (room : ℕ) (large : Bool) (n : ℕ) → n ≡ length m.bytes → min room most_bytes < n →
       Receipt s task waited room large (Reply.TooLarge n) s []
   receipt_large waited from room large n is above =
-      (port, front.first, from, shown_is_front w s sh.agrees port v there m behind queued, is ∙ sym (kept_length port m message front.keeps), above, refl, refl)
+      (port, front.first, from, shown_is_front w s sh.agrees port v there m behind queued, is ∙ sym (kept_length port m message front.keeps), above, (refl, refl))
 
 -- No message waits at the port.
 pub receipt_empty : (w : WorldView) (s : State) → Agrees w s → (task port : ℕ) (v : PortView Kept) → port_at w port ≡ Some v → v.queue ≡ [] → (room : ℕ) (large : Bool) →

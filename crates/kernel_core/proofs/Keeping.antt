@@ -76,7 +76,7 @@ none_accepted : (old : WorldView) (event : Event) (code : ℕ) (new : WorldView)
 none_accepted old event code new stands d =
     let s = stands.state in
     let step : Step 0 s event (Reply.Code code) s = inl (record { code = code; told = refl; refuses = d.refuses s stands.shown; same = refl }) in
-    let counted = Step-counted 0 s event (Reply.Code code) s stands.shown.lawful step in
+    let counted = Step-counted 0 s event (Reply.Code code) s (record { lawful = stands.shown.lawful; quiet = stands.shown.quiet }) step in
     let none = none_delivered event code in omega (arith, counted, none)
 
 at_most_one : (event : Event) (reply : Reply) → accepts event reply ≤ 1

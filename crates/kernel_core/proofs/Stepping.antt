@@ -8,7 +8,7 @@ use Rattle.mach_types.specs.declared.calls.Reply.{Reply}
 use Rattle.mach_model.specs.State.{State, opening}
 use Rattle.mach_model.specs.Notices.{Owed}
 use Rattle.mach_model.specs.Settles.{Settles}
-use Rattle.mach_model.proofs.Opening.{opening-lawful}
+use Rattle.mach_model.proofs.Opening.{opening-lawful, opening-quiet}
 use Rattle.port.specs.Ports.{PortView}
 use Rattle.port_set.specs.declared.SetRecord.{SetRecord}
 use Rattle.rights.specs.declared.Counts.{Counts}
@@ -69,7 +69,7 @@ opening_agrees = record {
     no_port p v e = let n : map.get no_world.ports.ports p ≡ None = map.get-empty {X = PortView Kept} nat_cmp p in cc
 
 pub opening_shows : Shows no_world opening
-opening_shows = record { agrees = opening_agrees; lawful = opening-lawful }
+opening_shows = record { agrees = opening_agrees; lawful = opening-lawful; quiet = opening-quiet }
 
 pub opening_stands : Stands no_world
 opening_stands = record { state = opening; shown = opening_shows }

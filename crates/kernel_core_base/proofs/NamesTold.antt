@@ -46,7 +46,7 @@ bits w s a task name (entry.Set set) is = refl
 type_whole : (w : WorldView) (s : State) → Shows w s → (task name : ℕ) (e : Entry) → entry_at w task name ≡ Some e → type_in e ≡ type_of s task name (target_of e)
 type_whole w s sh task name e is =
     let b = bits w s sh.agrees task name e is in
-    let n : (if s.stands (dead_name task name) then request_bit else 0) ≡ 0 = rw (sh.lawful.none_stands (dead_name task name)) refl in
+    let n : (if s.stands (dead_name task name) then request_bit else 0) ≡ 0 = rw (sh.quiet.none_stands (dead_name task name)) refl in
     omega (arith, b, n)
 
 pub type_told : (w : WorldView) (task name : ℕ) (e : Entry) → task < length w.spaces → entry_at w task name ≡ Some e → Acts w (Event.NameType task name) (Reply.NameType (type_in e)) w

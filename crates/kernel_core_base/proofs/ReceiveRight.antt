@@ -73,8 +73,8 @@ tells w s sh task name p f v there =
       queued = as_many p v.queue (queue s p) x.waiting;
       send_once = c.once_rights;
       has_send = has_one (counts_of w.ledger p).send ∙ ap (λ (n : ℕ). one_if (nat_lt 0 n)) c.senders;
-      port_destroyed = ap one_if (sym (sh.lawful.none_stands (port_destroyed p)));
-      no_senders = ap one_if (sym (sh.lawful.none_stands (no_senders p)));
+      port_destroyed = ap one_if (sym (sh.quiet.none_stands (port_destroyed p)));
+      no_senders = ap one_if (sym (sh.quiet.none_stands (no_senders p)));
     }
 
 -- what the tables have of a port whose receive right is named

@@ -8,8 +8,7 @@ use Rattle.mach_types.specs.declared.calls.Reply.{Reply}
 use Rattle.mach_model.specs.State.{State, queue}
 use Rattle.mach_model.specs.Send.{entry}
 use Rattle.mach_model.specs.Machine.{Step}
-use Rattle.mach_model.specs.Lawful.{IsLawful}
-use Rattle.mach_model.proofs.StepLawful.{Step-lawful}
+use Rattle.mach_model.proofs.StepQuiet.{IsCalm, Step-calm}
 use Rattle.mach_laws.specs.Queued.{sum_below, queued, accepts, delivers}
 use Rattle.mach_laws.proofs.Steps.{Passes, Step-passes, Step-accepts, Step-delivers}
 
@@ -51,7 +50,7 @@ sum_more f m (suc k) none =
 abbrev waiting : State → ℕ → ℕ
 waiting s p = length (queue s p)
 
-module _ (s : State) (l : IsLawful s) where
+module _ (s : State) (l : IsCalm s) where
   queue_long : (p : ℕ) → waiting s p + s.taken p ≡ length (s.log p)
   queue_long p =
       let w = l.within p in
@@ -79,7 +78,7 @@ module _ (s : State) (l : IsLawful s) where
 -- ---- a step
 
 -- what it counts where it accepts none, or gives none
-none_accepted : (now : ℕ) (old : State) (event : Event) (reply : Reply) (new : State) → IsLawful old → Step now old event reply new → ((p : ℕ) → new.log p ≡ old.log p) → accepts event reply ≡ 0
+none_accepted : (now : ℕ) (old : State) (event : Event) (reply : Reply) (new : State) → IsCalm old → Step now old event reply new → ((p : ℕ) → new.log p ≡ old.log p) → accepts event reply ≡ 0
 none_accepted now old (Event.Send task bytes) (Reply.Code code) new l step log = elim (eqb_tells code 0) [
   | inl h ↦
       let a = Step-accepts now old task bytes new l (subst (λ (n : ℕ). Step now old (Event.Send task bytes) (Reply.Code n) new) h.1 step) in
@@ -91,7 +90,7 @@ none_accepted now old (Event.Send task bytes) (Reply.Code code) new l step log =
 ]
 none_accepted now old event reply new l step log = refl
 
-none_delivered : (now : ℕ) (old : State) (event : Event) (reply : Reply) (new : State) → IsLawful old → Step now old event reply new → ((p : ℕ) → new.taken p ≡ old.taken p) → delivers event reply ≡ 0
+none_delivered : (now : ℕ) (old : State) (event : Event) (reply : Reply) (new : State) → IsCalm old → Step now old event reply new → ((p : ℕ) → new.taken p ≡ old.taken p) → delivers event reply ≡ 0
 none_delivered now old event (Reply.Message bytes) new l step taken =
     let d = Step-delivers now old event bytes new l step in
     let same = taken d.port in
@@ -99,9 +98,9 @@ none_delivered now old event (Reply.Message bytes) new l step taken =
     absurd (omega (arith, same, more))
 none_delivered now old event reply new l step taken = refl
 
-module _ (now : ℕ) (old : State) (event : Event) (reply : Reply) (new : State) (l : IsLawful old) (step : Step now old event reply new) where
-  after : IsLawful new
-  after = Step-lawful now old event reply new step l
+module _ (now : ℕ) (old : State) (event : Event) (reply : Reply) (new : State) (l : IsCalm old) (step : Step now old event reply new) where
+  after : IsCalm new
+  after = Step-calm now old event reply new step l
 
   -- both sums go to one bound
   abbrev bound : ℕ
@@ -153,6 +152,6 @@ module _ (now : ℕ) (old : State) (event : Event) (reply : Reply) (new : State)
       omega (arith, less, given, none, queued_old, queued_new)
 
 -- What a step does to the number of queued messages.
-pub Step-counted : (now : ℕ) (old : State) (event : Event) (reply : Reply) (new : State) → IsLawful old → Step now old event reply new →
+pub Step-counted : (now : ℕ) (old : State) (event : Event) (reply : Reply) (new : State) → IsCalm old → Step now old event reply new →
     queued new + delivers event reply ≡ queued old + accepts event reply
 Step-counted now old event reply new l step = counted now old event reply new l step (Step-passes now old event reply new l step)

@@ -178,19 +178,19 @@ receipts_alike s task p room large (Reply.Message xs) (Reply.Message ys) mid oth
     let same : t ≡ q = whence.0 ∙ sym from.0 in
     ap Reply.Message (bytes_alike s task q room xs ys mid other l r (subst (λ (z : ℕ). Receives task z room ys s other) same u))
 receipts_alike s task p room large (Reply.Message xs) (Reply.Empty told) mid other owed owes l (q, from, r, x) d = absurd (no_front s q r.e (d.1 q from) r.takes.front)
-receipts_alike s task p room large (Reply.Message xs) (Reply.TooLarge n) mid other owed owes l (q, from, r, x) (t, e, whence, front, is, less, leaves, y) =
+receipts_alike s task p room large (Reply.Message xs) (Reply.TooLarge n) mid other owed owes l (q, from, r, x) (t, e, whence, front, is, less, leaves) =
     absurd (fits_not s task q t room n xs mid e (whence.0 ∙ sym from.0) r front is less)
 receipts_alike s task p room large (Reply.Message xs) b mid other owed owes l a d = absurd d
 receipts_alike s task p room large (Reply.Empty told) (Reply.Empty heard) mid other owed owes l a d = ap Reply.Empty (a.0 ∙ sym d.0)
 receipts_alike s task p room large (Reply.Empty told) (Reply.Message xs) mid other owed owes l a (q, from, r, x) = absurd (no_front s q r.e (a.1 q from) r.takes.front)
-receipts_alike s task p room large (Reply.Empty told) (Reply.TooLarge n) mid other owed owes l a (q, e, from, front, is, less, leaves, x) = absurd (no_front s q e (a.1 q from) front)
+receipts_alike s task p room large (Reply.Empty told) (Reply.TooLarge n) mid other owed owes l a (q, e, from, front, is, less, leaves) = absurd (no_front s q e (a.1 q from) front)
 receipts_alike s task p room large (Reply.Empty told) b mid other owed owes l a d = absurd d
-receipts_alike s task p room large (Reply.TooLarge n) (Reply.TooLarge m) mid other owed owes l (q, e, from, front, is, less, leaves, x) (t, f, whence, ahead, at, more, stays, y) =
+receipts_alike s task p room large (Reply.TooLarge n) (Reply.TooLarge m) mid other owed owes l (q, e, from, front, is, less, leaves) (t, f, whence, ahead, at, more, stays) =
     let same : e ≡ f = one_entry _ e f front (subst (λ (z : ℕ). IsFront s z f) (whence.0 ∙ sym from.0) ahead) in
     ap Reply.TooLarge (is ∙ ap (λ (z : Entry). message_length z.message) same ∙ sym at)
-receipts_alike s task p room large (Reply.TooLarge n) (Reply.Message xs) mid other owed owes l (t, e, whence, front, is, less, leaves, y) (q, from, r, x) =
+receipts_alike s task p room large (Reply.TooLarge n) (Reply.Message xs) mid other owed owes l (t, e, whence, front, is, less, leaves) (q, from, r, x) =
     absurd (fits_not s task q t room n xs other e (whence.0 ∙ sym from.0) r front is less)
-receipts_alike s task p room large (Reply.TooLarge n) (Reply.Empty told) mid other owed owes l (q, e, from, front, is, less, leaves, x) d = absurd (no_front s q e (d.1 q from) front)
+receipts_alike s task p room large (Reply.TooLarge n) (Reply.Empty told) mid other owed owes l (q, e, from, front, is, less, leaves) d = absurd (no_front s q e (d.1 q from) front)
 receipts_alike s task p room large (Reply.TooLarge n) b mid other owed owes l a d = absurd d
 receipts_alike s task p room large a b mid other owed owes l x d = absurd x
 

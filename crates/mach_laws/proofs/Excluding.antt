@@ -81,7 +81,7 @@ receipt_taken : (s : State) (task : ℕ) (waited : Waited) (room : ℕ) (large :
 receipt_taken s task (Waited.Set set) room large code reply mid owed l not other h d = elim h.refused [ inl g ↦ other tt g.1 | inr g ↦ not (inr (inr g.1)) ]
 receipt_taken s task (Waited.Port p) room large code (Reply.Message bytes) mid owed l not other h (q, from, r, owes) = lacking s task p room code bytes mid l not h q (h.from.0 ∙ sym from.0) r
 receipt_taken s task (Waited.Port p) room large code (Reply.Empty told) mid owed l not other h d = no_front s h.port h.e (d.1 h.port h.from) h.front
-receipt_taken s task (Waited.Port p) room large code (Reply.TooLarge n) mid owed l not other h (q, e, from, front, is, less, leaves, owes) =
+receipt_taken s task (Waited.Port p) room large code (Reply.TooLarge n) mid owed l not other h (q, e, from, front, is, less, leaves) =
     let same : h.e ≡ e = one_entry _ h.e e h.front (subst (λ (x : ℕ). IsFront s x e) (from.0 ∙ sym h.from.0) front) in
     let len = ap (λ (x : Entry). message_length x.message) same in
     let fits = h.fits in

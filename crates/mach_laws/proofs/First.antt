@@ -10,7 +10,7 @@ use Rattle.mach_types.specs.Grammar.{WireBody, Header}
 use Rattle.mach_model.specs.State.{State, opening, Target, lookup, IsFresh}
 use Rattle.mach_model.specs.Send.{entry}
 use Rattle.mach_model.specs.Machine.{Run}
-use Rattle.mach_model.proofs.Opening.{opening-lawful}
+use Rattle.mach_model.proofs.StepQuiet.{opening-calm}
 use Rattle.mach_laws.specs.FirstMessage.{sent_text, received_text, status_after, first_events, first_replies}
 use Rattle.mach_laws.proofs.Playing.{Plays, with_task, with_receive, with_made, with_entry, without_front, good_text, spelled, fresh_one, fresh_next, makes, plain_message, copies_plain, task_made, port_allocated, sent, receives, received, status_told}
 
@@ -23,7 +23,7 @@ abbrev pub s2 : State
 s2 = with_receive 0 1 s1
 
 pub first : Plays 0 opening Event.TaskCreate (Reply.Task 0) s1
-first = task_made opening-lawful (omega arith)
+first = task_made opening-calm (omega arith)
 
 pub second : Plays 1 s1 (Event.Allocate 0 1) (Reply.Name 1) s2
 second = port_allocated first.1 refl fresh_one (grind (gets, rules)) (omega arith)

@@ -7,7 +7,7 @@ use Rattle.mach_types.specs.declared.calls.Event.{Event}
 use Rattle.mach_types.specs.declared.calls.Reply.{Reply}
 use Rattle.mach_model.specs.State.{State, opening}
 use Rattle.mach_model.specs.Machine.{Step, Run}
-use Rattle.mach_model.specs.Lawful.{IsLawful}
+use Rattle.mach_model.proofs.StepQuiet.{IsCalm}
 use Rattle.mach_laws.specs.Paths.{Stage, Path}
 use Rattle.mach_laws.specs.Headline.{Headline}
 use Rattle.mach_laws.specs.Queued.{queued, accepts, delivers, SlotsWithin}
@@ -25,7 +25,7 @@ slots_kept most spare more waiting left accepted delivered step counted bound be
 pub slots_start : SlotsWithin 0 [] opening
 slots_start most bound = omega arith
 
-pub slots_push : (now spare more : ℕ) (path : List Stage) (s : State) (event : Event) (reply : Reply) (t : State) → IsLawful s → Step now s event reply t →
+pub slots_push : (now spare more : ℕ) (path : List Stage) (s : State) (event : Event) (reply : Reply) (t : State) → IsCalm s → Step now s event reply t →
     more + accepts event reply ≤ max spare 1 + delivers event reply → SlotsWithin spare path s →
     SlotsWithin more (path ++ record { before = s; event = event; reply = reply; after = t } ∷ []) t
 slots_push now spare more path s event reply t l step fits within most bound =

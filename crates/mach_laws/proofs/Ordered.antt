@@ -8,10 +8,8 @@ use Rattle.mach_types.specs.Messages.{Entry}
 use Rattle.mach_model.specs.State.{State, opening, queue}
 use Rattle.mach_model.specs.Send.{entry}
 use Rattle.mach_model.specs.Machine.{Step}
-use Rattle.mach_model.specs.Lawful.{IsLawful}
 use Rattle.mach_model.proofs.At.{slice_get_drop}
-use Rattle.mach_model.proofs.Opening.{opening-lawful}
-use Rattle.mach_model.proofs.StepLawful.{Step-lawful}
+use Rattle.mach_model.proofs.StepQuiet.{IsCalm, Step-calm, opening-calm}
 use Rattle.mach_laws.specs.Paths.{Stage, PathFrom, Path}
 use Rattle.mach_laws.specs.Order.{accepts, delivers, accepted_by, received_by, accepted, received, InOrder}
 use Rattle.mach_laws.proofs.Steps.{Passes, Step-passes}
@@ -38,7 +36,7 @@ same_accepted x p same =
     let none : drop (length (x.before.log p)) (x.after.log p) ≡ [] = drop_all (length (x.before.log p)) (x.after.log p) (let e = ap length same in omega (arith, e)) in
     same ∙ sym (append-nil (x.before.log p)) ∙ ap (λ (xs : List Entry). x.before.log p ++ xs) (sym (ap (take (accepts x.event x.reply)) none ∙ take_none (accepts x.event x.reply)))
 
-stage_accepts : (now : ℕ) (x : Stage) (p : ℕ) → IsLawful x.before → Step now x.before x.event x.reply x.after → x.after.log p ≡ x.before.log p ++ accepted_by p x
+stage_accepts : (now : ℕ) (x : Stage) (p : ℕ) → IsCalm x.before → Step now x.before x.event x.reply x.after → x.after.log p ≡ x.before.log p ++ accepted_by p x
 stage_accepts now x p l step = go (Step-passes now x.before x.event x.reply x.after l step)
   where
     go : Passes now x.before x.event x.reply x.after → x.after.log p ≡ x.before.log p ++ accepted_by p x
@@ -60,7 +58,7 @@ stage_accepts now x p l step = go (Step-passes now x.before x.event x.reply x.af
 abbrev front_gone : Stage → ℕ → ℕ → List Entry
 front_gone x p n = take (delivers x.event x.reply) (take n (queue x.before p))
 
-stage_takes : (now : ℕ) (x : Stage) (p : ℕ) → IsLawful x.before → Step now x.before x.event x.reply x.after →
+stage_takes : (now : ℕ) (x : Stage) (p : ℕ) → IsCalm x.before → Step now x.before x.event x.reply x.after →
     take (x.after.taken p) (x.before.log p) ≡ take (x.before.taken p) (x.before.log p) ++ received_by p x
 stage_takes now x p l step = go (Step-passes now x.before x.event x.reply x.after l step)
   where
@@ -89,28 +87,28 @@ stage_takes now x p l step = go (Step-passes now x.before x.event x.reply x.afte
 
 -- ---- over all stages
 
-path_accepts : (now : ℕ) (old : State) (path : List Stage) (new : State) (p : ℕ) → IsLawful old → PathFrom now old path new → new.log p ≡ old.log p ++ accepted p path
+path_accepts : (now : ℕ) (old : State) (path : List Stage) (new : State) (p : ℕ) → IsCalm old → PathFrom now old path new → new.log p ≡ old.log p ++ accepted p path
 path_accepts now old [] new p l path = ap (λ (s : State). s.log p) path ∙ sym (append-nil (old.log p))
 path_accepts now old (x ∷ xs) new p l path =
-    let before : IsLawful x.before = subst IsLawful (sym path.0) l in
+    let before : IsCalm x.before = subst IsCalm (sym path.0) l in
     let one = stage_accepts now x p before path.1 in
-    let more = path_accepts (now + 1) x.after xs new p (Step-lawful now x.before x.event x.reply x.after path.1 before) path.2 in
+    let more = path_accepts (now + 1) x.after xs new p (Step-calm now x.before x.event x.reply x.after path.1 before) path.2 in
     let all : new.log p ≡ x.before.log p ++ (accepted_by p x ++ accepted p xs) =
     more ∙ ap (λ (ys : List Entry). ys ++ accepted p xs) one ∙ append_assoc (x.before.log p) (accepted_by p x) (accepted p xs) in
     subst (λ (s : State). new.log p ≡ s.log p ++ (accepted_by p x ++ accepted p xs)) path.0 all
 
 -- a longer log begins with the same entries
-take_kept : (now : ℕ) (x : Stage) (p : ℕ) → IsLawful x.before → Step now x.before x.event x.reply x.after →
+take_kept : (now : ℕ) (x : Stage) (p : ℕ) → IsCalm x.before → Step now x.before x.event x.reply x.after →
     (n : ℕ) → n ≤ length (x.before.log p) → take n (x.after.log p) ≡ take n (x.before.log p)
 take_kept now x p l step n within =
     ap (take n) (stage_accepts now x p l step) ∙ take-append-le n (x.before.log p) (accepted_by p x) within
 
-path_takes : (now : ℕ) (old : State) (path : List Stage) (new : State) (p : ℕ) → IsLawful old → PathFrom now old path new →
+path_takes : (now : ℕ) (old : State) (path : List Stage) (new : State) (p : ℕ) → IsCalm old → PathFrom now old path new →
     take (new.taken p) (new.log p) ≡ take (old.taken p) (old.log p) ++ received p path
 path_takes now old [] new p l path = ap (λ (s : State). take (s.taken p) (s.log p)) path ∙ sym (append-nil (take (old.taken p) (old.log p)))
 path_takes now old (x ∷ xs) new p l path =
-    let before : IsLawful x.before = subst IsLawful (sym path.0) l in
-    let after = Step-lawful now x.before x.event x.reply x.after path.1 before in
+    let before : IsCalm x.before = subst IsCalm (sym path.0) l in
+    let after = Step-calm now x.before x.event x.reply x.after path.1 before in
     let one = stage_takes now x p before path.1 in
     let more = path_takes (now + 1) x.after xs new p after path.2 in
     let kept : take (x.after.taken p) (x.after.log p) ≡ take (x.after.taken p) (x.before.log p) = taken_kept x now before path.1 in
@@ -119,7 +117,7 @@ path_takes now old (x ∷ xs) new p l path =
     subst (λ (s : State). take (new.taken p) (new.log p) ≡ take (s.taken p) (s.log p) ++ (received_by p x ++ received p xs)) path.0 all
   where
     -- a stage takes no entry that it accepts itself
-    taken_kept : (x : Stage) (now : ℕ) → IsLawful x.before → Step now x.before x.event x.reply x.after →
+    taken_kept : (x : Stage) (now : ℕ) → IsCalm x.before → Step now x.before x.event x.reply x.after →
         take (x.after.taken p) (x.after.log p) ≡ take (x.after.taken p) (x.before.log p)
     taken_kept x now l step = go (Step-passes now x.before x.event x.reply x.after l step)
       where
@@ -130,8 +128,8 @@ path_takes now old (x ∷ xs) new p l path =
 
 pub path_ordered : (path : List Stage) (s : State) → Path path s → (p : ℕ) → InOrder p path s
 path_ordered path s is p =
-    let log : accepted p path ≡ s.log p = sym (path_accepts 0 opening path s p opening-lawful is) in
-    let taken : received p path ≡ take (s.taken p) (s.log p) = sym (path_takes 0 opening path s p opening-lawful is) in
+    let log : accepted p path ≡ s.log p = sym (path_accepts 0 opening path s p opening-calm is) in
+    let taken : received p path ≡ take (s.taken p) (s.log p) = sym (path_takes 0 opening path s p opening-calm is) in
     record {
       log = log;
       taken = taken;

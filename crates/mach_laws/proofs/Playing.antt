@@ -35,14 +35,13 @@ use Rattle.mach_model.specs.References.{references}
 use Rattle.mach_model.specs.ReceiveRight.{one_if, TellsStatus}
 use Rattle.mach_model.specs.Refusals.{guards, Refuses}
 use Rattle.mach_model.specs.Machine.{Does, Step}
-use Rattle.mach_model.specs.Lawful.{IsLawful}
 use Rattle.mach_model.proofs.Names.{get_own, get_other}
-use Rattle.mach_model.proofs.StepLawful.{quiet_step}
+use Rattle.mach_model.proofs.StepQuiet.{IsCalm, quiet_step}
 use Rattle.mach_laws.proofs.Answered.{one_port}
 
 -- the event may be answered so, and the new state is lawful
 abbrev pub Plays : (now : ℕ) → State → Event → Reply → State → Type 0
-Plays now old event reply new = Step now old event reply new × IsLawful new
+Plays now old event reply new = Step now old event reply new × IsCalm new
 
 -- ---- the states that steps lead to
 
@@ -162,20 +161,20 @@ copies_plain {new = new} no_answer null right is_kind =
 -- ---- steps
 
 -- An event that is refused changes nothing.
-pub refused : {now : ℕ} {s : State} {event : Event} {code : ℕ} → IsLawful s → Refuses s event code → Plays now s event (Reply.Code code) s
+pub refused : {now : ℕ} {s : State} {event : Event} {code : ℕ} → IsCalm s → Refuses s event code → Plays now s event (Reply.Code code) s
 refused {code = code} l refuses = (inl (record { code = code; told = refl; refuses = refuses; same = refl }), l)
 
 -- An event that no guard refuses does its part, and nothing is owed.
-pub plays : {now : ℕ} {old new : State} {event : Event} {reply : Reply} → IsLawful old → NoneHolds (guards old event) → Does now old event reply new [] → Plays now old event reply new
-plays {now} {old} {new} {event} {reply} l good does = quiet_step now old event reply new l good does
+pub plays : {now : ℕ} {old new : State} {event : Event} {reply : Reply} → IsCalm old → NoneHolds (guards old event) → Does now old event reply new [] → Plays now old event reply new
+plays {now} {old} {new} {event} {reply} l good does = let s = quiet_step now old event reply new l.lawful l.quiet good does in (s.0, record { lawful = s.1; quiet = s.2 })
 
-pub task_made : {now : ℕ} {s : State} → IsLawful s → s.tasks_made < most_tasks → Plays now s Event.TaskCreate (Reply.Task s.tasks_made) (with_task s)
+pub task_made : {now : ℕ} {s : State} → IsCalm s → s.tasks_made < most_tasks → Plays now s Event.TaskCreate (Reply.Task s.tasks_made) (with_task s)
 task_made {now} {s} l few = plays l ((λ dead. dead), ((λ h. omega (arith, h, few)), tt)) (record { task_is = refl; rest = refl }, refl)
 
 there : (s : State) (task : ℕ) → s.live_task task ≡ true → ¬ (IsNoTask s task)
 there s task lives h = cc
 
-module _ {now : ℕ} {s : State} (l : IsLawful s) {task : ℕ} (lives : s.live_task task ≡ true) where
+module _ {now : ℕ} {s : State} (l : IsCalm s) {task : ℕ} (lives : s.live_task task ≡ true) where
   -- Of what the right's number says one is made, under a fresh name.
   pub allocated : {right name : ℕ} {new : State} → IsFresh (s.naming task) name → map.len (s.naming task) < most_names → length s.ledger + s.ports_made + s.sets_made < most_rights →
       Makes task right name s new → Plays now s (Event.Allocate task right) (Reply.Name name) new

@@ -16,7 +16,6 @@ use Rattle.mach_model.specs.Notices.{Owed}
 use Rattle.mach_model.specs.ReceivedMeans.{ReceivedMeans}
 use Rattle.mach_model.specs.Refusals.{guards}
 use Rattle.mach_model.specs.Machine.{Does, Step}
-use Rattle.mach_model.specs.Lawful.{IsLawful}
 use Rattle.mach_model.proofs.At.{at_other, at_own}
 use Rattle.mach_model.proofs.Settling.{IsReordered}
 use Rattle.mach_model.proofs.Weigh.{both_test}
@@ -24,7 +23,8 @@ use Rattle.mach_model.proofs.Moving.{shape}
 use Rattle.mach_model.proofs.SendLawful.{Sends-adds}
 use Rattle.mach_model.proofs.ReceiveLawful.{Receives-removes}
 use Rattle.mach_model.proofs.HandLawful.{hands_shape, Inserts-hands, Extracts-hands}
-use Rattle.mach_model.proofs.StepLawful.{Done-mid, TakesFrom-holds, TakesFrom-live, not_false}
+use Rattle.mach_model.proofs.StepLawful.{TakesFrom-holds, TakesFrom-live, not_false}
+use Rattle.mach_model.proofs.StepQuiet.{Done-mid, IsCalm}
 use Rattle.mach_laws.specs.Sent.{Accepts}
 use Rattle.mach_laws.specs.Received.{AsksFrom}
 use Rattle.mach_laws.specs.Delivered.{Delivers}
@@ -37,17 +37,17 @@ use Rattle.mach_laws.proofs.Apart.{Receives-received, ReceivedMeans-later}
 -- ---- what an event leaves as it is
 
 -- copying in and out leave the logs, and what was taken from them
-sent_log : (now task : ℕ) (bytes : List ℕ) (old mid : State) → IsLawful old → (s : Sends now task bytes old mid) → (q : ℕ) →
+sent_log : (now task : ℕ) (bytes : List ℕ) (old mid : State) → IsCalm old → (s : Sends now task bytes old mid) → (q : ℕ) →
     mid.log q ≡ at old.log s.m.destination (old.log s.m.destination ++ entry now s.m ∷ []) q
 sent_log now task bytes old mid l s q =
-    let copied : s.copied_state.log ≡ old.log = ap (λ (x : State). x.log) (Sends-adds now task bytes old mid l s).rest in
+    let copied : s.copied_state.log ≡ old.log = ap (λ (x : State). x.log) (Sends-adds now task bytes old mid l.lawful s).rest in
     ap (λ (x : State). x.log q) s.rest ∙ ap (λ (f : ℕ → List Entry). at f s.m.destination (f s.m.destination ++ entry now s.m ∷ []) q) copied
 
-sent_taken : (now task : ℕ) (bytes : List ℕ) (old mid : State) → IsLawful old → (s : Sends now task bytes old mid) → (q : ℕ) → mid.taken q ≡ old.taken q
-sent_taken now task bytes old mid l s q = ap (λ (x : State). x.taken q) s.rest ∙ ap (λ (x : State). x.taken q) (Sends-adds now task bytes old mid l s).rest
+sent_taken : (now task : ℕ) (bytes : List ℕ) (old mid : State) → IsCalm old → (s : Sends now task bytes old mid) → (q : ℕ) → mid.taken q ≡ old.taken q
+sent_taken now task bytes old mid l s q = ap (λ (x : State). x.taken q) s.rest ∙ ap (λ (x : State). x.taken q) (Sends-adds now task bytes old mid l.lawful s).rest
 
-sent_live : (now task : ℕ) (bytes : List ℕ) (old mid : State) → IsLawful old → Sends now task bytes old mid → mid.live_port ≡ old.live_port
-sent_live now task bytes old mid l s = ap (λ (x : State). x.live_port) s.rest ∙ ap (λ (x : State). x.live_port) (Sends-adds now task bytes old mid l s).rest
+sent_live : (now task : ℕ) (bytes : List ℕ) (old mid : State) → IsCalm old → Sends now task bytes old mid → mid.live_port ≡ old.live_port
+sent_live now task bytes old mid l s = ap (λ (x : State). x.live_port) s.rest ∙ ap (λ (x : State). x.live_port) (Sends-adds now task bytes old mid l.lawful s).rest
 
 -- what a receipt leaves
 record Received (port : ℕ) (old mid : State) : Type 0 where
@@ -55,9 +55,9 @@ record Received (port : ℕ) (old mid : State) : Type 0 where
   taken : (q : ℕ) → mid.taken q ≡ at old.taken port (old.taken port + 1) q
   live : mid.live_port ≡ old.live_port
 
-received_state : (task port room : ℕ) (bytes : List ℕ) (old mid : State) → IsLawful old → old.live_port port ≡ true → old.live_task task ≡ true → Receives task port room bytes old mid → Received port old mid
+received_state : (task port room : ℕ) (bytes : List ℕ) (old mid : State) → IsCalm old → old.live_port port ≡ true → old.live_task task ≡ true → Receives task port room bytes old mid → Received port old mid
 received_state task port room bytes old mid l live is_task r =
-    let x = (Receives-removes task port room bytes old mid l live is_task r).rest in
+    let x = (Receives-removes task port room bytes old mid l.lawful live is_task r).rest in
     record {
       log = λ q. ap (λ (s : State). s.log q) x ∙ ap (λ (s : State). s.log q) r.takes.rest;
       taken = λ q. ap (λ (s : State). s.taken q) x ∙ ap (λ (s : State). s.taken q) r.takes.rest;
@@ -70,7 +70,7 @@ stays old new e p is = ap (λ (f : ℕ → Bool). f p) e ∙ is
 
 -- ---- sends
 
-pub Sends-accepts : (now task : ℕ) (bytes : List ℕ) (old mid new : State) → IsLawful old → Sends now task bytes old mid → IsReordered mid new →
+pub Sends-accepts : (now task : ℕ) (bytes : List ℕ) (old mid new : State) → IsCalm old → Sends now task bytes old mid → IsReordered mid new →
     Accepts now task bytes old new
 Sends-accepts now task bytes old mid new l s r =
     let p = s.m.destination in
@@ -83,11 +83,11 @@ Sends-accepts now task bytes old mid new l s r =
     }
 
 -- the next step after a run, where it accepts a send
-pub Step-accepts : (now : ℕ) (old : State) (task : ℕ) (bytes : List ℕ) (new : State) → IsLawful old → Step now old (Event.Send task bytes) (Reply.Code 0) new → Accepts now task bytes old new
+pub Step-accepts : (now : ℕ) (old : State) (task : ℕ) (bytes : List ℕ) (new : State) → IsCalm old → Step now old (Event.Send task bytes) (Reply.Code 0) new → Accepts now task bytes old new
 Step-accepts now old task bytes new l (inl r) =
     absurd (let some = (send_code old task bytes r.code r.refuses).some in let none : 0 ≡ r.code = same_code 0 r.code r.told in omega (arith, some, none))
 Step-accepts now old task bytes new l (inr d) =
-    Sends-accepts now task bytes old d.mid new l d.does.1 (Done-mid now old (Event.Send task bytes) (Reply.Code 0) new l d).1
+    Sends-accepts now task bytes old d.mid new l d.does.1 (Done-mid now old (Event.Send task bytes) (Reply.Code 0) new l.lawful l.quiet d).1
 
 -- ---- receipts
 
@@ -117,12 +117,12 @@ still_holds task port room bytes old mid r q holds =
     omega (arith, holds, m, z, g)
 
 -- A receipt from what is waited for gives its message, and changes no log.
-Receives-delivers : (task room : ℕ) (bytes : List ℕ) (old mid new : State) (waited : Waited) (p : ℕ) (event : Event) → IsLawful old → old.live_task task ≡ true → TakesFrom old task waited p →
+Receives-delivers : (task room : ℕ) (bytes : List ℕ) (old mid new : State) (waited : Waited) (p : ℕ) (event : Event) → IsCalm old → old.live_task task ≡ true → TakesFrom old task waited p →
     Receives task p room bytes old mid → IsReordered mid new → AsksFrom old event task p → Delivers event bytes old new × ((q : ℕ) → new.log q ≡ old.log q) × LiveStay old new
 Receives-delivers task room bytes old mid new waited p event l is_task t r o asks =
-    let x = received_state task p room bytes old mid l (TakesFrom-live old l task waited p t) is_task r in
+    let x = received_state task p room bytes old mid l (TakesFrom-live old l.lawful task waited p t) is_task r in
     let here = (l.sent_here p (old.taken p) r.e r.takes.front).0 in
-    let holds = still_holds task p room bytes old mid r p (TakesFrom-holds old l task waited p t) in
+    let holds = still_holds task p room bytes old mid r p (TakesFrom-holds old l.lawful task waited p t) in
     let means = Receives-received task p room bytes old mid r here holds in
     let live : new.live_port ≡ old.live_port = ap (λ (s : State). s.live_port) o.rest ∙ x.live in
     let taken : (q : ℕ) → new.taken q ≡ at old.taken p (old.taken p + 1) q = λ q. ap (λ (s : State). s.taken q) o.rest ∙ x.taken q in (
@@ -143,7 +143,7 @@ Receives-delivers task room bytes old mid new waited p event l is_task t r o ask
     )
 
 -- what an event does that is answered with a message
-Does-delivers : (now : ℕ) (old : State) (event : Event) (bytes : List ℕ) (mid : State) (owed : Owed) (new : State) → IsLawful old → NoneHolds (guards old event) →
+Does-delivers : (now : ℕ) (old : State) (event : Event) (bytes : List ℕ) (mid : State) (owed : Owed) (new : State) → IsCalm old → NoneHolds (guards old event) →
     Does now old event (Reply.Message bytes) mid owed → IsReordered mid new → Delivers event bytes old new × ((q : ℕ) → new.log q ≡ old.log q) × LiveStay old new
 Does-delivers now old (Event.Receive task name room large) bytes mid owed new l g d r =
     Receives-delivers task room bytes old mid new d.0 d.2.0 (Event.Receive task name room large) l (not_false (old.live_task task) g.0) d.2.1 d.2.2 r (refl, d.0, d.1, d.2.1)
@@ -152,13 +152,13 @@ Does-delivers now old (Event.ReceiveAgain task waited room large) bytes mid owed
 Does-delivers now old event bytes mid owed new l g d r = absurd d
 
 -- the next step after a run, where it gives a message
-pub Step-delivers : (now : ℕ) (old : State) (event : Event) (bytes : List ℕ) (new : State) → IsLawful old → Step now old event (Reply.Message bytes) new → Delivers event bytes old new
+pub Step-delivers : (now : ℕ) (old : State) (event : Event) (bytes : List ℕ) (new : State) → IsCalm old → Step now old event (Reply.Message bytes) new → Delivers event bytes old new
 Step-delivers now old event bytes new l (inl r) = absurd (no_code bytes r.code r.told)
   where
     no_code : (bytes : List ℕ) (code : ℕ) → Reply.Message bytes ≡ Reply.Code code → ⊥
     no_code bytes code e = cc
 Step-delivers now old event bytes new l (inr d) =
-    (Does-delivers now old event bytes d.mid d.owed new l d.unrefused d.does (Done-mid now old event (Reply.Message bytes) new l d).1).0
+    (Does-delivers now old event bytes d.mid d.owed new l d.unrefused d.does (Done-mid now old event (Reply.Message bytes) new l.lawful l.quiet d).1).0
 
 -- ---- what a step does
 
@@ -184,21 +184,21 @@ pub record DeliversBy (old : State) (event : Event) (reply : Reply) (new : State
 abbrev pub Passes : (now : ℕ) → State → Event → Reply → State → Type 0
 Passes now old event reply new = Untouched old new ⊎ AcceptsBy now old event reply new ⊎ DeliversBy old event reply new
 
-inserted_shape : (task name from poly number : ℕ) (old mid : State) → IsLawful old → NoneHolds (guards old (Event.InsertRight task name from poly number)) → Inserts task name from poly number old mid →
+inserted_shape : (task name from poly number : ℕ) (old mid : State) → IsCalm old → NoneHolds (guards old (Event.InsertRight task name from poly number)) → Inserts task name from poly number old mid →
     mid ≡ shape old mid
 inserted_shape task name from poly number old mid l g i =
-    hands_shape old mid _ _ _ _ (Inserts-hands task name from poly number old mid l (not_false (old.live_task task) (λ e. g.0 (inl e))) (λ e. g.1.0 (inl e)) i)
+    hands_shape old mid _ _ _ _ (Inserts-hands task name from poly number old mid l.lawful (not_false (old.live_task task) (λ e. g.0 (inl e))) (λ e. g.1.0 (inl e)) i)
 
-extracted_shape : (task name number to new_name kind : ℕ) (old mid : State) → IsLawful old → NoneHolds (guards old (Event.ExtractRight task name number to)) → Extracts task name number to new_name kind old mid →
+extracted_shape : (task name number to new_name kind : ℕ) (old mid : State) → IsCalm old → NoneHolds (guards old (Event.ExtractRight task name number to)) → Extracts task name number to new_name kind old mid →
     mid ≡ shape old mid
 extracted_shape task name number to new_name kind old mid l g x =
-    hands_shape old mid _ _ _ _ (Extracts-hands task name number to new_name kind old mid l (not_false (old.live_task to) (λ e. g.0 (inr e))) x)
+    hands_shape old mid _ _ _ _ (Extracts-hands task name number to new_name kind old mid l.lawful (not_false (old.live_task to) (λ e. g.0 (inr e))) x)
 
 joins_untouched : (task member after : ℕ) (old mid : State) → JoinsSet task member after old mid → Untouched old mid
 joins_untouched task member after old mid (p, is, inl h) = by_rest old mid _ h.1 (λ p. refl) (λ p. refl) (λ p is. is)
 joins_untouched task member after old mid (p, is, inr h) = by_rest old mid _ h.2 (λ p. refl) (λ p. refl) (λ p is. is)
 
-module _ (now : ℕ) (old mid new : State) (l : IsLawful old) (r : IsReordered mid new) where
+module _ (now : ℕ) (old mid new : State) (l : IsCalm old) (r : IsReordered mid new) where
   passes : {event : Event} {reply : Reply} → Untouched old mid → Passes now old event reply new
   passes u = inl (by_rest old new _ r.rest u.log u.taken u.live)
 
@@ -207,8 +207,8 @@ module _ (now : ℕ) (old mid new : State) (l : IsLawful old) (r : IsReordered m
 
   Does-passes : (event : Event) (reply : Reply) (owed : Owed) → NoneHolds (guards old event) → Does now old event reply mid owed → Passes now old event reply new
   Does-passes Event.TaskCreate (Reply.Task task) owed g d = passes (by_rest old mid _ d.0.rest (λ p. refl) (λ p. refl) (λ p is. is))
-  Does-passes (Event.Allocate task right) (Reply.Name name) owed g d = passes (makes_untouched task right name old mid l d.1)
-  Does-passes (Event.AllocateName task right name) (Reply.Name told) owed g d = passes (makes_untouched task right name old mid l d.1)
+  Does-passes (Event.Allocate task right) (Reply.Name name) owed g d = passes (makes_untouched task right name old mid l.lawful d.1)
+  Does-passes (Event.AllocateName task right name) (Reply.Name told) owed g d = passes (makes_untouched task right name old mid l.lawful d.1)
   Does-passes (Event.Deallocate task name) (Reply.Code code) owed g d = passes (deallocates_untouched task name old mid owed d.1)
   Does-passes (Event.Destroy task name) (Reply.Code code) owed g d = passes (destroys_untouched task name old mid owed d.1)
   Does-passes (Event.ModRefs task name right delta) (Reply.Code code) owed g d = passes (modifies_untouched task name right delta old mid owed d.1)
@@ -236,19 +236,19 @@ module _ (now : ℕ) (old mid new : State) (l : IsLawful old) (r : IsReordered m
   Does-passes (Event.Receive task name room large) (Reply.Message bytes) owed g d =
       inr (inr (gives (Does-delivers now old (Event.Receive task name room large) bytes mid owed new l g d r)))
   Does-passes (Event.Receive task name room large) (Reply.Empty told) owed g d = passes (by_rest old mid old d.2.2 (λ p. refl) (λ p. refl) (λ p is. is))
-  Does-passes (Event.Receive task name room large) (Reply.TooLarge n) owed g d = passes (by_rest old mid old d.2.6 (λ p. refl) (λ p. refl) (λ p is. is))
+  Does-passes (Event.Receive task name room large) (Reply.TooLarge n) owed g d = passes (by_rest old mid old d.2.6.0 (λ p. refl) (λ p. refl) (λ p is. is))
   Does-passes (Event.Receive task name room large) reply owed g d = absurd d.2
   Does-passes (Event.ReceiveAgain task waited room large) (Reply.Message bytes) owed g d =
       inr (inr (gives (Does-delivers now old (Event.ReceiveAgain task waited room large) bytes mid owed new l g d r)))
   Does-passes (Event.ReceiveAgain task waited room large) (Reply.Empty told) owed g d = passes (by_rest old mid old d.2 (λ p. refl) (λ p. refl) (λ p is. is))
-  Does-passes (Event.ReceiveAgain task waited room large) (Reply.TooLarge n) owed g d = passes (by_rest old mid old d.6 (λ p. refl) (λ p. refl) (λ p is. is))
+  Does-passes (Event.ReceiveAgain task waited room large) (Reply.TooLarge n) owed g d = passes (by_rest old mid old d.6.0 (λ p. refl) (λ p. refl) (λ p is. is))
   Does-passes event reply owed g d = absurd d
 
-pub Step-passes : (now : ℕ) (old : State) (event : Event) (reply : Reply) (new : State) → IsLawful old → Step now old event reply new → Passes now old event reply new
+pub Step-passes : (now : ℕ) (old : State) (event : Event) (reply : Reply) (new : State) → IsCalm old → Step now old event reply new → Passes now old event reply new
 Step-passes now old event reply new l (inl r) = inl (by_rest old new old r.same (λ p. refl) (λ p. refl) (λ p is. is))
-Step-passes now old event reply new l (inr d) = Does-passes now old d.mid new l (Done-mid now old event reply new l d).1 event reply d.owed d.unrefused d.does
+Step-passes now old event reply new l (inr d) = Does-passes now old d.mid new l (Done-mid now old event reply new l.lawful l.quiet d).1 event reply d.owed d.unrefused d.does
 
-pub Step-live : (now : ℕ) (old : State) (event : Event) (reply : Reply) (new : State) → IsLawful old → Step now old event reply new → LiveStay old new
+pub Step-live : (now : ℕ) (old : State) (event : Event) (reply : Reply) (new : State) → IsCalm old → Step now old event reply new → LiveStay old new
 Step-live now old event reply new l step = go (Step-passes now old event reply new l step)
   where
     go : Passes now old event reply new → LiveStay old new

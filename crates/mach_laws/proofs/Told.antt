@@ -10,10 +10,8 @@ use Rattle.mach_model.specs.SentMeans.{SentMeans}
 use Rattle.mach_model.specs.Send.{entry}
 use Rattle.mach_model.specs.Receive.{IsFront}
 use Rattle.mach_model.specs.Machine.{Step}
-use Rattle.mach_model.specs.Lawful.{IsLawful}
 use Rattle.mach_model.proofs.At.{snoc_cases}
-use Rattle.mach_model.proofs.Opening.{opening-lawful}
-use Rattle.mach_model.proofs.StepLawful.{Step-lawful}
+use Rattle.mach_model.proofs.StepQuiet.{IsCalm, Step-calm, opening-calm}
 use Rattle.mach_laws.specs.Paths.{Stage, Path}
 use Rattle.mach_laws.specs.Received.{AsksFrom, WasSent}
 use Rattle.mach_laws.specs.Delivered.{Delivers}
@@ -37,7 +35,7 @@ abbrev WasEarlier : (full : List Stage) (now p k : ℕ) → Entry → Type 0
 WasEarlier full now p k e = (e.origin < now) × WasAccepted full p k e
 
 record Known (full : List Stage) (now : ℕ) (s : State) : Type 0 where
-  lawful : IsLawful s
+  lawful : IsCalm s
   accepted : (p k : ℕ) (e : Entry) → slice_get (s.log p) k ≡ Some e → WasEarlier full now p k e
 
 -- the entry that a stage accepts
@@ -48,7 +46,7 @@ just_accepted full now x is a =
 
 stays_known : (full : List Stage) (now : ℕ) (x : Stage) → slice_get full now ≡ Some x → Step now x.before x.event x.reply x.after → Known full now x.before → Known full (now + 1) x.after
 stays_known full now x is step known = record {
-  lawful = Step-lawful now x.before x.event x.reply x.after step known.lawful;
+  lawful = Step-calm now x.before x.event x.reply x.after step known.lawful;
   accepted = λ p k e at. by_logs p k e at (Step-passes now x.before x.event x.reply x.after known.lawful step);
 }
   where
@@ -75,7 +73,7 @@ stays_known full now x is step known = record {
     ]
 
 nothing_known : (full : List Stage) → Known full 0 opening
-nothing_known full = record { lawful = opening-lawful; accepted = λ p k e at. absurd (no_entry k e at) }
+nothing_known full = record { lawful = opening-calm; accepted = λ p k e at. absurd (no_entry k e at) }
   where
     no_entry : (k : ℕ) (e : Entry) → slice_get [] k ≡ Some e → ⊥
     no_entry k e is = cc

@@ -5,7 +5,7 @@
 //! `specs/` here need believe nothing else.
 #![tactic(auto)]
 
-ghost use Rattle.std.specs.Prelude.{◌≡◌, ◌≢◌, ◌+◌, ℕ, Bool, true, List, [], Some, length, map, slice_get};
+ghost use Rattle.std.specs.Prelude.{◌≡◌, ◌≢◌, ◌↔◌, ◌+◌, ℕ, Bool, true, false, List, [], Some, length, map, slice_get};
 ghost use Rattle.mach_types.specs.declared.calls.Event.{Event};
 ghost use Rattle.mach_types.specs.declared.calls.Reply.{Reply};
 ghost use Rattle.mach_types.specs.declared.calls.Waited.{Waited};
@@ -13,10 +13,20 @@ ghost use Rattle.mach_types.specs.declared.codes.MsgReturn.TheVariants.{ReceiveB
 ghost use Rattle.mach_types.specs.Numbers.{msg_number};
 ghost use Rattle.mach_types.specs.Tokens.{count, is_of, receive as receive_kind};
 ghost use Rattle.mach_types.specs.Grammar.{Header, WireBody, Spells};
+ghost use Rattle.mach_types.specs.Guards.{NoneHolds};
+ghost use Rattle.mach_types.specs.Messages.{Entry};
 ghost use Rattle.mach_model.specs.State.{State, Target, lookup, queue};
-ghost use Rattle.mach_model.specs.Refusals.{Refuses};
-ghost use Rattle.mach_model.specs.Machine.{Done, Step, Run};
+ghost use Rattle.mach_model.specs.Tasks.{EndsTask};
+ghost use Rattle.mach_model.specs.Receive.{DestroysFront};
+ghost use Rattle.mach_model.specs.Requests.{notify_guards, Requests};
+ghost use Rattle.mach_model.specs.Death.{Dies, IsClosed, IsGrounded};
+ghost use Rattle.mach_model.specs.Notices.{Owed};
+ghost use Rattle.mach_model.specs.Settles.{Settles};
+ghost use Rattle.mach_model.specs.SameEnd.{IsSameEnd};
+ghost use Rattle.mach_model.specs.Refusals.{Refuses, guards};
+ghost use Rattle.mach_model.specs.Machine.{Does, Done, Step, Run};
 ghost use Rattle.mach_model.specs.Lawful.{IsLawful};
+ghost use Rattle.mach_model.specs.Midway.{MidLawful};
 ghost use Rattle.mach_laws.specs.Paths.{Stage, Path};
 ghost use Rattle.mach_laws.specs.Sent.{Accepts};
 ghost use Rattle.mach_laws.specs.Received.{AsksFrom, WasSent};
@@ -56,6 +66,55 @@ pub fn live_ports_stay()
     ensures { (events : List Event) (replies : List Reply) (s : State) → Run events replies s →
         (event : Event) (reply : Reply) (new : State) → Step (length events) s event reply new →
         (p : ℕ) → s.live_port p ≡ true → new.live_port p ≡ true }
+{}
+
+/// After every run each live port is grounded: following from it to the port whose queue carries its receive right,
+/// and so on, ends at a task. So receive rights never close a loop in queues.
+pub fn every_port_is_grounded()
+    ensures { (events : List Event) (replies : List Reply) (s : State) → Run events replies s →
+        (p : ℕ) → s.live_port p ≡ true → IsGrounded s p }
+{}
+
+/// In a step exactly those ports die that must: the least set that holds each port whose receive right the step's
+/// own part took and gave to none, and each port carried by a message that is queued at a member, save the ports
+/// that are sent away.
+pub fn exactly_these_die()
+    ensures closed { (mid : State) → IsClosed mid (Dies mid) }
+    ensures least { (mid : State) (set : ℕ → Bool) → IsClosed mid (λ q. set q ≡ true) → (p : ℕ) → Dies mid p → set p ≡ true }
+    ensures exact { (now : ℕ) (old : State) (event : Event) (reply : Reply) (new : State) → (d : Done now old event reply new) →
+        (p : ℕ) → d.mid.live_port p ≡ true → (new.live_port p ≡ false) ↔ Dies d.mid p }
+{}
+
+/// After every run the end of a step is fixed by what its own part left: which ports live, which requests stand,
+/// what names stand for, which rights are where, and which notices are sent to which ports, each as often. Only
+/// the order of the notices is free.
+pub fn ends_are_fixed()
+    ensures { (events : List Event) (replies : List Reply) (s : State) → Run events replies s →
+        (event : Event) (reply : Reply) (a b : State) → (x : Done (length events) s event reply a) → (y : Settles (length events) s x.mid x.owed b) →
+        IsSameEnd a b x.settles.notices.posted y.notices.posted }
+{}
+
+/// After every run, whatever an event may do can be made a step.
+pub fn every_step_can_end()
+    ensures { (events : List Event) (replies : List Reply) (s : State) → Run events replies s →
+        (event : Event) (reply : Reply) (mid : State) (owed : Owed) → NoneHolds (guards s event) → Does (length events) s event reply mid owed →
+        (new : State) × Step (length events) s event reply new }
+{}
+
+/// What no call does yet can be done after every run: a task ends, a message that is too long for its receiver is
+/// destroyed, a request is made or taken away. What is true midway then is enough for the end of a step: there is
+/// one, and each is lawful.
+pub fn parts_to_come()
+    ensures task { (events : List Event) (replies : List Reply) (s : State) → Run events replies s →
+        (task : ℕ) (mid : State) (owed : Owed) → EndsTask task s mid owed → MidLawful mid owed }
+    ensures message { (events : List Event) (replies : List Reply) (s : State) → Run events replies s →
+        (port : ℕ) (e : Entry) (mid : State) (owed : Owed) → s.live_port port ≡ true → DestroysFront port e s mid owed → MidLawful mid owed }
+    ensures request { (events : List Event) (replies : List Reply) (s : State) → Run events replies s →
+        (task name variant sync notify number previous : ℕ) (mid : State) (owed : Owed) → s.live_task task ≡ true →
+        NoneHolds (notify_guards s task name variant sync notify number) →
+        Requests task name variant sync notify number previous s mid owed → MidLawful mid owed }
+    ensures ends { (now : ℕ) (old mid : State) (owed : Owed) → MidLawful mid owed → (new : State) × Settles now old mid owed new }
+    ensures lawful { (now : ℕ) (old mid : State) (owed : Owed) (new : State) → MidLawful mid owed → Settles now old mid owed new → IsLawful new }
 {}
 
 /// After every run a send that is answered with 0 appends one message, which is what its bytes mean

@@ -5,20 +5,23 @@ use Rattle.std.specs.FinMap as map
 use Rattle.std.proofs.lemmas.Bool.Decides.{eqb_tells}
 use Rattle.std.proofs.lemmas.Bool.{ne_eqb, false_from_ne_true}
 use Rattle.mach_types.specs.Numbers.{dead_word, most_names, most_rights, first_limit, greatest_limit}
-use Rattle.mach_types.specs.Tokens.{Kind, receive, send, send_once, Request, in_task, in_message, in_request, Token, token, count, is_of, is_held, Moves}
+use Rattle.mach_types.specs.Tokens.{Kind, receive, send, send_once, Request, no_senders, port_destroyed, dead_name, in_task, in_message, in_request, Token, token, count, is_of, is_held, Moves}
 use Rattle.mach_types.specs.Messages.{Entry}
-use Rattle.mach_model.specs.State.{State, Target, Names, held, Holds, queue, IsFresh, with_name}
+use Rattle.mach_model.specs.State.{State, Target, Names, lookup, held, Holds, queue, IsFresh, with_name}
 use Rattle.mach_model.specs.Death.{same_place}
 use Rattle.mach_model.specs.Names.{with_port, AllocatesPort, Makes, IsFull}
 use Rattle.mach_model.specs.Carried.{message_count, lying}
-use Rattle.mach_model.specs.Lawful.{LawfulNames, IsLawful}
+use Rattle.mach_model.specs.Lawful.{LawfulNames, StandsOn, IsLawful}
+use Rattle.mach_model.specs.Midway.{MidLawful}
+use Rattle.mach_model.proofs.Requests.{named_requests, none_right}
+use Rattle.mach_model.proofs.Midway.{mid_lawful}
 use Rattle.mach_model.proofs.Weigh.{length-weigh, both_test, lying_le_of, held_le_of}
 use Rattle.mach_model.proofs.At.{at_same, at_other, at_own, at_all, if_same, if_other, slice_get_drop}
 use Rattle.mach_model.proofs.Names.{fresh_fits}
 use Rattle.mach_model.proofs.SetNames.{at_law, inserted_sets}
 use Rattle.mach_model.proofs.Spaces.{IsNew, port_named, other_named, tasks_named, all_named}
 use Rattle.mach_model.proofs.CopyingIn.{own_right, other_port}
-use Rattle.mach_model.proofs.SetsLawful.{with_set-lawful, named_lawful}
+use Rattle.mach_model.proofs.SetsLawful.{with_set-mid, named_as}
 
 none_of : {A : Type 0} (xs : List A) (k : ℕ) (e : A) → xs ≡ [] → slice_get xs k ≡ Some e → ⊥
 none_of xs k e is f = let g : slice_get [] k ≡ Some e = subst (λ ys. slice_get ys k ≡ Some e) is f in cc
@@ -148,6 +151,11 @@ module _ (s : State) (task name : ℕ) (ledger : List Token) (l : IsLawful s) (i
       ∙ at_all (λ p log. length log ≤ k → lying s kind q (in_message p k) ≡ 0) s.log made []
       (λ h. let e = ap length (l.unmade_log made (omega arith)) in l.no_entry made k (omega (arith, e)) kind q) (λ p not h. l.no_entry p k h kind q) p above
 
+  founded : (r : Request) → s.stands r ≡ true → StandsOn new.live_port new.naming r
+  founded (no_senders p) e = at_all (λ p b. s.live_port p ≡ true → b ≡ true) s.live_port made true (λ f. refl) (λ q not f. f) p (l.stands_on (no_senders p) e)
+  founded (port_destroyed p) e = at_all (λ p b. s.live_port p ≡ true → b ≡ true) s.live_port made true (λ f. refl) (λ q not f. f) p (l.stands_on (port_destroyed p) e)
+  founded (dead_name t n) e = ((named_requests s l.ground task name (Target.port made) (inl tt)).names t n e).1
+
   allocated_lawful : IsLawful new
   allocated_lawful = record {
     tasks = tasks_named s.naming new.naming task (at_other s.naming task names) s.live_task s.tasks_made l.tasks is_task;
@@ -180,12 +188,13 @@ module _ (s : State) (task name : ℕ) (ledger : List Token) (l : IsLawful s) (i
       sent_here = old_entry (λ p e. (e.message.destination ≡ p) × (e.message.kind ≢ receive)) l.sent_here;
       made_marks = old_entry (λ p e. (kind : Kind) (q : ℕ) → made + 1 ≤ q → message_count kind q e.message ≡ 0) (λ p k e is kind q above. l.made_marks p k e is kind q (omega (arith, above)));
     };
-    messages = record { carried = carried; gone = gone; no_entry = no_entry; none_carried = λ p k q. lying_same receive q p k ∙ l.none_carried p k q };
+    messages = record { carried = carried; gone = gone; no_entry = no_entry };
     requests = record {
       one_kept = λ r. let t = tokens_for (λ x. same_place (in_request r) x.place) in let h = l.one_kept r in omega (arith, t, h);
       once_kept = λ r kind q not. lying_kept kind q r ∙ l.once_kept r kind q not;
     };
-    standing = record { ended = λ r not kind q. lying_kept kind q r ∙ l.ended r not kind q; none_stands = l.none_stands };
+    standing = record { ended = λ r not kind q. lying_kept kind q r ∙ l.ended r not kind q };
+    ground = record { stands_on = founded };
   }
 
 pub AllocatesPort-lawful : (task name : ℕ) (old mid : State) → IsLawful old → old.live_task task ≡ true → IsNew (old.naming task) name → length old.ledger < most_rights →
@@ -201,21 +210,22 @@ fresh_new m name fresh room = record {
   room = room;
 }
 
-dead_made : (task name : ℕ) (s : State) → IsLawful s → s.live_task task ≡ true → IsNew (s.naming task) name → IsLawful (with_name task name (Target.dead 1) s)
-dead_made task name s l is_task new = named_lawful task s l is_task (map.insert (s.naming task) name (Target.dead 1)) s.stands
+dead_made : (task name : ℕ) (s : State) → IsLawful s → s.live_task task ≡ true → IsNew (s.naming task) name → MidLawful (with_name task name (Target.dead 1) s) []
+dead_made task name s l is_task new = named_as task s l is_task (map.insert (s.naming task) name (Target.dead 1)) s.stands
     (other_named (s.naming task) (held s task) (held s task) (l.naming task) (λ q. refl) (λ q. refl) name (Target.dead 1) new (omega arith, omega arith) (λ q e. cc) (λ q. omega arith))
-    (at_law s.naming task s.set_owner s.sets_made (map.insert (s.naming task) name (Target.dead 1)) l.sets (inserted_sets (s.naming task) name (Target.dead 1) new.unused (λ set e. cc))) l.none_stands
+    (at_law s.naming task s.set_owner s.sets_made (map.insert (s.naming task) name (Target.dead 1)) l.sets (inserted_sets (s.naming task) name (Target.dead 1) new.unused (λ set e. cc)))
+    (named_requests s l.ground task name (Target.dead 1) (inr (none_right (lookup s task name) new.unused)))
 
 -- ---- what may be made
 
-pub Makes-lawful : (task right name : ℕ) (old mid : State) → IsLawful old → old.live_task task ≡ true → map.get (old.naming task) name ≡ None → 0 < name → name < dead_word →
-    ¬ (IsFull old task right) → Makes task right name old mid → IsLawful mid
-Makes-lawful task right name old mid l is_task unused some fits not_full makes = go makes
+pub Makes-mid : (task right name : ℕ) (old mid : State) → IsLawful old → old.live_task task ≡ true → map.get (old.naming task) name ≡ None → 0 < name → name < dead_word →
+    ¬ (IsFull old task right) → Makes task right name old mid → MidLawful mid []
+Makes-mid task right name old mid l is_task unused some fits not_full makes = go makes
   where
     new : IsNew (old.naming task) name
     new = record { unused = unused; some = some; fits = fits; room = (let h : ¬ (most_names ≤ map.len (old.naming task)) = λ full. not_full (inl full) in omega (arith, h)) }
 
-    go : Makes task right name old mid → IsLawful mid
-    go (inl (is, made)) = AllocatesPort-lawful task name old mid l is_task new (let h : ¬ (most_rights ≤ length old.ledger) = λ full. not_full (inr (inl (is, inl full))) in omega (arith, h)) made
-    go (inr (inl (is, made))) = subst IsLawful (sym made) (with_set-lawful task name old l is_task new)
-    go (inr (inr (is, made))) = subst IsLawful (sym made) (dead_made task name old l is_task new)
+    go : Makes task right name old mid → MidLawful mid []
+    go (inl (is, made)) = mid_lawful mid (AllocatesPort-lawful task name old mid l is_task new (let h : ¬ (most_rights ≤ length old.ledger) = λ full. not_full (inr (inl (is, inl full))) in omega (arith, h)) made)
+    go (inr (inl (is, made))) = subst (λ (x : State). MidLawful x []) (sym made) (with_set-mid task name old l is_task new)
+    go (inr (inr (is, made))) = subst (λ (x : State). MidLawful x []) (sym made) (dead_made task name old l is_task new)

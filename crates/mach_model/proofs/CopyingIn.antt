@@ -8,19 +8,20 @@ use Rattle.mach_types.specs.declared.rights.Disposition.TheVariants.{MoveReceive
 use Rattle.mach_types.specs.Numbers.{kind_sent, most_references}
 use Rattle.mach_types.specs.Tokens.{Kind, receive, send, send_once, Request, dead_name, in_task, in_message, Token, token, count, is_of, is_held, same_kind, Moves}
 use Rattle.mach_types.specs.Messages.{Mark, to_port, dead}
-use Rattle.mach_model.specs.State.{State, Target, Names, lookup, held, Holds, at, request_at, same_request, without_name, with_name}
+use Rattle.mach_model.specs.State.{State, Target, Names, lookup, held, Holds, at, request_at, without_name, with_name}
 use Rattle.mach_model.specs.Death.{same_place}
 use Rattle.mach_model.specs.SentMeans.{target_mark}
 use Rattle.mach_model.specs.CopyIn.{IsLegal, taken_by, put_by, name_kept, changed_by, CopyRight}
 use Rattle.mach_model.specs.Carried.{mark_count, lying}
-use Rattle.mach_model.specs.Lawful.{NoRequests, is_once, HasReferences, LawfulNames, LawfulPorts, LawfulNumbers, LawfulReceivers, LawfulMembership}
+use Rattle.mach_model.specs.Lawful.{is_once, HasReferences, LawfulNames, LawfulPorts, LawfulNumbers, LawfulReceivers, LawfulMembership}
 use Rattle.mach_model.proofs.Weigh.{both_test, held_le_of}
 use Rattle.mach_model.proofs.At.{at_all}
 use Rattle.mach_model.proofs.Names.{some_tally}
 use Rattle.mach_model.proofs.Spaces.{has_task, same_naming, port_kept, port_unnamed, other_unnamed, dead_counted}
 use Rattle.mach_model.proofs.Settling.{lives}
 use Rattle.mach_model.proofs.SetNames.{SameSets, dead_sets, removed_sets}
-use Rattle.mach_model.proofs.Moving.{IsMoving, shape, near_none, near_task, near_entry, same_receivers, Leaves, same_leaves, other_leaves, moved}
+use Rattle.mach_model.proofs.Requests.{KeepsRequests, without_requests, named_requests, dead_not_right}
+use Rattle.mach_model.proofs.Moving.{IsMoving, shape, Apart, near_none, near_task, near_entry, same_receivers, Leaves, same_leaves, other_leaves, moved, moved_apart}
 
 -- ---- what is known of a state while rights are on their way
 
@@ -31,15 +32,6 @@ pub once_held : (s : State) (o k : ℕ) → IsMoving s o k → (task name p : �
 once_held s o k l task name p is =
     let some = some_tally (is_once p) (s.naming task) name (Target.once p) is (eq-eqb p p refl) in
     let e = (l.naming task).once_names p in omega (arith, some, e)
-
--- ---- requests and names
-
-if_false : (b c : Bool) → c ≡ false → (if b then false else c) ≡ false
-if_false true c e = refl
-if_false false c e = e
-
-pub without_stands : (task name : ℕ) (s : State) → NoRequests s.stands → NoRequests (without_name task name s).stands
-without_stands task name s none r = if_false (same_request r (dead_name task name)) (s.stands r) (none r)
 
 -- ---- tests of a token at one place
 
@@ -78,6 +70,7 @@ not_held c q o k kind p task = both_test (is_of c q (token kind p (in_message o 
 pub record Copies (s new : State) (o k : ℕ) (kind : Kind) (mark : Mark) : Type 0 where
   pub keeps : IsMoving new o k
   pub rest : new ≡ shape s new
+  pub apart : Apart s new o k
   pub lies : (c : Kind) (q : ℕ) → lying new c q (in_message o k) ≡ lying s c q (in_message o k) + mark_count c q kind mark
 
 -- a right that is made
@@ -104,6 +97,7 @@ module _ (task o k : ℕ) (old new : State) (kind : Kind) (p : ℕ) (l : IsMovin
   made_copies make_send numbers rest = record {
     keeps = moved old new task o k l [] (token kind p (in_message o k) ∷ []) tokens (near_none task o k) (near_entry task o k kind p) leaves;
     rest = leaves.rest;
+    apart = moved_apart old new task o k l [] (token kind p (in_message o k) ∷ []) tokens (near_none task o k) (near_entry task o k kind p) leaves;
     lies = λ c q. let m = tokens (λ x. if is_of c q x && same_place (in_message o k) x.place then 1 else 0) in let e = at_entry c q o k kind p in omega (arith, m, e);
   }
     where
@@ -139,6 +133,7 @@ module _ (task o k : ℕ) (old new : State) (kind : Kind) (p : ℕ) (l : IsMovin
   left_copies v = record {
     keeps = moved old new task o k l (token kind p (in_task task) ∷ []) (token kind p (in_message o k) ∷ []) tokens (near_task task o k kind p) (near_entry task o k kind p) v;
     rest = v.rest;
+    apart = moved_apart old new task o k l (token kind p (in_task task) ∷ []) (token kind p (in_message o k) ∷ []) tokens (near_task task o k kind p) (near_entry task o k kind p) v;
     lies = λ c q.
         let m = tokens (λ x. if is_of c q x && same_place (in_message o k) x.place then 1 else 0) in
         let e = at_entry c q o k kind p in let z = not_at_entry c q o k kind p task in omega (arith, m, e, z);
@@ -177,7 +172,7 @@ module _ (task o k name p : ℕ) (old : State) (ledger : List Token) (l : IsMovi
       other_leaves task o k old l (has_task l.tasks task name (Target.port p) is) make_send sequence sets_of ledger ports numbers receivers membership
       (map.remove (old.naming task) name) (request_at old.stands (dead_name task name) false)
       (port_unnamed (old.naming task) (held old task) left_rights (l.naming task) p same same_once name is none)
-      (removed_sets (old.naming task) name (Target.port p) is (λ set e. cc)) (without_stands task name old l.none_stands)
+      (removed_sets (old.naming task) name (Target.port p) is (λ set e. cc)) (without_requests old l.ground task name)
   port_leaves true (inr (e, none)) make_send sequence sets_of numbers receivers membership = absurd (cc)
   port_leaves false (inl (e, some)) make_send sequence sets_of numbers receivers membership = absurd (cc)
 
@@ -263,7 +258,7 @@ module _ (task o k name p : ℕ) (old new : State) (l : IsMoving old o k) (is : 
       (other_leaves task o k old l (has_task l.tasks task name (Target.once p) is) old.make_send old.sequence old.sets_of new.ledger (left_ports task o k old new send_once p l tokens) l.numbers
       (left_receivers task o k old new send_once p l tokens receives_stay) l.membership (map.remove (old.naming task) name) (request_at old.stands (dead_name task name) false)
       (other_unnamed (old.naming task) (held old task) (held new task) (l.naming task) (receives_stay task) sends_stay name (Target.once p) is no_port once_less)
-      (removed_sets (old.naming task) name (Target.once p) is (λ set e. cc)) (without_stands task name old l.none_stands)))
+      (removed_sets (old.naming task) name (Target.once p) is (λ set e. cc)) (without_requests old l.ground task name)))
 
 -- ---- a dead name is sent on
 
@@ -279,7 +274,7 @@ module _ (task o k : ℕ) (old new : State) (l : IsMoving old o k) (tokens : Mov
       (λ t q. let e = same_held t receive q in omega (arith, e))
 
   -- the task's names are others, with the same rights
-  dead_leaves : old.live_task task ≡ true → (names : Names) (stands : Request → Bool) → LawfulNames names (held new task) → SameSets (old.naming task) names → NoRequests stands →
+  pub dead_leaves : old.live_task task ≡ true → (names : Names) (stands : Request → Bool) → LawfulNames names (held new task) → SameSets (old.naming task) names → KeepsRequests old.stands stands (at old.naming task names) →
       Leaves old (record old { naming = at old.naming task names; stands = stands; ledger = new.ledger }) task
   dead_leaves is_task = other_leaves task o k old l is_task old.make_send old.sequence old.sets_of new.ledger dead_ports l.numbers dead_receivers l.membership
 
@@ -287,6 +282,7 @@ module _ (task o k : ℕ) (old new : State) (l : IsMoving old o k) (tokens : Mov
   dead_copies kind mark is v = record {
     keeps = moved old new task o k l [] [] tokens (near_none task o k) (near_none task o k) v;
     rest = v.rest;
+    apart = moved_apart old new task o k l [] [] tokens (near_none task o k) (near_none task o k) v;
     lies = λ c q.
         let m = tokens (λ x. if is_of c q x && same_place (in_message o k) x.place then 1 else 0) in
         let z : mark_count c q kind mark ≡ 0 = ap (mark_count c q kind) is in omega (arith, m, z);
@@ -301,12 +297,12 @@ module _ (task o k : ℕ) (old new : State) (l : IsMoving old o k) (tokens : Mov
       (dead_leaves (has_task l.tasks task name (Target.dead n) is) (map.insert (old.naming task) name (Target.dead (n - 1))) old.stands
       (dead_counted (old.naming task) (held old task) (held new task) (l.naming task) (same_held task receive) (same_held task send) (same_held task send_once) name n (n - 1) is
       (let more = ltb-true 1 n e in let h : HasReferences (Target.dead n) = (l.naming task).references name (Target.dead n) is in (omega (arith, more), (let f = h.1 in omega (arith, f)))))
-      (dead_sets (old.naming task) name n (n - 1) is) l.none_stands)
+      (dead_sets (old.naming task) name n (n - 1) is) (named_requests old l.ground task name (Target.dead (n - 1)) (inr (dead_not_right (lookup old task name) n is))))
   fewer_references name n is false e rest = subst (λ (x : State). Leaves old x task) (sym rest)
       (dead_leaves (has_task l.tasks task name (Target.dead n) is) (map.remove (old.naming task) name) (request_at old.stands (dead_name task name) false)
       (other_unnamed (old.naming task) (held old task) (held new task) (l.naming task) (same_held task receive) (same_held task send) name (Target.dead n) is (no_rights_under n)
       (λ q. let h = same_held task send_once q in omega (arith, h)))
-      (removed_sets (old.naming task) name (Target.dead n) is (λ set e. cc)) (without_stands task name old l.none_stands))
+      (removed_sets (old.naming task) name (Target.dead n) is (λ set e. cc)) (without_requests old l.ground task name))
 
   same_references : (name : ℕ) (x : Target) → lookup old task name ≡ Some x → new ≡ record old { ledger = new.ledger } → Leaves old new task
   same_references name x is rest = subst (λ (x : State). Leaves old x task) (sym rest)

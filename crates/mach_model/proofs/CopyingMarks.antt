@@ -12,7 +12,7 @@ use Rattle.mach_model.specs.Carried.{mark_count, rights_count, lying}
 use Rattle.mach_model.proofs.Weigh.{both_test}
 use Rattle.mach_model.proofs.Names.{fresh_fits}
 use Rattle.mach_model.proofs.Spaces.{IsNew}
-use Rattle.mach_model.proofs.Moving.{IsMoving, shape-same, shape-trans}
+use Rattle.mach_model.proofs.Moving.{IsMoving, shape-same, shape-trans, apart-same, apart-trans}
 use Rattle.mach_model.proofs.CopyingWords.{either}
 use Rattle.mach_model.proofs.CopyingOut.{Removes, come_held, come_same, come_port, come_once, gone_removes}
 
@@ -20,6 +20,7 @@ removes_none : (s new : State) (o k : ℕ) (less : Kind → ℕ → ℕ) → IsM
 removes_none s new o k less l e none = record {
   keeps = subst (λ (x : State). IsMoving x o k) (sym e) l;
   rest = shape-same s new e;
+  apart = apart-same s new o k e;
   few = let a = ap (λ (x : State). length x.ledger) e in omega (arith, a);
   lies = λ c q live. let a = ap (λ (x : State). lying x c q (in_message o k)) e in let b = none c q live in omega (arith, a, b);
 }
@@ -28,6 +29,7 @@ removes_both : (a b c : State) (o k : ℕ) (f g h : Kind → ℕ → ℕ) → Re
 removes_both a b c o k f g h x y sum = record {
   keeps = y.keeps;
   rest = shape-trans a b c x.rest y.rest;
+  apart = apart-trans a b c o k x.apart y.apart;
   few = let m = x.few in let n = y.few in omega (arith, m, n);
   lies = λ kind q live.
       let m = x.lies kind q live in
@@ -82,7 +84,7 @@ GiveRight-removes task o k send p old name new named l is_task n rest tokens = b
     by false e tokens = go n
       where
         go : NamedOnce task name p old named → Removes old new o k (λ c q. mark_count c q send (to_port p))
-        go (inl h) = gone_removes task o k old new p l is_task tokens (onward old named new new.ledger rest h.1)
+        go (inl h) = gone_removes task o k old new send p refl l is_task tokens (onward old named new new.ledger rest h.1)
         go (inr h) = absurd (let a = ltb-false (held old task send p) most_references e in let m = (l.naming task).is_named p (omega (arith, a)) in h.0 m.0 m.1)
 GiveRight-removes task o k send_once p old name new named l is_task n rest tokens =
     come_once task o k old new send_once p l is_task tokens name refl (named_new task name (Target.once p) old named n)

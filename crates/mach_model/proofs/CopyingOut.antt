@@ -12,7 +12,8 @@ use Rattle.mach_model.specs.Lawful.{LawfulNames, LawfulPorts, LawfulReceivers}
 use Rattle.mach_model.proofs.Weigh.{length-weigh, pos_or_zero}
 use Rattle.mach_model.proofs.Spaces.{IsNew, same_naming, port_kept, port_named, other_named}
 use Rattle.mach_model.proofs.SetNames.{IsNoSet, inserted_sets}
-use Rattle.mach_model.proofs.Moving.{IsMoving, shape, near_none, near_task, near_entry, same_receivers, Leaves, same_leaves, other_leaves, moved}
+use Rattle.mach_model.proofs.Requests.{named_requests, none_right}
+use Rattle.mach_model.proofs.Moving.{IsMoving, shape, Apart, near_none, near_task, near_entry, same_receivers, Leaves, same_leaves, other_leaves, moved, moved_apart}
 use Rattle.mach_model.proofs.CopyingIn.{own_task, at_entry, not_at_entry, not_held, own_right, other_port}
 
 -- ---- one right
@@ -21,6 +22,7 @@ use Rattle.mach_model.proofs.CopyingIn.{own_task, at_entry, not_at_entry, not_he
 pub record Removes (s new : State) (o k : ℕ) (less : Kind → ℕ → ℕ) : Type 0 where
   pub keeps : IsMoving new o k
   pub rest : new ≡ shape s new
+  pub apart : Apart s new o k
   pub few : length new.ledger ≤ length s.ledger
   pub lies : (c : Kind) (q : ℕ) → s.live_port q ≡ true → lying new c q (in_message o k) + less c q ≡ lying s c q (in_message o k)
 
@@ -47,6 +49,7 @@ module _ (task o k : ℕ) (old new : State) (kind : Kind) (p : ℕ) (l : IsMovin
   come_removes v = record {
     keeps = moved old new task o k l (token kind p (in_message o k) ∷ []) (token kind p (in_task task) ∷ []) tokens (near_entry task o k kind p) (near_task task o k kind p) v;
     rest = v.rest;
+    apart = moved_apart old new task o k l (token kind p (in_message o k) ∷ []) (token kind p (in_task task) ∷ []) tokens (near_entry task o k kind p) (near_task task o k kind p) v;
     few = let m = tokens (λ x. 1) in omega (arith, m, length-weigh old.ledger, length-weigh new.ledger);
     lies = λ c q live.
         let m = tokens (λ x. if is_of c q x && same_place (in_message o k) x.place then 1 else 0) in
@@ -83,7 +86,8 @@ module _ (task o k : ℕ) (old new : State) (kind : Kind) (p : ℕ) (l : IsMovin
       new ≡ record (with_name task name x old) { ledger = new.ledger } → Removes old new o k (λ c q. mark_count c q kind (to_port p))
   come_named name x not_set is_new own rest = come_removes (subst (λ (x : State). Leaves old x task) (sym rest)
       (other_leaves task o k old l is_task old.make_send old.sequence old.sets_of new.ledger come_ports l.numbers come_receivers l.membership
-      (map.insert (old.naming task) name x) old.stands own (inserted_sets (old.naming task) name x is_new.unused not_set) l.none_stands))
+      (map.insert (old.naming task) name x) old.stands own (inserted_sets (old.naming task) name x is_new.unused not_set)
+      (named_requests old l.ground task name x (inr (none_right (lookup old task name) is_new.unused)))))
 
   pub come_port : (name : ℕ) → (kind ≡ send_once → ⊥) → IsNew (old.naming task) name → ((n : ℕ) → lookup old task n ≢ Some (Target.port p)) → held new task send p ≤ most_references →
       new ≡ record (with_name task name (Target.port p) old) { ledger = new.ledger } → Removes old new o k (λ c q. mark_count c q kind (to_port p))
@@ -114,25 +118,26 @@ module _ (task o k : ℕ) (old new : State) (kind : Kind) (p : ℕ) (l : IsMovin
           let z : (if is_held task send_once q (token kind p (in_task task)) then suc zero else zero) ≡ (if p == q then suc zero else zero) =
           subst (λ (x : Kind). (if is_held task send_once q (token x p (in_task task)) then suc zero else zero) ≡ (if p == q then suc zero else zero)) (sym is) (own_task task (p == q)) in omega (arith, m, z)
 
--- a send right that goes, since the task has as many references as there may be
-module _ (task o k : ℕ) (old new : State) (p : ℕ) (l : IsMoving old o k) (is_task : old.live_task task ≡ true)
-    (tokens : Moves old.ledger new.ledger (token send p (in_message o k) ∷ []) []) where
+-- a right that goes: a send right, since the task has as many references as there may be, or a send-once right that is used
+module _ (task o k : ℕ) (old new : State) (kind : Kind) (p : ℕ) (no_receive : same_kind receive kind ≡ false) (l : IsMoving old o k) (is_task : old.live_task task ≡ true)
+    (tokens : Moves old.ledger new.ledger (token kind p (in_message o k) ∷ []) []) where
   gone_held : (t : ℕ) (c : Kind) (q : ℕ) → held new t c q ≡ held old t c q
-  gone_held t c q = let m = tokens (λ x. if is_held t c q x then 1 else 0) in let z = not_held c q o k send p t in omega (arith, m, z)
+  gone_held t c q = let m = tokens (λ x. if is_held t c q x then 1 else 0) in let z = not_held c q o k kind p t in omega (arith, m, z)
 
-  pub gone_removes : new ≡ record old { ledger = new.ledger } → Removes old new o k (λ c q. mark_count c q send (to_port p))
+  pub gone_removes : new ≡ record old { ledger = new.ledger } → Removes old new o k (λ c q. mark_count c q kind (to_port p))
   gone_removes rest = record {
-    keeps = moved old new task o k l (token send p (in_message o k) ∷ []) [] tokens (near_entry task o k send p) (near_none task o k) leaves;
+    keeps = moved old new task o k l (token kind p (in_message o k) ∷ []) [] tokens (near_entry task o k kind p) (near_none task o k) leaves;
     rest = leaves.rest;
+    apart = moved_apart old new task o k l (token kind p (in_message o k) ∷ []) [] tokens (near_entry task o k kind p) (near_none task o k) leaves;
     few = let m = tokens (λ x. 1) in omega (arith, m, length-weigh old.ledger, length-weigh new.ledger);
     lies = λ c q live.
         let m = tokens (λ x. if is_of c q x && same_place (in_message o k) x.place then 1 else 0) in
-        let e = at_entry c q o k send p in omega (arith, m, e);
+        let e = at_entry c q o k kind p in omega (arith, m, e);
   }
     where
       leaves : Leaves old new task
       leaves = subst (λ (x : State). Leaves old x task) (sym rest) (same_leaves task o k old l is_task old.make_send old.sequence old.sets_of new.ledger
           (record { made_port = l.made_port; no_rights = λ q dead c. let m = tokens (λ x. if is_of c q x then 1 else 0) in let n = l.no_rights q dead c in omega (arith, m, n) }) l.numbers
-          (same_receivers old.live_port old.set_owner old.sets_of old.ledger new.ledger l.receivers (λ q. let m = tokens (λ x. if is_of receive q x then 1 else 0) in omega (arith, m))
+          (same_receivers old.live_port old.set_owner old.sets_of old.ledger new.ledger l.receivers (λ q. let m = tokens (λ x. if is_of receive q x then 1 else 0) in let z : (if is_of receive q (token kind p (in_message o k)) then suc zero else zero) ≡ zero = rw no_receive refl in omega (arith, m, z))
           (λ t q. let e = gone_held t receive q in omega (arith, e)))
           l.membership (same_naming (old.naming task) (held old task) (held new task) (l.naming task) (gone_held task)))

@@ -14,7 +14,7 @@ use Rattle.mach_model.specs.CopyIn.{CopyRight, CopyWord, CopyReply, CopyCarried,
 use Rattle.mach_model.specs.Send.{Copied}
 use Rattle.mach_model.specs.Carried.{mark_count, rights_count, message_count, lying}
 use Rattle.mach_model.proofs.Walks.{SameBody-each}
-use Rattle.mach_model.proofs.Moving.{IsMoving, shape, shape-same, shape-trans}
+use Rattle.mach_model.proofs.Moving.{IsMoving, shape, shape-same, shape-trans, Apart, apart-same, apart-trans}
 use Rattle.mach_model.proofs.CopyingIn.{CopyRight-copies}
 
 pub rights_count-append : (c : Kind) (q : ℕ) (xs ys : List (Kind × Mark)) → rights_count c q (xs ++ ys) ≡ rights_count c q xs + rights_count c q ys
@@ -25,12 +25,14 @@ rights_count-append c q (x ∷ xs) ys = let e = rights_count-append c q xs ys in
 pub record Adds (s new : State) (o k : ℕ) (more : Kind → ℕ → ℕ) : Type 0 where
   pub keeps : IsMoving new o k
   pub rest : new ≡ shape s new
+  pub apart : Apart s new o k
   pub lies : (c : Kind) (q : ℕ) → lying new c q (in_message o k) ≡ lying s c q (in_message o k) + more c q
 
 adds_none : (s new : State) (o k : ℕ) (more : Kind → ℕ → ℕ) → IsMoving s o k → new ≡ s → ((c : Kind) (q : ℕ) → more c q ≡ 0) → Adds s new o k more
 adds_none s new o k more l e none = record {
   keeps = subst (λ (x : State). IsMoving x o k) (sym e) l;
   rest = shape-same s new e;
+  apart = apart-same s new o k e;
   lies = λ c q. let a = ap (λ (x : State). lying x c q (in_message o k)) e in let b = none c q in omega (arith, a, b);
 }
 
@@ -38,6 +40,7 @@ adds_both : (a b c : State) (o k : ℕ) (f g h : Kind → ℕ → ℕ) → Adds 
 adds_both a b c o k f g h x y sum = record {
   keeps = y.keeps;
   rest = shape-trans a b c x.rest y.rest;
+  apart = apart-trans a b c o k x.apart y.apart;
   lies = λ kind q. let m = x.lies kind q in let n = y.lies kind q in let s = sum kind q in omega (arith, m, n, s);
 }
 
@@ -53,7 +56,7 @@ CopyRight-adds : (task o k number name : ℕ) (kind : Kind) (old : State) (mark 
 CopyRight-adds task o k number name kind old mark new l is r =
     let c = CopyRight-copies task o k number name old mark new l r in
     let same : kind_sent r.given ≡ kind = ap kind_sent (given_once number r.given is.0 r.is_given is.1) ∙ sym is.2 in
-    subst (λ (x : Kind). Adds old new o k (λ c q. mark_count c q x mark)) same (record { keeps = c.keeps; rest = c.rest; lies = c.lies })
+    subst (λ (x : Kind). Adds old new o k (λ c q. mark_count c q x mark)) same (record { keeps = c.keeps; rest = c.rest; apart = c.apart; lies = c.lies })
 
 CopyWord-adds : (task o k number word : ℕ) (kind : Kind) (old : State) (mark : Mark) (new : State) → IsMoving old o k → IsSent number kind →
     CopyWord task (in_message o k) number word old mark new → Adds old new o k (λ c q. mark_count c q kind mark)
@@ -67,7 +70,7 @@ CopyReply-adds : (task o k number word : ℕ) (old : State) (reply : ReplyRight)
 CopyReply-adds task o k number word old absent new l h = adds_none old new o k _ l h.2 (λ c q. refl)
 CopyReply-adds task o k number word old (present kind mark) new l h =
     let a = CopyWord-adds task o k number word kind old mark new l h.0 h.1 in
-    record { keeps = a.keeps; rest = a.rest; lies = λ c q. let m = a.lies c q in omega (arith, m) }
+    record { keeps = a.keeps; rest = a.rest; apart = a.apart; lies = λ c q. let m = a.lies c q in omega (arith, m) }
 
 words_add : (task o k : ℕ) (ws : List (ℕ × ℕ)) (old : State) (rs : List (Kind × Mark)) (new : State) → IsMoving old o k → AllZip (λ (w : ℕ × ℕ) (r : Kind × Mark). IsSent w.0 r.0) ws rs →
     Through (CopyCarried task (in_message o k)) old ws rs new → Adds old new o k (λ c q. rights_count c q rs)
@@ -91,7 +94,7 @@ Copied-adds task header written old m new l h =
     let k = length (old.log o) in
     let c = CopyRight-copies task o k header.remote_kind header.remote old (to_port o) h.first l h.destination in
     let c' : Adds old h.first o k (λ c q. mark_count c q m.kind (to_port o)) =
-    subst (λ (x : Kind). Adds old h.first o k (λ c q. mark_count c q x (to_port o))) (sym h.kind) (record { keeps = c.keeps; rest = c.rest; lies = c.lies }) in
+    subst (λ (x : Kind). Adds old h.first o k (λ c q. mark_count c q x (to_port o))) (sym h.kind) (record { keeps = c.keeps; rest = c.rest; apart = c.apart; lies = c.lies }) in
     let r = CopyReply-adds task o k header.local_kind header.local h.first m.reply h.second c.keeps h.reply in
     let b = CopyBody-adds task o k written h.second m.body new r.keeps h.body in
     let two : Adds h.first new o k (λ c q. rights_count c q (message_rights m)) =

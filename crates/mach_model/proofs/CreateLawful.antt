@@ -48,6 +48,7 @@ module _ (s : State) (l : IsLawful s) where
     messages = l.messages;
     requests = l.requests;
     standing = l.standing;
+    ground = l.ground;
   }
 
   pub CreatesTask-lawful : (t : ℕ) (mid : State) → CreatesTask s t mid → IsLawful mid

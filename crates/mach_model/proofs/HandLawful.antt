@@ -19,6 +19,7 @@ use Rattle.mach_model.specs.Transfer.{target_for, inserted_guards, Inserts, pegg
 use Rattle.mach_model.specs.Refusals.{IsNoName}
 use Rattle.mach_model.specs.Carried.{mark_count, lying}
 use Rattle.mach_model.specs.Lawful.{IsLawful}
+use Rattle.mach_model.specs.Midway.{MidLawful}
 use Rattle.mach_model.proofs.Weigh.{length-weigh, left_of, right_of, lying_le_of}
 use Rattle.mach_model.proofs.Settling.{kind_refl}
 use Rattle.mach_model.proofs.Spaces.{IsNew}
@@ -29,7 +30,7 @@ use Rattle.mach_model.proofs.CopyingMarks.{GiveRight-removes}
 
 -- ---- one token is taken from a list
 
-same_kinds : (a b : Kind) → same_kind a b ≡ true → b ≡ a
+pub same_kinds : (a b : Kind) → same_kind a b ≡ true → b ≡ a
 same_kinds receive receive e = refl
 same_kinds send send e = refl
 same_kinds send_once send_once e = refl
@@ -40,13 +41,13 @@ same_kinds send send_once e = absurd (cc)
 same_kinds send_once receive e = absurd (cc)
 same_kinds send_once send e = absurd (cc)
 
-same_numbers : (a b : ℕ) → (a == b) ≡ true → a ≡ b
+pub same_numbers : (a b : ℕ) → (a == b) ≡ true → a ≡ b
 same_numbers a b e = elim (eqb_tells a b) [
   | inl h ↦ h.1
   | inr h ↦ absurd (let f = h.0 in cc)
 ]
 
-same_task : (task : ℕ) (place : Place) → is_in_task task place ≡ true → place ≡ in_task task
+pub same_task : (task : ℕ) (place : Place) → is_in_task task place ≡ true → place ≡ in_task task
 same_task task (in_task other) e = ap in_task (same_numbers other task e)
 same_task task (in_message p k) e = absurd (cc)
 same_task task (in_request r) e = absurd (cc)
@@ -78,7 +79,7 @@ same_mark : (a b : ℕ) → Some (to_port a) ≡ Some (to_port b) → a ≡ b
 same_mark a b e = cc
 
 -- what the right of a port is, where it stands
-put_is : (s : State) (from : ℕ) (given : Disposition) (target : Target) (p : ℕ) → IsLegal s from given target → target_mark given target ≡ Some (to_port p) → (place : Place) →
+pub put_is : (s : State) (from : ℕ) (given : Disposition) (target : Target) (p : ℕ) → IsLegal s from given target → target_mark given target ≡ Some (to_port p) → (place : Place) →
     put_by given target place ≡ token (kind_sent given) p place ∷ []
 put_is s from MoveSend (Target.dead n) p legal e place = absurd (cc)
 put_is s from MoveSendOnce (Target.dead n) p legal e place = absurd (cc)
@@ -163,7 +164,7 @@ module _ (from to number name p o k : ℕ) (s copied : State) (l : IsMoving s o 
 
 -- what was on its way and is with a task now has left the state lawful
 arrives : (o k : ℕ) (old v mid : State) (kind : Kind) (p : ℕ) → IsLawful old → length (old.log o) ≤ k → Copies old v o k kind (to_port p) → Removes v mid o k (λ c q. mark_count c q kind (to_port p)) →
-    length mid.ledger ≤ most_rights → IsLawful mid
+    length mid.ledger ≤ most_rights → MidLawful mid []
 arrives o k old v mid kind p l above c r few = arrived mid o k r.keeps (inr outside) none few
   where
     log : mid.log ≡ old.log
@@ -269,8 +270,8 @@ Inserts-hands task name from poly number old mid l is_task fits i =
       removes = inserted task name i.p 0 k i.copied h.ledger (kind_sent i.copy.given) h.copies.keeps live h.moves i.unrefused fits mid i.named;
     }
 
-pub Inserts-lawful : (task name from poly number : ℕ) (old mid : State) → IsLawful old → old.live_task task ≡ true → ¬ (IsNoName name) → Inserts task name from poly number old mid → IsLawful mid
-Inserts-lawful task name from poly number old mid l is_task fits i =
+pub Inserts-mid : (task name from poly number : ℕ) (old mid : State) → IsLawful old → old.live_task task ≡ true → ¬ (IsNoName name) → Inserts task name from poly number old mid → MidLawful mid []
+Inserts-mid task name from poly number old mid l is_task fits i =
     let h = Inserts-hands task name from poly number old mid l is_task fits i in
     arrives 0 (length (old.log 0)) old h.on_its_way mid (kind_sent i.copy.given) i.p l (omega arith) h.copies h.removes
     (let e = ap length (same_ledger task name (target_for (kind_sent i.copy.given) i.p) i.copied mid i.named) in
@@ -345,8 +346,8 @@ Extracts-hands task name number to new_name shown old mid l is_task x =
       removes = extracted to new_name x.p 0 k x.copied x.named_state mid h.ledger (kind_sent x.copy.given) h.copies.keeps live h.moves x.rest x.tokens x.named;
     }
 
-pub Extracts-lawful : (task name number to new_name shown : ℕ) (old mid : State) → IsLawful old → old.live_task to ≡ true → Extracts task name number to new_name shown old mid → IsLawful mid
-Extracts-lawful task name number to new_name shown old mid l is_task x =
+pub Extracts-mid : (task name number to new_name shown : ℕ) (old mid : State) → IsLawful old → old.live_task to ≡ true → Extracts task name number to new_name shown old mid → MidLawful mid []
+Extracts-mid task name number to new_name shown old mid l is_task x =
     let h = Extracts-hands task name number to new_name shown old mid l is_task x in
     arrives 0 (length (old.log 0)) old h.on_its_way mid (kind_sent x.copy.given) x.p l (omega arith) h.copies h.removes
     (let e = x.tokens (λ y. 1) in

@@ -1,8 +1,9 @@
--- Losing send rights, references of dead names, and sets leaves a lawful state.
-use Rattle.std.proofs.Common.{◌≡◌, ℕ, zero, suc, ◌+◌, ◌-◌, ◌<◌, ◌≤◌, List, [], ◌∷◌, Some, refl, sym, ap, subst, ◌∙◌, arith, true, false, Bool, ◌⊎◌, inl, inr, length, get_or}
-use Rattle.std.specs.Prelude.{ℤ, pos, negsuc, if◌then◌else◌, ◌==◌, ◌&&◌, ◌||◌, nat_lt, replicate, All}
+-- Losing rights under a name, references and sets leaves a lawful state, midway.
+use Rattle.std.proofs.Common.{◌≡◌, ℕ, zero, suc, ◌+◌, ◌-◌, ◌<◌, ◌≤◌, List, [], ◌∷◌, Some, refl, sym, ap, subst, ◌∙◌, arith, true, false, Bool, ◌⊎◌, inl, inr, length}
+use Rattle.std.specs.Prelude.{ℤ, pos, negsuc, if◌then◌else◌, ◌==◌, ◌&&◌, ◌||◌, nat_lt, replicate}
 use Rattle.std.specs.FinMap as map
-use Rattle.std.proofs.lemmas.Bool.{ne_eqb, ltb-true, ltb-false, and_left, and_right, or_cases, or_left, or_right}
+use Rattle.std.proofs.lemmas.Bool.{ne_eqb, ltb-true, ltb-false, and_left, and_right}
+use Rattle.mach_types.specs.declared.rights.Disposition.TheVariants.{MoveSendOnce}
 use Rattle.mach_types.specs.Numbers.{most_references, most_rights}
 use Rattle.mach_types.specs.Tokens.{Kind, dead_name, receive, send, send_once, in_task, in_message, Token, token, weigh, count, is_of, is_held, same_kind, Moves}
 use Rattle.mach_model.specs.State.{State, Target, request_at, lookup, held, without_name, with_name}
@@ -10,18 +11,18 @@ use Rattle.mach_model.specs.Death.{same_place}
 use Rattle.mach_model.specs.CopyIn.{name_kept}
 use Rattle.mach_model.specs.Lawful.{IsLawful, LawfulPorts, is_once, HasReferences}
 use Rattle.mach_model.specs.Midway.{MidLawful}
-use Rattle.mach_model.specs.References.{is_either, LosesAll, Deallocates, DestroysTarget, Destroys, SetsSends, AddsTo, RemovesRight, IsCounted, Modifies, references_at, references_under, IsAbove, added_rights}
-use Rattle.mach_model.specs.ReceiveRight.{NamesReceive}
+use Rattle.mach_model.specs.References.{LosesOne, unused_once, Deallocates, DestroysTarget, Destroys, SetsSends, AddsTo, RemovesRight, IsCounted, Modifies, references_at, references_under, IsAbove, added_rights}
 use Rattle.mach_model.specs.Notices.{Owed}
-use Rattle.mach_model.specs.NotYet.{NamesOnce, IsNotYetDestroying, IsNotYetRemoving}
-use Rattle.mach_model.proofs.Weigh.{length-weigh, count_le, count_none, count_some, pos_or_zero}
-use Rattle.mach_model.proofs.Settling.{named_lives, unowed, IsReordered-lawful}
+use Rattle.mach_model.proofs.Weigh.{length-weigh}
+use Rattle.mach_model.proofs.Settling.{named_lives, IsReordered-mid}
+use Rattle.mach_model.proofs.Midway.{mid_lawful, unowed}
+use Rattle.mach_model.proofs.Requests.{without_requests, named_requests, dead_not_right}
 use Rattle.mach_model.proofs.Spaces.{has_task, other_unnamed, dead_counted}
 use Rattle.mach_model.proofs.SetNames.{IsNoSet, at_law, removed_sets, dead_sets}
 use Rattle.mach_model.proofs.Moving.{moving, arrived, AreNear, same_receivers, Leaves, moved}
-use Rattle.mach_model.proofs.HandLawful.{is_it}
-use Rattle.mach_model.proofs.SetsLawful.{without_set-lawful, named_lawful}
-use Rattle.mach_model.proofs.CopyingIn.{own_right, without_stands, kept_when, one_less, sends_leave}
+use Rattle.mach_model.proofs.LostNames.{once_lost, all_lost, receive_lost}
+use Rattle.mach_model.proofs.SetsLawful.{without_set-mid, named_as}
+use Rattle.mach_model.proofs.CopyingIn.{own_right, kept_when, one_less, sends_leave}
 
 -- ---- send references of one port
 
@@ -65,7 +66,7 @@ module _ (task name p : ℕ) (old new : State) (l : IsLawful old) (is : lookup o
       few ports b kept (same_receivers old.live_port old.set_owner old.sets_of old.ledger new.ledger l.receivers (λ q. others (is_of receive q) refl) (λ t q. let e = others (is_held t receive q) refl in omega (arith, e)))
 
   pub sends_lawful : (b : Bool) → (b ≡ true) × (0 < held new task receive p + held new task send p) ⊎ (b ≡ false) × (held new task receive p + held new task send p ≡ 0) →
-      held new task send p ≤ most_references → length new.ledger ≤ most_rights → new ≡ record (name_kept b task name old) { ledger = new.ledger } → IsLawful new
+      held new task send p ≤ most_references → length new.ledger ≤ most_rights → new ≡ record (name_kept b task name old) { ledger = new.ledger } → MidLawful new []
   sends_lawful b kept fits few rest =
       let v : Leaves old new task = subst (λ (x : State). Leaves old x task) (sym rest) (leaves b kept fits) in
       arrived new 0 k (moved old new task 0 k (moving old 0 k l) gone come moves (sends_near task p 0 k gone are_gone) (sends_near task p 0 k come are_come) v)
@@ -76,31 +77,36 @@ module _ (task name p : ℕ) (old new : State) (l : IsLawful old) (is : lookup o
 
 module _ (task name : ℕ) (old : State) (l : IsLawful old) where
   -- a name that stands for no port and no set goes
-  pub unnamed_lawful : (x : Target) → lookup old task name ≡ Some x → IsNoSet x → ((q : ℕ) → x ≡ Target.port q → ⊥) → ((q : ℕ) → is_once q x ≡ false) → IsLawful (without_name task name old)
-  unnamed_lawful x is not_set not_port not_once =
-      named_lawful task old l (has_task l.tasks task name x is) (map.remove (old.naming task) name) (request_at old.stands (dead_name task name) false)
+  pub unnamed_mid : (x : Target) → lookup old task name ≡ Some x → IsNoSet x → ((q : ℕ) → x ≡ Target.port q → ⊥) → ((q : ℕ) → is_once q x ≡ false) → MidLawful (without_name task name old) []
+  unnamed_mid x is not_set not_port not_once =
+      named_as task old l (has_task l.tasks task name x is) (map.remove (old.naming task) name) (request_at old.stands (dead_name task name) false)
       (other_unnamed (old.naming task) (held old task) (held old task) (l.naming task) (λ q. refl) (λ q. refl) name x is not_port
       (λ q. let b : (if is_once q x then suc zero else zero) ≡ zero = rw (not_once q) refl in omega (arith, b)))
-      (at_law old.naming task old.set_owner old.sets_made (map.remove (old.naming task) name) l.sets (removed_sets (old.naming task) name x is not_set)) (without_stands task name old l.none_stands)
+      (at_law old.naming task old.set_owner old.sets_made (map.remove (old.naming task) name) l.sets (removed_sets (old.naming task) name x is not_set)) (without_requests old l.ground task name)
 
   -- a dead name has so many references
-  counted_lawful : (n m : ℕ) → lookup old task name ≡ Some (Target.dead n) → HasReferences (Target.dead m) → IsLawful (with_name task name (Target.dead m) old)
-  counted_lawful n m is fits = named_lawful task old l (has_task l.tasks task name (Target.dead n) is) (map.insert (old.naming task) name (Target.dead m)) old.stands
+  counted_mid : (n m : ℕ) → lookup old task name ≡ Some (Target.dead n) → HasReferences (Target.dead m) → MidLawful (with_name task name (Target.dead m) old) []
+  counted_mid n m is fits = named_as task old l (has_task l.tasks task name (Target.dead n) is) (map.insert (old.naming task) name (Target.dead m)) old.stands
       (dead_counted (old.naming task) (held old task) (held old task) (l.naming task) (λ q. refl) (λ q. refl) (λ q. refl) name n m is fits)
-      (at_law old.naming task old.set_owner old.sets_made (map.insert (old.naming task) name (Target.dead m)) l.sets (dead_sets (old.naming task) name n m is)) l.none_stands
+      (at_law old.naming task old.set_owner old.sets_made (map.insert (old.naming task) name (Target.dead m)) l.sets (dead_sets (old.naming task) name n m is))
+      (named_requests old l.ground task name (Target.dead m) (inr (dead_not_right (lookup old task name) n is)))
 
-  dead_lawful : (n m : ℕ) → lookup old task name ≡ Some (Target.dead n) → m ≤ most_references → (b : Bool) → (b ≡ true → 0 < m) →
-      IsLawful (if b then with_name task name (Target.dead m) old else without_name task name old)
-  dead_lawful n m is fits true some = counted_lawful n m is (some refl, fits)
-  dead_lawful n m is fits false some = unnamed_lawful (Target.dead n) is (λ set e. cc) (λ q e. cc) (λ q. refl)
+  dead_mid : (n m : ℕ) → lookup old task name ≡ Some (Target.dead n) → m ≤ most_references → (b : Bool) → (b ≡ true → 0 < m) →
+      MidLawful (if b then with_name task name (Target.dead m) old else without_name task name old) []
+  dead_mid n m is fits true some = counted_mid n m is (some refl, fits)
+  dead_mid n m is fits false some = unnamed_mid (Target.dead n) is (λ set e. cc) (λ q e. cc) (λ q. refl)
 
 -- ---- deallocating
 
 one_right : (task p : ℕ) → (if is_held task send p (token send p (in_task task)) then suc zero else zero) ≡ suc zero
 one_right task p = own_right task send p refl
 
-pub Deallocates-mid : (task name : ℕ) (old mid : State) (owed : Owed) → IsLawful old → ¬ (NamesOnce old task name) → Deallocates task name old mid owed → MidLawful mid owed
-Deallocates-mid task name old mid owed l not_once (inl (p, d, none)) = unowed mid owed none
+once_owed : (task name p : ℕ) (old mid : State) (owed : Owed) → IsLawful old → lookup old task name ≡ Some (Target.once p) → LosesOne task name MoveSendOnce (Target.once p) old mid →
+    owed ≡ unused_once p task → MidLawful mid owed
+once_owed task name p old mid owed l is d owes = subst (MidLawful mid) (sym owes) (once_lost task name p old mid l is d.rest d.tokens)
+
+pub Deallocates-mid : (task name : ℕ) (old mid : State) (owed : Owed) → IsLawful old → Deallocates task name old mid owed → MidLawful mid owed
+Deallocates-mid task name old mid owed l (inl (p, d, none)) = unowed mid owed none
     (sends_lawful task name p old mid l d.found (token send p (in_task task) ∷ []) [] d.tokens (same_sends task p 1) (no_sends task p)
     (nat_lt 1 (held old task send p) || nat_lt 0 (held old task receive p))
     (one_less (held old task send p) (held old task receive p) (held mid task send p) (held mid task receive p) less (let m = d.tokens (λ x. if is_held task receive p x then 1 else 0) in omega (arith, m)))
@@ -108,10 +114,10 @@ Deallocates-mid task name old mid owed l not_once (inl (p, d, none)) = unowed mi
   where
     less : held mid task send p + 1 ≡ held old task send p
     less = let m = d.tokens (λ x. if is_held task send p x then 1 else 0) in let e = one_right task p in omega (arith, m, e)
-Deallocates-mid task name old mid owed l not_once (inr (inl (p, d, none))) = absurd (not_once (p, d.found))
-Deallocates-mid task name old mid owed l not_once (inr (inr (n, d, none))) = unowed mid owed none
-    (IsReordered-lawful (if nat_lt 1 n then with_name task name (Target.dead (n - 1)) old else without_name task name old) mid
-    (dead_lawful task name old l n (n - 1) d.found (let h : HasReferences (Target.dead n) = (l.naming task).references name (Target.dead n) d.found in let f = h.1 in omega (arith, f)) (nat_lt 1 n)
+Deallocates-mid task name old mid owed l (inr (inl (p, d, owes))) = once_owed task name p old mid owed l d.found d owes
+Deallocates-mid task name old mid owed l (inr (inr (n, d, none))) = unowed mid owed none
+    (IsReordered-mid (if nat_lt 1 n then with_name task name (Target.dead (n - 1)) old else without_name task name old) mid []
+    (dead_mid task name old l n (n - 1) d.found (let h : HasReferences (Target.dead n) = (l.naming task).references name (Target.dead n) d.found in let f = h.1 in omega (arith, f)) (nat_lt 1 n)
     (λ e. let h = ltb-true 1 n e in omega (arith, h)))
     (record { rest = d.rest; tokens = same_tokens (nat_lt 1 n) }))
   where
@@ -121,40 +127,16 @@ Deallocates-mid task name old mid owed l not_once (inr (inr (n, d, none))) = uno
 
 -- ---- destroying
 
--- Tokens of which each is a receive or send right that the task has for the port, and none is a receive right, are its send rights.
-sends_of_either : (task p : ℕ) (xs : List Token) → All (λ x. is_either task p x ≡ true) xs → count (is_held task receive p) xs ≡ 0 → AreSends task p xs
-sends_of_either task p xs all none test e = count_none test xs (λ k d below passes. elim (or_cases (is_held task receive p (get_or xs k d)) (is_held task send p (get_or xs k d)) (all k d below)) [
-  | inl h ↦ let some = count_some (is_held task receive p) xs k d below h in omega (arith, some, none)
-  | inr h ↦ (let is = is_it task send p (get_or xs k d) h in let f : true ≡ false = sym passes ∙ ap test is ∙ e in cc)
-])
+pub DestroysTarget-mid : (task name : ℕ) (old mid : State) → IsLawful old → (target : Target) (owed : Owed) → lookup old task name ≡ Some target → DestroysTarget task name target old mid owed →
+    MidLawful mid owed
+DestroysTarget-mid task name old mid l (Target.port p) owed is d = unowed mid owed d.2 (all_lost task name p old mid l is d.0 d.1)
+DestroysTarget-mid task name old mid l (Target.once p) owed is d = once_owed task name p old mid owed l is d.0 d.1
+DestroysTarget-mid task name old mid l (Target.dead n) owed is d =
+    unowed mid owed d.1 (subst (λ (x : State). MidLawful x []) (sym d.0) (unnamed_mid task name old l (Target.dead n) is (λ set e. cc) (λ q e. cc) (λ q. refl)))
+DestroysTarget-mid task name old mid l (Target.set set) owed is d = unowed mid owed d.1 (subst (λ (x : State). MidLawful x []) (sym d.0) (without_set-mid task name set old l is))
 
-port_destroyed : (task name p : ℕ) (old mid : State) → IsLawful old → lookup old task name ≡ Some (Target.port p) → ¬ (NamesReceive old task name) →
-    LosesAll (is_either task p) old.ledger mid.ledger → mid ≡ record (without_name task name old) { ledger = mid.ledger } → IsLawful mid
-port_destroyed task name p old mid l is not all rest =
-    let receives = all.moves (λ x. if is_held task receive p x then 1 else 0) in
-    let a = count_le (is_held task receive p) (is_either task p) (λ x e. or_left (is_held task receive p x) (is_held task send p x) e) mid.ledger in
-    let b = count_le (is_held task send p) (is_either task p) (λ x e. or_right (is_held task receive p x) (is_held task send p x) e) mid.ledger in
-    let none = all.none_left in
-    sends_lawful task name p old mid l is all.gone [] all.moves (sends_of_either task p all.gone all.passed (omega (arith, receives, none_held))) (no_sends task p)
-    false (inr (refl, omega (arith, a, b, none))) (omega (arith, b, none))
-    (let m = all.moves (λ x. 1) in let h = l.few_rights in omega (arith, m, h, length-weigh old.ledger, length-weigh mid.ledger)) rest
-  where
-    none_held : held old task receive p ≡ 0
-    none_held = elim (pos_or_zero (held old task receive p)) [
-      | inl h ↦ h
-      | inr h ↦ absurd (not (p, is, h))
-    ]
-
-DestroysTarget-mid : (task name : ℕ) (old mid : State) → IsLawful old → (target : Target) (owed : Owed) → lookup old task name ≡ Some target → ¬ (IsNotYetDestroying old task name) →
-    DestroysTarget task name target old mid owed → MidLawful mid owed
-DestroysTarget-mid task name old mid l (Target.port p) owed is not d = unowed mid owed d.2 (port_destroyed task name p old mid l is (λ e. not (inl e)) d.0 d.1)
-DestroysTarget-mid task name old mid l (Target.once p) owed is not d = absurd (not (inr (p, is)))
-DestroysTarget-mid task name old mid l (Target.dead n) owed is not d =
-    unowed mid owed d.1 (subst IsLawful (sym d.0) (unnamed_lawful task name old l (Target.dead n) is (λ set e. cc) (λ q e. cc) (λ q. refl)))
-DestroysTarget-mid task name old mid l (Target.set set) owed is not d = unowed mid owed d.1 (subst IsLawful (sym d.0) (without_set-lawful task name set old l is))
-
-pub Destroys-mid : (task name : ℕ) (old mid : State) (owed : Owed) → IsLawful old → ¬ (IsNotYetDestroying old task name) → Destroys task name old mid owed → MidLawful mid owed
-Destroys-mid task name old mid owed l not (target, is, d) = DestroysTarget-mid task name old mid l target owed is not d
+pub Destroys-mid : (task name : ℕ) (old mid : State) (owed : Owed) → IsLawful old → Destroys task name old mid owed → MidLawful mid owed
+Destroys-mid task name old mid owed l (target, is, d) = DestroysTarget-mid task name old mid l target owed is d
 
 -- ---- references by a number
 
@@ -186,7 +168,7 @@ module _ (task name p m : ℕ) (old mid : State) (l : IsLawful old) (is : lookup
       let b = same_sends task p (m - held old task send p) (is_held task receive p) refl in
       omega (arith, t, a, b)
 
-  sends_set : (delta : ℤ) → Fits (held old task send p) m delta (length old.ledger) → IsLawful mid
+  sends_set : (delta : ℤ) → Fits (held old task send p) m delta (length old.ledger) → MidLawful mid []
   sends_set delta fits = sends_lawful task name p old mid l is (replicate (held old task send p - m) (token send p (in_task task))) (replicate (m - held old task send p) (token send p (in_task task)))
       d.tokens (same_sends task p (held old task send p - m)) (same_sends task p (m - held old task send p))
       (nat_lt 0 m || nat_lt 0 (held old task receive p)) (let n = now_held in let r = still_receives in
@@ -204,7 +186,6 @@ module _ (task name p m : ℕ) (old mid : State) (l : IsLawful old) (is : lookup
 pub record Unrefused (s : State) (task name right : ℕ) (delta : ℤ) : Type 0 where
   pub not_above : ¬ (IsCounted right × IsAbove (references_at s task name right) delta)
   pub room : ¬ ((right ≡ 0) × (most_rights < length s.ledger + added_rights delta))
-  pub not_yet : ¬ (IsNotYetRemoving right delta)
 
 pub Modifies-mid : (task name right : ℕ) (delta : ℤ) (old mid : State) (owed : Owed) → IsLawful old → Unrefused old task name right delta → Modifies task name right delta old mid owed →
     MidLawful mid owed
@@ -215,7 +196,7 @@ Modifies-mid task name right delta old mid owed l u (inl (p, m, is_send, is, add
     many : references_at old task name right ≡ held old task send p
     many = ap (λ (r : ℕ). references_at old task name r) is_send ∙ ap (λ o. references_under old task o 0) is
 Modifies-mid task name right delta old mid owed l u (inr (inl (n, m, is_dead, is, adds, rest, none))) =
-    unowed mid owed none (subst IsLawful (sym rest) (dead_lawful task name old l n m is fits (nat_lt 0 m) (ltb-true 0 m)))
+    unowed mid owed none (subst (λ (x : State). MidLawful x []) (sym rest) (dead_mid task name old l n m is fits (nat_lt 0 m) (ltb-true 0 m)))
   where
     many : references_at old task name right ≡ n
     many = ap (λ (r : ℕ). references_at old task name r) is_dead ∙ ap (λ o. references_under old task o 4) is
@@ -228,11 +209,11 @@ Modifies-mid task name right delta old mid owed l u (inr (inl (n, m, is_dead, is
     fits =
         let h : HasReferences (Target.dead n) = (l.naming task).references name (Target.dead n) is in
         few delta adds (λ above. u.not_above (inr is_dead, subst (λ (n : ℕ). IsAbove n delta) (sym many) above)) h.1
-Modifies-mid task name right delta old mid owed l u (inr (inr (inl (uncounted, none, rest, owes)))) = unowed mid owed owes (subst IsLawful (sym rest) l)
+Modifies-mid task name right delta old mid owed l u (inr (inr (inl (uncounted, none, rest, owes)))) = unowed mid owed owes (subst (λ (x : State). MidLawful x []) (sym rest) (mid_lawful old l))
 Modifies-mid task name right delta old mid owed l u (inr (inr (inr (target, one, is, d)))) = go target is d
   where
     go : (target : Target) → lookup old task name ≡ Some target → RemovesRight right task name target old mid owed → MidLawful mid owed
-    go (Target.port p) is d = absurd (u.not_yet (inl d.0, one))
-    go (Target.once p) is d = absurd (u.not_yet (inr d.0, one))
-    go (Target.set set) is d = unowed mid owed d.1.1 (subst IsLawful (sym d.1.0) (without_set-lawful task name set old l is))
+    go (Target.port p) is d = unowed mid owed d.2 (receive_lost task name p old mid l is d.1)
+    go (Target.once p) is d = DestroysTarget-mid task name old mid l (Target.once p) owed is d.1
+    go (Target.set set) is d = DestroysTarget-mid task name old mid l (Target.set set) owed is d.1
     go (Target.dead n) is d = absurd d

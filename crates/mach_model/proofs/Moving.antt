@@ -1,9 +1,9 @@
 -- States while rights are on their way: copied in and not yet in a message, or taken from a message and not yet copied out. They
 -- lie at one entry of one port's log; but for these rights the state is lawful.
 use Rattle.std.proofs.Common.{◌≡◌, ℕ, ◌+◌, ◌<◌, ◌≤◌, List, [], ◌∷◌, Option, Some, refl, sym, ap, subst, ◌∙◌, arith, true, false, Bool, ◌⊎◌, inl, inr, length}
-use Rattle.std.specs.Prelude.{if◌then◌else◌, ◌&&◌, slice_get, drop}
+use Rattle.std.specs.Prelude.{if◌then◌else◌, ◌&&◌, slice_get, drop, All}
 use Rattle.std.proofs.lemmas.Bool.Decides.{eqb_tells}
-use Rattle.std.proofs.lemmas.Bool.{ne_eqb, and_right}
+use Rattle.std.proofs.lemmas.Bool.{ne_eqb, and_right, cases_Bool}
 use Rattle.std.proofs.lemmas.Option.{slice_get_within}
 use Rattle.std.proofs.lemmas.List.{length-drop}
 use Rattle.mach_types.specs.Numbers.{most_rights}
@@ -12,7 +12,10 @@ use Rattle.mach_types.specs.Messages.{Entry}
 use Rattle.mach_model.specs.State.{State, Names, at, held, queue}
 use Rattle.mach_model.specs.Death.{same_place}
 use Rattle.mach_model.specs.Carried.{message_count, lying_among, lying}
-use Rattle.mach_model.specs.Lawful.{NoRequests, LawfulTasks, LawfulNames, LawfulPorts, LawfulNumbers, LawfulReceivers, LawfulSets, LawfulMembership, LawfulLogs, LawfulRequests, LawfulStanding, IsLawful}
+use Rattle.mach_model.specs.Notices.{Owed}
+use Rattle.mach_model.specs.Lawful.{LawfulTasks, LawfulNames, LawfulPorts, LawfulNumbers, LawfulReceivers, LawfulSets, LawfulMembership, LawfulLogs, LawfulRequests, LawfulGround, IsLawful}
+use Rattle.mach_model.specs.Midway.{IsOwed, MidRoom, MidStanding, MidLawful}
+use Rattle.mach_model.proofs.Requests.{KeepsRequests, stood, all_ground, requests_stay}
 use Rattle.mach_model.proofs.At.{at_same, at_other, elsewhere}
 use Rattle.mach_model.proofs.Spaces.{tasks_named, all_named}
 use Rattle.mach_model.proofs.SetNames.{SameSets, SameSets-refl, kept_set_law}
@@ -26,7 +29,6 @@ pub record MovingMessages (live : ℕ → Bool) (log : ℕ → List Entry) (take
       lying_among ledger kind q (in_message p (taken p + i)) ≡ message_count kind q e.message
   pub gone : (p j : ℕ) → (p ≡ o → j ≡ k → ⊥) → (j < taken p) ⊎ (live p ≡ false) → (kind : Kind) (q : ℕ) → lying_among ledger kind q (in_message p j) ≡ 0
   pub no_entry : (p j : ℕ) → (p ≡ o → j ≡ k → ⊥) → length (log p) ≤ j → (kind : Kind) (q : ℕ) → lying_among ledger kind q (in_message p j) ≡ 0
-  pub none_carried : (p j q : ℕ) → (p ≡ o → j ≡ k → ⊥) → lying_among ledger receive q (in_message p j) ≡ 0
 
 -- Lawful but for the rights that lie at entry k of port o's log, and for how many rights there are.
 pub record IsMoving (s : State) (o k : ℕ) : Type 0 where
@@ -49,8 +51,10 @@ pub record IsMoving (s : State) (o k : ℕ) : Type 0 where
   pub open messages use *
   pub requests : LawfulRequests s.ledger
   pub open requests use *
-  pub standing : LawfulStanding s.stands s.ledger
+  pub standing : MidStanding s.stands s.ledger
   pub open standing use *
+  pub ground : LawfulGround s.live_port s.naming s.stands
+  pub open ground use *
 
 -- ---- to and from lawful states
 
@@ -65,24 +69,43 @@ moving s o k l = record {
   sets = l.sets;
   membership = l.membership;
   logs = l.logs;
-  messages = record { carried = λ p i e not. l.carried p i e; gone = λ p j not. l.gone p j; no_entry = λ p j not. l.no_entry p j; none_carried = λ p j q not. l.none_carried p j q };
+  messages = record { carried = λ p i e not. l.carried p i e; gone = λ p j not. l.gone p j; no_entry = λ p j not. l.no_entry p j };
   requests = l.requests;
-  standing = l.standing;
+  standing = record { ended = λ r not on. l.ended r not };
+  ground = l.ground;
 }
 
 -- The place is no queued entry's.
 abbrev pub IsOutside : State → (o k : ℕ) → Type 0
 IsOutside s o k = (k < s.taken o) ⊎ (length (s.log o) ≤ k)
 
--- Where none is on its way, and there are not too many, the state is lawful.
-pub arrived : (s : State) (o k : ℕ) → IsMoving s o k → IsOutside s o k → ((kind : Kind) (q : ℕ) → lying s kind q (in_message o k) ≡ 0) → length s.ledger ≤ most_rights → IsLawful s
-arrived s o k l outside none few = record {
+-- each port has one receive right at most
+pub one_at_most : (live : ℕ → Bool) (ledger : List Token) → ((p : ℕ) → live p ≡ true → count (is_of receive p) ledger ≡ 1) → ((p : ℕ) → live p ≡ false → (kind : Kind) → count (is_of kind p) ledger ≡ 0) →
+    (p : ℕ) → count (is_of receive p) ledger ≤ 1
+one_at_most live ledger one none p = elim (cases_Bool (live p)) [
+  | inl e ↦ omega (arith, one p e)
+  | inr e ↦ omega (arith, none p e receive)
+]
+
+-- no port is an orphan where each that lives has a receive right
+pub no_orphans : (s : State) (owed : Owed) → ((p : ℕ) → s.live_port p ≡ true → count (is_of receive p) s.ledger ≡ 1) → All (IsOwed s.live_port) owed → length s.ledger + length owed ≤ most_rights → MidRoom s owed
+no_orphans s owed one are few = record {
+  orphans = [];
+  each_orphan = λ p is. absurd (let a = one p is.0 in let b = is.1 in omega (arith, a, b));
+  few_rights = omega (arith, few);
+  are_owed = are;
+}
+
+-- Where none is on its way, and there are not too many, the state is lawful but for what requests on names keep.
+pub arriving : (s : State) (o k : ℕ) → IsMoving s o k → IsOutside s o k → ((kind : Kind) (q : ℕ) → lying s kind q (in_message o k) ≡ 0) → (owed : Owed) → All (IsOwed s.live_port) owed →
+    length s.ledger + length owed ≤ most_rights → MidLawful s owed
+arriving s o k l outside none owed are few = record {
   tasks = l.tasks;
   naming = l.naming;
   ports = l.ports;
   numbers = l.numbers;
-  receivers = l.receivers;
-  few_rights = few;
+  receivers = record { most_receive = one_at_most s.live_port s.ledger l.one_receive l.no_rights; members = λ p set in_it. let h = l.members p set in_it in (h.0, h.1, inl h.2) };
+  room = no_orphans s owed l.one_receive are few;
   sets = l.sets;
   membership = l.membership;
   logs = l.logs;
@@ -90,10 +113,10 @@ arrived s o k l outside none few = record {
     carried = λ p i e live is. l.carried p i e (queued p i e is) live is;
     gone = λ p j is kind q. elsewhere_too p j kind q (λ not. l.gone p j not is kind q);
     no_entry = λ p j above kind q. elsewhere_too p j kind q (λ not. l.no_entry p j not above kind q);
-    none_carried = λ p j q. elsewhere_too p j receive q (λ not. l.none_carried p j q not);
   };
   requests = l.requests;
   standing = l.standing;
+  ground = l.ground;
 }
   where
     queued : (p i : ℕ) (e : Entry) → slice_get (queue s p) i ≡ Some e → p ≡ o → s.taken p + i ≡ k → ⊥
@@ -116,6 +139,13 @@ arrived s o k l outside none few = record {
       | inr h ↦ otherwise (λ a b. h.1 a)
     ]
 
+pub none_owed : (live : ℕ → Bool) → All (IsOwed live) []
+none_owed live j d below = absurd (omega (arith, below))
+
+-- where nothing is owed
+pub arrived : (s : State) (o k : ℕ) → IsMoving s o k → IsOutside s o k → ((kind : Kind) (q : ℕ) → lying s kind q (in_message o k) ≡ 0) → length s.ledger ≤ most_rights → MidLawful s []
+arrived s o k l outside none few = arriving s o k l outside none [] (none_owed s.live_port) (omega (arith, few))
+
 -- ---- what a right on its way changes
 
 -- the state s with what copying in or out changes, as it is in x
@@ -127,6 +157,22 @@ shape-trans a b c e f = f ∙ ap (λ (x : State). shape x c) e
 
 pub shape-same : (a b : State) → b ≡ a → b ≡ shape a b
 shape-same a b e = e ∙ ap (shape a) (sym e)
+
+-- Rights at other entries and at requests stay, and no request is made.
+pub record Apart (s new : State) (o k : ℕ) : Type 0 where
+  pub elsewhere : (kind : Kind) (q p j : ℕ) → (p ≡ o → j ≡ k → ⊥) → lying new kind q (in_message p j) ≡ lying s kind q (in_message p j)
+  pub kept : (kind : Kind) (q : ℕ) (r : Request) → lying new kind q (in_request r) ≡ lying s kind q (in_request r)
+  pub stood : (r : Request) → new.stands r ≡ true → s.stands r ≡ true
+
+pub apart-trans : (a b c : State) (o k : ℕ) → Apart a b o k → Apart b c o k → Apart a c o k
+apart-trans a b c o k x y = record { elsewhere = λ kind q p j not. y.elsewhere kind q p j not ∙ x.elsewhere kind q p j not; kept = λ kind q r. y.kept kind q r ∙ x.kept kind q r; stood = λ r is. x.stood r (y.stood r is) }
+
+pub apart-same : (a b : State) (o k : ℕ) → b ≡ a → Apart a b o k
+apart-same a b o k e = record {
+  elsewhere = λ kind q p j not. ap (λ (x : State). lying x kind q (in_message p j)) e;
+  kept = λ kind q r. ap (λ (x : State). lying x kind q (in_request r)) e;
+  stood = λ r is. sym (ap (λ (x : State). x.stands r) e) ∙ is;
+}
 
 -- tokens that are with the task or at the entry, as a test sees them that passes none there
 abbrev pub AreNear : (task o k : ℕ) → List Token → Type 0
@@ -157,7 +203,7 @@ pub record Leaves (s new : State) (task : ℕ) : Type 0 where
   pub others : (t : ℕ) → (t ≡ task → ⊥) → new.naming t ≡ s.naming t
   pub own : TaskNaming new task
   pub same_sets : SameSets (s.naming task) (new.naming task)
-  pub stands : NoRequests new.stands
+  pub stands : KeepsRequests s.stands new.stands new.naming
   pub ports : LawfulPorts s.live_port s.ports_made new.ledger
   pub numbers : LawfulNumbers s.limit new.make_send new.sequence
   pub receivers : LawfulReceivers s.live_port s.set_owner new.sets_of new.ledger
@@ -177,7 +223,7 @@ module _ (task o k : ℕ) (s : State) (l : IsMoving s o k) (is_task : s.live_tas
     others = λ t not. refl;
     own = own;
     same_sets = SameSets-refl (s.naming task);
-    stands = l.none_stands;
+    stands = requests_stay s l.ground;
     ports = ports;
     numbers = numbers;
     receivers = receivers;
@@ -185,15 +231,15 @@ module _ (task o k : ℕ) (s : State) (l : IsMoving s o k) (is_task : s.live_tas
   }
 
   -- they are others, with the same sets
-  pub other_leaves : (names : Names) (stands : Request → Bool) → LawfulNames names (held now task) → SameSets (s.naming task) names → NoRequests stands →
+  pub other_leaves : (names : Names) (stands : Request → Bool) → LawfulNames names (held now task) → SameSets (s.naming task) names → KeepsRequests s.stands stands (at s.naming task names) →
       Leaves s (record now { naming = at s.naming task names; stands = stands }) task
-  other_leaves names stands own sets none = record {
+  other_leaves names stands own sets keeps = record {
     rest = refl;
     is_task = is_task;
     others = λ t not. at_other s.naming task names t not;
     own = subst (λ (m : Names). LawfulNames m (held now task)) (sym (at_same s.naming task names task refl)) own;
     same_sets = subst (SameSets (s.naming task)) (sym (at_same s.naming task names task refl)) sets;
-    stands = none;
+    stands = keeps;
     ports = ports;
     numbers = numbers;
     receivers = receivers;
@@ -229,14 +275,17 @@ module _ (s new : State) (task o k : ℕ) (l : IsMoving s o k) (gone come : List
       carried = λ p i e not live is kind q live_q. lying_far kind q p (s.taken p + i) not ∙ l.carried p i e not live is kind q live_q;
       gone = λ p j not is kind q. lying_far kind q p j not ∙ l.gone p j not is kind q;
       no_entry = λ p j not above kind q. lying_far kind q p j not ∙ l.no_entry p j not above kind q;
-      none_carried = λ p j q not. lying_far receive q p j not ∙ l.none_carried p j q not;
     };
     requests = record {
       one_kept = λ r. let a = far (λ x. same_place (in_request r) x.place) (λ c p. refl) (λ c p. refl) in let b = l.one_kept r in omega (arith, a, b);
       once_kept = λ r kind q not. lying_kept kind q r ∙ l.once_kept r kind q not;
     };
-    standing = record { ended = λ r not kind q. lying_kept kind q r ∙ l.ended r (l.none_stands r) kind q; none_stands = v.stands };
+    standing = record { ended = λ r not on kind q. lying_kept kind q r ∙ l.ended r (sym (v.stands.ports r on) ∙ not) on kind q };
+    ground = all_ground s.live_port s.naming new.naming s.stands new.stands l.ground v.stands;
   }
 
   pub moved : Leaves s new task → IsMoving new o k
   moved v = subst (λ (x : State). IsMoving x o k) (sym v.rest) (moved_shape v)
+
+  pub moved_apart : Leaves s new task → Apart s new o k
+  moved_apart v = record { elsewhere = lying_far; kept = lying_kept; stood = stood v.stands }

@@ -5,6 +5,7 @@ use Rattle.std.specs.FinMap.{get-empty, len-empty}
 use Rattle.std.specs.Ordering.{nat_cmp}
 use Rattle.mach_model.specs.State.{Target, opening, lookup}
 use Rattle.mach_model.specs.Lawful.{IsLawful}
+use Rattle.mach_model.specs.NotYet.{IsQuiet}
 use Rattle.mach_model.proofs.Names.{no_values}
 
 unused : (task name : ℕ) → lookup opening task name ≡ None
@@ -50,7 +51,11 @@ opening-lawful = record {
     sent_here = λ p k e is. absurd (no_element k e is);
     made_marks = λ p k e is. absurd (no_element k e is);
   };
-  messages = record { carried = λ p i e is. absurd (cc); gone = λ p k is kind q. refl; no_entry = λ p k is kind q. refl; none_carried = λ p k q. refl };
+  messages = record { carried = λ p i e is. absurd (cc); gone = λ p k is kind q. refl; no_entry = λ p k is kind q. refl };
   requests = record { one_kept = λ r. omega arith; once_kept = λ r kind q not. refl };
-  standing = record { ended = λ r is kind q. refl; none_stands = λ r. refl };
+  standing = record { ended = λ r is kind q. refl };
+  ground = record { stands_on = λ r is. absurd (cc) };
 }
+
+pub opening-quiet : IsQuiet opening
+opening-quiet = record { none_carried = λ p k q. refl; none_stands = λ r. refl }

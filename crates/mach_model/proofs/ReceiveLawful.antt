@@ -14,6 +14,7 @@ use Rattle.mach_model.specs.Carried.{mark_count, rights_count, message_count, ly
 use Rattle.mach_model.specs.ReceivedMeans.{received_words}
 use Rattle.mach_model.specs.Receive.{IsFront, with_taken, Receives}
 use Rattle.mach_model.specs.Lawful.{IsLawful}
+use Rattle.mach_model.specs.Midway.{MidLawful}
 use Rattle.mach_model.proofs.Weigh.{length-weigh, both_test, lying_le_of}
 use Rattle.mach_model.proofs.At.{at_same, at_own, at_other, at_all, elsewhere, slice_get_drop}
 use Rattle.mach_model.proofs.Spaces.{same_naming}
@@ -133,13 +134,13 @@ module _ (s : State) (p : ℕ) (e : Entry) (ledger : List Token) (l : IsLawful s
       carried = λ q i f not. carried q i f;
       gone = gone;
       no_entry = λ q j not above kind r. let a = lying_less kind r (in_message q j) in let b = l.no_entry q j above kind r in omega (arith, a, b);
-      none_carried = λ q j r not. let a = lying_less receive r (in_message q j) in let b = l.none_carried q j r in omega (arith, a, b);
     };
     requests = record {
       one_kept = λ r. let m = tokens_for (λ x. same_place (in_request r) x.place) in let h = l.one_kept r in omega (arith, m, h);
       once_kept = λ r kind q not. let a = lying_less kind q (in_request r) in let b = l.once_kept r kind q not in omega (arith, a, b);
     };
-    standing = record { ended = λ r not kind q. let a = lying_less kind q (in_request r) in let b = l.ended r not kind q in omega (arith, a, b); none_stands = l.none_stands };
+    standing = record { ended = λ r not on kind q. let a = lying_less kind q (in_request r) in let b = l.ended r not kind q in omega (arith, a, b) };
+    ground = l.ground;
   }
 
 -- ---- a receipt
@@ -153,8 +154,8 @@ Receives-removes task port room bytes old mid l live is_task r =
     let task_lives = ap (λ (x : State). x.live_task task) r.takes.rest ∙ is_task in
     words_remove task port k (received_words r.header r.written) r.taken (message_rights r.e.message) mid moving task_lives r.rights
 
-pub Receives-lawful : (task port room : ℕ) (bytes : List ℕ) (old mid : State) → IsLawful old → old.live_port port ≡ true → old.live_task task ≡ true → Receives task port room bytes old mid → IsLawful mid
-Receives-lawful task port room bytes old mid l live is_task r =
+pub Receives-mid : (task port room : ℕ) (bytes : List ℕ) (old mid : State) → IsLawful old → old.live_port port ≡ true → old.live_task task ≡ true → Receives task port room bytes old mid → MidLawful mid []
+Receives-mid task port room bytes old mid l live is_task r =
     let x = Receives-removes task port room bytes old mid l live is_task r in
     arrived mid port (old.taken port) x.keeps (inl below) none few
   where

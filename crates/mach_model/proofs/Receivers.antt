@@ -7,15 +7,16 @@ use Rattle.mach_model.specs.State.{State, Holds}
 use Rattle.mach_model.specs.Death.{same_place}
 use Rattle.mach_model.specs.Carried.{lying}
 use Rattle.mach_model.specs.Lawful.{IsLawful}
+use Rattle.mach_model.specs.NotYet.{IsQuiet}
 use Rattle.mach_model.proofs.Settling.{place_refl, is_at}
 
 -- a token of the list that passes the test, and is counted by each other test that it passes
-record SomeToken (test : Token → Bool) (xs : List Token) : Type 0 where
-  x : Token
-  passes : test x ≡ true
-  counted : (other : Token → Bool) → other x ≡ true → 0 < count other xs
+pub record SomeToken (test : Token → Bool) (xs : List Token) : Type 0 where
+  pub x : Token
+  pub passes : test x ≡ true
+  pub counted : (other : Token → Bool) → other x ≡ true → 0 < count other xs
 
-some_token : (test : Token → Bool) (xs : List Token) → 0 < count test xs → SomeToken test xs
+pub some_token : (test : Token → Bool) (xs : List Token) → 0 < count test xs → SomeToken test xs
 some_token test [] some = absurd (omega (arith, some))
 some_token test (x ∷ xs) some = go (test x) refl (some_token test xs)
   where
@@ -26,8 +27,8 @@ some_token test (x ∷ xs) some = go (test x) refl (some_token test xs)
         let t = rest (omega (arith, some, z)) in
         record { x = t.x; passes = t.passes; counted = λ other f. (let h = t.counted other f in omega (arith, h)) }
 
-pub receiver : (s : State) (p : ℕ) → IsLawful s → s.live_port p ≡ true → (task : ℕ) × Holds s task receive p
-receiver s p l live =
+pub receiver : (s : State) (p : ℕ) → IsLawful s → IsQuiet s → s.live_port p ≡ true → (task : ℕ) × Holds s task receive p
+receiver s p l quiet live =
     let one = l.one_receive p live in
     let t = some_token (is_of receive p) s.ledger (omega (arith, one)) in by t t.x.place refl
   where
@@ -40,5 +41,5 @@ receiver s p l live =
       t.counted (is_held task receive p)
           (and_from (is_of receive p t.x) (is_in_task task t.x.place) t.passes (ap (is_in_task task) is ∙ eq-eqb task task refl)),
     )
-    by t (in_message q k) is = absurd (let some = lies t (in_message q k) is in let none = l.none_carried q k p in omega (arith, some, none))
+    by t (in_message q k) is = absurd (let some = lies t (in_message q k) is in let none = quiet.none_carried q k p in omega (arith, some, none))
     by t (in_request r) is = absurd (let some = lies t (in_request r) is in let none = l.once_kept r receive p (λ e. cc) in omega (arith, some, none))

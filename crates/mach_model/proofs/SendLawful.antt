@@ -13,18 +13,18 @@ use Rattle.mach_model.specs.State.{State, at, queue}
 use Rattle.mach_model.specs.Send.{Sends, entry}
 use Rattle.mach_model.specs.Carried.{message_count, lying}
 use Rattle.mach_model.specs.Lawful.{IsLawful}
+use Rattle.mach_model.specs.Midway.{MidLawful}
 use Rattle.mach_model.proofs.Weigh.{lying_le_of}
 use Rattle.mach_model.proofs.At.{at_same, at_other, at_own, at_all, snoc_cases}
 use Rattle.mach_model.proofs.Settling.{kind_refl, lives}
-use Rattle.mach_model.proofs.Moving.{IsMoving, moving}
+use Rattle.mach_model.proofs.Moving.{IsMoving, moving, one_at_most, no_orphans, none_owed}
 use Rattle.mach_model.proofs.CopyingWords.{Adds, Copied-adds}
-use Rattle.mach_model.proofs.Carrying.{by_a_send, carries_none}
+use Rattle.mach_model.proofs.Carrying.{by_a_send}
 
 -- ---- the message is appended
 
 module _ (s : State) (now : ℕ) (m : Message) (l : IsMoving s m.destination (length (s.log m.destination))) (not_receive : m.kind ≢ receive) (few : length s.ledger ≤ most_rights)
-    (lies : (kind : Kind) (q : ℕ) → lying s kind q (in_message m.destination (length (s.log m.destination))) ≡ message_count kind q m)
-    (none : (q : ℕ) → message_count receive q m ≡ 0) where
+    (lies : (kind : Kind) (q : ℕ) → lying s kind q (in_message m.destination (length (s.log m.destination))) ≡ message_count kind q m) where
   abbrev p : ℕ
   p = m.destination
 
@@ -102,14 +102,14 @@ module _ (s : State) (now : ℕ) (m : Message) (l : IsMoving s m.destination (le
         l.no_entry q k (λ x y. h.1 x) (omega (arith, long, above)) kind r
   ]
 
-  sent_lawful : IsLawful new
+  sent_lawful : MidLawful new []
   sent_lawful = record {
     tasks = l.tasks;
     naming = l.naming;
     ports = l.ports;
     numbers = l.numbers;
-    receivers = l.receivers;
-    few_rights = few;
+    receivers = record { most_receive = one_at_most s.live_port s.ledger l.one_receive l.no_rights; members = λ q set in_it. let h = l.members q set in_it in (h.0, h.1, inl h.2) };
+    room = no_orphans new [] l.one_receive (none_owed s.live_port) (omega (arith, few));
     sets = l.sets;
     membership = l.membership;
     logs = record {
@@ -123,16 +123,10 @@ module _ (s : State) (now : ℕ) (m : Message) (l : IsMoving s m.destination (le
       carried = carried;
       gone = λ q k is kind r. l.gone q k (not_end q k is) is kind r;
       no_entry = no_entry;
-      none_carried = λ q k r. elim (eqb_tells q p) [
-        | inl h ↦ elim (eqb_tells k end) [
-          | inl g ↦ subst (λ (x : ℕ). lying s receive r (in_message x k) ≡ 0) (sym h.1) (subst (λ (x : ℕ). lying s receive r (in_message p x) ≡ 0) (sym g.1) (lies receive r ∙ none r))
-          | inr g ↦ l.none_carried q k r (λ x y. g.1 y)
-        ]
-        | inr h ↦ l.none_carried q k r (λ x y. h.1 x)
-      ];
     };
     requests = l.requests;
     standing = l.standing;
+    ground = l.ground;
   }
 
 -- ---- a send
@@ -144,8 +138,8 @@ pub Sends-adds : (now task : ℕ) (bytes : List ℕ) (old mid : State) → IsLaw
     Adds old s.copied_state s.m.destination (length (old.log s.m.destination)) (λ c q. message_count c q s.m)
 Sends-adds now task bytes old mid l s = Copied-adds task s.header s.written old s.m s.copied_state (moving old s.m.destination (length (old.log s.m.destination)) l) s.copied
 
-pub Sends-lawful : (now task : ℕ) (bytes : List ℕ) (old mid : State) → NoneHolds (header_guards bytes) → IsLawful old → Sends now task bytes old mid → IsLawful mid
-Sends-lawful now task bytes old mid good l s =
+pub Sends-mid : (now task : ℕ) (bytes : List ℕ) (old mid : State) → NoneHolds (header_guards bytes) → IsLawful old → Sends now task bytes old mid → MidLawful mid []
+Sends-mid now task bytes old mid good l s =
     let o = s.m.destination in
     let a = Sends-adds now task bytes old mid l s in
     let log : s.copied_state.log ≡ old.log = ap (λ (x : State). x.log) a.rest in
@@ -154,6 +148,5 @@ Sends-lawful now task bytes old mid good l s =
     let lies : (kind : Kind) (q : ℕ) → lying s.copied_state kind q (in_message o (length (old.log o))) ≡ message_count kind q s.m =
     λ kind q. let e = a.lies kind q in let z = l.no_entry o (length (old.log o)) (omega arith) kind q in omega (arith, e, z) in
     let lies' = subst (λ (k : ℕ). (kind : Kind) (q : ℕ) → lying s.copied_state kind q (in_message o k) ≡ message_count kind q s.m) long lies in
-    subst IsLawful (sym s.rest)
-    (sent_lawful s.copied_state now s.m keeps (by_a_send now task bytes old mid good s) (not_above (length s.copied_state.ledger) most_rights s.unrefused.1.1.0) lies'
-    (carries_none now task bytes old mid good s))
+    subst (λ (x : State). MidLawful x []) (sym s.rest)
+    (sent_lawful s.copied_state now s.m keeps (by_a_send now task bytes old mid good s) (not_above (length s.copied_state.ledger) most_rights s.unrefused.1.1.0) lies')

@@ -8,41 +8,53 @@ use Rattle.mach_model.specs.State.{State, Target, Names, at, request_at, lookup,
 use Rattle.mach_model.specs.Names.{with_set}
 use Rattle.mach_model.specs.Sets.{without_set, JoinsSet}
 use Rattle.mach_model.specs.ReceiveRight.{NamesReceive}
-use Rattle.mach_model.specs.Lawful.{NoRequests, LawfulNames, LawfulReceivers, LawfulSets, LawfulMembership, IsLawful}
+use Rattle.mach_model.specs.Lawful.{LawfulNames, LawfulReceivers, LawfulSets, LawfulMembership, LawfulGround, IsLawful}
+use Rattle.mach_model.specs.Midway.{IsOnName, MidLawful}
 use Rattle.mach_model.proofs.Weigh.{held_le_of, pos_or_zero}
 use Rattle.mach_model.proofs.Settling.{alive}
 use Rattle.mach_model.proofs.At.{at_same, at_other, at_own, at_all}
 use Rattle.mach_model.proofs.Names.{get_removed, kept, get_own, inserted}
 use Rattle.mach_model.proofs.Spaces.{IsNew, left, other_unnamed, other_named, has_task, tasks_named, all_named}
-use Rattle.mach_model.proofs.CopyingIn.{without_stands}
+use Rattle.mach_model.proofs.Requests.{KeepsRequests, all_ground, without_requests, named_requests, none_right}
+use Rattle.mach_model.proofs.Moving.{one_at_most, no_orphans, none_owed}
 
 -- ---- names, sets and members alone change
 
 module _ (task : ℕ) (s : State) (l : IsLawful s) (owner : ℕ → Option ℕ) (made : ℕ) (sets_of : ℕ → List ℕ) (receivers : LawfulReceivers s.live_port owner sets_of s.ledger)
     (membership : LawfulMembership s.live_port sets_of) where
   -- one task's names, the tasks of the sets, and the sets of the ports
-  sorted_lawful : s.live_task task ≡ true → (names : Names) (stands : Request → Bool) → LawfulNames names (held s task) → LawfulSets (at s.naming task names) owner made →
-      NoRequests stands → IsLawful (record s { naming = at s.naming task names; set_owner = owner; sets_made = made; sets_of = sets_of; stands = stands })
-  sorted_lawful is_task names stands own sets none = record {
+  sorted_mid : s.live_task task ≡ true → (names : Names) (stands : Request → Bool) → LawfulNames names (held s task) → LawfulSets (at s.naming task names) owner made →
+      ((r : Request) → ¬ (IsOnName r) → stands r ≡ s.stands r) → LawfulGround s.live_port (at s.naming task names) stands →
+      MidLawful (record s { naming = at s.naming task names; set_owner = owner; sets_made = made; sets_of = sets_of; stands = stands }) []
+  sorted_mid is_task names stands own sets on_ports ground = record {
     tasks = tasks_named s.naming (at s.naming task names) task (at_other s.naming task names) s.live_task s.tasks_made l.tasks is_task;
     naming = all_named s.naming (at s.naming task names) task (at_other s.naming task names) (held s) (held s) l.naming (λ t not kind q. refl)
         (subst (λ (m : Names). LawfulNames m (held s task)) (sym (at_own s.naming task names)) own);
     ports = l.ports;
     numbers = l.numbers;
-    receivers = receivers;
-    few_rights = l.few_rights;
+    receivers = record { most_receive = one_at_most s.live_port s.ledger l.one_receive l.no_rights; members = λ p set in_it. let h = receivers.members p set in_it in (h.0, h.1, inl h.2) };
+    room = no_orphans (record s { naming = at s.naming task names; set_owner = owner; sets_made = made; sets_of = sets_of; stands = stands }) [] l.one_receive (none_owed s.live_port)
+        (let h = l.few_rights in omega (arith, h));
     sets = sets;
     membership = membership;
     logs = l.logs;
     messages = l.messages;
     requests = l.requests;
-    standing = record { ended = λ r ended. l.ended r (l.none_stands r); none_stands = none };
+    standing = record { ended = λ r ended on. l.ended r (sym (on_ports r on) ∙ ended) };
+    ground = ground;
   }
 
 -- one task's names, with the same rights
-pub named_lawful : (task : ℕ) (s : State) → IsLawful s → s.live_task task ≡ true → (names : Names) (stands : Request → Bool) → LawfulNames names (held s task) →
-    LawfulSets (at s.naming task names) s.set_owner s.sets_made → NoRequests stands → IsLawful (record s { naming = at s.naming task names; stands = stands })
-named_lawful task s l = sorted_lawful task s l s.set_owner s.sets_made s.sets_of l.receivers l.membership
+pub named_mid : (task : ℕ) (s : State) → IsLawful s → s.live_task task ≡ true → (names : Names) (stands : Request → Bool) → LawfulNames names (held s task) →
+    LawfulSets (at s.naming task names) s.set_owner s.sets_made → ((r : Request) → ¬ (IsOnName r) → stands r ≡ s.stands r) → LawfulGround s.live_port (at s.naming task names) stands →
+    MidLawful (record s { naming = at s.naming task names; stands = stands }) []
+named_mid task s l = sorted_mid task s l s.set_owner s.sets_made s.sets_of l.receivers l.membership
+
+-- each request that stands stood
+pub named_as : (task : ℕ) (s : State) → IsLawful s → s.live_task task ≡ true → (names : Names) (stands : Request → Bool) → LawfulNames names (held s task) →
+    LawfulSets (at s.naming task names) s.set_owner s.sets_made → KeepsRequests s.stands stands (at s.naming task names) → MidLawful (record s { naming = at s.naming task names; stands = stands }) []
+named_as task s l is_task names stands own sets keeps =
+    named_mid task s l is_task names stands own sets keeps.ports (all_ground s.live_port s.naming (at s.naming task names) s.stands stands l.ground keeps)
 
 -- ---- owners and names
 
@@ -159,15 +171,17 @@ module _ (naming : ℕ → Names) (owner : ℕ → Option ℕ) (made task name :
 set_is_no_port : (set q : ℕ) → Target.set set ≡ Target.port q → ⊥
 set_is_no_port set q e = cc
 
-pub with_set-lawful : (task name : ℕ) (s : State) → IsLawful s → s.live_task task ≡ true → IsNew (s.naming task) name → IsLawful (with_set task name s)
-with_set-lawful task name s l is_task new = sorted_lawful task s l (at s.set_owner s.sets_made (Some task)) (s.sets_made + 1) s.sets_of (record {
+pub with_set-mid : (task name : ℕ) (s : State) → IsLawful s → s.live_task task ≡ true → IsNew (s.naming task) name → MidLawful (with_set task name s) []
+with_set-mid task name s l is_task new = sorted_mid task s l (at s.set_owner s.sets_made (Some task)) (s.sets_made + 1) s.sets_of (record {
   one_receive = l.one_receive;
   members = λ p set in_it.
       let h = l.members p set in_it in
       (h.0, at_other s.set_owner s.sets_made (Some task) set (λ e. no_owner (s.set_owner set) h.0 (l.made_set set (omega (arith, e))) h.1) ∙ h.1, h.2);
 }) l.membership is_task (map.insert (s.naming task) name (Target.set s.sets_made)) s.stands
     (other_named (s.naming task) (held s task) (held s task) (l.naming task) (λ q. refl) (λ q. refl) name (Target.set s.sets_made) new tt (set_is_no_port s.sets_made) (λ q. omega arith))
-    (made_law s.naming s.set_owner s.sets_made task name l.sets new.unused) l.none_stands
+    (made_law s.naming s.set_owner s.sets_made task name l.sets new.unused) (λ r on. refl)
+    (all_ground s.live_port s.naming (at s.naming task (map.insert (s.naming task) name (Target.set s.sets_made))) s.stands s.stands l.ground
+    (named_requests s l.ground task name (Target.set s.sets_made) (inr (none_right (lookup s task name) new.unused))))
 
 -- ---- a port changes its set
 
@@ -196,6 +210,7 @@ joined_lawful p sets s l live few members = record {
   messages = l.messages;
   requests = l.requests;
   standing = l.standing;
+  ground = l.ground;
 }
 
 one_port : (o : Option Target) (p q : ℕ) → o ≡ Some (Target.port p) → o ≡ Some (Target.port q) → q ≡ p
@@ -225,7 +240,7 @@ JoinsSet-lawful task member after old mid l some j = by j.2
 
 -- ---- a set goes
 
-filtered : (test : ℕ → Bool) (xs : List ℕ) (x : ℕ) → Contains (filter test xs) x → Contains xs x × (test x ≡ true)
+pub filtered : (test : ℕ → Bool) (xs : List ℕ) (x : ℕ) → Contains (filter test xs) x → Contains xs x × (test x ≡ true)
 filtered test [] x (k, below, e) = absurd (omega (arith, below))
 filtered test (y ∷ ys) x h = go (test y) refl (filtered test ys x) h
   where
@@ -238,7 +253,7 @@ filtered test (y ∷ ys) x h = go (test y) refl (filtered test ys x) h
     go true e rest (suc k, below, f) = later (rest (k, omega (arith, below), f))
     go false e rest c = later (rest c)
 
-fewer : (test : ℕ → Bool) (xs : List ℕ) → length (filter test xs) ≤ length xs
+pub fewer : (test : ℕ → Bool) (xs : List ℕ) → length (filter test xs) ≤ length xs
 fewer test [] = omega arith
 fewer test (y ∷ ys) = go (test y) (fewer test ys)
   where
@@ -253,9 +268,9 @@ not_that a b e = elim (eqb_tells a b) [
 ]
 
 -- The task's set goes with its name.
-pub without_set-lawful : (task name set : ℕ) (s : State) → IsLawful s → lookup s task name ≡ Some (Target.set set) → IsLawful (without_set set (without_name task name s))
-without_set-lawful task name set s l is =
-    sorted_lawful task s l (at s.set_owner set None) s.sets_made (λ p. filter (λ t. not (t == set)) (s.sets_of p)) (record {
+pub without_set-mid : (task name set : ℕ) (s : State) → IsLawful s → lookup s task name ≡ Some (Target.set set) → MidLawful (without_set set (without_name task name s)) []
+without_set-mid task name set s l is =
+    sorted_mid task s l (at s.set_owner set None) s.sets_made (λ p. filter (λ t. not (t == set)) (s.sets_of p)) (record {
       one_receive = l.one_receive;
       members = λ p other in_it.
           let f = filtered (λ t. not (t == set)) (s.sets_of p) other in_it in
@@ -266,4 +281,8 @@ without_set-lawful task name set s l is =
       one_set = λ p. let a = fewer (λ t. not (t == set)) (s.sets_of p) in let b = l.one_set p in omega (arith, a, b);
     }) (has_task l.tasks task name (Target.set set) is) (map.remove (s.naming task) name) (request_at s.stands (dead_name task name) false)
     (other_unnamed (s.naming task) (held s task) (held s task) (l.naming task) (λ q. refl) (λ q. refl) name (Target.set set) is (set_is_no_port set) (λ q. omega arith))
-    (lost_law s.naming s.set_owner s.sets_made task name l.sets set is) (without_stands task name s l.none_stands)
+    (lost_law s.naming s.set_owner s.sets_made task name l.sets set is) keeps.ports
+    (all_ground s.live_port s.naming (at s.naming task (map.remove (s.naming task) name)) s.stands (request_at s.stands (dead_name task name) false) l.ground keeps)
+  where
+    keeps : KeepsRequests s.stands (request_at s.stands (dead_name task name) false) (at s.naming task (map.remove (s.naming task) name))
+    keeps = without_requests s l.ground task name

@@ -20,6 +20,7 @@ numbers_lawful s limit make_send sequence l numbers = record {
   messages = l.messages;
   requests = l.requests;
   standing = l.standing;
+  ground = l.ground;
 }
 
 pub limit-lawful : (task name n : ℕ) (old mid : State) → IsLawful old → n ≤ greatest_limit → ChangesPort old task name (λ p. record old { limit = at old.limit p n }) mid → IsLawful mid

@@ -1,29 +1,25 @@
 -- The end of a step that kills nothing: it may leave the state as it is, and leaves it so but for the order of the tokens.
 use Rattle.std.proofs.Common.{◌≡◌, ℕ, ◌+◌, ◌<◌, ◌≤◌, List, [], ◌∷◌, ◌++◌, Option, Some, None, refl, sym, ap, subst, ◌∙◌, arith, true, false, Bool, inl, inr, length, get_or}
-use Rattle.std.specs.Prelude.{option_map, if◌then◌else◌, ◌==◌, ◌&&◌, All, map as list_map, filter}
+use Rattle.std.specs.Prelude.{option_map, if◌then◌else◌, ◌==◌, ◌&&◌, ◌⊎◌, All, map as list_map, filter}
 use Rattle.std.proofs.Math.Path.{fun_ext}
 use Rattle.std.proofs.lemmas.List.{append-nil}
 use Rattle.std.proofs.lemmas.Bool.{eq-eqb, and_from, false_from_ne_true, true_from_ne_false, cases_Bool}
 use Rattle.mach_types.specs.Tokens.{Kind, receive, send, send_once, Request, no_senders, port_destroyed, dead_name, Place, in_task, in_message, in_request, Token, count, weigh, Moves, is_of, is_held, same_kind}
 use Rattle.mach_types.specs.Messages.{Entry}
 use Rattle.mach_model.specs.State.{State, Target, lookup, held, same_request}
-use Rattle.mach_model.specs.Death.{same_place, CarriedAt, IsSaved, Dies, orphan, carried_at, IsOrphan, IsSent}
+use Rattle.mach_model.specs.Death.{same_place, Dies, orphan, carried_at, IsOrphan, IsSent, IsClosed}
 use Rattle.mach_model.specs.Notices.{Notice, Owed, Posted, all_posted_tokens}
 use Rattle.mach_model.specs.Settles.{PlaceStays, StaysWith, PaysFor, GoesFrom, settled_target, tokens_of, due_notices, Settles}
 use Rattle.mach_model.specs.Carried.{lying}
 use Rattle.mach_model.specs.Lawful.{IsLawful, LawfulPorts, is_once}
-use Rattle.mach_model.specs.Midway.{MidLawful}
+use Rattle.mach_model.specs.Midway.{MidLawful, IsStill}
+use Rattle.mach_model.specs.NotYet.{IsQuiet}
 use Rattle.mach_model.proofs.Weigh.{length-weigh, count_some, lying_le_of, held_le_of, pos_or_zero}
 use Rattle.mach_model.proofs.Names.{alike, some_tally}
 use Rattle.mach_model.proofs.Spaces.{same_naming}
 use Rattle.mach_model.proofs.Moving.{same_receivers}
 
 -- ---- who dies
-
--- Dies is contained in each set that is closed in this way.
-pub record IsClosed (mid : State) (S : ℕ → Type 0) : Type 0 where
-  pub orphans : (p : ℕ) → IsOrphan mid p → ¬ (IsSaved mid p) → S p
-  pub carried : (p q : ℕ) → S q → CarriedAt mid p q → ¬ (IsSaved mid p) → S p
 
 pub Dies-least : (mid : State) (S : ℕ → Type 0) → IsClosed mid S → (p : ℕ) → Dies mid p → S p
 Dies-least mid S closed r (orphan p is not_saved) = closed.orphans p is not_saved
@@ -76,7 +72,7 @@ alive s l = lives l.ports
 pub place_stays : (s : State) → IsLawful s → (kind : Kind) (q : ℕ) (place : Place) → 0 < lying s kind q place → PlaceStays s place
 place_stays s l kind q (in_task t) some = tt
 place_stays s l kind q (in_message p k) some = true_from_ne_false (s.live_port p) (λ e. let z = l.gone p k (inr e) kind q in omega (arith, some, z))
-place_stays s l kind q (in_request r) some = absurd (let z = l.ended r (l.none_stands r) kind q in omega (arith, some, z))
+place_stays s l kind q (in_request r) some = true_from_ne_false (s.stands r) (λ e. let z = l.ended r e kind q in omega (arith, some, z))
 
 pub stays_with : (s : State) → IsLawful s → All (StaysWith s) s.ledger
 stays_with s l k d below =
@@ -115,9 +111,9 @@ kept_set : (b : Bool) (o : List ℕ) → (b ≡ false → o ≡ []) → o ≡ (i
 kept_set true o f = refl
 kept_set false o f = f refl
 
--- From a lawful state after a step's own part that owes nothing, the step may end as it is.
-pub quiet_settles : (now : ℕ) (old mid : State) → IsLawful mid → Settles now old mid [] mid
-quiet_settles now old mid l = record {
+-- From a lawful and quiet state after a step's own part that owes nothing, the step may end as it is.
+pub quiet_settles : (now : ℕ) (old mid : State) → IsLawful mid → IsQuiet mid → Settles now old mid [] mid
+quiet_settles now old mid l quiet = record {
   deaths = record { dies = λ p d. absurd (no_death mid l p d); only = λ p a b. absurd (cc); gone_before = λ p h. h };
   rights = record {
     staying = mid.ledger;
@@ -137,7 +133,7 @@ quiet_settles now old mid l = record {
     cover = λ p k above below. absurd (omega arith);
   };
   names = λ task name. same_target mid mid task name (lookup mid task name) (named_lives mid l task name) (once_lives mid l task name);
-  requests = record { ended = λ r stands ends. absurd (let e = l.none_stands r in cc); only = λ r stands gone. absurd (cc); unmade = λ r h. h };
+  requests = record { ended = λ r stands ends. absurd (let e = quiet.none_stands r in cc); only = λ r stands gone. absurd (cc); unmade = λ r h. h };
   ports = record {
     is_sent = λ p. false;
     sent = λ p is. absurd (never_sent mid l p is);
@@ -149,12 +145,8 @@ quiet_settles now old mid l = record {
   rest = refl;
 }
 
--- Nothing is owed.
-pub unowed : (mid : State) (owed : Owed) → owed ≡ [] → IsLawful mid → MidLawful mid owed
-unowed mid owed none l = record { lawful = l; none_owed = none }
-
-pub mid_settles : (now : ℕ) (old mid : State) (owed : Owed) → MidLawful mid owed → Settles now old mid owed mid
-mid_settles now old mid owed m = subst (λ (o : Owed). Settles now old mid o mid) (sym m.none_owed) (quiet_settles now old mid m.lawful)
+pub mid_settles : (now : ℕ) (old mid : State) (owed : Owed) → IsStill mid owed → Settles now old mid owed mid
+mid_settles now old mid owed m = subst (λ (o : Owed). Settles now old mid o mid) (sym m.none_owed) (quiet_settles now old mid m.lawful m.quiet)
 
 -- ---- and it does
 
@@ -171,7 +163,7 @@ empty_mapped : {A B : Type 0} (f : A → B) (xs : List A) → list_map f xs ≡ 
 empty_mapped f [] e = refl
 empty_mapped f (x ∷ xs) e = absurd (cc)
 
-module _ (now : ℕ) (old mid new : State) (l : IsLawful mid) (s : Settles now old mid [] new) where
+module _ (now : ℕ) (old mid new : State) (l : IsLawful mid) (quiet : IsQuiet mid) (s : Settles now old mid [] new) where
   live : (p : ℕ) → new.live_port p ≡ mid.live_port p
   live p = elim (cases_Bool (mid.live_port p)) [
     | inl e ↦ true_from_ne_false (new.live_port p) (λ f. no_death mid l p (s.deaths.only p e f)) ∙ sym e
@@ -181,7 +173,7 @@ module _ (now : ℕ) (old mid new : State) (l : IsLawful mid) (s : Settles now o
   stays_new : (kind : Kind) (q : ℕ) (place : Place) → 0 < lying mid kind q place → PlaceStays new place
   stays_new kind q (in_task t) some = tt
   stays_new kind q (in_message p k) some = live p ∙ place_stays mid l kind q (in_message p k) some
-  stays_new kind q (in_request r) some = absurd (let z = l.ended r (l.none_stands r) kind q in omega (arith, some, z))
+  stays_new kind q (in_request r) some = absurd (let z = l.ended r (quiet.none_stands r) kind q in omega (arith, some, z))
 
   -- a token that is one of the ledger's
   head_lies : (x : Token) (xs : List Token) → ((test : Token → Bool) → count test (x ∷ xs) ≤ count test mid.ledger) → 0 < lying mid x.kind x.port x.place
@@ -241,9 +233,9 @@ module _ (now : ℕ) (old mid new : State) (l : IsLawful mid) (s : Settles now o
   same_sequence p = s.ports.sequence p ∙ rw (unsent p)
 
   same_stands : (r : Request) → new.stands r ≡ mid.stands r
-  same_stands r = s.requests.unmade r (l.none_stands r) ∙ sym (l.none_stands r)
+  same_stands r = s.requests.unmade r (quiet.none_stands r) ∙ sym (quiet.none_stands r)
 
-  -- From a lawful state after a step's own part that owes nothing, the step ends with that state.
+  -- From a lawful and quiet state after a step's own part that owes nothing, the step ends with that state.
   pub settles_quietly : IsReordered mid new
   settles_quietly = record {
     rest = s.rest ∙ (λ i. record mid {
@@ -286,14 +278,64 @@ module _ (s : State) (ledger : List Token) (l : IsLawful s) (moves : Moves s.led
       carried = λ p i e live is kind q live_q. same (is_at kind q (in_message p (s.taken p + i))) ∙ l.carried p i e live is kind q live_q;
       gone = λ p k is kind q. same (is_at kind q (in_message p k)) ∙ l.gone p k is kind q;
       no_entry = λ p k above kind q. same (is_at kind q (in_message p k)) ∙ l.no_entry p k above kind q;
-      none_carried = λ p k q. same (is_at receive q (in_message p k)) ∙ l.none_carried p k q;
     };
     requests = record {
       one_kept = λ r. let m = same (λ x. same_place (in_request r) x.place) in let h = l.one_kept r in omega (arith, m, h);
       once_kept = λ r kind q not. same (is_at kind q (in_request r)) ∙ l.once_kept r kind q not;
     };
-    standing = record { ended = λ r not kind q. same (is_at kind q (in_request r)) ∙ l.ended r not kind q; none_stands = l.none_stands };
+    standing = record { ended = λ r not kind q. same (is_at kind q (in_request r)) ∙ l.ended r not kind q };
+    ground = l.ground;
   }
+
+  reordered_quiet : IsQuiet s → IsQuiet (record s { ledger = ledger })
+  reordered_quiet quiet = record { none_carried = λ p k q. same (is_at receive q (in_message p k)) ∙ quiet.none_carried p k q; none_stands = quiet.none_stands }
+
+pub IsReordered-quiet : (mid new : State) → IsLawful mid → IsReordered mid new → IsQuiet mid → IsQuiet new
+IsReordered-quiet mid new l r quiet = subst IsQuiet (sym r.rest) (reordered_quiet mid new.ledger l r.tokens quiet)
 
 pub IsReordered-lawful : (mid new : State) → IsLawful mid → IsReordered mid new → IsLawful new
 IsReordered-lawful mid new l r = subst IsLawful (sym r.rest) (reordered_lawful mid new.ledger l r.tokens)
+
+-- So is a state that is lawful midway.
+module _ (s : State) (ledger : List Token) (owed : Owed) (l : MidLawful s owed) (moves : Moves s.ledger ledger [] []) where
+  same_mid : (test : Token → Bool) → count test ledger ≡ count test s.ledger
+  same_mid test = let m = moves (λ x. if test x then 1 else 0) in omega (arith, m)
+
+  reordered_member : (task p : ℕ) → (0 < held s task receive p) ⊎ IsOrphan s p → (0 < count (is_held task receive p) ledger) ⊎ IsOrphan (record s { ledger = ledger }) p
+  reordered_member task p (inl holds) = inl (let e = same_mid (is_held task receive p) in omega (arith, holds, e))
+  reordered_member task p (inr is) = inr (is.0, same_mid (is_of receive p) ∙ is.1)
+
+  reordered_mid : MidLawful (record s { ledger = ledger }) owed
+  reordered_mid = record {
+    tasks = l.tasks;
+    naming = λ t. same_naming (s.naming t) (held s t) (λ kind q. count (is_held t kind q) ledger) (l.naming t) (λ kind q. same_mid (is_held t kind q));
+    ports = record { made_port = l.made_port; no_rights = λ q dead kind. same_mid (is_of kind q) ∙ l.no_rights q dead kind };
+    numbers = l.numbers;
+    receivers = record {
+      most_receive = λ p. let e = same_mid (is_of receive p) in let h = l.most_receive p in omega (arith, e, h);
+      members = λ p set in_it. let h = l.members p set in_it in (h.0, h.1, reordered_member h.0 p h.2);
+    };
+    room = record {
+      orphans = l.orphans;
+      each_orphan = λ p is. l.each_orphan p (is.0, sym (same_mid (is_of receive p)) ∙ is.1);
+      few_rights = let m = moves (λ x. 1) in let h = l.few_rights in omega (arith, m, h, length-weigh s.ledger, length-weigh ledger);
+      are_owed = l.are_owed;
+    };
+    sets = l.sets;
+    membership = l.membership;
+    logs = l.logs;
+    messages = record {
+      carried = λ p i e live is kind q live_q. same_mid (is_at kind q (in_message p (s.taken p + i))) ∙ l.carried p i e live is kind q live_q;
+      gone = λ p k is kind q. same_mid (is_at kind q (in_message p k)) ∙ l.gone p k is kind q;
+      no_entry = λ p k above kind q. same_mid (is_at kind q (in_message p k)) ∙ l.no_entry p k above kind q;
+    };
+    requests = record {
+      one_kept = λ r. let m = same_mid (λ x. same_place (in_request r) x.place) in let h = l.one_kept r in omega (arith, m, h);
+      once_kept = λ r kind q not. same_mid (is_at kind q (in_request r)) ∙ l.once_kept r kind q not;
+    };
+    standing = record { ended = λ r not on kind q. same_mid (is_at kind q (in_request r)) ∙ l.ended r not on kind q };
+    ground = l.ground;
+  }
+
+pub IsReordered-mid : (s new : State) (owed : Owed) → MidLawful s owed → IsReordered s new → MidLawful new owed
+IsReordered-mid s new owed l r = subst (λ (x : State). MidLawful x owed) (sym r.rest) (reordered_mid s new.ledger owed l r.tokens)

@@ -24,6 +24,11 @@ pub data Reaches (s : State) : ℕ → ℕ → Type 0 where
   here : (p : ℕ) → Reaches s p p
   there : (p q r : ℕ) → CarriedAt s p q → Reaches s q r → Reaches s p r
 
+-- Following ends at a task.
+pub data IsGrounded (s : State) : ℕ → Type 0 where
+  at_task : (p task : ℕ) → LiesAt s receive p (in_task task) → IsGrounded s p
+  carried : (p q : ℕ) → CarriedAt s p q → IsGrounded s q → IsGrounded s p
+
 -- ---- which ports die
 
 -- a step's own part took the receive right and gave no new one
@@ -46,3 +51,8 @@ pub data Dies (mid : State) : ℕ → Type 0 where
 -- a saved port that would have died
 abbrev pub IsSent : State → ℕ → Type 0
 IsSent mid p = IsSaved mid p × (IsOrphan mid p ⊎ ((q : ℕ) × Dies mid q × CarriedAt mid p q))
+
+-- Dies is contained in each set that is closed in this way.
+pub record IsClosed (mid : State) (S : ℕ → Type 0) : Type 0 where
+  pub orphans : (p : ℕ) → IsOrphan mid p → ¬ (IsSaved mid p) → S p
+  pub carried : (p q : ℕ) → S q → CarriedAt mid p q → ¬ (IsSaved mid p) → S p

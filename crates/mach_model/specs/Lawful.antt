@@ -3,21 +3,11 @@
 use Rattle.std.specs.Prelude.{◌≡◌, ◌≢◌, ℕ, ◌+◌, ◌^◌, ◌<◌, ◌≤◌, ◌⊎◌, Bool, true, false, List, [], ◌∷◌, length, slice_get, drop, Option, Some, None, if◌then◌else◌, ◌==◌, Contains}
 use Rattle.std.specs.FinMap as map
 use Rattle.mach_types.specs.Numbers.{null_word, dead_word, most_names, most_references, most_rights, greatest_limit}
-use Rattle.mach_types.specs.Tokens.{Kind, receive, send, send_once, Request, in_message, in_request, Token, count, is_of, is_held}
+use Rattle.mach_types.specs.Tokens.{Kind, receive, send, send_once, Request, no_senders, port_destroyed, dead_name, in_message, in_request, Token, count, is_of, is_held}
 use Rattle.mach_types.specs.Messages.{Entry}
 use Rattle.mach_model.specs.State.{State, Target, Names, held}
 use Rattle.mach_model.specs.Death.{same_place}
 use Rattle.mach_model.specs.Carried.{message_count, lying_among}
-
--- ---- as long as the rules of NotYet stand
-
--- No receive right lies in a message.
-abbrev pub NoneCarried : (ledger : List Token) → Type 0
-NoneCarried ledger = (p k q : ℕ) → lying_among ledger receive q (in_message p k) ≡ 0
-
--- Nothing can be requested.
-abbrev pub NoRequests : (stands : Request → Bool) → Type 0
-NoRequests stands = (r : Request) → stands r ≡ false
 
 -- ---- tasks and their names
 
@@ -104,14 +94,12 @@ pub record LawfulLogs (made : ℕ) (log : ℕ → List Entry) (taken : ℕ → �
   pub sent_here : (p k : ℕ) (e : Entry) → slice_get (log p) k ≡ Some e → (e.message.destination ≡ p) × (e.message.kind ≢ receive)
   pub made_marks : (p k : ℕ) (e : Entry) → slice_get (log p) k ≡ Some e → (kind : Kind) (q : ℕ) → made ≤ q → message_count kind q e.message ≡ 0
 
--- A queued message of a live port has its rights for live ports, and no other place of a log has any. As long as the rules of NotYet
--- stand, no message carries a receive right.
+-- A queued message of a live port has its rights for live ports, and no other place of a log has any.
 pub record LawfulMessages (live : ℕ → Bool) (log : ℕ → List Entry) (taken : ℕ → ℕ) (ledger : List Token) : Type 0 where
   pub carried : (p i : ℕ) (e : Entry) → live p ≡ true → slice_get (drop (taken p) (log p)) i ≡ Some e → (kind : Kind) (q : ℕ) → live q ≡ true →
       lying_among ledger kind q (in_message p (taken p + i)) ≡ message_count kind q e.message
   pub gone : (p k : ℕ) → (k < taken p) ⊎ (live p ≡ false) → (kind : Kind) (q : ℕ) → lying_among ledger kind q (in_message p k) ≡ 0
   pub no_entry : (p k : ℕ) → length (log p) ≤ k → (kind : Kind) (q : ℕ) → lying_among ledger kind q (in_message p k) ≡ 0
-  pub none_carried : NoneCarried ledger
 
 -- ---- requests
 
@@ -120,10 +108,24 @@ pub record LawfulRequests (ledger : List Token) : Type 0 where
   pub one_kept : (r : Request) → count (λ x. same_place (in_request r) x.place) ledger ≤ 1
   pub once_kept : (r : Request) (kind : Kind) (q : ℕ) → kind ≢ send_once → lying_among ledger kind q (in_request r) ≡ 0
 
--- A request keeps a right only while it stands. As long as the rules of NotYet stand, none does.
+-- A request keeps a right only while it stands.
 pub record LawfulStanding (stands : Request → Bool) (ledger : List Token) : Type 0 where
   pub ended : (r : Request) → stands r ≡ false → (kind : Kind) (q : ℕ) → lying_among ledger kind q (in_request r) ≡ 0
-  pub none_stands : NoRequests stands
+
+abbrev pub IsRight : Option Target → Type 0
+IsRight (Some (Target.port p)) = Unit {0}
+IsRight (Some (Target.once p)) = Unit {0}
+IsRight target = ⊥
+
+-- what a request that stands needs
+abbrev pub StandsOn : (live : ℕ → Bool) (naming : ℕ → Names) → Request → Type 0
+StandsOn live naming (no_senders p) = live p ≡ true
+StandsOn live naming (port_destroyed p) = live p ≡ true
+StandsOn live naming (dead_name task name) = IsRight (map.get (naming task) name)
+
+-- A request stands on a port that lives, or on a name of a right.
+pub record LawfulGround (live : ℕ → Bool) (naming : ℕ → Names) (stands : Request → Bool) : Type 0 where
+  pub stands_on : (r : Request) → stands r ≡ true → StandsOn live naming r
 
 -- ---- the whole state
 
@@ -150,3 +152,5 @@ pub record IsLawful (s : State) : Type 0 where
   pub open requests use *
   pub standing : LawfulStanding s.stands s.ledger
   pub open standing use *
+  pub ground : LawfulGround s.live_port s.naming s.stands
+  pub open ground use *

@@ -15,8 +15,10 @@ pub mod ReceiveRight
 pub mod Transfer
 pub mod Send
 pub mod Receive
+pub mod Requests
 pub mod Refusals
 pub mod Machine
 pub mod Carried
 pub mod Lawful
 pub mod Midway
+pub mod SameEnd

@@ -1,5 +1,5 @@
 -- Receiving a message (IPC Interface, `mach_msg` with MACH_RCV_MSG), and which code refuses it.
-use Rattle.std.specs.Prelude.{◌≡◌, ℕ, ◌+◌, ◌%◌, ◌^◌, ◌<◌, ◌≤◌, ◌⊎◌, Bool, List, [], ◌∷◌, length, slice_get, Some, min, Contains}
+use Rattle.std.specs.Prelude.{◌≡◌, ℕ, ◌+◌, ◌%◌, ◌^◌, ◌<◌, ◌≤◌, ◌⊎◌, Bool, List, [], ◌∷◌, length, slice_get, Some, min, MatchBool, Contains}
 use Rattle.mach_types.specs.declared.calls.Waited.{Waited}
 use Rattle.mach_types.specs.declared.calls.Reply.{Reply}
 use Rattle.mach_types.specs.declared.codes.MsgReturn.TheVariants.{ReceiveBodyErrorMemory, ReceiveBodyErrorNames}
@@ -9,10 +9,12 @@ use Rattle.mach_types.specs.Messages.{Entry}
 use Rattle.mach_types.specs.Grammar.{WireBody, Header, Spells}
 use Rattle.mach_types.specs.Bodies.{message_rights, SameReply, SameBody, Through}
 use Rattle.mach_model.specs.State.{State, Target, lookup, at, Holds, queue}
+use Rattle.mach_model.specs.Death.{same_place}
 use Rattle.mach_model.specs.CopyOut.{GiveWord, MessageLacks}
 use Rattle.mach_model.specs.ReceivedMeans.{message_length, IsReceived, received_words}
 use Rattle.mach_model.specs.Notices.{Owed}
-use Rattle.mach_model.specs.NotYet.{LeavesLarge}
+use Rattle.mach_model.specs.References.{LosesAll, unused}
+use Rattle.mach_model.specs.NotYet.{stays_large}
 
 -- ---- where from
 
@@ -63,14 +65,23 @@ pub record Receives (task port room : ℕ) (bytes : List ℕ) (old mid : State) 
   pub spells : Spells bytes header written
   pub fits : length bytes ≤ min room most_bytes
 
--- A receipt from what is waited for: a message, none, or one that is too long.
+-- The front message is taken as by a receipt, and all its other rights are lost.
+pub record DestroysFront (port : ℕ) (e : Entry) (old mid : State) (owed : Owed) : Type 0 where
+  pub taken : State
+  pub takes : Takes port e old taken
+  pub loses : LosesAll (λ x. same_place (in_message port (old.taken port)) x.place) taken.ledger mid.ledger
+  pub rest : mid ≡ record taken { ledger = mid.ledger }
+  pub owed_are : owed ≡ unused loses.gone
+
+-- A receipt from what is waited for: a message, none, or one that is too long, which stays where that was asked for.
 abbrev pub Receipt : State → (task : ℕ) → Waited → (room : ℕ) → (large : Bool) → Reply → State → Owed → Type 0
 Receipt old task waited room large (Reply.Message bytes) mid owed =
     (p : ℕ) × TakesFrom old task waited p × Receives task p room bytes old mid × (owed ≡ [])
 Receipt old task waited room large (Reply.Empty told) mid owed = (told ≡ waited) × IsEmptyFor old task waited × (mid ≡ old) × (owed ≡ [])
 Receipt old task waited room large (Reply.TooLarge n) mid owed =
     (p : ℕ) × (e : Entry) × TakesFrom old task waited p × IsFront old p e
-    × (n ≡ message_length e.message) × (min room most_bytes < n) × LeavesLarge large old mid × (owed ≡ [])
+    × (n ≡ message_length e.message) × (min room most_bytes < n)
+    × MatchBool (stays_large large) ((mid ≡ old) × (owed ≡ [])) (DestroysFront p e old mid owed)
 Receipt old task waited room large reply mid owed = ⊥
 
 -- ---- refusals where a port that it may take from has a message that fits: names are judged before memory

@@ -1,11 +1,11 @@
 -- The references of a right under a name: asked for, taken by one, taken whole, changed by a number (Port Manipulation Interface,
 -- `mach_port_get_refs`, `mach_port_deallocate`, `mach_port_destroy` and `mach_port_mod_refs`), and what refuses it.
-use Rattle.std.specs.Prelude.{◌≡◌, ℕ, ℤ, pos, negsuc, ◌+◌, ◌-◌, ◌<◌, ◌⊎◌, Bool, true, List, [], ◌∷◌, replicate, Option, Some, None, if◌then◌else◌, ◌==◌, ◌&&◌, ◌||◌, nat_lt, All}
+use Rattle.std.specs.Prelude.{◌≡◌, ℕ, ℤ, pos, negsuc, ◌+◌, ◌-◌, ◌<◌, ◌⊎◌, Bool, true, List, [], ◌∷◌, map, filter, replicate, Option, Some, None, if◌then◌else◌, ◌==◌, ◌&&◌, ◌||◌, nat_lt, All}
 use Rattle.mach_types.specs.declared.rights.Disposition.{Disposition}
 use Rattle.mach_types.specs.declared.rights.Disposition.TheVariants.{MoveSend, MoveSendOnce}
 use Rattle.mach_types.specs.declared.rights.Right.TheVariants.{Send, Receive, SendOnce, PortSet, DeadName}
 use Rattle.mach_types.specs.Numbers.{right_number, most_references}
-use Rattle.mach_types.specs.Tokens.{receive, send, send_once, in_task, Token, token, Moves, count, is_held}
+use Rattle.mach_types.specs.Tokens.{receive, send, send_once, in_task, Token, token, Moves, count, is_held, same_kind}
 use Rattle.mach_model.specs.State.{State, Target, lookup, held, Holds, without_name, with_name}
 use Rattle.mach_model.specs.CopyIn.{changed_by, taken_by, name_kept}
 use Rattle.mach_model.specs.Notices.{right_unused, Owed}
@@ -62,6 +62,10 @@ pub record LosesAll (test : Token → Bool) (old new : List Token) : Type 0 wher
   pub moves : Moves old new gone []
   pub passed : All (λ x. test x ≡ true) gone
   pub none_left : count test new ≡ 0
+
+-- the send-once rights among these go unused
+abbrev pub unused : List Token → Owed
+unused xs = map (λ x. (x, right_unused)) (filter (λ x. same_kind send_once x.kind) xs)
 
 abbrev pub DestroysTarget : (task name : ℕ) → Target → State → State → Owed → Type 0
 DestroysTarget task name (Target.port p) old mid owed =

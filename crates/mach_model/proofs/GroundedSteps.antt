@@ -1,0 +1,374 @@
+-- After every step the way from each live port, from carrying port to carrying port, ends at a task. Only a message that is sent brings a
+-- receive right into a queue, at its own place, and it closes no loop.
+use Rattle.std.proofs.Common.{◌≡◌, ℕ, ℤ, suc, zero, ◌+◌, ◌-◌, ◌<◌, ◌≤◌, List, [], ◌∷◌, None, refl, sym, ap, subst, ◌∙◌, arith, true, false, Bool, ◌⊎◌, inl, inr, length}
+use Rattle.std.specs.Prelude.{◌≢◌, if◌then◌else◌, ◌==◌, ◌&&◌, nat_lt, replicate, MatchBool}
+use Rattle.mach_types.specs.declared.calls.Event.{Event}
+use Rattle.mach_types.specs.declared.calls.Reply.{Reply}
+use Rattle.mach_types.specs.declared.calls.Waited.{Waited}
+use Rattle.mach_types.specs.declared.rights.Disposition.{Disposition}
+use Rattle.mach_types.specs.Tokens.{Kind, receive, send, send_once, Request, Place, in_task, in_message, in_request, Token, token, count, Moves, is_of}
+use Rattle.mach_types.specs.Messages.{Mark, to_port, null, dead, ReplyRight, absent, present, Body, Entry}
+use Rattle.mach_types.specs.Grammar.{WireBody}
+use Rattle.mach_types.specs.Bodies.{body_words, body_rights, message_rights, Through}
+use Rattle.mach_types.specs.Numbers.{null_word, dead_word, kind_sent}
+use Rattle.mach_model.specs.State.{State, Target, opening, held, same_request, lookup, with_name, without_name}
+use Rattle.mach_model.specs.CopyIn.{put_by, taken_by, CopyRight, CopyWord, CopyReply, CopyCarried, CopyBody}
+use Rattle.mach_model.specs.CopyOut.{given_to, GiveRight, GiveMark, GiveWord}
+use Rattle.mach_model.specs.Death.{same_place, LiesAt, CarriedAt, Reaches, here, there, IsGrounded, at_task, carried}
+use Rattle.mach_model.specs.Notices.{Owed}
+use Rattle.mach_model.specs.Carried.{lying}
+use Rattle.mach_model.specs.Sets.{JoinsSet}
+use Rattle.mach_model.specs.ReceiveRight.{ChangesPort}
+use Rattle.mach_model.specs.References.{LosesOne, Deallocates, DestroysTarget, with_dead, RemovesRight, Modifies}
+use Rattle.mach_model.specs.Tasks.{EndsTask}
+use Rattle.mach_model.specs.Names.{Makes, renamed_place, renamed_token, Renames}
+use Rattle.mach_model.specs.Transfer.{target_for, pegged, Inserts, Extracts}
+use Rattle.mach_model.specs.Requests.{GivesBack, Keeps, Requests}
+use Rattle.mach_model.specs.Send.{place_at, Sends}
+use Rattle.mach_model.specs.ReceivedMeans.{received_words}
+use Rattle.mach_model.specs.Receive.{Takes, Receives, DestroysFront, Receipt}
+use Rattle.mach_model.specs.NotYet.{stays_large}
+use Rattle.mach_model.specs.Machine.{Does, Step, RunFrom, Run}
+use Rattle.mach_model.specs.Lawful.{IsLawful}
+use Rattle.mach_model.specs.Midway.{MidLawful}
+use Rattle.mach_model.proofs.Weigh.{weigh-le, both_test}
+use Rattle.mach_model.proofs.Opening.{opening-lawful}
+use Rattle.mach_model.proofs.Settling.{is_at}
+use Rattle.mach_model.proofs.SettledParts.{eq_symm, place_is, live_mid}
+use Rattle.mach_model.proofs.StepLawful.{Does-mid, Step-lawful}
+use Rattle.mach_model.proofs.Grounding.{LeadsOn, to_task, to_orphan, along, Where, with_task, nowhere, queued, where_is, NoneQueued, OwnLeads, AllGrounded, all_lead, same_queue, not_both, queue_lives, unmade, settled_grounded}
+
+-- ---- how many receive rights lie in a queue
+
+-- no more than before, but at the own place
+abbrev Fewer : Place → State → State → Type 0
+Fewer own s t = (p q k : ℕ) → same_place own (in_message q k) ≡ false → lying t receive p (in_message q k) ≤ lying s receive p (in_message q k)
+
+fewer_same : (own : Place) (s t : State) → t.ledger ≡ s.ledger → Fewer own s t
+fewer_same own s t e p q k far = let f = ap (λ (xs : List Token). count (is_at receive p (in_message q k)) xs) e in omega (arith, f)
+
+fewer_trans : (own : Place) (a b c : State) → Fewer own a b → Fewer own b c → Fewer own a c
+fewer_trans own a b c f g p q k far = let x = f p q k far in let y = g p q k far in omega (arith, x, y)
+
+abbrev ComesElsewhere : Place → List Token → Type 0
+ComesElsewhere own come = (p q k : ℕ) → same_place own (in_message q k) ≡ false → count (is_at receive p (in_message q k)) come ≡ 0
+
+fewer_moves : (own : Place) (s t : State) (gone come : List Token) → Moves s.ledger t.ledger gone come → ComesElsewhere own come → Fewer own s t
+fewer_moves own s t gone come moves none p q k far = let e = moves (λ x. if is_at receive p (in_message q k) x then 1 else 0) in let z = none p q k far in omega (arith, e, z)
+
+none_come : (own : Place) → ComesElsewhere own []
+none_come own p q k far = refl
+
+one_come : (own : Place) (kind : Kind) (r : ℕ) (place : Place) → ((q k : ℕ) → same_place own (in_message q k) ≡ false → same_place (in_message q k) place ≡ false) →
+    ComesElsewhere own (token kind r place ∷ [])
+one_come own kind r place apart p q k far =
+    let z = both_test (is_of receive p (token kind r place)) (same_place (in_message q k) place) (inr (apart q k far)) in omega (arith, z)
+
+far_back : (own : Place) (q k : ℕ) → same_place own (in_message q k) ≡ false → same_place (in_message q k) own ≡ false
+far_back (in_task t) q k far = refl
+far_back (in_message o j) q k far = let e : (q == o && k == j) ≡ (o == q && j == k) = rw (eq_symm o q, eq_symm j k) refl in e ∙ far
+far_back (in_request r) q k far = refl
+
+put_come : (own : Place) (d : Disposition) (target : Target) → ComesElsewhere own (put_by d target own)
+put_come own d (Target.port p) = one_come own _ p own (far_back own)
+put_come own d (Target.once p) = one_come own _ p own (far_back own)
+put_come own d (Target.dead n) = none_come own
+put_come own d (Target.set s) = none_come own
+
+task_come : (own : Place) (kind : Kind) (p task : ℕ) → ComesElsewhere own (token kind p (in_task task) ∷ [])
+task_come own kind p task = one_come own kind p (in_task task) (λ q k far. refl)
+
+given_come : (own : Place) (kind : Kind) (p task : ℕ) (s : State) → ComesElsewhere own (given_to kind p task s)
+given_come own receive p task s = task_come own receive p task
+given_come own send_once p task s = task_come own send_once p task
+given_come own send p task s = go (nat_lt (held s task send p) _)
+  where
+    go : (b : Bool) → ComesElsewhere own (if b then token send p (in_task task) ∷ [] else [])
+    go true = task_come own send p task
+    go false = none_come own
+
+many_come : (own : Place) (n : ℕ) (kind : Kind) (p task : ℕ) → ComesElsewhere own (replicate n (token kind p (in_task task)))
+many_come own zero kind p task = none_come own
+many_come own (suc n) kind p task = λ r q k far. let a = task_come own kind p task r q k far in let b = many_come own n kind p task r q k far in omega (arith, a, b)
+
+-- ---- copying in
+
+copy_fewer : (task : ℕ) (own : Place) (number name : ℕ) (old : State) (mark : Mark) (new : State) → CopyRight task own number name old mark new → Fewer own old new
+copy_fewer task own number name old mark new r = fewer_moves own old new (taken_by r.given r.target task) (put_by r.given r.target own) r.tokens (put_come own r.given r.target)
+
+pick : (b : Bool) (P Q R : Type 0) → (P → R) → (Q → R) → MatchBool b P Q → R
+pick true P Q R f g h = f h
+pick false P Q R f g h = g h
+
+same_fewer : (own : Place) (s t : State) → t ≡ s → Fewer own s t
+same_fewer own s t e = fewer_same own s t (ap (λ (x : State). x.ledger) e)
+
+word_fewer : (task : ℕ) (own : Place) (number word : ℕ) (old : State) (mark : Mark) (new : State) → CopyWord task own number word old mark new → Fewer own old new
+word_fewer task own number word old mark new = pick (word == null_word) _ _ _ (λ (x : (mark ≡ null) × (new ≡ old)). same_fewer own old new x.1)
+    (pick (word == dead_word) _ _ _ (λ (x : (mark ≡ dead) × (new ≡ old)). same_fewer own old new x.1) (copy_fewer task own number word old mark new))
+
+reply_fewer : (task : ℕ) (own : Place) (number word : ℕ) (old : State) (reply : ReplyRight) (new : State) → CopyReply task own number word old reply new → Fewer own old new
+reply_fewer task own number word old absent new h = same_fewer own old new h.2
+reply_fewer task own number word old (present kind mark) new h = word_fewer task own number word old mark new h.1
+
+words_fewer : (task : ℕ) (own : Place) (ws : List (ℕ × ℕ)) (old : State) (rs : List (Kind × Mark)) (new : State) → Through (CopyCarried task own) old ws rs new → Fewer own old new
+words_fewer task own [] old [] new h = same_fewer own old new h
+words_fewer task own (w ∷ ws) old (r ∷ rs) new h = fewer_trans own old h.0 new (word_fewer task own w.0 w.1 old r.1 h.0 h.1.0) (words_fewer task own ws h.0 rs new h.2)
+words_fewer task own [] old (r ∷ rs) new h = absurd h
+words_fewer task own (w ∷ ws) old [] new h = absurd h
+
+body_fewer : (task : ℕ) (own : Place) (written : WireBody) (old : State) (body : Body) (new : State) → CopyBody task own written old body new → Fewer own old new
+body_fewer task own written old body new h = words_fewer task own (body_words written) old (body_rights body) new h.1
+
+-- ---- copying out
+
+give_fewer : (own : Place) (task : ℕ) (place : Place) (kind : Kind) (p : ℕ) (old : State) (name : ℕ) (new : State) → GiveRight task place kind p old name new → Fewer own old new
+give_fewer own task place kind p old name new g = fewer_moves own old new (token kind p place ∷ []) (given_to kind p task old) g.tokens (given_come own kind p task old)
+
+mark_given : (own : Place) (task : ℕ) (place : Place) (kind : Kind) (mark : Mark) (old : State) (word : ℕ) (new : State) → GiveMark task place kind mark old word new → Fewer own old new
+mark_given own task place kind null old word new h = same_fewer own old new h.1
+mark_given own task place kind dead old word new h = same_fewer own old new h.1
+mark_given own task place kind (to_port p) old word new h = pick (old.live_port p) _ _ _ (give_fewer own task place kind p old word new) (λ (x : (word ≡ dead_word) × (new ≡ old)). same_fewer own old new x.1) h
+
+words_given : (own : Place) (task : ℕ) (place : Place) (ws : List (ℕ × ℕ)) (old : State) (rs : List (Kind × Mark)) (new : State) → Through (GiveWord task place) old ws rs new → Fewer own old new
+words_given own task place [] old [] new h = same_fewer own old new h
+words_given own task place (w ∷ ws) old (r ∷ rs) new h = fewer_trans own old h.0 new (mark_given own task place r.0 r.1 old w.1 h.0 h.1) (words_given own task place ws h.0 rs new h.2)
+words_given own task place [] old (r ∷ rs) new h = absurd h
+words_given own task place (w ∷ ws) old [] new h = absurd h
+
+-- ---- what each event may do, but for a send
+
+module _ (own : Place) where
+  one_lost : (task name : ℕ) (d : Disposition) (target : Target) (old mid : State) → LosesOne task name d target old mid → Fewer own old mid
+  one_lost task name d target old mid x = fewer_moves own old mid (taken_by d target task) [] x.tokens (none_come own)
+
+  ledger_of : (old mid changed : State) → mid ≡ changed → changed.ledger ≡ old.ledger → Fewer own old mid
+  ledger_of old mid changed e f = fewer_same own old mid (ap (λ (x : State). x.ledger) e ∙ f)
+
+  makes_fewer : (task right name : ℕ) (old mid : State) → Makes task right name old mid → Fewer own old mid
+  makes_fewer task right name old mid (inl x) = fewer_moves own old mid [] (token receive old.ports_made (in_task task) ∷ []) x.1.tokens (task_come own receive old.ports_made task)
+  makes_fewer task right name old mid (inr (inl x)) = ledger_of old mid _ x.1 refl
+  makes_fewer task right name old mid (inr (inr x)) = ledger_of old mid _ x.1 refl
+
+  deallocates_fewer : (task name : ℕ) (old mid : State) (owed : Owed) → Deallocates task name old mid owed → Fewer own old mid
+  deallocates_fewer task name old mid owed (inl x) = one_lost task name _ _ old mid x.1
+  deallocates_fewer task name old mid owed (inr (inl x)) = one_lost task name _ _ old mid x.1
+  deallocates_fewer task name old mid owed (inr (inr x)) = one_lost task name _ _ old mid x.1
+
+  target_fewer : (task name : ℕ) (target : Target) (old mid : State) (owed : Owed) → DestroysTarget task name target old mid owed → Fewer own old mid
+  target_fewer task name (Target.port p) old mid owed x = fewer_moves own old mid x.0.gone [] x.0.moves (none_come own)
+  target_fewer task name (Target.once p) old mid owed x = one_lost task name _ _ old mid x.0
+  target_fewer task name (Target.dead n) old mid owed x = ledger_of old mid _ x.0 refl
+  target_fewer task name (Target.set s) old mid owed x = ledger_of old mid _ x.0 refl
+
+  with_dead_ledger : (task name n : ℕ) (s : State) → (with_dead task name n s).ledger ≡ s.ledger
+  with_dead_ledger task name n s = go (nat_lt 0 n)
+    where
+      go : (b : Bool) → (if b then with_name task name (Target.dead n) s else without_name task name s).ledger ≡ s.ledger
+      go true = refl
+      go false = refl
+
+  removes_fewer : (right task name : ℕ) (target : Target) (old mid : State) (owed : Owed) → RemovesRight right task name target old mid owed → Fewer own old mid
+  removes_fewer right task name (Target.port p) old mid owed x = fewer_moves own old mid (token receive p (in_task task) ∷ []) [] x.1.0 (none_come own)
+  removes_fewer right task name (Target.once p) old mid owed x = target_fewer task name (Target.once p) old mid owed x.1
+  removes_fewer right task name (Target.set s) old mid owed x = target_fewer task name (Target.set s) old mid owed x.1
+  removes_fewer right task name (Target.dead n) old mid owed x = absurd x
+
+  modifies_fewer : (task name right : ℕ) (delta : ℤ) (old mid : State) (owed : Owed) → Modifies task name right delta old mid owed → Fewer own old mid
+  modifies_fewer task name right delta old mid owed (inl x) = fewer_moves own old mid (replicate (held old task send x.0 - x.1) (token send x.0 (in_task task))) (replicate (x.1 - held old task send x.0) (token send x.0 (in_task task))) x.5.tokens (many_come own (x.1 - held old task send x.0) send x.0 task)
+  modifies_fewer task name right delta old mid owed (inr (inl x)) = ledger_of old mid _ x.5 (with_dead_ledger task name x.1 old)
+  modifies_fewer task name right delta old mid owed (inr (inr (inl x))) = ledger_of old mid old x.2 refl
+  modifies_fewer task name right delta old mid owed (inr (inr (inr x))) = removes_fewer right task name x.0 old mid owed x.3
+
+  renamed_same : (task o n q k : ℕ) (place : Place) → same_place (in_message q k) (renamed_place task o n place) ≡ same_place (in_message q k) place
+  renamed_same task o n q k (in_task t) = refl
+  renamed_same task o n q k (in_message r j) = refl
+  renamed_same task o n q k (in_request r) = go (same_request r (Request.dead_name task o))
+    where
+      go : (b : Bool) → same_place (in_message q k) (if b then in_request (Request.dead_name task n) else in_request r) ≡ false
+      go true = refl
+      go false = refl
+
+  renames_fewer : (task o n : ℕ) (old mid : State) → Renames task o n old mid → Fewer own old mid
+  renames_fewer task o n old mid x p q k far =
+      let e = x.tokens (λ y. if is_at receive p (in_message q k) y then 1 else 0) in
+      let f = weigh-le (λ y. if is_at receive p (in_message q k) (renamed_token task o n y) then 1 else 0) (λ y. if is_at receive p (in_message q k) y then 1 else 0)
+      (λ y. let g = renamed_same task o n q k y.place in rw g (omega arith)) old.ledger in
+      omega (arith, e, f)
+
+  ports_fewer : (task name : ℕ) (change : ℕ → State) (old mid : State) → ((p : ℕ) → (change p).ledger ≡ old.ledger) → ChangesPort old task name change mid → Fewer own old mid
+  ports_fewer task name change old mid same x = ledger_of old mid (change x.0) x.3 (same x.0)
+
+  joins_fewer : (task member after : ℕ) (old mid : State) → JoinsSet task member after old mid → Fewer own old mid
+  joins_fewer task member after old mid (p, found, inl x) = ledger_of old mid _ x.1 refl
+  joins_fewer task member after old mid (p, found, inr x) = ledger_of old mid _ x.2 refl
+
+  takes_fewer : (port : ℕ) (e : Entry) (old mid : State) → Takes port e old mid → Fewer own old mid
+  takes_fewer port e old mid x = fewer_moves own old mid (token e.message.kind port (in_message port (old.taken port)) ∷ []) [] x.tokens (none_come own)
+
+  ends_fewer : (task : ℕ) (old mid : State) (owed : Owed) → EndsTask task old mid owed → Fewer own old mid
+  ends_fewer task old mid owed x = fewer_moves own old mid x.loses.gone [] x.loses.moves (none_come own)
+
+  front_fewer : (port : ℕ) (e : Entry) (old mid : State) (owed : Owed) → DestroysFront port e old mid owed → Fewer own old mid
+  front_fewer port e old mid owed x = fewer_trans own old x.taken mid (takes_fewer port e old x.taken x.takes) (fewer_moves own x.taken mid x.loses.gone [] x.loses.moves (none_come own))
+
+  receives_fewer : (task port room : ℕ) (bytes : List ℕ) (old mid : State) → Receives task port room bytes old mid → Fewer own old mid
+  receives_fewer task port room bytes old mid x =
+      fewer_trans own old x.taken mid (takes_fewer port x.e old x.taken x.takes)
+      (words_given own task _ (received_words x.header x.written) x.taken (message_rights x.e.message) mid x.rights)
+
+  receipt_fewer : (old : State) (task : ℕ) (waited : Waited) (room : ℕ) (large : Bool) (reply : Reply) (mid : State) (owed : Owed) → Receipt old task waited room large reply mid owed → Fewer own old mid
+  receipt_fewer old task waited room large (Reply.Message bytes) mid owed x = receives_fewer task x.0 room bytes old mid x.2
+  receipt_fewer old task waited room large (Reply.Empty told) mid owed x = same_fewer own old mid x.2
+  receipt_fewer old task waited room large (Reply.TooLarge n) mid owed x = pick (stays_large large) _ _ _ (λ (h : (mid ≡ old) × (owed ≡ [])). same_fewer own old mid h.0) (front_fewer x.0 x.1 old mid owed) x.6
+  receipt_fewer old task waited room large reply mid owed x = absurd x
+
+inserts_fewer : (task name from poly number : ℕ) (old mid : State) → Inserts task name from poly number old mid → Fewer (in_task task) old mid
+inserts_fewer task name from poly number old mid x =
+    fewer_trans (in_task task) old x.copied mid (copy_fewer from (in_task task) number poly old (to_port x.p) x.copied x.copy) (go x.named)
+  where
+    go : (lookup x.copied task name ≢ None) × (mid ≡ x.copied) ⊎ (lookup x.copied task name ≡ None) × (mid ≡ with_name task name (target_for (kind_sent x.copy.given) x.p) x.copied) → Fewer (in_task task) x.copied mid
+    go (inl h) = same_fewer (in_task task) x.copied mid h.1
+    go (inr h) = ledger_of (in_task task) x.copied mid _ h.1 refl
+
+extracts_fewer : (task name number to new_name kind : ℕ) (old mid : State) → Extracts task name number to new_name kind old mid → Fewer (in_task to) old mid
+extracts_fewer task name number to new_name kind old mid x =
+    fewer_trans (in_task to) old x.copied mid (copy_fewer task (in_task to) number name old (to_port x.p) x.copied x.copy)
+    (fewer_moves (in_task to) x.copied mid (pegged to x.p x.copied) [] x.tokens (none_come (in_task to)))
+
+back_fewer : (own : Place) (task : ℕ) (request : Request) (before old : State) (name : ℕ) (new : State) → GivesBack task request before old name new → Fewer own old new
+back_fewer own task request before old name new (inl x) = same_fewer own old new x.2
+back_fewer own task request before old name new (inr (inl x)) = ledger_of own old new _ x.3 refl
+back_fewer own task request before old name new (inr (inr x)) =
+    fewer_moves own old new (token send_once x.0 (in_request request) ∷ []) (token send_once x.0 (in_task task) ∷ []) x.5 (task_come own send_once x.0 task)
+
+keeps_fewer : (own : Place) (task name sync : ℕ) (request : Request) (q : ℕ) (old mid : State) (owed : Owed) → Keeps task name sync request q old mid owed → Fewer own old mid
+keeps_fewer own task name sync request q old mid owed (inl x) = fewer_moves own old mid (token send_once q (in_request request) ∷ []) [] x.3 (none_come own)
+keeps_fewer own task name sync request q old mid owed (inr (inl x)) = fewer_moves own old mid (token send_once q (in_request request) ∷ []) [] x.3 (none_come own)
+keeps_fewer own task name sync request q old mid owed (inr (inr x)) = ledger_of own old mid _ x.2 refl
+
+requests_fewer : (task name variant sync notify number previous : ℕ) (old mid : State) (owed : Owed) → Requests task name variant sync notify number previous old mid owed → Fewer (in_task 0) old mid
+requests_fewer task name variant sync notify number previous old mid owed x = go x.copy
+  where
+    own : Place
+    own = in_request x.request
+
+    back : Fewer own x.copied x.back
+    back = back_fewer own task x.request old x.copied previous x.back x.given_back
+
+    go : (notify ≡ null_word) × (x.copied ≡ old) × (mid ≡ x.back) × (owed ≡ [])
+        ⊎ (notify ≢ null_word) × ((q : ℕ) × CopyRight task (in_request x.request) number notify old (to_port q) x.copied × Keeps task name sync x.request q x.back mid owed) → Fewer (in_task 0) old mid
+    go (inl h) = fewer_trans own old x.copied mid (same_fewer own old x.copied h.1) (fewer_trans own x.copied x.back mid back (same_fewer own x.back mid h.2))
+    go (inr h) = fewer_trans own old x.copied mid (copy_fewer task own number notify old (to_port h.1.0) x.copied h.1.1)
+        (fewer_trans own x.copied x.back mid back (keeps_fewer own task name sync x.request h.1.0 x.back mid owed h.1.2))
+
+-- ---- a send
+
+reaches_more : (s : State) (a b c : ℕ) → Reaches s a b → CarriedAt s b c → Reaches s a c
+reaches_more s r t c (here p) d = there p c c d (here c)
+reaches_more s r t c (there p q b e rest) d = there p q c e (reaches_more s q b c rest d)
+
+reaches_over : (s t : State) → s.ledger ≡ t.ledger → (a b : ℕ) → Reaches s a b → Reaches t a b
+reaches_over s t same r u (here p) = here p
+reaches_over s t same r u (there p q b c rest) =
+    there p q b (c.0, subst (λ (xs : List Token). 0 < count (is_at receive p (in_message q c.0)) xs) same c.1) (reaches_over s t same q b rest)
+
+module _ (d e : ℕ) (old mid : State) (owed : Owed) (l : IsLawful old) (m : MidLawful mid owed) (none : NoneQueued (in_message d e) old mid)
+    (loop : (x : ℕ) → LiesAt mid receive x (in_message d e) → Reaches mid d x → ⊥) where
+  go_on : (x : ℕ) → Reaches mid d x → Where mid x → ((q k : ℕ) → LiesAt old receive x (in_message q k) → LiesAt mid receive x (in_message q k) → LeadsOn mid x) → LeadsOn mid x
+  go_on x reach (with_task u h) far = to_task x u h
+  go_on x reach (nowhere o) far = to_orphan x o
+  go_on x reach (queued q k h) far = by (same_place (in_message d e) (in_message q k)) refl
+    where
+      by : (b : Bool) → same_place (in_message d e) (in_message q k) ≡ b → LeadsOn mid x
+      by true t = absurd (loop x (subst (LiesAt mid receive x) (place_is (in_message d e) (in_message q k) t) h) reach)
+      by false f = far q k (none x q k f h) h
+
+  way : (x : ℕ) → IsGrounded old x → mid.live_port x ≡ true → Reaches mid d x → LeadsOn mid x
+  way r (at_task x t lies) live reach = go_on x reach (where_is mid owed x m live) (λ q k was h. absurd (not_both old x t q k l lies was))
+  way r (carried x q c g) live reach = go_on x reach (where_is mid owed x m live) (λ u k was h.
+      let same : q ≡ u = same_queue old x q u l c (k, was) in
+      let at : CarriedAt mid x q = subst (CarriedAt mid x) (sym same) (k, h) in
+      along x q at (way q g (queue_lives mid owed x q at.0 m at.1) (reaches_more mid d x q reach at)))
+
+  destination_leads : AllGrounded old → mid.live_port d ≡ true → LeadsOn mid d
+  destination_leads all live = by (old.live_port d) refl
+    where
+      by : (b : Bool) → old.live_port d ≡ b → LeadsOn mid d
+      by true was = way d (all d was) live (here d)
+      by false gone = go_on d (here d) (where_is mid owed d m live) (λ q k was h. absurd (unmade old d q k l gone was))
+
+  sent_mine : AllGrounded old → OwnLeads (in_message d e) mid
+  sent_mine all p q k t lies =
+      let same : in_message q k ≡ in_message d e = place_is (in_message d e) (in_message q k) t in
+      let port : q ≡ d = cc in
+      subst (LeadsOn mid) (sym port) (destination_leads all (ap mid.live_port (sym port) ∙ queue_lives mid owed p q k m lies))
+
+  sent_leads : AllGrounded old → (p : ℕ) → mid.live_port p ≡ true → LeadsOn mid p
+  sent_leads all = all_lead (in_message d e) old mid owed l m none (sent_mine all) all
+
+sends_lead : (now task : ℕ) (bytes : List ℕ) (old mid : State) (owed : Owed) → IsLawful old → MidLawful mid owed → Sends now task bytes old mid → AllGrounded old → (p : ℕ) → mid.live_port p ≡ true → LeadsOn mid p
+sends_lead now task bytes old mid owed l m x = sent_leads x.m.destination (length (old.log x.m.destination)) old mid owed l m
+    (λ p q k far lies. let f = fewer p q k far in omega (arith, f, lies)) loop
+  where
+    own : Place
+    own = place_at old x.m.destination
+
+    same : mid.ledger ≡ x.copied_state.ledger
+    same = ap (λ (s : State). s.ledger) x.rest
+
+    fewer : Fewer own old mid
+    fewer = fewer_trans own old x.copied.first mid (copy_fewer task own x.header.remote_kind x.header.remote old (to_port x.m.destination) x.copied.first x.copied.destination)
+        (fewer_trans own x.copied.first x.copied.second mid (reply_fewer task own x.header.local_kind x.header.local x.copied.first x.m.reply x.copied.second x.copied.reply)
+        (fewer_trans own x.copied.second x.copied_state mid (body_fewer task own x.written x.copied.second x.m.body x.copied_state x.copied.body)
+        (fewer_same own x.copied_state mid same)))
+
+    loop : (y : ℕ) → LiesAt mid receive y own → Reaches mid x.m.destination y → ⊥
+    loop y lies reach = x.unrefused.0 (y, subst (λ (xs : List Token). 0 < count (is_at receive y own) xs) same lies, reaches_over mid x.copied_state same x.m.destination y reach)
+
+-- ---- all events
+
+fewer_leads : (old mid : State) (owed : Owed) → IsLawful old → MidLawful mid owed → Fewer (in_task 0) old mid → AllGrounded old → (p : ℕ) → mid.live_port p ≡ true → LeadsOn mid p
+fewer_leads old mid owed l m fewer = all_lead (in_task 0) old mid owed l m (λ p q k far lies. let f = fewer p q k far in omega (arith, f, lies)) (λ p q k t lies. absurd (cc))
+
+does_lead : (now : ℕ) (old : State) (event : Event) (reply : Reply) (mid : State) (owed : Owed) → Does now old event reply mid owed → IsLawful old → MidLawful mid owed → AllGrounded old →
+    (p : ℕ) → mid.live_port p ≡ true → LeadsOn mid p
+does_lead now old Event.TaskCreate (Reply.Task task) mid owed d l m = fewer_leads old mid owed l m (ledger_of (in_task 0) old mid _ d.0.rest refl)
+does_lead now old (Event.Allocate task right) (Reply.Name name) mid owed d l m = fewer_leads old mid owed l m (makes_fewer (in_task 0) task right name old mid d.1)
+does_lead now old (Event.AllocateName task right name) (Reply.Name told) mid owed d l m = fewer_leads old mid owed l m (makes_fewer (in_task 0) task right name old mid d.1)
+does_lead now old (Event.Deallocate task name) (Reply.Code code) mid owed d l m = fewer_leads old mid owed l m (deallocates_fewer (in_task 0) task name old mid owed d.1)
+does_lead now old (Event.Destroy task name) (Reply.Code code) mid owed d l m = fewer_leads old mid owed l m (target_fewer (in_task 0) task name d.1.0 old mid owed d.1.2)
+does_lead now old (Event.ModRefs task name right delta) (Reply.Code code) mid owed d l m = fewer_leads old mid owed l m (modifies_fewer (in_task 0) task name right delta old mid owed d.1)
+does_lead now old (Event.GetRefs task name right) (Reply.Refs n) mid owed d l m = fewer_leads old mid owed l m (same_fewer (in_task 0) old mid d.1)
+does_lead now old (Event.NameType task name) (Reply.NameType n) mid owed d l m = fewer_leads old mid owed l m (same_fewer (in_task 0) old mid d.1)
+does_lead now old (Event.Names task) (Reply.Names entries) mid owed d l m = fewer_leads old mid owed l m (same_fewer (in_task 0) old mid d.1)
+does_lead now old (Event.Rename task o n) (Reply.Code code) mid owed d l m = fewer_leads old mid owed l m (renames_fewer (in_task 0) task o n old mid d.1)
+does_lead now old (Event.ReceiveStatus task name) (Reply.Status status) mid owed d l m = fewer_leads old mid owed l m (same_fewer (in_task 0) old mid d.1)
+does_lead now old (Event.SetQlimit task name n) (Reply.Code code) mid owed d l m = fewer_leads old mid owed l m (ports_fewer (in_task 0) task name _ old mid (λ p. refl) d.1)
+does_lead now old (Event.SetMscount task name n) (Reply.Code code) mid owed d l m = fewer_leads old mid owed l m (ports_fewer (in_task 0) task name _ old mid (λ p. refl) d.2)
+does_lead now old (Event.SetSeqno task name n) (Reply.Code code) mid owed d l m = fewer_leads old mid owed l m (ports_fewer (in_task 0) task name _ old mid (λ p. refl) d.2)
+does_lead now old (Event.SetStatus task name) (Reply.Members members) mid owed d l m = fewer_leads old mid owed l m (same_fewer (in_task 0) old mid d.1)
+does_lead now old (Event.MoveMember task member after) (Reply.Code code) mid owed d l m = fewer_leads old mid owed l m (joins_fewer (in_task 0) task member after old mid d.1)
+does_lead now old (Event.InsertRight task name from poly number) (Reply.Code code) mid owed d l m = fewer_leads old mid owed l m (inserts_fewer task name from poly number old mid d.1)
+does_lead now old (Event.ExtractRight task name number to) (Reply.Right new_name kind) mid owed d l m = fewer_leads old mid owed l m (extracts_fewer task name number to new_name kind old mid d.0)
+does_lead now old (Event.Send task bytes) (Reply.Code code) mid owed d l m = sends_lead now task bytes old mid owed l m d.1
+does_lead now old (Event.Receive task name room large) reply mid owed d l m = fewer_leads old mid owed l m (receipt_fewer (in_task 0) old task d.0 room large reply mid owed d.2)
+does_lead now old (Event.ReceiveAgain task waited room large) reply mid owed d l m = fewer_leads old mid owed l m (receipt_fewer (in_task 0) old task waited room large reply mid owed d)
+does_lead now old event reply mid owed d l m = absurd d
+
+pub Step-grounded : (now : ℕ) (old : State) (event : Event) (reply : Reply) (new : State) → Step now old event reply new → IsLawful old → AllGrounded old → AllGrounded new
+Step-grounded now old event reply new (inl r) l all = subst AllGrounded (sym r.same) all
+Step-grounded now old event reply new (inr d) l all = λ p live.
+    let m = Does-mid now old event reply d.mid d.owed d.unrefused d.does l in
+    settled_grounded now old d.mid d.owed new m d.settles p (does_lead now old event reply d.mid d.owed d.does l m all p (live_mid now old d.mid d.owed new d.settles p live)) live
+
+RunFrom-grounded : (now : ℕ) (old : State) (events : List Event) (replies : List Reply) (new : State) → RunFrom now old events replies new → IsLawful old → AllGrounded old → AllGrounded new
+RunFrom-grounded now old [] [] new r l all = subst AllGrounded (sym r) all
+RunFrom-grounded now old (e ∷ es) (x ∷ xs) new r l all =
+    RunFrom-grounded (now + 1) r.0 es xs new r.2 (Step-lawful now old e x r.0 r.1 l) (Step-grounded now old e x r.0 r.1 l all)
+RunFrom-grounded now old [] (x ∷ xs) new r l all = absurd r
+RunFrom-grounded now old (e ∷ es) [] new r l all = absurd r
+
+-- After every run the way from each live port ends at a task.
+pub Run-grounded : (events : List Event) (replies : List Reply) (s : State) → Run events replies s → AllGrounded s
+Run-grounded events replies s r = RunFrom-grounded 0 opening events replies s r opening-lawful (λ p live. absurd (cc))

@@ -1,0 +1,428 @@
+-- As long as the rules of NotYet stand, a step's own part in a quiet state loses nothing and leaves a quiet one, and so does the step.
+use Rattle.std.proofs.Common.{◌≡◌, ℕ, zero, suc, ◌+◌, ◌-◌, ◌<◌, ◌≤◌, List, [], ◌∷◌, Some, refl, sym, ap, subst, ◌∙◌, arith, true, false, Bool, inl, inr, length, get_or}
+use Rattle.std.specs.Prelude.{ℤ, if◌then◌else◌, ◌==◌, ◌&&◌, ◌||◌, nat_lt, All}
+use Rattle.std.proofs.lemmas.Bool.{and_right, or_cases, eq-eqb, ne_eqb, false_from_ne_true, cases_Bool}
+use Rattle.std.proofs.lemmas.Bool.Decides.{eqb_tells}
+use Rattle.mach_types.specs.declared.calls.Event.{Event}
+use Rattle.mach_types.specs.declared.calls.Reply.{Reply}
+use Rattle.mach_types.specs.Guards.{NoneHolds}
+use Rattle.mach_types.specs.TextGuards.{header_guards}
+use Rattle.mach_types.specs.Tokens.{Kind, receive, send, Request, dead_name, Place, in_task, in_message, in_request, Token, token, weigh, count, is_of, is_held, Moves}
+use Rattle.mach_model.specs.State.{State, Target, opening, lookup, held, request_at, same_request, without_name, with_name}
+use Rattle.mach_model.specs.Death.{same_place}
+use Rattle.mach_model.specs.Carried.{lying}
+use Rattle.mach_model.specs.CopyIn.{name_kept}
+use Rattle.mach_model.specs.Names.{AllocatesPort, Makes, renamed_place, renamed_token, renamed_requests, Renames}
+use Rattle.mach_model.specs.ReceiveRight.{NamesReceive}
+use Rattle.mach_model.specs.References.{is_either, LosesAll, Deallocates, Destroys, RemovesRight, Modifies}
+use Rattle.mach_model.specs.Sets.{JoinsSet}
+use Rattle.mach_model.specs.Send.{Sends}
+use Rattle.mach_model.specs.Receive.{Receives}
+use Rattle.mach_model.specs.Refusals.{guards}
+use Rattle.mach_model.specs.Notices.{Owed}
+use Rattle.mach_model.specs.Settles.{Settles}
+use Rattle.mach_model.specs.Machine.{Does, Done, Step, RunFrom, Run}
+use Rattle.mach_model.specs.Lawful.{IsLawful}
+use Rattle.mach_model.specs.Midway.{MidLawful, IsStill}
+use Rattle.mach_model.specs.NotYet.{NoRequests, IsQuiet, NamesOnce, IsNotYetDestroying, IsNotYetRemoving}
+use Rattle.mach_model.proofs.Weigh.{both_test, count_none, count_some, pos_or_zero, lying_le_of}
+use Rattle.mach_model.proofs.At.{at_other, elsewhere}
+use Rattle.mach_model.proofs.Settling.{is_at, own_test, mid_settles, settles_quietly, IsReordered, IsReordered-quiet}
+use Rattle.mach_model.proofs.Midway.{calm_lawful}
+use Rattle.mach_model.proofs.Moving.{Apart, apart-trans}
+use Rattle.mach_model.proofs.Opening.{opening-lawful, opening-quiet}
+use Rattle.mach_model.proofs.Carrying.{carries_none}
+use Rattle.mach_model.proofs.HandLawful.{is_it, Hands, hands_shape, Inserts-hands, Extracts-hands}
+use Rattle.mach_model.proofs.SendLawful.{Sends-adds}
+use Rattle.mach_model.proofs.ReceiveLawful.{Receives-removes, Receives-mid}
+use Rattle.mach_model.proofs.LosingLawful.{AreSends, no_sends, same_sends}
+use Rattle.mach_model.proofs.StepLawful.{not_false, TakesFrom-live, Does-mid, Step-lawful, Run-lawful}
+
+-- ---- what keeps a state quiet
+
+-- Receive rights stay, none comes to a message, and no request is made or gets a right.
+pub record Quietly (old mid : State) : Type 0 where
+  pub live : (p : ℕ) → mid.live_port p ≡ true → old.live_port p ≡ true
+  pub receives : (p : ℕ) → count (is_of receive p) mid.ledger ≡ count (is_of receive p) old.ledger
+  pub carried : (p k q : ℕ) → lying mid receive q (in_message p k) ≡ 0
+  pub kept : (kind : Kind) (q : ℕ) (r : Request) → lying mid kind q (in_request r) ≤ lying old kind q (in_request r)
+  pub none_stands : NoRequests mid.stands
+
+pub still : (old mid : State) (owed : Owed) → IsLawful old → IsQuiet old → owed ≡ [] → MidLawful mid owed → Quietly old mid → IsStill mid owed
+still old mid owed l quiet none m q = record {
+  lawful = calm_lawful mid (subst (MidLawful mid) none m) (λ p live. q.receives p ∙ l.one_receive p (q.live p live))
+      (λ t n ended kind p. let a = q.kept kind p (dead_name t n) in let b = l.ended (dead_name t n) (quiet.none_stands (dead_name t n)) kind p in omega (arith, a, b));
+  quiet = record { none_carried = λ p k r. q.carried p k r; none_stands = q.none_stands };
+  none_owed = none;
+}
+
+if_false : (b c : Bool) → c ≡ false → (if b then false else c) ≡ false
+if_false true c e = refl
+if_false false c e = e
+
+-- a request on a name that goes
+without_stands : (task name : ℕ) (stands : Request → Bool) → NoRequests stands → NoRequests (request_at stands (dead_name task name) false)
+without_stands task name stands none r = if_false (same_request r (dead_name task name)) (stands r) (none r)
+
+module _ (old : State) (l : IsLawful old) (quiet : IsQuiet old) where
+  -- the same rights
+  same_rights : (mid : State) → Moves old.ledger mid.ledger [] [] → mid.live_port ≡ old.live_port → NoRequests mid.stands → Quietly old mid
+  same_rights mid moves live stands = record {
+    live = λ p e. sym (ap (λ (f : ℕ → Bool). f p) live) ∙ e;
+    receives = λ p. same (is_of receive p);
+    carried = λ p k q. same (is_at receive q (in_message p k)) ∙ quiet.none_carried p k q;
+    kept = λ kind q r. let e = same (is_at kind q (in_request r)) in omega (arith, e);
+    none_stands = stands;
+  }
+    where
+      same : (test : Token → Bool) → count test mid.ledger ≡ count test old.ledger
+      same test = let m = moves (λ x. if test x then 1 else 0) in omega (arith, m)
+
+  -- a state that differs in neither rights, ports nor requests
+  as_it_was : (mid c : State) → mid ≡ c → c.ledger ≡ old.ledger → c.live_port ≡ old.live_port → NoRequests c.stands → Quietly old mid
+  as_it_was mid c rest ledger live stands = same_rights mid
+      (λ h. (let e = ap (weigh h) (ap (λ (x : State). x.ledger) rest ∙ ledger) in omega (arith, e))) (ap (λ (x : State). x.live_port) rest ∙ live)
+      (λ r. ap (λ (x : State). x.stands r) rest ∙ stands r)
+
+  -- send rights of one task come and go
+  sends_change : (task p : ℕ) (mid : State) (gone come : List Token) → Moves old.ledger mid.ledger gone come → AreSends task p gone → AreSends task p come →
+      mid.live_port ≡ old.live_port → NoRequests mid.stands → Quietly old mid
+  sends_change task p mid gone come moves are_gone are_come live stands = record {
+    live = λ p e. sym (ap (λ (f : ℕ → Bool). f p) live) ∙ e;
+    receives = λ q. same (is_of receive q) refl;
+    carried = λ o k q. same (is_at receive q (in_message o k)) refl ∙ quiet.none_carried o k q;
+    kept = λ kind q r. let e = same (is_at kind q (in_request r)) (and_right (is_of kind q (token send p (in_task task))) false refl) in omega (arith, e);
+    none_stands = stands;
+  }
+    where
+      same : (test : Token → Bool) → test (token send p (in_task task)) ≡ false → count test mid.ledger ≡ count test old.ledger
+      same test e = let m = moves (λ x. if test x then 1 else 0) in let a = are_gone test e in let b = are_come test e in omega (arith, m, a, b)
+
+  -- rights go by way of one entry
+  by_entry : (mid : State) (o k : ℕ) → Apart old mid o k → mid.live_port ≡ old.live_port → ((p : ℕ) → mid.live_port p ≡ true → count (is_of receive p) mid.ledger ≡ 1) →
+      ((p : ℕ) → mid.live_port p ≡ false → count (is_of receive p) mid.ledger ≡ 0) → ((q : ℕ) → lying mid receive q (in_message o k) ≡ 0) → Quietly old mid
+  by_entry mid o k a live one gone none = record {
+    live = λ p e. sym (same p) ∙ e;
+    receives = λ p. elim (cases_Bool (mid.live_port p)) [
+      | inl e ↦ one p e ∙ sym (l.one_receive p (sym (same p) ∙ e))
+      | inr e ↦ gone p e ∙ sym (l.no_rights p (sym (same p) ∙ e) receive)
+    ];
+    carried = λ p j q. elim (eqb_tells p o) [
+      | inl h ↦ elim (eqb_tells j k) [
+        | inl g ↦ subst (λ (x : ℕ). lying mid receive q (in_message x j) ≡ 0) (sym h.1) (subst (λ (x : ℕ). lying mid receive q (in_message o x) ≡ 0) (sym g.1) (none q))
+        | inr g ↦ a.elsewhere receive q p j (λ x y. g.1 y) ∙ quiet.none_carried p j q
+      ]
+      | inr h ↦ a.elsewhere receive q p j (λ x y. h.1 x) ∙ quiet.none_carried p j q
+    ];
+    kept = λ kind q r. let e = a.kept kind q r in omega (arith, e);
+    none_stands = λ r. false_from_ne_true (mid.stands r) (λ e. (let f = a.stood r e in let g = quiet.none_stands r in cc));
+  }
+    where
+      same : (p : ℕ) → mid.live_port p ≡ old.live_port p
+      same p = ap (λ (f : ℕ → Bool). f p) live
+
+  -- ---- a port is made
+
+  module _ (task name : ℕ) (mid : State) (made : AllocatesPort task name old mid) (m : MidLawful mid []) where
+    at_task : (kind : Kind) (q : ℕ) (test : Place → Bool) → test (in_task task) ≡ false → count (λ x. is_of kind q x && test x.place) mid.ledger ≡ count (λ x. is_of kind q x && test x.place) old.ledger
+    at_task kind q test e =
+        let h = made.tokens (λ x. if is_of kind q x && test x.place then 1 else 0) in
+        let z : (if is_of kind q (token receive old.ports_made (in_task task)) && test (in_task task) then suc zero else zero) ≡ zero = both_test (is_of kind q (token receive old.ports_made (in_task task))) (test (in_task task)) (inr e) in
+        omega (arith, h, z)
+
+    one : (p : ℕ) → mid.live_port p ≡ true → count (is_of receive p) mid.ledger ≡ 1
+    one p live = elim (eqb_tells p old.ports_made) [
+      | inl h ↦
+          let t = made.tokens (λ x. if is_of receive p x then 1 else 0) in
+          let none = l.no_rights p (false_from_ne_true (old.live_port p) (λ e. (let b = l.made_port p e in omega (arith, b, h.1)))) receive in
+          let own : (if is_of receive p (token receive old.ports_made (in_task task)) then suc zero else zero) ≡ suc zero = rw (eq-eqb old.ports_made p (sym h.1)) refl in omega (arith, t, none, own)
+      | inr h ↦
+          let t = made.tokens (λ x. if is_of receive p x then 1 else 0) in
+          let was : old.live_port p ≡ true = sym (ap (λ (x : State). x.live_port p) made.rest ∙ at_other old.live_port old.ports_made true p h.1) ∙ live in
+          let one = l.one_receive p was in
+          let other : (if is_of receive p (token receive old.ports_made (in_task task)) then suc zero else zero) ≡ zero = rw (ne_eqb old.ports_made p (λ e. h.1 (sym e))) refl in omega (arith, t, one, other)
+    ]
+
+    port_made : IsStill mid []
+    port_made = record {
+      lawful = calm_lawful mid m one (λ t n ended kind q. at_task kind q (same_place (in_request (dead_name t n))) refl ∙ l.ended (dead_name t n) (quiet.none_stands (dead_name t n)) kind q);
+      quiet = record {
+        none_carried = λ p k q. at_task receive q (same_place (in_message p k)) refl ∙ quiet.none_carried p k q;
+        none_stands = λ r. ap (λ (x : State). x.stands r) made.rest ∙ quiet.none_stands r;
+      };
+      none_owed = refl;
+    }
+
+  -- ---- rights under a name
+
+  kept_live : (b : Bool) (task name : ℕ) → (name_kept b task name old).live_port ≡ old.live_port
+  kept_live true task name = refl
+  kept_live false task name = refl
+
+  kept_stands : (b : Bool) (task name : ℕ) → NoRequests (name_kept b task name old).stands
+  kept_stands true task name = quiet.none_stands
+  kept_stands false task name = without_stands task name old.stands quiet.none_stands
+
+  -- a name that may go, with send rights
+  name_changes : (task name p : ℕ) (b : Bool) (mid : State) (gone come : List Token) → Moves old.ledger mid.ledger gone come → AreSends task p gone → AreSends task p come →
+      mid ≡ record (name_kept b task name old) { ledger = mid.ledger } → Quietly old mid
+  name_changes task name p b mid gone come moves are_gone are_come rest = sends_change task p mid gone come moves are_gone are_come
+      (ap (λ (x : State). x.live_port) rest ∙ kept_live b task name) (λ r. ap (λ (x : State). x.stands r) rest ∙ kept_stands b task name r)
+
+  -- a dead name that may go
+  dead_changes : (task name n : ℕ) (b : Bool) (mid : State) → Moves old.ledger mid.ledger [] [] →
+      mid ≡ record (if b then with_name task name (Target.dead n) old else without_name task name old) { ledger = mid.ledger } → Quietly old mid
+  dead_changes task name n true mid moves rest = same_rights mid moves (ap (λ (x : State). x.live_port) rest) (λ r. ap (λ (x : State). x.stands r) rest ∙ quiet.none_stands r)
+  dead_changes task name n false mid moves rest =
+      same_rights mid moves (ap (λ (x : State). x.live_port) rest) (λ r. ap (λ (x : State). x.stands r) rest ∙ without_stands task name old.stands quiet.none_stands r)
+
+  deallocates : (task name : ℕ) (mid : State) (owed : Owed) → ¬ (NamesOnce old task name) → Deallocates task name old mid owed → (owed ≡ []) × Quietly old mid
+  deallocates task name mid owed not_once (inl (p, d, none)) =
+      (none, name_changes task name p (nat_lt 1 (held old task send p) || nat_lt 0 (held old task receive p)) mid (token send p (in_task task) ∷ []) [] d.tokens (same_sends task p 1) (no_sends task p) d.rest)
+  deallocates task name mid owed not_once (inr (inl (p, d, owes))) = absurd (not_once (p, d.found))
+  deallocates task name mid owed not_once (inr (inr (n, d, none))) = (none, dead_changes task name (n - 1) (nat_lt 1 n) mid d.tokens d.rest)
+
+  -- tokens of which each is a receive or send right that the task has for the port, and none is a receive right, are its send rights
+  sends_of_either : (task p : ℕ) (xs : List Token) → All (λ x. is_either task p x ≡ true) xs → count (is_held task receive p) xs ≡ 0 → AreSends task p xs
+  sends_of_either task p xs all none test e = count_none test xs (λ k d below passes. elim (or_cases (is_held task receive p (get_or xs k d)) (is_held task send p (get_or xs k d)) (all k d below)) [
+    | inl h ↦ let some = count_some (is_held task receive p) xs k d below h in omega (arith, some, none)
+    | inr h ↦ (let is = is_it task send p (get_or xs k d) h in let f : true ≡ false = sym passes ∙ ap test is ∙ e in cc)
+  ])
+
+  port_destroyed : (task name p : ℕ) (mid : State) → lookup old task name ≡ Some (Target.port p) → ¬ (NamesReceive old task name) →
+      LosesAll (is_either task p) old.ledger mid.ledger → mid ≡ record (without_name task name old) { ledger = mid.ledger } → Quietly old mid
+  port_destroyed task name p mid is not all rest =
+      let receives = all.moves (λ x. if is_held task receive p x then 1 else 0) in
+      name_changes task name p false mid all.gone [] all.moves (sends_of_either task p all.gone all.passed (omega (arith, receives, none_held))) (no_sends task p) rest
+    where
+      none_held : held old task receive p ≡ 0
+      none_held = elim (pos_or_zero (held old task receive p)) [
+        | inl h ↦ h
+        | inr h ↦ absurd (not (p, is, h))
+      ]
+
+  unnamed : (task name : ℕ) (mid c : State) → mid ≡ c → c.ledger ≡ old.ledger → c.live_port ≡ old.live_port → c.stands ≡ request_at old.stands (dead_name task name) false → Quietly old mid
+  unnamed task name mid c rest ledger live stands = as_it_was mid c rest ledger live (λ r. ap (λ (f : Request → Bool). f r) stands ∙ without_stands task name old.stands quiet.none_stands r)
+
+  destroys : (task name : ℕ) (mid : State) (owed : Owed) → ¬ (IsNotYetDestroying old task name) → Destroys task name old mid owed → (owed ≡ []) × Quietly old mid
+  destroys task name mid owed not (Target.port p, is, d) = (d.2, port_destroyed task name p mid is (λ e. not (inl e)) d.0 d.1)
+  destroys task name mid owed not (Target.once p, is, d) = absurd (not (inr (p, is)))
+  destroys task name mid owed not (Target.dead n, is, d) = (d.1, unnamed task name mid _ d.0 refl refl refl)
+  destroys task name mid owed not (Target.set set, is, d) = (d.1, unnamed task name mid _ d.0 refl refl refl)
+
+  modifies : (task name right : ℕ) (delta : ℤ) (mid : State) (owed : Owed) → ¬ (IsNotYetRemoving right delta) → Modifies task name right delta old mid owed → (owed ≡ []) × Quietly old mid
+  modifies task name right delta mid owed not (inl (p, m, is_send, is, adds, d, none)) =
+      (none, name_changes task name p (nat_lt 0 m || nat_lt 0 (held old task receive p)) mid _ _ d.tokens (same_sends task p (held old task send p - m)) (same_sends task p (m - held old task send p)) d.rest)
+  modifies task name right delta mid owed not (inr (inl (n, m, is_dead, is, adds, rest, none))) = (none, go (nat_lt 0 m) rest)
+    where
+      go : (b : Bool) → mid ≡ (if b then with_name task name (Target.dead m) old else without_name task name old) → Quietly old mid
+      go true e = as_it_was mid _ e refl refl quiet.none_stands
+      go false e = unnamed task name mid _ e refl refl refl
+  modifies task name right delta mid owed not (inr (inr (inl (uncounted, none, rest, owes)))) = (owes, as_it_was mid old rest refl refl quiet.none_stands)
+  modifies task name right delta mid owed not (inr (inr (inr (target, one, is, d)))) = go target d
+    where
+      go : (target : Target) → RemovesRight right task name target old mid owed → (owed ≡ []) × Quietly old mid
+      go (Target.port p) d = absurd (not (inl d.0, one))
+      go (Target.once p) d = absurd (not (inr d.0, one))
+      go (Target.set set) d = (d.1.1, unnamed task name mid _ d.1.0 refl refl refl)
+      go (Target.dead n) d = absurd d
+
+  -- ---- names
+
+  weigh_same : (f g : Token → ℕ) (xs : List Token) → ((k : ℕ) (d : Token) → k < length xs → f (get_or xs k d) ≡ g (get_or xs k d)) → weigh f xs ≡ weigh g xs
+  weigh_same f g [] same = refl
+  weigh_same f g (x ∷ xs) same =
+      let a = same 0 x (omega arith) in
+      let b = weigh_same f g xs (λ k d below. same (suc k) d (omega (arith, below))) in omega (arith, a, b)
+
+  -- a token that lies at no request keeps its place
+  place_kept : (task o n : ℕ) (place : Place) → ((r : Request) → place ≡ in_request r → ⊥) → renamed_place task o n place ≡ place
+  place_kept task o n (in_task t) not = refl
+  place_kept task o n (in_message p k) not = refl
+  place_kept task o n (in_request r) not = absurd (not r refl)
+
+  not_kept : (k : ℕ) (d : Token) → k < length old.ledger → (r : Request) → (get_or old.ledger k d).place ≡ in_request r → ⊥
+  not_kept k d below r at_request =
+      let x = get_or old.ledger k d in
+      let some : 0 < lying old x.kind x.port x.place = count_some (is_at x.kind x.port x.place) old.ledger k d below (own_test x) in
+      let none = l.ended r (quiet.none_stands r) x.kind x.port in
+      let e : lying old x.kind x.port x.place ≡ lying old x.kind x.port (in_request r) = ap (lying old x.kind x.port) at_request in omega (arith, some, none, e)
+
+  token_kept : (task o n k : ℕ) (d : Token) → k < length old.ledger → renamed_token task o n (get_or old.ledger k d) ≡ get_or old.ledger k d
+  token_kept task o n k d below =
+      let x = get_or old.ledger k d in
+      let e = place_kept task o n x.place (not_kept k d below) in λ i. record x { place = e i }
+
+  none_renamed : (task o n : ℕ) → NoRequests (renamed_requests task o n old.stands)
+  none_renamed task o n r = go (same_request r (dead_name task o)) (same_request r (dead_name task n)) (old.stands (dead_name task o)) (old.stands r) (quiet.none_stands (dead_name task o)) (quiet.none_stands r)
+    where
+      go : (a b c d : Bool) → c ≡ false → d ≡ false → (if a then false else if b then c else d) ≡ false
+      go true b c d e f = refl
+      go false true c d e f = e
+      go false false c d e f = f
+
+  renames : (task o n : ℕ) (mid : State) → Renames task o n old mid → Quietly old mid
+  renames task o n mid r = same_rights mid
+      (λ h. (let a = r.tokens h in let b = weigh_same (λ x. h (renamed_token task o n x)) h old.ledger (λ k d below. ap h (token_kept task o n k d below)) in omega (arith, a, b)))
+      (ap (λ (x : State). x.live_port) r.rest) (λ x. ap (λ (y : State). y.stands x) r.rest ∙ none_renamed task o n x)
+
+  -- ---- rights on their way
+
+  hands : (mid : State) (kind : Kind) (p : ℕ) → Hands old mid 0 (length (old.log 0)) kind p → MidLawful mid [] → Quietly old mid
+  hands mid kind p h m = by_entry mid 0 (length (old.log 0)) (apart-trans old h.on_its_way mid 0 (length (old.log 0)) h.copies.apart h.removes.apart)
+      (ap (λ (x : State). x.live_port) (hands_shape old mid 0 (length (old.log 0)) kind p h)) h.removes.keeps.one_receive (λ q e. m.no_rights q e receive)
+      (λ q. m.no_entry 0 (length (old.log 0)) (let e = ap (λ (x : State). length (x.log 0)) (hands_shape old mid 0 (length (old.log 0)) kind p h) in omega (arith, e)) receive q)
+
+  sends : (now task : ℕ) (bytes : List ℕ) (mid : State) → NoneHolds (header_guards bytes) → Sends now task bytes old mid → MidLawful mid [] → Quietly old mid
+  sends now task bytes mid good s m =
+      let o = s.m.destination in
+      let k = length (old.log o) in
+      let a = Sends-adds now task bytes old mid l s in
+      let live : mid.live_port ≡ old.live_port = ap (λ (x : State). x.live_port) s.rest ∙ ap (λ (x : State). x.live_port) a.rest in
+      by_entry mid o k (record {
+        elsewhere = λ kind q p j not. ap (λ (x : State). lying x kind q (in_message p j)) s.rest ∙ a.apart.elsewhere kind q p j not;
+        kept = λ kind q r. ap (λ (x : State). lying x kind q (in_request r)) s.rest ∙ a.apart.kept kind q r;
+        stood = λ r is. a.apart.stood r (sym (ap (λ (x : State). x.stands r) s.rest) ∙ is);
+      }) live
+      (λ p e. ap (λ (x : State). count (is_of receive p) x.ledger) s.rest ∙ a.keeps.one_receive p (sym (ap (λ (x : State). x.live_port p) s.rest) ∙ e)) (λ p e. m.no_rights p e receive)
+      (λ q. let e = ap (λ (x : State). lying x receive q (in_message o k)) s.rest in
+      let f = a.lies receive q in
+      let z = l.no_entry o k (omega arith) receive q in
+      let n = carries_none now task bytes old mid good s q in omega (arith, e, f, z, n))
+
+  receives : (task port room : ℕ) (bytes : List ℕ) (mid : State) → old.live_port port ≡ true → old.live_task task ≡ true → Receives task port room bytes old mid → MidLawful mid [] → Quietly old mid
+  receives task port room bytes mid live is_task r m =
+      let x = Receives-removes task port room bytes old mid l live is_task r in
+      by_entry mid port (old.taken port) (apart-trans old r.taken mid port (old.taken port) taken_apart x.apart)
+      (ap (λ (s : State). s.live_port) x.rest ∙ ap (λ (s : State). s.live_port) r.takes.rest) x.keeps.one_receive (λ p e. m.no_rights p e receive)
+      (λ q. elim (cases_Bool (mid.live_port q)) [
+        | inl e ↦
+            let a = x.lies receive q (sym (ap (λ (s : State). s.live_port q) x.rest) ∙ e) in
+            let b = r.takes.tokens (λ y. if is_at receive q (in_message port (old.taken port)) y then 1 else 0) in
+            let c = quiet.none_carried port (old.taken port) q in omega (arith, a, b, c)
+        | inr e ↦ let a = lying_le_of mid receive q (in_message port (old.taken port)) in let b = m.no_rights q e receive in omega (arith, a, b)
+      ])
+    where
+      taken_apart : Apart old r.taken port (old.taken port)
+      taken_apart = record {
+        elsewhere = λ kind q p j not.
+            let b = r.takes.tokens (λ y. if is_at kind q (in_message p j) y then 1 else 0) in
+            let z = both_test (is_of kind q (token r.e.message.kind port (in_message port (old.taken port)))) (p == port && j == old.taken port) (inr (elsewhere p port j (old.taken port) not)) in
+            omega (arith, b, z);
+        kept = λ kind q x.
+            let b = r.takes.tokens (λ y. if is_at kind q (in_request x) y then 1 else 0) in
+            let z = both_test (is_of kind q (token r.e.message.kind port (in_message port (old.taken port)))) false (inr refl) in omega (arith, b, z);
+        stood = λ x is. sym (ap (λ (s : State). s.stands x) r.takes.rest) ∙ is;
+      }
+
+-- A receipt leaves a quiet state.
+pub Receives-still : (task port room : ℕ) (bytes : List ℕ) (old mid : State) → IsLawful old → IsQuiet old → old.live_port port ≡ true → old.live_task task ≡ true →
+    Receives task port room bytes old mid → IsStill mid []
+Receives-still task port room bytes old mid l quiet live is_task r =
+    let m = Receives-mid task port room bytes old mid l live is_task r in
+    still old mid [] l quiet refl m (receives old l quiet task port room bytes mid live is_task r m)
+
+-- ---- a step's own part
+
+-- What an event that isn't refused leaves of a quiet state is as lawful as it was, and nothing is owed.
+pub Does-still : (now : ℕ) (old : State) (event : Event) (reply : Reply) (mid : State) (owed : Owed) → NoneHolds (guards old event) → Does now old event reply mid owed → IsLawful old → IsQuiet old →
+    IsStill mid owed
+Does-still now old event reply mid owed g d l quiet = go event reply g d (Does-mid now old event reply mid owed g d l)
+  where
+    quietly : owed ≡ [] → Quietly old mid → MidLawful mid owed → IsStill mid owed
+    quietly none q m = still old mid owed l quiet none m q
+
+    both : (owed ≡ []) × Quietly old mid → MidLawful mid owed → IsStill mid owed
+    both h = quietly h.0 h.1
+
+    same : mid ≡ old → owed ≡ [] → MidLawful mid owed → IsStill mid owed
+    same e none = quietly none (as_it_was old l quiet mid old e refl refl quiet.none_stands)
+
+    unowed_mid : owed ≡ [] → MidLawful mid owed → MidLawful mid []
+    unowed_mid none m = subst (MidLawful mid) none m
+
+    makes : (task right name : ℕ) → owed ≡ [] → Makes task right name old mid → MidLawful mid owed → IsStill mid owed
+    makes task right name none (inl (is, a)) m = subst (IsStill mid) (sym none) (port_made old l quiet task name mid a (unowed_mid none m))
+    makes task right name none (inr (inl (is, e))) m = quietly none (as_it_was old l quiet mid _ e refl refl quiet.none_stands) m
+    makes task right name none (inr (inr (is, e))) m = quietly none (as_it_was old l quiet mid _ e refl refl quiet.none_stands) m
+
+    joins : (task member after : ℕ) → JoinsSet task member after old mid → owed ≡ [] → MidLawful mid owed → IsStill mid owed
+    joins task member after (p, is, inl h) none = quietly none (as_it_was old l quiet mid _ h.1 refl refl quiet.none_stands)
+    joins task member after (p, is, inr h) none = quietly none (as_it_was old l quiet mid _ h.2 refl refl quiet.none_stands)
+
+    go : (event : Event) (reply : Reply) → NoneHolds (guards old event) → Does now old event reply mid owed → MidLawful mid owed → IsStill mid owed
+    go Event.TaskCreate (Reply.Task task) g d m = quietly d.1 (as_it_was old l quiet mid _ d.0.rest refl refl quiet.none_stands) m
+    go (Event.Allocate task right) (Reply.Name name) g d m = makes task right name d.2 d.1 m
+    go (Event.AllocateName task right name) (Reply.Name told) g d m = makes task right name d.2 d.1 m
+    go (Event.Deallocate task name) (Reply.Code code) g d m = both (deallocates old l quiet task name mid owed g.1.1.1.0 d.1) m
+    go (Event.Destroy task name) (Reply.Code code) g d m = both (destroys old l quiet task name mid owed g.1.1.0 d.1) m
+    go (Event.ModRefs task name right delta) (Reply.Code code) g d m = both (modifies old l quiet task name right delta mid owed g.1.1.1.1.1.1.1.0 d.1) m
+    go (Event.GetRefs task name right) (Reply.Refs n) g d m = same d.1 d.2 m
+    go (Event.NameType task name) (Reply.NameType n) g d m = same d.1 d.2 m
+    go (Event.Names task) (Reply.Names entries) g d m = same d.1 d.2 m
+    go (Event.Rename task o n) (Reply.Code code) g d m = quietly d.2 (renames old l quiet task o n mid d.1) m
+    go (Event.ReceiveStatus task name) (Reply.Status status) g d m = same d.1 d.2 m
+    go (Event.SetQlimit task name n) (Reply.Code code) g d m = quietly d.2 (as_it_was old l quiet mid _ d.1.3 refl refl quiet.none_stands) m
+    go (Event.SetMscount task name n) (Reply.Code code) g d m = quietly d.3 (as_it_was old l quiet mid _ d.2.3 refl refl quiet.none_stands) m
+    go (Event.SetSeqno task name n) (Reply.Code code) g d m = quietly d.3 (as_it_was old l quiet mid _ d.2.3 refl refl quiet.none_stands) m
+    go (Event.SetStatus task name) (Reply.Members members) g d m = same d.1 d.2 m
+    go (Event.MoveMember task member after) (Reply.Code code) g d m = joins task member after d.1 d.2 m
+    go (Event.InsertRight task name from poly number) (Reply.Code code) g d m = quietly d.2
+        (hands old l quiet mid _ _ (Inserts-hands task name from poly number old mid l (not_false (old.live_task task) (λ e. g.0 (inl e))) (λ e. g.1.0 (inl e)) d.1) (unowed_mid d.2 m)) m
+    go (Event.ExtractRight task name number to) (Reply.Right new_name kind) g d m = quietly d.1
+        (hands old l quiet mid _ _ (Extracts-hands task name number to new_name kind old mid l (not_false (old.live_task to) (λ e. g.0 (inr e))) d.0) (unowed_mid d.1 m)) m
+    go (Event.Send task bytes) (Reply.Code code) g d m = quietly d.2 (sends old l quiet now task bytes mid g.1 d.1 (unowed_mid d.2 m)) m
+    go (Event.Receive task name room large) (Reply.Message bytes) g d m = quietly d.2.3
+        (receives old l quiet task d.2.0 room bytes mid (TakesFrom-live old l task d.0 d.2.0 d.2.1) (not_false (old.live_task task) g.0) d.2.2 (unowed_mid d.2.3 m)) m
+    go (Event.Receive task name room large) (Reply.Empty told) g d m = same d.2.2 d.2.3 m
+    go (Event.Receive task name room large) (Reply.TooLarge n) g d m = same d.2.6.0 d.2.6.1 m
+    go (Event.Receive task name room large) reply g d m = absurd d.2
+    go (Event.ReceiveAgain task waited room large) (Reply.Message bytes) g d m = quietly d.3
+        (receives old l quiet task d.0 room bytes mid (TakesFrom-live old l task waited d.0 d.1) (not_false (old.live_task task) g.0) d.2 (unowed_mid d.3 m)) m
+    go (Event.ReceiveAgain task waited room large) (Reply.Empty told) g d m = same d.2 d.3 m
+    go (Event.ReceiveAgain task waited room large) (Reply.TooLarge n) g d m = same d.6.0 d.6.1 m
+    go event reply g d m = absurd d
+
+-- ---- steps and runs
+
+-- a step that is not refused ends with the state after its own part, but for the order of the tokens
+pub Done-mid : (now : ℕ) (old : State) (event : Event) (reply : Reply) (new : State) → IsLawful old → IsQuiet old → (d : Done now old event reply new) → IsStill d.mid d.owed × IsReordered d.mid new
+Done-mid now old event reply new l quiet d =
+    let m = Does-still now old event reply d.mid d.owed d.unrefused d.does l quiet in
+    (m, settles_quietly now old d.mid new m.lawful m.quiet (subst (λ (owed : Owed). Settles now old d.mid owed new) m.none_owed d.settles))
+
+pub Step-quiet : (now : ℕ) (old : State) (event : Event) (reply : Reply) (new : State) → Step now old event reply new → IsLawful old → IsQuiet old → IsQuiet new
+Step-quiet now old event reply new (inl r) l quiet = subst IsQuiet (sym r.same) quiet
+Step-quiet now old event reply new (inr d) l quiet = let m = Done-mid now old event reply new l quiet d in IsReordered-quiet d.mid new m.0.lawful m.1 m.0.quiet
+
+-- What an event may do in a quiet state makes a step, with no more to settle.
+pub quiet_step : (now : ℕ) (old : State) (event : Event) (reply : Reply) (mid : State) → IsLawful old → IsQuiet old → NoneHolds (guards old event) → Does now old event reply mid [] →
+    Step now old event reply mid × IsLawful mid × IsQuiet mid
+quiet_step now old event reply mid l quiet good does =
+    let m = Does-still now old event reply mid [] good does l quiet in
+    (inr (record { unrefused = good; mid = mid; owed = []; does = does; settles = mid_settles now old mid [] m }), m.lawful, m.quiet)
+
+pub RunFrom-quiet : (now : ℕ) (old : State) (events : List Event) (replies : List Reply) (new : State) → RunFrom now old events replies new → IsLawful old → IsQuiet old → IsQuiet new
+RunFrom-quiet now old [] [] new r l quiet = subst IsQuiet (sym r) quiet
+RunFrom-quiet now old (e ∷ es) (x ∷ xs) new r l quiet = RunFrom-quiet (now + 1) r.0 es xs new r.2 (Step-lawful now old e x r.0 r.1 l) (Step-quiet now old e x r.0 r.1 l quiet)
+RunFrom-quiet now old [] (x ∷ xs) new r l quiet = absurd r
+RunFrom-quiet now old (e ∷ es) [] new r l quiet = absurd r
+
+pub Run-quiet : (events : List Event) (replies : List Reply) (s : State) → Run events replies s → IsQuiet s
+Run-quiet events replies s r = RunFrom-quiet 0 opening events replies s r opening-lawful opening-quiet
+
+-- ---- both
+
+pub record IsCalm (s : State) : Type 0 where
+  pub lawful : IsLawful s
+  pub open lawful use *
+  pub quiet : IsQuiet s
+
+pub opening-calm : IsCalm opening
+opening-calm = record { lawful = opening-lawful; quiet = opening-quiet }
+
+pub Step-calm : (now : ℕ) (old : State) (event : Event) (reply : Reply) (new : State) → Step now old event reply new → IsCalm old → IsCalm new
+Step-calm now old event reply new step c = record { lawful = Step-lawful now old event reply new step c.lawful; quiet = Step-quiet now old event reply new step c.lawful c.quiet }
+
+pub Run-calm : (events : List Event) (replies : List Reply) (s : State) → Run events replies s → IsCalm s
+Run-calm events replies s r = record { lawful = Run-lawful events replies s r; quiet = Run-quiet events replies s r }
