@@ -4,19 +4,21 @@ use Rattle.std.specs.Prelude.{OnOk, OnErr}
 use Rattle.std.proofs.lemmas.Bool.Decides.{eqb_tells}
 use Rattle.mach_types.specs.declared.calls.Event.{Event}
 use Rattle.mach_types.specs.declared.calls.Reply.{Reply}
-use Rattle.mach_types.specs.declared.codes.KernReturn.TheVariants.{InvalidTask}
+use Rattle.mach_types.specs.declared.codes.KernReturn.TheVariants.{InvalidTask, InvalidArgument, ResourceShortage}
 use Rattle.mach_types.specs.Numbers.{kern_number}
 use Rattle.mach_model.specs.State.{State}
 use Rattle.mach_model.specs.Notices.{Owed}
 use Rattle.mach_model.specs.Machine.{Step, Does}
+use Rattle.mach_model.specs.Refusals.{call_guards}
 use Rattle.mach_laws.specs.Order.{accepts, delivers}
 use Rattle.mach_laws.proofs.Counted.{Step-counted}
 use Rattle.copyin_base.specs.declared.code.Code.{Code}
 use Rattle.copyin_base.specs.declared.code.Code.TheVariants.{Kern}
-use Rattle.copyin_base.specs.Acts.{code_number, Acts, Declines, Serves}
+use Rattle.copyin_base.specs.Acts.{code_number, Acts, Declines, Serves, IsRefused, HasTasks}
 use Rattle.copyin_base.specs.Stands.{Stands}
 use Rattle.copyin_base.specs.Wanted.{KeepsSpares}
 use Rattle.copyin_base.specs.Worlds.{WorldView}
+use Rattle.copyin_base.proofs.Acting.{refused}
 use Rattle.copyin_base.proofs.Spares.{keeps_refl, keeps_same}
 use Rattle.kernel_core.specs.Send.{UsesSlot}
 use Rattle.kernel_core.specs.Wanted.{memory_code, WantsMemory, Wanted, Spares, answer, Performs}
@@ -32,6 +34,7 @@ code_apart event = (omega arith, λ e. omega (arith, e))
 
 -- what is done is told by 0, or by another reply than a code
 does_zero : (now : ℕ) (s : State) (event : Event) (code : ℕ) (mid : State) (owed : Owed) → Does now s event (Reply.Code code) mid owed → code ≡ 0
+does_zero now s (Event.TaskTerminate task) code mid owed d = d.0
 does_zero now s (Event.Deallocate task name) code mid owed d = d.0
 does_zero now s (Event.Destroy task name) code mid owed d = d.0
 does_zero now s (Event.ModRefs task name right delta) code mid owed d = d.0
@@ -107,6 +110,15 @@ sent_spares old event (Err code) new stands serves uses same =
 pub carried : (old : WorldView) (event : Event) (result : Result Reply Code) (new : WorldView) → Serves old event result new →
     IfErr result (λ code. code_number code ≡ memory_code event → WantsMemory old event) → KeepsSpares old new → ((reply : Reply) → accepts event reply ≡ 0) → Performs old event result new
 carried old event result new serves wanted keeps none = record { serves = serves; wanted = wanted; spares = spared old event (answer result) new keeps (none (answer result)) }
+
+-- a call that isn't served yet: its first guard always holds, and isn't want of memory
+pub unserved : (w : WorldView) (event : Event) → IsRefused w (λ s. call_guards s event) (kern_number InvalidArgument) → HasTasks w event → memory_code event ≡ kern_number ResourceShortage →
+    ((reply : Reply) → accepts event reply ≡ 0) → Performs w event (Err (Kern InvalidArgument)) w
+unserved w event why tasks memory none = record {
+  serves = refused w event tasks (kern_number InvalidArgument) why;
+  wanted = λ is. absurd (omega (arith, is, memory));
+  spares = spared w event (Reply.Code (kern_number InvalidArgument)) w (keeps_refl w) (none (Reply.Code (kern_number InvalidArgument)));
+}
 
 -- one of the tasks isn't there
 pub no_task : (w : WorldView) (event : Event) → Stands w → Declines w event (kern_number InvalidTask) w → Performs w event (Err (Kern InvalidTask)) w

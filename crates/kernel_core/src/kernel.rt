@@ -129,7 +129,8 @@ fn tasks_of(event: &Event) -> (Option<TaskId>, Option<TaskId>)
 {
     match event {
         Event::TaskCreate => (None, None),
-        Event::Allocate(task, _)
+        Event::TaskTerminate(task)
+        | Event::Allocate(task, _)
         | Event::AllocateName(task, _, _)
         | Event::Deallocate(task, _)
         | Event::Destroy(task, _)
@@ -144,6 +145,7 @@ fn tasks_of(event: &Event) -> (Option<TaskId>, Option<TaskId>)
         | Event::SetSeqno(task, _, _)
         | Event::SetStatus(task, _)
         | Event::MoveMember(task, _, _)
+        | Event::RequestNotification(task, _, _, _, _, _)
         | Event::Send(task, _)
         | Event::Receive(task, _, _, _)
         | Event::ReceiveAgain(task, _, _, _) => (Some(*task), None),
@@ -161,6 +163,8 @@ fn serve(world: &mut World, alloc: Global, event: &Event) -> Result<Reply, Code>
 {
     match event {
         Event::TaskCreate => create_task(world, alloc),
+        // Not done yet, as the machine says for now.
+        Event::TaskTerminate(_) => Err(Code::Kern(KernReturn::InvalidArgument)),
         Event::Allocate(task, right) => allocate(world, *task, *right),
         Event::AllocateName(task, right, name) => allocate_name(world, *task, *right, *name),
         Event::Deallocate(task, name) => deallocate(world, *task, *name),
@@ -184,6 +188,8 @@ fn serve(world: &mut World, alloc: Global, event: &Event) -> Result<Reply, Code>
         Event::ExtractRight(task, name, number, to) => {
             extract(world, &TaskName::new(*task, *name), *number, *to)
         }
+        // Not done yet either.
+        Event::RequestNotification(..) => Err(Code::Kern(KernReturn::InvalidArgument)),
         Event::Send(task, bytes) => send(world, alloc, *task, bytes),
         Event::Receive(task, name, room, large) => {
             receive(world, alloc, *task, *name, Buffer::new(*room, *large))

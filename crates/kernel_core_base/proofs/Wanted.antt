@@ -45,6 +45,7 @@ not_first (g ∷ gs) code none (inr h) = not_first gs code (other (code == g.1) 
 
 not_guarded : (s : State) (event : Event) → has_code (call_guards s event) (kern_number ResourceShortage) ≡ false
 not_guarded s Event.TaskCreate = refl
+not_guarded s (Event.TaskTerminate task) = refl
 not_guarded s (Event.Allocate task right) = refl
 not_guarded s (Event.AllocateName task right name) = refl
 not_guarded s (Event.Deallocate task name) = refl
@@ -62,6 +63,7 @@ not_guarded s (Event.SetStatus task name) = refl
 not_guarded s (Event.MoveMember task member after) = refl
 not_guarded s (Event.InsertRight task name from poly number) = refl
 not_guarded s (Event.ExtractRight task name number to) = refl
+not_guarded s (Event.RequestNotification task name variant sync notify number) = refl
 not_guarded s (Event.Send task bytes) = refl
 not_guarded s (Event.Receive task name room large) = refl
 not_guarded s (Event.ReceiveAgain task (Waited.Port p) room large) = refl
@@ -86,6 +88,7 @@ judged_wants w event (Err given) code is stands why = λ e. absurd (not_short w 
 -- ---- calls that take no memory
 
 abbrev pub TakesNoMemory : Event → Type 0
+TakesNoMemory (Event.TaskTerminate task) = Unit {0}
 TakesNoMemory (Event.Deallocate task name) = Unit {0}
 TakesNoMemory (Event.Destroy task name) = Unit {0}
 TakesNoMemory (Event.ModRefs task name right delta) = Unit {0}
@@ -110,6 +113,7 @@ none_later s (Event.SetMscount task name n) none code later = cc
 none_later s (Event.SetSeqno task name n) none code later = cc
 none_later s (Event.MoveMember task member after) none code later = cc
 none_later s Event.TaskCreate none code later = none
+none_later s (Event.TaskTerminate task) none code later = cc
 none_later s (Event.Allocate task right) none code later = none
 none_later s (Event.AllocateName task right name) none code later = none
 none_later s (Event.Names task) none code later = none
@@ -117,6 +121,7 @@ none_later s (Event.Rename task o n) none code later = none
 none_later s (Event.SetStatus task name) none code later = none
 none_later s (Event.InsertRight task name from poly number) none code later = none
 none_later s (Event.ExtractRight task name number to) none code later = none
+none_later s (Event.RequestNotification task name variant sync notify number) none code later = none
 none_later s (Event.Send task bytes) none code later = none
 none_later s (Event.Receive task name room large) none code later = none
 none_later s (Event.ReceiveAgain task waited room large) none code later = none

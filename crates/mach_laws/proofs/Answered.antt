@@ -11,6 +11,7 @@ use Rattle.mach_model.specs.Machine.{Does, Step}
 use Rattle.mach_laws.specs.Received.{AsksFrom}
 
 does_code : (now : ℕ) (old : State) (event : Event) (code : ℕ) (mid : State) (owed : Owed) → Does now old event (Reply.Code code) mid owed → code ≡ 0
+does_code now old (Event.TaskTerminate task) code mid owed d = d.0
 does_code now old (Event.Deallocate task name) code mid owed d = d.0
 does_code now old (Event.Destroy task name) code mid owed d = d.0
 does_code now old (Event.ModRefs task name right delta) code mid owed d = d.0

@@ -60,6 +60,7 @@ later_alike s (Event.InsertRight task name from poly number) code other good not
     hand_alike from (in_task task) number poly s (λ p kind copied. inserted_guards copied task name p kind) (λ x y r p kind. inserted_same x y r task name p kind) code other a b (λ e. not (inl e)) (λ e. nor (inl e))
 later_alike s (Event.ExtractRight task name number to) code other good not nor a b =
     hand_alike task (in_task to) number name s (λ p kind copied. extracted_guards copied to p kind) (λ x y r p kind. extracted_same x y r to p kind) code other a b (λ e. not (inl e)) (λ e. nor (inl e))
+later_alike s (Event.RequestNotification task name variant sync notify number) code other good not nor a b = absurd (good.1.0 tt)
 later_alike s (Event.Send task bytes) code other good not nor a b = send_alike s task bytes code other good.1 not nor a b
 later_alike s (Event.Receive task name room large) code other good not nor a b = receipt_alike s task a.0 room code not a.2 ∙ sym (receipt_alike s task b.0 room other nor b.2)
 later_alike s (Event.ReceiveAgain task waited room large) code other good not nor a b = receipt_alike s task waited room code not a ∙ sym (receipt_alike s task waited room other nor b)
@@ -202,55 +203,58 @@ code_alike a b e f = ap Reply.Code (e ∙ sym f)
 name_alike : (s : State) (task n m : ℕ) → IsFresh (s.naming task) n → IsFresh (s.naming task) m → Reply.Name n ≡ Reply.Name m
 name_alike s task n m a b = ap Reply.Name (one_fresh (s.naming task) n m a b)
 
-done_alike : (now : ℕ) (s : State) (event : Event) (a b : Reply) (mid other : State) (owed owes : Owed) → IsLawful s → ¬ (IsBySet s event) →
+done_alike : (now : ℕ) (s : State) (event : Event) (a b : Reply) (mid other : State) (owed owes : Owed) → IsLawful s → ¬ (IsBySet s event) → NoneHolds (guards s event) →
     Does now s event a mid owed → Does now s event b other owes → a ≡ b
-done_alike now s Event.TaskCreate (Reply.Task t) (Reply.Task u) mid other owed owes l one d e = ap Reply.Task (d.0.task_is ∙ sym e.0.task_is)
-done_alike now s Event.TaskCreate (Reply.Task t) b mid other owed owes l one d e = absurd e
-done_alike now s (Event.Allocate task right) (Reply.Name n) (Reply.Name m) mid other owed owes l one d e = name_alike s task n m d.0 e.0
-done_alike now s (Event.Allocate task right) (Reply.Name n) b mid other owed owes l one d e = absurd e
-done_alike now s (Event.AllocateName task right name) (Reply.Name n) (Reply.Name m) mid other owed owes l one d e = ap Reply.Name (d.0 ∙ sym e.0)
-done_alike now s (Event.AllocateName task right name) (Reply.Name n) b mid other owed owes l one d e = absurd e
-done_alike now s (Event.Deallocate task name) (Reply.Code c) (Reply.Code k) mid other owed owes l one d e = code_alike c k d.0 e.0
-done_alike now s (Event.Deallocate task name) (Reply.Code c) b mid other owed owes l one d e = absurd e
-done_alike now s (Event.Destroy task name) (Reply.Code c) (Reply.Code k) mid other owed owes l one d e = code_alike c k d.0 e.0
-done_alike now s (Event.Destroy task name) (Reply.Code c) b mid other owed owes l one d e = absurd e
-done_alike now s (Event.ModRefs task name right delta) (Reply.Code c) (Reply.Code k) mid other owed owes l one d e = code_alike c k d.0 e.0
-done_alike now s (Event.ModRefs task name right delta) (Reply.Code c) b mid other owed owes l one d e = absurd e
-done_alike now s (Event.GetRefs task name right) (Reply.Refs n) (Reply.Refs m) mid other owed owes l one ((t, is, tells), same, x) ((u, at, told), alike, y) =
+done_alike now s Event.TaskCreate (Reply.Task t) (Reply.Task u) mid other owed owes l one g d e = ap Reply.Task (d.0.task_is ∙ sym e.0.task_is)
+done_alike now s Event.TaskCreate (Reply.Task t) b mid other owed owes l one g d e = absurd e
+done_alike now s (Event.TaskTerminate task) (Reply.Code c) (Reply.Code k) mid other owed owes l one g d e = code_alike c k d.0 e.0
+done_alike now s (Event.TaskTerminate task) (Reply.Code c) b mid other owed owes l one g d e = absurd e
+done_alike now s (Event.Allocate task right) (Reply.Name n) (Reply.Name m) mid other owed owes l one g d e = name_alike s task n m d.0 e.0
+done_alike now s (Event.Allocate task right) (Reply.Name n) b mid other owed owes l one g d e = absurd e
+done_alike now s (Event.AllocateName task right name) (Reply.Name n) (Reply.Name m) mid other owed owes l one g d e = ap Reply.Name (d.0 ∙ sym e.0)
+done_alike now s (Event.AllocateName task right name) (Reply.Name n) b mid other owed owes l one g d e = absurd e
+done_alike now s (Event.Deallocate task name) (Reply.Code c) (Reply.Code k) mid other owed owes l one g d e = code_alike c k d.0 e.0
+done_alike now s (Event.Deallocate task name) (Reply.Code c) b mid other owed owes l one g d e = absurd e
+done_alike now s (Event.Destroy task name) (Reply.Code c) (Reply.Code k) mid other owed owes l one g d e = code_alike c k d.0 e.0
+done_alike now s (Event.Destroy task name) (Reply.Code c) b mid other owed owes l one g d e = absurd e
+done_alike now s (Event.ModRefs task name right delta) (Reply.Code c) (Reply.Code k) mid other owed owes l one g d e = code_alike c k d.0 e.0
+done_alike now s (Event.ModRefs task name right delta) (Reply.Code c) b mid other owed owes l one g d e = absurd e
+done_alike now s (Event.GetRefs task name right) (Reply.Refs n) (Reply.Refs m) mid other owed owes l one g ((t, is, tells), same, x) ((u, at, told), alike, y) =
     ap Reply.Refs (tells ∙ ap (λ (z : Target). references s task z right) (one_target _ _ u t at is refl) ∙ sym told)
-done_alike now s (Event.GetRefs task name right) (Reply.Refs n) b mid other owed owes l one d e = absurd e
-done_alike now s (Event.NameType task name) (Reply.NameType n) (Reply.NameType m) mid other owed owes l one ((t, is, tells), same, x) ((u, at, told), alike, y) =
+done_alike now s (Event.GetRefs task name right) (Reply.Refs n) b mid other owed owes l one g d e = absurd e
+done_alike now s (Event.NameType task name) (Reply.NameType n) (Reply.NameType m) mid other owed owes l one g ((t, is, tells), same, x) ((u, at, told), alike, y) =
     ap Reply.NameType (tells ∙ ap (λ (z : Target). type_of s task name z) (one_target _ _ u t at is refl) ∙ sym told)
-done_alike now s (Event.NameType task name) (Reply.NameType n) b mid other owed owes l one d e = absurd e
-done_alike now s (Event.Names task) (Reply.Names xs) (Reply.Names ys) mid other owed owes l one d e = ap Reply.Names (d.0 ∙ sym e.0)
-done_alike now s (Event.Names task) (Reply.Names xs) b mid other owed owes l one d e = absurd e
-done_alike now s (Event.Rename task o n) (Reply.Code c) (Reply.Code k) mid other owed owes l one d e = code_alike c k d.0 e.0
-done_alike now s (Event.Rename task o n) (Reply.Code c) b mid other owed owes l one d e = absurd e
-done_alike now s (Event.ReceiveStatus task name) (Reply.Status a) (Reply.Status b) mid other owed owes l one d e = ap Reply.Status (status_alike s task name a b l d.0 e.0)
-done_alike now s (Event.ReceiveStatus task name) (Reply.Status a) b mid other owed owes l one d e = absurd e
-done_alike now s (Event.SetQlimit task name n) (Reply.Code c) (Reply.Code k) mid other owed owes l one d e = code_alike c k d.0 e.0
-done_alike now s (Event.SetQlimit task name n) (Reply.Code c) b mid other owed owes l one d e = absurd e
-done_alike now s (Event.SetMscount task name n) (Reply.Code c) (Reply.Code k) mid other owed owes l one d e = code_alike c k d.0 e.0
-done_alike now s (Event.SetMscount task name n) (Reply.Code c) b mid other owed owes l one d e = absurd e
-done_alike now s (Event.SetSeqno task name n) (Reply.Code c) (Reply.Code k) mid other owed owes l one d e = code_alike c k d.0 e.0
-done_alike now s (Event.SetSeqno task name n) (Reply.Code c) b mid other owed owes l one d e = absurd e
-done_alike now s (Event.SetStatus task name) (Reply.Members xs) (Reply.Members ys) mid other owed owes l one d e = ap Reply.Members (members_alike s task name xs ys d.0 e.0)
-done_alike now s (Event.SetStatus task name) (Reply.Members xs) b mid other owed owes l one d e = absurd e
-done_alike now s (Event.MoveMember task member after) (Reply.Code c) (Reply.Code k) mid other owed owes l one d e = code_alike c k d.0 e.0
-done_alike now s (Event.MoveMember task member after) (Reply.Code c) b mid other owed owes l one d e = absurd e
-done_alike now s (Event.InsertRight task name from poly number) (Reply.Code c) (Reply.Code k) mid other owed owes l one d e = code_alike c k d.0 e.0
-done_alike now s (Event.InsertRight task name from poly number) (Reply.Code c) b mid other owed owes l one d e = absurd e
-done_alike now s (Event.ExtractRight task name number to) (Reply.Right n k) (Reply.Right m j) mid other owed owes l one d e =
+done_alike now s (Event.NameType task name) (Reply.NameType n) b mid other owed owes l one g d e = absurd e
+done_alike now s (Event.Names task) (Reply.Names xs) (Reply.Names ys) mid other owed owes l one g d e = ap Reply.Names (d.0 ∙ sym e.0)
+done_alike now s (Event.Names task) (Reply.Names xs) b mid other owed owes l one g d e = absurd e
+done_alike now s (Event.Rename task o n) (Reply.Code c) (Reply.Code k) mid other owed owes l one g d e = code_alike c k d.0 e.0
+done_alike now s (Event.Rename task o n) (Reply.Code c) b mid other owed owes l one g d e = absurd e
+done_alike now s (Event.ReceiveStatus task name) (Reply.Status a) (Reply.Status b) mid other owed owes l one g d e = ap Reply.Status (status_alike s task name a b l d.0 e.0)
+done_alike now s (Event.ReceiveStatus task name) (Reply.Status a) b mid other owed owes l one g d e = absurd e
+done_alike now s (Event.SetQlimit task name n) (Reply.Code c) (Reply.Code k) mid other owed owes l one g d e = code_alike c k d.0 e.0
+done_alike now s (Event.SetQlimit task name n) (Reply.Code c) b mid other owed owes l one g d e = absurd e
+done_alike now s (Event.SetMscount task name n) (Reply.Code c) (Reply.Code k) mid other owed owes l one g d e = code_alike c k d.0 e.0
+done_alike now s (Event.SetMscount task name n) (Reply.Code c) b mid other owed owes l one g d e = absurd e
+done_alike now s (Event.SetSeqno task name n) (Reply.Code c) (Reply.Code k) mid other owed owes l one g d e = code_alike c k d.0 e.0
+done_alike now s (Event.SetSeqno task name n) (Reply.Code c) b mid other owed owes l one g d e = absurd e
+done_alike now s (Event.SetStatus task name) (Reply.Members xs) (Reply.Members ys) mid other owed owes l one g d e = ap Reply.Members (members_alike s task name xs ys d.0 e.0)
+done_alike now s (Event.SetStatus task name) (Reply.Members xs) b mid other owed owes l one g d e = absurd e
+done_alike now s (Event.MoveMember task member after) (Reply.Code c) (Reply.Code k) mid other owed owes l one g d e = code_alike c k d.0 e.0
+done_alike now s (Event.MoveMember task member after) (Reply.Code c) b mid other owed owes l one g d e = absurd e
+done_alike now s (Event.InsertRight task name from poly number) (Reply.Code c) (Reply.Code k) mid other owed owes l one g d e = code_alike c k d.0 e.0
+done_alike now s (Event.InsertRight task name from poly number) (Reply.Code c) b mid other owed owes l one g d e = absurd e
+done_alike now s (Event.ExtractRight task name number to) (Reply.Right n k) (Reply.Right m j) mid other owed owes l one g d e =
     let w = extracts_alike s task name number to n m k j mid other l d.0 e.0 in ap (λ (x : ℕ). Reply.Right x k) w.0 ∙ ap (Reply.Right m) w.1
-done_alike now s (Event.ExtractRight task name number to) (Reply.Right n k) b mid other owed owes l one d e = absurd e
-done_alike now s (Event.Send task bytes) (Reply.Code c) (Reply.Code k) mid other owed owes l one d e = code_alike c k d.0 e.0
-done_alike now s (Event.Send task bytes) (Reply.Code c) b mid other owed owes l one d e = absurd e
-done_alike now s (Event.Receive task name room large) a b mid other owed owes l one (Waited.Port p, waits, d) (waited, is, e) =
+done_alike now s (Event.ExtractRight task name number to) (Reply.Right n k) b mid other owed owes l one g d e = absurd e
+done_alike now s (Event.RequestNotification task name variant sync notify number) a b mid other owed owes l one g d e = absurd (g.1.0 tt)
+done_alike now s (Event.Send task bytes) (Reply.Code c) (Reply.Code k) mid other owed owes l one g d e = code_alike c k d.0 e.0
+done_alike now s (Event.Send task bytes) (Reply.Code c) b mid other owed owes l one g d e = absurd e
+done_alike now s (Event.Receive task name room large) a b mid other owed owes l one g (Waited.Port p, waits, d) (waited, is, e) =
     receipts_alike s task p room large a b mid other owed owes l d (subst (λ (x : Waited). Receipt s task x room large b other owes) (one_waited s task name (Waited.Port p) waited waits is) e)
-done_alike now s (Event.Receive task name room large) a b mid other owed owes l one (Waited.Set set, waits, d) e = absurd (one (by_set s task name room large (Waited.Set set) waits tt))
-done_alike now s (Event.ReceiveAgain task (Waited.Port p) room large) a b mid other owed owes l one d e = receipts_alike s task p room large a b mid other owed owes l d e
-done_alike now s (Event.ReceiveAgain task (Waited.Set set) room large) a b mid other owed owes l one d e = absurd (one tt)
-done_alike now s event a b mid other owed owes l one d e = absurd d
+done_alike now s (Event.Receive task name room large) a b mid other owed owes l one g (Waited.Set set, waits, d) e = absurd (one (by_set s task name room large (Waited.Set set) waits tt))
+done_alike now s (Event.ReceiveAgain task (Waited.Port p) room large) a b mid other owed owes l one g d e = receipts_alike s task p room large a b mid other owed owes l d e
+done_alike now s (Event.ReceiveAgain task (Waited.Set set) room large) a b mid other owed owes l one g d e = absurd (one tt)
+done_alike now s event a b mid other owed owes l one g d e = absurd d
 
 -- ---- steps
 
@@ -266,4 +270,4 @@ one_reply now s event a b new other l (inl x) (inr y) not nor one =
     absurd (refused_not_done now s event x.code b other l x.refuses (told_code a x.code x.told not) (λ h. absurd (one h)) y)
 one_reply now s event a b new other l (inr x) (inl y) not nor one =
     absurd (refused_not_done now s event y.code a new l y.refuses (told_code b y.code y.told nor) (λ h. absurd (one h)) x)
-one_reply now s event a b new other l (inr x) (inr y) not nor one = done_alike now s event a b x.mid y.mid x.owed y.owed l one x.does y.does
+one_reply now s event a b new other l (inr x) (inr y) not nor one = done_alike now s event a b x.mid y.mid x.owed y.owed l one x.unrefused x.does y.does

@@ -207,6 +207,7 @@ module _ (now : ℕ) (old mid new : State) (l : IsCalm old) (r : IsReordered mid
 
   Does-passes : (event : Event) (reply : Reply) (owed : Owed) → NoneHolds (guards old event) → Does now old event reply mid owed → Passes now old event reply new
   Does-passes Event.TaskCreate (Reply.Task task) owed g d = passes (by_rest old mid _ d.0.rest (λ p. refl) (λ p. refl) (λ p is. is))
+  Does-passes (Event.TaskTerminate task) reply owed g d = absurd (g.1.0 tt)
   Does-passes (Event.Allocate task right) (Reply.Name name) owed g d = passes (makes_untouched task right name old mid l.lawful d.1)
   Does-passes (Event.AllocateName task right name) (Reply.Name told) owed g d = passes (makes_untouched task right name old mid l.lawful d.1)
   Does-passes (Event.Deallocate task name) (Reply.Code code) owed g d = passes (deallocates_untouched task name old mid owed d.1)
@@ -224,6 +225,7 @@ module _ (now : ℕ) (old mid new : State) (l : IsCalm old) (r : IsReordered mid
   Does-passes (Event.MoveMember task member after) (Reply.Code code) owed g d = passes (joins_untouched task member after old mid d.1)
   Does-passes (Event.InsertRight task name from poly number) (Reply.Code code) owed g d = passes (by_rest old mid _ (inserted_shape task name from poly number old mid l g d.1) (λ p. refl) (λ p. refl) (λ p is. is))
   Does-passes (Event.ExtractRight task name number to) (Reply.Right new_name kind) owed g d = passes (by_rest old mid _ (extracted_shape task name number to new_name kind old mid l g d.0) (λ p. refl) (λ p. refl) (λ p is. is))
+  Does-passes (Event.RequestNotification task name variant sync notify number) reply owed g d = absurd (g.1.0 tt)
   Does-passes (Event.Send task bytes) (Reply.Code code) owed g d = inr (inl (record {
     task = task;
     bytes = bytes;

@@ -334,6 +334,7 @@ fewer_leads old mid owed l m fewer = all_lead (in_task 0) old mid owed l m (λ p
 does_lead : (now : ℕ) (old : State) (event : Event) (reply : Reply) (mid : State) (owed : Owed) → Does now old event reply mid owed → IsLawful old → MidLawful mid owed → AllGrounded old →
     (p : ℕ) → mid.live_port p ≡ true → LeadsOn mid p
 does_lead now old Event.TaskCreate (Reply.Task task) mid owed d l m = fewer_leads old mid owed l m (ledger_of (in_task 0) old mid _ d.0.rest refl)
+does_lead now old (Event.TaskTerminate task) (Reply.Code code) mid owed d l m = fewer_leads old mid owed l m (ends_fewer (in_task 0) task old mid owed d.1)
 does_lead now old (Event.Allocate task right) (Reply.Name name) mid owed d l m = fewer_leads old mid owed l m (makes_fewer (in_task 0) task right name old mid d.1)
 does_lead now old (Event.AllocateName task right name) (Reply.Name told) mid owed d l m = fewer_leads old mid owed l m (makes_fewer (in_task 0) task right name old mid d.1)
 does_lead now old (Event.Deallocate task name) (Reply.Code code) mid owed d l m = fewer_leads old mid owed l m (deallocates_fewer (in_task 0) task name old mid owed d.1)
@@ -351,6 +352,8 @@ does_lead now old (Event.SetStatus task name) (Reply.Members members) mid owed d
 does_lead now old (Event.MoveMember task member after) (Reply.Code code) mid owed d l m = fewer_leads old mid owed l m (joins_fewer (in_task 0) task member after old mid d.1)
 does_lead now old (Event.InsertRight task name from poly number) (Reply.Code code) mid owed d l m = fewer_leads old mid owed l m (inserts_fewer task name from poly number old mid d.1)
 does_lead now old (Event.ExtractRight task name number to) (Reply.Right new_name kind) mid owed d l m = fewer_leads old mid owed l m (extracts_fewer task name number to new_name kind old mid d.0)
+does_lead now old (Event.RequestNotification task name variant sync notify number) (Reply.Previous previous) mid owed d l m =
+    fewer_leads old mid owed l m (requests_fewer task name variant sync notify number previous old mid owed d)
 does_lead now old (Event.Send task bytes) (Reply.Code code) mid owed d l m = sends_lead now task bytes old mid owed l m d.1
 does_lead now old (Event.Receive task name room large) reply mid owed d l m = fewer_leads old mid owed l m (receipt_fewer (in_task 0) old task d.0 room large reply mid owed d.2)
 does_lead now old (Event.ReceiveAgain task waited room large) reply mid owed d l m = fewer_leads old mid owed l m (receipt_fewer (in_task 0) old task waited room large reply mid owed d)

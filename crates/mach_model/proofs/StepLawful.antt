@@ -23,7 +23,8 @@ use Rattle.mach_model.proofs.Settling.{lives}
 use Rattle.mach_model.proofs.Midway.{mid_lawful, unowed}
 use Rattle.mach_model.proofs.SettledLawful.{settled_lawful}
 use Rattle.mach_model.proofs.SettledEnd.{can_end}
-use Rattle.mach_model.proofs.EndingLawful.{DestroysFront-mid}
+use Rattle.mach_model.proofs.EndingLawful.{EndsTask-mid, DestroysFront-mid}
+use Rattle.mach_model.proofs.RequestsLawful.{Requests-mid}
 use Rattle.mach_model.proofs.Opening.{opening-lawful}
 use Rattle.mach_model.proofs.CreateLawful.{CreatesTask-lawful}
 use Rattle.mach_model.proofs.AllocateLawful.{fresh_new, Makes-mid}
@@ -90,6 +91,7 @@ too_large task room n waited large old mid owed l (p, e, from, front, is, over, 
 pub Does-mid : (now : ℕ) (old : State) (event : Event) (reply : Reply) (mid : State) (owed : Owed) →
     NoneHolds (guards old event) → Does now old event reply mid owed → IsLawful old → MidLawful mid owed
 Does-mid now old Event.TaskCreate (Reply.Task task) mid owed g d l = unowed mid owed d.1 (mid_lawful mid (CreatesTask-lawful old l task mid d.0))
+Does-mid now old (Event.TaskTerminate task) (Reply.Code code) mid owed g d l = EndsTask-mid task old mid owed l d.1
 Does-mid now old (Event.Allocate task right) (Reply.Name name) mid owed g d l = unowed mid owed d.2 (Allocates-mid task right name old mid l (not_false (old.live_task task) g.0) g.1.1.0 d.0 d.1)
 Does-mid now old (Event.AllocateName task right name) (Reply.Name told) mid owed g d l = unowed mid owed d.2
     (Makes-mid task right name old mid l (not_false (old.live_task task) g.0) (is_none (lookup old task name) g.1.1.0) (no_name_some name (λ e. g.1.0 (inr e))) (no_name_fits name (λ e. g.1.0 (inr e)))
@@ -112,6 +114,8 @@ Does-mid now old (Event.InsertRight task name from poly number) (Reply.Code code
     (Inserts-mid task name from poly number old mid l (not_false (old.live_task task) (λ e. g.0 (inl e))) (λ e. g.1.0 (inl e)) d.1)
 Does-mid now old (Event.ExtractRight task name number to) (Reply.Right new_name kind) mid owed g d l = unowed mid owed d.1
     (Extracts-mid task name number to new_name kind old mid l (not_false (old.live_task to) (λ e. g.0 (inr e))) d.0)
+Does-mid now old (Event.RequestNotification task name variant sync notify number) (Reply.Previous previous) mid owed g d l =
+    Requests-mid task name variant sync notify number previous old mid owed l (not_false (old.live_task task) g.0) g.1.1 d
 Does-mid now old (Event.Send task bytes) (Reply.Code code) mid owed g d l = unowed mid owed d.2 (Sends-mid now task bytes old mid g.1 l d.1)
 Does-mid now old (Event.Receive task name room large) (Reply.Message bytes) mid owed g d l = unowed mid owed d.2.3
     (Receives-mid task d.2.0 room bytes old mid l (TakesFrom-live old l task d.0 d.2.0 d.2.1) (not_false (old.live_task task) g.0) d.2.2)

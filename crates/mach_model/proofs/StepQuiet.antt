@@ -352,6 +352,7 @@ Does-still now old event reply mid owed g d l quiet = go event reply g d (Does-m
 
     go : (event : Event) (reply : Reply) → NoneHolds (guards old event) → Does now old event reply mid owed → MidLawful mid owed → IsStill mid owed
     go Event.TaskCreate (Reply.Task task) g d m = quietly d.1 (as_it_was old l quiet mid _ d.0.rest refl refl quiet.none_stands) m
+    go (Event.TaskTerminate task) reply g d m = absurd (g.1.0 tt)
     go (Event.Allocate task right) (Reply.Name name) g d m = makes task right name d.2 d.1 m
     go (Event.AllocateName task right name) (Reply.Name told) g d m = makes task right name d.2 d.1 m
     go (Event.Deallocate task name) (Reply.Code code) g d m = both (deallocates old l quiet task name mid owed g.1.1.1.0 d.1) m
@@ -371,6 +372,7 @@ Does-still now old event reply mid owed g d l quiet = go event reply g d (Does-m
         (hands old l quiet mid _ _ (Inserts-hands task name from poly number old mid l (not_false (old.live_task task) (λ e. g.0 (inl e))) (λ e. g.1.0 (inl e)) d.1) (unowed_mid d.2 m)) m
     go (Event.ExtractRight task name number to) (Reply.Right new_name kind) g d m = quietly d.1
         (hands old l quiet mid _ _ (Extracts-hands task name number to new_name kind old mid l (not_false (old.live_task to) (λ e. g.0 (inr e))) d.0) (unowed_mid d.1 m)) m
+    go (Event.RequestNotification task name variant sync notify number) reply g d m = absurd (g.1.0 tt)
     go (Event.Send task bytes) (Reply.Code code) g d m = quietly d.2 (sends old l quiet now task bytes mid g.1 d.1 (unowed_mid d.2 m)) m
     go (Event.Receive task name room large) (Reply.Message bytes) g d m = quietly d.2.3
         (receives old l quiet task d.2.0 room bytes mid (TakesFrom-live old l task d.0 d.2.0 d.2.1) (not_false (old.live_task task) g.0) d.2.2 (unowed_mid d.2.3 m)) m

@@ -5,7 +5,7 @@ use Rattle.mach_types.specs.declared.calls.Reply.{Reply}
 use Rattle.mach_types.specs.declared.calls.Waited.{Waited}
 use Rattle.mach_types.specs.Guards.{NoneHolds}
 use Rattle.mach_model.specs.State.{State, opening, at, IsFresh}
-use Rattle.mach_model.specs.Tasks.{CreatesTask}
+use Rattle.mach_model.specs.Tasks.{CreatesTask, EndsTask}
 use Rattle.mach_model.specs.Names.{Makes, TellsType, names_of, Renames}
 use Rattle.mach_model.specs.References.{TellsReferences, Deallocates, Destroys, Modifies}
 use Rattle.mach_model.specs.ReceiveRight.{TellsStatus, ChangesPort}
@@ -13,6 +13,7 @@ use Rattle.mach_model.specs.Sets.{TellsMembers, JoinsSet}
 use Rattle.mach_model.specs.Transfer.{Inserts, Extracts}
 use Rattle.mach_model.specs.Send.{Sends}
 use Rattle.mach_model.specs.Receive.{waits_for, Receipt}
+use Rattle.mach_model.specs.Requests.{Requests}
 use Rattle.mach_model.specs.Notices.{Owed}
 use Rattle.mach_model.specs.Settles.{Settles}
 use Rattle.mach_model.specs.Refusals.{Refuses, guards}
@@ -20,6 +21,7 @@ use Rattle.mach_model.specs.Refusals.{Refuses, guards}
 -- What an event that isn't refused does, up to the death of ports.
 abbrev pub Does : (now : ℕ) → State → Event → Reply → State → Owed → Type 0
 Does now old Event.TaskCreate (Reply.Task task) mid owed = CreatesTask old task mid × (owed ≡ [])
+Does now old (Event.TaskTerminate task) (Reply.Code code) mid owed = (code ≡ 0) × EndsTask task old mid owed
 Does now old (Event.Allocate task right) (Reply.Name name) mid owed = IsFresh (old.naming task) name × Makes task right name old mid × (owed ≡ [])
 Does now old (Event.AllocateName task right name) (Reply.Name told) mid owed = (told ≡ name) × Makes task right name old mid × (owed ≡ [])
 Does now old (Event.Deallocate task name) (Reply.Code code) mid owed = (code ≡ 0) × Deallocates task name old mid owed
@@ -42,6 +44,8 @@ Does now old (Event.InsertRight task name from poly number) (Reply.Code code) mi
     (code ≡ 0) × Inserts task name from poly number old mid × (owed ≡ [])
 Does now old (Event.ExtractRight task name number to) (Reply.Right new_name kind) mid owed =
     Extracts task name number to new_name kind old mid × (owed ≡ [])
+Does now old (Event.RequestNotification task name variant sync notify number) (Reply.Previous previous) mid owed =
+    Requests task name variant sync notify number previous old mid owed
 Does now old (Event.Send task bytes) (Reply.Code code) mid owed = (code ≡ 0) × Sends now task bytes old mid × (owed ≡ [])
 Does now old (Event.Receive task name room large) reply mid owed =
     (waited : Waited) × waits_for task name old waited × Receipt old task waited room large reply mid owed

@@ -8,6 +8,10 @@ use Rattle.mach_model.specs.State.{State, Target, lookup}
 use Rattle.mach_model.specs.Death.{same_place}
 use Rattle.mach_model.specs.ReceiveRight.{NamesReceive}
 
+-- No task ends, and no notice can be asked for: both calls are refused, whatever the task and the name.
+abbrev pub IsNotYetServed : Type 0
+IsNotYetServed = Unit {0}
+
 -- No receive right, and no send-once right, can be lost: a call that would lose one is refused where it would otherwise succeed.
 abbrev pub NamesOnce : State → (task name : ℕ) → Type 0
 NamesOnce s task name = (p : ℕ) × (lookup s task name ≡ Some (Target.once p))

@@ -2,7 +2,7 @@
 use Rattle.std.specs.Prelude.{◌≡◌, ◌≢◌, ℕ, false, ℤ, pos, negsuc, ◌+◌, ◌<◌, ◌≤◌, ◌⊎◌, List, [], ◌∷◌, length, Option, Some, None}
 use Rattle.mach_types.specs.declared.calls.Event.{Event}
 use Rattle.mach_types.specs.declared.calls.Waited.{Waited}
-use Rattle.mach_types.specs.declared.codes.KernReturn.TheVariants.{NoSpace, ResourceShortage, NameExists, InvalidName, InvalidTask, InvalidRight, InvalidValue, UrefsOverflow, InvalidCapability, NotInSet}
+use Rattle.mach_types.specs.declared.codes.KernReturn.TheVariants.{NoSpace, InvalidArgument, ResourceShortage, NameExists, InvalidName, InvalidTask, InvalidRight, InvalidValue, UrefsOverflow, InvalidCapability, NotInSet}
 use Rattle.mach_types.specs.declared.codes.MsgReturn.TheVariants.{ReceiveInvalidName, ReceiveInSet, ReceivePortDied, ReceivePortChanged}
 use Rattle.mach_types.specs.Numbers.{null_word, dead_word, kern_number, msg_number, most_tasks, most_rights, greatest_limit}
 use Rattle.mach_types.specs.Tokens.{receive, in_task}
@@ -16,8 +16,9 @@ use Rattle.mach_model.specs.Transfer.{inserted_guards, extracted_guards, CopyRef
 use Rattle.mach_model.specs.Send.{IsLegalName, IsDeadName, SendRefuses}
 use Rattle.mach_model.specs.Sets.{IsSet}
 use Rattle.mach_model.specs.Receive.{waits_for, ReceiptRefuses}
+use Rattle.mach_model.specs.Requests.{notify_guards, RequestRefuses}
 use Rattle.mach_model.specs.References.{HasReference, IsCounted, IsUncounted, references_at, IsBelowZero, IsAbove, added_rights}
-use Rattle.mach_model.specs.NotYet.{IsNotYetDeallocating, IsNotYetDestroying, IsNotYetRemoving}
+use Rattle.mach_model.specs.NotYet.{IsNotYetServed, IsNotYetDeallocating, IsNotYetDestroying, IsNotYetRemoving}
 
 abbrev pub IsUnused : State → (task name : ℕ) → Type 0
 IsUnused s task name = lookup s task name ≡ None
@@ -33,6 +34,7 @@ IsDisposition number = (16 ≤ number) × (number ≤ 21)
 
 abbrev pub tasks_of : Event → List ℕ
 tasks_of Event.TaskCreate = []
+tasks_of (Event.TaskTerminate task) = task ∷ []
 tasks_of (Event.Allocate task right) = task ∷ []
 tasks_of (Event.AllocateName task right name) = task ∷ []
 tasks_of (Event.Deallocate task name) = task ∷ []
@@ -50,6 +52,7 @@ tasks_of (Event.SetStatus task name) = task ∷ []
 tasks_of (Event.MoveMember task member after) = task ∷ []
 tasks_of (Event.InsertRight task name from poly number) = task ∷ from ∷ []
 tasks_of (Event.ExtractRight task name number to) = task ∷ to ∷ []
+tasks_of (Event.RequestNotification task name variant sync notify number) = task ∷ []
 tasks_of (Event.Send task bytes) = task ∷ []
 tasks_of (Event.Receive task name room large) = task ∷ []
 tasks_of (Event.ReceiveAgain task waited room large) = task ∷ []
@@ -127,6 +130,7 @@ extract_guards s task name number to =
 
 abbrev pub call_guards : State → Event → Guards
 call_guards s Event.TaskCreate = (most_tasks ≤ s.tasks_made, kern_number NoSpace) ∷ []
+call_guards s (Event.TaskTerminate task) = (IsNotYetServed, kern_number InvalidArgument) ∷ []
 call_guards s (Event.Allocate task right) =
     (IsNoMaking right, kern_number InvalidValue)
     ∷ (IsFull s task right, kern_number NoSpace)
@@ -162,6 +166,8 @@ call_guards s (Event.SetStatus task name) = set_guards s task name
 call_guards s (Event.MoveMember task member after) = move_guards s task member after
 call_guards s (Event.InsertRight task name from poly number) = insert_guards s task name from poly number
 call_guards s (Event.ExtractRight task name number to) = extract_guards s task name number to
+call_guards s (Event.RequestNotification task name variant sync notify number) =
+    (IsNotYetServed, kern_number InvalidArgument) ∷ notify_guards s task name variant sync notify number
 call_guards s (Event.Send task bytes) = header_guards bytes
 call_guards s (Event.Receive task name room large) =
     (¬ (NamesReceive s task name ⊎ IsSet (lookup s task name)), msg_number ReceiveInvalidName)
@@ -189,6 +195,8 @@ RefusesLater s (Event.InsertRight task name from poly number) code =
     CopyRefuses from (in_task task) number poly s (λ p kind copied. inserted_guards copied task name p kind) code
 RefusesLater s (Event.ExtractRight task name number to) code =
     CopyRefuses task (in_task to) number name s (λ p kind copied. extracted_guards copied to p kind) code
+RefusesLater s (Event.RequestNotification task name variant sync notify number) code =
+    RequestRefuses s task name variant sync notify number code
 RefusesLater s (Event.Send task bytes) code = SendRefuses s task bytes code
 RefusesLater s (Event.Receive task name room large) code =
     (waited : Waited) × waits_for task name s waited × ReceiptRefuses s task waited room code

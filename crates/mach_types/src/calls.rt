@@ -39,6 +39,8 @@ pub struct Status {
 pub enum Event {
     /// Makes a task.
     TaskCreate,
+    /// Ends the task, with all its names (Task Interface, `task_terminate`).
+    TaskTerminate(TaskId),
     /// Makes a right of this number for the task, under a fresh name.
     Allocate(TaskId, u32),
     /// Makes a right of this number for the task, under this name (Port Manipulation Interface,
@@ -80,6 +82,13 @@ pub enum Event {
     /// Takes a right that the task has under the name, by the disposition of this number, to another task
     /// (`mach_port_extract_right`).
     ExtractRight(TaskId, Name, u32, TaskId),
+    /// Asks for a notice about the name, of the variant of the first number: that its port would be destroyed
+    /// (69), has no more senders (70) or died (72). The second number is the least make-send count with which
+    /// it is told at once that there are no senders; for 72 it is not 0 where a death that is past may be told.
+    /// The notice goes by the send-once right that the second name gives under the disposition of the last
+    /// number; where that name is 0 the request is taken away (Port Manipulation Interface,
+    /// `mach_port_request_notification`).
+    RequestNotification(TaskId, Name, u32, u32, Name, u32),
     /// Sends the message.
     Send(TaskId, Bytes),
     /// Receives by the name, into so many bytes of room; whether a longer message is to stay.
@@ -110,7 +119,7 @@ pub enum Reply {
     Members(NameList),
     /// A right's new name, and the number of its kind.
     Right(Name, u8),
-    /// The right that a request kept before.
+    /// The name of the right that a request kept before: 0 for none, 0xffffffff where its port is dead.
     Previous(Name),
     /// The bytes received.
     Message(Bytes),

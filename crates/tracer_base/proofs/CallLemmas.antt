@@ -3,7 +3,7 @@ use Rattle.std.proofs.Common.{codes, ◌≡◌, ℕ, ◌<◌, ◌^◌, List, [],
 use Rattle.std.proofs.lemmas.List.Elements.{All-nil, All-cons, All-head, All-tail}
 use Rattle.std.specs.Fmt.{signed_decimal}
 use Rattle.mach_types.specs.declared.calls.Event.{Event}
-use Rattle.mach_types.specs.declared.calls.Event.TheVariants.{TaskCreate, Allocate, AllocateName, Deallocate, Destroy, ModRefs, GetRefs, NameType, Names, Rename, ReceiveStatus, SetQlimit, SetMscount, SetSeqno, InsertRight, ExtractRight, MoveMember, SetStatus, Send, Receive, ReceiveAgain}
+use Rattle.mach_types.specs.declared.calls.Event.TheVariants.{TaskCreate, TaskTerminate, Allocate, AllocateName, Deallocate, Destroy, ModRefs, GetRefs, NameType, Names, Rename, ReceiveStatus, SetQlimit, SetMscount, SetSeqno, InsertRight, ExtractRight, RequestNotification, MoveMember, SetStatus, Send, Receive, ReceiveAgain}
 use Rattle.mach_types.specs.declared.calls.Waited.{Waited}
 use Rattle.mach_types.specs.declared.calls.Waited.TheVariants.{Port, Set}
 use Rattle.tracer_base.specs.Calls.{Fits, call_word, call_arguments, call_text, line_text, StartsNoCall, IsFirstBadLine}
@@ -51,6 +51,7 @@ room_and_flag room flag small = number room (flag_text flag ∷ []) small (befor
 -- a call's keyword is plain
 pub is_plain-call_word : (event : Event) → is_plain (call_word event) ≡ true
 is_plain-call_word TaskCreate = refl
+is_plain-call_word (TaskTerminate _) = refl
 is_plain-call_word (Allocate _ _) = refl
 is_plain-call_word (AllocateName _ _ _) = refl
 is_plain-call_word (Deallocate _ _) = refl
@@ -66,6 +67,7 @@ is_plain-call_word (SetMscount _ _ _) = refl
 is_plain-call_word (SetSeqno _ _ _) = refl
 is_plain-call_word (InsertRight _ _ _ _ _) = refl
 is_plain-call_word (ExtractRight _ _ _ _) = refl
+is_plain-call_word (RequestNotification _ _ _ _ _ _) = refl
 is_plain-call_word (MoveMember _ _ _) = refl
 is_plain-call_word (SetStatus _ _) = refl
 is_plain-call_word (Send _ _) = refl
@@ -74,6 +76,7 @@ is_plain-call_word (ReceiveAgain _ _ _ _) = refl
 
 pub plain-call_arguments : (event : Event) → Fits event → All IsWord (call_arguments event)
 plain-call_arguments TaskCreate fits = none
+plain-call_arguments (TaskTerminate task) fits = absurd fits
 plain-call_arguments (Allocate task right) fits = two task right fits.0 fits.1
 plain-call_arguments (AllocateName task right name) fits = three task right name fits.0 fits.1 fits.2
 plain-call_arguments (Deallocate task name) fits = two task name fits.0 fits.1
@@ -92,6 +95,7 @@ plain-call_arguments (SetMscount task name count) fits = three task name count f
 plain-call_arguments (SetSeqno task name sequence) fits = three task name sequence fits.0 fits.1 fits.2
 plain-call_arguments (InsertRight task name from poly disposition) fits = number task (decimal name ∷ decimal from ∷ decimal poly ∷ decimal disposition ∷ []) fits.0 (four name from poly disposition fits.1 fits.2 fits.3 fits.4)
 plain-call_arguments (ExtractRight task name disposition to) fits = four task name disposition to fits.0 fits.1 fits.2 fits.3
+plain-call_arguments (RequestNotification task name variant sync notify disposition) fits = absurd fits
 plain-call_arguments (MoveMember task member set) fits = three task member set fits.0 fits.1 fits.2
 plain-call_arguments (SetStatus task name) fits = two task name fits.0 fits.1
 plain-call_arguments (Send task bytes) fits = number task (bytes_text bytes ∷ []) fits.0 (before (bytes_text bytes) [] (IsWord-bytes_text bytes fits.1) none)

@@ -2,7 +2,7 @@
 use Rattle.std.specs.Prelude.{◌≡◌, ℕ, ◌+◌, List, [], ◌∷◌, ◌++◌, codes, decimal, ◌<◌, ◌^◌, All, ⊤, length, flat_map}
 use Rattle.std.specs.Fmt.{signed_decimal}
 use Rattle.mach_types.specs.declared.calls.Event.{Event}
-use Rattle.mach_types.specs.declared.calls.Event.TheVariants.{TaskCreate, Allocate, AllocateName, Deallocate, Destroy, ModRefs, GetRefs, NameType, Names, Rename, ReceiveStatus, SetQlimit, SetMscount, SetSeqno, InsertRight, ExtractRight, MoveMember, SetStatus, Send, Receive, ReceiveAgain}
+use Rattle.mach_types.specs.declared.calls.Event.TheVariants.{TaskCreate, TaskTerminate, Allocate, AllocateName, Deallocate, Destroy, ModRefs, GetRefs, NameType, Names, Rename, ReceiveStatus, SetQlimit, SetMscount, SetSeqno, InsertRight, ExtractRight, RequestNotification, MoveMember, SetStatus, Send, Receive, ReceiveAgain}
 use Rattle.tracer_base.specs.Numbers.{FitsDelta}
 use Rattle.tracer_base.specs.Text.{bytes_text, flag_text, waited_words, FitsWaited}
 use Rattle.tracer_base.specs.Words.{line}
@@ -10,6 +10,7 @@ use Rattle.tracer_base.specs.Words.{line}
 -- a call's keyword
 abbrev pub call_word : Event → List ℕ
 call_word TaskCreate = codes "task"
+call_word (TaskTerminate task) = codes "end"
 call_word (Allocate task right) = codes "alloc"
 call_word (AllocateName task right name) = codes "allocname"
 call_word (Deallocate task name) = codes "dealloc"
@@ -25,6 +26,7 @@ call_word (SetMscount task name count) = codes "mscount"
 call_word (SetSeqno task name sequence) = codes "seqno"
 call_word (InsertRight task name from poly disposition) = codes "insert"
 call_word (ExtractRight task name disposition to) = codes "extract"
+call_word (RequestNotification task name variant sync notify disposition) = codes "notify"
 call_word (MoveMember task member set) = codes "move"
 call_word (SetStatus task name) = codes "members"
 call_word (Send task bytes) = codes "send"
@@ -34,6 +36,7 @@ call_word (ReceiveAgain task waited room large) = codes "again"
 -- a call's arguments, in their order
 abbrev pub call_arguments : Event → List (List ℕ)
 call_arguments TaskCreate = []
+call_arguments (TaskTerminate task) = decimal task ∷ []
 call_arguments (Allocate task right) = decimal task ∷ decimal right ∷ []
 call_arguments (AllocateName task right name) = decimal task ∷ decimal right ∷ decimal name ∷ []
 call_arguments (Deallocate task name) = decimal task ∷ decimal name ∷ []
@@ -49,6 +52,8 @@ call_arguments (SetMscount task name count) = decimal task ∷ decimal name ∷ 
 call_arguments (SetSeqno task name sequence) = decimal task ∷ decimal name ∷ decimal sequence ∷ []
 call_arguments (InsertRight task name from poly disposition) = decimal task ∷ decimal name ∷ decimal from ∷ decimal poly ∷ decimal disposition ∷ []
 call_arguments (ExtractRight task name disposition to) = decimal task ∷ decimal name ∷ decimal disposition ∷ decimal to ∷ []
+call_arguments (RequestNotification task name variant sync notify disposition) =
+    decimal task ∷ decimal name ∷ decimal variant ∷ decimal sync ∷ decimal notify ∷ decimal disposition ∷ []
 call_arguments (MoveMember task member set) = decimal task ∷ decimal member ∷ decimal set ∷ []
 call_arguments (SetStatus task name) = decimal task ∷ decimal name ∷ []
 call_arguments (Send task bytes) = decimal task ∷ bytes_text bytes ∷ []
@@ -58,9 +63,10 @@ call_arguments (ReceiveAgain task waited room large) = decimal task ∷ (waited_
 abbrev pub call_text : Event → List ℕ
 call_text event = line (call_word event ∷ call_arguments event)
 
--- its numbers fit 32 bits, a delta with its sign and an identity 64, and its bytes are bytes
+-- its numbers fit 32 bits, a delta with its sign and an identity 64, and its bytes are bytes; no line has yet a call that ends a task or asks for a notice
 abbrev pub Fits : Event → Type 0
 Fits TaskCreate = ⊤
+Fits (TaskTerminate task) = ⊥
 Fits (Allocate task right) = (task < 2 ^ 32) × (right < 2 ^ 32)
 Fits (AllocateName task right name) = (task < 2 ^ 32) × (right < 2 ^ 32) × (name < 2 ^ 32)
 Fits (Deallocate task name) = (task < 2 ^ 32) × (name < 2 ^ 32)
@@ -76,6 +82,7 @@ Fits (SetMscount task name count) = (task < 2 ^ 32) × (name < 2 ^ 32) × (count
 Fits (SetSeqno task name sequence) = (task < 2 ^ 32) × (name < 2 ^ 32) × (sequence < 2 ^ 32)
 Fits (InsertRight task name from poly disposition) = (task < 2 ^ 32) × (name < 2 ^ 32) × (from < 2 ^ 32) × (poly < 2 ^ 32) × (disposition < 2 ^ 32)
 Fits (ExtractRight task name disposition to) = (task < 2 ^ 32) × (name < 2 ^ 32) × (disposition < 2 ^ 32) × (to < 2 ^ 32)
+Fits (RequestNotification task name variant sync notify disposition) = ⊥
 Fits (MoveMember task member set) = (task < 2 ^ 32) × (member < 2 ^ 32) × (set < 2 ^ 32)
 Fits (SetStatus task name) = (task < 2 ^ 32) × (name < 2 ^ 32)
 Fits (Send task bytes) = (task < 2 ^ 32) × All (λ byte. byte < 256) bytes

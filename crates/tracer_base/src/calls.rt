@@ -252,6 +252,7 @@ pub fn write_call<W: Write>(event: &Event, out: &mut W) -> io::Result<()>
 {
     match event {
         Event::TaskCreate => write!(out, "task"),
+        Event::TaskTerminate(task) => write!(out, "end {}", task.number()),
         Event::Allocate(task, right) => write!(out, "alloc {} {right}", task.number()),
         Event::AllocateName(task, right, name) => write_allocname(*task, *right, *name, out),
         Event::Deallocate(task, name) => write_name("dealloc", *task, *name, out),
@@ -275,6 +276,10 @@ pub fn write_call<W: Write>(event: &Event, out: &mut W) -> io::Result<()>
         Event::ExtractRight(task, name, disposition, to) => {
             write_number("extract", *task, *name, *disposition, out)?;
             write!(out, " {}", to.number())
+        }
+        Event::RequestNotification(task, name, variant, sync, notify, disposition) => {
+            write_number("notify", *task, *name, *variant, out)?;
+            write!(out, " {sync} {} {disposition}", notify.number())
         }
         Event::MoveMember(task, member, set) => write_names("move", *task, *member, *set, out),
         Event::SetStatus(task, name) => write_name("members", *task, *name, out),

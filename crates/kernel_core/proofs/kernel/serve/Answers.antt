@@ -1,13 +1,18 @@
-use Rattle.std.proofs.Common.{refl, rules}
+use Rattle.std.proofs.Common.{refl, rules, inl}
 use Rattle.mach_types.specs.declared.calls.Event.{Event}
 use Rattle.copyin_base.specs.Acts.{Serves}
 use Rattle.copyin_base.proofs.Spares.{keeps_refl}
 use Rattle.kernel_core_base.proofs.Wanted.{takes_none}
-use Rattle.kernel_core.proofs.Keeping.{always_wants, sent_spares, carried}
+use Rattle.kernel_core.proofs.Keeping.{always_wants, sent_spares, carried, unserved}
 use Rattle.kernel_core.proofs.kernel.serve.Goals as goal
 
 pub returns-in-TaskCreate : goal.returns-in-TaskCreate
 returns-in-TaskCreate c = rw c.in-TaskCreate.is (carried _ _ _ _ c.create_task.ensures.serves (always_wants _ _) c.create_task.ensures.spares (λ reply. refl))
+
+pub returns-in-TaskTerminate : goal.returns-in-TaskTerminate
+returns-in-TaskTerminate c =
+    let tasks = rw c.in-TaskTerminate.is at c.requires.there in
+    rw c.in-TaskTerminate.is (unserved _ _ (record { refused = λ s sh. inl (tt, refl) }) tasks refl (λ reply. refl))
 
 pub returns-in-Allocate : goal.returns-in-Allocate
 returns-in-Allocate c = rw c.in-Allocate.is (carried _ _ _ _ c.allocate.ensures.serves c.allocate.ensures.wanted c.allocate.ensures.spares (λ reply. refl))
@@ -65,6 +70,11 @@ pub returns-in-ExtractRight : goal.returns-in-ExtractRight
 returns-in-ExtractRight c =
     let x = rw c.new.ensures at c.extract.ensures in
     rw c.in-ExtractRight.is (carried _ _ _ _ x.serves x.wanted x.spares (λ reply. refl))
+
+pub returns-in-RequestNotification : goal.returns-in-RequestNotification
+returns-in-RequestNotification c =
+    let tasks = rw c.in-RequestNotification.is at c.requires.there in
+    rw c.in-RequestNotification.is (unserved _ _ (record { refused = λ s sh. inl (tt, refl) }) tasks refl (λ reply. refl))
 
 pub returns-in-Send : goal.returns-in-Send
 returns-in-Send c =

@@ -1,6 +1,8 @@
 use Rattle.std.proofs.Common.{sym, subst}
 use Rattle.copyin_base.specs.Worlds.{WorldView}
 use Rattle.copyin_base.specs.Shows.{Shows}
+use Rattle.kernel_core.specs.Wanted.{Wanted}
+use Rattle.kernel_core.proofs.Keeping.{done_wanted}
 use Rattle.kernel_core.proofs.Stepping.{acted, declined, still_stands}
 use Rattle.kernel_core.proofs.kernel.Kernel.step.Goals as goal
 
@@ -15,3 +17,6 @@ returns-in-Ok-clause-answers c = λ now s sh. acted _ _ _ _ _ c.in-Ok.ensures.se
 
 pub returns-in-Err-clause-answers : goal.returns-in-Err-clause-answers
 returns-in-Err-clause-answers c = λ now s sh. rw c.number.ensures (declined _ _ _ _ c.in-Err.ensures.serves now s (subst (λ (w : WorldView). Shows w s) (sym c.self.view_is) sh))
+
+pub returns-in-Ok-clause-wanted : goal.returns-in-Ok-clause-wanted
+returns-in-Ok-clause-wanted c = subst (λ (w : WorldView). Wanted w c.args.event.now c.in-Ok.reply) c.self.view_is (done_wanted _ _ _ _ c.self.invariant c.in-Ok.ensures.serves)
