@@ -4,6 +4,7 @@ mod Receiving
 mod Apart
 mod Untouched
 mod Steps
+mod Looking
 mod Walking
 mod Told
 mod Ordered

@@ -5,6 +5,9 @@ pub mod Delivered
 pub mod Order
 pub mod Queued
 pub mod Headline
+pub mod Notices
+pub mod Looks
+pub mod Turns
 pub mod Judging
 pub mod FirstMessage
 pub mod Answering

@@ -5,7 +5,7 @@
 //! `specs/` here need believe nothing else.
 #![tactic(auto)]
 
-ghost use Rattle.std.specs.Prelude.{◌≡◌, ◌≢◌, ◌↔◌, ◌+◌, ℕ, Bool, true, false, List, [], Some, length, map, slice_get};
+ghost use Rattle.std.specs.Prelude.{◌≡◌, ◌≢◌, ◌↔◌, ◌+◌, ◌≤◌, ℕ, Bool, true, false, List, [], Some, length, map, slice_get};
 ghost use Rattle.mach_types.specs.declared.calls.Event.{Event};
 ghost use Rattle.mach_types.specs.declared.calls.Reply.{Reply};
 ghost use Rattle.mach_types.specs.declared.calls.Waited.{Waited};
@@ -34,6 +34,9 @@ ghost use Rattle.mach_laws.specs.Delivered.{Delivers};
 ghost use Rattle.mach_laws.specs.Order.{InOrder};
 ghost use Rattle.mach_laws.specs.Queued.{queued, accepts, delivers};
 ghost use Rattle.mach_laws.specs.Headline.{Headline};
+ghost use Rattle.mach_laws.specs.Notices.{TellsAll};
+ghost use Rattle.mach_laws.specs.Looks.{IsLook, IsUnchanged};
+ghost use Rattle.mach_laws.specs.Turns.{work_in, deaths};
 ghost use Rattle.mach_laws.specs.Judging.{IsMemoryCode, LacksMemory, IsBySet};
 ghost use Rattle.mach_laws.specs.FirstMessage.{first_events, first_replies};
 ghost use Rattle.mach_laws.specs.Answering.{answering_events, answering_replies};
@@ -92,6 +95,19 @@ pub fn ends_are_fixed()
     ensures { (events : List Event) (replies : List Reply) (s : State) → Run events replies s →
         (event : Event) (reply : Reply) (a b : State) → (x : Done (length events) s event reply a) → (y : Settles (length events) s x.mid x.owed b) →
         IsSameEnd a b x.settles.notices.posted y.notices.posted }
+{}
+
+/// After every run each notice that is due in a step is told once, at the end of its port's log, and nothing else
+/// is: no notice that is due is dropped, and none is told twice.
+pub fn each_notice_is_told_once()
+    ensures { (events : List Event) (replies : List Reply) (s : State) → Run events replies s →
+        (event : Event) (reply : Reply) (new : State) → (done : Done (length events) s event reply new) →
+        TellsAll (length events) s event reply new done }
+{}
+
+/// In a step no more ports die than there were rights, live ports and messages together before it.
+pub fn deaths_are_work()
+    ensures { (now : ℕ) (old new : State) (event : Event) (reply : Reply) → Step now old event reply new → deaths old new ≤ work_in old }
 {}
 
 /// After every run, whatever an event may do can be made a step.
@@ -168,6 +184,13 @@ pub fn queued_messages()
 /// A call that is answered with another code than 0 changes nothing.
 pub fn refusals_change_nothing()
     ensures { (now : ℕ) (old new : State) (event : Event) (code : ℕ) → Step now old event (Reply.Code code) new → code ≢ 0 → new ≡ old }
+{}
+
+/// After every run an answer that only tells changes nothing: what is asked for names, references, types and
+/// status, that there is no message, and that a message is too long and stays.
+pub fn looks_change_nothing()
+    ensures { (events : List Event) (replies : List Reply) (s : State) → Run events replies s →
+        (event : Event) (reply : Reply) (new : State) → Step (length events) s event reply new → IsLook event reply → IsUnchanged s new }
 {}
 
 /// After every run a refusal and a success exclude each other: what refuses an event, but for want of memory,

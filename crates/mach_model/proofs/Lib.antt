@@ -37,6 +37,7 @@ pub mod SettledParts
 pub mod SettledNames
 pub mod SettledReceives
 pub mod SettledLogs
+pub mod SettledNotices
 pub mod SettledRights
 pub mod SettledLawful
 pub mod SettledPosting

@@ -6,7 +6,7 @@ use Rattle.std.proofs.lemmas.Bool.{eq-eqb, eqb-true}
 use Rattle.std.proofs.lemmas.Bool.{and_from}
 use Rattle.mach_types.specs.Tokens.{Kind, receive, send_once, port_destroyed, Place, in_task, in_message, in_request, Token, count, is_of, same_kind}
 use Rattle.mach_model.specs.State.{State}
-use Rattle.mach_model.specs.Death.{same_place, LiesAt, CarriedAt, Dies, orphan, carried_at, IsOrphan, IsSaved, IsSent, IsClosed}
+use Rattle.mach_model.specs.Death.{same_place, LiesAt, CarriedAt, Dies, orphan, carried_at, IsOrphan, IsSaved, IsSentAway, IsClosed}
 use Rattle.mach_model.specs.Notices.{Owed}
 use Rattle.mach_model.specs.Midway.{MidLawful}
 use Rattle.mach_model.proofs.Weigh.{count_some, left_of, right_of, lying_le_of, if_le}
@@ -23,7 +23,7 @@ pub record Told (mid : State) : Type 0 where
   pub dead : ℕ → Bool
   pub dies : (p : ℕ) → Tells (dead p) (Dies mid p)
   pub away : ℕ → Bool
-  pub sent : (p : ℕ) → Tells (away p) (IsSent mid p)
+  pub sent : (p : ℕ) → Tells (away p) (IsSentAway mid p)
 
 -- ---- looking for a token
 
@@ -313,10 +313,10 @@ module _ (mid : State) where
     dies_last : (p : ℕ) → Tells (round n p) (Dies mid p)
     dies_last p = record { yes = round_dies n p; is = λ d. Dies-least mid (λ q. round n q ≡ true) closed p d }
 
-    sent_last : (p : ℕ) → Tells (is_saved p && (is_orphan p || is_carried (round n) p)) (IsSent mid p)
+    sent_last : (p : ℕ) → Tells (is_saved p && (is_orphan p || is_carried (round n) p)) (IsSentAway mid p)
     sent_last p = record { yes = yes; is = λ h. and_from _ _ ((saved_tells p).is h.0) (why h.1) }
       where
-        yes : (is_saved p && (is_orphan p || is_carried (round n) p)) ≡ true → IsSent mid p
+        yes : (is_saved p && (is_orphan p || is_carried (round n) p)) ≡ true → IsSentAway mid p
         yes e = (
           (saved_tells p).yes (left_of (is_saved p) (is_orphan p || is_carried (round n) p) e),
           elim (or_cases (is_orphan p) (is_carried (round n) p) (right_of (is_saved p) (is_orphan p || is_carried (round n) p) e)) [

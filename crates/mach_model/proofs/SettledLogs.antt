@@ -214,7 +214,7 @@ module _ (now : ℕ) (old mid : State) (owed : Owed) (new : State) (l : MidLawfu
       tally_at (is_entry p k) s.notices.posted h.0 h.1 h.2 (ap (is_entry p k) h.3 ∙ and_from _ _ (eq-eqb p h.1.port (sym h.4.0)) (eq-eqb k h.1.entry (sym h.4.1)))
 
   -- each entry that was appended is one notice's
-  one_hit : (p k : ℕ) → length (mid.log p) ≤ k → k < length (new.log p) → hits p k s.notices.posted ≡ 1
+  pub one_hit : (p k : ℕ) → length (mid.log p) ≤ k → k < length (new.log p) → hits p k s.notices.posted ≡ 1
   one_hit p k above below =
       let n = log_length p in
       let t = tally (λ (x : Posted). p == x.port) s.notices.posted in

@@ -3,18 +3,19 @@ use Rattle.std.proofs.Common.{◌≡◌, ℕ, ◌+◌, ◌<◌, ◌≤◌, List,
 use Rattle.std.specs.Prelude.{option_map, if◌then◌else◌, ◌==◌, ◌&&◌, ◌⊎◌, All, map as list_map, filter}
 use Rattle.std.proofs.Math.Path.{fun_ext}
 use Rattle.std.proofs.lemmas.List.{append-nil}
+use Rattle.std.proofs.lemmas.List.Elements.{All-tail}
 use Rattle.std.proofs.lemmas.Bool.{eq-eqb, and_from, false_from_ne_true, true_from_ne_false, cases_Bool}
 use Rattle.mach_types.specs.Tokens.{Kind, receive, send, send_once, Request, no_senders, port_destroyed, dead_name, Place, in_task, in_message, in_request, Token, count, weigh, Moves, is_of, is_held, same_kind}
 use Rattle.mach_types.specs.Messages.{Entry}
-use Rattle.mach_model.specs.State.{State, Target, lookup, held, same_request}
-use Rattle.mach_model.specs.Death.{same_place, Dies, orphan, carried_at, IsOrphan, IsSent, IsClosed}
-use Rattle.mach_model.specs.Notices.{Notice, Owed, Posted, all_posted_tokens}
-use Rattle.mach_model.specs.Settles.{PlaceStays, StaysWith, PaysFor, GoesFrom, settled_target, tokens_of, due_notices, Settles}
+use Rattle.mach_model.specs.State.{State, Target, lookup, held, senders, same_request}
+use Rattle.mach_model.specs.Death.{same_place, Dies, orphan, carried_at, IsOrphan, IsSentAway, IsClosed}
+use Rattle.mach_model.specs.Notices.{Notice, port_deleted, port_sent, no_more_senders, right_unused, name_died, Owed, Posted, posted_tokens, all_posted_tokens, carried_by}
+use Rattle.mach_model.specs.Settles.{PlaceStays, StaysWith, PaysFor, GoesFrom, settled_target, BecameDead, Ends, tokens_of, due_notices, Settles}
 use Rattle.mach_model.specs.Carried.{lying}
 use Rattle.mach_model.specs.Lawful.{IsLawful, LawfulPorts, is_once}
 use Rattle.mach_model.specs.Midway.{MidLawful, IsStill}
 use Rattle.mach_model.specs.NotYet.{IsQuiet}
-use Rattle.mach_model.proofs.Weigh.{length-weigh, count_some, lying_le_of, held_le_of, pos_or_zero}
+use Rattle.mach_model.proofs.Weigh.{length-weigh, weigh-append, left_of, count_some, lying_le_of, held_le_of, pos_or_zero}
 use Rattle.mach_model.proofs.Names.{alike, some_tally}
 use Rattle.mach_model.proofs.Spaces.{same_naming}
 use Rattle.mach_model.proofs.Moving.{same_receivers}
@@ -34,7 +35,7 @@ no_orphan mid l p o = omega (arith, l.one_receive p o.0, o.1)
 pub no_death : (mid : State) → IsLawful mid → (p : ℕ) → ¬ (Dies mid p)
 no_death mid l p d = Dies-least mid (λ q. ⊥) (record { orphans = λ q is not. no_orphan mid l q is; carried = λ q r bad at not. bad }) p d
 
-pub never_sent : (mid : State) → IsLawful mid → (p : ℕ) → ¬ (IsSent mid p)
+pub never_sent : (mid : State) → IsLawful mid → (p : ℕ) → ¬ (IsSentAway mid p)
 never_sent mid l p (saved, inl is) = no_orphan mid l p is
 never_sent mid l p (saved, inr d) = no_death mid l d.0 d.1
 
@@ -111,9 +112,29 @@ kept_set : (b : Bool) (o : List ℕ) → (b ≡ false → o ≡ []) → o ≡ (i
 kept_set true o f = refl
 kept_set false o f = f refl
 
--- From a lawful and quiet state after a step's own part that owes nothing, the step may end as it is.
-pub quiet_settles : (now : ℕ) (old mid : State) → IsLawful mid → IsQuiet mid → Settles now old mid [] mid
-quiet_settles now old mid l quiet = record {
+-- The step's own part took the last send right of no port with a request to be told of that.
+abbrev pub KeepsSenders : (old mid : State) → Type 0
+KeepsSenders old mid = (p : ℕ) → mid.stands (no_senders p) ≡ true → 0 < senders old p → 0 < senders mid p
+
+-- So no request ends.
+nothing_ends : (old mid new : State) → IsLawful mid → KeepsSenders old mid → ((p : ℕ) → new.live_port p ≡ mid.live_port p) → ((p : ℕ) → senders new p ≡ senders mid p) →
+    (r : Request) → mid.stands r ≡ true → ¬ (Ends old mid new r)
+nothing_ends old mid new l keeps live same (no_senders p) is (inl dead) = let a = l.stands_on (no_senders p) is in let b = live p in cc
+nothing_ends old mid new l keeps live same (no_senders p) is (inr h) = let a = keeps p is h.0 in let b = same p in let c = h.1 in omega (arith, a, b, c)
+nothing_ends old mid new l keeps live same (port_destroyed p) is (inl dead) = let a = l.stands_on (port_destroyed p) is in let b = live p in cc
+nothing_ends old mid new l keeps live same (port_destroyed p) is (inr sent) = never_sent mid l p sent
+nothing_ends old mid new l keeps live same (dead_name task name) is dead = go (lookup mid task name) refl dead
+  where
+    go : (o : Option Target) → lookup mid task name ≡ o → BecameDead mid new o → ⊥
+    go None e f = f
+    go (Some (Target.port p)) e f = let a = named_lives mid l task name p e in let b = live p in cc
+    go (Some (Target.once p)) e f = let a = once_lives mid l task name p e in let b = live p in cc
+    go (Some (Target.dead n)) e f = f
+    go (Some (Target.set s)) e f = f
+
+-- From a lawful state after a step's own part that owes nothing and keeps senders, the step may end as it is.
+pub calm_settles : (now : ℕ) (old mid : State) → IsLawful mid → KeepsSenders old mid → Settles now old mid [] mid
+calm_settles now old mid l keeps = record {
   deaths = record { dies = λ p d. absurd (no_death mid l p d); only = λ p a b. absurd (cc); gone_before = λ p h. h };
   rights = record {
     staying = mid.ledger;
@@ -133,7 +154,11 @@ quiet_settles now old mid l quiet = record {
     cover = λ p k above below. absurd (omega arith);
   };
   names = λ task name. same_target mid mid task name (lookup mid task name) (named_lives mid l task name) (once_lives mid l task name);
-  requests = record { ended = λ r stands ends. absurd (let e = quiet.none_stands r in cc); only = λ r stands gone. absurd (cc); unmade = λ r h. h };
+  requests = record {
+    ended = λ r stands ends. absurd (nothing_ends old mid mid l keeps (λ p. refl) (λ p. refl) r stands ends);
+    only = λ r stands gone. absurd (cc);
+    unmade = λ r h. h;
+  };
   ports = record {
     is_sent = λ p. false;
     sent = λ p is. absurd (never_sent mid l p is);
@@ -144,6 +169,13 @@ quiet_settles now old mid l quiet = record {
   };
   rest = refl;
 }
+
+-- No request stands.
+pub quiet_keeps : (old mid : State) → IsQuiet mid → KeepsSenders old mid
+quiet_keeps old mid quiet p stands some = absurd (let e = quiet.none_stands (no_senders p) in cc)
+
+pub quiet_settles : (now : ℕ) (old mid : State) → IsLawful mid → IsQuiet mid → Settles now old mid [] mid
+quiet_settles now old mid l quiet = calm_settles now old mid l (quiet_keeps old mid quiet)
 
 pub mid_settles : (now : ℕ) (old mid : State) (owed : Owed) → IsStill mid owed → Settles now old mid owed mid
 mid_settles now old mid owed m = subst (λ (o : Owed). Settles now old mid o mid) (sym m.none_owed) (quiet_settles now old mid m.lawful m.quiet)
@@ -163,17 +195,12 @@ empty_mapped : {A B : Type 0} (f : A → B) (xs : List A) → list_map f xs ≡ 
 empty_mapped f [] e = refl
 empty_mapped f (x ∷ xs) e = absurd (cc)
 
-module _ (now : ℕ) (old mid new : State) (l : IsLawful mid) (quiet : IsQuiet mid) (s : Settles now old mid [] new) where
+module _ (now : ℕ) (old mid new : State) (l : IsLawful mid) (keeps : KeepsSenders old mid) (s : Settles now old mid [] new) where
   live : (p : ℕ) → new.live_port p ≡ mid.live_port p
   live p = elim (cases_Bool (mid.live_port p)) [
     | inl e ↦ true_from_ne_false (new.live_port p) (λ f. no_death mid l p (s.deaths.only p e f)) ∙ sym e
     | inr e ↦ s.deaths.gone_before p e ∙ sym e
   ]
-
-  stays_new : (kind : Kind) (q : ℕ) (place : Place) → 0 < lying mid kind q place → PlaceStays new place
-  stays_new kind q (in_task t) some = tt
-  stays_new kind q (in_message p k) some = live p ∙ place_stays mid l kind q (in_message p k) some
-  stays_new kind q (in_request r) some = absurd (let z = l.ended r (quiet.none_stands r) kind q in omega (arith, some, z))
 
   -- a token that is one of the ledger's
   head_lies : (x : Token) (xs : List Token) → ((test : Token → Bool) → count test (x ∷ xs) ≤ count test mid.ledger) → 0 < lying mid x.kind x.port x.place
@@ -182,6 +209,78 @@ module _ (now : ℕ) (old mid new : State) (l : IsLawful mid) (quiet : IsQuiet m
       let f = le (is_at x.kind x.port x.place) in
       let g : 0 < count (is_at x.kind x.port x.place) (x ∷ xs) = rw e (omega arith) in
       omega (arith, f, g)
+
+  -- ---- send rights, of which no request keeps any
+
+  sends_stay : (q : ℕ) (place : Place) → 0 < lying mid send q place → PlaceStays new place
+  sends_stay q (in_task t) some = tt
+  sends_stay q (in_message p k) some = live p ∙ place_stays mid l send q (in_message p k) some
+  sends_stay q (in_request r) some = absurd (let z = l.once_kept r send q (λ e. cc) in omega (arith, some, z))
+
+  send_kept : (x : Token) (q : ℕ) → is_of send q x ≡ true → 0 < lying mid x.kind x.port x.place → GoesFrom new x → ⊥
+  send_kept x q is some (inl dead) =
+      let more = lying_le_of mid x.kind x.port x.place in
+      let e = alive mid l x.kind x.port (omega (arith, some, more)) in
+      let f = live x.port in cc
+  send_kept x q is some (inr h) = h.1 (sends_stay x.port x.place (subst (λ (k : Kind). 0 < lying mid k x.port x.place) (is_send x.kind (left_of (same_kind send x.kind) (x.port == q) is)) some))
+    where
+      is_send : (k : Kind) → same_kind send k ≡ true → k ≡ send
+      is_send send e = refl
+      is_send receive e = absurd (cc)
+      is_send send_once e = absurd (cc)
+
+  no_send_goes : (q : ℕ) (xs : List Token) → All (GoesFrom new) xs → ((test : Token → Bool) → count test xs ≤ count test mid.ledger) → count (is_of send q) xs ≡ 0
+  no_send_goes q [] all le = refl
+  no_send_goes q (x ∷ xs) all le =
+      let e = false_from_ne_true (is_of send q x) (λ is. send_kept x q is (head_lies x xs le) (all 0 x (omega arith))) in
+      let rest = no_send_goes q xs (All-tail (GoesFrom new) x xs all) (λ test. let a = le test in omega (arith, a)) in
+      rw e (omega (arith, rest))
+
+  no_send_pays : (q : ℕ) (xs : Owed) → All (λ x. PaysFor mid new x.0 x.1) xs → count (is_of send q) (tokens_of xs) ≡ 0
+  no_send_pays q [] all = refl
+  no_send_pays q (x ∷ xs) all =
+      let pays = all 0 x (omega arith) in
+      let once = pays.0 in
+      let e : is_of send q x.0 ≡ false = ap (λ (k : Kind). same_kind send k && x.0.port == q) once in
+      let rest = no_send_pays q xs (All-tail (λ (x : Token × Notice). PaysFor mid new x.0 x.1) x xs all) in
+      rw e (omega (arith, rest))
+
+  no_send_posted : (q : ℕ) (xs : List Posted) → count (is_of send q) (all_posted_tokens xs) ≡ 0
+  no_send_posted q [] = refl
+  no_send_posted q (x ∷ xs) =
+      let a = weigh-append (λ y. if is_of send q y then 1 else 0) (posted_tokens x) (all_posted_tokens xs) in
+      let rest = no_send_posted q xs in
+      let b = brought x.notice in omega (arith, a, rest, b)
+    where
+      brought : (n : Notice) → count (is_of send q) (carried_by n (in_message x.port x.entry)) ≡ 0
+      brought (port_deleted n) = refl
+      brought (port_sent p) = refl
+      brought (no_more_senders n) = refl
+      brought right_unused = refl
+      brought (name_died n) = refl
+
+  same_senders : (q : ℕ) → senders new q ≡ senders mid q
+  same_senders q =
+      let parts = s.rights.parts (λ x. if is_of send q x then 1 else 0) in
+      let made = s.notices.ledger (λ x. if is_of send q x then 1 else 0) in
+      let le : (f : Token → Bool) → count f s.rights.going ≤ count f mid.ledger = λ f. (let e = s.rights.parts (λ x. if f x then 1 else 0) in omega (arith, e)) in
+      let goes = no_send_goes q s.rights.going s.rights.go le in
+      let pays = no_send_pays q s.rights.paying s.rights.pay in
+      let posts = no_send_posted q s.notices.posted in
+      omega (arith, parts, made, goes, pays, posts)
+
+  -- ---- so every right stays
+
+  same_stands : (r : Request) → new.stands r ≡ mid.stands r
+  same_stands r = elim (cases_Bool (mid.stands r)) [
+    | inl e ↦ true_from_ne_false (new.stands r) (λ f. nothing_ends old mid new l keeps live same_senders r e (s.requests.only r e f)) ∙ sym e
+    | inr e ↦ s.requests.unmade r e ∙ sym e
+  ]
+
+  stays_new : (kind : Kind) (q : ℕ) (place : Place) → 0 < lying mid kind q place → PlaceStays new place
+  stays_new kind q (in_task t) some = tt
+  stays_new kind q (in_message p k) some = live p ∙ place_stays mid l kind q (in_message p k) some
+  stays_new kind q (in_request r) some = same_stands r ∙ place_stays mid l kind q (in_request r) some
 
   none_pays : (xs : List (Token × Notice)) → All (λ x. PaysFor mid new x.0 x.1) xs → ((test : Token → Bool) → count test (tokens_of xs) ≤ count test mid.ledger) → xs ≡ []
   none_pays [] all le = refl
@@ -232,12 +331,9 @@ module _ (now : ℕ) (old mid new : State) (l : IsLawful mid) (quiet : IsQuiet m
   same_sequence : (p : ℕ) → new.sequence p ≡ mid.sequence p
   same_sequence p = s.ports.sequence p ∙ rw (unsent p)
 
-  same_stands : (r : Request) → new.stands r ≡ mid.stands r
-  same_stands r = s.requests.unmade r (quiet.none_stands r) ∙ sym (quiet.none_stands r)
-
-  -- From a lawful and quiet state after a step's own part that owes nothing, the step ends with that state.
-  pub settles_quietly : IsReordered mid new
-  settles_quietly = record {
+  -- From a lawful state after a step's own part that owes nothing and keeps senders, the step ends with that state.
+  pub settles_calmly : IsReordered mid new
+  settles_calmly = record {
     rest = s.rest ∙ (λ i. record mid {
       live_port = fun_ext live i;
       naming = fun_ext (λ (task : ℕ). alike (new.naming task) (mid.naming task) (same_name task)) i;
@@ -256,6 +352,15 @@ module _ (now : ℕ) (old mid new : State) (l : IsLawful mid) (quiet : IsQuiet m
         let e : weigh h (all_posted_tokens s.notices.posted) ≡ 0 = ap (λ (xs : List Posted). weigh h (all_posted_tokens xs)) none_posted in
         omega (arith, a, b, c, d, e);
   }
+
+pub settles_quietly : (now : ℕ) (old mid new : State) → IsLawful mid → IsQuiet mid → Settles now old mid [] new → IsReordered mid new
+settles_quietly now old mid new l quiet s = settles_calmly now old mid new l (quiet_keeps old mid quiet) s
+
+-- A step that only looks leaves the state, but for the order of the tokens.
+pub looks_reorder : (now : ℕ) (old mid : State) (owed : Owed) (new : State) → IsLawful old → mid ≡ old → owed ≡ [] → Settles now old mid owed new → IsReordered old new
+looks_reorder now old mid owed new l same none s =
+    settles_calmly now old old new l (λ p is some. some)
+    (subst (λ (o : Owed). Settles now old old o new) none (subst (λ (m : State). Settles now old m owed new) same s))
 
 -- ---- and that is lawful
 

@@ -49,8 +49,8 @@ pub data Dies (mid : State) : ℕ → Type 0 where
   carried_at : (p q : ℕ) → Dies mid q → CarriedAt mid p q → ¬ (IsSaved mid p) → Dies mid p
 
 -- a saved port that would have died
-abbrev pub IsSent : State → ℕ → Type 0
-IsSent mid p = IsSaved mid p × (IsOrphan mid p ⊎ ((q : ℕ) × Dies mid q × CarriedAt mid p q))
+abbrev pub IsSentAway : State → ℕ → Type 0
+IsSentAway mid p = IsSaved mid p × (IsOrphan mid p ⊎ ((q : ℕ) × Dies mid q × CarriedAt mid p q))
 
 -- Dies is contained in each set that is closed in this way.
 pub record IsClosed (mid : State) (S : ℕ → Type 0) : Type 0 where

@@ -4,7 +4,7 @@ use Rattle.mach_types.specs.Numbers.{most_references}
 use Rattle.mach_types.specs.Tokens.{send, send_once, Request, no_senders, port_destroyed, dead_name, Place, in_task, in_message, in_request, Token, weigh}
 use Rattle.mach_types.specs.Messages.{Entry}
 use Rattle.mach_model.specs.State.{State, Target, lookup, held, senders}
-use Rattle.mach_model.specs.Death.{Dies, IsSent}
+use Rattle.mach_model.specs.Death.{Dies, IsSentAway}
 use Rattle.mach_model.specs.Notices.{Notice, port_deleted, port_sent, no_more_senders, right_unused, name_died, Owed, notice_message, Posted, all_posted_tokens}
 
 -- ---- what becomes of each right, from the state after the step's own part to the one after the step
@@ -59,7 +59,7 @@ BecameDead mid new target = ⊥
 -- A request that stood after the step's own part ends now.
 abbrev pub Ends : (old mid new : State) → Request → Type 0
 Ends old mid new (no_senders p) = (new.live_port p ≡ false) ⊎ (0 < senders old p) × (senders new p ≡ 0)
-Ends old mid new (port_destroyed p) = (new.live_port p ≡ false) ⊎ IsSent mid p
+Ends old mid new (port_destroyed p) = (new.live_port p ≡ false) ⊎ IsSentAway mid p
 Ends old mid new (dead_name task name) = BecameDead mid new (lookup mid task name)
 
 -- ---- the end of a step
@@ -108,8 +108,8 @@ pub record RequestsSettle (old mid new : State) : Type 0 where
 -- A port that is sent away leaves its sets, and its counts are 0; a dead one leaves its sets too.
 pub record PortsSettle (mid new : State) : Type 0 where
   pub is_sent : ℕ → Bool
-  pub sent : (p : ℕ) → IsSent mid p → is_sent p ≡ true
-  pub sent_only : (p : ℕ) → is_sent p ≡ true → IsSent mid p
+  pub sent : (p : ℕ) → IsSentAway mid p → is_sent p ≡ true
+  pub sent_only : (p : ℕ) → is_sent p ≡ true → IsSentAway mid p
   pub sets_of : (p : ℕ) → new.sets_of p ≡ (if is_sent p then [] else if new.live_port p then mid.sets_of p else [])
   pub make_send : (p : ℕ) → new.make_send p ≡ (if is_sent p then 0 else mid.make_send p)
   pub sequence : (p : ℕ) → new.sequence p ≡ (if is_sent p then 0 else mid.sequence p)

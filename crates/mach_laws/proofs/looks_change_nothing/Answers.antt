@@ -1,0 +1,7 @@
+use Rattle.std.proofs.Common.{length}
+use Rattle.mach_model.proofs.StepLawful.{Run-lawful}
+use Rattle.mach_laws.proofs.Looking.{Step-looks}
+use Rattle.mach_laws.proofs.looks_change_nothing.Goals as goal
+
+pub returns : goal.returns
+returns c = λ events replies s run event reply new step look. Step-looks (length events) s event reply new (Run-lawful events replies s run) step look
