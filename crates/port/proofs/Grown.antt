@@ -6,6 +6,7 @@ use Rattle.std.specs.Ordering.{nat_cmp}
 use Rattle.std.specs.FinMap as map
 use Rattle.slab.specs.Slab.{Slab, get}
 use Rattle.port.specs.declared.Record.{Record}
+use Rattle.port.specs.Turns.{ReadyLists}
 use Rattle.port.specs.Ports.{PortView, PortsView}
 use Rattle.port.specs.Records.{ports_of, port_in, queued_in, IsIndexed, IsSound, made_of}
 use Rattle.port.proofs.Keys.{same_some, some_or_none, equal_or_not, out_here, out_other, same_gets}
@@ -43,7 +44,7 @@ module _ {M : Type 0} where
   -- ---- with one port more
 
   module _ (s t : Slab (Record M)) (keys new_keys : Keyed) (next then : Option ℕ) (spare : List M) (slots : ℕ) (so : IsSound s keys next spare slots)
-      (v : PortsView M) (view_is : record { ports = ports_of (get s) keys; made = made_of next; spare = length spare } ≡ v)
+      {turns : ReadyLists} (v : PortsView M) (view_is : record { ports = ports_of (get s) keys; ready = turns; made = made_of next; spare = length spare } ≡ v)
       (key : ℕ) (a : Record M) (vacant : get s key ≡ None) (changed : get t key ≡ Some a) (others : (other : ℕ) → other ≢ key → get t other ≡ get s other)
       (id : a.id ≡ made_of next) (quiet : length a.queue ≡ 0)
       (put : new_keys ≡ map.insert keys (made_of next) key) (more : made_of then ≡ made_of next + 1) (fits : (n : ℕ) → then ≡ Some n → n < 2 ^ 64) where
@@ -62,19 +63,20 @@ module _ {M : Type 0} where
       next_fits = fits;
     }
 
-    pub view-came : ◌≡◌ {A = PortsView M} record { ports = ports_of (get t) new_keys; made = made_of then; spare = length spare }
-        record { ports = map.insert v.ports v.made (port_of a); made = v.made + 1; spare = v.spare }
-    view-came =
-        let mk : map.FinMap nat_cmp (PortView M) → ℕ → PortsView M = λ ports made. record { ports = ports; made = made; spare = length spare } in
+    pub view-came : (now : ReadyLists) → now ≡ turns → ◌≡◌ {A = PortsView M} record { ports = ports_of (get t) new_keys; ready = now; made = made_of then; spare = length spare }
+        record { ports = map.insert v.ports v.made (port_of a); ready = v.ready; made = v.made + 1; spare = v.spare }
+    view-came now same =
+        let mk : map.FinMap nat_cmp (PortView M) → ℕ → PortsView M = λ ports made. record { ports = ports; ready = turns; made = made; spare = length spare } in
+        ap (λ r. let w : PortsView M = record { ports = ports_of (get t) new_keys; ready = r; made = made_of then; spare = length spare } in w) same ∙
         ap (λ (m : Keyed). mk (ports_of (get t) m) (made_of then)) put
         ∙ ap (λ ports. mk ports (made_of then)) (ports-came (get s) (get t) keys (made_of next) so.indexed key a vacant turns-came id)
         ∙ ap (mk (map.insert (ports_of (get s) keys) (made_of next) (port_of a))) more
-        ∙ ap (λ (b : PortsView M). let c : PortsView M = record { ports = map.insert b.ports b.made (port_of a); made = b.made + 1; spare = b.spare } in c) view_is
+        ∙ ap (λ (b : PortsView M). let c : PortsView M = record { ports = map.insert b.ports b.made (port_of a); ready = b.ready; made = b.made + 1; spare = b.spare } in c) view_is
 
   -- ---- with one port less
 
   module _ (s t : Slab (Record M)) (keys new_keys : Keyed) (next : Option ℕ) (spare : List M) (slots : ℕ) (so : IsSound s keys next spare slots)
-      (v : PortsView M) (view_is : record { ports = ports_of (get s) keys; made = made_of next; spare = length spare } ≡ v)
+      {turns : ReadyLists} (v : PortsView M) (view_is : record { ports = ports_of (get s) keys; ready = turns; made = made_of next; spare = length spare } ≡ v)
       (id key : ℕ) (r : Record M) (found : map.get keys id ≡ Some key) (here : get s key ≡ Some r) (quiet : length r.queue ≡ 0)
       (changed : get t key ≡ None) (others : (other : ℕ) → other ≢ key → get t other ≡ get s other)
       (out : new_keys ≡ map.remove keys id) where
@@ -93,13 +95,14 @@ module _ {M : Type 0} where
       next_fits = so.next_fits;
     }
 
-    pub view-went : ◌≡◌ {A = PortsView M} record { ports = ports_of (get t) new_keys; made = made_of next; spare = length spare }
-        record { ports = map.remove v.ports id; made = v.made; spare = v.spare }
-    view-went =
-        let mk : map.FinMap nat_cmp (PortView M) → PortsView M = λ ports. record { ports = ports; made = made_of next; spare = length spare } in
+    pub view-went : (now : ReadyLists) → now ≡ turns → ◌≡◌ {A = PortsView M} record { ports = ports_of (get t) new_keys; ready = now; made = made_of next; spare = length spare }
+        record { ports = map.remove v.ports id; ready = v.ready; made = v.made; spare = v.spare }
+    view-went now same =
+        let mk : map.FinMap nat_cmp (PortView M) → PortsView M = λ ports. record { ports = ports; ready = turns; made = made_of next; spare = length spare } in
+        ap (λ r. let w : PortsView M = record { ports = ports_of (get t) new_keys; ready = r; made = made_of next; spare = length spare } in w) same ∙
         ap (λ (m : Keyed). mk (ports_of (get t) m)) out
         ∙ ap mk (ports-went (get s) (get t) keys (made_of next) so.indexed id key found turns-went)
-        ∙ ap (λ (b : PortsView M). let c : PortsView M = record { ports = map.remove b.ports id; made = b.made; spare = b.spare } in c) view_is
+        ∙ ap (λ (b : PortsView M). let c : PortsView M = record { ports = map.remove b.ports id; ready = b.ready; made = b.made; spare = b.spare } in c) view_is
 
 -- the count of identities once one more was given
 pub made_more : (o : Option ℕ) (n : ℕ) → SomeIff o (n + 1 < 2 ^ 64) (n + 1) → n < 2 ^ 64 → made_of o ≡ n + 1

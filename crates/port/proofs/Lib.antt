@@ -6,3 +6,5 @@ pub mod Grown
 pub mod Next
 pub mod Moved
 pub mod Readied
+pub mod Turned
+pub mod InTurn

@@ -5,6 +5,7 @@ use Rattle.std.specs.FinMap as map
 use Rattle.std.specs.Option.{SomeIff, option_map}
 use Rattle.slab.specs.Slab.{Slab, get}
 use Rattle.port.specs.declared.Record.{Record}
+use Rattle.port.specs.Turns.{ReadyLists}
 use Rattle.port.specs.Ports.{PortsView, IsNext, IsAfter}
 use Rattle.port.specs.Records.{ports_of, port_in, made_of, IsSound}
 use Rattle.port.proofs.Keys.{same_some}
@@ -43,7 +44,7 @@ pub walked_first : {M : Type 0} (v : PortsView M) (before candidate : Option ℕ
 walked_first v before candidate passed after fits = record { passed = λ q live later. passed q later; after = after; fits = fits }
 
 module _ {M : Type 0} (s : Slab (Record M)) (keys : Keyed) (next : Option ℕ) (spare : List M) (slots : ℕ) (so : IsSound s keys next spare slots)
-    (v : PortsView M) (view_is : record { ports = ports_of (get s) keys; made = made_of next; spare = length spare } ≡ v) where
+    {turns : ReadyLists} (v : PortsView M) (view_is : record { ports = ports_of (get s) keys; ready = turns; made = made_of next; spare = length spare } ≡ v) where
   same_live : (id : ℕ) → map.contains_key v.ports id ≡ is_some (map.get keys id)
   same_live id = ap (λ (b : PortsView M). map.contains_key b.ports id) (sym view_is) ∙ ap is_some (get-ports (get s) keys id) ∙ mapped (λ k. port_in (get s k)) (map.get keys id)
 

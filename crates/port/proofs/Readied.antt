@@ -6,9 +6,10 @@ use Rattle.member_lists.specs.Lists.{ListsView, list_of}
 use Rattle.member_lists.proofs.Listed.{apart_if_none}
 use Rattle.slab.specs.Slab.{Slab, get, with_value}
 use Rattle.port.specs.declared.Record.{Record}
+use Rattle.port.specs.Turns.{ReadyLists, ready_if}
 use Rattle.port.specs.Ports.{PortView, PortsView, IsReadyIn, NoneReadyIn}
 use Rattle.port.specs.Ready.{IsMoved}
-use Rattle.port.specs.Records.{ports_of, made_of, ready_if, ready_set, IsReadied, IsSound, IsKept}
+use Rattle.port.specs.Records.{ports_of, made_of, ready_set, IsReadied, IsSound, IsKept}
 use Rattle.port.proofs.Keys.{same_some, some_or_none, equal_or_not}
 use Rattle.port.proofs.Records.{Keyed, port_of, Turns}
 use Rattle.port.proofs.Sound.{turns-set, live_port, live_at, record_at}
@@ -108,7 +109,7 @@ module _ {M : Type 0} where
   -- ---- the first one
 
   module _ (s : Slab (Record M)) (keys : Keyed) (next : Option ℕ) (spare : List M) (slots : ℕ) (so : IsSound s keys next spare slots)
-      (v : PortsView M) (view_is : record { ports = ports_of (get s) keys; made = made_of next; spare = length spare } ≡ v)
+      {turns : ReadyLists} (v : PortsView M) (view_is : record { ports = ports_of (get s) keys; ready = turns; made = made_of next; spare = length spare } ≡ v)
       (ready : ListsView) (readied : IsReadied (get s) ready) (set : ℕ) where
     pub first_held : (key : ℕ) → slice_get (list_of ready set) 0 ≡ Some key → Contains (list_of ready set) key
     first_held key e = (0, slice_get_within (list_of ready set) 0 key e, get_or_from_slice_get (list_of ready set) 0 key key e)

@@ -8,7 +8,8 @@ use Rattle.std.proofs.lemmas.List.{get_or-set_same, get_or-set_other}
 use Rattle.std.proofs.lemmas.List.Sums.{sum_by-set, sum_by-cons}
 use Rattle.slab.specs.Slab.{Slab, get, with_value}
 use Rattle.port.specs.declared.Record.{Record}
-use Rattle.port.specs.Ports.{PortView, PortsView}
+use Rattle.port.specs.Turns.{ReadyLists}
+use Rattle.port.specs.Ports.{PortView, PortsView, turned}
 use Rattle.port.specs.Records.{ports_of, queued_in, IsSound, made_of}
 use Rattle.port.proofs.Keys.{same_some, some_or_none}
 use Rattle.port.proofs.Records.{Keyed, port_of, Turns, port_at, no_port_at, live_key, ports-changed, indexed-changed}
@@ -36,7 +37,7 @@ module _ {M : Type 0} where
         omega arith
 
   module _ (s : Slab (Record M)) (keys : Keyed) (next : Option ℕ) (spare left : List M) (slots : ℕ) (so : IsSound s keys next spare slots)
-      (v : PortsView M) (view_is : record { ports = ports_of (get s) keys; made = made_of next; spare = length spare } ≡ v)
+      {turns : ReadyLists} (v : PortsView M) (view_is : record { ports = ports_of (get s) keys; ready = turns; made = made_of next; spare = length spare } ≡ v)
       (id key : ℕ) (r a : Record M) (found : map.get keys id ≡ Some key) (here : get s key ≡ Some r) (same : a.id ≡ r.id)
       (balance : length a.queue + length left ≡ length r.queue + length spare) where
     pub is_port : (p : PortView M) → map.get v.ports id ≡ Some p → p ≡ port_of r
@@ -50,12 +51,13 @@ module _ {M : Type 0} where
       next_fits = so.next_fits;
     }
 
-    pub view-set : ◌≡◌ {A = PortsView M} record { ports = ports_of (get (with_value s key a)) keys; made = made_of next; spare = length left }
-        record { ports = map.insert v.ports id (port_of a); made = v.made; spare = length left }
-    view-set =
-        let mk : map.FinMap nat_cmp (PortView M) → ℕ → PortsView M = λ ports made. record { ports = ports; made = made; spare = length left } in
+    pub view-set : (then : ReadyLists) → then ≡ turned v.ready id (map.get v.ports id) (port_of a) → ◌≡◌ {A = PortsView M} record { ports = ports_of (get (with_value s key a)) keys; ready = then; made = made_of next; spare = length left }
+        record { ports = map.insert v.ports id (port_of a); ready = turned v.ready id (map.get v.ports id) (port_of a); made = v.made; spare = length left }
+    view-set then is =
+        let mk : map.FinMap nat_cmp (PortView M) → ℕ → PortsView M = λ ports made. record { ports = ports; ready = then; made = made; spare = length left } in
         ap (λ ports. mk ports (made_of next)) (ports-changed (get s) (get (with_value s key a)) keys (made_of next) so.indexed id key r a found here (turns-set s key r a here) same)
         ∙ ap (λ (b : PortsView M). mk (map.insert b.ports id (port_of a)) b.made) view_is
+        ∙ ap (λ t. let w : PortsView M = record { ports = map.insert v.ports id (port_of a); ready = t; made = v.made; spare = length left } in w) is
 
   -- ---- after a port has come
 
@@ -83,7 +85,7 @@ module _ {M : Type 0} where
   -- ---- a port by its identity
 
   module _ (s : Slab (Record M)) (keys : Keyed) (next : Option ℕ) (spare : List M) (slots : ℕ) (so : IsSound s keys next spare slots)
-      (v : PortsView M) (view_is : record { ports = ports_of (get s) keys; made = made_of next; spare = length spare } ≡ v) (id : ℕ) where
+      {turns : ReadyLists} (v : PortsView M) (view_is : record { ports = ports_of (get s) keys; ready = turns; made = made_of next; spare = length spare } ≡ v) (id : ℕ) where
     pub record_at : (k : ℕ) → map.get keys id ≡ Some k → (r : Record M) × (get s k ≡ Some r) × (r.id ≡ id)
     record_at k h = so.indexed.found id k h
 

@@ -1,10 +1,11 @@
--- What contracts see of ports: each live port's queue and attributes, how many were made, and how many slots are spare.
-use Rattle.std.specs.Prelude.{◌≡◌, ℕ, ◌+◌, ◌<◌, ◌≤◌, ◌%◌, ◌^◌, List, Option, Some, None, true, length, refl}
+-- What contracts see of ports: each live port's queue and attributes, the ready ports of each set in their turns, how many were made, and how many slots are spare.
+use Rattle.std.specs.Prelude.{◌≡◌, ℕ, ◌+◌, ◌<◌, ◌≤◌, ◌%◌, ◌^◌, ◌&&◌, Bool, leb, cond, List, Option, Some, None, true, length, refl}
 use Rattle.std.specs.Coded.{Coded, code_by, coded×, coded_ℕ, coded_list}
 use Rattle.std.specs.FinMap as map
 use Rattle.std.specs.Ordering.{nat_cmp}
 use Rattle.mach_types.specs.Numbers.{first_limit}
 use Rattle.port.specs.declared.Attributes.{Attributes}
+use Rattle.port.specs.Turns.{ReadyLists, left, joined, ready_if, same_set}
 
 pub record PortView (M : Type 0) : Type 0 where
   pub queue : List M
@@ -12,6 +13,7 @@ pub record PortView (M : Type 0) : Type 0 where
 
 pub record PortsView (M : Type 0) : Type 0 where
   pub ports : map.FinMap nat_cmp (PortView M)
+  pub ready : ReadyLists
   pub made : ℕ
   pub spare : ℕ
 
@@ -20,9 +22,9 @@ port_code {M} m a = code_by (List M × Attributes) (coded× (coded_list m) a) (�
 
 abbrev pub ports_code : {M : Type 0} → Coded M → Coded Attributes → Coded (PortsView M)
 ports_code {M} m a = code_by
-    (map.FinMap nat_cmp (PortView M) × (ℕ × ℕ)) (coded× (map.code coded_ℕ (port_code m a)) (coded× coded_ℕ coded_ℕ))
-    (λ v. (v.ports, (v.made, v.spare)))
-    (λ p. record { ports = p.0; made = p.1.0; spare = p.1.1 })
+    (map.FinMap nat_cmp (PortView M) × (ReadyLists × (ℕ × ℕ))) (coded× (map.code coded_ℕ (port_code m a)) (coded× (map.code coded_ℕ (coded_list coded_ℕ)) (coded× coded_ℕ coded_ℕ)))
+    (λ v. (v.ports, (v.ready, (v.made, v.spare))))
+    (λ p. record { ports = p.0; ready = p.1.0; made = p.1.1.0; spare = p.1.1.1 })
     (λ _. refl)
 
 -- a new port's attributes: limit 5, and no message yet sent, made or received
@@ -41,9 +43,21 @@ module _ {M : Type 0} where
   abbrev pub IsLive : PortsView M → ℕ → Type 0
   IsLive v port = map.contains_key v.ports port ≡ true
 
+  abbrev pub ready_in : PortView M → Option ℕ
+  ready_in p = ready_if p.queue p.attributes.set
+
+  -- a port keeps its turn: no message was taken from it, and it is ready in the same set as before
+  abbrev pub keeps_turn : (was now : PortView M) → Bool
+  keeps_turn was now = leb (length was.queue) (length now.queue) && same_set (ready_in was) (ready_in now)
+
+  -- The turns once a port is as given: it keeps its turn, or leaves it and joins at the end where it is ready now.
+  abbrev pub turned : ReadyLists → (port : ℕ) → Option (PortView M) → PortView M → ReadyLists
+  turned ready port None now = joined ready port (ready_in now)
+  turned ready port (Some was) now = cond (keeps_turn was now) ready (joined (left ready port (ready_in was)) port (ready_in now))
+
   -- one port as given, and each other as it was
   abbrev pub with_port : PortsView M → ℕ → PortView M → PortsView M
-  with_port v port p = record v { ports = map.insert v.ports port p }
+  with_port v port p = record v { ports = map.insert v.ports port p; ready = turned v.ready port (map.get v.ports port) p }
 
 -- after the one before, or any where there is none before
 abbrev pub IsAfter : Option ℕ → ℕ → Type 0

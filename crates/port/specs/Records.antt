@@ -8,10 +8,11 @@ use Rattle.slab.specs.Slab.{Slab, get}
 use Rattle.member_lists.specs.Lists.{ListsView, list_of}
 use Rattle.port.specs.declared.Record.{Record}
 use Rattle.port.specs.Ready.{StandsIn}
+use Rattle.port.specs.Turns.{ReadyLists, ready_if}
 use Rattle.port.specs.Ports.{PortView, first_attributes}
 
 -- the map with each value v replaced by f v
-abbrev pub with_values : {X : Type 0} → (ℕ → X) → map.FinMap nat_cmp ℕ → map.FinMap nat_cmp X
+abbrev pub with_values : {Y X : Type 0} → (Y → X) → map.FinMap nat_cmp Y → map.FinMap nat_cmp X
 with_values f m = map.from_sorted (std.map (λ e. (e.0, f e.1)) (map.entries m))
 
 -- how many numbers were given out, where the next is this, or none is left
@@ -26,6 +27,17 @@ module _ {M : Type 0} where
 
   abbrev pub ports_of : (ℕ → Option (Record M)) → map.FinMap nat_cmp ℕ → map.FinMap nat_cmp (PortView M)
   ports_of at keys = with_values (λ key. port_in (at key)) keys
+
+  abbrev pub id_in : Option (Record M) → ℕ
+  id_in None = 0
+  id_in (Some r) = r.id
+
+  -- the identities of the ports under the keys
+  abbrev pub ids_at : (ℕ → Option (Record M)) → List ℕ → List ℕ
+  ids_at at keys = std.map (λ key. id_in (at key)) keys
+
+  abbrev pub turns_at : (ℕ → Option (Record M)) → map.FinMap nat_cmp (List ℕ) → ReadyLists
+  turns_at at lists = with_values (ids_at at) lists
 
   -- how many messages lie in a slot of the slab
   abbrev pub queued_in : Option (Record M) → ℕ
@@ -43,11 +55,6 @@ module _ {M : Type 0} where
     pub counted : sum_by queued_in s.slots + length spare ≡ slots
     pub few : slots < 2 ^ 63
     pub next_fits : (n : ℕ) → next ≡ Some n → n < 2 ^ 64
-
-  -- the set that a port is ready in, if it has a message
-  abbrev pub ready_if : List M → Option ℕ → Option ℕ
-  ready_if [] set = None
-  ready_if (m ∷ ms) set = set
 
   abbrev pub ready_set : Record M → Option ℕ
   ready_set r = ready_if r.queue r.attributes.set

@@ -5,14 +5,15 @@
 //! given from 0 and never again: one whose port is gone finds nothing.
 #![tactic(auto)]
 
-ghost use Rattle.std.specs.Prelude.{◌≡◌, ◌≢◌, ℕ, ◌+◌, ◌-◌, ◌<◌, ◌≤◌, ◌^◌, ◌↔◌, ◌++◌, ◌∷◌, [], List, length, IsTrue, true, false, Some, None, IsSome, IfSome, IfOk, IfNone, OnOk, OnErr, option_copied, slice_get, drop};
+ghost use Rattle.std.specs.Prelude.{◌≡◌, ◌≢◌, ℕ, ◌+◌, ◌-◌, ◌<◌, ◌≤◌, ◌^◌, ◌↔◌, ◌++◌, ◌∷◌, [], List, length, IsTrue, true, false, cond, Some, None, IsSome, IfSome, IfOk, IfNone, OnOk, OnErr, option_copied, slice_get, drop};
 ghost use Rattle.std.specs.Option.{option_map, option_and_then};
 ghost use Rattle.std.specs.FinMap as map;
 ghost use Rattle.std.specs.Ordering.{nat_cmp};
 ghost use Rattle.number_map.specs.Maps.{MapView};
 ghost use Rattle.slab.specs.Slab.{get, with_value};
 ghost use Rattle.port.specs.declared.Record.{Record as AnyRecord};
-ghost use Rattle.port.specs.Ready.{StandsIn, IsMoved};
+ghost use Rattle.port.specs.Ready.{StandsIn, IsMoved, out_of, at_end};
+ghost use Rattle.port.specs.Turns.{turns_of, same_set};
 ghost use Rattle.port.specs.Ports.{IsAfter, one_made, one_received};
 ghost use Rattle.port.specs.Records.{made_of, ready_set};
 
@@ -96,10 +97,11 @@ impl<M: Message> Model for Ports<M> {
     ghost coded = { ports_code M.code attributes.the_row.coded };
 
     ghost use Rattle.slab.specs.Slab.{get};
-    ghost use Rattle.port.specs.Records.{ports_of, made_of, IsKept};
+    ghost use Rattle.port.specs.Records.{ports_of, turns_at, made_of, IsKept};
 
     ghost view = { λ a. record {
       ports = ports_of (get a.records) a.by_id.map;
+      ready = turns_at (get a.records) a.ready.lists;
       made = made_of a.next;
       spare = length a.spare;
     } };
@@ -240,7 +242,8 @@ fn ready_at<M: Message>(records: &Slab<Record<M>>, key: usize) -> Option<u64>
 // Takes the port under the key out of the ready ones of this set, if it is ready in one.
 fn leave(ready: &mut Lists, key: usize, was: Option<u64>)
     requires { StandsIn ready.old key was }
-    ensures { IsMoved ready.old ready.new key None }
+    ensures moved { IsMoved ready.old ready.new key None }
+    ensures left { ready.new ≡ out_of ready.old key was }
 {
     if let Some(set) = was {
         ready.remove(set, key);
@@ -251,7 +254,8 @@ fn leave(ready: &mut Lists, key: usize, was: Option<u64>)
 fn join(ready: &mut Lists, key: usize, now: Option<u64>)
     requires room { key < ready.old.items }
     requires apart { StandsIn ready.old key None }
-    ensures { IsMoved ready.old ready.new key now }
+    ensures moved { IsMoved ready.old ready.new key now }
+    ensures joined { ready.new ≡ at_end ready.old key now }
 {
     if let Some(set) = now {
         ready.push(set, key);
@@ -260,7 +264,8 @@ fn join(ready: &mut Lists, key: usize, now: Option<u64>)
 
 // Whether the two are the same number, or none.
 fn is_same(one: Option<u64>, other: Option<u64>) -> bool
-    ensures { IsTrue result → one ≡ other }
+    ensures same { IsTrue result → one ≡ other }
+    ensures told { result ≡ same_set one other }
 {
     match one {
         Some(one) => match other {
@@ -275,7 +280,8 @@ fn is_same(one: Option<u64>, other: Option<u64>) -> bool
 fn renew(ready: &mut Lists, key: usize, was: Option<u64>, now: Option<u64>)
     requires room { key < ready.old.items }
     requires was { StandsIn ready.old key was }
-    ensures { IsMoved ready.old ready.new key now }
+    ensures moved { IsMoved ready.old ready.new key now }
+    ensures turned { ready.new ≡ cond (same_set was now) ready.old (at_end (out_of ready.old key was) key now) }
 {
     if is_same(was, now) {
         return;
@@ -319,7 +325,7 @@ impl<M: Message> Ports<M> {
 
     /// No ports, and no slots. Allocates nothing; constant time.
     pub fn new(alloc: Global) -> Ports<M>
-        ensures { result ≡ record { ports = map.empty; made = 0; spare = 0 } }
+        ensures { result ≡ record { ports = map.empty; ready = map.empty; made = 0; spare = 0 } }
     {
         Ports {
             records: Slab::new(alloc),
@@ -435,10 +441,12 @@ impl<M: Message> Ports<M> {
         None
     }
 
-    /// A port of the set that has a message, if there is one: each in its turn, as one whose message
-    /// is taken goes to the end. Constant time, but for ports that are ready in sets whose numbers
+    /// The port of the set that has a message and whose turn it is, if there is one. A port gets its
+    /// turn at the end: when it becomes ready in the set, and again when a message is taken from it
+    /// and it has more. Constant time, but for ports that are ready in sets whose numbers
     /// are the same modulo 1,024.
     pub fn first_ready(&self, set: SetId) -> Option<PortId>
+        ensures first { result ≡ slice_get (turns_of self.now.ready set) 0 }
         ensures some { IfSome result (λ port. IsReadyIn self.now set port) }
         ensures none { IfNone result (NoneReadyIn self.now set) }
     {

@@ -2,7 +2,9 @@
 use Rattle.std.proofs.Common.{◌≡◌, ◌≢◌, ◌⊎◌, inl, inr, ℕ, ◌<◌, ◌≤◌, true, false, refl, ap, sym, subst, ◌∙◌, Option, Some, None, is_some, arith}
 use Rattle.std.proofs.lemmas.Bool.Decides.{leb_tells}
 use Rattle.std.specs.FinMap as map
-use Rattle.port.specs.Ports.{PortView, PortsView, with_port, IsAfter, IsNext}
+use Rattle.port.specs.Ports.{PortView, PortsView, with_port, turned, IsAfter, IsNext}
+use Rattle.port.specs.Turns.{turns_of}
+use Rattle.port.proofs.InTurn.{turned_other, ready_if_in}
 use Rattle.port.proofs.Keys.{same_some, some_or_none, equal_or_not, put_here, put_other}
 use Rattle.port_set.specs.Sets.{in_set, IsDisbanded}
 use Rattle.port_set.specs.Kept.{IsLeft, IsLeftUpTo}
@@ -53,6 +55,16 @@ module _ {M : Type 0} (old new : PortsView M) (port set : ℕ) (left : IsLeft ol
       made = ap (λ (v : PortsView M). v.made) is;
       spare = ap (λ (v : PortsView M). v.spare) is;
     }
+  ]
+
+  others_turns : (other : ℕ) → other ≢ set → turns_of new.ready other ≡ turns_of old.ready other
+  others_turns other d = elim (in_or_not p.attributes.set set) [
+    | inl e ↦ ap (λ (v : PortsView M). turns_of v.ready other) (left.member p there e)
+        ∙ ap (λ o. turns_of (turned old.ready port o (in_set p None)) other) there
+        ∙ turned_other old.ready port p (in_set p None) other
+            (λ h. d (same_some other set (sym (ready_if_in p.queue p.attributes.set other h) ∙ e)))
+            (λ h. none_is_some other (ready_if_in p.queue None other h))
+    | inr e ↦ ap (λ (v : PortsView M). turns_of v.ready other) (left.other p there e)
   ]
 
   out_now : p.attributes.set ≡ Some set → map.get new.ports port ≡ Some (in_set p None)
@@ -110,6 +122,7 @@ module _ {M : Type 0} (old mid new : PortsView M) (set port : ℕ) (before found
     members = λ b e q p few h m. members_after q p (let at : port ≡ b = same_some port b e in omega arith) h m;
     others = others_after;
     ahead = ahead_after;
+    turns = λ other d. others_turns mid new port set left there.0 there.1 other d ∙ so.turns other d;
     made = same.made ∙ so.made;
     spare = same.spare ∙ so.spare;
   }
@@ -126,6 +139,7 @@ module _ {M : Type 0} (old new : PortsView M) (set : ℕ) (before : Option ℕ) 
     gone = so.gone;
     members = members_all;
     others = so.others;
+    turns = so.turns;
     made = so.made;
     spare = so.spare;
   }

@@ -4,6 +4,7 @@ use Rattle.std.specs.Ordering.{nat_cmp}
 use Rattle.std.specs.FinMap as map
 use Rattle.port.specs.Ports.{PortView, PortsView, with_port, IsAfter}
 use Rattle.port.specs.Records.{made_of}
+use Rattle.port.specs.Turns.{turns_of}
 use Rattle.port_set.specs.declared.SetRecord.{SetRecord}
 use Rattle.port_set.specs.Sets.{in_set}
 
@@ -24,6 +25,7 @@ module _ {M : Type 0} where
     pub members : (b : ℕ) → last ≡ Some b → (q : ℕ) (p : PortView M) → q ≤ b → map.get old.ports q ≡ Some p → p.attributes.set ≡ Some set → map.get new.ports q ≡ Some (in_set p None)
     pub others : (q : ℕ) (p : PortView M) → map.get old.ports q ≡ Some p → p.attributes.set ≢ Some set → map.get new.ports q ≡ Some p
     pub ahead : (q : ℕ) (p : PortView M) → IsAfter last q → map.get old.ports q ≡ Some p → map.get new.ports q ≡ Some p
+    pub turns : (other : ℕ) → other ≢ set → turns_of new.ready other ≡ turns_of old.ready other
     pub made : new.made ≡ old.made
     pub spare : new.spare ≡ old.spare
 

@@ -5,10 +5,11 @@
 //! set is gone finds nothing.
 #![tactic(auto)]
 
-ghost use Rattle.std.specs.Prelude.{◌≡◌, ℕ, ◌+◌, ◌<◌, ◌≤◌, ◌↔◌, IsTrue, Some, None, IsSome, IfSome, IfNone, IfOk, OnOk, OnErr, length};
+ghost use Rattle.std.specs.Prelude.{◌≡◌, ℕ, ◌+◌, ◌<◌, ◌≤◌, ◌↔◌, IsTrue, Some, None, IsSome, IfSome, IfNone, IfOk, OnOk, OnErr, length, slice_get};
 ghost use Rattle.std.specs.FinMap as map;
 ghost use Rattle.std.specs.Ordering.{nat_cmp};
 ghost use Rattle.port.specs.Ports.{PortView, IsLive, with_port};
+ghost use Rattle.port.specs.Turns.{turns_of};
 ghost use Rattle.port_set.specs.Sets.{in_set, IsReady, NoneReady, IsDisbanded};
 ghost use Rattle.port_set.specs.Kept.{IsLeft};
 ghost use Rattle.port_set.specs.declared.SetRecord.{SetRecord as AnyRecord};
@@ -150,10 +151,11 @@ fn is_member<M: Message>(ports: &Ports<M>, port: PortId, set: SetId) -> bool
     }
 }
 
-/// A member of the set that has a message, if there is one (IPC Interface, `mach_msg`, receiving by
-/// a port set). Takes no memory. Constant time, but for ports that are ready in sets whose numbers are
-/// the same modulo 1,024.
+/// The member of the set that has a message and whose turn it is, if there is one (IPC Interface,
+/// `mach_msg`, receiving by a port set). Takes no memory. Constant time, but for ports that are ready
+/// in sets whose numbers are the same modulo 1,024.
 pub fn ready_member<M: Message>(ports: &Ports<M>, set: SetId) -> Option<PortId>
+    ensures first { result ≡ slice_get (turns_of ports.now.ready set) 0 }
     ensures some { IfSome result (λ port. IsReady ports.now set port) }
     ensures none { IfNone result (NoneReady ports.now set) }
 {

@@ -7,8 +7,9 @@ use Rattle.slab.specs.Slab.{Slab, get}
 use Rattle.port.specs.declared.Attributes.{Attributes}
 use Rattle.port.specs.declared.Record.{Record}
 use Rattle.port.specs.Ports.{PortView, PortsView}
-use Rattle.port.specs.Records.{made_of, IsReadied, IsKept}
+use Rattle.port.specs.Records.{turns_at, made_of, IsReadied, IsKept}
 use Rattle.port.proofs.Readied.{readied-came, kept-capacity}
+use Rattle.port.proofs.Turned.{turns-apart, apart-vacant}
 use Rattle.port.proofs.Grown.{made_more, next_in_range, sound-came, view-came}
 use Rattle.port.proofs.Ports.allocate.Goals as goal
 
@@ -48,12 +49,16 @@ returns-clause-ok g c =
     ∙ ap (λ n. map.insert c.self.inside.by_id.map n c.insert_reserved-key.result) (sym number) in
     let after : List g.row.M.Denot → Attributes → PortsView g.row.M.Denot = λ l b. record {
       ports = map.insert c.args.self.now.ports c.args.self.now.made (let q : PortView g.row.M.Denot = record { queue = l; attributes = b } in q);
+      ready = c.args.self.now.ready;
       made = c.args.self.now.made + 1;
       spare = c.args.self.now.spare;
     } in
     view-came c.self.inside.records c.insert_reserved-key.new.self c.self.inside.by_id.map c.insert.new.self.map c.self.inside.next c.checked_add-self-inside.result c.self.inside.spare c.self.inside.slots c.self.invariant.sound c.args.self.now c.self.view_is
     c.insert_reserved-key.result a vacant c.insert_reserved-key.ensures.updates.changed others (c.new-id.ensures ∙ sym number) (ap length c.new.ensures) put
     (made_more c.checked_add-self-inside.result c.unwrap-number.result c.checked_add-self-inside.ensures few ∙ ap (λ n. n + 1) (sym number)) (next_in_range c.checked_add-self-inside.result c.unwrap-number.result c.checked_add-self-inside.ensures)
+    (turns_at (get c.insert_reserved-key.new.self) c.reserve-3.new.self.lists)
+    (ap (λ (w : ListsView). turns_at (get c.insert_reserved-key.new.self) w.lists) c.in_ok-reserve-3.ensures.ok
+        ∙ turns-apart (get c.self.inside.records) (get c.insert_reserved-key.new.self) c.self.inside.ready c.insert_reserved-key.result (apart-vacant (get c.self.inside.records) c.self.inside.ready c.self.invariant.readied c.insert_reserved-key.result vacant) others)
     ∙ ap (λ l. after l c.first.result) c.new.ensures ∙ ap (after []) c.first.ensures
 
 pub invariant_of-self : goal.invariant_of-self

@@ -1,14 +1,15 @@
-use Rattle.std.proofs.Common.{◌≡◌, ℕ, Some, is_some, ap, sym, subst, ◌∙◌, refl, length}
+use Rattle.std.proofs.Common.{◌≡◌, arith, ℕ, Some, is_some, ap, sym, subst, ◌∙◌, refl, length}
 use Rattle.std.specs.FinMap as map
-use Rattle.slab.specs.Slab.{Slab, get}
+use Rattle.slab.specs.Slab.{Slab, get, with_value}
 use Rattle.port.specs.declared.Record.{Record}
-use Rattle.port.specs.Ports.{PortView, PortsView, one_made}
-use Rattle.port.specs.Records.{ports_of, made_of, ready_set, IsReadied, IsSound}
+use Rattle.port.specs.Ports.{PortView, PortsView, turned, one_made}
+use Rattle.port.specs.Records.{ports_of, turns_at, made_of, ready_set, IsReadied, IsSound}
 use Rattle.port.specs.Ready.{StandsIn, IsMoved}
 use Rattle.port.proofs.Readied.{readied-set}
 use Rattle.port.proofs.Keys.{some_or_none}
 use Rattle.port.proofs.Records.{port_of}
 use Rattle.port.proofs.Sound.{record_at, live_port, gone_port, is_port, sound-set, view-set}
+use Rattle.port.proofs.Turned.{turned-same}
 use Rattle.port.proofs.Ports.count_make_send.Goals as goal
 
 pub count_at-requires : goal.count_at-requires
@@ -37,11 +38,12 @@ returns-in-Some-clause-live g c p h =
     let r : Record g.row.M.Denot = there.0 in
     let a : Record g.row.M.Denot = record { id = r.id; queue = r.queue; attributes = one_made r.attributes } in
     let is : p ≡ port_of r = is_port c.self.inside.records c.self.inside.by_id.map c.self.inside.next c.self.inside.spare c.self.inside.spare c.self.inside.slots c.self.invariant.sound c.args.self.now c.self.view_is c.args.port c.in-Some.key r a found there.1 refl refl p h in
-    let view : Slab (Record g.row.M.Denot) → PortsView g.row.M.Denot = λ t. record { ports = ports_of (get t) c.self.inside.by_id.map; made = made_of c.self.inside.next; spare = length c.self.inside.spare } in
-    let after : PortView g.row.M.Denot → ℕ → PortsView g.row.M.Denot = λ q n. record { ports = map.insert c.args.self.now.ports c.args.port (let b : PortView g.row.M.Denot = record { queue = q.queue; attributes = one_made q.attributes } in b); made = c.args.self.now.made; spare = n } in
+    let view : Slab (Record g.row.M.Denot) → PortsView g.row.M.Denot = λ t. record { ports = ports_of (get t) c.self.inside.by_id.map; ready = turns_at (get t) c.self.inside.ready.lists; made = made_of c.self.inside.next; spare = length c.self.inside.spare } in
+    let after : PortView g.row.M.Denot → ℕ → PortsView g.row.M.Denot = λ q n. record { ports = map.insert c.args.self.now.ports c.args.port (let b : PortView g.row.M.Denot = record { queue = q.queue; attributes = one_made q.attributes } in b); ready = turned c.args.self.now.ready c.args.port (map.get c.args.self.now.ports c.args.port) (let b : PortView g.row.M.Denot = record { queue = q.queue; attributes = one_made q.attributes } in b); made = c.args.self.now.made; spare = n } in
     let was : length c.self.inside.spare ≡ c.args.self.now.spare = ap (λ (b : PortsView g.row.M.Denot). b.spare) c.self.view_is in
     ap view (c.count_at.ensures r there.1)
-    ∙ view-set c.self.inside.records c.self.inside.by_id.map c.self.inside.next c.self.inside.spare c.self.inside.spare c.self.inside.slots c.self.invariant.sound c.args.self.now c.self.view_is c.args.port c.in-Some.key r a found there.1 refl refl
+    ∙ view-set c.self.inside.records c.self.inside.by_id.map c.self.inside.next c.self.inside.spare c.self.inside.spare c.self.inside.slots c.self.invariant.sound c.args.self.now c.self.view_is c.args.port c.in-Some.key r a found there.1 refl refl (turns_at (get (with_value c.self.inside.records c.in-Some.key a)) c.self.inside.ready.lists)
+        (turned-same c.self.inside.records c.self.inside.by_id.map c.self.inside.next c.self.inside.spare c.self.inside.slots c.self.invariant.sound c.self.inside.ready c.args.self.now c.self.view_is c.self.invariant.readied c.args.port c.in-Some.key r a found there.1 refl refl (omega arith))
     ∙ ap (λ q. after q (length c.self.inside.spare)) (sym is)
     ∙ ap (after p) was
 

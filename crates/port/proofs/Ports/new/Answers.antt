@@ -7,6 +7,8 @@ use Rattle.std.specs.Ordering.{nat_cmp}
 use Rattle.slab.specs.Slab.{get}
 use Rattle.port.specs.Ports.{PortView, PortsView}
 use Rattle.number_map.specs.Maps.{MapView}
+use Rattle.port.specs.Records.{turns_at}
+use Rattle.port.proofs.Turned.{turns-none}
 use Rattle.port.proofs.Grown.{sound-empty, ports-empty}
 use Rattle.port.proofs.Ports.new.Goals as goal
 
@@ -18,6 +20,8 @@ invariant_of-result g c = record {
 
 pub returns : goal.returns
 returns g c =
-    let mk : map.FinMap nat_cmp (PortView g.row.M.Denot) → ℕ → PortsView g.row.M.Denot = λ ports n. record { ports = ports; made = 0; spare = n } in
-    ap (λ ports. mk ports (length c.new-4.result)) (ports-empty (get c.new.result) c.new-2.result.map (ap (λ (w : MapView ℕ). w.map) c.new-2.ensures))
-    ∙ ap (λ l. mk map.empty (length l)) c.new-4.ensures
+    let lists : map.FinMap nat_cmp (List ℕ) = c.new-3.result.lists in
+    let mk : map.FinMap nat_cmp (PortView g.row.M.Denot) → map.FinMap nat_cmp (List ℕ) → ℕ → PortsView g.row.M.Denot = λ ports turns n. record { ports = ports; ready = turns; made = 0; spare = n } in
+    ap (λ ports. mk ports (turns_at (get c.new.result) lists) (length c.new-4.result)) (ports-empty (get c.new.result) c.new-2.result.map (ap (λ (w : MapView ℕ). w.map) c.new-2.ensures))
+    ∙ ap (λ turns. mk map.empty turns (length c.new-4.result)) (turns-none (get c.new.result) lists (ap (λ (w : ListsView). w.lists) c.new-3.ensures))
+    ∙ ap (λ l. mk map.empty map.empty (length l)) c.new-4.ensures

@@ -4,10 +4,11 @@ use Rattle.std.specs.Ordering.{nat_cmp}
 use Rattle.number_map.specs.Maps.{MapView}
 use Rattle.slab.specs.Slab.{get}
 use Rattle.port.specs.Ports.{PortView, PortsView}
-use Rattle.port.specs.Records.{ports_of, made_of, IsKept}
+use Rattle.port.specs.Records.{ports_of, turns_at, made_of, IsKept}
 use Rattle.port.proofs.Records.{port_of}
 use Rattle.port.proofs.Sound.{record_at, live_port, gone_port}
 use Rattle.port.proofs.Readied.{readied-went}
+use Rattle.port.proofs.Turned.{turns-apart, apart-quiet}
 use Rattle.port.proofs.Grown.{sound-went, view-went, remove-absent}
 use Rattle.port.proofs.Ports.remove.Goals as goal
 
@@ -37,12 +38,15 @@ returns-in-Some g c =
     ap (λ (w : MapView ℕ). w.map) c.remove.ensures.after ∙ ap (map.remove c.self.inside.by_id.map) c.number.ensures in
     view-went c.self.inside.records c.remove-in-Some.new.self c.self.inside.by_id.map c.remove.new.self.map c.self.inside.next c.self.inside.spare c.self.inside.slots c.self.invariant.sound c.args.self.now c.self.view_is
     c.args.port c.in-Some.key c.remove-in-Some.result found c.remove-in-Some.ensures.value quiet c.remove-in-Some.ensures.updates.changed c.remove-in-Some.ensures.updates.others out
+    (turns_at (get c.remove-in-Some.new.self) c.self.inside.ready.lists)
+    (turns-apart (get c.self.inside.records) (get c.remove-in-Some.new.self) c.self.inside.ready c.in-Some.key (apart-quiet (get c.self.inside.records) c.self.inside.ready c.self.invariant.readied c.in-Some.key c.remove-in-Some.result c.remove-in-Some.ensures.value quiet)
+        c.remove-in-Some.ensures.updates.others)
 
 pub returns-in-None : goal.returns-in-None
 returns-in-None g c =
     let none : map.get c.self.inside.by_id.map c.args.port ≡ None = sym (c.in-None.ensures.value ∙ ap (map.get c.self.inside.by_id.map) c.number.ensures) in
-    let view : map.FinMap nat_cmp ℕ → PortsView g.row.M.Denot = λ keys. record { ports = ports_of (get c.self.inside.records) keys; made = made_of c.self.inside.next; spare = length c.self.inside.spare } in
-    let after : map.FinMap nat_cmp (PortView g.row.M.Denot) → PortsView g.row.M.Denot = λ ports. record { ports = ports; made = c.args.self.now.made; spare = c.args.self.now.spare } in
+    let view : map.FinMap nat_cmp ℕ → PortsView g.row.M.Denot = λ keys. record { ports = ports_of (get c.self.inside.records) keys; ready = turns_at (get c.self.inside.records) c.self.inside.ready.lists; made = made_of c.self.inside.next; spare = length c.self.inside.spare } in
+    let after : map.FinMap nat_cmp (PortView g.row.M.Denot) → PortsView g.row.M.Denot = λ ports. record { ports = ports; ready = c.args.self.now.ready; made = c.args.self.now.made; spare = c.args.self.now.spare } in
     let same : c.remove.new.self.map ≡ c.self.inside.by_id.map = ap (λ (w : MapView ℕ). w.map) c.remove.ensures.after ∙ ap (map.remove c.self.inside.by_id.map) c.number.ensures ∙ remove-absent c.self.inside.by_id.map c.args.port none in
     ap view same ∙ c.self.view_is ∙ ap after (sym (remove-absent c.args.self.now.ports c.args.port (gone_port c.self.inside.records c.self.inside.by_id.map c.self.inside.next c.self.inside.spare c.self.inside.slots c.self.invariant.sound c.args.self.now c.self.view_is c.args.port none)))
 
