@@ -1,15 +1,16 @@
 -- The ready ports once a port changed, came or went.
-use Rattle.std.proofs.Common.{◌≡◌, inl, inr, ℕ, ◌<◌, ◌≤◌, Option, Some, None, is_some, List, [], ◌∷◌, length, slice_get, refl, ap, sym, subst, ◌∙◌, arith, Contains}
+use Rattle.std.proofs.Common.{◌≡◌, ◌≢◌, inl, inr, ℕ, ◌<◌, ◌≤◌, Option, Some, None, is_some, List, [], ◌∷◌, length, slice_get, refl, ap, sym, subst, ◌∙◌, arith, Contains}
 use Rattle.std.specs.FinMap as map
 use Rattle.std.proofs.lemmas.Option.{slice_get_within, get_or_from_slice_get}
 use Rattle.member_lists.specs.Lists.{ListsView, list_of}
 use Rattle.member_lists.proofs.Listed.{apart_if_none}
 use Rattle.slab.specs.Slab.{Slab, get, with_value}
 use Rattle.port.specs.declared.Record.{Record}
-use Rattle.port.specs.Turns.{ReadyLists, ready_if}
-use Rattle.port.specs.Ports.{PortView, PortsView, IsReadyIn, NoneReadyIn}
-use Rattle.port.specs.Ready.{IsMoved}
-use Rattle.port.specs.Records.{ports_of, made_of, ready_set, IsReadied, IsSound, IsKept}
+use Rattle.port.specs.Turns.{ReadyLists, turns_of, ready_if}
+use Rattle.port.specs.Ports.{PortView, PortsView, IsReadyIn, NoneReadyIn, IsIn, NoneIn}
+use Rattle.port.specs.Ready.{StandsIn, IsMoved}
+use Rattle.port.proofs.Moved.{moved_none}
+use Rattle.port.specs.Records.{ports_of, made_of, ids_at, ready_set, member_set, IsListed, IsReadied, IsMembered, IsSound, IsKept}
 use Rattle.port.proofs.Keys.{same_some, some_or_none, equal_or_not}
 use Rattle.port.proofs.Records.{Keyed, port_of, Turns}
 use Rattle.port.proofs.Sound.{turns-set, live_port, live_at, record_at}
@@ -30,9 +31,9 @@ module _ {M : Type 0} where
   ready_is [] set s e = absurd (no_some s e)
   ready_is (m ∷ ms) set s e = (e, omega arith)
 
-  module _ (at new : ℕ → Option (Record M)) (ready : ListsView) (so : IsReadied at ready) (key : ℕ) where
-    pub readied-changed : (r a : Record M) (then : ListsView) → at key ≡ Some r → Turns at new key (Some a) → IsMoved ready then key (ready_set a) → IsReadied new then
-    readied-changed r a then here turns moved = record {
+  module _ (home : Record M → Option ℕ) (at new : ℕ → Option (Record M)) (lists : ListsView) (so : IsListed home at lists) (key : ℕ) where
+    pub listed-changed : (r a : Record M) (then : ListsView) → at key ≡ Some r → Turns at new key (Some a) → IsMoved lists then key (home a) → IsListed home new then
+    listed-changed r a then here turns moved = record {
       stands = λ k b h. elim (equal_or_not k key) [
         | inl e ↦ (let same : a ≡ b = same_some a b (sym turns.changed ∙ ap new (sym e) ∙ h) in rw (e, ← same) moved.stands)
         | inr d ↦ (let was = so.stands k b (sym (turns.others k d) ∙ h) in
@@ -48,12 +49,12 @@ module _ {M : Type 0} where
       ];
     }
 
-    pub readied-came : (a : Record M) (items : ℕ) → at key ≡ None → Turns at new key (Some a) → length a.queue ≡ 0 → key < items → ready.items ≤ items → IsReadied new (record ready { items = items })
-    readied-came a items vacant turns quiet fits more = record {
+    pub listed-came : (a : Record M) (items : ℕ) → at key ≡ None → Turns at new key (Some a) → home a ≡ None → key < items → lists.items ≤ items → IsListed home new (record lists { items = items })
+    listed-came a items vacant turns apart fits more = record {
       stands = λ k b h. elim (equal_or_not k key) [
         | inl e ↦ (
             let same : a ≡ b = same_some a b (sym turns.changed ∙ ap new (sym e) ∙ h) in
-            let none : ready_set b ≡ None = ap (λ (c : Record M). ready_set c) (sym same) ∙ ready_none a.queue a.attributes.set quiet in
+            let none : home b ≡ None = ap (λ (c : Record M). home c) (sym same) ∙ apart in
             record {
               only = λ l c. absurd (let was = so.held k l c in some_or_none was.0 _ was.1 (ap at e ∙ vacant));
               there = λ l s. absurd (no_some l (sym none ∙ s));
@@ -70,41 +71,48 @@ module _ {M : Type 0} where
       ];
     }
 
-    pub readied-went : (r : Record M) → at key ≡ Some r → Turns at new key None → length r.queue ≡ 0 → IsReadied new ready
-    readied-went r here turns quiet = record {
+    pub listed-went : (then : ListsView) → Turns at new key None → IsMoved lists then key None → IsListed home new then
+    listed-went then turns moved = record {
       stands = λ k b h. elim (equal_or_not k key) [
         | inl e ↦ absurd (some_or_none b _ h (ap new e ∙ turns.changed))
-        | inr d ↦ so.stands k b (sym (turns.others k d) ∙ h)
+        | inr d ↦ (let was = so.stands k b (sym (turns.others k d) ∙ h) in
+            record { only = λ l c. was.only l (moved.was k l d c); there = λ l e. moved.stays k l d (was.there l e) })
       ];
       held = λ k l c. elim (equal_or_not k key) [
-        | inl e ↦ absurd (
-            let in_it : Contains (list_of ready l) key = rw e at c in
-            no_some l (sym (ready_none r.queue r.attributes.set quiet) ∙ (so.stands key r here).only l in_it))
-        | inr d ↦ (let was = so.held k l c in (was.0, turns.others k d ∙ was.1))
+        | inl e ↦ absurd (no_some l (moved.stands.only l (rw e at c)))
+        | inr d ↦ (let was = so.held k l (moved.was k l d c) in (was.0, turns.others k d ∙ was.1))
       ];
       room = λ k b h. elim (equal_or_not k key) [
         | inl e ↦ absurd (some_or_none b _ h (ap new e ∙ turns.changed))
-        | inr d ↦ so.room k b (sym (turns.others k d) ∙ h)
+        | inr d ↦ (let fits = so.room k b (sym (turns.others k d) ∙ h) in let same = moved.items in omega arith)
       ];
     }
 
+    -- one that belongs where it did stays
+    pub listed-kept : (r a : Record M) → at key ≡ Some r → Turns at new key (Some a) → home a ≡ home r → IsListed home new lists
+    listed-kept r a here turns same = listed-changed r a lists here turns (moved_none lists key (home a) (subst (λ o. StandsIn lists key o) (sym same) (so.stands key r here)))
+
   -- only room was made
-  pub readied-same : (at new : ℕ → Option (Record M)) (ready : ListsView) (items : ℕ) → IsReadied at ready → ((k : ℕ) → new k ≡ at k) → ready.items ≤ items → IsReadied new (record ready { items = items })
-  readied-same at new ready items so same more = record {
+  pub listed-same : (home : Record M → Option ℕ) (at new : ℕ → Option (Record M)) (lists : ListsView) (items : ℕ) → IsListed home at lists → ((k : ℕ) → new k ≡ at k) → lists.items ≤ items → IsListed home new (record lists { items = items })
+  listed-same home at new lists items so same more = record {
     stands = λ k b h. (let was = so.stands k b (sym (same k) ∙ h) in record { only = was.only; there = was.there });
     held = λ k l c. (let was = so.held k l c in (was.0, same k ∙ was.1));
     room = λ k b h. (let was = so.room k b (sym (same k) ∙ h) in omega arith);
   }
 
-  pub readied-none : (at : ℕ → Option (Record M)) (ready : ListsView) → ((k : ℕ) → at k ≡ None) → ready.lists ≡ map.empty → IsReadied at ready
-  readied-none at ready none empty = record {
+  pub listed-none : (home : Record M → Option ℕ) (at : ℕ → Option (Record M)) (lists : ListsView) → ((k : ℕ) → at k ≡ None) → lists.lists ≡ map.empty → IsListed home at lists
+  listed-none home at lists none empty = record {
     stands = λ k b h. absurd (some_or_none b _ h (none k));
-    held = λ k l c. absurd (apart_if_none ready k empty l c);
+    held = λ k l c. absurd (apart_if_none lists k empty l c);
     room = λ k b h. absurd (some_or_none b _ h (none k));
   }
 
-  pub readied-set : (s : Slab (Record M)) (ready then : ListsView) (key : ℕ) (r a : Record M) → IsReadied (get s) ready → get s key ≡ Some r → IsMoved ready then key (ready_set a) → IsReadied (get (with_value s key a)) then
-  readied-set s ready then key r a so here moved = readied-changed (get s) (get (with_value s key a)) ready so key r a then here (turns-set s key r a here) moved
+  pub listed-set : (home : Record M → Option ℕ) (s : Slab (Record M)) (lists then : ListsView) (key : ℕ) (r a : Record M) → IsListed home (get s) lists → get s key ≡ Some r → IsMoved lists then key (home a) → IsListed home (get (with_value s key a)) then
+  listed-set home s lists then key r a so here moved = listed-changed home (get s) (get (with_value s key a)) lists so key r a then here (turns-set s key r a here) moved
+
+  -- a port in no other set
+  pub membered-set : (s : Slab (Record M)) (members : ListsView) (key : ℕ) (r a : Record M) → IsMembered (get s) members → get s key ≡ Some r → a.attributes.set ≡ r.attributes.set → IsMembered (get (with_value s key a)) members
+  membered-set s members key r a so here same = listed-kept member_set (get s) (get (with_value s key a)) members so key r a here (turns-set s key r a here) same
 
   -- ---- the first one
 
@@ -142,10 +150,54 @@ module _ {M : Type 0} where
             let ready_in : ready_set r.0 ≡ Some set = ap (λ l. ready_if l r.0.attributes.set) queue ∙ in_set in
             absurd (nothing_held key.0 (list_of ready set) e ((readied.stands key.0 r.0 r.1).there set ready_in))
 
+    -- ---- the first member
+
+    module _ (members : ListsView) (membered : IsMembered (get s) members) where
+      pub member_held : (key : ℕ) → slice_get (list_of members set) 0 ≡ Some key → Contains (list_of members set) key
+      member_held key e = (0, slice_get_within (list_of members set) 0 key e, get_or_from_slice_get (list_of members set) 0 key key e)
+
+      pub member_first : (key : ℕ) (r : Record M) → slice_get (list_of members set) 0 ≡ Some key → get s key ≡ Some r → IsIn v set r.id
+      member_first key r e here =
+          let found : map.get keys r.id ≡ Some key = so.indexed.held key r here in
+          record {
+            given = subst (λ n. r.id < n) (ap (λ (b : PortsView M). b.made) view_is) (so.indexed.given r.id key found);
+            view = port_of r;
+            there = live_port s keys next spare slots so v view_is r.id key r found here;
+            member = (membered.stands key r here).only set (member_held key e);
+          }
+
+      none_apart : slice_get (list_of members set) 0 ≡ None → (id : ℕ) (p : PortView M) → map.get v.ports id ≡ Some p → p.attributes.set ≢ Some set
+      none_apart e id p h member =
+          let key = live_at s keys next spare slots so v view_is id (ap is_some h) in
+          let r = record_at s keys next spare slots so v view_is id key.0 key.1 in
+          let same : p ≡ port_of r.0 = same_some p (port_of r.0) (sym h ∙ live_port s keys next spare slots so v view_is id key.0 r.0 key.1 r.1) in
+          let in_set : r.0.attributes.set ≡ Some set = sym (ap (λ (q : PortView M). q.attributes.set) same) ∙ member in
+          nothing_held key.0 (list_of members set) e ((membered.stands key.0 r.0 r.1).there set in_set)
+
+      -- what is ready in a set is in it
+      none_turns : slice_get (list_of members set) 0 ≡ None → (l : List ℕ) → list_of ready set ≡ l → l ≡ []
+      none_turns e [] is = refl
+      none_turns e (x ∷ l) is =
+          let inside : Contains (list_of ready set) x = subst (λ m. Contains m x) (sym is) (0, omega arith, refl) in
+          let was = readied.held x set inside in
+          let in_set : was.0.attributes.set ≡ Some set = (ready_is was.0.queue was.0.attributes.set set ((readied.stands x was.0 was.1).only set inside)).0 in
+          absurd (nothing_held x (list_of members set) e ((membered.stands x was.0 was.1).there set in_set))
+
+      pub none_in : slice_get (list_of members set) 0 ≡ None → turns_of v.ready set ≡ ids_at (get s) (list_of ready set) → NoneIn v set
+      none_in e turns = record { apart = none_apart e; turns = turns ∙ ap (ids_at (get s)) (none_turns e (list_of ready set) refl) }
+
   -- ---- the same ports, with more places
 
-  pub kept-capacity : (s t : Slab (Record M)) (keys : Keyed) (next : Option ℕ) (spare : List M) (slots : ℕ) (ready : ListsView) → t ≡ record s { capacity = t.capacity } → IsKept s keys next spare slots ready → IsKept t keys next spare slots ready
-  kept-capacity s t keys next spare slots ready e k = subst (λ (u : Slab (Record M)). IsKept u keys next spare slots ready) (sym e) (record {
+  pub kept-capacity : (s t : Slab (Record M)) (keys : Keyed) (next : Option ℕ) (spare : List M) (slots : ℕ) (ready members : ListsView) → t ≡ record s { capacity = t.capacity } → IsKept s keys next spare slots ready members → IsKept t keys next spare slots ready members
+  kept-capacity s t keys next spare slots ready members e k = subst (λ (u : Slab (Record M)). IsKept u keys next spare slots ready members) (sym e) (record {
     sound = record { indexed = k.sound.indexed; counted = k.sound.counted; few = k.sound.few; next_fits = k.sound.next_fits };
     readied = record { stands = k.readied.stands; held = k.readied.held; room = k.readied.room };
+    membered = record { stands = k.membered.stands; held = k.membered.held; room = k.membered.room };
   })
+
+  pub kept-room : (s : Slab (Record M)) (keys : Keyed) (next : Option ℕ) (spare : List M) (slots : ℕ) (ready members : ListsView) (items : ℕ) → ready.items ≤ items → IsKept s keys next spare slots ready members → IsKept s keys next spare slots (record ready { items = items }) members
+  kept-room s keys next spare slots ready members items more k = record {
+    sound = k.sound;
+    readied = listed-same ready_set (get s) (get s) ready items k.readied (λ n. refl) more;
+    membered = k.membered;
+  }

@@ -133,6 +133,9 @@ module _ {M : Type 0} (s : Slab (Record M)) (keys : Keyed) (next : Option ℕ) (
   ready_is : turns_at (get s) ready.lists ≡ v.ready
   ready_is = ap (λ (b : PortsView M). b.ready) view_is
 
+  pub turns_are : (set : ℕ) → turns_of v.ready set ≡ ids_at (get s) (list_of ready set)
+  turns_are set = ap (λ t. turns_of t set) (sym ready_is) ∙ turns-list (get s) ready set
+
   pub first_turn : (set : ℕ) → slice_get (turns_of v.ready set) 0 ≡ option_map (λ k. id_in (get s k)) (slice_get (list_of ready set) 0)
   first_turn set = ap (λ t. slice_get (turns_of t set) 0) (sym ready_is) ∙ ap (λ l. slice_get l 0) (turns-list (get s) ready set) ∙ ids-first (get s) (list_of ready set)
 

@@ -1,11 +1,11 @@
 -- What contracts see of ports: each live port's queue and attributes, the ready ports of each set in their turns, how many were made, and how many slots are spare.
-use Rattle.std.specs.Prelude.{◌≡◌, ℕ, ◌+◌, ◌<◌, ◌≤◌, ◌%◌, ◌^◌, ◌&&◌, Bool, leb, cond, List, Option, Some, None, true, length, refl}
+use Rattle.std.specs.Prelude.{◌≡◌, ◌≢◌, ℕ, ◌+◌, ◌<◌, ◌≤◌, ◌%◌, ◌^◌, ◌&&◌, Bool, leb, cond, List, [], Option, Some, None, true, length, refl}
 use Rattle.std.specs.Coded.{Coded, code_by, coded×, coded_ℕ, coded_list}
 use Rattle.std.specs.FinMap as map
 use Rattle.std.specs.Ordering.{nat_cmp}
 use Rattle.mach_types.specs.Numbers.{first_limit}
 use Rattle.port.specs.declared.Attributes.{Attributes}
-use Rattle.port.specs.Turns.{ReadyLists, left, joined, ready_if, same_set}
+use Rattle.port.specs.Turns.{ReadyLists, turns_of, left, joined, ready_if, same_set}
 
 pub record PortView (M : Type 0) : Type 0 where
   pub queue : List M
@@ -81,3 +81,15 @@ module _ {M : Type 0} where
   -- no port in the set has a message
   pub record NoneReadyIn (v : PortsView M) (set : ℕ) : Type 0 where
     pub empty : (port : ℕ) (p : PortView M) → map.get v.ports port ≡ Some p → p.attributes.set ≡ Some set → length p.queue ≡ 0
+
+  -- the port was given its identity, is there, and is in the set
+  pub record IsIn (v : PortsView M) (set port : ℕ) : Type 0 where
+    pub given : port < v.made
+    pub view : PortView M
+    pub there : map.get v.ports port ≡ Some view
+    pub member : view.attributes.set ≡ Some set
+
+  -- no port is in the set, and none has a turn in it
+  pub record NoneIn (v : PortsView M) (set : ℕ) : Type 0 where
+    pub apart : (port : ℕ) (p : PortView M) → map.get v.ports port ≡ Some p → p.attributes.set ≢ Some set
+    pub turns : turns_of v.ready set ≡ []

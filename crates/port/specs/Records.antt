@@ -59,12 +59,25 @@ module _ {M : Type 0} where
   abbrev pub ready_set : Record M → Option ℕ
   ready_set r = ready_if r.queue r.attributes.set
 
-  -- The ready ports stand in the lists of their sets, by their keys.
-  pub record IsReadied (at : ℕ → Option (Record M)) (ready : ListsView) : Type 0 where
-    pub stands : (key : ℕ) (r : Record M) → at key ≡ Some r → StandsIn ready key (ready_set r)
-    pub held : (key l : ℕ) → Contains (list_of ready l) key → (r : Record M) × (at key ≡ Some r)
-    pub room : (key : ℕ) (r : Record M) → at key ≡ Some r → key < ready.items
+  -- the set that a port is in
+  abbrev pub member_set : Record M → Option ℕ
+  member_set r = r.attributes.set
 
-  pub record IsKept (s : Slab (Record M)) (keys : map.FinMap nat_cmp ℕ) (next : Option ℕ) (spare : List M) (slots : ℕ) (ready : ListsView) : Type 0 where
+  -- The ports stand by their keys in the lists where they belong, and nothing else does.
+  pub record IsListed (home : Record M → Option ℕ) (at : ℕ → Option (Record M)) (lists : ListsView) : Type 0 where
+    pub stands : (key : ℕ) (r : Record M) → at key ≡ Some r → StandsIn lists key (home r)
+    pub held : (key l : ℕ) → Contains (list_of lists l) key → (r : Record M) × (at key ≡ Some r)
+    pub room : (key : ℕ) (r : Record M) → at key ≡ Some r → key < lists.items
+
+  -- the ready ports stand in the lists of their sets
+  abbrev pub IsReadied : (ℕ → Option (Record M)) → ListsView → Type 0
+  IsReadied at ready = IsListed ready_set at ready
+
+  -- all members stand in the lists of their sets
+  abbrev pub IsMembered : (ℕ → Option (Record M)) → ListsView → Type 0
+  IsMembered at members = IsListed member_set at members
+
+  pub record IsKept (s : Slab (Record M)) (keys : map.FinMap nat_cmp ℕ) (next : Option ℕ) (spare : List M) (slots : ℕ) (ready members : ListsView) : Type 0 where
     pub sound : IsSound s keys next spare slots
     pub readied : IsReadied (get s) ready
+    pub membered : IsMembered (get s) members

@@ -15,7 +15,7 @@ ghost use Rattle.port.specs.declared.Record.{Record as AnyRecord};
 ghost use Rattle.port.specs.Ready.{StandsIn, IsMoved, out_of, at_end};
 ghost use Rattle.port.specs.Turns.{turns_of, same_set};
 ghost use Rattle.port.specs.Ports.{IsAfter, one_made, one_received};
-ghost use Rattle.port.specs.Records.{made_of, ready_set};
+ghost use Rattle.port.specs.Records.{made_of, ready_set, member_set};
 
 use mach_types::limits::FIRST_LIMIT;
 use mach_types::{PortId, SetId};
@@ -82,6 +82,7 @@ pub struct Ports<M: Message> {
     records: Slab<Record<M>>,
     by_id: NumberMap<usize>,
     ready: Lists,
+    members: Lists,
     next: Option<u64>,
     spare: LinkedList<M>,
     slots: usize,
@@ -106,7 +107,7 @@ impl<M: Message> Model for Ports<M> {
       spare = length a.spare;
     } };
 
-    ghost invariant = { λ a. IsKept a.records a.by_id.map a.next a.spare a.slots a.ready };
+    ghost invariant = { λ a. IsKept a.records a.by_id.map a.next a.spare a.slots a.ready a.members };
 }
 
 // So many slots that no message is in.
@@ -239,26 +240,35 @@ fn ready_at<M: Message>(records: &Slab<Record<M>>, key: usize) -> Option<u64>
     Some(set.number())
 }
 
-// Takes the port under the key out of the ready ones of this set, if it is ready in one.
-fn leave(ready: &mut Lists, key: usize, was: Option<u64>)
-    requires { StandsIn ready.old key was }
-    ensures moved { IsMoved ready.old ready.new key None }
-    ensures left { ready.new ≡ out_of ready.old key was }
+// The number of the set that the port under the key is in.
+fn member_at<M: Message>(records: &Slab<Record<M>>, key: usize) -> Option<u64>
+    requires { IsSome (get records.now key) }
+    ensures { (r : AnyRecord M) → get records.now key ≡ Some r → result ≡ member_set r }
+{
+    let set = records[key].attributes.set?;
+    Some(set.number())
+}
+
+// Takes the port under the key out of the list of this set, if it stands in one.
+fn leave(lists: &mut Lists, key: usize, was: Option<u64>)
+    requires { StandsIn lists.old key was }
+    ensures moved { IsMoved lists.old lists.new key None }
+    ensures left { lists.new ≡ out_of lists.old key was }
 {
     if let Some(set) = was {
-        ready.remove(set, key);
+        lists.remove(set, key);
     }
 }
 
-// Puts the port under the key at the end of the ready ones of this set, if it is ready in one.
-fn join(ready: &mut Lists, key: usize, now: Option<u64>)
-    requires room { key < ready.old.items }
-    requires apart { StandsIn ready.old key None }
-    ensures moved { IsMoved ready.old ready.new key now }
-    ensures joined { ready.new ≡ at_end ready.old key now }
+// Puts the port under the key at the end of the list of this set, if it belongs to one.
+fn join(lists: &mut Lists, key: usize, now: Option<u64>)
+    requires room { key < lists.old.items }
+    requires apart { StandsIn lists.old key None }
+    ensures moved { IsMoved lists.old lists.new key now }
+    ensures joined { lists.new ≡ at_end lists.old key now }
 {
     if let Some(set) = now {
-        ready.push(set, key);
+        lists.push(set, key);
     }
 }
 
@@ -276,18 +286,28 @@ fn is_same(one: Option<u64>, other: Option<u64>) -> bool
     }
 }
 
-// Puts the port under the key among the ready ones of another set; it keeps its place in the same.
-fn renew(ready: &mut Lists, key: usize, was: Option<u64>, now: Option<u64>)
-    requires room { key < ready.old.items }
-    requires was { StandsIn ready.old key was }
-    ensures moved { IsMoved ready.old ready.new key now }
-    ensures turned { ready.new ≡ cond (same_set was now) ready.old (at_end (out_of ready.old key was) key now) }
+// Takes the port under the key out of the list of one set, and puts it at the end of the list of
+// another or the same.
+fn rejoin(lists: &mut Lists, key: usize, was: Option<u64>, now: Option<u64>)
+    requires room { key < lists.old.items }
+    requires was { StandsIn lists.old key was }
+    ensures moved { IsMoved lists.old lists.new key now }
+    ensures turned { lists.new ≡ at_end (out_of lists.old key was) key now }
 {
-    if is_same(was, now) {
-        return;
+    leave(&mut *lists, key, was);
+    join(lists, key, now);
+}
+
+// Puts the port under the key into the list of another set; it keeps its place in the same.
+fn renew(lists: &mut Lists, key: usize, was: Option<u64>, now: Option<u64>)
+    requires room { key < lists.old.items }
+    requires was { StandsIn lists.old key was }
+    ensures moved { IsMoved lists.old lists.new key now }
+    ensures turned { lists.new ≡ cond (same_set was now) lists.old (at_end (out_of lists.old key was) key now) }
+{
+    if !is_same(was, now) {
+        rejoin(lists, key, was, now);
     }
-    leave(&mut *ready, key, was);
-    join(ready, key, now);
 }
 
 // The key of a port's record, if the port is there.
@@ -321,7 +341,7 @@ fn number_after(before: Option<PortId>) -> Option<u64>
 
 impl<M: Message> Ports<M> {
     ghost use Rattle.mach_types.specs.Numbers.{most_identities};
-    ghost use Rattle.port.specs.Ports.{PortView, IsLive, with_port, first_attributes, IsNext, IsReadyIn, NoneReadyIn};
+    ghost use Rattle.port.specs.Ports.{PortView, IsLive, with_port, first_attributes, IsNext, IsReadyIn, NoneReadyIn, IsIn, NoneIn};
 
     /// No ports, and no slots. Allocates nothing; constant time.
     pub fn new(alloc: Global) -> Ports<M>
@@ -331,6 +351,7 @@ impl<M: Message> Ports<M> {
             records: Slab::new(alloc),
             by_id: NumberMap::new(alloc),
             ready: Lists::new(alloc),
+            members: Lists::new(alloc),
             next: Some(0),
             spare: LinkedList::new(alloc),
             slots: 0,
@@ -391,6 +412,7 @@ impl<M: Message> Ports<M> {
         self.records.reserve(1)?;
         self.by_id.reserve(1)?;
         self.ready.reserve(self.records.capacity())?;
+        self.members.reserve(self.records.capacity())?;
         let key = self.records.insert_reserved(Record {
             id,
             queue: LinkedList::new(*self.spare.allocator()),
@@ -409,6 +431,8 @@ impl<M: Message> Ports<M> {
     {
         match self.by_id.remove(port.number()) {
             Some(key) => {
+                let set = member_at(&self.records, key);
+                leave(&mut self.members, key, set);
                 self.records.remove(key);
             }
             None => {}
@@ -454,6 +478,16 @@ impl<M: Message> Ports<M> {
         Some(self.records[key].id)
     }
 
+    /// A port of the set, if there is one. Constant time, but for members of sets whose numbers are
+    /// the same modulo 1,024.
+    pub fn first_member(&self, set: SetId) -> Option<PortId>
+        ensures some { IfSome result (λ port. IsIn self.now set port) }
+        ensures none { IfNone result (NoneIn self.now set) }
+    {
+        let key = self.members.first(set.number())?;
+        Some(self.records[key].id)
+    }
+
     /// Sets a port's attributes. Takes no memory. Constant time.
     pub fn set_attributes(&mut self, port: PortId, attributes: Attributes)
         requires { IsLive self.old port }
@@ -461,9 +495,12 @@ impl<M: Message> Ports<M> {
     {
         let key = key_of(&self.by_id, port).unwrap();
         let was = ready_at(&self.records, key);
+        let member = member_at(&self.records, key);
         set_at(&mut self.records, key, attributes);
         let now = ready_at(&self.records, key);
         renew(&mut self.ready, key, was, now);
+        let set = member_at(&self.records, key);
+        renew(&mut self.members, key, member, set);
     }
 
     /// Counts a send right made from the port's receive right, modulo 2^32; where the port is gone,
@@ -538,10 +575,9 @@ impl<M: Message> Ports<M> {
         }
         let blank = M::blank(*self.spare.allocator());
         let was = ready_at(&self.records, key);
-        leave(&mut self.ready, key, was);
         let message = pop_at(&mut self.records, key, &mut self.spare, blank);
         let now = ready_at(&self.records, key);
-        join(&mut self.ready, key, now);
+        rejoin(&mut self.ready, key, was, now);
         Some(message)
     }
 
@@ -559,10 +595,9 @@ impl<M: Message> Ports<M> {
         }
         let blank = M::blank(*self.spare.allocator());
         let was = ready_at(&self.records, key);
-        leave(&mut self.ready, key, was);
         let message = take_at(&mut self.records, key, &mut self.spare, blank);
         let now = ready_at(&self.records, key);
-        join(&mut self.ready, key, now);
+        rejoin(&mut self.ready, key, was, now);
         Some(message)
     }
 }

@@ -11,7 +11,6 @@ ghost use Rattle.std.specs.Ordering.{nat_cmp};
 ghost use Rattle.port.specs.Ports.{PortView, IsLive, with_port};
 ghost use Rattle.port.specs.Turns.{turns_of};
 ghost use Rattle.port_set.specs.Sets.{in_set, IsReady, NoneReady, IsDisbanded};
-ghost use Rattle.port_set.specs.Kept.{IsLeft};
 ghost use Rattle.port_set.specs.declared.SetRecord.{SetRecord as AnyRecord};
 
 use mach_types::{Name, PortId, SetId, TaskId};
@@ -137,20 +136,6 @@ pub fn move_member<M: Message>(ports: &mut Ports<M>, member: PortId, set: Option
     ports.set_attributes(member, attributes);
 }
 
-// Whether the port is there, and in the set.
-fn is_member<M: Message>(ports: &Ports<M>, port: PortId, set: SetId) -> bool
-    ensures yes { IsTrue result → (p : PortView M) → map.get ports.now.ports port ≡ Some p → p.attributes.set ≡ Some set }
-    ensures only { (p : PortView M) → map.get ports.now.ports port ≡ Some p → p.attributes.set ≡ Some set → IsTrue result }
-{
-    match ports.attributes(port) {
-        Some(attributes) => match attributes.set {
-            Some(its) => its.number() == set.number(),
-            None => false,
-        },
-        None => false,
-    }
-}
-
 /// The member of the set that has a message and whose turn it is, if there is one (IPC Interface,
 /// `mach_msg`, receiving by a port set). Takes no memory. Constant time, but for ports that are ready
 /// in sets whose numbers are the same modulo 1,024.
@@ -162,25 +147,14 @@ pub fn ready_member<M: Message>(ports: &Ports<M>, set: SetId) -> Option<PortId>
     ports.first_ready(set)
 }
 
-// Takes a port out of the set, if it is in it.
-fn leave<M: Message>(ports: &mut Ports<M>, port: PortId, set: SetId)
-    requires { IsLive ports.old port }
-    ensures { IsLeft ports.old ports.new port set }
-{
-    if is_member(ports, port, set) {
-        move_member(ports, port, None);
-    }
-}
-
 /// Takes all members out of a set, so that they are in none (Port Manipulation Interface,
-/// `mach_port_destroy`). Takes no memory. Goes over the identities of all ports.
+/// `mach_port_destroy`). Takes no memory. Linear in the set's members, but for members of sets whose
+/// numbers are the same modulo 1,024.
 pub fn disband<M: Message>(ports: &mut Ports<M>, set: SetId)
     ensures { IsDisbanded ports.old ports.new set }
 {
-    let mut before = None;
-    while let Some(port) = ports.next_after(before) {
-        leave(ports, port, set);
-        before = Some(port);
+    while let Some(port) = ports.first_member(set) {
+        move_member(ports, port, None);
     }
 }
 
@@ -259,11 +233,12 @@ mod tests {
     fn a_member_with_a_message_is_ready(rt: HostRuntime) -> Result<(), Fail> {
         let mut ports = Ports::<Note>::new(rt.alloc());
         let (set, other) = (SetId::new(0), SetId::new(1));
-        ports.reserve_slots(2)?;
+        ports.reserve_slots(3)?;
         assert!(rt; !ports.is_exhausted());
         let first = ports.allocate()?;
         assert!(rt; !ports.is_exhausted());
         let second = ports.allocate()?;
+        assert!(rt; post(&mut ports, first));
         assert!(rt; post(&mut ports, first));
         assert_eq!(rt; ready(&ports, set), None);
         assert!(rt; join(&mut ports, first, other));
@@ -273,6 +248,9 @@ mod tests {
         assert_eq!(rt; ready(&ports, set), Some(1));
         assert!(rt; join(&mut ports, second, other));
         assert_eq!(rt; ready(&ports, set), None);
+        assert_eq!(rt; ready(&ports, other), Some(0));
+        assert!(rt; ports.take(first).is_some());
+        assert_eq!(rt; ready(&ports, other), Some(1));
         disband(&mut ports, other);
         assert_eq!(rt; ready(&ports, other), None);
         assert_eq!(rt; ports.queued(first), 1);

@@ -4,7 +4,7 @@ use Rattle.port.proofs.Moved.{moved_out}
 use Rattle.port.proofs.leave.Goals as goal
 
 pub returns-in-Some-clause-moved : goal.returns-in-Some-clause-moved
-returns-in-Some-clause-moved c = moved_out c.args.ready.now c.remove.new.self c.args.key c.in-Some.set (subst (λ o. StandsIn c.args.ready.now c.args.key o) c.in-Some.is c.requires) c.remove.ensures
+returns-in-Some-clause-moved c = moved_out c.args.lists.now c.remove.new.self c.args.key c.in-Some.set (subst (λ o. StandsIn c.args.lists.now c.args.key o) c.in-Some.is c.requires) c.remove.ensures
 
 pub returns-in-Some-clause-left : goal.returns-in-Some-clause-left
-returns-in-Some-clause-left c = c.remove.ensures ∙ ap (out_of c.args.ready.now c.args.key) (sym c.in-Some.is)
+returns-in-Some-clause-left c = c.remove.ensures ∙ ap (out_of c.args.lists.now c.args.key) (sym c.in-Some.is)

@@ -7,8 +7,8 @@ use Rattle.slab.specs.Slab.{Slab, get}
 use Rattle.port.specs.declared.Attributes.{Attributes}
 use Rattle.port.specs.declared.Record.{Record}
 use Rattle.port.specs.Ports.{PortView, PortsView}
-use Rattle.port.specs.Records.{turns_at, made_of, IsReadied, IsKept}
-use Rattle.port.proofs.Readied.{readied-came, kept-capacity}
+use Rattle.port.specs.Records.{turns_at, made_of, ready_set, member_set, IsReadied, IsMembered, IsKept}
+use Rattle.port.proofs.Readied.{ready_none, listed-came, kept-capacity, kept-room}
 use Rattle.port.proofs.Turned.{turns-apart, apart-vacant}
 use Rattle.port.proofs.Grown.{made_more, next_in_range, sound-came, view-came}
 use Rattle.port.proofs.Ports.allocate.Goals as goal
@@ -30,9 +30,13 @@ invariant_of-self-2 g c =
           c.insert_reserved-key.result a vacant c.insert_reserved-key.ensures.updates.changed others (c.new-id.ensures ∙ sym number) (ap length c.new.ensures) put
           (made_more c.checked_add-self-inside.result c.unwrap-number.result c.checked_add-self-inside.ensures few ∙ ap (λ n. n + 1) (sym number)) (next_in_range c.checked_add-self-inside.result c.unwrap-number.result c.checked_add-self-inside.ensures);
       readied = subst (λ w. IsReadied (get c.insert_reserved-key.new.self) w) (sym c.in_ok-reserve-3.ensures.ok)
-          (readied-came (get c.self.inside.records) (get c.insert_reserved-key.new.self) c.self.inside.ready c.self.invariant.readied c.insert_reserved-key.result a (max c.self.inside.ready.items c.capacity.result) vacant
-          (record { changed = c.insert_reserved-key.ensures.updates.changed; others = others }) (ap length c.new.ensures)
+          (listed-came ready_set (get c.self.inside.records) (get c.insert_reserved-key.new.self) c.self.inside.ready c.self.invariant.readied c.insert_reserved-key.result a (max c.self.inside.ready.items c.capacity.result) vacant
+          (record { changed = c.insert_reserved-key.ensures.updates.changed; others = others }) (ready_none a.queue a.attributes.set (ap length c.new.ensures))
           (omega (arith, c.insert_reserved-key.ensures.key_in_range, c.insert_reserved-key.ensures.capacity, c.capacity.ensures.value)) (omega arith));
+      membered = subst (λ w. IsMembered (get c.insert_reserved-key.new.self) w) (sym c.in_ok-reserve-4.ensures.ok)
+          (listed-came member_set (get c.self.inside.records) (get c.insert_reserved-key.new.self) c.self.inside.members c.self.invariant.membered c.insert_reserved-key.result a (max c.self.inside.members.items c.capacity-2.result) vacant
+          (record { changed = c.insert_reserved-key.ensures.updates.changed; others = others }) (ap (λ (b : Attributes). b.set) c.first.ensures)
+          (omega (arith, c.insert_reserved-key.ensures.key_in_range, c.insert_reserved-key.ensures.capacity, c.capacity-2.ensures.value)) (omega arith));
     }
 
 pub returns-clause-ok : goal.returns-clause-ok
@@ -62,15 +66,23 @@ returns-clause-ok g c =
     ∙ ap (λ l. after l c.first.result) c.new.ensures ∙ ap (after []) c.first.ensures
 
 pub invariant_of-self : goal.invariant_of-self
-invariant_of-self g c = kept-capacity c.self.inside.records c.reserve.new.self c.self.inside.by_id.map c.self.inside.next c.self.inside.spare c.self.inside.slots c.self.inside.ready c.reserve.ensures.rest_kept c.self.invariant
+invariant_of-self g c = kept-capacity c.self.inside.records c.reserve.new.self c.self.inside.by_id.map c.self.inside.next c.self.inside.spare c.self.inside.slots c.self.inside.ready c.self.inside.members c.reserve.ensures.rest_kept c.self.invariant
 
 pub invariant_of-self-in_err-reserve-2 : goal.invariant_of-self-in_err-reserve-2
 invariant_of-self-in_err-reserve-2 g c =
-    subst (λ (m : map.FinMap nat_cmp ℕ). IsKept c.reserve.new.self m c.self.inside.next c.self.inside.spare c.self.inside.slots c.self.inside.ready) (sym (ap (λ (w : MapView ℕ). w.map) c.in_err-reserve-2.ensures.err))
-    (kept-capacity c.self.inside.records c.reserve.new.self c.self.inside.by_id.map c.self.inside.next c.self.inside.spare c.self.inside.slots c.self.inside.ready c.reserve.ensures.rest_kept c.self.invariant)
+    subst (λ (m : map.FinMap nat_cmp ℕ). IsKept c.reserve.new.self m c.self.inside.next c.self.inside.spare c.self.inside.slots c.self.inside.ready c.self.inside.members) (sym (ap (λ (w : MapView ℕ). w.map) c.in_err-reserve-2.ensures.err))
+    (kept-capacity c.self.inside.records c.reserve.new.self c.self.inside.by_id.map c.self.inside.next c.self.inside.spare c.self.inside.slots c.self.inside.ready c.self.inside.members c.reserve.ensures.rest_kept c.self.invariant)
 
 pub invariant_of-self-in_err-reserve-3 : goal.invariant_of-self-in_err-reserve-3
 invariant_of-self-in_err-reserve-3 g c =
-    subst (λ (m : map.FinMap nat_cmp ℕ). IsKept c.reserve.new.self m c.self.inside.next c.self.inside.spare c.self.inside.slots c.reserve-3.new.self) (sym (ap (λ (w : MapView ℕ). w.map) c.in_ok-reserve-2.ensures.ok))
-    (subst (λ (w : ListsView). IsKept c.reserve.new.self c.self.inside.by_id.map c.self.inside.next c.self.inside.spare c.self.inside.slots w) (sym c.in_err-reserve-3.ensures.err)
-    (kept-capacity c.self.inside.records c.reserve.new.self c.self.inside.by_id.map c.self.inside.next c.self.inside.spare c.self.inside.slots c.self.inside.ready c.reserve.ensures.rest_kept c.self.invariant))
+    subst (λ (m : map.FinMap nat_cmp ℕ). IsKept c.reserve.new.self m c.self.inside.next c.self.inside.spare c.self.inside.slots c.reserve-3.new.self c.self.inside.members) (sym (ap (λ (w : MapView ℕ). w.map) c.in_ok-reserve-2.ensures.ok))
+    (subst (λ (w : ListsView). IsKept c.reserve.new.self c.self.inside.by_id.map c.self.inside.next c.self.inside.spare c.self.inside.slots w c.self.inside.members) (sym c.in_err-reserve-3.ensures.err)
+    (kept-capacity c.self.inside.records c.reserve.new.self c.self.inside.by_id.map c.self.inside.next c.self.inside.spare c.self.inside.slots c.self.inside.ready c.self.inside.members c.reserve.ensures.rest_kept c.self.invariant))
+
+pub invariant_of-self-in_err-reserve-4 : goal.invariant_of-self-in_err-reserve-4
+invariant_of-self-in_err-reserve-4 g c =
+    subst (λ (m : map.FinMap nat_cmp ℕ). IsKept c.reserve.new.self m c.self.inside.next c.self.inside.spare c.self.inside.slots c.reserve-3.new.self c.reserve-4.new.self) (sym (ap (λ (w : MapView ℕ). w.map) c.in_ok-reserve-2.ensures.ok))
+    (subst (λ (w : ListsView). IsKept c.reserve.new.self c.self.inside.by_id.map c.self.inside.next c.self.inside.spare c.self.inside.slots c.reserve-3.new.self w) (sym c.in_err-reserve-4.ensures.err)
+    (subst (λ (w : ListsView). IsKept c.reserve.new.self c.self.inside.by_id.map c.self.inside.next c.self.inside.spare c.self.inside.slots w c.self.inside.members) (sym c.in_ok-reserve-3.ensures.ok)
+    (kept-room c.reserve.new.self c.self.inside.by_id.map c.self.inside.next c.self.inside.spare c.self.inside.slots c.self.inside.ready c.self.inside.members (max c.self.inside.ready.items c.capacity.result) (omega arith)
+    (kept-capacity c.self.inside.records c.reserve.new.self c.self.inside.by_id.map c.self.inside.next c.self.inside.spare c.self.inside.slots c.self.inside.ready c.self.inside.members c.reserve.ensures.rest_kept c.self.invariant))))

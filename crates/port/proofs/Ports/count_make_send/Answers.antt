@@ -3,9 +3,9 @@ use Rattle.std.specs.FinMap as map
 use Rattle.slab.specs.Slab.{Slab, get, with_value}
 use Rattle.port.specs.declared.Record.{Record}
 use Rattle.port.specs.Ports.{PortView, PortsView, turned, one_made}
-use Rattle.port.specs.Records.{ports_of, turns_at, made_of, ready_set, IsReadied, IsSound}
+use Rattle.port.specs.Records.{ports_of, turns_at, made_of, ready_set, IsReadied, IsMembered, IsSound}
 use Rattle.port.specs.Ready.{StandsIn, IsMoved}
-use Rattle.port.proofs.Readied.{readied-set}
+use Rattle.port.proofs.Readied.{listed-set, membered-set}
 use Rattle.port.proofs.Keys.{some_or_none}
 use Rattle.port.proofs.Records.{port_of}
 use Rattle.port.proofs.Sound.{record_at, live_port, gone_port, is_port, sound-set, view-set}
@@ -28,7 +28,8 @@ invariant_of-self g c =
     record {
       sound = subst (λ (t : Slab (Record g.row.M.Denot)). IsSound t c.self.inside.by_id.map c.self.inside.next c.self.inside.spare c.self.inside.slots) (sym (c.count_at.ensures r there.1))
           (sound-set c.self.inside.records c.self.inside.by_id.map c.self.inside.next c.self.inside.spare c.self.inside.spare c.self.inside.slots c.self.invariant.sound c.args.self.now c.self.view_is c.args.port c.in-Some.key r a found there.1 refl refl);
-      readied = subst (λ (t : Slab (Record g.row.M.Denot)). IsReadied (get t) c.self.inside.ready) (sym (c.count_at.ensures r there.1)) (readied-set c.self.inside.records c.self.inside.ready c.self.inside.ready c.in-Some.key r a c.self.invariant.readied there.1 moved);
+      readied = subst (λ (t : Slab (Record g.row.M.Denot)). IsReadied (get t) c.self.inside.ready) (sym (c.count_at.ensures r there.1)) (listed-set ready_set c.self.inside.records c.self.inside.ready c.self.inside.ready c.in-Some.key r a c.self.invariant.readied there.1 moved);
+      membered = subst (λ (t : Slab (Record g.row.M.Denot)). IsMembered (get t) c.self.inside.members) (sym (c.count_at.ensures r there.1)) (membered-set c.self.inside.records c.self.inside.members c.in-Some.key r a c.self.invariant.membered there.1 refl);
     }
 
 pub returns-in-Some-clause-live : goal.returns-in-Some-clause-live

@@ -1,27 +1,28 @@
 use Rattle.std.proofs.Common.{◌∙◌, ap, length, ℕ, List, Option, None, get_or}
 use Rattle.member_lists.specs.Lists.{ListsView}
 use Rattle.port.specs.declared.Record.{Record}
-use Rattle.port.proofs.Readied.{readied-none}
+use Rattle.port.proofs.Readied.{listed-none}
 use Rattle.std.specs.FinMap as map
 use Rattle.std.specs.Ordering.{nat_cmp}
 use Rattle.slab.specs.Slab.{get}
 use Rattle.port.specs.Ports.{PortView, PortsView}
 use Rattle.number_map.specs.Maps.{MapView}
-use Rattle.port.specs.Records.{turns_at}
+use Rattle.port.specs.Records.{turns_at, ready_set, member_set}
 use Rattle.port.proofs.Turned.{turns-none}
 use Rattle.port.proofs.Grown.{sound-empty, ports-empty}
 use Rattle.port.proofs.Ports.new.Goals as goal
 
 pub invariant_of-result : goal.invariant_of-result
 invariant_of-result g c = record {
-  sound = sound-empty c.new.result c.new-2.result.map c.new-4.result c.new.ensures.empty (ap (λ (w : MapView ℕ). w.map) c.new-2.ensures) c.new-4.ensures;
-  readied = readied-none (get c.new.result) c.new-3.result (λ k. ap (λ (l : List (Option (Record g.row.M.Denot))). get_or l k None) c.new.ensures.empty) (ap (λ (w : ListsView). w.lists) c.new-3.ensures);
+  sound = sound-empty c.new.result c.new-2.result.map c.new-5.result c.new.ensures.empty (ap (λ (w : MapView ℕ). w.map) c.new-2.ensures) c.new-5.ensures;
+  readied = listed-none ready_set (get c.new.result) c.new-3.result (λ k. ap (λ (l : List (Option (Record g.row.M.Denot))). get_or l k None) c.new.ensures.empty) (ap (λ (w : ListsView). w.lists) c.new-3.ensures);
+  membered = listed-none member_set (get c.new.result) c.new-4.result (λ k. ap (λ (l : List (Option (Record g.row.M.Denot))). get_or l k None) c.new.ensures.empty) (ap (λ (w : ListsView). w.lists) c.new-4.ensures);
 }
 
 pub returns : goal.returns
 returns g c =
     let lists : map.FinMap nat_cmp (List ℕ) = c.new-3.result.lists in
     let mk : map.FinMap nat_cmp (PortView g.row.M.Denot) → map.FinMap nat_cmp (List ℕ) → ℕ → PortsView g.row.M.Denot = λ ports turns n. record { ports = ports; ready = turns; made = 0; spare = n } in
-    ap (λ ports. mk ports (turns_at (get c.new.result) lists) (length c.new-4.result)) (ports-empty (get c.new.result) c.new-2.result.map (ap (λ (w : MapView ℕ). w.map) c.new-2.ensures))
-    ∙ ap (λ turns. mk map.empty turns (length c.new-4.result)) (turns-none (get c.new.result) lists (ap (λ (w : ListsView). w.lists) c.new-3.ensures))
-    ∙ ap (λ l. mk map.empty map.empty (length l)) c.new-4.ensures
+    ap (λ ports. mk ports (turns_at (get c.new.result) lists) (length c.new-5.result)) (ports-empty (get c.new.result) c.new-2.result.map (ap (λ (w : MapView ℕ). w.map) c.new-2.ensures))
+    ∙ ap (λ turns. mk map.empty turns (length c.new-5.result)) (turns-none (get c.new.result) lists (ap (λ (w : ListsView). w.lists) c.new-3.ensures))
+    ∙ ap (λ l. mk map.empty map.empty (length l)) c.new-5.ensures

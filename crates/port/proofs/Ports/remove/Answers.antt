@@ -4,10 +4,12 @@ use Rattle.std.specs.Ordering.{nat_cmp}
 use Rattle.number_map.specs.Maps.{MapView}
 use Rattle.slab.specs.Slab.{get}
 use Rattle.port.specs.Ports.{PortView, PortsView}
-use Rattle.port.specs.Records.{ports_of, turns_at, made_of, IsKept}
+use Rattle.port.specs.Records.{ports_of, turns_at, made_of, ready_set, member_set, IsKept}
 use Rattle.port.proofs.Records.{port_of}
 use Rattle.port.proofs.Sound.{record_at, live_port, gone_port}
-use Rattle.port.proofs.Readied.{readied-went}
+use Rattle.port.specs.Ready.{StandsIn}
+use Rattle.port.proofs.Moved.{moved_none}
+use Rattle.port.proofs.Readied.{ready_none, listed-went}
 use Rattle.port.proofs.Turned.{turns-apart, apart-quiet}
 use Rattle.port.proofs.Grown.{sound-went, view-went, remove-absent}
 use Rattle.port.proofs.Ports.remove.Goals as goal
@@ -26,8 +28,12 @@ invariant_of-self g c =
     record {
       sound = sound-went c.self.inside.records c.remove-in-Some.new.self c.self.inside.by_id.map c.remove.new.self.map c.self.inside.next c.self.inside.spare c.self.inside.slots c.self.invariant.sound c.args.self.now c.self.view_is
           c.args.port c.in-Some.key c.remove-in-Some.result found c.remove-in-Some.ensures.value quiet c.remove-in-Some.ensures.updates.changed c.remove-in-Some.ensures.updates.others out;
-      readied = readied-went (get c.self.inside.records) (get c.remove-in-Some.new.self) c.self.inside.ready c.self.invariant.readied c.in-Some.key c.remove-in-Some.result c.remove-in-Some.ensures.value
-          (record { changed = c.remove-in-Some.ensures.updates.changed; others = c.remove-in-Some.ensures.updates.others }) quiet;
+      readied = listed-went ready_set (get c.self.inside.records) (get c.remove-in-Some.new.self) c.self.inside.ready c.self.invariant.readied c.in-Some.key c.self.inside.ready
+          (record { changed = c.remove-in-Some.ensures.updates.changed; others = c.remove-in-Some.ensures.updates.others })
+          (moved_none c.self.inside.ready c.in-Some.key None (subst (λ o. StandsIn c.self.inside.ready c.in-Some.key o) (ready_none c.remove-in-Some.result.queue c.remove-in-Some.result.attributes.set quiet)
+              (c.self.invariant.readied.stands c.in-Some.key c.remove-in-Some.result c.remove-in-Some.ensures.value)));
+      membered = listed-went member_set (get c.self.inside.records) (get c.remove-in-Some.new.self) c.self.inside.members c.self.invariant.membered c.in-Some.key c.leave.new.lists
+          (record { changed = c.remove-in-Some.ensures.updates.changed; others = c.remove-in-Some.ensures.updates.others }) c.leave.ensures.moved;
     }
 
 pub returns-in-Some : goal.returns-in-Some
@@ -54,4 +60,15 @@ pub invariant_of-self-in-None : goal.invariant_of-self-in-None
 invariant_of-self-in-None g c =
     let none : map.get c.self.inside.by_id.map c.args.port ≡ None = sym (c.in-None.ensures.value ∙ ap (map.get c.self.inside.by_id.map) c.number.ensures) in
     let same : c.remove.new.self.map ≡ c.self.inside.by_id.map = ap (λ (w : MapView ℕ). w.map) c.remove.ensures.after ∙ ap (map.remove c.self.inside.by_id.map) c.number.ensures ∙ remove-absent c.self.inside.by_id.map c.args.port none in
-    subst (λ (keys : map.FinMap nat_cmp ℕ). IsKept c.self.inside.records keys c.self.inside.next c.self.inside.spare c.self.inside.slots c.self.inside.ready) (sym same) c.self.invariant
+    subst (λ (keys : map.FinMap nat_cmp ℕ). IsKept c.self.inside.records keys c.self.inside.next c.self.inside.spare c.self.inside.slots c.self.inside.ready c.self.inside.members) (sym same) c.self.invariant
+
+pub member_at-set-requires : goal.member_at-set-requires
+member_at-set-requires g c =
+    let found : map.get c.self.inside.by_id.map c.args.port ≡ Some c.in-Some.key = sym (c.in-Some.ensures.value ∙ ap (map.get c.self.inside.by_id.map) c.number.ensures) in
+    ap is_some (record_at c.self.inside.records c.self.inside.by_id.map c.self.inside.next c.self.inside.spare c.self.inside.slots c.self.invariant.sound c.args.self.now c.self.view_is c.args.port c.in-Some.key found).1
+
+pub leave-requires : goal.leave-requires
+leave-requires g c =
+    let found : map.get c.self.inside.by_id.map c.args.port ≡ Some c.in-Some.key = sym (c.in-Some.ensures.value ∙ ap (map.get c.self.inside.by_id.map) c.number.ensures) in
+    let there = record_at c.self.inside.records c.self.inside.by_id.map c.self.inside.next c.self.inside.spare c.self.inside.slots c.self.invariant.sound c.args.self.now c.self.view_is c.args.port c.in-Some.key found in
+    subst (λ o. StandsIn c.self.inside.members c.in-Some.key o) (sym (c.member_at-set.ensures there.0 there.1)) (c.self.invariant.membered.stands c.in-Some.key there.0 there.1)

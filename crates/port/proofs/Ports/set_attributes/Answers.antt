@@ -3,10 +3,10 @@ use Rattle.std.specs.FinMap as map
 use Rattle.slab.specs.Slab.{Slab, get, with_value}
 use Rattle.port.specs.declared.Record.{Record}
 use Rattle.port.specs.Ports.{PortView, PortsView, turned}
-use Rattle.port.specs.Records.{ports_of, turns_at, made_of, ready_set, IsReadied, IsSound}
+use Rattle.port.specs.Records.{ports_of, turns_at, made_of, ready_set, member_set, IsReadied, IsMembered, IsSound}
 use Rattle.port.specs.Ready.{StandsIn, IsMoved, out_of, at_end}
 use Rattle.port.specs.Turns.{same_set}
-use Rattle.port.proofs.Readied.{readied-set}
+use Rattle.port.proofs.Readied.{listed-set}
 use Rattle.port.proofs.Records.{port_of}
 use Rattle.port.proofs.Sound.{record_at, live_at, is_port, turns-set, sound-set, view-set}
 use Rattle.port.proofs.Turned.{turned-renewed}
@@ -29,11 +29,13 @@ invariant_of-self g c =
     let r : Record g.row.M.Denot = there.0 in
     let a : Record g.row.M.Denot = record { id = r.id; queue = r.queue; attributes = c.args.attributes } in
     let now : get c.set_at.new.records c.unwrap-key.result ≡ Some a = ap (λ (t : Slab (Record g.row.M.Denot)). get t c.unwrap-key.result) (c.set_at.ensures r there.1) ∙ (turns-set c.self.inside.records c.unwrap-key.result r a there.1).changed in
-    let moved : IsMoved c.self.inside.ready c.renew.new.ready c.unwrap-key.result (ready_set a) = subst (λ o. IsMoved c.self.inside.ready c.renew.new.ready c.unwrap-key.result o) (c.ready_at-now.ensures a now) c.renew.ensures.moved in
+    let moved : IsMoved c.self.inside.ready c.renew.new.lists c.unwrap-key.result (ready_set a) = subst (λ o. IsMoved c.self.inside.ready c.renew.new.lists c.unwrap-key.result o) (c.ready_at-now.ensures a now) c.renew.ensures.moved in
+    let in_set : IsMoved c.self.inside.members c.renew-2.new.lists c.unwrap-key.result (member_set a) = subst (λ o. IsMoved c.self.inside.members c.renew-2.new.lists c.unwrap-key.result o) (c.member_at-set.ensures a now) c.renew-2.ensures.moved in
     record {
       sound = subst (λ (t : Slab (Record g.row.M.Denot)). IsSound t c.self.inside.by_id.map c.self.inside.next c.self.inside.spare c.self.inside.slots) (sym (c.set_at.ensures r there.1))
           (sound-set c.self.inside.records c.self.inside.by_id.map c.self.inside.next c.self.inside.spare c.self.inside.spare c.self.inside.slots c.self.invariant.sound c.args.self.now c.self.view_is c.args.port c.unwrap-key.result r a found there.1 refl refl);
-      readied = subst (λ (t : Slab (Record g.row.M.Denot)). IsReadied (get t) c.renew.new.ready) (sym (c.set_at.ensures r there.1)) (readied-set c.self.inside.records c.self.inside.ready c.renew.new.ready c.unwrap-key.result r a c.self.invariant.readied there.1 moved);
+      readied = subst (λ (t : Slab (Record g.row.M.Denot)). IsReadied (get t) c.renew.new.lists) (sym (c.set_at.ensures r there.1)) (listed-set ready_set c.self.inside.records c.self.inside.ready c.renew.new.lists c.unwrap-key.result r a c.self.invariant.readied there.1 moved);
+      membered = subst (λ (t : Slab (Record g.row.M.Denot)). IsMembered (get t) c.renew-2.new.lists) (sym (c.set_at.ensures r there.1)) (listed-set member_set c.self.inside.records c.self.inside.members c.renew-2.new.lists c.unwrap-key.result r a c.self.invariant.membered there.1 in_set);
     }
 
 pub returns : goal.returns
@@ -43,12 +45,12 @@ returns g c p h =
     let r : Record g.row.M.Denot = there.0 in
     let a : Record g.row.M.Denot = record { id = r.id; queue = r.queue; attributes = c.args.attributes } in
     let is : p ≡ port_of r = is_port c.self.inside.records c.self.inside.by_id.map c.self.inside.next c.self.inside.spare c.self.inside.spare c.self.inside.slots c.self.invariant.sound c.args.self.now c.self.view_is c.args.port c.unwrap-key.result r a found there.1 refl refl p h in
-    let view : Slab (Record g.row.M.Denot) → PortsView g.row.M.Denot = λ t. record { ports = ports_of (get t) c.self.inside.by_id.map; ready = turns_at (get t) c.renew.new.ready.lists; made = made_of c.self.inside.next; spare = length c.self.inside.spare } in
+    let view : Slab (Record g.row.M.Denot) → PortsView g.row.M.Denot = λ t. record { ports = ports_of (get t) c.self.inside.by_id.map; ready = turns_at (get t) c.renew.new.lists.lists; made = made_of c.self.inside.next; spare = length c.self.inside.spare } in
     let after : PortView g.row.M.Denot → ℕ → PortsView g.row.M.Denot = λ q n. record { ports = map.insert c.args.self.now.ports c.args.port (let b : PortView g.row.M.Denot = record { queue = q.queue; attributes = c.args.attributes } in b); ready = turned c.args.self.now.ready c.args.port (map.get c.args.self.now.ports c.args.port) (let b : PortView g.row.M.Denot = record { queue = q.queue; attributes = c.args.attributes } in b); made = c.args.self.now.made; spare = n } in
     let was : length c.self.inside.spare ≡ c.args.self.now.spare = ap (λ (b : PortsView g.row.M.Denot). b.spare) c.self.view_is in
     ap view (c.set_at.ensures r there.1)
-    ∙ view-set c.self.inside.records c.self.inside.by_id.map c.self.inside.next c.self.inside.spare c.self.inside.spare c.self.inside.slots c.self.invariant.sound c.args.self.now c.self.view_is c.args.port c.unwrap-key.result r a found there.1 refl refl (turns_at (get (with_value c.self.inside.records c.unwrap-key.result a)) c.renew.new.ready.lists)
-        (turned-renewed c.self.inside.records c.self.inside.by_id.map c.self.inside.next c.self.inside.spare c.self.inside.slots c.self.invariant.sound c.self.inside.ready c.args.self.now c.self.view_is c.self.invariant.readied c.args.port c.unwrap-key.result r a found there.1 refl c.renew.new.ready (omega arith) (c.renew.ensures.turned ∙ ap (λ o. cond (same_set o c.ready_at-now.result) c.self.inside.ready (at_end (out_of c.self.inside.ready c.unwrap-key.result o) c.unwrap-key.result c.ready_at-now.result)) (c.ready_at-was.ensures r there.1)
+    ∙ view-set c.self.inside.records c.self.inside.by_id.map c.self.inside.next c.self.inside.spare c.self.inside.spare c.self.inside.slots c.self.invariant.sound c.args.self.now c.self.view_is c.args.port c.unwrap-key.result r a found there.1 refl refl (turns_at (get (with_value c.self.inside.records c.unwrap-key.result a)) c.renew.new.lists.lists)
+        (turned-renewed c.self.inside.records c.self.inside.by_id.map c.self.inside.next c.self.inside.spare c.self.inside.slots c.self.invariant.sound c.self.inside.ready c.args.self.now c.self.view_is c.self.invariant.readied c.args.port c.unwrap-key.result r a found there.1 refl c.renew.new.lists (omega arith) (c.renew.ensures.turned ∙ ap (λ o. cond (same_set o c.ready_at-now.result) c.self.inside.ready (at_end (out_of c.self.inside.ready c.unwrap-key.result o) c.unwrap-key.result c.ready_at-now.result)) (c.ready_at-was.ensures r there.1)
         ∙ ap (λ o. cond (same_set (ready_set r) o) c.self.inside.ready (at_end (out_of c.self.inside.ready c.unwrap-key.result (ready_set r)) c.unwrap-key.result o)) (c.ready_at-now.ensures a (ap (λ (t : Slab (Record g.row.M.Denot)). get t c.unwrap-key.result) (c.set_at.ensures r there.1) ∙ (turns-set c.self.inside.records c.unwrap-key.result r a there.1).changed))))
     ∙ ap (λ q. after q (length c.self.inside.spare)) (sym is)
     ∙ ap (after p) was
@@ -67,3 +69,18 @@ renew-requires-clause-was g c =
     let there = record_at c.self.inside.records c.self.inside.by_id.map c.self.inside.next c.self.inside.spare c.self.inside.slots c.self.invariant.sound c.args.self.now c.self.view_is c.args.port c.unwrap-key.result found in
     let r : Record g.row.M.Denot = there.0 in
     subst (λ o. StandsIn c.self.inside.ready c.unwrap-key.result o) (sym (c.ready_at-was.ensures r there.1)) (c.self.invariant.readied.stands c.unwrap-key.result r there.1)
+
+pub member_at-set-requires : goal.member_at-set-requires
+member_at-set-requires g c =
+    let found : map.get c.self.inside.by_id.map c.args.port ≡ Some c.unwrap-key.result = sym (sym c.unwrap-key.ensures ∙ c.key_of.ensures) in
+    let there = record_at c.self.inside.records c.self.inside.by_id.map c.self.inside.next c.self.inside.spare c.self.inside.slots c.self.invariant.sound c.args.self.now c.self.view_is c.args.port c.unwrap-key.result found in
+    let r : Record g.row.M.Denot = there.0 in
+    let a : Record g.row.M.Denot = record { id = r.id; queue = r.queue; attributes = c.args.attributes } in
+    ap is_some (ap (λ (t : Slab (Record g.row.M.Denot)). get t c.unwrap-key.result) (c.set_at.ensures r there.1) ∙ (turns-set c.self.inside.records c.unwrap-key.result r a there.1).changed)
+
+pub renew-requires-2-clause-was : goal.renew-requires-2-clause-was
+renew-requires-2-clause-was g c =
+    let found : map.get c.self.inside.by_id.map c.args.port ≡ Some c.unwrap-key.result = sym (sym c.unwrap-key.ensures ∙ c.key_of.ensures) in
+    let there = record_at c.self.inside.records c.self.inside.by_id.map c.self.inside.next c.self.inside.spare c.self.inside.slots c.self.invariant.sound c.args.self.now c.self.view_is c.args.port c.unwrap-key.result found in
+    let r : Record g.row.M.Denot = there.0 in
+    subst (λ o. StandsIn c.self.inside.members c.unwrap-key.result o) (sym (c.member_at-member.ensures r there.1)) (c.self.invariant.membered.stands c.unwrap-key.result r there.1)
