@@ -12,7 +12,7 @@ use Rattle.slab.specs.Slab.{Slab, get, with_value}
 use Rattle.port.specs.declared.Record.{Record}
 use Rattle.port.specs.Turns.{ReadyLists, turns_of, with_turns, left, joined, same_set}
 use Rattle.port.specs.Ready.{out_of, at_end}
-use Rattle.port.specs.Ports.{PortView, PortsView, turned}
+use Rattle.port.specs.Ports.{PortsView, turned}
 use Rattle.port.specs.Records.{ports_of, id_in, ids_at, turns_at, made_of, ready_set, IsIndexed, IsReadied, IsSound}
 use Rattle.port.proofs.Keys.{same_some, some_or_none, equal_or_not, put_here, put_other, out_here, out_other, same_gets}
 use Rattle.port.proofs.View.{get-with_values, len-with_values}

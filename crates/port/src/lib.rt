@@ -562,8 +562,9 @@ impl<M: Message> Ports<M> {
         renew(&mut self.ready, key, was, now);
     }
 
-    /// Takes the message at the front of a port's queue; its slot is spare again. `None` where the
-    /// port is gone or has none, and all is then as before. Takes no memory. Constant time.
+    /// Takes the message at the front of a port's queue; its slot is spare again. A port that has more
+    /// goes to the end of its set's ready ones. `None` where the port is gone or has none, and all is
+    /// then as before. Takes no memory. Constant time.
     pub fn dequeue(&mut self, port: PortId) -> Option<M>
         ensures front { result ≡ option_and_then (λ p. slice_get p.queue 0) (map.get self.old.ports port) }
         ensures taken { (p : PortView M) → map.get self.old.ports port ≡ Some p → IfSome result (λ m. self.new ≡ record (with_port self.old port (record p { queue = drop 1 p.queue })) { spare = self.old.spare + 1 }) }
@@ -582,8 +583,9 @@ impl<M: Message> Ports<M> {
     }
 
     /// Takes the message at the front of a port's queue, and raises the port's sequence number by one
-    /// modulo 2^32; the message's slot is spare again. `None` where the port is gone or has none, and
-    /// all is then as before. Takes no memory. Constant time.
+    /// modulo 2^32; the message's slot is spare again. A port that has more goes to the end of its
+    /// set's ready ones. `None` where the port is gone or has none, and all is then as before. Takes
+    /// no memory. Constant time.
     pub fn take(&mut self, port: PortId) -> Option<M>
         ensures front { result ≡ option_and_then (λ p. slice_get p.queue 0) (map.get self.old.ports port) }
         ensures taken { (p : PortView M) → map.get self.old.ports port ≡ Some p → IfSome result (λ m. self.new ≡ record (with_port self.old port (record p { queue = drop 1 p.queue; attributes = one_received p.attributes })) { spare = self.old.spare + 1 }) }

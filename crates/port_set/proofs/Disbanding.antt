@@ -1,5 +1,5 @@
 -- Members that leave a set one after the other.
-use Rattle.std.proofs.Common.{◌≡◌, ◌≢◌, ◌⊎◌, inl, inr, ℕ, zero, suc, ◌+◌, ◌<◌, ◌≤◌, Bool, true, false, cond, refl, ap, sym, ◌∙◌, Option, Some, None, is_some, arith}
+use Rattle.std.proofs.Common.{◌≡◌, ◌≢◌, ◌⊎◌, inl, inr, ℕ, zero, suc, ◌+◌, ◌<◌, ◌≤◌, Bool, true, false, cond, refl, ap, sym, ◌∙◌, Some, None, is_some, arith}
 use Rattle.std.specs.FinMap as map
 use Rattle.port.specs.Ports.{PortView, PortsView, with_port, turned, IsIn, NoneIn}
 use Rattle.port.specs.Turns.{turns_of}
@@ -42,8 +42,8 @@ module _ {M : Type 0} (mid new : PortsView M) (set port : ℕ) (inside : IsIn mi
       ap (λ (v : PortsView M). turns_of v.ready other) is
       ∙ ap (λ o. turns_of (turned mid.ready port o (in_set inside.view None)) other) inside.there
       ∙ turned_other mid.ready port inside.view (in_set inside.view None) other
-          (λ h. d (same_some other set (sym (ready_if_in inside.view.queue inside.view.attributes.set other h) ∙ inside.member)))
-          (λ h. none_is_some other (ready_if_in inside.view.queue None other h))
+      (λ h. d (same_some other set (sym (ready_if_in inside.view.queue inside.view.attributes.set other h) ∙ inside.member)))
+      (λ h. none_is_some other (ready_if_in inside.view.queue None other h))
 
   -- ---- one member less
 

@@ -62,7 +62,7 @@ returns-clause-ok g c =
     (made_more c.checked_add-self-inside.result c.unwrap-number.result c.checked_add-self-inside.ensures few ∙ ap (λ n. n + 1) (sym number)) (next_in_range c.checked_add-self-inside.result c.unwrap-number.result c.checked_add-self-inside.ensures)
     (turns_at (get c.insert_reserved-key.new.self) c.reserve-3.new.self.lists)
     (ap (λ (w : ListsView). turns_at (get c.insert_reserved-key.new.self) w.lists) c.in_ok-reserve-3.ensures.ok
-        ∙ turns-apart (get c.self.inside.records) (get c.insert_reserved-key.new.self) c.self.inside.ready c.insert_reserved-key.result (apart-vacant (get c.self.inside.records) c.self.inside.ready c.self.invariant.readied c.insert_reserved-key.result vacant) others)
+    ∙ turns-apart (get c.self.inside.records) (get c.insert_reserved-key.new.self) c.self.inside.ready c.insert_reserved-key.result (apart-vacant (get c.self.inside.records) c.self.inside.ready c.self.invariant.readied c.insert_reserved-key.result vacant) others)
     ∙ ap (λ l. after l c.first.result) c.new.ensures ∙ ap (after []) c.first.ensures
 
 pub invariant_of-self : goal.invariant_of-self

@@ -44,7 +44,7 @@ returns-in-Some-clause-live g c p h =
     let was : length c.self.inside.spare ≡ c.args.self.now.spare = ap (λ (b : PortsView g.row.M.Denot). b.spare) c.self.view_is in
     ap view (c.count_at.ensures r there.1)
     ∙ view-set c.self.inside.records c.self.inside.by_id.map c.self.inside.next c.self.inside.spare c.self.inside.spare c.self.inside.slots c.self.invariant.sound c.args.self.now c.self.view_is c.args.port c.in-Some.key r a found there.1 refl refl (turns_at (get (with_value c.self.inside.records c.in-Some.key a)) c.self.inside.ready.lists)
-        (turned-same c.self.inside.records c.self.inside.by_id.map c.self.inside.next c.self.inside.spare c.self.inside.slots c.self.invariant.sound c.self.inside.ready c.args.self.now c.self.view_is c.self.invariant.readied c.args.port c.in-Some.key r a found there.1 refl refl (omega arith))
+    (turned-same c.self.inside.records c.self.inside.by_id.map c.self.inside.next c.self.inside.spare c.self.inside.slots c.self.invariant.sound c.self.inside.ready c.args.self.now c.self.view_is c.self.invariant.readied c.args.port c.in-Some.key r a found there.1 refl refl (omega arith))
     ∙ ap (λ q. after q (length c.self.inside.spare)) (sym is)
     ∙ ap (after p) was
 

@@ -53,8 +53,8 @@ returns g c p h =
     let was : length c.self.inside.spare ≡ c.args.self.now.spare = ap (λ (b : PortsView g.row.M.Denot). b.spare) c.self.view_is in
     ap view (c.push_at.ensures.after r there.1)
     ∙ view-set c.self.inside.records c.self.inside.by_id.map c.self.inside.next c.self.inside.spare c.push_at.new.spare c.self.inside.slots c.self.invariant.sound c.args.self.now c.self.view_is c.args.port c.unwrap-key.result r a found there.1 refl (omega arith) (turns_at (get (with_value c.self.inside.records c.unwrap-key.result a)) c.renew.new.lists.lists)
-        (turned-renewed c.self.inside.records c.self.inside.by_id.map c.self.inside.next c.self.inside.spare c.self.inside.slots c.self.invariant.sound c.self.inside.ready c.args.self.now c.self.view_is c.self.invariant.readied c.args.port c.unwrap-key.result r a found there.1 refl c.renew.new.lists (omega arith) (c.renew.ensures.turned ∙ ap (λ o. cond (same_set o c.ready_at-now.result) c.self.inside.ready (at_end (out_of c.self.inside.ready c.unwrap-key.result o) c.unwrap-key.result c.ready_at-now.result)) (c.ready_at-was.ensures r there.1)
-        ∙ ap (λ o. cond (same_set (ready_set r) o) c.self.inside.ready (at_end (out_of c.self.inside.ready c.unwrap-key.result (ready_set r)) c.unwrap-key.result o)) (c.ready_at-now.ensures a (ap (λ (t : Slab (Record g.row.M.Denot)). get t c.unwrap-key.result) (c.push_at.ensures.after r there.1) ∙ (turns-set c.self.inside.records c.unwrap-key.result r a there.1).changed))))
+    (turned-renewed c.self.inside.records c.self.inside.by_id.map c.self.inside.next c.self.inside.spare c.self.inside.slots c.self.invariant.sound c.self.inside.ready c.args.self.now c.self.view_is c.self.invariant.readied c.args.port c.unwrap-key.result r a found there.1 refl c.renew.new.lists (omega arith) (c.renew.ensures.turned ∙ ap (λ o. cond (same_set o c.ready_at-now.result) c.self.inside.ready (at_end (out_of c.self.inside.ready c.unwrap-key.result o) c.unwrap-key.result c.ready_at-now.result)) (c.ready_at-was.ensures r there.1)
+    ∙ ap (λ o. cond (same_set (ready_set r) o) c.self.inside.ready (at_end (out_of c.self.inside.ready c.unwrap-key.result (ready_set r)) c.unwrap-key.result o)) (c.ready_at-now.ensures a (ap (λ (t : Slab (Record g.row.M.Denot)). get t c.unwrap-key.result) (c.push_at.ensures.after r there.1) ∙ (turns-set c.self.inside.records c.unwrap-key.result r a there.1).changed))))
     ∙ ap (λ q. after q (length c.push_at.new.spare)) (sym is)
     ∙ ap (after p) (omega arith)
 

@@ -31,7 +31,7 @@ invariant_of-self g c =
       readied = listed-went ready_set (get c.self.inside.records) (get c.remove-in-Some.new.self) c.self.inside.ready c.self.invariant.readied c.in-Some.key c.self.inside.ready
           (record { changed = c.remove-in-Some.ensures.updates.changed; others = c.remove-in-Some.ensures.updates.others })
           (moved_none c.self.inside.ready c.in-Some.key None (subst (λ o. StandsIn c.self.inside.ready c.in-Some.key o) (ready_none c.remove-in-Some.result.queue c.remove-in-Some.result.attributes.set quiet)
-              (c.self.invariant.readied.stands c.in-Some.key c.remove-in-Some.result c.remove-in-Some.ensures.value)));
+          (c.self.invariant.readied.stands c.in-Some.key c.remove-in-Some.result c.remove-in-Some.ensures.value)));
       membered = listed-went member_set (get c.self.inside.records) (get c.remove-in-Some.new.self) c.self.inside.members c.self.invariant.membered c.in-Some.key c.leave.new.lists
           (record { changed = c.remove-in-Some.ensures.updates.changed; others = c.remove-in-Some.ensures.updates.others }) c.leave.ensures.moved;
     }
@@ -46,7 +46,7 @@ returns-in-Some g c =
     c.args.port c.in-Some.key c.remove-in-Some.result found c.remove-in-Some.ensures.value quiet c.remove-in-Some.ensures.updates.changed c.remove-in-Some.ensures.updates.others out
     (turns_at (get c.remove-in-Some.new.self) c.self.inside.ready.lists)
     (turns-apart (get c.self.inside.records) (get c.remove-in-Some.new.self) c.self.inside.ready c.in-Some.key (apart-quiet (get c.self.inside.records) c.self.inside.ready c.self.invariant.readied c.in-Some.key c.remove-in-Some.result c.remove-in-Some.ensures.value quiet)
-        c.remove-in-Some.ensures.updates.others)
+    c.remove-in-Some.ensures.updates.others)
 
 pub returns-in-None : goal.returns-in-None
 returns-in-None g c =

@@ -82,8 +82,8 @@ returns-clause-taken g c p h =
     let rest : popped.0 ≡ drop 1 p.queue = ap (λ (l : List g.row.M.Denot). drop 1 l) (sym popped.1 ∙ ap (λ (q : PortView g.row.M.Denot). q.queue) (sym is)) in
     ap view popped.2
     ∙ view-set c.self.inside.records c.self.inside.by_id.map c.self.inside.next c.self.inside.spare c.take_at-message.new.spare c.self.inside.slots c.self.invariant.sound c.args.self.now c.self.view_is c.args.port c.in_ok-key.key r a found there.1 refl (omega arith) (turns_at (get (with_value c.self.inside.records c.in_ok-key.key a)) c.rejoin.new.lists.lists)
-        (turned-taken c.self.inside.records c.self.inside.by_id.map c.self.inside.next c.self.inside.spare c.self.inside.slots c.self.invariant.sound c.self.inside.ready c.args.self.now c.self.view_is c.self.invariant.readied c.args.port c.in_ok-key.key r a found there.1 refl c.rejoin.new.lists (omega arith) (c.rejoin.ensures.turned ∙ ap (λ o. at_end (out_of c.self.inside.ready c.in_ok-key.key o) c.in_ok-key.key c.ready_at-now.result) (c.ready_at-was.ensures r there.1)
-        ∙ ap (at_end (out_of c.self.inside.ready c.in_ok-key.key (ready_set r)) c.in_ok-key.key) (c.ready_at-now.ensures a (ap (λ (t : Slab (Record g.row.M.Denot)). get t c.in_ok-key.key) popped.2 ∙ (turns-set c.self.inside.records c.in_ok-key.key r a there.1).changed))))
+    (turned-taken c.self.inside.records c.self.inside.by_id.map c.self.inside.next c.self.inside.spare c.self.inside.slots c.self.invariant.sound c.self.inside.ready c.args.self.now c.self.view_is c.self.invariant.readied c.args.port c.in_ok-key.key r a found there.1 refl c.rejoin.new.lists (omega arith) (c.rejoin.ensures.turned ∙ ap (λ o. at_end (out_of c.self.inside.ready c.in_ok-key.key o) c.in_ok-key.key c.ready_at-now.result) (c.ready_at-was.ensures r there.1)
+    ∙ ap (at_end (out_of c.self.inside.ready c.in_ok-key.key (ready_set r)) c.in_ok-key.key) (c.ready_at-now.ensures a (ap (λ (t : Slab (Record g.row.M.Denot)). get t c.in_ok-key.key) popped.2 ∙ (turns-set c.self.inside.records c.in_ok-key.key r a there.1).changed))))
     ∙ ap (λ l. after l (one_received r.attributes) (length c.take_at-message.new.spare)) rest
     ∙ ap (λ (q : PortView g.row.M.Denot). after (drop 1 p.queue) (one_received q.attributes) (length c.take_at-message.new.spare)) (sym is)
     ∙ ap (after (drop 1 p.queue) (one_received p.attributes)) (omega arith)
