@@ -47,7 +47,7 @@ leaves_if_any MakeSendOnce (entry.SendOnce p) makes = tt
 leaves_if_any MakeSendOnce (entry.DeadName n) makes = tt
 leaves_if_any MakeSendOnce (entry.Set s) makes = tt
 
-leaves : (d : Disposition) (e : Entry) (k : Copied) → makes_right d ≡ true → copied_from d e ≡ Some k → k.left ≡ Some e
+pub leaves : (d : Disposition) (e : Entry) (k : Copied) → makes_right d ≡ true → copied_from d e ≡ Some k → k.left ≡ Some e
 leaves d e k makes is = subst (LeavesIfAny e) is (leaves_if_any d e makes)
 
 -- what stands there, put there again

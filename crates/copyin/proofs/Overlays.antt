@@ -86,3 +86,14 @@ overlays-many old new names now name left full few u o =
       ];
       in_turn = λ h. absurd (let e : array_vec_len new.few ≡ array_vec_len old.few = ap (λ (f : ArrayVec Touch). length f.items) few in omega arith);
     }
+
+-- ---- and what stands there already
+
+pub overlays-same : (touched : Touched) (names now : Names) (name : ℕ) (left : Option Entry) → map.get now name ≡ left → Overlays touched names now → Overlays touched names (put now name left)
+overlays-same touched names now name left same o = record {
+  each = λ q. elim (eqb_tells q name) [
+    | inl h ↦ rw h.1 (get_put now name left ∙ sym same ∙ o.each name)
+    | inr h ↦ get_put_other now name left q h.1 ∙ o.each q
+  ];
+  in_turn = o.in_turn;
+}

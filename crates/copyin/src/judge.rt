@@ -1,10 +1,12 @@
 //! Judging a message before anything changes.
-ghost use Rattle.std.specs.Prelude.{◌≡◌, ◌≢◌, ℕ, ◌<◌, ◌≤◌, ◌+◌, ◌⊎◌, ◌↔◌, All, IsSome, IsTrue, Some, None, MatchBool, MatchOption, [], ◌∷◌, ◌++◌, IfSome, IfOk, IfErr, OnOk, OnErr, length, slice_get};
+ghost use Rattle.std.specs.Prelude.{◌≡◌, ◌≢◌, ℕ, ◌<◌, ◌≤◌, ◌+◌, ◌⊎◌, ◌↔◌, All, IsSome, IsTrue, true, Some, None, MatchBool, MatchOption, [], ◌∷◌, ◌++◌, IfSome, IfOk, IfErr, OnOk, OnErr, length, slice_get};
 ghost use Rattle.std.specs.Option.{option_to_list};
+ghost use Rattle.std.specs.FinMap as map;
 ghost use Rattle.arrayvec.specs.ArrayVec.{array_vec_len};
 ghost use Rattle.smallvec.specs.SmallVec.{small_vec_len};
 ghost use Rattle.mach_types.specs.declared.codes.MsgReturn.TheVariants.{SendNoBuffer, SendInvalidDest, SendInvalidReply, SendInvalidRight, SendTimedOut};
 ghost use Rattle.mach_types.specs.Grammar.{WireBody};
+ghost use Rattle.mach_types.specs.Rights.{makes_right};
 ghost use Rattle.mach_types.specs.Tokens.{receive, send_once, same_kind};
 ghost use Rattle.port.specs.Ports.{IsLive};
 ghost use Rattle.mach_types.specs.Numbers.{disposition, kind_sent, most_rights, msg_number, null_word, dead_word};
@@ -58,6 +60,25 @@ pub struct Plan {
     pub message: Message,
 }
 
+// Puts what a right leaves under its name over what stood there: one that is made from a right that
+// stays leaves just that.
+fn leave(
+    touched: &mut Touched,
+    given: Disposition,
+    name: Name,
+    left: Option<Entry>,
+) -> Result<(), AllocError>
+    ensures ok { OnOk result ((names now : Names) → Overlays touched.old names now → (makes_right given ≡ true → map.get now name ≡ left)
+        → Overlays touched.new names (put now name left)) }
+    ensures err { OnErr result (IsFull touched.old) }
+    ensures few { array_vec_len touched.new.few ≤ array_vec_len touched.old.few + 1 }
+{
+    if given.makes_right() {
+        return Ok(());
+    }
+    touched.put(name, left)
+}
+
 // Judges the right that goes from what stands under the word's name, which is refused with this code.
 fn judge_name(
     space: &Space,
@@ -79,7 +100,7 @@ fn judge_name(
     let Some(copied) = copy_right(given, &entry) else {
         return Err(refusal);
     };
-    let Ok(()) = touched.put(word.name, copied.left) else {
+    let Ok(()) = leave(touched, given, word.name, copied.left) else {
         return Err(MsgReturn::SendNoBuffer);
     };
     let mark = copied.mark;
