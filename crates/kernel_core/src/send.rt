@@ -48,8 +48,15 @@ fn send_text(world: &mut World, alloc: Global, task: TaskId, bytes: &[u8]) -> Re
     ensures refused { OnErr result (world.new ≡ world.old) }
     ensures wanted { IfErr result (λ code. msg_number code ≡ msg_number SendNoBuffer → WantsToSend world.old task bytes.now) }
 {
-    let parsed = parse(alloc, bytes)?;
-    let plan = check(world, alloc, task, parsed, bytes)?;
+    // Not by `?`, which would move what was read, and the plan, once more.
+    let parsed = match parse(alloc, bytes) {
+        Ok(parsed) => parsed,
+        Err(code) => return Err(code),
+    };
+    let plan = match check(world, alloc, task, parsed, bytes) {
+        Ok(plan) => plan,
+        Err(code) => return Err(code),
+    };
     let Ok(()) = world.reserve_slot() else {
         return Err(MsgReturn::SendNoBuffer);
     };
