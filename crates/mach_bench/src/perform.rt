@@ -8,7 +8,7 @@ use crate::worlds::{WORLDS, World};
 use std::alloc::Global;
 use std::io::Write;
 use std::rt::Clock;
-use std::time::Instant;
+use std::time::{Duration, Instant};
 use std::{fmt, io};
 
 /// What the program can do.
@@ -142,10 +142,8 @@ fn written<'a>(write: io::Result<()>) -> Result<(), Fault<'a>> {
 
 /// Prints the names of the workloads, and then those of the worlds, one a line.
 fn list<'a, W: Write>(out: &mut W) -> Result<(), Fault<'a>> {
-    for (name, _) in WORKLOADS {
-        written(writeln!(out, "{name}"))?;
-    }
-    for (name, _) in WORLDS {
+    written(out.write_all(WORKLOADS.as_bytes()))?;
+    for name in WORLDS.lines() {
         written(writeln!(out, "--world {name}"))?;
     }
     Ok(())
@@ -153,10 +151,10 @@ fn list<'a, W: Write>(out: &mut W) -> Result<(), Fault<'a>> {
 
 /// Makes each workload once in the small world, and the first in each other; no time is told.
 fn check<'a, W: Write>(alloc: Global, out: &mut W) -> Result<(), Fault<'a>> {
-    for (name, _) in WORKLOADS {
+    for name in WORKLOADS.lines() {
         check_one(alloc, Run::new(name, "small"), out)?;
     }
-    for (name, _) in WORLDS {
+    for name in WORLDS.lines() {
         if name != "small" {
             check_one(alloc, Run::new("send-receive", name), out)?;
         }
@@ -180,23 +178,47 @@ fn measure<'a, C: Clock, W: Write>(
     out: &mut W,
 ) -> Result<(), Fault<'a>> {
     let mut bench = ready(alloc, run)?;
+    let took = time_of(clock, &mut bench, run)?;
+    tell(run, bench.operations, took, out)
+}
+
+/// Makes the cycles, and answers how long they took.
+fn time_of<'a, C: Clock>(
+    clock: &C,
+    bench: &mut Bench,
+    run: Run<'a>,
+) -> Result<Duration, Fault<'a>> {
     let Ok(start) = Instant::now(clock) else {
         return Err(Fault::NoClock);
     };
     done(bench.run(run.times), run)?;
-    let Ok(took) = start.elapsed(clock) else {
-        return Err(Fault::NoClock);
-    };
-    let operations = u64::from(bench.operations).saturating_mul(u64::from(run.times));
-    let each = took
-        .as_nanos()
-        .checked_div(u128::from(operations))
-        .unwrap_or(0);
+    match start.elapsed(clock) {
+        Ok(took) => Ok(took),
+        Err(_) => Err(Fault::NoClock),
+    }
+}
+
+/// Prints how many operations the cycles were, each of so many, and the time of each.
+fn tell<'a, W: Write>(
+    run: Run<'a>,
+    operations: u32,
+    took: Duration,
+    out: &mut W,
+) -> Result<(), Fault<'a>> {
+    let operations = u64::from(operations).saturating_mul(u64::from(run.times));
+    let each = nanoseconds_each(took, operations);
     let (name, place) = (run.workload, run.world);
     written(writeln!(
         out,
         "{name} in {place}: {operations} operations, {each} ns each"
     ))
+}
+
+/// The nanoseconds that each operation took, 0 where there is none.
+fn nanoseconds_each(took: Duration, operations: u64) -> u128 {
+    took.as_nanos()
+        .checked_div(u128::from(operations))
+        .unwrap_or(0)
 }
 
 /// A kernel with the world and what the workload needs.

@@ -60,42 +60,64 @@ pub enum Workload {
     Names,
 }
 
-/// All workloads, each with its word on the command line.
-pub const WORKLOADS: [(&str, Workload); 23] = [
-    ("send-receive", Workload::SendReceive),
-    ("right-named", Workload::RightNamed),
-    ("right-fresh", Workload::RightFresh),
-    ("request-answer", Workload::RequestAnswer),
-    ("raw-4096", Workload::Raw4096),
-    ("items-64", Workload::Items64),
-    ("rights-64", Workload::Rights64),
-    ("set-1000", Workload::Set1000),
-    ("set-receive", Workload::SetReceive),
-    ("set-2", Workload::Set2),
-    ("allocate-10000", Workload::Allocate10000),
-    ("dead-name", Workload::DeadName),
-    ("set-made", Workload::SetMade),
-    ("insert", Workload::Insert),
-    ("extract", Workload::Extract),
-    ("references", Workload::References),
-    ("type-65535", Workload::Type65535),
-    ("name-32768", Workload::Name32768),
-    ("deallocate-60000", Workload::Deallocate60000),
-    ("status", Workload::Status),
-    ("rename", Workload::Rename),
-    ("move-member", Workload::MoveMember),
-    ("names", Workload::Names),
-];
+/// The names of all workloads on the command line, one a line.
+///
+/// They are one text, and no table of texts, since that is dear to prove: `mach_bench check` makes each.
+pub const WORKLOADS: &str = "\
+send-receive
+right-named
+right-fresh
+request-answer
+raw-4096
+items-64
+rights-64
+set-1000
+set-receive
+set-2
+allocate-10000
+dead-name
+set-made
+insert
+extract
+references
+type-65535
+name-32768
+deallocate-60000
+status
+rename
+move-member
+names
+";
 
 impl Workload {
     /// The workload of this name.
     pub fn named(name: &str) -> Option<Workload> {
-        for (known, workload) in WORKLOADS {
-            if known == name {
-                return Some(workload);
-            }
-        }
-        None
+        Some(match name {
+            "send-receive" => Workload::SendReceive,
+            "right-named" => Workload::RightNamed,
+            "right-fresh" => Workload::RightFresh,
+            "request-answer" => Workload::RequestAnswer,
+            "raw-4096" => Workload::Raw4096,
+            "items-64" => Workload::Items64,
+            "rights-64" => Workload::Rights64,
+            "set-1000" => Workload::Set1000,
+            "set-receive" => Workload::SetReceive,
+            "set-2" => Workload::Set2,
+            "allocate-10000" => Workload::Allocate10000,
+            "dead-name" => Workload::DeadName,
+            "set-made" => Workload::SetMade,
+            "insert" => Workload::Insert,
+            "extract" => Workload::Extract,
+            "references" => Workload::References,
+            "type-65535" => Workload::Type65535,
+            "name-32768" => Workload::Name32768,
+            "deallocate-60000" => Workload::Deallocate60000,
+            "status" => Workload::Status,
+            "rename" => Workload::Rename,
+            "move-member" => Workload::MoveMember,
+            "names" => Workload::Names,
+            _ => return None,
+        })
     }
 
     /// Makes the bench's kernel ready, and gives it the calls of the cycle.

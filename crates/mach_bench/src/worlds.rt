@@ -41,28 +41,34 @@ pub enum World {
     Queued,
 }
 
-/// All worlds, the small one first, each with its word on the command line.
-pub const WORLDS: [(&str, World); 9] = [
-    ("small", World::Small),
-    ("tasks", World::Tasks),
-    ("ports-before", World::PortsBefore),
-    ("ports-after", World::PortsAfter),
-    ("names", World::Names),
-    ("high-names", World::HighNames),
-    ("receive-rights", World::ReceiveRights),
-    ("members", World::Members),
-    ("queued", World::Queued),
-];
+/// The names of all worlds on the command line, the small one first, one a line.
+pub const WORLDS: &str = "\
+small
+tasks
+ports-before
+ports-after
+names
+high-names
+receive-rights
+members
+queued
+";
 
 impl World {
     /// The world of this name.
     pub fn named(name: &str) -> Option<World> {
-        for (known, world) in WORLDS {
-            if known == name {
-                return Some(world);
-            }
-        }
-        None
+        Some(match name {
+            "small" => World::Small,
+            "tasks" => World::Tasks,
+            "ports-before" => World::PortsBefore,
+            "ports-after" => World::PortsAfter,
+            "names" => World::Names,
+            "high-names" => World::HighNames,
+            "receive-rights" => World::ReceiveRights,
+            "members" => World::Members,
+            "queued" => World::Queued,
+            _ => return None,
+        })
     }
 
     /// Makes what comes before the workload's own calls: three tasks, a set of the first, and the world.
