@@ -5,7 +5,6 @@ use Rattle.std.proofs.lemmas.Bool.Decides.{eqb_tells}
 use Rattle.std.specs.Ordering.{nat_cmp}
 use Rattle.std.specs.Cmp.{nat_cmp_total, unsigned_tied}
 use Rattle.std.specs.FinMap as map
-use Rattle.name_space.specs.Linked.{linked, unlinked, lost}
 
 pub same_some : {A : Type 0} (x y : A) → Some x ≡ Some y → x ≡ y
 same_some x y e = cc
@@ -40,22 +39,6 @@ module _ {X : Type 0} (m : map.FinMap nat_cmp X) (k : ℕ) where
 pub same_gets : {X : Type 0} (m n : map.FinMap nat_cmp X) → ((q : ℕ) → map.get m q ≡ map.get n q) → m ≡ n
 same_gets m n is = map.same_map nat_cmp_total map.nat_cmp-IsAntisymmetric m n is
 
-pub linked_here : (o : Option ℕ) (key : ℕ) (m : map.FinMap nat_cmp ℕ) (k : ℕ) → o ≡ Some k → map.get (linked o key m) k ≡ Some key
-linked_here None key m k e = absurd (some_or_none k None e refl)
-linked_here (Some x) key m k e = ap (λ y. map.get (map.insert m y key) k) (same_some x k e) ∙ put_here m k key
-
-pub linked_other : (o : Option ℕ) (key : ℕ) (m : map.FinMap nat_cmp ℕ) (k : ℕ) → o ≢ Some k → map.get (linked o key m) k ≡ map.get m k
-linked_other None key m k n = refl
-linked_other (Some x) key m k n = put_other m x key k (λ e. n (ap (λ y. Some y) (sym e)))
-
-pub unlinked_here : (o : Option ℕ) (m : map.FinMap nat_cmp ℕ) (k : ℕ) → o ≡ Some k → map.get (unlinked o m) k ≡ None
-unlinked_here None m k e = absurd (some_or_none k None e refl)
-unlinked_here (Some x) m k e = ap (λ y. map.get (map.remove m y) k) (same_some x k e) ∙ out_here m k
-
-pub unlinked_other : (o : Option ℕ) (m : map.FinMap nat_cmp ℕ) (k : ℕ) → o ≢ Some k → map.get (unlinked o m) k ≡ map.get m k
-unlinked_other None m k n = refl
-unlinked_other (Some x) m k n = out_other m x k (λ e. n (ap (λ y. Some y) (sym e)))
-
 pub len-put : {X : Type 0} (m : map.FinMap nat_cmp X) (k : ℕ) (v : X) {most : ℕ} → map.len m < most → map.len (map.insert m k v) ≤ most
 len-put m k v {most} h = told (map.contains_key m k) (map.len (map.insert m k v)) (map.len-insert nat_cmp_total m k v)
   where
@@ -71,30 +54,15 @@ len-out m k {most} h = told (map.contains_key m k) (map.len (map.remove m k)) (m
     told false a e = omega arith
 
 -- one key less
-pub fewer : (m : map.FinMap nat_cmp ℕ) (k v : ℕ) {most : ℕ} → map.get m k ≡ Some v → map.len m ≤ most → map.len (map.remove m k) < most
-fewer m k v {most} here h =
+pub fewer : {X : Type 0} (m : map.FinMap nat_cmp X) (k : ℕ) (v : X) {most : ℕ} → map.get m k ≡ Some v → map.len m ≤ most → map.len (map.remove m k) < most
+fewer {X} m k v {most} here h =
     let out : map.len (map.remove m k) ≡ map.len m - 1 = map.len-remove nat_cmp_total m k ∙ ap (λ o. cond (is_some o) (map.len m - 1) (map.len m)) here in
-    let some : (map.len m ≡ 0 → ⊥) = λ none. some_or_none v _ here (ap (λ (a : map.FinMap nat_cmp ℕ). map.get a k) (map.empty_of_len m none) ∙ map.get-empty nat_cmp k) in
+    let some : (map.len m ≡ 0 → ⊥) = λ none. some_or_none v _ here (ap (λ (a : map.FinMap nat_cmp X). map.get a k) (map.empty_of_len m none) ∙ map.get-empty nat_cmp k) in
     omega arith
 
--- a key put back, and a key put over what it was taken from
-pub put_back : (m : map.FinMap nat_cmp ℕ) (k v : ℕ) → map.get m k ≡ Some v → map.insert (map.remove m k) k v ≡ m
-put_back m k v here = same_gets _ _ (λ q. elim (equal_or_not q k) [
-  | inl e ↦ ap (map.get (map.insert (map.remove m k) k v)) e ∙ put_here (map.remove m k) k v ∙ sym here ∙ ap (map.get m) (sym e)
-  | inr d ↦ put_other (map.remove m k) k v q d ∙ out_other m k q d
-])
-
+-- a key put over what it was taken from
 pub put_over : {X : Type 0} (m : map.FinMap nat_cmp X) (k : ℕ) (v : X) → map.insert (map.remove m k) k v ≡ map.insert m k v
 put_over m k v = same_gets _ _ (λ q. elim (equal_or_not q k) [
   | inl e ↦ ap (map.get (map.insert (map.remove m k) k v)) e ∙ put_here (map.remove m k) k v ∙ sym (put_here m k v) ∙ ap (map.get (map.insert m k v)) (sym e)
   | inr d ↦ put_other (map.remove m k) k v q d ∙ out_other m k q d ∙ sym (put_other m k v q d)
 ])
-
-pub relinked : (o : Option ℕ) (key : ℕ) (m : map.FinMap nat_cmp ℕ) → ((k : ℕ) → o ≡ Some k → map.get m k ≡ Some key) → linked o key (unlinked o m) ≡ m
-relinked None key m h = refl
-relinked (Some k) key m h = put_back m k key (h k refl)
-
--- a port that stays is in the index with its key already
-pub unlinked-lost : (from to : Option ℕ) (key : ℕ) (m : map.FinMap nat_cmp ℕ) → ((k : ℕ) → to ≡ Some k → (from ≡ Some k) × (map.get m k ≡ Some key)) → unlinked (lost from to) m ≡ linked to key (unlinked from m)
-unlinked-lost from None key m h = refl
-unlinked-lost from (Some k) key m h = let is = h k refl in sym (ap (λ o. map.insert (unlinked o m) k key) is.0 ∙ put_back m k key is.1)

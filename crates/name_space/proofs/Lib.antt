@@ -1,7 +1,9 @@
-pub mod Pairs
-pub mod Place
-pub mod Indexed
-pub mod View
 pub mod Keys
-pub mod Places
-pub mod Records
+pub mod Slots
+pub mod Gathered
+pub mod Tables
+pub mod Placed
+pub mod Linked
+pub mod Spaces
+pub mod Turns
+pub mod Ranges

@@ -1,6 +1,6 @@
 pub mod Entry
 pub mod Names
-pub mod Pairs
-pub mod Index
-pub mod Linked
-pub mod Records
+pub mod High
+pub mod Table
+pub mod Ports
+pub mod Sound

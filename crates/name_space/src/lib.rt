@@ -4,24 +4,28 @@
 //! receive or send rights, and the name is found by the port. Room for fresh names to come is made by
 //! [`Space::reserve`], a place for one chosen name by [`Space::reserve_name`]; nothing else but
 //! [`Space::names`] takes memory.
+//!
+//! Names up to 65,535, as all fresh ones are, lie in pages, which are made at first use and stay; greater
+//! ones in a tree.
 #![tactic(auto)]
 
-ghost use Rattle.std.specs.Prelude.{◌≡◌, ◌≢◌, ℕ, ◌+◌, ◌-◌, ◌<◌, ◌≤◌, ◌↔◌, IsTrue, true, max, Some, None, IfOk, IfSome, IfNone, IsOk, OnSome, OnOk, OnErr};
+ghost use Rattle.std.specs.Prelude.{◌≡◌, ◌≢◌, ℕ, ◌+◌, ◌-◌, ◌<◌, ◌≤◌, ◌↔◌, IsTrue, true, max, Some, None, IfOk, IfSome, IfNone, IsOk, OnOk, OnErr};
+ghost use Rattle.std.specs.Option.{option_and_then};
 ghost use Rattle.std.specs.FinMap as map;
-ghost use Rattle.slab.specs.Slab.{ContainsKey, Updates, slab_len};
 ghost use Rattle.mach_types.specs.Numbers.{most_names, most_references};
 ghost use Rattle.name_space.specs.Entry.{port_named};
-ghost use Rattle.name_space.specs.Linked.{linked, unlinked, lost};
-ghost use Rattle.name_space.specs.Records.{HasRoom, Grows};
+ghost use Rattle.name_space.specs.Sound.{lost};
 
-mod index;
+mod high;
+mod ports;
+mod table;
 
-use index::Index;
 use mach_types::limits::MOST_NAMES;
 use mach_types::{Name, PortId, Right, SetId};
-use slab::Slab;
+use ports::Ports;
 use std::alloc::{AllocError, Global};
 use std::marker::Model;
+use table::Table;
 use user_refs::UserRefs;
 
 /// What stands under a name.
@@ -135,98 +139,46 @@ impl Entry {
     }
 }
 
-// What stands under a name, and the name.
-#[derive(Clone, Copy)]
-struct Record {
-    name: Name,
-    entry: Entry,
-}
-
 /// A task's names. An empty space has allocated nothing.
 #[derive(Drop)]
 pub struct Space {
-    records: Slab<Record>,
-    by_name: Index,
-    by_port: Index,
-    room: usize,
-    // The name for which a place is kept.
-    kept: Option<Name>,
+    table: Table,
+    ports: Ports,
+    len: usize,
 }
 
 impl Model for Space {
     ghost use Rattle.name_space.specs.Names.{SpaceView, space_code};
     ghost use Rattle.name_space.specs.contracts.Entry as entry;
+    ghost use Rattle.name_space.specs.Sound.{IsSound};
 
     ghost Value = { SpaceView };
 
     ghost coded = { space_code entry.the_row.coded };
 
-    ghost use Rattle.slab.specs.Slab.{get};
-    ghost use Rattle.name_space.specs.Records.{names_of, IsSound};
+    ghost view = { λ a. a.table };
 
-    ghost view = { λ a. record { names = names_of (get a.records) a.by_name.map; room = a.room; kept = a.kept } };
-
-    ghost invariant = { λ a. IsSound a.records a.by_name a.by_port a.room a.kept };
+    ghost invariant = { λ a. IsSound a.table a.ports a.len };
 }
 
-// Adds a port's key, if there is a port.
-fn link(ports: &mut Index, port: Option<PortId>, key: usize)
-    requires absent { IfSome port (λ p. map.get ports.old.map p ≡ None) }
-    requires room { OnSome port (map.len ports.old.map < ports.old.capacity) }
-    ensures { ports.new ≡ record ports.old { map = linked port key ports.old.map } }
+// The port of what stands under a name, if there is one.
+fn port_of(entry: Option<Entry>) -> Option<PortId>
+    ensures { result ≡ option_and_then port_named entry }
 {
-    if let Some(port) = port {
-        ports.insert(port.number(), key);
+    match entry {
+        Some(entry) => entry.port(),
+        None => None,
     }
 }
 
-// Takes a port's key out, if there is a port.
-fn unlink(ports: &mut Index, port: Option<PortId>)
-    ensures { ports.new ≡ record ports.old { map = unlinked port ports.old.map } }
-{
-    if let Some(port) = port {
-        ports.remove(port.number());
-    }
-}
-
-// An entry's port, where the one put in its place is for none.
-fn port_lost(entry: &Entry, renewed: &Entry) -> Option<PortId>
-    ensures { result ≡ lost (port_named entry.now) (port_named renewed.now) }
+// The port of what stands under a name, where an entry that is put in its place is for none.
+fn port_lost(entry: Option<Entry>, renewed: &Entry) -> Option<PortId>
+    ensures { result ≡ lost (option_and_then port_named entry) (port_named renewed.now) }
 {
     match renewed.port() {
         Some(_) => None,
-        None => entry.port(),
+        None => port_of(entry),
     }
-}
-
-// Puts a record in place of the one under the key.
-fn store(records: &mut Slab<Record>, key: usize, renewed: Record)
-    requires { ContainsKey records.old key }
-    ensures updates { Updates records.old records.new key (Some renewed) }
-    ensures len { slab_len records.new ≡ slab_len records.old }
-    ensures capacity { records.new.capacity ≡ records.old.capacity }
-{
-    if let Some(held) = records.get_mut(key) {
-        *held = renewed;
-    }
-}
-
-// Makes places for so many fresh names, and for one that is kept.
-fn make_places(
-    records: &mut Slab<Record>,
-    names: &mut Index,
-    ports: &mut Index,
-    fresh: usize,
-) -> Result<(), AllocError>
-    ensures ok { OnOk result (HasRoom records.new names.new ports.new (fresh + 1) (fresh + 1)) }
-    ensures grows { Grows records.old records.new names.old names.new ports.old ports.new }
-{
-    let Some(places) = fresh.checked_add(1) else {
-        return Err(AllocError);
-    };
-    records.reserve(places)?;
-    names.reserve(places)?;
-    ports.reserve(places)
 }
 
 impl Space {
@@ -240,11 +192,9 @@ impl Space {
         ensures kept { result.kept ≡ None }
     {
         Space {
-            records: Slab::new(alloc),
-            by_name: Index::new(alloc),
-            by_port: Index::new(alloc),
-            room: 0,
-            kept: None,
+            table: Table::new(alloc),
+            ports: Ports::new(alloc),
+            len: 0,
         }
     }
 
@@ -253,7 +203,7 @@ impl Space {
         ensures value { result ≡ map.len self.now.names }
         ensures few { result ≤ most_names }
     {
-        self.by_name.len()
+        self.len
     }
 
     /// Whether no name is in use. Constant time.
@@ -274,62 +224,53 @@ impl Space {
     pub fn room(&self) -> usize
         ensures { result ≡ self.now.room }
     {
-        self.room
+        self.table.room()
     }
 
-    /// What stands under the name, if it is in use. Logarithmic in the number of names.
+    /// What stands under the name, if it is in use. Constant time; above 65,535 logarithmic in the
+    /// number of names there.
     pub fn lookup(&self, name: Name) -> Option<Entry>
         ensures { result ≡ map.get self.now.names name }
     {
-        let key = self.by_name.get(name.number() as u64)?;
-        Some(self.records[key].entry)
+        self.table.get(name)
     }
 
-    /// The least unused number from 1, at most 65,536. Logarithmic in the number of names.
+    /// The least unused number from 1, at most 65,536. Constant time.
     pub fn fresh(&self) -> Name
         ensures fresh { IsFreshName self.now.names result }
         ensures small { result ≤ most_names + 1 }
     {
-        Name::new(self.by_name.first_gap() as u32)
+        self.table.fresh()
     }
 
-    /// The name that has the port's receive right or send rights, if one has. Logarithmic in the
-    /// number of names.
+    /// The name that has the port's receive right or send rights, if one has. Constant time.
     pub fn name_of_port(&self, port: PortId) -> Option<Name>
         ensures found { IfSome result (λ name. port_at self.now.names name ≡ Some port) }
         ensures only { (name : ℕ) → port_at self.now.names name ≡ Some port → result ≡ Some name }
     {
-        let key = self.by_port.get(port.number())?;
-        Some(self.records[key].name)
+        self.ports.name_of(port)
     }
 
     /// Makes room for so many fresh names, so that as many calls of [`Space::insert`], each with the
     /// fresh name of its turn, take no memory. Room that is there stays and counts: where it is less,
-    /// there is then room for just so many. Linear in the number of names where memory is taken.
+    /// there is then room for just so many. Constant time where there is room for them, and else linear
+    /// in the number of names.
     ///
-    /// An error means that memory was refused; the names are then as before, and so is the room.
+    /// An error means that memory was refused, or that fewer names up to 65,535 are unused; the names
+    /// are then as before, and so is the room.
     pub fn reserve(&mut self, additional: usize) -> Result<(), AllocError>
         ensures ok { OnOk result (self.new ≡ record self.old { room = max self.old.room additional }) }
         ensures err { OnErr result (self.new ≡ self.old) }
         ensures had_room { additional ≤ self.old.room → IsOk result }
     {
-        if additional <= self.room {
-            return Ok(());
-        }
-        make_places(
-            &mut self.records,
-            &mut self.by_name,
-            &mut self.by_port,
-            additional,
-        )?;
-        self.room = additional;
-        Ok(())
+        self.ports.reserve(additional)?;
+        self.table.reserve(additional)
     }
 
     /// Keeps a place for the name, in use or not, so that [`Space::insert`] and [`Space::rename`] can
     /// put an entry under it without memory. The place stays the name's own, also after the name went
-    /// in and out of use, until one is kept for another name. Linear in the number of names where
-    /// memory is taken.
+    /// in and out of use, until one is kept for another name. Constant time, but where memory is taken
+    /// for more ports than there were; above 65,535 logarithmic in the number of names there.
     ///
     /// An error means that memory was refused, and that the place was not kept before; all is then as
     /// it was.
@@ -339,33 +280,22 @@ impl Space {
         ensures err { OnErr result (self.new ≡ self.old) }
         ensures wanted { OnErr result (self.old.kept ≢ Some name) }
     {
-        if self.keeps(name) {
+        if self.table.keeps(name) {
             return Ok(());
         }
-        make_places(
-            &mut self.records,
-            &mut self.by_name,
-            &mut self.by_port,
-            self.room,
-        )?;
-        self.kept = Some(name);
+        let Some(places) = self.table.room().checked_add(1) else {
+            return Err(AllocError);
+        };
+        self.ports.reserve(places)?;
+        self.table.keep(name)?;
+        let port = port_of(self.table.get(name));
+        self.ports.keep(name, port);
         Ok(())
     }
 
-    // Whether a place is kept for the name.
-    fn keeps(&self, name: Name) -> bool
-        ensures { IsTrue result ↔ (self.now.kept ≡ Some name) }
-    {
-        match self.kept {
-            Some(kept) => kept.number() == name.number(),
-            None => false,
-        }
-    }
-
     /// Puts the entry under a name that is not in use, in a place that was made: the fresh name where
-    /// there is room for one, or the name for which a place is kept. Takes no memory.
-    ///
-    /// Logarithmic in the number of names, but for a move of 16 bytes for each greater name.
+    /// there is room for one, or the name for which a place is kept. Takes no memory. Constant time;
+    /// above 65,535 logarithmic in the number of names there.
     pub fn insert(&mut self, name: Name, entry: Entry)
         requires usable { IsUsable name }
         requires unused { map.get self.old.names name ≡ None }
@@ -374,43 +304,45 @@ impl Space {
         requires apart { HasNoOther self.old.names entry }
         ensures { self.new ≡ record self.old { names = map.insert self.old.names name entry; room = self.old.room - 1 } }
     {
-        let key = self.records.insert_reserved(Record { name, entry });
-        self.by_name.insert(name.number() as u64, key);
-        link(&mut self.by_port, entry.port(), key);
-        self.room = self.room.saturating_sub(1);
+        self.table.insert(name, entry);
+        self.len += 1;
+        if let Some(port) = entry.port() {
+            self.ports.insert(port, name);
+        }
     }
 
     /// Puts the entry in place of what stands under a name. It is of the same port by receive or
-    /// send rights, or of none. Takes no memory. Logarithmic in the number of names, but for a move
-    /// of 16 bytes for each greater port where the name no longer has rights for one.
+    /// send rights, or of none. Takes no memory. Constant time; above 65,535 logarithmic in the number
+    /// of names there.
     pub fn replace(&mut self, name: Name, entry: Entry)
         requires used { map.contains_key self.old.names name ≡ true }
         requires same { (port : ℕ) → port_named entry ≡ Some port → port_at self.old.names name ≡ Some port }
         ensures { self.new ≡ record self.old { names = map.insert self.old.names name entry } }
     {
-        let key = self.by_name.get(name.number() as u64).unwrap();
-        let port = port_lost(&self.records[key].entry, &entry);
-        store(&mut self.records, key, Record { name, entry });
-        unlink(&mut self.by_port, port);
+        let lost = port_lost(self.table.get(name), &entry);
+        self.table.set(name, entry);
+        if let Some(port) = lost {
+            self.ports.remove(port);
+        }
     }
 
     /// Takes a name out of use, and answers what stood under it. Room stays as it is, and the place that
-    /// is kept for a name. Logarithmic in the number of names, but for a move of 16 bytes for each
-    /// greater name.
+    /// is kept for a name. Constant time; above 65,535 logarithmic in the number of names there.
     pub fn remove(&mut self, name: Name) -> Option<Entry>
         ensures value { result ≡ map.get self.old.names name }
         ensures after { self.new ≡ record self.old { names = map.remove self.old.names name } }
     {
-        let key = self.by_name.get(name.number() as u64)?;
-        let Record { entry, .. } = self.records.remove(key);
-        self.by_name.remove(name.number() as u64);
-        unlink(&mut self.by_port, entry.port());
+        let entry = self.table.remove(name)?;
+        self.len -= 1;
+        if let Some(port) = entry.port() {
+            self.ports.remove(port);
+        }
         Some(entry)
     }
 
     /// Gives what stands under a name another name that is not in use (Port Manipulation Interface,
-    /// `mach_port_rename`), for which a place is kept. Takes no memory. Logarithmic in the number of
-    /// names, but for a move of 16 bytes for each greater name.
+    /// `mach_port_rename`), for which a place is kept. Takes no memory. Constant time; above 65,535
+    /// logarithmic in the number of names there.
     pub fn rename(&mut self, from: Name, to: Name)
         requires usable { IsUsable to }
         requires used { map.contains_key self.old.names from ≡ true }
@@ -418,35 +350,40 @@ impl Space {
         requires place { self.old.kept ≡ Some to }
         ensures { (entry : AnyEntry) → map.get self.old.names from ≡ Some entry → self.new ≡ record self.old { names = map.insert (map.remove self.old.names from) to entry; room = self.old.room - 1 } }
     {
-        let key = self.by_name.get(from.number() as u64).unwrap();
-        let entry = self.records[key].entry;
-        self.by_name.remove(from.number() as u64);
-        self.by_name.insert(to.number() as u64, key);
-        store(&mut self.records, key, Record { name: to, entry });
-        self.room = self.room.saturating_sub(1);
+        let entry = self.table.remove(from).unwrap();
+        self.table.insert(to, entry);
+        if let Some(port) = entry.port() {
+            self.ports.remove(port);
+            self.ports.insert(port, to);
+        }
     }
 
-    /// The names, rising. Linear in their number.
+    /// The names, rising. Linear in their number, but for four words of each page of 256 names, up to
+    /// 65,535, that was used and has none.
     ///
     /// An error means that memory was refused.
     pub fn names(&self, alloc: Global) -> Result<Vec<Name>, AllocError>
         ensures { IfOk result (λ names. names.items ≡ map.keys self.now.names) }
     {
         let mut names = Vec::new(alloc);
-        names.reserve(self.by_name.len())?;
-        for (_, key) in self.by_name.pairs() {
-            names.push(self.records[*key].name)?;
+        names.reserve(self.len)?;
+        let mut from = 1;
+        for _turn in 0..self.len {
+            let name = self.table.next(from).unwrap();
+            names.push(Name::new(name))?;
+            from = name + 1;
         }
         Ok(names)
     }
 
-    /// A name in use, if there is one: so all names can be taken out in turn. Constant time.
+    /// A name in use, if there is one: so all names can be taken out in turn. Constant time, but for
+    /// four words of each page of 256 names, up to 65,535, that was used and has none.
     pub fn any_name(&self) -> Option<Name>
         ensures none { IfNone result (map.len self.now.names ≡ 0) }
         ensures found { IfSome result (λ name. map.contains_key self.now.names name ≡ true) }
     {
-        let (_, key) = self.by_name.pairs().last()?;
-        Some(self.records[*key].name)
+        let name = self.table.next(1)?;
+        Some(Name::new(name))
     }
 }
 

@@ -1,34 +1,15 @@
-use Rattle.std.proofs.Common.{◌≡◌, ◌<◌, ℕ, List, [], ◌∷◌, ◌++◌, take, get_or, ap, sym, ◌∙◌, length, refl, arith}
-use Rattle.std.proofs.Math.Seq.{take-length}
-use Rattle.std.specs.FinMap as map
-use Rattle.std.proofs.lemmas.List.{take_more, length-map}
-use Rattle.slab.specs.Slab.{get}
-use Rattle.name_space.specs.Names.{SpaceView}
-use Rattle.name_space.specs.Pairs.{Pairs}
-use Rattle.name_space.specs.Records.{entry_in}
-use Rattle.name_space.proofs.View.{keys-with_values}
-use Rattle.name_space.proofs.Records.{key_in_turn}
+use Rattle.std.proofs.Common.{◌+◌, ◌++◌, ◌∷◌, [], ap, sym, subst, ◌∙◌, arith}
+use Rattle.name_space.proofs.Turns.{Remains, remains_first, remains_some, remains_found}
 use Rattle.name_space.proofs.Space.names.Goals as goal
 
-pub loop-key-preserved : goal.loop-key-preserved
-loop-key-preserved c =
-    let l : Pairs = c.pairs-key-items.result.now in
-    let i : ℕ = c.loop-key.key-index in
-    let h : i < length l = c.loop-key-test.true in
-    let keys : List ℕ = map.keys c.args.self.now.names in
-    let same : keys ≡ map.keys c.self.inside.by_name.map = sym (ap (λ (v : SpaceView). map.keys v.names) c.self.view_is) ∙ keys-with_values (λ k. entry_in (get c.self.inside.records k)) c.self.inside.by_name.map in
-    let long : length keys ≡ length l = ap length same ∙ length-map (map.entries c.self.inside.by_name.map) _ ∙ ap length (sym c.pairs-key-items.ensures.entries) in
-    c.in_ok-push.ensures.items ∙ ap (λ (a : List ℕ). a ++ c.index.result.now.name ∷ []) c.loop-key.invariant
-    ∙ ap (λ a. take i keys ++ a ∷ []) (key_in_turn (get c.self.inside.records) c.self.inside.by_name.map c.self.inside.by_port.map c.self.invariant.indexed l c.pairs-key-items.ensures.entries i h (c.pairs-key-items.ensures.found i h) _ c.index.result.now refl c.index.ensures
-    ∙ ap (λ (a : List ℕ). get_or a i 0) (sym same))
-    ∙ sym (take_more keys i 0 (omega arith))
+pub loop-turn-init : goal.loop-turn-init
+loop-turn-init c = subst (λ l. Remains c.self.inside.table.names l 0 1) (sym (c.in_ok-reserve.ensures.items ∙ c.new-names.ensures.items)) (remains_first c.self.inside.table.names c.self.invariant.not_null)
 
-pub returns : goal.returns
-returns c =
-    let l : Pairs = c.pairs-key-items.result.now in
-    let i : ℕ = c.loop-key.key-index in
-    let keys : List ℕ = map.keys c.args.self.now.names in
-    let same : keys ≡ map.keys c.self.inside.by_name.map = sym (ap (λ (v : SpaceView). map.keys v.names) c.self.view_is) ∙ keys-with_values (λ k. entry_in (get c.self.inside.records k)) c.self.inside.by_name.map in
-    let long : length keys ≡ length l = ap length same ∙ length-map (map.entries c.self.inside.by_name.map) _ ∙ ap length (sym c.pairs-key-items.ensures.entries) in
-    let all : i ≡ length keys = omega arith in
-    c.loop-key.invariant ∙ ap (λ n. take n keys) all ∙ take-length keys
+pub unwrap-name-requires : goal.unwrap-name-requires
+unwrap-name-requires c =
+    remains_some c.self.inside.table.names c.loop-turn.names.items c.loop-turn._turn c.loop-turn.from c.loop-turn.invariant (let here = c.loop-turn-test.true in let counted = c.self.invariant.counted in omega arith) c.next.result c.next.ensures.none
+
+pub loop-turn-preserved : goal.loop-turn-preserved
+loop-turn-preserved c =
+    subst (λ l. Remains c.self.inside.table.names l (c.loop-turn._turn + 1) (c.unwrap-name.result + 1)) (sym (c.in_ok-push.ensures.items ∙ ap (λ n. c.loop-turn.names.items ++ n ∷ []) c.new.ensures))
+    (remains_found c.self.inside.table.names c.loop-turn.names.items c.loop-turn._turn c.loop-turn.from c.loop-turn.invariant c.next.result c.unwrap-name.result c.unwrap-name.ensures c.next.ensures.found)

@@ -1,6 +1,5 @@
-use Rattle.std.proofs.Common.{◌≡◌, take}
-use Rattle.std.specs.FinMap as map
+use Rattle.name_space.proofs.Turns.{Remains}
 use Rattle.name_space.proofs.Space.names.Given as goal
 
-abbrev pub invariant-loop-key : goal.invariant-loop-key
-invariant-loop-key l = l.names.items ≡ take l.key-index (map.keys l.self.names)
+abbrev pub invariant-loop-turn : goal.invariant-loop-turn
+invariant-loop-turn l = Remains l.self-inside.table.names l.names.items l._turn l.from

@@ -1,29 +1,22 @@
-use Rattle.std.proofs.Common.{◌≡◌, ℕ, Option, Some, ap, sym, ◌∙◌, is_some}
+use Rattle.std.proofs.Common.{◌≡◌, ℕ, Some, true, ap, sym, ◌∙◌}
+use Rattle.std.specs.Option.{option_and_then}
 use Rattle.std.specs.FinMap as map
-use Rattle.slab.specs.Slab.{get}
-use Rattle.name_space.specs.Index.{IndexView}
-use Rattle.name_space.specs.Names.{SpaceView}
-use Rattle.name_space.specs.Linked.{unlinked}
-use Rattle.name_space.proofs.Records.{used_key, view-replaced, sound-replaced}
+use Rattle.name_space.specs.Entry.{port_named}
+use Rattle.name_space.specs.Names.{SpaceView, port_at}
+use Rattle.name_space.specs.Sound.{lost}
+use Rattle.name_space.proofs.Spaces.{sound-renewed, sound-lost, inside}
 use Rattle.name_space.proofs.Space.replace.Goals as goal
-
-pub unwrap-key-requires : goal.unwrap-key-requires
-unwrap-key-requires c =
-    let there = used_key (get c.self.inside.records) c.self.inside.by_name.map c.args.name (ap (λ (v : SpaceView). map.contains_key v.names c.args.name) c.self.view_is ∙ c.requires.used) in
-    ap is_some (c.get.ensures ∙ ap (map.get c.self.inside.by_name.map) c.number.ensures ∙ there.1)
 
 pub invariant_of-self : goal.invariant_of-self
 invariant_of-self c =
-    let key : map.get c.self.inside.by_name.map c.args.name ≡ Some c.unwrap-key.result = ap (map.get c.self.inside.by_name.map) (sym c.number.ensures) ∙ sym c.get.ensures ∙ c.unwrap-key.ensures in
-    let without : Option ℕ → IndexView = λ o. record c.self.inside.by_port { map = unlinked o c.self.inside.by_port.map } in
-    sound-replaced
-    c.self.inside.records c.store.new.records c.self.inside.by_name c.self.inside.by_port c.self.inside.room c.self.inside.kept c.args.self.now c.self.view_is c.self.invariant
-    c.args.name c.unwrap-key.result c.index.result.now c.args.entry key c.index.ensures c.store.ensures.updates.changed c.store.ensures.updates.others c.store.ensures.len c.store.ensures.capacity c.requires.same
-    c.unlink.new.ports (c.unlink.ensures ∙ ap without c.port_lost-port.ensures)
+    sound-lost c.self.inside.table c.self.inside.ports c.self.inside.len c.self.invariant c.set.new.self c.args.name c.args.entry c.set.ensures
+    (inside (λ (v : SpaceView). map.contains_key v.names c.args.name ≡ true) c.self.inside.table c.args.self.now c.self.view_is c.requires.used)
+    c.remove.new.self c.in-Some.port
+    (ap (λ o. lost (option_and_then port_named o) (port_named c.args.entry)) (sym c.get.ensures) ∙ sym c.port_lost-lost.ensures ∙ c.in-Some.is) c.remove.ensures
 
-pub returns : goal.returns
-returns c =
-    let key : map.get c.self.inside.by_name.map c.args.name ≡ Some c.unwrap-key.result = ap (map.get c.self.inside.by_name.map) (sym c.number.ensures) ∙ sym c.get.ensures ∙ c.unwrap-key.ensures in
-    view-replaced
-    c.self.inside.records c.store.new.records c.self.inside.by_name c.self.inside.by_port c.self.inside.room c.self.inside.kept c.args.self.now c.self.view_is c.self.invariant
-    c.args.name c.unwrap-key.result c.index.result.now c.args.entry key c.index.ensures c.store.ensures.updates.changed c.store.ensures.updates.others c.store.ensures.len c.store.ensures.capacity c.requires.same
+pub invariant_of-self-in_default : goal.invariant_of-self-in_default
+invariant_of-self-in_default c =
+    sound-renewed c.self.inside.table c.self.inside.ports c.self.inside.len c.self.invariant c.set.new.self c.args.name c.args.entry c.set.ensures
+    (inside (λ (v : SpaceView). map.contains_key v.names c.args.name ≡ true) c.self.inside.table c.args.self.now c.self.view_is c.requires.used)
+    (ap (λ o. lost (option_and_then port_named o) (port_named c.args.entry)) (sym c.get.ensures) ∙ sym c.port_lost-lost.ensures ∙ c.in_default.is)
+    (inside (λ (v : SpaceView). (port : ℕ) → port_named c.args.entry ≡ Some port → port_at v.names c.args.name ≡ Some port) c.self.inside.table c.args.self.now c.self.view_is c.requires.same)

@@ -1,0 +1,206 @@
+-- Entries in a tree, and the one that stands apart from them.
+use Rattle.std.proofs.Common.{◌≡◌, ◌≢◌, inl, inr, ℕ, ◌<◌, ◌≤◌, Bool, true, false, cond, nat_lt, List, [], ◌∷◌, refl, ap, sym, subst, ◌∙◌, Option, Some, None, is_some, IfSome, IfNone, arith}
+use Rattle.std.proofs.lemmas.Bool.{cases_lt}
+use Rattle.std.proofs.lemmas.Bool.Decides.{nat_tests}
+use Rattle.std.specs.Ordering.{nat_cmp, eq_by_cmp}
+use Rattle.std.specs.Cmp.{nat_cmp_total, unsigned_tied, nat_eq_equiv}
+use Rattle.std.specs.BTreeMap.{is_at}
+use Rattle.std.specs.Map.{lookup}
+use Rattle.std.specs.FinMap as map
+use Rattle.std.specs.FinMap.Entries.{find}
+use Rattle.name_space.specs.declared.Entry.{Entry}
+use Rattle.name_space.specs.Names.{Names}
+use Rattle.name_space_base.specs.Pages.{IsNextUsed}
+use Rattle.name_space.specs.High.{HighView, with_kept, least_name, HasApart}
+use Rattle.name_space.proofs.Keys.{same_some, some_or_none, equal_or_not, is_or_not, put_here, put_other, out_here, out_other, same_gets}
+
+abbrev pub Listed : Type 0
+Listed = List (ℕ × Entry)
+
+abbrev pub tree : Listed → Names
+tree es = map.from_entries {R = nat_cmp} es
+
+find-lookup : (es : Listed) (q : ℕ) → find nat_cmp q es ≡ lookup (is_at (nat_cmp q)) es
+find-lookup [] q = refl
+find-lookup (e ∷ es) q = ap (cond (eq_by_cmp nat_cmp q e.0) (Some e.1)) (find-lookup es q)
+
+pub get-tree : (es : Listed) (q : ℕ) → map.get (tree es) q ≡ lookup (is_at (nat_cmp q)) es
+get-tree es q = map.get-from_entries nat_cmp_total es q ∙ find-lookup es q
+
+turned : (k q : ℕ) → is_at (nat_cmp k) q ≡ eq_by_cmp nat_cmp q k
+turned k q = unsigned_tied k q ∙ nat_eq_equiv.symm k q ∙ sym (unsigned_tied q k)
+
+pub put-tree : (es fs : Listed) (k : ℕ) (v : Entry) → ((q : ℕ) → lookup (is_at (nat_cmp q)) fs ≡ cond (is_at (nat_cmp k) q) (Some v) (lookup (is_at (nat_cmp q)) es)) → tree fs ≡ map.insert (tree es) k v
+put-tree es fs k v is = same_gets _ _ (λ q. get-tree fs q ∙ is q ∙ ap (λ b. cond b (Some v) (lookup (is_at (nat_cmp q)) es)) (turned k q)
+    ∙ ap (cond (eq_by_cmp nat_cmp q k) (Some v)) (sym (get-tree es q)) ∙ sym (map.get-insert nat_cmp_total (tree es) k v q))
+
+pub out-tree : (es fs : Listed) (k : ℕ) → ((q : ℕ) → lookup (is_at (nat_cmp q)) fs ≡ cond (is_at (nat_cmp k) q) None (lookup (is_at (nat_cmp q)) es)) → tree fs ≡ map.remove (tree es) k
+out-tree es fs k is =
+    let none : Option Entry = None in
+    same_gets _ _ (λ q. get-tree fs q ∙ is q ∙ ap (λ b. cond b none (lookup (is_at (nat_cmp q)) es)) (turned k q)
+    ∙ ap (cond (eq_by_cmp nat_cmp q k) none) (sym (get-tree es q)) ∙ sym (map.get-remove nat_cmp_total (tree es) k q))
+
+-- ---- the one that stands apart
+
+pub kept_here : (kept : Option ℕ) (e : Option Entry) (m : Names) (q : ℕ) → kept ≡ Some q → map.get (with_kept kept e m) q ≡ e
+kept_here None e m q is = absurd (some_or_none q None is refl)
+kept_here (Some k) None m q is = ap (λ a. map.get (map.remove m a) q) (same_some k q is) ∙ out_here m q
+kept_here (Some k) (Some x) m q is = ap (λ a. map.get (map.insert m a x) q) (same_some k q is) ∙ put_here m q x
+
+pub kept_other : (kept : Option ℕ) (e : Option Entry) (m : Names) (q : ℕ) → kept ≢ Some q → map.get (with_kept kept e m) q ≡ map.get m q
+kept_other None e m q d = refl
+kept_other (Some k) None m q d = out_other m k q (λ a. d (ap (λ b. Some b) (sym a)))
+kept_other (Some k) (Some x) m q d = put_other m k x q (λ a. d (ap (λ b. Some b) (sym a)))
+
+module _ (kept : Option ℕ) (e : Option Entry) (m : Names) where
+  -- what stands apart changes
+  pub put_kept : (k : ℕ) (x : Entry) → kept ≡ Some k → with_kept kept (Some x) m ≡ map.insert (with_kept kept e m) k x
+  put_kept k x is = same_gets _ _ (λ q. elim (equal_or_not q k) [
+    | inl a ↦ kept_here kept (Some x) m q (is ∙ ap (λ b. Some b) (sym a)) ∙ sym (ap (map.get (map.insert (with_kept kept e m) k x)) a ∙ put_here (with_kept kept e m) k x)
+    | inr d ↦ kept_other kept (Some x) m q (λ a. d (same_some q k (sym a ∙ is))) ∙ sym (kept_other kept e m q (λ a. d (same_some q k (sym a ∙ is)))) ∙ sym (put_other (with_kept kept e m) k x q d)
+  ])
+
+  pub out_kept : (k : ℕ) → kept ≡ Some k → with_kept kept None m ≡ map.remove (with_kept kept e m) k
+  out_kept k is = same_gets _ _ (λ q. elim (equal_or_not q k) [
+    | inl a ↦ kept_here kept None m q (is ∙ ap (λ b. Some b) (sym a)) ∙ sym (ap (map.get (map.remove (with_kept kept e m) k)) a ∙ out_here (with_kept kept e m) k)
+    | inr d ↦ kept_other kept None m q (λ a. d (same_some q k (sym a ∙ is))) ∙ sym (kept_other kept e m q (λ a. d (same_some q k (sym a ∙ is)))) ∙ sym (out_other (with_kept kept e m) k q d)
+  ])
+
+  -- one of the others changes
+  pub put_beside : (k : ℕ) (x : Entry) → kept ≢ Some k → with_kept kept e (map.insert m k x) ≡ map.insert (with_kept kept e m) k x
+  put_beside k x d = same_gets _ _ (λ q. elim (is_or_not kept q) [
+    | inl is ↦ kept_here kept e (map.insert m k x) q is ∙ sym (kept_here kept e m q is) ∙ sym (put_other (with_kept kept e m) k x q (λ a. d (is ∙ ap (λ b. Some b) a)))
+    | inr o ↦ kept_other kept e (map.insert m k x) q o ∙ elim (equal_or_not q k) [
+      | inl a ↦ ap (map.get (map.insert m k x)) a ∙ put_here m k x ∙ sym (ap (map.get (map.insert (with_kept kept e m) k x)) a ∙ put_here (with_kept kept e m) k x)
+      | inr n ↦ put_other m k x q n ∙ sym (kept_other kept e m q o) ∙ sym (put_other (with_kept kept e m) k x q n)
+    ]
+  ])
+
+  pub out_beside : (k : ℕ) → kept ≢ Some k → with_kept kept e (map.remove m k) ≡ map.remove (with_kept kept e m) k
+  out_beside k d = same_gets _ _ (λ q. elim (is_or_not kept q) [
+    | inl is ↦ kept_here kept e (map.remove m k) q is ∙ sym (kept_here kept e m q is) ∙ sym (out_other (with_kept kept e m) k q (λ a. d (is ∙ ap (λ b. Some b) a)))
+    | inr o ↦ kept_other kept e (map.remove m k) q o ∙ elim (equal_or_not q k) [
+      | inl a ↦ ap (map.get (map.remove m k)) a ∙ out_here m k ∙ sym (ap (map.get (map.remove (with_kept kept e m) k)) a ∙ out_here (with_kept kept e m) k)
+      | inr n ↦ out_other m k q n ∙ sym (kept_other kept e m q o) ∙ sym (out_other (with_kept kept e m) k q n)
+    ]
+  ])
+
+-- the place goes to another name: what stands under that comes out of the others
+pub kept_moved : (m : Names) (k : ℕ) (e : Option Entry) → e ≡ map.get m k → with_kept (Some k) e (map.remove m k) ≡ m
+kept_moved m k e is = same_gets _ _ (λ q. elim (equal_or_not q k) [
+  | inl a ↦ kept_here (Some k) e (map.remove m k) q (ap (λ b. Some b) (sym a)) ∙ is ∙ ap (map.get m) (sym a)
+  | inr d ↦ kept_other (Some k) e (map.remove m k) q (λ a. d (sym (same_some k q a))) ∙ out_other m k q d
+])
+
+-- where nothing stands apart, all is in the others
+pub none_apart : (kept : Option ℕ) (m : Names) → ((k : ℕ) → kept ≡ Some k → map.get m k ≡ None) → with_kept kept None m ≡ m
+none_apart None m absent = refl
+none_apart (Some k) m absent = same_gets _ _ (λ q. elim (equal_or_not q k) [
+  | inl a ↦ ap (map.get (map.remove m k)) a ∙ out_here m k ∙ sym (absent k refl) ∙ ap (map.get m) (sym a)
+  | inr d ↦ out_other m k q d
+])
+
+no_true : false ≡ true → ⊥
+no_true e = cc
+
+is_less : (a b : ℕ) → a < b → nat_lt a b ≡ true
+is_less a b h = grind (arith, nat_tests)
+
+is_no_less : (a b : ℕ) → b ≤ a → nat_lt a b ≡ false
+is_no_less a b h = grind (arith, nat_tests)
+
+-- a test that fails
+pub unless : (b : Bool) {P : Type 0} → (P → b ≡ true) → b ≡ false → P → ⊥
+unless b told fails p = no_true (sym fails ∙ told p)
+
+view_of : Names → Option ℕ → HighView
+view_of a k = record { names = a; kept = k }
+
+pub same_high : (a b : Names) (k l : Option ℕ) → a ≡ b → k ≡ l → ◌≡◌ {A = HighView} record { names = a; kept = k } record { names = b; kept = l }
+unfolding view_of
+same_high a b k l e f = ap (λ m. view_of m k) e ∙ ap (view_of b) f
+
+pub empty_view : ◌≡◌ {A = Names} (tree []) map.empty
+empty_view = refl
+
+-- ---- as a whole sees them
+
+module _ (es : Listed) (kept : Option ℕ) (e : Option Entry) (v : HighView) (view_is : ◌≡◌ {A = HighView} record { names = with_kept kept e (tree es); kept = kept } v) where
+  pub names_are : with_kept kept e (tree es) ≡ v.names
+  names_are = ap (λ (a : HighView). a.names) view_is
+
+  pub kept_is : kept ≡ v.kept
+  kept_is = ap (λ (a : HighView). a.kept) view_is
+
+  pub seen_kept : (k : ℕ) → v.kept ≡ Some k → e ≡ map.get v.names k
+  seen_kept k h = sym (kept_here kept e (tree es) k (kept_is ∙ h)) ∙ ap (λ (m : Names). map.get m k) names_are
+
+  pub seen_tree : (k : ℕ) → v.kept ≢ Some k → map.get (tree es) k ≡ map.get v.names k
+  seen_tree k d = sym (kept_other kept e (tree es) k (λ h. d (sym kept_is ∙ h))) ∙ ap (λ (m : Names). map.get m k) names_are
+
+  pub seen_other : (k : ℕ) → v.kept ≢ Some k → lookup (is_at (nat_cmp k)) es ≡ map.get v.names k
+  seen_other k d = sym (get-tree es k) ∙ seen_tree k d
+
+  pub view_put_kept : (k : ℕ) (x : Entry) → v.kept ≡ Some k → ◌≡◌ {A = HighView} record { names = with_kept kept (Some x) (tree es); kept = kept } record { names = map.insert v.names k x; kept = v.kept }
+  view_put_kept k x h = same_high _ _ kept v.kept (put_kept kept e (tree es) k x (kept_is ∙ h) ∙ ap (λ (m : Names). map.insert m k x) names_are) kept_is
+
+  pub view_put : (fs : Listed) (k : ℕ) (x : Entry) → v.kept ≢ Some k → tree fs ≡ map.insert (tree es) k x →
+      ◌≡◌ {A = HighView} record { names = with_kept kept e (tree fs); kept = kept } record { names = map.insert v.names k x; kept = v.kept }
+  view_put fs k x d is =
+      same_high _ _ kept v.kept (ap (with_kept kept e) is ∙ put_beside kept e (tree es) k x (λ h. d (sym kept_is ∙ h)) ∙ ap (λ (m : Names). map.insert m k x) names_are) kept_is
+
+  pub view_out_kept : (k : ℕ) → v.kept ≡ Some k → ◌≡◌ {A = HighView} record { names = with_kept kept None (tree es); kept = kept } record { names = map.remove v.names k; kept = v.kept }
+  view_out_kept k h = same_high _ _ kept v.kept (out_kept kept e (tree es) k (kept_is ∙ h) ∙ ap (λ (m : Names). map.remove m k) names_are) kept_is
+
+  pub view_out : (fs : Listed) (k : ℕ) → v.kept ≢ Some k → tree fs ≡ map.remove (tree es) k →
+      ◌≡◌ {A = HighView} record { names = with_kept kept e (tree fs); kept = kept } record { names = map.remove v.names k; kept = v.kept }
+  view_out fs k d is = same_high _ _ kept v.kept (ap (with_kept kept e) is ∙ out_beside kept e (tree es) k (λ h. d (sym kept_is ∙ h)) ∙ ap (λ (m : Names). map.remove m k) names_are) kept_is
+
+  pub apart_put : (fs : Listed) (k : ℕ) (x : Entry) → HasApart kept (tree es) → v.kept ≢ Some k → tree fs ≡ map.insert (tree es) k x → HasApart kept (tree fs)
+  apart_put fs k x apart d is = λ n h. ap (λ (m : Names). map.get m n) is ∙ put_other (tree es) k x n (λ a. d (sym kept_is ∙ h ∙ ap (λ b. Some b) a)) ∙ apart n h
+
+  pub apart_out : (fs : Listed) (k : ℕ) → HasApart kept (tree es) → v.kept ≢ Some k → tree fs ≡ map.remove (tree es) k → HasApart kept (tree fs)
+  apart_out fs k apart d is = λ n h. ap (λ (m : Names). map.get m n) is ∙ out_other (tree es) k n (λ a. d (sym kept_is ∙ h ∙ ap (λ b. Some b) a)) ∙ apart n h
+
+  -- the place goes to another name
+  pub view_moved : (fs gs : Listed) (k : ℕ) (x : Option Entry) → tree fs ≡ with_kept kept e (tree es) → tree gs ≡ map.remove (tree fs) k → x ≡ map.get (tree fs) k →
+      ◌≡◌ {A = HighView} record { names = with_kept (Some k) x (tree gs); kept = Some k } record { names = v.names; kept = Some k }
+  view_moved fs gs k x back out there =
+      same_high _ _ (Some k) (Some k) (ap (with_kept (Some k) x) out ∙ kept_moved (tree fs) k x there ∙ back ∙ names_are) refl
+
+  -- ---- the next name
+
+  pub kept_next : (start k : ℕ) → v.kept ≡ Some k → map.contains_key v.names k ≡ true → start ≤ k → ((n : ℕ) → start ≤ n → n < k → map.get (tree es) n ≡ None) → IsNextUsed v.names start k
+  kept_next start k is used from none = record {
+    from = from;
+    used = used;
+    least = λ n a b. sym (seen_tree n (λ h. let same : n ≡ k = same_some n k (sym h ∙ is) in omega arith)) ∙ none n a b;
+  }
+
+  pub other_next : (start k : ℕ) → HasApart kept (tree es) → IsNextUsed (tree es) start k → ((n : ℕ) → start ≤ n → n < k → v.kept ≡ Some n → map.get v.names n ≡ None) → IsNextUsed v.names start k
+  other_next start k apart x none = record {
+    from = x.from;
+    used = ap is_some (sym (seen_tree k not_kept)) ∙ x.used;
+    least = λ n a b. elim (is_or_not v.kept n) [ inl is ↦ none n a b is | inr d ↦ sym (seen_tree n d) ∙ x.least n a b ];
+  }
+    where
+      not_kept : v.kept ≢ Some k
+      not_kept is = no_true (ap is_some (sym (apart k (kept_is ∙ is))) ∙ x.used)
+
+  pub others_next : (start : ℕ) (r : Option ℕ) → HasApart kept (tree es) → IfSome r (IsNextUsed (tree es) start) → ((n : ℕ) → start ≤ n → v.kept ≡ Some n → map.get v.names n ≡ None) → IfSome r (IsNextUsed v.names start)
+  others_next start None apart x none = tt
+  others_next start (Some k) apart x none = other_next start k apart x (λ n a b. none n a)
+
+  pub no_next : (start : ℕ) (r : Option ℕ) → IfNone r ((n : ℕ) → start ≤ n → map.get (tree es) n ≡ None) → ((n : ℕ) → start ≤ n → v.kept ≡ Some n → map.get v.names n ≡ None) →
+      IfNone r ((n : ℕ) → start ≤ n → map.get v.names n ≡ None)
+  no_next start (Some k) x none = tt
+  no_next start None x none = λ n a. elim (is_or_not v.kept n) [ inl is ↦ none n a is | inr d ↦ sym (seen_tree n d) ∙ x n a ]
+
+  pub least_next : (start k : ℕ) (r : Option ℕ) → HasApart kept (tree es) → v.kept ≡ Some k → map.contains_key v.names k ≡ true → start ≤ k → IfSome r (IsNextUsed (tree es) start) →
+      IfNone r ((n : ℕ) → start ≤ n → map.get (tree es) n ≡ None) → IsNextUsed v.names start (least_name k r)
+  least_next start k None apart is used from found none = kept_next start k is used from (λ n a b. none n a)
+  least_next start k (Some o) apart is used from found none = elim (cases_lt o k) [
+    | inl h ↦ subst (λ b. IsNextUsed v.names start (cond b o k)) (sym (is_less o k h))
+        (other_next start o apart found (λ n a b g. absurd (let same : n ≡ k = same_some n k (sym g ∙ is) in omega arith)))
+    | inr h ↦ subst (λ b. IsNextUsed v.names start (cond b o k)) (sym (is_no_less o k h)) (kept_next start k is used from (λ n a b. found.least n a (omega arith)))
+  ]

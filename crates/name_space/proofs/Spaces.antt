@@ -1,0 +1,212 @@
+-- A space, as names come and go.
+use Rattle.std.proofs.Common.{◌≡◌, ◌≢◌, inl, inr, ℕ, ◌+◌, ◌-◌, ◌<◌, ◌≤◌, true, refl, ap, sym, subst, ◌∙◌, Option, Some, None, is_some, arith}
+use Rattle.std.specs.Option.{option_and_then}
+use Rattle.std.specs.FinMap as map
+use Rattle.std.specs.Ordering.{nat_cmp}
+use Rattle.mach_types.specs.Numbers.{null_word, dead_word, most_names}
+use Rattle.name_space.specs.declared.Entry.{Entry}
+use Rattle.name_space.specs.Entry.{port_named}
+use Rattle.name_space.specs.Names.{Names, SpaceView, IsUsable, HasNoOther, port_at}
+use Rattle.name_space.specs.Ports.{PortNames, PortsView}
+use Rattle.name_space.specs.Sound.{IsSound, lost}
+use Rattle.name_space.proofs.Keys.{some_or_none, equal_or_not, put_other, out_here, out_other, same_gets}
+use Rattle.name_space.proofs.Gathered.{out_none}
+use Rattle.name_space.proofs.Linked.{AreLinked, same_ports, ports_put, ports_out, ports_lost, linked-put, linked-out, no_port, no_name_of, one_name, len-new, len-over, len-gone}
+
+over : (a b : Names) (p q : PortNames) → b ≡ a → q ≡ p → AreLinked a p → AreLinked b q
+over a b p q e f x = subst (λ n. AreLinked n q) (sym e) (subst (AreLinked a) (sym f) x)
+
+-- a word that is no name stays so
+pub put_none : (names : Names) (name k : ℕ) (e : Entry) → name ≢ k → map.get names k ≡ None → map.get (map.insert names name e) k ≡ None
+put_none names name k e d none = put_other names name e k (λ a. d (sym a)) ∙ none
+
+module _ (t : SpaceView) (p : PortsView) (len : ℕ) (x : IsSound t p len) where
+  pub links : AreLinked t.names p.names
+  links = record { named = x.named; found = x.found }
+
+  pub port_absent : (e : Entry) (port : ℕ) → HasNoOther t.names e → port_named e ≡ Some port → map.get p.names port ≡ None
+  port_absent e port apart is = no_port t.names p.names links e port apart is
+
+  pub port_free : (name : ℕ) → map.get t.names name ≡ None → (port : ℕ) → map.get p.names port ≢ Some name
+  port_free name unused port = no_name_of t.names p.names links name unused port
+
+  module _ (u : SpaceView) (name : ℕ) (e : Entry) where
+    -- a name comes
+    module _ (is : u ≡ record { names = map.insert t.names name e; room = t.room - 1; kept = t.kept }) (usable : IsUsable name) (unused : map.get t.names name ≡ None) (not_full : map.len t.names < most_names) where
+      came : (q : PortsView) → AreLinked (map.insert t.names name e) q.names → q.kept ≡ p.kept → p.room ≤ q.room + 1 → IsSound u q (len + 1)
+      came q both kept room =
+          let names : u.names ≡ map.insert t.names name e = ap (λ (a : SpaceView). a.names) is in
+          let new : AreLinked u.names q.names = over _ _ _ _ names refl both in
+          let rooms : u.room ≡ t.room - 1 = ap (λ (a : SpaceView). a.room) is in
+          let had = x.has_room in
+          let long : map.len u.names ≡ map.len t.names + 1 = ap (λ (a : Names). map.len a) names ∙ len-new t.names name e unused in
+          let counted = x.counted in
+          record {
+            named = new.named;
+            found = new.found;
+            same_kept = kept ∙ x.same_kept ∙ sym (ap (λ (a : SpaceView). a.kept) is);
+            has_room = omega arith;
+            counted = omega arith;
+            few = omega arith;
+            not_null = ap (λ (a : Names). map.get a null_word) names ∙ put_none t.names name null_word e usable.not_null x.not_null;
+            not_dead = ap (λ (a : Names). map.get a dead_word) names ∙ put_none t.names name dead_word e usable.not_dead x.not_dead;
+          }
+
+      pub sound-put : (q : PortsView) (port : ℕ) → port_named e ≡ Some port → HasNoOther t.names e → q.names ≡ map.insert p.names port name → q.kept ≡ p.kept → p.room ≤ q.room + 1 → IsSound u q (len + 1)
+      sound-put q port named apart ports kept room = came q (over _ _ _ _ refl ports (linked-put t.names p.names links name e port named unused apart)) kept room
+
+      pub sound-put_none : port_named e ≡ None → IsSound u p (len + 1)
+      sound-put_none none = came p (same_ports t.names _ p.names links (ports_put t.names name e (none ∙ sym (ap (option_and_then port_named) unused)))) refl (omega arith)
+
+    -- an entry comes in place of another
+    module _ (is : u ≡ record { names = map.insert t.names name e; room = t.room; kept = t.kept }) (used : map.contains_key t.names name ≡ true) where
+      kept_out : (k : ℕ) → map.get t.names k ≡ None → name ≢ k
+      kept_out k none a = let e : true ≡ is_some (let o : Option Entry = None in o) = sym used ∙ ap (λ n. map.contains_key t.names n) a ∙ ap is_some none in cc
+
+      renewed : (q : PortsView) → AreLinked (map.insert t.names name e) q.names → q.kept ≡ p.kept → p.room ≡ q.room → IsSound u q len
+      renewed q both kept room =
+          let names : u.names ≡ map.insert t.names name e = ap (λ (a : SpaceView). a.names) is in
+          let new : AreLinked u.names q.names = over _ _ _ _ names refl both in
+          let rooms : u.room ≡ t.room = ap (λ (a : SpaceView). a.room) is in
+          let had = x.has_room in
+          let long : map.len u.names ≡ map.len t.names = ap (λ (a : Names). map.len a) names ∙ len-over t.names name e used in
+          let counted = x.counted in
+          record {
+            named = new.named;
+            found = new.found;
+            same_kept = kept ∙ x.same_kept ∙ sym (ap (λ (a : SpaceView). a.kept) is);
+            has_room = omega arith;
+            counted = omega arith;
+            few = x.few;
+            not_null = ap (λ (a : Names). map.get a null_word) names ∙ put_none t.names name null_word e (kept_out null_word x.not_null) x.not_null;
+            not_dead = ap (λ (a : Names). map.get a dead_word) names ∙ put_none t.names name dead_word e (kept_out dead_word x.not_dead) x.not_dead;
+          }
+
+      pub sound-renewed : lost (port_at t.names name) (port_named e) ≡ None → ((port : ℕ) → port_named e ≡ Some port → port_at t.names name ≡ Some port) → IsSound u p len
+      sound-renewed none same = renewed p (same_ports t.names _ p.names links (ports_put t.names name e (stays (port_named e) none same))) refl refl
+        where
+          stays : (o : Option ℕ) → lost (port_at t.names name) o ≡ None → ((port : ℕ) → o ≡ Some port → port_at t.names name ≡ Some port) → o ≡ port_at t.names name
+          stays None none same = sym none
+          stays (Some port) none same = sym (same port refl)
+
+      pub sound-lost : (q : PortsView) (port : ℕ) → lost (port_at t.names name) (port_named e) ≡ Some port → q ≡ record { names = map.remove p.names port; room = p.room; kept = p.kept } → IsSound u q len
+      sound-lost q port goes out =
+          let both : (port_named e ≡ None) × (port_at t.names name ≡ Some port) = told (port_named e) goes in
+          renewed q
+          (over _ _ _ _ refl (ap (λ (a : PortsView). a.names) out) (same_ports _ _ _ (linked-out t.names p.names links name port both.1) (ports_lost t.names name e both.0)))
+          (ap (λ (a : PortsView). a.kept) out) (sym (ap (λ (a : PortsView). a.room) out))
+        where
+          told : (o : Option ℕ) → lost (port_at t.names name) o ≡ Some port → (o ≡ None) × (port_at t.names name ≡ Some port)
+          told None h = (refl, h)
+          told (Some other) h = absurd (some_or_none port None h refl)
+
+    -- a name goes
+    module _ (is : u ≡ record { names = map.remove t.names name; room = t.room; kept = t.kept }) (there : map.get t.names name ≡ Some e) where
+      pub some_name : 1 ≤ len
+      some_name = let less : map.len (map.remove t.names name) + 1 ≡ map.len t.names = len-gone t.names name e there in let counted = x.counted in omega arith
+
+      went : (q : PortsView) → AreLinked (map.remove t.names name) q.names → q.kept ≡ p.kept → p.room ≡ q.room → IsSound u q (len - 1)
+      went q both kept room =
+          let names : u.names ≡ map.remove t.names name = ap (λ (a : SpaceView). a.names) is in
+          let new : AreLinked u.names q.names = over _ _ _ _ names refl both in
+          let rooms : u.room ≡ t.room = ap (λ (a : SpaceView). a.room) is in
+          let had = x.has_room in
+          let long : map.len u.names + 1 ≡ map.len t.names = ap (λ (a : Names). map.len a + 1) names ∙ len-gone t.names name e there in
+          let counted = x.counted in
+          let few = x.few in
+          record {
+            named = new.named;
+            found = new.found;
+            same_kept = kept ∙ x.same_kept ∙ sym (ap (λ (a : SpaceView). a.kept) is);
+            has_room = omega arith;
+            counted = omega arith;
+            few = omega arith;
+            not_null = ap (λ (a : Names). map.get a null_word) names ∙ out_none t.names name null_word x.not_null;
+            not_dead = ap (λ (a : Names). map.get a dead_word) names ∙ out_none t.names name dead_word x.not_dead;
+          }
+
+      pub sound-out : (q : PortsView) (port : ℕ) → port_named e ≡ Some port → q ≡ record { names = map.remove p.names port; room = p.room; kept = p.kept } → IsSound u q (len - 1)
+      sound-out q port named out =
+          went q
+          (over _ _ _ _ refl (ap (λ (a : PortsView). a.names) out) (linked-out t.names p.names links name port (ap (option_and_then port_named) there ∙ named)))
+          (ap (λ (a : PortsView). a.kept) out) (sym (ap (λ (a : PortsView). a.room) out))
+
+      pub sound-out_none : port_named e ≡ None → IsSound u p (len - 1)
+      sound-out_none none = went p (same_ports t.names _ p.names links (ports_out t.names name (ap (option_and_then port_named) there ∙ none))) refl refl
+
+  -- a name that isn't in use is taken out
+  pub nothing_out : (u : SpaceView) (name : ℕ) → u ≡ record { names = map.remove t.names name; room = t.room; kept = t.kept } → map.get t.names name ≡ None → IsSound u p len
+  nothing_out u name is none =
+      let same : map.remove t.names name ≡ t.names = same_gets _ _ (λ q. elim (equal_or_not q name) [
+        | inl a ↦ ap (map.get (map.remove t.names name)) a ∙ out_here t.names name ∙ sym none ∙ ap (map.get t.names) (sym a)
+        | inr d ↦ out_other t.names name q d
+      ]) in
+      let again : u ≡ t = is ∙ ap (λ (a : Names). let v : SpaceView = record { names = a; room = t.room; kept = t.kept } in v) same in
+      subst (λ (a : SpaceView). IsSound a p len) (sym again) x
+
+  -- what is taken out of use may be put back under another name
+  pub no_other_left : (name : ℕ) (e : Entry) → map.get t.names name ≡ Some e → HasNoOther (map.remove t.names name) e
+  no_other_left name e there port other is h = elim (equal_or_not other name) [
+    | inl a ↦ some_or_none port _ h (ap (option_and_then port_named) (ap (map.get (map.remove t.names name)) a ∙ out_here t.names name))
+    | inr d ↦ d (one_name t.names p.names links other name port (ap (option_and_then port_named) (sym (out_other t.names name other d)) ∙ h) (ap (option_and_then port_named) there ∙ is))
+  ]
+
+pub sound_empty : (t : SpaceView) (p : PortsView) → t ≡ record { names = map.empty; room = 0; kept = None } → p ≡ record { names = map.empty; room = 0; kept = None } → IsSound t p 0
+sound_empty t p e f = record {
+  named = λ port name h. absurd (some_or_none name _ h (ap (λ (a : PortsView). map.get a.names port) f ∙ map.get-empty nat_cmp port));
+  found = λ port name h. absurd (some_or_none port _ h (ap (option_and_then port_named) (nothing name)));
+  same_kept = ap (λ (a : PortsView). a.kept) f ∙ sym (ap (λ (a : SpaceView). a.kept) e);
+  has_room = (let none : t.room ≡ 0 = ap (λ (a : SpaceView). a.room) e in omega arith);
+  counted = sym (ap (λ (a : SpaceView). map.len a.names) e ∙ map.len-empty nat_cmp Entry);
+  few = omega arith;
+  not_null = nothing null_word;
+  not_dead = nothing dead_word;
+}
+  where
+    nothing : (q : ℕ) → map.get t.names q ≡ None
+    nothing q = ap (λ (a : SpaceView). map.get a.names q) e ∙ map.get-empty nat_cmp q
+
+-- ---- a name goes and its entry comes again under another
+
+module _ (t : SpaceView) (p : PortsView) (len : ℕ) (x : IsSound t p len) (u : SpaceView) (name to : ℕ) (e : Entry)
+    (is : u ≡ record { names = map.remove t.names name; room = t.room; kept = t.kept }) (there : map.get t.names name ≡ Some e) (unused : map.get t.names to ≡ None) where
+  pub unused_after : map.get u.names to ≡ None
+  unused_after = ap (λ (a : SpaceView). map.get a.names to) is ∙ out_none t.names name to unused
+
+  pub not_full_after : map.len u.names < most_names
+  not_full_after =
+      let long : map.len u.names + 1 ≡ map.len t.names = ap (λ (a : SpaceView). map.len a.names + 1) is ∙ len-gone t.names name e there in
+      let counted = x.counted in
+      let few = x.few in
+      omega arith
+
+  apart_after : HasNoOther u.names e
+  apart_after = subst (λ (a : SpaceView). HasNoOther a.names e) (sym is) (no_other_left t p len x name e there)
+
+  one_more : len - 1 + 1 ≡ len
+  one_more = let some : 1 ≤ len = some_name t p len x u name e is there in omega arith
+
+  module _ (w : SpaceView) (put : w ≡ record { names = map.insert u.names to e; room = u.room - 1; kept = u.kept }) (usable : IsUsable to) where
+    pub moved_none : port_named e ≡ None → IsSound w p len
+    moved_none none =
+        subst (IsSound w p) one_more
+        (sound-put_none u p (len - 1) (sound-out_none t p len x u name e is there none) w to e put usable unused_after not_full_after none)
+
+    module _ (q : PortsView) (port : ℕ) (named : port_named e ≡ Some port) (out : q ≡ record { names = map.remove p.names port; room = p.room; kept = p.kept }) where
+      without : IsSound u q (len - 1)
+      without = sound-out t p len x u name e is there q port named out
+
+      pub moved : (r : PortsView) → r.names ≡ map.insert q.names port to → r.kept ≡ q.kept → q.room ≤ r.room + 1 → IsSound w r len
+      moved r ports kept room =
+          subst (IsSound w r) one_more
+          (sound-put u q (len - 1) without w to e put usable unused_after not_full_after r port named apart_after ports kept room)
+
+      pub free_after : (k : ℕ) → map.get q.names k ≢ Some to
+      free_after k = port_free u q (len - 1) without to unused_after k
+
+      pub absent_after : map.get q.names port ≡ None
+      absent_after = ap (λ (a : PortsView). map.get a.names port) out ∙ out_here p.names port
+
+-- what a view says of a space, of what lies in it
+pub inside : (P : SpaceView → Type 0) (t v : SpaceView) → t ≡ v → P v → P t
+inside P t v e h = subst P (sym e) h

@@ -1,0 +1,14 @@
+use Rattle.std.proofs.Common.{Some, ap, sym, ◌∙◌}
+use Rattle.name_space.specs.High.{with_kept}
+use Rattle.name_space.proofs.Slots.{tree, put-tree, none_apart}
+use Rattle.name_space.proofs.high.lay_back.Goals as goal
+
+pub returns-in_default-entry-clause-ok : goal.returns-in_default-entry-clause-ok
+returns-in_default-entry-clause-ok c =
+    sym (ap (λ e. with_kept c.args.kept e (tree c.args.others.now.entries)) c.in_default-entry.is ∙ none_apart c.args.kept (tree c.args.others.now.entries) c.requires)
+
+pub returns-clause-ok : goal.returns-clause-ok
+returns-clause-ok c =
+    put-tree c.args.others.now.entries c.insert.new.self.entries c.in-Some.kept c.in-Some-entry.entry c.in_ok-insert.ensures.updates.0
+    ∙ sym (ap (λ k. with_kept k c.args.entry (tree c.args.others.now.entries)) c.in-Some.is
+    ∙ ap (λ e. with_kept (Some c.in-Some.kept) e (tree c.args.others.now.entries)) c.in-Some-entry.is)
