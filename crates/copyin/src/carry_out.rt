@@ -101,8 +101,8 @@ fn move_right(world: &mut World, task: TaskId, name: Name, carried: Carried)
 /// The right under the name goes by its disposition: what is left stays under the name, the port
 /// changes as the disposition says, and a right that is made is counted.
 ///
-/// Takes no memory. Logarithmic in the names of the task, but for a move of 16 bytes
-/// for each greater name where the name goes. A right that is made from one that stays looks up no name.
+/// Takes no memory. Constant time, and logarithmic for a name above 65,535. A right that is made
+/// from one that stays looks up no name.
 pub fn copy_name(world: &mut World, task: TaskId, name: Name, carried: Carried)
     requires { CanCopy world.old task name carried }
     ensures { CopiesRight world.old task carried.given name carried.mark world.new }
@@ -148,7 +148,8 @@ fn copy_reply(world: &mut World, task: TaskId, word: Option<PortWord>, reply: Op
 }
 
 /// Sends a message by its plan: its rights go from the sender, and it joins the end of its port's
-/// queue, in a spare slot. Takes no memory. Logarithmic in the names of the task for each right, but for a move of 16 bytes for each greater name where a name goes.
+/// queue, in a spare slot. Takes no memory. Constant time for each right, and logarithmic for a
+/// name above 65,535.
 pub fn commit(world: &mut World, plan: Plan)
     requires planned { (task : ℕ) × (parsed : AnyParsed) × (written : WireBody) × (bytes : List ℕ) × IsPlan world.old task parsed written bytes plan }
     requires spare { 0 < world.old.ports.spare }

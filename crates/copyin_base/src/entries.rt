@@ -12,8 +12,7 @@ use name_space::Entry;
 impl World {
     /// Leaves this under a name that is in use; where nothing is left the name goes.
     ///
-    /// Takes no memory. Logarithmic in the names of the task, but for a move of 16 bytes for each
-    /// greater name where the name goes.
+    /// Takes no memory. Constant time, and logarithmic for a name above 65,535.
     pub fn put_left(&mut self, task: TaskId, name: Name, left: Option<Entry>)
         requires { CanPutLeft self.old task name left }
         ensures { PutsLeft self.old task name left self.new }
@@ -30,8 +29,7 @@ impl World {
     /// Puts the entry under a name that isn't in use, in a place that was made: the fresh name where
     /// there is room for one, or the name for which a place is kept.
     ///
-    /// Takes no memory. Logarithmic in the names of the task, but for a move of 16 bytes for each
-    /// greater name.
+    /// Takes no memory. Constant time, and logarithmic for a name above 65,535.
     pub fn insert_entry(&mut self, task: TaskId, name: Name, entry: Entry)
         requires { CanInsert self.old task name entry }
         ensures { InsertsEntry self.old task name entry self.new }
@@ -43,7 +41,7 @@ impl World {
     /// less, there is then room for just so many.
     ///
     /// `KERN_RESOURCE_SHORTAGE` where there was less room and memory was refused; all is then as
-    /// before. Constant time, but where the names move to a larger place.
+    /// before. Constant time, but where memory is taken.
     pub fn reserve_names(&mut self, task: TaskId, number: usize) -> Result<(), KernReturn>
         requires { task < length self.old.spaces }
         ensures ok { OnOk result (MakesRoom self.old task number self.new) }
@@ -60,7 +58,7 @@ impl World {
     /// come under it without memory.
     ///
     /// `KERN_RESOURCE_SHORTAGE` where it wasn't kept and memory was refused; all is then as before.
-    /// Constant time, but where the names move to a larger place.
+    /// Constant time, but where memory is taken.
     pub fn reserve_name(&mut self, task: TaskId, name: Name) -> Result<(), KernReturn>
         requires there { task < length self.old.spaces }
         requires usable { IsUsable name }

@@ -14,7 +14,7 @@ use name_space::Entry;
 impl World {
     /// What stands under the name; `KERN_INVALID_NAME` where nothing does.
     ///
-    /// Logarithmic in the names of the task.
+    /// Constant time, and logarithmic for a name above 65,535.
     pub fn find(&self, task: TaskId, name: Name) -> Result<Entry, KernReturn>
         ensures ok { IfOk result (λ entry. entry_at self.now task name ≡ Some entry) }
         ensures err { IfErr result (λ code. IsRefused self.now (λ s. used_guards s task name) (kern_number code)) }
@@ -25,7 +25,7 @@ impl World {
     /// The port whose receive right stands under the name; `KERN_INVALID_NAME` where nothing does, and
     /// `KERN_INVALID_RIGHT` where that is no receive right.
     ///
-    /// Logarithmic in the names of the task.
+    /// Constant time, and logarithmic for a name above 65,535.
     pub fn find_receive(&self, task: TaskId, name: Name) -> Result<PortId, KernReturn>
         ensures ok { IfOk result (λ port. FindsReceive self.now task name port) }
         ensures err { IfErr result (λ code. IsRefused self.now (λ s. receive_guards s task name) (kern_number code)) }
@@ -39,7 +39,7 @@ impl World {
     /// The port set under the name; `KERN_INVALID_NAME` where nothing stands under it, and
     /// `KERN_INVALID_RIGHT` where that is no port set.
     ///
-    /// Logarithmic in the names of the task.
+    /// Constant time, and logarithmic for a name above 65,535.
     pub fn find_set(&self, task: TaskId, name: Name) -> Result<SetId, KernReturn>
         ensures ok { IfOk result (λ set. entry_at self.now task name ≡ Some (AnyEntry.Set set)) }
         ensures err { IfErr result (λ code. IsRefused self.now (λ s. set_guards s task name) (kern_number code)) }

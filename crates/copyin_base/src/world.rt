@@ -75,7 +75,8 @@ impl World {
         &self.spaces[task.number() as usize]
     }
 
-    /// What stands under the task's name, if anything does. Logarithmic in the number of its names.
+    /// What stands under the task's name, if anything does. Constant time, and logarithmic for a
+    /// name above 65,535.
     pub fn lookup(&self, task: TaskId, name: Name) -> Option<Entry>
         ensures { result ≡ entry_at self.now task name }
     {

@@ -139,9 +139,9 @@ fn give_port(world: &mut World, task: TaskId, given: Disposition, port: PortId) 
 /// under a fresh one; a send-once right always under a fresh one. A send right that comes to 65,535
 /// references is dropped.
 ///
-/// [`Name::null`] where there is no right, and [`Name::dead`] where its port is gone: nothing changes
-/// then. Room is used for a fresh name alone. Takes no memory. Logarithmic in the number of the
-/// task's names, but for a move of 16 bytes for each greater name.
+/// [`Name::null`] where there is no right, and [`Name::dead`] where its port is gone: nothing
+/// changes then. Room is used for a fresh name alone. Takes no memory. Constant time, and
+/// logarithmic for a name above 65,535.
 pub fn give_right(world: &mut World, task: TaskId, carried: &Carried) -> Name
     requires { CanGive world.old task (carried.now ∷ []) }
     ensures { GivesMark world.old task (kind_sent carried.now.given) carried.now.mark result world.new }

@@ -9,9 +9,9 @@ use mach_types::{Disposition, Name, PortId, TaskId};
 /// Gives the task a right for a port that is there, under this name: the task's name for the port, or
 /// one that isn't in use (Port Manipulation Interface, `mach_port_insert_right`).
 ///
-/// A name that isn't in use has a place that was made: it is the fresh one where there is room for one,
-/// or the one for which a place is kept. Takes no memory. Logarithmic in the number of the task's names,
-/// but for a move of 16 bytes for each greater name.
+/// A name that isn't in use has a place that was made: it is the fresh one where there is room for
+/// one, or the one for which a place is kept. Takes no memory. Constant time, and logarithmic for a
+/// name above 65,535.
 pub fn put_right(world: &mut World, task: TaskId, given: Disposition, port: PortId, name: Name)
     requires { CanPut world.old task (kind_sent given) port name }
     ensures { PutsPort world.old task (kind_sent given) port name world.new }

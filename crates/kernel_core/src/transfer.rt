@@ -48,10 +48,10 @@ impl TaskName {
 /// Errors, of which the first is answered: `INVALID_VALUE` where `to` is no name, or the number no
 /// disposition's; `INVALID_CAPABILITY` where `from` is no name, or a dead name that could be sent;
 /// `INVALID_NAME` where nothing stands under it; `INVALID_RIGHT` where it lacks the right;
-/// `RIGHT_EXISTS` where the task has the port under another name; `NAME_EXISTS` where something else
-/// stands under the name; `UREFS_OVERFLOW` at 65,535 references; `NO_SPACE` at 65,535 names or
+/// `RIGHT_EXISTS` where the task has the port under another name; `NAME_EXISTS` where something
+/// else stands under the name; `UREFS_OVERFLOW` at 65,535 references; `NO_SPACE` at 65,535 names or
 /// 4,294,967,295 rights; `RESOURCE_SHORTAGE` where the name is new, no place was kept for it, and
-/// memory for one was refused. Logarithmic in the names, but for a move of 16 bytes for each greater name.
+/// memory for one was refused. Constant time, and logarithmic for a name above 65,535.
 pub(crate) fn insert(
     world: &mut World,
     to: &TaskName,
@@ -79,10 +79,10 @@ pub(crate) fn insert(
 /// changes nothing. A send right that comes to 65,535 references is dropped.
 ///
 /// Errors, of which the first is answered: `INVALID_VALUE` where the number is no disposition's;
-/// `INVALID_NAME` where nothing stands under the name; `INVALID_RIGHT` where it lacks the right, or is
-/// dead; `NO_SPACE` at 65,535 names where a name is needed once the right was copied in, or at
-/// 4,294,967,295 rights; `RESOURCE_SHORTAGE` where memory was refused. Logarithmic in the
-/// names, but for a move of 16 bytes for each greater name.
+/// `INVALID_NAME` where nothing stands under the name; `INVALID_RIGHT` where it lacks the right, or
+/// is dead; `NO_SPACE` at 65,535 names where a name is needed once the right was copied in, or at
+/// 4,294,967,295 rights; `RESOURCE_SHORTAGE` where memory was refused. Constant time, and
+/// logarithmic for a name above 65,535.
 pub(crate) fn extract(
     world: &mut World,
     from: &TaskName,

@@ -42,11 +42,12 @@ enum NewRight {
 /// fresh name. A receive right, number 1, is of a new port; a port set, number 3, is new and of no
 /// ports; a dead name, number 4, has one reference. The task lives.
 ///
-/// `KERN_INVALID_VALUE` for another number; `KERN_NO_SPACE` where the task has 65,535 names, for a port
-/// also where there are 4,294,967,295 rights, and for a port or a set where all its identities were
-/// given; `KERN_RESOURCE_SHORTAGE` for want of memory, of which a dead name takes none where there is
-/// room for its name. A refusal leaves all as it was, but that room for one name may have been made.
-/// Logarithmic in the names of the task, but for a move of 16 bytes for each greater name, and where tables move to a larger place.
+/// `KERN_INVALID_VALUE` for another number; `KERN_NO_SPACE` where the task has 65,535 names, for a
+/// port also where there are 4,294,967,295 rights, and for a port or a set where all its identities
+/// were given; `KERN_RESOURCE_SHORTAGE` for want of memory, of which a dead name takes none where
+/// there is room for its name. A refusal leaves all as it was, but that room for one name may have
+/// been made. Constant time, and logarithmic for a name above 65,535, but where tables move to a
+/// larger place.
 pub fn allocate(world: &mut World, task: TaskId, right: u32) -> Result<Reply, Code>
     requires there { task < length world.old.spaces }
     requires stands { Stands world.old }
@@ -214,7 +215,8 @@ fn make_port(world: &mut World) -> Result<PortId, AllocError>
 /// `NameType` (Port Manipulation Interface, `mach_port_type`): a bit for each kind of right that the
 /// task has under the name. The task lives.
 ///
-/// `KERN_INVALID_NAME` for a name that isn't in use. Logarithmic in the names of the task.
+/// `KERN_INVALID_NAME` for a name that isn't in use. Constant time, and logarithmic for a name
+/// above 65,535.
 pub fn name_type(world: &World, task: TaskId, name: Name) -> Result<Reply, Code>
     requires there { task < length world.now.spaces }
     requires stands { Stands world.now }
@@ -271,11 +273,11 @@ fn type_at(space: &Space, name: Name) -> u32
 /// `Rename` (Port Manipulation Interface, `mach_port_rename`): what is under the first name goes under
 /// the second. A set's members, and a port's rights and messages, stay as they are. The task lives.
 ///
-/// `KERN_INVALID_VALUE` where the second is 0 or 0xffffffff; `KERN_INVALID_NAME` where the first isn't
-/// in use; `KERN_NAME_EXISTS` where the second is, also by the first itself; `KERN_RESOURCE_SHORTAGE`
-/// where no place was kept for the second name and memory for one was refused. A refusal leaves all as
-/// it was. Logarithmic in the names of the task, but for a move of 16 bytes for each greater name, and
-/// where the names move to a larger place.
+/// `KERN_INVALID_VALUE` where the second is 0 or 0xffffffff; `KERN_INVALID_NAME` where the first
+/// isn't in use; `KERN_NAME_EXISTS` where the second is, also by the first itself;
+/// `KERN_RESOURCE_SHORTAGE` where no place was kept for the second name and memory for one was
+/// refused. A refusal leaves all as it was. Constant time, and logarithmic for a name above 65,535,
+/// but where memory is taken.
 pub fn rename(world: &mut World, task: TaskId, from: Name, to: Name) -> Result<Reply, Code>
     requires there { task < length world.old.spaces }
     requires stands { Stands world.old }

@@ -14,8 +14,8 @@ use port::Attributes;
 /// `ReceiveStatus` (Port Manipulation Interface, `mach_port_get_receive_status`): with the name that the
 /// task, which lives, has for the set that the port is in, 0 where it is in none.
 ///
-/// `KERN_INVALID_NAME` for a name that isn't in use; `KERN_INVALID_RIGHT` where it has no receive right.
-/// Logarithmic in the names of the task.
+/// `KERN_INVALID_NAME` for a name that isn't in use; `KERN_INVALID_RIGHT` where it has no receive
+/// right. Constant time, and logarithmic for a name above 65,535.
 #[tactic(auto, using(crate::proofs::ReceiveRight::has_port, crate::proofs::ReceiveRight::status_told))]
 pub fn receive_status(world: &World, task: TaskId, name: Name) -> Result<Reply, Code>
     requires there { task < length world.now.spaces }
@@ -62,8 +62,9 @@ fn set_name(world: &World, set: Option<SetId>) -> Name
 /// `SetQlimit` (Port Manipulation Interface, `mach_port_set_qlimit`): how many messages the queue of the
 /// port takes from send rights, 0 to 16. Messages that are there stay. The task lives.
 ///
-/// `KERN_INVALID_VALUE` above 16; `KERN_INVALID_NAME` for a name that isn't in use; `KERN_INVALID_RIGHT`
-/// where it has no receive right. Takes no memory. Logarithmic in the names of the task.
+/// `KERN_INVALID_VALUE` above 16; `KERN_INVALID_NAME` for a name that isn't in use;
+/// `KERN_INVALID_RIGHT` where it has no receive right. Takes no memory. Constant time, and
+/// logarithmic for a name above 65,535.
 #[tactic(auto, using(copyin_base::proofs::Finding::receive_port_there))]
 pub fn set_qlimit(world: &mut World, task: TaskId, name: Name, limit: u32) -> Result<Reply, Code>
     requires there { task < length world.old.spaces }
@@ -89,8 +90,8 @@ pub fn set_qlimit(world: &mut World, task: TaskId, name: Name, limit: u32) -> Re
 /// `SetMscount` (Port Manipulation Interface, `mach_port_set_mscount`): how many send rights were made
 /// from the receive right, any 32-bit number. The task lives.
 ///
-/// `KERN_INVALID_NAME` for a name that isn't in use; `KERN_INVALID_RIGHT` where it has no receive right.
-/// Takes no memory. Logarithmic in the names of the task.
+/// `KERN_INVALID_NAME` for a name that isn't in use; `KERN_INVALID_RIGHT` where it has no receive
+/// right. Takes no memory. Constant time, and logarithmic for a name above 65,535.
 #[tactic(auto, using(copyin_base::proofs::Finding::receive_port_there))]
 pub fn set_mscount(world: &mut World, task: TaskId, name: Name, count: u32) -> Result<Reply, Code>
     requires there { task < length world.old.spaces }

@@ -125,7 +125,7 @@ fn carry_out(world: &mut World, task: TaskId, name: Name, due: Due)
 /// this number the task, which lives, has under the name, 0 to 65,535.
 ///
 /// `KERN_INVALID_VALUE` for a number above 4; `KERN_INVALID_NAME` for a name that isn't in use.
-/// Logarithmic in the names of the task.
+/// Constant time, and logarithmic for a name above 65,535.
 pub fn get_refs(world: &World, task: TaskId, name: Name, right: u32) -> Result<Reply, Code>
     requires { task < length world.now.spaces }
     ensures { Serves world.now (Event.GetRefs task name right) result world.now }
@@ -167,10 +167,9 @@ fn destroy_entry(entry: &Entry) -> Option<Due>
 /// reference of a dead name, goes from under the name; with the last right or reference the name goes.
 /// Under a name with a receive right and send references one of these goes. The task lives.
 ///
-/// `KERN_INVALID_NAME` for a name that isn't in use; `KERN_INVALID_RIGHT` for a receive right alone, a
-/// set, and, as long as none can be lost, a send-once right. A refusal changes nothing. Takes no memory.
-/// Logarithmic in the names of the task, but for a move of 16 bytes for each greater
-/// name where the name goes.
+/// `KERN_INVALID_NAME` for a name that isn't in use; `KERN_INVALID_RIGHT` for a receive right
+/// alone, a set, and, as long as none can be lost, a send-once right. A refusal changes nothing.
+/// Takes no memory. Constant time, and logarithmic for a name above 65,535.
 pub fn deallocate(world: &mut World, task: TaskId, name: Name) -> Result<Reply, Code>
     requires there { task < length world.old.spaces }
     requires stands { Stands world.old }
@@ -188,10 +187,10 @@ pub fn deallocate(world: &mut World, task: TaskId, name: Name) -> Result<Reply, 
 /// `Destroy` (Port Manipulation Interface, `mach_port_destroy`): all that is under the name goes, and
 /// the name with it. With a set's name the set goes, and its members are in none. The task lives.
 ///
-/// `KERN_INVALID_NAME` for a name that isn't in use; `KERN_INVALID_RIGHT`, as long as none can be lost,
-/// for a name with a receive or send-once right. A refusal changes nothing. Takes no memory. Logarithmic
-/// in the names of the task, but for a move of 16 bytes for each greater name, and for a set a look at
-/// each identity that a port was given.
+/// `KERN_INVALID_NAME` for a name that isn't in use; `KERN_INVALID_RIGHT`, as long as none can be
+/// lost, for a name with a receive or send-once right. A refusal changes nothing. Takes no memory.
+/// Constant time, and logarithmic for a name above 65,535, and for a set a look at each identity
+/// that a port was given.
 pub fn destroy(world: &mut World, task: TaskId, name: Name) -> Result<Reply, Code>
     requires there { task < length world.old.spaces }
     requires stands { Stands world.old }
@@ -336,11 +335,11 @@ fn find_right(
 ///
 /// Errors, of which the first is answered: `KERN_INVALID_VALUE` for a number above 4;
 /// `KERN_INVALID_NAME` for a name that isn't in use; `KERN_INVALID_RIGHT` where it lacks the right;
-/// `KERN_INVALID_VALUE` where there would be fewer than no references, or for a `delta` that a right
-/// without references can't have; `KERN_UREFS_OVERFLOW` above 65,535 references; `KERN_NO_SPACE` above
-/// 4,294,967,295 rights; and, as long as none can be lost, `KERN_INVALID_RIGHT` where a receive or
-/// send-once right would go. A refusal changes nothing. Takes no memory. Logarithmic in the names of the
-/// task, but for a move of 16 bytes for each greater name where the name goes, and a look at each
+/// `KERN_INVALID_VALUE` where there would be fewer than no references, or for a `delta` that a
+/// right without references can't have; `KERN_UREFS_OVERFLOW` above 65,535 references;
+/// `KERN_NO_SPACE` above 4,294,967,295 rights; and, as long as none can be lost,
+/// `KERN_INVALID_RIGHT` where a receive or send-once right would go. A refusal changes nothing.
+/// Takes no memory. Constant time, and logarithmic for a name above 65,535, and a look at each
 /// identity that a port was given where a set does.
 pub fn mod_refs(
     world: &mut World,

@@ -89,9 +89,9 @@ struct Moving {
 /// under the first name leaves the set that it is in, and goes into the set under the second name,
 /// unless that is 0. A move into the set that it is in changes nothing. The task lives.
 ///
-/// `KERN_INVALID_NAME` for a name that isn't in use; `KERN_INVALID_RIGHT` where the first has no receive
-/// right or the second is no set's; `KERN_NOT_IN_SET` where the port is to leave its set and is in none.
-/// Takes no memory. Logarithmic in the names of the task.
+/// `KERN_INVALID_NAME` for a name that isn't in use; `KERN_INVALID_RIGHT` where the first has no
+/// receive right or the second is no set's; `KERN_NOT_IN_SET` where the port is to leave its set
+/// and is in none. Takes no memory. Constant time, and logarithmic for a name above 65,535.
 pub fn move_member(
     world: &mut World,
     task: TaskId,
