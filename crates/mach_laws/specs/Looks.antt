@@ -1,5 +1,5 @@
 -- Which answers only tell, and what it means that nothing changed (this project's own).
-use Rattle.std.specs.Prelude.{◌≡◌, Bool, true, []}
+use Rattle.std.specs.Prelude.{◌≡◌, true, []}
 use Rattle.mach_types.specs.declared.calls.Event.{Event}
 use Rattle.mach_types.specs.declared.calls.Reply.{Reply}
 use Rattle.mach_types.specs.Tokens.{Moves}

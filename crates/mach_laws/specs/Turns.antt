@@ -1,5 +1,5 @@
 -- What bounds the turns that the end of a step takes: the most of them, and the least (this project's own).
-use Rattle.std.specs.Prelude.{ℕ, ◌+◌, Bool, ◌&&◌, length, not, if◌then◌else◌}
+use Rattle.std.specs.Prelude.{ℕ, ◌+◌, ◌&&◌, length, not, if◌then◌else◌}
 use Rattle.mach_model.specs.State.{State, queue}
 use Rattle.mach_laws.specs.Queued.{sum_below}
 

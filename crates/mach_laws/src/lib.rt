@@ -11,7 +11,7 @@ ghost use Rattle.mach_types.specs.declared.calls.Reply.{Reply};
 ghost use Rattle.mach_types.specs.declared.calls.Waited.{Waited};
 ghost use Rattle.mach_types.specs.declared.codes.MsgReturn.TheVariants.{ReceiveBodyErrorNames};
 ghost use Rattle.mach_types.specs.Numbers.{msg_number};
-ghost use Rattle.mach_types.specs.Tokens.{count, is_of, receive as receive_kind};
+ghost use Rattle.mach_types.specs.Tokens.{count, is_of, send_once, receive as receive_kind};
 ghost use Rattle.mach_types.specs.Grammar.{Header, WireBody, Spells};
 ghost use Rattle.mach_types.specs.Guards.{NoneHolds};
 ghost use Rattle.mach_types.specs.Messages.{Entry};
@@ -21,7 +21,7 @@ ghost use Rattle.mach_model.specs.Receive.{DestroysFront};
 ghost use Rattle.mach_model.specs.Requests.{notify_guards, Requests};
 ghost use Rattle.mach_model.specs.Death.{Dies, IsClosed, IsGrounded};
 ghost use Rattle.mach_model.specs.Notices.{Owed};
-ghost use Rattle.mach_model.specs.Settles.{Settles};
+ghost use Rattle.mach_model.specs.Settles.{tokens_of, Settles};
 ghost use Rattle.mach_model.specs.SameEnd.{IsSameEnd};
 ghost use Rattle.mach_model.specs.Refusals.{Refuses, guards};
 ghost use Rattle.mach_model.specs.Machine.{Does, Done, Step, Run};
@@ -103,6 +103,15 @@ pub fn each_notice_is_told_once()
     ensures { (events : List Event) (replies : List Reply) (s : State) → Run events replies s →
         (event : Event) (reply : Reply) (new : State) → (done : Done (length events) s event reply new) →
         TellsAll (length events) s event reply new done }
+{}
+
+/// After every run no send-once right of a port that lives is lost at the end of a step, and none is made: there are as
+/// many as the step's own part left, and as it left to be told of. So no right to answer is lost untold, wherever it
+/// lay, also in the queues of ports that die.
+pub fn no_answer_is_lost()
+    ensures { (events : List Event) (replies : List Reply) (s : State) → Run events replies s →
+        (event : Event) (reply : Reply) (new : State) → (done : Done (length events) s event reply new) → (p : ℕ) → new.live_port p ≡ true →
+        count (is_of send_once p) new.ledger ≡ count (is_of send_once p) done.mid.ledger + count (is_of send_once p) (tokens_of done.owed) }
 {}
 
 /// In a step no more ports die than there were rights, live ports and messages together before it.

@@ -44,5 +44,6 @@ pub mod SettledPosting
 pub mod SettledDeaths
 pub mod SettledEnd
 pub mod SettledDetermined
+pub mod SettledOnce
 pub mod Grounding
 pub mod GroundedSteps

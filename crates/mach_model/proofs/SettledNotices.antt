@@ -11,9 +11,8 @@ use Rattle.mach_model.specs.State.{State}
 use Rattle.mach_model.specs.Notices.{Notice, notice_message, Owed, Posted}
 use Rattle.mach_model.specs.Settles.{due_notices, Settles}
 use Rattle.mach_model.specs.SameEnd.{sum}
-use Rattle.mach_model.specs.Lawful.{tally}
 use Rattle.mach_model.specs.Midway.{MidLawful}
-use Rattle.mach_model.proofs.SettledParts.{eq_symm, same_entry}
+use Rattle.mach_model.proofs.SettledParts.{same_entry}
 use Rattle.mach_model.proofs.SettledLogs.{is_entry, hits, one_hit}
 
 -- ---- a weight of notices, added up by their entries
