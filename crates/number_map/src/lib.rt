@@ -1,20 +1,184 @@
 //! A map from numbers to small values. A key is found, put in, changed and taken out in constant
 //! time, and only [`NumberMap::reserve`] takes memory.
+//!
+//! The keys lie in a row, each in the chain of its hash, and a chain goes down the row. The hash is
+//! known, so that the keys must not be chosen by one who means harm: here they are identities, which
+//! the kernel gives one by one. A key takes 24 to 32 bytes beside its value, and so does room for one.
 #![tactic(auto)]
 
-ghost use Rattle.std.specs.Prelude.{◌≡◌, ◌+◌, ◌-◌, ◌<◌, ◌≤◌, max, true, None, IsOk, OnOk, OnErr, IsSome, nat_eq};
+ghost use Rattle.std.specs.Prelude.{◌≡◌, ◌≢◌, ℕ, suc, ◌+◌, ◌-◌, ◌<◌, ◌≤◌, List, max, true, length, Some, None, IsOk, OnOk, OnErr};
 ghost use Rattle.std.specs.FinMap as map;
-ghost use Rattle.std.specs.HashMap.{get as value_in, spare, keys, Updates, IsUnique};
+ghost use Rattle.std.specs.Vec.{vec_capacity};
+ghost use Rattle.number_map.specs.Kept.{slot as slot_for, head_at, next_at, IsAbove, IsLed, IsIndexed, HasKey, SameEntries, IsTakenOut};
 
 use std::alloc::{AllocError, Global};
-use std::collections::HashMap;
 use std::marker::Model;
+
+// A key with its value. The next of its chain lies at `next - 1`, below it, if `next` is not 0.
+#[derive(Clone, Copy)]
+struct Node<V: Copy> {
+    key: u64,
+    value: V,
+    next: usize,
+}
 
 /// Values under numbers, and room for so many keys to come. Without room nothing is allocated.
 #[derive(Drop)]
 pub struct NumberMap<V: Copy> {
-    table: HashMap<u64, V>,
+    nodes: Vec<Node<V>>,
+    // The first of each chain lies at its head less 1, if its head is not 0.
+    heads: Vec<usize>,
     room: usize,
+}
+
+// The chain of a key. The factor spreads keys that are given one by one, and as well each second of
+// them or each sixteenth: where there are as many keys as chains, half a key stands before another.
+fn slot_of(key: u64, slots: usize) -> usize
+    requires { 0 < slots }
+    ensures value { result ≡ slot_for key slots }
+    ensures few { result < slots }
+{
+    (key.wrapping_mul(0x9285_52B0_57C0_BA39) >> 32) as usize & (slots - 1)
+}
+
+// Where the key lies.
+fn find<V: Copy>(nodes: &[Node<V>], heads: &[usize], key: u64) -> Option<usize>
+    requires { IsIndexed nodes.now heads.now }
+    ensures found { (x : ℕ) → result ≡ Some x → HasKey nodes.now key x }
+    ensures missing { result ≡ None → (x : ℕ) → HasKey nodes.now key x → ⊥ }
+{
+    if heads.is_empty() {
+        return None;
+    }
+    let mut link = heads[slot_of(key, heads.len())];
+    while link > 0 {
+        let node = &nodes[link - 1];
+        if node.key == key {
+            return Some(link - 1);
+        }
+        link = node.next;
+    }
+    None
+}
+
+// The link to the lowest node above the place, along a chain from this head, and 0 where there is none.
+fn last_above<V: Copy>(nodes: &[Node<V>], head: usize, place: usize) -> usize
+    requires head { head ≤ length nodes.now }
+    requires place { place < length nodes.now }
+    requires down { (y : ℕ) → y < length nodes.now → next_at nodes.now y ≤ y }
+    ensures { IsAbove (length nodes.now) (next_at nodes.now) head place result }
+{
+    let mut above = 0;
+    let mut link = head;
+    while link > place + 1 {
+        above = link;
+        link = nodes[link - 1].next;
+    }
+    above
+}
+
+// The link of a chain that leads to the place, or passes it, leads here from now on. Answers where it led.
+fn lead<V: Copy>(
+    nodes: &mut Vec<Node<V>>,
+    heads: &mut Vec<usize>,
+    slot: usize,
+    place: usize,
+    to: usize,
+) -> usize
+    requires slot { slot < length heads.old.items }
+    requires head { head_at heads.old.items slot ≤ length nodes.old.items }
+    requires down { (y : ℕ) → y < length nodes.old.items → next_at nodes.old.items y ≤ y }
+    requires place { place < length nodes.old.items }
+    ensures led { IsLed (length nodes.old.items) (next_at nodes.old.items) (next_at nodes.new.items) (head_at heads.old.items) (head_at heads.new.items) slot place to result }
+    ensures entries { SameEntries nodes.old.items nodes.new.items }
+    ensures heads { length heads.new.items ≡ length heads.old.items }
+    ensures capacity { vec_capacity nodes.new ≡ vec_capacity nodes.old }
+{
+    let head = heads[slot];
+    let above = last_above(nodes, head, place);
+    if above == 0 {
+        heads[slot] = to;
+        return head;
+    }
+    let next = nodes[above - 1].next;
+    nodes[above - 1].next = to;
+    next
+}
+
+// Takes a node out of the row; the last one comes in its place.
+fn take_out<V: Copy>(nodes: &mut Vec<Node<V>>, heads: &mut Vec<usize>, place: usize)
+    requires place { place < length nodes.old.items }
+    requires indexed { IsIndexed nodes.old.items heads.old.items }
+    ensures indexed { IsIndexed nodes.new.items heads.new.items }
+    ensures nodes { IsTakenOut nodes.old.items nodes.new.items place }
+    ensures heads { length heads.new.items ≡ length heads.old.items }
+    ensures capacity { vec_capacity nodes.new ≡ vec_capacity nodes.old }
+{
+    let Some(last) = nodes.pop() else {
+        return;
+    };
+    let slot = slot_of(last.key, heads.len());
+    heads[slot] = last.next;
+    if place < nodes.len() {
+        let Node { key, next, .. } = nodes[place];
+        lead(nodes, heads, slot_of(key, heads.len()), place, next);
+        let next = lead(nodes, heads, slot, place, place + 1);
+        nodes[place] = Node {
+            key: last.key,
+            value: last.value,
+            next,
+        };
+    }
+}
+
+// Puts each node in its chain, where all chains are empty.
+fn link_all<V: Copy>(nodes: &mut Vec<Node<V>>, heads: &mut Vec<usize>)
+    requires some { 0 < length heads.old.items }
+    requires empty { (c : ℕ) → head_at heads.old.items c ≡ 0 }
+    ensures indexed { IsIndexed nodes.new.items heads.new.items }
+    ensures entries { SameEntries nodes.old.items nodes.new.items }
+    ensures heads { length heads.new.items ≡ length heads.old.items }
+    ensures capacity { vec_capacity nodes.new ≡ vec_capacity nodes.old }
+{
+    for place in 0..nodes.len() {
+        let slot = slot_of(nodes[place].key, heads.len());
+        nodes[place].next = heads[slot];
+        heads[slot] = place + 1;
+    }
+}
+
+// Makes so many chains, all empty.
+fn make_slots(heads: &mut Vec<usize>, slots: usize) -> Result<(), AllocError>
+    ensures len { OnOk result (length heads.new.items ≡ slots) }
+    ensures empty { OnOk result ((c : ℕ) → head_at heads.new.items c ≡ 0) }
+    ensures err { OnErr result (heads.new.items ≡ heads.old.items) }
+{
+    heads.resize(slots, 0)?;
+    for slot in 0..heads.len() {
+        heads[slot] = 0;
+    }
+    Ok(())
+}
+
+// Makes as many chains as nodes fit, or more, where there are fewer, and puts each node in its own.
+fn widen<V: Copy>(nodes: &mut Vec<Node<V>>, heads: &mut Vec<usize>) -> Result<(), AllocError>
+    requires { IsIndexed nodes.old.items heads.old.items }
+    ensures indexed { IsIndexed nodes.new.items heads.new.items }
+    ensures some { OnOk result (0 < vec_capacity nodes.old → 0 < length heads.new.items) }
+    ensures none { length heads.old.items ≤ length heads.new.items }
+    ensures entries { SameEntries nodes.old.items nodes.new.items }
+    ensures capacity { vec_capacity nodes.new ≡ vec_capacity nodes.old }
+{
+    if heads.len() >= nodes.capacity() {
+        return Ok(());
+    }
+    let slots = nodes
+        .capacity()
+        .checked_next_power_of_two()
+        .ok_or(AllocError)?;
+    make_slots(heads, slots)?;
+    link_all(nodes, heads);
+    Ok(())
 }
 
 impl<V: Copy> Model for NumberMap<V> {
@@ -25,24 +189,12 @@ impl<V: Copy> Model for NumberMap<V> {
     ghost coded = { map_code V.code };
 
     ghost use Rattle.std.specs.FinMap as map;
-    ghost use Rattle.std.specs.HashMap.{spare};
-    ghost use Rattle.number_map.specs.Kept.{IsKept};
+    ghost use Rattle.std.specs.Vec.{vec_capacity};
+    ghost use Rattle.number_map.specs.Kept.{IsKept, entries_of};
 
-    ghost view = { λ a. record { map = map.from_entries a.table.entries; room = a.room } };
+    ghost view = { λ a. record { map = map.from_entries (entries_of a.nodes.items); room = a.room } };
 
-    ghost invariant = { λ a. IsKept a.table.entries a.room (spare a.table) };
-}
-
-// Puts this value in place of the one that stands under the key.
-fn replace<V: Copy>(table: &mut HashMap<u64, V>, key: u64, value: V)
-    requires { IsSome (value_in nat_eq table.old key) }
-    ensures updates { Updates nat_eq table.old table.new key (Some value) }
-    ensures unique { IsUnique nat_eq table.new }
-    ensures spare { spare table.new ≡ spare table.old }
-{
-    if let Some(held) = table.get_mut(&key) {
-        *held = value;
-    }
+    ghost invariant = { λ a. IsKept a.nodes.items a.heads.items (vec_capacity a.nodes) a.room };
 }
 
 impl<V: Copy> NumberMap<V> {
@@ -51,7 +203,8 @@ impl<V: Copy> NumberMap<V> {
         ensures { result ≡ record { map = map.empty; room = 0 } }
     {
         NumberMap {
-            table: HashMap::new(alloc),
+            nodes: Vec::new(alloc),
+            heads: Vec::new(alloc),
             room: 0,
         }
     }
@@ -60,7 +213,7 @@ impl<V: Copy> NumberMap<V> {
     pub fn len(&self) -> usize
         ensures { result ≡ map.len self.now.map }
     {
-        self.table.len()
+        self.nodes.len()
     }
 
     /// How many more keys can be put in. Constant time.
@@ -74,7 +227,8 @@ impl<V: Copy> NumberMap<V> {
     pub fn get(&self, key: u64) -> Option<V>
         ensures { result ≡ map.get self.now.map key }
     {
-        self.table.get(&key).copied()
+        let place = find(&self.nodes, &self.heads, key)?;
+        Some(self.nodes[place].value)
     }
 
     /// Makes room for at least so many more keys. Constant time where there is room for them, and
@@ -88,7 +242,8 @@ impl<V: Copy> NumberMap<V> {
         ensures had_room { additional ≤ self.old.room → IsOk result }
     {
         if additional > self.room {
-            self.table.reserve(additional)?;
+            self.nodes.reserve(additional)?;
+            widen(&mut self.nodes, &mut self.heads)?;
             self.room = additional;
         }
         Ok(())
@@ -100,8 +255,13 @@ impl<V: Copy> NumberMap<V> {
         requires room { 0 < self.old.room }
         ensures { self.new ≡ record { map = map.insert self.old.map key value; room = self.old.room - 1 } }
     {
-        let placed: Result<_, _> = self.table.insert(key, value);
-        placed.unwrap();
+        let slot = slot_of(key, self.heads.len());
+        self.nodes.push_reserved(Node {
+            key,
+            value,
+            next: self.heads[slot],
+        });
+        self.heads[slot] = self.nodes.len();
         self.room -= 1;
     }
 
@@ -110,7 +270,9 @@ impl<V: Copy> NumberMap<V> {
         requires { map.contains_key self.old.map key ≡ true }
         ensures { self.new ≡ record self.old { map = map.insert self.old.map key value } }
     {
-        replace(&mut self.table, key, value);
+        if let Some(place) = find(&self.nodes, &self.heads, key) {
+            self.nodes[place].value = value;
+        }
     }
 
     /// Takes a key out, if it is there, and answers its value. The room for new keys stays as it was.
@@ -119,7 +281,21 @@ impl<V: Copy> NumberMap<V> {
         ensures value { result ≡ map.get self.old.map key }
         ensures after { self.new ≡ record self.old { map = map.remove self.old.map key } }
     {
-        self.table.remove(&key)
+        let place = find(&self.nodes, &self.heads, key)?;
+        let value = self.nodes[place].value;
+        take_out(&mut self.nodes, &mut self.heads, place);
+        Some(value)
+    }
+
+    /// Takes a key out that is there, and keeps its place as room for another. Constant time.
+    pub fn release(&mut self, key: u64)
+        requires { map.contains_key self.old.map key ≡ true }
+        ensures { self.new ≡ record { map = map.remove self.old.map key; room = self.old.room + 1 } }
+    {
+        if let Some(held) = find(&self.nodes, &self.heads, key) {
+            take_out(&mut self.nodes, &mut self.heads, held);
+            self.room += 1;
+        }
     }
 }
 
@@ -152,6 +328,11 @@ mod tests {
         numbers.reserve(1)?;
         assert_eq!(rt; numbers.get(36), Some(6));
         assert_eq!(rt; numbers.room(), 1);
+        if numbers.get(36).is_some() {
+            numbers.release(36);
+        }
+        assert_eq!(rt; numbers.get(36), None);
+        assert_eq!(rt; numbers.room(), 2);
         Ok(())
     }
 }

@@ -1,0 +1,226 @@
+-- What a map from numbers is, by its nodes, and once a key joins, has another value, or leaves.
+use Rattle.std.proofs.Common.{◌≡◌, ◌≢◌, ◌⊎◌, inl, inr, ℕ, zero, suc, ◌+◌, ◌-◌, ◌<◌, ◌≤◌, cond, List, [], ◌∷◌, ◌++◌, length, Option, Some, None, nat_eq, slice_get, slice_set, refl, sym, ◌∙◌, ap, arith}
+use Rattle.std.specs.Option.{option_map}
+use Rattle.std.specs.Map.{lookup}
+use Rattle.std.specs.FinMap as map
+use Rattle.std.specs.Ordering.{nat_cmp}
+use Rattle.std.proofs.lemmas.Bool.Decides.{eqb_tells}
+use Rattle.std.proofs.lemmas.List.{length-set}
+use Rattle.std.proofs.lemmas.Option.{slice_get_within, slice_get-map}
+use Rattle.number_map.specs.declared.Node.{Node}
+use Rattle.number_map.specs.Kept.{slot, head_at, key_in, next_in, next_at, class_at, entry_of, entries_of, HasKey, IsUnique, IsIndexed, SameEntries, IsTakenOut, IsKept}
+use Rattle.number_map.proofs.Steps.{equal_or_not, chained-frame}
+use Rattle.number_map.proofs.Entries.{lookup_none, lookup_at, looked_put, looked_out, put-table, out-table}
+use Rattle.number_map.proofs.Rows.{same_some, none_some, got_set, got_other, got_before, got_last, length_pushed, entries_len, entry_here, class_of_some, next_of_some, indexed, indexed_pushed}
+
+module _ {V : Type 0} where
+  -- ---- nodes and entries
+
+  pub node_at : (nodes : List (Node V)) (x : ℕ) (a : ℕ × V) → slice_get (entries_of nodes) x ≡ Some a → (n : Node V) × (slice_get nodes x ≡ Some n) × (entry_of n ≡ a)
+  node_at [] x a at = absurd (none_some a at)
+  node_at (n ∷ nodes) zero a at = (n, refl, same_some (entry_of n) a at)
+  node_at (n ∷ nodes) (suc x) a at = node_at nodes x a at
+
+  entries_pushed : (nodes : List (Node V)) (n : Node V) → entries_of (nodes ++ n ∷ []) ≡ entries_of nodes ++ entry_of n ∷ []
+  entries_pushed [] n = refl
+  entries_pushed (m ∷ nodes) n = ap (λ es. entry_of m ∷ es) (entries_pushed nodes n)
+
+  pub none_looked : (nodes : List (Node V)) (key : ℕ) → ((x : ℕ) → HasKey nodes key x → ⊥) → lookup (nat_eq key) (entries_of nodes) ≡ None
+  none_looked nodes key none = lookup_none (entries_of nodes) key (λ x v at. let n = node_at nodes x (key, v) at in none x (n.0, n.1, ap (λ (e : ℕ × V). e.0) n.2))
+
+  pub key_looked : (nodes : List (Node V)) → IsUnique (entries_of nodes) → (key x : ℕ) → HasKey nodes key x → (n : Node V) → slice_get nodes x ≡ Some n → lookup (nat_eq key) (entries_of nodes) ≡ Some n.value
+  key_looked nodes u key x has n at =
+      let own : n.key ≡ key = ap (λ (k : Node V). k.key) (same_some n has.0 (sym at ∙ has.1)) ∙ has.2 in
+      lookup_at (entries_of nodes) u x key n.value (entry_here nodes x n at ∙ ap (λ k. Some (k, n.value)) own)
+
+  pub key_inside : (nodes : List (Node V)) (key x : ℕ) → HasKey nodes key x → x < length nodes
+  key_inside nodes key x has = slice_get_within nodes x has.0 has.1
+
+  -- ---- a key joins
+
+  got_pushed : (es : List (ℕ × V)) (e : ℕ × V) (x : ℕ) (a : ℕ × V) → slice_get (es ++ e ∷ []) x ≡ Some a → (slice_get es x ≡ Some a) ⊎ ((x ≡ length es) × (a ≡ e))
+  got_pushed [] e zero a at = inr (refl, sym (same_some e a at))
+  got_pushed [] e (suc x) a at = absurd (none_some a at)
+  got_pushed (b ∷ es) e zero a at = inl at
+  got_pushed (b ∷ es) e (suc x) a at = elim (got_pushed es e x a at) [ inl h ↦ inl h | inr h ↦ inr (ap (λ n. suc n) h.0, h.1) ]
+
+  module _ (es : List (ℕ × V)) (u : IsUnique es) (e : ℕ × V) (alone : lookup (nat_eq e.0) es ≡ None) where
+    not_there : (x : ℕ) (a : ℕ × V) → slice_get es x ≡ Some a → a.0 ≢ e.0
+    not_there x a at s = none_some a.1 (sym alone ∙ lookup_at es u x e.0 a.1 (at ∙ ap (λ k. Some (k, a.1)) s))
+
+    pub unique_pushed : IsUnique (es ++ e ∷ [])
+    unique_pushed x y a b p q s = elim (got_pushed es e x a p) [
+      | inl h ↦ elim (got_pushed es e y b q) [
+        | inl g ↦ u x y a b h g s
+        | inr g ↦ absurd (not_there x a h (s ∙ ap (λ (k : ℕ × V). k.0) g.1))
+      ]
+      | inr h ↦ elim (got_pushed es e y b q) [
+        | inl g ↦ absurd (not_there y b g (sym s ∙ ap (λ (k : ℕ × V). k.0) h.1))
+        | inr g ↦ h.0 ∙ sym g.0
+      ]
+    ]
+
+    pub looked_pushed : (q : ℕ) → lookup (nat_eq q) (es ++ e ∷ []) ≡ cond (nat_eq e.0 q) (Some e.1) (lookup (nat_eq q) es)
+    looked_pushed = looked_put es (es ++ e ∷ []) u unique_pushed e.0
+        (λ q d x v at. elim (got_pushed es e x (q, v) at) [ inl h ↦ (x, h) | inr h ↦ absurd (d (ap (λ (k : ℕ × V). k.0) h.1)) ])
+        (λ q d y v at. (y, got_before es (e ∷ []) y (slice_get_within es y (q, v) at) ∙ at))
+        (length es) e.1 (got_last es e)
+
+  module _ (nodes : List (Node V)) (heads : List ℕ) (capacity room : ℕ) (k : IsKept nodes heads capacity room) (some : 0 < room)
+      (n : Node V) (alone : lookup (nat_eq n.key) (entries_of nodes) ≡ None) (chain : ℕ) (chain_is : chain ≡ slot n.key (length heads)) (few : chain < length heads)
+      (next_is : n.next ≡ head_at heads chain) (link : ℕ) (link_is : link ≡ suc (length nodes)) (more : List (Node V)) (more_is : more ≡ nodes ++ n ∷ []) where
+    pub kept_pushed : IsKept more (slice_set heads chain link) capacity (room - 1)
+    kept_pushed = rw more_is (record {
+      unique = rw (entries_pushed nodes n) (unique_pushed (entries_of nodes) k.unique (entry_of n) alone);
+      indexed = rw chain_is (indexed_pushed nodes heads k.indexed n (rw chain_is at few) (rw chain_is at next_is) link link_is);
+      fits = let f = k.fits in let l = length_pushed nodes n in omega arith;
+      ready = λ h. let r = k.ready some in let l = length-set heads chain link in omega arith;
+    })
+
+    pub table_pushed : map.from_entries {R = nat_cmp} (entries_of more) ≡ map.insert (map.from_entries (entries_of nodes)) n.key n.value
+    table_pushed = put-table (entries_of nodes) (entries_of more) n.key n.value
+        (rw (more_is, entries_pushed nodes n) (looked_pushed (entries_of nodes) k.unique (entry_of n) alone))
+
+  -- ---- a key has another value
+
+  module _ (nodes : List (Node V)) (heads : List ℕ) (capacity room : ℕ) (k : IsKept nodes heads capacity room) (key x : ℕ) (has : HasKey nodes key x)
+      (n : Node V) (at : slice_get nodes x ≡ Some n) (value : V) where
+    abbrev changed : List (Node V)
+    changed = slice_set nodes x (record { key = n.key; value = value; next = n.next })
+
+    inside : x < length nodes
+    inside = slice_get_within nodes x n at
+
+    own : n.key ≡ key
+    own = ap (λ (m : Node V). m.key) (same_some n has.0 (sym at ∙ has.1)) ∙ has.2
+
+    here : slice_get (entries_of changed) x ≡ Some (n.key, value)
+    here = entry_here changed x _ (got_set nodes x _ inside)
+
+    aside : (y : ℕ) → y ≢ x → slice_get (entries_of changed) y ≡ slice_get (entries_of nodes) y
+    aside y d = slice_get-map entry_of changed y ∙ ap (λ (o : Option (Node V)). option_map entry_of o) (got_other nodes x y _ d) ∙ sym (slice_get-map entry_of nodes y)
+
+    -- the entry that was there has the same key
+    before : (y : ℕ) (a : ℕ × V) → slice_get (entries_of changed) y ≡ Some a → (b : ℕ × V) × (slice_get (entries_of nodes) y ≡ Some b) × (b.0 ≡ a.0)
+    before y a h = elim (equal_or_not y x) [
+      | inl e ↦ (
+        entry_of n,
+        ap (slice_get (entries_of nodes)) e ∙ entry_here nodes x n at,
+        ap (λ (p : ℕ × V). p.0) (same_some (n.key, value) a (sym here ∙ ap (slice_get (entries_of changed)) (sym e) ∙ h)),
+      )
+      | inr d ↦ (a, sym (aside y d) ∙ h, refl)
+    ]
+
+    unique_changed : IsUnique (entries_of changed)
+    unique_changed y z a b p q s = let u = before y a p in let w = before z b q in k.unique y z u.0 w.0 u.1 w.1 (u.2 ∙ s ∙ sym w.2)
+
+    looked_changed : (q : ℕ) → lookup (nat_eq q) (entries_of changed) ≡ cond (nat_eq key q) (Some value) (lookup (nat_eq q) (entries_of nodes))
+    looked_changed = looked_put (entries_of nodes) (entries_of changed) k.unique unique_changed key
+        (λ q d y v h. (y, sym (aside y (λ e. d (ap (λ (p : ℕ × V). p.0) (same_some (q, v) (n.key, value) (sym h ∙ ap (slice_get (entries_of changed)) e ∙ here)) ∙ own))) ∙ h))
+        (λ q d y v h. (y, aside y (λ e. d (ap (λ (p : ℕ × V). p.0) (same_some (q, v) (entry_of n) (sym h ∙ ap (slice_get (entries_of nodes)) e ∙ entry_here nodes x n at)) ∙ own)) ∙ h))
+        x value (here ∙ ap (λ p. Some (p, value)) own)
+
+    same_node : (y : ℕ) → (class_at changed (length heads) y ≡ class_at nodes (length heads) y) × (next_at changed y ≡ next_at nodes y)
+    same_node y = elim (equal_or_not y x) [
+      | inl e ↦
+          rw e (
+            class_of_some changed (length heads) x _ (got_set nodes x _ inside) ∙ sym (class_of_some nodes (length heads) x n at),
+            next_of_some changed x _ (got_set nodes x _ inside) ∙ sym (next_of_some nodes x n at),
+          )
+      | inr d ↦ (ap (λ (o : Option (Node V)). slot (key_in o) (length heads)) (got_other nodes x y _ d), ap (λ (o : Option (Node V)). next_in o) (got_other nodes x y _ d))
+    ]
+
+    pub kept_changed : IsKept changed heads capacity room
+    kept_changed = record {
+      unique = unique_changed;
+      indexed = indexed changed heads (length heads) refl (λ h. k.indexed.wide (let l = length-set nodes x (let m : Node V = record { key = n.key; value = value; next = n.next } in m) in omega arith))
+          (rw (length-set nodes x (let m : Node V = record { key = n.key; value = value; next = n.next } in m))
+          (chained-frame (class_at nodes (length heads)) (class_at changed (length heads)) (next_at nodes) (next_at changed) (head_at heads) (head_at heads) (length heads) (length nodes)
+          (λ y h. (same_node y).0) (λ y h. (same_node y).1) (λ c. refl) k.indexed.chained));
+      fits = let f = k.fits in let l = length-set nodes x (let m : Node V = record { key = n.key; value = value; next = n.next } in m) in omega arith;
+      ready = k.ready;
+    }
+
+    pub table_changed : map.from_entries {R = nat_cmp} (entries_of changed) ≡ map.insert (map.from_entries (entries_of nodes)) key value
+    table_changed = put-table (entries_of nodes) (entries_of changed) key value looked_changed
+
+  -- ---- a key leaves
+
+  module _ (nodes : List (Node V)) (heads : List ℕ) (capacity room : ℕ) (k : IsKept nodes heads capacity room) (key x : ℕ) (has : HasKey nodes key x)
+      (rest : List (Node V)) (t : IsTakenOut nodes rest x) where
+    gone : slice_get (entries_of nodes) x ≡ Some (key, has.0.value)
+    gone = entry_here nodes x has.0 has.1 ∙ ap (λ p. Some (p, has.0.value)) has.2
+
+    -- where it was before
+    from : (y : ℕ) (a : ℕ × V) → slice_get (entries_of rest) y ≡ Some a → (z : ℕ) × (slice_get (entries_of nodes) z ≡ Some a) × (z ≢ x) × (((y ≡ x) × (z ≡ length rest)) ⊎ ((y ≢ x) × (z ≡ y)))
+    from y a h =
+        let less : y < length rest = (let w = slice_get_within (entries_of rest) y a h in let l = entries_len rest in omega arith) in
+        elim (equal_or_not y x) [
+          | inl e ↦ (length rest, sym (ap (slice_get (entries_of rest)) e ∙ t.moved (omega arith)) ∙ h, (λ s. omega arith), inl (e, refl))
+          | inr d ↦ (y, sym (t.others y less d) ∙ h, d, inr (d, refl))
+        ]
+
+    onto : (z : ℕ) (a : ℕ × V) → slice_get (entries_of nodes) z ≡ Some a → z ≢ x → (y : ℕ) × (slice_get (entries_of rest) y ≡ Some a)
+    onto z a h d =
+        let less : z < length nodes = (let w = slice_get_within (entries_of nodes) z a h in let l = entries_len nodes in omega arith) in
+        let len = t.len in
+        elim (equal_or_not z (length rest)) [
+          | inl e ↦ (x, t.moved (let i = key_inside nodes key x has in omega arith) ∙ ap (slice_get (entries_of nodes)) (sym e) ∙ h)
+          | inr o ↦ (z, t.others z (omega arith) d ∙ h)
+        ]
+
+    unique_left : IsUnique (entries_of rest)
+    unique_left y z a b p q s =
+        let f = from y a p in
+        let g = from z b q in
+        let same : f.0 ≡ g.0 = k.unique f.0 g.0 a b f.1 g.1 s in
+        let fy = slice_get_within (entries_of rest) y a p in
+        let gz = slice_get_within (entries_of rest) z b q in
+        let l = entries_len rest in
+        elim f.3 [
+          | inl i ↦ elim g.3 [ inl j ↦ i.0 ∙ sym j.0 | inr j ↦ absurd (let i1 = i.1 in let j1 = j.1 in omega arith) ]
+          | inr i ↦ elim g.3 [ inl j ↦ absurd (let i1 = i.1 in let j1 = j.1 in omega arith) | inr j ↦ sym i.1 ∙ same ∙ j.1 ]
+        ]
+
+    looked_left : (q : ℕ) → lookup (nat_eq q) (entries_of rest) ≡ cond (nat_eq key q) None (lookup (nat_eq q) (entries_of nodes))
+    looked_left = looked_out (entries_of nodes) (entries_of rest) k.unique unique_left key
+        (λ q d y v h. let f = from y (q, v) h in (f.0, f.1))
+        (λ q d z v h. onto z (q, v) h (λ e. d (ap (λ (p : ℕ × V). p.0) (same_some (q, v) (key, has.0.value) (sym h ∙ ap (slice_get (entries_of nodes)) e ∙ gone)))))
+        (λ y v h. let f = from y (key, v) h in f.2 (k.unique f.0 x (key, v) (key, has.0.value) f.1 gone refl))
+
+    pub kept_left : (heads' : List ℕ) → IsIndexed rest heads' → length heads' ≡ length heads → IsKept rest heads' capacity room
+    kept_left heads' so len = record {
+      unique = unique_left;
+      indexed = so;
+      fits = let f = k.fits in let l = t.len in omega arith;
+      ready = λ h. let r = k.ready h in omega arith;
+    }
+
+    pub kept_released : (heads' : List ℕ) → IsIndexed rest heads' → length heads' ≡ length heads → IsKept rest heads' capacity (room + 1)
+    kept_released heads' so len = record {
+      unique = unique_left;
+      indexed = so;
+      fits = let f = k.fits in let l = t.len in omega arith;
+      ready = λ h. let w = k.indexed.wide (let i = key_inside nodes key x has in omega arith) in omega arith;
+    }
+
+    pub table_left : map.from_entries {R = nat_cmp} (entries_of rest) ≡ map.remove (map.from_entries (entries_of nodes)) key
+    table_left = out-table (entries_of nodes) (entries_of rest) key looked_left
+
+  -- taking out a key that isn't there
+  pub out_none : (es : List (ℕ × V)) (key : ℕ) → lookup (nat_eq key) es ≡ None → map.from_entries {R = nat_cmp} es ≡ map.remove (map.from_entries es) key
+  out_none es key none = let nothing : Option V = None in out-table es es key (λ q. elim (eqb_tells key q) [
+    | inl s ↦ ap (λ p. lookup (nat_eq p) es) (sym s.1) ∙ none ∙ sym (ap (λ b. cond b nothing (lookup (nat_eq q) es)) s.0)
+    | inr d ↦ sym (ap (λ b. cond b nothing (lookup (nat_eq q) es)) d.0)
+  ])
+
+  -- ---- more room
+
+  pub kept_grown : (nodes more : List (Node V)) (heads heads' : List ℕ) (capacity capacity' room room' : ℕ) → IsKept nodes heads capacity room → IsIndexed more heads' → SameEntries nodes more → length nodes + room' ≤ capacity' → (0 < room' → 0 < length heads')
+      → IsKept more heads' capacity' room'
+  kept_grown nodes more heads heads' capacity capacity' room room' k so same fits ready = record {
+    unique = rw same k.unique;
+    indexed = so;
+    fits = let a = entries_len nodes in let b = entries_len more in let e : length (entries_of more) ≡ length (entries_of nodes) = ap (λ (es : List (ℕ × V)). length es) same in omega arith;
+    ready = ready;
+  }
