@@ -1,9 +1,9 @@
 -- A step's end loses no send-once right of a port that lives, and makes none: each stays, or goes to its port in a notice.
-use Rattle.std.proofs.Common.{◌≡◌, ℕ, ◌+◌, List, [], ◌∷◌, ◌++◌, refl, sym, ap, subst, ◌∙◌, arith, true, false, Bool, inl, inr}
+use Rattle.std.proofs.Common.{◌≡◌, ℕ, ◌+◌, List, [], ◌∷◌, refl, ap, ◌∙◌, arith, true, false, Bool, inl, inr}
 use Rattle.std.specs.Prelude.{if◌then◌else◌, All, ◌==◌, ◌&&◌, filter, map as list_map}
 use Rattle.std.proofs.lemmas.List.Elements.{All-head, All-tail}
 use Rattle.std.proofs.lemmas.Bool.{eqb-true}
-use Rattle.mach_types.specs.Tokens.{Kind, send_once, in_message, Token, token, count, is_of, same_kind}
+use Rattle.mach_types.specs.Tokens.{Kind, send_once, in_message, Token, count, is_of, same_kind}
 use Rattle.mach_model.specs.State.{State}
 use Rattle.mach_model.specs.Notices.{Notice, port_deleted, port_sent, no_more_senders, right_unused, name_died, Owed, Posted, posted_tokens, all_posted_tokens, carried_by}
 use Rattle.mach_model.specs.Settles.{PaysFor, GoesFrom, due_notices, tokens_of, Settles}
