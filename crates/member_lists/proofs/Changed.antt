@@ -1,25 +1,24 @@
 -- Lists once an item joined one, or left it.
-use Rattle.std.proofs.Common.{◌≡◌, ◌≢◌, inl, inr, ℕ, zero, suc, ◌+◌, ◌%◌, ◌<◌, ◌≤◌, Bool, true, false, cond, eqb, List, [], ◌∷◌, ◌++◌, length, Option, Some, None, slice_get, slice_set, refl, sym, ◌∙◌, ap, subst, arith, ltb, get_or, take, replicate, if◌then◌else◌, Contains}
+use Rattle.std.proofs.Common.{◌≡◌, ◌≢◌, inl, inr, ℕ, zero, suc, ◌+◌, ◌<◌, ◌≤◌, true, false, cond, eqb, List, [], ◌∷◌, ◌++◌, length, Option, Some, None, slice_get, slice_set, refl, sym, ◌∙◌, ap, subst, arith, ltb, get_or, take, Contains}
 use Rattle.std.specs.List.{filter}
 use Rattle.std.specs.Option.{option_map_or, option_or}
-use Rattle.std.proofs.lemmas.List.{append-nil, get_or-set_same, get_or-set_other, length-set, get_or_past, get_or_read, take_all}
+use Rattle.std.proofs.lemmas.List.{length-set, take_all}
 use Rattle.std.proofs.lemmas.Option.{slice_get_read}
 use Rattle.std.proofs.lemmas.Bool.Decides.{nat_tests}
 use Rattle.member_lists.specs.declared.Link.{Link}
 use Rattle.member_lists.specs.declared.Ends.{Ends}
 use Rattle.member_lists.specs.Lists.{ListsView, list_of, with_list, without, IsApart}
-use Rattle.member_lists.specs.Chains.{times, first_or, last_or, is_in, pick, blank_ends, ends_at, list_in, lists_of, walk, IsBehindSet, IsBeforeSet, IsBetween, IsLinked, IsChain, IsSound}
-use Rattle.member_lists.proofs.Times.{same_some, none_some, equal_or_not, eqb_same, eqb_other, eqb_is, times_here, times_other, times_more, times-append, times-filter_in, times-filter_passes, times-filter_most, times_from_Contains, Contains_from_times, filter_same, filter-append, filter_turned, without_none, IsSplit, split_at, got_set, got_other, last-append, last_within, first_within}
-use Rattle.member_lists.proofs.Linked.{linked-frame, linked-back, linked-pushed, linked-left, walk-linked, first_without, last_without, IsRest, rest_at}
-use Rattle.member_lists.proofs.Sound.{link_of, in_range, few_chained, listed, one_home, in_its_own, list_is, view_changed, some_if, got, same_gets}
+use Rattle.member_lists.specs.Chains.{times, first_or, last_or, is_in, pick, blank_ends, list_in, lists_of, IsBehindSet, IsBeforeSet, IsBetween, IsLinked, IsChain, IsSound}
+use Rattle.member_lists.proofs.Times.{same_some, none_some, equal_or_not, eqb_same, eqb_other, eqb_is, times_here, times_other, times_more, first_got, times-append, times-filter_in, times-filter_passes, times-filter_most, times_from_Contains, Contains_from_times, filter_same, filter-append, filter_turned, IsSplit, split_at, got_set, got_other, last-append, last_within, first_within}
+use Rattle.member_lists.proofs.Linked.{linked-frame, linked-back, linked-pushed, linked-left, first_without, last_without, IsRest, rest_at}
+use Rattle.member_lists.proofs.Sound.{link_of, in_range, listed, one_home, in_its_own, list_is, view_changed, some_if, got, same_gets}
 
 -- ---- one chain has other items
 
-module _ (links mores : List Link) (chains ends : List Ends) (so : IsSound links chains) (b : ℕ) (ys : List ℕ)
-    (made : 0 < length mores → 1024 ≤ length ends)
+module _ (links mores : List Link) (chains ends : ℕ → Ends) (so : IsSound links chains) (b : ℕ) (ys : List ℕ)
     (frame : (c x : ℕ) → c ≢ b → 0 < times x (so.chained c) → slice_get mores x ≡ slice_get links x)
-    (here : IsChain mores (ends_at ends b) b ys)
-    (elsewhere : (c : ℕ) → c ≢ b → ends_at ends c ≡ ends_at chains c) where
+    (here : IsChain mores (ends b) b ys)
+    (elsewhere : (c : ℕ) → c ≢ b → ends c ≡ chains c) where
   abbrev chained' : ℕ → List ℕ
   chained' c = cond (eqb c b) ys (so.chained c)
 
@@ -29,7 +28,7 @@ module _ (links mores : List Link) (chains ends : List Ends) (so : IsSound links
   same_other : (c : ℕ) → c ≢ b → chained' c ≡ so.chained c
   same_other c d = ap (λ t. cond t ys (so.chained c)) (eqb_other c b d)
 
-  chain_other : (c : ℕ) → c ≢ b → IsChain mores (ends_at ends c) c (so.chained c)
+  chain_other : (c : ℕ) → c ≢ b → IsChain mores (ends c) c (so.chained c)
   chain_other c d =
       let was = so.chain c in
       record {
@@ -47,27 +46,17 @@ module _ (links mores : List Link) (chains ends : List Ends) (so : IsSound links
       | inl e ↦ rw (same_here c e, e) here
       | inr d ↦ rw (same_other c d) (chain_other c d)
     ];
-    made = made;
   }
 
-  pub list_other : (q : ℕ) → q % 1024 ≢ b → list_in mores ends q ≡ list_in links chains q
+  pub list_other : (q : ℕ) → q ≢ b → list_in mores ends q ≡ list_in links chains q
   unfolding sound_changed
-  list_other q d = listed mores ends sound_changed q ∙ ap (filter (is_in mores q)) (same_other (q % 1024) d)
-      ∙ filter_same (is_in mores q) (is_in links q) (so.chained (q % 1024)) (λ x h. ap (λ o. option_map_or (λ (k : Link). eqb k.list q) o false) (frame (q % 1024) x d h))
+  list_other q d = listed mores ends sound_changed q ∙ ap (filter (is_in mores q)) (same_other q d)
+      ∙ filter_same (is_in mores q) (is_in links q) (so.chained q) (λ x h. ap (λ o. option_map_or (λ (k : Link). eqb k.list q) o false) (frame q x d h))
       ∙ sym (listed links chains so q)
 
-  pub list_here : (q : ℕ) → q % 1024 ≡ b → list_in mores ends q ≡ filter (is_in mores q) ys
+  pub list_here : (q : ℕ) → q ≡ b → list_in mores ends q ≡ filter (is_in mores q) ys
   unfolding sound_changed
-  list_here q e = listed mores ends sound_changed q ∙ ap (filter (is_in mores q)) (same_here (q % 1024) e)
-
--- ---- the ends of one chain
-
-module _ (chains : List Ends) (b : ℕ) (e : Ends) (within : b < length chains) where
-  pub ends_here : ends_at (slice_set chains b e) b ≡ e
-  ends_here = get_or-set_same chains b e blank_ends within
-
-  pub ends_other : (c : ℕ) → c ≢ b → ends_at (slice_set chains b e) c ≡ ends_at chains c
-  ends_other c d = get_or-set_other chains b c e blank_ends d
+  list_here q e = listed mores ends sound_changed q ∙ ap (filter (is_in mores q)) (same_here q e)
 
 -- ---- which list a link names, after a write beside it
 
@@ -91,11 +80,15 @@ named old new x link k a b e q =
 
 -- ---- an item joins
 
+first_some : (xs : List ℕ) (item : ℕ) → (x : ℕ) × (first_or (xs ++ item ∷ []) None ≡ Some x)
+first_some [] item = (item, refl)
+first_some (x ∷ xs) item = (x, refl)
+
 option_or_first : (xs : List ℕ) (item : ℕ) → option_or (first_or xs None) (Some item) ≡ first_or (xs ++ item ∷ []) None
 option_or_first [] item = refl
 option_or_first (x ∷ xs) item = refl
 
-module _ (links : List Link) (chains : List Ends) (so : IsSound links chains) (v : ListsView) (view_is : record { lists = lists_of links chains; items = length links } ≡ v)
+module _ (links : List Link) (chains : ℕ → Ends) (so : IsSound links chains) (v : ListsView) (view_is : record { lists = lists_of links chains; items = length links } ≡ v)
     (l item : ℕ) (room : item < v.items) where
   items_is : length links ≡ v.items
   items_is = ap (λ (w : ListsView). w.items) view_is
@@ -103,18 +96,12 @@ module _ (links : List Link) (chains : List Ends) (so : IsSound links chains) (v
   pub room_is : item < length links
   room_is = let e = items_is in omega arith
 
-  pub chain_there : l % 1024 < length chains
-  chain_there = let a = room_is in let made = so.made (omega arith) in omega arith
-
-module _ (links mores : List Link) (chains : List Ends) (so : IsSound links chains) (v : ListsView) (view_is : record { lists = lists_of links chains; items = length links } ≡ v)
-    (l item : ℕ) (room : item < v.items) (apart : IsApart v item) (e : Ends) (e_is : e ≡ ends_at chains (l % 1024)) where
+module _ (links mores : List Link) (chains : ℕ → Ends) (so : IsSound links chains) (v : ListsView) (view_is : record { lists = lists_of links chains; items = length links } ≡ v)
+    (l item : ℕ) (room : item < v.items) (apart : IsApart v item) (e : Ends) (e_is : e ≡ chains l) where
   item_fits : item < length links
   item_fits = room_is links chains so v view_is l item room
 
-  chain_fits : l % 1024 < length chains
-  chain_fits = chain_there links chains so v view_is l item room
-
-  alone_at : (c : ℕ) → times item (so.chained c) ≡ 0
+  pub alone_at : (c : ℕ) → times item (so.chained c) ≡ 0
   alone_at c = none (times item (so.chained c)) refl
     where
       none : (n : ℕ) → times item (so.chained c) ≡ n → times item (so.chained c) ≡ 0
@@ -122,18 +109,18 @@ module _ (links mores : List Link) (chains : List Ends) (so : IsSound links chai
       none (suc n) h =
           let some : 0 < times item (so.chained c) = omega arith in
           let link = link_of links chains so c item some in
-          let home : link.0.list % 1024 ≡ c = (so.chain c).homed item link.0 some link.1 in
+          let home : link.0.list ≡ c = (so.chain c).homed item link.0 some link.1 in
           let own = in_its_own links item link.0 link.1 in
-          let kept : times item (filter (is_in links link.0.list) (so.chained (link.0.list % 1024))) ≡ times item (so.chained c) =
-          times-filter_in (is_in links link.0.list) item (so.chained (link.0.list % 1024)) own ∙ ap (λ d. times item (so.chained d)) home in
+          let kept : times item (filter (is_in links link.0.list) (so.chained (link.0.list))) ≡ times item (so.chained c) =
+          times-filter_in (is_in links link.0.list) item (so.chained (link.0.list)) own ∙ ap (λ d. times item (so.chained d)) home in
           let all : times item (list_of v link.0.list) ≡ times item (so.chained c) =
           ap (times item) (list_is links chains so link.0.list v view_is ∙ listed links chains so link.0.list) ∙ kept in
           absurd (apart link.0.list (Contains_from_times item (list_of v link.0.list) (omega arith)))
 
   pub last_fits : (w : Link) → (x : ℕ) → e.last ≡ Some x → x < length (slice_set links item w)
   last_fits w x h =
-      let last : last_or None (so.chained (l % 1024)) ≡ Some x = sym ((so.chain (l % 1024)).last) ∙ sym (ap (λ (f : Ends). f.last) e_is) ∙ h in
-      let within = in_range links chains so (l % 1024) x (last_within (so.chained (l % 1024)) x last) in
+      let last : last_or None (so.chained l) ≡ Some x = sym ((so.chain l).last) ∙ sym (ap (λ (f : Ends). f.last) e_is) ∙ h in
+      let within = in_range links chains so l x (last_within (so.chained l) x last) in
       omega (arith, length-set links item w)
 
   abbrev mine : Link
@@ -141,88 +128,83 @@ module _ (links mores : List Link) (chains : List Ends) (so : IsSound links chai
 
   module _ (ahead : IsBehindSet (slice_set links item mine) mores e.last (Some item)) where
     abbrev xs : List ℕ
-    xs = so.chained (l % 1024)
+    xs = so.chained l
 
     last_is : e.last ≡ last_or None xs
-    last_is = ap (λ (f : Ends). f.last) e_is ∙ (so.chain (l % 1024)).last
+    last_is = ap (λ (f : Ends). f.last) e_is ∙ (so.chain l).last
 
     not_item : (c x : ℕ) → 0 < times x (so.chained c) → x ≢ item
     not_item c x h s = let none = alone_at c in let e : times x (so.chained c) ≡ times item (so.chained c) = ap (λ y. times y (so.chained c)) s in omega arith
 
-    len_more : length mores ≡ length links
+    pub len_more : length mores ≡ length links
     len_more = ahead.len ∙ length-set links item mine
 
     first_set : slice_get (slice_set links item mine) item ≡ Some mine
     first_set = got_set links item mine item_fits
 
     item_there : slice_get mores item ≡ Some mine
-    item_there = ahead.others item (λ s. let inside = last_within xs item (sym last_is ∙ s) in let none = alone_at (l % 1024) in omega arith) ∙ first_set
+    item_there = ahead.others item (λ s. let inside = last_within xs item (sym last_is ∙ s) in let none = alone_at l in omega arith) ∙ first_set
 
     was_there : (c x : ℕ) → 0 < times x (so.chained c) → slice_get (slice_set links item mine) x ≡ slice_get links x
     was_there c x h = got_other links item x mine (not_item c x h)
 
-    frame : (c x : ℕ) → c ≢ (l % 1024) → 0 < times x (so.chained c) → slice_get mores x ≡ slice_get links x
-    frame c x d h = ahead.others x (λ s. d (one_home links chains so c (l % 1024) x h (last_within xs x (sym last_is ∙ s)))) ∙ was_there c x h
+    frame : (c x : ℕ) → c ≢ l → 0 < times x (so.chained c) → slice_get mores x ≡ slice_get links x
+    frame c x d h = ahead.others x (λ s. d (one_home links chains so c l x h (last_within xs x (sym last_is ∙ s)))) ∙ was_there c x h
 
-    kept_in : (x : ℕ) (h : 0 < times x xs) → (k : Link) × (slice_get mores x ≡ Some k) × (k.list ≡ (link_of links chains so (l % 1024) x h).0.list)
-    kept_in x h = behind_kept (slice_set links item mine) mores e.last (Some item) ahead x _ (was_there (l % 1024) x h ∙ (link_of links chains so (l % 1024) x h).1)
+    kept_in : (x : ℕ) (h : 0 < times x xs) → (k : Link) × (slice_get mores x ≡ Some k) × (k.list ≡ (link_of links chains so l x h).0.list)
+    kept_in x h = behind_kept (slice_set links item mine) mores e.last (Some item) ahead x _ (was_there l x h ∙ (link_of links chains so l x h).1)
 
-    homed_more : (x : ℕ) (link : Link) → 0 < times x (xs ++ item ∷ []) → slice_get mores x ≡ Some link → link.list % 1024 ≡ l % 1024
+    homed_more : (x : ℕ) (link : Link) → 0 < times x (xs ++ item ∷ []) → slice_get mores x ≡ Some link → link.list ≡ l
     homed_more x link h at = elim (equal_or_not x item) [
-      | inl s ↦ let same : mine ≡ link = same_some mine link (sym item_there ∙ ap (slice_get mores) (sym s) ∙ at) in sym (ap (λ (k : Link). k.list % 1024) same)
+      | inl s ↦ let same : mine ≡ link = same_some mine link (sym item_there ∙ ap (slice_get mores) (sym s) ∙ at) in sym (ap (λ (k : Link). k.list) same)
       | inr d ↦
           let inside : 0 < times x xs = (let a = times-append x xs (item ∷ []) in let n = times_other x item [] d in omega arith) in
-          let was = link_of links chains so (l % 1024) x inside in
+          let was = link_of links chains so l x inside in
           let k = kept_in x inside in
           let same : k.0 ≡ link = same_some k.0 link (sym k.1 ∙ at) in
-          sym (ap (λ (k : Link). k.list % 1024) same) ∙ ap (λ n. n % 1024) k.2 ∙ (so.chain (l % 1024)).homed x was.0 inside was.1
+          sym (ap (λ (k : Link). k.list) same) ∙ ap (λ n. n) k.2 ∙ (so.chain l).homed x was.0 inside was.1
     ]
 
-    joined : (f : Ends) → f.first ≡ option_or e.first (Some item) → f.last ≡ Some item → IsChain mores f (l % 1024) (xs ++ item ∷ [])
+    joined : (f : Ends) → f.first ≡ option_or e.first (Some item) → f.last ≡ Some item → IsChain mores f l (xs ++ item ∷ [])
     joined f first last = record {
-      linked = linked-pushed links mores xs item mine ((so.chain (l % 1024)).once) (alone_at (l % 1024)) item_there last_is refl
-          (λ x k h s g. ahead.set x k (last_is ∙ s) (was_there (l % 1024) x h ∙ g))
-          (λ x h d. ahead.others x (λ s. d (sym last_is ∙ s)) ∙ was_there (l % 1024) x h)
-          ((so.chain (l % 1024)).linked);
-      first = first ∙ ap (λ o. option_or o (Some item)) (ap (λ (g : Ends). g.first) e_is ∙ (so.chain (l % 1024)).first) ∙ option_or_first xs item;
+      linked = linked-pushed links mores xs item mine ((so.chain l).once) (alone_at l) item_there last_is refl
+          (λ x k h s g. ahead.set x k (last_is ∙ s) (was_there l x h ∙ g))
+          (λ x h d. ahead.others x (λ s. d (sym last_is ∙ s)) ∙ was_there l x h)
+          ((so.chain l).linked);
+      first = first ∙ ap (λ o. option_or o (Some item)) (ap (λ (g : Ends). g.first) e_is ∙ (so.chain l).first) ∙ option_or_first xs item;
       last = last ∙ sym (last-append None xs (item ∷ []));
       homed = homed_more;
       once = λ x. elim (equal_or_not x item) [
-        | inl s ↦ let a = times-append x xs (item ∷ []) in let n = times_here x item [] s in let none : times x xs ≡ 0 = ap (λ y. times y xs) s ∙ alone_at (l % 1024) in omega arith
-        | inr d ↦ let a = times-append x xs (item ∷ []) in let n = times_other x item [] d in let o = (so.chain (l % 1024)).once x in omega arith
+        | inl s ↦ let a = times-append x xs (item ∷ []) in let n = times_here x item [] s in let none : times x xs ≡ 0 = ap (λ y. times y xs) s ∙ alone_at l in omega arith
+        | inr d ↦ let a = times-append x xs (item ∷ []) in let n = times_other x item [] d in let o = (so.chain l).once x in omega arith
       ];
     }
 
-    module _ (f : Ends) (first : f.first ≡ option_or e.first (Some item)) (last : f.last ≡ Some item) where
-      abbrev after : List Ends
-      after = slice_set chains (l % 1024) f
-
-      here : IsChain mores (ends_at after (l % 1024)) (l % 1024) (xs ++ item ∷ [])
-      here = rw (ends_here chains (l % 1024) f chain_fits) (joined f first last)
-
-      made_after : 0 < length mores → 1024 ≤ length after
-      made_after h = let a = so.made (let n = len_more in omega arith) in omega (arith, length-set chains (l % 1024) f)
+    module _ (f : Ends) (first : f.first ≡ option_or e.first (Some item)) (last : f.last ≡ Some item)
+        (after : ℕ → Ends) (after_here : after l ≡ f) (after_other : (c : ℕ) → c ≢ l → after c ≡ chains c) where
+      here : IsChain mores (after l) l (xs ++ item ∷ [])
+      here = rw after_here (joined f first last)
 
       pub sound_pushed : IsSound mores after
-      sound_pushed = sound_changed links mores chains after so (l % 1024) (xs ++ item ∷ []) made_after frame here (ends_other chains (l % 1024) f chain_fits)
+      sound_pushed = sound_changed links mores chains after so l (xs ++ item ∷ []) frame here after_other
+
+      pub first_pushed : (x : ℕ) × (f.first ≡ Some x)
+      first_pushed = let some = first_some xs item in (some.0, (joined f first last).first ∙ some.1)
 
       named_as : (q x : ℕ) → 0 < times x xs → is_in mores q x ≡ is_in links q x
-      named_as q x h = let k = kept_in x h in let was = link_of links chains so (l % 1024) x h in named links mores x was.0 k.0 was.1 k.1 k.2 q
+      named_as q x h = let k = kept_in x h in let was = link_of links chains so l x h in named links mores x was.0 k.0 was.1 k.1 k.2 q
 
       item_in : (q : ℕ) → is_in mores q item ≡ eqb l q
       item_in q = ap (λ o. option_map_or (λ (m : Link). eqb m.list q) o false) item_there
 
-      with_item : (q : ℕ) → q % 1024 ≡ l % 1024 → list_in mores after q ≡ list_in links chains q ++ cond (eqb l q) (item ∷ []) []
-      with_item q s = list_here links mores chains after so (l % 1024) (xs ++ item ∷ []) made_after frame here (ends_other chains (l % 1024) f chain_fits) q s
+      with_item : (q : ℕ) → q ≡ l → list_in mores after q ≡ list_in links chains q ++ cond (eqb l q) (item ∷ []) []
+      with_item q s = list_here links mores chains after so l (xs ++ item ∷ []) frame here after_other q s
           ∙ filter-append (is_in mores q) xs (item ∷ [])
           ∙ ap (λ ys. ys ++ filter (is_in mores q) (item ∷ [])) (filter_same (is_in mores q) (is_in links q) xs (named_as q) ∙ ap (λ c. filter (is_in links q) (so.chained c)) (sym s) ∙ sym (listed links chains so q))
           ∙ ap (λ t. list_in links chains q ++ cond t (item ∷ []) []) (item_in q)
 
       other_lists : (q : ℕ) → q ≢ l → list_in mores after q ≡ list_in links chains q
-      other_lists q d = elim (equal_or_not (q % 1024) (l % 1024)) [
-        | inl s ↦ with_item q s ∙ ap (λ t. list_in links chains q ++ cond t (item ∷ []) []) (eqb_other l q (λ e. d (sym e))) ∙ append-nil (list_in links chains q)
-        | inr n ↦ list_other links mores chains after so (l % 1024) (xs ++ item ∷ []) made_after frame here (ends_other chains (l % 1024) f chain_fits) q n
-      ]
+      other_lists q d = list_other links mores chains after so l (xs ++ item ∷ []) frame here after_other q d
 
       pub view_pushed : record { lists = lists_of mores after; items = length mores } ≡ with_list v l (list_of v l ++ item ∷ [])
       view_pushed = view_changed links mores chains after so sound_pushed len_more v view_is l other_lists (list_of v l ++ item ∷ [])
@@ -230,10 +212,10 @@ module _ (links mores : List Link) (chains : List Ends) (so : IsSound links chai
 
 -- ---- an item leaves
 
-module _ (links : List Link) (chains : List Ends) (so : IsSound links chains) (v : ListsView) (view_is : record { lists = lists_of links chains; items = length links } ≡ v)
+module _ (links : List Link) (chains : ℕ → Ends) (so : IsSound links chains) (v : ListsView) (view_is : record { lists = lists_of links chains; items = length links } ≡ v)
     (l item : ℕ) (inside : Contains (list_of v l) item) where
   abbrev held : List ℕ
-  held = so.chained (l % 1024)
+  held = so.chained l
 
   listed_there : 0 < times item (filter (is_in links l) held)
   listed_there =
@@ -245,13 +227,13 @@ module _ (links : List Link) (chains : List Ends) (so : IsSound links chains) (v
   passes = times-filter_passes (is_in links l) item held listed_there
 
   stands : times item held ≡ 1
-  stands = let a = listed_there in let b = times-filter_most (is_in links l) item held in let c = (so.chain (l % 1024)).once item in omega arith
+  stands = let a = listed_there in let b = times-filter_most (is_in links l) item held in let c = (so.chain l).once item in omega arith
 
   pub item_in_range : item < length links
-  item_in_range = let a = stands in in_range links chains so (l % 1024) item (omega arith)
+  item_in_range = let a = stands in in_range links chains so l item (omega arith)
 
-  pub chain_in_range : l % 1024 < length chains
-  chain_in_range = let a = item_in_range in let b = so.made (omega arith) in omega arith
+  pub item_stands : 0 < times item (so.chained l)
+  item_stands = let a = stands in omega arith
 
   split : IsSplit item held
   split = split_at item held stands
@@ -269,7 +251,7 @@ module _ (links : List Link) (chains : List Ends) (so : IsSound links chains) (v
   times_left x = let a = times_split x in let b = times-append x front back in let c = times_more x item back in omega arith
 
   linked_split : IsLinked links None (front ++ item ∷ back) None
-  linked_split = subst (λ ys. IsLinked links None ys None) split.is ((so.chain (l % 1024)).linked)
+  linked_split = subst (λ ys. IsLinked links None ys None) split.is ((so.chain l).linked)
 
   module _ (link : Link) (there : slice_get links item ≡ Some link) where
     abbrev between : IsBetween links item (last_or None front) (first_or back None)
@@ -294,17 +276,17 @@ module _ (links : List Link) (chains : List Ends) (so : IsSound links chains) (v
     behind_held x e = let a = first_within back x (sym behind_is ∙ e) in let b = times_split x in let c = times_more x item back in omega arith
 
     pub before_fits : (x : ℕ) → link.before ≡ Some x → x < length links
-    before_fits x e = in_range links chains so (l % 1024) x (before_held x e)
+    before_fits x e = in_range links chains so l x (before_held x e)
 
     pub behind_fits : (x : ℕ) → link.behind ≡ Some x → x < length links
-    behind_fits x e = in_range links chains so (l % 1024) x (behind_held x e)
+    behind_fits x e = in_range links chains so l x (behind_held x e)
 
     module _ (mid mores : List Link) (ahead : IsBehindSet links mid link.before link.behind) (rear : IsBeforeSet mid mores link.behind link.before) where
-      len_left : length mores ≡ length links
+      pub len_left : length mores ≡ length links
       len_left = rear.len ∙ ahead.len
 
-      frame_left : (c x : ℕ) → c ≢ (l % 1024) → 0 < times x (so.chained c) → slice_get mores x ≡ slice_get links x
-      frame_left c x d h = rear.others x (λ s. d (one_home links chains so c (l % 1024) x h (behind_held x s))) ∙ ahead.others x (λ s. d (one_home links chains so c (l % 1024) x h (before_held x s)))
+      frame_left : (c x : ℕ) → c ≢ l → 0 < times x (so.chained c) → slice_get mores x ≡ slice_get links x
+      frame_left c x d h = rear.others x (λ s. d (one_home links chains so c l x h (behind_held x s))) ∙ ahead.others x (λ s. d (one_home links chains so c l x h (before_held x s)))
 
       kept_left : (x : ℕ) (w : Link) → slice_get links x ≡ Some w → (k : Link) × (slice_get mores x ≡ Some k) × (k.list ≡ w.list)
       kept_left x w e =
@@ -312,12 +294,12 @@ module _ (links : List Link) (chains : List Ends) (so : IsSound links chains) (v
           let b = before_kept mid mores link.behind link.before rear x a.0 a.1 in
           (b.0, b.1, b.2 ∙ a.2)
 
-      homed_left : (x : ℕ) (k : Link) → 0 < times x (front ++ back) → slice_get mores x ≡ Some k → k.list % 1024 ≡ l % 1024
+      homed_left : (x : ℕ) (k : Link) → 0 < times x (front ++ back) → slice_get mores x ≡ Some k → k.list ≡ l
       homed_left x k h e =
           let most = times_left x in
-          let was = link_of links chains so (l % 1024) x (omega arith) in
+          let was = link_of links chains so l x (omega arith) in
           let now = kept_left x was.0 was.1 in
-          sym (ap (λ (m : Link). m.list % 1024) (same_some now.0 k (sym now.1 ∙ e))) ∙ ap (λ n. n % 1024) now.2 ∙ (so.chain (l % 1024)).homed x was.0 (omega arith) was.1
+          sym (ap (λ (m : Link). m.list) (same_some now.0 k (sym now.1 ∙ e))) ∙ ap (λ n. n) now.2 ∙ (so.chain l).homed x was.0 (omega arith) was.1
 
       ahead_is : IsBehindSet links mid (last_or None front) (first_or back None)
       ahead_is = subst (λ o. IsBehindSet links mid o (first_or back None)) before_is (subst (λ o. IsBehindSet links mid link.before o) behind_is ahead)
@@ -325,72 +307,62 @@ module _ (links : List Link) (chains : List Ends) (so : IsSound links chains) (v
       rear_is : IsBeforeSet mid mores (first_or back None) (last_or None front)
       rear_is = subst (λ o. IsBeforeSet mid mores o (last_or None front)) behind_is (subst (λ o. IsBeforeSet mid mores link.behind o) before_is rear)
 
-      module _ (e : Ends) (e_is : e ≡ ends_at chains (l % 1024)) (f : Ends) (first : f.first ≡ pick link.before link.behind e.first) (last : f.last ≡ pick link.behind link.before e.last) where
+      module _ (e : Ends) (e_is : e ≡ chains l) (f : Ends) (first : f.first ≡ pick link.before link.behind e.first) (last : f.last ≡ pick link.behind link.before e.last) where
         first_was : e.first ≡ first_or (front ++ item ∷ back) None
-        first_was = ap (λ (g : Ends). g.first) e_is ∙ (so.chain (l % 1024)).first ∙ ap (λ ys. first_or ys None) split.is
+        first_was = ap (λ (g : Ends). g.first) e_is ∙ (so.chain l).first ∙ ap (λ ys. first_or ys None) split.is
 
         last_was : e.last ≡ last_or None (front ++ item ∷ back)
-        last_was = ap (λ (g : Ends). g.last) e_is ∙ (so.chain (l % 1024)).last ∙ ap (λ ys. last_or None ys) split.is
+        last_was = ap (λ (g : Ends). g.last) e_is ∙ (so.chain l).last ∙ ap (λ ys. last_or None ys) split.is
 
-        left_chain : IsChain mores f (l % 1024) (front ++ back)
+        left_chain : IsChain mores f l (front ++ back)
         left_chain = record {
-          linked = linked-left links mid mores front item back (λ x. let a = times_split x in let b = times-append x front (item ∷ back) in let c = (so.chain (l % 1024)).once x in omega arith) ahead_is rear_is linked_split;
+          linked = linked-left links mid mores front item back (λ x. let a = times_split x in let b = times-append x front (item ∷ back) in let c = (so.chain l).once x in omega arith) ahead_is rear_is linked_split;
           first = first ∙ ap (λ o. pick o link.behind e.first) before_is ∙ ap (λ o. pick (last_or None front) o e.first) behind_is ∙ ap (pick (last_or None front) (first_or back None)) first_was ∙ first_without front item back;
           last = last ∙ ap (λ o. pick o link.before e.last) behind_is ∙ ap (λ o. pick (first_or back None) o e.last) before_is ∙ ap (pick (first_or back None) (last_or None front)) last_was ∙ last_without front item back;
           homed = homed_left;
-          once = λ x. let a = times_left x in let b = (so.chain (l % 1024)).once x in omega arith;
+          once = λ x. let a = times_left x in let b = (so.chain l).once x in omega arith;
         }
 
-        abbrev left_ends : List Ends
-        left_ends = slice_set chains (l % 1024) f
-
-        left_here : IsChain mores (ends_at left_ends (l % 1024)) (l % 1024) (front ++ back)
-        left_here = rw (ends_here chains (l % 1024) f chain_in_range) left_chain
-
-        made_left : 0 < length mores → 1024 ≤ length left_ends
-        made_left h = let a = so.made (let n = len_left in omega arith) in omega (arith, length-set chains (l % 1024) f)
-
-        pub sound_left : IsSound mores left_ends
-        sound_left = sound_changed links mores chains left_ends so (l % 1024) (front ++ back) made_left frame_left left_here (ends_other chains (l % 1024) f chain_in_range)
-
-        named_left : (q x : ℕ) → 0 < times x (front ++ back) → is_in mores q x ≡ is_in links q x
-        named_left q x h =
-            let most = times_left x in
-            let was = link_of links chains so (l % 1024) x (omega arith) in
-            let now = kept_left x was.0 was.1 in
-            named links mores x was.0 now.0 was.1 now.1 now.2 q
-
-        list_without : (q : ℕ) → q % 1024 ≡ l % 1024 → list_in mores left_ends q ≡ without item (list_in links chains q)
-        list_without q s = list_here links mores chains left_ends so (l % 1024) (front ++ back) made_left frame_left left_here (ends_other chains (l % 1024) f chain_in_range) q s
-            ∙ filter_same (is_in mores q) (is_in links q) (front ++ back) (named_left q)
-            ∙ ap (filter (is_in links q)) (sym split.left)
-            ∙ filter_turned (is_in links q) item held
-            ∙ ap (without item) (ap (λ c. filter (is_in links q) (so.chained c)) (sym s) ∙ sym (listed links chains so q))
-
-        not_in : (q : ℕ) → q ≢ l → times item (list_in links chains q) ≡ 0
-        not_in q d = none (times item (list_in links chains q)) refl
+        -- an end of a list without items is none
+        pub blank_left : f.first ≡ None → f ≡ blank_ends
+        blank_left none = none_left (front ++ back) (sym left_chain.first ∙ none) left_chain.last
           where
-            none : (n : ℕ) → times item (list_in links chains q) ≡ n → times item (list_in links chains q) ≡ 0
-            none zero h = h
-            none (suc n) h =
-                let same : times item (list_in links chains q) ≡ times item (filter (is_in links q) (so.chained (q % 1024))) = ap (times item) (listed links chains so q) in
-                let yes = times-filter_passes (is_in links q) item (so.chained (q % 1024)) (omega arith) in
-                absurd (d (sym (eqb_is link.list q (sym (ap (λ o. option_map_or (λ (k : Link). eqb k.list q) o false) there) ∙ yes)) ∙ list_named))
+            none_left : (ys : List ℕ) → first_or ys None ≡ None → f.last ≡ last_or None ys → f ≡ blank_ends
+            none_left [] a b = ap (λ o. let g : Ends = record { first = o; last = f.last } in g) none ∙ ap (λ o. let g : Ends = record { first = None; last = o } in g) b
+            none_left (y ∷ ys) a b = absurd (none_some y (sym a))
 
-        others_left : (q : ℕ) → q ≢ l → list_in mores left_ends q ≡ list_in links chains q
-        others_left q d = elim (equal_or_not (q % 1024) (l % 1024)) [
-          | inl s ↦ list_without q s ∙ without_none item (list_in links chains q) (not_in q d)
-          | inr n ↦ list_other links mores chains left_ends so (l % 1024) (front ++ back) made_left frame_left left_here (ends_other chains (l % 1024) f chain_in_range) q n
-        ]
+        module _ (left_ends : ℕ → Ends) (ends_here : left_ends l ≡ f) (ends_other : (c : ℕ) → c ≢ l → left_ends c ≡ chains c) where
+          left_here : IsChain mores (left_ends l) l (front ++ back)
+          left_here = rw ends_here left_chain
 
-        pub view_left : record { lists = lists_of mores left_ends; items = length mores } ≡ with_list v l (without item (list_of v l))
-        view_left = view_changed links mores chains left_ends so sound_left len_left v view_is l others_left (without item (list_of v l))
-            (list_without l refl ∙ ap (without item) (sym (list_is links chains so l v view_is)))
+          pub sound_left : IsSound mores left_ends
+          sound_left = sound_changed links mores chains left_ends so l (front ++ back) frame_left left_here ends_other
+
+          named_left : (q x : ℕ) → 0 < times x (front ++ back) → is_in mores q x ≡ is_in links q x
+          named_left q x h =
+              let most = times_left x in
+              let was = link_of links chains so l x (omega arith) in
+              let now = kept_left x was.0 was.1 in
+              named links mores x was.0 now.0 was.1 now.1 now.2 q
+
+          list_without : (q : ℕ) → q ≡ l → list_in mores left_ends q ≡ without item (list_in links chains q)
+          list_without q s = list_here links mores chains left_ends so l (front ++ back) frame_left left_here ends_other q s
+              ∙ filter_same (is_in mores q) (is_in links q) (front ++ back) (named_left q)
+              ∙ ap (filter (is_in links q)) (sym split.left)
+              ∙ filter_turned (is_in links q) item held
+              ∙ ap (without item) (ap (λ c. filter (is_in links q) (so.chained c)) (sym s) ∙ sym (listed links chains so q))
+
+          others_left : (q : ℕ) → q ≢ l → list_in mores left_ends q ≡ list_in links chains q
+          others_left q d = list_other links mores chains left_ends so l (front ++ back) frame_left left_here ends_other q d
+
+          pub view_left : record { lists = lists_of mores left_ends; items = length mores } ≡ with_list v l (without item (list_of v l))
+          view_left = view_changed links mores chains left_ends so sound_left len_left v view_is l others_left (without item (list_of v l))
+              (list_without l refl ∙ ap (without item) (sym (list_is links chains so l v view_is)))
 
 -- ---- room for more items
 
-module _ (links mores : List Link) (chains ends : List Ends) (so : IsSound links chains) (made : 0 < length mores → 1024 ≤ length ends)
-    (same : (c : ℕ) → ends_at ends c ≡ ends_at chains c) (kept : (x : ℕ) → x < length links → slice_get mores x ≡ slice_get links x) where
+module _ (links mores : List Link) (chains ends : ℕ → Ends) (so : IsSound links chains)
+    (same : (c : ℕ) → ends c ≡ chains c) (kept : (x : ℕ) → x < length links → slice_get mores x ≡ slice_get links x) where
   stays : (c x : ℕ) → 0 < times x (so.chained c) → slice_get mores x ≡ slice_get links x
   stays c x h = kept x (in_range links chains so c x h)
 
@@ -406,63 +378,53 @@ module _ (links mores : List Link) (chains ends : List Ends) (so : IsSound links
           homed = λ x link h e. was.homed x link h (sym (stays c x h) ∙ e);
           once = was.once;
         };
-    made = made;
   }
 
   list_grown : (q : ℕ) → list_in mores ends q ≡ list_in links chains q
   unfolding sound_grown
   list_grown q = listed mores ends sound_grown q
-      ∙ filter_same (is_in mores q) (is_in links q) (so.chained (q % 1024)) (λ x h. ap (λ o. option_map_or (λ (k : Link). eqb k.list q) o false) (stays (q % 1024) x h))
+      ∙ filter_same (is_in mores q) (is_in links q) (so.chained q) (λ x h. ap (λ o. option_map_or (λ (k : Link). eqb k.list q) o false) (stays q x h))
       ∙ sym (listed links chains so q)
 
   pub lists_grown : lists_of mores ends ≡ lists_of links chains
   lists_grown = same_gets (lists_of mores ends) (lists_of links chains) (λ q. got mores ends sound_grown q ∙ ap some_if (list_grown q) ∙ sym (got links chains so q))
 
-pub sound_none : (links : List Link) (chains : List Ends) → links ≡ [] → chains ≡ [] → IsSound links chains
-sound_none links chains e f = rw (e, f) (record {
+pub sound_none : (links : List Link) (chains : ℕ → Ends) → links ≡ [] → ((c : ℕ) → chains c ≡ blank_ends) → IsSound links chains
+sound_none links chains e f = record {
   chained = λ c. [];
-  chain = λ c. record { linked = tt; first = refl; last = refl; homed = λ x link h e. absurd (omega arith); once = λ x. omega arith };
-  made = λ h. absurd (omega arith);
-})
+  chain = λ c. record { linked = tt; first = ap (λ (g : Ends). g.first) (f c); last = ap (λ (g : Ends). g.last) (f c); homed = λ x link h e. absurd (omega arith); once = λ x. omega arith };
+}
 
 -- ---- going along a list
 
-module _ (links : List Link) (chains : List Ends) (so : IsSound links chains) (v : ListsView) (view_is : record { lists = lists_of links chains; items = length links } ≡ v) (l : ℕ) where
-  pub first_is : (e : Ends) → e ≡ ends_at chains (l % 1024) → slice_get (filter (is_in links l) (walk links (length links) e.first)) 0 ≡ slice_get (list_of v l) 0
-  first_is e e_is = ap (λ (f : Ends). slice_get (filter (is_in links l) (walk links (length links) f.first)) 0) e_is ∙ ap (λ ys. slice_get ys 0) (sym (list_is links chains so l v view_is))
+all_kept : (xs : List ℕ) → filter (λ x. true) xs ≡ xs
+all_kept [] = refl
+all_kept (x ∷ xs) = ap (λ ys. x ∷ ys) (all_kept xs)
 
-  pub none_first : length chains ≤ l % 1024 → slice_get (list_of v l) 0 ≡ None
-  none_first few = ap (λ ys. slice_get ys 0) (list_is links chains so l v view_is)
-      ∙ ap (λ (e : Ends). slice_get (filter (is_in links l) (walk links (length links) e.first)) 0) (get_or_past chains (l % 1024) blank_ends few)
-      ∙ ap (λ ys. slice_get (filter (is_in links l) ys) 0) (walk_none (length links))
-    where
-      walk_none : (n : ℕ) → walk links n None ≡ []
-      walk_none zero = refl
-      walk_none (suc n) = refl
+module _ (links : List Link) (chains : ℕ → Ends) (so : IsSound links chains) (v : ListsView) (view_is : record { lists = lists_of links chains; items = length links } ≡ v) (l : ℕ) where
+  -- a list is its chain
+  pub whole : list_of v l ≡ so.chained l
+  whole = list_is links chains so l v view_is ∙ listed links chains so l
+      ∙ filter_same (is_in links l) (λ x. true) (so.chained l) (λ x h.
+      let link = link_of links chains so l x h in
+      ap (λ o. option_map_or (λ (k : Link). eqb k.list l) o false) link.1 ∙ eqb_same link.0.list l ((so.chain l).homed x link.0 h link.1))
+      ∙ all_kept (so.chained l)
+
+  pub first_is : (e : Ends) → e ≡ chains l → e.first ≡ slice_get (list_of v l) 0
+  first_is e is = ap (λ (f : Ends). f.first) is ∙ (so.chain l).first ∙ first_got (so.chained l) ∙ ap (λ ys. slice_get ys 0) (sym whole)
 
   module _ (item i : ℕ) (at : slice_get (list_of v l) i ≡ Some item) where
-    rest : IsRest links (is_in links l) item i (so.chained (l % 1024))
-    rest = rest_at links (is_in links l) item i None (so.chained (l % 1024)) ((so.chain (l % 1024)).linked)
-        (ap (λ ys. slice_get ys i) (sym (list_is links chains so l v view_is ∙ listed links chains so l)) ∙ at)
+    rest : IsRest links (λ x. true) item i (so.chained l)
+    rest = rest_at links (λ x. true) item i None (so.chained l) ((so.chain l).linked) (ap (λ ys. slice_get ys i) (all_kept (so.chained l) ∙ sym whole) ∙ at)
 
     pub rest_there : (link : Link) × (slice_get links item ≡ Some link)
     rest_there = (rest.link, rest.there)
 
-    pub after_is : (link : Link) → slice_get links item ≡ Some link → slice_get (filter (is_in links l) (walk links (length links) link.behind)) 0 ≡ slice_get (list_of v l) (i + 1)
+    pub after_is : (link : Link) → slice_get links item ≡ Some link → link.behind ≡ slice_get (list_of v l) (i + 1)
     after_is link there =
         let same : rest.link ≡ link = same_some rest.link link (sym rest.there ∙ there) in
-        let few : length rest.back ≤ length links = (let a = rest.few in let b = few_chained links chains so (l % 1024) in omega arith) in
-        ap (λ o. slice_get (filter (is_in links l) (walk links (length links) o)) 0) (sym (ap (λ (k : Link). k.behind) same) ∙ rest.behind)
-        ∙ ap (λ ys. slice_get (filter (is_in links l) ys) 0) (walk-linked links (Some item) rest.back (length links) rest.linked few)
-        ∙ sym rest.next
-        ∙ ap (λ ys. slice_get ys (i + 1)) (sym (list_is links chains so l v view_is ∙ listed links chains so l))
-
-pub one_on : (links : List Link) (l n m x : ℕ) (link : Link) → n ≡ suc m → slice_get links x ≡ Some link → link.list ≢ l → slice_get (filter (is_in links l) (walk links n (Some x))) 0 ≡ slice_get (filter (is_in links l) (walk links m link.behind)) 0
-one_on links l n m x link more there d =
-    ap (λ k. slice_get (filter (is_in links l) (walk links k (Some x))) 0) more
-    ∙ ap (λ o. slice_get (filter (is_in links l) (option_map_or (λ (k : Link). x ∷ walk links m k.behind) o [])) 0) there
-    ∙ ap (λ b. slice_get (cond b (x ∷ filter (is_in links l) (walk links m link.behind)) (filter (is_in links l) (walk links m link.behind))) 0)
-    (ap (λ o. option_map_or (λ (k : Link). eqb k.list l) o false) there ∙ eqb_other link.list l d)
+        sym (ap (λ (k : Link). k.behind) same) ∙ rest.behind ∙ first_got rest.back ∙ ap (λ ys. slice_get ys 0) (sym (all_kept rest.back)) ∙ sym rest.next
+        ∙ ap (λ ys. slice_get ys (i + 1)) (all_kept (so.chained l) ∙ sym whole)
 
 -- ---- what a read or a resize says
 
@@ -474,24 +436,6 @@ not_below_test a b h = grind (arith, nat_tests)
 
 pub link_read : (links : List Link) (x : ℕ) (link : Link) → x < length links → link ≡ get_or links x link → slice_get links x ≡ Some link
 link_read links x link h e = slice_get_read links (length links) x link refl h e
-
-pub ends_read : (chains : List Ends) (b c : ℕ) (e : Ends) → b ≡ c → c < length chains → e ≡ get_or chains b e → e ≡ ends_at chains c
-ends_read chains b c e same h is = get_or_read chains c e h (is ∙ ap (λ n. get_or chains n e) same) blank_ends
-
-blank_at : (n c : ℕ) → get_or (replicate n blank_ends) c blank_ends ≡ blank_ends
-blank_at zero c = refl
-blank_at (suc n) zero = refl
-blank_at (suc n) (suc c) = blank_at n c
-
-blanks_behind : (old : List Ends) (n c : ℕ) → ends_at (old ++ replicate n blank_ends) c ≡ ends_at old c
-blanks_behind [] n c = blank_at n c
-blanks_behind (e ∷ old) n zero = refl
-blanks_behind (e ∷ old) n (suc c) = blanks_behind old n c
-
-pub ends_grown : (old new : List Ends) (done : Bool) (e : Ends) (n k : ℕ) → e ≡ blank_ends → length old ≤ n → new ≡ (if done then take n old ++ replicate k e else old) → (c : ℕ) → ends_at new c ≡ ends_at old c
-ends_grown old new true e n k blank few is c =
-    ap (λ es. ends_at es c) is ∙ ap (λ es. ends_at (es ++ replicate k e) c) (take_all n old few) ∙ ap (λ f. ends_at (old ++ replicate k f) c) blank ∙ blanks_behind old k c
-ends_grown old new false e n k blank few is c = ap (λ es. ends_at es c) is
 
 got_before : (xs ys : List Link) (x : ℕ) → x < length xs → slice_get (xs ++ ys) x ≡ slice_get xs x
 got_before [] ys x h = absurd (omega arith)

@@ -3,3 +3,4 @@ pub mod Linked
 pub mod Sound
 pub mod Changed
 pub mod Listed
+pub mod Held

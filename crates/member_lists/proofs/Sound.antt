@@ -1,5 +1,5 @@
 -- Chains as a whole, the lists in them, and what a change of one chain leaves.
-use Rattle.std.proofs.Common.{◌≡◌, ◌≢◌, inl, inr, ℕ, zero, suc, ◌+◌, ◌%◌, ◌<◌, ◌≤◌, true, false, cond, eqb, List, [], ◌∷◌, map as map_list, length, Option, Some, None, slice_get, refl, sym, ◌∙◌, ap, arith}
+use Rattle.std.proofs.Common.{◌≡◌, ◌≢◌, inl, inr, ℕ, zero, suc, ◌+◌, ◌<◌, ◌≤◌, true, false, cond, eqb, List, [], ◌∷◌, map as map_list, length, Option, Some, None, slice_get, refl, sym, ◌∙◌, ap, arith}
 use Rattle.std.specs.Prelude.{unwrap_or}
 use Rattle.std.specs.List.{filter}
 use Rattle.std.specs.Option.{option_map_or}
@@ -11,13 +11,13 @@ use Rattle.std.proofs.lemmas.Option.{slice_get_within}
 use Rattle.member_lists.specs.declared.Link.{Link}
 use Rattle.member_lists.specs.declared.Ends.{Ends}
 use Rattle.member_lists.specs.Lists.{ListsView, list_of, with_list}
-use Rattle.member_lists.specs.Chains.{times, walk, is_in, ends_at, list_in, has_items, lists_of, IsSound}
+use Rattle.member_lists.specs.Chains.{times, walk, is_in, list_in, has_items, lists_of, IsSound}
 use Rattle.member_lists.proofs.Times.{same_some, none_some, equal_or_not, eqb_same, eqb_other, few_items, eqb_is, times_here, times-filter_passes, times-filter_most}
 use Rattle.member_lists.proofs.Linked.{linked_there, walk-linked}
 
 -- ---- what stands in the chains
 
-module _ (links : List Link) (chains : List Ends) (so : IsSound links chains) where
+module _ (links : List Link) (chains : ℕ → Ends) (so : IsSound links chains) where
   pub link_of : (c x : ℕ) → 0 < times x (so.chained c) → (link : Link) × (slice_get links x ≡ Some link)
   link_of c x h = linked_there links None (so.chained c) None (so.chain c).linked x h
 
@@ -27,11 +27,11 @@ module _ (links : List Link) (chains : List Ends) (so : IsSound links chains) wh
   pub few_chained : (c : ℕ) → length (so.chained c) ≤ length links
   few_chained c = few_items (length links) (so.chained c) (in_range c) (so.chain c).once
 
-  pub walked : (c : ℕ) → walk links (length links) (ends_at chains c).first ≡ so.chained c
+  pub walked : (c : ℕ) → walk links (length links) (chains c).first ≡ so.chained c
   walked c = ap (walk links (length links)) (so.chain c).first ∙ walk-linked links None (so.chained c) (length links) (so.chain c).linked (few_chained c)
 
-  pub listed : (l : ℕ) → list_in links chains l ≡ filter (is_in links l) (so.chained (l % 1024))
-  listed l = ap (filter (is_in links l)) (walked (l % 1024))
+  pub listed : (l : ℕ) → list_in links chains l ≡ filter (is_in links l) (so.chained l)
+  listed l = ap (filter (is_in links l)) (walked l)
 
   pub one_home : (c d x : ℕ) → 0 < times x (so.chained c) → 0 < times x (so.chained d) → c ≡ d
   one_home c d x h g = let link = link_of c x h in sym ((so.chain c).homed x link.0 h link.1) ∙ (so.chain d).homed x link.0 g link.1
@@ -97,16 +97,16 @@ module _ (f : ℕ → List ℕ) (l : ℕ) where
     | inr d ↦ passed first.list (f first.list) refl d (kept links) ∙ found_some x xs some links j link at is
   ]
 
-module _ (links : List Link) (chains : List Ends) (so : IsSound links chains) (l : ℕ) where
+module _ (links : List Link) (chains : ℕ → Ends) (so : IsSound links chains) (l : ℕ) where
   got_if : (xs : List ℕ) → list_in links chains l ≡ xs → map.get (lists_of links chains) l ≡ some_if xs
   got_if [] e = map.get-from_entries nat_cmp_total _ l ∙ found_none (list_in links chains) l e links
   got_if (x ∷ xs) e =
-      let inside : 0 < times x (filter (is_in links l) (so.chained (l % 1024))) =
+      let inside : 0 < times x (filter (is_in links l) (so.chained l)) =
       (let a : times x (x ∷ xs) ≡ 1 + times x xs = times_here x x xs refl in
-      let b : times x (filter (is_in links l) (so.chained (l % 1024))) ≡ times x (x ∷ xs) = ap (times x) (sym (listed links chains so l) ∙ e) in omega arith) in
-      let passes : is_in links l x ≡ true = times-filter_passes (is_in links l) x (so.chained (l % 1024)) inside in
-      let most = times-filter_most (is_in links l) x (so.chained (l % 1024)) in
-      let link = link_of links chains so (l % 1024) x (omega arith) in
+      let b : times x (filter (is_in links l) (so.chained l)) ≡ times x (x ∷ xs) = ap (times x) (sym (listed links chains so l) ∙ e) in omega arith) in
+      let passes : is_in links l x ≡ true = times-filter_passes (is_in links l) x (so.chained l) inside in
+      let most = times-filter_most (is_in links l) x (so.chained l) in
+      let link = link_of links chains so l x (omega arith) in
       let own : link.0.list ≡ l = eqb_is link.0.list l (sym (ap (λ o. option_map_or (λ (k : Link). eqb k.list l) o false) link.1) ∙ passes) in
       map.get-from_entries nat_cmp_total _ l ∙ found_some (list_in links chains) l x xs e links x link.0 link.1 own
 
@@ -118,7 +118,7 @@ module _ (links : List Link) (chains : List Ends) (so : IsSound links chains) (l
 
 -- ---- a list is changed, and its chain with it
 
-module _ (links mores : List Link) (chains ends : List Ends) (so : IsSound links chains) (so' : IsSound mores ends) (len : length mores ≡ length links)
+module _ (links mores : List Link) (chains ends : ℕ → Ends) (so : IsSound links chains) (so' : IsSound mores ends) (len : length mores ≡ length links)
     (v : ListsView) (view_is : record { lists = lists_of links chains; items = length links } ≡ v) (l : ℕ)
     (others : (q : ℕ) → q ≢ l → list_in mores ends q ≡ list_in links chains q) where
   other_got : (q : ℕ) → q ≢ l → map.get (lists_of mores ends) q ≡ map.get v.lists q

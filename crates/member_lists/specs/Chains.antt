@@ -1,9 +1,10 @@
--- How lists are kept: in chains, each of which the lists share whose numbers are the same modulo 1,024. No public clause cites this module.
-use Rattle.std.specs.Prelude.{◌≡◌, ◌≢◌, ℕ, zero, suc, ◌+◌, ◌%◌, ◌<◌, ◌≤◌, Bool, true, false, cond, eqb, List, [], ◌∷◌, map, length, Option, Some, None, slice_get, slice_index_or}
+-- How lists are kept: by links between their items, and by the ends of each. No public clause cites this module.
+use Rattle.std.specs.Prelude.{◌≡◌, ◌≢◌, ℕ, zero, suc, ◌+◌, ◌<◌, ◌≤◌, Bool, true, false, cond, eqb, List, [], ◌∷◌, map, length, Option, Some, None, slice_get, unwrap_or}
 use Rattle.std.specs.Option.{option_map_or}
 use Rattle.std.specs.List.{filter}
 use Rattle.std.specs.FinMap as finite
 use Rattle.std.specs.Ordering.{nat_cmp}
+use Rattle.number_map.specs.Maps.{MapView}
 use Rattle.member_lists.specs.declared.Link.{Link}
 use Rattle.member_lists.specs.declared.Ends.{Ends}
 
@@ -44,19 +45,20 @@ walk links (suc n) (Some x) = option_map_or (λ link. x ∷ walk links n link.be
 abbrev pub is_in : List Link → ℕ → ℕ → Bool
 is_in links list x = option_map_or (λ link. eqb link.list list) (slice_get links x) false
 
-abbrev pub ends_at : List Ends → ℕ → Ends
-ends_at chains chain = slice_index_or chains chain blank_ends
+-- the ends of a list, blank where it has no items
+abbrev pub ends_at : finite.FinMap nat_cmp Ends → ℕ → Ends
+ends_at ends list = unwrap_or (finite.get ends list) blank_ends
 
-abbrev pub list_in : List Link → List Ends → ℕ → List ℕ
-list_in links chains list = filter (is_in links list) (walk links (length links) (ends_at chains (list % 1024)).first)
+abbrev pub list_in : List Link → (ℕ → Ends) → ℕ → List ℕ
+list_in links ends list = filter (is_in links list) (walk links (length links) (ends list).first)
 
 abbrev pub has_items : List ℕ → Bool
 has_items [] = false
 has_items (x ∷ xs) = true
 
 -- the lists that have items: the number of each stands in a link
-abbrev pub lists_of : List Link → List Ends → finite.FinMap nat_cmp (List ℕ)
-lists_of links chains = finite.from_entries (filter (λ e. has_items e.1) (map (λ (link : Link). (link.list, list_in links chains link.list)) links))
+abbrev pub lists_of : List Link → (ℕ → Ends) → finite.FinMap nat_cmp (List ℕ)
+lists_of links ends = finite.from_entries (filter (λ e. has_items e.1) (map (λ (link : Link). (link.list, list_in links ends link.list)) links))
 
 -- ---- chains
 
@@ -92,10 +94,15 @@ pub record IsChain (links : List Link) (ends : Ends) (chain : ℕ) (xs : List �
   pub linked : IsLinked links None xs None
   pub first : ends.first ≡ first_or xs None
   pub last : ends.last ≡ last_or None xs
-  pub homed : (x : ℕ) (link : Link) → 0 < times x xs → slice_get links x ≡ Some link → link.list % 1024 ≡ chain
+  pub homed : (x : ℕ) (link : Link) → 0 < times x xs → slice_get links x ≡ Some link → link.list ≡ chain
   pub once : (x : ℕ) → times x xs ≤ 1
 
-pub record IsSound (links : List Link) (chains : List Ends) : Type 0 where
+pub record IsSound (links : List Link) (ends : ℕ → Ends) : Type 0 where
   pub chained : ℕ → List ℕ
-  pub chain : (c : ℕ) → IsChain links (ends_at chains c) c (chained c)
-  pub made : 0 < length links → 1024 ≤ length chains
+  pub chain : (c : ℕ) → IsChain links (ends c) c (chained c)
+
+-- Each list in the map has a first item, and there is room in it for as many lists as items.
+pub record IsKept (links : List Link) (ends : MapView Ends) : Type 0 where
+  pub sound : IsSound links (ends_at ends.map)
+  pub filled : (l : ℕ) (e : Ends) → finite.get ends.map l ≡ Some e → (x : ℕ) × (e.first ≡ Some x)
+  pub enough : length links ≤ finite.len ends.map + ends.room

@@ -1,22 +1,20 @@
 //! Lists of numbered items, each item in at most one: it joins at the end, and leaves from any place.
 //!
-//! Items are linked both ways through a vector of links, so that only [`Lists::reserve`] takes memory.
-//! Lists whose numbers are the same modulo 1,024 share one chain, in which each item has the number of
-//! its list: so going along a list also passes the items of those that share its chain.
+//! Items are linked both ways through a vector of links, and the ends of each list that has items stand
+//! in a map by its number. There is room in the map for as many lists as items, so that only
+//! [`Lists::reserve`] takes memory.
 #![tactic(auto)]
 
-ghost use Rattle.std.specs.Prelude.{◌≡◌, ℕ, ◌+◌, ◌%◌, ◌<◌, ◌≤◌, ◌++◌, ◌∷◌, [], max, length, Some, None, OnOk, OnErr, slice_get};
-ghost use Rattle.std.specs.List.{Contains, filter};
+ghost use Rattle.std.specs.Prelude.{◌≡◌, ℕ, ◌+◌, ◌<◌, ◌++◌, ◌∷◌, [], max, true, length, Some, None, OnOk, OnErr, slice_get};
+ghost use Rattle.std.specs.List.{Contains};
 ghost use Rattle.std.specs.FinMap as map;
-ghost use Rattle.member_lists.specs.Chains.{IsBehindSet, IsBeforeSet, walk, is_in, pick, ends_at, blank_ends, blank_link};
+ghost use Rattle.member_lists.specs.Chains.{IsBehindSet, IsBeforeSet, pick, ends_at, blank_ends, blank_link};
 
+use number_map::NumberMap;
 use std::alloc::{AllocError, Global};
 use std::marker::Model;
 
-// How many chains there are.
-const CHAINS: usize = 1024;
-
-// Where an item stands: in which list, and between which two items of its chain.
+// Where an item stands: in which list, and between which two items of it.
 #[derive(Clone, Copy, Debug, PartialEq, Eq)]
 struct Link {
     list: u64,
@@ -37,7 +35,7 @@ impl Link {
     }
 }
 
-// The first and the last item of a chain.
+// The first and the last item of a list.
 #[derive(Clone, Copy, Debug, PartialEq, Eq)]
 struct Ends {
     first: Option<usize>,
@@ -45,7 +43,7 @@ struct Ends {
 }
 
 impl Ends {
-    // An empty chain's.
+    // Those of a list without items.
     fn blank() -> Ends
         ensures { result ≡ blank_ends }
     {
@@ -57,11 +55,11 @@ impl Ends {
 }
 
 /// Lists of items that are in at most one of them. Without room for items nothing is allocated; each
-/// item takes less than 48 bytes.
+/// item takes less than 48 bytes, and the room for a list that comes with it less than 72.
 #[derive(Drop)]
 pub struct Lists {
     links: Vec<Link>,
-    chains: Vec<Ends>,
+    ends: NumberMap<Ends>,
 }
 
 impl Model for Lists {
@@ -72,19 +70,11 @@ impl Model for Lists {
     ghost coded = { lists_code };
 
     ghost use Rattle.std.specs.Prelude.{length};
-    ghost use Rattle.member_lists.specs.Chains.{lists_of, IsSound};
+    ghost use Rattle.member_lists.specs.Chains.{ends_at, lists_of, IsKept};
 
-    ghost view = { λ a. record { lists = lists_of a.links.items a.chains.items; items = length a.links.items } };
+    ghost view = { λ a. record { lists = lists_of a.links.items (ends_at a.ends.map); items = length a.links.items } };
 
-    ghost invariant = { λ a. IsSound a.links.items a.chains.items };
-}
-
-// The chain of a list.
-fn chain_of(list: u64) -> usize
-    ensures value { result ≡ list % 1024 }
-    ensures few { result < 1024 }
-{
-    (list % 1024) as usize
+    ghost invariant = { λ a. IsKept a.links.items a.ends };
 }
 
 // Puts another item behind this one, if there is one.
@@ -107,7 +97,7 @@ fn set_before(links: &mut Vec<Link>, item: Option<usize>, before: Option<usize>)
     }
 }
 
-// The end of a chain that an item leaves: the item's other neighbour, where it had none on this side.
+// The end of a list that an item leaves: the item's other neighbour, where it had none on this side.
 fn end_without(beside: Option<usize>, other: Option<usize>, end: Option<usize>) -> Option<usize>
     ensures { result ≡ pick beside other end }
 {
@@ -117,32 +107,36 @@ fn end_without(beside: Option<usize>, other: Option<usize>, end: Option<usize>) 
     }
 }
 
-// The first item of the list, from this one on.
-fn next_in(links: &[Link], from: Option<usize>, list: u64) -> Option<usize>
-    ensures { result ≡ slice_get (filter (is_in links.now list) (walk links.now (length links.now) from)) 0 }
+// The ends of a list.
+fn ends_of(ends: &NumberMap<Ends>, list: u64) -> Ends
+    ensures { result ≡ ends_at ends.now.map list }
 {
-    let mut next = from;
-    for _ in 0..links.len() {
-        let item = next?;
-        let link = links.get(item)?;
-        if link.list == list {
-            return Some(item);
-        }
-        next = link.behind;
-    }
-    None
+    ends.get(list).unwrap_or(Ends::blank())
 }
 
-// Makes the chains, where there are none.
-fn make_chains(chains: &mut Vec<Ends>) -> Result<(), AllocError>
-    ensures same { (c : ℕ) → ends_at chains.new.items c ≡ ends_at chains.old.items c }
-    ensures more { length chains.old.items ≤ length chains.new.items }
-    ensures made { OnOk result (1024 ≤ length chains.new.items) }
+// Puts these ends in place of a list's, or in, where it had none.
+fn hold_ends(ends: &mut NumberMap<Ends>, list: u64, now: Ends)
+    requires { map.get ends.old.map list ≡ None → 0 < ends.old.room }
+    ensures map { ends.new.map ≡ map.insert ends.old.map list now }
+    ensures total { map.len ends.new.map + ends.new.room ≡ map.len ends.old.map + ends.old.room }
 {
-    if chains.len() >= CHAINS {
-        return Ok(());
+    match ends.get(list) {
+        Some(_) => ends.set(list, now),
+        None => ends.insert(list, now),
     }
-    chains.resize(CHAINS, Ends::blank())
+}
+
+// Puts these ends in place of a list's, or takes its ends out, where it has no item left.
+fn leave_ends(ends: &mut NumberMap<Ends>, list: u64, now: Ends)
+    requires { map.contains_key ends.old.map list ≡ true }
+    ensures none { now.first ≡ None → ends.new.map ≡ map.remove ends.old.map list }
+    ensures some { (x : ℕ) → now.first ≡ Some x → ends.new.map ≡ map.insert ends.old.map list now }
+    ensures total { map.len ends.new.map + ends.new.room ≡ map.len ends.old.map + ends.old.room }
+{
+    match now.first {
+        Some(_) => ends.set(list, now),
+        None => ends.release(list),
+    }
 }
 
 impl Lists {
@@ -154,7 +148,7 @@ impl Lists {
     {
         Lists {
             links: Vec::new(alloc),
-            chains: Vec::new(alloc),
+            ends: NumberMap::new(alloc),
         }
     }
 
@@ -167,7 +161,7 @@ impl Lists {
         ensures err { OnErr result (self.new ≡ self.old) }
     {
         if items > self.links.len() {
-            make_chains(&mut self.chains)?;
+            self.ends.reserve(items)?;
             self.links.resize(items, Link::blank())?;
         }
         Ok(())
@@ -179,18 +173,18 @@ impl Lists {
         requires apart { IsApart self.old item }
         ensures { self.new ≡ with_list self.old list (list_of self.old list ++ item ∷ []) }
     {
-        let chain = chain_of(list);
-        let Ends { first, last } = self.chains[chain];
+        let Ends { first, last } = ends_of(&self.ends, list);
         self.links[item] = Link {
             list,
             before: last,
             behind: None,
         };
         set_behind(&mut self.links, last, Some(item));
-        self.chains[chain] = Ends {
+        let now = Ends {
             first: first.or(Some(item)),
             last: Some(item),
         };
+        hold_ends(&mut self.ends, list, now);
     }
 
     /// Takes an item out of its list; the order of the others stays. Constant time.
@@ -198,33 +192,30 @@ impl Lists {
         requires { Contains (list_of self.old list) item }
         ensures { self.new ≡ with_list self.old list (without item (list_of self.old list)) }
     {
-        let chain = chain_of(list);
-        let Ends { first, last } = self.chains[chain];
+        let Ends { first, last } = ends_of(&self.ends, list);
         let Link { before, behind, .. } = self.links[item];
         set_behind(&mut self.links, before, behind);
         set_before(&mut self.links, behind, before);
-        self.chains[chain] = Ends {
+        let now = Ends {
             first: end_without(before, behind, first),
             last: end_without(behind, before, last),
         };
+        leave_ends(&mut self.ends, list, now);
     }
 
-    /// The first item of a list. Constant time, but for the items before it of lists that share the
-    /// chain.
+    /// The first item of a list. Constant time.
     pub fn first(&self, list: u64) -> Option<usize>
         ensures { result ≡ slice_get (list_of self.now list) 0 }
     {
-        let ends = self.chains.get(chain_of(list))?;
-        next_in(&self.links, ends.first, list)
+        ends_of(&self.ends, list).first
     }
 
-    /// The item behind this one of a list. Constant time, but for the items between them of lists
-    /// that share the chain.
+    /// The item behind this one of a list. Constant time.
     pub fn after(&self, list: u64, item: usize) -> Option<usize>
         ensures { (i : ℕ) → slice_get (list_of self.now list) i ≡ Some item → result ≡ slice_get (list_of self.now list) (i + 1) }
     {
         let link = self.links.get(item)?;
-        next_in(&self.links, link.behind, list)
+        link.behind
     }
 }
 
