@@ -350,6 +350,23 @@ const READY_MEMBERS: &str = "task\n\
     recv 0 3 24 0\n\
     recv 0 3 24 0\n";
 
+/// The exchanges that are answered so on a new kernel.
+const EXCHANGES: [(&str, &str); 13] = [
+    SMALLEST_MESSAGE,
+    SEND_ONCE_RIGHT,
+    LONG_DESCRIPTOR,
+    ITEM_OF_NO_DATA,
+    GATHERED_REFERENCES,
+    MOVED_REPLY,
+    QUEUE_LIMIT,
+    NULL_AND_DEAD_WORDS,
+    ANSWERED,
+    NAMES_AND_ATTRIBUTES,
+    MEMBER_OF_A_SET,
+    SETS_THAT_CHANGE,
+    MANY_RIGHTS,
+];
+
 /// The replies that a whole run of the script gives, one a line; `None` where it is no script or memory
 /// is refused.
 fn replies_of_run(alloc: Global, script: &[u8]) -> Option<Vec<u8>> {
@@ -372,59 +389,12 @@ fn gives(alloc: Global, script: &str, replies: &str) -> bool {
     }
 }
 
-/// A kernel that always wants memory, or loses the message, fails here.
+/// A kernel that always wants memory, or loses a message, fails here.
 #[test]
-fn smallest_message_is_answered(rt: HostRuntime) {
-    let (script, replies) = SMALLEST_MESSAGE;
-    assert!(rt; gives(rt.alloc(), script, replies));
-}
-
-#[test]
-fn send_once_right_is_answered(rt: HostRuntime) {
-    let (script, replies) = SEND_ONCE_RIGHT;
-    assert!(rt; gives(rt.alloc(), script, replies));
-}
-
-#[test]
-fn long_descriptor_is_answered(rt: HostRuntime) {
-    let (script, replies) = LONG_DESCRIPTOR;
-    assert!(rt; gives(rt.alloc(), script, replies));
-}
-
-#[test]
-fn item_of_no_data_is_answered(rt: HostRuntime) {
-    let (script, replies) = ITEM_OF_NO_DATA;
-    assert!(rt; gives(rt.alloc(), script, replies));
-}
-
-#[test]
-fn gathered_references_is_answered(rt: HostRuntime) {
-    let (script, replies) = GATHERED_REFERENCES;
-    assert!(rt; gives(rt.alloc(), script, replies));
-}
-
-#[test]
-fn moved_reply_is_answered(rt: HostRuntime) {
-    let (script, replies) = MOVED_REPLY;
-    assert!(rt; gives(rt.alloc(), script, replies));
-}
-
-#[test]
-fn queue_limit_is_answered(rt: HostRuntime) {
-    let (script, replies) = QUEUE_LIMIT;
-    assert!(rt; gives(rt.alloc(), script, replies));
-}
-
-#[test]
-fn null_and_dead_words_is_answered(rt: HostRuntime) {
-    let (script, replies) = NULL_AND_DEAD_WORDS;
-    assert!(rt; gives(rt.alloc(), script, replies));
-}
-
-#[test]
-fn answered_is_answered(rt: HostRuntime) {
-    let (script, replies) = ANSWERED;
-    assert!(rt; gives(rt.alloc(), script, replies));
+fn exchanges_are_answered(rt: HostRuntime) {
+    for (script, replies) in EXCHANGES {
+        assert!(rt; gives(rt.alloc(), script, replies), "{script}");
+    }
 }
 
 /// A script that makes a task and a port, and sends it a message of this length, its body zero bytes.
@@ -468,12 +438,6 @@ fn most_references_is_answered(rt: HostRuntime) -> Result<(), Fail> {
     Ok(())
 }
 
-#[test]
-fn names_and_attributes_is_answered(rt: HostRuntime) {
-    let (script, replies) = NAMES_AND_ATTRIBUTES;
-    assert!(rt; gives(rt.alloc(), script, replies));
-}
-
 /// A script that gives a task as many names as it can have, a port's the first, and its replies.
 fn all_names(alloc: Global) -> Result<(String, String), Fail> {
     let mut script = String::from_str(alloc, "task\nalloc 0 1\n")?;
@@ -493,24 +457,6 @@ fn scarce_names_is_answered(rt: HostRuntime) -> Result<(), Fail> {
     replies.push_str(SCARCE_NAMES.1)?;
     assert!(rt; gives(rt.alloc(), script.as_str(), replies.as_str()));
     Ok(())
-}
-
-#[test]
-fn member_of_a_set_is_answered(rt: HostRuntime) {
-    let (script, replies) = MEMBER_OF_A_SET;
-    assert!(rt; gives(rt.alloc(), script, replies));
-}
-
-#[test]
-fn sets_that_change_is_answered(rt: HostRuntime) {
-    let (script, replies) = SETS_THAT_CHANGE;
-    assert!(rt; gives(rt.alloc(), script, replies));
-}
-
-#[test]
-fn many_rights_is_answered(rt: HostRuntime) {
-    let (script, replies) = MANY_RIGHTS;
-    assert!(rt; gives(rt.alloc(), script, replies));
 }
 
 #[test]
