@@ -13,8 +13,6 @@ pub mod codes;
 pub mod identities;
 pub mod limits;
 pub mod rights;
-#[cfg(test)]
-mod tests;
 
 pub use bits::Options;
 pub use bytes::{Bytes, NameList, NameTypes};

@@ -9,8 +9,6 @@ mod header;
 mod items;
 mod received;
 mod spans;
-#[cfg(test)]
-mod tests;
 mod text;
 mod words;
 

@@ -10,8 +10,6 @@ mod hexadecimal;
 mod numbers;
 mod replies;
 mod script;
-#[cfg(test)]
-mod tests;
 mod words;
 
 pub use calls::{read_call, write_call};

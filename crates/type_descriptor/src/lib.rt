@@ -6,8 +6,6 @@
 #![tactic(auto)]
 
 mod descriptor;
-#[cfg(test)]
-mod tests;
 mod words;
 
 pub use descriptor::{Descriptor, data_len, descriptor_len, read_descriptor, write_descriptor};

@@ -1,5 +1,6 @@
-use super::*;
+//! Descriptors read and written.
 use mach_types::MsgReturn;
+use type_descriptor::{Descriptor, data_len, descriptor_len, read_descriptor, write_descriptor};
 
 #[test]
 fn reads_descriptors(rt: HostRuntime) {

@@ -4,7 +4,8 @@ ghost use Rattle.std.specs.FinMap as map;
 ghost use Rattle.rights.specs.Counts.{number_of};
 ghost use Rattle.rights.specs.Ledger.{counts_of};
 
-use super::*;
+use mach_types::PortId;
+use rights::{Ledger, RightKind};
 use std::test::Fail;
 
 fn has(ledger: &Ledger, port: PortId, kind: RightKind, number: u32) -> bool

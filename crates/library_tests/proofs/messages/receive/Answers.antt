@@ -1,6 +1,6 @@
 use Rattle.message_codec.specs.Parses.{Parses}
 use Rattle.message_codec.proofs.Spelling.{laid_out-parsed}
-use Rattle.message_codec.proofs.tests.receive.Goals as goal
+use Rattle.library_tests.proofs.messages.receive.Goals as goal
 
 pub put_received-requires-clause-laid_out : goal.put_received-requires-clause-laid_out
 put_received-requires-clause-laid_out c =

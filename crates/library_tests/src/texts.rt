@@ -1,13 +1,13 @@
-use crate::calls::{read_call, write_call};
-use crate::fault::TextFault;
-use crate::replies::{read_reply, write_reply};
-use crate::script::{ScriptFault, read_script};
+//! Calls and replies as text.
 use mach_types::{
     Bytes, Event, Name, NameList, NameTypes, PortId, Reply, SetId, Status, TaskId, Waited,
 };
 use std::alloc::Global;
 use std::io;
 use std::test::Fail;
+use tracer_base::{
+    ScriptFault, TextFault, read_call, read_reply, read_script, write_call, write_reply,
+};
 
 #[test]
 fn reads_the_calls_of_rights(rt: HostRuntime) {

@@ -1,7 +1,7 @@
 use Rattle.std.proofs.Common.{◌≡◌, ap, subst, sym, ◌∙◌, arith, Contains}
 use Rattle.member_lists.specs.Lists.{ListsView, list_of, IsApart}
 use Rattle.member_lists.proofs.Listed.{apart_if_none, apart_pushed, in_pushed}
-use Rattle.member_lists.proofs.tests.items_join_and_leave.Goals as goal
+use Rattle.library_tests.proofs.lists.items_join_and_leave.Goals as goal
 
 pub push-requires-clause-apart : goal.push-requires-clause-apart
 push-requires-clause-apart g c = apart_if_none c.reserve.new.self 2 (ap (λ (v : ListsView). v.lists) c.in_ok-reserve.ensures.ok ∙ ap (λ (v : ListsView). v.lists) c.new-lists.ensures)

@@ -1,5 +1,6 @@
-use super::*;
+//! Messages read, and made those that a receiver gets.
 use mach_types::{MsgReturn, Name};
+use message_codec::{Header, Span, Spans, parse, put_received};
 use smallvec::SmallVec;
 use std::alloc::Global;
 use std::process::Abort;

@@ -1,5 +1,5 @@
 //! Names that are printed; calls and answers compared and copied.
-use crate::{
+use mach_types::{
     Bytes, Disposition, Event, KernReturn, MsgReturn, Name, NameList, NameTypes, PortId, Reply,
     Right, TaskId, Waited,
 };

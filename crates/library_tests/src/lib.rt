@@ -1,0 +1,26 @@
+//! Tests of the libraries below the kernel.
+//!
+//! A crate with tests is proved twice, without them and with them. They stand together here, so that each
+//! library is proved once; they name nothing of it but its public calls.
+#![tactic(auto)]
+
+#[cfg(test)]
+mod codes;
+#[cfg(test)]
+mod counts;
+#[cfg(test)]
+mod descriptors;
+#[cfg(test)]
+mod lists;
+#[cfg(test)]
+mod maps;
+#[cfg(test)]
+mod messages;
+#[cfg(test)]
+mod names;
+#[cfg(test)]
+mod pages;
+#[cfg(test)]
+mod references;
+#[cfg(test)]
+mod texts;
