@@ -76,7 +76,7 @@ module _ (now : ℕ) (old mid : State) (owed : Owed) (new : State) (l : MidLawfu
       let made = made_of now old mid owed new s (is_of send_once p) in
       let goes = none_goes in
       let posts = posted_once p s.notices.posted ∙ ap (for_port p) s.notices.due ∙ ap (for_port p) (map-append (λ (x : Token × Notice). (x.0.port, x.1)) s.rights.paying (filter (λ x. new.live_port x.0.port) owed))
-          ∙ sum-append (λ (y : ℕ × Notice). if y.0 == p then 1 else 0) (due_notices s.rights.paying) (due_notices (filter (λ x. new.live_port x.0.port) owed)) in
+      ∙ sum-append (λ (y : ℕ × Notice). if y.0 == p then 1 else 0) (due_notices s.rights.paying) (due_notices (filter (λ x. new.live_port x.0.port) owed)) in
       let pays = paid_once p mid new s.rights.paying s.rights.pay in
       let owes = owed_once p mid.live_port new.live_port owed live l.are_owed in
       omega (arith, staying, made, goes, posts, pays, owes)

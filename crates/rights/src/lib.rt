@@ -11,7 +11,6 @@ ghost use Rattle.std.specs.Ordering.{nat_cmp};
 ghost use Rattle.mach_types.specs.Numbers.{most_rights};
 ghost use Rattle.mach_types.specs.declared.codes.KernReturn.TheVariants.{NoSpace};
 
-
 use mach_types::limits::MOST_RIGHTS;
 use mach_types::{KernReturn, PortId};
 use number_map::NumberMap;
