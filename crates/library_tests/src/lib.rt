@@ -21,6 +21,10 @@ mod names;
 #[cfg(test)]
 mod pages;
 #[cfg(test)]
+mod queues;
+#[cfg(test)]
 mod references;
+#[cfg(test)]
+mod sets;
 #[cfg(test)]
 mod texts;

@@ -48,6 +48,7 @@ enum Act {
     NameOf(u64),
     TypeOf(u32),
     SendReferences(u32),
+    DeadReferences(u32),
 }
 
 /// Does it, and answers a number: what was asked for, the type of what was removed, or 1 where it was
@@ -75,7 +76,8 @@ fn answer(space: &mut Space, act: Act) -> Result<Option<u32>, AllocError> {
             name.map(|name| name.number())
         }
         Act::TypeOf(name) => type_of(space, Name::new(name)),
-        Act::SendReferences(name) => send_references(space, Name::new(name)),
+        Act::SendReferences(name) => references(space, Name::new(name), Right::Send),
+        Act::DeadReferences(name) => references(space, Name::new(name), Right::DeadName),
     };
     Ok(told)
 }
@@ -133,8 +135,8 @@ fn type_of(space: &Space, name: Name) -> Option<u32> {
     Some(space.lookup(name)?.type_bits())
 }
 
-fn send_references(space: &Space, name: Name) -> Option<u32> {
-    Some(space.lookup(name)?.send_references())
+fn references(space: &Space, name: Name, right: Right) -> Option<u32> {
+    Some(space.lookup(name)?.references(right))
 }
 
 /// The names, rising.
@@ -176,6 +178,7 @@ fn names_come_and_go(rt: HostRuntime) -> Result<(), Fail> {
     let names = listed(&space, rt.alloc())?;
     assert_eq!(rt; names.as_slice(), [1, 3, 0xffff_fffe].as_slice());
     let acts = [
+        (Act::DeadReferences(0xffff_fffe), Some(1)),
         (Act::Remove(0xffff_fffe), Some(0x0010_0000)),
         (Act::Remove(2), None),
         (Act::Length, Some(2)),
