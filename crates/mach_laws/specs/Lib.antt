@@ -15,3 +15,5 @@ pub mod Gathering
 pub mod Handed
 pub mod Naming
 pub mod Grouping
+pub mod Telling
+pub mod Destroying

@@ -5,6 +5,7 @@ pub mod Names
 pub mod Spaces
 pub mod SetNames
 pub mod Requests
+pub mod Quiet
 pub mod Settling
 pub mod Receivers
 pub mod Moving
