@@ -1,0 +1,4 @@
+pub mod Known
+pub mod LateNames
+pub mod Saving
+pub mod Judged

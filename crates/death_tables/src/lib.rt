@@ -1,0 +1,2 @@
+//! The tables with death: nothing but definitions.
+#![tactic(auto)]
