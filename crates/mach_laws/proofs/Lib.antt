@@ -3,8 +3,6 @@ mod Meanings
 mod Receiving
 mod Apart
 mod Untouched
-mod Ended
-mod OneMeaning
 mod Steps
 mod Looking
 mod Walking
@@ -13,9 +11,6 @@ mod Ordered
 pub mod Promised
 mod Playing
 mod First
-mod Telling
-mod ToldAtOnce
-mod Destroyed
 mod Answered
 mod Answering
 mod Gathering
@@ -27,8 +22,9 @@ mod Reordered
 pub mod Refusing
 mod Giving
 pub mod Spelled
-mod Requested
 mod Excluding
 mod Measured
 mod Rising
 mod Deciding
+pub mod Counted
+pub mod Followed

@@ -15,5 +15,3 @@ pub mod Gathering
 pub mod Handed
 pub mod Naming
 pub mod Grouping
-pub mod Telling
-pub mod Destroying

@@ -1,6 +1,8 @@
--- How many messages are queued (this project's own).
-use Rattle.std.specs.Prelude.{ℕ, zero, suc, ◌+◌, length}
+-- How many messages are queued, and the bound on a kernel's slots (this project's own).
+use Rattle.std.specs.Prelude.{ℕ, zero, suc, ◌+◌, ◌≤◌, List, length, All}
 use Rattle.mach_model.specs.State.{State, queue}
+use Rattle.mach_laws.specs.Paths.{Stage}
+pub use Rattle.mach_laws.specs.Order.{accepts, delivers}
 
 -- the sum of the function's values below a number
 abbrev pub sum_below : (ℕ → ℕ) → ℕ → ℕ
@@ -10,3 +12,7 @@ sum_below f (suc n) = sum_below f n + f n
 -- how many messages lie at all ports
 abbrev pub queued : State → ℕ
 queued s = sum_below (λ p. length (queue s p)) s.ports_made
+
+-- These spare slots and the messages that are queued in the end are together at most one more than were ever queued before a stage.
+abbrev pub SlotsWithin : (spare : ℕ) → List Stage → State → Type 0
+SlotsWithin spare stages s = (most : ℕ) → All (λ (x : Stage). queued x.before ≤ most) stages → spare + queued s ≤ most + 1

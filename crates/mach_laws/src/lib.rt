@@ -29,9 +29,10 @@ ghost use Rattle.mach_model.specs.Lawful.{IsLawful};
 ghost use Rattle.mach_model.specs.Midway.{MidLawful};
 ghost use Rattle.mach_laws.specs.Paths.{Stage, Path};
 ghost use Rattle.mach_laws.specs.Sent.{Accepts};
-ghost use Rattle.mach_laws.specs.Received.{AsksFrom, WasSentOrTold};
-ghost use Rattle.mach_laws.specs.Delivered.{Delivers, Destroys};
+ghost use Rattle.mach_laws.specs.Received.{AsksFrom, WasSent};
+ghost use Rattle.mach_laws.specs.Delivered.{Delivers};
 ghost use Rattle.mach_laws.specs.Order.{InOrder};
+ghost use Rattle.mach_laws.specs.Queued.{queued, accepts, delivers};
 ghost use Rattle.mach_laws.specs.Headline.{Headline};
 ghost use Rattle.mach_laws.specs.Notices.{TellsAll};
 ghost use Rattle.mach_laws.specs.Looks.{IsLook, IsUnchanged};
@@ -43,13 +44,11 @@ ghost use Rattle.mach_laws.specs.Gathering.{gathering_events, gathering_replies}
 ghost use Rattle.mach_laws.specs.Grouping.{grouping_events, grouping_replies};
 ghost use Rattle.mach_laws.specs.Handed.{handing_events, handing_replies};
 ghost use Rattle.mach_laws.specs.Naming.{naming_events, naming_replies};
-ghost use Rattle.mach_laws.specs.Telling.{telling_events, telling_replies};
-ghost use Rattle.mach_laws.specs.Destroying.{destroying_events, destroying_replies};
 
 /// What a run promises, in one statement: its stages are steps of the machine; each message that is received was
-/// sent before, or is a notice that was due before, means what it meant then, where rights for ports that are dead by
-/// now are dead, and is the one that its stage takes from the front of its port; each port's messages are taken in the
-/// order in which they came; and each live port has exactly one receive right.
+/// sent before, means what it meant then, where rights for ports that are dead by now are dead, and is the one
+/// that its stage takes from the front of its port; each port's messages are received in the order in which they
+/// were accepted; and each live port has exactly one receive right.
 pub fn headline()
     ensures { (events : List Event) (replies : List Reply) (s : State) → Run events replies s → Headline events replies s }
 {}
@@ -63,6 +62,13 @@ pub fn every_run_is_lawful()
 pub fn one_receive_right()
     ensures { (events : List Event) (replies : List Reply) (s : State) → Run events replies s →
         (p : ℕ) → s.live_port p ≡ true → count (is_of receive_kind p) s.ledger ≡ 1 }
+{}
+
+/// After every run a port that lives goes on living, whatever the next event: no port can die yet.
+pub fn live_ports_stay()
+    ensures { (events : List Event) (replies : List Reply) (s : State) → Run events replies s →
+        (event : Event) (reply : Reply) (new : State) → Step (length events) s event reply new →
+        (p : ℕ) → s.live_port p ≡ true → new.live_port p ≡ true }
 {}
 
 /// After every run each live port is grounded: following from it to the port whose queue carries its receive right,
@@ -120,9 +126,10 @@ pub fn every_step_can_end()
         (new : State) × Step (length events) s event reply new }
 {}
 
-/// After every run, where a task ends, a message that is too long for its receiver is destroyed, or a request is made
-/// or taken away: what is true midway is enough for the end of a step. There is one, and each is lawful.
-pub fn parts_can_end()
+/// What no call does yet can be done after every run: a task ends, a message that is too long for its receiver is
+/// destroyed, a request is made or taken away. What is true midway then is enough for the end of a step: there is
+/// one, and each is lawful.
+pub fn parts_to_come()
     ensures task { (events : List Event) (replies : List Reply) (s : State) → Run events replies s →
         (task : ℕ) (mid : State) (owed : Owed) → EndsTask task s mid owed → MidLawful mid owed }
     ensures message { (events : List Event) (replies : List Reply) (s : State) → Run events replies s →
@@ -159,20 +166,28 @@ pub fn runs_are_paths()
     ensures run { (path : List Stage) (s : State) → Path path s → Run (map (λ x. x.event) path) (map (λ x. x.reply) path) s }
 {}
 
-/// In every run each message that is received is one that was sent, or a notice that was due in an earlier step:
-/// what the sender's bytes meant through the sender's names before the send, or the notice, the received bytes mean
-/// through the receiver's names after the receive, where rights for ports that are dead by then are dead. It is in
-/// front of its port before the receive, which takes it and no other.
-pub fn received_means_what_was_sent_or_told()
+/// In every run each message that is received is one that was sent: what the sender's bytes meant
+/// through the sender's names before the send, the received bytes mean through the receiver's names
+/// after the receive, where rights for ports that are dead by then are dead. It is in front of its port before
+/// the receive, which takes it and no other.
+pub fn received_means_what_was_sent()
     ensures { (path : List Stage) (s : State) → Path path s →
         (k : ℕ) (bytes : List ℕ) (x : Stage) → slice_get path k ≡ Some x → x.reply ≡ Reply.Message bytes →
-        WasSentOrTold path k bytes x }
+        WasSent path k bytes x }
 {}
 
-/// In every run, of each port: what was received from it or destroyed as too long, and then what is queued, is what
-/// was accepted for it or told to it, each message once and in the same order.
+/// In every run, of each port: what was received from it, and then what is queued, is what was accepted
+/// for it, each message once and in the same order.
 pub fn order()
     ensures { (path : List Stage) (s : State) → Path path s → (p : ℕ) → InOrder p path s }
+{}
+
+/// After every run the next step queues one message if it accepts a send, takes one if it is answered with a
+/// message, and otherwise leaves as many queued as there were. The bound on a kernel's slots comes from this.
+pub fn queued_messages()
+    ensures { (events : List Event) (replies : List Reply) (s : State) → Run events replies s →
+        (event : Event) (reply : Reply) (new : State) → Step (length events) s event reply new →
+        queued new + delivers event reply ≡ queued s + accepts event reply }
 {}
 
 /// A call that is answered with another code than 0 changes nothing.
@@ -185,13 +200,6 @@ pub fn refusals_change_nothing()
 pub fn looks_change_nothing()
     ensures { (events : List Event) (replies : List Reply) (s : State) → Run events replies s →
         (event : Event) (reply : Reply) (new : State) → Step (length events) s event reply new → IsLook event reply → IsUnchanged s new }
-{}
-
-/// A receive that is answered that a message is too long, and that didn't ask that it stay, destroys that one message,
-/// the one in front of a port that it asked for, and no other.
-pub fn too_long_is_destroyed()
-    ensures { (now : ℕ) (old : State) (event : Event) (n : ℕ) (new : State) → Step now old event (Reply.TooLarge n) new →
-        ¬ (IsLook event (Reply.TooLarge n)) → Destroys event n old new }
 {}
 
 /// After every run a refusal and a success exclude each other: what refuses an event, but for want of memory,
@@ -262,16 +270,4 @@ pub fn renamed_dead_name()
 /// set is gone a later try by it is told so, and the port is in none.
 pub fn grouped_port()
     ensures { (s : State) × Run grouping_events grouping_replies s }
-{}
-
-/// They speak of notices: a send-once right that is lost unused tells so, a request about a port that has no senders
-/// already is told at once, and so is one about a name that is dead already, which gets a reference more.
-pub fn told_at_once()
-    ensures { (s : State) × Run telling_events telling_replies s }
-{}
-
-/// They speak of messages that are too long: one stays where the receiver asks for that, and else is destroyed, after
-/// which there is none.
-pub fn destroyed_message()
-    ensures { (s : State) × Run destroying_events destroying_replies s }
 {}

@@ -5,7 +5,6 @@ pub mod Names
 pub mod Spaces
 pub mod SetNames
 pub mod Requests
-pub mod Quiet
 pub mod Settling
 pub mod Receivers
 pub mod Moving

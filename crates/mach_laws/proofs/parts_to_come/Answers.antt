@@ -3,7 +3,7 @@ use Rattle.mach_model.proofs.EndingLawful.{EndsTask-mid, DestroysFront-mid}
 use Rattle.mach_model.proofs.RequestsLawful.{Requests-mid}
 use Rattle.mach_model.proofs.SettledEnd.{can_end}
 use Rattle.mach_model.proofs.SettledLawful.{settled_lawful}
-use Rattle.mach_laws.proofs.parts_can_end.Goals as goal
+use Rattle.mach_laws.proofs.parts_to_come.Goals as goal
 
 pub returns-clause-task : goal.returns-clause-task
 returns-clause-task c = λ events replies s run task mid owed. EndsTask-mid task s mid owed (Run-lawful events replies s run)

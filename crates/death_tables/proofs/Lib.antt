@@ -1,4 +1,0 @@
-pub mod Known
-pub mod LateNames
-pub mod Saving
-pub mod Judged

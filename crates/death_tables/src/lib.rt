@@ -1,2 +1,0 @@
-//! The tables with death: nothing but definitions.
-#![tactic(auto)]
