@@ -476,7 +476,8 @@ fn copies_of(
 /// - [`MsgReturn::SendNoBuffer`]: there would be more than 4,294,967,295 rights; or memory was refused,
 ///   where the message could be sent or its body has more than [`INLINE_WORDS`] port words.
 ///
-/// Linear in the bytes, and logarithmic in the names of the task and the words so far for each word.
+/// Linear in the bytes, and for each word logarithmic in the names that the words so far have taken
+/// rights from, and for a name above 65,535.
 ///
 /// [`commit`]: crate::commit
 pub fn check(

@@ -19,7 +19,8 @@ use std::alloc::Global;
 ///
 /// Errors, of which the first is answered: those of the text, as [`message_codec::parse`]; those of its
 /// rights and of the message as a whole, as [`copyin::check`]; `MACH_SEND_NO_BUFFER` where memory was
-/// refused for a slot in the queue. Linear in the message, and logarithmic in the names for each right.
+/// refused for a slot in the queue. Linear in the message, but for what [`copyin::check`] says of each
+/// right.
 pub(crate) fn send(
     world: &mut World,
     alloc: Global,

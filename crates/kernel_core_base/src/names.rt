@@ -230,7 +230,8 @@ pub fn name_type(world: &World, task: TaskId, name: Name) -> Result<Reply, Code>
 /// names rising. The task lives.
 ///
 /// `KERN_RESOURCE_SHORTAGE` for want of memory, of which it takes 12 bytes for each name, and none
-/// where there are no names. Linear in the names of the task, but for a logarithmic look at each.
+/// where there are no names. Linear in the names of the task, but for a logarithmic look at each above
+/// 65,535.
 pub fn list_names(world: &World, alloc: Global, task: TaskId) -> Result<Reply, Code>
     requires there { task < length world.now.spaces }
     requires stands { Stands world.now }

@@ -189,8 +189,7 @@ pub fn deallocate(world: &mut World, task: TaskId, name: Name) -> Result<Reply, 
 ///
 /// `KERN_INVALID_NAME` for a name that isn't in use; `KERN_INVALID_RIGHT`, as long as none can be
 /// lost, for a name with a receive or send-once right. A refusal changes nothing. Takes no memory.
-/// Constant time, and logarithmic for a name above 65,535, and for a set a look at each identity
-/// that a port was given.
+/// Constant time, and logarithmic for a name above 65,535; for a set linear in its members.
 pub fn destroy(world: &mut World, task: TaskId, name: Name) -> Result<Reply, Code>
     requires there { task < length world.old.spaces }
     requires stands { Stands world.old }
@@ -339,8 +338,8 @@ fn find_right(
 /// right without references can't have; `KERN_UREFS_OVERFLOW` above 65,535 references;
 /// `KERN_NO_SPACE` above 4,294,967,295 rights; and, as long as none can be lost,
 /// `KERN_INVALID_RIGHT` where a receive or send-once right would go. A refusal changes nothing.
-/// Takes no memory. Constant time, and logarithmic for a name above 65,535, and a look at each
-/// identity that a port was given where a set does.
+/// Takes no memory. Constant time, and logarithmic for a name above 65,535; where a set goes, linear
+/// in its members.
 pub fn mod_refs(
     world: &mut World,
     task: TaskId,

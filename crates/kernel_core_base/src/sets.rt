@@ -21,7 +21,7 @@ use std::alloc::{AllocError, Global};
 /// `KERN_INVALID_NAME` for a name that isn't in use; `KERN_INVALID_RIGHT` where it is no set's;
 /// `KERN_RESOURCE_SHORTAGE` for want of memory, of which it takes 4 bytes for each name of the task and
 /// up to twice as many for each member. Linear in the names of the task, but for a logarithmic look at
-/// each.
+/// each above 65,535.
 pub fn set_status(world: &World, alloc: Global, task: TaskId, name: Name) -> Result<Reply, Code>
     requires { task < length world.now.spaces }
     ensures { Serves world.now (Event.SetStatus task name) result world.now }

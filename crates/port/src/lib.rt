@@ -467,8 +467,7 @@ impl<M: Message> Ports<M> {
 
     /// The port of the set that has a message and whose turn it is, if there is one. A port gets its
     /// turn at the end: when it becomes ready in the set, and again when a message is taken from it
-    /// and it has more. Constant time, but for ports that are ready in sets whose numbers
-    /// are the same modulo 1,024.
+    /// and it has more. Constant time.
     pub fn first_ready(&self, set: SetId) -> Option<PortId>
         ensures first { result ≡ slice_get (turns_of self.now.ready set) 0 }
         ensures some { IfSome result (λ port. IsReadyIn self.now set port) }
@@ -478,8 +477,7 @@ impl<M: Message> Ports<M> {
         Some(self.records[key].id)
     }
 
-    /// A port of the set, if there is one. Constant time, but for members of sets whose numbers are
-    /// the same modulo 1,024.
+    /// A port of the set, if there is one. Constant time.
     pub fn first_member(&self, set: SetId) -> Option<PortId>
         ensures some { IfSome result (λ port. IsIn self.now set port) }
         ensures none { IfNone result (NoneIn self.now set) }

@@ -137,8 +137,7 @@ pub fn move_member<M: Message>(ports: &mut Ports<M>, member: PortId, set: Option
 }
 
 /// The member of the set that has a message and whose turn it is, if there is one (IPC Interface,
-/// `mach_msg`, receiving by a port set). Takes no memory. Constant time, but for ports that are ready
-/// in sets whose numbers are the same modulo 1,024.
+/// `mach_msg`, receiving by a port set). Takes no memory. Constant time.
 pub fn ready_member<M: Message>(ports: &Ports<M>, set: SetId) -> Option<PortId>
     ensures first { result ≡ slice_get (turns_of ports.now.ready set) 0 }
     ensures some { IfSome result (λ port. IsReady ports.now set port) }
@@ -148,8 +147,7 @@ pub fn ready_member<M: Message>(ports: &Ports<M>, set: SetId) -> Option<PortId>
 }
 
 /// Takes all members out of a set, so that they are in none (Port Manipulation Interface,
-/// `mach_port_destroy`). Takes no memory. Linear in the set's members, but for members of sets whose
-/// numbers are the same modulo 1,024.
+/// `mach_port_destroy`). Takes no memory. Linear in the set's members.
 pub fn disband<M: Message>(ports: &mut Ports<M>, set: SetId)
     ensures { IsDisbanded ports.old ports.new set }
 {
