@@ -1,5 +1,5 @@
 -- A plan that is carried out.
-use Rattle.std.proofs.Common.{◌≡◌, ℕ, ◌+◌, ◌-◌, ◌≤◌, true, false, Option, Some, None, List, [], ◌∷◌, ◌++◌, suc, length, refl, sym, ap, subst, ◌∙◌, inl, inr, arith}
+use Rattle.std.proofs.Common.{◌≡◌, ℕ, ◌+◌, ◌-◌, ◌<◌, ◌≤◌, Bool, true, false, Option, Some, None, List, [], ◌∷◌, ◌++◌, suc, length, refl, sym, ap, subst, ◌∙◌, inl, inr, arith}
 use Rattle.std.specs.Prelude.{is_some}
 use Rattle.std.specs.Option.{option_to_list}
 use Rattle.std.proofs.lemmas.Bool.Decides.{eqb_tells}
@@ -13,7 +13,7 @@ use Rattle.message_codec.specs.Words.{body_words}
 use Rattle.name_space.specs.Names.{Names, SpaceView}
 use Rattle.port.specs.Ports.{PortView, PortsView, IsLive, with_port}
 use Rattle.port_set.specs.Sets.{SetsView}
-use Rattle.rights.specs.Ledger.{LedgerView}
+use Rattle.rights.specs.Ledger.{LedgerView, counts_of}
 use Rattle.copyin.specs.declared.judge.Plan.{Plan}
 use Rattle.copyin_base.specs.declared.message.Carried.{Carried}
 use Rattle.copyin.specs.Judging.{CopiesWord, CopiesReply, CopiesBody, made_by_reply, made_by_all}
@@ -23,12 +23,13 @@ use Rattle.copyin.specs.Plans.{destination_word, reply_words, Judged, ChangesWor
 use Rattle.copyin_base.specs.Stands.{AreTied, IsTied}
 use Rattle.copyin_base.specs.Wanted.{room_in, room_of}
 use Rattle.copyin_base.specs.Worlds.{WorldView, put}
-use Rattle.copyin.specs.Copies.{ports_copied, CopiesRight}
+use Rattle.copyin.specs.Copies.{ports_copied, ledger_queued, CopiesRight}
 use Rattle.copyin_base.proofs.Gets.{each-set}
 use Rattle.copyin_base.proofs.Spaces.{same_world}
 use Rattle.copyin.proofs.Going.{go_on}
 use Rattle.copyin.proofs.Judging.{goes_by_name}
 use Rattle.copyin.proofs.Keeping.{keeps, live_copied, spare_copied}
+use Rattle.copyin.proofs.Unused.{once_stays}
 
 -- ---- the rights of a plan, in one list
 
@@ -113,6 +114,18 @@ module _ (w : WorldView) (task : ℕ) (parsed : Parsed) (written : WireBody) (by
       let d = p.plans.judged.copies_destination in
       subst (λ (q : ℕ). IsLive w.ports q) (sym p.port)
       (tied.live parsed.remote d.entry p.plans.judged.port d.found ((keeps p.plans.judged.destination.given d.entry d.copied d.is).mark p.plans.judged.port (sym d.mark ∙ p.plans.judged.to_port)))
+
+  -- once its rights went, where it goes by a send-once right: its port has one that no queued message goes by
+  pub plan_unused : (one two mid : WorldView) → ChangesWord w task plan.words.destination plan.destination one →
+      ChangesWords one task (option_to_list plan.words.reply) (option_to_list plan.message.reply) two → ChangesWords two task plan.words.body.items plan.message.rights mid →
+      plan.message.by_once ≡ true → 0 < (counts_of mid.ledger plan.port).send_once
+  plan_unused one two mid a b d once =
+      let j = p.plans.judged in
+      let others = Through-append (λ old w c new. ChangesWord old task w c new) one two mid (option_to_list plan.words.reply) plan.words.body.items (option_to_list plan.message.reply) plan.message.rights b d in
+      subst (λ (q : ℕ). 0 < (counts_of mid.ledger q).send_once) (sym p.port)
+      (once_stays w task is_tied j.space j.there (destination_word parsed) j.destination j.copies_destination.entry j.copies_destination.found
+      (ap (λ (m : Kept). m.by_once) (sym p.message) ∙ once) j.port j.to_port one mid (rw (p.words.destination, p.destination) at a)
+      (option_to_list plan.words.reply ++ plan.words.body.items) (option_to_list plan.message.reply ++ plan.message.rights) others)
 
 -- A plan is of its own task.
 pub own_task : (w : WorldView) (task : ℕ) (parsed : Parsed) (written : WireBody) (bytes : List ℕ) (plan : Plan) → IsPlan w task parsed written bytes plan
@@ -218,12 +231,16 @@ with_queued ports p v m spare = record (with_port ports p (record v { queue = v.
 same_queued : (a b : PortsView Kept) (p q : ℕ) (v : PortView Kept) (m k : Kept) (n spare : ℕ) → a ≡ b → p ≡ q → m ≡ k → n ≡ spare → with_queued a p v m n ≡ with_queued b q v k spare
 same_queued a b p q v m k n spare x y z w = rw (x, y, z, w) refl
 
+same_shift : (a b : Bool) (p q : ℕ) (l m : LedgerView) → a ≡ b → p ≡ q → l ≡ m → ledger_queued a p l ≡ ledger_queued b q m
+same_shift a b p q l m x y z = rw (x, y, z) refl
+
 pub commits : (old mid : WorldView) (task : ℕ) (parsed : Parsed) (written : WireBody) (bytes : List ℕ) (plan : Plan) (p : IsPlan old task parsed written bytes plan)
-    (spaces : List SpaceView) (ports new_ports : PortsView Kept) (ledger : LedgerView) (sets : SetsView) → Carries old task plan mid → IsLive ports plan.port
+    (spaces : List SpaceView) (ports new_ports : PortsView Kept) (ledger new_ledger : LedgerView) (sets : SetsView) → Carries old task plan mid → IsLive ports plan.port
     → ◌≡◌ {A = WorldView} (record { spaces = spaces; ports = ports; ledger = ledger; sets = sets }) mid
     → ((v : PortView Kept) → map.get ports.ports plan.port ≡ Some v → new_ports ≡ record (with_port ports plan.port (record v { queue = v.queue ++ plan.message ∷ [] })) { spare = ports.spare - 1 })
-    → Commits old task parsed written p.plans.judged bytes (record { spaces = spaces; ports = new_ports; ledger = ledger; sets = sets })
-commits old mid task parsed written bytes plan p spaces ports new_ports ledger sets ca live view queued =
+    → new_ledger ≡ ledger_queued plan.message.by_once plan.port ledger
+    → Commits old task parsed written p.plans.judged bytes (record { spaces = spaces; ports = new_ports; ledger = new_ledger; sets = sets })
+commits old mid task parsed written bytes plan p spaces ports new_ports ledger new_ledger sets ca live view queued shifts =
     let found = some_of (map.get ports.ports plan.port) live in
     let v : PortView Kept = found.0 in
     let all = Through-append (λ old w c new. ChangesWord old task w c new) ca.one ca.two mid (option_to_list plan.words.reply) plan.words.body.items (option_to_list plan.message.reply) plan.message.rights ca.reply ca.body in
@@ -231,7 +248,8 @@ commits old mid task parsed written bytes plan p spaces ports new_ports ledger s
     (ca.one, ca.destination, all) in
     let e : ports ≡ mid.ports = ap (λ (w : WorldView). w.ports) view in
     let s : spaces ≡ mid.spaces = ap (λ (w : WorldView). w.spaces) view in
-    let l : ledger ≡ mid.ledger = ap (λ (w : WorldView). w.ledger) view in
+    let l : new_ledger ≡ ledger_queued (message_for bytes p.plans.judged).by_once p.plans.judged.port mid.ledger =
+    shifts ∙ same_shift _ _ _ _ _ _ (ap (λ (m : Kept). m.by_once) p.message) p.port (ap (λ (w : WorldView). w.ledger) view) in
     let less : ports.spare - 1 ≡ old.ports.spare - 1 = ap (λ (n : ℕ). n - 1) (ap (λ (ps : PortsView Kept). ps.spare) e ∙ carries_spare old mid task plan ca) in
     let reply : option_to_list plan.message.reply ≡ option_list p.plans.judged.reply = ap (λ (m : Kept). option_to_list m.reply) p.message ∙ same_options p.plans.judged.reply in
     let rights : plan.message.rights ≡ p.plans.judged.rights = ap (λ (m : Kept). m.rights) p.message in

@@ -25,7 +25,7 @@ use Rattle.copyin_base.specs.declared.message.Mark.TheVariants as mark
 use Rattle.copyin_base.specs.Kept.{Kept, mark_of}
 use Rattle.copyin_base.specs.Worlds.{WorldView, port_at, put}
 use Rattle.copyin.specs.Copies.{ports_copied, ledger_copied, port_copied}
-use Rattle.copyin_base.specs.Shows.{ShowsPort, target_of, HasCount, ShowsCounts, Agrees}
+use Rattle.copyin_base.specs.Shows.{onces_queued, ShowsPort, target_of, HasCount, ShowsCounts, Agrees}
 use Rattle.copyin_base.proofs.AttributesSet.{IsAt, is_at, is_same}
 use Rattle.copyin_base.proofs.Counting.{right_made}
 use Rattle.copyin_base.proofs.Putting.{put_same}
@@ -145,7 +145,7 @@ module _ (w : WorldView) (s : State) (a : Agrees w s) (o k : ℕ) (l : IsMoving 
             tokens = λ h. omega arith;
           };
           agrees = changed_agrees w s a task name (l.naming task) space there entry found (Some entry) space.room w.ports (made w.ledger p right.Send 1) t unchanged
-              (made_rest send p named s.make_send w2 refl (λ q. refl) a.ports (right_made w.ledger s.live_port s.ledger a.counts send p (in_message o k) live) refl);
+              (made_rest send p named s.make_send w2 refl (λ q. refl) a.ports (right_made w.ledger s.live_port s.ledger (onces_queued s) a.counts send p (in_message o k) live) refl);
         }
 
     pub makes_once : (holds : has_receive entry ≡ true) → Goes w s o k task name space MakeSendOnce (record { left = Some entry; mark = mark.Port p })
@@ -168,7 +168,7 @@ module _ (w : WorldView) (s : State) (a : Agrees w s) (o k : ℕ) (l : IsMoving 
             tokens = λ h. omega arith;
           };
           agrees = changed_agrees w s a task name (l.naming task) space there entry found (Some entry) space.room w.ports (made w.ledger p right.SendOnce 1) t unchanged
-              (made_rest send_once p named s.make_send w2 refl (λ q. refl) a.ports (right_made w.ledger s.live_port s.ledger a.counts send_once p (in_message o k) live) refl);
+              (made_rest send_once p named s.make_send w2 refl (λ q. refl) a.ports (right_made w.ledger s.live_port s.ledger (onces_queued s) a.counts send_once p (in_message o k) live) refl);
         }
 
     pub there_port : s.live_port p ≡ true → (v : PortView Kept) × (port_at w p ≡ Some v)
@@ -206,5 +206,5 @@ module _ (w : WorldView) (s : State) (a : Agrees w s) (o k : ℕ) (l : IsMoving 
               (port_changed w s a MakeSend p v.0 v.1 t refl
               (subst (IsAt s.make_send f p) (sym (ap (λ (n : ℕ). (n + 1) % 2 ^ 32) b.make_send)) (is_at s.make_send p ((s.make_send p + 1) % 2 ^ 32)))
               (is_same s.sequence p _ b.sequence) (is_same s.sets_of p _ b.sets))
-              (right_made w.ledger s.live_port s.ledger a.counts send p (in_message o k) live) refl);
+              (right_made w.ledger s.live_port s.ledger (onces_queued s) a.counts send p (in_message o k) live) refl);
         }

@@ -21,7 +21,7 @@ use Rattle.rights.specs.Ledger.{LedgerView}
 use Rattle.copyin_base.specs.Kept.{Kept}
 use Rattle.copyin.specs.Copies.{copied_from, one_less}
 use Rattle.copyin_base.specs.Worlds.{WorldView, port_at, put}
-use Rattle.copyin_base.specs.Shows.{CountsAgree, ShowsPort, target_of, HasCount, Agrees}
+use Rattle.copyin_base.specs.Shows.{onces_queued, CountsAgree, ShowsPort, target_of, HasCount, Agrees}
 use Rattle.copyin_base.proofs.Changing.{Rest, changed_agrees}
 use Rattle.copyin.proofs.CopiedIn.{Goes, after, the_same, no_entry, stands_for, own_held, counted, unchanged, copies_send, makes_send, makes_once}
 use Rattle.copyin.proofs.MovedIn.{LeftIs, sends_moved, once_moves, receive_moves}
@@ -65,7 +65,7 @@ module _ (w : WorldView) (s : State) (a : Agrees w s) (o k : ℕ) (l : IsMoving 
     made = ap (λ x. x.made) ports;
     live = λ p. ap (λ x. is_some (map.get x.ports p)) ports;
     ports = λ p v2 is. same_ports b p v2 (ap (λ x. map.get x.ports p) (sym ports) ∙ is);
-    counts = λ q. subst (λ (x : LedgerView). CountsAgree x (fewer b).live_port s.ledger q) (sym ledger) (counts_are b q);
+    counts = λ q. subst (λ (x : LedgerView). CountsAgree x (fewer b).live_port s.ledger (onces_queued (fewer b)) q) (sym ledger) (counts_are b q);
     total = ap (λ x. x.total) ledger ∙ a.total;
     requests = λ r c q. refl;
     no_set = dead_no_set n;
@@ -75,7 +75,7 @@ module _ (w : WorldView) (s : State) (a : Agrees w s) (o k : ℕ) (l : IsMoving 
       shape_is true = refl
       shape_is false = refl
 
-      counts_are : (x : Bool) (q : ℕ) → CountsAgree w.ledger (fewer x).live_port s.ledger q
+      counts_are : (x : Bool) (q : ℕ) → CountsAgree w.ledger (fewer x).live_port s.ledger (onces_queued (fewer x)) q
       counts_are true = a.counts
       counts_are false = a.counts
 

@@ -6,6 +6,7 @@ pub mod Stepping
 pub mod Numbering
 pub mod Bodies
 pub mod Texts
+pub mod Unused
 pub mod Planned
 pub mod Sent
 pub mod Refused

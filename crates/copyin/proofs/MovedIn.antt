@@ -24,7 +24,7 @@ use Rattle.rights.specs.Ledger.{LedgerView}
 use Rattle.copyin_base.specs.Kept.{Kept}
 use Rattle.copyin_base.specs.Worlds.{WorldView, port_at, put}
 use Rattle.copyin.specs.Copies.{port_copied}
-use Rattle.copyin_base.specs.Shows.{CountsAgree, ShowsPort, target_of, HasCount, Agrees}
+use Rattle.copyin_base.specs.Shows.{onces_queued, CountsAgree, ShowsPort, target_of, HasCount, Agrees}
 use Rattle.copyin_base.proofs.AttributesSet.{is_at}
 use Rattle.copyin_base.proofs.Counting.{counts_same}
 use Rattle.copyin_base.proofs.Changing.{named_no_set, Rest, changed_agrees}
@@ -101,7 +101,7 @@ module _ (w : WorldView) (s : State) (a : Agrees w s) (o k : ℕ) (l : IsMoving 
       made = made;
       live = live;
       ports = ports;
-      counts = λ q. subst (λ (x : LedgerView). CountsAgree x moved_state.live_port ledger q) (sym same_ledger) (subst (λ (f : ℕ → Bool). CountsAgree w.ledger f ledger q) (sym (live_same b)) (counts_same w.ledger s.live_port s.ledger a.counts ledger moved_of q));
+      counts = λ q. subst (λ (x : LedgerView). CountsAgree x moved_state.live_port ledger (onces_queued moved_state) q) (sym same_ledger) (counts_are b q);
       total = let t = ap (λ x. x.total) same_ledger in let m = moves (λ x. 1) in omega (arith, t, a.total, m, length-weigh s.ledger, length-weigh ledger);
       requests = λ r c q.
           let m = moves (λ x. if is_of c q x && same_place (in_request r) x.place then 1 else 0) in
@@ -109,9 +109,9 @@ module _ (w : WorldView) (s : State) (a : Agrees w s) (o k : ℕ) (l : IsMoving 
       no_set = no_set;
     }
       where
-        live_same : (x : Bool) → (kept x).live_port ≡ s.live_port
-        live_same true = refl
-        live_same false = refl
+        counts_are : (x : Bool) (q : ℕ) → CountsAgree w.ledger (kept x).live_port ledger (onces_queued (kept x)) q
+        counts_are true = counts_same w.ledger s.live_port s.ledger (onces_queued s) a.counts ledger moved_of
+        counts_are false = counts_same w.ledger s.live_port s.ledger (onces_queued s) a.counts ledger moved_of
 
     pub moved_named : moved_state.naming task ≡ put (s.naming task) name (option_map target_of left)
     moved_named = naming_own b is_left

@@ -1,16 +1,19 @@
 -- A message that is sent: the machine's step, and tables that agree with the state after it.
-use Rattle.std.proofs.Common.{◌≡◌, ℕ, ◌+◌, ◌-◌, ◌<◌, ◌≤◌, List, [], ◌∷◌, ◌++◌, Some, refl, sym, ap, subst, ◌∙◌, arith, inl, inr, length, drop}
-use Rattle.std.specs.Prelude.{◌^◌, is_some}
+use Rattle.std.proofs.Common.{◌≡◌, ℕ, zero, suc, ◌+◌, ◌-◌, ◌<◌, ◌≤◌, Bool, true, false, List, [], ◌∷◌, ◌++◌, Some, refl, sym, ap, subst, ◌∙◌, arith, inl, inr, length, drop}
+use Rattle.std.specs.Prelude.{◌^◌, is_some, if◌then◌else◌}
+use Rattle.std.proofs.lemmas.Bool.Decides.{eqb_tells}
 use Rattle.std.proofs.lemmas.List.{drop-append-le}
-use Rattle.mach_types.specs.Numbers.{most_rights, msg_number}
+use Rattle.mach_types.specs.Numbers.{most_rights, msg_number, kind_sent}
 use Rattle.mach_types.specs.declared.codes.MsgReturn.TheVariants.{SendTimedOut, SendNoBuffer}
-use Rattle.mach_types.specs.Tokens.{send, send_once}
+use Rattle.mach_types.specs.Tokens.{send, send_once, same_kind}
 use Rattle.mach_types.specs.Messages.{Message, Entry}
 use Rattle.mach_types.specs.Guards.{FirstIs, NoneHolds}
 use Rattle.mach_model.specs.State.{State, at, queue}
 use Rattle.mach_model.specs.Send.{Sends, ClosesLoop, sent_guards, place_at}
 use Rattle.mach_model.specs.Send.{entry as logged}
+use Rattle.mach_model.specs.Lawful.{tally}
 use Rattle.mach_model.proofs.At.{at_own, at_other}
+use Rattle.mach_model.proofs.SettledReceives.{tally-append}
 use Rattle.mach_model.proofs.Moving.{shape}
 use Rattle.mach_model.proofs.Carrying.{never_loops}
 use Rattle.message_codec.specs.declared.text.Parsed.{Parsed}
@@ -20,7 +23,12 @@ use Rattle.message_codec.proofs.Spelling.{laid_out-parsed}
 use Rattle.port.specs.Ports.{PortView, with_port}
 use Rattle.copyin_base.specs.Kept.{Kept, Keeps}
 use Rattle.copyin_base.specs.Worlds.{WorldView, port_at}
-use Rattle.copyin_base.specs.Shows.{AllKept, ShowsPort, Agrees, Shows}
+use Rattle.rights.specs.Ledger.{counts_of}
+use Rattle.copyin_base.specs.Shows.{AllKept, came_by_once, onces_queued, ShowsPort, CountsAgree, Agrees, Shows}
+use Rattle.copyin_base.proofs.Counting.{once_queued, queues_same}
+use Rattle.copyin_base.proofs.Tied.{stands_is_tied}
+use Rattle.copyin.specs.Copies.{ledger_queued}
+use Rattle.copyin.proofs.Unused.{once_stays}
 use Rattle.copyin_base.proofs.Agreeing.{live_put, ports_put}
 use Rattle.copyin.specs.Plans.{destination_word, reply_words, option_list, Judged, made_in, message_for, HasSlot, HasNoSlot, Commits}
 use Rattle.copyin.proofs.Stepping.{words_once}
@@ -44,12 +52,12 @@ all_kept_append p (x ∷ ms) [] m e h k = absurd h
 -- ---- a message is appended
 
 module _ (w : WorldView) (s : State) (a : Agrees w s) (p : ℕ) (v : PortView Kept) (there : port_at w p ≡ Some v) (m : Kept) (now : ℕ) (x : Message) (keeps : Keeps p m x)
-    (within : s.taken p ≤ length (s.log p)) (spare : ℕ) where
+    (within : s.taken p ≤ length (s.log p)) (spare : ℕ) (unused : m.by_once ≡ true → 0 < (counts_of w.ledger p).send_once) where
   abbrev pub longer : PortView Kept
   longer = record v { queue = v.queue ++ m ∷ [] }
 
   abbrev pub appended : WorldView
-  appended = record w { ports = record (with_port w.ports p longer) { spare = spare } }
+  appended = record w { ports = record (with_port w.ports p longer) { spare = spare }; ledger = ledger_queued m.by_once p w.ledger }
 
   abbrev pub with_entry : State
   with_entry = record s { log = at s.log p (s.log p ++ logged now x ∷ []) }
@@ -69,6 +77,39 @@ module _ (w : WorldView) (s : State) (a : Agrees w s) (p : ℕ) (v : PortView Ke
     sets = b.sets;
   }
 
+  -- the right that it goes by, if that is a send-once right, is unused no more
+  by_right : (b : Bool) → same_kind send_once (if b then send_once else send) ≡ b
+  by_right true = refl
+  by_right false = refl
+
+  came : came_by_once (logged now x) ≡ m.by_once
+  came = ap (λ (y : Message). same_kind send_once y.kind) keeps.message_is ∙ by_right m.by_once
+
+  once_more : onces_queued with_entry p ≡ onces_queued s p + (if m.by_once then 1 else 0)
+  once_more =
+      let all : onces_queued with_entry p ≡ tally came_by_once (queue s p ++ logged now x ∷ []) = ap (tally came_by_once) queue_is in
+      let parts = tally-append came_by_once (queue s p) (logged now x ∷ []) in
+      let one : (if came_by_once (logged now x) then suc zero else zero) ≡ (if m.by_once then suc zero else zero) = ap (λ (b : Bool). if b then suc zero else zero) came in
+      omega (arith, all, parts, one)
+
+  lives : s.live_port p ≡ true
+  lives = sym (a.live_port p) ∙ ap is_some there
+
+  onces_other : (q : ℕ) → (q ≡ p → ⊥) → onces_queued s q ≡ onces_queued with_entry q
+  onces_other q not = ap (tally came_by_once) (sym (queue_other q not))
+
+  counted : (b : Bool) → (b ≡ true → 0 < (counts_of w.ledger p).send_once) → onces_queued with_entry p ≡ onces_queued s p + (if b then 1 else 0) →
+      (q : ℕ) → CountsAgree (ledger_queued b p w.ledger) s.live_port s.ledger (onces_queued with_entry) q
+  counted true some more = once_queued w.ledger s.live_port s.ledger (onces_queued s) a.counts (onces_queued with_entry) p lives onces_other (some refl) more
+  counted false some more = queues_same w.ledger s.live_port s.ledger (onces_queued s) a.counts (onces_queued with_entry) (λ q. elim (eqb_tells q p) [
+    | inl h ↦ subst (λ (n : ℕ). onces_queued s n ≡ onces_queued with_entry n) (sym h.1) (omega (arith, more))
+    | inr h ↦ onces_other q h.1
+  ])
+
+  total_queued : (b : Bool) → (ledger_queued b p w.ledger).total ≡ w.ledger.total
+  total_queued true = refl
+  total_queued false = refl
+
   pub appended_agrees : Agrees appended with_entry
   appended_agrees = record {
     spaces = a.spaces;
@@ -82,8 +123,8 @@ module _ (w : WorldView) (s : State) (a : Agrees w s) (p : ℕ) (v : PortView Ke
       sequence = b.sequence;
       sets = b.sets;
     });
-    counts = a.counts;
-    total = a.total;
+    counts = counted m.by_once unused once_more;
+    total = total_queued m.by_once ∙ a.total;
     in_sets = a.in_sets;
     requests = a.requests;
   }
@@ -168,6 +209,14 @@ module _ (w : WorldView) (s : State) (sh : Shows w s) (now task : ℕ) (bytes : 
     message_is = refl;
   }
 
+  -- where it goes by a send-once right, its port has one that no queued message goes by
+  is_unused : same_kind (kind_sent j.destination.given) send_once ≡ true → 0 < (counts_of (third w s sh task bytes parsed text j).w2.ledger j.port).send_once
+  is_unused once =
+      let changes = all_changes w s sh task bytes parsed text j in
+      let d = j.copies_destination in
+      once_stays w task (stands_is_tied w task record { state = s; shown = sh }) j.space j.there (destination_word parsed) j.destination d.entry d.found once j.port j.to_port
+      changes.0 (third w s sh task bytes parsed text j).w2 changes.1 (reply_words parsed ++ body_words text.written) (option_list j.reply ++ j.rights) changes.2
+
   pub sent_agrees : (new : WorldView) → Commits w task parsed text.written j bytes new → Agrees new sent_state
   sent_agrees new c =
       let x = third w s sh task bytes parsed text j in
@@ -176,5 +225,8 @@ module _ (w : WorldView) (s : State) (sh : Shows w s) (now task : ℕ) (bytes : 
       let within : copied_state.taken j.port ≤ length (copied_state.log j.port) =
       subst (λ (y : State). y.taken j.port ≤ length (y.log j.port)) (sym shaped) (sh.lawful.within j.port) in
       subst (λ (y : WorldView). Agrees y sent_state)
-      (ap (λ (y : WorldView). record y { ports = record (with_port y.ports j.port (record c.v { queue = c.v.queue ++ message_for bytes j ∷ [] })) { spare = w.ports.spare - 1 } }) (sym mid_is) ∙ sym c.rest)
-      (appended_agrees x.w2 copied_state x.along.agrees j.port c.v there (message_for bytes j) now m keeps within (w.ports.spare - 1))
+      (ap (λ (y : WorldView). record y {
+        ports = record (with_port y.ports j.port (record c.v { queue = c.v.queue ++ message_for bytes j ∷ [] })) { spare = w.ports.spare - 1 };
+        ledger = ledger_queued (same_kind (kind_sent j.destination.given) send_once) j.port y.ledger;
+      }) (sym mid_is) ∙ sym c.rest)
+      (appended_agrees x.w2 copied_state x.along.agrees j.port c.v there (message_for bytes j) now m keeps within (w.ports.spare - 1) is_unused)

@@ -1,5 +1,5 @@
 -- What copying in takes from a name, what it leaves there, and what becomes of the tables.
-use Rattle.std.specs.Prelude.{◌≡◌, ℕ, ◌+◌, ◌-◌, ◌%◌, ◌^◌, Option, Some, None, if◌then◌else◌, nat_lt, slice_get, slice_set}
+use Rattle.std.specs.Prelude.{◌≡◌, ℕ, Bool, ◌+◌, ◌-◌, ◌%◌, ◌^◌, Option, Some, None, if◌then◌else◌, nat_lt, slice_get, slice_set}
 use Rattle.std.specs.FinMap as map
 use Rattle.mach_types.specs.declared.rights.Disposition.{Disposition}
 use Rattle.mach_types.specs.declared.rights.Disposition.TheVariants.{MoveReceive, MoveSend, MoveSendOnce, CopySend, MakeSend, MakeSendOnce}
@@ -8,7 +8,7 @@ use Rattle.name_space.specs.declared.Entry.TheVariants as entry
 use Rattle.name_space.specs.Names.{SpaceView}
 use Rattle.port.specs.declared.Attributes.{Attributes}
 use Rattle.port.specs.Ports.{PortView, PortsView, with_port}
-use Rattle.rights.specs.Ledger.{LedgerView, made}
+use Rattle.rights.specs.Ledger.{LedgerView, made, shifted}
 use Rattle.rights.specs.declared.RightKind.TheVariants as right
 use Rattle.copyin_base.specs.declared.message.Mark.{Mark}
 use Rattle.copyin_base.specs.declared.message.Mark.TheVariants as mark
@@ -67,6 +67,10 @@ ledger_copied CopySend (mark.Port p) ledger = made ledger p right.Send 1
 ledger_copied MakeSend (mark.Port p) ledger = made ledger p right.Send 1
 ledger_copied MakeSendOnce (mark.Port p) ledger = made ledger p right.SendOnce 1
 ledger_copied d one ledger = ledger
+
+-- the counts once a message is queued at the port: a send-once right that it goes by is unused no more
+abbrev pub ledger_queued : (by_once : Bool) → (port : ℕ) → LedgerView → LedgerView
+ledger_queued by_once port ledger = if by_once then shifted ledger port else ledger
 
 -- A right is copied in from what stands under the name.
 pub record CopiesRight (old : WorldView) (task : ℕ) (d : Disposition) (name : ℕ) (one : Mark) (new : WorldView) : Type 0 where

@@ -14,7 +14,7 @@ use Rattle.copyin_base.specs.declared.message.Carried.{Carried}
 use Rattle.copyin_base.specs.declared.message.Mark.TheVariants as mark
 use Rattle.copyin_base.specs.Kept.{Kept}
 use Rattle.copyin_base.specs.Worlds.{WorldView, port_at}
-use Rattle.copyin.specs.Copies.{CopiesRight}
+use Rattle.copyin.specs.Copies.{CopiesRight, ledger_queued}
 use Rattle.copyin.specs.Judging.{CopiesName, CopiesReply, CopiesBody, IsBad, BodyIsBad, made_by, made_by_reply, made_by_all}
 
 abbrev pub destination_word : Parsed → PortWord
@@ -141,4 +141,7 @@ pub record Commits (old : WorldView) (task : ℕ) (parsed : Parsed) (written : W
   pub changes : ChangesWords old task (destination_word parsed ∷ reply_words parsed ++ body_words written) (j.destination ∷ option_list j.reply ++ j.rights) mid
   pub v : PortView Kept
   pub there : port_at mid j.port ≡ Some v
-  pub rest : new ≡ record mid { ports = record (with_port mid.ports j.port (record v { queue = v.queue ++ message_for bytes j ∷ [] })) { spare = old.ports.spare - 1 } }
+  pub rest : new ≡ record mid {
+    ports = record (with_port mid.ports j.port (record v { queue = v.queue ++ message_for bytes j ∷ [] })) { spare = old.ports.spare - 1 };
+    ledger = ledger_queued (same_kind (kind_sent j.destination.given) send_once) j.port mid.ledger;
+  }

@@ -1,17 +1,17 @@
 //! Carrying out a plan.
-ghost use Rattle.std.specs.Prelude.{◌≡◌, ℕ, ◌<◌, ◌≤◌, ◌+◌, List, [], ◌∷◌};
+ghost use Rattle.std.specs.Prelude.{◌≡◌, ℕ, ◌<◌, ◌≤◌, ◌+◌, List, [], ◌∷◌, true};
 ghost use Rattle.std.specs.Option.{option_to_list};
 ghost use Rattle.mach_types.specs.Grammar.{WireBody};
 ghost use Rattle.mach_types.specs.Numbers.{most_rights};
 ghost use Rattle.mach_types.specs.declared.rights.Disposition.TheVariants as disposition_of;
 ghost use Rattle.message_codec.specs.declared.text.Parsed.{Parsed as AnyParsed};
-ghost use Rattle.rights.specs.Ledger.{IsEntered};
+ghost use Rattle.rights.specs.Ledger.{IsEntered, counts_of};
 ghost use Rattle.copyin_base.specs.declared.message.Mark.TheVariants as mark_of;
 ghost use Rattle.copyin.specs.Judging.{made_by, made_by_mark};
 ghost use Rattle.copyin.specs.Planned.{IsPlan, CanGo, CanCopy};
 ghost use Rattle.copyin.specs.Plans.{ChangesWord, ChangesWords, Commits};
 ghost use Rattle.copyin_base.specs.Stands.{IsTied};
-ghost use Rattle.copyin.specs.Copies.{ports_copied, ledger_copied, CopiesRight};
+ghost use Rattle.copyin.specs.Copies.{ports_copied, ledger_copied, ledger_queued, CopiesRight};
 
 use crate::copies::copy_right;
 use crate::judge::Plan;
@@ -114,6 +114,16 @@ pub fn copy_name(world: &mut World, task: TaskId, name: Name, carried: Carried)
     }
 }
 
+// Counts the send-once right that a message goes by, once it is queued, as unused no more.
+fn use_right(ledger: &mut Ledger, port: PortId, by_once: bool)
+    requires { by_once ≡ true → 0 < (counts_of ledger.old port).send_once }
+    ensures { ledger.new ≡ ledger_queued by_once port ledger.old }
+{
+    if by_once {
+        ledger.shift(port);
+    }
+}
+
 // A word's right goes, if the word is a name.
 fn copy_word(world: &mut World, task: TaskId, word: PortWord, carried: Carried)
     requires { CanGo world.old task (word ∷ []) (carried ∷ []) }
@@ -172,5 +182,7 @@ pub fn commit(world: &mut World, plan: Plan)
         words.body.as_slice(),
         message.rights.as_slice(),
     );
+    let by_once = message.by_once;
     world.ports.enqueue(port, message);
+    use_right(&mut world.ledger, port, by_once);
 }

@@ -13,6 +13,7 @@ use Rattle.copyin_base.specs.Shows.{Shows, target_of}
 use Rattle.copyin_base.specs.Stands.{Stands, AreTied, IsTied}
 use Rattle.name_space.specs.Entry.{port_of}
 use Rattle.copyin_base.specs.Worlds.{WorldView, entry_in, entry_at}
+use Rattle.copyin_base.proofs.Unused.{once_unused}
 
 lives : (w : WorldView) (s : State) → Shows w s → (task name : ℕ) (e : Entry) (p : ℕ) → entry_at w task name ≡ Some e → port_of e ≡ Some p → s.live_port p ≡ true
 lives w s sh task name (entry.Receive q) p at held = named_lives s sh.lawful task name p (sh.agrees.naming task name ∙ ap (option_map target_of) at ∙ ap (option_map Target.port) held)
@@ -40,4 +41,11 @@ stands_tied w task space stands there =
 
 -- What `check` and `commit` require is true of tables that show a state.
 pub stands_is_tied : (w : WorldView) (task : ℕ) → Stands w → IsTied w task
-stands_is_tied w task stands = record { tied = λ space there. stands_tied w task space stands there }
+stands_is_tied w task stands = record {
+  tied = λ space there. stands_tied w task space stands there;
+  unused = λ space there name p is.
+      let s = stands.state in
+      let a = stands.shown.agrees in
+      once_unused s stands.shown.lawful w.ledger task name p (a.counts p)
+      (a.naming task name ∙ ap (λ (o : Option SpaceView). option_map target_of (entry_in o name)) there ∙ ap (option_map target_of) is);
+}

@@ -1,13 +1,13 @@
 -- When the kernel's tables show a state of the machine: they agree with it at each task, name, port and request.
-use Rattle.std.specs.Prelude.{◌≡◌, ℕ, ◌<◌, Bool, List, [], ◌∷◌, length, Option, Some, slice_get, is_some}
+use Rattle.std.specs.Prelude.{◌≡◌, ℕ, ◌+◌, ◌<◌, Bool, List, [], ◌∷◌, length, Option, Some, slice_get, is_some}
 use Rattle.std.specs.Option.{option_map, option_to_list}
 use Rattle.std.specs.FinMap as map
-use Rattle.mach_types.specs.Tokens.{Kind, receive, send, send_once, Request, in_request, Token, count, is_of, is_held}
+use Rattle.mach_types.specs.Tokens.{Kind, receive, send, send_once, same_kind, Request, in_request, Token, count, is_of, is_held}
 use Rattle.mach_types.specs.Messages.{Entry}
 use Rattle.mach_model.specs.State.{State, Target, Names, queue}
 use Rattle.mach_model.specs.ReceiveRight.{one_if}
 use Rattle.mach_model.specs.Carried.{lying}
-use Rattle.mach_model.specs.Lawful.{IsLawful}
+use Rattle.mach_model.specs.Lawful.{IsLawful, tally}
 use Rattle.mach_model.specs.NotYet.{IsQuiet}
 use Rattle.name_space.specs.declared.Entry.{Entry as Named}
 use Rattle.name_space.specs.declared.Entry.TheVariants as named
@@ -67,15 +67,24 @@ pub record PortAgrees (v : PortView Kept) (p : ℕ) (entries : List Entry) (of_l
 abbrev pub ShowsPort : PortView Kept → State → ℕ → Type 0
 ShowsPort v s p = PortAgrees v p (queue s p) (s.limit p) (s.make_send p) (s.sequence p) (s.sets_of p)
 
--- Each count of rights is that of the ledger.
-pub record CountsAgree (ledger : LedgerView) (live : ℕ → Bool) (tokens : List Token) (p : ℕ) : Type 0 where
+-- whether it came by a send-once right
+abbrev pub came_by_once : Entry → Bool
+came_by_once e = same_kind send_once e.message.kind
+
+-- how many of the port's queued messages did
+abbrev pub onces_queued : State → (port : ℕ) → ℕ
+onces_queued s p = tally came_by_once (queue s p)
+
+-- Each count of rights is that of the ledger. Of the send-once rights, those that queued messages go by are counted apart.
+pub record CountsAgree (ledger : LedgerView) (live : ℕ → Bool) (tokens : List Token) (queued : ℕ → ℕ) (p : ℕ) : Type 0 where
   pub entered : map.contains_key ledger.counts p ≡ live p
   pub receivers : (counts_of ledger p).receive ≡ count (is_of receive p) tokens
   pub senders : (counts_of ledger p).send ≡ count (is_of send p) tokens
-  pub once_rights : (counts_of ledger p).send_once ≡ count (is_of send_once p) tokens
+  pub once_rights : (counts_of ledger p).send_once + (counts_of ledger p).destination ≡ count (is_of send_once p) tokens
+  pub destinations : (counts_of ledger p).destination ≡ queued p
 
 abbrev pub ShowsCounts : WorldView → State → ℕ → Type 0
-ShowsCounts w s p = CountsAgree w.ledger s.live_port s.ledger p
+ShowsCounts w s p = CountsAgree w.ledger s.live_port s.ledger (onces_queued s) p
 
 -- Each set stands under its task's name for it.
 pub record SetsAgree (sets : SetsView) (owner : ℕ → Option ℕ) (number : ℕ) (names : ℕ → Names) : Type 0 where

@@ -31,7 +31,7 @@ abbrev pub no_world : WorldView
 no_world = record {
   spaces = [];
   ports = record { ports = map.empty; ready = map.empty; made = 0; spare = 0 };
-  ledger = record { counts = map.empty; total = 0 };
+  ledger = record { counts = map.empty; total = 0; unused = 0 };
   sets = no_sets;
 }
 

@@ -22,7 +22,7 @@ use Rattle.copyin_base.specs.declared.message.Mark.{Mark}
 use Rattle.copyin_base.specs.declared.message.Mark.TheVariants as mark
 use Rattle.copyin_base.specs.Kept.{mark_of}
 use Rattle.copyin_base.specs.Worlds.{WorldView, entry_in}
-use Rattle.copyin_base.specs.Shows.{target_of, Agrees}
+use Rattle.copyin_base.specs.Shows.{target_of, onces_queued, Agrees}
 use Rattle.copyin_base.proofs.Changing.{target_named}
 use Rattle.copyin_base.proofs.Counting.{counts_same}
 use Rattle.copyout.specs.Giving.{joined, alone, ledger_joined, GivesPort, GivesMark, free_names, NoneLeft, NeedsOwn, MarkLacks, LackNames}
@@ -40,7 +40,7 @@ reordered_agrees w s t a r = subst (Agrees w) (sym r.rest) record {
   live_port = a.live_port;
   ports_made = a.ports_made;
   ports = a.ports;
-  counts = counts_same w.ledger s.live_port s.ledger a.counts t.ledger (λ c q. same (is_of c q));
+  counts = counts_same w.ledger s.live_port s.ledger (onces_queued s) a.counts t.ledger (λ c q. same (is_of c q));
   total = let m = r.tokens (λ x. 1) in omega (arith, m, a.total, length-weigh s.ledger, length-weigh t.ledger);
   in_sets = a.in_sets;
   requests = λ r kind q. same _ ∙ a.requests r kind q;

@@ -1,14 +1,15 @@
 -- The front message of a port is taken: the machine's state, with which the tables agree.
-use Rattle.std.proofs.Common.{◌≡◌, ℕ, ◌+◌, ◌%◌, ◌^◌, ◌<◌, List, [], ◌∷◌, refl, sym, ap, subst, ◌∙◌, arith, add-one, true, false, Bool, inr, drop}
+use Rattle.std.proofs.Common.{◌≡◌, ℕ, zero, suc, ◌+◌, ◌%◌, ◌^◌, ◌<◌, List, [], ◌∷◌, refl, sym, ap, subst, ◌∙◌, arith, add-one, true, false, Bool, inl, inr, drop}
 use Rattle.std.specs.Prelude.{◌≢◌, if◌then◌else◌, ◌&&◌, slice_get}
 use Rattle.std.proofs.lemmas.Bool.{eq-eqb}
-use Rattle.mach_types.specs.Tokens.{Kind, receive, send, send_once, Place, in_message, in_request, Token, token, count, is_of, is_held, Moves}
+use Rattle.std.proofs.lemmas.Bool.Decides.{eqb_tells}
+use Rattle.mach_types.specs.Tokens.{Kind, receive, send, send_once, same_kind, Place, in_message, in_request, Token, token, weigh, count, is_of, is_held, Moves}
 use Rattle.mach_types.specs.Messages.{to_port, Entry}
 use Rattle.mach_model.specs.State.{State, held, queue}
 use Rattle.mach_model.specs.Death.{same_place}
 use Rattle.mach_model.specs.Carried.{lying, mark_count, message_count}
 use Rattle.mach_model.specs.Receive.{with_taken}
-use Rattle.mach_model.specs.Lawful.{IsLawful}
+use Rattle.mach_model.specs.Lawful.{IsLawful, tally}
 use Rattle.mach_model.proofs.Weigh.{both_test, length-weigh}
 use Rattle.mach_model.proofs.At.{at_own, at_other}
 use Rattle.port.specs.Ports.{PortView, with_port}
@@ -17,10 +18,10 @@ use Rattle.rights.specs.declared.RightKind.TheVariants as right
 use Rattle.rights.specs.Ledger.{taken}
 use Rattle.copyin_base.specs.Kept.{Kept, message_of}
 use Rattle.copyin_base.specs.Worlds.{WorldView}
-use Rattle.copyin_base.specs.Shows.{AllKept, ShowsPort, CountsAgree, Agrees}
+use Rattle.copyin_base.specs.Shows.{AllKept, came_by_once, onces_queued, ShowsPort, CountsAgree, Agrees}
 use Rattle.copyout.specs.Takes.{TakesFront}
 use Rattle.copyin_base.proofs.Agreeing.{live_put, ports_put}
-use Rattle.copyin_base.proofs.Counting.{right_of, right_taken}
+use Rattle.copyin_base.proofs.Counting.{right_taken, once_taken, queues_same}
 use Rattle.copyin_base.proofs.Taking.{Without, take_lying}
 use Rattle.copyout.proofs.Fronts.{HasFront, behind_of, shown_front, shown_lives}
 
@@ -30,11 +31,7 @@ abbrev pub kind_by : Bool → Kind
 kind_by b = if b then send_once else send
 
 abbrev pub right_by : Bool → RightKind
-right_by b = if b then right.SendOnce else right.Send
-
-right_is : (b : Bool) → right_of (kind_by b) ≡ right_by b
-right_is true = refl
-right_is false = refl
+right_by b = if b then right.Destination else right.Send
 
 -- ---- the state
 
@@ -124,6 +121,34 @@ module _ (w : WorldView) (s : State) (a : Agrees w s) (l : IsLawful s) (p : ℕ)
     sets = x.sets;
   }
 
+  -- those that go by send-once rights
+  behind_is : onces_queued taken_state p ≡ tally came_by_once front.others
+  behind_is = ap (tally came_by_once) queue_is
+
+  came : (b : Bool) → f.front.by_once ≡ b → came_by_once entry ≡ b
+  came true is = ap (λ (c : Kind). same_kind send_once c) (kind_of_front ∙ ap kind_by is)
+  came false is = ap (λ (c : Kind). same_kind send_once c) (kind_of_front ∙ ap kind_by is)
+
+  onces_here : (b : Bool) → f.front.by_once ≡ b → onces_queued taken_state p + (if b then 1 else 0) ≡ onces_queued s p
+  onces_here b is =
+      let all : onces_queued s p ≡ (if came_by_once entry then suc zero else zero) + tally came_by_once front.others = ap (tally came_by_once) front.parts in
+      let one : (if came_by_once entry then suc zero else zero) ≡ (if b then suc zero else zero) = ap (λ (x : Bool). if x then suc zero else zero) (came b is) in
+      omega (arith, all, one, behind_is)
+
+  onces_there : (q : ℕ) → (q ≡ p → ⊥) → onces_queued s q ≡ onces_queued taken_state q
+  onces_there q not = ap (λ (n : ℕ). tally came_by_once (drop n (s.log q))) (sym (at_other s.taken p (s.taken p + 1) q not))
+
+  counted : (b : Bool) → f.front.by_once ≡ b → ((h : Token → ℕ) → weigh h left.others + h (token (kind_by b) p place) ≡ weigh h s.ledger) →
+      (q : ℕ) → CountsAgree (taken w.ledger p (right_by b) 1) s.live_port left.others (onces_queued taken_state) q
+  counted true is parts = once_taken w.ledger s.live_port s.ledger (onces_queued s) a.counts (onces_queued taken_state) p port_lives onces_there place left.others parts (onces_here true is)
+  counted false is parts =
+      queues_same (taken w.ledger p right.Send 1) s.live_port left.others (onces_queued s)
+      (right_taken w.ledger s.live_port s.ledger (onces_queued s) a.counts send p place port_lives (λ e. (cc)) left.others parts)
+      (onces_queued taken_state) (λ q. elim (eqb_tells q p) [
+        | inl h ↦ subst (λ (n : ℕ). onces_queued s n ≡ onces_queued taken_state n) (sym h.1) (let o = onces_here false is in omega (arith, o))
+        | inr h ↦ onces_there q h.1
+      ])
+
   after_agrees : Agrees after taken_state
   after_agrees = record {
     spaces = a.spaces;
@@ -131,8 +156,7 @@ module _ (w : WorldView) (s : State) (a : Agrees w s) (l : IsLawful s) (p : ℕ)
     live_port = live_put w.ports.ports p shorter s.live_port port_lives a.live_port;
     ports_made = a.ports_made;
     ports = ports_put w.ports.ports p shorter taken_state here (λ q v not is. there q v not (a.ports q v is));
-    counts = subst (λ (r : RightKind). (q : ℕ) → CountsAgree (taken w.ledger p r 1) s.live_port left.others q) (right_is f.front.by_once)
-        (right_taken w.ledger s.live_port s.ledger a.counts (kind_by f.front.by_once) p place port_lives left.others left.parts);
+    counts = counted f.front.by_once refl left.parts;
     total = let m = left.parts (λ x. 1) in omega (arith, m, a.total, length-weigh s.ledger, length-weigh taken_state.ledger);
     in_sets = a.in_sets;
     requests = λ r kind q.

@@ -26,7 +26,7 @@ use Rattle.rights.specs.declared.RightKind.TheVariants as right
 use Rattle.rights.specs.Ledger.{LedgerView, taken}
 use Rattle.copyin_base.specs.Kept.{Kept}
 use Rattle.copyin_base.specs.Worlds.{WorldView, entry_in, entry_at, port_at}
-use Rattle.copyin_base.specs.Shows.{target_of, HasCount, ShowsPort, CountsAgree, Agrees}
+use Rattle.copyin_base.specs.Shows.{target_of, HasCount, onces_queued, ShowsPort, CountsAgree, Agrees}
 use Rattle.copyout.specs.Giving.{joined, alone, JoinsName, TakesName, ledger_joined, GivesPort}
 use Rattle.copyout.specs.Putting.{NewName, PutsPort}
 use Rattle.copyin_base.proofs.Agreeing.{NamesAgree, CountRights, own_names, put_names, Near, near_agrees}
@@ -152,12 +152,12 @@ module _ (w : WorldView) (s : State) (a : Agrees w s) (tokens : List Token) (o k
   without : given_to kind p task s ≡ [] → (h : Token → ℕ) → weigh h tokens + h (token kind p (in_message o k)) ≡ weigh h s.ledger
   without goes h = let m = moves h in let e : weigh h (given_to kind p task s) ≡ 0 = ap (weigh h) goes in omega (arith, m, e)
 
-  settled_counts : (l : LedgerView) → Settled s task kind p w.ledger l → (q : ℕ) → CountsAgree l s.live_port tokens q
-  settled_counts l (inl h) q = subst (λ (x : LedgerView). CountsAgree x s.live_port tokens q) (sym h.1) (counts_same w.ledger s.live_port s.ledger a.counts tokens
+  settled_counts : (l : LedgerView) → Settled s task kind p w.ledger l → (q : ℕ) → CountsAgree l s.live_port tokens (onces_queued s) q
+  settled_counts l (inl h) q = subst (λ (x : LedgerView). CountsAgree x s.live_port tokens (onces_queued s) q) (sym h.1) (counts_same w.ledger s.live_port s.ledger (onces_queued s) a.counts tokens
       (λ c q. let m = moves (λ x. if is_of c q x then 1 else 0) in
       let e : count (is_of c q) (given_to kind p task s) ≡ count (is_of c q) (token kind p (in_task task) ∷ []) = ap (count (is_of c q)) h.0 in omega (arith, m, e)) q)
-  settled_counts l (inr h) q = subst (λ (x : LedgerView). CountsAgree x s.live_port tokens q) (sym h.2)
-      (subst (λ (c : Kind). CountsAgree (taken w.ledger p (right_of c) 1) s.live_port tokens q) h.0 (right_taken w.ledger s.live_port s.ledger a.counts kind p (in_message o k) is_live tokens (without h.1) q))
+  settled_counts l (inr h) q = subst (λ (x : LedgerView). CountsAgree x s.live_port tokens (onces_queued s) q) (sym h.2)
+      (subst (λ (c : Kind). CountsAgree (taken w.ledger p (right_of c) 1) s.live_port tokens (onces_queued s) q) h.0 (right_taken w.ledger s.live_port s.ledger (onces_queued s) a.counts kind p (in_message o k) is_live (λ e. let f : send ≡ send_once = sym h.0 ∙ e in cc) tokens (without h.1) q))
 
   settled_total : (l : LedgerView) → Settled s task kind p w.ledger l → l.total ≡ length tokens
   settled_total l (inl h) =

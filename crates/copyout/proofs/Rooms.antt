@@ -78,12 +78,12 @@ front_there : (w mid : WorldView) (task port : ℕ) (t : TakesFront w port mid) 
 front_there w mid task port t space there = ap (λ (x : WorldView). slice_get x.spaces task) t.rest ∙ there
 
 sends_dest : (once : Bool) (m : LedgerView) (p q : ℕ) →
-    (counts_of m q).send ≤ (counts_of (taken m p (if once then right.SendOnce else right.Send) 1) q).send + (if once then 0 else if p == q then 1 else 0)
+    (counts_of m q).send ≤ (counts_of (taken m p (if once then right.Destination else right.Send) 1) q).send + (if once then 0 else if p == q then 1 else 0)
 sends_dest false m p q = sends-taken m p q
 sends_dest true m p q = elim (equal_or_not q p) [
-  | inl e ↦ subst (λ (k : ℕ). (counts_of m k).send ≤ (counts_of (taken m p right.SendOnce 1) k).send + 0) (sym e)
-      (let f : (counts_of (taken m p right.SendOnce 1) p).send ≡ (counts_of m p).send = ap (λ (o : Option Counts). (unwrap_or o no_rights).send) (put_here m.counts p (with_fewer right.SendOnce 1 (counts_of m p))) in omega arith)
-  | inr n ↦ let f : (counts_of (taken m p right.SendOnce 1) q).send ≡ (counts_of m q).send = ap (λ (o : Option Counts). (unwrap_or o no_rights).send) (put_other m.counts p (with_fewer right.SendOnce 1 (counts_of m p)) q n) in omega arith
+  | inl e ↦ subst (λ (k : ℕ). (counts_of m k).send ≤ (counts_of (taken m p right.Destination 1) k).send + 0) (sym e)
+      (let f : (counts_of (taken m p right.Destination 1) p).send ≡ (counts_of m p).send = ap (λ (o : Option Counts). (unwrap_or o no_rights).send) (put_here m.counts p (with_fewer right.Destination 1 (counts_of m p))) in omega arith)
+  | inr n ↦ let f : (counts_of (taken m p right.Destination 1) q).send ≡ (counts_of m q).send = ap (λ (o : Option Counts). (unwrap_or o no_rights).send) (put_other m.counts p (with_fewer right.Destination 1 (counts_of m p)) q n) in omega arith
 ]
 
 pub can_deliver : (w mid : WorldView) (task port capacity : ℕ) (r : ReadyFor w task port capacity) (t : TakesFront w port mid) → CanGive mid task (carried_by t.front)

@@ -1,12 +1,13 @@
 -- A message that waits in tables that show a state can be received: its rights are counted, and its bytes are laid out.
-use Rattle.std.proofs.Common.{◌≡◌, ℕ, ◌+◌, ◌≤◌, List, [], ◌∷◌, Some, refl, sym, ap, ◌∙◌, arith, true, false, Bool}
+use Rattle.std.proofs.Common.{◌≡◌, ℕ, zero, suc, ◌+◌, ◌≤◌, List, [], ◌∷◌, Some, refl, sym, ap, ◌∙◌, arith, true, false, Bool}
 use Rattle.std.specs.Prelude.{slice_get, if◌then◌else◌, ◌==◌}
 use Rattle.std.proofs.lemmas.Bool.{eq-eqb}
 use Rattle.mach_types.specs.Numbers.{kind_sent}
-use Rattle.mach_types.specs.Tokens.{Kind, receive, send, send_once, in_message, count, is_of}
-use Rattle.mach_types.specs.Messages.{Entry, to_port}
+use Rattle.mach_types.specs.Tokens.{Kind, receive, send, send_once, same_kind, in_message, count, is_of}
+use Rattle.mach_types.specs.Messages.{Entry, Message, to_port}
 use Rattle.mach_model.specs.State.{State, queue}
 use Rattle.mach_model.specs.Carried.{mark_count, rights_count}
+use Rattle.mach_model.specs.Lawful.{tally}
 use Rattle.mach_model.proofs.Weigh.{lying_le_of}
 use Rattle.message_codec.specs.Spans.{word_count}
 use Rattle.port.specs.Ports.{PortView}
@@ -17,7 +18,7 @@ use Rattle.copyin_base.specs.declared.message.Mark.{Mark}
 use Rattle.copyin_base.specs.declared.message.Mark.TheVariants as mark
 use Rattle.copyin_base.specs.Kept.{Kept, mark_of, body_given}
 use Rattle.copyin_base.specs.Worlds.{WorldView, port_at}
-use Rattle.copyin_base.specs.Shows.{Shows}
+use Rattle.copyin_base.specs.Shows.{came_by_once, onces_queued, Shows}
 use Rattle.copyout.specs.Ready.{send_for, sends_for, carried_by, AllEntered, Waits}
 use Rattle.copyout.specs.Takes.{destination_right}
 use Rattle.copyout.proofs.Rights.{rights_of, message_counted}
@@ -64,10 +65,10 @@ module _ (w : WorldView) (s : State) (sh : Shows w s) (p : ℕ) (v : PortView Ke
 
   destination : (b : Bool) → m.by_once ≡ b → 1 ≤ number_of (destination_right m) (counts_of w.ledger p)
   destination true e =
-      let live = shown_lives w s sh.agrees p v there m behind queued in
-      let l = lies send_once p live in
-      let k : mark_count send_once p (if m.by_once then send_once else send) (to_port p) ≡ 1 = ap (λ (x : Bool). mark_count send_once p (if x then send_once else send) (to_port p)) e ∙ by_kind true in
-      let c = (sh.agrees.counts p).once_rights in rw e (omega (arith, l, k, c))
+      let once : came_by_once front.first ≡ true = ap (λ (x : Message). same_kind send_once x.kind) front.keeps.message_is ∙ ap (λ (x : Bool). same_kind send_once (if x then send_once else send)) e in
+      let all : onces_queued s p ≡ (if came_by_once front.first then suc zero else zero) + tally came_by_once front.others = ap (tally came_by_once) front.parts in
+      let one : (if came_by_once front.first then suc zero else zero) ≡ suc zero = rw once in
+      let c = (sh.agrees.counts p).destinations in rw e (omega (arith, all, one, c))
   destination false e =
       let live = shown_lives w s sh.agrees p v there m behind queued in
       let l = lies send p live in

@@ -16,7 +16,7 @@ use Rattle.copyout.specs.Giving.{GivesAll}
 
 -- the right by which it goes
 abbrev pub destination_right : Kept → RightKind
-destination_right m = if m.by_once then right.SendOnce else right.Send
+destination_right m = if m.by_once then right.Destination else right.Send
 
 -- The port's front message goes, its number is used, its slot is spare, and its destination right is consumed.
 pub record TakesFront (old : WorldView) (port : ℕ) (new : WorldView) : Type 0 where

@@ -82,7 +82,7 @@ fn consume(world: &mut World, port: PortId, message: &Message)
     ensures { world.new ≡ record world.old { ledger = taken world.old.ledger port (destination_right message.now) 1 } }
 {
     let kind = if message.by_once {
-        RightKind::SendOnce
+        RightKind::Destination
     } else {
         RightKind::Send
     };

@@ -65,6 +65,7 @@ still_plan w w2 n task parsed written bytes plan e p = subst (λ (x : WorldView)
 pub still_tied : (w w2 : WorldView) (n task : ℕ) → w2 ≡ with_slots w n → IsTied w task → IsTied w2 task
 still_tied w w2 n task e t = subst (λ (x : WorldView). IsTied x task) (sym e) record {
   tied = λ space there. let a = t.tied space there in record { live = a.live; entered = a.entered; not_null = a.not_null; not_dead = a.not_dead };
+  unused = t.unused;
 }
 
 -- the slot that was made, if there was none

@@ -55,6 +55,7 @@ opening_agrees = record {
     receivers = rw (map.get-empty {X = Counts} nat_cmp p) refl;
     senders = rw (map.get-empty {X = Counts} nat_cmp p) refl;
     once_rights = rw (map.get-empty {X = Counts} nat_cmp p) refl;
+    destinations = rw (map.get-empty {X = Counts} nat_cmp p) refl;
   };
   total = refl;
   in_sets = record {

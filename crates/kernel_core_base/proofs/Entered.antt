@@ -14,13 +14,13 @@ no_more : (m : map.FinMap nat_cmp Counts) (p : ℕ) → map.get m p ≡ None →
 no_more m p none = alike (map.remove (map.insert m p no_rights) p) m
     (each_put (map.insert m p no_rights) p None (λ n o. o ≡ map.get m n) (sym none) (λ n not. put_other m p (Some no_rights) n not))
 
-same_ledger : (l : LedgerView) (m : map.FinMap nat_cmp Counts) (t : ℕ) → m ≡ l.counts → t ≡ l.total → ◌≡◌ {A = LedgerView} (record { counts = m; total = t }) l
-same_ledger l m t e f = λ i. record { counts = e i; total = f i }
+same_ledger : (l : LedgerView) (m : map.FinMap nat_cmp Counts) (t u : ℕ) → m ≡ l.counts → t ≡ l.total → u ≡ l.unused → ◌≡◌ {A = LedgerView} (record { counts = m; total = t; unused = u }) l
+same_ledger l m t u e f g = λ i. record { counts = e i; total = f i; unused = g i }
 
 pub entered_and_left : (l : LedgerView) (p : ℕ) → map.get l.counts p ≡ None → left (entered l p) p ≡ l
 entered_and_left l p none =
     let is : counts_of (entered l p) p ≡ no_rights = ap (λ (o : Option Counts). unwrap_or o no_rights) (get_own l.counts p no_rights) in
-    same_ledger l _ _ (no_more l.counts p none) (rw is (omega arith))
+    same_ledger l _ _ _ (no_more l.counts p none) (rw is (omega arith)) (rw is (omega arith))
 
 pub entered_there : (l m : LedgerView) (p q : ℕ) → m ≡ entered l p → q ≡ p → IsEntered m q
 entered_there l m p q is same = rw (is, same) (ap is_some (get_own l.counts p no_rights))

@@ -25,7 +25,7 @@ use Rattle.rights.specs.Counts.{no_rights}
 use Rattle.rights.specs.Ledger.{LedgerView, entered, made}
 use Rattle.copyin_base.specs.Kept.{Kept}
 use Rattle.copyin_base.specs.Worlds.{WorldView, entry_in}
-use Rattle.copyin_base.specs.Shows.{Agrees, CountsAgree, ShowsPort, HasCount, target_of}
+use Rattle.copyin_base.specs.Shows.{Agrees, onces_queued, CountsAgree, ShowsPort, HasCount, target_of}
 use Rattle.copyin_base.proofs.Agreeing.{NamesAgree, CountRights, own_names, own_rights, put_names, put_rights, spaces_agree, references_agree, sets_stay, ports_put}
 use Rattle.copyin_base.proofs.Changing.{target_named}
 use Rattle.copyin_base.proofs.Counting.{counts_agree, right_made}
@@ -120,9 +120,15 @@ module _ (w : WorldView) (s : State) (a : Agrees w s) (l : IsLawful s) where
 
     -- ---- counts
 
-    was_entered : (q : ℕ) → CountsAgree (entered w.ledger new) t.live_port s.ledger q
-    was_entered = counts_agree w.ledger s.live_port s.ledger a.counts (entered w.ledger new) t.live_port s.ledger new no_rights refl (sym (at_own s.live_port new true))
-        (sym (none_made receive)) (sym (none_made send)) (sym (none_made send_once)) (λ q not. (sym (at_other s.live_port new true q not), λ c. refl))
+    none_queued : onces_queued t new ≡ 0
+    none_queued = rw (eq-eqb new new refl) refl
+
+    queued_other : (q : ℕ) → (q ≡ new → ⊥) → onces_queued s q ≡ onces_queued t q
+    queued_other q not = rw (ne_eqb q new not) refl
+
+    was_entered : (q : ℕ) → CountsAgree (entered w.ledger new) t.live_port s.ledger (onces_queued t) q
+    was_entered = counts_agree w.ledger s.live_port s.ledger (onces_queued s) a.counts (entered w.ledger new) t.live_port s.ledger (onces_queued t) new no_rights refl (sym (at_own s.live_port new true))
+        (sym (none_made receive)) (sym (none_made send)) (sym (none_made send_once)) (sym none_queued) (λ q not. (sym (at_other s.live_port new true q not), queued_other q not, λ c. refl))
 
     requests : (r : Request) (kind : Kind) (q : ℕ) → lying t kind q (in_request r) ≡ lying s kind q (in_request r)
     requests r kind q = let z = both_test (is_of kind q (token receive new (in_task task))) false (inr refl) in omega (arith, z)
@@ -139,7 +145,7 @@ module _ (w : WorldView) (s : State) (a : Agrees w s) (l : IsLawful s) where
       live_port = each_put w.ports.ports new (Some first_port) (λ q o. is_some o ≡ t.live_port q) (sym (at_own s.live_port new true)) (λ q not. a.live_port q ∙ sym (at_other s.live_port new true q not));
       ports_made = ap (λ (n : ℕ). n + 1) a.ports_made;
       ports = ports_put w.ports.ports new first_port t first_shows (λ q v not is. rw (ne_eqb q new not) (a.ports q v is));
-      counts = right_made (entered w.ledger new) t.live_port s.ledger was_entered receive new (in_task task) (at_own s.live_port new true);
+      counts = right_made (entered w.ledger new) t.live_port s.ledger (onces_queued t) was_entered receive new (in_task task) (at_own s.live_port new true);
       total = let x = a.total in omega (arith, x);
       in_sets = sets_stay w.sets s.set_owner s.sets_made s.naming t.naming a.in_sets task (at_other s.naming task _)
           (λ n set is. ap (λ (m : Names). map.get m n) (at_own s.naming task _) ∙ kept (s.naming task) name (Target.port new) n (Target.set set) not_named is);

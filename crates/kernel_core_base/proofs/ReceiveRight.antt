@@ -1,5 +1,5 @@
 -- What a task asks of a receive right, and sets.
-use Rattle.std.proofs.Common.{◌≡◌, ℕ, ◌<◌, ◌≤◌, ◌^◌, [], List, Option, Some, None, refl, sym, ap, subst, ◌∙◌, arith, inl, inr, length}
+use Rattle.std.proofs.Common.{◌≡◌, ℕ, ◌+◌, ◌<◌, ◌≤◌, ◌^◌, true, [], List, Option, Some, None, refl, sym, ap, subst, ◌∙◌, arith, inl, inr, length}
 use Rattle.std.specs.Prelude.{min, nat_lt, Contains}
 use Rattle.std.specs.Option.{option_map, option_to_list, unwrap_or}
 use Rattle.std.specs.FinMap as map
@@ -9,10 +9,11 @@ use Rattle.mach_types.specs.declared.calls.Reply.{Reply}
 use Rattle.mach_types.specs.declared.calls.Status.{Status}
 use Rattle.mach_types.specs.declared.codes.KernReturn.TheVariants.{InvalidValue}
 use Rattle.mach_types.specs.Numbers.{kern_number, greatest_limit}
-use Rattle.mach_types.specs.Tokens.{receive, no_senders, port_destroyed}
+use Rattle.mach_types.specs.Tokens.{receive, send_once, is_of, no_senders, port_destroyed}
 use Rattle.mach_model.specs.State.{State, Target, lookup, Holds, queue, at}
 use Rattle.mach_model.specs.ReceiveRight.{NamesSetOf, TellsStatus, one_if}
 use Rattle.mach_model.specs.Refusals.{receive_guards, call_guards}
+use Rattle.mach_model.proofs.Weigh.{length-weigh, count_le}
 use Rattle.port.specs.declared.Attributes.{Attributes}
 use Rattle.port.specs.Ports.{PortView}
 use Rattle.port_set.specs.declared.SetRecord.{SetRecord}
@@ -86,7 +87,11 @@ has_port w task name p stands f =
     let x = port_there w s a p live in
     let few = few_queued s stands.shown.lawful p live in
     let many = as_many p (x.0).queue (queue s p) (a.ports p x.0 x.1).waiting in
-    record { v = x.0; there = x.1; entered = port_entered w s a p live; few = omega (arith, few, many) }
+    let le = count_le (is_of send_once p) (λ x. true) (λ x h. refl) s.ledger in
+    let all = length-weigh s.ledger in
+    let rights = stands.shown.lawful.few_rights in
+    let onces = (a.counts p).once_rights in
+    record { v = x.0; there = x.1; entered = port_entered w s a p live; few = omega (arith, few, many); few_once = omega (arith, le, all, rights, onces) }
 
 pub status_told : (w : WorldView) (task name p : ℕ) (status : Status) → task < length w.spaces → FindsReceive w task name p → TellsPort w p status →
     Acts w (Event.ReceiveStatus task name) (Reply.Status status) w

@@ -22,7 +22,7 @@ use Rattle.rights.specs.Counts.{with_more, with_fewer}
 use Rattle.rights.specs.Ledger.{LedgerView, made, taken, counts_of}
 use Rattle.rights.specs.declared.RightKind.TheVariants as right
 use Rattle.copyin_base.specs.Worlds.{WorldView, put}
-use Rattle.copyin_base.specs.Shows.{target_of, HasCount, CountsAgree, Agrees, Shows}
+use Rattle.copyin_base.specs.Shows.{target_of, HasCount, onces_queued, CountsAgree, Agrees, Shows}
 use Rattle.copyin_base.proofs.Agreeing.{own_names, own_rights, put_names, put_rights, sets_stay}
 use Rattle.copyin_base.proofs.Changing.{named_no_set, target_named, target_found, held_by, changed_agrees}
 use Rattle.copyin_base.proofs.Counting.{one_of, none_of_port, counts_agree}
@@ -75,16 +75,16 @@ module _ (w : WorldView) (s : State) (sh : Shows w s) (task name : ℕ) (space :
         let e = recounts.moves h in omega (arith, g, c, e)
 
     -- the counts become those of the ledger
-    counted : (q : ℕ) → CountsAgree (recounted w.ledger p (held s task send p) m) s.live_port ledger q
+    counted : (q : ℕ) → CountsAgree (recounted w.ledger p (held s task send p) m) s.live_port ledger (onces_queued s) q
     counted = go (nat_lt (held s task send p) m) refl
       where
-        others : (q : ℕ) → (q ≡ p → ⊥) → (s.live_port q ≡ s.live_port q) × ((c : Kind) → count (is_of c q) s.ledger ≡ count (is_of c q) ledger)
-        others q not = (refl, λ c. sym (same_weight (λ x. if is_of c q x then 1 else 0) (none_of_port send c p q (in_task task) not)))
+        others : (q : ℕ) → (q ≡ p → ⊥) → (s.live_port q ≡ s.live_port q) × (onces_queued s q ≡ onces_queued s q) × ((c : Kind) → count (is_of c q) s.ledger ≡ count (is_of c q) ledger)
+        others q not = (refl, refl, λ c. sym (same_weight (λ x. if is_of c q x then 1 else 0) (none_of_port send c p q (in_task task) not)))
 
         receives : (counts_of w.ledger p).receive ≡ count (is_of receive p) ledger
         receives = (sh.agrees.counts p).receivers ∙ sym (same_weight (λ x. if is_of receive p x then 1 else 0) refl)
 
-        onces : (counts_of w.ledger p).send_once ≡ count (is_of send_once p) ledger
+        onces : (counts_of w.ledger p).send_once + (counts_of w.ledger p).destination ≡ count (is_of send_once p) ledger
         onces = (sh.agrees.counts p).once_rights ∙ sym (same_weight (λ x. if is_of send_once p x then 1 else 0) refl)
 
         sends : count (is_of send p) ledger + (held s task send p - m) ≡ (counts_of w.ledger p).send + (m - held s task send p)
@@ -93,12 +93,12 @@ module _ (w : WorldView) (s : State) (sh : Shows w s) (task name : ℕ) (space :
             let c = (sh.agrees.counts p).senders in omega (arith, e, c)
 
         go : (b : Bool) → nat_lt (held s task send p) m ≡ b → (q : ℕ) →
-            CountsAgree (if b then made w.ledger p right.Send (m - held s task send p) else taken w.ledger p right.Send (held s task send p - m)) s.live_port ledger q
-        go true e = counts_agree w.ledger s.live_port s.ledger sh.agrees.counts (made w.ledger p right.Send (m - held s task send p)) s.live_port ledger p
-            (with_more right.Send (m - held s task send p) (counts_of w.ledger p)) refl (sym live) receives (let below = ltb-true (held s task send p) m e in let k = sends in omega (arith, below, k)) onces others
-        go false e = counts_agree w.ledger s.live_port s.ledger sh.agrees.counts (taken w.ledger p right.Send (held s task send p - m)) s.live_port ledger p
+            CountsAgree (if b then made w.ledger p right.Send (m - held s task send p) else taken w.ledger p right.Send (held s task send p - m)) s.live_port ledger (onces_queued s) q
+        go true e = counts_agree w.ledger s.live_port s.ledger (onces_queued s) sh.agrees.counts (made w.ledger p right.Send (m - held s task send p)) s.live_port ledger (onces_queued s) p
+            (with_more right.Send (m - held s task send p) (counts_of w.ledger p)) refl (sym live) receives (let below = ltb-true (held s task send p) m e in let k = sends in omega (arith, below, k)) onces (sh.agrees.counts p).destinations others
+        go false e = counts_agree w.ledger s.live_port s.ledger (onces_queued s) sh.agrees.counts (taken w.ledger p right.Send (held s task send p - m)) s.live_port ledger (onces_queued s) p
             (with_fewer right.Send (held s task send p - m) (counts_of w.ledger p)) refl (sym live) receives
-            (let above = ltb-false (held s task send p) m e in let k = sends in let le = held_le_of task send p s.ledger in let c = (sh.agrees.counts p).senders in omega (arith, above, k, le, c)) onces others
+            (let above = ltb-false (held s task send p) m e in let k = sends in let le = held_le_of task send p s.ledger in let c = (sh.agrees.counts p).senders in omega (arith, above, k, le, c)) onces (sh.agrees.counts p).destinations others
 
     total : (recounted w.ledger p (held s task send p) m).total ≡ length ledger
     total =

@@ -1,5 +1,5 @@
 -- What the tables tell of a port whose receive right is named.
-use Rattle.std.specs.Prelude.{◌≡◌, ℕ, ◌<◌, ◌^◌, length, min, Option, Some}
+use Rattle.std.specs.Prelude.{◌≡◌, ℕ, ◌+◌, ◌<◌, ◌^◌, length, min, Option, Some}
 use Rattle.std.specs.Option.{option_map, option_and_then, unwrap_or}
 use Rattle.std.specs.FinMap as map
 use Rattle.mach_types.specs.declared.calls.Status.{Status}
@@ -23,18 +23,19 @@ status_of sets v c = record {
   make_send = v.attributes.make_send;
   limit = v.attributes.limit;
   queued = length v.queue;
-  send_once = c.send_once;
+  send_once = c.send_once + c.destination;
   has_send = min c.send 1;
   port_destroyed = 0;
   no_senders = 0;
 }
 
--- The port and its counts are there, and a 32-bit number counts its messages.
+-- The port and its counts are there, and a 32-bit number counts its messages, as another its send-once rights.
 pub record HasPort (w : WorldView) (port : ℕ) : Type 0 where
   pub v : PortView Kept
   pub there : port_at w port ≡ Some v
   pub entered : IsEntered w.ledger port
   pub few : length v.queue < 2 ^ 32
+  pub few_once : (counts_of w.ledger port).send_once + (counts_of w.ledger port).destination < 2 ^ 32
 
 pub record TellsPort (w : WorldView) (port : ℕ) (status : Status) : Type 0 where
   pub v : PortView Kept

@@ -39,7 +39,7 @@ fn status_of(world: &World, port: PortId) -> Status
         make_send: attributes.make_send,
         limit: attributes.limit,
         queued: world.ports.queued(port) as u32,
-        send_once: counts.send_once,
+        send_once: counts.send_once + counts.destination,
         has_send: counts.send.min(1),
         port_destroyed: 0,
         no_senders: 0,

@@ -30,6 +30,14 @@ fn take(ledger: &mut Ledger, port: PortId, kind: RightKind, number: u32) -> bool
     is_there
 }
 
+fn shift(ledger: &mut Ledger, port: PortId) -> bool {
+    let is_there = has(ledger, port, RightKind::SendOnce, 1);
+    if is_there {
+        ledger.shift(port);
+    }
+    is_there
+}
+
 #[test]
 fn rights_are_counted(rt: HostRuntime) -> Result<(), Fail> {
     let mut ledger = Ledger::new(rt.alloc());
@@ -44,8 +52,12 @@ fn rights_are_counted(rt: HostRuntime) -> Result<(), Fail> {
     assert!(rt; take(&mut ledger, port, RightKind::SendOnce, 1));
     assert!(rt; !take(&mut ledger, port, RightKind::SendOnce, 2));
     assert!(rt; has(&ledger, port, RightKind::SendOnce, 1));
+    assert!(rt; shift(&mut ledger, port));
+    assert!(rt; !shift(&mut ledger, port));
+    assert_eq!(rt; ledger.unused(), 0);
+    assert!(rt; has(&ledger, port, RightKind::Destination, 1));
     let counts = ledger.leave(port);
-    assert_eq!(rt; counts.send_once, 1);
+    assert_eq!(rt; counts.send_once, 0);
     assert_eq!(rt; ledger.total(), 0);
     assert!(rt; ledger.counts(port).is_none());
     Ok(())

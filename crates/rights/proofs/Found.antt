@@ -1,9 +1,12 @@
 -- What the counts of a port are among all.
-use Rattle.std.proofs.Common.{◌≡◌, ℕ, ◌+◌, ◌≤◌, true, false, refl, ap, ◌∙◌, Option, Some, None, is_some, arith}
+use Rattle.std.proofs.Common.{◌≡◌, ℕ, ◌+◌, ◌≤◌, ◌<◌, ◌^◌, true, false, refl, ap, ◌∙◌, Option, Some, None, is_some, arith}
 use Rattle.std.specs.Option.{unwrap_or, option_map}
 use Rattle.std.specs.FinMap as map
+use Rattle.std.proofs.lemmas.List.Sums.{sum_by-le-sum_by}
 use Rattle.rights.specs.declared.Counts.{Counts}
-use Rattle.rights.specs.Counts.{no_rights, all_of}
+use Rattle.rights.specs.declared.RightKind.{RightKind}
+use Rattle.rights.specs.declared.RightKind.TheVariants.{Receive, Send, SendOnce, Destination}
+use Rattle.rights.specs.Counts.{no_rights, unused_of, all_of}
 use Rattle.rights.specs.Counted.{IsCounted}
 use Rattle.rights.specs.Ledger.{LedgerView, IsEntered, counts_of}
 use Rattle.rights.proofs.Sums.{Counted, sum_over, sum-empty, sum-insert, sum-remove}
@@ -12,50 +15,94 @@ some_unwrapped : {X : Type 0} (o : Option X) (d : X) → is_some o ≡ true → 
 some_unwrapped None d h = absurd (let no_true : false ≡ true = h in cc)
 some_unwrapped (Some x) d h = refl
 
-pub counted-empty : (m : Counted) → m ≡ map.empty → IsCounted m 0
-counted-empty m e = record { all_counted = ap (λ (n : Counted). sum_over all_of n) e ∙ sum-empty all_of }
+abbrev once_of : Counts → ℕ
+once_of c = c.send_once
 
-module _ (m : Counted) (total : ℕ) (counted : IsCounted m total) (l : LedgerView) (view_is : record { counts = m; total = total } ≡ l) (port : ℕ) where
-  pub get_is : map.get m port ≡ map.get l.counts port
-  get_is = ap (λ (v : LedgerView). map.get v.counts port) view_is
+pub counted-empty : (m : Counted) → m ≡ map.empty → IsCounted m 0 0
+counted-empty m e = record {
+  all_counted = ap (λ (n : Counted). sum_over all_of n) e ∙ sum-empty all_of;
+  once_counted = ap (λ (n : Counted). sum_over once_of n) e ∙ sum-empty once_of;
+}
 
-  pub entered : IsEntered l port → map.get m port ≡ Some (counts_of l port)
-  entered there = get_is ∙ some_unwrapped _ no_rights there
+unused_of-le : (kind : RightKind) (number : ℕ) → unused_of kind number ≤ number
+unused_of-le Receive number = omega arith
+unused_of-le Send number = omega arith
+unused_of-le SendOnce number = omega arith
+unused_of-le Destination number = omega arith
 
-  pub counts-le-total : IsEntered l port → all_of (counts_of l port) ≤ l.total
-  counts-le-total there =
-      let rest = sum-remove m port all_of (counts_of l port) (entered there) in
-      let all = counted.all_counted in
-      let same : total ≡ l.total = ap (λ (v : LedgerView). v.total) view_is in
-      omega arith
+module _ (m : Counted) (total unused : ℕ) (counted : IsCounted m total unused) (l : LedgerView) (view_is : record { counts = m; total = total; unused = unused } ≡ l) where
+  same_total : total ≡ l.total
+  same_total = ap (λ (v : LedgerView). v.total) view_is
 
-  pub counted-entered : map.get l.counts port ≡ None → (n : Counted) → n ≡ map.insert m port no_rights → IsCounted n total
-  counted-entered none n e = record {
-    all_counted =
-        let more = sum-insert m port all_of no_rights in
-        let nothing : unwrap_or (option_map all_of (map.get m port)) 0 ≡ 0 = ap (λ o. unwrap_or (option_map all_of o) 0) (get_is ∙ none) in
-        let all = counted.all_counted in
-        let new : sum_over all_of n ≡ sum_over all_of (map.insert m port no_rights) = ap (λ (x : Counted). sum_over all_of x) e in
-        let no : all_of no_rights ≡ 0 = refl in
-        omega arith;
-  }
+  same_unused : unused ≡ l.unused
+  same_unused = ap (λ (v : LedgerView). v.unused) view_is
 
-  pub counted-stored : IsEntered l port → (c : Counts) (then : ℕ) → then + all_of (counts_of l port) ≡ l.total + all_of c → (n : Counted) → n ≡ map.insert m port c → IsCounted n then
-  counted-stored there c then balance n e = record {
-    all_counted =
-        let more = sum-insert m port all_of c in
-        let held : unwrap_or (option_map all_of (map.get m port)) 0 ≡ all_of (counts_of l port) = ap (λ o. unwrap_or (option_map all_of o) 0) (entered there) in
-        let all = counted.all_counted in
-        let same : total ≡ l.total = ap (λ (v : LedgerView). v.total) view_is in
-        let new : sum_over all_of n ≡ sum_over all_of (map.insert m port c) = ap (λ (x : Counted). sum_over all_of x) e in
-        omega arith;
-  }
+  -- a send-once right is a right
+  pub unused-le-total : l.unused ≤ l.total
+  unused-le-total =
+      let less : sum_over once_of m ≤ sum_over all_of m = sum_by-le-sum_by once_of all_of (map.values m) (λ c. omega arith) in
+      omega (arith, less, counted.all_counted, counted.once_counted, same_total, same_unused)
 
-  pub counted-left : IsEntered l port → (then : ℕ) → then + all_of (counts_of l port) ≡ total → (n : Counted) → n ≡ map.remove m port → IsCounted n then
-  counted-left there then balance n e = record {
-    all_counted =
+  -- so many more fit, where as many rights do
+  pub more-unused : (kind : RightKind) (number : ℕ) → l.total + number < 2 ^ 32 → unused + unused_of kind number < 2 ^ 32
+  more-unused kind number few = let h = unused_of-le kind number in omega (arith, h, few, unused-le-total, same_unused)
+
+  module _ (port : ℕ) where
+    pub get_is : map.get m port ≡ map.get l.counts port
+    get_is = ap (λ (v : LedgerView). map.get v.counts port) view_is
+
+    pub entered : IsEntered l port → map.get m port ≡ Some (counts_of l port)
+    entered there = get_is ∙ some_unwrapped _ no_rights there
+
+    pub counts-le-total : IsEntered l port → all_of (counts_of l port) ≤ l.total
+    counts-le-total there =
         let rest = sum-remove m port all_of (counts_of l port) (entered there) in
-        let all = counted.all_counted in
-        let new : sum_over all_of n ≡ sum_over all_of (map.remove m port) = ap (λ (x : Counted). sum_over all_of x) e in
-        omega arith;
-  }
+        omega (arith, rest, counted.all_counted, same_total)
+
+    pub once-le-unused : IsEntered l port → (counts_of l port).send_once ≤ l.unused
+    once-le-unused there =
+        let rest = sum-remove m port once_of (counts_of l port) (entered there) in
+        omega (arith, rest, counted.once_counted, same_unused)
+
+    -- with no rights more
+    no_more : map.get l.counts port ≡ None → (f : Counts → ℕ) → f no_rights ≡ 0 → (n : Counted) → n ≡ map.insert m port no_rights → sum_over f n ≡ sum_over f m
+    no_more none f zero n e =
+        let more = sum-insert m port f no_rights in
+        let nothing : unwrap_or (option_map f (map.get m port)) 0 ≡ 0 = ap (λ o. unwrap_or (option_map f o) 0) (get_is ∙ none) in
+        let new : sum_over f n ≡ sum_over f (map.insert m port no_rights) = ap (λ (x : Counted). sum_over f x) e in
+        omega (arith, more, nothing, new, zero)
+
+    pub counted-entered : map.get l.counts port ≡ None → (n : Counted) → n ≡ map.insert m port no_rights → IsCounted n total unused
+    counted-entered none n e = record {
+      all_counted = no_more none all_of refl n e ∙ counted.all_counted;
+      once_counted = no_more none once_of refl n e ∙ counted.once_counted;
+    }
+
+    -- with other counts of the port
+    with_other : IsEntered l port → (c : Counts) (f : Counts → ℕ) (n : Counted) → n ≡ map.insert m port c → sum_over f n + f (counts_of l port) ≡ sum_over f m + f c
+    with_other there c f n e =
+        let more = sum-insert m port f c in
+        let held : unwrap_or (option_map f (map.get m port)) 0 ≡ f (counts_of l port) = ap (λ o. unwrap_or (option_map f o) 0) (entered there) in
+        let new : sum_over f n ≡ sum_over f (map.insert m port c) = ap (λ (x : Counted). sum_over f x) e in
+        omega (arith, more, held, new)
+
+    pub counted-stored : IsEntered l port → (c : Counts) (then then_unused : ℕ) → then + all_of (counts_of l port) ≡ l.total + all_of c →
+        then_unused + (counts_of l port).send_once ≡ l.unused + c.send_once → (n : Counted) → n ≡ map.insert m port c → IsCounted n then then_unused
+    counted-stored there c then then_unused balance once n e = record {
+      all_counted = let s = with_other there c all_of n e in omega (arith, s, balance, counted.all_counted, same_total);
+      once_counted = let s = with_other there c once_of n e in omega (arith, s, once, counted.once_counted, same_unused);
+    }
+
+    -- without the port
+    with_none : IsEntered l port → (f : Counts → ℕ) (n : Counted) → n ≡ map.remove m port → sum_over f n + f (counts_of l port) ≡ sum_over f m
+    with_none there f n e =
+        let rest = sum-remove m port f (counts_of l port) (entered there) in
+        let new : sum_over f n ≡ sum_over f (map.remove m port) = ap (λ (x : Counted). sum_over f x) e in
+        omega (arith, rest, new)
+
+    pub counted-left : IsEntered l port → (then then_unused : ℕ) → then + all_of (counts_of l port) ≡ total → then_unused + (counts_of l port).send_once ≡ unused →
+        (n : Counted) → n ≡ map.remove m port → IsCounted n then then_unused
+    counted-left there then then_unused balance once n e = record {
+      all_counted = let s = with_none there all_of n e in omega (arith, s, balance, counted.all_counted);
+      once_counted = let s = with_none there once_of n e in omega (arith, s, once, counted.once_counted);
+    }

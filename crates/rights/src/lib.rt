@@ -10,6 +10,7 @@ ghost use Rattle.std.specs.FinMap as map;
 ghost use Rattle.std.specs.Ordering.{nat_cmp};
 ghost use Rattle.mach_types.specs.Numbers.{most_rights};
 ghost use Rattle.mach_types.specs.declared.codes.KernReturn.TheVariants.{NoSpace};
+ghost use Rattle.rights.specs.Counts.{unused_of};
 
 use mach_types::limits::MOST_RIGHTS;
 use mach_types::{KernReturn, PortId};
@@ -24,8 +25,11 @@ pub enum RightKind {
     Receive,
     /// A send right.
     Send,
-    /// A send-once right.
+    /// A send-once right that no queued message goes by: with a task, in a message's body or kept by a
+    /// request. It may still pay for a notice.
     SendOnce,
+    /// A send-once right that a queued message goes by.
+    Destination,
 }
 
 /// How many rights a port has, wherever they are.
@@ -35,12 +39,14 @@ pub struct Counts {
     pub receive: u32,
     /// Send rights.
     pub send: u32,
-    /// Send-once rights.
+    /// Send-once rights that no queued message goes by.
     pub send_once: u32,
+    /// Send-once rights that queued messages go by.
+    pub destination: u32,
 }
 
 impl Counts {
-    ghost use Rattle.rights.specs.Counts.{no_rights, number_of, with_more, with_fewer, all_of};
+    ghost use Rattle.rights.specs.Counts.{no_rights, number_of, with_more, with_fewer, one_shifted, all_of};
 
     /// No rights.
     pub fn none() -> Counts
@@ -50,6 +56,7 @@ impl Counts {
             receive: 0,
             send: 0,
             send_once: 0,
+            destination: 0,
         }
     }
 
@@ -61,6 +68,7 @@ impl Counts {
             RightKind::Receive => self.receive,
             RightKind::Send => self.send,
             RightKind::SendOnce => self.send_once,
+            RightKind::Destination => self.destination,
         }
     }
 
@@ -68,12 +76,14 @@ impl Counts {
         requires { all_of self + number < 2 ^ 32 }
         ensures value { result ≡ with_more kind number self }
         ensures all { all_of result ≡ all_of self + number }
+        ensures once { result.send_once ≡ self.send_once + unused_of kind number }
     {
         let mut counts = self;
         match kind {
             RightKind::Receive => counts.receive += number,
             RightKind::Send => counts.send += number,
             RightKind::SendOnce => counts.send_once += number,
+            RightKind::Destination => counts.destination += number,
         }
         counts
     }
@@ -82,23 +92,50 @@ impl Counts {
         requires { number ≤ number_of kind self }
         ensures value { result ≡ with_fewer kind number self }
         ensures all { all_of result + number ≡ all_of self }
+        ensures once { result.send_once + unused_of kind number ≡ self.send_once }
     {
         let mut counts = self;
         match kind {
             RightKind::Receive => counts.receive -= number,
             RightKind::Send => counts.send -= number,
             RightKind::SendOnce => counts.send_once -= number,
+            RightKind::Destination => counts.destination -= number,
         }
+        counts
+    }
+
+    // With one more of the send-once rights that queued messages go by, and one fewer of the others.
+    fn shifted(self) -> Counts
+        requires some { 0 < self.send_once }
+        requires fits { all_of self < 2 ^ 32 }
+        ensures value { result ≡ one_shifted self }
+        ensures all { all_of result ≡ all_of self }
+        ensures once { result.send_once + 1 ≡ self.send_once }
+    {
+        let mut counts = self;
+        counts.send_once -= 1;
+        counts.destination += 1;
         counts
     }
 }
 
-/// The counts of each port that was entered, and how many rights there are in all. An empty ledger
-/// has allocated nothing.
+// How many of these rights are send-once rights that no queued message goes by.
+fn unused_of(kind: RightKind, number: u32) -> u32
+    ensures { result ≡ unused_of kind number }
+{
+    match kind {
+        RightKind::SendOnce => number,
+        RightKind::Receive | RightKind::Send | RightKind::Destination => 0,
+    }
+}
+
+/// The counts of each port that was entered, how many rights there are in all, and how many send-once
+/// rights that no queued message goes by. An empty ledger has allocated nothing.
 #[derive(Drop)]
 pub struct Ledger {
     ports: NumberMap<Counts>,
     total: u32,
+    unused: u32,
 }
 
 impl Model for Ledger {
@@ -111,22 +148,23 @@ impl Model for Ledger {
 
     ghost use Rattle.rights.specs.Counted.{IsCounted};
 
-    ghost view = { λ a. record { counts = a.ports.map; total = a.total } };
+    ghost view = { λ a. record { counts = a.ports.map; total = a.total; unused = a.unused } };
 
-    ghost invariant = { λ a. IsCounted a.ports.map a.total };
+    ghost invariant = { λ a. IsCounted a.ports.map a.total a.unused };
 }
 
 impl Ledger {
     ghost use Rattle.rights.specs.Counts.{no_rights, number_of, all_of};
-    ghost use Rattle.rights.specs.Ledger.{IsEntered, counts_of, entered, made, taken, left};
+    ghost use Rattle.rights.specs.Ledger.{IsEntered, counts_of, entered, made, taken, shifted, left};
 
     /// A ledger of no ports. Allocates nothing; constant time.
     pub fn new(alloc: Global) -> Ledger
-        ensures { result ≡ record { counts = map.empty; total = 0 } }
+        ensures { result ≡ record { counts = map.empty; total = 0; unused = 0 } }
     {
         Ledger {
             ports: NumberMap::new(alloc),
             total: 0,
+            unused: 0,
         }
     }
 
@@ -152,7 +190,8 @@ impl Ledger {
         ensures after { self.new ≡ left self.old port }
     {
         let counts = self.held(port);
-        self.total -= counts.receive + counts.send + counts.send_once;
+        self.total -= counts.receive + counts.send + counts.send_once + counts.destination;
+        self.unused -= counts.send_once;
         self.ports.remove(port.number());
         counts
     }
@@ -162,18 +201,29 @@ impl Ledger {
         requires { IsEntered self.now port }
         ensures value { result ≡ counts_of self.now port }
         ensures all { all_of result ≤ self.now.total }
+        ensures unused { result.send_once ≤ self.now.unused }
     {
         self.ports.get(port.number()).unwrap()
     }
 
+    // The unused send-once rights with so many more of a kind, which may be theirs.
+    fn with_unused(&self, kind: RightKind, number: u32) -> u32
+        requires { self.now.total + number < 2 ^ 32 }
+        ensures { result ≡ self.now.unused + unused_of kind number }
+    {
+        self.unused + unused_of(kind, number)
+    }
+
     // Puts these counts in place of a port's, with the sums that they make.
-    fn store(&mut self, port: PortId, counts: Counts, total: u32)
+    fn store(&mut self, port: PortId, counts: Counts, total: u32, unused: u32)
         requires entered { IsEntered self.old port }
         requires all { total + all_of (counts_of self.old port) ≡ self.old.total + all_of counts }
-        ensures { self.new ≡ record { counts = map.insert self.old.counts port counts; total = total } }
+        requires once { unused + (counts_of self.old port).send_once ≡ self.old.unused + counts.send_once }
+        ensures { self.new ≡ record { counts = map.insert self.old.counts port counts; total = total; unused = unused } }
     {
         self.ports.set(port.number(), counts);
         self.total = total;
+        self.unused = unused;
     }
 
     /// The counts of a port, if it was entered. Constant time.
@@ -188,6 +238,14 @@ impl Ledger {
         ensures { result ≡ self.now.total }
     {
         self.total
+    }
+
+    /// How many send-once rights there are that no queued message goes by: so many notices may come, and
+    /// each wants a message slot. Constant time.
+    pub fn unused(&self) -> u32
+        ensures { result ≡ self.now.unused }
+    {
+        self.unused
     }
 
     /// Counts new rights of a port. Constant time.
@@ -205,7 +263,8 @@ impl Ledger {
         }
         let counts = self.held(port).with_more(kind, number);
         let total = self.total + number;
-        self.store(port, counts, total);
+        let unused = self.with_unused(kind, number);
+        self.store(port, counts, total, unused);
         Ok(())
     }
 
@@ -217,6 +276,19 @@ impl Ledger {
     {
         let counts = self.held(port).with_fewer(kind, number);
         let total = self.total - number;
-        self.store(port, counts, total);
+        let unused = self.unused - unused_of(kind, number);
+        self.store(port, counts, total, unused);
+    }
+
+    /// Counts a send-once right of a port as one that a queued message goes by. Constant time.
+    pub fn shift(&mut self, port: PortId)
+        requires entered { IsEntered self.old port }
+        requires there { 0 < (counts_of self.old port).send_once }
+        ensures { self.new ≡ shifted self.old port }
+    {
+        let counts = self.held(port).shifted();
+        let total = self.total;
+        let unused = self.unused - 1;
+        self.store(port, counts, total, unused);
     }
 }

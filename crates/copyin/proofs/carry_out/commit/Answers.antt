@@ -1,14 +1,16 @@
-use Rattle.std.proofs.Common.{◌≡◌, ℕ, ◌++◌, List, Option, sym, ap, ◌∙◌, subst, arith}
+use Rattle.std.proofs.Common.{◌≡◌, ℕ, ◌<◌, ◌++◌, List, Option, sym, ap, ◌∙◌, subst, arith}
 use Rattle.std.specs.Option.{option_to_list}
 use Rattle.message_codec.specs.declared.words.PortWord.{PortWord}
 use Rattle.port.specs.Ports.{IsLive}
+use Rattle.rights.specs.Ledger.{counts_of}
 use Rattle.copyin_base.specs.declared.message.Carried.{Carried}
 use Rattle.copyin_base.specs.Kept.{Kept}
+use Rattle.copyin.specs.Copies.{ledger_queued}
 use Rattle.copyin.specs.Planned.{CanGo}
 use Rattle.copyin.specs.Plans.{ChangesWords}
 use Rattle.copyin_base.specs.Worlds.{WorldView}
 use Rattle.copyin.proofs.Going.{go_on, first_goes}
-use Rattle.copyin.proofs.Committing.{Carries, own_task, plan_goes, plan_pairs, plan_lives, front_goes, rest_goes, carries_live, carries_spare, commits}
+use Rattle.copyin.proofs.Committing.{Carries, own_task, plan_goes, plan_pairs, plan_lives, plan_unused, front_goes, rest_goes, carries_live, carries_spare, commits}
 use Rattle.copyin.proofs.carry_out.commit.Goals as goal
 
 pub copy_word-requires : goal.copy_word-requires
@@ -97,6 +99,29 @@ enqueue-requires-clause-spare c =
     let some = c.requires.spare in
     omega (arith, same_spare, view, some)
 
+pub use_right-requires : goal.use_right-requires
+use_right-requires c once =
+    let plan = c.args.plan in
+    let one = c.copy_word.new.world in
+    let two = c.copy_reply.new.world in
+    let mid = c.copy_words.new.world in
+    let same : c.message.inside.reply ≡ plan.message.reply = ap (λ (m : Kept). m.reply) c.message.view_is in
+    let words_are : c.as_slice.result.now ≡ plan.words.body.items = c.as_slice.ensures in
+    let rights_are : c.as_slice-2.result.now ≡ plan.message.rights = c.as_slice-2.ensures.value ∙ ap (λ (m : Kept). m.rights) c.message.view_is in
+    let ca : Carries c.args.world.now plan.task plan mid = record {
+      one = one;
+      destination = c.copy_word.ensures;
+      two = two;
+      reply = subst (λ (o : Option Carried). ChangesWords one plan.task (option_to_list plan.words.reply) (option_to_list o) two) same c.copy_reply.ensures;
+      body = subst (λ (ws : List PortWord). ChangesWords two plan.task ws plan.message.rights mid) words_are
+          (subst (λ (cs : List Carried). ChangesWords two plan.task c.as_slice.result.now cs mid) rights_are c.copy_words.ensures);
+    } in
+    let q = c.requires.planned in
+    let own = own_task c.args.world.now q.0 q.1 q.2 q.3 c.args.plan q.4 in
+    let by : c.message.inside.by_once ≡ plan.message.by_once = ap (λ (m : Kept). m.by_once) c.message.view_is in
+    subst (λ (w : WorldView). 0 < (counts_of w.ledger plan.port).send_once) (sym c.world.view_is)
+    (plan_unused c.args.world.now plan.task q.1 q.2 q.3 plan own c.requires.tied one two mid ca.destination ca.reply ca.body (sym by ∙ once))
+
 pub returns : goal.returns
 returns c =
     let plan = c.args.plan in
@@ -119,5 +144,6 @@ returns c =
     let old_live = plan_lives c.args.world.now plan.task q.1 q.2 q.3 plan own c.requires.tied in
     let live : IsLive c.world.inside.ports plan.port =
     subst (λ (w : WorldView). IsLive w.ports plan.port) (sym c.world.view_is) (carries_live c.args.world.now mid plan.task plan plan.port ca old_live) in
-    λ task parsed written bytes p. commits c.args.world.now mid task parsed written bytes plan p c.world.inside.spaces.items c.world.inside.ports c.enqueue.new.self c.world.inside.ledger c.world.inside.sets
+    λ task parsed written bytes p. commits c.args.world.now mid task parsed written bytes plan p c.world.inside.spaces.items c.world.inside.ports c.enqueue.new.self c.world.inside.ledger c.use_right.new.ledger c.world.inside.sets
     (subst (λ (t : ℕ). Carries c.args.world.now t plan mid) p.task_is ca) live c.world.view_is c.enqueue.ensures
+    (c.use_right.ensures ∙ ap (λ (m : Kept). ledger_queued m.by_once plan.port c.world.inside.ledger) c.message.view_is)
