@@ -172,12 +172,12 @@ fn port_of(entry: Option<Entry>) -> Option<PortId>
 }
 
 // The port of what stands under a name, where an entry that is put in its place is for none.
-fn port_lost(entry: Option<Entry>, renewed: &Entry) -> Option<PortId>
-    ensures { result ≡ lost (option_and_then port_named entry) (port_named renewed.now) }
+fn port_lost(table: &Table, name: Name, renewed: &Entry) -> Option<PortId>
+    ensures { result ≡ lost (option_and_then port_named (map.get table.now.names name)) (port_named renewed.now) }
 {
     match renewed.port() {
         Some(_) => None,
-        None => port_of(entry),
+        None => port_of(table.get(name)),
     }
 }
 
@@ -319,7 +319,7 @@ impl Space {
         requires same { (port : ℕ) → port_named entry ≡ Some port → port_at self.old.names name ≡ Some port }
         ensures { self.new ≡ record self.old { names = map.insert self.old.names name entry } }
     {
-        let lost = port_lost(self.table.get(name), &entry);
+        let lost = port_lost(&self.table, name, &entry);
         self.table.set(name, entry);
         if let Some(port) = lost {
             self.ports.remove(port);

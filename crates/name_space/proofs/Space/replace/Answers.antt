@@ -12,11 +12,11 @@ invariant_of-self c =
     sound-lost c.self.inside.table c.self.inside.ports c.self.inside.len c.self.invariant c.set.new.self c.args.name c.args.entry c.set.ensures
     (inside (λ (v : SpaceView). map.contains_key v.names c.args.name ≡ true) c.self.inside.table c.args.self.now c.self.view_is c.requires.used)
     c.remove.new.self c.in-Some.port
-    (ap (λ o. lost (option_and_then port_named o) (port_named c.args.entry)) (sym c.get.ensures) ∙ sym c.port_lost-lost.ensures ∙ c.in-Some.is) c.remove.ensures
+    (sym c.port_lost-lost.ensures ∙ c.in-Some.is) c.remove.ensures
 
 pub invariant_of-self-in_default : goal.invariant_of-self-in_default
 invariant_of-self-in_default c =
     sound-renewed c.self.inside.table c.self.inside.ports c.self.inside.len c.self.invariant c.set.new.self c.args.name c.args.entry c.set.ensures
     (inside (λ (v : SpaceView). map.contains_key v.names c.args.name ≡ true) c.self.inside.table c.args.self.now c.self.view_is c.requires.used)
-    (ap (λ o. lost (option_and_then port_named o) (port_named c.args.entry)) (sym c.get.ensures) ∙ sym c.port_lost-lost.ensures ∙ c.in_default.is)
+    (sym c.port_lost-lost.ensures ∙ c.in_default.is)
     (inside (λ (v : SpaceView). (port : ℕ) → port_named c.args.entry ≡ Some port → port_at v.names c.args.name ≡ Some port) c.self.inside.table c.args.self.now c.self.view_is c.requires.same)
