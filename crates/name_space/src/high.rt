@@ -1,5 +1,5 @@
 //! What stands under the names above 65,535, in the order of the names.
-ghost use Rattle.std.specs.Prelude.{◌≡◌, ◌⊎◌, ◌≤◌, ◌↔◌, ℕ, IsTrue, true, Some, None, IsSome, IfSome, IfNone, OnOk, OnErr};
+ghost use Rattle.std.specs.Prelude.{◌≡◌, ◌⊎◌, ◌≤◌, ◌↔◌, ℕ, IsTrue, true, Some, None, IsSome, IfSome, IfNone, OnOk, OnErr, option_copied};
 ghost use Rattle.std.specs.BTreeMap.{get as value_in, Updates};
 ghost use Rattle.std.specs.FinMap as map;
 ghost use Rattle.std.specs.Ordering.{nat_cmp};
@@ -58,14 +58,22 @@ impl High {
         }
     }
 
+    // Where what stands under the name lies.
+    fn held(&self, name: u32) -> Option<&Entry>
+        ensures { option_copied result ≡ map.get self.now.names name }
+    {
+        if self.keeps(name) {
+            self.entry.as_ref()
+        } else {
+            self.others.get(&name)
+        }
+    }
+
+    // Read in one place, which keeps it short enough to be inlined where a name is looked up.
     pub(crate) fn get(&self, name: u32) -> Option<Entry>
         ensures { result ≡ map.get self.now.names name }
     {
-        if self.keeps(name) {
-            self.entry
-        } else {
-            self.others.get(&name).copied()
-        }
+        self.held(name).copied()
     }
 
     // The name for which the place is kept, if it is in use.
