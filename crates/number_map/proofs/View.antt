@@ -1,5 +1,5 @@
 -- What a map from numbers is, by its nodes, and once a key joins, has another value, or leaves.
-use Rattle.std.proofs.Common.{◌≡◌, ◌≢◌, ◌⊎◌, inl, inr, ℕ, zero, suc, ◌+◌, ◌-◌, ◌<◌, ◌≤◌, cond, List, [], ◌∷◌, ◌++◌, length, Option, Some, None, nat_eq, slice_get, slice_set, refl, sym, ◌∙◌, ap, arith}
+use Rattle.std.proofs.Common.{◌≡◌, ◌≢◌, ◌⊎◌, inl, inr, ℕ, zero, suc, ◌+◌, ◌-◌, ◌^◌, ◌<◌, ◌≤◌, cond, List, [], ◌∷◌, ◌++◌, length, Option, Some, None, nat_eq, slice_get, slice_set, refl, sym, ◌∙◌, ap, arith}
 use Rattle.std.specs.Option.{option_map}
 use Rattle.std.specs.Map.{lookup}
 use Rattle.std.specs.FinMap as map
@@ -74,6 +74,7 @@ module _ {V : Type 0} where
       unique = rw (entries_pushed nodes n) (unique_pushed (entries_of nodes) k.unique (entry_of n) alone);
       indexed = rw chain_is (indexed_pushed nodes heads k.indexed n (rw chain_is at few) (rw chain_is at next_is) link link_is);
       fits = let f = k.fits in let l = length_pushed nodes n in omega arith;
+      few = let f = k.few in let l = length_pushed nodes n in omega arith;
       ready = λ h. let r = k.ready some in let l = length-set heads chain link in omega arith;
     })
 
@@ -138,6 +139,7 @@ module _ {V : Type 0} where
           (chained-frame (class_at nodes (length heads)) (class_at changed (length heads)) (next_at nodes) (next_at changed) (head_at heads) (head_at heads) (length heads) (length nodes)
           (λ y h. (same_node y).0) (λ y h. (same_node y).1) (λ c. refl) k.indexed.chained));
       fits = let f = k.fits in let l = length-set nodes x (let m : Node V = record { key = n.key; value = value; next = n.next } in m) in omega arith;
+      few = let f = k.few in let l = length-set nodes x (let m : Node V = record { key = n.key; value = value; next = n.next } in m) in omega arith;
       ready = k.ready;
     }
 
@@ -193,6 +195,7 @@ module _ {V : Type 0} where
       unique = unique_left;
       indexed = so;
       fits = let f = k.fits in let l = t.len in omega arith;
+      few = let f = k.few in let l = t.len in omega arith;
       ready = λ h. let r = k.ready h in omega arith;
     }
 
@@ -201,6 +204,7 @@ module _ {V : Type 0} where
       unique = unique_left;
       indexed = so;
       fits = let f = k.fits in let l = t.len in omega arith;
+      few = let f = k.few in let l = t.len in omega arith;
       ready = λ h. let w = k.indexed.wide (let i = key_inside nodes key x has in omega arith) in omega arith;
     }
 
@@ -216,11 +220,12 @@ module _ {V : Type 0} where
 
   -- ---- more room
 
-  pub kept_grown : (nodes more : List (Node V)) (heads heads' : List ℕ) (capacity capacity' room room' : ℕ) → IsKept nodes heads capacity room → IsIndexed more heads' → SameEntries nodes more → length nodes + room' ≤ capacity' → (0 < room' → 0 < length heads')
+  pub kept_grown : (nodes more : List (Node V)) (heads heads' : List ℕ) (capacity capacity' room room' : ℕ) → IsKept nodes heads capacity room → IsIndexed more heads' → SameEntries nodes more → length nodes + room' ≤ capacity' → length nodes + room' < 2 ^ 32 → (0 < room' → 0 < length heads')
       → IsKept more heads' capacity' room'
-  kept_grown nodes more heads heads' capacity capacity' room room' k so same fits ready = record {
+  kept_grown nodes more heads heads' capacity capacity' room room' k so same fits few ready = record {
     unique = rw same k.unique;
     indexed = so;
     fits = let a = entries_len nodes in let b = entries_len more in let e : length (entries_of more) ≡ length (entries_of nodes) = ap (λ (es : List (ℕ × V)). length es) same in omega arith;
+    few = let a = entries_len nodes in let b = entries_len more in let e : length (entries_of more) ≡ length (entries_of nodes) = ap (λ (es : List (ℕ × V)). length es) same in omega arith;
     ready = ready;
   }

@@ -105,4 +105,6 @@ module _ {V : Type 0} where
     pub unique : IsUnique (entries_of nodes)
     pub indexed : IsIndexed nodes heads
     pub fits : length nodes + room ≤ capacity
+    -- links have 32 bits
+    pub few : length nodes + room < 2 ^ 32
     pub ready : 0 < room → 0 < length heads

@@ -3,10 +3,11 @@
 //!
 //! The keys lie in a row, each in the chain of its hash, and a chain goes down the row. The hash is
 //! known, so that the keys must not be chosen by one who means harm: here they are identities, which
-//! the kernel gives one by one. A key takes 24 to 32 bytes beside its value, and so does room for one.
+//! the kernel gives one by one. A key takes 16 to 24 bytes beside its value, and so does room for one.
 #![tactic(auto)]
 
-ghost use Rattle.std.specs.Prelude.{◌≡◌, ◌≢◌, ℕ, suc, ◌+◌, ◌-◌, ◌<◌, ◌≤◌, List, max, true, length, Some, None, IsOk, OnOk, OnErr};
+ghost use Rattle.std.specs.Prelude.{◌≡◌, ◌≢◌, ℕ, suc, ◌+◌, ◌-◌, ◌^◌, ◌<◌, ◌≤◌, List, max, true, length, Some, None, IsOk, OnOk, OnErr};
+ghost use Rattle.std.specs.Option.{option_map};
 ghost use Rattle.std.specs.FinMap as map;
 ghost use Rattle.std.specs.Vec.{vec_capacity};
 ghost use Rattle.number_map.specs.Kept.{slot as slot_for, head_at, next_at, IsAbove, IsLed, IsIndexed, HasKey, SameEntries, IsTakenOut};
@@ -14,12 +15,24 @@ ghost use Rattle.number_map.specs.Kept.{slot as slot_for, head_at, next_at, IsAb
 use std::alloc::{AllocError, Global};
 use std::marker::Model;
 
+// A link is a place and 1, or 0 where it leads nowhere, so that as many nodes have links.
+const MOST_NODES: usize = 0xFFFF_FFFF;
+
 // A key with its value. The next of its chain lies at `next - 1`, below it, if `next` is not 0.
 #[derive(Clone, Copy)]
 struct Node<V: Copy> {
     key: u64,
     value: V,
-    next: usize,
+    next: u32,
+}
+
+/// A value, and where it lies until keys are taken out.
+#[derive(Clone, Copy)]
+pub struct Located<V: Copy> {
+    /// A hint for [`NumberMap::set_near`], and nothing else.
+    pub place: usize,
+    /// The value.
+    pub value: V,
 }
 
 /// Values under numbers, and room for so many keys to come. Without room nothing is allocated.
@@ -27,7 +40,7 @@ struct Node<V: Copy> {
 pub struct NumberMap<V: Copy> {
     nodes: Vec<Node<V>>,
     // The first of each chain lies at its head less 1, if its head is not 0.
-    heads: Vec<usize>,
+    heads: Vec<u32>,
     room: usize,
 }
 
@@ -42,7 +55,7 @@ fn slot_of(key: u64, slots: usize) -> usize
 }
 
 // Where the key lies.
-fn find<V: Copy>(nodes: &[Node<V>], heads: &[usize], key: u64) -> Option<usize>
+fn find<V: Copy>(nodes: &[Node<V>], heads: &[u32], key: u64) -> Option<usize>
     requires { IsIndexed nodes.now heads.now }
     ensures found { (x : ℕ) → result ≡ Some x → HasKey nodes.now key x }
     ensures missing { result ≡ None → (x : ℕ) → HasKey nodes.now key x → ⊥ }
@@ -50,29 +63,41 @@ fn find<V: Copy>(nodes: &[Node<V>], heads: &[usize], key: u64) -> Option<usize>
     if heads.is_empty() {
         return None;
     }
-    let mut link = heads[slot_of(key, heads.len())];
+    let mut link = heads[slot_of(key, heads.len())] as usize;
     while link > 0 {
         let node = &nodes[link - 1];
         if node.key == key {
             return Some(link - 1);
         }
-        link = node.next;
+        link = node.next as usize;
     }
     None
 }
 
+// Where the key lies: at this place, or where it is found.
+fn find_near<V: Copy>(nodes: &[Node<V>], heads: &[u32], place: usize, key: u64) -> Option<usize>
+    requires { IsIndexed nodes.now heads.now }
+    ensures found { (x : ℕ) → result ≡ Some x → HasKey nodes.now key x }
+    ensures missing { result ≡ None → (x : ℕ) → HasKey nodes.now key x → ⊥ }
+{
+    if place < nodes.len() && nodes[place].key == key {
+        return Some(place);
+    }
+    find(nodes, heads, key)
+}
+
 // The link to the lowest node above the place, along a chain from this head, and 0 where there is none.
-fn last_above<V: Copy>(nodes: &[Node<V>], head: usize, place: usize) -> usize
+fn last_above<V: Copy>(nodes: &[Node<V>], head: u32, place: usize) -> usize
     requires head { head ≤ length nodes.now }
     requires place { place < length nodes.now }
     requires down { (y : ℕ) → y < length nodes.now → next_at nodes.now y ≤ y }
     ensures { IsAbove (length nodes.now) (next_at nodes.now) head place result }
 {
     let mut above = 0;
-    let mut link = head;
+    let mut link = head as usize;
     while link > place + 1 {
         above = link;
-        link = nodes[link - 1].next;
+        link = nodes[link - 1].next as usize;
     }
     above
 }
@@ -80,11 +105,11 @@ fn last_above<V: Copy>(nodes: &[Node<V>], head: usize, place: usize) -> usize
 // The link of a chain that leads to the place, or passes it, leads here from now on. Answers where it led.
 fn lead<V: Copy>(
     nodes: &mut Vec<Node<V>>,
-    heads: &mut Vec<usize>,
+    heads: &mut Vec<u32>,
     slot: usize,
     place: usize,
-    to: usize,
-) -> usize
+    to: u32,
+) -> u32
     requires slot { slot < length heads.old.items }
     requires head { head_at heads.old.items slot ≤ length nodes.old.items }
     requires down { (y : ℕ) → y < length nodes.old.items → next_at nodes.old.items y ≤ y }
@@ -106,9 +131,10 @@ fn lead<V: Copy>(
 }
 
 // Takes a node out of the row; the last one comes in its place.
-fn take_out<V: Copy>(nodes: &mut Vec<Node<V>>, heads: &mut Vec<usize>, place: usize)
+fn take_out<V: Copy>(nodes: &mut Vec<Node<V>>, heads: &mut Vec<u32>, place: usize)
     requires place { place < length nodes.old.items }
     requires indexed { IsIndexed nodes.old.items heads.old.items }
+    requires few { length nodes.old.items < 2 ^ 32 }
     ensures indexed { IsIndexed nodes.new.items heads.new.items }
     ensures nodes { IsTakenOut nodes.old.items nodes.new.items place }
     ensures heads { length heads.new.items ≡ length heads.old.items }
@@ -122,7 +148,7 @@ fn take_out<V: Copy>(nodes: &mut Vec<Node<V>>, heads: &mut Vec<usize>, place: us
     if place < nodes.len() {
         let Node { key, next, .. } = nodes[place];
         lead(nodes, heads, slot_of(key, heads.len()), place, next);
-        let next = lead(nodes, heads, slot, place, place + 1);
+        let next = lead(nodes, heads, slot, place, (place + 1) as u32);
         nodes[place] = Node {
             key: last.key,
             value: last.value,
@@ -132,9 +158,10 @@ fn take_out<V: Copy>(nodes: &mut Vec<Node<V>>, heads: &mut Vec<usize>, place: us
 }
 
 // Puts each node in its chain, where all chains are empty.
-fn link_all<V: Copy>(nodes: &mut Vec<Node<V>>, heads: &mut Vec<usize>)
+fn link_all<V: Copy>(nodes: &mut Vec<Node<V>>, heads: &mut Vec<u32>)
     requires some { 0 < length heads.old.items }
     requires empty { (c : ℕ) → head_at heads.old.items c ≡ 0 }
+    requires few { length nodes.old.items < 2 ^ 32 }
     ensures indexed { IsIndexed nodes.new.items heads.new.items }
     ensures entries { SameEntries nodes.old.items nodes.new.items }
     ensures heads { length heads.new.items ≡ length heads.old.items }
@@ -143,12 +170,12 @@ fn link_all<V: Copy>(nodes: &mut Vec<Node<V>>, heads: &mut Vec<usize>)
     for place in 0..nodes.len() {
         let slot = slot_of(nodes[place].key, heads.len());
         nodes[place].next = heads[slot];
-        heads[slot] = place + 1;
+        heads[slot] = (place + 1) as u32;
     }
 }
 
 // Makes so many chains, all empty.
-fn make_slots(heads: &mut Vec<usize>, slots: usize) -> Result<(), AllocError>
+fn make_slots(heads: &mut Vec<u32>, slots: usize) -> Result<(), AllocError>
     ensures len { OnOk result (length heads.new.items ≡ slots) }
     ensures empty { OnOk result ((c : ℕ) → head_at heads.new.items c ≡ 0) }
     ensures err { OnErr result (heads.new.items ≡ heads.old.items) }
@@ -161,8 +188,9 @@ fn make_slots(heads: &mut Vec<usize>, slots: usize) -> Result<(), AllocError>
 }
 
 // Makes as many chains as nodes fit, or more, where there are fewer, and puts each node in its own.
-fn widen<V: Copy>(nodes: &mut Vec<Node<V>>, heads: &mut Vec<usize>) -> Result<(), AllocError>
-    requires { IsIndexed nodes.old.items heads.old.items }
+fn widen<V: Copy>(nodes: &mut Vec<Node<V>>, heads: &mut Vec<u32>) -> Result<(), AllocError>
+    requires indexed { IsIndexed nodes.old.items heads.old.items }
+    requires few { length nodes.old.items < 2 ^ 32 }
     ensures indexed { IsIndexed nodes.new.items heads.new.items }
     ensures some { OnOk result (0 < vec_capacity nodes.old → 0 < length heads.new.items) }
     ensures none { length heads.old.items ≤ length heads.new.items }
@@ -231,17 +259,29 @@ impl<V: Copy> NumberMap<V> {
         Some(self.nodes[place].value)
     }
 
+    /// The value under the key with a hint of where it lies, for [`NumberMap::set_near`]. Constant time.
+    pub fn locate(&self, key: u64) -> Option<Located<V>>
+        ensures { option_map (λ l. l.value) result ≡ map.get self.now.map key }
+    {
+        let place = find(&self.nodes, &self.heads, key)?;
+        let value = self.nodes[place].value;
+        Some(Located { place, value })
+    }
+
     /// Makes room for at least so many more keys. Constant time where there is room for them, and
     /// else linear in the number of keys at most, as all may move to a larger place.
     ///
-    /// An error means that memory was refused; all is then as before. It never comes where there is
-    /// room already. Nothing else here takes memory.
+    /// An error means that memory was refused, or that there would be more than 4,294,967,295 keys; all
+    /// is then as before. It never comes where there is room already. Nothing else here takes memory.
     pub fn reserve(&mut self, additional: usize) -> Result<(), AllocError>
         ensures ok { OnOk result (self.new ≡ record self.old { room = max self.old.room additional }) }
         ensures err { OnErr result (self.new ≡ self.old) }
         ensures had_room { additional ≤ self.old.room → IsOk result }
     {
         if additional > self.room {
+            if additional > MOST_NODES - self.nodes.len() {
+                return Err(AllocError);
+            }
             self.nodes.reserve(additional)?;
             widen(&mut self.nodes, &mut self.heads)?;
             self.room = additional;
@@ -261,7 +301,7 @@ impl<V: Copy> NumberMap<V> {
             value,
             next: self.heads[slot],
         });
-        self.heads[slot] = self.nodes.len();
+        self.heads[slot] = self.nodes.len() as u32;
         self.room -= 1;
     }
 
@@ -272,6 +312,17 @@ impl<V: Copy> NumberMap<V> {
     {
         if let Some(place) = find(&self.nodes, &self.heads, key) {
             self.nodes[place].value = value;
+        }
+    }
+
+    /// Puts another value under a key that is there, which may still lie where it was located. Searches
+    /// for it where it does not. Constant time.
+    pub fn set_near(&mut self, place: usize, key: u64, value: V)
+        requires { map.contains_key self.old.map key ≡ true }
+        ensures { self.new ≡ record self.old { map = map.insert self.old.map key value } }
+    {
+        if let Some(found) = find_near(&self.nodes, &self.heads, place, key) {
+            self.nodes[found].value = value;
         }
     }
 
