@@ -1,23 +1,24 @@
 -- Lists once an item joined one, or left it.
 use Rattle.std.proofs.Common.{◌≡◌, ◌≢◌, inl, inr, ℕ, zero, suc, ◌+◌, ◌<◌, ◌≤◌, true, false, cond, eqb, List, [], ◌∷◌, ◌++◌, length, Option, Some, None, slice_get, slice_set, refl, sym, ◌∙◌, ap, subst, arith, ltb, get_or, take, Contains}
 use Rattle.std.specs.List.{filter}
-use Rattle.std.specs.Option.{option_map_or, option_or}
+use Rattle.std.specs.Option.{option_or}
 use Rattle.std.proofs.lemmas.List.{length-set, take_all}
 use Rattle.std.proofs.lemmas.Option.{slice_get_read}
 use Rattle.std.proofs.lemmas.Bool.Decides.{nat_tests}
 use Rattle.member_lists.specs.declared.Link.{Link}
 use Rattle.member_lists.specs.declared.Ends.{Ends}
 use Rattle.member_lists.specs.Lists.{ListsView, list_of, with_list, without, IsApart}
-use Rattle.member_lists.specs.Chains.{times, first_or, last_or, is_in, pick, blank_ends, list_in, lists_of, IsBehindSet, IsBeforeSet, IsBetween, IsLinked, IsChain, IsSound}
-use Rattle.member_lists.proofs.Times.{same_some, none_some, equal_or_not, eqb_same, eqb_other, eqb_is, times_here, times_other, times_more, first_got, times-append, times-filter_in, times-filter_passes, times-filter_most, times_from_Contains, Contains_from_times, filter_same, filter-append, filter_turned, IsSplit, split_at, got_set, got_other, last-append, last_within, first_within}
+use Rattle.member_lists.specs.Chains.{times, first_or, last_or, pick, blank_ends, items_from, IsBehindSet, IsBeforeSet, IsBetween, IsLinked, IsChain, IsSound}
+use Rattle.member_lists.proofs.Times.{same_some, none_some, equal_or_not, eqb_same, eqb_other, times_here, times_other, times_more, first_got, times-append, times_from_Contains, Contains_from_times, IsSplit, split_at, got_set, got_other, last-append, last_within, first_within}
 use Rattle.member_lists.proofs.Linked.{linked-frame, linked-back, linked-pushed, linked-left, first_without, last_without, IsRest, rest_at}
-use Rattle.member_lists.proofs.Sound.{link_of, in_range, listed, one_home, in_its_own, list_is, view_changed, some_if, got, same_gets}
+use Rattle.member_lists.proofs.Sound.{IsShown, in_range, walked, whole, view_changed, some_if, same_gets}
 
 -- ---- one chain has other items
 
 module _ (links mores : List Link) (chains ends : ℕ → Ends) (so : IsSound links chains) (b : ℕ) (ys : List ℕ)
     (frame : (c x : ℕ) → c ≢ b → 0 < times x (so.chained c) → slice_get mores x ≡ slice_get links x)
-    (here : IsChain mores (ends b) b ys)
+    (here : IsChain mores (ends b) ys)
+    (alone : (c x : ℕ) → c ≢ b → 0 < times x ys → 0 < times x (so.chained c) → ⊥)
     (elsewhere : (c : ℕ) → c ≢ b → ends c ≡ chains c) where
   abbrev chained' : ℕ → List ℕ
   chained' c = cond (eqb c b) ys (so.chained c)
@@ -28,16 +29,27 @@ module _ (links mores : List Link) (chains ends : ℕ → Ends) (so : IsSound li
   same_other : (c : ℕ) → c ≢ b → chained' c ≡ so.chained c
   same_other c d = ap (λ t. cond t ys (so.chained c)) (eqb_other c b d)
 
-  chain_other : (c : ℕ) → c ≢ b → IsChain mores (ends c) c (so.chained c)
+  chain_other : (c : ℕ) → c ≢ b → IsChain mores (ends c) (so.chained c)
   chain_other c d =
       let was = so.chain c in
       record {
         linked = linked-frame links mores None (so.chained c) None (λ x h. frame c x d h) was.linked;
         first = ap (λ (e : Ends). e.first) (elsewhere c d) ∙ was.first;
         last = ap (λ (e : Ends). e.last) (elsewhere c d) ∙ was.last;
-        homed = λ x link h e. was.homed x link h (sym (frame c x d h) ∙ e);
         once = was.once;
       }
+
+  apart_changed : (c d x : ℕ) → 0 < times x (chained' c) → 0 < times x (chained' d) → c ≡ d
+  apart_changed c d x g h = elim (equal_or_not c b) [
+    | inl s ↦ elim (equal_or_not d b) [
+      | inl t ↦ s ∙ sym t
+      | inr e ↦ absurd (alone d x e (subst (λ zs. 0 < times x zs) (same_here c s) g) (subst (λ zs. 0 < times x zs) (same_other d e) h))
+    ]
+    | inr a ↦ elim (equal_or_not d b) [
+      | inl t ↦ absurd (alone c x a (subst (λ zs. 0 < times x zs) (same_here d t) h) (subst (λ zs. 0 < times x zs) (same_other c a) g))
+      | inr e ↦ so.apart c d x (subst (λ zs. 0 < times x zs) (same_other c a) g) (subst (λ zs. 0 < times x zs) (same_other d e) h)
+    ]
+  ]
 
   pub sound_changed : IsSound mores ends
   sound_changed = record {
@@ -46,37 +58,16 @@ module _ (links mores : List Link) (chains ends : ℕ → Ends) (so : IsSound li
       | inl e ↦ rw (same_here c e, e) here
       | inr d ↦ rw (same_other c d) (chain_other c d)
     ];
+    apart = apart_changed;
   }
 
-  pub list_other : (q : ℕ) → q ≢ b → list_in mores ends q ≡ list_in links chains q
+  pub list_other : (q : ℕ) → q ≢ b → items_from mores (ends q) ≡ items_from links (chains q)
   unfolding sound_changed
-  list_other q d = listed mores ends sound_changed q ∙ ap (filter (is_in mores q)) (same_other q d)
-      ∙ filter_same (is_in mores q) (is_in links q) (so.chained q) (λ x h. ap (λ o. option_map_or (λ (k : Link). eqb k.list q) o false) (frame q x d h))
-      ∙ sym (listed links chains so q)
+  list_other q d = walked mores ends sound_changed q ∙ same_other q d ∙ sym (walked links chains so q)
 
-  pub list_here : (q : ℕ) → q ≡ b → list_in mores ends q ≡ filter (is_in mores q) ys
+  pub list_here : items_from mores (ends b) ≡ ys
   unfolding sound_changed
-  list_here q e = listed mores ends sound_changed q ∙ ap (filter (is_in mores q)) (same_here q e)
-
--- ---- which list a link names, after a write beside it
-
-pub behind_kept : (old new : List Link) (o behind : Option ℕ) → IsBehindSet old new o behind → (x : ℕ) (link : Link) → slice_get old x ≡ Some link → (k : Link) × (slice_get new x ≡ Some k) × (k.list ≡ link.list)
-behind_kept old new None behind w x link e = (link, w.others x (λ h. none_some x h) ∙ e, refl)
-behind_kept old new (Some y) behind w x link e = elim (equal_or_not y x) [
-  | inl s ↦ (record link { behind = behind }, w.set x link (ap (λ n. Some n) s) e, refl)
-  | inr d ↦ (link, w.others x (λ h. d (same_some y x h)) ∙ e, refl)
-]
-
-pub before_kept : (old new : List Link) (o before : Option ℕ) → IsBeforeSet old new o before → (x : ℕ) (link : Link) → slice_get old x ≡ Some link → (k : Link) × (slice_get new x ≡ Some k) × (k.list ≡ link.list)
-before_kept old new None before w x link e = (link, w.others x (λ h. none_some x h) ∙ e, refl)
-before_kept old new (Some y) before w x link e = elim (equal_or_not y x) [
-  | inl s ↦ (record link { before = before }, w.set x link (ap (λ n. Some n) s) e, refl)
-  | inr d ↦ (link, w.others x (λ h. d (same_some y x h)) ∙ e, refl)
-]
-
-named : (old new : List Link) (x : ℕ) (link k : Link) → slice_get old x ≡ Some link → slice_get new x ≡ Some k → k.list ≡ link.list → (q : ℕ) → is_in new q x ≡ is_in old q x
-named old new x link k a b e q =
-    ap (λ o. option_map_or (λ (m : Link). eqb m.list q) o false) b ∙ ap (λ n. eqb n q) e ∙ sym (ap (λ o. option_map_or (λ (m : Link). eqb m.list q) o false) a)
+  list_here = walked mores ends sound_changed b ∙ same_here b refl
 
 -- ---- an item joins
 
@@ -88,18 +79,10 @@ option_or_first : (xs : List ℕ) (item : ℕ) → option_or (first_or xs None) 
 option_or_first [] item = refl
 option_or_first (x ∷ xs) item = refl
 
-module _ (links : List Link) (chains : ℕ → Ends) (so : IsSound links chains) (v : ListsView) (view_is : record { lists = lists_of links chains; items = length links } ≡ v)
-    (l item : ℕ) (room : item < v.items) where
-  items_is : length links ≡ v.items
-  items_is = ap (λ (w : ListsView). w.items) view_is
-
-  pub room_is : item < length links
-  room_is = let e = items_is in omega arith
-
-module _ (links mores : List Link) (chains : ℕ → Ends) (so : IsSound links chains) (v : ListsView) (view_is : record { lists = lists_of links chains; items = length links } ≡ v)
+module _ (links mores : List Link) (chains : ℕ → Ends) (so : IsSound links chains) (v : ListsView) (sh : IsShown links chains v)
     (l item : ℕ) (room : item < v.items) (apart : IsApart v item) (e : Ends) (e_is : e ≡ chains l) where
   item_fits : item < length links
-  item_fits = room_is links chains so v view_is l item room
+  item_fits = let e = sh.items in omega arith
 
   pub alone_at : (c : ℕ) → times item (so.chained c) ≡ 0
   alone_at c = none (times item (so.chained c)) refl
@@ -107,15 +90,8 @@ module _ (links mores : List Link) (chains : ℕ → Ends) (so : IsSound links c
       none : (n : ℕ) → times item (so.chained c) ≡ n → times item (so.chained c) ≡ 0
       none zero h = h
       none (suc n) h =
-          let some : 0 < times item (so.chained c) = omega arith in
-          let link = link_of links chains so c item some in
-          let home : link.0.list ≡ c = (so.chain c).homed item link.0 some link.1 in
-          let own = in_its_own links item link.0 link.1 in
-          let kept : times item (filter (is_in links link.0.list) (so.chained (link.0.list))) ≡ times item (so.chained c) =
-          times-filter_in (is_in links link.0.list) item (so.chained (link.0.list)) own ∙ ap (λ d. times item (so.chained d)) home in
-          let all : times item (list_of v link.0.list) ≡ times item (so.chained c) =
-          ap (times item) (list_is links chains so link.0.list v view_is ∙ listed links chains so link.0.list) ∙ kept in
-          absurd (apart link.0.list (Contains_from_times item (list_of v link.0.list) (omega arith)))
+          let all : times item (list_of v c) ≡ times item (so.chained c) = ap (times item) (whole links chains so v sh c) in
+          absurd (apart c (Contains_from_times item (list_of v c) (omega arith)))
 
   pub last_fits : (w : Link) → (x : ℕ) → e.last ≡ Some x → x < length (slice_set links item w)
   last_fits w x h =
@@ -124,7 +100,7 @@ module _ (links mores : List Link) (chains : ℕ → Ends) (so : IsSound links c
       omega (arith, length-set links item w)
 
   abbrev mine : Link
-  mine = record { list = l; before = e.last; behind = None }
+  mine = record { before = e.last; behind = None }
 
   module _ (ahead : IsBehindSet (slice_set links item mine) mores e.last (Some item)) where
     abbrev xs : List ℕ
@@ -149,23 +125,16 @@ module _ (links mores : List Link) (chains : ℕ → Ends) (so : IsSound links c
     was_there c x h = got_other links item x mine (not_item c x h)
 
     frame : (c x : ℕ) → c ≢ l → 0 < times x (so.chained c) → slice_get mores x ≡ slice_get links x
-    frame c x d h = ahead.others x (λ s. d (one_home links chains so c l x h (last_within xs x (sym last_is ∙ s)))) ∙ was_there c x h
+    frame c x d h = ahead.others x (λ s. d (so.apart c l x h (last_within xs x (sym last_is ∙ s)))) ∙ was_there c x h
 
-    kept_in : (x : ℕ) (h : 0 < times x xs) → (k : Link) × (slice_get mores x ≡ Some k) × (k.list ≡ (link_of links chains so l x h).0.list)
-    kept_in x h = behind_kept (slice_set links item mine) mores e.last (Some item) ahead x _ (was_there l x h ∙ (link_of links chains so l x h).1)
+    alone_more : (c x : ℕ) → c ≢ l → 0 < times x (xs ++ item ∷ []) → 0 < times x (so.chained c) → ⊥
+    alone_more c x d h g =
+        let other = not_item c x g in
+        let n = times_other x item [] other in
+        let a = times-append x xs (item ∷ []) in
+        d (so.apart c l x g (omega arith))
 
-    homed_more : (x : ℕ) (link : Link) → 0 < times x (xs ++ item ∷ []) → slice_get mores x ≡ Some link → link.list ≡ l
-    homed_more x link h at = elim (equal_or_not x item) [
-      | inl s ↦ let same : mine ≡ link = same_some mine link (sym item_there ∙ ap (slice_get mores) (sym s) ∙ at) in sym (ap (λ (k : Link). k.list) same)
-      | inr d ↦
-          let inside : 0 < times x xs = (let a = times-append x xs (item ∷ []) in let n = times_other x item [] d in omega arith) in
-          let was = link_of links chains so l x inside in
-          let k = kept_in x inside in
-          let same : k.0 ≡ link = same_some k.0 link (sym k.1 ∙ at) in
-          sym (ap (λ (k : Link). k.list) same) ∙ ap (λ n. n) k.2 ∙ (so.chain l).homed x was.0 inside was.1
-    ]
-
-    joined : (f : Ends) → f.first ≡ option_or e.first (Some item) → f.last ≡ Some item → IsChain mores f l (xs ++ item ∷ [])
+    joined : (f : Ends) → f.first ≡ option_or e.first (Some item) → f.last ≡ Some item → IsChain mores f (xs ++ item ∷ [])
     joined f first last = record {
       linked = linked-pushed links mores xs item mine ((so.chain l).once) (alone_at l) item_there last_is refl
           (λ x k h s g. ahead.set x k (last_is ∙ s) (was_there l x h ∙ g))
@@ -173,7 +142,6 @@ module _ (links mores : List Link) (chains : ℕ → Ends) (so : IsSound links c
           ((so.chain l).linked);
       first = first ∙ ap (λ o. option_or o (Some item)) (ap (λ (g : Ends). g.first) e_is ∙ (so.chain l).first) ∙ option_or_first xs item;
       last = last ∙ sym (last-append None xs (item ∷ []));
-      homed = homed_more;
       once = λ x. elim (equal_or_not x item) [
         | inl s ↦ let a = times-append x xs (item ∷ []) in let n = times_here x item [] s in let none : times x xs ≡ 0 = ap (λ y. times y xs) s ∙ alone_at l in omega arith
         | inr d ↦ let a = times-append x xs (item ∷ []) in let n = times_other x item [] d in let o = (so.chain l).once x in omega arith
@@ -182,52 +150,32 @@ module _ (links mores : List Link) (chains : ℕ → Ends) (so : IsSound links c
 
     module _ (f : Ends) (first : f.first ≡ option_or e.first (Some item)) (last : f.last ≡ Some item)
         (after : ℕ → Ends) (after_here : after l ≡ f) (after_other : (c : ℕ) → c ≢ l → after c ≡ chains c) where
-      here : IsChain mores (after l) l (xs ++ item ∷ [])
+      here : IsChain mores (after l) (xs ++ item ∷ [])
       here = rw after_here (joined f first last)
 
       pub sound_pushed : IsSound mores after
-      sound_pushed = sound_changed links mores chains after so l (xs ++ item ∷ []) frame here after_other
+      sound_pushed = sound_changed links mores chains after so l (xs ++ item ∷ []) frame here alone_more after_other
 
       pub first_pushed : (x : ℕ) × (f.first ≡ Some x)
       first_pushed = let some = first_some xs item in (some.0, (joined f first last).first ∙ some.1)
 
-      named_as : (q x : ℕ) → 0 < times x xs → is_in mores q x ≡ is_in links q x
-      named_as q x h = let k = kept_in x h in let was = link_of links chains so l x h in named links mores x was.0 k.0 was.1 k.1 k.2 q
-
-      item_in : (q : ℕ) → is_in mores q item ≡ eqb l q
-      item_in q = ap (λ o. option_map_or (λ (m : Link). eqb m.list q) o false) item_there
-
-      with_item : (q : ℕ) → q ≡ l → list_in mores after q ≡ list_in links chains q ++ cond (eqb l q) (item ∷ []) []
-      with_item q s = list_here links mores chains after so l (xs ++ item ∷ []) frame here after_other q s
-          ∙ filter-append (is_in mores q) xs (item ∷ [])
-          ∙ ap (λ ys. ys ++ filter (is_in mores q) (item ∷ [])) (filter_same (is_in mores q) (is_in links q) xs (named_as q) ∙ ap (λ c. filter (is_in links q) (so.chained c)) (sym s) ∙ sym (listed links chains so q))
-          ∙ ap (λ t. list_in links chains q ++ cond t (item ∷ []) []) (item_in q)
-
-      other_lists : (q : ℕ) → q ≢ l → list_in mores after q ≡ list_in links chains q
-      other_lists q d = list_other links mores chains after so l (xs ++ item ∷ []) frame here after_other q d
-
-      pub view_pushed : record { lists = lists_of mores after; items = length mores } ≡ with_list v l (list_of v l ++ item ∷ [])
-      view_pushed = view_changed links mores chains after so sound_pushed len_more v view_is l other_lists (list_of v l ++ item ∷ [])
-          (with_item l refl ∙ ap (λ t. list_in links chains l ++ cond t (item ∷ []) []) (eqb_same l l refl) ∙ ap (λ ys. ys ++ item ∷ []) (sym (list_is links chains so l v view_is)))
+      pub view_pushed : (w : ListsView) → IsShown mores after w → w ≡ with_list v l (list_of v l ++ item ∷ [])
+      view_pushed w sh' = view_changed links mores chains after v w sh sh' len_more l
+          (list_other links mores chains after so l (xs ++ item ∷ []) frame here alone_more after_other) (list_of v l ++ item ∷ [])
+          (list_here links mores chains after so l (xs ++ item ∷ []) frame here alone_more after_other ∙ ap (λ ys. ys ++ item ∷ []) (sym (whole links chains so v sh l)))
 
 -- ---- an item leaves
 
-module _ (links : List Link) (chains : ℕ → Ends) (so : IsSound links chains) (v : ListsView) (view_is : record { lists = lists_of links chains; items = length links } ≡ v)
+module _ (links : List Link) (chains : ℕ → Ends) (so : IsSound links chains) (v : ListsView) (sh : IsShown links chains v)
     (l item : ℕ) (inside : Contains (list_of v l) item) where
   abbrev held : List ℕ
   held = so.chained l
 
-  listed_there : 0 < times item (filter (is_in links l) held)
-  listed_there =
-      let a = times_from_Contains item (list_of v l) inside in
-      let b : times item (list_of v l) ≡ times item (filter (is_in links l) held) = ap (times item) (list_is links chains so l v view_is ∙ listed links chains so l) in
-      omega arith
-
-  passes : is_in links l item ≡ true
-  passes = times-filter_passes (is_in links l) item held listed_there
-
   stands : times item held ≡ 1
-  stands = let a = listed_there in let b = times-filter_most (is_in links l) item held in let c = (so.chain l).once item in omega arith
+  stands =
+      let a = times_from_Contains item (list_of v l) inside in
+      let b : times item (list_of v l) ≡ times item held = ap (times item) (whole links chains so v sh l) in
+      let c = (so.chain l).once item in omega arith
 
   pub item_in_range : item < length links
   item_in_range = let a = stands in in_range links chains so l item (omega arith)
@@ -266,9 +214,6 @@ module _ (links : List Link) (chains : ℕ → Ends) (so : IsSound links chains)
     behind_is : link.behind ≡ first_or back None
     behind_is = sym (ap (λ (k : Link). k.behind) link_is) ∙ between.behind_is
 
-    list_named : link.list ≡ l
-    list_named = eqb_is link.list l (sym (ap (λ o. option_map_or (λ (k : Link). eqb k.list l) o false) there) ∙ passes)
-
     before_held : (x : ℕ) → link.before ≡ Some x → 0 < times x held
     before_held x e = let a = last_within front x (sym before_is ∙ e) in let b = times_split x in omega arith
 
@@ -286,20 +231,10 @@ module _ (links : List Link) (chains : ℕ → Ends) (so : IsSound links chains)
       len_left = rear.len ∙ ahead.len
 
       frame_left : (c x : ℕ) → c ≢ l → 0 < times x (so.chained c) → slice_get mores x ≡ slice_get links x
-      frame_left c x d h = rear.others x (λ s. d (one_home links chains so c l x h (behind_held x s))) ∙ ahead.others x (λ s. d (one_home links chains so c l x h (before_held x s)))
+      frame_left c x d h = rear.others x (λ s. d (so.apart c l x h (behind_held x s))) ∙ ahead.others x (λ s. d (so.apart c l x h (before_held x s)))
 
-      kept_left : (x : ℕ) (w : Link) → slice_get links x ≡ Some w → (k : Link) × (slice_get mores x ≡ Some k) × (k.list ≡ w.list)
-      kept_left x w e =
-          let a = behind_kept links mid link.before link.behind ahead x w e in
-          let b = before_kept mid mores link.behind link.before rear x a.0 a.1 in
-          (b.0, b.1, b.2 ∙ a.2)
-
-      homed_left : (x : ℕ) (k : Link) → 0 < times x (front ++ back) → slice_get mores x ≡ Some k → k.list ≡ l
-      homed_left x k h e =
-          let most = times_left x in
-          let was = link_of links chains so l x (omega arith) in
-          let now = kept_left x was.0 was.1 in
-          sym (ap (λ (m : Link). m.list) (same_some now.0 k (sym now.1 ∙ e))) ∙ ap (λ n. n) now.2 ∙ (so.chain l).homed x was.0 (omega arith) was.1
+      alone_left : (c x : ℕ) → c ≢ l → 0 < times x (front ++ back) → 0 < times x (so.chained c) → ⊥
+      alone_left c x d h g = let most = times_left x in d (so.apart c l x g (omega arith))
 
       ahead_is : IsBehindSet links mid (last_or None front) (first_or back None)
       ahead_is = subst (λ o. IsBehindSet links mid o (first_or back None)) before_is (subst (λ o. IsBehindSet links mid link.before o) behind_is ahead)
@@ -314,12 +249,11 @@ module _ (links : List Link) (chains : ℕ → Ends) (so : IsSound links chains)
         last_was : e.last ≡ last_or None (front ++ item ∷ back)
         last_was = ap (λ (g : Ends). g.last) e_is ∙ (so.chain l).last ∙ ap (λ ys. last_or None ys) split.is
 
-        left_chain : IsChain mores f l (front ++ back)
+        left_chain : IsChain mores f (front ++ back)
         left_chain = record {
           linked = linked-left links mid mores front item back (λ x. let a = times_split x in let b = times-append x front (item ∷ back) in let c = (so.chain l).once x in omega arith) ahead_is rear_is linked_split;
           first = first ∙ ap (λ o. pick o link.behind e.first) before_is ∙ ap (λ o. pick (last_or None front) o e.first) behind_is ∙ ap (pick (last_or None front) (first_or back None)) first_was ∙ first_without front item back;
           last = last ∙ ap (λ o. pick o link.before e.last) behind_is ∙ ap (λ o. pick (first_or back None) o e.last) before_is ∙ ap (pick (first_or back None) (last_or None front)) last_was ∙ last_without front item back;
-          homed = homed_left;
           once = λ x. let a = times_left x in let b = (so.chain l).once x in omega arith;
         }
 
@@ -332,32 +266,16 @@ module _ (links : List Link) (chains : ℕ → Ends) (so : IsSound links chains)
             none_left (y ∷ ys) a b = absurd (none_some y (sym a))
 
         module _ (left_ends : ℕ → Ends) (ends_here : left_ends l ≡ f) (ends_other : (c : ℕ) → c ≢ l → left_ends c ≡ chains c) where
-          left_here : IsChain mores (left_ends l) l (front ++ back)
+          left_here : IsChain mores (left_ends l) (front ++ back)
           left_here = rw ends_here left_chain
 
           pub sound_left : IsSound mores left_ends
-          sound_left = sound_changed links mores chains left_ends so l (front ++ back) frame_left left_here ends_other
+          sound_left = sound_changed links mores chains left_ends so l (front ++ back) frame_left left_here alone_left ends_other
 
-          named_left : (q x : ℕ) → 0 < times x (front ++ back) → is_in mores q x ≡ is_in links q x
-          named_left q x h =
-              let most = times_left x in
-              let was = link_of links chains so l x (omega arith) in
-              let now = kept_left x was.0 was.1 in
-              named links mores x was.0 now.0 was.1 now.1 now.2 q
-
-          list_without : (q : ℕ) → q ≡ l → list_in mores left_ends q ≡ without item (list_in links chains q)
-          list_without q s = list_here links mores chains left_ends so l (front ++ back) frame_left left_here ends_other q s
-              ∙ filter_same (is_in mores q) (is_in links q) (front ++ back) (named_left q)
-              ∙ ap (filter (is_in links q)) (sym split.left)
-              ∙ filter_turned (is_in links q) item held
-              ∙ ap (without item) (ap (λ c. filter (is_in links q) (so.chained c)) (sym s) ∙ sym (listed links chains so q))
-
-          others_left : (q : ℕ) → q ≢ l → list_in mores left_ends q ≡ list_in links chains q
-          others_left q d = list_other links mores chains left_ends so l (front ++ back) frame_left left_here ends_other q d
-
-          pub view_left : record { lists = lists_of mores left_ends; items = length mores } ≡ with_list v l (without item (list_of v l))
-          view_left = view_changed links mores chains left_ends so sound_left len_left v view_is l others_left (without item (list_of v l))
-              (list_without l refl ∙ ap (without item) (sym (list_is links chains so l v view_is)))
+          pub view_left : (w : ListsView) → IsShown mores left_ends w → w ≡ with_list v l (without item (list_of v l))
+          view_left w sh' = view_changed links mores chains left_ends v w sh sh' len_left l
+              (list_other links mores chains left_ends so l (front ++ back) frame_left left_here alone_left ends_other) (without item (list_of v l))
+              (list_here links mores chains left_ends so l (front ++ back) frame_left left_here alone_left ends_other ∙ sym split.left ∙ ap (without item) (sym (whole links chains so v sh l)))
 
 -- ---- room for more items
 
@@ -375,24 +293,23 @@ module _ (links mores : List Link) (chains ends : ℕ → Ends) (so : IsSound li
           linked = linked-frame links mores None (so.chained c) None (stays c) was.linked;
           first = ap (λ (e : Ends). e.first) (same c) ∙ was.first;
           last = ap (λ (e : Ends). e.last) (same c) ∙ was.last;
-          homed = λ x link h e. was.homed x link h (sym (stays c x h) ∙ e);
           once = was.once;
         };
+    apart = so.apart;
   }
 
-  list_grown : (q : ℕ) → list_in mores ends q ≡ list_in links chains q
+  list_grown : (q : ℕ) → items_from mores (ends q) ≡ items_from links (chains q)
   unfolding sound_grown
-  list_grown q = listed mores ends sound_grown q
-      ∙ filter_same (is_in mores q) (is_in links q) (so.chained q) (λ x h. ap (λ o. option_map_or (λ (k : Link). eqb k.list q) o false) (stays q x h))
-      ∙ sym (listed links chains so q)
+  list_grown q = walked mores ends sound_grown q ∙ sym (walked links chains so q)
 
-  pub lists_grown : lists_of mores ends ≡ lists_of links chains
-  lists_grown = same_gets (lists_of mores ends) (lists_of links chains) (λ q. got mores ends sound_grown q ∙ ap some_if (list_grown q) ∙ sym (got links chains so q))
+  pub lists_grown : (v w : ListsView) → IsShown links chains v → IsShown mores ends w → w.lists ≡ v.lists
+  lists_grown v w sh sh' = same_gets w.lists v.lists (λ q. sh'.got q ∙ ap some_if (list_grown q) ∙ sym (sh.got q))
 
 pub sound_none : (links : List Link) (chains : ℕ → Ends) → links ≡ [] → ((c : ℕ) → chains c ≡ blank_ends) → IsSound links chains
 sound_none links chains e f = record {
   chained = λ c. [];
-  chain = λ c. record { linked = tt; first = ap (λ (g : Ends). g.first) (f c); last = ap (λ (g : Ends). g.last) (f c); homed = λ x link h e. absurd (omega arith); once = λ x. omega arith };
+  chain = λ c. record { linked = tt; first = ap (λ (g : Ends). g.first) (f c); last = ap (λ (g : Ends). g.last) (f c); once = λ x. omega arith };
+  apart = λ c d x h g. absurd (omega arith);
 }
 
 -- ---- going along a list
@@ -401,21 +318,16 @@ all_kept : (xs : List ℕ) → filter (λ x. true) xs ≡ xs
 all_kept [] = refl
 all_kept (x ∷ xs) = ap (λ ys. x ∷ ys) (all_kept xs)
 
-module _ (links : List Link) (chains : ℕ → Ends) (so : IsSound links chains) (v : ListsView) (view_is : record { lists = lists_of links chains; items = length links } ≡ v) (l : ℕ) where
-  -- a list is its chain
-  pub whole : list_of v l ≡ so.chained l
-  whole = list_is links chains so l v view_is ∙ listed links chains so l
-      ∙ filter_same (is_in links l) (λ x. true) (so.chained l) (λ x h.
-      let link = link_of links chains so l x h in
-      ap (λ o. option_map_or (λ (k : Link). eqb k.list l) o false) link.1 ∙ eqb_same link.0.list l ((so.chain l).homed x link.0 h link.1))
-      ∙ all_kept (so.chained l)
+module _ (links : List Link) (chains : ℕ → Ends) (so : IsSound links chains) (v : ListsView) (sh : IsShown links chains v) (l : ℕ) where
+  is_whole : list_of v l ≡ so.chained l
+  is_whole = whole links chains so v sh l
 
   pub first_is : (e : Ends) → e ≡ chains l → e.first ≡ slice_get (list_of v l) 0
-  first_is e is = ap (λ (f : Ends). f.first) is ∙ (so.chain l).first ∙ first_got (so.chained l) ∙ ap (λ ys. slice_get ys 0) (sym whole)
+  first_is e is = ap (λ (f : Ends). f.first) is ∙ (so.chain l).first ∙ first_got (so.chained l) ∙ ap (λ ys. slice_get ys 0) (sym is_whole)
 
   module _ (item i : ℕ) (at : slice_get (list_of v l) i ≡ Some item) where
     rest : IsRest links (λ x. true) item i (so.chained l)
-    rest = rest_at links (λ x. true) item i None (so.chained l) ((so.chain l).linked) (ap (λ ys. slice_get ys i) (all_kept (so.chained l) ∙ sym whole) ∙ at)
+    rest = rest_at links (λ x. true) item i None (so.chained l) ((so.chain l).linked) (ap (λ ys. slice_get ys i) (all_kept (so.chained l) ∙ sym is_whole) ∙ at)
 
     pub rest_there : (link : Link) × (slice_get links item ≡ Some link)
     rest_there = (rest.link, rest.there)
@@ -424,7 +336,7 @@ module _ (links : List Link) (chains : ℕ → Ends) (so : IsSound links chains)
     after_is link there =
         let same : rest.link ≡ link = same_some rest.link link (sym rest.there ∙ there) in
         sym (ap (λ (k : Link). k.behind) same) ∙ rest.behind ∙ first_got rest.back ∙ ap (λ ys. slice_get ys 0) (sym (all_kept rest.back)) ∙ sym rest.next
-        ∙ ap (λ ys. slice_get ys (i + 1)) (all_kept (so.chained l) ∙ sym whole)
+        ∙ ap (λ ys. slice_get ys (i + 1)) (all_kept (so.chained l) ∙ sym is_whole)
 
 -- ---- what a read or a resize says
 

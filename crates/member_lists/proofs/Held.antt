@@ -1,17 +1,17 @@
 -- The ends of the lists that have items, in their map, for which there is always room.
-use Rattle.std.proofs.Common.{◌≡◌, ◌≢◌, inl, inr, ℕ, zero, suc, ◌+◌, ◌-◌, ◌<◌, ◌≤◌, Bool, true, false, cond, List, [], ◌∷◌, length, Option, Some, None, is_some, max, slice_get, refl, sym, ◌∙◌, ap, arith}
+use Rattle.std.proofs.Common.{◌≡◌, ◌≢◌, inl, inr, ℕ, zero, suc, ◌+◌, ◌-◌, ◌<◌, ◌≤◌, ◌^◌, ◌||◌, Bool, true, false, cond, eqb, List, [], ◌∷◌, length, Option, Some, None, is_some, max, slice_get, refl, sym, ◌∙◌, ap, arith}
 use Rattle.std.specs.Prelude.{unwrap_or}
-use Rattle.std.specs.Option.{option_map_or}
-use Rattle.std.specs.Ordering.{nat_cmp}
-use Rattle.std.specs.Cmp.{nat_cmp_total}
+use Rattle.std.specs.List.{list_any}
+use Rattle.std.specs.Ordering.{nat_cmp, eq_by_cmp}
+use Rattle.std.specs.Cmp.{nat_cmp_total, unsigned_tied}
 use Rattle.std.specs.FinMap as map
 use Rattle.number_map.specs.Maps.{MapView}
 use Rattle.member_lists.specs.declared.Link.{Link}
 use Rattle.member_lists.specs.declared.Ends.{Ends}
 use Rattle.member_lists.specs.Lists.{ListsView, IsApart}
-use Rattle.member_lists.specs.Chains.{times, first_or, ends_at, blank_ends, lists_of, IsKept}
-use Rattle.member_lists.proofs.Times.{same_some, none_some, equal_or_not, first_within}
-use Rattle.member_lists.proofs.Sound.{link_of, in_range, put_here, put_other, out_here, out_other, same_gets}
+use Rattle.member_lists.specs.Chains.{times, first_or, ends_at, blank_ends, IsKept}
+use Rattle.member_lists.proofs.Times.{same_some, none_some, equal_or_not, true_or_false, eqb_same, eqb_other, eqb_is, first_within}
+use Rattle.member_lists.proofs.Sound.{IsShown, in_range, put_here, put_other, out_here, out_other, same_gets}
 use Rattle.member_lists.proofs.Changed.{alone_at, sound_none, sound_grown}
 
 -- the value has a first item below the number, which is that key's own
@@ -20,6 +20,9 @@ pub record Owns (owner : ℕ → ℕ) (n k : ℕ) (e : Ends) : Type 0 where
   pub first : e.first ≡ Some x
   pub low : x < n
   pub own : owner x ≡ k
+
+no_true : false ≡ true → ⊥
+no_true e = cc
 
 abbrev Ended : Type 0
 Ended = map.FinMap nat_cmp Ends
@@ -82,32 +85,61 @@ module _ (owner : ℕ → ℕ) where
 ends_there : (m : Ended) (l : ℕ) (e : Ends) → map.get m l ≡ Some e → ends_at m l ≡ e
 ends_there m l e at = ap (λ o. unwrap_or o blank_ends) at
 
-module _ (links : List Link) (ends : MapView Ends) (k : IsKept links ends) where
-  owner_of : ℕ → ℕ
-  owner_of x = option_map_or (λ (w : Link). w.list) (slice_get links x) 0
+is_first : Option ℕ → ℕ → Bool
+is_first None x = false
+is_first (Some y) x = eqb y x
 
+first_is_some : (o : Option ℕ) (x : ℕ) → is_first o x ≡ true → o ≡ Some x
+unfolding is_first
+first_is_some None x e = absurd (no_true e)
+first_is_some (Some y) x e = ap (λ z. Some z) (eqb_is y x e)
+
+-- the first of these lists that the item stands first in
+owner_in : Ended → List ℕ → ℕ → ℕ
+owner_in m [] x = 0
+owner_in m (c ∷ cs) x = cond (is_first (ends_at m c).first x) c (owner_in m cs x)
+
+owner_found : (m : Ended) (x l : ℕ) → is_first (ends_at m l).first x ≡ true → (cs : List ℕ) → list_any (eq_by_cmp nat_cmp l) cs ≡ true → is_first (ends_at m (owner_in m cs x)).first x ≡ true
+unfolding owner_in is_first
+owner_found m x l here [] any = absurd (no_true any)
+owner_found m x l here (c ∷ cs) any = elim (true_or_false (is_first (ends_at m c).first x)) [
+  | inl t ↦ ap (λ b. is_first (ends_at m (cond b c (owner_in m cs x))).first x) t ∙ t
+  | inr f ↦
+      let other : l ≢ c = (λ s. no_true (sym f ∙ ap (λ q. is_first (ends_at m q).first x) (sym s) ∙ here)) in
+      let rest : list_any (eq_by_cmp nat_cmp l) cs ≡ true = ap (λ b. b || list_any (eq_by_cmp nat_cmp l) cs) (sym (unsigned_tied l c ∙ eqb_other l c other)) ∙ any in
+      ap (λ b. is_first (ends_at m (cond b c (owner_in m cs x))).first x) f ∙ owner_found m x l here cs rest
+]
+
+module _ (links : List Link) (ends : MapView Ends) (k : IsKept links ends) where
   inside : (l x : ℕ) (e : Ends) → map.get ends.map l ≡ Some e → e.first ≡ Some x → 0 < times x (k.sound.chained l)
   inside l x e at first = first_within (k.sound.chained l) x (sym ((k.sound.chain l).first) ∙ ap (λ (g : Ends). g.first) (ends_there ends.map l e at) ∙ first)
 
+  owner_of : ℕ → ℕ
+  owner_of x = owner_in ends.map (map.keys ends.map) x
+
   owns : (l : ℕ) (e : Ends) → map.get ends.map l ≡ Some e → Owns owner_of (length links) l e
-  unfolding owner_of
+  unfolding owner_of is_first
   owns l e at =
       let some = k.filled l e at in
       let h = inside l some.0 e at some.1 in
-      let link = link_of links (ends_at ends.map) k.sound l some.0 h in
+      let here : is_first (ends_at ends.map l).first some.0 ≡ true = ap (λ (g : Ends). is_first g.first some.0) (ends_there ends.map l e at) ∙ ap (λ o. is_first o some.0) some.1 ∙ eqb_same some.0 some.0 refl in
+      let listed : list_any (eq_by_cmp nat_cmp l) (map.keys ends.map) ≡ true = sym (map.contains_key-keys ends.map l) ∙ ap is_some at in
+      let found = owner_found ends.map some.0 l here (map.keys ends.map) listed in
+      let other = owner_of some.0 in
+      let there = first_within (k.sound.chained other) some.0 (sym ((k.sound.chain other).first) ∙ first_is_some (ends_at ends.map other).first some.0 found) in
       record {
         x = some.0;
         first = some.1;
         low = in_range links (ends_at ends.map) k.sound l some.0 h;
-        own = ap (λ o. option_map_or (λ (w : Link). w.list) o 0) link.1 ∙ (k.sound.chain l).homed some.0 link.0 h link.1;
+        own = k.sound.apart other l some.0 there h;
       }
 
   -- there is room for the list of an item that is in none
-  pub room_for : (v : ListsView) → record { lists = lists_of links (ends_at ends.map); items = length links } ≡ v → (l item : ℕ) → item < v.items → IsApart v item → 0 < ends.room
-  room_for v view_is l item low apart =
-      let items : length links ≡ v.items = ap (λ (w : ListsView). w.items) view_is in
+  pub room_for : (v : ListsView) → IsShown links (ends_at ends.map) v → (l item : ℕ) → item < v.items → IsApart v item → 0 < ends.room
+  room_for v sh l item low apart =
+      let items : length links ≡ v.items = sh.items in
       let fewer = owned_but owner_of (length links) item ends.map (omega arith) owns
-      (λ c e at first. let h = inside c item e at first in let none = alone_at links links (ends_at ends.map) k.sound v view_is l item low apart (ends_at ends.map l) refl c in omega arith) in
+      (λ c e at first. let h = inside c item e at first in let none = alone_at links links (ends_at ends.map) k.sound v sh l item low apart (ends_at ends.map l) refl c in omega arith) in
       let enough = k.enough in omega arith
 
 -- ---- the map's ends once a list has others
@@ -179,9 +211,6 @@ module _ (m m' : Ended) (l : ℕ) (f : Ends) (none : f.first ≡ None → m' ≡
 
 -- ---- how many lists there are, with room for as many more
 
-no_true : false ≡ true → ⊥
-no_true e = cc
-
 some_in : (m : Ended) (l : ℕ) → map.contains_key m l ≡ true → 0 < map.len m
 some_in m l h = more (map.len m) refl
   where
@@ -215,12 +244,14 @@ kept_none links ends e f =
       sound = sound_none links (ends_at ends.map) e (λ c. ap (λ o. unwrap_or o blank_ends) (nothing c));
       filled = λ l g at. absurd (none_some g (sym (nothing l) ∙ at));
       enough = let n : length links ≡ 0 = ap (λ (ks : List Link). length ks) e in omega arith;
+      few = let n : length links ≡ 0 = ap (λ (ks : List Link). length ks) e in omega arith;
     }
 
-pub kept_grown : (links mores : List Link) (ends ends' : MapView Ends) → IsKept links ends → (items : ℕ) → ends' ≡ record { map = ends.map; room = max ends.room items } → length mores ≡ items
+pub kept_grown : (links mores : List Link) (ends ends' : MapView Ends) → IsKept links ends → (items : ℕ) → ends' ≡ record { map = ends.map; room = max ends.room items } → length mores ≡ items → items < 2 ^ 32
     → ((x : ℕ) → x < length links → slice_get mores x ≡ slice_get links x) → IsKept mores ends'
-kept_grown links mores ends ends' k items is len kept = record {
+kept_grown links mores ends ends' k items is len few kept = record {
   sound = sound_grown links mores (ends_at ends.map) (ends_at ends'.map) k.sound (λ c. ap (λ (u : MapView Ends). ends_at u.map c) is) kept;
   filled = λ l g at. k.filled l g (ap (λ (u : MapView Ends). map.get u.map l) (sym is) ∙ at);
+  few = omega arith;
   enough = let r : ends'.room ≡ max ends.room items = ap (λ (u : MapView Ends). u.room) is in omega arith;
 }

@@ -1,15 +1,15 @@
 -- How lists are kept: by links between their items, and by the ends of each. No public clause cites this module.
-use Rattle.std.specs.Prelude.{◌≡◌, ◌≢◌, ℕ, zero, suc, ◌+◌, ◌<◌, ◌≤◌, Bool, true, false, cond, eqb, List, [], ◌∷◌, map, length, Option, Some, None, slice_get, unwrap_or}
+use Rattle.std.specs.Prelude.{◌≡◌, ◌≢◌, ℕ, zero, suc, ◌+◌, ◌<◌, ◌≤◌, ◌^◌, cond, eqb, List, [], ◌∷◌, length, Option, Some, None, slice_get, unwrap_or}
 use Rattle.std.specs.Option.{option_map_or}
-use Rattle.std.specs.List.{filter}
 use Rattle.std.specs.FinMap as finite
 use Rattle.std.specs.Ordering.{nat_cmp}
 use Rattle.number_map.specs.Maps.{MapView}
+use Rattle.member_lists.specs.Values.{with_values}
 use Rattle.member_lists.specs.declared.Link.{Link}
 use Rattle.member_lists.specs.declared.Ends.{Ends}
 
 abbrev pub blank_link : Link
-blank_link = record { list = 0; before = None; behind = None }
+blank_link = record { before = None; behind = None }
 
 abbrev pub blank_ends : Ends
 blank_ends = record { first = None; last = None }
@@ -41,24 +41,17 @@ walk links zero from = []
 walk links (suc n) None = []
 walk links (suc n) (Some x) = option_map_or (λ link. x ∷ walk links n link.behind) (slice_get links x) []
 
--- the item has this list's number
-abbrev pub is_in : List Link → ℕ → ℕ → Bool
-is_in links list x = option_map_or (λ link. eqb link.list list) (slice_get links x) false
-
 -- the ends of a list, blank where it has no items
 abbrev pub ends_at : finite.FinMap nat_cmp Ends → ℕ → Ends
 ends_at ends list = unwrap_or (finite.get ends list) blank_ends
 
-abbrev pub list_in : List Link → (ℕ → Ends) → ℕ → List ℕ
-list_in links ends list = filter (is_in links list) (walk links (length links) (ends list).first)
+-- the items from the first of a list on
+abbrev pub items_from : List Link → Ends → List ℕ
+items_from links ends = walk links (length links) ends.first
 
-abbrev pub has_items : List ℕ → Bool
-has_items [] = false
-has_items (x ∷ xs) = true
-
--- the lists that have items: the number of each stands in a link
-abbrev pub lists_of : List Link → (ℕ → Ends) → finite.FinMap nat_cmp (List ℕ)
-lists_of links ends = finite.from_entries (filter (λ e. has_items e.1) (map (λ (link : Link). (link.list, list_in links ends link.list)) links))
+-- the lists that have items: each has its ends in the map
+abbrev pub lists_of : List Link → finite.FinMap nat_cmp Ends → finite.FinMap nat_cmp (List ℕ)
+lists_of links ends = with_values (items_from links) ends
 
 -- ---- chains
 
@@ -90,19 +83,20 @@ IsLinked links before [] behind = Unit {0}
 IsLinked links before (x ∷ xs) behind = IsBetween links x before (first_or xs behind) × IsLinked links (Some x) xs behind
 
 -- these are the items of a chain
-pub record IsChain (links : List Link) (ends : Ends) (chain : ℕ) (xs : List ℕ) : Type 0 where
+pub record IsChain (links : List Link) (ends : Ends) (xs : List ℕ) : Type 0 where
   pub linked : IsLinked links None xs None
   pub first : ends.first ≡ first_or xs None
   pub last : ends.last ≡ last_or None xs
-  pub homed : (x : ℕ) (link : Link) → 0 < times x xs → slice_get links x ≡ Some link → link.list ≡ chain
   pub once : (x : ℕ) → times x xs ≤ 1
 
 pub record IsSound (links : List Link) (ends : ℕ → Ends) : Type 0 where
   pub chained : ℕ → List ℕ
-  pub chain : (c : ℕ) → IsChain links (ends c) c (chained c)
+  pub chain : (c : ℕ) → IsChain links (ends c) (chained c)
+  pub apart : (c d x : ℕ) → 0 < times x (chained c) → 0 < times x (chained d) → c ≡ d
 
--- Each list in the map has a first item, and there is room in it for as many lists as items.
+-- Each list in the map has a first item, there is room in it for as many lists as items, and each place fits.
 pub record IsKept (links : List Link) (ends : MapView Ends) : Type 0 where
   pub sound : IsSound links (ends_at ends.map)
   pub filled : (l : ℕ) (e : Ends) → finite.get ends.map l ≡ Some e → (x : ℕ) × (e.first ≡ Some x)
   pub enough : length links ≤ finite.len ends.map + ends.room
+  pub few : length links < 2 ^ 32

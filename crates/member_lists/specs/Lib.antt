@@ -1,2 +1,4 @@
 pub mod Lists
 pub mod Chains
+pub mod Places
+pub mod Values

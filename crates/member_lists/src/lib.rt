@@ -5,21 +5,76 @@
 //! [`Lists::reserve`] takes memory.
 #![tactic(auto)]
 
-ghost use Rattle.std.specs.Prelude.{◌≡◌, ℕ, ◌+◌, ◌<◌, ◌++◌, ◌∷◌, [], max, true, length, Some, None, OnOk, OnErr, slice_get};
+ghost use Rattle.std.specs.Prelude.{◌≡◌, ℕ, ◌+◌, ◌<◌, ◌^◌, ◌++◌, ◌∷◌, [], max, true, length, Some, None, OnOk, OnErr, slice_get};
 ghost use Rattle.std.specs.List.{Contains};
+ghost use Rattle.std.specs.Option.{option_or};
 ghost use Rattle.std.specs.FinMap as map;
 ghost use Rattle.member_lists.specs.Chains.{IsBehindSet, IsBeforeSet, pick, ends_at, blank_ends, blank_link};
 
 use number_map::NumberMap;
 use std::alloc::{AllocError, Global};
 use std::marker::Model;
+use std::mem;
 
-// Where an item stands: in which list, and between which two items of it.
+// With more items than this the places of the last would not fit.
+const MOST_ITEMS: usize = (1 << 32) - 1;
+
+// An item's number and 1, or 0 for none.
+#[derive(Clone, Copy, Debug, PartialEq, Eq)]
+struct Place(u32);
+
+impl Model for Place {
+    ghost use Rattle.std.specs.Prelude.{ℕ, Option};
+    ghost use Rattle.member_lists.specs.Places.{item_at, place_of, same_place};
+
+    ghost Value = { Option ℕ };
+
+    ghost view = { λ a. item_at a.0 };
+
+    ghost inverse = { λ item. record { 0 = place_of item } };
+
+    ghost inverse_ok = { λ a h. same_place (λ n. record { 0 = n }) a.0 };
+}
+
+impl Place {
+    fn none() -> Place
+        ensures { result ≡ None }
+    {
+        Place(0)
+    }
+
+    fn of(item: usize) -> Place
+        requires { item + 1 < 2 ^ 32 }
+        ensures { result ≡ Some item }
+    {
+        Place(item as u32 + 1)
+    }
+
+    fn item(self) -> Option<usize>
+        ensures { result ≡ self }
+    {
+        match self.0 {
+            0 => None,
+            place => Some(place as usize - 1),
+        }
+    }
+
+    // This place, or the other where it is none.
+    fn or(self, other: Place) -> Place
+        ensures { result ≡ option_or self other }
+    {
+        match self.0 {
+            0 => other,
+            _ => self,
+        }
+    }
+}
+
+// Between which two items of its list an item stands.
 #[derive(Clone, Copy, Debug, PartialEq, Eq)]
 struct Link {
-    list: u64,
-    before: Option<usize>,
-    behind: Option<usize>,
+    before: Place,
+    behind: Place,
 }
 
 impl Link {
@@ -28,9 +83,8 @@ impl Link {
         ensures { result ≡ blank_link }
     {
         Link {
-            list: 0,
-            before: None,
-            behind: None,
+            before: Place::none(),
+            behind: Place::none(),
         }
     }
 }
@@ -38,9 +92,12 @@ impl Link {
 // The first and the last item of a list.
 #[derive(Clone, Copy, Debug, PartialEq, Eq)]
 struct Ends {
-    first: Option<usize>,
-    last: Option<usize>,
+    first: Place,
+    last: Place,
 }
+
+// Each item takes a link, and so do the ends of a list, under its number.
+const _: () = prove!(mem::size_of::<Link>() == 8);
 
 impl Ends {
     // Those of a list without items.
@@ -48,14 +105,15 @@ impl Ends {
         ensures { result ≡ blank_ends }
     {
         Ends {
-            first: None,
-            last: None,
+            first: Place::none(),
+            last: Place::none(),
         }
     }
 }
 
 /// Lists of items that are in at most one of them. Without room for items nothing is allocated; each
-/// item takes less than 48 bytes, and the room for a list that comes with it less than 72.
+/// item takes 8 bytes, and the room for a list that comes with it what a [`NumberMap`] takes for a
+/// value of 8.
 #[derive(Drop)]
 pub struct Lists {
     links: Vec<Link>,
@@ -70,38 +128,38 @@ impl Model for Lists {
     ghost coded = { lists_code };
 
     ghost use Rattle.std.specs.Prelude.{length};
-    ghost use Rattle.member_lists.specs.Chains.{ends_at, lists_of, IsKept};
+    ghost use Rattle.member_lists.specs.Chains.{lists_of, IsKept};
 
-    ghost view = { λ a. record { lists = lists_of a.links.items (ends_at a.ends.map); items = length a.links.items } };
+    ghost view = { λ a. record { lists = lists_of a.links.items a.ends.map; items = length a.links.items } };
 
     ghost invariant = { λ a. IsKept a.links.items a.ends };
 }
 
 // Puts another item behind this one, if there is one.
-fn set_behind(links: &mut Vec<Link>, item: Option<usize>, behind: Option<usize>)
+fn set_behind(links: &mut Vec<Link>, item: Place, behind: Place)
     requires { (x : ℕ) → item ≡ Some x → x < length links.old.items }
     ensures { IsBehindSet links.old.items links.new.items item behind }
 {
-    if let Some(item) = item {
+    if let Some(item) = item.item() {
         links[item].behind = behind;
     }
 }
 
 // Puts another item before this one, if there is one.
-fn set_before(links: &mut Vec<Link>, item: Option<usize>, before: Option<usize>)
+fn set_before(links: &mut Vec<Link>, item: Place, before: Place)
     requires { (x : ℕ) → item ≡ Some x → x < length links.old.items }
     ensures { IsBeforeSet links.old.items links.new.items item before }
 {
-    if let Some(item) = item {
+    if let Some(item) = item.item() {
         links[item].before = before;
     }
 }
 
 // The end of a list that an item leaves: the item's other neighbour, where it had none on this side.
-fn end_without(beside: Option<usize>, other: Option<usize>, end: Option<usize>) -> Option<usize>
+fn end_without(beside: Place, other: Place, end: Place) -> Place
     ensures { result ≡ pick beside other end }
 {
-    match beside {
+    match beside.item() {
         None => other,
         Some(_) => end,
     }
@@ -133,7 +191,7 @@ fn leave_ends(ends: &mut NumberMap<Ends>, list: u64, now: Ends)
     ensures some { (x : ℕ) → now.first ≡ Some x → ends.new.map ≡ map.insert ends.old.map list now }
     ensures total { map.len ends.new.map + ends.new.room ≡ map.len ends.old.map + ends.old.room }
 {
-    match now.first {
+    match now.first.item() {
         Some(_) => ends.set(list, now),
         None => ends.release(list),
     }
@@ -155,11 +213,15 @@ impl Lists {
     /// Makes room for so many items in all: those below this number. Constant time, but where the
     /// links move to a larger place.
     ///
-    /// An error means that memory was refused; all is then as before. Nothing else here takes memory.
+    /// An error means that memory was refused, or that the items are 2^32 or more, whose links would
+    /// take 32 GiB; all is then as before. Nothing else here takes memory.
     pub fn reserve(&mut self, items: usize) -> Result<(), AllocError>
         ensures ok { OnOk result (self.new ≡ record self.old { items = max self.old.items items }) }
         ensures err { OnErr result (self.new ≡ self.old) }
     {
+        if items > MOST_ITEMS {
+            return Err(AllocError);
+        }
         if items > self.links.len() {
             self.ends.reserve(items)?;
             self.links.resize(items, Link::blank())?;
@@ -174,15 +236,15 @@ impl Lists {
         ensures { self.new ≡ with_list self.old list (list_of self.old list ++ item ∷ []) }
     {
         let Ends { first, last } = ends_of(&self.ends, list);
+        let place = Place::of(item);
         self.links[item] = Link {
-            list,
             before: last,
-            behind: None,
+            behind: Place::none(),
         };
-        set_behind(&mut self.links, last, Some(item));
+        set_behind(&mut self.links, last, place);
         let now = Ends {
-            first: first.or(Some(item)),
-            last: Some(item),
+            first: first.or(place),
+            last: place,
         };
         hold_ends(&mut self.ends, list, now);
     }
@@ -193,7 +255,7 @@ impl Lists {
         ensures { self.new ≡ with_list self.old list (without item (list_of self.old list)) }
     {
         let Ends { first, last } = ends_of(&self.ends, list);
-        let Link { before, behind, .. } = self.links[item];
+        let Link { before, behind } = self.links[item];
         set_behind(&mut self.links, before, behind);
         set_before(&mut self.links, behind, before);
         let now = Ends {
@@ -207,7 +269,7 @@ impl Lists {
     pub fn first(&self, list: u64) -> Option<usize>
         ensures { result ≡ slice_get (list_of self.now list) 0 }
     {
-        ends_of(&self.ends, list).first
+        ends_of(&self.ends, list).first.item()
     }
 
     /// The item behind this one of a list. Constant time.
@@ -215,6 +277,6 @@ impl Lists {
         ensures { (i : ℕ) → slice_get (list_of self.now list) i ≡ Some item → result ≡ slice_get (list_of self.now list) (i + 1) }
     {
         let link = self.links.get(item)?;
-        link.behind
+        link.behind.item()
     }
 }
