@@ -10,7 +10,7 @@ use Rattle.port.specs.Turns.{ReadyLists}
 use Rattle.port.specs.Ports.{PortView, PortsView}
 use Rattle.port.specs.Records.{ports_of, port_in, queued_in, IsIndexed, IsSound, made_of}
 use Rattle.port.proofs.Keys.{same_some, some_or_none, equal_or_not, out_here, out_other, same_gets}
-use Rattle.port.proofs.View.{len-with_values}
+use Rattle.member_lists.proofs.Values.{len-with_values}
 use Rattle.port.proofs.Records.{Keyed, port_of, Turns, ports-came, indexed-came, ports-went, indexed-went}
 use Rattle.port.proofs.Sound.{sum_same, no_true}
 

@@ -6,7 +6,7 @@ use Rattle.std.specs.FinMap as map
 use Rattle.port.specs.declared.Record.{Record}
 use Rattle.port.specs.Ports.{PortView}
 use Rattle.port.specs.Records.{ports_of, port_in, IsIndexed}
-use Rattle.port.proofs.View.{get-with_values}
+use Rattle.member_lists.proofs.Values.{get-with_values}
 use Rattle.port.proofs.Keys.{same_some, some_or_none, equal_or_not, put_here, put_other, out_here, out_other, same_gets}
 
 abbrev pub Keyed : Type 0

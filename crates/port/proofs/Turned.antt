@@ -15,7 +15,7 @@ use Rattle.port.specs.Ready.{out_of, at_end}
 use Rattle.port.specs.Ports.{PortsView, turned}
 use Rattle.port.specs.Records.{ports_of, id_in, ids_at, turns_at, made_of, ready_set, IsIndexed, IsReadied, IsSound}
 use Rattle.port.proofs.Keys.{same_some, some_or_none, equal_or_not, put_here, put_other, out_here, out_other, same_gets}
-use Rattle.port.proofs.View.{get-with_values, len-with_values}
+use Rattle.member_lists.proofs.Values.{get-with_values, len-with_values}
 use Rattle.port.proofs.Records.{Keyed, port_of}
 use Rattle.port.proofs.Readied.{ready_none}
 use Rattle.port.proofs.Sound.{turns-set, live_port}

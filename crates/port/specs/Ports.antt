@@ -59,18 +59,7 @@ module _ {M : Type 0} where
   abbrev pub with_port : PortsView M → ℕ → PortView M → PortsView M
   with_port v port p = record v { ports = map.insert v.ports port p; ready = turned v.ready port (map.get v.ports port) p }
 
--- after the one before, or any where there is none before
-abbrev pub IsAfter : Option ℕ → ℕ → Type 0
-IsAfter before q = (b : ℕ) → before ≡ Some b → b < q
-
 module _ {M : Type 0} where
-  -- the live port with the least identity after the one before
-  pub record IsNext (v : PortsView M) (before found : Option ℕ) : Type 0 where
-    pub live : (id : ℕ) → found ≡ Some id → IsLive v id
-    pub later : (id : ℕ) → found ≡ Some id → IsAfter before id
-    pub given : (id : ℕ) → found ≡ Some id → id < v.made
-    pub least : (q : ℕ) → IsLive v q → IsAfter before q → (id : ℕ) × (found ≡ Some id) × (id ≤ q)
-
   -- the port is there, in the set, and has a message
   pub record IsReadyIn (v : PortsView M) (set port : ℕ) : Type 0 where
     pub view : PortView M

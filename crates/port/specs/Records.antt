@@ -6,14 +6,11 @@ use Rattle.std.specs.FinMap as map
 use Rattle.std.specs.Ordering.{nat_cmp}
 use Rattle.slab.specs.Slab.{Slab, get}
 use Rattle.member_lists.specs.Lists.{ListsView, list_of}
+use Rattle.member_lists.specs.Values.{with_values}
 use Rattle.port.specs.declared.Record.{Record}
 use Rattle.port.specs.Ready.{StandsIn}
 use Rattle.port.specs.Turns.{ReadyLists, ready_if}
 use Rattle.port.specs.Ports.{PortView, first_attributes}
-
--- the map with each value v replaced by f v
-abbrev pub with_values : {Y X : Type 0} → (Y → X) → map.FinMap nat_cmp Y → map.FinMap nat_cmp X
-with_values f m = map.from_sorted (std.map (λ e. (e.0, f e.1)) (map.entries m))
 
 -- how many numbers were given out, where the next is this, or none is left
 abbrev pub made_of : Option ℕ → ℕ

@@ -14,8 +14,8 @@ ghost use Rattle.slab.specs.Slab.{get, with_value};
 ghost use Rattle.port.specs.declared.Record.{Record as AnyRecord};
 ghost use Rattle.port.specs.Ready.{StandsIn, IsMoved, out_of, at_end};
 ghost use Rattle.port.specs.Turns.{turns_of, same_set};
-ghost use Rattle.port.specs.Ports.{IsAfter, one_made, one_received};
-ghost use Rattle.port.specs.Records.{made_of, ready_set, member_set};
+ghost use Rattle.port.specs.Ports.{one_made, one_received};
+ghost use Rattle.port.specs.Records.{ready_set, member_set};
 
 use mach_types::limits::FIRST_LIMIT;
 use mach_types::{PortId, SetId};
@@ -65,16 +65,100 @@ impl Attributes {
     }
 }
 
+// Attributes as they are kept: in 24 bytes.
+#[derive(Drop)]
+struct KeptAttributes {
+    set: u64,
+    limit: u32,
+    make_send: u32,
+    sequence: u32,
+    is_member: bool,
+}
+
+impl Model for KeptAttributes {
+    ghost use Rattle.std.specs.Prelude.{cond, Some, None};
+    ghost use Rattle.port.specs.declared.Attributes.{Attributes};
+    ghost use Rattle.port.specs.contracts.Attributes as attributes;
+
+    ghost Value = { Attributes };
+
+    ghost coded = { attributes.the_row.coded };
+
+    ghost view = { λ a. record {
+      limit = a.limit;
+      make_send = a.make_send;
+      sequence = a.sequence;
+      set = cond a.is_member (Some a.set) None;
+    } };
+}
+
+impl KeptAttributes {
+    fn new(attributes: Attributes) -> KeptAttributes
+        ensures { result ≡ attributes }
+    {
+        let (set, is_member) = match attributes.set {
+            Some(set) => (set.number(), true),
+            None => (0, false),
+        };
+        KeptAttributes {
+            set,
+            limit: attributes.limit,
+            make_send: attributes.make_send,
+            sequence: attributes.sequence,
+            is_member,
+        }
+    }
+
+    fn get(&self) -> Attributes
+        ensures { result ≡ self.now }
+    {
+        Attributes {
+            limit: self.limit,
+            make_send: self.make_send,
+            sequence: self.sequence,
+            set: self.set(),
+        }
+    }
+
+    fn set(&self) -> Option<SetId>
+        ensures { result ≡ self.now.set }
+    {
+        if self.is_member {
+            Some(SetId::new(self.set))
+        } else {
+            None
+        }
+    }
+
+    fn limit(&self) -> u32
+        ensures { result ≡ self.now.limit }
+    {
+        self.limit
+    }
+
+    fn count_made(&mut self)
+        ensures { self.new ≡ one_made self.old }
+    {
+        self.make_send = self.make_send.wrapping_add(1);
+    }
+
+    fn count_received(&mut self)
+        ensures { self.new ≡ one_received self.old }
+    {
+        self.sequence = self.sequence.wrapping_add(1);
+    }
+}
+
 // A port under its key.
 #[derive(Drop)]
 struct Record<M> {
     id: PortId,
     queue: LinkedList<M>,
-    attributes: Attributes,
+    attributes: KeptAttributes,
 }
 
 // A port without messages takes its record in the slab, and its place in the index.
-const _: () = prove!(mem::size_of::<Record<u8>>() <= 112);
+const _: () = prove!(mem::size_of::<Record<u8>>() <= 56);
 
 /// Ports by identity, and spare message slots. Without ports and slots nothing is allocated.
 #[derive(Drop)]
@@ -206,7 +290,7 @@ fn take_at<M: Message>(
     ensures spare { length spare.new ≡ length spare.old + 1 }
 {
     let record = &mut records[key];
-    record.attributes.sequence = record.attributes.sequence.wrapping_add(1);
+    record.attributes.count_received();
     pop(&mut record.queue, spare, blank)
 }
 
@@ -215,8 +299,7 @@ fn count_at<M: Message>(records: &mut Slab<Record<M>>, key: usize)
     requires { IsSome (get records.old key) }
     ensures { (r : AnyRecord M) → get records.old key ≡ Some r → records.new ≡ with_value records.old key (record r { attributes = one_made r.attributes }) }
 {
-    let attributes = &mut records[key].attributes;
-    attributes.make_send = attributes.make_send.wrapping_add(1);
+    records[key].attributes.count_made();
 }
 
 // Sets the attributes of the port under the key.
@@ -224,7 +307,7 @@ fn set_at<M: Message>(records: &mut Slab<Record<M>>, key: usize, attributes: Att
     requires { IsSome (get records.old key) }
     ensures { (r : AnyRecord M) → get records.old key ≡ Some r → records.new ≡ with_value records.old key (record r { attributes = attributes }) }
 {
-    records[key].attributes = attributes;
+    records[key].attributes = KeptAttributes::new(attributes);
 }
 
 // The number of the set that the port under the key is ready in: its set, where it has a message.
@@ -236,7 +319,7 @@ fn ready_at<M: Message>(records: &Slab<Record<M>>, key: usize) -> Option<u64>
     if record.queue.is_empty() {
         return None;
     }
-    let set = record.attributes.set?;
+    let set = record.attributes.set()?;
     Some(set.number())
 }
 
@@ -245,7 +328,7 @@ fn member_at<M: Message>(records: &Slab<Record<M>>, key: usize) -> Option<u64>
     requires { IsSome (get records.now key) }
     ensures { (r : AnyRecord M) → get records.now key ≡ Some r → result ≡ member_set r }
 {
-    let set = records[key].attributes.set?;
+    let set = records[key].attributes.set()?;
     Some(set.number())
 }
 
@@ -317,31 +400,9 @@ fn key_of(by_id: &NumberMap<usize>, port: PortId) -> Option<usize>
     by_id.get(port.number())
 }
 
-// Whether the number was given out, where this is the next, or none is left.
-fn is_given(next: Option<u64>, number: u64) -> bool
-    ensures { IsTrue result ↔ (number < made_of next) }
-{
-    match next {
-        Some(next) => number < next,
-        None => true,
-    }
-}
-
-// The number after this one's, or, after none, the first.
-fn number_after(before: Option<PortId>) -> Option<u64>
-    ensures passed { (q : ℕ) → IsAfter before q → made_of result ≤ q }
-    ensures after { (q : ℕ) → result ≡ Some q → IsAfter before q }
-    ensures fits { (q : ℕ) → result ≡ Some q → q < 2 ^ 64 }
-{
-    match before {
-        Some(port) => port.number().checked_add(1),
-        None => Some(0),
-    }
-}
-
 impl<M: Message> Ports<M> {
     ghost use Rattle.mach_types.specs.Numbers.{most_identities};
-    ghost use Rattle.port.specs.Ports.{PortView, IsLive, with_port, first_attributes, IsNext, IsReadyIn, NoneReadyIn, IsIn, NoneIn};
+    ghost use Rattle.port.specs.Ports.{PortView, IsLive, with_port, first_attributes, IsReadyIn, NoneReadyIn, IsIn, NoneIn};
 
     /// No ports, and no slots. Allocates nothing; constant time.
     pub fn new(alloc: Global) -> Ports<M>
@@ -416,7 +477,7 @@ impl<M: Message> Ports<M> {
         let key = self.records.insert_reserved(Record {
             id,
             queue: LinkedList::new(*self.spare.allocator()),
-            attributes: Attributes::first(),
+            attributes: KeptAttributes::new(Attributes::first()),
         });
         self.by_id.insert(number, key);
         self.next = number.checked_add(1);
@@ -444,25 +505,7 @@ impl<M: Message> Ports<M> {
         ensures { result ≡ option_map (λ p. p.attributes) (map.get self.now.ports port) }
     {
         let key = key_of(&self.by_id, port)?;
-        Some(self.records[key].attributes)
-    }
-
-    /// The port with the least identity after this one, or, after none, with the least of all: so one
-    /// goes over all ports. Linear in the number of identities between the two.
-    pub fn next_after(&self, before: Option<PortId>) -> Option<PortId>
-        ensures { IsNext self.now before result }
-    {
-        let mut candidate = number_after(before);
-        while let Some(number) = candidate {
-            if !is_given(self.next, number) {
-                return None;
-            }
-            if self.by_id.get(number).is_some() {
-                return Some(PortId::new(number));
-            }
-            candidate = number.checked_add(1);
-        }
-        None
+        Some(self.records[key].attributes.get())
     }
 
     /// The port of the set that has a message and whose turn it is, if there is one. A port gets its
@@ -521,7 +564,7 @@ impl<M: Message> Ports<M> {
         match key_of(&self.by_id, port) {
             Some(key) => {
                 let record = &self.records[key];
-                record.queue.len() < record.attributes.limit as usize
+                record.queue.len() < record.attributes.limit() as usize
             }
             None => false,
         }

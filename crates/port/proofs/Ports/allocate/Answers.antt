@@ -15,7 +15,7 @@ use Rattle.port.proofs.Ports.allocate.Goals as goal
 
 pub invariant_of-self-2 : goal.invariant_of-self-2
 invariant_of-self-2 g c =
-    let a : Record g.row.M.Denot = record { id = c.new-id.result; queue = c.new.result; attributes = c.first.result } in
+    let a : Record g.row.M.Denot = record { id = c.new-id.result; queue = c.new.result; attributes = c.new-2.result } in
     let number : made_of c.self.inside.next ≡ c.unwrap-number.result = ap made_of c.unwrap-number.ensures in
     let few : c.unwrap-number.result < 2 ^ 64 = c.self.invariant.sound.next_fits c.unwrap-number.result c.unwrap-number.ensures in
     let kept : (k : ℕ) → get c.reserve.new.self k ≡ get c.self.inside.records k = λ k. ap (λ (s : Slab (Record g.row.M.Denot)). get s k) c.reserve.ensures.rest_kept in
@@ -35,13 +35,13 @@ invariant_of-self-2 g c =
           (omega (arith, c.insert_reserved-key.ensures.key_in_range, c.insert_reserved-key.ensures.capacity, c.capacity.ensures.value)) (omega arith));
       membered = subst (λ w. IsMembered (get c.insert_reserved-key.new.self) w) (sym c.in_ok-reserve-4.ensures.ok)
           (listed-came member_set (get c.self.inside.records) (get c.insert_reserved-key.new.self) c.self.inside.members c.self.invariant.membered c.insert_reserved-key.result a (max c.self.inside.members.items c.capacity-2.result) vacant
-          (record { changed = c.insert_reserved-key.ensures.updates.changed; others = others }) (ap (λ (b : Attributes). b.set) c.first.ensures)
+          (record { changed = c.insert_reserved-key.ensures.updates.changed; others = others }) (ap (λ (b : Attributes). b.set) (c.new-2.ensures ∙ c.first.ensures))
           (omega (arith, c.insert_reserved-key.ensures.key_in_range, c.insert_reserved-key.ensures.capacity, c.capacity-2.ensures.value)) (omega arith));
     }
 
 pub returns-clause-ok : goal.returns-clause-ok
 returns-clause-ok g c =
-    let a : Record g.row.M.Denot = record { id = c.new-id.result; queue = c.new.result; attributes = c.first.result } in
+    let a : Record g.row.M.Denot = record { id = c.new-id.result; queue = c.new.result; attributes = c.new-2.result } in
     let number : made_of c.self.inside.next ≡ c.unwrap-number.result = ap made_of c.unwrap-number.ensures in
     let few : c.unwrap-number.result < 2 ^ 64 = c.self.invariant.sound.next_fits c.unwrap-number.result c.unwrap-number.ensures in
     let kept : (k : ℕ) → get c.reserve.new.self k ≡ get c.self.inside.records k = λ k. ap (λ (s : Slab (Record g.row.M.Denot)). get s k) c.reserve.ensures.rest_kept in
@@ -63,7 +63,7 @@ returns-clause-ok g c =
     (turns_at (get c.insert_reserved-key.new.self) c.reserve-3.new.self.lists)
     (ap (λ (w : ListsView). turns_at (get c.insert_reserved-key.new.self) w.lists) c.in_ok-reserve-3.ensures.ok
     ∙ turns-apart (get c.self.inside.records) (get c.insert_reserved-key.new.self) c.self.inside.ready c.insert_reserved-key.result (apart-vacant (get c.self.inside.records) c.self.inside.ready c.self.invariant.readied c.insert_reserved-key.result vacant) others)
-    ∙ ap (λ l. after l c.first.result) c.new.ensures ∙ ap (after []) c.first.ensures
+    ∙ ap (λ l. after l c.new-2.result) c.new.ensures ∙ ap (after []) (c.new-2.ensures ∙ c.first.ensures)
 
 pub invariant_of-self : goal.invariant_of-self
 invariant_of-self g c = kept-capacity c.self.inside.records c.reserve.new.self c.self.inside.by_id.map c.self.inside.next c.self.inside.spare c.self.inside.slots c.self.inside.ready c.self.inside.members c.reserve.ensures.rest_kept c.self.invariant

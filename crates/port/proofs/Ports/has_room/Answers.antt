@@ -24,8 +24,8 @@ returns-in-Some g c =
     record {
       live = λ p h.
           let same : port_of c.index-record.result.now ≡ p = same_some (port_of c.index-record.result.now) p (sym is ∙ h) in
-          room_told c.len.result c.index-record.result.now.attributes.limit (length p.queue) p.attributes.limit
-          (c.len.ensures.value ∙ ap (λ (q : PortView g.row.M.Denot). length q.queue) same) (ap (λ (q : PortView g.row.M.Denot). q.attributes.limit) same);
+          room_told c.len.result c.limit.result (length p.queue) p.attributes.limit
+          (c.len.ensures.value ∙ ap (λ (q : PortView g.row.M.Denot). length q.queue) same) (c.limit.ensures ∙ ap (λ (q : PortView g.row.M.Denot). q.attributes.limit) same);
       gone = λ h. absurd (some_or_none (port_of c.index-record.result.now) _ is h);
     }
 
