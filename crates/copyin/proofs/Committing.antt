@@ -24,8 +24,7 @@ use Rattle.copyin_base.specs.Stands.{AreTied, IsTied}
 use Rattle.copyin_base.specs.Wanted.{room_in, room_of}
 use Rattle.copyin_base.specs.Worlds.{WorldView, put}
 use Rattle.copyin.specs.Copies.{ports_copied, ledger_queued, CopiesRight}
-use Rattle.copyin_base.proofs.Gets.{each-set}
-use Rattle.copyin_base.proofs.Spaces.{same_world}
+use Rattle.copyin_base.proofs.Spaces.{same_world, each-space-set}
 use Rattle.copyin.proofs.Going.{go_on}
 use Rattle.copyin.proofs.Judging.{goes_by_name}
 use Rattle.copyin.proofs.Keeping.{keeps, live_copied, spare_copied}
@@ -181,7 +180,7 @@ stay_word old new task w c ch = elim (eqb_tells w.name null_word) [
           live = λ p h. subst (λ (ports : PortsView Kept). IsLive ports p) (sym is) (live_copied c.given r.copied.mark old.ports p h);
           spare = ap (λ (ports : PortsView Kept). ports.spare) is ∙ spare_copied c.given r.copied.mark old.ports;
           rooms = λ u. ap (λ (x : WorldView). room_of x u) r.rest
-              ∙ each-set old.spaces task (record r.space { names = put r.space.names w.name r.copied.left }) r.space r.there (λ i o. room_in o ≡ room_of old i)
+              ∙ each-space-set old.spaces task (record r.space { names = put r.space.names w.name r.copied.left }) r.space r.there (λ i o. room_in o ≡ room_of old i)
               (sym (ap room_in r.there)) (λ i not. refl) u;
         }
 
@@ -235,7 +234,7 @@ same_shift : (a b : Bool) (p q : ℕ) (l m : LedgerView) → a ≡ b → p ≡ q
 same_shift a b p q l m x y z = rw (x, y, z) refl
 
 pub commits : (old mid : WorldView) (task : ℕ) (parsed : Parsed) (written : WireBody) (bytes : List ℕ) (plan : Plan) (p : IsPlan old task parsed written bytes plan)
-    (spaces : List SpaceView) (ports new_ports : PortsView Kept) (ledger new_ledger : LedgerView) (sets : SetsView) → Carries old task plan mid → IsLive ports plan.port
+    (spaces : List (Option SpaceView)) (ports new_ports : PortsView Kept) (ledger new_ledger : LedgerView) (sets : SetsView) → Carries old task plan mid → IsLive ports plan.port
     → ◌≡◌ {A = WorldView} (record { spaces = spaces; ports = ports; ledger = ledger; sets = sets }) mid
     → ((v : PortView Kept) → map.get ports.ports plan.port ≡ Some v → new_ports ≡ record (with_port ports plan.port (record v { queue = v.queue ++ plan.message ∷ [] })) { spare = ports.spare - 1 })
     → new_ledger ≡ ledger_queued plan.message.by_once plan.port ledger

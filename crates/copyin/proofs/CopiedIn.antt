@@ -1,6 +1,6 @@
 -- A right that is copied in: what the tables do is what the machine does.
 use Rattle.std.proofs.Common.{◌≡◌, ℕ, zero, suc, ◌+◌, ◌%◌, ◌^◌, ◌<◌, ◌∷◌, Option, Some, None, refl, sym, ap, subst, ◌∙◌, arith, true, false, ◌⊎◌, inl, inr}
-use Rattle.std.specs.Prelude.{is_some, if◌then◌else◌, ◌==◌, ◌&&◌, slice_get, slice_set}
+use Rattle.std.specs.Prelude.{is_some, if◌then◌else◌, ◌==◌, ◌&&◌, slice_set}
 use Rattle.std.specs.FinMap as map
 use Rattle.std.proofs.lemmas.Bool.{ne_eqb}
 use Rattle.mach_types.specs.declared.rights.Disposition.{Disposition}
@@ -23,7 +23,7 @@ use Rattle.rights.specs.declared.RightKind.TheVariants as right
 use Rattle.copyin.specs.declared.copies.Copied.{Copied}
 use Rattle.copyin_base.specs.declared.message.Mark.TheVariants as mark
 use Rattle.copyin_base.specs.Kept.{Kept, mark_of}
-use Rattle.copyin_base.specs.Worlds.{WorldView, port_at, put}
+use Rattle.copyin_base.specs.Worlds.{WorldView, port_at, put, space_at}
 use Rattle.copyin.specs.Copies.{ports_copied, ledger_copied, port_copied}
 use Rattle.copyin_base.specs.Shows.{onces_queued, ShowsPort, target_of, HasCount, ShowsCounts, Agrees}
 use Rattle.copyin_base.proofs.AttributesSet.{IsAt, is_at, is_same}
@@ -35,7 +35,7 @@ use Rattle.copyin.proofs.PortCopied.{ports_made, ports_live, port_changed}
 -- the tables after a right went by the disposition from a name of the space
 abbrev pub after : WorldView → (task name : ℕ) → SpaceView → Disposition → Copied → WorldView
 after w task name space d c = record w {
-  spaces = slice_set w.spaces task (record space { names = put space.names name c.left });
+  spaces = slice_set w.spaces task (Some (record space { names = put space.names name c.left }));
   ports = ports_copied d c.mark w.ports;
   ledger = ledger_copied d c.mark w.ledger;
 }
@@ -62,7 +62,7 @@ kept_task r task c kind q p = both_test (is_of c q (token kind p (in_task task))
 pub kept_entry : (r : Request) (o k : ℕ) (c kind : Kind) (q p : ℕ) → (if is_of c q (token kind p (in_message o k)) && same_place (in_request r) (in_message o k) then suc zero else zero) ≡ zero
 kept_entry r o k c kind q p = both_test (is_of c q (token kind p (in_message o k))) false (inr refl)
 
-module _ (w : WorldView) (s : State) (a : Agrees w s) (o k : ℕ) (l : IsMoving s o k) (task name : ℕ) (space : SpaceView) (there : slice_get w.spaces task ≡ Some space)
+module _ (w : WorldView) (s : State) (a : Agrees w s) (o k : ℕ) (l : IsMoving s o k) (task name : ℕ) (space : SpaceView) (there : space_at w task ≡ Some space)
     (entry : Entry) (found : map.get space.names name ≡ Some entry) where
   pub stands_for : lookup s task name ≡ Some (target_of entry)
   stands_for = target_found w s a task name (l.naming task) space there entry found

@@ -1,6 +1,6 @@
 -- Each right that is copied in: what the tables do is what the machine does.
 use Rattle.std.proofs.Common.{◌≡◌, ℕ, ◌+◌, ◌-◌, ◌<◌, Option, Some, None, refl, sym, ap, subst, ◌∙◌, arith, Bool, true, false, ◌⊎◌, inl, inr}
-use Rattle.std.specs.Prelude.{is_some, if◌then◌else◌, ◌||◌, nat_lt, slice_get}
+use Rattle.std.specs.Prelude.{is_some, if◌then◌else◌, ◌||◌, nat_lt}
 use Rattle.std.specs.Option.{option_map}
 use Rattle.std.specs.FinMap as map
 use Rattle.std.proofs.lemmas.Bool.{ltb-true, ltb-false}
@@ -20,7 +20,7 @@ use Rattle.copyin_base.specs.declared.message.Mark.TheVariants as mark
 use Rattle.rights.specs.Ledger.{LedgerView}
 use Rattle.copyin_base.specs.Kept.{Kept}
 use Rattle.copyin.specs.Copies.{copied_from, one_less}
-use Rattle.copyin_base.specs.Worlds.{WorldView, port_at, put}
+use Rattle.copyin_base.specs.Worlds.{WorldView, port_at, put, space_at}
 use Rattle.copyin_base.specs.Shows.{onces_queued, CountsAgree, ShowsPort, target_of, HasCount, Agrees}
 use Rattle.copyin_base.proofs.Changing.{Rest, changed_agrees}
 use Rattle.copyin.proofs.CopiedIn.{Goes, after, the_same, no_entry, stands_for, own_held, counted, unchanged, copies_send, makes_send, makes_once}
@@ -31,7 +31,7 @@ use Rattle.copyin.proofs.MovedIn.{LeftIs, sends_moved, once_moves, receive_moves
 dead_no_set : (n set : ℕ) → Target.dead n ≡ Target.set set → ⊥
 dead_no_set n set e = cc
 
-module _ (w : WorldView) (s : State) (a : Agrees w s) (o k : ℕ) (l : IsMoving s o k) (task name : ℕ) (space : SpaceView) (there : slice_get w.spaces task ≡ Some space)
+module _ (w : WorldView) (s : State) (a : Agrees w s) (o k : ℕ) (l : IsMoving s o k) (task name : ℕ) (space : SpaceView) (there : space_at w task ≡ Some space)
     (n : ℕ) (found : map.get space.names name ≡ Some (DeadName n)) where
   dead_named : lookup s task name ≡ Some (Target.dead n)
   dead_named = stands_for w s a o k l task name space there (DeadName n) found
@@ -145,7 +145,7 @@ is_above m n lt false e = absurd (let x = ltb-false m n e in omega (arith, x, lt
 is_none : (n : ℕ) → n ≡ 0 → nat_lt 0 n ≡ false
 is_none n e = ap (nat_lt 0) e
 
-module _ (w : WorldView) (s : State) (a : Agrees w s) (o k : ℕ) (l : IsMoving s o k) (task name : ℕ) (space : SpaceView) (there : slice_get w.spaces task ≡ Some space) where
+module _ (w : WorldView) (s : State) (a : Agrees w s) (o k : ℕ) (l : IsMoving s o k) (task name : ℕ) (space : SpaceView) (there : space_at w task ≡ Some space) where
   goes_send : (p n : ℕ) → map.get space.names name ≡ Some (Send p n) → Goes w s o k task name space MoveSend (record { left = one_less (Send p) None n; mark = mark.Port p })
   goes_send p n found =
       let h = own_held w s a o k l task name space there (Send p n) found p refl in

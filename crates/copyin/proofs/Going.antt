@@ -1,6 +1,6 @@
 -- Words carried out one after the other.
 use Rattle.std.proofs.Common.{◌≡◌, ℕ, ◌+◌, ◌<◌, Option, Some, None, IfSome, List, [], ◌∷◌, Bor, get_or, drop, length, refl, sym, ap, subst, ◌∙◌, inl, inr, arith}
-use Rattle.std.specs.Prelude.{◌≢◌, slice_get, slice_set, MatchOption}
+use Rattle.std.specs.Prelude.{◌≢◌, slice_set, MatchOption}
 use Rattle.std.specs.List.{IsFirstAndRest}
 use Rattle.std.proofs.lemmas.Bool.Decides.{eqb_tells}
 use Rattle.std.proofs.lemmas.List.{drop_more}
@@ -22,10 +22,10 @@ use Rattle.copyin_base.specs.Kept.{Kept}
 use Rattle.copyin.specs.Planned.{CanGo, CanCopy, CopiesAll}
 use Rattle.copyin.specs.Plans.{ChangesWord, ChangesWords}
 use Rattle.copyin_base.specs.Stands.{AreTied}
-use Rattle.copyin_base.specs.Worlds.{WorldView, entry_at, put}
+use Rattle.copyin_base.specs.Worlds.{WorldView, entry_at, put, space_at}
 use Rattle.copyin_base.specs.Changes.{PutsLeft}
-use Rattle.copyin_base.proofs.Gets.{get-set_same, same_found}
-use Rattle.copyin_base.proofs.Spaces.{same_world}
+use Rattle.copyin_base.proofs.Gets.{same_found}
+use Rattle.copyin_base.proofs.Spaces.{same_world, space-set_same}
 use Rattle.copyin.proofs.Judging.{by_name}
 use Rattle.copyin.proofs.Keeping.{keeps, total_copied, entered_copied, live_copied}
 use Rattle.copyin.proofs.Overlays.{get_put, get_put_other}
@@ -65,12 +65,12 @@ same_left w task name c can found e copied k a b x y =
     same_found _ _ _ y (x ∙ ap (λ (z : Entry). copied_from c.given z) ee ∙ can.is)
 
 pub copies_right : (old mid : WorldView) (task name : ℕ) (c : Carried) (can : CanCopy old task name c) (k : Copied) → k ≡ can.copied → PutsLeft old task name k.left mid →
-    (spaces : List SpaceView) (ports : PortsView Kept) (ledger : LedgerView) (sets : SetsView) → ◌≡◌ {A = WorldView} (record { spaces = spaces; ports = ports; ledger = ledger; sets = sets }) mid →
+    (spaces : List (Option SpaceView)) (ports : PortsView Kept) (ledger : LedgerView) (sets : SetsView) → ◌≡◌ {A = WorldView} (record { spaces = spaces; ports = ports; ledger = ledger; sets = sets }) mid →
     (new_ports : PortsView Kept) (new_ledger : LedgerView) → new_ports ≡ ports_copied c.given k.mark ports → new_ledger ≡ ledger_copied c.given k.mark ledger →
     CopiesRight old task c.given name c.mark (record { spaces = spaces; ports = new_ports; ledger = new_ledger; sets = sets })
 copies_right old mid task name c can k kk puts spaces ports ledger sets view new_ports new_ledger p l =
     let is = view ∙ puts.rest in
-    let here : puts.space ≡ can.space = same_found (slice_get old.spaces task) puts.space can.space puts.there can.there in
+    let here : puts.space ≡ can.space = same_found (space_at old task) puts.space can.space puts.there can.there in
     record {
       space = can.space;
       there = can.there;
@@ -138,13 +138,13 @@ go_on old new task w ws c cs go ch = elim (eqb_tells w.name null_word) [
         let kk : r.copied ≡ n.copied = same_found _ _ _ r.is (ap (λ (e : Entry). copied_from c.given e) ee ∙ n.is) in
         let after : SpaceView = record go.space { names = put go.space.names w.name n.copied.left } in
         let m = n.copied.mark in
-        let is : new ≡ record old { spaces = slice_set old.spaces task after; ports = ports_copied c.given m old.ports; ledger = ledger_copied c.given m old.ledger } =
+        let is : new ≡ record old { spaces = slice_set old.spaces task (Some after); ports = ports_copied c.given m old.ports; ledger = ledger_copied c.given m old.ledger } =
         r.rest ∙ same_world _ _ _ _ _ _ _ _ (rw (here, kk) refl) (rw kk refl) (rw kk refl) refl in
         let total = total_copied c.given m old.ledger in
         let one : made_by c ≡ made_by_mark c.given m = ap (λ (x : Mark). made_by_mark c.given x) n.mark in
         subst (λ (x : WorldView). CanGo x task ws cs) (sym is) (record {
           space = after;
-          there = get-set_same old.spaces task after go.space go.there;
+          there = space-set_same old.spaces task after go.space go.there;
           last = go.last;
           copies = subst (λ (ns : Names). CopiesAll ns ws cs go.last) n.left go.copies.2;
           few = let f = go.few in omega (arith, f, total, one);

@@ -1,6 +1,6 @@
 -- A right that is made from one that stays leaves the tables' names as they were.
 use Rattle.std.proofs.Common.{◌≡◌, ℕ, true, Option, Some, None, List, [], ◌∷◌, zero, suc, refl, sym, ap, subst, ◌∙◌, inl, inr}
-use Rattle.std.specs.Prelude.{slice_get, slice_set}
+use Rattle.std.specs.Prelude.{slice_set}
 use Rattle.std.proofs.lemmas.Bool.Decides.{eqb_tells}
 use Rattle.std.specs.FinMap as map
 use Rattle.std.specs.Cmp.{nat_cmp_total}
@@ -15,7 +15,7 @@ use Rattle.copyin.specs.Copies.{copied_from, ports_copied, ledger_copied, Copies
 use Rattle.copyin.specs.Planned.{CanCopy}
 use Rattle.copyin_base.specs.declared.message.Carried.{Carried}
 use Rattle.copyin_base.specs.Changes.{PutsLeft}
-use Rattle.copyin_base.specs.Worlds.{WorldView, put}
+use Rattle.copyin_base.specs.Worlds.{WorldView, put, space_in}
 use Rattle.copyin_base.specs.declared.message.Mark.{Mark}
 use Rattle.copyin.proofs.Going.{copies_right}
 use Rattle.copyin.proofs.Overlays.{get_put, get_put_other}
@@ -57,22 +57,22 @@ put_same names name e found = map.same_map nat_cmp_total map.nat_cmp-IsAntisymme
   | inr h ↦ get_put_other names name (Some e) q h.1
 ])
 
-set_same : {A : Type 0} (xs : List A) (i : ℕ) (x : A) → slice_get xs i ≡ Some x → slice_set xs i x ≡ xs
+set_same : (xs : List (Option SpaceView)) (i : ℕ) (x : SpaceView) → space_in xs i ≡ Some x → slice_set xs i (Some x) ≡ xs
 set_same [] i x is = refl
-set_same (y ∷ ys) zero x is = let e : x ≡ y = (let both : Some y ≡ Some x = is in cc) in ap (λ z. z ∷ ys) e
-set_same (y ∷ ys) (suc i) x is = ap (λ zs. y ∷ zs) (set_same ys i x is)
+set_same (o ∷ ys) zero x is = let e : Some x ≡ o = sym is in ap (λ z. z ∷ ys) e
+set_same (o ∷ ys) (suc i) x is = ap (λ zs. o ∷ zs) (set_same ys i x is)
 
 stays_put : (w : WorldView) (task name : ℕ) (c : Carried) (can : CanCopy w task name c) → makes_right c.given ≡ true → PutsLeft w task name can.copied.left w
 stays_put w task name c can makes =
     let all : can.copied.left ≡ Some can.entry = leaves c.given can.entry can.copied makes can.is in
     let names_are : put can.space.names name can.copied.left ≡ can.space.names = ap (put can.space.names name) all ∙ put_same can.space.names name can.entry can.found in
     let space_is : ◌≡◌ {A = SpaceView} (record can.space { names = put can.space.names name can.copied.left }) can.space = ap (λ (m : Names). record can.space { names = m }) names_are in
-    let spaces_are : slice_set w.spaces task (record can.space { names = put can.space.names name can.copied.left }) ≡ w.spaces =
-    ap (slice_set w.spaces task) space_is ∙ set_same w.spaces task can.space can.there in
+    let spaces_are : slice_set w.spaces task (Some (record can.space { names = put can.space.names name can.copied.left })) ≡ w.spaces =
+    ap (λ (x : SpaceView). slice_set w.spaces task (Some x)) space_is ∙ set_same w.spaces task can.space can.there in
     record {
       space = can.space;
       there = can.there;
-      rest = ap (λ (xs : List SpaceView). record w { spaces = xs }) (sym spaces_are);
+      rest = ap (λ (xs : List (Option SpaceView)). record w { spaces = xs }) (sym spaces_are);
     }
 
 pub makes : (old new : WorldView) (task name : ℕ) (c : Carried) (can : CanCopy old task name c) → makes_right c.given ≡ true →

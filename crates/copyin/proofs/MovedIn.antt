@@ -1,6 +1,6 @@
 -- A right that moves into a message: what the tables do is what the machine does.
 use Rattle.std.proofs.Common.{◌≡◌, ℕ, zero, suc, ◌+◌, ◌<◌, List, [], ◌∷◌, Option, Some, None, refl, sym, ap, subst, ◌∙◌, arith, Bool, true, false}
-use Rattle.std.specs.Prelude.{is_some, if◌then◌else◌, ◌&&◌, ◌||◌, nat_lt, slice_get}
+use Rattle.std.specs.Prelude.{is_some, if◌then◌else◌, ◌&&◌, ◌||◌, nat_lt}
 use Rattle.std.specs.Option.{option_map}
 use Rattle.std.specs.FinMap as map
 use Rattle.mach_types.specs.declared.rights.Disposition.TheVariants.{MoveReceive, MoveSend, MoveSendOnce}
@@ -22,7 +22,7 @@ use Rattle.copyin.specs.declared.copies.Copied.{Copied}
 use Rattle.copyin_base.specs.declared.message.Mark.TheVariants as mark
 use Rattle.rights.specs.Ledger.{LedgerView}
 use Rattle.copyin_base.specs.Kept.{Kept}
-use Rattle.copyin_base.specs.Worlds.{WorldView, port_at, put}
+use Rattle.copyin_base.specs.Worlds.{WorldView, port_at, put, space_at}
 use Rattle.copyin.specs.Copies.{port_copied}
 use Rattle.copyin_base.specs.Shows.{onces_queued, CountsAgree, ShowsPort, target_of, HasCount, Agrees}
 use Rattle.copyin_base.proofs.AttributesSet.{is_at}
@@ -40,7 +40,7 @@ LeftIs entry false left = left ≡ None
 once_no_set : (p set : ℕ) → Target.once p ≡ Target.set set → ⊥
 once_no_set p set e = cc
 
-module _ (w : WorldView) (s : State) (a : Agrees w s) (o k : ℕ) (l : IsMoving s o k) (task name : ℕ) (space : SpaceView) (there : slice_get w.spaces task ≡ Some space)
+module _ (w : WorldView) (s : State) (a : Agrees w s) (o k : ℕ) (l : IsMoving s o k) (task name : ℕ) (space : SpaceView) (there : space_at w task ≡ Some space)
     (entry : Entry) (found : map.get space.names name ≡ Some entry) where
   is_named : lookup s task name ≡ Some (target_of entry)
   is_named = stands_for w s a o k l task name space there entry found

@@ -1,6 +1,6 @@
 -- What judging the words of a text says of the plan.
 use Rattle.std.proofs.Common.{◌≡◌, ℕ, ◌+◌, ◌/◌, ◌%◌, ◌^◌, ◌<◌, ◌≤◌, Option, Some, None, IsSome, IfSome, List, [], ◌∷◌, length, refl, sym, ap, subst, ◌∙◌, inl, inr, ◌⊎◌, arith, All}
-use Rattle.std.specs.Prelude.{◌≢◌, slice_get}
+use Rattle.std.specs.Prelude.{◌≢◌}
 use Rattle.std.specs.Option.{option_to_list}
 use Rattle.std.proofs.lemmas.Bool.Decides.{eqb_tells, leb_tells}
 use Rattle.std.proofs.lemmas.List.Elements.{All-append, All-map}
@@ -29,7 +29,7 @@ use Rattle.copyin.specs.Judging.{CopiesName, CopiesReply, CopiesBody, BodyIsBad}
 use Rattle.copyin.specs.Planned.{AreWords}
 use Rattle.copyin.specs.Plans.{reply_words, Judged, Plans, Begins, HasSlot, HasNoSlot, CannotPlan}
 use Rattle.copyin_base.specs.Stands.{AreTied}
-use Rattle.copyin_base.specs.Worlds.{WorldView}
+use Rattle.copyin_base.specs.Worlds.{WorldView, space_at}
 use Rattle.copyin.proofs.Keeping.{keeps}
 
 -- ---- the words of a text have dispositions
@@ -150,7 +150,7 @@ words_given bytes parsed p words a = record {
 
 -- ---- the rights that go
 
-module _ (w : WorldView) (task : ℕ) (parsed : Parsed) (written : WireBody) (space : SpaceView) (words : Words) (there : slice_get w.spaces task ≡ Some space)
+module _ (w : WorldView) (task : ℕ) (parsed : Parsed) (written : WireBody) (space : SpaceView) (words : Words) (there : space_at w task ≡ Some space)
     (a : AreWords parsed written words) where
   begins : (first : Names) → Starts space.names words first → Begins w task parsed first
   begins first st = record {

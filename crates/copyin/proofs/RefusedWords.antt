@@ -1,6 +1,6 @@
 -- Words that can't be copied in, one after the other: the machine refuses them too.
 use Rattle.std.proofs.Common.{◌≡◌, ℕ, List, [], ◌∷◌, Option, Some, None, refl, sym, ap, subst, ◌∙◌, Bool, true, false, ◌⊎◌, inl, inr, length}
-use Rattle.std.specs.Prelude.{◌≢◌, ◌==◌, if◌then◌else◌, slice_get}
+use Rattle.std.specs.Prelude.{◌≢◌, ◌==◌, if◌then◌else◌}
 use Rattle.mach_types.specs.declared.rights.Disposition.{Disposition}
 use Rattle.mach_types.specs.declared.rights.Disposition.TheVariants.{MoveReceive}
 use Rattle.mach_types.specs.declared.codes.MsgReturn.TheVariants.{SendNoBuffer}
@@ -24,7 +24,7 @@ use Rattle.copyin_base.specs.declared.message.Carried.{Carried}
 use Rattle.copyin_base.specs.declared.message.Mark.{Mark}
 use Rattle.copyin_base.specs.declared.message.Mark.TheVariants as mark
 use Rattle.copyin_base.specs.Kept.{mark_of, reply_of}
-use Rattle.copyin_base.specs.Worlds.{WorldView}
+use Rattle.copyin_base.specs.Worlds.{WorldView, space_at}
 use Rattle.copyin_base.specs.Shows.{Shows}
 use Rattle.copyin.specs.Judging.{CopiesName, CopiesReply, IsBad, BodyIsBad}
 use Rattle.copyin.specs.Plans.{MayWantMemory, destination_word, reply_words, Judged, CannotPlan}
@@ -54,7 +54,7 @@ bad_words w s o k task names (v ∷ ws) at (inr (mid, (c, word), rest)) =
 -- ---- the whole message
 
 module _ (w : WorldView) (s : State) (sh : Shows w s) (task : ℕ) (bytes : List ℕ) (parsed : Parsed) (text : Parses bytes parsed) where
-  start_at : (p : ℕ) (space : SpaceView) → slice_get w.spaces task ≡ Some space → Along w s p (length (s.log p)) task space.names
+  start_at : (p : ℕ) (space : SpaceView) → space_at w task ≡ Some space → Along w s p (length (s.log p)) task space.names
   start_at p space there = record { agrees = sh.agrees; moving = moving s p (length (s.log p)) sh.lawful; space = space; there = there; names_are = refl }
 
   -- ---- the destination
@@ -72,7 +72,7 @@ module _ (w : WorldView) (s : State) (sh : Shows w s) (task : ℕ) (bytes : List
   no_null d (Target.once p) e = cc
   no_null d (Target.set n) e = let f : None ≡ Some MachineMark.null = e in cc
 
-  module _ (space : SpaceView) (there : slice_get w.spaces task ≡ Some space)
+  module _ (space : SpaceView) (there : space_at w task ≡ Some space)
       (bad : (p : ℕ) (c : Carried) (after : Names) → c.mark ≡ mark.Port p → ¬ (CopiesName space.names (destination_word parsed) c after)) where
     module _ (l : IsLegalName s task parsed.remote parsed.remote_kind) where
       -- a destination that could be copied in is dead
@@ -103,7 +103,7 @@ module _ (w : WorldView) (s : State) (sh : Shows w s) (task : ℕ) (bytes : List
 
   -- ---- what comes after the destination
 
-  module _ (space : SpaceView) (there : slice_get w.spaces task ≡ Some space) (p : ℕ) (c : Carried) (to : c.mark ≡ mark.Port p) (first : Names)
+  module _ (space : SpaceView) (there : space_at w task ≡ Some space) (p : ℕ) (c : Carried) (to : c.mark ≡ mark.Port p) (first : Names)
       (n : CopiesName space.names (destination_word parsed) c first) where
     abbrev end : ℕ
     end = length (s.log p)

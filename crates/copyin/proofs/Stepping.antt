@@ -1,6 +1,6 @@
 -- The words of a message copied in one by one: from the names that each leaves to the machine's states.
 use Rattle.std.proofs.Common.{◌≡◌, ℕ, ◌+◌, List, [], ◌∷◌, Some, refl, sym, ap, subst, ◌∙◌, arith, Bool, true, false}
-use Rattle.std.specs.Prelude.{◌==◌, MatchBool, slice_get}
+use Rattle.std.specs.Prelude.{◌==◌, MatchBool}
 use Rattle.std.specs.FinMap as map
 use Rattle.mach_types.specs.declared.rights.Disposition.{Disposition}
 use Rattle.mach_types.specs.declared.rights.Disposition.TheVariants.{MoveReceive, MoveSend, MoveSendOnce, CopySend, MakeSend, MakeSendOnce}
@@ -20,20 +20,20 @@ use Rattle.copyin_base.specs.declared.message.Mark.{Mark}
 use Rattle.copyin_base.specs.declared.message.Mark.TheVariants as mark
 use Rattle.copyin_base.specs.Kept.{mark_of}
 use Rattle.copyin.specs.Copies.{copied_from, CopiesRight, ledger_copied}
-use Rattle.copyin_base.specs.Worlds.{WorldView, put}
+use Rattle.copyin_base.specs.Worlds.{WorldView, put, space_at}
 use Rattle.copyin_base.specs.Shows.{Agrees}
 use Rattle.copyin.specs.Judging.{CopiesName, CopiesWord, PassesAs, made_by, made_by_mark}
 use Rattle.copyin.specs.Plans.{ChangesWord, ChangesWords}
-use Rattle.copyin_base.proofs.Gets.{get-set_same}
 use Rattle.copyin.proofs.CopiedIn.{after}
 use Rattle.copyin.proofs.GoesIn.{goes}
+use Rattle.copyin_base.proofs.Spaces.{space-set_same}
 
 -- Tables and a state that agree while rights are on their way; the task has these names.
 pub record Along (w : WorldView) (s : State) (o k task : ℕ) (names : Names) : Type 0 where
   pub agrees : Agrees w s
   pub moving : IsMoving s o k
   pub space : SpaceView
-  pub there : slice_get w.spaces task ≡ Some space
+  pub there : space_at w task ≡ Some space
   pub names_are : space.names ≡ names
 
 -- ---- how many rights are made
@@ -95,7 +95,7 @@ went w s o k task names word c left at n =
         agrees = g.agrees;
         moving = copies.keeps;
         space = record at.space { names = put at.space.names word.name n.copied.left };
-        there = get-set_same w.spaces task (record at.space { names = put at.space.names word.name n.copied.left }) at.space at.there;
+        there = space-set_same w.spaces task (record at.space { names = put at.space.names word.name n.copied.left }) at.space at.there;
         names_are = ap (λ (m : Names). put m word.name n.copied.left) at.names_are ∙ sym n.left;
       };
       copy = copy;

@@ -1,6 +1,6 @@
 -- A message that goes by a send-once right: once all its rights went, its port has one that no queued message goes by.
 use Rattle.std.proofs.Common.{◌≡◌, ℕ, ◌+◌, ◌<◌, ◌≤◌, Bool, true, false, Option, Some, None, List, [], ◌∷◌, refl, sym, ap, subst, ◌∙◌, inl, inr, arith}
-use Rattle.std.specs.Prelude.{is_some, slice_get}
+use Rattle.std.specs.Prelude.{is_some}
 use Rattle.std.specs.Option.{unwrap_or}
 use Rattle.std.specs.FinMap as map
 use Rattle.std.proofs.lemmas.Bool.Decides.{eqb_tells}
@@ -22,7 +22,7 @@ use Rattle.copyin_base.specs.declared.message.Carried.{Carried}
 use Rattle.copyin_base.specs.declared.message.Mark.{Mark}
 use Rattle.copyin_base.specs.declared.message.Mark.TheVariants as mark
 use Rattle.copyin_base.specs.Stands.{IsTied}
-use Rattle.copyin_base.specs.Worlds.{WorldView}
+use Rattle.copyin_base.specs.Worlds.{WorldView, space_at}
 use Rattle.copyin_base.proofs.Putting.{each_put}
 use Rattle.copyin.specs.declared.copies.Copied.{Copied}
 use Rattle.copyin.specs.Copies.{copied_from, ledger_copied, CopiesRight}
@@ -107,7 +107,7 @@ once_copied MoveSendOnce (entry.ReceiveAndSend q n) k p l is once to own = absur
 once_copied MoveSendOnce (entry.Set s) k p l is once to own = absurd (no_copied k is)
 
 -- once the word's right went, and others after it
-module _ (old : WorldView) (task : ℕ) (tied : IsTied old task) (space : SpaceView) (there : slice_get old.spaces task ≡ Some space) (w : PortWord) (c : Carried) (e : Entry)
+module _ (old : WorldView) (task : ℕ) (tied : IsTied old task) (space : SpaceView) (there : space_at old task ≡ Some space) (w : PortWord) (c : Carried) (e : Entry)
     (found : map.get space.names w.name ≡ Some e) (once : same_kind (kind_sent c.given) send_once ≡ true) (p : ℕ) (to : c.mark ≡ mark.Port p) where
   nothing : (n : ℕ) → map.get space.names n ≡ None → w.name ≡ n → ⊥
   nothing n none is = let f : None ≡ Some e = sym none ∙ ap (λ (m : ℕ). map.get space.names m) (sym is) ∙ found in cc

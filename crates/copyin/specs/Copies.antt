@@ -1,5 +1,5 @@
 -- What copying in takes from a name, what it leaves there, and what becomes of the tables.
-use Rattle.std.specs.Prelude.{◌≡◌, ℕ, Bool, ◌+◌, ◌-◌, ◌%◌, ◌^◌, Option, Some, None, if◌then◌else◌, nat_lt, slice_get, slice_set}
+use Rattle.std.specs.Prelude.{◌≡◌, ℕ, Bool, ◌+◌, ◌-◌, ◌%◌, ◌^◌, Option, Some, None, if◌then◌else◌, nat_lt, slice_set}
 use Rattle.std.specs.FinMap as map
 use Rattle.mach_types.specs.declared.rights.Disposition.{Disposition}
 use Rattle.mach_types.specs.declared.rights.Disposition.TheVariants.{MoveReceive, MoveSend, MoveSendOnce, CopySend, MakeSend, MakeSendOnce}
@@ -13,7 +13,7 @@ use Rattle.rights.specs.declared.RightKind.TheVariants as right
 use Rattle.copyin_base.specs.declared.message.Mark.{Mark}
 use Rattle.copyin_base.specs.declared.message.Mark.TheVariants as mark
 use Rattle.copyin_base.specs.Kept.{Kept}
-use Rattle.copyin_base.specs.Worlds.{WorldView, put}
+use Rattle.copyin_base.specs.Worlds.{WorldView, put, space_at}
 use Rattle.copyin.specs.declared.copies.Copied.{Copied}
 
 abbrev pub leaving : Option Entry → (port : ℕ) → Option Copied
@@ -75,14 +75,14 @@ ledger_queued by_once port ledger = if by_once then shifted ledger port else led
 -- A right is copied in from what stands under the name.
 pub record CopiesRight (old : WorldView) (task : ℕ) (d : Disposition) (name : ℕ) (one : Mark) (new : WorldView) : Type 0 where
   pub space : SpaceView
-  pub there : slice_get old.spaces task ≡ Some space
+  pub there : space_at old task ≡ Some space
   pub entry : Entry
   pub found : map.get space.names name ≡ Some entry
   pub copied : Copied
   pub is : copied_from d entry ≡ Some copied
   pub mark_is : one ≡ copied.mark
   pub rest : new ≡ record old {
-    spaces = slice_set old.spaces task (record space { names = put space.names name copied.left });
+    spaces = slice_set old.spaces task (Some (record space { names = put space.names name copied.left }));
     ports = ports_copied d copied.mark old.ports;
     ledger = ledger_copied d copied.mark old.ledger;
   }

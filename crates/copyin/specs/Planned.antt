@@ -1,5 +1,5 @@
 -- What a plan holds.
-use Rattle.std.specs.Prelude.{◌≡◌, ℕ, ◌+◌, ◌≤◌, List, Some, slice_get}
+use Rattle.std.specs.Prelude.{◌≡◌, ℕ, ◌+◌, ◌≤◌, List, Some}
 use Rattle.std.specs.Option.{option_to_list}
 use Rattle.std.specs.FinMap as map
 use Rattle.mach_types.specs.Bodies.{Through}
@@ -20,7 +20,7 @@ use Rattle.copyin.specs.Copies.{copied_from}
 use Rattle.copyin.specs.Judging.{CopiesWord, made_by, made_by_all}
 use Rattle.copyin.specs.Plans.{destination_word, reply_words, Plans, message_for}
 use Rattle.copyin_base.specs.Stands.{AreTied}
-use Rattle.copyin_base.specs.Worlds.{WorldView}
+use Rattle.copyin_base.specs.Worlds.{WorldView, space_at}
 
 -- These are the port words of the text.
 pub record AreWords (parsed : Parsed) (written : WireBody) (words : Words) : Type 0 where
@@ -46,7 +46,7 @@ CopiesAll = Through CopiesWord
 -- The words can be carried out in these tables, and there is room for the rights that they make.
 pub record CanGo (w : WorldView) (task : ℕ) (ws : List PortWord) (cs : List Carried) : Type 0 where
   pub space : SpaceView
-  pub there : slice_get w.spaces task ≡ Some space
+  pub there : space_at w task ≡ Some space
   pub last : Names
   pub copies : CopiesAll space.names ws cs last
   pub few : w.ledger.total + made_by_all cs ≤ most_rights
@@ -55,7 +55,7 @@ pub record CanGo (w : WorldView) (task : ℕ) (ws : List PortWord) (cs : List Ca
 -- The right can be copied in from what stands under the name.
 pub record CanCopy (w : WorldView) (task name : ℕ) (c : Carried) : Type 0 where
   pub space : SpaceView
-  pub there : slice_get w.spaces task ≡ Some space
+  pub there : space_at w task ≡ Some space
   pub entry : Entry
   pub found : map.get space.names name ≡ Some entry
   pub copied : Copied

@@ -1,5 +1,5 @@
 -- What is decided of a message before anything changes, and what is then done.
-use Rattle.std.specs.Prelude.{◌≡◌, ℕ, ◌+◌, ◌-◌, ◌<◌, ◌≤◌, ◌⊎◌, List, [], ◌∷◌, ◌++◌, length, slice_get, Option, Some, None, if◌then◌else◌, ◌==◌, MatchBool}
+use Rattle.std.specs.Prelude.{◌≡◌, ℕ, ◌+◌, ◌-◌, ◌<◌, ◌≤◌, ◌⊎◌, List, [], ◌∷◌, ◌++◌, length, Option, Some, None, if◌then◌else◌, ◌==◌, MatchBool}
 use Rattle.mach_types.specs.declared.codes.MsgReturn.TheVariants.{SendInvalidDest, SendTimedOut, SendInvalidReply, SendInvalidRight, SendNoBuffer}
 use Rattle.mach_types.specs.Numbers.{kind_sent, msg_number, most_rights, null_word, dead_word}
 use Rattle.mach_types.specs.Tokens.{send, send_once, same_kind}
@@ -13,7 +13,7 @@ use Rattle.port.specs.Ports.{PortView, with_port}
 use Rattle.copyin_base.specs.declared.message.Carried.{Carried}
 use Rattle.copyin_base.specs.declared.message.Mark.TheVariants as mark
 use Rattle.copyin_base.specs.Kept.{Kept}
-use Rattle.copyin_base.specs.Worlds.{WorldView, port_at}
+use Rattle.copyin_base.specs.Worlds.{WorldView, port_at, space_at}
 use Rattle.copyin.specs.Copies.{CopiesRight, ledger_queued}
 use Rattle.copyin.specs.Judging.{CopiesName, CopiesReply, CopiesBody, IsBad, BodyIsBad, made_by, made_by_reply, made_by_all}
 
@@ -26,7 +26,7 @@ reply_words parsed = if parsed.local_kind == 0 then [] else record { disposition
 -- The rights of the text can be copied in one after the other.
 pub record Judged (w : WorldView) (task : ℕ) (parsed : Parsed) (written : WireBody) : Type 0 where
   pub space : SpaceView
-  pub there : slice_get w.spaces task ≡ Some space
+  pub there : space_at w task ≡ Some space
   pub destination : Carried
   pub port : ℕ
   pub to_port : destination.mark ≡ mark.Port port
@@ -74,13 +74,13 @@ MayWantMemory w task parsed written = Plans w task parsed written ⊎ (inline_wo
 -- No right for a port goes by the word of the destination.
 pub record BadDestination (w : WorldView) (task : ℕ) (parsed : Parsed) : Type 0 where
   pub space : SpaceView
-  pub there : slice_get w.spaces task ≡ Some space
+  pub there : space_at w task ≡ Some space
   pub nowhere : (p : ℕ) (c : Carried) (after : Names) → c.mark ≡ mark.Port p → ¬ (CopiesName space.names (destination_word parsed) c after)
 
 -- A right for a port goes by it, and leaves these names.
 pub record Begins (w : WorldView) (task : ℕ) (parsed : Parsed) (first : Names) : Type 0 where
   pub space : SpaceView
-  pub there : slice_get w.spaces task ≡ Some space
+  pub there : space_at w task ≡ Some space
   pub port : ℕ
   pub destination : Carried
   pub to_port : destination.mark ≡ mark.Port port

@@ -1,5 +1,5 @@
 //! Judging a message before anything changes.
-ghost use Rattle.std.specs.Prelude.{◌≡◌, ◌≢◌, ℕ, ◌<◌, ◌≤◌, ◌+◌, ◌⊎◌, ◌↔◌, All, IsSome, IsTrue, true, Some, None, MatchBool, MatchOption, [], ◌∷◌, ◌++◌, IfSome, IfOk, IfErr, OnOk, OnErr, length, slice_get};
+ghost use Rattle.std.specs.Prelude.{◌≡◌, ◌≢◌, ℕ, ◌<◌, ◌≤◌, ◌+◌, ◌⊎◌, ◌↔◌, All, IsSome, IsTrue, true, Some, None, MatchBool, MatchOption, [], ◌∷◌, ◌++◌, IfSome, IfOk, IfErr, OnOk, OnErr, length};
 ghost use Rattle.std.specs.Option.{option_to_list};
 ghost use Rattle.std.specs.FinMap as map;
 ghost use Rattle.arrayvec.specs.ArrayVec.{array_vec_len};
@@ -21,7 +21,7 @@ ghost use Rattle.copyin.specs.Goes.{AreGiven, RepliesBadly, LeadsNowhere, Starts
 ghost use Rattle.copyin.specs.Planned.{AreWords, IsPlan};
 ghost use Rattle.copyin.specs.Plans.{CannotPlan, HasSlot, HasNoSlot, reply_words};
 ghost use Rattle.copyin_base.specs.Stands.{IsTied};
-ghost use Rattle.copyin_base.specs.Worlds.{put};
+ghost use Rattle.copyin_base.specs.Worlds.{put, HasTask};
 
 use crate::copies::copy_right;
 use crate::touched::Touched;
@@ -487,7 +487,7 @@ pub fn check(
     parsed: Parsed,
     bytes: &[u8],
 ) -> Result<Plan, MsgReturn>
-    requires there { task < length world.now.spaces }
+    requires there { HasTask world.now task }
     requires parses { Parses bytes.now parsed }
     requires tied { IsTied world.now task }
     ensures ok { IfOk result (λ plan. (p : Parses bytes.now parsed) → IsPlan world.now task parsed p.written bytes.now plan) }

@@ -1,7 +1,7 @@
 -- The tables still agree with a state when one task's names, and attributes and counts of ports, have changed. Each group of what they
 -- tell has a frame of its own.
 use Rattle.std.proofs.Common.{◌≡◌, ℕ, Bool, true, List, Option, Some, None, refl, sym, ap, subst, ◌∙◌, inl, inr, length}
-use Rattle.std.specs.Prelude.{slice_get, slice_set, is_some}
+use Rattle.std.specs.Prelude.{slice_set, is_some}
 use Rattle.std.specs.Option.{option_map}
 use Rattle.std.specs.FinMap as map
 use Rattle.std.specs.Ordering.{nat_cmp}
@@ -18,10 +18,11 @@ use Rattle.name_space.specs.Names.{Names as TableNames}
 use Rattle.port.specs.Ports.{PortView}
 use Rattle.port_set.specs.Sets.{SetsView}
 use Rattle.copyin_base.specs.Kept.{Kept}
-use Rattle.copyin_base.specs.Worlds.{WorldView, entry_in, port_at, put}
+use Rattle.copyin_base.specs.Worlds.{WorldView, space_in, space_at, entry_in, port_at, put}
 use Rattle.copyin_base.specs.Shows.{target_of, HasCount, ShowsPort, ShowsCounts, SpacesAgree, ReferencesAgree, SetsAgree, Agrees}
-use Rattle.copyin_base.proofs.Gets.{each-set, length-set, of_some, same_found}
+use Rattle.copyin_base.proofs.Gets.{length-set, of_some, same_found}
 use Rattle.copyin_base.proofs.Putting.{each_put, put_own, put_other, same_len}
+use Rattle.copyin_base.proofs.Spaces.{each-space-set}
 
 -- ---- the names of one task
 
@@ -36,16 +37,16 @@ abbrev pub CountRights : TableNames → (task : ℕ) → List Token → Type 0
 CountRights m task tokens = (n : ℕ) (e : Entry) (p : ℕ) → map.get m n ≡ Some e → port_named e ≡ Some p →
     (count (is_held task receive p) tokens ≡ one_if (has_receive e)) × (count (is_held task send p) tokens ≡ send_references e)
 
-pub own_names : (w : WorldView) (s : State) → Agrees w s → (task : ℕ) (space : SpaceView) → slice_get w.spaces task ≡ Some space → NamesAgree space.names (s.naming task)
+pub own_names : (w : WorldView) (s : State) → Agrees w s → (task : ℕ) (space : SpaceView) → space_at w task ≡ Some space → NamesAgree space.names (s.naming task)
 own_names w s a task space there =
-    let at : (n : ℕ) → entry_in (slice_get w.spaces task) n ≡ map.get space.names n = λ n. ap (λ (o : Option SpaceView). entry_in o n) there in
+    let at : (n : ℕ) → entry_in (space_at w task) n ≡ map.get space.names n = λ n. ap (λ (o : Option SpaceView). entry_in o n) there in
     record {
       naming = λ n. a.naming task n ∙ ap (option_map target_of) (at n);
       kept = a.names_kept task space there;
       counted = λ n e is. a.counted task n e (at n ∙ is);
     }
 
-pub own_rights : (w : WorldView) (s : State) → Agrees w s → (task : ℕ) (space : SpaceView) → slice_get w.spaces task ≡ Some space → CountRights space.names task s.ledger
+pub own_rights : (w : WorldView) (s : State) → Agrees w s → (task : ℕ) (space : SpaceView) → space_at w task ≡ Some space → CountRights space.names task s.ledger
 own_rights w s a task space there n e p is named = a.references task n e p (ap (λ (o : Option SpaceView). entry_in o n) there ∙ is) named
 
 -- the same is put under a name, or taken away
@@ -71,14 +72,14 @@ put_rights m task tokens c name o own n e p is named =
 
 -- ---- the groups
 
-module _ (spaces : List SpaceView) (task : ℕ) (space space2 : SpaceView) (there : slice_get spaces task ≡ Some space) where
+module _ (spaces : List (Option SpaceView)) (task : ℕ) (space space2 : SpaceView) (there : space_in spaces task ≡ Some space) where
   pub spaces_agree : (live : ℕ → Bool) (number : ℕ) (names names2 : ℕ → Names) → SpacesAgree spaces live number names → NamesAgree space2.names (names2 task) →
-      ((u : ℕ) → (u ≡ task → ⊥) → names2 u ≡ names u) → SpacesAgree (slice_set spaces task space2) live number names2
+      ((u : ℕ) → (u ≡ task → ⊥) → names2 u ≡ names u) → SpacesAgree (slice_set spaces task (Some space2)) live number names2
   spaces_agree live number names names2 a own others =
-      let each = each-set spaces task space2 space there in
+      let each = each-space-set spaces task space2 space there in
       record {
         live_task = each (λ u x. is_some x ≡ live u) (sym (ap is_some there) ∙ a.live_task task) (λ u not. a.live_task u);
-        tasks_made = length-set spaces task space2 ∙ a.tasks_made;
+        tasks_made = length-set spaces task (Some space2) ∙ a.tasks_made;
         naming = each (λ u x. (n : ℕ) → map.get (names2 u) n ≡ option_map target_of (entry_in x n)) own.naming (λ u not n. ap (λ (y : Names). map.get y n) (others u not) ∙ a.naming u n);
         names_kept = each (λ u x. (y : SpaceView) → x ≡ Some y → map.len y.names ≡ map.len (names2 u))
             (λ y is. ap (λ (z : SpaceView). map.len z.names) (same_found (Some space2) y space2 is refl) ∙ own.kept)
@@ -87,9 +88,9 @@ module _ (spaces : List SpaceView) (task : ℕ) (space space2 : SpaceView) (ther
       }
 
   pub references_agree : (tokens tokens2 : List Token) → ReferencesAgree spaces tokens → CountRights space2.names task tokens2 →
-      ((u : ℕ) → (u ≡ task → ⊥) → (kind : Kind) (q : ℕ) → count (is_held u kind q) tokens2 ≡ count (is_held u kind q) tokens) → ReferencesAgree (slice_set spaces task space2) tokens2
+      ((u : ℕ) → (u ≡ task → ⊥) → (kind : Kind) (q : ℕ) → count (is_held u kind q) tokens2 ≡ count (is_held u kind q) tokens) → ReferencesAgree (slice_set spaces task (Some space2)) tokens2
   references_agree tokens tokens2 a own others = record {
-    references = each-set spaces task space2 space there
+    references = each-space-set spaces task space2 space there
         (λ u x. (n : ℕ) (e : Entry) (p : ℕ) → entry_in x n ≡ Some e → port_named e ≡ Some p →
         (count (is_held u receive p) tokens2 ≡ one_if (has_receive e)) × (count (is_held u send p) tokens2 ≡ send_references e))
         own (λ u not n e p is named. let r = a.references u n e p is named in (others u not receive p ∙ r.0, others u not send p ∙ r.1));
@@ -125,7 +126,7 @@ module _ (ports : map.FinMap nat_cmp (PortView Kept)) (p : ℕ) (v2 : PortView K
 -- ---- all together
 
 pub record Near (w w2 : WorldView) (s t : State) (task : ℕ) (space2 : SpaceView) : Type 0 where
-  pub spaces : w2.spaces ≡ slice_set w.spaces task space2
+  pub spaces : w2.spaces ≡ slice_set w.spaces task (Some space2)
   pub rest : t ≡ shape s t
   pub naming_others : (u : ℕ) → (u ≡ task → ⊥) → t.naming u ≡ s.naming u
   pub names : NamesAgree space2.names (t.naming task)
@@ -141,13 +142,13 @@ pub record Near (w w2 : WorldView) (s t : State) (task : ℕ) (space2 : SpaceVie
   pub sets : w2.sets ≡ w.sets
   pub set_names : (n set : ℕ) → lookup s task n ≡ Some (Target.set set) → map.get (t.naming task) n ≡ Some (Target.set set)
 
-module _ (w w2 : WorldView) (s t : State) (a : Agrees w s) (task : ℕ) (space space2 : SpaceView) (there : slice_get w.spaces task ≡ Some space)
+module _ (w w2 : WorldView) (s t : State) (a : Agrees w s) (task : ℕ) (space space2 : SpaceView) (there : space_at w task ≡ Some space)
     (near : Near w w2 s t task space2) where
   -- the groups, before what they stand over is that of the tables and of the state now
-  tasks_agree : SpacesAgree (slice_set w.spaces task space2) s.live_task s.tasks_made t.naming
+  tasks_agree : SpacesAgree (slice_set w.spaces task (Some space2)) s.live_task s.tasks_made t.naming
   tasks_agree = spaces_agree w.spaces task space space2 there s.live_task s.tasks_made s.naming t.naming a.spaces near.names near.naming_others
 
-  rights_agree : ReferencesAgree (slice_set w.spaces task space2) t.ledger
+  rights_agree : ReferencesAgree (slice_set w.spaces task (Some space2)) t.ledger
   rights_agree = references_agree w.spaces task space space2 there s.ledger t.ledger a.rights near.references near.held_others
 
   in_sets_agree : SetsAgree w.sets s.set_owner s.sets_made t.naming
@@ -155,9 +156,9 @@ module _ (w w2 : WorldView) (s t : State) (a : Agrees w s) (task : ℕ) (space s
 
   pub near_agrees : Agrees w2 t
   near_agrees = record {
-    spaces = subst (λ (x : List SpaceView). SpacesAgree x t.live_task t.tasks_made t.naming) (sym near.spaces)
-        (subst (λ (x : State). SpacesAgree (slice_set w.spaces task space2) x.live_task x.tasks_made t.naming) (sym near.rest) tasks_agree);
-    rights = subst (λ (x : List SpaceView). ReferencesAgree x t.ledger) (sym near.spaces) rights_agree;
+    spaces = subst (λ (x : List (Option SpaceView)). SpacesAgree x t.live_task t.tasks_made t.naming) (sym near.spaces)
+        (subst (λ (x : State). SpacesAgree (slice_set w.spaces task (Some space2)) x.live_task x.tasks_made t.naming) (sym near.rest) tasks_agree);
+    rights = subst (λ (x : List (Option SpaceView)). ReferencesAgree x t.ledger) (sym near.spaces) rights_agree;
     live_port = λ p. near.live p ∙ a.live_port p ∙ sym (ap (λ (x : State). x.live_port p) near.rest);
     ports_made = near.made ∙ a.ports_made ∙ sym (ap (λ (x : State). x.ports_made) near.rest);
     ports = near.ports;

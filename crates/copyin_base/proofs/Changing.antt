@@ -1,6 +1,6 @@
 -- One name of a task has changed, in the tables and in the machine alike.
 use Rattle.std.proofs.Common.{◌≡◌, ℕ, Option, Some, None, refl, sym, ap, subst, ◌∙◌, ◌⊎◌, inl, inr, length}
-use Rattle.std.specs.Prelude.{slice_get, slice_set, is_some}
+use Rattle.std.specs.Prelude.{is_some}
 use Rattle.std.specs.Option.{option_map}
 use Rattle.std.specs.FinMap as map
 use Rattle.std.proofs.lemmas.Bool.Decides.{eqb_tells}
@@ -16,7 +16,7 @@ use Rattle.name_space.specs.Names.{SpaceView}
 use Rattle.port.specs.Ports.{PortView, PortsView}
 use Rattle.rights.specs.Ledger.{LedgerView}
 use Rattle.copyin_base.specs.Kept.{Kept}
-use Rattle.copyin_base.specs.Worlds.{WorldView, entry_in, entry_at, port_at, put}
+use Rattle.copyin_base.specs.Worlds.{WorldView, space_at, with_space, entry_in, entry_at, port_at, put}
 use Rattle.copyin_base.specs.Shows.{target_of, HasCount, ShowsPort, ShowsCounts, Agrees}
 use Rattle.copyin_base.proofs.Agreeing.{NamesAgree, CountRights, own_names, put_names, near_agrees}
 use Rattle.copyin_base.proofs.Putting.{each_put, put_other}
@@ -60,7 +60,7 @@ pub record Rest (w w2 : WorldView) (s t : State) (task : ℕ) (entry : Entry) (l
   pub requests : (r : Request) (kind : Kind) (q : ℕ) → lying t kind q (in_request r) ≡ lying s kind q (in_request r)
   pub no_set : (set : ℕ) → target_of entry ≡ Target.set set → ⊥
 
-module _ (w : WorldView) (s : State) (a : Agrees w s) (task name : ℕ) (naming : TaskNaming s task) (space : SpaceView) (there : slice_get w.spaces task ≡ Some space)
+module _ (w : WorldView) (s : State) (a : Agrees w s) (task name : ℕ) (naming : TaskNaming s task) (space : SpaceView) (there : space_at w task ≡ Some space)
     (entry : Entry) (found : map.get space.names name ≡ Some entry) where
   pub entry_found : (n : ℕ) → entry_at w task n ≡ map.get space.names n
   entry_found n = ap (λ (o : Option SpaceView). entry_in o n) there
@@ -81,7 +81,7 @@ module _ (w : WorldView) (s : State) (a : Agrees w s) (task name : ℕ) (naming 
     space2 = record space { names = put space.names name left; room = room }
 
     abbrev w2 : WorldView
-    w2 = record w { spaces = slice_set w.spaces task space2; ports = ports; ledger = ledger }
+    w2 = record (with_space w task space2) { ports = ports; ledger = ledger }
 
     -- another name isn't of the same port
     not_same : (n : ℕ) (e : Entry) (p : ℕ) → (n ≡ name → ⊥) → map.get space.names n ≡ Some e → port_named e ≡ Some p → port_named entry ≡ Some p → ⊥

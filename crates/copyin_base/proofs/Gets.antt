@@ -1,7 +1,6 @@
--- Elements of lists after one was set, and after one was put at the end.
-use Rattle.std.proofs.Common.{◌≡◌, ℕ, List, [], ◌∷◌, ◌++◌, Option, Some, None, refl, length, zero, suc, ◌⊎◌, inl, inr, sym, ap, subst, ◌∙◌}
+-- Elements of lists after one was set.
+use Rattle.std.proofs.Common.{◌≡◌, ℕ, List, [], ◌∷◌, Option, Some, None, refl, length, zero, suc, ◌⊎◌, inl, inr, sym, ap, subst, ◌∙◌}
 use Rattle.std.specs.Prelude.{slice_get, slice_set, ◌≢◌}
-use Rattle.std.proofs.lemmas.Bool.Decides.{eqb_tells}
 
 pub get-set_same : {A : Type 0} (xs : List A) (i : ℕ) (y x : A) → slice_get xs i ≡ Some x → slice_get (slice_set xs i y) i ≡ Some y
 get-set_same [] i y x e = absurd (let e' : None ≡ Some x = e in cc)
@@ -15,32 +14,10 @@ get-set_other (z ∷ xs) zero y (suc j) not = refl
 get-set_other (z ∷ xs) (suc i) y zero not = refl
 get-set_other (z ∷ xs) (suc i) y (suc j) not = get-set_other xs i y j (λ e. not (ap suc e))
 
--- what is true of the element that was set, and of each other, is true of all
-pub each-set : {A : Type 0} (xs : List A) (i : ℕ) (y x : A) → slice_get xs i ≡ Some x → (P : ℕ → Option A → Type 0) → P i (Some y) → ((j : ℕ) → j ≢ i → P j (slice_get xs j)) →
-    (j : ℕ) → P j (slice_get (slice_set xs i y) j)
-each-set xs i y x e P own other j = elim (eqb_tells j i) [
-  | inl h ↦ subst (λ (k : ℕ). P k (slice_get (slice_set xs i y) k)) (sym h.1) (subst (P i) (sym (get-set_same xs i y x e)) own)
-  | inr h ↦ subst (P j) (sym (get-set_other xs i y j h.1)) (other j h.1)
-]
-
 pub length-set : {A : Type 0} (xs : List A) (i : ℕ) (y : A) → length (slice_set xs i y) ≡ length xs
 length-set [] i y = refl
 length-set (z ∷ xs) zero y = refl
 length-set (z ∷ xs) (suc i) y = ap suc (length-set xs i y)
-
-pub get-push_same : {A : Type 0} (xs : List A) (y : A) → slice_get (xs ++ y ∷ []) (length xs) ≡ Some y
-get-push_same [] y = refl
-get-push_same (x ∷ xs) y = get-push_same xs y
-
-pub get-push_other : {A : Type 0} (xs : List A) (y : A) (i : ℕ) → i ≢ length xs → slice_get (xs ++ y ∷ []) i ≡ slice_get xs i
-get-push_other [] y zero not = absurd (not refl)
-get-push_other [] y (suc i) not = refl
-get-push_other (x ∷ xs) y zero not = refl
-get-push_other (x ∷ xs) y (suc i) not = get-push_other xs y i (λ e. not (ap suc e))
-
-pub get-end : {A : Type 0} (xs : List A) → slice_get xs (length xs) ≡ None
-get-end [] = refl
-get-end (x ∷ xs) = get-end xs
 
 -- an element that is there, or none
 pub seen : {A : Type 0} (o : Option A) → ((x : A) × (o ≡ Some x)) ⊎ (o ≡ None)

@@ -1,6 +1,5 @@
 -- Only names of one task have changed, and no right was made or lost: the tables still agree.
 use Rattle.std.proofs.Common.{◌≡◌, ℕ, Option, Some, None, refl, sym, ap, subst, ◌∙◌, Bool, inl, inr}
-use Rattle.std.specs.Prelude.{slice_get, slice_set}
 use Rattle.std.specs.Option.{option_map}
 use Rattle.std.specs.FinMap as map
 use Rattle.std.proofs.lemmas.Bool.Decides.{eqb_tells}
@@ -14,7 +13,7 @@ use Rattle.name_space.specs.Names.{SpaceView}
 use Rattle.name_space.specs.Names.{Names as TableNames}
 use Rattle.port_set.specs.declared.SetRecord.{SetRecord}
 use Rattle.port_set.specs.Sets.{SetsView, renamed}
-use Rattle.copyin_base.specs.Worlds.{WorldView}
+use Rattle.copyin_base.specs.Worlds.{WorldView, space_at, with_space}
 use Rattle.copyin_base.specs.Shows.{target_of, HasCount, SetsAgree, Agrees}
 use Rattle.copyin_base.proofs.Agreeing.{NamesAgree, CountRights, own_names, own_rights, put_names, put_rights, spaces_agree, references_agree, sets_stay}
 use Rattle.copyin_base.proofs.Gets.{of_some, same_found}
@@ -26,7 +25,7 @@ same_set t u e = cc
 no_some : {A : Type 0} (x : A) → None ≡ Some x → ⊥
 no_some x e = cc
 
-module _ (w : WorldView) (s : State) (a : Agrees w s) (task : ℕ) (space : SpaceView) (there : slice_get w.spaces task ≡ Some space) where
+module _ (w : WorldView) (s : State) (a : Agrees w s) (task : ℕ) (space : SpaceView) (there : space_at w task ≡ Some space) where
   was_named : (n : ℕ) → map.get (s.naming task) n ≡ option_map target_of (map.get space.names n)
   was_named = (own_names w s a task space there).naming
 
@@ -41,7 +40,7 @@ module _ (w : WorldView) (s : State) (a : Agrees w s) (task : ℕ) (space : Spac
 
   pub names_agree : (names : TableNames) (room : ℕ) (own : Names) (stands : Request → Bool) (sets : SetsView) (owner : ℕ → Option ℕ) (made : ℕ) →
       NamesAgree names own → CountRights names task s.ledger → SetsAgree sets owner made (at s.naming task own) →
-      Agrees (record w { spaces = slice_set w.spaces task (record space { names = names; room = room }); sets = sets })
+      Agrees (record (with_space w task (record space { names = names; room = room })) { sets = sets })
       (record s { naming = at s.naming task own; stands = stands; set_owner = owner; sets_made = made })
   names_agree names room own stands sets owner made named counted in_sets = record {
     spaces = spaces_agree w.spaces task space (record space { names = names; room = room }) there s.live_task s.tasks_made s.naming (at s.naming task own) a.spaces
@@ -73,14 +72,14 @@ module _ (w : WorldView) (s : State) (a : Agrees w s) (task : ℕ) (space : Spac
     stands_still n x is = put_other (s.naming task) name (Some (target_of e)) n (λ same. no_some x (sym not_named ∙ ap (map.get (s.naming task)) (sym same) ∙ is)) ∙ is
 
     pub with_sets : (sets : SetsView) (owner : ℕ → Option ℕ) (made : ℕ) → SetsAgree sets owner made (at s.naming task more_own) →
-        Agrees (record w { spaces = slice_set w.spaces task (record space { names = more; room = room }); sets = sets })
+        Agrees (record (with_space w task (record space { names = more; room = room })) { sets = sets })
         (record s { naming = at s.naming task more_own; set_owner = owner; sets_made = made })
     with_sets sets owner made in_sets = names_agree more room more_own s.stands sets owner made
         (put_names space.names (s.naming task) (own_names w s a task space there) name (Some e) (of_some e HasCount count))
         (put_rights space.names task s.ledger (own_rights w s a task space there) name (Some e) (λ x p is named. absurd (no_some p (sym no_port ∙ ap port_named (same_found (Some x) e x (sym is) refl) ∙ named))))
         in_sets
 
-    pub added_agrees : Agrees (record w { spaces = slice_set w.spaces task (record space { names = more; room = room }) }) (record s { naming = at s.naming task more_own })
+    pub added_agrees : Agrees (with_space w task (record space { names = more; room = room })) (record s { naming = at s.naming task more_own })
     added_agrees = with_sets w.sets s.set_owner s.sets_made (kept_by more_own (λ n set is. stands_still n (Target.set set) is))
 
   -- ---- a name that moves
@@ -108,7 +107,7 @@ module _ (w : WorldView) (s : State) (a : Agrees w s) (task : ℕ) (space : Spac
     stood n x same is = same_found (map.get (s.naming task) from) (target_of e) x target_found (ap (map.get (s.naming task)) (sym same) ∙ is)
 
     pub moved_agrees : (sets : SetsView) → SetsAgree sets s.set_owner s.sets_made (at s.naming task moved_own) →
-        Agrees (record w { spaces = slice_set w.spaces task (record space { names = moved; room = room }); sets = sets }) (record s { naming = at s.naming task moved_own; stands = stands })
+        Agrees (record (with_space w task (record space { names = moved; room = room })) { sets = sets }) (record s { naming = at s.naming task moved_own; stands = stands })
     moved_agrees sets in_sets = names_agree moved room moved_own stands sets s.set_owner s.sets_made
         (put_names _ _ (put_names space.names (s.naming task) (own_names w s a task space there) from None (λ x is. absurd (no_some x is))) to (Some e)
         (of_some e HasCount ((own_names w s a task space there).counted from e found)))

@@ -1,14 +1,15 @@
 -- Tables that are as before but for room, for names or for messages, still agree.
 use Rattle.std.proofs.Common.{◌≡◌, ℕ, Option, Some, None, refl, sym, ap, subst, ◌∙◌}
-use Rattle.std.specs.Prelude.{is_some, slice_get, slice_set}
+use Rattle.std.specs.Prelude.{is_some}
 use Rattle.std.specs.Option.{option_map}
 use Rattle.std.specs.FinMap as map
 use Rattle.mach_model.specs.State.{State}
 use Rattle.name_space.specs.Names.{Names, SpaceView}
-use Rattle.copyin_base.specs.Worlds.{WorldView, entry_in, entry_at}
+use Rattle.copyin_base.specs.Worlds.{WorldView, HasTask, space_at, with_space, entry_in, entry_at}
 use Rattle.copyin_base.specs.Shows.{Agrees, Shows, target_of}
 use Rattle.copyin_base.specs.Changes.{MakesRoom, KeepsPlace, SameButRoom}
-use Rattle.copyin_base.proofs.Gets.{each-set, length-set}
+use Rattle.copyin_base.proofs.Gets.{length-set}
+use Rattle.copyin_base.proofs.Spaces.{each-space-set}
 
 abbrev names_in : Option SpaceView → Option Names
 names_in = option_map (λ (x : SpaceView). x.names)
@@ -34,14 +35,14 @@ same_names (Some z) (Some y) x e is = (y, refl, (let g : z.names ≡ y.names = c
 room_spaces : (w v : WorldView) (s : State) → SameButRoom w v → Agrees w s → Agrees (record w { spaces = v.spaces }) s
 room_spaces w v s same a =
     let entries : (task name : ℕ) → entry_at v task name ≡ entry_at w task name =
-    λ task name. same_entry (slice_get v.spaces task) (slice_get w.spaces task) name (same.names task) in
+    λ task name. same_entry (space_at v task) (space_at w task) name (same.names task) in
     record {
       spaces = record {
-        live_task = λ task. same_live (slice_get v.spaces task) (slice_get w.spaces task) (same.names task) ∙ a.live_task task;
+        live_task = λ task. same_live (space_at v task) (space_at w task) (same.names task) ∙ a.live_task task;
         tasks_made = same.tasks ∙ a.tasks_made;
         naming = λ task name. a.naming task name ∙ ap (option_map target_of) (sym (entries task name));
         names_kept = λ task x is.
-            let y = same_names (slice_get v.spaces task) (slice_get w.spaces task) x (same.names task) is in
+            let y = same_names (space_at v task) (space_at w task) x (same.names task) is in
             ap (λ (m : Names). map.len m) y.2 ∙ a.names_kept task y.0 y.1;
         counted = λ task name x is. a.counted task name x (sym (entries task name) ∙ is);
       };
@@ -66,10 +67,10 @@ room_shows w v s same sh = record { agrees = room_agrees w v s same sh.agrees; l
 pub room_refl : (w : WorldView) → SameButRoom w w
 room_refl w = record { tasks = refl; names = λ task. refl; ports = refl; ledger = refl; sets = refl }
 
-pub roomier : (w : WorldView) (task : ℕ) (space : SpaceView) (room : ℕ) (kept : Option ℕ) → slice_get w.spaces task ≡ Some space → SameButRoom w (record w { spaces = slice_set w.spaces task (record space { room = room; kept = kept }) })
+pub roomier : (w : WorldView) (task : ℕ) (space : SpaceView) (room : ℕ) (kept : Option ℕ) → space_at w task ≡ Some space → SameButRoom w (with_space w task (record space { room = room; kept = kept }))
 roomier w task space room kept there = record {
-  tasks = length-set w.spaces task (record space { room = room; kept = kept });
-  names = each-set w.spaces task (record space { room = room; kept = kept }) space there (λ u x. names_in x ≡ names_in (slice_get w.spaces u)) (sym (ap names_in there)) (λ u not. refl);
+  tasks = length-set w.spaces task (Some (record space { room = room; kept = kept }));
+  names = each-space-set w.spaces task (record space { room = room; kept = kept }) space there (λ u x. names_in x ≡ names_in (space_at w u)) (sym (ap names_in there)) (λ u not. refl);
   ports = refl;
   ledger = refl;
   sets = refl;
@@ -81,9 +82,13 @@ room_made w v task number m = subst (SameButRoom w) (sym m.rest) (roomier w task
 pub place_kept : (w v : WorldView) (task name : ℕ) → KeepsPlace w task name v → SameButRoom w v
 place_kept w v task name m = subst (SameButRoom w) (sym m.rest) (roomier w task m.space m.space.room (Some name) m.there)
 
+-- the same tasks live
+pub room_has_task : (w v : WorldView) → SameButRoom w v → (task : ℕ) → HasTask w task → HasTask v task
+room_has_task w v same task lives = same_live (space_at v task) (space_at w task) (same.names task) ∙ lives
+
 -- the same stands under each name
 pub room_entry : (w v : WorldView) → SameButRoom w v → (task name : ℕ) → entry_at v task name ≡ entry_at w task name
-room_entry w v same task name = same_entry (slice_get v.spaces task) (slice_get w.spaces task) name (same.names task)
+room_entry w v same task name = same_entry (space_at v task) (space_at w task) name (same.names task)
 
 -- ---- room for messages
 

@@ -1,16 +1,60 @@
 -- The space of one task was read and replaced in the tables.
-use Rattle.std.proofs.Common.{◌≡◌, ℕ, List, [], ◌∷◌, Some, Ok, Err, OnOk, refl, ap, ◌∙◌, zero, suc, length, get_or}
-use Rattle.std.specs.Prelude.{slice_get, slice_set, Result}
-use Rattle.std.proofs.lemmas.Option.{slice_get_read, slice_get_within}
+use Rattle.std.proofs.Common.{◌≡◌, ℕ, ◌<◌, List, [], ◌∷◌, ◌++◌, Option, Some, None, Ok, Err, OnOk, refl, sym, ap, subst, ◌∙◌, zero, suc, length, get_or, arith, inl, inr}
+use Rattle.std.specs.Prelude.{◌≢◌, slice_set, Result}
+use Rattle.std.proofs.lemmas.Bool.Decides.{eqb_tells}
 use Rattle.name_space.specs.Names.{SpaceView}
 use Rattle.port.specs.Ports.{PortsView}
 use Rattle.port_set.specs.Sets.{SetsView}
 use Rattle.rights.specs.Ledger.{LedgerView}
 use Rattle.copyin_base.specs.Kept.{Kept}
-use Rattle.copyin_base.specs.Worlds.{WorldView}
+use Rattle.copyin_base.specs.Worlds.{WorldView, space_in, space_at, with_space}
 use Rattle.copyin_base.proofs.Gets.{same_found}
 
-pub same_world : (a b : List SpaceView) (p q : PortsView Kept) (l m : LedgerView) (x y : SetsView) → a ≡ b → p ≡ q → l ≡ m → x ≡ y →
+-- ---- the spaces after one was set, and after one was put at the end
+
+pub space-set_same : (spaces : List (Option SpaceView)) (task : ℕ) (new was : SpaceView) → space_in spaces task ≡ Some was → space_in (slice_set spaces task (Some new)) task ≡ Some new
+space-set_same [] task new was is = absurd (let none : None ≡ Some was = is in cc)
+space-set_same (x ∷ xs) zero new was is = refl
+space-set_same (x ∷ xs) (suc task) new was is = space-set_same xs task new was is
+
+pub space-set_other : (spaces : List (Option SpaceView)) (task : ℕ) (new : SpaceView) (other : ℕ) → other ≢ task → space_in (slice_set spaces task (Some new)) other ≡ space_in spaces other
+space-set_other [] task new other not = refl
+space-set_other (x ∷ xs) zero new zero not = absurd (not refl)
+space-set_other (x ∷ xs) zero new (suc other) not = refl
+space-set_other (x ∷ xs) (suc task) new zero not = refl
+space-set_other (x ∷ xs) (suc task) new (suc other) not = space-set_other xs task new other (λ e. not (ap suc e))
+
+-- what is true of the space that was set, and of each other, is true of all
+pub each-space-set : (spaces : List (Option SpaceView)) (task : ℕ) (new was : SpaceView) → space_in spaces task ≡ Some was → (P : ℕ → Option SpaceView → Type 0) → P task (Some new) →
+    ((other : ℕ) → other ≢ task → P other (space_in spaces other)) → (u : ℕ) → P u (space_in (slice_set spaces task (Some new)) u)
+each-space-set spaces task new was is P own others u = elim (eqb_tells u task) [
+  | inl h ↦ subst (λ (k : ℕ). P k (space_in (slice_set spaces task (Some new)) k)) (sym h.1) (subst (P task) (sym (space-set_same spaces task new was is)) own)
+  | inr h ↦ subst (P u) (sym (space-set_other spaces task new u h.1)) (others u h.1)
+]
+
+pub space-push_same : (spaces : List (Option SpaceView)) (new : SpaceView) → space_in (spaces ++ Some new ∷ []) (length spaces) ≡ Some new
+space-push_same [] new = refl
+space-push_same (x ∷ xs) new = space-push_same xs new
+
+pub space-push_other : (spaces : List (Option SpaceView)) (new : SpaceView) (task : ℕ) → task ≢ length spaces → space_in (spaces ++ Some new ∷ []) task ≡ space_in spaces task
+space-push_other [] new zero not = absurd (not refl)
+space-push_other [] new (suc task) not = refl
+space-push_other (x ∷ xs) new zero not = refl
+space-push_other (x ∷ xs) new (suc task) not = space-push_other xs new task (λ e. not (ap suc e))
+
+pub space-end : (spaces : List (Option SpaceView)) → space_in spaces (length spaces) ≡ None
+space-end [] = refl
+space-end (x ∷ xs) = space-end xs
+
+-- a task that lives is one that was made
+pub there_below : (spaces : List (Option SpaceView)) (task : ℕ) (space : SpaceView) → space_in spaces task ≡ Some space → task < length spaces
+there_below [] task space is = absurd (let none : None ≡ Some space = is in cc)
+there_below (x ∷ xs) zero space is = omega arith
+there_below (x ∷ xs) (suc task) space is = let below = there_below xs task space is in omega (arith, below)
+
+-- ---- in the tables
+
+pub same_world : (a b : List (Option SpaceView)) (p q : PortsView Kept) (l m : LedgerView) (x y : SetsView) → a ≡ b → p ≡ q → l ≡ m → x ≡ y →
     ◌≡◌ {A = WorldView} (record { spaces = a; ports = p; ledger = l; sets = x }) (record { spaces = b; ports = q; ledger = m; sets = y })
 same_world a b p q l m x y e f g h = λ i. record { spaces = e i; ports = f i; ledger = g i; sets = h i }
 
@@ -20,27 +64,28 @@ set-set [] i y z = refl
 set-set (x ∷ xs) zero y z = refl
 set-set (x ∷ xs) (suc i) y z = ap (λ (ys : List _). x ∷ ys) (set-set xs i y z)
 
--- an element that is read is the one that is there
-pub read_there : {A : Type 0} (xs : List A) (i : ℕ) (x y : A) → slice_get xs i ≡ Some x → y ≡ get_or xs i y → y ≡ x
-read_there xs i x y is read =
-    same_found (slice_get xs i) y x (slice_get_read xs (length xs) i y refl (slice_get_within xs i x is) read) is
+-- what is read at the task's place is its space
+pub read_there : (spaces : List (Option SpaceView)) (i : ℕ) (space : SpaceView) (read : Option SpaceView) → space_in spaces i ≡ Some space → read ≡ get_or spaces i read → read ≡ Some space
+read_there [] i space read is at = absurd (let none : None ≡ Some space = is in cc)
+read_there (x ∷ xs) zero space read is at = at ∙ is
+read_there (x ∷ xs) (suc i) space read is at = read_there xs i space read is at
 
--- what is read of the space of the task is that space
-pub space_read : (old : WorldView) (task : ℕ) (space : SpaceView) (spaces : List SpaceView) (ports : PortsView Kept) (ledger : LedgerView) (sets : SetsView) (i : ℕ) (read : SpaceView) →
-    slice_get old.spaces task ≡ Some space → ◌≡◌ {A = WorldView} (record { spaces = spaces; ports = ports; ledger = ledger; sets = sets }) old → i ≡ task → read ≡ get_or spaces i read → read ≡ space
-space_read old task space spaces ports ledger sets i read there view index is =
-    read_there spaces i space read (ap (λ (j : ℕ). slice_get spaces j) index ∙ ap (λ (w : WorldView). slice_get w.spaces task) view ∙ there) is
+-- what is lent of the space of the task is that space
+pub space_read : (old : WorldView) (task : ℕ) (space : SpaceView) (spaces : List (Option SpaceView)) (ports : PortsView Kept) (ledger : LedgerView) (sets : SetsView) (i : ℕ) (read : Option SpaceView) (lent : SpaceView) →
+    space_at old task ≡ Some space → ◌≡◌ {A = WorldView} (record { spaces = spaces; ports = ports; ledger = ledger; sets = sets }) old → i ≡ task → read ≡ get_or spaces i read → read ≡ Some lent → lent ≡ space
+space_read old task space spaces ports ledger sets i read lent there view index is some =
+    same_found read lent space some (read_there spaces i space read (ap (λ (j : ℕ). space_in spaces j) index ∙ ap (λ (w : WorldView). space_at w task) view ∙ there) is)
 
--- The tables are those of before, but for the space of the task: what was read there became this.
-pub space_replaced : (old : WorldView) (task : ℕ) (space : SpaceView) (become : SpaceView → SpaceView) (spaces : List SpaceView) (ports : PortsView Kept) (ledger : LedgerView) (sets : SetsView)
-    (i : ℕ) (read after : SpaceView) → slice_get old.spaces task ≡ Some space → ◌≡◌ {A = WorldView} (record { spaces = spaces; ports = ports; ledger = ledger; sets = sets }) old → i ≡ task →
-    read ≡ get_or spaces i read → after ≡ become read →
-    ◌≡◌ {A = WorldView} (record { spaces = slice_set spaces i after; ports = ports; ledger = ledger; sets = sets }) (record old { spaces = slice_set old.spaces task (become space) })
-space_replaced old task space become spaces ports ledger sets i read after there view index is new =
+-- The tables are those of before, but for the space of the task: what was lent of it became this.
+pub space_replaced : (old : WorldView) (task : ℕ) (space : SpaceView) (become : SpaceView → SpaceView) (spaces : List (Option SpaceView)) (ports : PortsView Kept) (ledger : LedgerView) (sets : SetsView)
+    (i : ℕ) (read : Option SpaceView) (lent after : SpaceView) → space_at old task ≡ Some space → ◌≡◌ {A = WorldView} (record { spaces = spaces; ports = ports; ledger = ledger; sets = sets }) old → i ≡ task →
+    read ≡ get_or spaces i read → read ≡ Some lent → after ≡ become lent →
+    ◌≡◌ {A = WorldView} (record { spaces = slice_set spaces i (Some after); ports = ports; ledger = ledger; sets = sets }) (with_space old task (become space))
+space_replaced old task space become spaces ports ledger sets i read lent after there view index is some new =
     let same : spaces ≡ old.spaces = ap (λ (w : WorldView). w.spaces) view in
-    let here = space_read old task space spaces ports ledger sets i read there view index is in
+    let here = space_read old task space spaces ports ledger sets i read lent there view index is some in
     same_world _ _ _ _ _ _ _ _
-    (ap (λ (x : SpaceView). slice_set spaces i x) (new ∙ ap become here) ∙ ap (λ (j : ℕ). slice_set spaces j (become space)) index ∙ ap (λ (xs : List SpaceView). slice_set xs task (become space)) same)
+    (ap (λ (x : SpaceView). slice_set spaces i (Some x)) (new ∙ ap become here) ∙ ap (λ (j : ℕ). slice_set spaces j (Some (become space))) index ∙ ap (λ (xs : List (Option SpaceView)). slice_set xs task (Some (become space))) same)
     (ap (λ (w : WorldView). w.ports) view) (ap (λ (w : WorldView). w.ledger) view) (ap (λ (w : WorldView). w.sets) view)
 
 -- what follows where all went well

@@ -1,6 +1,5 @@
 -- Tables that show a state: each right that a task has is for a port that is there.
 use Rattle.std.proofs.Common.{◌≡◌, ℕ, true, Option, Some, None, refl, sym, ap, ◌∙◌}
-use Rattle.std.specs.Prelude.{slice_get}
 use Rattle.std.specs.Option.{option_map}
 use Rattle.std.specs.FinMap as map
 use Rattle.mach_types.specs.Numbers.{null_word, dead_word}
@@ -12,7 +11,7 @@ use Rattle.name_space.specs.Names.{SpaceView}
 use Rattle.copyin_base.specs.Shows.{Shows, target_of}
 use Rattle.copyin_base.specs.Stands.{Stands, AreTied, IsTied}
 use Rattle.name_space.specs.Entry.{port_of}
-use Rattle.copyin_base.specs.Worlds.{WorldView, entry_in, entry_at}
+use Rattle.copyin_base.specs.Worlds.{WorldView, space_at, entry_in, entry_at}
 use Rattle.copyin_base.proofs.Unused.{once_unused}
 
 lives : (w : WorldView) (s : State) → Shows w s → (task name : ℕ) (e : Entry) (p : ℕ) → entry_at w task name ≡ Some e → port_of e ≡ Some p → s.live_port p ≡ true
@@ -27,7 +26,7 @@ none_of : {X Y : Type 0} (f : X → Y) (o : Option X) → option_map f o ≡ Non
 none_of f None e = refl
 none_of f (Some x) e = absurd (let e' : Some (f x) ≡ None = e in cc)
 
-pub stands_tied : (w : WorldView) (task : ℕ) (space : SpaceView) → Stands w → slice_get w.spaces task ≡ Some space → AreTied space.names w.ports w.ledger
+pub stands_tied : (w : WorldView) (task : ℕ) (space : SpaceView) → Stands w → space_at w task ≡ Some space → AreTied space.names w.ports w.ledger
 stands_tied w task space stands there =
     let s = stands.state in
     let sh : Shows w s = stands.shown in

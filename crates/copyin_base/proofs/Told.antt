@@ -1,9 +1,9 @@
 -- What the tables tell of a state that they agree with.
-use Rattle.std.proofs.Common.{◌≡◌, ℕ, ◌<◌, ◌≤◌, Option, Some, None, refl, sym, ap, ◌∙◌, arith, true, false, inl, inr, length}
-use Rattle.std.specs.Prelude.{is_some, slice_get, ◌≢◌}
+use Rattle.std.proofs.Common.{◌≡◌, ℕ, ◌≤◌, Option, Some, None, refl, sym, ap, ◌∙◌, arith, true, false, inl, inr}
+use Rattle.std.specs.Prelude.{is_some, ◌≢◌}
 use Rattle.std.specs.Option.{option_map}
 use Rattle.std.specs.FinMap as map
-use Rattle.std.proofs.lemmas.Option.{slice_get_cases, slice_get_past}
+use Rattle.std.proofs.lemmas.Bool.{false_from_ne_true}
 use Rattle.std.proofs.lemmas.Bool.Decides.{eqb_tells}
 use Rattle.mach_types.specs.Numbers.{null_word, dead_word}
 use Rattle.mach_types.specs.Tokens.{receive}
@@ -19,7 +19,7 @@ use Rattle.name_space.specs.Entry.{port_named, has_receive, receive_named}
 use Rattle.name_space.specs.Names.{SpaceView}
 use Rattle.port.specs.Ports.{PortView}
 use Rattle.copyin_base.specs.Kept.{Kept}
-use Rattle.copyin_base.specs.Worlds.{WorldView, entry_at, port_at}
+use Rattle.copyin_base.specs.Worlds.{WorldView, HasTask, space_at, entry_at, port_at}
 use Rattle.copyin_base.specs.Shows.{target_of, Agrees}
 
 -- only a receive or send right's name shows as a port's
@@ -48,28 +48,33 @@ has_none (entry.SendOnce q) e = refl
 has_none (entry.DeadName m) e = refl
 has_none (entry.Set m) e = refl
 
-pub space_there : (w : WorldView) (task : ℕ) → task < length w.spaces → (space : SpaceView) × (slice_get w.spaces task ≡ Some space)
-space_there w task below = elim (slice_get_cases w.spaces task).1 [
-  | inl h ↦ (h.0, h.2)
-  | inr h ↦ absurd (omega (arith, h.0))
-]
+pub is_there : {A : Type 0} (o : Option A) → is_some o ≡ true → (x : A) × (o ≡ Some x)
+is_there (Some x) e = (x, refl)
+is_there None e = absurd (cc)
+
+pub not_there : {A : Type 0} (o : Option A) → is_some o ≡ false → o ≡ None
+not_there (Some x) e = absurd (cc)
+not_there None e = refl
+
+pub space_there : (w : WorldView) (task : ℕ) → HasTask w task → (space : SpaceView) × (space_at w task ≡ Some space)
+space_there w task lives = is_there (space_at w task) lives
 
 pub port_got : (o : Option (PortView Kept)) → is_some o ≡ true → (v : PortView Kept) × (o ≡ Some v)
 port_got (Some v) e = (v, refl)
 port_got None e = absurd (cc)
 
 module _ (w : WorldView) (s : State) (a : Agrees w s) where
-  pub no_task : (task : ℕ) → slice_get w.spaces task ≡ None → IsNoTask s task
+  pub no_task : (task : ℕ) → space_at w task ≡ None → IsNoTask s task
   no_task task e = sym (a.live_task task) ∙ ap is_some e
 
-  pub is_task : (task : ℕ) (space : SpaceView) → slice_get w.spaces task ≡ Some space → ¬ (IsNoTask s task)
+  pub is_task : (task : ℕ) (space : SpaceView) → space_at w task ≡ Some space → ¬ (IsNoTask s task)
   is_task task space e not = let l : true ≡ s.live_task task = sym (ap is_some e) ∙ a.live_task task in cc
 
-  pub past_tasks : (task : ℕ) → length w.spaces ≤ task → IsNoTask s task
-  past_tasks task past = no_task task (slice_get_past w.spaces task past)
+  pub past_tasks : (task : ℕ) → ¬ (HasTask w task) → IsNoTask s task
+  past_tasks task none = no_task task (not_there (space_at w task) (false_from_ne_true (is_some (space_at w task)) none))
 
-  pub among_tasks : (task : ℕ) → task < length w.spaces → ¬ (IsNoTask s task)
-  among_tasks task below = let x = space_there w task below in is_task task x.0 x.1
+  pub among_tasks : (task : ℕ) → HasTask w task → ¬ (IsNoTask s task)
+  among_tasks task lives = let x = space_there w task lives in is_task task x.0 x.1
 
   pub unused : (task name : ℕ) → entry_at w task name ≡ None → lookup s task name ≡ None
   unused task name e = a.naming task name ∙ ap (option_map target_of) e
@@ -112,7 +117,7 @@ module _ (w : WorldView) (s : State) (a : Agrees w s) where
 pub receive_lives : (w : WorldView) (s : State) → Agrees w s → IsLawful s → (task name : ℕ) (x : Entry) (p : ℕ) → entry_at w task name ≡ Some x → receive_named x ≡ Some p → s.live_port p ≡ true
 receive_lives w s a l task name x p e is = named_lives s l task name p (names_port w s a task name x p e is)
 
--- ---- numbers that are no names, and tests of what stands under a name
+-- ---- numbers that are no names
 
 pub is_no_name : (name : ℕ) → name ≤ dead_word → ¬ ((name ≢ null_word) × (name ≢ dead_word)) → IsNoName name
 is_no_name name fits not = elim (eqb_tells name null_word) [
@@ -126,11 +131,3 @@ is_no_name name fits not = elim (eqb_tells name null_word) [
 pub is_name : (name : ℕ) → name ≤ dead_word → (name ≢ null_word) × (name ≢ dead_word) → ¬ (IsNoName name)
 is_name name fits usable (inl e) = usable.0 e
 is_name name fits usable (inr e) = usable.1 (omega (arith, fits, e))
-
-pub is_there : {A : Type 0} (o : Option A) → is_some o ≡ true → (x : A) × (o ≡ Some x)
-is_there (Some x) e = (x, refl)
-is_there None e = absurd (cc)
-
-pub not_there : {A : Type 0} (o : Option A) → is_some o ≡ false → o ≡ None
-not_there (Some x) e = absurd (cc)
-not_there None e = refl

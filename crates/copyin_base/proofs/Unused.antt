@@ -1,8 +1,8 @@
 -- A task's send-once right is one that no queued message goes by.
-use Rattle.std.proofs.Common.{◌≡◌, ℕ, zero, suc, ◌+◌, ◌<◌, ◌≤◌, List, [], ◌∷◌, Some, refl, sym, ap, subst, ◌∙◌, arith, true, false, Bool, inr, inl, drop}
+use Rattle.std.proofs.Common.{◌≡◌, ℕ, zero, suc, ◌+◌, ◌<◌, ◌≤◌, List, [], ◌∷◌, Some, refl, sym, subst, ◌∙◌, arith, true, false, Bool, inr}
 use Rattle.std.specs.Prelude.{if◌then◌else◌, slice_get, ◌==◌, ◌&&◌}
 use Rattle.std.proofs.lemmas.Bool.{eq-eqb, ne_eqb}
-use Rattle.mach_types.specs.Tokens.{Kind, send_once, in_message, in_task, Token, token, weigh, count, is_of, is_held, same_kind}
+use Rattle.mach_types.specs.Tokens.{send_once, in_message, Token, token, count, is_of, is_held, same_kind}
 use Rattle.mach_types.specs.Messages.{Entry, Message, to_port}
 use Rattle.mach_model.specs.State.{State, Target, lookup, held, queue}
 use Rattle.mach_model.specs.Death.{same_place}

@@ -1,5 +1,5 @@
 -- What a call promises: its own part of a step, up to the death of ports. `kernel_core` ends the step, once for all calls.
-use Rattle.std.specs.Prelude.{ℕ, ◌<◌, List, [], ◌∷◌, Result, Ok, Err, length}
+use Rattle.std.specs.Prelude.{ℕ, List, [], ◌∷◌, Result, Ok, Err}
 use Rattle.mach_types.specs.declared.calls.Event.{Event}
 use Rattle.mach_types.specs.declared.calls.Reply.{Reply}
 use Rattle.mach_types.specs.Numbers.{kern_number, msg_number}
@@ -11,7 +11,7 @@ use Rattle.mach_model.specs.Refusals.{Refuses, guards, tasks_of}
 use Rattle.mach_model.specs.Machine.{Does}
 use Rattle.copyin_base.specs.declared.code.Code.{Code}
 use Rattle.copyin_base.specs.declared.code.Code.TheVariants.{Kern, Message}
-use Rattle.copyin_base.specs.Worlds.{WorldView}
+use Rattle.copyin_base.specs.Worlds.{WorldView, HasTask}
 use Rattle.copyin_base.specs.Shows.{Agrees, Shows}
 
 abbrev pub code_number : Code → ℕ
@@ -49,8 +49,8 @@ Serves old event (Err code) new = Declines old event (code_number code) new
 
 abbrev pub AreTasks : WorldView → List ℕ → Type 0
 AreTasks w [] = Unit {0}
-AreTasks w (task ∷ []) = task < length w.spaces
-AreTasks w (task ∷ tasks) = (task < length w.spaces) × AreTasks w tasks
+AreTasks w (task ∷ []) = HasTask w task
+AreTasks w (task ∷ tasks) = HasTask w task × AreTasks w tasks
 
 -- The tasks that the event names live.
 abbrev pub HasTasks : WorldView → Event → Type 0

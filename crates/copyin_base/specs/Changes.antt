@@ -1,5 +1,5 @@
 -- What the verbs of the tables change: what stands under one name, or the attributes of one port. All else stays.
-use Rattle.std.specs.Prelude.{◌≡◌, ℕ, ◌-◌, ◌<◌, Option, Some, None, IfSome, length, max, slice_get, slice_set, true}
+use Rattle.std.specs.Prelude.{◌≡◌, ℕ, ◌-◌, ◌<◌, Option, Some, None, IfSome, length, max, true}
 use Rattle.std.specs.Option.{option_map}
 use Rattle.std.specs.FinMap as map
 use Rattle.mach_types.specs.Numbers.{most_names}
@@ -10,27 +10,27 @@ use Rattle.name_space.specs.Names.{port_at as named_at}
 use Rattle.port.specs.declared.Attributes.{Attributes}
 use Rattle.port.specs.Ports.{PortView, with_port}
 use Rattle.copyin_base.specs.Kept.{Kept}
-use Rattle.copyin_base.specs.Worlds.{WorldView, port_at, put}
+use Rattle.copyin_base.specs.Worlds.{WorldView, space_at, with_space, port_at, put}
 
 -- ---- what stands under a name
 
 -- The name is in use, and what is left there is for the port that it was for, if for any.
 pub record CanPutLeft (w : WorldView) (task name : ℕ) (left : Option Entry) : Type 0 where
   pub space : SpaceView
-  pub there : slice_get w.spaces task ≡ Some space
+  pub there : space_at w task ≡ Some space
   pub used : map.contains_key space.names name ≡ true
   pub same : IfSome left (λ e. (port : ℕ) → port_named e ≡ Some port → named_at space.names name ≡ Some port)
 
 -- This is left under the name; the name goes where nothing is.
 pub record PutsLeft (old : WorldView) (task name : ℕ) (left : Option Entry) (new : WorldView) : Type 0 where
   pub space : SpaceView
-  pub there : slice_get old.spaces task ≡ Some space
-  pub rest : new ≡ record old { spaces = slice_set old.spaces task (record space { names = put space.names name left }) }
+  pub there : space_at old task ≡ Some space
+  pub rest : new ≡ with_space old task (record space { names = put space.names name left })
 
 -- The task may have the entry under the name, in a place that was made: the name isn't in use, and no other is for the entry's port.
 pub record CanInsert (w : WorldView) (task name : ℕ) (entry : Entry) : Type 0 where
   pub space : SpaceView
-  pub there : slice_get w.spaces task ≡ Some space
+  pub there : space_at w task ≡ Some space
   pub usable : IsUsable name
   pub unused : map.get space.names name ≡ None
   pub few : map.len space.names < most_names
@@ -39,25 +39,25 @@ pub record CanInsert (w : WorldView) (task name : ℕ) (entry : Entry) : Type 0 
 
 pub record InsertsEntry (old : WorldView) (task name : ℕ) (entry : Entry) (new : WorldView) : Type 0 where
   pub space : SpaceView
-  pub there : slice_get old.spaces task ≡ Some space
-  pub rest : new ≡ record old { spaces = slice_set old.spaces task (record space { names = map.insert space.names name entry; room = space.room - 1 }) }
+  pub there : space_at old task ≡ Some space
+  pub rest : new ≡ with_space old task (record space { names = map.insert space.names name entry; room = space.room - 1 })
 
 -- There is room for just so many fresh names of the task, or for as many as there was where that is more.
 pub record MakesRoom (old : WorldView) (task number : ℕ) (new : WorldView) : Type 0 where
   pub space : SpaceView
-  pub there : slice_get old.spaces task ≡ Some space
-  pub rest : new ≡ record old { spaces = slice_set old.spaces task (record space { room = max space.room number }) }
+  pub there : space_at old task ≡ Some space
+  pub rest : new ≡ with_space old task (record space { room = max space.room number })
 
 -- A place is kept for this name of the task, and for no other.
 pub record KeepsPlace (old : WorldView) (task name : ℕ) (new : WorldView) : Type 0 where
   pub space : SpaceView
-  pub there : slice_get old.spaces task ≡ Some space
-  pub rest : new ≡ record old { spaces = slice_set old.spaces task (record space { kept = Some name }) }
+  pub there : space_at old task ≡ Some space
+  pub rest : new ≡ with_space old task (record space { kept = Some name })
 
 -- All is as before, but for places for names to come.
 pub record SameButRoom (old new : WorldView) : Type 0 where
   pub tasks : length new.spaces ≡ length old.spaces
-  pub names : (task : ℕ) → option_map (λ (x : SpaceView). x.names) (slice_get new.spaces task) ≡ option_map (λ (x : SpaceView). x.names) (slice_get old.spaces task)
+  pub names : (task : ℕ) → option_map (λ (x : SpaceView). x.names) (space_at new task) ≡ option_map (λ (x : SpaceView). x.names) (space_at old task)
   pub ports : new.ports ≡ old.ports
   pub ledger : new.ledger ≡ old.ledger
   pub sets : new.sets ≡ old.sets

@@ -1,5 +1,5 @@
 -- When the kernel's tables show a state of the machine: they agree with it at each task, name, port and request.
-use Rattle.std.specs.Prelude.{◌≡◌, ℕ, ◌+◌, ◌<◌, Bool, List, [], ◌∷◌, length, Option, Some, slice_get, is_some}
+use Rattle.std.specs.Prelude.{◌≡◌, ℕ, ◌+◌, ◌<◌, Bool, List, [], ◌∷◌, length, Option, Some, is_some}
 use Rattle.std.specs.Option.{option_map, option_to_list}
 use Rattle.std.specs.FinMap as map
 use Rattle.mach_types.specs.Tokens.{Kind, receive, send, send_once, same_kind, Request, in_request, Token, count, is_of, is_held}
@@ -18,7 +18,7 @@ use Rattle.port_set.specs.declared.SetRecord.{SetRecord}
 use Rattle.port_set.specs.Sets.{SetsView}
 use Rattle.rights.specs.Ledger.{LedgerView, counts_of}
 use Rattle.copyin_base.specs.Kept.{Kept, Keeps}
-use Rattle.copyin_base.specs.Worlds.{WorldView, entry_in, port_at}
+use Rattle.copyin_base.specs.Worlds.{WorldView, space_in, entry_in, port_at}
 
 abbrev pub target_of : Named → Target
 target_of (named.Receive p) = Target.port p
@@ -44,16 +44,16 @@ AllKept p (m ∷ ms) [] = ⊥
 -- ---- the parts of a state that the tables tell of, each over what it speaks of alone
 
 -- Tasks and their names are those of the machine.
-pub record SpacesAgree (spaces : List SpaceView) (live : ℕ → Bool) (number : ℕ) (names : ℕ → Names) : Type 0 where
-  pub live_task : (task : ℕ) → is_some (slice_get spaces task) ≡ live task
+pub record SpacesAgree (spaces : List (Option SpaceView)) (live : ℕ → Bool) (number : ℕ) (names : ℕ → Names) : Type 0 where
+  pub live_task : (task : ℕ) → is_some (space_in spaces task) ≡ live task
   pub tasks_made : length spaces ≡ number
-  pub naming : (task name : ℕ) → map.get (names task) name ≡ option_map target_of (entry_in (slice_get spaces task) name)
-  pub names_kept : (task : ℕ) (space : SpaceView) → slice_get spaces task ≡ Some space → map.len space.names ≡ map.len (names task)
-  pub counted : (task name : ℕ) (entry : Named) → entry_in (slice_get spaces task) name ≡ Some entry → HasCount entry
+  pub naming : (task name : ℕ) → map.get (names task) name ≡ option_map target_of (entry_in (space_in spaces task) name)
+  pub names_kept : (task : ℕ) (space : SpaceView) → space_in spaces task ≡ Some space → map.len space.names ≡ map.len (names task)
+  pub counted : (task name : ℕ) (entry : Named) → entry_in (space_in spaces task) name ≡ Some entry → HasCount entry
 
 -- A port's name counts the task's rights for it.
-pub record ReferencesAgree (spaces : List SpaceView) (tokens : List Token) : Type 0 where
-  pub references : (task name : ℕ) (entry : Named) (p : ℕ) → entry_in (slice_get spaces task) name ≡ Some entry → port_named entry ≡ Some p →
+pub record ReferencesAgree (spaces : List (Option SpaceView)) (tokens : List Token) : Type 0 where
+  pub references : (task name : ℕ) (entry : Named) (p : ℕ) → entry_in (space_in spaces task) name ≡ Some entry → port_named entry ≡ Some p →
       (count (is_held task receive p) tokens ≡ one_if (has_receive entry)) × (count (is_held task send p) tokens ≡ send_references entry)
 
 -- The table of a live port tells of its queue and of its attributes.

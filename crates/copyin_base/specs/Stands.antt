@@ -1,5 +1,5 @@
 -- Tables that show some state, and what of it is true of the tables alone.
-use Rattle.std.specs.Prelude.{◌≡◌, ℕ, ◌<◌, Some, None, slice_get}
+use Rattle.std.specs.Prelude.{◌≡◌, ℕ, ◌<◌, Some, None}
 use Rattle.std.specs.FinMap as map
 use Rattle.mach_types.specs.Numbers.{null_word, dead_word}
 use Rattle.mach_model.specs.State.{State}
@@ -10,7 +10,7 @@ use Rattle.name_space.specs.Names.{Names, SpaceView}
 use Rattle.port.specs.Ports.{PortsView, IsLive}
 use Rattle.rights.specs.Ledger.{LedgerView, IsEntered, counts_of}
 use Rattle.copyin_base.specs.Kept.{Kept}
-use Rattle.copyin_base.specs.Worlds.{WorldView}
+use Rattle.copyin_base.specs.Worlds.{WorldView, space_at}
 use Rattle.copyin_base.specs.Shows.{Shows}
 
 -- The tables show a state of the machine.
@@ -27,6 +27,6 @@ pub record AreTied (names : Names) (ports : PortsView Kept) (ledger : LedgerView
 
 -- The rights of this task are so. It is true of tables that show a state.
 pub record IsTied (w : WorldView) (task : ℕ) : Type 0 where
-  pub tied : (space : SpaceView) → slice_get w.spaces task ≡ Some space → AreTied space.names w.ports w.ledger
+  pub tied : (space : SpaceView) → space_at w task ≡ Some space → AreTied space.names w.ports w.ledger
   -- a send-once right of the task is one that no queued message goes by
-  pub unused : (space : SpaceView) → slice_get w.spaces task ≡ Some space → (name p : ℕ) → map.get space.names name ≡ Some (SendOnce p) → 0 < (counts_of w.ledger p).send_once
+  pub unused : (space : SpaceView) → space_at w task ≡ Some space → (name p : ℕ) → map.get space.names name ≡ Some (SendOnce p) → 0 < (counts_of w.ledger p).send_once

@@ -1,7 +1,7 @@
 -- Where memory is wanted, and what is kept of it for what is to come.
-use Rattle.std.specs.Prelude.{◌≡◌, ◌≢◌, ℕ, ◌<◌, ◌≤◌, max, Option, Some, None, slice_get}
+use Rattle.std.specs.Prelude.{◌≡◌, ◌≢◌, ℕ, ◌<◌, ◌≤◌, max, Option, Some, None}
 use Rattle.name_space.specs.Names.{SpaceView}
-use Rattle.copyin_base.specs.Worlds.{WorldView}
+use Rattle.copyin_base.specs.Worlds.{WorldView, space_at}
 
 abbrev pub room_in : Option SpaceView → ℕ
 room_in (Some space) = space.room
@@ -9,7 +9,7 @@ room_in None = 0
 
 -- for how many fresh names of the task there is room; 0 where the task isn't there
 abbrev pub room_of : WorldView → (task : ℕ) → ℕ
-room_of w task = room_in (slice_get w.spaces task)
+room_of w task = room_in (space_at w task)
 
 -- There is less room than for so many fresh names of the task.
 abbrev pub LacksRoomFor : WorldView → (task number : ℕ) → Type 0
@@ -25,7 +25,7 @@ kept_in None = None
 
 -- the name of the task for which a place is kept
 abbrev pub kept_of : WorldView → (task : ℕ) → Option ℕ
-kept_of w task = kept_in (slice_get w.spaces task)
+kept_of w task = kept_in (space_at w task)
 
 -- No place is kept for the name of the task that is chosen.
 abbrev pub LacksPlace : WorldView → (task name : ℕ) → Type 0

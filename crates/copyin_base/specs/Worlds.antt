@@ -1,6 +1,6 @@
 -- The kernel's tables as contracts see them.
-use Rattle.std.specs.Prelude.{ℕ, List, [], Option, Some, None, slice_get, refl}
-use Rattle.std.specs.Coded.{Coded, code_by, coded×, coded_list}
+use Rattle.std.specs.Prelude.{◌≡◌, ℕ, List, [], Option, Some, None, true, is_some, get_or, slice_set, refl}
+use Rattle.std.specs.Coded.{Coded, code_by, coded×, coded_list, coded_option}
 use Rattle.std.specs.FinMap as map
 use Rattle.std.specs.Ordering.{nat_cmp}
 use Rattle.name_space.specs.declared.Entry.{Entry}
@@ -11,8 +11,8 @@ use Rattle.rights.specs.Ledger.{LedgerView}
 use Rattle.copyin_base.specs.Kept.{Kept}
 
 pub record WorldView : Type 0 where
-  -- the names of each task, by the task's number
-  pub spaces : List SpaceView
+  -- the names of each task, by the task's number, and nothing where the task has ended
+  pub spaces : List (Option SpaceView)
   pub ports : PortsView Kept
   pub ledger : LedgerView
   pub sets : SetsView
@@ -20,8 +20,8 @@ pub record WorldView : Type 0 where
 abbrev pub world_code : Coded SpaceView → Coded (PortsView Kept) → Coded LedgerView → Coded SetsView → Coded WorldView
 world_code space ports ledger sets =
     code_by
-    (List SpaceView × (PortsView Kept × (LedgerView × SetsView)))
-    (coded× (coded_list space) (coded× ports (coded× ledger sets)))
+    (List (Option SpaceView) × (PortsView Kept × (LedgerView × SetsView)))
+    (coded× (coded_list (coded_option space)) (coded× ports (coded× ledger sets)))
     (λ w. (w.spaces, (w.ports, (w.ledger, w.sets))))
     (λ x. record { spaces = x.0; ports = x.1.0; ledger = x.1.1.0; sets = x.1.1.1 })
     (λ _. refl)
@@ -35,13 +35,28 @@ no_world = record {
   sets = no_sets;
 }
 
+-- the names of the task; nothing where there was no such task, or it has ended
+abbrev pub space_in : List (Option SpaceView) → (task : ℕ) → Option SpaceView
+space_in spaces task = get_or spaces task None
+
+abbrev pub space_at : WorldView → (task : ℕ) → Option SpaceView
+space_at w task = space_in w.spaces task
+
+-- The task lives.
+abbrev pub HasTask : WorldView → (task : ℕ) → Type 0
+HasTask w task = is_some (space_at w task) ≡ true
+
+-- the tables where a task that lives has these names
+abbrev pub with_space : WorldView → (task : ℕ) → SpaceView → WorldView
+with_space w task space = record w { spaces = slice_set w.spaces task (Some space) }
+
 -- what stands under a name; nothing where the task isn't there
 abbrev pub entry_in : Option SpaceView → (name : ℕ) → Option Entry
 entry_in (Some space) name = map.get space.names name
 entry_in None name = None
 
 abbrev pub entry_at : WorldView → (task name : ℕ) → Option Entry
-entry_at w task name = entry_in (slice_get w.spaces task) name
+entry_at w task name = entry_in (space_at w task) name
 
 abbrev pub port_at : WorldView → ℕ → Option (PortView Kept)
 port_at w p = map.get w.ports.ports p

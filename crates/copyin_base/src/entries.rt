@@ -1,9 +1,10 @@
 //! What stands under a name, changed.
-ghost use Rattle.std.specs.Prelude.{◌≡◌, ◌<◌, OnOk, OnErr, IfErr, length};
+ghost use Rattle.std.specs.Prelude.{◌≡◌, OnOk, OnErr, IfErr};
 ghost use Rattle.mach_types.specs.declared.codes.KernReturn.TheVariants as kern;
 ghost use Rattle.name_space.specs.Names.{IsUsable};
 ghost use Rattle.copyin_base.specs.Changes.{CanPutLeft, PutsLeft, CanInsert, InsertsEntry, MakesRoom, KeepsPlace};
 ghost use Rattle.copyin_base.specs.Wanted.{LacksRoomFor, LacksPlace};
+ghost use Rattle.copyin_base.specs.Worlds.{HasTask};
 
 use crate::world::World;
 use mach_types::{KernReturn, Name, TaskId};
@@ -17,7 +18,9 @@ impl World {
         requires { CanPutLeft self.old task name left }
         ensures { PutsLeft self.old task name left self.new }
     {
-        let space = &mut self.spaces[task.number() as usize];
+        let Some(space) = &mut self.spaces[task.number() as usize] else {
+            unreachable!()
+        };
         match left {
             Some(entry) => space.replace(name, entry),
             None => {
@@ -34,7 +37,10 @@ impl World {
         requires { CanInsert self.old task name entry }
         ensures { InsertsEntry self.old task name entry self.new }
     {
-        self.spaces[task.number() as usize].insert(name, entry);
+        let Some(space) = &mut self.spaces[task.number() as usize] else {
+            unreachable!()
+        };
+        space.insert(name, entry);
     }
 
     /// Makes room for so many fresh names of the task. Room that is there stays and counts: where it is
@@ -43,12 +49,15 @@ impl World {
     /// `KERN_RESOURCE_SHORTAGE` where there was less room and memory was refused; all is then as
     /// before. Constant time, but where memory is taken.
     pub fn reserve_names(&mut self, task: TaskId, number: usize) -> Result<(), KernReturn>
-        requires { task < length self.old.spaces }
+        requires { HasTask self.old task }
         ensures ok { OnOk result (MakesRoom self.old task number self.new) }
         ensures err { IfErr result (λ code. (code ≡ kern.ResourceShortage) × (self.new ≡ self.old)) }
         ensures lacks { OnErr result (LacksRoomFor self.old task number) }
     {
-        match self.spaces[task.number() as usize].reserve(number) {
+        let Some(space) = &mut self.spaces[task.number() as usize] else {
+            unreachable!()
+        };
+        match space.reserve(number) {
             Ok(()) => Ok(()),
             Err(_) => Err(KernReturn::ResourceShortage),
         }
@@ -60,13 +69,16 @@ impl World {
     /// `KERN_RESOURCE_SHORTAGE` where it wasn't kept and memory was refused; all is then as before.
     /// Constant time, but where memory is taken.
     pub fn reserve_name(&mut self, task: TaskId, name: Name) -> Result<(), KernReturn>
-        requires there { task < length self.old.spaces }
+        requires there { HasTask self.old task }
         requires usable { IsUsable name }
         ensures ok { OnOk result (KeepsPlace self.old task name self.new) }
         ensures err { IfErr result (λ code. (code ≡ kern.ResourceShortage) × (self.new ≡ self.old)) }
         ensures lacks { OnErr result (LacksPlace self.old task name) }
     {
-        match self.spaces[task.number() as usize].reserve_name(name) {
+        let Some(space) = &mut self.spaces[task.number() as usize] else {
+            unreachable!()
+        };
+        match space.reserve_name(name) {
             Ok(()) => Ok(()),
             Err(_) => Err(KernReturn::ResourceShortage),
         }

@@ -1,6 +1,6 @@
 //! The kernel's tables.
-ghost use Rattle.std.specs.Prelude.{◌≡◌, ◌<◌, ◌↔◌, IsTrue, max, OnOk, OnErr, Some, length, slice_get};
-ghost use Rattle.copyin_base.specs.Worlds.{entry_at, no_world};
+ghost use Rattle.std.specs.Prelude.{◌≡◌, ◌↔◌, IsTrue, max, OnOk, OnErr, Some, option_copied};
+ghost use Rattle.copyin_base.specs.Worlds.{HasTask, entry_at, no_world, space_at};
 
 use crate::message::Message;
 use mach_types::{Name, TaskId};
@@ -13,12 +13,12 @@ use std::marker::Model;
 
 /// The tasks' names, the ports with their queues, the counts of all rights, and the port sets.
 ///
-/// Tasks stand by number. What ties the tables to one another is no part of this type: who holds a
+/// A task's number is its place, also after its end. What ties the tables to one another is no part of this type: who holds a
 /// world keeps that it shows a state of the machine.
 #[derive(Drop)]
 pub struct World {
-    /// The names of each task.
-    pub spaces: Vec<Space>,
+    /// The names of each task; none where the task has ended.
+    pub spaces: Vec<Option<Space>>,
     /// The ports.
     pub ports: Ports<Message>,
     /// How many rights there are.
@@ -62,17 +62,27 @@ impl World {
 
     /// Whether the task lives. Constant time.
     pub fn has_task(&self, task: TaskId) -> bool
-        ensures { IsTrue result ↔ (task < length self.now.spaces) }
+        ensures { IsTrue result ↔ HasTask self.now task }
     {
-        (task.number() as usize) < self.spaces.len()
+        self.find_space(task).is_some()
     }
 
-    /// The task's names. Constant time.
+    /// The names of a task that lives. Constant time.
     pub fn space(&self, task: TaskId) -> &Space
-        requires { task < length self.now.spaces }
-        ensures { slice_get self.now.spaces task ≡ Some result.now }
+        requires { HasTask self.now task }
+        ensures { space_at self.now task ≡ Some result.now }
     {
-        &self.spaces[task.number() as usize]
+        let Some(space) = self.find_space(task) else {
+            unreachable!()
+        };
+        space
+    }
+
+    /// The task's names, if the task lives. Constant time.
+    pub fn find_space(&self, task: TaskId) -> Option<&Space>
+        ensures { option_copied result ≡ space_at self.now task }
+    {
+        self.spaces.get(task.number() as usize)?.as_ref()
     }
 
     /// What stands under the task's name, if anything does. Constant time, and logarithmic for a
@@ -80,7 +90,7 @@ impl World {
     pub fn lookup(&self, task: TaskId, name: Name) -> Option<Entry>
         ensures { result ≡ entry_at self.now task name }
     {
-        self.spaces.get(task.number() as usize)?.lookup(name)
+        self.find_space(task)?.lookup(name)
     }
 
     /// Makes one spare message slot where there is none; where there are some, nothing changes.

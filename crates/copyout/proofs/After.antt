@@ -1,6 +1,6 @@
 -- What stays when a right was given, and what is ready for the next.
 use Rattle.std.proofs.Common.{◌≡◌, ◌≢◌, ℕ, ◌+◌, ◌-◌, ◌<◌, ◌≤◌, List, [], ◌∷◌, Option, Some, refl, sym, ap, subst, ◌∙◌, arith, true, false, Bool, inl, inr, ◌⊎◌, length, drop, get_or}
-use Rattle.std.specs.Prelude.{slice_get, is_some, MatchBool, if◌then◌else◌, ◌==◌}
+use Rattle.std.specs.Prelude.{is_some, MatchBool, if◌then◌else◌, ◌==◌}
 use Rattle.std.proofs.lemmas.Bool.{cases_lt}
 use Rattle.std.proofs.lemmas.List.{at_drop_more, at_drop_all}
 use Rattle.std.proofs.lemmas.Bool.Decides.{eqb_tells}
@@ -19,9 +19,9 @@ use Rattle.std.specs.Option.{unwrap_or}
 use Rattle.copyin_base.specs.declared.message.Carried.{Carried}
 use Rattle.copyin_base.specs.declared.message.Mark.{Mark}
 use Rattle.copyin_base.specs.declared.message.Mark.TheVariants as mark
-use Rattle.copyin_base.specs.Worlds.{WorldView, port_at}
-use Rattle.copyin_base.proofs.Gets.{get-set_same}
+use Rattle.copyin_base.specs.Worlds.{WorldView, port_at, space_at}
 use Rattle.copyin_base.proofs.Putting.{each_put}
+use Rattle.copyin_base.proofs.Spaces.{space-set_same}
 use Rattle.copyout.specs.Giving.{ledger_joined, GivesPort, GivesMark, NeedsOwn, free_names, free_room, MarkLacks, Lack}
 use Rattle.copyout.specs.Ready.{send_for, CanGive, CanGivePort, CanTakeName}
 
@@ -71,19 +71,19 @@ sends-joined send_once p x m q = omega arith
 
 pub record After (w mid : WorldView) (task : ℕ) (kind : Kind) (one : Mark) : Type 0 where
   pub space : SpaceView
-  pub there : slice_get mid.spaces task ≡ Some space
+  pub there : space_at mid task ≡ Some space
   pub live : (p : ℕ) → is_some (port_at mid p) ≡ is_some (port_at w p)
   pub entered : (p : ℕ) → IsEntered w.ledger p → IsEntered mid.ledger p
   pub sends : (p : ℕ) → (counts_of w.ledger p).send ≤ (counts_of mid.ledger p).send + send_for kind one p
 
-after_same : (w mid : WorldView) (task : ℕ) (kind : Kind) (one : Mark) (space : SpaceView) → slice_get w.spaces task ≡ Some space → mid ≡ w → After w mid task kind one
+after_same : (w mid : WorldView) (task : ℕ) (kind : Kind) (one : Mark) (space : SpaceView) → space_at w task ≡ Some space → mid ≡ w → After w mid task kind one
 after_same w mid task kind one space there e = subst (λ (x : WorldView). After w x task kind one) (sym e)
     (record { space = space; there = there; live = λ p. refl; entered = λ p h. h; sends = λ p. omega arith })
 
 after_port : (w mid : WorldView) (task : ℕ) (kind : Kind) (port word : ℕ) → GivesPort w task kind port word mid → After w mid task kind (mark.Port port)
 after_port w mid task kind port word g = subst (λ (x : WorldView). After w x task kind (mark.Port port)) (sym g.rest) (record {
   space = record g.space { names = g.after; room = g.room };
-  there = get-set_same w.spaces task (record g.space { names = g.after; room = g.room }) g.space g.there;
+  there = space-set_same w.spaces task (record g.space { names = g.after; room = g.room }) g.space g.there;
   live = λ p. refl;
   entered = λ p h. elim g.given [
     | inl j ↦ subst (λ (m : LedgerView). IsEntered m p) (sym j.1) (entered-joined kind port j.0.entry w.ledger p h)
@@ -95,12 +95,12 @@ after_port w mid task kind port word g = subst (λ (x : WorldView). After w x ta
   ];
 })
 
-after_if : (b : Bool) (w mid : WorldView) (task : ℕ) (kind : Kind) (port word dead : ℕ) (space : SpaceView) → slice_get w.spaces task ≡ Some space →
+after_if : (b : Bool) (w mid : WorldView) (task : ℕ) (kind : Kind) (port word dead : ℕ) (space : SpaceView) → space_at w task ≡ Some space →
     MatchBool b (GivesPort w task kind port word mid) ((word ≡ dead) × (mid ≡ w)) → After w mid task kind (mark.Port port)
 after_if true w mid task kind port word dead space there h = after_port w mid task kind port word h
 after_if false w mid task kind port word dead space there h = after_same w mid task kind (mark.Port port) space there h.1
 
-pub after_mark : (w mid : WorldView) (task : ℕ) (kind : Kind) (one : Mark) (word : ℕ) (space : SpaceView) → slice_get w.spaces task ≡ Some space →
+pub after_mark : (w mid : WorldView) (task : ℕ) (kind : Kind) (one : Mark) (word : ℕ) (space : SpaceView) → space_at w task ≡ Some space →
     GivesMark w task kind one word mid → After w mid task kind one
 after_mark w mid task kind (mark.Port p) word space there h = after_if (is_some (map.get w.ports.ports p)) w mid task kind p word _ space there h
 after_mark w mid task kind mark.Null word space there h = after_same w mid task kind mark.Null space there h.1
@@ -139,7 +139,7 @@ send_own kind one p e f = subst (λ (k : Kind). send_for k one p ≡ 1) (sym e) 
 
 -- something is left where the right needs a name of its own
 some_left : (left : SpaceView → ℕ) (w : WorldView) (task : ℕ) (c : Carried) (p : ℕ) → c.mark ≡ mark.Port p → is_some (map.get w.ports.ports p) ≡ true →
-    ¬ (Lack left w task (c ∷ [])) → (space : SpaceView) → slice_get w.spaces task ≡ Some space → NeedsOwn w task (kind_sent c.given) p → 0 < left space
+    ¬ (Lack left w task (c ∷ [])) → (space : SpaceView) → space_at w task ≡ Some space → NeedsOwn w task (kind_sent c.given) p → 0 < left space
 some_left left w task c p is live suffices space there own = elim (cases_lt 0 (left space)) [
   | inl h ↦ h
   | inr h ↦ absurd (suffices (inl (subst (λ (m : Mark). MarkLacks left w task (kind_sent c.given) m) (sym is) (live, (space, there, omega arith), own))))

@@ -1,6 +1,6 @@
 -- A right that the machine may give is given in the tables; so they lack names for the same messages.
 use Rattle.std.proofs.Common.{◌≡◌, ◌-◌, ℕ, ◌<◌, ◌≤◌, List, [], ◌∷◌, Option, Some, None, refl, sym, ap, subst, ◌∙◌, arith, true, false, Bool, inl, inr}
-use Rattle.std.specs.Prelude.{◌≢◌, is_some, slice_get, slice_set, MatchBool, if◌then◌else◌}
+use Rattle.std.specs.Prelude.{◌≢◌, is_some, MatchBool, if◌then◌else◌}
 use Rattle.std.specs.Option.{option_map, option_and_then}
 use Rattle.std.specs.FinMap as map
 use Rattle.mach_types.specs.Numbers.{kind_sent, dead_word}
@@ -21,7 +21,7 @@ use Rattle.copyin_base.specs.declared.message.Carried.{Carried}
 use Rattle.copyin_base.specs.declared.message.Mark.{Mark}
 use Rattle.copyin_base.specs.declared.message.Mark.TheVariants as mark
 use Rattle.copyin_base.specs.Kept.{mark_of}
-use Rattle.copyin_base.specs.Worlds.{WorldView, entry_in}
+use Rattle.copyin_base.specs.Worlds.{WorldView, entry_in, space_at, with_space}
 use Rattle.copyin_base.specs.Shows.{target_of, onces_queued, Agrees}
 use Rattle.copyin_base.proofs.Changing.{target_named}
 use Rattle.copyin_base.proofs.Counting.{counts_same}
@@ -90,7 +90,7 @@ port_entry : (o : Option Entry) (p : ℕ) → option_and_then port_named o ≡ S
 port_entry None p e = absurd (cc)
 port_entry (Some x) p e = record { entry = x; found = refl; named = e }
 
-module _ (w : WorldView) (s : State) (a : Agrees w s) (task : ℕ) (space : SpaceView) (there : slice_get w.spaces task ≡ Some space) where
+module _ (w : WorldView) (s : State) (a : Agrees w s) (task : ℕ) (space : SpaceView) (there : space_at w task ≡ Some space) where
   lookup_is : (name : ℕ) → lookup s task name ≡ option_map target_of (map.get space.names name)
   lookup_is name = a.naming task name ∙ ap (λ (o : Option SpaceView). option_map target_of (entry_in o name)) there
 
@@ -117,8 +117,7 @@ module _ (w : WorldView) (s : State) (a : Agrees w s) (task : ℕ) (space : Spac
   gives_joined : (kind : Kind) (p word : ℕ) → kind ≢ send_once → lookup s task word ≡ Some (Target.port p) → Gives kind p word
   gives_joined kind p word not is =
       let x = port_entry (map.get space.names word) p (option_named (map.get space.names word) p (sym (lookup_is word) ∙ is)) in (
-        record w {
-          spaces = slice_set w.spaces task (record space { names = map.insert space.names word (joined kind x.entry); room = space.room });
+        record (with_space w task (record space { names = map.insert space.names word (joined kind x.entry); room = space.room })) {
           ledger = ledger_joined kind p x.entry w.ledger;
         },
         record {
@@ -134,10 +133,7 @@ module _ (w : WorldView) (s : State) (a : Agrees w s) (task : ℕ) (space : Spac
 
   gives_alone : (kind : Kind) (p word : ℕ) (x : Target) (named : State) → (kind ≢ send_once → (n : ℕ) → lookup s task n ≢ Some (Target.port p)) → Named task word x s named → Gives kind p word
   gives_alone kind p word x named none n = (
-    record w {
-      spaces = slice_set w.spaces task (record space { names = map.insert space.names word (alone kind p); room = space.room - 1 });
-      ledger = w.ledger;
-    },
+    with_space w task (record space { names = map.insert space.names word (alone kind p); room = space.room - 1 }),
     record {
       space = space;
       there = there;
@@ -206,7 +202,7 @@ module _ (w : WorldView) (s : State) (a : Agrees w s) (task : ℕ) where
   module _ (o k : ℕ) (l : IsMoving s o k) (is_task : s.live_task task ≡ true) (kind : Kind) (word : ℕ) (mid : State) where
     right_too : (p : ℕ) → 0 < lying s kind p (in_message o k) → GiveRight task (in_message o k) kind p s word mid → (w2 : WorldView) × GivesPort w task kind p word w2 × Agrees w2 mid
     right_too p some r =
-        let space = some_space (slice_get w.spaces task) (a.live_task task ∙ is_task) in
+        let space = some_space (space_at w task) (a.live_task task ∙ is_task) in
         let g = gives_port w s a task space.0 space.1 kind p word r.named_state r.named in
         let x = port_given w s a o k l task kind p word g.0 some g.1 in
         (g.0, g.1, reordered_agrees g.0 x.t mid x.agrees (right_alike task (in_message o k) kind p s word x.t mid x.gives r))
@@ -249,7 +245,7 @@ pub all_lack_too : (task o k : ℕ) (cs : List Carried) (w : WorldView) (s : Sta
     EachLacks task (in_message o k) cs s → LackNames w task cs
 all_lack_too task o k [] w s a l is_task lie h = h
 all_lack_too task o k (c ∷ cs) w s a l is_task lie (inl h) =
-    let space = some_space w s a task (slice_get w.spaces task) (a.live_task task ∙ is_task) in
+    let space = some_space w s a task (space_at w task) (a.live_task task ∙ is_task) in
     inl (lacks_too w s a task space.0 space.1 (kind_sent c.given) c.mark h)
 all_lack_too task o k (c ∷ cs) w s a l is_task lie (inr h) =
     let one = mark_too w s a task o k l is_task (kind_sent c.given) h.1.0 h.0 c.mark (λ q live. let m = lie (kind_sent c.given) q live in omega (arith, m)) h.1.1 in

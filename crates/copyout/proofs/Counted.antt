@@ -1,6 +1,6 @@
 -- Names, or room for them, don't suffice exactly where the rights need more than are left.
 use Rattle.std.proofs.Common.{◌≡◌, ℕ, ◌+◌, ◌-◌, ◌<◌, ◌≤◌, List, [], ◌∷◌, ◌++◌, Some, refl, sym, ap, subst, ◌∙◌, arith, true, false, Bool, inl, inr, take, drop, append_assoc, add_assoc}
-use Rattle.std.specs.Prelude.{slice_get, slice_set, is_some, MatchBool}
+use Rattle.std.specs.Prelude.{is_some, MatchBool}
 use Rattle.std.proofs.lemmas.Bool.{cases_lt}
 use Rattle.std.specs.Option.{option_and_then}
 use Rattle.std.specs.FinMap as map
@@ -11,7 +11,7 @@ use Rattle.name_space.specs.Names.{Names, SpaceView, port_at}
 use Rattle.copyin_base.specs.declared.message.Carried.{Carried}
 use Rattle.copyin_base.specs.declared.message.Mark.{Mark}
 use Rattle.copyin_base.specs.declared.message.Mark.TheVariants as mark
-use Rattle.copyin_base.specs.Worlds.{WorldView}
+use Rattle.copyin_base.specs.Worlds.{WorldView, space_at, with_space}
 use Rattle.copyin_base.specs.Kept.{Kept}
 use Rattle.port.specs.Ports.{PortsView}
 use Rattle.copyin_base.proofs.Gets.{same_found}
@@ -56,7 +56,7 @@ module _ (left : SpaceView → ℕ) (is_left : IsLeft left) (ports0 : PortsView 
   after_own : (mid : WorldView) (word : ℕ) → Owns ports0 names0 earlier c → GivesMark w task (kind_sent c.given) c.mark word mid → Follows left ports0 names0 task (earlier ++ c ∷ []) mid (n + 1) (l - 1)
   after_own mid word o h =
       let g = gives_there w mid task (kind_sent c.given) c.mark o.port word o.for_port (f.live o.port ∙ o.there) h in
-      let same : g.space ≡ f.space = same_found (slice_get w.spaces task) g.space f.space g.there f.there in
+      let same : g.space ≡ f.space = same_found (space_at w task) g.space f.space g.there f.there in
       elim g.given [
         | inl j ↦ absurd (let named : port_at f.space.names word ≡ Some o.port = subst (λ (s : SpaceView). port_at s.names word ≡ Some o.port) same (ap (option_and_then port_named) j.0.found ∙ j.0.named) in
             elim o.own [ inl once ↦ j.0.not_once once | inr own ↦ f.none o.port own.0 own.1 word named ])
@@ -67,10 +67,7 @@ module _ (left : SpaceView → ℕ) (is_left : IsLeft left) (ports0 : PortsView 
   give_own o few =
       let fresh = has_fresh f.space.names in
       let live : is_some (map.get w.ports.ports o.port) ≡ true = f.live o.port ∙ o.there in
-      let mid : WorldView = record w {
-        spaces = slice_set w.spaces task (record f.space { names = map.insert f.space.names fresh.0 (alone (kind_sent c.given) o.port); room = f.space.room - 1 });
-        ledger = w.ledger;
-      } in (
+      let mid : WorldView = with_space w task (record f.space { names = map.insert f.space.names fresh.0 (alone (kind_sent c.given) o.port); room = f.space.room - 1 }) in (
         fresh.0,
         mid,
         there_gives w mid task (kind_sent c.given) c.mark o.port fresh.0 o.for_port live (record {
@@ -103,7 +100,7 @@ module _ (left : SpaceView → ℕ) (is_left : IsLeft left) (ports0 : PortsView 
   own_suffices : Owns ports0 names0 earlier c → 0 < l → MarkLacks left w task (kind_sent c.given) c.mark → ⊥
   own_suffices o some h =
       let lack = subst (λ (m : Mark). MarkLacks left w task (kind_sent c.given) m) o.for_port h in
-      let same : lack.1.0 ≡ f.space = same_found (slice_get w.spaces task) lack.1.0 f.space lack.1.1 f.there in
+      let same : lack.1.0 ≡ f.space = same_found (space_at w task) lack.1.0 f.space lack.1.1 f.there in
       let none : left f.space ≡ 0 = ap left (sym same) ∙ lack.1.2 in
       let s = f.left_is in absurd (omega arith)
 
@@ -117,7 +114,7 @@ module _ (left : SpaceView → ℕ) (is_left : IsLeft left) (ports0 : PortsView 
         (λ q there names. let a = gone q (names_own (kind_sent c.given) c.mark q names).1 in let e : false ≡ true = sym a ∙ there in cc)
     | inr has ↦
         let g = gives_there w mid task (kind_sent c.given) c.mark has.0 word has.1 (f.live has.0 ∙ has.2) h in
-        let same : g.space ≡ f.space = same_found (slice_get w.spaces task) g.space f.space g.there f.there in
+        let same : g.space ≡ f.space = same_found (space_at w task) g.space f.space g.there f.there in
         let named : IsNamed f.space.names has.0 = f.named has.0 has.2 has.4 in
         elim g.given [
           | inl j ↦ follows_joined left is_left ports0 names0 task earlier c w n l f mid has.0 word has.1 g (subst (λ (x : SpaceView). JoinsName x.names (kind_sent c.given) has.0 word g.after) same j.0) (j.2 ∙ ap (λ (x : SpaceView). x.room) same) named
@@ -131,8 +128,7 @@ module _ (left : SpaceView → ℕ) (is_left : IsLeft left) (ports0 : PortsView 
     | inr has ↦
         let named : IsNamed f.space.names has.0 = f.named has.0 has.2 has.4 in
         let entry = named_there (map.get f.space.names named.0) has.0 named.1 in
-        let mid : WorldView = record w {
-          spaces = slice_set w.spaces task (record f.space { names = map.insert f.space.names named.0 (joined (kind_sent c.given) entry.0); room = f.space.room });
+        let mid : WorldView = record (with_space w task (record f.space { names = map.insert f.space.names named.0 (joined (kind_sent c.given) entry.0); room = f.space.room })) {
           ledger = ledger_joined (kind_sent c.given) has.0 entry.0 w.ledger;
         } in (
           named.0,
@@ -158,7 +154,7 @@ module _ (left : SpaceView → ℕ) (is_left : IsLeft left) (ports0 : PortsView 
         elim lack.2 [
           | inl once ↦ has.3 once
           | inr none ↦
-              let same : none.0 ≡ f.space = same_found (slice_get w.spaces task) none.0 f.space none.1 f.there in
+              let same : none.0 ≡ f.space = same_found (space_at w task) none.0 f.space none.1 f.there in
               (subst (λ (x : SpaceView). HasNone x.names has.0) same none.2) named.0 named.1
         ]
   ]
@@ -198,8 +194,8 @@ module _ (left : SpaceView → ℕ) (is_left : IsLeft left) (ports0 : PortsView 
 
   -- So many are left once they were given.
   pub left_then : (earlier carried : List Carried) (w : WorldView) (n l k : ℕ) → Follows left ports0 names0 task earlier w n l → Needs ports0 names0 earlier carried k →
-      (words : List ℕ) (new : WorldView) → GivesAll w task carried words new → (space : SpaceView) × (slice_get new.spaces task ≡ Some space) × (left space ≡ l - k)
-  left_then earlier [] w n l k f needs [] new same = (f.space, ap (λ (x : WorldView). slice_get x.spaces task) same ∙ f.there, (let e : k ≡ 0 = needs in let s = f.left_is in omega arith))
+      (words : List ℕ) (new : WorldView) → GivesAll w task carried words new → (space : SpaceView) × (space_at new task ≡ Some space) × (left space ≡ l - k)
+  left_then earlier [] w n l k f needs [] new same = (f.space, ap (λ (x : WorldView). space_at x task) same ∙ f.there, (let e : k ≡ 0 = needs in let s = f.left_is in omega arith))
   left_then earlier [] w n l k f needs (word ∷ words) new h = absurd h
   left_then earlier (c ∷ cs) w n l k f needs [] new h = absurd h
   left_then earlier (c ∷ cs) w n l k f needs (word ∷ words) new h = elim needs [
@@ -209,7 +205,7 @@ module _ (left : SpaceView → ℕ) (is_left : IsLeft left) (ports0 : PortsView 
     | inr s ↦ left_then (earlier ++ c ∷ []) cs h.0 n l k (after_shared left is_left ports0 names0 task earlier c w n l f h.0 word s.0 h.1) s.1 words new h.2
   ]
 
-pub starts : (left : SpaceView → ℕ) (ports0 : PortsView Kept) (w : WorldView) (task : ℕ) (space : SpaceView) → slice_get w.spaces task ≡ Some space → ((p : ℕ) → is_some (map.get w.ports.ports p) ≡ is_some (map.get ports0.ports p)) →
+pub starts : (left : SpaceView → ℕ) (ports0 : PortsView Kept) (w : WorldView) (task : ℕ) (space : SpaceView) → space_at w task ≡ Some space → ((p : ℕ) → is_some (map.get w.ports.ports p) ≡ is_some (map.get ports0.ports p)) →
     Follows left ports0 space.names task [] w (map.len space.names) (left space)
 starts left ports0 w task space there live = record {
   space = space;

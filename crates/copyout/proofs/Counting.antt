@@ -1,6 +1,6 @@
 -- The names that rights need, counted from what the task has now: they are too many exactly where names don't suffice.
 use Rattle.std.proofs.Common.{◌≡◌, ◌≢◌, ℕ, zero, suc, ◌+◌, ◌-◌, ◌<◌, ◌≤◌, List, [], ◌∷◌, ◌++◌, Option, Some, None, refl, sym, ap, subst, ◌∙◌, arith, true, false, Bool, inl, inr, ◌⊎◌, cond}
-use Rattle.std.specs.Prelude.{slice_get, is_some, ◌||◌}
+use Rattle.std.specs.Prelude.{is_some, ◌||◌}
 use Rattle.std.specs.Option.{option_and_then}
 use Rattle.std.proofs.lemmas.Bool.{cases_lt, eqb-true}
 use Rattle.std.proofs.lemmas.Bool.Decides.{eqb_tells}
@@ -16,10 +16,11 @@ use Rattle.name_space.proofs.Keys.{put_here, put_other, equal_or_not}
 use Rattle.copyin_base.specs.declared.message.Carried.{Carried}
 use Rattle.copyin_base.specs.declared.message.Mark.{Mark}
 use Rattle.copyin_base.specs.declared.message.Mark.TheVariants as mark
-use Rattle.copyin_base.specs.Worlds.{WorldView}
+use Rattle.copyin_base.specs.Worlds.{WorldView, space_at}
 use Rattle.copyin_base.specs.Kept.{Kept}
 use Rattle.port.specs.Ports.{PortsView}
-use Rattle.copyin_base.proofs.Gets.{get-set_same, same_found}
+use Rattle.copyin_base.proofs.Gets.{same_found}
+use Rattle.copyin_base.proofs.Spaces.{space-set_same}
 use Rattle.copyout.specs.Giving.{free_names, free_room, joined, alone, JoinsName, TakesName, GivesPort}
 use Rattle.copyout.specs.Room.{names_port, named_by, IsThere, IsNamed, HasNone}
 use Rattle.copyout.proofs.Gives.{joined_port, alone_port}
@@ -116,7 +117,7 @@ room_is_free = record { lower = λ a b names room. room; same = λ a b names roo
 -- So many names the task has then, and so many are left.
 pub record Follows (left : SpaceView → ℕ) (ports0 : PortsView Kept) (names0 : Names) (task : ℕ) (earlier : List Carried) (w : WorldView) (n l : ℕ) : Type 0 where
   pub space : SpaceView
-  pub there : slice_get w.spaces task ≡ Some space
+  pub there : space_at w task ≡ Some space
   pub size : map.len space.names ≡ n
   pub left_is : left space ≡ l
   pub live : (p : ℕ) → is_some (map.get w.ports.ports p) ≡ is_some (map.get ports0.ports p)
@@ -141,10 +142,10 @@ module _ (left : SpaceView → ℕ) (is_left : IsLeft left) (ports0 : PortsView 
 
   module _ (mid : WorldView) (port word : ℕ) (is : c.mark ≡ mark.Port port) (g : GivesPort w task (kind_sent c.given) port word mid) where
     same_space : g.space ≡ f.space
-    same_space = same_found (slice_get w.spaces task) g.space f.space g.there f.there
+    same_space = same_found (space_at w task) g.space f.space g.there f.there
 
-    there_after : slice_get mid.spaces task ≡ Some (record g.space { names = g.after; room = g.room })
-    there_after = ap (λ (x : WorldView). slice_get x.spaces task) g.rest ∙ get-set_same w.spaces task (record g.space { names = g.after; room = g.room }) g.space g.there
+    there_after : space_at mid task ≡ Some (record g.space { names = g.after; room = g.room })
+    there_after = ap (λ (x : WorldView). space_at x task) g.rest ∙ space-set_same w.spaces task (record g.space { names = g.after; room = g.room }) g.space g.there
 
     live_after : (p : ℕ) → is_some (map.get mid.ports.ports p) ≡ is_some (map.get ports0.ports p)
     live_after p = ap (λ (x : WorldView). is_some (map.get x.ports.ports p)) g.rest ∙ f.live p

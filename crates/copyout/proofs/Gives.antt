@@ -1,6 +1,6 @@
 -- One right given: the tables after its steps.
 use Rattle.std.proofs.Common.{◌≡◌, ◌≢◌, ℕ, ◌-◌, ◌<◌, Option, Some, None, refl, sym, ap, subst, ◌∙◌, arith, inl, inr}
-use Rattle.std.specs.Prelude.{slice_get, slice_set, is_some}
+use Rattle.std.specs.Prelude.{is_some}
 use Rattle.std.specs.Option.{option_and_then}
 use Rattle.std.specs.FinMap as map
 use Rattle.mach_types.specs.Numbers.{most_names}
@@ -9,13 +9,13 @@ use Rattle.name_space.specs.declared.Entry.{Entry}
 use Rattle.name_space.specs.declared.Entry.TheVariants as entry_of
 use Rattle.name_space.specs.Entry.{port_named}
 use Rattle.name_space.specs.Names.{Names, SpaceView, IsFreshName, HasNoOther, port_at}
-use Rattle.copyin_base.specs.Worlds.{WorldView, entry_in, entry_at}
+use Rattle.copyin_base.specs.Worlds.{WorldView, entry_in, entry_at, space_at, with_space}
 use Rattle.copyin_base.specs.Shows.{target_of, HasCount}
 use Rattle.copyin_base.specs.Changes.{CanPutLeft, PutsLeft, InsertsEntry}
 use Rattle.copyin_base.proofs.Gets.{same_found}
 use Rattle.copyout.specs.Giving.{joined, alone, ledger_joined, GivesPort}
 
-pub found_in : (w : WorldView) (task name : ℕ) (space : SpaceView) (entry : Entry) → slice_get w.spaces task ≡ Some space → entry_at w task name ≡ Some entry →
+pub found_in : (w : WorldView) (task name : ℕ) (space : SpaceView) (entry : Entry) → space_at w task ≡ Some space → entry_at w task name ≡ Some entry →
     map.get space.names name ≡ Some entry
 found_in w task name space entry there e = sym (ap (λ (o : Option SpaceView). entry_in o name) there) ∙ e
 
@@ -47,7 +47,7 @@ alone_port receive port p e = (λ h. cc, cc)
 alone_port send_once port p e = absurd (let e' : None ≡ Some p = e in cc)
 
 -- the entry may come in place of what stands under the name
-pub can_replace : (w : WorldView) (task : ℕ) (kind : Kind) (name : ℕ) (entry put : Entry) (space : SpaceView) → slice_get w.spaces task ≡ Some space → put ≡ joined kind entry →
+pub can_replace : (w : WorldView) (task : ℕ) (kind : Kind) (name : ℕ) (entry put : Entry) (space : SpaceView) → space_at w task ≡ Some space → put ≡ joined kind entry →
     map.get space.names name ≡ Some entry → CanPutLeft w task name (Some put)
 can_replace w task kind name entry put space there is found = record {
   space = space;
@@ -64,19 +64,16 @@ no_other names kind port x is lone p name named here =
 
 -- under the task's name for the port
 module _ (w w1 w2 : WorldView) (task : ℕ) (kind : Kind) (port name : ℕ) (entry left : Entry) (space : SpaceView)
-    (there : slice_get w.spaces task ≡ Some space) (is : left ≡ joined kind entry)
+    (there : space_at w task ≡ Some space) (is : left ≡ joined kind entry)
     (dropped : w1 ≡ record w { ledger = ledger_joined kind port entry w.ledger })
     (puts : PutsLeft w1 task name (Some left) w2) where
-  replaced : w2 ≡ record w1 { spaces = slice_set w1.spaces task (record space { names = map.insert space.names name left }) }
-  replaced = subst (λ (x : SpaceView). w2 ≡ record w1 { spaces = slice_set w1.spaces task (record x { names = map.insert x.names name left }) })
-      (same_found (slice_get w1.spaces task) puts.space space puts.there (ap (λ (x : WorldView). slice_get x.spaces task) dropped ∙ there)) puts.rest
+  replaced : w2 ≡ with_space w1 task (record space { names = map.insert space.names name left })
+  replaced = subst (λ (x : SpaceView). w2 ≡ with_space w1 task (record x { names = map.insert x.names name left }))
+      (same_found (space_at w1 task) puts.space space puts.there (ap (λ (x : WorldView). space_at x task) dropped ∙ there)) puts.rest
 
-  pub rest-joined : w2 ≡ record w {
-    spaces = slice_set w.spaces task (record space { names = map.insert space.names name (joined kind entry) });
-    ledger = ledger_joined kind port entry w.ledger;
-  }
+  pub rest-joined : w2 ≡ record (with_space w task (record space { names = map.insert space.names name (joined kind entry) })) { ledger = ledger_joined kind port entry w.ledger }
   rest-joined =
-      let g : Entry → WorldView → WorldView = λ e x. record x { spaces = slice_set x.spaces task (record space { names = map.insert space.names name e }) } in
+      let g : Entry → WorldView → WorldView = λ e x. with_space x task (record space { names = map.insert space.names name e }) in
       replaced ∙ ap (g left) dropped ∙ ap (λ (e : Entry). g e (record w { ledger = ledger_joined kind port entry w.ledger })) is
 
   pub gives-joined : kind ≢ send_once → map.get space.names name ≡ Some entry → port_named entry ≡ Some port → GivesPort w task kind port name w2
@@ -92,11 +89,11 @@ module _ (w w1 w2 : WorldView) (task : ℕ) (kind : Kind) (port name : ℕ) (ent
 
 -- under a fresh name
 module _ (w w1 : WorldView) (task : ℕ) (kind : Kind) (port name : ℕ) (x : Entry) (space : SpaceView)
-    (there : slice_get w.spaces task ≡ Some space) (is : x ≡ alone kind port) (puts : InsertsEntry w task name x w1) where
-  pub rest-taken : w1 ≡ record w { spaces = slice_set w.spaces task (record space { names = map.insert space.names name (alone kind port); room = space.room - 1 }) }
+    (there : space_at w task ≡ Some space) (is : x ≡ alone kind port) (puts : InsertsEntry w task name x w1) where
+  pub rest-taken : w1 ≡ with_space w task (record space { names = map.insert space.names name (alone kind port); room = space.room - 1 })
   rest-taken =
-      let f : Entry → SpaceView → WorldView = λ e y. record w { spaces = slice_set w.spaces task (record y { names = map.insert y.names name e; room = y.room - 1 }) } in
-      puts.rest ∙ ap (f x) (same_found (slice_get w.spaces task) puts.space space puts.there there) ∙ ap (λ (e : Entry). f e space) is
+      let f : Entry → SpaceView → WorldView = λ e y. with_space w task (record y { names = map.insert y.names name e; room = y.room - 1 }) in
+      puts.rest ∙ ap (f x) (same_found (space_at w task) puts.space space puts.there there) ∙ ap (λ (e : Entry). f e space) is
 
   pub gives-taken : IsFreshName space.names name → map.len space.names < most_names → (kind ≢ send_once → (n : ℕ) → port_at space.names n ≢ Some port) → GivesPort w task kind port name w1
   gives-taken fresh room lone = record {

@@ -1,6 +1,6 @@
 -- A message that is received in the tables is received by the machine.
 use Rattle.std.proofs.Common.{◌≡◌, ℕ, ◌+◌, ◌*◌, ◌^◌, ◌<◌, ◌≤◌, List, [], ◌∷◌, ◌++◌, Option, Some, None, refl, sym, ap, subst, ◌∙◌, arith, true, false, Bool, length, drop, All, length-append}
-use Rattle.std.specs.Prelude.{if◌then◌else◌, is_some, slice_get, min}
+use Rattle.std.specs.Prelude.{if◌then◌else◌, is_some, min}
 use Rattle.std.specs.Option.{option_map, option_to_list}
 use Rattle.std.proofs.lemmas.List.{length-drop}
 use Rattle.std.proofs.lemmas.List.Elements.{All-drop}
@@ -31,7 +31,7 @@ use Rattle.name_space.specs.Entry.{port_named, has_receive}
 use Rattle.name_space.specs.Names.{SpaceView}
 use Rattle.copyin_base.specs.declared.message.Carried.{Carried}
 use Rattle.copyin_base.specs.Kept.{Kept, body_given}
-use Rattle.copyin_base.specs.Worlds.{WorldView, entry_in, entry_at}
+use Rattle.copyin_base.specs.Worlds.{WorldView, entry_in, entry_at, space_at}
 use Rattle.copyin_base.specs.Shows.{target_of, Agrees, Shows}
 use Rattle.copyout.specs.Takes.{TakesMessage, reversed, reply_number, reply_word, body_names}
 use Rattle.copyin_base.proofs.Changing.{target_named}
@@ -106,7 +106,7 @@ module _ (w : WorldView) (s : State) (sh : Shows w s) (task port local : ℕ) (b
   l = sh.lawful
 
   is_task : s.live_task task ≡ true
-  is_task = sym (a.live_task task) ∙ some_space (slice_get w.spaces task) local x found
+  is_task = sym (a.live_task task) ∙ some_space (space_at w task) local x found
 
   local_name : lookup s task local ≡ Some (Target.port port)
   local_name = a.naming task local ∙ ap (option_map target_of) found ∙ ap Some (target_named x port named)

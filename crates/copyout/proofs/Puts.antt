@@ -1,6 +1,6 @@
 -- A right put under a name that the caller chose: the tables after its steps.
 use Rattle.std.proofs.Common.{◌≡◌, ◌≢◌, ℕ, ◌-◌, ◌<◌, Option, Some, None, refl, sym, ap, ◌∙◌, true, false, inl, inr}
-use Rattle.std.specs.Prelude.{slice_get, is_some}
+use Rattle.std.specs.Prelude.{is_some}
 use Rattle.std.specs.Option.{option_and_then}
 use Rattle.std.specs.FinMap as map
 use Rattle.mach_types.specs.Numbers.{most_names}
@@ -8,14 +8,14 @@ use Rattle.mach_types.specs.Tokens.{Kind, send_once}
 use Rattle.name_space.specs.declared.Entry.{Entry}
 use Rattle.name_space.specs.Entry.{port_named}
 use Rattle.name_space.specs.Names.{Names, SpaceView, port_at}
-use Rattle.copyin_base.specs.Worlds.{WorldView, entry_in, entry_at}
+use Rattle.copyin_base.specs.Worlds.{WorldView, entry_in, entry_at, space_at}
 use Rattle.copyin_base.specs.Changes.{CanInsert, InsertsEntry}
 use Rattle.copyout.specs.Giving.{alone}
 use Rattle.copyout.specs.Ready.{CanJoin}
 use Rattle.copyout.specs.Putting.{PutsPort, CanPut}
 use Rattle.copyout.proofs.Gives.{no_other, rest-taken}
 
-entry_is : (w : WorldView) (task word : ℕ) (space : SpaceView) → slice_get w.spaces task ≡ Some space → entry_at w task word ≡ map.get space.names word
+entry_is : (w : WorldView) (task word : ℕ) (space : SpaceView) → space_at w task ≡ Some space → entry_at w task word ≡ map.get space.names word
 entry_is w task word space there = ap (λ (o : Option SpaceView). entry_in o word) there
 
 pub can_join : (w : WorldView) (task : ℕ) (kind : Kind) (port word : ℕ) → CanPut w task kind port word → is_some (entry_at w task word) ≡ true → CanJoin w task kind port word

@@ -1,6 +1,6 @@
 -- Room made for names, the front message once it was, and the room that is left.
 use Rattle.std.proofs.Common.{◌≡◌, ◌≢◌, ℕ, ◌+◌, ◌-◌, ◌<◌, ◌≤◌, List, [], ◌∷◌, Option, Some, refl, sym, ap, subst, ◌∙◌, arith, true, false, Bool, inl, inr, length}
-use Rattle.std.specs.Prelude.{slice_get, slice_set, is_some, max, MatchBool, if◌then◌else◌, ◌==◌}
+use Rattle.std.specs.Prelude.{slice_set, is_some, max, MatchBool, if◌then◌else◌, ◌==◌}
 use Rattle.std.specs.Option.{unwrap_or}
 use Rattle.std.specs.FinMap as map
 use Rattle.mach_types.specs.Numbers.{kind_sent, most_names}
@@ -18,9 +18,10 @@ use Rattle.copyin_base.specs.declared.message.Mark.{Mark}
 use Rattle.copyin_base.specs.declared.message.Mark.TheVariants as mark
 use Rattle.copyin_base.specs.Kept.{Kept}
 use Rattle.copyin_base.specs.Wanted.{room_of, room_in}
-use Rattle.copyin_base.specs.Worlds.{WorldView, port_at}
+use Rattle.copyin_base.specs.Worlds.{WorldView, port_at, space_at}
 use Rattle.copyin_base.proofs.Agreeing.{live_put}
-use Rattle.copyin_base.proofs.Gets.{get-set_same, get-set_other, same_found, same_head}
+use Rattle.copyin_base.proofs.Gets.{same_found, same_head}
+use Rattle.copyin_base.proofs.Spaces.{space-set_same, space-set_other}
 use Rattle.copyout.specs.Giving.{LackNames, free_names, free_room, GivesPort, GivesMark, GivesAll}
 use Rattle.copyout.specs.Room.{Needs}
 use Rattle.copyout.specs.Takes.{TakesFront, TakesMessage, destination_right}
@@ -30,7 +31,7 @@ use Rattle.copyout.proofs.After.{entered-put, sends-taken}
 use Rattle.copyout.proofs.Counted.{too_few, enough, left_then, starts}
 use Rattle.copyout.proofs.Counting.{names_are_free, room_is_free}
 
-abbrev pub waits_kept : (w : WorldView) (xs : List SpaceView) (port : ℕ) → Waits w port → Waits (record w { spaces = xs }) port
+abbrev pub waits_kept : (w : WorldView) (xs : List (Option SpaceView)) (port : ℕ) → Waits w port → Waits (record w { spaces = xs }) port
 waits_kept w xs port x = record {
   v = x.v;
   there = x.there;
@@ -56,11 +57,11 @@ pub ready_after : (w w2 : WorldView) (task port room capacity needed : ℕ) (x :
 ready_after w w2 task port room capacity needed x m r fit =
     let space2 : SpaceView = record r.space { room = max r.space.room needed } in
     let front : x.front ≡ m.front = same_front w port x m.front m.waits in
-    let names : m.space.names ≡ r.space.names = ap (λ (y : SpaceView). y.names) (same_found (slice_get w.spaces task) m.space r.space m.there r.there) in
+    let names : m.space.names ≡ r.space.names = ap (λ (y : SpaceView). y.names) (same_found (space_at w task) m.space r.space m.there r.there) in
     subst (λ (y : WorldView). ReadyFor y task port capacity) (sym r.rest) (record {
-      waits = waits_kept w (slice_set w.spaces task space2) port x;
+      waits = waits_kept w (slice_set w.spaces task (Some space2)) port x;
       space = space2;
-      there = get-set_same w.spaces task space2 r.space r.there;
+      there = space-set_same w.spaces task space2 r.space r.there;
       needed = needed;
       needs = subst (λ (k : Kept). Needs w.ports r.space.names [] (carried_by k) needed) (sym front) (subst (λ (y : Names). Needs w.ports y [] (carried_by m.front) needed) names m.needs);
       names = subst (λ (y : Names). needed ≤ most_names - map.len y) names m.names;
@@ -74,8 +75,8 @@ ready_after w w2 task port room capacity needed x m r fit =
 front_live : (w mid : WorldView) (port : ℕ) (t : TakesFront w port mid) (p : ℕ) → is_some (port_at mid p) ≡ is_some (port_at w p)
 front_live w mid port t p = ap (λ (x : WorldView). is_some (port_at x p)) t.rest ∙ live_put w.ports.ports port _ (λ q. is_some (port_at w q)) (ap is_some t.there) (λ q. refl) p
 
-front_there : (w mid : WorldView) (task port : ℕ) (t : TakesFront w port mid) (space : SpaceView) → slice_get w.spaces task ≡ Some space → slice_get mid.spaces task ≡ Some space
-front_there w mid task port t space there = ap (λ (x : WorldView). slice_get x.spaces task) t.rest ∙ there
+front_there : (w mid : WorldView) (task port : ℕ) (t : TakesFront w port mid) (space : SpaceView) → space_at w task ≡ Some space → space_at mid task ≡ Some space
+front_there w mid task port t space there = ap (λ (x : WorldView). space_at x task) t.rest ∙ there
 
 sends_dest : (once : Bool) (m : LedgerView) (p q : ℕ) →
     (counts_of m q).send ≤ (counts_of (taken m p (if once then right.Destination else right.Send) 1) q).send + (if once then 0 else if p == q then 1 else 0)
@@ -117,15 +118,15 @@ judged_front w w2 task port number m f r mid t =
 
 -- What other tasks have, and how many slots are spare, stays.
 record Beside (task : ℕ) (w new : WorldView) : Type 0 where
-  others : (n : ℕ) → n ≢ task → slice_get new.spaces n ≡ slice_get w.spaces n
+  others : (n : ℕ) → n ≢ task → space_at new n ≡ space_at w n
   spare : new.ports.spare ≡ w.ports.spare
 
 beside_same : (task : ℕ) (w new : WorldView) → new ≡ w → Beside task w new
-beside_same task w new e = record { others = λ n not. ap (λ (x : WorldView). slice_get x.spaces n) e; spare = ap (λ (x : WorldView). x.ports.spare) e }
+beside_same task w new e = record { others = λ n not. ap (λ (x : WorldView). space_at x n) e; spare = ap (λ (x : WorldView). x.ports.spare) e }
 
 beside_port : (b : Bool) (task : ℕ) (w new : WorldView) (kind : Kind) (port word dead : ℕ) → MatchBool b (GivesPort w task kind port word new) ((word ≡ dead) × (new ≡ w)) → Beside task w new
 beside_port true task w new kind port word dead g = record {
-  others = λ n not. ap (λ (x : WorldView). slice_get x.spaces n) g.rest ∙ get-set_other w.spaces task (record g.space { names = g.after; room = g.room }) n not;
+  others = λ n not. ap (λ (x : WorldView). space_at x n) g.rest ∙ space-set_other w.spaces task (record g.space { names = g.after; room = g.room }) n not;
   spare = ap (λ (x : WorldView). x.ports.spare) g.rest;
 }
 beside_port false task w new kind port word dead h = beside_same task w new h.1
@@ -150,11 +151,11 @@ pub returns_slot : (w w2 new : WorldView) (task port room needed local : ℕ) (b
 returns_slot w w2 new task port room needed local bytes m r t =
     let mid : WorldView = t.mid in
     let space2 : SpaceView = record r.space { room = max r.space.room needed } in
-    let there : slice_get mid.spaces task ≡ Some space2 =
-    front_there w2 mid task port t.takes space2 (ap (λ (y : WorldView). slice_get y.spaces task) r.rest ∙ get-set_same w.spaces task space2 r.space r.there) in
+    let there : space_at mid task ≡ Some space2 =
+    front_there w2 mid task port t.takes space2 (ap (λ (y : WorldView). space_at y task) r.rest ∙ space-set_same w.spaces task space2 r.space r.there) in
     let live : (p : ℕ) → is_some (port_at mid p) ≡ is_some (port_at w p) = λ p. front_live w2 mid port t.takes p ∙ ap (λ (y : WorldView). is_some (port_at y p)) r.rest in
     let front : m.front ≡ t.takes.front = judged_front w w2 task port needed m.front m.waits r mid t.takes in
-    let names : m.space.names ≡ r.space.names = ap (λ (y : SpaceView). y.names) (same_found (slice_get w.spaces task) m.space r.space m.there r.there) in
+    let names : m.space.names ≡ r.space.names = ap (λ (y : SpaceView). y.names) (same_found (space_at w task) m.space r.space m.there r.there) in
     let needs : Needs w.ports r.space.names [] (carried_by t.takes.front) needed =
     subst (λ (k : Kept). Needs w.ports r.space.names [] (carried_by k) needed) front (subst (λ (y : Names). Needs w.ports y [] (carried_by m.front) needed) names m.needs) in
     let left = left_then free_room room_is_free w.ports r.space.names task [] (carried_by t.takes.front) mid _ _ needed (starts free_room w.ports mid task space2 there live) needs t.words new t.gives in
@@ -165,15 +166,15 @@ returns_slot w w2 new task port room needed local bytes m r t =
       rooms = λ other. elim (equal_or_not other task) [
         | inl e ↦ subst (λ (n : ℕ). room_of new n ≤ room_of w n) (sym e) (let x = left.2 in omega (arith, x, old_room, new_room))
         | inr not ↦
-            let same : room_of new other ≡ room_of w other = ap room_in (beside.others other not ∙ ap (λ (x : WorldView). slice_get x.spaces other) t.takes.rest
-            ∙ ap (λ (x : WorldView). slice_get x.spaces other) r.rest ∙ get-set_other w.spaces task space2 other not) in omega (arith, same)
+            let same : room_of new other ≡ room_of w other = ap room_in (beside.others other not ∙ ap (λ (x : WorldView). space_at x other) t.takes.rest
+            ∙ ap (λ (x : WorldView). space_at x other) r.rest ∙ space-set_other w.spaces task space2 other not) in omega (arith, same)
       ];
       slots = beside.spare ∙ ap (λ (x : WorldView). x.ports.spare) t.takes.rest ∙ ap (λ (x : WorldView). x.ports.spare + 1) r.rest;
     }
 
 -- ---- whether the names suffice
 
-module _ (w : WorldView) (task : ℕ) (m : Kept) (space : SpaceView) (needed : ℕ) (there : slice_get w.spaces task ≡ Some space) (needs : Needs w.ports space.names [] (carried_by m) needed) where
+module _ (w : WorldView) (task : ℕ) (m : Kept) (space : SpaceView) (needed : ℕ) (there : space_at w task ≡ Some space) (needs : Needs w.ports space.names [] (carried_by m) needed) where
   pub names_enough : needed ≤ free_names space → ¬ (LackNames w task (carried_by m))
   names_enough few = enough free_names names_are_free w.ports space.names task [] (carried_by m) w _ _ needed (starts free_names w.ports w task space there (λ p. refl)) needs few
 

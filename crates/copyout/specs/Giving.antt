@@ -1,5 +1,5 @@
 -- What copying out gives a task: a name for each right of a message, in the tables.
-use Rattle.std.specs.Prelude.{◌≡◌, ◌≢◌, ℕ, ◌+◌, ◌-◌, ◌<◌, ◌⊎◌, true, List, slice_get, slice_set, Some, is_some, if◌then◌else◌, ◌==◌, min, MatchBool}
+use Rattle.std.specs.Prelude.{◌≡◌, ◌≢◌, ℕ, ◌+◌, ◌-◌, ◌<◌, ◌⊎◌, true, List, Some, is_some, if◌then◌else◌, ◌==◌, min, MatchBool}
 use Rattle.std.specs.FinMap as map
 use Rattle.mach_types.specs.Numbers.{kind_sent, null_word, dead_word, most_names, most_references}
 use Rattle.mach_types.specs.Tokens.{Kind, receive, send, send_once}
@@ -13,7 +13,7 @@ use Rattle.rights.specs.declared.RightKind.TheVariants as right
 use Rattle.copyin_base.specs.declared.message.Carried.{Carried}
 use Rattle.copyin_base.specs.declared.message.Mark.{Mark}
 use Rattle.copyin_base.specs.declared.message.Mark.TheVariants as mark
-use Rattle.copyin_base.specs.Worlds.{WorldView}
+use Rattle.copyin_base.specs.Worlds.{WorldView, space_at, with_space}
 
 -- the entry of the port's name with one right more
 abbrev pub joined : Kind → Entry → Entry
@@ -52,16 +52,13 @@ ledger_joined kind p x ledger = ledger
 -- The right for a port that is there comes to the task under this name.
 pub record GivesPort (old : WorldView) (task : ℕ) (kind : Kind) (port word : ℕ) (new : WorldView) : Type 0 where
   pub space : SpaceView
-  pub there : slice_get old.spaces task ≡ Some space
+  pub there : space_at old task ≡ Some space
   pub after : Names
   pub room : ℕ
   pub ledger : LedgerView
   pub given : ((j : JoinsName space.names kind port word after) × (ledger ≡ ledger_joined kind port j.entry old.ledger) × (room ≡ space.room))
       ⊎ (TakesName space.names kind port word after × (ledger ≡ old.ledger) × (room ≡ space.room - 1))
-  pub rest : new ≡ record old {
-    spaces = slice_set old.spaces task (record space { names = after; room = room });
-    ledger = ledger;
-  }
+  pub rest : new ≡ record (with_space old task (record space { names = after; room = room })) { ledger = ledger }
 
 -- A right whose port isn't there any more is dead.
 abbrev pub GivesMark : WorldView → (task : ℕ) → Kind → Mark → (word : ℕ) → WorldView → Type 0
@@ -86,11 +83,11 @@ free_room space = space.room
 
 -- none is left to the task
 abbrev pub NoneLeft : (free : SpaceView → ℕ) → WorldView → (task : ℕ) → Type 0
-NoneLeft free w task = (space : SpaceView) × (slice_get w.spaces task ≡ Some space) × (free space ≡ 0)
+NoneLeft free w task = (space : SpaceView) × (space_at w task ≡ Some space) × (free space ≡ 0)
 
 -- the right needs a name of its own
 abbrev pub NeedsOwn : WorldView → (task : ℕ) → Kind → (port : ℕ) → Type 0
-NeedsOwn w task kind p = (kind ≡ send_once) ⊎ ((space : SpaceView) × (slice_get w.spaces task ≡ Some space) × ((name : ℕ) → port_at space.names name ≢ Some p))
+NeedsOwn w task kind p = (kind ≡ send_once) ⊎ ((space : SpaceView) × (space_at w task ≡ Some space) × ((name : ℕ) → port_at space.names name ≢ Some p))
 
 abbrev pub MarkLacks : (free : SpaceView → ℕ) → WorldView → (task : ℕ) → Kind → Mark → Type 0
 MarkLacks free w task kind (mark.Port p) = (is_some (map.get w.ports.ports p) ≡ true) × NoneLeft free w task × NeedsOwn w task kind p

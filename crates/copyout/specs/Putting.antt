@@ -1,11 +1,11 @@
 -- Giving a task a right under a name that the caller chose: the task's name for the port, or one that isn't in use.
-use Rattle.std.specs.Prelude.{◌≡◌, ◌≢◌, ℕ, ◌-◌, ◌<◌, ◌≤◌, ◌⊎◌, true, slice_get, slice_set, Some, None, is_some}
+use Rattle.std.specs.Prelude.{◌≡◌, ◌≢◌, ℕ, ◌-◌, ◌<◌, ◌≤◌, ◌⊎◌, true, Some, None, is_some}
 use Rattle.std.specs.FinMap as map
 use Rattle.mach_types.specs.Numbers.{most_names}
 use Rattle.mach_types.specs.Tokens.{Kind, send, send_once}
 use Rattle.name_space.specs.Names.{Names, SpaceView, IsUsable, HasPlace, port_at}
 use Rattle.rights.specs.Ledger.{LedgerView, IsEntered, counts_of}
-use Rattle.copyin_base.specs.Worlds.{WorldView}
+use Rattle.copyin_base.specs.Worlds.{WorldView, space_at, with_space}
 use Rattle.copyin_base.specs.Worlds.{port_at as table_at}
 use Rattle.copyout.specs.Giving.{alone, JoinsName, ledger_joined}
 
@@ -18,16 +18,13 @@ pub record NewName (names : Names) (kind : Kind) (port word : ℕ) (after : Name
 -- The right for a port that is there comes to the task under this name.
 pub record PutsPort (old : WorldView) (task : ℕ) (kind : Kind) (port word : ℕ) (new : WorldView) : Type 0 where
   pub space : SpaceView
-  pub there : slice_get old.spaces task ≡ Some space
+  pub there : space_at old task ≡ Some space
   pub after : Names
   pub room : ℕ
   pub ledger : LedgerView
   pub given : ((j : JoinsName space.names kind port word after) × (ledger ≡ ledger_joined kind port j.entry old.ledger) × (room ≡ space.room))
       ⊎ (NewName space.names kind port word after × (ledger ≡ old.ledger) × (room ≡ space.room - 1))
-  pub rest : new ≡ record old {
-    spaces = slice_set old.spaces task (record space { names = after; room = room });
-    ledger = ledger;
-  }
+  pub rest : new ≡ record (with_space old task (record space { names = after; room = room })) { ledger = ledger }
 
 -- The name is the task's for the port, or it isn't in use and the task has none for it.
 abbrev pub MayName : Names → Kind → (port word : ℕ) → Type 0
@@ -38,7 +35,7 @@ MayName names kind port word =
 -- A right for a port that is there can come so.
 pub record CanPut (w : WorldView) (task : ℕ) (kind : Kind) (port word : ℕ) : Type 0 where
   pub space : SpaceView
-  pub there : slice_get w.spaces task ≡ Some space
+  pub there : space_at w task ≡ Some space
   pub place : map.get space.names word ≡ None → HasPlace space word
   pub usable : IsUsable word
   pub may : MayName space.names kind port word

@@ -1,5 +1,5 @@
 -- What must be so before rights are given: the names suffice, room is made, and the rights are counted.
-use Rattle.std.specs.Prelude.{◌≡◌, ◌≢◌, ℕ, ◌+◌, ◌<◌, ◌≤◌, true, List, [], ◌∷◌, ◌++◌, length, slice_get, Some, is_some, if◌then◌else◌, ◌==◌, min}
+use Rattle.std.specs.Prelude.{◌≡◌, ◌≢◌, ℕ, ◌+◌, ◌<◌, ◌≤◌, true, List, [], ◌∷◌, ◌++◌, length, Some, is_some, if◌then◌else◌, ◌==◌, min}
 use Rattle.std.specs.FinMap as map
 use Rattle.mach_types.specs.Numbers.{kind_sent, most_bytes, most_names}
 use Rattle.mach_types.specs.Tokens.{Kind, send, send_once}
@@ -15,7 +15,7 @@ use Rattle.copyin_base.specs.declared.message.Carried.{Carried}
 use Rattle.copyin_base.specs.declared.message.Mark.{Mark}
 use Rattle.copyin_base.specs.declared.message.Mark.TheVariants as mark
 use Rattle.copyin_base.specs.Kept.{Kept}
-use Rattle.copyin_base.specs.Worlds.{WorldView, port_at}
+use Rattle.copyin_base.specs.Worlds.{WorldView, port_at, space_at}
 use Rattle.std.specs.Option.{option_to_list}
 use Rattle.copyout.specs.Giving.{NeedsOwn, LackNames, LackRoom, free_names, GivesAll}
 use Rattle.copyout.specs.Room.{Needs}
@@ -39,7 +39,7 @@ sends_for (c ∷ cs) p = send_for (kind_sent c.given) c.mark p + sends_for cs p
 -- The rights can be given to the task.
 pub record CanGive (w : WorldView) (task : ℕ) (carried : List Carried) : Type 0 where
   pub space : SpaceView
-  pub there : slice_get w.spaces task ≡ Some space
+  pub there : space_at w task ≡ Some space
   pub enough : ¬ (LackNames w task carried)
   pub room : ¬ (LackRoom w task carried)
   pub entered : AllEntered w
@@ -48,7 +48,7 @@ pub record CanGive (w : WorldView) (task : ℕ) (carried : List Carried) : Type 
 -- A right for a port that is there can be given.
 pub record CanGivePort (w : WorldView) (task : ℕ) (kind : Kind) (port : ℕ) : Type 0 where
   pub space : SpaceView
-  pub there : slice_get w.spaces task ≡ Some space
+  pub there : space_at w task ≡ Some space
   pub own : NeedsOwn w task kind port → (map.len space.names < most_names) × (0 < space.room)
   pub live : is_some (port_at w port) ≡ true
   pub entered : IsEntered w.ledger port
@@ -57,7 +57,7 @@ pub record CanGivePort (w : WorldView) (task : ℕ) (kind : Kind) (port : ℕ) :
 -- It can come under the task's name for the port.
 pub record CanJoin (w : WorldView) (task : ℕ) (kind : Kind) (port name : ℕ) : Type 0 where
   pub space : SpaceView
-  pub there : slice_get w.spaces task ≡ Some space
+  pub there : space_at w task ≡ Some space
   pub not_once : kind ≢ send_once
   pub named : port_named_at space.names name ≡ Some port
   pub live : is_some (port_at w port) ≡ true
@@ -67,7 +67,7 @@ pub record CanJoin (w : WorldView) (task : ℕ) (kind : Kind) (port name : ℕ) 
 -- It can come under a name of its own.
 pub record CanTakeName (w : WorldView) (task : ℕ) (kind : Kind) (port : ℕ) : Type 0 where
   pub space : SpaceView
-  pub there : slice_get w.spaces task ≡ Some space
+  pub there : space_at w task ≡ Some space
   pub room : 0 < space.room
   pub not_full : map.len space.names < most_names
   pub lone : kind ≢ send_once → (name : ℕ) → port_named_at space.names name ≢ Some port
@@ -105,7 +105,7 @@ pub record MayReceive (w : WorldView) (task port room needed : ℕ) : Type 0 whe
   pub waits : HasFront w port front
   pub fits : length front.bytes ≤ min room most_bytes
   pub space : SpaceView
-  pub there : slice_get w.spaces task ≡ Some space
+  pub there : space_at w task ≡ Some space
   pub needs : Needs w.ports space.names [] (carried_by front) needed
   pub names : needed ≤ free_names space
 
@@ -113,7 +113,7 @@ pub record MayReceive (w : WorldView) (task port room needed : ℕ) : Type 0 whe
 pub record ReadyFor (w : WorldView) (task port capacity : ℕ) : Type 0 where
   pub waits : Waits w port
   pub space : SpaceView
-  pub there : slice_get w.spaces task ≡ Some space
+  pub there : space_at w task ≡ Some space
   pub needed : ℕ
   pub needs : Needs w.ports space.names [] (carried_by waits.front) needed
   pub names : needed ≤ free_names space

@@ -1,5 +1,5 @@
 //! Giving rights to a task.
-ghost use Rattle.std.specs.Prelude.{◌≡◌, ◌≢◌, ℕ, ◌+◌, ◌-◌, ◌<◌, ◌≤◌, ◌++◌, true, [], ◌∷◌, Some, None, length, slice_get, slice_set, is_some, MatchBool, vec_len, vec_capacity, List};
+ghost use Rattle.std.specs.Prelude.{◌≡◌, ◌≢◌, ℕ, ◌+◌, ◌-◌, ◌<◌, ◌≤◌, ◌++◌, true, [], ◌∷◌, Some, None, length, is_some, MatchBool, vec_len, vec_capacity, List};
 ghost use Rattle.std.specs.FinMap as map;
 ghost use Rattle.mach_types.specs.Numbers.{kind_sent, most_names, most_references};
 ghost use Rattle.mach_types.specs.Tokens.{receive, send, send_once};

@@ -1,5 +1,5 @@
 //! Taking a port's front message.
-ghost use Rattle.std.specs.Prelude.{◌≡◌, ◌≢◌, ℕ, ◌+◌, ◌*◌, ◌%◌, ◌^◌, ◌<◌, ◌≤◌, ◌++◌, [], ◌∷◌, true, Bool, Some, None, length, min, slice_get, slice_set, is_some, IfOk, IfErr, OnOk, OnErr, MatchBool, if◌then◌else◌, vec_len, vec_capacity, List};
+ghost use Rattle.std.specs.Prelude.{◌≡◌, ◌≢◌, ℕ, ◌+◌, ◌*◌, ◌%◌, ◌^◌, ◌<◌, ◌≤◌, ◌++◌, [], ◌∷◌, true, Bool, Some, None, length, min, is_some, IfOk, IfErr, OnOk, OnErr, MatchBool, if◌then◌else◌, vec_len, vec_capacity, List};
 ghost use Rattle.std.specs.FinMap as map;
 ghost use Rattle.mach_types.specs.Numbers.{most_bytes};
 ghost use Rattle.mach_types.specs.Grammar.{WireBody, body_text};
@@ -12,7 +12,7 @@ ghost use Rattle.rights.specs.Ledger.{IsEntered, counts_of, taken};
 ghost use Rattle.rights.specs.Counts.{number_of};
 ghost use Rattle.copyin_base.specs.Changes.{MakesRoom};
 ghost use Rattle.copyin_base.specs.Kept.{Kept};
-ghost use Rattle.copyin_base.specs.Worlds.{WorldView, port_at};
+ghost use Rattle.copyin_base.specs.Worlds.{WorldView, port_at, HasTask};
 ghost use Rattle.std.specs.Option.{option_to_list};
 ghost use Rattle.copyout.specs.Giving.{GivesAll};
 ghost use Rattle.copyout.specs.Takes.{TakesFront, TakesMessage, destination_right, reply_number, reply_word};
@@ -215,7 +215,7 @@ fn judge(
     port: PortId,
     room: u32,
 ) -> Result<(usize, SmallVec<Name, 8>), Refusal>
-    requires there { task < length world.now.spaces }
+    requires there { HasTask world.now task }
     requires waits { (m : Kept) × HasFront world.now port m × (length m.bytes ≤ most_bytes) }
     ensures ok { IfOk result (λ r. (may : MayReceive world.now task port room r.0) × (r.1.items ≡ []) × (length may.front.rights ≤ r.1.capacity)) }
     ensures err { IfErr result (λ refusal. (m : Kept) × HasFront world.now port m × IsRefusedBy world.now task m room refusal) }
@@ -261,7 +261,7 @@ pub fn receive(
     local: Name,
     room: u32,
 ) -> Result<Bytes, Refusal>
-    requires there { task < length world.old.spaces }
+    requires there { HasTask world.old task }
     requires waits { Waits world.old port }
     ensures ok { IfOk result (λ bytes. (needed : ℕ) × (start : WorldView) × MakesRoom world.old task needed start × (t : TakesMessage start task port local bytes world.new)
         × (length t.takes.front.bytes ≤ min room most_bytes)) }

@@ -1,6 +1,5 @@
 -- Which right may go from a name, in the tables and in each state that they show.
 use Rattle.std.proofs.Common.{◌≡◌, ◌≢◌, ℕ, ◌≤◌, [], ◌∷◌, Option, Some, None, refl, sym, ap, subst, ◌∙◌, arith, ◌⊎◌, inl, inr, length}
-use Rattle.std.specs.Prelude.{slice_get}
 use Rattle.std.specs.FinMap as map
 use Rattle.mach_types.specs.declared.rights.Disposition.{Disposition}
 use Rattle.mach_types.specs.declared.rights.Disposition.TheVariants.{MoveReceive, MoveSend, MoveSendOnce, CopySend, MakeSend, MakeSendOnce}
@@ -20,7 +19,7 @@ use Rattle.name_space.specs.declared.Entry.TheVariants as entry
 use Rattle.name_space.specs.Names.{SpaceView, IsUsable}
 use Rattle.copyin_base.specs.Acts.{IsRefused}
 use Rattle.copyin_base.specs.Shows.{target_of, Shows}
-use Rattle.copyin_base.specs.Worlds.{WorldView, entry_in, entry_at}
+use Rattle.copyin_base.specs.Worlds.{WorldView, entry_in, entry_at, space_at}
 use Rattle.copyin_base.specs.declared.message.Mark.TheVariants as mark
 use Rattle.copyin_base.proofs.Gets.{same_found}
 use Rattle.copyin_base.proofs.Told.{found}
@@ -108,7 +107,7 @@ module _ (w : WorldView) (from name number : ℕ) (d : Disposition) (given : dis
 
     illegal : (s : State) → Shows w s → copied_from d e ≡ None → ¬ (IsLegalName s from name number)
     illegal s sh none legal =
-        let space = space_of (slice_get w.spaces from) is in
+        let space = space_of (space_at w from) is in
         let l = legal_copies w s 0 (length (s.log 0)) from space.0.names
         (record { agrees = sh.agrees; moving = moving s 0 (length (s.log 0)) sh.lawful; space = space.0; there = space.1; names_are = refl }) name number legal in
         let c = l.2 in

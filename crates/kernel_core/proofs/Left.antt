@@ -1,6 +1,6 @@
 -- What is left when a right was copied in: the tables and the machine's state agree, with the right at an entry that no log has.
 use Rattle.std.proofs.Common.{◌≡◌, ℕ, zero, suc, ◌≤◌, List, Option, Some, None, refl, sym, ap, subst, ◌∙◌, arith, true, false, Bool, inl, inr, length}
-use Rattle.std.specs.Prelude.{slice_get, slice_set, if◌then◌else◌, ◌==◌}
+use Rattle.std.specs.Prelude.{slice_set, if◌then◌else◌, ◌==◌}
 use Rattle.std.specs.FinMap as map
 use Rattle.std.proofs.lemmas.Bool.Decides.{eqb_tells}
 use Rattle.std.proofs.lemmas.Bool.{eq-eqb}
@@ -20,8 +20,8 @@ use Rattle.name_space.specs.Names.{Names, SpaceView}
 use Rattle.copyin_base.specs.declared.message.Carried.{Carried}
 use Rattle.copyin_base.specs.declared.message.Mark.TheVariants as mark
 use Rattle.copyin_base.specs.Shows.{Agrees, Shows}
-use Rattle.copyin_base.specs.Worlds.{WorldView, entry_in, entry_at, put}
-use Rattle.copyin_base.proofs.Gets.{get-set_same, get-set_other, same_found}
+use Rattle.copyin_base.specs.Worlds.{WorldView, entry_in, entry_at, put, space_at, space_in}
+use Rattle.copyin_base.proofs.Gets.{same_found}
 use Rattle.copyin_base.proofs.Putting.{put_own, put_other, len_put, len_removed}
 use Rattle.copyin.specs.declared.copies.Copied.{Copied}
 use Rattle.copyin.specs.Copies.{copied_from, CopiesRight}
@@ -30,6 +30,7 @@ use Rattle.copyin.proofs.CopiedIn.{after}
 use Rattle.copyin.proofs.Stepping.{Went, went}
 use Rattle.kernel_core.specs.declared.transfer.Going.{Going}
 use Rattle.kernel_core.specs.Transfer.{CanGo, left_at, names_in, fewer_if, names_left, rights_then}
+use Rattle.copyin_base.proofs.Spaces.{space-set_same, space-set_other}
 
 the_same : {A : Type 0} (x y : A) → Some x ≡ Some y → x ≡ y
 the_same x y e = cc
@@ -62,9 +63,9 @@ pub record Left (w : WorldView) (s : State) (task number : ℕ) (g : Going) (mid
   pub given_is : copy.given ≡ g.given
   pub left : (n : ℕ) → entry_at mid task n ≡ left_at w task g n
   pub space : SpaceView
-  pub there : slice_get mid.spaces task ≡ Some space
-  pub room : (x : SpaceView) → slice_get w.spaces task ≡ Some x → space.room ≡ x.room
-  pub kept : (x : SpaceView) → slice_get w.spaces task ≡ Some x → space.kept ≡ x.kept
+  pub there : space_at mid task ≡ Some space
+  pub room : (x : SpaceView) → space_at w task ≡ Some x → space.room ≡ x.room
+  pub kept : (x : SpaceView) → space_at w task ≡ Some x → space.kept ≡ x.kept
   pub names : map.len space.names ≡ names_left w task g
   pub rights : mid.ledger.total ≡ rights_then w g
 
@@ -78,8 +79,8 @@ module _ (w : WorldView) (s : State) (sh : Shows w s) (task number : ℕ) (g : G
   abbrev k : ℕ
   k = length (s.log 0)
 
-  pub source : (space : SpaceView) × (slice_get w.spaces from ≡ Some space) × (map.get space.names name ≡ Some goes.entry)
-  source = space_of (slice_get w.spaces from) name goes.entry goes.found
+  pub source : (space : SpaceView) × (space_at w from ≡ Some space) × (map.get space.names name ≡ Some goes.entry)
+  source = space_of (space_at w from) name goes.entry goes.found
 
   abbrev copied : Copied
   copied = record { left = g.left; mark = mark.Port g.port }
@@ -95,12 +96,12 @@ module _ (w : WorldView) (s : State) (sh : Shows w s) (task number : ℕ) (g : G
       (record { agrees = sh.agrees; moving = moving s 0 k sh.lawful; space = source.0; there = source.1; names_are = refl })
       (record { is_given = goes.given; entry = goes.entry; found = source.2; copied = copied; is = goes.is; mark = refl; left = refl })
 
-  module _ (x : SpaceView) (was : slice_get w.spaces task ≡ Some x) (mid : WorldView) (c : CopiesRight w from g.given name (mark.Port g.port) mid) where
+  module _ (x : SpaceView) (was : space_at w task ≡ Some x) (mid : WorldView) (c : CopiesRight w from g.given name (mark.Port g.port) mid) where
     same_mid : it_went.w2 ≡ mid
     same_mid = right_once w from g.given name (mark.Port g.port) it_went.w2 mid it_went.changes c
 
     same_space : c.space ≡ source.0
-    same_space = same_found (slice_get w.spaces from) c.space source.0 c.there source.1
+    same_space = same_found (space_at w from) c.space source.0 c.there source.1
 
     same_copied : c.copied ≡ copied
     same_copied =
@@ -110,17 +111,17 @@ module _ (w : WorldView) (s : State) (sh : Shows w s) (task number : ℕ) (g : G
     abbrev after_space : SpaceView
     after_space = record source.0 { names = after_names }
 
-    spaces_are : mid.spaces ≡ slice_set w.spaces from after_space
+    spaces_are : mid.spaces ≡ slice_set w.spaces from (Some after_space)
     spaces_are = ap (λ (x : WorldView). x.spaces) c.rest ∙ renamed c.space source.0 c.copied copied same_space same_copied
       where
-        renamed : (x y : SpaceView) (d e : Copied) → x ≡ y → d ≡ e → slice_set w.spaces from (record x { names = put x.names name d.left }) ≡ slice_set w.spaces from (record y { names = put y.names name e.left })
-        renamed x y d e p q = λ i. slice_set w.spaces from (record (p i) { names = put (p i).names name (q i).left })
+        renamed : (x y : SpaceView) (d e : Copied) → x ≡ y → d ≡ e → slice_set w.spaces from (Some (record x { names = put x.names name d.left })) ≡ slice_set w.spaces from (Some (record y { names = put y.names name e.left }))
+        renamed x y d e p q = λ i. slice_set w.spaces from (Some (record (p i) { names = put (p i).names name (q i).left }))
 
-    mid_own : slice_get mid.spaces from ≡ Some after_space
-    mid_own = ap (λ (xs : List SpaceView). slice_get xs from) spaces_are ∙ get-set_same w.spaces from after_space source.0 source.1
+    mid_own : space_at mid from ≡ Some after_space
+    mid_own = ap (λ (xs : List (Option SpaceView)). space_in xs from) spaces_are ∙ space-set_same w.spaces from after_space source.0 source.1
 
-    mid_other : (u : ℕ) → (u ≡ from → ⊥) → slice_get mid.spaces u ≡ slice_get w.spaces u
-    mid_other u not = ap (λ (xs : List SpaceView). slice_get xs u) spaces_are ∙ get-set_other w.spaces from after_space u not
+    mid_other : (u : ℕ) → (u ≡ from → ⊥) → space_at mid u ≡ space_at w u
+    mid_other u not = ap (λ (xs : List (Option SpaceView)). space_in xs u) spaces_are ∙ space-set_other w.spaces from after_space u not
 
     put_at : (n : ℕ) → map.get after_names n ≡ (if n == name then g.left else entry_at w from n)
     put_at n = elim (eqb_tells n name) [
@@ -142,7 +143,7 @@ module _ (w : WorldView) (s : State) (sh : Shows w s) (task number : ℕ) (g : G
     -- the task's names in the tables then
     record Own : Type 0 where
       space : SpaceView
-      there : slice_get mid.spaces task ≡ Some space
+      there : space_at mid task ≡ Some space
       room : space.room ≡ x.room
       kept : space.kept ≡ x.kept
       names : map.len space.names ≡ names_left w task g
@@ -150,11 +151,11 @@ module _ (w : WorldView) (s : State) (sh : Shows w s) (task number : ℕ) (g : G
     own : Own
     own = elim (eqb_tells task from) [
       | inl h ↦
-          let same : source.0 ≡ x = same_found (slice_get w.spaces from) source.0 x source.1 (subst (λ (y : ℕ). slice_get w.spaces y ≡ Some x) h.1 was) in
-          let count : map.len source.0.names ≡ names_in (slice_get w.spaces task) = ap (λ (x : SpaceView). map.len x.names) same ∙ sym (ap names_in was) in
+          let same : source.0 ≡ x = same_found (space_at w from) source.0 x source.1 (subst (λ (y : ℕ). space_at w y ≡ Some x) h.1 was) in
+          let count : map.len source.0.names ≡ names_in (space_at w task) = ap (λ (x : SpaceView). map.len x.names) same ∙ sym (ap names_in was) in
           record {
             space = after_space;
-            there = ap (λ (x : ℕ). slice_get mid.spaces x) h.1 ∙ mid_own;
+            there = ap (λ (x : ℕ). space_at mid x) h.1 ∙ mid_own;
             room = ap (λ (y : SpaceView). y.room) same;
             kept = ap (λ (y : SpaceView). y.kept) same;
             names = rw h.0 (len_after g.left ∙ ap (fewer_if true g.left) count);
@@ -164,7 +165,7 @@ module _ (w : WorldView) (s : State) (sh : Shows w s) (task number : ℕ) (g : G
         there = mid_other task h.1 ∙ was;
         room = refl;
         kept = refl;
-        names = rw h.0 (sym (ap names_in was) ∙ sym (not_fewer g.left (names_in (slice_get w.spaces task))));
+        names = rw h.0 (sym (ap names_in was) ∙ sym (not_fewer g.left (names_in (space_at w task))));
       }
     ]
 
@@ -181,8 +182,8 @@ module _ (w : WorldView) (s : State) (sh : Shows w s) (task number : ℕ) (g : G
           left = left_is;
           space = own.space;
           there = own.there;
-          room = λ y e. own.room ∙ ap (λ (z : SpaceView). z.room) (same_found (slice_get w.spaces task) x y was e);
-          kept = λ y e. own.kept ∙ ap (λ (z : SpaceView). z.kept) (same_found (slice_get w.spaces task) x y was e);
+          room = λ y e. own.room ∙ ap (λ (z : SpaceView). z.room) (same_found (space_at w task) x y was e);
+          kept = λ y e. own.kept ∙ ap (λ (z : SpaceView). z.kept) (same_found (space_at w task) x y was e);
           names = own.names;
           rights = ap (λ (x : WorldView). x.ledger.total) (sym same_mid) ∙ it_went.total;
         }
@@ -192,7 +193,7 @@ module _ (w : WorldView) (s : State) (sh : Shows w s) (task number : ℕ) (g : G
   abbrev pub went_world : WorldView
   went_world = it_went.w2
 
-  pub went_left : (x : SpaceView) → slice_get w.spaces task ≡ Some x → Left w s task number g went_world
+  pub went_left : (x : SpaceView) → space_at w task ≡ Some x → Left w s task number g went_world
   went_left x was = is_left x was it_went.w2 it_went.changes
 
   lives : s.live_port g.port ≡ true

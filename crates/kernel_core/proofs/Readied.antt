@@ -1,6 +1,6 @@
 -- A right that is judged can be copied in, and then put or given.
 use Rattle.std.proofs.Common.{◌≡◌, ◌≢◌, ℕ, ◌+◌, ◌-◌, ◌<◌, ◌≤◌, [], ◌∷◌, Option, Some, None, refl, sym, ap, subst, ◌∙◌, arith, true, ◌⊎◌, inl, inr, length}
-use Rattle.std.specs.Prelude.{is_some, slice_get}
+use Rattle.std.specs.Prelude.{is_some}
 use Rattle.std.specs.Option.{option_and_then}
 use Rattle.std.specs.FinMap as map
 use Rattle.std.proofs.lemmas.Bool.Decides.{eqb_tells}
@@ -17,7 +17,7 @@ use Rattle.name_space.specs.Names.{port_at as port_named_at}
 use Rattle.rights.specs.Ledger.{counts_of}
 use Rattle.copyin_base.specs.declared.message.Carried.{Carried}
 use Rattle.copyin_base.specs.declared.message.Mark.TheVariants as mark
-use Rattle.copyin_base.specs.Worlds.{WorldView, entry_in, port_at}
+use Rattle.copyin_base.specs.Worlds.{WorldView, entry_in, port_at, space_at}
 use Rattle.copyin_base.proofs.Gets.{seen, same_found}
 use Rattle.copyout.specs.Giving.{NeedsOwn, NoneLeft, free_names, free_room}
 use Rattle.copyout.specs.Ready.{AllEntered, send_for, CanGive}
@@ -30,7 +30,7 @@ use Rattle.kernel_core.proofs.Judged.{lies, lives, not_not}
 pub few_then : (w : WorldView) (g : Going) → ¬ (most_rights < rights_then w g) → rights_then w g ≤ most_rights
 few_then w g not = omega (arith, not)
 
-module _ (w : WorldView) (s : State) (task number : ℕ) (g : Going) (mid : WorldView) (l : Left w s task number g mid) (x : SpaceView) (was : slice_get w.spaces task ≡ Some x) where
+module _ (w : WorldView) (s : State) (task number : ℕ) (g : Going) (mid : WorldView) (l : Left w s task number g mid) (x : SpaceView) (was : space_at w task ≡ Some x) where
   abbrev kind : Kind
   kind = kind_sent g.given
 
@@ -120,17 +120,17 @@ module _ (w : WorldView) (s : State) (task number : ℕ) (g : Going) (mid : Worl
     where
       many : NoneLeft free_names mid task → most_names ≤ names_left w task g
       many h =
-          let same : h.0 ≡ l.space = same_found (slice_get mid.spaces task) h.0 l.space h.1 l.there in
+          let same : h.0 ≡ l.space = same_found (space_at mid task) h.0 l.space h.1 l.there in
           let full : most_names - map.len l.space.names ≡ 0 = ap (λ (x : SpaceView). most_names - map.len x.names) (sym same) ∙ h.2 in
           let e = l.names in omega (arith, full, e)
 
       some_left : NoneLeft free_room mid task → 0 < l.space.room → ⊥
       some_left h some =
-          let same : h.0 ≡ l.space = same_found (slice_get mid.spaces task) h.0 l.space h.1 l.there in
+          let same : h.0 ≡ l.space = same_found (space_at mid task) h.0 l.space h.1 l.there in
           let full : l.space.room ≡ 0 = ap (λ (x : SpaceView). x.room) (sym same) ∙ h.2 in omega (arith, full, some)
 
       needs : NeedsOwn mid task kind g.port → (kind ≡ send_once) ⊎ ((n : ℕ) → port_under (at n) ≢ Some g.port)
       needs (inl h) = inl h
       needs (inr h) =
-          let same : h.0 ≡ l.space = same_found (slice_get mid.spaces task) h.0 l.space h.1 l.there in
+          let same : h.0 ≡ l.space = same_found (space_at mid task) h.0 l.space h.1 l.there in
           inr (λ n e. h.2 n (ap (λ (x : SpaceView). port_named_at x.names n) same ∙ port_is n ∙ e))

@@ -27,7 +27,7 @@ use Rattle.copyin_base.specs.Finds.{FindsReceive}
 use Rattle.copyin_base.specs.Kept.{Kept}
 use Rattle.copyin_base.specs.Shows.{target_of, Shows}
 use Rattle.copyin_base.specs.Stands.{Stands}
-use Rattle.copyin_base.specs.Worlds.{WorldView, entry_at, port_at}
+use Rattle.copyin_base.specs.Worlds.{WorldView, entry_at, port_at, HasTask}
 use Rattle.copyin_base.proofs.Acting.{refused, refused_later, done}
 use Rattle.copyin_base.proofs.Told.{port_of, receive_has, unused, found, names_port, holds_receive, names_receive, not_receive, receive_lives, port_there, among_tasks}
 use Rattle.copyin_base.proofs.Gets.{seen}
@@ -261,7 +261,7 @@ message_waits w stands port waited h = go h.from.v.queue refl
     go [] e = absurd (let some = h.some in let l : length h.from.v.queue ≡ 0 = ap (λ (x : List Kept). length x) e in omega (arith, some, l))
     go (m ∷ ms) e = waits w stands.state stands.shown port h.from.v h.from.there m ms e
 
-module _ (w : WorldView) (task : ℕ) (below : task < length w.spaces) (waited : Waited) (good : IsAllowed w (λ s. again_guards s task waited)) (room : ℕ) where
+module _ (w : WorldView) (task : ℕ) (below : HasTask w task) (waited : Waited) (good : IsAllowed w (λ s. again_guards s task waited)) (room : ℕ) where
   live : (s : State) → Shows w s → s.live_task task ≡ true
   live s sh = go (s.live_task task) refl
     where
@@ -304,7 +304,7 @@ module _ (w : WorldView) (task : ℕ) (below : task < length w.spaces) (waited :
 
 -- ---- the calls
 
-module _ (w : WorldView) (task room : ℕ) (large : Bool) (below : task < length w.spaces) where
+module _ (w : WorldView) (task room : ℕ) (large : Bool) (below : HasTask w task) where
   module _ (name : ℕ) where
     pub named_declined : (code : ℕ) → IsRefused w (λ s. named_guards s task name) code → Declines w (Event.Receive task name room large) code w
     named_declined code r = refused w (Event.Receive task name room large) below code record { refused = λ s sh. r.refused s sh }

@@ -16,7 +16,7 @@ use Rattle.message_codec.specs.Parses.{Parses, IsCrowded}
 use Rattle.copyin_base.specs.Acts.{Acts, Declines}
 use Rattle.copyin_base.specs.Shows.{Shows}
 use Rattle.copyin_base.specs.Stands.{IsTied}
-use Rattle.copyin_base.specs.Worlds.{WorldView}
+use Rattle.copyin_base.specs.Worlds.{WorldView, HasTask}
 use Rattle.copyin_base.proofs.Acting.{refused, refused_later, done}
 use Rattle.copyin_base.proofs.Roomier.{slots_show}
 use Rattle.copyin.specs.declared.judge.Plan.{Plan}
@@ -80,7 +80,7 @@ sends_text w w2 new task bytes parsed text plan e p =
 
 -- ---- refused
 
-module _ (w : WorldView) (task : ℕ) (below : task < length w.spaces) (bytes : List ℕ) where
+module _ (w : WorldView) (task : ℕ) (below : HasTask w task) (bytes : List ℕ) where
   -- a text whose header is good goes on to what is judged later
   later : (code : ℕ) → NoneHolds (header_guards bytes) → ((s : State) → Shows w s → SendRefuses s task bytes code) → Declines w (Event.Send task bytes) code w
   later code good why = refused_later w (Event.Send task bytes) below code record { allowed = λ s sh. good } why

@@ -1,6 +1,6 @@
 -- A right handed from a task to another: refused in each state that the tables show, or done.
 use Rattle.std.proofs.Common.{◌≡◌, ◌≢◌, ℕ, ◌+◌, ◌<◌, ◌≤◌, List, [], ◌∷◌, ◌++◌, Option, Some, None, refl, sym, ap, subst, ◌∙◌, arith, true, false, Bool, ◌⊎◌, inl, inr, length}
-use Rattle.std.specs.Prelude.{if◌then◌else◌, max, nat_lt, slice_get, ◌==◌, ◌&&◌, MatchBool}
+use Rattle.std.specs.Prelude.{if◌then◌else◌, max, nat_lt, ◌==◌, ◌&&◌, MatchBool}
 use Rattle.std.specs.Option.{option_map}
 use Rattle.std.specs.FinMap as map
 use Rattle.std.proofs.lemmas.Bool.{lt-ltb, le-ltb, ltb-true, ltb-false}
@@ -25,10 +25,9 @@ use Rattle.copyin_base.specs.Acts.{Acts, Declines, HasTasks, IsAllowed}
 use Rattle.copyin_base.specs.Changes.{MakesRoom, KeepsPlace, SameButRoom}
 use Rattle.copyin_base.specs.Shows.{target_of, Agrees, Shows}
 use Rattle.copyin_base.specs.Stands.{Stands}
-use Rattle.copyin_base.specs.Worlds.{WorldView}
+use Rattle.copyin_base.specs.Worlds.{WorldView, space_at, HasTask}
 use Rattle.copyin_base.specs.declared.message.Mark.TheVariants as mark
 use Rattle.copyin_base.proofs.Acting.{refused_later, done}
-use Rattle.copyin_base.proofs.Gets.{get-set_same}
 use Rattle.copyin_base.proofs.Roomier.{room_made, place_kept, room_refl, room_entry, room_shows}
 use Rattle.copyin_base.proofs.Taking.{Without, take_lying}
 use Rattle.copyin_base.proofs.Told.{space_there}
@@ -47,13 +46,14 @@ use Rattle.kernel_core.proofs.Going.{usable_name, insert_good, extract_good}
 use Rattle.kernel_core.proofs.Judged.{lies, lives, copied_in, sends_are, few, none_inserted, first_inserted, none_extracted, first_extracted}
 use Rattle.kernel_core.proofs.Left.{Left, is_left, went_world, went_left, can_copy}
 use Rattle.kernel_core.proofs.Readied.{few_then, can_put, can_give}
+use Rattle.copyin_base.proofs.Spaces.{space-set_same}
 
 one_given : (o : Option Disposition) (a b : Disposition) → o ≡ Some a → o ≡ Some b → a ≡ b
 one_given o a b x y = let e : Some a ≡ Some b = sym x ∙ y in cc
 
 -- ---- refused, once the right was copied in
 
-module _ (w : WorldView) (task number : ℕ) (g : Going) (goes : CanGo w number g) (below : task < length w.spaces) where
+module _ (w : WorldView) (task number : ℕ) (g : Going) (goes : CanGo w number g) (below : HasTask w task) where
   abbrev from : ℕ
   from = g.from
 
@@ -63,7 +63,7 @@ module _ (w : WorldView) (task number : ℕ) (g : Going) (goes : CanGo w number 
   abbrev late_kind : Kind
   late_kind = kind_sent g.given
 
-  space : (x : SpaceView) × (slice_get w.spaces task ≡ Some x)
+  space : (x : SpaceView) × (space_at w task ≡ Some x)
   space = space_there w task below
 
   module _ (s : State) (sh : Shows w s) where
@@ -124,7 +124,7 @@ some_room false room needs p = absurd (needs p)
 pub record Readies (w : WorldView) (task : ℕ) (Placed : SpaceView → Type 0) (ready : WorldView) : Type 0 where
   pub same : SameButRoom w ready
   pub space : SpaceView
-  pub there : slice_get ready.spaces task ≡ Some space
+  pub there : space_at ready task ≡ Some space
   pub placed : Placed space
 
 module _ (w : WorldView) (task number : ℕ) (g : Going) (goes : CanGo w number g) (ready : WorldView) (Placed : SpaceView → Type 0) (m : Readies w task Placed ready) where
@@ -141,7 +141,7 @@ module _ (w : WorldView) (task number : ℕ) (g : Going) (goes : CanGo w number 
   at_same n = ap (λ (f : ℕ → Option Entry). f n) same_at
 
   same_names : names_left ready task g ≡ names_left w task g
-  same_names = ap (λ (n : ℕ). fewer_if (task == g.from) g.left n) (as_many (slice_get ready.spaces task) (slice_get w.spaces task) (same.names task))
+  same_names = ap (λ (n : ℕ). fewer_if (task == g.from) g.left n) (as_many (space_at ready task) (space_at w task) (same.names task))
 
   same_rights : rights_then ready g ≡ rights_then w g
   same_rights = ap (λ (l : LedgerView). l.total + made_by_mark g.given (mark.Port g.port)) same.ledger
@@ -330,7 +330,7 @@ module _ (w : WorldView) (from : TaskName) (number : ℕ) (g : Going) (from_is :
           is_new = subst (λ (x : Going). MatchBool handed.is_new (left_at w to.task x to.name ≡ None) (left_at w to.task x to.name ≢ None)) at is_new;
         }
 
-    pub insert_declined : (to.task < length w.spaces) × (from.task < length w.spaces) → (code : ℕ) → FirstIs (insert_later w to.task to.name g) code →
+    pub insert_declined : (HasTask w to.task) × (HasTask w from.task) → (code : ℕ) → FirstIs (insert_later w to.task to.name g) code →
         Declines w (Event.InsertRight to.task to.name from.task from.name number) code w
     insert_declined tasks code first =
         let e = is_at it refl refl in
@@ -348,7 +348,7 @@ module _ (w : WorldView) (from : TaskName) (number : ℕ) (g : Going) (from_is :
         is_new = subst (λ (x : Going). MatchBool handed.is_new (WantsName w to x) (¬ (WantsName w to x))) at is_new;
       }
 
-  pub extract_declined : (to : ℕ) → (from.task < length w.spaces) × (to < length w.spaces) → (code : ℕ) → FirstIs (extract_later w to g) code →
+  pub extract_declined : (to : ℕ) → (HasTask w from.task) × (HasTask w to) → (code : ℕ) → FirstIs (extract_later w to g) code →
       Declines w (Event.ExtractRight from.task from.name number to) code w
   extract_declined to tasks code first =
       let e = is_at it refl refl in
@@ -363,29 +363,29 @@ module _ (w : WorldView) (to from : TaskName) (number : ℕ) (handed : Handed) (
   abbrev to_insert : Event
   to_insert = Event.InsertRight to.task to.name from.task from.name number
 
-  pub insert_short_of : (to.task < length w.spaces) × (from.task < length w.spaces) → Declines w to_insert (kern_number ResourceShortage) w
+  pub insert_short_of : (HasTask w to.task) × (HasTask w from.task) → Declines w to_insert (kern_number ResourceShortage) w
   insert_short_of tasks = insert_short w to.task number inserting may.goes tasks.0 to.name may.to_named may.from_named tasks may.unrefused
 
   -- a place is kept for the name, where the right needs one
   abbrev Placed : SpaceView → Type 0
   Placed x = left_at w to.task inserting to.name ≡ None → x.kept ≡ Some to.name
 
-  placed : to.task < length w.spaces → (ready : WorldView) (is_new : Bool) → MatchBool is_new (left_at w to.task inserting to.name ≡ None) (left_at w to.task inserting to.name ≢ None) →
+  placed : HasTask w to.task → (ready : WorldView) (is_new : Bool) → MatchBool is_new (left_at w to.task inserting to.name ≡ None) (left_at w to.task inserting to.name ≢ None) →
       MatchBool is_new (KeepsPlace w to.task to.name ready) (ready ≡ w) → Readies w to.task Placed ready
   placed below ready true needs k = record {
     same = place_kept w ready to.task to.name k;
     space = record k.space { kept = Some to.name };
-    there = ap (λ (x : WorldView). slice_get x.spaces to.task) k.rest ∙ get-set_same w.spaces to.task (record k.space { kept = Some to.name }) k.space k.there;
+    there = ap (λ (x : WorldView). space_at x to.task) k.rest ∙ space-set_same w.spaces to.task (record k.space { kept = Some to.name }) k.space k.there;
     placed = λ unused. refl;
   }
   placed below ready false not e = let x = space_there w to.task below in record {
     same = subst (SameButRoom w) (sym e) (room_refl w);
     space = x.0;
-    there = ap (λ (v : WorldView). slice_get v.spaces to.task) e ∙ x.1;
+    there = ap (λ (v : WorldView). space_at v to.task) e ∙ x.1;
     placed = λ unused. absurd (not unused);
   }
 
-  module _ (ready : WorldView) (kept : MatchBool handed.is_new (KeepsPlace w to.task to.name ready) (ready ≡ w)) (below : to.task < length w.spaces) where
+  module _ (ready : WorldView) (kept : MatchBool handed.is_new (KeepsPlace w to.task to.name ready) (ready ≡ w)) (below : HasTask w to.task) where
     room : Readies w to.task Placed ready
     room = placed below ready handed.is_new may.is_new kept
 
@@ -397,7 +397,7 @@ module _ (w : WorldView) (to from : TaskName) (number : ℕ) (handed : Handed) (
       inserts_puts stands = mid_puts w to.task number inserting may.goes ready Placed room stands.state stands.shown mid copies to.name (usable_name to.name may.to_named)
           room.placed may.unrefused
 
-      pub insert_done : (new : WorldView) → PutsPort mid to.task (kind_sent handed.given) handed.port to.name new → (to.task < length w.spaces) × (from.task < length w.spaces) →
+      pub insert_done : (new : WorldView) → PutsPort mid to.task (kind_sent handed.given) handed.port to.name new → (HasTask w to.task) × (HasTask w from.task) →
           Acts w to_insert (Reply.Code 0) new
       insert_done new puts tasks = done w to_insert (Reply.Code 0) new tasks
           record { allowed = λ s sh. (insert_allowed w to.task number inserting may.goes tasks.0 to.name may.to_named may.from_named).allowed s sh } (λ now s sh. record {
@@ -414,7 +414,7 @@ module _ (w : WorldView) (from : TaskName) (number to : ℕ) (handed : Handed) (
   abbrev to_extract : Event
   to_extract = Event.ExtractRight from.task from.name number to
 
-  pub extract_short_of : (from.task < length w.spaces) × (to < length w.spaces) → Declines w to_extract (kern_number ResourceShortage) w
+  pub extract_short_of : (HasTask w from.task) × (HasTask w to) → Declines w to_extract (kern_number ResourceShortage) w
   extract_short_of tasks = extract_short w to number extracting may.goes tasks.1 tasks may.unrefused
 
   -- there is room for the name, where the right needs one
@@ -429,7 +429,7 @@ module _ (w : WorldView) (from : TaskName) (number to : ℕ) (handed : Handed) (
     roomed = record {
       same = room_made w ready to n made;
       space = roomy;
-      there = ap (λ (x : WorldView). slice_get x.spaces to) made.rest ∙ get-set_same w.spaces to roomy made.space made.there;
+      there = ap (λ (x : WorldView). space_at x to) made.rest ∙ space-set_same w.spaces to roomy made.space made.there;
       placed = λ wants. subst (λ (k : ℕ). 0 < max made.space.room k) (sym needed) (some_room handed.is_new made.space.room may.is_new wants);
     }
 
@@ -441,7 +441,7 @@ module _ (w : WorldView) (from : TaskName) (number to : ℕ) (handed : Handed) (
       extracts_gives stands = mid_gives w to number extracting may.goes ready Roomy roomed stands.state stands.shown mid copies
           roomed.placed may.unrefused
 
-      pub extract_done : (new_name : ℕ) (new : WorldView) → GivesMark mid to (kind_sent handed.given) (mark.Port handed.port) new_name new → (from.task < length w.spaces) × (to < length w.spaces) →
+      pub extract_done : (new_name : ℕ) (new : WorldView) → GivesMark mid to (kind_sent handed.given) (mark.Port handed.port) new_name new → (HasTask w from.task) × (HasTask w to) →
           Acts w to_extract (Reply.Right new_name (kind_number (kind_sent handed.given))) new
       extract_done new_name new gives tasks = done w to_extract (Reply.Right new_name (kind_number (kind_sent handed.given))) new tasks
           record { allowed = λ s sh. (extract_allowed w to number extracting may.goes tasks.1).allowed s sh } (λ now s sh. record {

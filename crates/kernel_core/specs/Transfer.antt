@@ -1,5 +1,5 @@
 -- Handing a right from a task to another, in the tables: what goes, what is left then, and what refuses it there.
-use Rattle.std.specs.Prelude.{◌≡◌, ◌≢◌, ℕ, ◌+◌, ◌-◌, ◌<◌, ◌≤◌, ◌⊎◌, Bool, [], ◌∷◌, Option, Some, None, slice_get, if◌then◌else◌, ◌==◌, ◌&&◌, MatchBool}
+use Rattle.std.specs.Prelude.{◌≡◌, ◌≢◌, ℕ, ◌+◌, ◌-◌, ◌<◌, ◌≤◌, ◌⊎◌, Bool, [], ◌∷◌, Option, Some, None, if◌then◌else◌, ◌==◌, ◌&&◌, MatchBool}
 use Rattle.std.specs.Option.{option_and_then}
 use Rattle.std.specs.FinMap as map
 use Rattle.mach_types.specs.declared.codes.KernReturn.{KernReturn}
@@ -14,7 +14,7 @@ use Rattle.name_space.specs.declared.Entry.{Entry}
 use Rattle.name_space.specs.Entry.{port_named, send_references}
 use Rattle.name_space.specs.Names.{SpaceView}
 use Rattle.copyin_base.specs.declared.message.Mark.TheVariants as mark
-use Rattle.copyin_base.specs.Worlds.{WorldView, entry_at}
+use Rattle.copyin_base.specs.Worlds.{WorldView, entry_at, space_at}
 use Rattle.copyin.specs.Copies.{copied_from}
 use Rattle.copyin.specs.Judging.{made_by_mark}
 use Rattle.kernel_core.specs.declared.transfer.Going.{Going}
@@ -54,7 +54,7 @@ fewer_if same None n = if same then n - 1 else n
 
 -- how many names the task has
 abbrev pub names_left : WorldView → (task : ℕ) → Going → ℕ
-names_left w task g = fewer_if (task == g.from) g.left (names_in (slice_get w.spaces task))
+names_left w task g = fewer_if (task == g.from) g.left (names_in (space_at w task))
 
 -- how many rights there are
 abbrev pub rights_then : WorldView → Going → ℕ

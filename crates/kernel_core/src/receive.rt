@@ -9,7 +9,7 @@ ghost use Rattle.mach_model.specs.Refusals.{again_guards};
 ghost use Rattle.copyin_base.specs.Acts.{code_number, Serves, IsRefused, IsAllowed};
 ghost use Rattle.copyin_base.specs.Finds.{FindsReceive};
 ghost use Rattle.copyin_base.specs.Stands.{Stands};
-ghost use Rattle.copyin_base.specs.Worlds.{entry_at, port_at};
+ghost use Rattle.copyin_base.specs.Worlds.{entry_at, port_at, HasTask};
 ghost use Rattle.kernel_core.specs.Receive.{named_guards, Sources, IsMember, IsAlone, HasMessage, NoneWaits, IsReceipt, StaysFor, waited_at, FreesSlot};
 ghost use Rattle.kernel_core.specs.Wanted.{WantsToTake, WantsMemory, Spares, answer};
 
@@ -51,7 +51,7 @@ pub(crate) fn receive(
     name: Name,
     buffer: Buffer,
 ) -> Result<Reply, Code>
-    requires there { task < length world.old.spaces }
+    requires there { HasTask world.old task }
     requires stands { Stands world.old }
     ensures serves { Serves world.old (AnyEvent.Receive task name buffer.room buffer.large) result world.new }
     ensures wanted { IfErr result (λ code. code_number code ≡ msg_number msg.ReceiveBodyErrorMemory → WantsMemory world.old (AnyEvent.Receive task name buffer.room buffer.large)) }
@@ -75,7 +75,7 @@ pub(crate) fn receive_again(
     waited: Waited,
     buffer: Buffer,
 ) -> Result<Reply, Code>
-    requires there { task < length world.old.spaces }
+    requires there { HasTask world.old task }
     requires stands { Stands world.old }
     ensures serves { Serves world.old (AnyEvent.ReceiveAgain task waited buffer.room buffer.large) result world.new }
     ensures wanted { IfErr result (λ code. code_number code ≡ msg_number msg.ReceiveBodyErrorMemory → WantsToTake world.old task waited) }
@@ -112,7 +112,7 @@ fn source(world: &World, task: TaskId, name: Name) -> Result<Waited, MsgReturn>
 
 /// Whether the task may still take from what it waited for.
 fn judge_again(world: &World, task: TaskId, waited: &Waited) -> Result<(), MsgReturn>
-    requires { task < length world.now.spaces }
+    requires { HasTask world.now task }
     ensures ok { IfOk result (λ _. IsAllowed world.now (λ s. again_guards s task waited.now)) }
     ensures err { IfErr result (λ code. IsRefused world.now (λ s. again_guards s task waited.now) (msg_number code)) }
 {
@@ -124,7 +124,7 @@ fn judge_again(world: &World, task: TaskId, waited: &Waited) -> Result<(), MsgRe
 
 /// Whether the port is there and in no set, and the task has its receive right.
 fn judge_port(world: &World, task: TaskId, port: PortId) -> Result<(), MsgReturn>
-    requires { task < length world.now.spaces }
+    requires { HasTask world.now task }
     ensures ok { IfOk result (λ _. IsAllowed world.now (λ s. again_guards s task (AnyWaited.Port port))) }
     ensures err { IfErr result (λ code. IsRefused world.now (λ s. again_guards s task (AnyWaited.Port port)) (msg_number code)) }
 {
@@ -161,7 +161,7 @@ fn is_member(world: &World, port: PortId) -> bool
 
 /// Whether the task has the port's receive right.
 fn has_receive(world: &World, task: TaskId, port: PortId) -> bool
-    requires { task < length world.now.spaces }
+    requires { HasTask world.now task }
     ensures { MatchBool result ((name : ℕ) × FindsReceive world.now task name port) (¬ ((name : ℕ) × FindsReceive world.now task name port)) }
 {
     let Some(name) = world.space(task).name_of_port(port) else {
@@ -187,7 +187,7 @@ fn take(
     waited: Waited,
     room: u32,
 ) -> Result<Reply, MsgReturn>
-    requires there { task < length world.old.spaces }
+    requires there { HasTask world.old task }
     requires stands { Stands world.old }
     requires may { IsAllowed world.old (λ s. again_guards s task waited) }
     ensures ok { IfOk result (λ reply. IsReceipt world.old task waited room reply world.new) }
@@ -220,7 +220,7 @@ fn ready(world: &World, waited: &Waited) -> Option<PortId>
 
 /// The task's name for a port whose receive right it has.
 fn name_of(world: &World, task: TaskId, port: PortId) -> Name
-    requires there { task < length world.now.spaces }
+    requires there { HasTask world.now task }
     requires has { (name : ℕ) × FindsReceive world.now task name port }
     ensures { FindsReceive world.now task result port }
 {

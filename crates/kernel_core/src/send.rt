@@ -1,5 +1,5 @@
 //! Sending a message.
-ghost use Rattle.std.specs.Prelude.{◌≡◌, ◌<◌, IfOk, IfErr, OnOk, OnErr, length};
+ghost use Rattle.std.specs.Prelude.{◌≡◌, ◌<◌, IfOk, IfErr, OnOk, OnErr};
 ghost use Rattle.mach_types.specs.declared.calls.Event.{Event as AnyEvent};
 ghost use Rattle.mach_types.specs.declared.codes.MsgReturn.TheVariants.{SendNoBuffer};
 ghost use Rattle.mach_types.specs.Numbers.{msg_number};
@@ -7,6 +7,7 @@ ghost use Rattle.copyin_base.specs.Acts.{Declines, Serves, code_number};
 ghost use Rattle.copyin_base.specs.Stands.{Stands};
 ghost use Rattle.copyin.specs.Wanted.{WantsToSend};
 ghost use Rattle.kernel_core.specs.Send.{SendsText, UsesSlot};
+ghost use Rattle.copyin_base.specs.Worlds.{HasTask};
 
 use copyin::{check, commit};
 use copyin_base::{Code, World};
@@ -27,7 +28,7 @@ pub(crate) fn send(
     task: TaskId,
     bytes: &Bytes,
 ) -> Result<Reply, Code>
-    requires there { task < length world.old.spaces }
+    requires there { HasTask world.old task }
     requires stands { Stands world.old }
     ensures serves { Serves world.old (AnyEvent.Send task bytes.now) result world.new }
     ensures sent { OnOk result (UsesSlot world.old world.new) }
@@ -42,7 +43,7 @@ pub(crate) fn send(
 
 /// Reads the text, judges its rights, and only then changes the tables.
 fn send_text(world: &mut World, alloc: Global, task: TaskId, bytes: &[u8]) -> Result<(), MsgReturn>
-    requires there { task < length world.old.spaces }
+    requires there { HasTask world.old task }
     requires stands { Stands world.old }
     ensures ok { IfOk result (λ _. SendsText world.old task bytes.now world.new) }
     ensures err { IfErr result (λ code. Declines world.old (AnyEvent.Send task bytes.now) (msg_number code) world.old) }

@@ -1,5 +1,5 @@
 //! Handing a right from a task to another.
-ghost use Rattle.std.specs.Prelude.{◌≡◌, ◌≢◌, ℕ, ◌<◌, ◌≤◌, ◌⊎◌, true, Some, None, IfOk, IfErr, OnOk, OnErr, IfSome, MatchBool, length};
+ghost use Rattle.std.specs.Prelude.{◌≡◌, ◌≢◌, ℕ, ◌<◌, ◌≤◌, ◌⊎◌, true, Some, None, IfOk, IfErr, OnOk, OnErr, IfSome, MatchBool};
 ghost use Rattle.mach_types.specs.declared.calls.Event.{Event as AnyEvent};
 ghost use Rattle.mach_types.specs.declared.codes.KernReturn.TheVariants as kern;
 ghost use Rattle.mach_types.specs.Guards.{FirstIs, NoneHolds};
@@ -14,6 +14,7 @@ ghost use Rattle.copyin_base.specs.Wanted.{LacksPlace, KeepsSpares};
 ghost use Rattle.copyin_base.specs.declared.message.Mark.TheVariants as mark_of;
 ghost use Rattle.kernel_core.specs.Transfer.{CanGo, MayInsert, MayExtract, WantsName, names_needed, going_guards, left_at, names_left, rights_then, port_under, references_under, IsElsewhere, IsTaken, Overflows, LacksSpace, insert_later, extract_later};
 ghost use Rattle.kernel_core.specs.Wanted.{WantsToInsert, WantsToExtract};
+ghost use Rattle.copyin_base.specs.Worlds.{HasTask};
 
 use copyin::{copy_name, copy_right};
 use copyin_base::{Carried, Code, Mark, World};
@@ -58,7 +59,7 @@ pub(crate) fn insert(
     from: &TaskName,
     number: u32,
 ) -> Result<Reply, Code>
-    requires there { (to.now.task < length world.old.spaces) × (from.now.task < length world.old.spaces) }
+    requires there { (HasTask world.old to.now.task) × (HasTask world.old from.now.task) }
     requires stands { Stands world.old }
     ensures serves { Serves world.old (AnyEvent.InsertRight to.now.task to.now.name from.now.task from.now.name number) result world.new }
     ensures wanted { IfErr result (λ code. code_number code ≡ kern_number kern.ResourceShortage → WantsToInsert world.old to.now from.now number) }
@@ -89,7 +90,7 @@ pub(crate) fn extract(
     number: u32,
     to: TaskId,
 ) -> Result<Reply, Code>
-    requires there { (from.now.task < length world.old.spaces) × (to < length world.old.spaces) }
+    requires there { (HasTask world.old from.now.task) × (HasTask world.old to) }
     requires stands { Stands world.old }
     ensures serves { Serves world.old (AnyEvent.ExtractRight from.now.task from.now.name number to) result world.new }
     ensures wanted { IfErr result (λ code. code_number code ≡ kern_number kern.ResourceShortage → WantsToExtract world.old from.now number to) }
@@ -107,7 +108,7 @@ pub(crate) fn extract(
 
 /// Keeps a place for the name that the right comes under, where it needs one.
 fn keep_place(world: &mut World, to: &TaskName, handed: &Handed) -> Result<(), KernReturn>
-    requires there { to.now.task < length world.old.spaces }
+    requires there { HasTask world.old to.now.task }
     requires usable { IsUsable to.now.name }
     ensures ok { OnOk result (MatchBool handed.now.is_new (KeepsPlace world.old to.now.task to.now.name world.new) (world.new ≡ world.old)) }
     ensures err { IfErr result (λ code. (code ≡ kern.ResourceShortage) × (world.new ≡ world.old)) }
@@ -164,7 +165,7 @@ fn judge_insert(
     from: &TaskName,
     number: u32,
 ) -> Result<Handed, KernReturn>
-    requires there { (to.now.task < length world.now.spaces) × (from.now.task < length world.now.spaces) }
+    requires there { (HasTask world.now to.now.task) × (HasTask world.now from.now.task) }
     requires stands { Stands world.now }
     ensures ok { IfOk result (λ handed. MayInsert world.now to.now from.now number handed) }
     ensures err { IfErr result (λ code. Declines world.now (AnyEvent.InsertRight to.now.task to.now.name from.now.task from.now.name number) (kern_number code) world.now) }
@@ -183,7 +184,7 @@ fn judge_extract(
     number: u32,
     to: TaskId,
 ) -> Result<Handed, KernReturn>
-    requires there { (from.now.task < length world.now.spaces) × (to < length world.now.spaces) }
+    requires there { (HasTask world.now from.now.task) × (HasTask world.now to) }
     requires stands { Stands world.now }
     ensures ok { IfOk result (λ handed. MayExtract world.now from.now number to handed) }
     ensures err { IfErr result (λ code. Declines world.now (AnyEvent.ExtractRight from.now.task from.now.name number to) (kern_number code) world.now) }
@@ -278,7 +279,7 @@ impl Going {
 
     /// How many names the task has.
     fn count_left(&self, world: &World, task: TaskId) -> usize
-        requires there { task < length world.now.spaces }
+        requires there { HasTask world.now task }
         ensures { result ≡ names_left world.now task self.now }
     {
         let count = world.space(task).len();
@@ -301,7 +302,7 @@ impl Going {
 
     /// The task's name for its port.
     fn name_left(&self, world: &World, task: TaskId) -> Option<Name>
-        requires there { task < length world.now.spaces }
+        requires there { HasTask world.now task }
         requires goes { (number : ℕ) × CanGo world.now number self.now }
         ensures some { IfSome result (λ name. port_under (left_at world.now task self.now name) ≡ Some self.now.port) }
         ensures only { (name : ℕ) → port_under (left_at world.now task self.now name) ≡ Some self.now.port → result ≡ Some name }
@@ -326,7 +327,7 @@ impl Going {
 
     /// Whether the task has the port under another name.
     fn is_elsewhere(&self, world: &World, task: TaskId, name: Name) -> bool
-        requires there { task < length world.now.spaces }
+        requires there { HasTask world.now task }
         requires goes { (number : ℕ) × CanGo world.now number self.now }
         ensures { MatchBool result (IsElsewhere (left_at world.now task self.now) name self.now.port (kind_sent self.now.given))
             (¬ (IsElsewhere (left_at world.now task self.now) name self.now.port (kind_sent self.now.given))) }
@@ -356,7 +357,7 @@ impl Going {
 
     /// Whether there is no room for the right, or for the name where it is new.
     fn lacks_space(&self, world: &World, task: TaskId, is_new: bool) -> bool
-        requires there { task < length world.now.spaces }
+        requires there { HasTask world.now task }
         ensures { MatchBool result (LacksSpace (names_left world.now task self.now) (rights_then world.now self.now) (is_new ≡ true)) (¬ (LacksSpace (names_left world.now task self.now) (rights_then world.now self.now) (is_new ≡ true))) }
     {
         is_new && self.count_left(world, task) >= MOST_NAMES || self.lacks_rights(world)
@@ -375,7 +376,7 @@ impl Going {
 
     /// Whether it can come under this name.
     fn check_insert(&self, world: &World, task: TaskId, name: Name) -> Result<Handed, KernReturn>
-        requires there { task < length world.now.spaces }
+        requires there { HasTask world.now task }
         requires goes { (number : ℕ) × CanGo world.now number self.now }
         ensures ok { IfOk result (λ handed. (handed.given ≡ self.now.given) × (handed.port ≡ self.now.port) × NoneHolds (insert_later world.now task name self.now)
             × MatchBool handed.is_new (left_at world.now task self.now name ≡ None) (left_at world.now task self.now name ≢ None)) }
@@ -400,7 +401,7 @@ impl Going {
 
     /// Whether it can come to the task, under a name that the kernel chooses.
     fn check_extract(&self, world: &World, to: TaskId) -> Result<Handed, KernReturn>
-        requires there { to < length world.now.spaces }
+        requires there { HasTask world.now to }
         requires goes { (number : ℕ) × CanGo world.now number self.now }
         ensures ok { IfOk result (λ handed. (handed.given ≡ self.now.given) × (handed.port ≡ self.now.port) × NoneHolds (extract_later world.now to self.now)
             × MatchBool handed.is_new (WantsName world.now to self.now) (¬ (WantsName world.now to self.now))) }

@@ -1,6 +1,6 @@
 -- What is made under a name, in the tables and in the machine alike, and where nothing more can be.
 use Rattle.std.proofs.Common.{◌≡◌, ℕ, ◌+◌, ◌-◌, ◌<◌, ◌≤◌, List, [], Option, Some, None, refl, sym, ap, subst, ◌∙◌, arith, ◌⊎◌, inl, inr, length}
-use Rattle.std.specs.Prelude.{slice_get, slice_set, is_some, true, max}
+use Rattle.std.specs.Prelude.{slice_set, is_some, true, max}
 use Rattle.std.specs.Option.{option_map, option_and_then}
 use Rattle.std.specs.FinMap as map
 use Rattle.mach_types.specs.declared.calls.Event.{Event}
@@ -18,12 +18,12 @@ use Rattle.rights.specs.declared.RightKind.TheVariants as right
 use Rattle.rights.specs.Ledger.{entered, made}
 use Rattle.copyin_base.specs.Acts.{Acts, IsAllowed}
 use Rattle.copyin_base.specs.Changes.{MakesRoom, KeepsPlace, SameButRoom}
-use Rattle.copyin_base.specs.Worlds.{WorldView, entry_in, entry_at}
+use Rattle.copyin_base.specs.Worlds.{WorldView, entry_in, entry_at, space_at, HasTask}
 use Rattle.copyin_base.specs.Shows.{Agrees, target_of}
 use Rattle.copyin_base.specs.Stands.{Stands}
 use Rattle.copyin_base.proofs.Acting.{done}
 use Rattle.copyin_base.proofs.Agreeing.{own_names}
-use Rattle.copyin_base.proofs.Gets.{get-set_same, same_found}
+use Rattle.copyin_base.proofs.Gets.{same_found}
 use Rattle.copyin_base.proofs.NamesChanged.{added_agrees}
 use Rattle.copyin_base.proofs.Roomier.{room_made, place_kept, room_entry, room_agrees, room_shows}
 use Rattle.kernel_core_base.specs.declared.names.NewRight.{NewRight}
@@ -31,6 +31,7 @@ use Rattle.kernel_core_base.specs.declared.names.NewRight.TheVariants as new_rig
 use Rattle.kernel_core_base.specs.Names.{first_port, right_made, entry_made, HasRoomFor, IsFullFor, HasRoomOf, IsFullOf, CanAdd, Adds}
 use Rattle.kernel_core_base.proofs.PortMade.{allocated, allocates, allocated_agrees, not_made, unknown}
 use Rattle.kernel_core_base.proofs.SetMade.{set_agrees}
+use Rattle.copyin_base.proofs.Spaces.{space-set_same}
 
 -- ---- what can be made, and where it is full
 
@@ -69,7 +70,7 @@ not_full w s a task r has (inr more) = not_full_for w s a r has.more more
 -- ---- what may stand under the name
 
 -- no name is for the next port
-apart : (w : WorldView) → Stands w → (task : ℕ) (space : SpaceView) → slice_get w.spaces task ≡ Some space → (r : NewRight) → HasNoOther space.names (entry_made w r)
+apart : (w : WorldView) → Stands w → (task : ℕ) (space : SpaceView) → space_at w task ≡ Some space → (r : NewRight) → HasNoOther space.names (entry_made w r)
 apart w stands task space there new_right.Port p n named is = go (map.get space.names n) refl is
   where
     go : (o : Option Entry) → map.get space.names n ≡ o → option_and_then port_named o ≡ Some p → ⊥
@@ -91,34 +92,34 @@ can_add w stands task r name has usable unused place = record {
 
 -- ---- once a place was made for the name
 
-room_for : (w : WorldView) (spaces : List SpaceView) (r : NewRight) → HasRoomFor w r → HasRoomFor (record w { spaces = spaces }) r
+room_for : (w : WorldView) (spaces : List (Option SpaceView)) (r : NewRight) → HasRoomFor w r → HasRoomFor (record w { spaces = spaces }) r
 room_for w spaces new_right.Port has = has
 room_for w spaces new_right.Set has = has
 room_for w spaces new_right.DeadName has = has
 
-module _ (w w1 : WorldView) (task : ℕ) (r : NewRight) (has : HasRoomOf w task r) (space placed : SpaceView) (there : slice_get w.spaces task ≡ Some space) (names : placed.names ≡ space.names)
-    (rest : w1 ≡ record w { spaces = slice_set w.spaces task placed }) where
+module _ (w w1 : WorldView) (task : ℕ) (r : NewRight) (has : HasRoomOf w task r) (space placed : SpaceView) (there : space_at w task ≡ Some space) (names : placed.names ≡ space.names)
+    (rest : w1 ≡ record w { spaces = slice_set w.spaces task (Some placed) }) where
   has_still : HasRoomOf w1 task r
   has_still =
-      let same : has.space ≡ space = same_found (slice_get w.spaces task) has.space space has.there there in
+      let same : has.space ≡ space = same_found (space_at w task) has.space space has.there there in
       record {
         space = placed;
-        there = ap (λ (x : WorldView). slice_get x.spaces task) rest ∙ get-set_same w.spaces task placed space there;
+        there = ap (λ (x : WorldView). space_at x task) rest ∙ space-set_same w.spaces task placed space there;
         room = subst (λ (m : Names). map.len m < most_names) (ap (λ (x : SpaceView). x.names) same ∙ sym names) has.room;
-        more = subst (λ (x : WorldView). HasRoomFor x r) (sym rest) (room_for w (slice_set w.spaces task placed) r has.more);
+        more = subst (λ (x : WorldView). HasRoomFor x r) (sym rest) (room_for w (slice_set w.spaces task (Some placed)) r has.more);
       }
 
 stands_still : (w w1 : WorldView) → SameButRoom w w1 → Stands w → Stands w1
 stands_still w w1 same stands = record { state = stands.state; shown = room_shows w w1 stands.state same stands.shown }
 
-pub can_add_fresh : (w w1 : WorldView) → Stands w → (task : ℕ) (r : NewRight) (name : ℕ) → HasRoomOf w task r → MakesRoom w task 1 w1 → (space : SpaceView) → slice_get w1.spaces task ≡ Some space →
+pub can_add_fresh : (w w1 : WorldView) → Stands w → (task : ℕ) (r : NewRight) (name : ℕ) → HasRoomOf w task r → MakesRoom w task 1 w1 → (space : SpaceView) → space_at w1 task ≡ Some space →
     IsFreshName space.names name → name ≤ most_names + 1 → CanAdd w1 task r name
 unfolding has_still
 can_add_fresh w w1 stands task r name has m space there fresh small =
     let some = fresh.not_null in
     let roomy : SpaceView = record m.space { room = max m.space.room 1 } in
     let still : HasRoomOf w1 task r = has_still w w1 task r has m.space roomy m.there refl m.rest in
-    let same : space ≡ roomy = same_found (slice_get w1.spaces task) space roomy there still.there in
+    let same : space ≡ roomy = same_found (space_at w1 task) space roomy there still.there in
     can_add w1 (stands_still w w1 (room_made w w1 task 1 m) stands) task r name still
     record { not_null = λ e. omega (arith, some, e); not_dead = λ e. omega (arith, small, e) }
     (ap (λ (o : Option SpaceView). entry_in o name) there ∙ fresh.unused)
@@ -146,7 +147,7 @@ makes new_right.DeadName s task name = inr (inr (refl, refl))
 -- the tables with a new port of this number
 abbrev with_number : WorldView → (task name : ℕ) → SpaceView → (room p : ℕ) → WorldView
 with_number w task name space room p = record w {
-  spaces = slice_set w.spaces task (record space { names = map.insert space.names name (entry.Receive p); room = room });
+  spaces = slice_set w.spaces task (Some (record space { names = map.insert space.names name (entry.Receive p); room = room }));
   ports = record w.ports { ports = map.insert w.ports.ports p first_port; made = w.ports.made + 1 };
   ledger = made (entered w.ledger p) p right.Receive 1;
 }
@@ -154,12 +155,12 @@ with_number w task name space room p = record w {
 -- the tables with a new set of this number
 abbrev with_set_number : WorldView → (task name : ℕ) → SpaceView → (room set : ℕ) → WorldView
 with_set_number w task name space room set = record w {
-  spaces = slice_set w.spaces task (record space { names = map.insert space.names name (entry.Set set); room = room });
+  spaces = slice_set w.spaces task (Some (record space { names = map.insert space.names name (entry.Set set); room = room }));
   sets = record { sets = map.insert w.sets.sets set (record { owner = task; name = name }); made = w.sets.made + 1 };
 }
 
 module _ (w v : WorldView) (s : State) (a : Agrees w s) (l : IsLawful s) (task name : ℕ) (unused : entry_at w task name ≡ None) where
-  free : (x : SpaceView) → slice_get w.spaces task ≡ Some x → map.get x.names name ≡ None
+  free : (x : SpaceView) → space_at w task ≡ Some x → map.get x.names name ≡ None
   free x is = sym (ap (λ (o : Option SpaceView). entry_in o name) is) ∙ unused
 
   pub made_agrees : (r : NewRight) → Adds w task r name v → Agrees v (with_right r s task name)
@@ -174,7 +175,7 @@ module _ (w v : WorldView) (s : State) (a : Agrees w s) (l : IsLawful s) (task n
       (added_agrees w s a task adds.space adds.there name (entry.DeadName 1) (adds.space.room - 1) (free adds.space adds.there) refl tt)
 
 -- a fresh name in the tables is one in the machine
-pub fresh : (w : WorldView) (s : State) → Agrees w s → (task : ℕ) (space : SpaceView) → slice_get w.spaces task ≡ Some space → (name : ℕ) → IsFreshName space.names name → IsFresh (s.naming task) name
+pub fresh : (w : WorldView) (s : State) → Agrees w s → (task : ℕ) (space : SpaceView) → space_at w task ≡ Some space → (name : ℕ) → IsFreshName space.names name → IsFresh (s.naming task) name
 fresh w s a task space there name f =
     let named : (n : ℕ) → map.get (s.naming task) n ≡ option_map target_of (map.get space.names n) = (own_names w s a task space there).naming in record {
       unused = named name ∙ ap (option_map target_of) f.unused;
@@ -188,11 +189,11 @@ fresh w s a task space there name f =
 
 -- ---- what Allocate and AllocateName promise
 
-module _ (w w1 v : WorldView) (same : SameButRoom w w1) (task number name : ℕ) (r : NewRight) (below : task < length w.spaces) (is : right_made r ≡ number) where
+module _ (w w1 v : WorldView) (same : SameButRoom w w1) (task number name : ℕ) (r : NewRight) (below : HasTask w task) (is : right_made r ≡ number) where
   makes_number : (s : State) → Makes task number name s (with_right r s task name)
   makes_number s = subst (λ (n : ℕ). Makes task n name s (with_right r s task name)) is (makes r s task name)
 
-  pub allocate_done : IsAllowed w (λ s. call_guards s (Event.Allocate task number)) → (space : SpaceView) → slice_get w1.spaces task ≡ Some space → IsFreshName space.names name → Adds w1 task r name v →
+  pub allocate_done : IsAllowed w (λ s. call_guards s (Event.Allocate task number)) → (space : SpaceView) → space_at w1 task ≡ Some space → IsFreshName space.names name → Adds w1 task r name v →
       Acts w (Event.Allocate task number) (Reply.Name name) v
   allocate_done good space there f adds = done w (Event.Allocate task number) (Reply.Name name) v below good
       (λ now s sh. record {

@@ -17,7 +17,7 @@ use Rattle.copyin_base.specs.Acts.{IsRefused, IsAllowed, Acts}
 use Rattle.copyin_base.specs.Changes.{HasAttributes, SetsAttributes}
 use Rattle.copyin_base.specs.Finds.{FindsReceive}
 use Rattle.copyin_base.specs.Shows.{Agrees}
-use Rattle.copyin_base.specs.Worlds.{WorldView, entry_at, port_at}
+use Rattle.copyin_base.specs.Worlds.{WorldView, entry_at, port_at, HasTask}
 use Rattle.copyin_base.specs.Stands.{Stands}
 use Rattle.copyin_base.proofs.Acting.{done}
 use Rattle.copyin_base.proofs.AttributesSet.{set_agrees}
@@ -126,7 +126,7 @@ module _ (w : WorldView) (task member : ℕ) where
 pub mover_there : (w : WorldView) (task member after p : ℕ) (set : Option ℕ) → Stands w → MayMove w task member after p set → is_some (port_at w p) ≡ true
 mover_there w task member after p set stands m = receive_port_there w task member p m.finds stands
 
-pub moved : (w : WorldView) (task member after p : ℕ) (set : Option ℕ) → task < length w.spaces → MayMove w task member after p set →
+pub moved : (w : WorldView) (task member after p : ℕ) (set : Option ℕ) → HasTask w task → MayMove w task member after p set →
     (b : Attributes) → HasAttributes w p b → (new : WorldView) → SetsAttributes w p (record b { set = set }) new → Acts w (Event.MoveMember task member after) (Reply.Code 0) new
 moved w task member after p set below m b h new r = done w (Event.MoveMember task member after) (Reply.Code 0) new below m.allowed
     (λ now s sh. record {

@@ -7,7 +7,7 @@ use Rattle.mach_model.specs.Refusals.{set_guards}
 use Rattle.copyin_base.specs.Acts.{IsAllowed, Acts, Declines}
 use Rattle.copyin_base.proofs.Acting.{done, refused_later}
 use Rattle.std.proofs.Common.{length, ◌≡◌, ℕ, zero, suc, ◌<◌, List, [], ◌∷◌, Option, Some, None, refl, sym, ap, subst, ◌∙◌, arith, true, inl, inr}
-use Rattle.std.specs.Prelude.{◌==◌, Contains, is_some, slice_get}
+use Rattle.std.specs.Prelude.{◌==◌, Contains, is_some}
 use Rattle.std.specs.Option.{option_map, option_to_list, option_and_then}
 use Rattle.std.specs.FinMap as map
 use Rattle.std.proofs.lemmas.Bool.Decides.{eqb_tells}
@@ -23,7 +23,7 @@ use Rattle.name_space.specs.Entry.{port_named, has_receive, receive_named}
 use Rattle.name_space.specs.Names.{SpaceView}
 use Rattle.port.specs.Ports.{PortView}
 use Rattle.copyin_base.specs.Kept.{Kept}
-use Rattle.copyin_base.specs.Worlds.{WorldView, entry_in, entry_at, port_at}
+use Rattle.copyin_base.specs.Worlds.{WorldView, entry_in, entry_at, port_at, space_at, HasTask}
 use Rattle.copyin_base.specs.Shows.{target_of, Agrees, Shows}
 use Rattle.kernel_core_base.specs.Sets.{set_of_port, is_set, is_member, members_in}
 use Rattle.copyin_base.proofs.Told.{port_of, names_port, used, found, port_there}
@@ -117,7 +117,7 @@ has_it (entry.Set n) p is some = absurd (omega (arith, some))
 one_owner : (o : Option ℕ) (t u : ℕ) → o ≡ Some t → o ≡ Some u → t ≡ u
 one_owner o t u e f = cc
 
-module _ (w : WorldView) (s : State) (sh : Shows w s) (task name set : ℕ) (space : SpaceView) (there : slice_get w.spaces task ≡ Some space) (is : entry_at w task name ≡ Some (entry.Set set)) where
+module _ (w : WorldView) (s : State) (sh : Shows w s) (task name set : ℕ) (space : SpaceView) (there : space_at w task ≡ Some space) (is : entry_at w task name ≡ Some (entry.Set set)) where
   under : (n : ℕ) → entry_at w task n ≡ map.get space.names n
   under n = ap (λ (o : Option SpaceView). entry_in o n) there
 
@@ -168,10 +168,10 @@ module _ (w : WorldView) (task name set : ℕ) (is : entry_at w task name ≡ So
   set_allowed : IsAllowed w (λ s. set_guards s task name)
   set_allowed = record { allowed = λ s sh. (used w s sh.agrees task name (entry.Set set) is, (is_set_target s sh.agrees, tt)) }
 
-  pub set_no_memory : task < length w.spaces → Declines w (Event.SetStatus task name) (kern_number ResourceShortage) w
+  pub set_no_memory : HasTask w task → Declines w (Event.SetStatus task name) (kern_number ResourceShortage) w
   set_no_memory below = refused_later w (Event.SetStatus task name) below (kern_number ResourceShortage) set_allowed (λ s sh. refl)
 
-  pub set_told : task < length w.spaces → (space : SpaceView) → slice_get w.spaces task ≡ Some space →
+  pub set_told : HasTask w task → (space : SpaceView) → space_at w task ≡ Some space →
       Acts w (Event.SetStatus task name) (Reply.Members (members_in w set space.names)) w
   set_told below space there = done w (Event.SetStatus task name) (Reply.Members (members_in w set space.names)) w below set_allowed
       (λ now s sh. record { mid = s; owed = []; does = (members_told w s sh task name set space there is, refl, refl); agrees = sh.agrees })

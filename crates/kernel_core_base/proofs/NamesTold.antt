@@ -1,6 +1,6 @@
 -- What NameType and Names tell is true of each state that the tables show.
 use Rattle.std.proofs.Common.{◌≡◌, ℕ, ◌<◌, [], Option, Some, refl, ap, ◌∙◌, arith, length}
-use Rattle.std.specs.Prelude.{slice_get, nat_lt, if◌then◌else◌}
+use Rattle.std.specs.Prelude.{nat_lt, if◌then◌else◌}
 use Rattle.std.proofs.lemmas.Bool.Decides.{nat_tests}
 use Rattle.mach_types.specs.declared.calls.Event.{Event}
 use Rattle.mach_types.specs.declared.calls.Reply.{Reply}
@@ -14,7 +14,7 @@ use Rattle.name_space.specs.declared.Entry.TheVariants as entry
 use Rattle.name_space.specs.Entry.{type_in}
 use Rattle.name_space.specs.Names.{SpaceView}
 use Rattle.copyin_base.specs.Acts.{Acts}
-use Rattle.copyin_base.specs.Worlds.{WorldView, entry_in, entry_at}
+use Rattle.copyin_base.specs.Worlds.{WorldView, entry_in, entry_at, space_at, HasTask}
 use Rattle.copyin_base.specs.Shows.{Agrees, Shows, target_of}
 use Rattle.copyin_base.proofs.Acting.{done}
 use Rattle.copyin_base.proofs.Agreeing.{own_names}
@@ -49,15 +49,15 @@ type_whole w s sh task name e is =
     let n : (if s.stands (dead_name task name) then request_bit else 0) ≡ 0 = rw (sh.quiet.none_stands (dead_name task name)) refl in
     omega (arith, b, n)
 
-pub type_told : (w : WorldView) (task name : ℕ) (e : Entry) → task < length w.spaces → entry_at w task name ≡ Some e → Acts w (Event.NameType task name) (Reply.NameType (type_in e)) w
+pub type_told : (w : WorldView) (task name : ℕ) (e : Entry) → HasTask w task → entry_at w task name ≡ Some e → Acts w (Event.NameType task name) (Reply.NameType (type_in e)) w
 type_told w task name e below is = done w (Event.NameType task name) (Reply.NameType (type_in e)) w below record { allowed = λ s sh. (used w s sh.agrees task name e is, tt) }
     (λ now s sh. record { mid = s; owed = []; does = ((target_of e, found w s sh.agrees task name e is, type_whole w s sh task name e is), refl, refl); agrees = sh.agrees })
 
 -- the tables list what the machine does
-listed : (w : WorldView) (s : State) → Shows w s → (task : ℕ) (space : SpaceView) → slice_get w.spaces task ≡ Some space → types_of space.names ≡ names_of s task
+listed : (w : WorldView) (s : State) → Shows w s → (task : ℕ) (space : SpaceView) → space_at w task ≡ Some space → types_of space.names ≡ names_of s task
 listed w s sh task space there = types_listed space.names (s.naming task) (type_of s task) (own_names w s sh.agrees task space there).naming
     (λ n e is. type_whole w s sh task n e (ap (λ (o : Option SpaceView). entry_in o n) there ∙ is))
 
-pub names_listed : (w : WorldView) (task : ℕ) (space : SpaceView) → task < length w.spaces → slice_get w.spaces task ≡ Some space → Acts w (Event.Names task) (Reply.Names (types_of space.names)) w
+pub names_listed : (w : WorldView) (task : ℕ) (space : SpaceView) → HasTask w task → space_at w task ≡ Some space → Acts w (Event.Names task) (Reply.Names (types_of space.names)) w
 names_listed w task space below there = done w (Event.Names task) (Reply.Names (types_of space.names)) w below record { allowed = λ s sh. tt }
     (λ now s sh. record { mid = s; owed = []; does = (listed w s sh task space there, refl, refl); agrees = sh.agrees })

@@ -1,6 +1,6 @@
 -- A port that is allocated: the tables agree with the state after.
 use Rattle.std.proofs.Common.{◌≡◌, ℕ, ◌+◌, ◌∷◌, Option, Some, None, refl, sym, ap, subst, ◌∙◌, arith, true, false, Bool, inl, inr}
-use Rattle.std.specs.Prelude.{◌≢◌, is_some, slice_get, slice_set, ◌==◌}
+use Rattle.std.specs.Prelude.{◌≢◌, is_some, slice_set, ◌==◌}
 use Rattle.std.specs.Option.{option_map}
 use Rattle.std.specs.FinMap as map
 use Rattle.std.proofs.lemmas.Bool.{eq-eqb, ne_eqb}
@@ -24,7 +24,7 @@ use Rattle.rights.specs.declared.RightKind.TheVariants as right_kind
 use Rattle.rights.specs.Counts.{no_rights}
 use Rattle.rights.specs.Ledger.{LedgerView, entered, made}
 use Rattle.copyin_base.specs.Kept.{Kept}
-use Rattle.copyin_base.specs.Worlds.{WorldView, entry_in}
+use Rattle.copyin_base.specs.Worlds.{WorldView, entry_in, space_at}
 use Rattle.copyin_base.specs.Shows.{Agrees, onces_queued, CountsAgree, ShowsPort, HasCount, target_of}
 use Rattle.copyin_base.proofs.Agreeing.{NamesAgree, CountRights, own_names, own_rights, put_names, put_rights, spaces_agree, references_agree, sets_stay, ports_put}
 use Rattle.copyin_base.proofs.Changing.{target_named}
@@ -67,14 +67,14 @@ module _ (w : WorldView) (s : State) (a : Agrees w s) (l : IsLawful s) where
   pub unknown : map.get w.ledger.counts w.ports.made ≡ None
   unknown = not_entered (map.get w.ledger.counts w.ports.made) ((a.counts w.ports.made).entered ∙ subst (λ (p : ℕ). s.live_port p ≡ false) (sym a.ports_made) new_not_live)
 
-  pub not_made : (u n : ℕ) (x : Entry) (q : ℕ) → entry_in (slice_get w.spaces u) n ≡ Some x → port_named x ≡ Some q → q ≢ new
+  pub not_made : (u n : ℕ) (x : Entry) (q : ℕ) → entry_in (space_at w u) n ≡ Some x → port_named x ≡ Some q → q ≢ new
   not_made u n x q e named is =
       let some = (l.naming u).has_right n q (a.naming u n ∙ ap (option_map target_of) e ∙ ap Some (target_named x q named)) in
       let c = held_none u receive q is in
       let b = held_none u send q is in
       omega (arith, some, c, b)
 
-  module _ (task name : ℕ) (space : SpaceView) (room : ℕ) (there : slice_get w.spaces task ≡ Some space) (unused : map.get space.names name ≡ None) where
+  module _ (task name : ℕ) (space : SpaceView) (room : ℕ) (there : space_at w task ≡ Some space) (unused : map.get space.names name ≡ None) where
     abbrev right : Entry
     right = entry.Receive new
 
@@ -136,7 +136,7 @@ module _ (w : WorldView) (s : State) (a : Agrees w s) (l : IsLawful s) where
     abbrev own : SpaceView
     own = record space { names = map.insert space.names name right; room = room }
 
-    pub allocated_agrees : Agrees (record w { spaces = slice_set w.spaces task own; ports = more_ports; ledger = more_counts }) t
+    pub allocated_agrees : Agrees (record w { spaces = slice_set w.spaces task (Some own); ports = more_ports; ledger = more_counts }) t
     allocated_agrees = record {
       spaces = spaces_agree w.spaces task space own there s.live_task s.tasks_made s.naming t.naming a.spaces
           (subst (NamesAgree own.names) (sym (at_own s.naming task _)) (put_names space.names (s.naming task) (own_names w s a task space there) name (Some right) (of_some right HasCount tt)))

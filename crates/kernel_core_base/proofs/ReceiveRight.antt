@@ -24,7 +24,7 @@ use Rattle.copyin_base.specs.Finds.{FindsReceive}
 use Rattle.copyin_base.specs.Kept.{Kept}
 use Rattle.copyin_base.specs.Shows.{Shows}
 use Rattle.copyin_base.specs.Stands.{Stands}
-use Rattle.copyin_base.specs.Worlds.{WorldView, port_at}
+use Rattle.copyin_base.specs.Worlds.{WorldView, port_at, HasTask}
 use Rattle.copyin_base.proofs.Acting.{done, refused}
 use Rattle.copyin_base.proofs.AttributesSet.{limit_agrees, make_send_agrees, sequence_agrees}
 use Rattle.copyin_base.proofs.Finding.{finds_port, finds_held, receive_allowed, receive_port_lives}
@@ -93,21 +93,21 @@ has_port w task name p stands f =
     let onces = (a.counts p).once_rights in
     record { v = x.0; there = x.1; entered = port_entered w s a p live; few = omega (arith, few, many); few_once = omega (arith, le, all, rights, onces) }
 
-pub status_told : (w : WorldView) (task name p : ℕ) (status : Status) → task < length w.spaces → FindsReceive w task name p → TellsPort w p status →
+pub status_told : (w : WorldView) (task name p : ℕ) (status : Status) → HasTask w task → FindsReceive w task name p → TellsPort w p status →
     Acts w (Event.ReceiveStatus task name) (Reply.Status status) w
 status_told w task name p status below f t = done w (Event.ReceiveStatus task name) (Reply.Status status) w below (receive_allowed w task name p f)
     (λ now s sh. record { mid = s; owed = []; does = (subst (TellsStatus s task name) (sym t.is) (tells w s sh task name p f t.v t.there), refl, refl); agrees = sh.agrees })
 
 -- ---- numbers that are set
 
-module _ (w : WorldView) (task name limit : ℕ) (below : task < length w.spaces) where
+module _ (w : WorldView) (task name limit : ℕ) (below : HasTask w task) where
   pub limit_too_great : greatest_limit < limit → Declines w (Event.SetQlimit task name limit) (kern_number InvalidValue) w
   limit_too_great many = refused w (Event.SetQlimit task name limit) below (kern_number InvalidValue) (record { refused = λ s sh. inl (many, refl) })
 
   pub limit_refused : limit ≤ greatest_limit → (code : ℕ) → IsRefused w (λ s. receive_guards s task name) code → IsRefused w (λ s. call_guards s (Event.SetQlimit task name limit)) code
   limit_refused few code r = record { refused = λ s sh. inr ((λ many. omega (arith, few, many)), r.refused s sh) }
 
-module _ (w : WorldView) (task name p : ℕ) (below : task < length w.spaces) (f : FindsReceive w task name p) (b : Attributes) (h : HasAttributes w p b) (new : WorldView) (n : ℕ) where
+module _ (w : WorldView) (task name p : ℕ) (below : HasTask w task) (f : FindsReceive w task name p) (b : Attributes) (h : HasAttributes w p b) (new : WorldView) (n : ℕ) where
   pub limit_set : n ≤ greatest_limit → SetsAttributes w p (record b { limit = n }) new → Acts w (Event.SetQlimit task name n) (Reply.Code 0) new
   limit_set few r = done w (Event.SetQlimit task name n) (Reply.Code 0) new below
       (record { allowed = λ s sh. ((λ many. omega (arith, few, many)), (receive_allowed w task name p f).allowed s sh) })

@@ -20,7 +20,7 @@ use Rattle.name_space.specs.declared.Entry.{Entry}
 use Rattle.name_space.specs.declared.Entry.TheVariants as entry_of
 use Rattle.name_space.specs.Entry.{port_named, has_receive, send_references, receive_named}
 use Rattle.copyin_base.specs.Acts.{HasTasks, IsAllowed, Acts}
-use Rattle.copyin_base.specs.Worlds.{WorldView, entry_at}
+use Rattle.copyin_base.specs.Worlds.{WorldView, entry_at, HasTask}
 use Rattle.copyin_base.specs.Shows.{Agrees, Shows, target_of}
 use Rattle.copyin_base.proofs.Acting.{done}
 use Rattle.copyin_base.proofs.Changing.{target_named}
@@ -186,7 +186,7 @@ pub carried : (w : WorldView) (event : Event) (task name : ℕ) (due : Due) (v :
 carried w event task name due v tasks allowed counted means c = done w event (Reply.Code 0) v tasks allowed
     (λ now s sh. let x = comes w s sh task name due v counted c in record { mid = x.t; owed = []; does = means now s sh x.t x.does; agrees = x.agrees })
 
-module _ (w : WorldView) (task name : ℕ) (below : task < length w.spaces) (v : WorldView) where
+module _ (w : WorldView) (task name : ℕ) (below : HasTask w task) (v : WorldView) where
   lose_one : (e : Entry) (p n : ℕ) → entry_at w task name ≡ Some e → port_named e ≡ Some p → send_references e ≡ n → ((s : State) → Shows w s → 0 < n) →
       ((s t : State) → Becomes s task name (References e (n - 1)) t → SetsSends task name p (n - 1) s t) → IsCountedDue (References e (n - 1)) →
       Carries w task name (References e (n - 1)) v → Acts w (Event.Deallocate task name) (Reply.Code 0) v

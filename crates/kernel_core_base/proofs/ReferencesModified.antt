@@ -16,7 +16,7 @@ use Rattle.name_space.specs.Entry.{port_named, send_references, set_named}
 use Rattle.copyin_base.specs.Acts.{Acts}
 use Rattle.copyin_base.specs.Shows.{Shows}
 use Rattle.copyin_base.specs.Stands.{Stands}
-use Rattle.copyin_base.specs.Worlds.{WorldView, entry_at}
+use Rattle.copyin_base.specs.Worlds.{WorldView, entry_at, HasTask}
 use Rattle.copyin_base.proofs.Changing.{target_named}
 use Rattle.kernel_core_base.specs.declared.references.Change.{Change}
 use Rattle.kernel_core_base.specs.declared.references.Change.TheVariants.{More, Fewer}
@@ -150,7 +150,7 @@ module _ (w : WorldView) (stands : Stands w) (task name : ℕ) where
     pub can_modify : (r : Right) (e : Entry) (change : Change) (due : Due) → FindsRight w task name number r e → IsChange change delta → CanChange w.ledger.total r e change due → CanCarry w task name due
     can_modify r e change due f by can = (asks r e change due f by can).can
 
-    pub modifies : (r : Right) (e : Entry) (change : Change) (due : Due) (v : WorldView) → task < length w.spaces → FindsRight w task name number r e → IsChange change delta →
+    pub modifies : (r : Right) (e : Entry) (change : Change) (due : Due) (v : WorldView) → HasTask w task → FindsRight w task name number r e → IsChange change delta →
         CanChange w.ledger.total r e change due → Carries w task name due v → Acts w (Event.ModRefs task name number delta) (Reply.Code 0) v
     modifies r e change due v below f by can c =
         let x = asks r e change due f by can in

@@ -1,6 +1,6 @@
 -- What stands under a name is changed by the verbs of the tables, as is due.
 use Rattle.std.proofs.Common.{◌≡◌, ℕ, Option, Some, None, refl, sym, ap, subst, ◌∙◌, arith, Bool, true, false, inl, inr}
-use Rattle.std.specs.Prelude.{if◌then◌else◌, nat_lt, slice_get, IfSome}
+use Rattle.std.specs.Prelude.{if◌then◌else◌, nat_lt, IfSome}
 use Rattle.std.specs.Option.{option_and_then}
 use Rattle.std.specs.Prelude.{is_some}
 use Rattle.std.specs.FinMap as map
@@ -17,7 +17,7 @@ use Rattle.rights.specs.Ledger.{LedgerView}
 use Rattle.copyin_base.specs.Changes.{CanPutLeft, PutsLeft}
 use Rattle.copyin_base.specs.Kept.{Kept}
 use Rattle.copyin_base.specs.Stands.{Stands}
-use Rattle.copyin_base.specs.Worlds.{WorldView, entry_in, entry_at}
+use Rattle.copyin_base.specs.Worlds.{WorldView, entry_in, entry_at, space_at}
 use Rattle.copyin_base.proofs.Changing.{target_named}
 use Rattle.copyin_base.proofs.Gets.{seen, of_some}
 use Rattle.copyin_base.proofs.Told.{found, port_entered}
@@ -26,11 +26,11 @@ use Rattle.kernel_core_base.specs.References.{left_with, recounted_at, CanCount,
 -- the space in which an entry stands
 record At (w : WorldView) (task name : ℕ) (e : Entry) : Type 0 where
   pub space : SpaceView
-  pub there : slice_get w.spaces task ≡ Some space
+  pub there : space_at w task ≡ Some space
   pub found : map.get space.names name ≡ Some e
 
 at : (w : WorldView) (task name : ℕ) (e : Entry) → entry_at w task name ≡ Some e → At w task name e
-at w task name e is = elim (seen (slice_get w.spaces task)) [
+at w task name e is = elim (seen (space_at w task)) [
   | inl h ↦ record { space = h.0; there = h.1; found = sym (ap (λ (o : Option SpaceView). entry_in o name) h.1) ∙ is }
   | inr h ↦ absurd (no_entry e (sym (ap (λ (o : Option SpaceView). entry_in o name) h) ∙ is))
 ]

@@ -1,6 +1,6 @@
 -- The references under a name became so many, in the tables and in the machine alike.
 use Rattle.std.proofs.Common.{◌≡◌, ℕ, ◌+◌, ◌-◌, List, Option, Some, None, refl, sym, ap, subst, ◌∙◌, arith, Bool, true, false, inr, length}
-use Rattle.std.specs.Prelude.{if◌then◌else◌, ◌==◌, ◌&&◌, ◌||◌, nat_lt, slice_get, slice_set}
+use Rattle.std.specs.Prelude.{if◌then◌else◌, ◌==◌, ◌&&◌, ◌||◌, nat_lt, slice_set}
 use Rattle.std.specs.Option.{option_map}
 use Rattle.std.specs.FinMap as map
 use Rattle.std.proofs.lemmas.Bool.{ltb-true, ltb-false, ne_eqb}
@@ -21,7 +21,7 @@ use Rattle.name_space.specs.Names.{SpaceView}
 use Rattle.rights.specs.Counts.{with_more, with_fewer}
 use Rattle.rights.specs.Ledger.{LedgerView, made, taken, counts_of}
 use Rattle.rights.specs.declared.RightKind.TheVariants as right
-use Rattle.copyin_base.specs.Worlds.{WorldView, put}
+use Rattle.copyin_base.specs.Worlds.{WorldView, put, space_at}
 use Rattle.copyin_base.specs.Shows.{target_of, HasCount, onces_queued, CountsAgree, Agrees, Shows}
 use Rattle.copyin_base.proofs.Agreeing.{own_names, own_rights, put_names, put_rights, sets_stay}
 use Rattle.copyin_base.proofs.Changing.{named_no_set, target_named, target_found, held_by, changed_agrees}
@@ -38,11 +38,11 @@ pub record Comes (P : State → Type 0) (v : WorldView) : Type 0 where
   pub does : P t
   pub agrees : Agrees v t
 
-module _ (w : WorldView) (s : State) (sh : Shows w s) (task name : ℕ) (space : SpaceView) (there : slice_get w.spaces task ≡ Some space)
+module _ (w : WorldView) (s : State) (sh : Shows w s) (task name : ℕ) (space : SpaceView) (there : space_at w task ≡ Some space)
     (entry : Entry) (found : map.get space.names name ≡ Some entry) where
   -- the tables with this under the name and these counts
   abbrev tables : Option Entry → LedgerView → WorldView
-  tables left ledger = record w { spaces = slice_set w.spaces task (record space { names = put space.names name left }); ledger = ledger }
+  tables left ledger = record w { spaces = slice_set w.spaces task (Some (record space { names = put space.names name left })); ledger = ledger }
 
   is_target : lookup s task name ≡ Some (target_of entry)
   is_target = target_found w s sh.agrees task name (sh.lawful.naming task) space there entry found
@@ -195,7 +195,7 @@ either false = refl
 module _ (w : WorldView) (s : State) (sh : Shows w s) (task name m : ℕ) (v : WorldView) where
   pub send_set : (p n : ℕ) → SetsReferences w task name (entry_of.Send p n) m v → Comes (λ t. SetsSends task name p m s t) v
   send_set p n r = subst (Comes (λ t. SetsSends task name p m s t)) (sym (r.rest ∙ ap (λ (k : ℕ). record w {
-    spaces = slice_set w.spaces task (record r.space { names = put r.space.names name (left_with (entry_of.Send p n) m) });
+    spaces = slice_set w.spaces task (Some (record r.space { names = put r.space.names name (left_with (entry_of.Send p n) m) }));
     ledger = recounted w.ledger p k m;
   }) (sym h.1))) (go (nat_lt 0 m) refl)
     where
@@ -211,7 +211,7 @@ module _ (w : WorldView) (s : State) (sh : Shows w s) (task name m : ℕ) (v : W
 
   pub both_set : (p n : ℕ) → SetsReferences w task name (entry_of.ReceiveAndSend p n) m v → Comes (λ t. SetsSends task name p m s t) v
   both_set p n r = subst (Comes (λ t. SetsSends task name p m s t)) (sym (r.rest ∙ ap (λ (k : ℕ). record w {
-    spaces = slice_set w.spaces task (record r.space { names = put r.space.names name (left_with (entry_of.ReceiveAndSend p n) m) });
+    spaces = slice_set w.spaces task (Some (record r.space { names = put r.space.names name (left_with (entry_of.ReceiveAndSend p n) m) }));
     ledger = recounted w.ledger p k m;
   }) (sym h.1))) (go (nat_lt 0 m) refl)
     where

@@ -16,7 +16,7 @@ use Rattle.name_space.specs.declared.Entry.TheVariants as entry
 use Rattle.name_space.specs.Entry.{references_in}
 use Rattle.copyin_base.specs.Acts.{IsRefused, Acts, Declines}
 use Rattle.copyin_base.specs.Shows.{Agrees, target_of}
-use Rattle.copyin_base.specs.Worlds.{WorldView, entry_at}
+use Rattle.copyin_base.specs.Worlds.{WorldView, entry_at, HasTask}
 use Rattle.copyin_base.proofs.Acting.{done, refused}
 use Rattle.copyin_base.proofs.Told.{used, found}
 
@@ -75,7 +75,7 @@ module _ (w : WorldView) (s : State) (a : Agrees w s) (task name : ℕ) where
 
 -- ---- GetRefs
 
-module _ (w : WorldView) (task name number : ℕ) (below : task < length w.spaces) where
+module _ (w : WorldView) (task name number : ℕ) (below : HasTask w task) where
   pub refs_no_right : ((r : Right) → right_number r ≢ number) → Declines w (Event.GetRefs task name number) (kern_number InvalidValue) w
   refs_no_right none = refused w (Event.GetRefs task name number) below (kern_number InvalidValue) (record { refused = λ s sh. inl (no_right number none, refl) })
 

@@ -18,16 +18,16 @@ use Rattle.port_set.specs.Sets.{SetsView, IsThere}
 use Rattle.copyin_base.specs.Acts.{Acts, IsAllowed}
 use Rattle.copyin_base.specs.Changes.{KeepsPlace, SameButRoom}
 use Rattle.copyin_base.specs.Wanted.{kept_in, kept_of}
-use Rattle.copyin_base.specs.Worlds.{WorldView, entry_in}
+use Rattle.copyin_base.specs.Worlds.{WorldView, entry_in, HasTask}
 use Rattle.copyin_base.specs.Shows.{Agrees, Shows, SetsAgree, target_of}
 use Rattle.copyin_base.specs.Stands.{Stands}
 use Rattle.copyin_base.proofs.Acting.{done}
-use Rattle.copyin_base.proofs.Gets.{get-set_same}
 use Rattle.copyin_base.proofs.Roomier.{place_kept, room_entry, room_shows}
 use Rattle.copyin_base.proofs.NamesChanged.{kept_sets, sets_go, moved_agrees, target_found}
 use Rattle.copyin_base.proofs.Told.{found}
 use Rattle.kernel_core_base.specs.Names.{MayRename, MovesEntry, renamed_in, sets_named}
 use Rattle.kernel_core_base.proofs.TokensRenamed.{renamed_weigh}
+use Rattle.copyin_base.proofs.Spaces.{space-set_same}
 
 -- ---- once a place is kept for the name
 
@@ -38,7 +38,7 @@ module _ (w w1 : WorldView) (task to : ℕ) (m : KeepsPlace w task to w1) where
       record { found = room_entry w w1 same task from ∙ may.found; unused = room_entry w w1 same task to ∙ may.unused; usable = may.usable }
 
   pub is_kept : kept_of w1 task ≡ Some to
-  is_kept = ap (λ (x : WorldView). kept_of x task) m.rest ∙ ap kept_in (get-set_same w.spaces task (record m.space { kept = Some to }) m.space m.there)
+  is_kept = ap (λ (x : WorldView). kept_of x task) m.rest ∙ ap kept_in (space-set_same w.spaces task (record m.space { kept = Some to }) m.space m.there)
 
   pub stand_still : Stands w → Stands w1
   stand_still stands = record { state = stands.state; shown = room_shows w w1 stands.state (place_kept w w1 task to m) stands.shown }
@@ -111,7 +111,7 @@ module _ (w w1 : WorldView) (task from to : ℕ) (e : Entry) (may : MayRename w 
         (moved_agrees w s sh.agrees task moves.space moves.there from to e (moves.space.room - 1) stands here free (sets_named e to w.sets) (in_sets e refl))
 
   -- from the tables before a place was kept
-  pub rename_done : (old : WorldView) → SameButRoom old w → task < length old.spaces → IsAllowed old (λ s. call_guards s (Event.Rename task from to)) → (v : WorldView) →
+  pub rename_done : (old : WorldView) → SameButRoom old w → HasTask old task → IsAllowed old (λ s. call_guards s (Event.Rename task from to)) → (v : WorldView) →
       v ≡ record w1 { sets = sets_named e to w1.sets } → Acts old (Event.Rename task from to) (Reply.Code 0) v
   rename_done old same below good v named = done old (Event.Rename task from to) (Reply.Code 0) v below good
       (λ now s sh. let here = room_shows old w s same sh in record { mid = after s; owed = []; does = (refl, renames s here, refl); agrees = agrees s here v named })

@@ -1,11 +1,11 @@
 -- One right more, named by the task: what is made, and its name put together.
-use Rattle.std.proofs.Common.{◌≡◌, ℕ, ◌-◌, List, Some, refl, sym, ap, subst, ◌∙◌}
-use Rattle.std.specs.Prelude.{slice_get, slice_set}
+use Rattle.std.proofs.Common.{Option, ◌≡◌, ℕ, ◌-◌, List, Some, refl, sym, ap, subst, ◌∙◌}
+use Rattle.std.specs.Prelude.{slice_set}
 use Rattle.std.specs.FinMap as map
 use Rattle.name_space.specs.declared.Entry.{Entry}
 use Rattle.name_space.specs.Names.{SpaceView, HasNoOther}
 use Rattle.copyin_base.specs.Changes.{CanInsert, InsertsEntry}
-use Rattle.copyin_base.specs.Worlds.{WorldView}
+use Rattle.copyin_base.specs.Worlds.{WorldView, space_at, space_in}
 use Rattle.copyin_base.proofs.Gets.{same_found}
 use Rattle.kernel_core_base.specs.declared.names.NewRight.{NewRight}
 use Rattle.kernel_core_base.specs.declared.names.NewRight.TheVariants as new_right
@@ -18,8 +18,8 @@ same_spaces w task new_right.Set name = refl
 same_spaces w task new_right.DeadName name = refl
 
 module _ (w w2 : WorldView) (task name : ℕ) (r : NewRight) (e : Entry) (can : CanAdd w task r name) (made : MakesRight w task r name e w2) where
-  there : slice_get w2.spaces task ≡ Some can.has.space
-  there = ap (λ (x : WorldView). slice_get x.spaces task) made.rest ∙ ap (λ (xs : List SpaceView). slice_get xs task) (same_spaces w task r name) ∙ can.has.there
+  there : space_at w2 task ≡ Some can.has.space
+  there = ap (λ (x : WorldView). space_at x task) made.rest ∙ ap (λ (xs : List (Option SpaceView)). space_in xs task) (same_spaces w task r name) ∙ can.has.there
 
   pub can_insert : CanInsert w2 task name e
   can_insert = record {
@@ -34,11 +34,11 @@ module _ (w w2 : WorldView) (task name : ℕ) (r : NewRight) (e : Entry) (can : 
 
   pub adds : (w3 : WorldView) → InsertsEntry w2 task name e w3 → Adds w task r name w3
   adds w3 i =
-      let at : i.space ≡ can.has.space = same_found (slice_get w2.spaces task) i.space can.has.space i.there there in
+      let at : i.space ≡ can.has.space = same_found (space_at w2 task) i.space can.has.space i.there there in
       record {
         space = can.has.space;
         there = can.has.there;
-        rest = i.rest ∙ (λ k. record (made.rest k) { spaces = slice_set (made.rest k).spaces task (record (at k) { names = map.insert (at k).names name (made.made k); room = (at k).room - 1 }) })
-            ∙ ap (λ (xs : List SpaceView). record (with_made w task r name) { spaces = slice_set xs task (record can.has.space { names = map.insert can.has.space.names name (entry_made w r); room = can.has.space.room - 1 }) })
+        rest = i.rest ∙ (λ k. record (made.rest k) { spaces = slice_set (made.rest k).spaces task (Some (record (at k) { names = map.insert (at k).names name (made.made k); room = (at k).room - 1 })) })
+            ∙ ap (λ (xs : List (Option SpaceView)). record (with_made w task r name) { spaces = slice_set xs task (Some (record can.has.space { names = map.insert can.has.space.names name (entry_made w r); room = can.has.space.room - 1 })) })
             (same_spaces w task r name);
       }

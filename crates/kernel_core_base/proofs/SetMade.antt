@@ -1,6 +1,6 @@
 -- A port set that is made: the tables agree with the state after.
 use Rattle.std.proofs.Common.{◌≡◌, ℕ, ◌+◌, Some, None, refl, ap, ◌∙◌}
-use Rattle.std.specs.Prelude.{slice_get, slice_set}
+use Rattle.std.specs.Prelude.{slice_set}
 use Rattle.std.specs.Option.{option_map}
 use Rattle.std.specs.FinMap as map
 use Rattle.mach_model.specs.State.{State, Target, Names}
@@ -11,7 +11,7 @@ use Rattle.name_space.specs.declared.Entry.TheVariants as entry
 use Rattle.name_space.specs.Names.{SpaceView}
 use Rattle.port_set.specs.declared.SetRecord.{SetRecord}
 use Rattle.port_set.specs.Sets.{SetsView}
-use Rattle.copyin_base.specs.Worlds.{WorldView}
+use Rattle.copyin_base.specs.Worlds.{WorldView, space_at}
 use Rattle.copyin_base.specs.Shows.{Agrees, SetsAgree}
 use Rattle.copyin_base.proofs.Agreeing.{sets_stay}
 use Rattle.copyin_base.proofs.Gets.{of_some}
@@ -19,7 +19,7 @@ use Rattle.copyin_base.proofs.Putting.{each_put}
 use Rattle.copyin_base.proofs.NamesChanged.{stands_still, with_sets}
 
 module _ (w : WorldView) (s : State) (a : Agrees w s) (task name : ℕ) (space : SpaceView) (room : ℕ)
-    (there : slice_get w.spaces task ≡ Some space) (unused : map.get space.names name ≡ None) where
+    (there : space_at w task ≡ Some space) (unused : map.get space.names name ≡ None) where
   abbrev new : ℕ
   new = s.sets_made
 
@@ -49,5 +49,5 @@ module _ (w : WorldView) (s : State) (a : Agrees w s) (task name : ℕ) (space :
         (of_some first (λ r. map.get (t.naming r.owner) r.name ≡ Some (Target.set new)) own_named) (λ set not. old_sets.set_named set);
   }
 
-  pub set_agrees : Agrees (record w { spaces = slice_set w.spaces task (record space { names = map.insert space.names name (entry.Set new); room = room }); sets = more_sets }) t
+  pub set_agrees : Agrees (record w { spaces = slice_set w.spaces task (Some (record space { names = map.insert space.names name (entry.Set new); room = room })); sets = more_sets }) t
   set_agrees = with_sets w s a task space there name (entry.Set new) room unused refl tt more_sets t.set_owner t.sets_made in_sets

@@ -143,7 +143,7 @@ module _ (w : WorldView) (s : State) (a : Agrees w s) (task name set : ℕ) (v :
   nothing : (e : Entry) → None ≡ Some e → ⊥
   nothing e is = no_some e is
 
-  names_go : Agrees (record w { spaces = slice_set w.spaces task (record r.space { names = map.remove r.space.names name }); sets = removed w.sets set })
+  names_go : Agrees (record w { spaces = slice_set w.spaces task (Some (record r.space { names = map.remove r.space.names name })); sets = removed w.sets set })
       (record s { naming = at s.naming task own; stands = request_at s.stands (dead_name task name) false; set_owner = at s.set_owner set None })
   names_go = names_agree w s a task r.space r.there (map.remove r.space.names name) r.space.room own (request_at s.stands (dead_name task name) false) (removed w.sets set) (at s.set_owner set None) s.sets_made
       (put_names r.space.names (s.naming task) (own_names w s a task r.space r.there) name None (λ e is. absurd (nothing e is)))
@@ -151,5 +151,5 @@ module _ (w : WorldView) (s : State) (a : Agrees w s) (task name set : ℕ) (v :
 
   pub removed_agrees : Agrees v (without_set set (without_name task name s))
   removed_agrees = subst (λ (x : WorldView). Agrees x (without_set set (without_name task name s))) (sym r.rest)
-      (disbanded_agrees (record w { spaces = slice_set w.spaces task (record r.space { names = map.remove r.space.names name }); sets = removed w.sets set })
+      (disbanded_agrees (record w { spaces = slice_set w.spaces task (Some (record r.space { names = map.remove r.space.names name })); sets = removed w.sets set })
       (record s { naming = at s.naming task own; stands = request_at s.stands (dead_name task name) false; set_owner = at s.set_owner set None }) names_go set v.ports r.disbanded)

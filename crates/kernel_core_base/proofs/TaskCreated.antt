@@ -1,6 +1,6 @@
 -- A task that is made: the tables agree with the state after.
 use Rattle.std.proofs.Common.{◌≡◌, ℕ, ◌+◌, ◌<◌, List, [], ◌∷◌, ◌++◌, Option, Some, None, refl, sym, ap, subst, ◌∙◌, arith, true, inl, inr, length}
-use Rattle.std.specs.Prelude.{slice_get, is_some}
+use Rattle.std.specs.Prelude.{is_some}
 use Rattle.std.specs.Option.{option_map}
 use Rattle.std.specs.FinMap as map
 use Rattle.std.specs.Ordering.{nat_cmp}
@@ -18,12 +18,13 @@ use Rattle.name_space.specs.declared.Entry.{Entry}
 use Rattle.name_space.specs.Entry.{port_named, has_receive, send_references}
 use Rattle.name_space.specs.Names.{SpaceView}
 use Rattle.copyin_base.specs.Acts.{Acts}
-use Rattle.copyin_base.specs.Worlds.{WorldView, entry_in}
+use Rattle.copyin_base.specs.Worlds.{WorldView, entry_in, space_at, space_in}
 use Rattle.copyin_base.specs.Shows.{Agrees, target_of, HasCount}
 use Rattle.copyin_base.proofs.Acting.{done}
 use Rattle.copyin_base.proofs.Agreeing.{sets_stay}
-use Rattle.copyin_base.proofs.Gets.{get-push_same, get-push_other, get-end, same_found}
+use Rattle.copyin_base.proofs.Gets.{same_found}
 use Rattle.kernel_core_base.specs.Tasks.{no_names}
+use Rattle.copyin_base.proofs.Spaces.{space-push_same, space-push_other, space-end}
 
 none_under : (n : ℕ) (e : Entry) → map.get no_names.names n ≡ Some e → ⊥
 none_under n e is = let none : map.get no_names.names n ≡ None = map.get-empty {X = Entry} nat_cmp n in cc
@@ -32,8 +33,8 @@ module _ (w : WorldView) (s : State) (a : Agrees w s) where
   abbrev task : ℕ
   task = length w.spaces
 
-  abbrev pub more_spaces : List SpaceView
-  more_spaces = w.spaces ++ no_names ∷ []
+  abbrev pub more_spaces : List (Option SpaceView)
+  more_spaces = w.spaces ++ Some no_names ∷ []
 
   abbrev pub with_task : State
   with_task = record s { live_task = at s.live_task task true; tasks_made = task + 1; naming = at s.naming task map.empty }
@@ -42,27 +43,27 @@ module _ (w : WorldView) (s : State) (a : Agrees w s) where
   creates = record { task_is = a.tasks_made; rest = refl }
 
   -- what holds of the new task, and of each other, holds of all
-  each : (P : ℕ → Option SpaceView → Names → Type 0) → P task (Some no_names) map.empty → ((u : ℕ) → P u (slice_get w.spaces u) (s.naming u)) → (u : ℕ) → P u (slice_get more_spaces u) (with_task.naming u)
+  each : (P : ℕ → Option SpaceView → Names → Type 0) → P task (Some no_names) map.empty → ((u : ℕ) → P u (space_at w u) (s.naming u)) → (u : ℕ) → P u (space_in more_spaces u) (with_task.naming u)
   each P own others u = elim (eqb_tells u task) [
-    | inl h ↦ rw h.0 (subst (λ (x : ℕ). P x (slice_get more_spaces x) map.empty) (sym h.1) (subst (λ (o : Option SpaceView). P task o map.empty) (sym (get-push_same w.spaces no_names)) own))
-    | inr h ↦ rw h.0 (subst (λ (o : Option SpaceView). P u o (s.naming u)) (sym (get-push_other w.spaces no_names u h.1)) (others u))
+    | inl h ↦ rw h.0 (subst (λ (x : ℕ). P x (space_in more_spaces x) map.empty) (sym h.1) (subst (λ (o : Option SpaceView). P task o map.empty) (sym (space-push_same w.spaces no_names)) own))
+    | inr h ↦ rw h.0 (subst (λ (o : Option SpaceView). P u o (s.naming u)) (sym (space-push_other w.spaces no_names u h.1)) (others u))
   ]
 
-  live_task : (u : ℕ) → is_some (slice_get more_spaces u) ≡ with_task.live_task u
+  live_task : (u : ℕ) → is_some (space_in more_spaces u) ≡ with_task.live_task u
   live_task u = elim (eqb_tells u task) [
-    | inl h ↦ rw h.0 (ap (λ (x : ℕ). is_some (slice_get more_spaces x)) h.1 ∙ ap is_some (get-push_same w.spaces no_names))
-    | inr h ↦ rw h.0 (ap is_some (get-push_other w.spaces no_names u h.1) ∙ a.live_task u)
+    | inl h ↦ rw h.0 (ap (λ (x : ℕ). is_some (space_in more_spaces x)) h.1 ∙ ap is_some (space-push_same w.spaces no_names))
+    | inr h ↦ rw h.0 (ap is_some (space-push_other w.spaces no_names u h.1) ∙ a.live_task u)
   ]
 
   -- no name stood for anything
   nothing : (n : ℕ) → map.get (s.naming task) n ≡ None
-  nothing n = a.naming task n ∙ ap (λ (o : Option SpaceView). option_map target_of (entry_in o n)) (get-end w.spaces)
+  nothing n = a.naming task n ∙ ap (λ (o : Option SpaceView). option_map target_of (entry_in o n)) (space-end w.spaces)
 
   pub task_agrees : Agrees (record w { spaces = more_spaces }) with_task
   task_agrees = record {
     spaces = record {
       live_task = live_task;
-      tasks_made = length-append w.spaces (no_names ∷ []) ∙ omega arith;
+      tasks_made = length-append w.spaces (Some no_names ∷ []) ∙ omega arith;
       naming = λ u n. each (λ _ o m. map.get m n ≡ option_map target_of (entry_in o n)) (map.get-empty nat_cmp n ∙ sym (ap (option_map target_of) (map.get-empty nat_cmp n))) (λ u. a.naming u n) u;
       names_kept = each (λ _ o m. (x : SpaceView) → o ≡ Some x → map.len x.names ≡ map.len m)
           (λ x is. ap (λ (y : SpaceView). map.len y.names) (same_found (Some no_names) x no_names is refl) ∙ map.len-empty nat_cmp Entry ∙ sym (map.len-empty nat_cmp Target)) a.names_kept;
@@ -80,7 +81,7 @@ module _ (w : WorldView) (s : State) (a : Agrees w s) where
     requests = a.requests;
   }
 
-pub task_created : (w : WorldView) (task : ℕ) (new : WorldView) → length w.spaces < most_tasks → task ≡ length w.spaces → new ≡ record w { spaces = w.spaces ++ no_names ∷ [] } → Acts w Event.TaskCreate (Reply.Task task) new
-task_created w task new few is made = rw (is, made) (done w Event.TaskCreate (Reply.Task (length w.spaces)) (record w { spaces = w.spaces ++ no_names ∷ [] }) tt
+pub task_created : (w : WorldView) (task : ℕ) (new : WorldView) → length w.spaces < most_tasks → task ≡ length w.spaces → new ≡ record w { spaces = w.spaces ++ Some no_names ∷ [] } → Acts w Event.TaskCreate (Reply.Task task) new
+task_created w task new few is made = rw (is, made) (done w Event.TaskCreate (Reply.Task (length w.spaces)) (record w { spaces = w.spaces ++ Some no_names ∷ [] }) tt
     record { allowed = λ s sh. ((λ many. let m = sh.agrees.tasks_made in omega (arith, many, m, few)), tt) }
     (λ now s sh. record { mid = with_task w s sh.agrees; owed = []; does = (creates w s sh.agrees, refl); agrees = task_agrees w s sh.agrees }))

@@ -1,6 +1,6 @@
 -- What stands under a task's names after a port, a port set or a dead name was made, and after one was renamed; where nothing more
 -- can be made; and the types of all names.
-use Rattle.std.specs.Prelude.{◌≡◌, ℕ, ◌+◌, ◌-◌, ◌<◌, ◌≤◌, ◌⊎◌, List, [], Option, Some, None, slice_get, slice_set}
+use Rattle.std.specs.Prelude.{◌≡◌, ℕ, ◌+◌, ◌-◌, ◌<◌, ◌≤◌, ◌⊎◌, List, [], Option, Some, None, slice_set}
 use Rattle.std.specs.Prelude as std
 use Rattle.std.specs.FinMap as map
 use Rattle.mach_types.specs.Numbers.{most_names, most_rights, most_identities}
@@ -14,7 +14,7 @@ use Rattle.port_set.specs.Sets.{SetsView, created, renamed}
 use Rattle.rights.specs.declared.RightKind.TheVariants as right
 use Rattle.rights.specs.Ledger.{entered, made}
 use Rattle.copyin_base.specs.Kept.{Kept}
-use Rattle.copyin_base.specs.Worlds.{WorldView, entry_at}
+use Rattle.copyin_base.specs.Worlds.{WorldView, entry_at, space_at}
 use Rattle.kernel_core_base.specs.declared.names.NewRight.{NewRight}
 use Rattle.kernel_core_base.specs.declared.names.NewRight.TheVariants as new_right
 
@@ -56,9 +56,9 @@ pub record MakesRight (old : WorldView) (task : ℕ) (right : NewRight) (name : 
 -- It is made, and the task has it under the name, in the place that was made for it.
 pub record Adds (old : WorldView) (task : ℕ) (right : NewRight) (name : ℕ) (new : WorldView) : Type 0 where
   pub space : SpaceView
-  pub there : slice_get old.spaces task ≡ Some space
+  pub there : space_at old task ≡ Some space
   pub rest : new ≡ record (with_made old task right name) {
-    spaces = slice_set old.spaces task (record space { names = map.insert space.names name (entry_made old right); room = space.room - 1 });
+    spaces = slice_set old.spaces task (Some (record space { names = map.insert space.names name (entry_made old right); room = space.room - 1 }));
   }
 
 -- ---- where it can't be made
@@ -77,13 +77,13 @@ IsFullFor w new_right.DeadName = ⊥
 -- There is room for one more that the task names.
 pub record HasRoomOf (w : WorldView) (task : ℕ) (right : NewRight) : Type 0 where
   pub space : SpaceView
-  pub there : slice_get w.spaces task ≡ Some space
+  pub there : space_at w task ≡ Some space
   pub room : map.len space.names < most_names
   pub more : HasRoomFor w right
 
 pub record IsFullOf (w : WorldView) (task : ℕ) (right : NewRight) : Type 0 where
   pub space : SpaceView
-  pub there : slice_get w.spaces task ≡ Some space
+  pub there : space_at w task ≡ Some space
   pub full : (most_names ≤ map.len space.names) ⊎ IsFullFor w right
 
 -- It is what the right of this number makes, and there is room for it.
@@ -111,8 +111,8 @@ pub record MayRename (w : WorldView) (task from to : ℕ) (e : Entry) : Type 0 w
 -- What is under the first name of the task goes under the second, for which a place is kept, in its names alone.
 pub record MovesEntry (old : WorldView) (task from to : ℕ) (e : Entry) (new : WorldView) : Type 0 where
   pub space : SpaceView
-  pub there : slice_get old.spaces task ≡ Some space
-  pub rest : new ≡ record old { spaces = slice_set old.spaces task (record space { names = map.insert (map.remove space.names from) to e; room = space.room - 1 }) }
+  pub there : space_at old task ≡ Some space
+  pub rest : new ≡ record old { spaces = slice_set old.spaces task (Some (record space { names = map.insert (map.remove space.names from) to e; room = space.room - 1 })) }
 
 -- the sets after their task's name for one of them, if it is there
 abbrev pub renamed_in : Option SetRecord → SetsView → (set name : ℕ) → SetsView

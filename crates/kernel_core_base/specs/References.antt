@@ -1,5 +1,5 @@
 -- Taking rights from under a name, and changing how many references are under it, in the tables.
-use Rattle.std.specs.Prelude.{◌≡◌, ℕ, ℤ, pos, negsuc, ◌+◌, ◌-◌, ◌<◌, ◌≤◌, ◌⊎◌, Option, Some, None, slice_get, slice_set, Result, Ok, Err, if◌then◌else◌, ◌==◌, nat_lt}
+use Rattle.std.specs.Prelude.{◌≡◌, ℕ, ℤ, pos, negsuc, ◌+◌, ◌-◌, ◌<◌, ◌≤◌, ◌⊎◌, Option, Some, None, slice_set, Result, Ok, Err, if◌then◌else◌, ◌==◌, nat_lt}
 use Rattle.std.specs.FinMap as map
 use Rattle.mach_types.specs.declared.codes.KernReturn.{KernReturn}
 use Rattle.mach_types.specs.declared.codes.KernReturn.TheVariants.{NoSpace, InvalidRight, InvalidValue, UrefsOverflow}
@@ -13,7 +13,7 @@ use Rattle.name_space.specs.Names.{SpaceView}
 use Rattle.port_set.specs.Sets.{removed, IsDisbanded}
 use Rattle.rights.specs.declared.RightKind.TheVariants as kind
 use Rattle.rights.specs.Ledger.{LedgerView, IsEntered, counts_of, made, taken}
-use Rattle.copyin_base.specs.Worlds.{WorldView, entry_at, put}
+use Rattle.copyin_base.specs.Worlds.{WorldView, entry_at, put, space_at}
 use Rattle.kernel_core_base.specs.declared.references.Change.{Change}
 use Rattle.kernel_core_base.specs.declared.references.Change.TheVariants.{More, Fewer}
 use Rattle.kernel_core_base.specs.declared.references.Due.{Due}
@@ -50,21 +50,21 @@ pub record CanSet (w : WorldView) (task name : ℕ) (e : Entry) (references : �
 -- The references of the entry, which stood under the name, become so many.
 pub record SetsReferences (old : WorldView) (task name : ℕ) (e : Entry) (references : ℕ) (new : WorldView) : Type 0 where
   pub space : SpaceView
-  pub there : slice_get old.spaces task ≡ Some space
+  pub there : space_at old task ≡ Some space
   pub found : map.get space.names name ≡ Some e
   pub rest : new ≡ record old {
-    spaces = slice_set old.spaces task (record space { names = put space.names name (left_with e references) });
+    spaces = slice_set old.spaces task (Some (record space { names = put space.names name (left_with e references) }));
     ledger = recounted_at old.ledger (port_named e) (send_references e) references;
   }
 
 -- The name of a set goes, and the set with it; its members are in no set.
 pub record RemovesSet (old : WorldView) (task name set : ℕ) (new : WorldView) : Type 0 where
   pub space : SpaceView
-  pub there : slice_get old.spaces task ≡ Some space
+  pub there : space_at old task ≡ Some space
   pub found : map.get space.names name ≡ Some (entry.Set set)
   pub disbanded : IsDisbanded old.ports new.ports set
   pub rest : new ≡ record old {
-    spaces = slice_set old.spaces task (record space { names = put space.names name None });
+    spaces = slice_set old.spaces task (Some (record space { names = put space.names name None }));
     ports = new.ports;
     sets = removed old.sets set;
   }

@@ -1,15 +1,15 @@
 -- Where a call here may be refused for want of memory: only where it may have to take some.
-use Rattle.std.specs.Prelude.{◌≡◌, ℕ, ◌<◌, Some, slice_get}
+use Rattle.std.specs.Prelude.{◌≡◌, ℕ, ◌<◌, Some}
 use Rattle.std.specs.FinMap as map
 use Rattle.mach_types.specs.declared.calls.Event.{Event}
 use Rattle.name_space.specs.Names.{SpaceView}
 use Rattle.copyin_base.specs.Wanted.{LacksRoom, LacksPlace}
-use Rattle.copyin_base.specs.Worlds.{WorldView}
+use Rattle.copyin_base.specs.Worlds.{WorldView, space_at}
 
 -- The task has a name.
 pub record HasName (w : WorldView) (task : ℕ) : Type 0 where
   pub space : SpaceView
-  pub there : slice_get w.spaces task ≡ Some space
+  pub there : space_at w task ≡ Some space
   pub some : 0 < map.len space.names
 
 -- The call may lack memory. A dead name, number 4, takes none but a place for its name, a name that is changed none but its own place, a

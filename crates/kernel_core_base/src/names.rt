@@ -1,6 +1,6 @@
 //! A task's names: allocating a port, a port set or a dead name under one, listing them with their
 //! types, and giving one another number.
-ghost use Rattle.std.specs.Prelude.{◌≡◌, ◌≢◌, ℕ, ◌<◌, Some, None, length, false, IsTrue, IfOk, IfErr, OnOk, OnErr};
+ghost use Rattle.std.specs.Prelude.{◌≡◌, ◌≢◌, ℕ, ◌<◌, Some, None, false, IsTrue, IfOk, IfErr, OnOk, OnErr};
 ghost use Rattle.std.specs.FinMap as map;
 ghost use Rattle.mach_types.specs.declared.calls.Event.{Event};
 ghost use Rattle.mach_types.specs.declared.codes.KernReturn.TheVariants as kern;
@@ -14,7 +14,7 @@ ghost use Rattle.port_set.specs.Sets.{IsThere, created};
 ghost use Rattle.copyin_base.specs.Acts.{code_number, Serves, IsRefused, IsAllowed};
 ghost use Rattle.copyin_base.specs.Stands.{Stands};
 ghost use Rattle.copyin_base.specs.Wanted.{KeepsSpares, kept_of};
-ghost use Rattle.copyin_base.specs.Worlds.{entry_at};
+ghost use Rattle.copyin_base.specs.Worlds.{entry_at, HasTask};
 ghost use Rattle.kernel_core_base.specs.declared.names.NewRight.TheVariants as AnyRight;
 ghost use Rattle.kernel_core_base.specs.Names.{right_made, with_new_port, IsFullFor, HasRoomFor, IsFullOf, HasRoomOf, MayMake, CanAdd, Adds, MakesRight, MovesEntry, MayRename, sets_named, type_found, types_of};
 ghost use Rattle.kernel_core_base.specs.Wanted.{MayLackMemory};
@@ -49,7 +49,7 @@ enum NewRight {
 /// been made. Constant time, and logarithmic for a name above 65,535, but where tables move to a
 /// larger place.
 pub fn allocate(world: &mut World, task: TaskId, right: u32) -> Result<Reply, Code>
-    requires there { task < length world.old.spaces }
+    requires there { HasTask world.old task }
     requires stands { Stands world.old }
     ensures serves { Serves world.old (Event.Allocate task right) result world.new }
     ensures wanted { IfErr result (λ code. code_number code ≡ kern_number kern.ResourceShortage → MayLackMemory world.old (Event.Allocate task right)) }
@@ -69,7 +69,7 @@ pub fn allocate(world: &mut World, task: TaskId, right: u32) -> Result<Reply, Co
 /// where the task uses the name; then as [`allocate`], also in cost, but that a dead name takes no
 /// memory where a place is kept for this very name, and that a refusal may leave a place kept for it.
 pub fn allocate_name(world: &mut World, task: TaskId, right: u32, name: Name) -> Result<Reply, Code>
-    requires there { task < length world.old.spaces }
+    requires there { HasTask world.old task }
     requires stands { Stands world.old }
     ensures serves { Serves world.old (Event.AllocateName task right name) result world.new }
     ensures wanted { IfErr result (λ code. code_number code ≡ kern_number kern.ResourceShortage → MayLackMemory world.old (Event.AllocateName task right name)) }
@@ -83,7 +83,7 @@ pub fn allocate_name(world: &mut World, task: TaskId, right: u32, name: Name) ->
 
 // What is to be made under a fresh name, or why it isn't.
 fn judge_allocate(world: &World, task: TaskId, right: u32) -> Result<NewRight, KernReturn>
-    requires { task < length world.now.spaces }
+    requires { HasTask world.now task }
     ensures made { IfOk result (λ made. MayMake world.now task right made) }
     ensures ok { OnOk result (IsAllowed world.now (λ s. call_guards s (Event.Allocate task right))) }
     ensures err { IfErr result (λ code. IsRefused world.now (λ s. call_guards s (Event.Allocate task right)) (kern_number code)) }
@@ -102,7 +102,7 @@ fn judge_allocate_name(
     right: u32,
     name: Name,
 ) -> Result<NewRight, KernReturn>
-    requires { task < length world.now.spaces }
+    requires { HasTask world.now task }
     ensures made { IfOk result (λ made. MayMake world.now task right made) }
     ensures usable { OnOk result (IsUsable name) }
     ensures unused { OnOk result (entry_at world.now task name ≡ None) }
@@ -140,7 +140,7 @@ fn right_to_make(number: u32) -> Result<NewRight, KernReturn>
 
 // Whether there is no room for one more that the task names.
 fn is_full(world: &World, task: TaskId, right: NewRight) -> bool
-    requires { task < length world.now.spaces }
+    requires { HasTask world.now task }
     ensures full { IsTrue result → IsFullOf world.now task right }
     ensures room { result ≡ false → HasRoomOf world.now task right }
 {
@@ -218,7 +218,7 @@ fn make_port(world: &mut World) -> Result<PortId, AllocError>
 /// `KERN_INVALID_NAME` for a name that isn't in use. Constant time, and logarithmic for a name
 /// above 65,535.
 pub fn name_type(world: &World, task: TaskId, name: Name) -> Result<Reply, Code>
-    requires there { task < length world.now.spaces }
+    requires there { HasTask world.now task }
     requires stands { Stands world.now }
     ensures { Serves world.now (Event.NameType task name) result world.now }
 {
@@ -233,7 +233,7 @@ pub fn name_type(world: &World, task: TaskId, name: Name) -> Result<Reply, Code>
 /// where there are no names. Linear in the names of the task, but for a logarithmic look at each above
 /// 65,535.
 pub fn list_names(world: &World, alloc: Global, task: TaskId) -> Result<Reply, Code>
-    requires there { task < length world.now.spaces }
+    requires there { HasTask world.now task }
     requires stands { Stands world.now }
     ensures serves { Serves world.now (Event.Names task) result world.now }
     ensures wanted { IfErr result (λ code. code_number code ≡ kern_number kern.ResourceShortage → MayLackMemory world.now (Event.Names task)) }
@@ -280,7 +280,7 @@ fn type_at(space: &Space, name: Name) -> u32
 /// refused. A refusal leaves all as it was. Constant time, and logarithmic for a name above 65,535,
 /// but where memory is taken.
 pub fn rename(world: &mut World, task: TaskId, from: Name, to: Name) -> Result<Reply, Code>
-    requires there { task < length world.old.spaces }
+    requires there { HasTask world.old task }
     requires stands { Stands world.old }
     ensures serves { Serves world.old (Event.Rename task from to) result world.new }
     ensures wanted { IfErr result (λ code. code_number code ≡ kern_number kern.ResourceShortage → MayLackMemory world.old (Event.Rename task from to)) }
@@ -295,7 +295,7 @@ pub fn rename(world: &mut World, task: TaskId, from: Name, to: Name) -> Result<R
 
 // What is to be renamed, or why it isn't.
 fn judge_rename(world: &World, task: TaskId, from: Name, to: Name) -> Result<Entry, KernReturn>
-    requires { task < length world.now.spaces }
+    requires { HasTask world.now task }
     ensures may { IfOk result (λ entry. MayRename world.now task from to entry) }
     ensures ok { OnOk result (IsAllowed world.now (λ s. call_guards s (Event.Rename task from to))) }
     ensures err { IfErr result (λ code. IsRefused world.now (λ s. call_guards s (Event.Rename task from to)) (kern_number code)) }
@@ -317,7 +317,10 @@ fn move_entry(world: &mut World, task: TaskId, from: Name, to: Name)
     requires place { kept_of world.old task ≡ Some to }
     ensures { (e : AnyEntry) → MayRename world.old task from to e → MovesEntry world.old task from to e world.new }
 {
-    world.spaces[task.number() as usize].rename(from, to);
+    let Some(space) = &mut world.spaces[task.number() as usize] else {
+        unreachable!()
+    };
+    space.rename(from, to);
 }
 
 // Keeps the name for the entry's set, if it is one.

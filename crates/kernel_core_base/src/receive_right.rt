@@ -1,10 +1,11 @@
 //! What a task may ask of a receive right, and set.
-ghost use Rattle.std.specs.Prelude.{◌≡◌, ◌<◌, length};
+ghost use Rattle.std.specs.Prelude.{◌≡◌, ◌<◌};
 ghost use Rattle.mach_types.specs.declared.calls.Event.{Event};
 ghost use Rattle.copyin_base.specs.Acts.{Serves};
 ghost use Rattle.copyin_base.specs.Stands.{Stands};
 ghost use Rattle.copyin_base.specs.Wanted.{KeepsSpares};
 ghost use Rattle.kernel_core_base.specs.ReceiveRight.{set_name, HasPort, TellsPort};
+ghost use Rattle.copyin_base.specs.Worlds.{HasTask};
 
 use copyin_base::{Code, World};
 use mach_types::limits::GREATEST_LIMIT;
@@ -18,7 +19,7 @@ use port::Attributes;
 /// right. Constant time, and logarithmic for a name above 65,535.
 #[tactic(auto, using(crate::proofs::ReceiveRight::has_port, crate::proofs::ReceiveRight::status_told))]
 pub fn receive_status(world: &World, task: TaskId, name: Name) -> Result<Reply, Code>
-    requires there { task < length world.now.spaces }
+    requires there { HasTask world.now task }
     requires stands { Stands world.now }
     ensures { Serves world.now (Event.ReceiveStatus task name) result world.now }
 {
@@ -67,7 +68,7 @@ fn set_name(world: &World, set: Option<SetId>) -> Name
 /// logarithmic for a name above 65,535.
 #[tactic(auto, using(copyin_base::proofs::Finding::receive_port_there))]
 pub fn set_qlimit(world: &mut World, task: TaskId, name: Name, limit: u32) -> Result<Reply, Code>
-    requires there { task < length world.old.spaces }
+    requires there { HasTask world.old task }
     requires stands { Stands world.old }
     ensures serves { Serves world.old (Event.SetQlimit task name limit) result world.new }
     ensures spares { KeepsSpares world.old world.new }
@@ -94,7 +95,7 @@ pub fn set_qlimit(world: &mut World, task: TaskId, name: Name, limit: u32) -> Re
 /// right. Takes no memory. Constant time, and logarithmic for a name above 65,535.
 #[tactic(auto, using(copyin_base::proofs::Finding::receive_port_there))]
 pub fn set_mscount(world: &mut World, task: TaskId, name: Name, count: u32) -> Result<Reply, Code>
-    requires there { task < length world.old.spaces }
+    requires there { HasTask world.old task }
     requires stands { Stands world.old }
     ensures serves { Serves world.old (Event.SetMscount task name count) result world.new }
     ensures spares { KeepsSpares world.old world.new }
@@ -117,7 +118,7 @@ pub fn set_mscount(world: &mut World, task: TaskId, name: Name, count: u32) -> R
 /// As [`set_mscount`] in errors and cost.
 #[tactic(auto, using(copyin_base::proofs::Finding::receive_port_there))]
 pub fn set_seqno(world: &mut World, task: TaskId, name: Name, number: u32) -> Result<Reply, Code>
-    requires there { task < length world.old.spaces }
+    requires there { HasTask world.old task }
     requires stands { Stands world.old }
     ensures serves { Serves world.old (Event.SetSeqno task name number) result world.new }
     ensures spares { KeepsSpares world.old world.new }

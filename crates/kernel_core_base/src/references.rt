@@ -1,5 +1,5 @@
 //! The references of a right under a name: asked for, taken by one, taken whole, changed by a number.
-ghost use Rattle.std.specs.Prelude.{◌≡◌, ℤ, ◌+◌, ◌<◌, ◌≤◌, Some, IfOk, IfErr, MatchBool, length};
+ghost use Rattle.std.specs.Prelude.{◌≡◌, ℤ, ◌+◌, ◌<◌, ◌≤◌, Some, IfOk, IfErr, MatchBool};
 ghost use Rattle.mach_types.specs.declared.calls.Event.{Event};
 ghost use Rattle.mach_types.specs.declared.rights.Right.TheVariants as right;
 ghost use Rattle.mach_types.specs.Numbers.{kern_number, most_references, most_rights};
@@ -10,7 +10,7 @@ ghost use Rattle.port_set.specs.Sets.{removed, IsDisbanded};
 ghost use Rattle.copyin_base.specs.Acts.{IsRefused, Serves};
 ghost use Rattle.copyin_base.specs.Stands.{Stands};
 ghost use Rattle.copyin_base.specs.Wanted.{KeepsSpares};
-ghost use Rattle.copyin_base.specs.Worlds.{entry_at};
+ghost use Rattle.copyin_base.specs.Worlds.{entry_at, HasTask};
 ghost use Rattle.kernel_core_base.specs.References.{left_with, recounted_at, CanCount, CanSet, SetsReferences, RemovesSet, CanCarry, Carries, deallocated, destroyed, IsChange, more_in, CanSum, CannotSum, changed_whole, FindsRight, CanChange, CannotChange};
 
 use copyin_base::{Code, Message, World};
@@ -127,7 +127,7 @@ fn carry_out(world: &mut World, task: TaskId, name: Name, due: Due)
 /// `KERN_INVALID_VALUE` for a number above 4; `KERN_INVALID_NAME` for a name that isn't in use.
 /// Constant time, and logarithmic for a name above 65,535.
 pub fn get_refs(world: &World, task: TaskId, name: Name, right: u32) -> Result<Reply, Code>
-    requires { task < length world.now.spaces }
+    requires { HasTask world.now task }
     ensures { Serves world.now (Event.GetRefs task name right) result world.now }
 {
     let Some(right) = Right::from_number(right) else {
@@ -171,7 +171,7 @@ fn destroy_entry(entry: &Entry) -> Option<Due>
 /// alone, a set, and, as long as none can be lost, a send-once right. A refusal changes nothing.
 /// Takes no memory. Constant time, and logarithmic for a name above 65,535.
 pub fn deallocate(world: &mut World, task: TaskId, name: Name) -> Result<Reply, Code>
-    requires there { task < length world.old.spaces }
+    requires there { HasTask world.old task }
     requires stands { Stands world.old }
     ensures serves { Serves world.old (Event.Deallocate task name) result world.new }
     ensures spares { KeepsSpares world.old world.new }
@@ -191,7 +191,7 @@ pub fn deallocate(world: &mut World, task: TaskId, name: Name) -> Result<Reply, 
 /// lost, for a name with a receive or send-once right. A refusal changes nothing. Takes no memory.
 /// Constant time, and logarithmic for a name above 65,535; for a set linear in its members.
 pub fn destroy(world: &mut World, task: TaskId, name: Name) -> Result<Reply, Code>
-    requires there { task < length world.old.spaces }
+    requires there { HasTask world.old task }
     requires stands { Stands world.old }
     ensures serves { Serves world.old (Event.Destroy task name) result world.new }
     ensures spares { KeepsSpares world.old world.new }
@@ -347,7 +347,7 @@ pub fn mod_refs(
     right: u32,
     delta: i32,
 ) -> Result<Reply, Code>
-    requires there { task < length world.old.spaces }
+    requires there { HasTask world.old task }
     requires stands { Stands world.old }
     ensures serves { Serves world.old (Event.ModRefs task name right delta) result world.new }
     ensures spares { KeepsSpares world.old world.new }

@@ -1,5 +1,5 @@
 //! Port sets: their members, and ports that move from set to set.
-ghost use Rattle.std.specs.Prelude.{◌≡◌, ◌≢◌, ◌<◌, IfOk, IfErr, length};
+ghost use Rattle.std.specs.Prelude.{◌≡◌, ◌≢◌, ◌<◌, IfOk, IfErr};
 ghost use Rattle.std.specs.FinMap as map;
 ghost use Rattle.mach_types.specs.declared.calls.Event.{Event};
 ghost use Rattle.mach_types.specs.Numbers.{kern_number};
@@ -8,6 +8,7 @@ ghost use Rattle.copyin_base.specs.Acts.{IsRefused, Serves};
 ghost use Rattle.copyin_base.specs.Stands.{Stands};
 ghost use Rattle.copyin_base.specs.Wanted.{KeepsSpares};
 ghost use Rattle.kernel_core_base.specs.Sets.{set_of_port, is_member, members_in, MayMove};
+ghost use Rattle.copyin_base.specs.Worlds.{HasTask};
 
 use copyin_base::{Code, World};
 use mach_types::{KernReturn, Name, NameList, PortId, Reply, SetId, TaskId};
@@ -23,7 +24,7 @@ use std::alloc::{AllocError, Global};
 /// up to twice as many for each member. Linear in the names of the task, but for a logarithmic look at
 /// each above 65,535.
 pub fn set_status(world: &World, alloc: Global, task: TaskId, name: Name) -> Result<Reply, Code>
-    requires { task < length world.now.spaces }
+    requires { HasTask world.now task }
     ensures { Serves world.now (Event.SetStatus task name) result world.now }
 {
     let set = world.find_set(task, name)?;
@@ -98,7 +99,7 @@ pub fn move_member(
     member: Name,
     after: Name,
 ) -> Result<Reply, Code>
-    requires there { task < length world.old.spaces }
+    requires there { HasTask world.old task }
     requires stands { Stands world.old }
     ensures serves { Serves world.old (Event.MoveMember task member after) result world.new }
     ensures spares { KeepsSpares world.old world.new }

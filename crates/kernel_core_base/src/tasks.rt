@@ -33,10 +33,10 @@ pub fn create_task(world: &mut World, alloc: Global) -> Result<Reply, Code>
 
 // One task more, with no names.
 fn push_task(world: &mut World, alloc: Global) -> Result<(), KernReturn>
-    ensures ok { OnOk result (world.new ≡ record world.old { spaces = world.old.spaces ++ no_names ∷ [] }) }
+    ensures ok { OnOk result (world.new ≡ record world.old { spaces = world.old.spaces ++ Some no_names ∷ [] }) }
     ensures err { IfErr result (λ code. (code ≡ kern.ResourceShortage) × (world.new ≡ world.old)) }
 {
-    match world.spaces.push(Space::new(alloc)) {
+    match world.spaces.push(Some(Space::new(alloc))) {
         Ok(()) => Ok(()),
         Err(_) => Err(KernReturn::ResourceShortage),
     }

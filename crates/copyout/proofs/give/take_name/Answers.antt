@@ -1,7 +1,7 @@
 use Rattle.std.proofs.Common.{subst, inl, arith}
-use Rattle.std.specs.Prelude.{slice_get}
 use Rattle.mach_types.specs.Numbers.{kind_sent}
 use Rattle.name_space.specs.Names.{SpaceView, IsFreshName}
+use Rattle.copyin_base.specs.Worlds.{space_at}
 use Rattle.copyin_base.proofs.Gets.{same_found}
 use Rattle.copyout.proofs.Gives.{no_other, gives-taken}
 use Rattle.copyout.proofs.give.take_name.Goals as goal
@@ -11,7 +11,7 @@ insert_entry-requires c =
     let r = c.requires in
     let f = c.fresh-name.ensures in
     let fresh : IsFreshName r.space.names c.fresh-name.result =
-    subst (λ (x : SpaceView). IsFreshName x.names c.fresh-name.result) (same_found (slice_get c.args.world.now.spaces c.args.task) c.space.result.now r.space c.space.ensures r.there) f.fresh in
+    subst (λ (x : SpaceView). IsFreshName x.names c.fresh-name.result) (same_found (space_at c.args.world.now c.args.task) c.space.result.now r.space c.space.ensures r.there) f.fresh in
     record {
       space = r.space;
       there = r.there;
@@ -26,6 +26,6 @@ pub returns : goal.returns
 returns c =
     let r = c.requires in
     let fresh : IsFreshName r.space.names c.fresh-name.result =
-    subst (λ (x : SpaceView). IsFreshName x.names c.fresh-name.result) (same_found (slice_get c.args.world.now.spaces c.args.task) c.space.result.now r.space c.space.ensures r.there) c.fresh-name.ensures.fresh in
+    subst (λ (x : SpaceView). IsFreshName x.names c.fresh-name.result) (same_found (space_at c.args.world.now c.args.task) c.space.result.now r.space c.space.ensures r.there) c.fresh-name.ensures.fresh in
     gives-taken c.args.world.now c.insert_entry.new.self c.args.task (kind_sent c.args.given) c.args.port c.fresh-name.result c.alone.result r.space r.there c.alone.ensures c.insert_entry.ensures
     fresh r.not_full r.lone

@@ -11,5 +11,5 @@ returns c =
     record {
       space = r.space;
       there = r.there;
-      rest = space_replaced _ _ r.space become _ _ _ _ _ _ _ r.there c.self.view_is c.number.ensures c.index_mut.ensures.value c.insert.ensures;
+      rest = space_replaced _ _ r.space become _ _ _ _ _ _ _ _ r.there c.self.view_is c.number.ensures c.index_mut.ensures.value c.in-Some.is c.insert.ensures;
     }

@@ -13,7 +13,7 @@ returns-clause-ok c = elim c.match-reserve_name.branch [
       record {
         space = x.0;
         there = x.1;
-        rest = space_replaced _ _ x.0 (λ y. record y { kept = Some c.args.name }) _ _ _ _ _ _ _ x.1 c.self.view_is c.number.ensures c.index_mut.ensures.value w.in-Ok.ensures.ok;
+        rest = space_replaced _ _ x.0 (λ y. record y { kept = Some c.args.name }) _ _ _ _ _ _ _ _ x.1 c.self.view_is c.number.ensures c.index_mut.ensures.value c.in-Some.is w.in-Ok.ensures.ok;
       })
   | in-Err w ↦ rw w.result-is tt
 ]
@@ -23,6 +23,6 @@ returns-clause-lacks c = elim c.match-reserve_name.branch [
   | in-Ok w ↦ rw w.result-is tt
   | in-Err w ↦ rw w.result-is (
       let x = space_there c.args.self.now c.args.task c.requires.there in
-      let here = space_read c.args.self.now c.args.task x.0 _ _ _ _ _ c.index_mut.result.now x.1 c.self.view_is c.number.ensures c.index_mut.ensures.value in
+      let here = space_read c.args.self.now c.args.task x.0 _ _ _ _ _ _ c.in-Some.space x.1 c.self.view_is c.number.ensures c.index_mut.ensures.value c.in-Some.is in
       λ kept. w.in-Err.ensures.wanted (ap (λ (y : SpaceView). y.kept) here ∙ ap kept_in (sym x.1) ∙ kept))
 ]

@@ -16,7 +16,7 @@ returns-clause-ok c = elim c.match-reserve.branch [
       record {
         space = x.0;
         there = x.1;
-        rest = space_replaced _ _ x.0 (λ y. record y { room = max y.room c.args.number }) _ _ _ _ _ _ _ x.1 c.self.view_is c.number.ensures c.index_mut.ensures.value w.in-Ok.ensures.ok;
+        rest = space_replaced _ _ x.0 (λ y. record y { room = max y.room c.args.number }) _ _ _ _ _ _ _ _ x.1 c.self.view_is c.number.ensures c.index_mut.ensures.value c.in-Some.is w.in-Ok.ensures.ok;
       })
   | in-Err w ↦ rw w.result-is tt
 ]
@@ -26,9 +26,9 @@ returns-clause-lacks c = elim c.match-reserve.branch [
   | in-Ok w ↦ rw w.result-is tt
   | in-Err w ↦ rw w.result-is (
       let x = space_there c.args.self.now c.args.task c.requires in
-      let here = space_read c.args.self.now c.args.task x.0 _ _ _ _ _ c.index_mut.result.now x.1 c.self.view_is c.number.ensures c.index_mut.ensures.value in
-      let room : room_of c.args.self.now c.args.task ≡ c.index_mut.result.now.room = room_there c.args.self.now c.args.task x.0 x.1 ∙ ap (λ (y : SpaceView). y.room) (sym here) in
-      elim (cases_lt c.index_mut.result.now.room c.args.number) [
+      let here = space_read c.args.self.now c.args.task x.0 _ _ _ _ _ _ c.in-Some.space x.1 c.self.view_is c.number.ensures c.index_mut.ensures.value c.in-Some.is in
+      let room : room_of c.args.self.now c.args.task ≡ c.in-Some.space.room = room_there c.args.self.now c.args.task x.0 x.1 ∙ ap (λ (y : SpaceView). y.room) (sym here) in
+      elim (cases_lt c.in-Some.space.room c.args.number) [
         | inl h ↦ omega (arith, room, h)
         | inr h ↦ absurd (let ok : false ≡ true = w.in-Err.ensures.had_room h in cc)
       ])
