@@ -1,5 +1,5 @@
 -- The space of one task was read and replaced in the tables.
-use Rattle.std.proofs.Common.{◌≡◌, ℕ, ◌<◌, List, [], ◌∷◌, ◌++◌, Option, Some, None, Ok, Err, OnOk, refl, sym, ap, subst, ◌∙◌, zero, suc, length, get_or, arith, inl, inr}
+use Rattle.std.proofs.Common.{◌≡◌, ℕ, List, [], ◌∷◌, ◌++◌, Option, Some, None, Ok, Err, OnOk, refl, sym, ap, subst, ◌∙◌, zero, suc, length, get_or, inl, inr}
 use Rattle.std.specs.Prelude.{◌≢◌, slice_set, Result}
 use Rattle.std.proofs.lemmas.Bool.Decides.{eqb_tells}
 use Rattle.name_space.specs.Names.{SpaceView}
@@ -45,12 +45,6 @@ space-push_other (x ∷ xs) new (suc task) not = space-push_other xs new task (�
 pub space-end : (spaces : List (Option SpaceView)) → space_in spaces (length spaces) ≡ None
 space-end [] = refl
 space-end (x ∷ xs) = space-end xs
-
--- a task that lives is one that was made
-pub there_below : (spaces : List (Option SpaceView)) (task : ℕ) (space : SpaceView) → space_in spaces task ≡ Some space → task < length spaces
-there_below [] task space is = absurd (let none : None ≡ Some space = is in cc)
-there_below (x ∷ xs) zero space is = omega arith
-there_below (x ∷ xs) (suc task) space is = let below = there_below xs task space is in omega (arith, below)
 
 -- ---- in the tables
 

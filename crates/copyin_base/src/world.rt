@@ -13,8 +13,8 @@ use std::marker::Model;
 
 /// The tasks' names, the ports with their queues, the counts of all rights, and the port sets.
 ///
-/// A task's number is its place, also after its end. What ties the tables to one another is no part of this type: who holds a
-/// world keeps that it shows a state of the machine.
+/// A task's number is its place, also after its end. What ties the tables to one another is no part
+/// of this type: who holds a world keeps that it shows a state of the machine.
 #[derive(Drop)]
 pub struct World {
     /// The names of each task; none where the task has ended.
