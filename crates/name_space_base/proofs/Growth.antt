@@ -1,6 +1,6 @@
 -- What making a page keeps.
-use Rattle.std.proofs.Common.{◌≡◌, ◌⊎◌, inl, inr, ℕ, ◌+◌, ◌-◌, ◌*◌, ◌/◌, ◌%◌, ◌<◌, ◌≤◌, ◌==◌, ltb, true, List, length, get_or, Option, None, Result, Ok, Err, OnOk, OnErr, ap, sym, ◌∙◌, subst, arith}
-use Rattle.std.proofs.lemmas.Bool.{cases_eq, lt-ltb, ltb-true}
+use Rattle.std.proofs.Common.{◌≡◌, ◌⊎◌, inl, inr, ℕ, ◌+◌, ◌-◌, ◌*◌, ◌/◌, ◌%◌, ◌<◌, ◌≤◌, ◌==◌, ltb, true, List, length, get_or, Option, None, Result, Ok, Err, IsOk, OnOk, OnErr, ap, sym, ◌∙◌, subst, arith}
+use Rattle.std.proofs.lemmas.Bool.{false≢true, cases_eq, lt-ltb, ltb-true}
 use Rattle.std.specs.FinMap as map
 use Rattle.std.specs.FinSet as finset
 use Rattle.std.specs.Ordering.{nat_cmp}
@@ -17,6 +17,10 @@ on-ok (Err e) f h = h
 pub on-err : {A E P Q : Type 0} (r : Result A E) → (P → Q) → OnErr r P → OnErr r Q
 on-err (Ok x) f h = h
 on-err (Err e) f h = f h
+
+pub on-none : {A E P : Type 0} (r : Result A E) → (P → IsOk r) → OnErr r (P → ⊥)
+on-none (Ok x) f = tt
+on-none (Err e) f = λ p. false≢true (f p)
 
 module _ {T : Type 0} (ps qs : Sheets T) (p : ℕ) (m : MakesOnly ps qs p) where
   pub look-made : (n : ℕ) → look qs n ≡ look ps n

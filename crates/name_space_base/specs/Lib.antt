@@ -2,3 +2,5 @@ pub mod Bits
 pub mod Page
 pub mod Pages
 pub mod Sound
+pub mod Lends
+pub mod PageLends

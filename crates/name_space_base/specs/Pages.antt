@@ -1,5 +1,5 @@
 -- What contracts see of values by small numbers: a finite map, for how many more there is room at the least free numbers, and which pages are made.
-use Rattle.std.specs.Prelude.{◌≡◌, ℕ, ◌/◌, ◌<◌, ◌≤◌, true, ◌⊎◌, None, refl}
+use Rattle.std.specs.Prelude.{◌≡◌, ◌≢◌, ℕ, ◌/◌, ◌<◌, ◌≤◌, true, ◌⊎◌, None, refl}
 use Rattle.std.specs.Coded.{Coded, code_by, coded×, coded_ℕ}
 use Rattle.std.specs.FinMap as map
 use Rattle.std.specs.FinSet as set
@@ -33,6 +33,11 @@ HasPage v number = set.contains v.made (number / 256) ≡ true
 -- a value can be put in under the number with no memory
 abbrev pub HasPlace : {T : Type 0} → PagesView T → ℕ → Type 0
 HasPlace v number = (IsFirstFree v.values number × (0 < v.room)) ⊎ HasPage v number
+
+-- The page of the number isn't made, so that no number in it has a value.
+pub record WantsPage {T : Type 0} (v : PagesView T) (number : ℕ) : Type 0 where
+  pub unmade : HasPage v number → ⊥
+  pub alone : (n : ℕ) → map.contains_key v.values n ≡ true → n / 256 ≢ number / 256
 
 -- the least used number from another on
 pub record IsNextUsed {T : Type 0} (values : map.FinMap nat_cmp T) (start number : ℕ) : Type 0 where

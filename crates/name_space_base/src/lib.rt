@@ -4,10 +4,11 @@
 //! page finds the least free number in a few words.
 #![tactic(auto)]
 
-ghost use Rattle.std.specs.Prelude.{◌≡◌, ℕ, ◌-◌, ◌/◌, ◌<◌, ◌≤◌, ◌↔◌, ◌==◌, if◌then◌else◌, IsTrue, true, max, length, None, IfOk, IfSome, IfNone, IsOk, OnOk, OnErr};
+ghost use Rattle.std.specs.Prelude.{◌≡◌, ℕ, ◌-◌, ◌/◌, ◌<◌, ◌≤◌, ◌↔◌, ◌==◌, if◌then◌else◌, IsTrue, true, max, length, Some, None, IfOk, IfSome, IfNone, IsOk, OnOk, OnErr};
+ghost use Rattle.std.specs.Borrow.{sem};
 ghost use Rattle.std.specs.FinMap as map;
 ghost use Rattle.std.specs.FinSet as set;
-ghost use Rattle.name_space_base.specs.Pages.{IsFirstFree, HasPage, HasPlace, IsNextUsed};
+ghost use Rattle.name_space_base.specs.Pages.{IsFirstFree, HasPage, HasPlace, WantsPage, IsNextUsed};
 ghost use Rattle.name_space_base.specs.Bits.{has};
 ghost use Rattle.name_space_base.specs.Sound.{page_at, MakesOnly};
 
@@ -96,6 +97,8 @@ fn mark(full: &mut Bits, page: usize, is_full: bool)
 }
 
 impl<T: Copy> Pages<T> {
+    ghost use Rattle.name_space_base.specs.Lends.{lends_value};
+
     /// No values, and no room for any. Allocates nothing; constant time.
     pub fn new(alloc: Global) -> Pages<T>
         ensures values { result.values ≡ map.empty }
@@ -213,12 +216,14 @@ impl<T: Copy> Pages<T> {
     /// Makes the page of a number, at most 65,535, where it isn't made. Constant time, but for the
     /// pages before it that were never named.
     ///
-    /// An error means that memory was refused; nothing is then changed.
+    /// An error means that memory was refused, and that no number of the page had a value; nothing is
+    /// then changed.
     pub fn make_page(&mut self, number: u32) -> Result<(), AllocError>
         requires { number < 65536 }
         ensures ok { OnOk result (self.new ≡ record self.old { made = set.insert self.old.made (number / 256) }) }
         ensures err { OnErr result (self.new ≡ self.old) }
         ensures had_page { HasPage self.old number → IsOk result }
+        ensures wanted { OnErr result (WantsPage self.old number) }
     {
         make(&mut self.pages, number as usize / PAGE, self.alloc)
     }
@@ -248,6 +253,15 @@ impl<T: Copy> Pages<T> {
         ensures { self.new ≡ record self.old { values = map.insert self.old.values number value } }
     {
         self.pages[number as usize / PAGE].set(number as usize % PAGE, value);
+    }
+
+    /// The value under a number, for writing. Takes no memory; constant time.
+    pub fn value_mut(&mut self, number: u32) -> &mut T
+        requires { map.contains_key self.old.values number ≡ true }
+        ensures* writes_back { sem 𝓛 (lends_value T.row self.entry number result) }
+        ensures value { map.get self.old.values number ≡ Some result.now }
+    {
+        self.pages[number as usize / PAGE].value_mut(number as usize % PAGE)
     }
 
     /// Takes out the value under a number, and answers it. Room and pages stay as they are. Constant time.

@@ -1,5 +1,7 @@
 //! A page: up to 256 values by their places, made at once or not at all.
 ghost use Rattle.std.specs.Prelude.{◌≡◌, ◌<◌, ◌≤◌, ◌↔◌, ℕ, [], length, Some, None, IsTrue, is_some, true, OnOk, OnErr, slice_index_or, slice_set};
+ghost use Rattle.std.specs.Borrow.{sem};
+ghost use Rattle.std.specs.Option.Follows.{option_follows_value};
 ghost use Rattle.name_space_base.specs.Page.{used_in, IsBlank};
 
 use crate::bits::Bits;
@@ -32,7 +34,21 @@ impl<T> Model for Page<T> {
     ghost invariant = { λ a. IsMarked a.values.items a.used.words a.len };
 }
 
+// The value that is there, for writing.
+fn value_in<T>(slot: &mut Option<T>) -> &mut T
+    requires { is_some slot.old ≡ true }
+    ensures* writes_back { sem 𝓛 (option_follows_value T.row slot.entry result) }
+    ensures value { slot.old ≡ Some result.now }
+{
+    match slot {
+        Some(value) => value,
+        None => unreachable!(),
+    }
+}
+
 impl<T: Copy> Page<T> {
+    ghost use Rattle.name_space_base.specs.PageLends.{lends_place};
+
     // A page that isn't made. Allocates nothing.
     pub(crate) fn new(alloc: Global) -> Page<T>
         ensures { result ≡ [] }
@@ -126,6 +142,16 @@ impl<T: Copy> Page<T> {
         ensures { self.new ≡ slice_set self.old place (Some value) }
     {
         self.values[place] = Some(value);
+    }
+
+    // The value at a place that has one, for writing.
+    pub(crate) fn value_mut(&mut self, place: usize) -> &mut T
+        requires made { place < length self.old }
+        requires used { is_some (slice_index_or self.old place None) ≡ true }
+        ensures* writes_back { sem 𝓛 (lends_place T.row self.entry place result) }
+        ensures value { slice_index_or self.old place None ≡ Some result.now }
+    {
+        value_in(&mut self.values[place])
     }
 
     // Takes a value out.

@@ -1,10 +1,12 @@
-use Rattle.std.proofs.Common.{◌≡◌, ◌/◌, ltb, length, true, ap, sym, ◌∙◌, refl, ℕ}
+use Rattle.std.proofs.Common.{◌≡◌, ◌/◌, ◌<◌, ltb, length, true, ap, sym, ◌∙◌, refl, ℕ}
 use Rattle.std.proofs.lemmas.Bool.{ltb-true}
+use Rattle.std.specs.FinMap as map
 use Rattle.std.specs.FinSet as set
 use Rattle.name_space_base.specs.Pages.{PagesView}
 use Rattle.name_space_base.specs.Sound.{page_at, values_of, made_of}
 use Rattle.name_space_base.proofs.Laid.{Sheets, same-view, contains-made}
-use Rattle.name_space_base.proofs.Growth.{on-ok, on-err, sound-made, values-made, made-more, made-no_more}
+use Rattle.name_space_base.proofs.Held.{used-page}
+use Rattle.name_space_base.proofs.Growth.{on-ok, on-err, on-none, sound-made, values-made, made-more, made-no_more}
 use Rattle.name_space_base.proofs.Pages.make_page.Goals as goal
 
 pub invariant_of-self : goal.invariant_of-self
@@ -35,3 +37,13 @@ returns-clause-had_page g c = λ has.
     let p : ℕ = c.args.number / 256 in
     let made : ltb 0 (length (page_at ps p)) ≡ true = sym (contains-made ps p) ∙ ap (λ (v : PagesView g.row.T.Denot). set.contains v.made p) c.self.view_is ∙ has in
     c.make.ensures.made (ltb-true 0 (length (page_at ps p)) made)
+
+pub returns-clause-wanted : goal.returns-clause-wanted
+returns-clause-wanted g c =
+    let ps : Sheets g.row.T.Denot = c.self.inside.pages.items in
+    let p : ℕ = c.args.number / 256 in
+    let made : (set.contains (made_of ps) p ≡ true → 0 < length (page_at ps p)) = λ has. ltb-true 0 (length (page_at ps p)) (sym (contains-made ps p) ∙ has) in
+    on-err c.make.result (λ none. record {
+      unmade = λ has. none (made (ap (λ (v : PagesView g.row.T.Denot). set.contains v.made p) c.self.view_is ∙ has));
+      alone = λ n used same. none (made (ap (set.contains (made_of ps)) (sym same) ∙ used-page ps n (ap (λ (v : PagesView g.row.T.Denot). map.contains_key v.values n) c.self.view_is ∙ used)));
+    }) (on-none c.make.result c.make.ensures.made)
