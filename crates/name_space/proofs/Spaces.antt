@@ -5,7 +5,8 @@ use Rattle.std.specs.FinMap as map
 use Rattle.std.specs.Ordering.{nat_cmp}
 use Rattle.mach_types.specs.Numbers.{null_word, dead_word, most_names}
 use Rattle.name_space.specs.declared.Entry.{Entry}
-use Rattle.name_space.specs.Entry.{port_named}
+use Rattle.name_space.specs.declared.Entry.TheVariants.{Receive, Send, ReceiveAndSend, SendOnce, DeadName, Set}
+use Rattle.name_space.specs.Entry.{port_named, with_send}
 use Rattle.name_space.specs.Names.{Names, SpaceView, IsUsable, HasNoOther, port_at}
 use Rattle.name_space.specs.Ports.{PortNames, PortsView}
 use Rattle.name_space.specs.Sound.{IsSound, lost}
@@ -89,6 +90,9 @@ module _ (t : SpaceView) (p : PortsView) (len : ℕ) (x : IsSound t p len) where
           stays None none same = sym none
           stays (Some port) none same = sym (same port refl)
 
+      pub sound-joined : port_named e ≡ port_at t.names name → IsSound u p len
+      sound-joined same = renewed p (same_ports t.names _ p.names links (ports_put t.names name e same)) refl refl
+
       pub sound-lost : (q : PortsView) (port : ℕ) → lost (port_at t.names name) (port_named e) ≡ Some port → q ≡ record { names = map.remove p.names port; room = p.room; kept = p.kept } → IsSound u q len
       sound-lost q port goes out =
           let both : (port_named e ≡ None) × (port_at t.names name ≡ Some port) = told (port_named e) goes in
@@ -150,6 +154,27 @@ module _ (t : SpaceView) (p : PortsView) (len : ℕ) (x : IsSound t p len) where
     | inl a ↦ some_or_none port _ h (ap (option_and_then port_named) (ap (map.get (map.remove t.names name)) a ∙ out_here t.names name))
     | inr d ↦ d (one_name t.names p.names links other name port (ap (option_and_then port_named) (sym (out_other t.names name other d)) ∙ h) (ap (option_and_then port_named) there ∙ is))
   ]
+
+-- the name that a port leads to is in use
+pub leads_to : (t : SpaceView) (p : PortsView) (len : ℕ) → IsSound t p len → (port name : ℕ) → map.get p.names port ≡ Some name → map.contains_key t.names name ≡ true
+leads_to t p len x port name is = used (map.get t.names name) (x.named port name is)
+  where
+    used : (o : Option Entry) → option_and_then port_named o ≡ Some port → is_some o ≡ true
+    used (Some e) h = refl
+    used None h = absurd (some_or_none port _ h refl)
+
+-- no name has the port
+pub leads_nowhere : (t : SpaceView) (p : PortsView) (len : ℕ) → IsSound t p len → (port : ℕ) → map.get p.names port ≡ None → (name : ℕ) → port_at t.names name ≢ Some port
+leads_nowhere t p len x port none name h = some_or_none name _ (x.found port name h) none
+
+-- a send reference is for the same port
+pub port_with_send : (e : Entry) → port_named (with_send e) ≡ port_named e
+port_with_send (Receive port) = refl
+port_with_send (Send port references) = refl
+port_with_send (ReceiveAndSend port references) = refl
+port_with_send (SendOnce port) = refl
+port_with_send (DeadName references) = refl
+port_with_send (Set set) = refl
 
 pub sound_empty : (t : SpaceView) (p : PortsView) → t ≡ record { names = map.empty; room = 0; kept = None } → p ≡ record { names = map.empty; room = 0; kept = None } → IsSound t p 0
 sound_empty t p e f = record {

@@ -1,6 +1,6 @@
 -- What stands under a name.
-use Rattle.std.specs.Prelude.{ℕ, ◌+◌, Bool, true, false, Option, Some, None, if◌then◌else◌}
-use Rattle.mach_types.specs.Numbers.{right_bit}
+use Rattle.std.specs.Prelude.{ℕ, ◌+◌, Bool, true, false, Option, Some, None, if◌then◌else◌, min}
+use Rattle.mach_types.specs.Numbers.{right_bit, most_references}
 use Rattle.mach_types.specs.declared.rights.Right.{Right}
 use Rattle.mach_types.specs.declared.rights.Right.TheVariants as right
 use Rattle.name_space.specs.declared.Entry.{Entry}
@@ -61,6 +61,13 @@ references_in right.SendOnce (SendOnce port) = 1
 references_in right.PortSet (Set set) = 1
 references_in right.DeadName (DeadName references) = references
 references_in r e = 0
+
+-- the entry with one send reference more, of which there are so many at the most; it is for a port
+abbrev pub with_send : Entry → Entry
+with_send (Receive port) = ReceiveAndSend port 1
+with_send (Send port references) = Send port (min (references + 1) most_references)
+with_send (ReceiveAndSend port references) = ReceiveAndSend port (min (references + 1) most_references)
+with_send e = e
 
 -- the bits of the rights that the entry has
 abbrev pub type_in : Entry → ℕ

@@ -4,6 +4,7 @@ ghost use Rattle.std.specs.BTreeMap.{get as value_in, Updates};
 ghost use Rattle.std.specs.FinMap as map;
 ghost use Rattle.std.specs.Ordering.{nat_cmp};
 ghost use Rattle.name_space_base.specs.Pages.{IsNextUsed};
+ghost use Rattle.name_space.specs.Entry.{with_send};
 ghost use Rattle.name_space.specs.High.{with_kept, least_name, HasApart};
 
 use crate::Entry;
@@ -121,6 +122,17 @@ impl High {
         } else {
             replace(&mut self.others, name, entry);
         }
+    }
+
+    // Adds a send reference to what stands under a name, and answers what stood there. Takes no memory.
+    pub(crate) fn add_send(&mut self, name: u32) -> Entry
+        requires { map.contains_key self.old.names name ≡ true }
+        ensures value { map.get self.old.names name ≡ Some result }
+        ensures after { self.new ≡ record self.old { names = map.insert self.old.names name (with_send result) } }
+    {
+        let entry = self.get(name).unwrap();
+        self.put(name, entry.with_send());
+        entry
     }
 
     // Takes out what stands under the name, and answers it.

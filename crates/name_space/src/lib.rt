@@ -13,7 +13,7 @@ ghost use Rattle.std.specs.Prelude.{◌≡◌, ◌≢◌, ℕ, ◌+◌, ◌-◌,
 ghost use Rattle.std.specs.Option.{option_and_then};
 ghost use Rattle.std.specs.FinMap as map;
 ghost use Rattle.mach_types.specs.Numbers.{most_names, most_references};
-ghost use Rattle.name_space.specs.Entry.{port_named};
+ghost use Rattle.name_space.specs.Entry.{port_named, with_send};
 ghost use Rattle.name_space.specs.Sound.{lost};
 
 mod high;
@@ -123,6 +123,21 @@ impl Entry {
         }
     }
 
+    /// This with one send reference more, but no more than 65,535 in all. What has no receive right and no
+    /// send rights stays as it is.
+    pub fn with_send(&self) -> Entry
+        ensures { result ≡ with_send self.now }
+    {
+        match self {
+            Entry::Receive(port) => Entry::ReceiveAndSend(*port, UserRefs::one()),
+            Entry::Send(port, references) => Entry::Send(*port, references.add_pegged(1)),
+            Entry::ReceiveAndSend(port, references) => {
+                Entry::ReceiveAndSend(*port, references.add_pegged(1))
+            }
+            Entry::SendOnce(_) | Entry::DeadName(_) | Entry::Set(_) => *self,
+        }
+    }
+
     /// The bits of the rights that this has: a name's type (Port Manipulation Interface,
     /// `mach_port_type_t`).
     pub fn type_bits(&self) -> u32
@@ -137,6 +152,15 @@ impl Entry {
             Entry::Set(_) => Right::PortSet.type_bit(),
         }
     }
+}
+
+/// A name, and what stands under it.
+#[derive(Clone, Copy, Debug, PartialEq, Eq)]
+pub struct PortName {
+    /// The name.
+    pub name: Name,
+    /// What stands under it.
+    pub entry: Entry,
 }
 
 /// A task's names. An empty space has allocated nothing.
@@ -324,6 +348,23 @@ impl Space {
         if let Some(port) = lost {
             self.ports.remove(port);
         }
+    }
+
+    /// Adds a send reference under the name that has the port's receive right or send rights, if one
+    /// has, and answers that name with what stood under it before. A reference above 65,535 is not kept.
+    ///
+    /// `None` where no name has such rights for the port; nothing is then changed. Takes no memory.
+    /// Constant time; above 65,535 logarithmic in the number of names there.
+    pub fn add_send(&mut self, port: PortId) -> Option<PortName>
+        ensures found { IfSome result (λ named. map.get self.old.names named.name ≡ Some named.entry) }
+        ensures port { IfSome result (λ named. port_named named.entry ≡ Some port) }
+        ensures after { IfSome result (λ named. self.new ≡ record self.old { names = map.insert self.old.names named.name (with_send named.entry) }) }
+        ensures none { IfNone result ((name : ℕ) → port_at self.old.names name ≢ Some port) }
+        ensures same { IfNone result (self.new ≡ self.old) }
+    {
+        let name = self.ports.name_of(port)?;
+        let entry = self.table.add_send(name);
+        Some(PortName { name, entry })
     }
 
     /// Takes a name out of use, and answers what stood under it. Room stays as it is, and the place that

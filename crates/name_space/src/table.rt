@@ -3,6 +3,7 @@ ghost use Rattle.std.specs.Prelude.{◌≡◌, ◌≢◌, ℕ, ◌-◌, ◌<◌,
 ghost use Rattle.std.specs.FinMap as map;
 ghost use Rattle.mach_types.specs.Numbers.{most_names};
 ghost use Rattle.name_space_base.specs.Pages.{IsNextUsed};
+ghost use Rattle.name_space.specs.Entry.{with_send};
 ghost use Rattle.name_space.specs.Names.{IsFreshName, IsUsable, HasPlace};
 
 use crate::Entry;
@@ -37,6 +38,16 @@ impl Model for Table {
     ghost view = { λ a. record { names = joined a.low.values a.high.names; room = a.room; kept = a.kept } };
 
     ghost invariant = { λ a. IsLaid a.low a.high a.room a.kept };
+}
+
+// Adds a send reference, and answers what was there.
+fn join_send(held: &mut Entry) -> Entry
+    ensures value { result ≡ held.old }
+    ensures after { held.new ≡ with_send held.old }
+{
+    let before = *held;
+    *held = before.with_send();
+    before
 }
 
 impl Table {
@@ -156,6 +167,20 @@ impl Table {
             self.low.set(number, entry);
         } else {
             self.high.put(number, entry);
+        }
+    }
+
+    // Adds a send reference to what stands under a name, and answers what stood there. Takes no memory.
+    pub(crate) fn add_send(&mut self, name: Name) -> Entry
+        requires { map.contains_key self.old.names name ≡ true }
+        ensures value { map.get self.old.names name ≡ Some result }
+        ensures after { self.new ≡ record self.old { names = map.insert self.old.names name (with_send result) } }
+    {
+        let number = name.number();
+        if number < FIRST_HIGH {
+            join_send(self.low.value_mut(number))
+        } else {
+            self.high.add_send(number)
         }
     }
 
