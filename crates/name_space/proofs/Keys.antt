@@ -1,5 +1,5 @@
 -- A finite map at a key, and at another.
-use Rattle.std.proofs.Common.{◌≡◌, ◌≢◌, ◌⊎◌, inl, inr, ℕ, ◌+◌, ◌-◌, ◌<◌, ◌≤◌, Bool, true, false, cond, refl, ap, sym, ◌∙◌, Option, Some, None, is_some, IfNone, eqb, arith}
+use Rattle.std.proofs.Common.{◌≡◌, ◌≢◌, ◌⊎◌, inl, inr, ℕ, ◌+◌, ◌-◌, ◌<◌, ◌≤◌, Bool, true, false, cond, refl, ap, sym, ◌∙◌, Option, Some, None, is_some, IfNone, Result, Ok, Err, OnErr, eqb, arith}
 use Rattle.std.proofs.lemmas.Bool.{ne_eqb}
 use Rattle.std.proofs.lemmas.Bool.Decides.{eqb_tells}
 use Rattle.std.specs.Ordering.{nat_cmp}
@@ -15,6 +15,10 @@ some_or_none x o a b = let e : Some x ≡ None = sym a ∙ b in cc
 pub for_none : {A P : Type 0} (o : Option A) → P → IfNone o P
 for_none None p = p
 for_none (Some x) p = tt
+
+pub for_err : {A E P : Type 0} (r : Result A E) → P → OnErr r P
+for_err (Ok x) p = tt
+for_err (Err e) p = p
 
 pub equal_or_not : (q k : ℕ) → (q ≡ k) ⊎ (q ≢ k)
 equal_or_not q k = elim (eqb_tells q k) [ inl h ↦ inl h.1 | inr h ↦ inr h.1 ]

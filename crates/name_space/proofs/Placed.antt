@@ -1,7 +1,7 @@
 -- Names by ports, and the port that stands in the place for one name's.
 use Rattle.std.proofs.Common.{◌≡◌, ◌≢◌, inl, inr, ℕ, refl, ap, sym, subst, ◌∙◌, Option, Some, None}
 use Rattle.std.specs.FinMap as map
-use Rattle.name_space.specs.Ports.{PortNames, PortsView, with_port, without, IsApart}
+use Rattle.name_space.specs.Ports.{PortNames, PortsView, with_port, without, IsApart, HasNoneKept}
 use Rattle.name_space.proofs.Keys.{same_some, some_or_none, equal_or_not, is_or_not, put_here, put_other, out_here, out_other, same_gets}
 
 pub port_here : (port name : Option ℕ) (m : PortNames) (p n : ℕ) → port ≡ Some p → name ≡ Some n → map.get (with_port port name m) p ≡ Some n
@@ -133,6 +133,9 @@ module _ (port name : Option ℕ) (m : PortNames) (room : ℕ) (x : IsApart port
 
   pub seen_other : (p : ℕ) → port ≢ Some p → map.get m p ≡ map.get v.names p
   seen_other p d = sym (port_other port name m p d) ∙ seen p
+
+  pub none_in_place : HasNoneKept v → (p : ℕ) → port ≢ Some p
+  none_in_place none p is = let named = x.named p is in none p named.0 (sym kept_is ∙ named.1) (sym (seen_here p is) ∙ named.1)
 
   pub gone : (p : ℕ) → map.get v.names p ≡ None → map.get m p ≡ None
   gone p none = absent_there port name m x p (seen p ∙ none)

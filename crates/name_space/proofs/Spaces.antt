@@ -8,7 +8,7 @@ use Rattle.name_space.specs.declared.Entry.{Entry}
 use Rattle.name_space.specs.declared.Entry.TheVariants.{Receive, Send, ReceiveAndSend, SendOnce, DeadName, Set}
 use Rattle.name_space.specs.Entry.{port_named, with_send}
 use Rattle.name_space.specs.Names.{Names, SpaceView, IsUsable, HasNoOther, port_at}
-use Rattle.name_space.specs.Ports.{PortNames, PortsView}
+use Rattle.name_space.specs.Ports.{PortNames, PortsView, HasNoneKept}
 use Rattle.name_space.specs.Sound.{IsSound, lost}
 use Rattle.name_space.proofs.Keys.{some_or_none, equal_or_not, put_other, out_here, out_other, same_gets}
 use Rattle.name_space.proofs.Gathered.{out_none}
@@ -154,6 +154,40 @@ module _ (t : SpaceView) (p : PortsView) (len : ℕ) (x : IsSound t p len) where
     | inl a ↦ some_or_none port _ h (ap (option_and_then port_named) (ap (map.get (map.remove t.names name)) a ∙ out_here t.names name))
     | inr d ↦ d (one_name t.names p.names links other name port (ap (option_and_then port_named) (sym (out_other t.names name other d)) ∙ h) (ap (option_and_then port_named) there ∙ is))
   ]
+
+-- there comes more room for ports
+pub sound-roomier : (t : SpaceView) (p q : PortsView) (len : ℕ) → IsSound t p len → q ≡ record { names = p.names; room = q.room; kept = p.kept } → p.room ≤ q.room → IsSound t q len
+sound-roomier t p q len x is more = record {
+  named = λ port name h. x.named port name (ap (λ (a : PortsView). map.get a.names port) (sym is) ∙ h);
+  found = λ port name h. ap (λ (a : PortsView). map.get a.names port) is ∙ x.found port name h;
+  same_kept = ap (λ (a : PortsView). a.kept) is ∙ x.same_kept;
+  has_room = let had = x.has_room in omega arith;
+  counted = x.counted;
+  few = x.few;
+  not_null = x.not_null;
+  not_dead = x.not_dead;
+}
+
+-- the place goes to another name
+pub sound-kept : (t u : SpaceView) (p q : PortsView) (len name : ℕ) → IsSound t p len → u ≡ record { names = t.names; room = t.room; kept = Some name } → q.names ≡ p.names → q.kept ≡ Some name → t.room ≤ q.room → IsSound u q len
+sound-kept t u p q len name x is names kept fits =
+    let same : u.names ≡ t.names = ap (λ (a : SpaceView). a.names) is in
+    let links : AreLinked u.names q.names = over _ _ _ _ same names (record { named = x.named; found = x.found }) in
+    let rooms : u.room ≡ t.room = ap (λ (a : SpaceView). a.room) is in
+    record {
+      named = links.named;
+      found = links.found;
+      same_kept = kept ∙ sym (ap (λ (a : SpaceView). a.kept) is);
+      has_room = omega arith;
+      counted = x.counted ∙ ap (λ (a : Names). map.len a) (sym same);
+      few = x.few;
+      not_null = ap (λ (a : Names). map.get a null_word) same ∙ x.not_null;
+      not_dead = ap (λ (a : Names). map.get a dead_word) same ∙ x.not_dead;
+    }
+
+-- where no port has the place of the table, none has that of the ports
+pub none_kept : (t : SpaceView) (p : PortsView) (len : ℕ) → IsSound t p len → ((kept : ℕ) → t.kept ≡ Some kept → port_at t.names kept ≡ None) → HasNoneKept p
+none_kept t p len x none port name is h = some_or_none port _ (x.named port name h) (none name (sym x.same_kept ∙ is))
 
 -- the name that a port leads to is in use
 pub leads_to : (t : SpaceView) (p : PortsView) (len : ℕ) → IsSound t p len → (port name : ℕ) → map.get p.names port ≡ Some name → map.contains_key t.names name ≡ true

@@ -1,5 +1,5 @@
 -- A table of names, as names come and go.
-use Rattle.std.proofs.Common.{◌≡◌, inl, inr, ℕ, ◌-◌, ◌/◌, ◌<◌, ◌≤◌, ◌||◌, true, refl, ap, sym, subst, ◌∙◌, Option, Some, None, arith}
+use Rattle.std.proofs.Common.{◌≡◌, inl, inr, ℕ, ◌-◌, ◌/◌, ◌<◌, ◌≤◌, ◌||◌, true, refl, ap, sym, subst, ◌∙◌, Option, Some, None, is_some, arith}
 use Rattle.std.specs.FinMap as map
 use Rattle.std.specs.FinSet as set
 use Rattle.std.specs.Ordering.{nat_cmp}
@@ -8,7 +8,7 @@ use Rattle.mach_types.specs.Numbers.{most_names}
 use Rattle.name_space_base.specs.Pages.{PagesView, HasPage}
 use Rattle.name_space_base.specs.Pages as pages
 use Rattle.name_space.specs.declared.Entry.{Entry}
-use Rattle.name_space.specs.Names.{Names, SpaceView, IsFreshName, HasPlace}
+use Rattle.name_space.specs.Names.{Names, SpaceView, IsFreshName, HasPlace, HasNoNeighbour}
 use Rattle.name_space.specs.High.{HighView}
 use Rattle.name_space.specs.Table.{joined, IsLaid}
 use Rattle.name_space.proofs.Keys.{same_some, some_or_none, eqb-same, put_other}
@@ -125,6 +125,13 @@ module _ (low : PagesView Entry) (high : HighView) (room : ℕ) (kept : Option �
 
     pub seen_high : 65536 ≤ n → map.get high.names n ≡ map.get v.names name
     seen_high great = sym (at_high low.values high.names x.low_names x.high_names n great) ∙ seen
+
+    -- what the pages lack, the whole does
+    pub no_neighbour : n < 65536 → pages.WantsPage low n → HasNoNeighbour v name
+    no_neighbour small w = record {
+      alone = λ q used same. w.alone q (let near : q / 256 ≡ n / 256 = same ∙ ap (λ k. k / 256) (sym number) in ap is_some (sym (at_low low.values high.names x.low_names x.high_names q (omega arith)) ∙ ap (λ (m : Names). map.get m q) names_are) ∙ used) (same ∙ ap (λ k. k / 256) (sym number));
+      apart = λ q is same. w.unmade (let near : q / 256 ≡ n / 256 = same ∙ ap (λ k. k / 256) (sym number) in ap (λ k. set.contains low.made k) (sym near) ∙ x.low_place q (kept_is ∙ is) (omega arith));
+    }
 
     renamed : (f : Names → ℕ → Names) → f (joined low.values high.names) n ≡ f v.names name
     renamed f = ap (λ (m : Names). f m n) names_are ∙ ap (f v.names) number

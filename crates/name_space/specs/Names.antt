@@ -1,5 +1,5 @@
 -- What contracts see of a task's names: a finite map, and for which names to come there is a place.
-use Rattle.std.specs.Prelude.{◌≡◌, ◌≢◌, ◌⊎◌, ℕ, ◌<◌, true, Option, Some, None, refl}
+use Rattle.std.specs.Prelude.{◌≡◌, ◌≢◌, ◌⊎◌, ℕ, ◌/◌, ◌<◌, ◌≤◌, true, Option, Some, None, refl}
 use Rattle.std.specs.Coded.{Coded, code_by, coded×, coded_ℕ, coded_option}
 use Rattle.std.specs.Option.{option_and_then}
 use Rattle.std.specs.FinMap as map
@@ -44,3 +44,16 @@ pub record IsFreshName {X : Type 0} (names : map.FinMap nat_cmp X) (name : ℕ) 
 -- A name that isn't in use can be put in without memory: the fresh one, in room, or the one for which a place is kept.
 abbrev pub HasPlace : SpaceView → (name : ℕ) → Type 0
 HasPlace v name = (IsFreshName v.names name × (0 < v.room)) ⊎ (v.kept ≡ Some name)
+
+-- No name of the same 256 is in use, nor is a place kept for one.
+pub record HasNoNeighbour (v : SpaceView) (name : ℕ) : Type 0 where
+  pub alone : (n : ℕ) → map.contains_key v.names n ≡ true → n / 256 ≢ name / 256
+  pub apart : (n : ℕ) → v.kept ≡ Some n → n / 256 ≢ name / 256
+
+-- A port's name has the place that is kept.
+abbrev pub HoldsPort : SpaceView → Type 0
+HoldsPort v = (kept port : ℕ) × (v.kept ≡ Some kept) × (port_at v.names kept ≡ Some port)
+
+-- Memory may be wanted for a place for the name: for the port that leaves the place, above all pages, or for a page.
+abbrev pub MayWantPlace : SpaceView → (name : ℕ) → Type 0
+MayWantPlace v name = HoldsPort v ⊎ ((65536 ≤ name) ⊎ HasNoNeighbour v name)

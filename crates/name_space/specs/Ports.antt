@@ -1,5 +1,5 @@
 -- How the names of ports are kept. No public clause cites this module.
-use Rattle.std.specs.Prelude.{◌≡◌, ℕ, Option, Some, None, refl}
+use Rattle.std.specs.Prelude.{◌≡◌, ◌≢◌, ℕ, Option, Some, None, refl}
 use Rattle.std.specs.Coded.{Coded, code_by, coded×, coded_ℕ, coded_option}
 use Rattle.std.specs.FinMap as map
 use Rattle.std.specs.Ordering.{nat_cmp}
@@ -33,3 +33,7 @@ without (Some port) m = map.remove m port
 pub record IsApart (port name : Option ℕ) (others : PortNames) : Type 0 where
   pub absent : (p : ℕ) → port ≡ Some p → map.get others p ≡ None
   pub named : (p : ℕ) → port ≡ Some p → (n : ℕ) × (name ≡ Some n)
+
+-- No port's name has the place that is kept.
+abbrev pub HasNoneKept : PortsView → Type 0
+HasNoneKept v = (port name : ℕ) → v.kept ≡ Some name → map.get v.names port ≢ Some name

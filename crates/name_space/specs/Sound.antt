@@ -1,5 +1,5 @@
 -- What always holds of a space. No public clause cites this module.
-use Rattle.std.specs.Prelude.{◌≡◌, ℕ, ◌≤◌, Option, Some, None}
+use Rattle.std.specs.Prelude.{◌≡◌, ◌⊎◌, ℕ, ◌<◌, ◌≤◌, Option, Some, None}
 use Rattle.std.specs.FinMap as map
 use Rattle.mach_types.specs.Numbers.{null_word, dead_word, most_names}
 use Rattle.name_space.specs.Names.{SpaceView, port_at}
@@ -20,3 +20,7 @@ pub record IsSound (table : SpaceView) (ports : PortsView) (len : ℕ) : Type 0 
 abbrev pub lost : Option ℕ → Option ℕ → Option ℕ
 lost from None = from
 lost from (Some port) = None
+
+-- There is room for the port that leaves the place, beside so many fresh names, or no port has to.
+abbrev pub CanMove : SpaceView → PortsView → Type 0
+CanMove table ports = (table.room < ports.room) ⊎ ((kept : ℕ) → table.kept ≡ Some kept → port_at table.names kept ≡ None)

@@ -14,7 +14,8 @@ ghost use Rattle.std.specs.Option.{option_and_then};
 ghost use Rattle.std.specs.FinMap as map;
 ghost use Rattle.mach_types.specs.Numbers.{most_names, most_references};
 ghost use Rattle.name_space.specs.Entry.{port_named, with_send};
-ghost use Rattle.name_space.specs.Sound.{lost};
+ghost use Rattle.name_space.specs.Names.{HoldsPort};
+ghost use Rattle.name_space.specs.Sound.{lost, CanMove};
 
 mod high;
 mod ports;
@@ -205,9 +206,28 @@ fn port_lost(table: &Table, name: Name, renewed: &Entry) -> Option<PortId>
     }
 }
 
+// Makes room for the port that leaves the place, if one has to, beside so many fresh names as there is
+// room for.
+fn reserve_moved(table: &Table, ports: &mut Ports) -> Result<(), AllocError>
+    ensures rest { OnOk result (ports.new ≡ record ports.old { room = ports.new.room }) }
+    ensures room { OnOk result (ports.old.room ≤ ports.new.room) }
+    ensures ok { OnOk result (CanMove table.now ports.new) }
+    ensures err { OnErr result (ports.new ≡ ports.old) }
+    ensures wanted { OnErr result (HoldsPort table.now) }
+{
+    let Some(_) = table.kept_port() else {
+        return Ok(());
+    };
+    let Some(places) = table.room().checked_add(1) else {
+        return Err(AllocError);
+    };
+    ports.reserve(places)?;
+    Ok(())
+}
+
 impl Space {
     ghost use Rattle.name_space.specs.declared.Entry.{Entry as AnyEntry};
-    ghost use Rattle.name_space.specs.Names.{IsUsable, IsFreshName, HasPlace, HasNoOther, port_at};
+    ghost use Rattle.name_space.specs.Names.{IsUsable, IsFreshName, HasPlace, HasNoOther, MayWantPlace, port_at};
 
     /// A space without names. Allocates nothing; constant time.
     pub fn new(alloc: Global) -> Space
@@ -297,20 +317,19 @@ impl Space {
     /// for more ports than there were; above 65,535 logarithmic in the number of names there.
     ///
     /// An error means that memory was refused, and that the place was not kept before; all is then as
-    /// it was.
+    /// it was. It comes only where the place that is given up has a port's name, or the new name is
+    /// above 65,535, or no name of its 256 is in use.
     pub fn reserve_name(&mut self, name: Name) -> Result<(), AllocError>
         requires usable { IsUsable name }
         ensures ok { OnOk result (self.new ≡ record self.old { kept = Some name }) }
         ensures err { OnErr result (self.new ≡ self.old) }
         ensures wanted { OnErr result (self.old.kept ≢ Some name) }
+        ensures place { OnErr result (MayWantPlace self.old name) }
     {
         if self.table.keeps(name) {
             return Ok(());
         }
-        let Some(places) = self.table.room().checked_add(1) else {
-            return Err(AllocError);
-        };
-        self.ports.reserve(places)?;
+        reserve_moved(&self.table, &mut self.ports)?;
         self.table.keep(name)?;
         let port = port_of(self.table.get(name));
         self.ports.keep(name, port);

@@ -1,7 +1,7 @@
 //! Names by their ports.
 ghost use Rattle.std.specs.Prelude.{◌≡◌, ◌≢◌, ◌⊎◌, ℕ, ◌+◌, ◌<◌, ◌≤◌, ◌↔◌, IsTrue, max, Some, None, IsOk, OnOk, OnErr};
 ghost use Rattle.std.specs.FinMap as map;
-ghost use Rattle.name_space.specs.Ports.{with_port, without, IsApart};
+ghost use Rattle.name_space.specs.Ports.{with_port, without, IsApart, HasNoneKept};
 
 use mach_types::{Name, PortId};
 use number_map::NumberMap;
@@ -44,9 +44,10 @@ fn is_kept(kept: Option<PortId>, port: PortId) -> bool
 // Puts in a port with its name, if there is one.
 fn lay_back(others: &mut NumberMap<Name>, port: Option<PortId>, name: Option<Name>)
     requires apart { IsApart port name others.old.map }
-    requires room { 0 < others.old.room }
+    requires room { (p : ℕ) → port ≡ Some p → 0 < others.old.room }
     ensures map { others.new.map ≡ with_port port name others.old.map }
     ensures room { others.old.room ≤ others.new.room + 1 }
+    ensures none { ((p : ℕ) → port ≢ Some p) → others.old.room ≤ others.new.room }
 {
     if let (Some(port), Some(name)) = (port, name) {
         others.insert(port.number(), name);
@@ -93,14 +94,15 @@ impl Ports {
         self.others.reserve(additional)
     }
 
-    // Keeps the place for this name, which is the port's if there is one. The name that had the place
-    // takes room.
+    // Keeps the place for this name, which is the port's if there is one. A port that had the place takes
+    // room.
     pub(crate) fn keep(&mut self, name: Name, port: Option<PortId>)
-        requires room { 0 < self.old.room }
+        requires room { (0 < self.old.room) ⊎ HasNoneKept self.old }
         requires named { (p : ℕ) → port ≡ Some p → map.get self.old.names p ≡ Some name }
         ensures names { self.new.names ≡ self.old.names }
         ensures kept { self.new.kept ≡ Some name }
         ensures room { self.old.room ≤ self.new.room + 1 }
+        ensures none { HasNoneKept self.old → self.old.room ≤ self.new.room }
     {
         lay_back(&mut self.others, self.port, self.kept);
         self.kept = Some(name);

@@ -1,14 +1,14 @@
 //! What stands under each name: up to 65,535 in pages, above in a tree.
-ghost use Rattle.std.specs.Prelude.{◌≡◌, ◌≢◌, ℕ, ◌-◌, ◌<◌, ◌≤◌, ◌↔◌, IsTrue, true, max, Some, None, IfSome, IfNone, IsOk, OnOk, OnErr};
+ghost use Rattle.std.specs.Prelude.{◌≡◌, ◌≢◌, ◌⊎◌, ℕ, ◌-◌, ◌<◌, ◌≤◌, ◌↔◌, IsTrue, true, max, Some, None, IfSome, IfNone, IsOk, OnOk, OnErr};
 ghost use Rattle.std.specs.FinMap as map;
 ghost use Rattle.mach_types.specs.Numbers.{most_names};
 ghost use Rattle.name_space_base.specs.Pages.{IsNextUsed};
 ghost use Rattle.name_space.specs.Entry.{with_send};
-ghost use Rattle.name_space.specs.Names.{IsFreshName, IsUsable, HasPlace};
+ghost use Rattle.name_space.specs.Names.{IsFreshName, IsUsable, HasPlace, HasNoNeighbour, port_at};
 
-use crate::Entry;
 use crate::high::High;
-use mach_types::Name;
+use crate::{Entry, port_of};
+use mach_types::{Name, PortId};
 use name_space_base::Pages;
 use std::alloc::{AllocError, Global};
 use std::marker::Model;
@@ -80,6 +80,17 @@ impl Table {
         }
     }
 
+    // The port of the name for which a place is kept, if it is one's.
+    pub(crate) fn kept_port(&self) -> Option<PortId>
+        ensures found { IfSome result (λ port. (kept : ℕ) × (self.now.kept ≡ Some kept) × (port_at self.now.names kept ≡ Some port)) }
+        ensures none { IfNone result ((kept : ℕ) → self.now.kept ≡ Some kept → port_at self.now.names kept ≡ None) }
+    {
+        match self.kept {
+            Some(kept) => port_of(self.get(kept)),
+            None => None,
+        }
+    }
+
     pub(crate) fn get(&self, name: Name) -> Option<Entry>
         ensures { result ≡ map.get self.now.names name }
     {
@@ -125,10 +136,11 @@ impl Table {
         Ok(())
     }
 
-    // Keeps a place for the name. An error means that memory was refused.
+    // Keeps a place for the name. An error means that memory was refused for its page, or above all pages.
     pub(crate) fn keep(&mut self, name: Name) -> Result<(), AllocError>
         ensures ok { OnOk result (self.new ≡ record self.old { kept = Some name }) }
         ensures err { OnErr result (self.new ≡ self.old) }
+        ensures wanted { OnErr result ((65536 ≤ name) ⊎ HasNoNeighbour self.old name) }
     {
         let number = name.number();
         if number < FIRST_HIGH {

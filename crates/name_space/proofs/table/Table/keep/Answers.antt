@@ -1,7 +1,8 @@
-use Rattle.std.proofs.Common.{Some, sym, subst}
+use Rattle.std.proofs.Common.{Some, inr, sym, subst}
 use Rattle.name_space.specs.Table.{IsLaid}
 use Rattle.name_space.specs.declared.table.Table.TheInside.{Inside}
-use Rattle.name_space.proofs.Tables.{laid-page, laid-kept}
+use Rattle.name_space.proofs.Keys.{for_err}
+use Rattle.name_space.proofs.Tables.{laid-page, laid-kept, no_neighbour}
 use Rattle.name_space.proofs.table.Table.keep.Goals.{then-number-lt-FIRST_HIGH+in_ok-make_page, else-number-lt-FIRST_HIGH+in_ok-keep}
 use Rattle.name_space.proofs.table.Table.keep.Goals as goal
 
@@ -16,3 +17,7 @@ invariant_of-self-2 c = elim c.if-number-lt-FIRST_HIGH.branch [
       (subst (λ n. IsLaid c.self.inside.low w.keep.new.self c.self.inside.room (Some n)) c.number-number.ensures
       (laid-kept c.self.inside.low c.self.inside.high c.self.inside.room c.self.inside.kept c.self.invariant w.keep.new.self c.number-number.result w.in_ok-keep.ensures.ok w.if-number-lt-FIRST_HIGH.false))
 ]
+
+pub returns-in_err-make_page-clause-wanted : goal.returns-in_err-make_page-clause-wanted
+returns-in_err-make_page-clause-wanted c =
+    for_err c.from_residual.result (inr (no_neighbour c.self.inside.low c.self.inside.high c.self.inside.room c.self.inside.kept c.self.invariant c.args.self.now c.self.view_is c.number-number.result c.args.name c.number-number.ensures c.if-number-lt-FIRST_HIGH.true c.in_err-make_page.ensures.wanted))
