@@ -30,7 +30,6 @@ fn entries_tell_their_rights(rt: HostRuntime) -> Result<(), Fail> {
 }
 
 /// What is done to a space, or asked of it. Names and ports stand by number.
-#[derive(Clone, Copy, Debug)]
 enum Act {
     Reserve(usize),
     PutSet(u32),
@@ -53,31 +52,33 @@ enum Act {
 
 /// Does it, and answers a number: what was asked for, the type of what was removed, or 1 where it was
 /// done; `None` where there is nothing of the kind, or the space can't take it.
-fn answer(space: &mut Space, act: Act) -> Result<Option<u32>, AllocError> {
+fn answer(space: &mut Space, act: &Act) -> Result<Option<u32>, AllocError> {
     let told = match act {
         Act::Reserve(room) => {
-            space.reserve(room)?;
+            space.reserve(*room)?;
             Some(1)
         }
-        Act::PutSet(name) => put(space, name, Entry::Set(SetId::new(0)))?,
-        Act::PutDeadName(name) => put(space, name, Entry::DeadName(UserRefs::one()))?,
-        Act::PutSendOnce(name) => put(space, name, Entry::SendOnce(PortId::new(7)))?,
-        Act::PutReceive(name, port) => put_receive(space, name, port)?,
-        Act::AddSend(name) => add_send(space, Name::new(name)),
-        Act::Kill(name) => kill(space, Name::new(name)),
-        Act::Rename(from, to) => rename(space, Name::new(from), Name::new(to))?,
-        Act::Remove(name) => space.remove(Name::new(name)).map(|entry| entry.type_bits()),
+        Act::PutSet(name) => put(space, *name, Entry::Set(SetId::new(0)))?,
+        Act::PutDeadName(name) => put(space, *name, Entry::DeadName(UserRefs::one()))?,
+        Act::PutSendOnce(name) => put(space, *name, Entry::SendOnce(PortId::new(7)))?,
+        Act::PutReceive(name, port) => put_receive(space, *name, *port)?,
+        Act::AddSend(name) => add_send(space, Name::new(*name)),
+        Act::Kill(name) => kill(space, Name::new(*name)),
+        Act::Rename(from, to) => rename(space, Name::new(*from), Name::new(*to))?,
+        Act::Remove(name) => space
+            .remove(Name::new(*name))
+            .map(|entry| entry.type_bits()),
         Act::Room => u32::try_from(space.room()).ok(),
         Act::Length => u32::try_from(space.len()).ok(),
         Act::Fresh => Some(space.fresh().number()),
         Act::AnyName => space.any_name().map(|name| name.number()),
         Act::NameOf(port) => {
-            let name = space.name_of_port(PortId::new(port));
+            let name = space.name_of_port(PortId::new(*port));
             name.map(|name| name.number())
         }
-        Act::TypeOf(name) => type_of(space, Name::new(name)),
-        Act::SendReferences(name) => references(space, Name::new(name), Right::Send),
-        Act::DeadReferences(name) => references(space, Name::new(name), Right::DeadName),
+        Act::TypeOf(name) => type_of(space, Name::new(*name)),
+        Act::SendReferences(name) => references(space, Name::new(*name), Right::Send),
+        Act::DeadReferences(name) => references(space, Name::new(*name), Right::DeadName),
     };
     Ok(told)
 }
@@ -148,64 +149,74 @@ fn listed(space: &Space, alloc: Global) -> Result<Vec<u32>, AllocError> {
     Ok(numbers)
 }
 
-/// Does all in turn, and tells the first that isn't answered so.
-fn first_wrong(space: &mut Space, acts: &[(Act, Option<u32>)]) -> Result<Option<Act>, AllocError> {
-    for (act, wanted) in acts {
-        if answer(space, *act)? != *wanted {
-            return Ok(Some(*act));
+/// Does all in turn, and tells the place of the first that isn't answered so.
+fn first_wrong(
+    space: &mut Space,
+    acts: &[(Act, Option<u32>)],
+) -> Result<Option<usize>, AllocError> {
+    for place in 0..acts.len() {
+        let (act, wanted) = &acts[place];
+        if answer(space, act)? != *wanted {
+            return Ok(Some(place));
         }
     }
     Ok(None)
 }
 
+// Names of every size come, into room that was made.
+const COMING: [(Act, Option<u32>); 9] = [
+    (Act::Reserve(3), Some(1)),
+    (Act::Room, Some(3)),
+    (Act::PutSendOnce(1), Some(1)),
+    (Act::PutDeadName(0xffff_fffe), Some(1)),
+    (Act::PutSet(3), Some(1)),
+    (Act::PutSet(0), None),
+    (Act::Room, Some(0)),
+    (Act::Length, Some(3)),
+    (Act::Fresh, Some(2)),
+];
+
+// The greatest of them goes, and one that isn't there.
+const GOING: [(Act, Option<u32>); 4] = [
+    (Act::DeadReferences(0xffff_fffe), Some(1)),
+    (Act::Remove(0xffff_fffe), Some(0x0010_0000)),
+    (Act::Remove(2), None),
+    (Act::Length, Some(2)),
+];
+
 #[test]
 fn names_come_and_go(rt: HostRuntime) -> Result<(), Fail> {
     let mut space = Space::new(rt.alloc());
     assert!(rt; space.is_empty());
-    let acts = [
-        (Act::Reserve(3), Some(1)),
-        (Act::Room, Some(3)),
-        (Act::PutSendOnce(1), Some(1)),
-        (Act::PutDeadName(0xffff_fffe), Some(1)),
-        (Act::PutSet(3), Some(1)),
-        (Act::PutSet(0), None),
-        (Act::Room, Some(0)),
-        (Act::Length, Some(3)),
-        (Act::Fresh, Some(2)),
-    ];
-    let wrong = first_wrong(&mut space, &acts)?;
-    assert!(rt; wrong.is_none(), "{wrong:?}");
+    let wrong = first_wrong(&mut space, &COMING)?;
+    assert!(rt; wrong.is_none(), "act {wrong:?}");
     let names = listed(&space, rt.alloc())?;
     assert_eq!(rt; names.as_slice(), [1, 3, 0xffff_fffe].as_slice());
-    let acts = [
-        (Act::DeadReferences(0xffff_fffe), Some(1)),
-        (Act::Remove(0xffff_fffe), Some(0x0010_0000)),
-        (Act::Remove(2), None),
-        (Act::Length, Some(2)),
-    ];
-    let wrong = first_wrong(&mut space, &acts)?;
-    assert!(rt; wrong.is_none(), "{wrong:?}");
+    let wrong = first_wrong(&mut space, &GOING)?;
+    assert!(rt; wrong.is_none(), "act {wrong:?}");
     Ok(())
 }
+
+// A port's name is changed, and then is dead.
+const FOUND: [(Act, Option<u32>); 12] = [
+    (Act::NameOf(7), None),
+    (Act::PutReceive(9, 7), Some(1)),
+    (Act::NameOf(7), Some(9)),
+    (Act::AddSend(9), Some(1)),
+    (Act::TypeOf(9), Some(0x0003_0000)),
+    (Act::SendReferences(9), Some(1)),
+    (Act::Rename(9, 4), Some(1)),
+    (Act::NameOf(7), Some(4)),
+    (Act::AnyName, Some(4)),
+    (Act::TypeOf(9), None),
+    (Act::Kill(4), Some(1)),
+    (Act::NameOf(7), None),
+];
 
 #[test]
 fn a_port_is_found_by_its_name(rt: HostRuntime) -> Result<(), Fail> {
     let mut space = Space::new(rt.alloc());
-    let acts = [
-        (Act::NameOf(7), None),
-        (Act::PutReceive(9, 7), Some(1)),
-        (Act::NameOf(7), Some(9)),
-        (Act::AddSend(9), Some(1)),
-        (Act::TypeOf(9), Some(0x0003_0000)),
-        (Act::SendReferences(9), Some(1)),
-        (Act::Rename(9, 4), Some(1)),
-        (Act::NameOf(7), Some(4)),
-        (Act::AnyName, Some(4)),
-        (Act::TypeOf(9), None),
-        (Act::Kill(4), Some(1)),
-        (Act::NameOf(7), None),
-    ];
-    let wrong = first_wrong(&mut space, &acts)?;
-    assert!(rt; wrong.is_none(), "{wrong:?}");
+    let wrong = first_wrong(&mut space, &FOUND)?;
+    assert!(rt; wrong.is_none(), "act {wrong:?}");
     Ok(())
 }

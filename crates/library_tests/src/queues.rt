@@ -15,7 +15,6 @@ impl Message for Note {
 }
 
 /// What is done to ports, or asked of them. Ports and sets stand by number, notes by what they say.
-#[derive(Clone, Copy, Debug)]
 enum Act {
     ReserveSlots(usize),
     Allocate,
@@ -40,25 +39,25 @@ enum Act {
 
 /// Does it, and answers a number: what was asked for or made, what the note says that was taken, or 1
 /// where it was done; `None` where there is nothing of the kind, or the ports can't take it.
-fn answer(ports: &mut Ports<Note>, act: Act) -> Result<Option<u64>, AllocError> {
+fn answer(ports: &mut Ports<Note>, act: &Act) -> Result<Option<u64>, AllocError> {
     let told = match act {
         Act::ReserveSlots(slots) => {
-            ports.reserve_slots(slots)?;
+            ports.reserve_slots(*slots)?;
             Some(1)
         }
         Act::Allocate => allocate(ports)?,
-        Act::Remove(port) => remove(ports, PortId::new(port)),
-        Act::Post(port, says) => post(ports, PortId::new(port), says),
-        Act::Dequeue(port) => ports.dequeue(PortId::new(port)).map(|note| note.0 as u64),
-        Act::Take(port) => ports.take(PortId::new(port)).map(|note| note.0 as u64),
-        Act::SetLimit(port, limit) => set_limit(ports, PortId::new(port), limit, None),
+        Act::Remove(port) => remove(ports, PortId::new(*port)),
+        Act::Post(port, says) => post(ports, PortId::new(*port), *says),
+        Act::Dequeue(port) => ports.dequeue(PortId::new(*port)).map(|note| note.0 as u64),
+        Act::Take(port) => ports.take(PortId::new(*port)).map(|note| note.0 as u64),
+        Act::SetLimit(port, limit) => set_limit(ports, PortId::new(*port), *limit, None),
         Act::CountMakeSend(port) => {
-            ports.count_make_send(PortId::new(port));
+            ports.count_make_send(PortId::new(*port));
             Some(1)
         }
-        Act::Join(port, set) => join(ports, PortId::new(port), SetId::new(set)),
+        Act::Join(port, set) => join(ports, PortId::new(*port), SetId::new(*set)),
         Act::Disband(set) => {
-            disband(ports, SetId::new(set));
+            disband(ports, SetId::new(*set));
             Some(1)
         }
         _ => asked(ports, act),
@@ -67,17 +66,17 @@ fn answer(ports: &mut Ports<Note>, act: Act) -> Result<Option<u64>, AllocError> 
 }
 
 /// Answers what changes nothing.
-fn asked(ports: &Ports<Note>, act: Act) -> Option<u64> {
+fn asked(ports: &Ports<Note>, act: &Act) -> Option<u64> {
     match act {
         Act::NextId => next_id(ports),
         Act::Spare => Some(ports.spare() as u64),
-        Act::Queued(port) => Some(ports.queued(PortId::new(port)) as u64),
-        Act::Front(port) => front(ports, PortId::new(port)),
-        Act::HasRoom(port) => Some(ports.has_room(PortId::new(port)) as u64),
-        Act::Limit(port) => Some(ports.attributes(PortId::new(port))?.limit as u64),
-        Act::MakeSend(port) => Some(ports.attributes(PortId::new(port))?.make_send as u64),
-        Act::Sequence(port) => Some(ports.attributes(PortId::new(port))?.sequence as u64),
-        Act::Ready(set) => Some(ready_member(ports, SetId::new(set))?.number()),
+        Act::Queued(port) => Some(ports.queued(PortId::new(*port)) as u64),
+        Act::Front(port) => front(ports, PortId::new(*port)),
+        Act::HasRoom(port) => Some(ports.has_room(PortId::new(*port)) as u64),
+        Act::Limit(port) => Some(ports.attributes(PortId::new(*port))?.limit as u64),
+        Act::MakeSend(port) => Some(ports.attributes(PortId::new(*port))?.make_send as u64),
+        Act::Sequence(port) => Some(ports.attributes(PortId::new(*port))?.sequence as u64),
+        Act::Ready(set) => Some(ready_member(ports, SetId::new(*set))?.number()),
         _ => None,
     }
 }
@@ -140,97 +139,99 @@ fn join(ports: &mut Ports<Note>, port: PortId, set: SetId) -> Option<u64> {
     Some(1)
 }
 
-/// Does all in turn, and tells the first that isn't answered so.
-fn first_wrong(
-    ports: &mut Ports<Note>,
-    acts: &[(Act, Option<u64>)],
-) -> Result<Option<Act>, AllocError> {
-    for (act, wanted) in acts {
-        if answer(ports, *act)? != *wanted {
-            return Ok(Some(*act));
+/// Does all in turn with new ports, and tells the place of the first that isn't answered so.
+fn first_wrong(alloc: Global, acts: &[(Act, Option<u64>)]) -> Result<Option<usize>, AllocError> {
+    let mut ports = Ports::new(alloc);
+    for place in 0..acts.len() {
+        let (act, wanted) = &acts[place];
+        if answer(&mut ports, act)? != *wanted {
+            return Ok(Some(place));
         }
     }
     Ok(None)
 }
 
+// Two ports whose notes come out in the order that they came in, as far as there are slots.
+const QUEUES: [(Act, Option<u64>); 21] = [
+    (Act::NextId, Some(0)),
+    (Act::Allocate, Some(0)),
+    (Act::Allocate, Some(1)),
+    (Act::Post(0, 1), None),
+    (Act::ReserveSlots(2), Some(1)),
+    (Act::Post(0, 7), Some(1)),
+    (Act::Post(0, 8), Some(1)),
+    (Act::Post(1, 9), None),
+    (Act::Queued(0), Some(2)),
+    (Act::HasRoom(0), Some(1)),
+    (Act::Queued(1), Some(0)),
+    (Act::Front(0), Some(7)),
+    (Act::Dequeue(0), Some(7)),
+    (Act::Spare, Some(1)),
+    (Act::Post(1, 9), Some(1)),
+    (Act::Dequeue(0), Some(8)),
+    (Act::Dequeue(0), None),
+    (Act::Take(1), Some(9)),
+    (Act::Take(1), None),
+    (Act::Sequence(1), Some(1)),
+    (Act::Spare, Some(2)),
+];
+
 #[test]
 fn messages_come_out_in_order(rt: HostRuntime) -> Result<(), Fail> {
-    let mut ports = Ports::<Note>::new(rt.alloc());
-    let acts = [
-        (Act::NextId, Some(0)),
-        (Act::Allocate, Some(0)),
-        (Act::Allocate, Some(1)),
-        (Act::Post(0, 1), None),
-        (Act::ReserveSlots(2), Some(1)),
-        (Act::Post(0, 7), Some(1)),
-        (Act::Post(0, 8), Some(1)),
-        (Act::Post(1, 9), None),
-        (Act::Queued(0), Some(2)),
-        (Act::HasRoom(0), Some(1)),
-        (Act::Queued(1), Some(0)),
-        (Act::Front(0), Some(7)),
-        (Act::Dequeue(0), Some(7)),
-        (Act::Spare, Some(1)),
-        (Act::Post(1, 9), Some(1)),
-        (Act::Dequeue(0), Some(8)),
-        (Act::Dequeue(0), None),
-        (Act::Take(1), Some(9)),
-        (Act::Take(1), None),
-        (Act::Sequence(1), Some(1)),
-        (Act::Spare, Some(2)),
-    ];
-    let wrong = first_wrong(&mut ports, &acts)?;
-    assert!(rt; wrong.is_none(), "{wrong:?}");
+    let wrong = first_wrong(rt.alloc(), &QUEUES)?;
+    assert!(rt; wrong.is_none(), "act {wrong:?}");
     Ok(())
 }
+
+// A port that is taken away, and the next one.
+const GONE: [(Act, Option<u64>); 12] = [
+    (Act::Allocate, Some(0)),
+    (Act::Limit(0), Some(5)),
+    (Act::SetLimit(0, 16), Some(1)),
+    (Act::Limit(0), Some(16)),
+    (Act::CountMakeSend(0), Some(1)),
+    (Act::MakeSend(0), Some(1)),
+    (Act::Queued(0), Some(0)),
+    (Act::Remove(0), Some(1)),
+    (Act::HasRoom(0), Some(0)),
+    (Act::Limit(0), None),
+    (Act::Allocate, Some(1)),
+    (Act::Limit(0), None),
+];
 
 #[test]
 fn a_gone_port_is_not_found(rt: HostRuntime) -> Result<(), Fail> {
-    let mut ports = Ports::<Note>::new(rt.alloc());
-    let acts = [
-        (Act::Allocate, Some(0)),
-        (Act::Limit(0), Some(5)),
-        (Act::SetLimit(0, 16), Some(1)),
-        (Act::Limit(0), Some(16)),
-        (Act::CountMakeSend(0), Some(1)),
-        (Act::MakeSend(0), Some(1)),
-        (Act::Queued(0), Some(0)),
-        (Act::Remove(0), Some(1)),
-        (Act::HasRoom(0), Some(0)),
-        (Act::Limit(0), None),
-        (Act::Allocate, Some(1)),
-        (Act::Limit(0), None),
-    ];
-    let wrong = first_wrong(&mut ports, &acts)?;
-    assert!(rt; wrong.is_none(), "{wrong:?}");
+    let wrong = first_wrong(rt.alloc(), &GONE)?;
+    assert!(rt; wrong.is_none(), "act {wrong:?}");
     Ok(())
 }
 
+// Ports that go into sets, with and without notes.
+const READY: [(Act, Option<u64>); 19] = [
+    (Act::ReserveSlots(3), Some(1)),
+    (Act::Allocate, Some(0)),
+    (Act::Allocate, Some(1)),
+    (Act::Post(0, 1), Some(1)),
+    (Act::Post(0, 1), Some(1)),
+    (Act::Ready(0), None),
+    (Act::Join(0, 1), Some(1)),
+    (Act::Join(1, 0), Some(1)),
+    (Act::Ready(0), None),
+    (Act::Post(1, 1), Some(1)),
+    (Act::Ready(0), Some(1)),
+    (Act::Join(1, 1), Some(1)),
+    (Act::Ready(0), None),
+    (Act::Ready(1), Some(0)),
+    (Act::Take(0), Some(1)),
+    (Act::Ready(1), Some(1)),
+    (Act::Disband(1), Some(1)),
+    (Act::Ready(1), None),
+    (Act::Queued(0), Some(1)),
+];
+
 #[test]
 fn a_member_with_a_message_is_ready(rt: HostRuntime) -> Result<(), Fail> {
-    let mut ports = Ports::<Note>::new(rt.alloc());
-    let acts = [
-        (Act::ReserveSlots(3), Some(1)),
-        (Act::Allocate, Some(0)),
-        (Act::Allocate, Some(1)),
-        (Act::Post(0, 1), Some(1)),
-        (Act::Post(0, 1), Some(1)),
-        (Act::Ready(0), None),
-        (Act::Join(0, 1), Some(1)),
-        (Act::Join(1, 0), Some(1)),
-        (Act::Ready(0), None),
-        (Act::Post(1, 1), Some(1)),
-        (Act::Ready(0), Some(1)),
-        (Act::Join(1, 1), Some(1)),
-        (Act::Ready(0), None),
-        (Act::Ready(1), Some(0)),
-        (Act::Take(0), Some(1)),
-        (Act::Ready(1), Some(1)),
-        (Act::Disband(1), Some(1)),
-        (Act::Ready(1), None),
-        (Act::Queued(0), Some(1)),
-    ];
-    let wrong = first_wrong(&mut ports, &acts)?;
-    assert!(rt; wrong.is_none(), "{wrong:?}");
+    let wrong = first_wrong(rt.alloc(), &READY)?;
+    assert!(rt; wrong.is_none(), "act {wrong:?}");
     Ok(())
 }
