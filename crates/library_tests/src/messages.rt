@@ -41,46 +41,48 @@ fn receive(alloc: Global, bytes: &mut [u8], header: &Header, names: &[Name]) -> 
     true
 }
 
+// Dispositions as bits and the local name of a header, and the dispositions that are read.
+const HEADERS: [([u8; 4], u8, (u8, u8)); 2] = [
+    ([0x14, 0, 0, 0], 0, (20, 0)),
+    ([17, 21, 0, 0], 9, (17, 21)),
+];
+
 #[test]
 fn parses_headers(rt: HostRuntime) {
-    let parsed = parse(rt.alloc(), &SMALLEST).ok().expect(&rt, "a message");
-    assert_eq!(rt; (parsed.remote_kind, parsed.local_kind), (20, 0));
-    assert_eq!(rt; (parsed.remote, parsed.local), (Name::new(1), Name::null()));
-    assert_eq!(rt; (parsed.id, parsed.is_complex), (7, false));
-    assert_eq!(rt; parsed.spans.as_slice().len(), 0);
-    let answered = parse(rt.alloc(), &with_words([17, 21, 0, 0], 9)).ok();
-    let answered = answered.expect(&rt, "a message");
-    assert_eq!(rt; (answered.remote_kind, answered.local_kind), (17, 21));
-    assert_eq!(rt; answered.local, Name::new(9));
+    for (bits, local, kinds) in HEADERS {
+        let parsed = parse(rt.alloc(), &with_words(bits, local)).ok();
+        let parsed = parsed.expect(&rt, "a message");
+        assert!(rt; parsed.remote_kind == kinds.0 && parsed.local_kind == kinds.1);
+        assert!(rt; parsed.remote.number() == 1 && parsed.local.number() == u32::from(local));
+        assert!(rt; parsed.id == 7 && !parsed.is_complex && parsed.spans.as_slice().is_empty());
+    }
 }
+
+// Bits and the local name of headers that are refused.
+const WRONG: [([u8; 4], u8); 8] = [
+    ([0x14, 0, 0, 0x40], 0),
+    ([0x14, 0, 1, 0], 0),
+    ([0x10, 0, 0, 0], 0),
+    ([0x16, 0, 0, 0], 0),
+    ([0x14, 0x10, 0, 0], 2),
+    ([0x14, 0x16, 0, 0], 2),
+    ([0x14, 0, 0, 0], 2),
+    ([0x14, 0, 0, 0xc0], 0),
+];
 
 #[test]
 fn refuses_headers(rt: HostRuntime) {
-    assert!(rt;
-        matches!(
-            parse(rt.alloc(), &SMALLEST[..22]),
-            Err(MsgReturn::SendMsgTooSmall)
-        )
-    );
-    assert!(rt;
-        matches!(
-            parse(rt.alloc(), &SMALLEST[..20]),
-            Err(MsgReturn::SendMsgTooSmall)
-        )
-    );
-    let wrong = [
-        ([0x14, 0, 0, 0x40], 0),
-        ([0x14, 0, 1, 0], 0),
-        ([0x10, 0, 0, 0], 0),
-        ([0x16, 0, 0, 0], 0),
-        ([0x14, 0x10, 0, 0], 2),
-        ([0x14, 0x16, 0, 0], 2),
-        ([0x14, 0, 0, 0], 2),
-        ([0x14, 0, 0, 0xc0], 0),
-    ];
-    for (bits, local) in wrong {
-        let refused = parse(rt.alloc(), &with_words(bits, local));
-        assert!(rt; matches!(refused, Err(MsgReturn::SendInvalidHeader)));
+    for (bits, local) in WRONG {
+        let refused = parse(rt.alloc(), &with_words(bits, local)).err();
+        assert!(rt; refused == Some(MsgReturn::SendInvalidHeader));
+    }
+}
+
+#[test]
+fn refuses_short_headers(rt: HostRuntime) {
+    for short in [&SMALLEST[..22], &SMALLEST[..20]] {
+        let refused = parse(rt.alloc(), short).err();
+        assert!(rt; refused == Some(MsgReturn::SendMsgTooSmall));
     }
 }
 
@@ -95,60 +97,74 @@ fn refuses_lengths(rt: HostRuntime) {
     assert!(rt; matches!(parse(rt.alloc(), &bytes), Err(MsgReturn::SendMsgTooSmall)));
 }
 
+// Bodies that are refused, and why.
+const HOSTILE: [(&[u8], MsgReturn); 6] = [
+    (
+        &[0, 0, 0, 0x30, 8, 0, 0xff, 0xff, 0xff, 0xff, 0xff, 0xff],
+        MsgReturn::SendMsgTooSmall,
+    ),
+    (&[0, 0, 0, 0x20], MsgReturn::SendMsgTooSmall),
+    (&[0x11, 8, 1, 0x10], MsgReturn::SendInvalidType),
+    (&[8, 8, 0, 0x50], MsgReturn::SendInvalidType),
+    (
+        &[0, 0, 0, 0x30, 0, 1, 8, 0, 0, 0, 0, 0],
+        MsgReturn::SendInvalidType,
+    ),
+    (
+        &[8, 8, 5, 0x10, 0x41, 0x42, 0x43, 0x44],
+        MsgReturn::SendMsgTooSmall,
+    ),
+];
+
 #[test]
 fn refuses_items(rt: HostRuntime) {
-    let hostile: [(&[u8], MsgReturn); 6] = [
-        (
-            &[0, 0, 0, 0x30, 8, 0, 0xff, 0xff, 0xff, 0xff, 0xff, 0xff],
-            MsgReturn::SendMsgTooSmall,
-        ),
-        (&[0, 0, 0, 0x20], MsgReturn::SendMsgTooSmall),
-        (&[0x11, 8, 1, 0x10], MsgReturn::SendInvalidType),
-        (&[8, 8, 0, 0x50], MsgReturn::SendInvalidType),
-        (
-            &[0, 0, 0, 0x30, 0, 1, 8, 0, 0, 0, 0, 0],
-            MsgReturn::SendInvalidType,
-        ),
-        (
-            &[8, 8, 5, 0x10, 0x41, 0x42, 0x43, 0x44],
-            MsgReturn::SendMsgTooSmall,
-        ),
-    ];
-    for (body, code) in hostile {
+    for (body, code) in HOSTILE {
         let bytes = with_items(&rt, rt.alloc(), body);
-        assert_eq!(rt; parse(rt.alloc(), &bytes).err(), Some(code));
+        assert!(rt; parse(rt.alloc(), &bytes).err() == Some(code));
     }
 }
 
+// Two port words, five bytes, and a port word in a long descriptor; and where the port words stand.
+const BODY: [u8; 40] = [
+    0x14, 0x20, 2, 0x10, 0, 0, 0, 0, 0xff, 0xff, 0xff, 0xff, 8, 8, 5, 0x10, 1, 2, 3, 4, 5, 0xaa,
+    0xbb, 0xcc, 0, 0, 0, 0x30, 0x15, 0, 0x20, 0, 1, 0, 0, 0, 9, 0, 0, 0,
+];
+
+const SPANS: [Span; 2] = [
+    Span {
+        at: 24,
+        long: false,
+        disposition: 20,
+        number: 2,
+    },
+    Span {
+        at: 48,
+        long: true,
+        disposition: 21,
+        number: 1,
+    },
+];
+
+#[test]
+fn finds_port_words(rt: HostRuntime) {
+    let bodies: [(&[u8], &[Span]); 2] = [(&[8, 8, 0, 0x10], &[]), (&BODY, &SPANS)];
+    for (body, spans) in bodies {
+        let bytes = with_items(&rt, rt.alloc(), body);
+        let parsed = parse(rt.alloc(), &bytes).ok().expect(&rt, "a message");
+        assert!(rt; parsed.is_complex && parsed.spans.as_slice() == spans);
+    }
+}
+
+// The message of this body as its receiver gets it.
+const RECEIVED: [u8; 64] = [
+    0, 0x11, 0, 0x80, 0x40, 0, 0, 0, 0, 0, 0, 0, 4, 3, 2, 1, 5, 0, 0, 0, 7, 0, 0, 0, 0x11, 0x20, 2,
+    0x10, 0, 0, 0, 0, 0xff, 0xff, 0xff, 0xff, 8, 8, 5, 0x10, 1, 2, 3, 4, 5, 0xaa, 0xbb, 0xcc, 0, 0,
+    0, 0x30, 0x12, 0, 0x20, 0, 1, 0, 0, 0, 2, 0, 0, 0,
+];
+
 #[test]
 fn receives_items(rt: HostRuntime) {
-    let data = with_items(&rt, rt.alloc(), &[8, 8, 0, 0x10]);
-    let parsed = parse(rt.alloc(), &data).ok().expect(&rt, "a message");
-    assert_eq!(rt;
-        (parsed.is_complex, parsed.spans.as_slice().len()),
-        (true, 0)
-    );
-    let body = [
-        0x14, 0x20, 2, 0x10, 0, 0, 0, 0, 0xff, 0xff, 0xff, 0xff, 8, 8, 5, 0x10, 1, 2, 3, 4, 5,
-        0xaa, 0xbb, 0xcc, 0, 0, 0, 0x30, 0x15, 0, 0x20, 0, 1, 0, 0, 0, 9, 0, 0, 0,
-    ];
-    let mut bytes = with_items(&rt, rt.alloc(), &body);
-    let parsed = parse(rt.alloc(), &bytes).ok().expect(&rt, "a message");
-    let spans = [
-        Span {
-            at: 24,
-            long: false,
-            disposition: 20,
-            number: 2,
-        },
-        Span {
-            at: 48,
-            long: true,
-            disposition: 21,
-            number: 1,
-        },
-    ];
-    assert_eq!(rt; parsed.spans.as_slice(), spans.as_slice());
+    let mut bytes = with_items(&rt, rt.alloc(), &BODY);
     let header = Header {
         bits: 0x8000_1100,
         size: 64,
@@ -159,12 +175,7 @@ fn receives_items(rt: HostRuntime) {
     };
     let names = [Name::null(), Name::dead(), Name::new(2)];
     assert!(rt; receive(rt.alloc(), &mut bytes, &header, &names));
-    let received = [
-        0, 0x11, 0, 0x80, 0x40, 0, 0, 0, 0, 0, 0, 0, 4, 3, 2, 1, 5, 0, 0, 0, 7, 0, 0, 0, 0x11,
-        0x20, 2, 0x10, 0, 0, 0, 0, 0xff, 0xff, 0xff, 0xff, 8, 8, 5, 0x10, 1, 2, 3, 4, 5, 0xaa,
-        0xbb, 0xcc, 0, 0, 0, 0x30, 0x12, 0, 0x20, 0, 1, 0, 0, 0, 2, 0, 0, 0,
-    ];
-    assert_eq!(rt; bytes.as_slice(), received.as_slice());
+    assert!(rt; bytes.as_slice() == RECEIVED.as_slice());
 }
 
 #[test]

@@ -2,7 +2,7 @@
 use mach_types::{
     Bytes, Event, Name, NameList, NameTypes, PortId, Reply, SetId, Status, TaskId, Waited,
 };
-use std::alloc::Global;
+use std::alloc::{AllocError, Global};
 use std::io;
 use std::test::Fail;
 use tracer_base::{
@@ -10,27 +10,14 @@ use tracer_base::{
 };
 
 #[test]
-fn reads_the_calls_of_rights(rt: HostRuntime) {
-    let event = read_call(rt.alloc(), b"insert 1 2 3 4 4294967295");
-    let read = match &event {
-        Ok(Event::InsertRight(task, name, from, poly, disposition)) => (
-            task.number(),
-            name.number(),
-            from.number(),
-            poly.number(),
-            *disposition,
-        ),
-        _ => (0, 0, 0, 0, 0),
-    };
-    assert!(rt; read == (1, 2, 3, 4, u32::MAX));
-    let event = read_call(rt.alloc(), b"extract 1 2 21 3");
-    let read = match &event {
-        Ok(Event::ExtractRight(task, name, disposition, to)) => {
-            (task.number(), name.number(), *disposition, to.number())
-        }
-        _ => (0, 0, 0, 0),
-    };
-    assert!(rt; read == (1, 2, 21, 3));
+fn reads_the_calls_of_rights(rt: HostRuntime) -> Result<(), Fail> {
+    let (from, name) = (TaskId::new(1), Name::new(2));
+    let event = read_call(rt.alloc(), b"insert 1 2 3 4 4294967295")?;
+    let wanted = Event::InsertRight(from, name, TaskId::new(3), Name::new(4), u32::MAX);
+    assert!(rt; event == wanted);
+    let event = read_call(rt.alloc(), b"extract 1 2 21 3")?;
+    assert!(rt; event == Event::ExtractRight(from, name, 21, TaskId::new(3)));
+    Ok(())
 }
 
 /// The text of what the line reads as.
@@ -41,42 +28,44 @@ fn written(alloc: Global, line: &str) -> Result<Vec<u8>, Fail> {
     Ok(page)
 }
 
+// Lines of every call.
+const LINES: [&str; 29] = [
+    "task",
+    "alloc 0 4294967295",
+    "allocname 1 4 9",
+    "dealloc 1 4294967295",
+    "destroy 65535 7",
+    "modrefs 1 2 3 0",
+    "modrefs 1 2 3 7",
+    "modrefs 1 2 3 -1",
+    "modrefs 1 2 3 -10",
+    "modrefs 1 2 3 2147483647",
+    "modrefs 1 2 3 -2147483648",
+    "refs 1 4294967295 3",
+    "type 4294967295 0",
+    "names 3",
+    "rename 1 2 3",
+    "status 1 2",
+    "qlimit 1 2 17",
+    "mscount 1 2 4294967295",
+    "seqno 1 2 0",
+    "insert 1 2 3 4 4294967295",
+    "extract 1 2 21 3",
+    "move 1 2 0",
+    "members 1 3",
+    "send 0 -",
+    "send 4294967295 00ff9a",
+    "recv 1 2 65536 1",
+    "recv 1 2 0 0",
+    "again 1 p 18446744073709551615 24 0",
+    "again 1 s 0 65536 1",
+];
+
 #[test]
 fn calls_read_back_as_they_were_written(rt: HostRuntime) -> Result<(), Fail> {
-    let lines = [
-        "task",
-        "alloc 0 4294967295",
-        "allocname 1 4 9",
-        "dealloc 1 4294967295",
-        "destroy 65535 7",
-        "modrefs 1 2 3 0",
-        "modrefs 1 2 3 7",
-        "modrefs 1 2 3 -1",
-        "modrefs 1 2 3 -10",
-        "modrefs 1 2 3 2147483647",
-        "modrefs 1 2 3 -2147483648",
-        "refs 1 4294967295 3",
-        "type 4294967295 0",
-        "names 3",
-        "rename 1 2 3",
-        "status 1 2",
-        "qlimit 1 2 17",
-        "mscount 1 2 4294967295",
-        "seqno 1 2 0",
-        "insert 1 2 3 4 4294967295",
-        "extract 1 2 21 3",
-        "move 1 2 0",
-        "members 1 3",
-        "send 0 -",
-        "send 4294967295 00ff9a",
-        "recv 1 2 65536 1",
-        "recv 1 2 0 0",
-        "again 1 p 18446744073709551615 24 0",
-        "again 1 s 0 65536 1",
-    ];
-    for line in &lines {
+    for line in LINES {
         let text = written(rt.alloc(), line)?;
-        assert_eq!(rt; text.as_slice(), line.as_bytes());
+        assert!(rt; text.as_slice() == line.as_bytes(), "at {line}");
     }
     Ok(())
 }
@@ -110,103 +99,148 @@ const BAD_LINES: &str = "\
 #[test]
 fn names_the_bad_line(rt: HostRuntime) -> Result<(), Fail> {
     for line in BAD_LINES.split('|') {
+        let fault = read_call(rt.alloc(), line.as_bytes()).err();
+        assert!(rt; fault == Some(TextFault::Bad), "at {line:?}");
         let script = format!(in rt.alloc(); "task\n{line}\nnot this\n")?;
         let fault = read_script(rt.alloc(), script.as_bytes()).err();
-        assert_eq!(rt; fault, Some(ScriptFault::BadCall(2)), "at {line:?}");
-        let fault = read_call(rt.alloc(), line.as_bytes()).err();
-        assert_eq!(rt; fault, Some(TextFault::Bad), "at {line:?}");
+        assert!(rt; fault == Some(ScriptFault::BadCall(2)), "at {line:?}");
     }
     Ok(())
 }
 
+// Scripts with how many calls they have, or the line that is none.
+const SCRIPTS: [(&str, usize, Option<ScriptFault>); 4] = [
+    ("task\ntask", 0, Some(ScriptFault::BadCall(2))),
+    ("\n", 0, Some(ScriptFault::BadCall(1))),
+    ("task\nnames 0\n", 2, None),
+    ("", 0, None),
+];
+
 #[test]
 fn the_last_line_needs_its_line_feed(rt: HostRuntime) {
-    let fault = read_script(rt.alloc(), b"task\ntask").err();
-    assert_eq!(rt; fault, Some(ScriptFault::BadCall(2)));
-    let fault = read_script(rt.alloc(), b"\n").err();
-    assert_eq!(rt; fault, Some(ScriptFault::BadCall(1)));
-    let events = read_script(rt.alloc(), b"task\nnames 0\n");
-    assert!(rt; matches!(&events, Ok(events) if events.len() == 2));
-    let events = read_script(rt.alloc(), b"");
-    assert!(rt; matches!(&events, Ok(events) if events.is_empty()));
+    for (script, calls, fault) in &SCRIPTS {
+        let told = match read_script(rt.alloc(), script.as_bytes()) {
+            Ok(events) => (events.len(), None),
+            Err(fault) => (0, Some(fault)),
+        };
+        assert!(rt; told == (*calls, *fault), "at {script:?}");
+    }
+}
+
+/// What a reply tells, in numbers.
+enum Told {
+    Code(u32),
+    Task(u32),
+    Name(u32),
+    Refs(u32),
+    NameType(u32),
+    Names(&'static [(u32, u32)]),
+    Status([u32; 9]),
+    Members(&'static [u32]),
+    Right(u32, u8),
+    Previous(u32),
+    Message(&'static [u8]),
+    EmptyPort(u64),
+    EmptySet(u64),
+    TooLarge(u32),
+    NoRecord,
+}
+
+// Replies and their texts.
+const REPLIES: [(Told, &str); 19] = [
+    (Told::Code(0x1000_480c), "code 1000480c"),
+    (Told::Code(0), "code 00000000"),
+    (Told::Task(65535), "task 65535"),
+    (Told::Name(0xffff_ffff), "name 4294967295"),
+    (Told::Refs(10), "refs 10"),
+    (Told::NameType(0x8002_0000), "type 80020000"),
+    (
+        Told::Names(&[(3, 0x10000), (10, 0x8010_0000)]),
+        "names 3:00010000 10:80100000",
+    ),
+    (Told::Names(&[]), "names"),
+    (
+        Told::Status([1, 2, 3, 4, 5, 6, 7, 8, 4294967295]),
+        "status 1 2 3 4 5 6 7 8 4294967295",
+    ),
+    (Told::Members(&[2, 12]), "members 2 12"),
+    (Told::Members(&[]), "members"),
+    (Told::Right(7, 17), "right 7 17"),
+    (Told::Previous(0), "previous 0"),
+    (Told::Message(&[0x00, 0x9a, 0xff]), "message 009aff"),
+    (Told::Message(&[]), "message -"),
+    (Told::EmptyPort(u64::MAX), "empty p 18446744073709551615"),
+    (Told::EmptySet(1), "empty s 1"),
+    (Told::TooLarge(65536), "toolarge 65536"),
+    (Told::NoRecord, "norecord"),
+];
+
+fn reply_of(alloc: Global, told: &Told) -> Result<Reply, AllocError> {
+    let reply = match told {
+        Told::Code(code) => Reply::Code(*code),
+        Told::Task(task) => Reply::Task(TaskId::new(*task)),
+        Told::Name(name) => Reply::Name(Name::new(*name)),
+        Told::Refs(references) => Reply::Refs(*references),
+        Told::NameType(bits) => Reply::NameType(*bits),
+        Told::Names(names) => Reply::Names(names_of(alloc, names)?),
+        Told::Status(numbers) => Reply::Status(status_of(numbers)),
+        Told::Members(names) => Reply::Members(members_of(alloc, names)?),
+        Told::Right(name, kind) => Reply::Right(Name::new(*name), *kind),
+        Told::Previous(name) => Reply::Previous(Name::new(*name)),
+        Told::Message(bytes) => Reply::Message(Bytes::from_vec(Vec::from_slice(alloc, bytes)?)),
+        Told::EmptyPort(port) => Reply::Empty(Waited::Port(PortId::new(*port))),
+        Told::EmptySet(set) => Reply::Empty(Waited::Set(SetId::new(*set))),
+        Told::TooLarge(length) => Reply::TooLarge(*length),
+        Told::NoRecord => Reply::NoRecord,
+    };
+    Ok(reply)
+}
+
+fn names_of(alloc: Global, names: &[(u32, u32)]) -> Result<NameTypes, AllocError> {
+    let mut typed = Vec::new(alloc);
+    for (name, bits) in names {
+        typed.push((Name::new(*name), *bits))?;
+    }
+    Ok(NameTypes::from_vec(typed))
+}
+
+fn members_of(alloc: Global, names: &[u32]) -> Result<NameList, AllocError> {
+    let mut members = Vec::new(alloc);
+    for name in names {
+        members.push(Name::new(*name))?;
+    }
+    Ok(NameList::from_vec(members))
+}
+
+fn status_of(numbers: &[u32; 9]) -> Status {
+    Status {
+        set: Name::new(numbers[0]),
+        sequence: numbers[1],
+        make_send: numbers[2],
+        limit: numbers[3],
+        queued: numbers[4],
+        send_once: numbers[5],
+        has_send: numbers[6],
+        port_destroyed: numbers[7],
+        no_senders: numbers[8],
+    }
 }
 
 /// The text of a reply.
-fn text_of(alloc: Global, reply: Reply) -> io::Result<Vec<u8>> {
+fn text_of(alloc: Global, reply: &Reply) -> io::Result<Vec<u8>> {
     let mut page = Vec::new(alloc);
-    write_reply(&reply, &mut page)?;
+    write_reply(reply, &mut page)?;
     Ok(page)
 }
 
 #[test]
-fn writes_replies_of_numbers(rt: HostRuntime) -> Result<(), Fail> {
+fn replies_are_written_and_read_back(rt: HostRuntime) -> Result<(), Fail> {
     let alloc = rt.alloc();
-    let cases = vec![in alloc;
-        (Reply::Code(0x1000_480c), "code 1000480c"),
-        (Reply::Code(0), "code 00000000"),
-        (Reply::Task(TaskId::new(65535)), "task 65535"),
-        (Reply::Name(Name::dead()), "name 4294967295"),
-        (Reply::Refs(10), "refs 10"),
-        (Reply::NameType(0x8002_0000), "type 80020000"),
-        (Reply::Right(Name::new(7), 17), "right 7 17"),
-        (Reply::Previous(Name::null()), "previous 0"),
-        (
-            Reply::Empty(Waited::Port(PortId::new(u64::MAX))),
-            "empty p 18446744073709551615"
-        ),
-        (Reply::Empty(Waited::Set(SetId::new(1))), "empty s 1"),
-        (Reply::TooLarge(65536), "toolarge 65536"),
-        (Reply::NoRecord, "norecord"),
-    ]?;
-    for (reply, want) in cases {
-        let text = text_of(alloc, reply)?;
-        assert_eq!(rt; text.as_slice(), want.as_bytes());
-        let again = text_of(alloc, read_reply(alloc, want.as_bytes())?)?;
-        assert_eq!(rt; again.as_slice(), want.as_bytes());
-    }
-    Ok(())
-}
-
-#[test]
-fn writes_replies_of_lists(rt: HostRuntime) -> Result<(), Fail> {
-    let alloc = rt.alloc();
-    let status = Status {
-        set: Name::new(1),
-        sequence: 2,
-        make_send: 3,
-        limit: 4,
-        queued: 5,
-        send_once: 6,
-        has_send: 7,
-        port_destroyed: 8,
-        no_senders: 4294967295,
-    };
-    let names = NameTypes::from_vec(vec![in alloc;
-        (Name::new(3), 0x10000),
-        (Name::new(10), 0x8010_0000),
-    ]?);
-    let members = NameList::from_vec(vec![in alloc; Name::new(2), Name::new(12)]?);
-    let bytes = Bytes::from_vec(vec![in alloc; 0x00, 0x9a, 0xff]?);
-    let cases = vec![in alloc;
-        (Reply::Names(names), "names 3:00010000 10:80100000"),
-        (Reply::Names(NameTypes::from_vec(Vec::new(alloc))), "names"),
-        (Reply::Status(status), "status 1 2 3 4 5 6 7 8 4294967295"),
-        (Reply::Members(members), "members 2 12"),
-        (
-            Reply::Members(NameList::from_vec(Vec::new(alloc))),
-            "members"
-        ),
-        (Reply::Message(bytes), "message 009aff"),
-        (
-            Reply::Message(Bytes::from_vec(Vec::new(alloc))),
-            "message -"
-        ),
-    ]?;
-    for (reply, want) in cases {
-        let text = text_of(alloc, reply)?;
-        assert_eq!(rt; text.as_slice(), want.as_bytes());
-        let again = text_of(alloc, read_reply(alloc, want.as_bytes())?)?;
-        assert_eq!(rt; again.as_slice(), want.as_bytes());
+    for (told, want) in &REPLIES {
+        let text = text_of(alloc, &reply_of(alloc, told)?)?;
+        assert!(rt; text.as_slice() == want.as_bytes(), "at {want}");
+        let again = text_of(alloc, &read_reply(alloc, want.as_bytes())?)?;
+        assert!(rt; again.as_slice() == want.as_bytes(), "at {want}");
     }
     Ok(())
 }
@@ -226,7 +260,7 @@ const BAD_REPLIES: &str = "\
 fn refuses_what_is_no_reply(rt: HostRuntime) {
     for line in BAD_REPLIES.split('|') {
         let fault = read_reply(rt.alloc(), line.as_bytes()).err();
-        assert_eq!(rt; fault, Some(TextFault::Bad), "at {line:?}");
+        assert!(rt; fault == Some(TextFault::Bad), "at {line:?}");
     }
     let fault = read_reply(rt.alloc(), b"task\xff 0").err();
     assert_eq!(rt; fault, Some(TextFault::Bad));
