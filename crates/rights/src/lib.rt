@@ -14,7 +14,7 @@ ghost use Rattle.rights.specs.Counts.{unused_of};
 
 use mach_types::limits::MOST_RIGHTS;
 use mach_types::{KernReturn, PortId};
-use number_map::NumberMap;
+use number_map::{Located, NumberMap};
 use std::alloc::{AllocError, Global};
 use std::marker::Model;
 
@@ -189,21 +189,21 @@ impl Ledger {
         ensures counts { result ≡ counts_of self.old port }
         ensures after { self.new ≡ left self.old port }
     {
-        let counts = self.held(port);
+        let counts = self.held(port).value;
         self.total -= counts.receive + counts.send + counts.send_once + counts.destination;
         self.unused -= counts.send_once;
         self.ports.remove(port.number());
         counts
     }
 
-    // The counts of a port that was entered.
-    fn held(&self, port: PortId) -> Counts
+    // The counts of a port that was entered, and where they lie.
+    fn held(&self, port: PortId) -> Located<Counts>
         requires { IsEntered self.now port }
-        ensures value { result ≡ counts_of self.now port }
-        ensures all { all_of result ≤ self.now.total }
-        ensures unused { result.send_once ≤ self.now.unused }
+        ensures value { result.value ≡ counts_of self.now port }
+        ensures all { all_of result.value ≤ self.now.total }
+        ensures unused { result.value.send_once ≤ self.now.unused }
     {
-        self.ports.get(port.number()).unwrap()
+        self.ports.locate(port.number()).unwrap()
     }
 
     // The unused send-once rights with so many more of a kind, which may be theirs.
@@ -214,14 +214,15 @@ impl Ledger {
         self.unused + unused_of(kind, number)
     }
 
-    // Puts these counts in place of a port's, with the sums that they make.
-    fn store(&mut self, port: PortId, counts: Counts, total: u32, unused: u32)
+    // Puts these counts in place of a port's, which may lie here, with the sums that they make.
+    fn store(&mut self, port: PortId, counts: Located<Counts>, total: u32, unused: u32)
         requires entered { IsEntered self.old port }
-        requires all { total + all_of (counts_of self.old port) ≡ self.old.total + all_of counts }
-        requires once { unused + (counts_of self.old port).send_once ≡ self.old.unused + counts.send_once }
-        ensures { self.new ≡ record { counts = map.insert self.old.counts port counts; total = total; unused = unused } }
+        requires all { total + all_of (counts_of self.old port) ≡ self.old.total + all_of counts.value }
+        requires once { unused + (counts_of self.old port).send_once ≡ self.old.unused + counts.value.send_once }
+        ensures { self.new ≡ record { counts = map.insert self.old.counts port counts.value; total = total; unused = unused } }
     {
-        self.ports.set(port.number(), counts);
+        self.ports
+            .set_near(counts.place, port.number(), counts.value);
         self.total = total;
         self.unused = unused;
     }
@@ -261,7 +262,11 @@ impl Ledger {
         if number > MOST_RIGHTS - self.total {
             return Err(KernReturn::NoSpace);
         }
-        let counts = self.held(port).with_more(kind, number);
+        let held = self.held(port);
+        let counts = Located {
+            place: held.place,
+            value: held.value.with_more(kind, number),
+        };
         let total = self.total + number;
         let unused = self.with_unused(kind, number);
         self.store(port, counts, total, unused);
@@ -274,7 +279,11 @@ impl Ledger {
         requires there { number ≤ number_of kind (counts_of self.old port) }
         ensures { self.new ≡ taken self.old port kind number }
     {
-        let counts = self.held(port).with_fewer(kind, number);
+        let held = self.held(port);
+        let counts = Located {
+            place: held.place,
+            value: held.value.with_fewer(kind, number),
+        };
         let total = self.total - number;
         let unused = self.unused - unused_of(kind, number);
         self.store(port, counts, total, unused);
@@ -286,7 +295,11 @@ impl Ledger {
         requires there { 0 < (counts_of self.old port).send_once }
         ensures { self.new ≡ shifted self.old port }
     {
-        let counts = self.held(port).shifted();
+        let held = self.held(port);
+        let counts = Located {
+            place: held.place,
+            value: held.value.shifted(),
+        };
         let total = self.total;
         let unused = self.unused - 1;
         self.store(port, counts, total, unused);

@@ -9,11 +9,11 @@ use Rattle.rights.proofs.Ledger.leave.Goals as goal
 
 pub invariant_of-self : goal.invariant_of-self
 invariant_of-self c =
-    let same : all_of c.held-counts.result ≡ all_of (counts_of c.args.self.now c.args.port) = ap all_of c.held-counts.ensures.value in
-    let few : all_of c.held-counts.result ≤ c.args.self.now.total = c.held-counts.ensures.all in
+    let same : all_of c.held.result.value ≡ all_of (counts_of c.args.self.now c.args.port) = ap all_of c.held.ensures.value in
+    let few : all_of c.held.result.value ≤ c.args.self.now.total = c.held.ensures.all in
     let total : c.self.inside.total ≡ c.args.self.now.total = ap (λ (v : LedgerView). v.total) c.self.view_is in
-    let same_once : c.held-counts.result.send_once ≡ (counts_of c.args.self.now c.args.port).send_once = ap (λ (v : Counts). v.send_once) c.held-counts.ensures.value in
-    let few_once : c.held-counts.result.send_once ≤ c.args.self.now.unused = c.held-counts.ensures.unused in
+    let same_once : c.held.result.value.send_once ≡ (counts_of c.args.self.now c.args.port).send_once = ap (λ (v : Counts). v.send_once) c.held.ensures.value in
+    let few_once : c.held.result.value.send_once ≤ c.args.self.now.unused = c.held.ensures.unused in
     let unused : c.self.inside.unused ≡ c.args.self.now.unused = ap (λ (v : LedgerView). v.unused) c.self.view_is in
     counted-left c.self.inside.ports.map c.self.inside.total c.self.inside.unused c.self.invariant c.args.self.now c.self.view_is c.args.port c.requires _ _ (omega (arith, same, few, total)) (omega (arith, same_once, few_once, unused)) c.remove.new.self.map
     (ap (λ (w : MapView Counts). w.map) c.remove.ensures.after ∙ ap (map.remove c.self.inside.ports.map) c.number.ensures)

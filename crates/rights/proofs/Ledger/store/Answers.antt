@@ -7,5 +7,5 @@ use Rattle.rights.proofs.Ledger.store.Goals as goal
 
 pub invariant_of-self : goal.invariant_of-self
 invariant_of-self c =
-    counted-stored c.self.inside.ports.map c.self.inside.total c.self.inside.unused c.self.invariant c.args.self.now c.self.view_is c.args.port c.requires.entered c.args.counts c.args.total c.args.unused c.requires.all c.requires.once c.set.new.self.map
-    (ap (λ (w : MapView Counts). w.map) c.set.ensures ∙ ap (λ port. map.insert c.self.inside.ports.map port c.args.counts) c.number.ensures)
+    counted-stored c.self.inside.ports.map c.self.inside.total c.self.inside.unused c.self.invariant c.args.self.now c.self.view_is c.args.port c.requires.entered c.args.counts.value c.args.total c.args.unused c.requires.all c.requires.once c.set_near.new.self.map
+    (ap (λ (w : MapView Counts). w.map) c.set_near.ensures ∙ ap (λ port. map.insert c.self.inside.ports.map port c.args.counts.value) c.number.ensures)
