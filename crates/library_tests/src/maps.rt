@@ -2,6 +2,17 @@
 use number_map::NumberMap;
 use std::test::Fail;
 
+/// Sets the value under a key by where it lies, to one more, and by a wrong place, to two more than it was.
+fn set_twice(numbers: &mut NumberMap<u32>, key: u64) {
+    let Some(held) = numbers.locate(key) else {
+        return;
+    };
+    numbers.set_near(held.place, key, held.value.wrapping_add(1));
+    if numbers.get(key).is_some() {
+        numbers.set_near(held.place.wrapping_add(1), key, held.value.wrapping_add(2));
+    }
+}
+
 #[test]
 fn keys_come_and_go(rt: HostRuntime) -> Result<(), Fail> {
     let mut numbers = NumberMap::<u32>::new(rt.alloc());
@@ -20,7 +31,8 @@ fn keys_come_and_go(rt: HostRuntime) -> Result<(), Fail> {
     if numbers.get(49).is_some() {
         numbers.set(49, 8);
     }
-    assert_eq!(rt; numbers.remove(49), Some(8));
+    set_twice(&mut numbers, 49);
+    assert_eq!(rt; numbers.remove(49), Some(10));
     assert_eq!(rt; numbers.remove(49), None);
     assert_eq!(rt; numbers.len(), 99);
     numbers.reserve(1)?;
