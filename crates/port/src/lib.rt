@@ -10,7 +10,7 @@ ghost use Rattle.std.specs.Option.{option_map, option_and_then};
 ghost use Rattle.std.specs.FinMap as map;
 ghost use Rattle.std.specs.Ordering.{nat_cmp};
 ghost use Rattle.number_map.specs.Maps.{MapView};
-ghost use Rattle.slab.specs.Slab.{get, with_value};
+ghost use Rattle.slab.specs.Slab.{get, with_value, HasRoomFor};
 ghost use Rattle.port.specs.declared.Record.{Record as AnyRecord};
 ghost use Rattle.port.specs.Ready.{StandsIn, IsMoved, out_of, at_end};
 ghost use Rattle.port.specs.Turns.{turns_of, same_set};
@@ -29,6 +29,9 @@ use std::mem;
 
 // A list has fewer elements than this.
 const MOST_SLOTS: usize = 1 << 63;
+
+// With so many records or fewer, each key fits 32 bits.
+const MOST_RECORDS: usize = 1 << 32;
 
 /// A message that can lie in a slot.
 pub trait Message: Drop {
@@ -164,7 +167,7 @@ const _: () = prove!(mem::size_of::<Record<u8>>() <= 56);
 #[derive(Drop)]
 pub struct Ports<M: Message> {
     records: Slab<Record<M>>,
-    by_id: NumberMap<usize>,
+    by_id: NumberMap<u32>,
     ready: Lists,
     members: Lists,
     next: Option<u64>,
@@ -394,10 +397,34 @@ fn renew(lists: &mut Lists, key: usize, was: Option<u64>, now: Option<u64>)
 }
 
 // The key of a port's record, if the port is there.
-fn key_of(by_id: &NumberMap<usize>, port: PortId) -> Option<usize>
+fn key_of(by_id: &NumberMap<u32>, port: PortId) -> Option<usize>
     ensures { result ≡ map.get by_id.now.map port }
 {
-    by_id.get(port.number())
+    match by_id.get(port.number()) {
+        Some(key) => Some(key as usize),
+        None => None,
+    }
+}
+
+// A key in 32 bits.
+fn narrow(key: usize) -> u32
+    requires { key < 2 ^ 32 }
+    ensures { result ≡ key }
+{
+    key as u32
+}
+
+// Makes room for one more record, whose key fits 32 bits.
+fn reserve_record<M: Message>(records: &mut Slab<Record<M>>) -> Result<(), AllocError>
+    ensures room { OnOk result (HasRoomFor records.new 1) }
+    ensures few { OnOk result (records.new.capacity ≤ 2 ^ 32) }
+    ensures rest_kept { records.new ≡ record records.old { capacity = records.new.capacity } }
+{
+    records.reserve(1)?;
+    if records.capacity() > MOST_RECORDS {
+        return Err(AllocError);
+    }
+    Ok(())
 }
 
 impl<M: Message> Ports<M> {
@@ -470,7 +497,7 @@ impl<M: Message> Ports<M> {
     {
         let number = self.next.unwrap();
         let id = PortId::new(number);
-        self.records.reserve(1)?;
+        reserve_record(&mut self.records)?;
         self.by_id.reserve(1)?;
         self.ready.reserve(self.records.capacity())?;
         self.members.reserve(self.records.capacity())?;
@@ -479,7 +506,7 @@ impl<M: Message> Ports<M> {
             queue: LinkedList::new(*self.spare.allocator()),
             attributes: KeptAttributes::new(Attributes::first()),
         });
-        self.by_id.insert(number, key);
+        self.by_id.insert(number, narrow(key));
         self.next = number.checked_add(1);
         Ok(id)
     }
@@ -492,6 +519,7 @@ impl<M: Message> Ports<M> {
     {
         match self.by_id.remove(port.number()) {
             Some(key) => {
+                let key = key as usize;
                 let set = member_at(&self.records, key);
                 leave(&mut self.members, key, set);
                 self.records.remove(key);
