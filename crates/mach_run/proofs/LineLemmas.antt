@@ -1,9 +1,10 @@
 -- Scripts read line by line.
-use Rattle.std.proofs.Common.{◌≡◌, ℕ, ◌<◌, ◌+◌, ◌==◌, if◌then◌else◌, List, [], ◌∷◌, ◌++◌, All, Option, Some, None, IfSome, length, flat_map, sym, ap, ◌∙◌, arith, append_assoc, append-nil, subst}
-use Rattle.std.proofs.BufReadLemmas.{take_through-append, take_through_nonempty}
+use Rattle.std.proofs.Common.{◌≡◌, ℕ, ◌<◌, ◌≤◌, ◌+◌, length-append, ◌==◌, if◌then◌else◌, List, [], ◌∷◌, ◌++◌, All, Option, Some, None, IfSome, length, flat_map, sym, ap, ◌∙◌, arith, append_assoc, append-nil, subst, take}
+use Rattle.std.proofs.BufReadLemmas.{take_through-append, take_through_nonempty, Consumes_shown}
+use Rattle.std.proofs.Math.Seq.{take-append-add}
 use Rattle.std.proofs.KnownBytes.{Consumes-trans, prepend_known-nil}
-use Rattle.std.specs.Io.BufRead.{take_through}
-use Rattle.std.specs.Io.KnownBytes.{Consumes, IsAtEnd, prepend_known}
+use Rattle.std.specs.Io.BufRead.{take_through, DropsConsumable}
+use Rattle.std.specs.Io.KnownBytes.{Consumes, IsAtEnd, Keeps, prepend_known}
 use Rattle.std.specs.Io.Buffered.{reader_remaining, reader_inner, reader_buffer, reader_capacity}
 use Rattle.std.specs.declared.io.buffered.BufReader.{BufReader}
 use Rattle.mach_types.specs.declared.calls.Event.{Event}
@@ -53,3 +54,20 @@ behind_nothing capacity buffer left room empty = rw (room, empty) (prepend_known
 pub new-buffer : {T A : Type 0} (left : T → Option (List ℕ)) (reader : BufReader T A) (inner : T) → reader_inner reader ≡ inner → reader_capacity reader ≡ 131072 → reader_buffer reader ≡ []
     → reader_remaining left reader ≡ left inner
 new-buffer left reader inner is room empty = behind_nothing (reader_capacity reader) (reader_buffer reader) (left (reader_inner reader)) room empty ∙ ap left is
+
+-- what is consumed up to the first line feed is the first line
+pub line-consumed : (a b : Option (List ℕ)) (text : List ℕ) → Lacks 10 text → Consumes a b (text ++ 10 ∷ []) → IfSome a (λ left. text ++ 10 ∷ [] ≡ take_through 10 left)
+line-consumed None b text lacks taken = tt
+line-consumed (Some left) None text lacks taken = absurd taken
+line-consumed (Some left) (Some rest) text lacks taken =
+    sym (ap (take_through 10) taken ∙ ap (take_through 10) (append_assoc text (10 ∷ []) rest) ∙ take_through-append 10 text (10 ∷ rest) lacks)
+
+-- a line that the reader showed is consumed whole
+pub line-shown : (a b c : Option (List ℕ)) (buffered : Option ℕ) (shown text rest : List ℕ) (n : ℕ) → text ++ 10 ∷ rest ≡ shown → n ≡ length text + 1
+    → IfSome a (λ xs. take (length shown) xs ≡ shown) → IfSome a (λ xs. length shown ≡ 0 → xs ≡ []) → Keeps a b
+    → IfSome a (λ _. IfSome buffered (λ k. length shown ≤ k)) → DropsConsumable b c buffered n → Consumes a c (text ++ 10 ∷ [])
+line-shown a b c buffered shown text rest n parts count front end kept fits drops =
+    let long : length shown ≡ length text + length (10 ∷ rest) = ap length (sym parts) ∙ length-append text (10 ∷ rest) in
+    let within : n ≤ length shown = omega (arith, long, count) in
+    let line : take n shown ≡ text ++ 10 ∷ [] = ap (λ k. take k shown) count ∙ ap (take (length text + 1)) (sym parts) ∙ take-append-add text (10 ∷ rest) 1 in
+    subst (Consumes a c) line (Consumes_shown a b c buffered shown n within front end kept fits drops).0

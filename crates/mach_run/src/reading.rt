@@ -1,7 +1,7 @@
 //! Scripts read line by line, so that their text takes no memory.
-ghost use Rattle.std.specs.Prelude.{◌≡◌, ℕ, List, All, IfOk, IfSome, IsOkUnless, OnOk, Err, flat_map, length};
+ghost use Rattle.std.specs.Prelude.{◌≡◌, ◌<◌, ℕ, true, false, Ok, List, All, IfOk, IfSome, IsOkUnless, OnOk, Err, flat_map, length};
 ghost use Rattle.std.specs.Io.BufRead.{take_through};
-ghost use Rattle.std.specs.Io.KnownBytes.{Consumes, IsAtEnd};
+ghost use Rattle.std.specs.Io.KnownBytes.{Consumes, IsAtEnd, Keeps};
 ghost use Rattle.mach_types.specs.declared.calls.Event.{Event as AnyEvent};
 ghost use Rattle.mach_run.specs.declared.perform.Fault.TheVariants.{BadCall};
 ghost use Rattle.tracer_base.specs.Calls.{Fits, IsFirstBadLine, line_text};
@@ -11,7 +11,7 @@ use mach_types::Event;
 use std::alloc::Global;
 use std::io;
 use std::io::{BufRead, BufReader, ErrorKind, Read};
-use tracer_base::{TextFault, read_call};
+use tracer_base::{TextFault, read_call, split_once};
 
 /// How many bytes of a script are read at once.
 const READ_AT_ONCE: usize = 131_072;
@@ -62,6 +62,60 @@ fn read_lines<'a, B: BufRead>(
 
 /// Reads the next line into `line`, with its line feed, and answers its length: 0 at the end.
 fn next_line<'a, B: BufRead>(
+    name: &'a str,
+    reader: &mut B,
+    line: &mut Vec<u8>,
+) -> Result<usize, Fault<'a>>
+    ensures length { IfOk result (λ n. n ≡ length line.new.items) }
+    ensures taken { OnOk result (IfSome (B.remaining reader.old) (λ left. line.new.items ≡ take_through 10 left)) }
+    ensures left { OnOk result (Consumes (B.remaining reader.old) (B.remaining reader.new) line.new.items) }
+    ensures end { IfOk result (λ n. n ≡ 0 → IsAtEnd (B.remaining reader.old)) }
+    ensures err { (n : ℕ) → result ≡ Err (BadCall n) → ⊥ }
+{
+    match take_line(reader, line) {
+        Ok(true) => Ok(line.len()),
+        Ok(false) => read_line(name, reader, line),
+        Err(error) => Err(fault_of(name, error)),
+    }
+}
+
+/// Moves the next line into `line`, with its line feed, where the reader has it whole at hand; answers
+/// whether it has.
+///
+/// An interrupted read has nothing at hand.
+fn take_line<B: BufRead>(reader: &mut B, line: &mut Vec<u8>) -> io::Result<bool>
+    ensures some { result ≡ Ok true → 0 < length line.new.items }
+    ensures taken { result ≡ Ok true → IfSome (B.remaining reader.old) (λ left. line.new.items ≡ take_through 10 left) }
+    ensures left { result ≡ Ok true → Consumes (B.remaining reader.old) (B.remaining reader.new) line.new.items }
+    ensures kept { result ≡ Ok false → Keeps (B.remaining reader.old) (B.remaining reader.new) }
+{
+    line.clear();
+    let available = match reader.fill_buf() {
+        Ok(available) => available,
+        Err(error) => return unless_interrupted(error),
+    };
+    let Some((text, _)) = split_once(available, b'\n') else {
+        return Ok(false);
+    };
+    let length = text.len() + 1;
+    line.extend_from_slice(text)?;
+    line.push(b'\n')?;
+    reader.consume(length);
+    Ok(true)
+}
+
+/// That no line is at hand, where the error is that of an interrupted read; else the error.
+fn unless_interrupted(error: io::Error) -> io::Result<bool>
+    ensures { result ≡ Ok true → ⊥ }
+{
+    match error.kind() {
+        ErrorKind::Interrupted => Ok(false),
+        _ => Err(error),
+    }
+}
+
+/// Reads the next line as [`next_line`] does, with more reads where it takes them.
+fn read_line<'a, B: BufRead>(
     name: &'a str,
     reader: &mut B,
     line: &mut Vec<u8>,

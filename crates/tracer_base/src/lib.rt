@@ -16,3 +16,4 @@ pub use calls::{read_call, write_call};
 pub use fault::TextFault;
 pub use replies::{read_reply, write_reply, write_reply_line};
 pub use script::{ScriptFault, read_script};
+pub use words::split_once;
