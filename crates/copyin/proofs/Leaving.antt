@@ -62,7 +62,7 @@ set_same [] i x is = refl
 set_same (o ∷ ys) zero x is = let e : Some x ≡ o = sym is in ap (λ z. z ∷ ys) e
 set_same (o ∷ ys) (suc i) x is = ap (λ zs. o ∷ zs) (set_same ys i x is)
 
-stays_put : (w : WorldView) (task name : ℕ) (c : Carried) (can : CanCopy w task name c) → makes_right c.given ≡ true → PutsLeft w task name can.copied.left w
+pub stays_put : (w : WorldView) (task name : ℕ) (c : Carried) (can : CanCopy w task name c) → makes_right c.given ≡ true → PutsLeft w task name can.copied.left w
 stays_put w task name c can makes =
     let all : can.copied.left ≡ Some can.entry = leaves c.given can.entry can.copied makes can.is in
     let names_are : put can.space.names name can.copied.left ≡ can.space.names = ap (put can.space.names name) all ∙ put_same can.space.names name can.entry can.found in
@@ -74,9 +74,3 @@ stays_put w task name c can makes =
       there = can.there;
       rest = ap (λ (xs : List (Option SpaceView)). record w { spaces = xs }) (sym spaces_are);
     }
-
-pub makes : (old new : WorldView) (task name : ℕ) (c : Carried) (can : CanCopy old task name c) → makes_right c.given ≡ true →
-    new ≡ record old { ports = ports_copied c.given c.mark old.ports; ledger = ledger_copied c.given c.mark old.ledger } → CopiesRight old task c.given name c.mark new
-makes old new task name c can made is = subst (λ (w : WorldView). CopiesRight old task c.given name c.mark w) (sym is)
-    (copies_right old old task name c can can.copied refl (stays_put old task name c can made) old.spaces old.ports old.ledger old.sets refl _ _
-    (ap (λ (m : Mark). ports_copied c.given m old.ports) can.mark_is) (ap (λ (m : Mark). ledger_copied c.given m old.ledger) can.mark_is))

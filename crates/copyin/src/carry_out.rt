@@ -10,6 +10,7 @@ ghost use Rattle.copyin_base.specs.declared.message.Mark.TheVariants as mark_of;
 ghost use Rattle.copyin.specs.Judging.{made_by, made_by_mark};
 ghost use Rattle.copyin.specs.Planned.{IsPlan, CanGo, CanCopy};
 ghost use Rattle.copyin.specs.Plans.{ChangesWord, ChangesWords, Commits};
+ghost use Rattle.copyin_base.specs.Changes.{PutsLeft};
 ghost use Rattle.copyin_base.specs.Stands.{IsTied};
 ghost use Rattle.copyin.specs.Copies.{ports_copied, ledger_copied, ledger_queued, CopiesRight};
 
@@ -73,8 +74,24 @@ fn count_right(ledger: &mut Ledger, given: Disposition, mark: Mark)
     }
 }
 
-// A right is made from one that stays: the port changes as the disposition says, and it is counted.
-fn make_right(world: &mut World, carried: Carried)
+// Leaves what is left of the right under the name that it goes from, and tells what stands for the
+// right. One that is made from a right that stays leaves just that: no name is looked up for it.
+fn leave_name(world: &mut World, task: TaskId, name: Name, carried: Carried) -> Mark
+    requires { CanCopy world.old task name carried }
+    ensures left { (can : CanCopy world.old task name carried) → PutsLeft world.old task name can.copied.left world.new }
+    ensures mark { result ≡ carried.mark }
+{
+    if carried.given.makes_right() {
+        return carried.mark;
+    }
+    let entry = world.lookup(task, name).unwrap();
+    let copied = copy_right(carried.given, &entry).unwrap();
+    world.put_left(task, name, copied.left);
+    copied.mark
+}
+
+// The port changes as the right's disposition says, and the right is counted if it is made.
+fn count_copied(world: &mut World, carried: Carried)
     requires entered { (port : ℕ) → carried.mark ≡ mark_of.Port port → IsEntered world.old.ledger port }
     requires room { world.old.ledger.total + made_by carried ≤ most_rights }
     ensures { world.new ≡ record world.old {
@@ -86,18 +103,6 @@ fn make_right(world: &mut World, carried: Carried)
     count_right(&mut world.ledger, carried.given, carried.mark);
 }
 
-// A right goes from under the name, and what is left stays there.
-fn move_right(world: &mut World, task: TaskId, name: Name, carried: Carried)
-    requires { CanCopy world.old task name carried }
-    ensures { CopiesRight world.old task carried.given name carried.mark world.new }
-{
-    let entry = world.lookup(task, name).unwrap();
-    let copied = copy_right(carried.given, &entry).unwrap();
-    world.put_left(task, name, copied.left);
-    renew_port(&mut world.ports, carried.given, copied.mark);
-    count_right(&mut world.ledger, carried.given, copied.mark);
-}
-
 /// The right under the name goes by its disposition: what is left stays under the name, the port
 /// changes as the disposition says, and a right that is made is counted.
 ///
@@ -107,11 +112,9 @@ pub fn copy_name(world: &mut World, task: TaskId, name: Name, carried: Carried)
     requires { CanCopy world.old task name carried }
     ensures { CopiesRight world.old task carried.given name carried.mark world.new }
 {
-    if carried.given.makes_right() {
-        make_right(world, carried);
-    } else {
-        move_right(world, task, name, carried);
-    }
+    let given = carried.given;
+    let mark = leave_name(world, task, name, carried);
+    count_copied(world, Carried { given, mark });
 }
 
 // Counts the send-once right that a message goes by, once it is queued, as unused no more.
