@@ -7,7 +7,7 @@ use Rattle.number_map.specs.Maps.{MapView}
 use Rattle.member_lists.specs.declared.Link.{Link}
 use Rattle.member_lists.specs.declared.Ends.{Ends}
 use Rattle.member_lists.specs.Lists.{ListsView, list_of, with_list, without, IsApart}
-use Rattle.member_lists.specs.Chains.{times, ends_at, items_from, lists_of, pick, IsBehindSet, IsBeforeSet, IsKept}
+use Rattle.member_lists.specs.Chains.{ends_at, items_from, lists_of, pick, IsBehindSet, IsBeforeSet, IsKept}
 use Rattle.member_lists.proofs.Sound.{IsShown, shown, same_gets}
 use Rattle.member_lists.proofs.Values.{get-with_values}
 use Rattle.member_lists.proofs.Changed.{last_fits, len_more, first_pushed, sound_pushed, view_pushed, item_in_range, item_stands, before_fits, behind_fits, len_left, blank_left, sound_left, view_left, lists_grown}

@@ -1,5 +1,5 @@
 -- Chains as a whole, the lists in them, and what a change of one chain leaves.
-use Rattle.std.proofs.Common.{◌≡◌, ◌≢◌, inl, inr, ℕ, zero, suc, ◌<◌, ◌≤◌, cond, eqb, List, [], ◌∷◌, length, Option, Some, None, slice_get, refl, sym, ◌∙◌, ap}
+use Rattle.std.proofs.Common.{◌≡◌, ◌≢◌, inl, inr, ℕ, zero, suc, ◌<◌, ◌≤◌, cond, List, [], ◌∷◌, length, Option, Some, None, slice_get, refl, sym, ◌∙◌, ap}
 use Rattle.std.specs.Prelude.{unwrap_or}
 use Rattle.std.specs.Option.{option_map}
 use Rattle.std.specs.Ordering.{nat_cmp}
@@ -12,7 +12,7 @@ use Rattle.member_lists.specs.declared.Ends.{Ends}
 use Rattle.member_lists.specs.Lists.{ListsView, list_of, with_list}
 use Rattle.member_lists.specs.Chains.{times, walk, first_or, ends_at, blank_ends, items_from, lists_of, IsSound, IsKept}
 use Rattle.member_lists.proofs.Values.{get-with_values}
-use Rattle.member_lists.proofs.Times.{same_some, none_some, equal_or_not, eqb_same, eqb_other, few_items}
+use Rattle.member_lists.proofs.Times.{none_some, equal_or_not, eqb_same, eqb_other, few_items}
 use Rattle.member_lists.proofs.Linked.{linked_there, walk-linked}
 
 -- ---- what stands in the chains

@@ -488,7 +488,8 @@ impl<M: Message> Ports<M> {
     /// `mach_port_allocate`). Its identity is the number of ports made before. Constant time,
     /// but where the records or the index move to a larger place.
     ///
-    /// An error means that memory was refused; all is then as before.
+    /// An error means that memory was refused, or that the records' places would be more than 2^32;
+    /// all is then as before.
     pub fn allocate(&mut self) -> Result<PortId, AllocError>
         requires { self.old.made < most_identities }
         ensures identity { IfOk result (λ id. id ≡ self.old.made) }

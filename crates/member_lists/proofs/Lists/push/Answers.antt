@@ -1,4 +1,3 @@
-use Rattle.std.proofs.Common.{arith}
 use Rattle.member_lists.proofs.Sound.{shown}
 use Rattle.member_lists.proofs.Held.{room_for}
 use Rattle.member_lists.proofs.Kept.{joins_last_fits, kept_pushed, lists_pushed}
