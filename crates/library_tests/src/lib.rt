@@ -25,6 +25,8 @@ mod queues;
 #[cfg(test)]
 mod references;
 #[cfg(test)]
+mod requests;
+#[cfg(test)]
 mod sets;
 #[cfg(test)]
 mod texts;
