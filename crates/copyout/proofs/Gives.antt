@@ -1,19 +1,19 @@
 -- One right given: the tables after its steps.
 use Rattle.std.proofs.Common.{◌≡◌, ◌≢◌, ℕ, ◌-◌, ◌<◌, Option, Some, None, refl, sym, ap, subst, ◌∙◌, arith, inl, inr}
-use Rattle.std.specs.Prelude.{is_some}
+use Rattle.std.specs.Prelude.{is_some, IfSome}
 use Rattle.std.specs.Option.{option_and_then}
 use Rattle.std.specs.FinMap as map
 use Rattle.mach_types.specs.Numbers.{most_names}
 use Rattle.mach_types.specs.Tokens.{Kind, receive, send, send_once}
 use Rattle.name_space.specs.declared.Entry.{Entry}
 use Rattle.name_space.specs.declared.Entry.TheVariants as entry_of
-use Rattle.name_space.specs.Entry.{port_named}
+use Rattle.name_space.specs.Entry.{port_named, with_send}
 use Rattle.name_space.specs.Names.{Names, SpaceView, IsFreshName, HasNoOther, port_at}
 use Rattle.copyin_base.specs.Worlds.{WorldView, entry_in, entry_at, space_at, with_space}
 use Rattle.copyin_base.specs.Shows.{target_of, HasCount}
 use Rattle.copyin_base.specs.Changes.{CanPutLeft, PutsLeft, InsertsEntry}
 use Rattle.copyin_base.proofs.Gets.{same_found}
-use Rattle.copyout.specs.Giving.{joined, alone, ledger_joined, GivesPort}
+use Rattle.copyout.specs.Giving.{joined, alone, ledger_joined, AddsSend, GivesPort}
 
 pub found_in : (w : WorldView) (task name : ℕ) (space : SpaceView) (entry : Entry) → space_at w task ≡ Some space → entry_at w task name ≡ Some entry →
     map.get space.names name ≡ Some entry
@@ -86,6 +86,42 @@ module _ (w w1 w2 : WorldView) (task : ℕ) (kind : Kind) (port name : ℕ) (ent
     given = inl (record { not_once = not_once; entry = entry; found = found; named = named; rest = refl }, refl, refl);
     rest = rest-joined;
   }
+
+-- what follows of what was found, of which three facts are told
+pub of_found : {T : Type 0} (o : Option T) (P Q R S : T → Type 0) → ((x : T) → P x → Q x → R x → S x) → IfSome o P → IfSome o Q → IfSome o R → IfSome o S
+of_found None P Q R S f p q r = tt
+of_found (Some x) P Q R S f p q r = f x p q r
+
+pub joined_send : (x : Entry) → with_send x ≡ joined send x
+joined_send (entry_of.Receive p) = refl
+joined_send (entry_of.Send p n) = refl
+joined_send (entry_of.ReceiveAndSend p n) = refl
+joined_send (entry_of.SendOnce p) = refl
+joined_send (entry_of.DeadName n) = refl
+joined_send (entry_of.Set n) = refl
+
+-- under the task's name for the port, which has a send reference more
+pub gives-added : (w w1 w2 : WorldView) (task : ℕ) (kind : Kind) (port name : ℕ) (entry : Entry) → kind ≡ send → AddsSend w task port name entry w1 →
+    w2 ≡ record w1 { ledger = ledger_joined kind port entry w1.ledger } → GivesPort w task kind port name w2
+gives-added w w1 w2 task kind port name entry sent adds dropped = record {
+  space = adds.space;
+  there = adds.there;
+  after = map.insert adds.space.names name (with_send entry);
+  room = adds.space.room;
+  ledger = ledger_joined kind port entry w.ledger;
+  given = inl (
+    record {
+      not_once = λ once. let e : send ≡ send_once = sym sent ∙ once in cc;
+      entry = entry;
+      found = adds.found;
+      named = adds.named;
+      rest = ap (λ (x : Entry). map.insert adds.space.names name x) (joined_send entry ∙ ap (λ (k : Kind). joined k entry) (sym sent));
+    },
+    refl,
+    refl,
+  );
+  rest = dropped ∙ ap (λ (x : WorldView). record x { ledger = ledger_joined kind port entry x.ledger }) adds.rest;
+}
 
 -- under a fresh name
 module _ (w w1 : WorldView) (task : ℕ) (kind : Kind) (port name : ℕ) (x : Entry) (space : SpaceView)

@@ -6,7 +6,7 @@ use Rattle.mach_types.specs.Tokens.{Kind, receive, send, send_once}
 use Rattle.mach_types.specs.Bodies.{Through, OneFails}
 use Rattle.name_space.specs.declared.Entry.{Entry}
 use Rattle.name_space.specs.declared.Entry.TheVariants as entry
-use Rattle.name_space.specs.Entry.{port_named, send_references}
+use Rattle.name_space.specs.Entry.{port_named, send_references, with_send}
 use Rattle.name_space.specs.Names.{Names, SpaceView, IsFreshName, port_at}
 use Rattle.rights.specs.Ledger.{LedgerView, taken}
 use Rattle.rights.specs.declared.RightKind.TheVariants as right
@@ -48,6 +48,14 @@ pub record TakesName (names : Names) (kind : Kind) (port word : ℕ) (after : Na
 abbrev pub ledger_joined : Kind → (port : ℕ) → Entry → LedgerView → LedgerView
 ledger_joined send p x ledger = if send_references x == most_references then taken ledger p right.Send 1 else ledger
 ledger_joined kind p x ledger = ledger
+
+-- The task's name for the port, under which this stood, has a send reference more.
+pub record AddsSend (old : WorldView) (task port name : ℕ) (entry : Entry) (new : WorldView) : Type 0 where
+  pub space : SpaceView
+  pub there : space_at old task ≡ Some space
+  pub found : map.get space.names name ≡ Some entry
+  pub named : port_named entry ≡ Some port
+  pub rest : new ≡ with_space old task (record space { names = map.insert space.names name (with_send entry) })
 
 -- The right for a port that is there comes to the task under this name.
 pub record GivesPort (old : WorldView) (task : ℕ) (kind : Kind) (port word : ℕ) (new : WorldView) : Type 0 where

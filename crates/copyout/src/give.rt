@@ -1,5 +1,5 @@
 //! Giving rights to a task.
-ghost use Rattle.std.specs.Prelude.{◌≡◌, ◌≢◌, ℕ, ◌+◌, ◌-◌, ◌<◌, ◌≤◌, ◌++◌, true, [], ◌∷◌, Some, None, length, is_some, MatchBool, vec_len, vec_capacity, List};
+ghost use Rattle.std.specs.Prelude.{◌≡◌, ◌≢◌, ℕ, ◌+◌, ◌-◌, ◌<◌, ◌≤◌, ◌++◌, true, [], ◌∷◌, Some, None, length, is_some, MatchBool, IfSome, IfNone, vec_len, vec_capacity, List};
 ghost use Rattle.std.specs.FinMap as map;
 ghost use Rattle.mach_types.specs.Numbers.{kind_sent, most_names, most_references};
 ghost use Rattle.mach_types.specs.Tokens.{receive, send, send_once};
@@ -11,15 +11,17 @@ ghost use Rattle.rights.specs.declared.RightKind.TheVariants as right;
 ghost use Rattle.rights.specs.Ledger.{IsEntered, counts_of, taken};
 ghost use Rattle.copyin_base.specs.declared.message.Carried.{Carried as AnyCarried};
 ghost use Rattle.copyin_base.specs.declared.message.Mark.TheVariants as mark;
+ghost use Rattle.copyin_base.specs.Worlds.{HasTask, space_at};
 ghost use Rattle.std.specs.Option.{option_to_list};
-ghost use Rattle.copyout.specs.Giving.{joined, alone, ledger_joined, GivesPort, GivesMark, GivesAll};
+ghost use Rattle.copyout.specs.Giving.{joined, alone, ledger_joined, AddsSend, GivesPort, GivesMark, GivesAll};
+ghost use Rattle.copyout.specs.Room.{HasNone};
 ghost use Rattle.copyout.specs.Ready.{CanGivePort, CanJoin, CanTakeName, CanGive};
 
 use crate::room::{has_port, shared_name};
 use copyin_base::{Carried, Mark, World};
 use mach_types::limits::MOST_REFERENCES;
 use mach_types::{Disposition, Name, PortId, Right, TaskId};
-use name_space::Entry;
+use name_space::{Entry, PortName};
 use rights::RightKind;
 use smallvec::SmallVec;
 use user_refs::UserRefs;
@@ -33,21 +35,6 @@ pub(crate) fn alone(given: Disposition, port: PortId) -> Entry
         Right::Send => Entry::Send(port, UserRefs::one()),
         Right::SendOnce => Entry::SendOnce(port),
         Right::PortSet | Right::DeadName => unreachable!(),
-    }
-}
-
-// The entry with a send right more.
-fn with_send(entry: &Entry) -> Entry
-    ensures { result ≡ joined send entry.now }
-{
-    match entry {
-        Entry::Receive(port) => Entry::ReceiveAndSend(*port, UserRefs::one()),
-        Entry::Send(port, references) => Entry::Send(*port, references.add_pegged(1)),
-        Entry::ReceiveAndSend(port, references) => Entry::ReceiveAndSend(
-            *port,
-            references.add_pegged(1),
-        ),
-        _ => *entry,
     }
 }
 
@@ -67,12 +54,13 @@ fn joined(given: Disposition, entry: &Entry) -> Entry
 {
     match given.kind() {
         Right::Receive => with_receive(entry),
-        Right::Send => with_send(entry),
+        Right::Send => entry.with_send(),
         _ => *entry,
     }
 }
 
-// Counts a send right of the port as gone.
+// Counts a send right of the port as gone: it is rare.
+#[cold]
 fn drop_send(world: &mut World, port: PortId)
     requires entered { IsEntered world.old.ledger port }
     requires counted { 1 ≤ (counts_of world.old.ledger port).send }
@@ -81,11 +69,19 @@ fn drop_send(world: &mut World, port: PortId)
     world.ledger.take(port, RightKind::Send, 1);
 }
 
+// Whether it is a send right.
+#[inline]
+fn is_send(given: Disposition) -> bool
+    ensures { MatchBool result (kind_sent given ≡ send) (kind_sent given ≢ send) }
+{
+    matches!(given.kind(), Right::Send)
+}
+
 // Whether the right goes, as the name has as many references as there may be.
 fn is_pegged(given: Disposition, entry: &Entry) -> bool
     ensures { MatchBool result ((kind_sent given ≡ send) × (send_references entry.now ≡ most_references)) (kind_sent given ≡ send → send_references entry.now ≢ most_references) }
 {
-    matches!(given.kind(), Right::Send) && entry.send_references() == MOST_REFERENCES
+    is_send(given) && entry.send_references() == MOST_REFERENCES
 }
 
 // A send right that comes to as many references as there may be goes.
@@ -120,8 +116,37 @@ fn take_name(world: &mut World, task: TaskId, given: Disposition, port: PortId) 
     name
 }
 
-// Gives a right for a port that is there.
-fn give_port(world: &mut World, task: TaskId, given: Disposition, port: PortId) -> Name
+// Adds a send reference under the task's name for the port, if it has one, and answers that name with
+// what stood under it before.
+fn add_send(world: &mut World, task: TaskId, port: PortId) -> Option<PortName>
+    requires { HasTask world.old task }
+    ensures found { IfSome result (λ named. AddsSend world.old task port named.name named.entry world.new) }
+    ensures none { IfNone result ((space : SpaceView) → space_at world.old task ≡ Some space → HasNone space.names port) }
+    ensures same { IfNone result (world.new ≡ world.old) }
+{
+    let Some(space) = &mut world.spaces[task.number() as usize] else {
+        unreachable!()
+    };
+    space.add_send(port)
+}
+
+// Gives a send right for a port that is there: the task's name for the port is searched for once.
+fn give_send(world: &mut World, task: TaskId, given: Disposition, port: PortId) -> Name
+    requires sent { kind_sent given ≡ send }
+    requires can { CanGivePort world.old task (kind_sent given) port }
+    ensures { GivesPort world.old task (kind_sent given) port result world.new }
+{
+    match add_send(world, task, port) {
+        Some(named) => {
+            drop_pegged(world, given, port, &named.entry);
+            named.name
+        }
+        None => take_name(world, task, given, port),
+    }
+}
+
+// Gives a receive or send-once right for a port that is there.
+fn give_other(world: &mut World, task: TaskId, given: Disposition, port: PortId) -> Name
     requires { CanGivePort world.old task (kind_sent given) port }
     ensures { GivesPort world.old task (kind_sent given) port result world.new }
 {
@@ -131,6 +156,18 @@ fn give_port(world: &mut World, task: TaskId, given: Disposition, port: PortId) 
             name
         }
         None => take_name(world, task, given, port),
+    }
+}
+
+// Gives a right for a port that is there.
+fn give_port(world: &mut World, task: TaskId, given: Disposition, port: PortId) -> Name
+    requires { CanGivePort world.old task (kind_sent given) port }
+    ensures { GivesPort world.old task (kind_sent given) port result world.new }
+{
+    if is_send(given) {
+        give_send(world, task, given, port)
+    } else {
+        give_other(world, task, given, port)
     }
 }
 

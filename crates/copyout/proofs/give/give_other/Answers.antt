@@ -6,7 +6,7 @@ use Rattle.copyin_base.specs.Worlds.{space_at}
 use Rattle.copyin_base.proofs.Gets.{same_found}
 use Rattle.copyout.specs.Room.{HasNone}
 use Rattle.copyout.proofs.After.{can_take}
-use Rattle.copyout.proofs.give.give_port.Goals as goal
+use Rattle.copyout.proofs.give.give_other.Goals as goal
 
 pub take_name-requires : goal.take_name-requires
 take_name-requires c =
