@@ -1,11 +1,11 @@
 -- The ports that rights name, marked.
 use Rattle.std.proofs.Common.{◌≡◌, ◌≢◌, ℕ, ◌<◌, ◌%◌, List, [], ◌∷◌, ◌++◌, Option, Some, None, refl, sym, ap, subst, ◌∙◌, true, false, Bool, inl, inr, ◌⊎◌, length, get_or}
-use Rattle.std.specs.Prelude.{slice_get, slice_set, is_some, IfSome}
+use Rattle.std.specs.Prelude.{slice_get, slice_set, is_some, IfSome, IfNone, MatchBool}
 use Rattle.std.specs.FinMap as map
 use Rattle.std.proofs.lemmas.Option.{slice_get-get_or}
 use Rattle.std.proofs.lemmas.Nat.{mod_below}
 use Rattle.mach_types.specs.Numbers.{kind_sent}
-use Rattle.mach_types.specs.Tokens.{send_once}
+use Rattle.mach_types.specs.Tokens.{Kind, send_once}
 use Rattle.name_space.specs.Names.{Names, port_at}
 use Rattle.name_space.proofs.Keys.{equal_or_not}
 use Rattle.copyin_base.specs.declared.message.Carried.{Carried}
@@ -13,7 +13,8 @@ use Rattle.copyin_base.specs.declared.message.Mark.TheVariants as mark
 use Rattle.copyin_base.proofs.Gets.{get-set_same, get-set_other, length-set}
 use Rattle.copyin_base.specs.Kept.{Kept}
 use Rattle.port.specs.Ports.{PortsView}
-use Rattle.copyout.specs.Room.{names_port, named_by, HasNone, IsNamed, IsMarked, Marks, Shares}
+use Rattle.copyout.specs.Room.{names_port, named_by, HasNone, IsNamed, IsMarked, Marks, Owns, Shares}
+use Rattle.copyout.proofs.After.{kind_cases}
 use Rattle.copyout.proofs.Counting.{named_by-push, or_true, names_own, same_port}
 
 module _ (marks : List Bool) (names : Names) (earlier : List Carried) (c : Carried) where
@@ -69,6 +70,22 @@ module _ (ports : PortsView Kept) (names : Names) (earlier : List Carried) (c : 
 pub found_name : (names : Names) (port : ℕ) (found : Option ℕ) → is_some found ≡ true → IfSome found (λ name. port_at names name ≡ Some port) → IsNamed names port
 found_name names port (Some name) is h = (name, h)
 found_name names port None is h = absurd (let e : false ≡ true = is in cc)
+
+-- A right that comes under the task's name for its port, or under none that the task has.
+pub shared_found : (kind : Kind) (names : Names) (port : ℕ) (found : Option ℕ) → is_some found ≡ true → IfSome found (λ name. (kind ≢ send_once) × (port_at names name ≡ Some port)) → (kind ≢ send_once) × IsNamed names port
+shared_found kind names port (Some name) is h = (h.0, (name, h.1))
+shared_found kind names port None is h = absurd (let e : false ≡ true = is in cc)
+
+pub shared_none : (found : Option ℕ) (P : Type 0) → is_some found ≡ false → IfNone found P → P
+shared_none (Some name) P is h = absurd (let e : true ≡ false = is in cc)
+shared_none None P is h = h
+
+-- With none before it, a right needs a name of its own where its port is there and it shares no name.
+pub needs_first : (ports : PortsView Kept) (names : Names) (c : Carried) (port : ℕ) → c.mark ≡ mark.Port port → (kind_sent c.given ≢ send_once → HasNone names port) →
+    (there : Bool) → there ≡ is_some (map.get ports.ports port) → MatchBool there (Owns ports names [] c) (Shares ports names [] c)
+needs_first ports names c port is none true there =
+    record { port = port; for_port = is; there = sym there; own = elim (kind_cases (kind_sent c.given)) [ inl once ↦ inl once | inr not ↦ inr (none not, refl) ] }
+needs_first ports names c port is none false there = inl (λ p e. subst (λ (q : ℕ). is_some (map.get ports.ports q) ≡ false) (same_port port p (sym is ∙ e)) (sym there))
 
 pub place_there : (marks : List Bool) (port : ℕ) → 0 < length marks → (old : Bool) × (slice_get marks (port % length marks) ≡ Some old)
 place_there marks port some = (get_or marks (port % length marks) false, slice_get-get_or marks (port % length marks) false (mod_below port (length marks) some))

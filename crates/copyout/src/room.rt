@@ -193,11 +193,47 @@ fn count_names(
     count
 }
 
-// How many names of their own many rights need, that to answer with first.
+// How many names of their own many rights need, that to answer with first. Its marks stand apart.
+#[inline(never)]
 fn count_many(world: &World, space: &Space, reply: &Option<Carried>, rights: &[Carried]) -> usize
     ensures { Needs world.now.ports space.now.names [] (option_to_list reply.now ++ rights.now) result }
 {
     count_names(world, space, reply, rights, &mut [false; PLACES])
+}
+
+// How many names of their own the rights need, that to answer with first.
+fn count_all(world: &World, space: &Space, reply: &Option<Carried>, rights: &[Carried]) -> usize
+    ensures { Needs world.now.ports space.now.names [] (option_to_list reply.now ++ rights.now) result }
+{
+    if rights.len() > FEW {
+        count_many(world, space, reply, rights)
+    } else {
+        count_names(world, space, reply, rights, &mut [false; 1])
+    }
+}
+
+// Whether a right that is the only one needs a name of its own.
+fn needs_lone(world: &World, space: &Space, carried: &Carried) -> bool
+    ensures { MatchBool result (Owns world.now.ports space.now.names [] carried.now) (Shares world.now.ports space.now.names [] carried.now) }
+{
+    let Mark::Port(port) = carried.mark else {
+        return false;
+    };
+    if shared_name(space, carried.given, port).is_some() {
+        return false;
+    }
+    has_port(world, port)
+}
+
+// How many names of its own a right needs that is the only one: 1 or none. It is compared with none.
+fn lone_names(world: &World, space: &Space, carried: &Carried) -> usize
+    ensures { Needs world.now.ports space.now.names [] (carried.now ∷ []) result }
+{
+    if needs_lone(world, space, carried) {
+        1
+    } else {
+        0
+    }
 }
 
 /// How many names of their own the rights of the message need: exactly so many more names the task has
@@ -209,9 +245,10 @@ pub fn room_needed(world: &World, space: &Space, message: &Message) -> usize
     ensures { Needs world.now.ports space.now.names [] (carried_by message.now) result }
 {
     let rights = message.rights.as_slice();
-    if rights.len() > FEW {
-        count_many(world, space, &message.reply, rights)
-    } else {
-        count_names(world, space, &message.reply, rights, &mut [false; 1])
+    match (&message.reply, rights.len()) {
+        (None, 0) => 0,
+        (None, 1) => lone_names(world, space, &rights[0]),
+        (Some(carried), 0) => lone_names(world, space, carried),
+        (reply, _) => count_all(world, space, reply, rights),
     }
 }
