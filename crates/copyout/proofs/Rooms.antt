@@ -1,5 +1,5 @@
 -- Room made for names, the front message once it was, and the room that is left.
-use Rattle.std.proofs.Common.{◌≡◌, ◌≢◌, ℕ, ◌+◌, ◌-◌, ◌<◌, ◌≤◌, List, [], ◌∷◌, Option, Some, refl, sym, ap, subst, ◌∙◌, arith, true, false, Bool, inl, inr, length}
+use Rattle.std.proofs.Common.{◌≡◌, ◌≢◌, ℕ, ◌+◌, ◌-◌, ◌<◌, ◌≤◌, List, [], ◌∷◌, Option, Some, None, zero, suc, refl, sym, ap, subst, ◌∙◌, arith, true, false, Bool, inl, inr, length}
 use Rattle.std.specs.Prelude.{slice_set, is_some, max, MatchBool, if◌then◌else◌, ◌==◌}
 use Rattle.std.specs.Option.{unwrap_or}
 use Rattle.std.specs.FinMap as map
@@ -18,10 +18,11 @@ use Rattle.copyin_base.specs.declared.message.Mark.{Mark}
 use Rattle.copyin_base.specs.declared.message.Mark.TheVariants as mark
 use Rattle.copyin_base.specs.Kept.{Kept}
 use Rattle.copyin_base.specs.Wanted.{room_of, room_in}
-use Rattle.copyin_base.specs.Worlds.{WorldView, port_at, space_at}
+use Rattle.copyin_base.specs.Worlds.{WorldView, HasTask, port_at, space_at, space_in, with_space}
 use Rattle.copyin_base.proofs.Agreeing.{live_put}
 use Rattle.copyin_base.proofs.Gets.{same_found, same_head}
 use Rattle.copyin_base.proofs.Spaces.{space-set_same, space-set_other}
+use Rattle.copyin_base.proofs.Told.{space_there}
 use Rattle.copyout.specs.Giving.{LackNames, free_names, free_room, GivesPort, GivesMark, GivesAll}
 use Rattle.copyout.specs.Room.{Needs}
 use Rattle.copyout.specs.Takes.{TakesFront, TakesMessage, destination_right}
@@ -191,4 +192,21 @@ wants_room w task port room needed m less =
       front = m.front;
       waits = m.waits;
       wanted = inr (too_few free_room room_is_free w.ports m.space.names task [] (carried_by m.front) w _ _ needed (starts free_room w.ports w task m.space m.there (λ p. refl)) m.needs (omega (arith, few)) (omega (arith, own, less)));
+    }
+
+-- ---- room for none
+
+space_kept : (spaces : List (Option SpaceView)) (task : ℕ) (space : SpaceView) → space_in spaces task ≡ Some space → slice_set spaces task (Some space) ≡ spaces
+space_kept [] task space is = absurd (let none : None ≡ Some space = is in cc)
+space_kept (x ∷ xs) zero space is = ap (λ (o : Option SpaceView). o ∷ xs) (sym is)
+space_kept (x ∷ xs) (suc task) space is = ap (λ (ys : List (Option SpaceView)). x ∷ ys) (space_kept xs task space is)
+
+pub room_for_none : (w : WorldView) (task number : ℕ) → HasTask w task → number ≡ 0 → MakesRoom w task number w
+room_for_none w task number has none =
+    let x = space_there w task has in
+    let room : max x.0.room number ≡ x.0.room = omega (arith, none) in
+    record {
+      space = x.0;
+      there = x.1;
+      rest = sym (ap (λ (n : ℕ). with_space w task (record x.0 { room = n })) room ∙ ap (λ (xs : List (Option SpaceView)). record w { spaces = xs }) (space_kept w.spaces task x.0 x.1));
     }

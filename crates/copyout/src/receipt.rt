@@ -12,6 +12,7 @@ ghost use Rattle.rights.specs.Ledger.{IsEntered, counts_of, taken};
 ghost use Rattle.rights.specs.Counts.{number_of};
 ghost use Rattle.copyin_base.specs.Changes.{MakesRoom};
 ghost use Rattle.copyin_base.specs.Kept.{Kept};
+ghost use Rattle.copyin_base.specs.Wanted.{LacksRoomFor};
 ghost use Rattle.copyin_base.specs.Worlds.{WorldView, port_at, HasTask};
 ghost use Rattle.std.specs.Option.{option_to_list};
 ghost use Rattle.copyout.specs.Giving.{GivesAll};
@@ -25,7 +26,7 @@ use crate::room::room_needed;
 use copyin_base::{Carried, Message, World};
 use mach_types::bits::COMPLEX;
 use mach_types::limits::{MOST_BYTES, MOST_NAMES};
-use mach_types::{Bytes, Name, PortId, TaskId};
+use mach_types::{Bytes, KernReturn, Name, PortId, TaskId};
 use message_codec::{Header, Parsed, put_received};
 use rights::RightKind;
 use smallvec::SmallVec;
@@ -236,6 +237,19 @@ fn judge(
     }
 }
 
+// Makes room for so many fresh names of the task. Most messages need none.
+fn make_room(world: &mut World, task: TaskId, needed: usize) -> Result<(), KernReturn>
+    requires { HasTask world.old task }
+    ensures ok { OnOk result (MakesRoom world.old task needed world.new) }
+    ensures err { OnErr result (world.new ≡ world.old) }
+    ensures lacks { OnErr result (LacksRoomFor world.old task needed) }
+{
+    if needed == 0 {
+        return Ok(());
+    }
+    world.reserve_names(task, needed)
+}
+
 /// Receives the port's front message under the task's name `local` for the port (IPC Interface,
 /// `mach_msg` with `MACH_RCV_MSG`), if there is room for its length, names for its rights and memory,
 /// which is judged in this order: the header is reversed, and the rights have the receiver's names, that
@@ -270,7 +284,7 @@ pub fn receive(
     ensures wanted { IfErr result (λ refusal. refusal ≡ refused.Memory → WantsToReceive world.old task port) }
 {
     let (needed, names) = judge(world, alloc, task, port, room)?;
-    match world.reserve_names(task, needed) {
+    match make_room(world, task, needed) {
         Ok(()) => Ok(take_message(world, task, port, local, names)),
         Err(_) => Err(Refusal::Memory),
     }

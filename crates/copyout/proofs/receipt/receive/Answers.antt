@@ -8,25 +8,25 @@ use Rattle.copyout.proofs.receipt.receive.Goals as goal
 pub take_message-requires-clause-ready : goal.take_message-requires-clause-ready
 take_message-requires-clause-ready c =
     let j = c.in_ok-needed.ensures.ok in
-    ready_after c.args.world.now c.reserve_names.new.self c.args.task c.args.port c.args.room c.in_ok-needed.names.capacity c.in_ok-needed.needed c.requires.waits j.0 c.in-Ok.ensures.ok j.2
+    ready_after c.args.world.now c.make_room.new.world c.args.task c.args.port c.args.room c.in_ok-needed.names.capacity c.in_ok-needed.needed c.requires.waits j.0 c.in-Ok.ensures.ok j.2
 
 pub returns-in-Ok-clause-ok : goal.returns-in-Ok-clause-ok
 returns-in-Ok-clause-ok c =
     let m = c.in_ok-needed.ensures.ok.0 in
     let r = c.in-Ok.ensures.ok in
     let t = c.take_message.ensures in
-    let front = judged_front c.args.world.now c.reserve_names.new.self c.args.task c.args.port c.in_ok-needed.needed m.front m.waits r t.mid t.takes in
-    (c.in_ok-needed.needed, c.reserve_names.new.self, r, t, subst (λ (k : Kept). length k.bytes ≤ min c.args.room most_bytes) front m.fits)
+    let front = judged_front c.args.world.now c.make_room.new.world c.args.task c.args.port c.in_ok-needed.needed m.front m.waits r t.mid t.takes in
+    (c.in_ok-needed.needed, c.make_room.new.world, r, t, subst (λ (k : Kept). length k.bytes ≤ min c.args.room most_bytes) front m.fits)
 
 pub returns-in-Ok-clause-kept : goal.returns-in-Ok-clause-kept
 returns-in-Ok-clause-kept c =
-    returns_slot c.args.world.now c.reserve_names.new.self c.take_message.new.world c.args.task c.args.port c.args.room c.in_ok-needed.needed c.args.local c.take_message.result
+    returns_slot c.args.world.now c.make_room.new.world c.take_message.new.world c.args.task c.args.port c.args.room c.in_ok-needed.needed c.args.local c.take_message.result
     c.in_ok-needed.ensures.ok.0 c.in-Ok.ensures.ok c.take_message.ensures
 
 pub returns-in-Err-clause-err : goal.returns-in-Err-clause-err
 returns-in-Err-clause-err c =
     let m = c.in_ok-needed.ensures.ok.0 in
-    (c.in-Err.ensures.err.1, m.front, m.waits, (m.fits, names_enough c.args.world.now c.args.task m.front m.space c.in_ok-needed.needed m.there m.needs m.names))
+    (c.in-Err.ensures.err, m.front, m.waits, (m.fits, names_enough c.args.world.now c.args.task m.front m.space c.in_ok-needed.needed m.there m.needs m.names))
 
 pub returns-in-Err-clause-wanted : goal.returns-in-Err-clause-wanted
 returns-in-Err-clause-wanted c = λ is. wants_room c.args.world.now c.args.task c.args.port c.args.room c.in_ok-needed.needed c.in_ok-needed.ensures.ok.0 c.in-Err.ensures.lacks
