@@ -1,5 +1,5 @@
 -- Requests once one came, and once there is room for more.
-use Rattle.std.proofs.Common.{◌≡◌, ◌≢◌, ◌⊎◌, inl, inr, ℕ, ◌+◌, ◌-◌, ◌<◌, ◌≤◌, ◌^◌, Bool, true, false, cond, not, eqb, Option, Some, None, is_some, List, [], ◌∷◌, ◌++◌, length, slice_get, slice_set, refl, ap, sym, subst, ◌∙◌, arith, Contains}
+use Rattle.std.proofs.Common.{◌≡◌, ◌≢◌, inl, inr, ℕ, ◌+◌, ◌-◌, ◌<◌, ◌≤◌, ◌^◌, Some, None, List, [], ◌∷◌, ◌++◌, length, slice_get, slice_set, ap, sym, subst, ◌∙◌, arith, Contains}
 use Rattle.std.specs.Prelude.{unwrap_or}
 use Rattle.std.specs.Option.{option_map}
 use Rattle.std.specs.FinMap as map
@@ -7,14 +7,14 @@ use Rattle.std.specs.Ordering.{nat_cmp}
 use Rattle.std.proofs.lemmas.List.Elements.{Contains-append_left, Contains-push_cases}
 use Rattle.std.proofs.lemmas.List.{length-set}
 use Rattle.number_map.specs.Maps.{MapView}
-use Rattle.member_lists.specs.Lists.{ListsView, list_of, with_list, without, IsApart}
+use Rattle.member_lists.specs.Lists.{ListsView, list_of, with_list, IsApart}
 use Rattle.member_lists.specs.Chains.{times}
-use Rattle.member_lists.proofs.Times.{same_some, none_some, equal_or_not, times_from_Contains, got_set, got_other, eqb_same, eqb_other}
+use Rattle.member_lists.proofs.Times.{same_some, equal_or_not, times_from_Contains, got_set, got_other}
 use Rattle.member_lists.proofs.Sound.{put_here, put_other, out_here, out_other, same_gets}
 use Rattle.member_lists.proofs.Listed.{list_same, list_other, items_same, in_pushed}
 use Rattle.request_table.specs.declared.Request.{Request}
 use Rattle.request_table.specs.declared.Entry.{Entry}
-use Rattle.request_table.specs.Requests.{RequestsView, key_of, names_of, with_names, with_request}
+use Rattle.request_table.specs.Requests.{RequestsView, key_of, with_names, with_request}
 use Rattle.request_table.specs.Kept.{requests_of, key_at, names_at, IsPlaced, IsHeld, IsKept, IsTaken}
 use Rattle.request_table.proofs.Moved.{some_not_none, len_put}
 use Rattle.request_table.proofs.View.{get-with_values}

@@ -1,19 +1,18 @@
 -- What the view says of requests that are kept.
-use Rattle.std.proofs.Common.{◌≡◌, ◌≢◌, ℕ, ◌+◌, ◌*◌, ◌^◌, ◌<◌, Option, Some, None, List, [], ◌∷◌, slice_get, refl, ap, sym, subst, ◌∙◌, arith, Contains}
+use Rattle.std.proofs.Common.{◌≡◌, ℕ, ◌^◌, ◌<◌, Option, Some, None, List, [], ◌∷◌, slice_get, refl, ap, sym, subst, ◌∙◌, arith, Contains}
 use Rattle.std.specs.Prelude.{unwrap_or}
 use Rattle.std.specs.Option.{option_map, option_and_then}
 use Rattle.std.specs.FinMap as map
-use Rattle.std.specs.Ordering.{nat_cmp}
 use Rattle.std.proofs.lemmas.Option.{slice_get_within, get_or_from_slice_get}
 use Rattle.number_map.specs.Maps.{MapView}
 use Rattle.member_lists.specs.Lists.{ListsView, list_of}
 use Rattle.member_lists.proofs.Times.{same_some, none_some}
 use Rattle.request_table.specs.declared.Request.{Request}
 use Rattle.request_table.specs.declared.Entry.{Entry}
-use Rattle.request_table.specs.Requests.{RequestsView, key_of, name_key, names_of, IsOn, NoneOn}
-use Rattle.request_table.specs.Kept.{requests_of, key_at, names_at, IsPlaced, IsHeld, IsKept}
+use Rattle.request_table.specs.Requests.{RequestsView, name_key, names_of, IsOn, NoneOn}
+use Rattle.request_table.specs.Kept.{requests_of, key_at, names_at, IsHeld, IsKept}
 use Rattle.request_table.proofs.Names.{keys_at, keys-first, names-list}
-use Rattle.request_table.proofs.Came.{Entries, its_request, get-requests}
+use Rattle.request_table.proofs.Came.{its_request, get-requests}
 
 nothing_held : (x : ℕ) (l : List ℕ) → slice_get l 0 ≡ None → Contains l x → ⊥
 nothing_held x [] e c = let less : c.0 < 0 = c.1 in omega arith

@@ -1,4 +1,4 @@
-use Rattle.std.proofs.Common.{◌≡◌, ◌<◌, None, List, [], ◌∷◌, ◌++◌, slice_set, refl, ap, sym, ◌∙◌, arith}
+use Rattle.std.proofs.Common.{◌≡◌, ◌<◌, None, [], ◌∷◌, ◌++◌, slice_set, refl, ap, sym, ◌∙◌, arith}
 use Rattle.std.specs.FinMap as map
 use Rattle.std.specs.Vec.{vec_capacity}
 use Rattle.member_lists.specs.Lists.{list_of, with_list}
