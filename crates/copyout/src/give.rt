@@ -11,7 +11,7 @@ ghost use Rattle.rights.specs.declared.RightKind.TheVariants as right;
 ghost use Rattle.rights.specs.Ledger.{IsEntered, counts_of, taken};
 ghost use Rattle.copyin_base.specs.declared.message.Carried.{Carried as AnyCarried};
 ghost use Rattle.copyin_base.specs.declared.message.Mark.TheVariants as mark;
-ghost use Rattle.copyin_base.specs.Worlds.{HasTask, space_at};
+ghost use Rattle.copyin_base.specs.Worlds.{HasTask, entry_at, space_at};
 ghost use Rattle.std.specs.Option.{option_to_list};
 ghost use Rattle.copyout.specs.Giving.{joined, alone, ledger_joined, AddsSend, GivesPort, GivesMark, GivesAll};
 ghost use Rattle.copyout.specs.Room.{HasNone};
@@ -95,15 +95,20 @@ fn drop_pegged(world: &mut World, given: Disposition, port: PortId, entry: &Entr
     }
 }
 
-// The right comes under the task's name for the port.
-pub(crate) fn join(world: &mut World, task: TaskId, given: Disposition, port: PortId, name: Name)
-    requires { CanJoin world.old task (kind_sent given) port name }
-    ensures { GivesPort world.old task (kind_sent given) port name world.new }
+// The right comes under the task's name for the port, where this stands.
+pub(crate) fn join(
+    world: &mut World,
+    task: TaskId,
+    given: Disposition,
+    port: PortId,
+    named: &PortName,
+)
+    requires can { CanJoin world.old task (kind_sent given) port named.now.name }
+    requires found { entry_at world.old task named.now.name ≡ Some named.now.entry }
+    ensures { GivesPort world.old task (kind_sent given) port named.now.name world.new }
 {
-    if let Some(entry) = world.lookup(task, name) {
-        drop_pegged(world, given, port, &entry);
-        world.put_left(task, name, Some(joined(given, &entry)));
-    }
+    drop_pegged(world, given, port, &named.entry);
+    world.put_left(task, named.name, Some(joined(given, &named.entry)));
 }
 
 // The right comes under a fresh name.
@@ -145,15 +150,28 @@ fn give_send(world: &mut World, task: TaskId, given: Disposition, port: PortId) 
     }
 }
 
+// The task's name under which the right comes, and what stands there: none where it takes a fresh one.
+fn shared_entry(world: &World, task: TaskId, given: Disposition, port: PortId) -> Option<PortName>
+    requires { HasTask world.now task }
+    ensures some { IfSome result (λ named. (kind_sent given ≢ send_once) × (port_named named.entry ≡ Some port)) }
+    ensures found { IfSome result (λ named. entry_at world.now task named.name ≡ Some named.entry) }
+    ensures none { IfNone result (kind_sent given ≢ send_once → (space : SpaceView) → space_at world.now task ≡ Some space → HasNone space.names port) }
+{
+    let space = world.space(task);
+    let name = shared_name(space, given, port)?;
+    let entry = space.lookup(name)?;
+    Some(PortName { name, entry })
+}
+
 // Gives a receive or send-once right for a port that is there.
 fn give_other(world: &mut World, task: TaskId, given: Disposition, port: PortId) -> Name
     requires { CanGivePort world.old task (kind_sent given) port }
     ensures { GivesPort world.old task (kind_sent given) port result world.new }
 {
-    match shared_name(world.space(task), given, port) {
-        Some(name) => {
-            join(world, task, given, port, name);
-            name
+    match shared_entry(world, task, given, port) {
+        Some(named) => {
+            join(world, task, given, port, &named);
+            named.name
         }
         None => take_name(world, task, given, port),
     }

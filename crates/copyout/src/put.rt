@@ -5,6 +5,7 @@ ghost use Rattle.copyout.specs.Putting.{CanPut, PutsPort};
 use crate::give::{alone, join};
 use copyin_base::World;
 use mach_types::{Disposition, Name, PortId, TaskId};
+use name_space::PortName;
 
 /// Gives the task a right for a port that is there, under this name: the task's name for the port, or
 /// one that isn't in use (Port Manipulation Interface, `mach_port_insert_right`).
@@ -16,9 +17,8 @@ pub fn put_right(world: &mut World, task: TaskId, given: Disposition, port: Port
     requires { CanPut world.old task (kind_sent given) port name }
     ensures { PutsPort world.old task (kind_sent given) port name world.new }
 {
-    if world.lookup(task, name).is_some() {
-        join(world, task, given, port, name);
-    } else {
-        world.insert_entry(task, name, alone(given, port));
+    match world.lookup(task, name) {
+        Some(entry) => join(world, task, given, port, &PortName { name, entry }),
+        None => world.insert_entry(task, name, alone(given, port)),
     }
 }

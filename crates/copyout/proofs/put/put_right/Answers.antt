@@ -5,17 +5,16 @@ use Rattle.copyout.proofs.Given.{gives_puts}
 use Rattle.copyout.proofs.Puts.{can_join, can_insert, puts-new}
 use Rattle.copyout.proofs.put.put_right.Goals as goal
 
-pub join-requires : goal.join-requires
-join-requires c = can_join c.args.world.now c.args.task (kind_sent c.args.given) c.args.port c.args.name c.requires
-    (sym (ap is_some c.lookup.ensures) ∙ sym c.is_some.ensures ∙ c.if-is_some.true)
+pub join-requires-clause-can : goal.join-requires-clause-can
+join-requires-clause-can c = can_join c.args.world.now c.args.task (kind_sent c.args.given) c.args.port c.args.name c.requires (sym (ap is_some c.lookup.ensures) ∙ ap is_some c.in-Some.is)
 
 pub insert_entry-requires : goal.insert_entry-requires
-insert_entry-requires c = can_insert c.args.world.now c.args.task (kind_sent c.args.given) c.args.port c.args.name c.alone.result c.requires
-    (sym (ap is_some c.lookup.ensures) ∙ sym c.is_some.ensures ∙ c.if-is_some.false) c.alone.ensures
+insert_entry-requires c =
+    can_insert c.args.world.now c.args.task (kind_sent c.args.given) c.args.port c.args.name c.alone.result c.requires (sym (ap is_some c.lookup.ensures) ∙ ap is_some c.in-None.is) c.alone.ensures
 
-pub returns-then-is_some : goal.returns-then-is_some
-returns-then-is_some c = gives_puts c.args.world.now c.args.task (kind_sent c.args.given) c.args.port c.args.name c.join.new.world c.join.ensures
+pub returns-in-Some : goal.returns-in-Some
+returns-in-Some c = gives_puts c.args.world.now c.args.task (kind_sent c.args.given) c.args.port c.args.name c.join.new.world c.join.ensures
 
-pub returns-else-is_some : goal.returns-else-is_some
-returns-else-is_some c = puts-new c.args.world.now c.insert_entry.new.self c.args.task (kind_sent c.args.given) c.args.port c.args.name c.alone.result c.requires
-    (sym (ap is_some c.lookup.ensures) ∙ sym c.is_some.ensures ∙ c.if-is_some.false) c.alone.ensures c.insert_entry.ensures
+pub returns-in-None : goal.returns-in-None
+returns-in-None c = puts-new c.args.world.now c.insert_entry.new.self c.args.task (kind_sent c.args.given) c.args.port c.args.name c.alone.result c.requires
+    (sym (ap is_some c.lookup.ensures) ∙ ap is_some c.in-None.is) c.alone.ensures c.insert_entry.ensures
