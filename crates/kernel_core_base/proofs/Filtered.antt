@@ -5,10 +5,12 @@ use Rattle.std.specs.declared.cmp.Ordering.{Ordering}
 use Rattle.std.specs.declared.cmp.Ordering.TheVariants.{Less, Equal, Greater}
 use Rattle.std.specs.Ordering.{nat_cmp, eq_by_cmp, is_lt, is_eq}
 use Rattle.std.specs.Cmp.{ranked}
+use Rattle.std.specs.List.{AllByRecursion}
+use Rattle.std.specs.List.Sorted.{IsStrictlySortedBy}
 use Rattle.std.specs.FinMap as map
 use Rattle.std.specs.FinMap.{nat_cmp-IsAntisymmetric}
 use Rattle.std.specs.FinMap.Entries.{is_sorted, below_all}
-use Rattle.std.proofs.lemmas.List.Kept.{AllPairs-cons, AllPairs-filter}
+use Rattle.std.proofs.lemmas.List.Kept.{AllPairs-cons, AllPairs-filter, IsStrictlySortedBy-filter}
 use Rattle.std.proofs.lemmas.Map.Views.{any-filter_same, Contains-from_any}
 
 first : (a b : Bool) → T (a && b) → T a
@@ -47,9 +49,26 @@ is_equal Less e = absurd (cc)
 is_equal Equal e = refl
 is_equal Greater e = absurd (cc)
 
-same_key : (x y : ℕ) → eq_by_cmp nat_cmp x y ≡ true → x ≡ y
+pub same_key : (x y : ℕ) → eq_by_cmp nat_cmp x y ≡ true → x ≡ y
 same_key x y e = nat_cmp-IsAntisymmetric x y (is_equal (nat_cmp x y) e)
 
 pub kept_key : {X : Type 0} (m : map.FinMap nat_cmp X) (test : ℕ → Bool) (n : ℕ) → is_some (map.get m n) ≡ true → test n ≡ true → Contains (filter test (map.keys m)) n
 kept_key m test n some passes = Contains-from_any same_key n (filter test (map.keys m))
     (any-filter_same (eq_by_cmp nat_cmp n) test true (λ k e. ap test (sym (same_key n k e)) ∙ passes) (map.keys m) ∙ sym (map.contains_key-keys m n) ∙ some)
+
+pub kept_sorted : {X : Type 0} (m : map.FinMap nat_cmp X) (test : ℕ → Bool) → IsStrictlySortedBy nat_cmp (filter test (map.keys m))
+unfolding IsStrictlySortedBy
+kept_sorted m test = IsStrictlySortedBy-filter nat_cmp test (map.keys m) (strictly (map.entries m) (map.entries_sorted m))
+  where
+    is_less : (r : Ordering) → T (is_lt r) → r ≡ Less
+    is_less Less h = refl
+    is_less Equal h = absurd h
+    is_less Greater h = absurd h
+
+    all_above : {X : Type 0} (k : ℕ) (es : List (ℕ × X)) → T (below_all nat_cmp k es) → AllByRecursion (λ y. nat_cmp k y ≡ Less) (keys_in es)
+    all_above k [] h = tt
+    all_above k (e ∷ es) h = (is_less (nat_cmp k e.0) (first _ _ h), all_above k es (second _ _ h))
+
+    strictly : {X : Type 0} (es : List (ℕ × X)) → T (is_sorted nat_cmp es) → IsStrictlySortedBy nat_cmp (keys_in es)
+    strictly [] h = tt
+    strictly (e ∷ es) h = (all_above e.0 es (first _ _ h), strictly es (second _ _ h))

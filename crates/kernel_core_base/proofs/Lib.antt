@@ -13,6 +13,7 @@ pub mod TokensRenamed
 pub mod Renamed
 pub mod Filtered
 pub mod Members
+pub mod Gathering
 pub mod MemberMoved
 pub mod Queued
 pub mod Holding

@@ -70,7 +70,7 @@ pub record InSet (w : WorldView) (p set : ℕ) : Type 0 where
   pub there : port_at w p ≡ Some v
   pub is : v.attributes.set ≡ Some set
 
-in_set_by : (w : WorldView) (p set : ℕ) → set_of_port w p ≡ Some set → InSet w p set
+pub in_set_by : (w : WorldView) (p set : ℕ) → set_of_port w p ≡ Some set → InSet w p set
 in_set_by w p set e = go (port_at w p) refl e
   where
     go : (o : Option (PortView Kept)) → port_at w p ≡ o → option_and_then (λ (v : PortView Kept). v.attributes.set) o ≡ Some set → InSet w p set

@@ -4,3 +4,4 @@ pub mod References
 pub mod ReceiveRight
 pub mod Sets
 pub mod Wanted
+pub mod Gathered

@@ -1,12 +1,16 @@
 //! Port sets: their members, and ports that move from set to set.
-ghost use Rattle.std.specs.Prelude.{◌≡◌, ◌≢◌, ◌<◌, IfOk, IfErr};
+ghost use Rattle.std.specs.Prelude.{◌≡◌, ◌≢◌, ◌<◌, ℕ, true, Some, IfOk, IfErr, IfSome, OnOk};
+ghost use Rattle.std.specs.BTreeSet.{IsOrdered};
 ghost use Rattle.std.specs.FinMap as map;
+ghost use Rattle.std.specs.Ordering.{nat_cmp};
 ghost use Rattle.mach_types.specs.declared.calls.Event.{Event};
 ghost use Rattle.mach_types.specs.Numbers.{kern_number};
 ghost use Rattle.mach_model.specs.Refusals.{move_guards};
 ghost use Rattle.copyin_base.specs.Acts.{IsRefused, Serves};
 ghost use Rattle.copyin_base.specs.Stands.{Stands};
 ghost use Rattle.copyin_base.specs.Wanted.{KeepsSpares};
+ghost use Rattle.name_space.specs.Names.{port_at};
+ghost use Rattle.kernel_core_base.specs.Gathered.{IsNoted, AreGathered};
 ghost use Rattle.kernel_core_base.specs.Sets.{set_of_port, is_member, members_in, MayMove};
 ghost use Rattle.copyin_base.specs.Worlds.{HasTask};
 
@@ -15,14 +19,14 @@ use mach_types::{KernReturn, Name, NameList, PortId, Reply, SetId, TaskId};
 use name_space::Space;
 use port::Attributes;
 use std::alloc::{AllocError, Global};
+use std::collections::BTreeSet;
 
 /// `SetStatus` (Port Manipulation Interface, `mach_port_get_set_status`): the names of the members of
 /// the port set under the name, rising. The task, which lives, has the receive right of each.
 ///
 /// `KERN_INVALID_NAME` for a name that isn't in use; `KERN_INVALID_RIGHT` where it is no set's;
-/// `KERN_RESOURCE_SHORTAGE` for want of memory, of which it takes 4 bytes for each name of the task and
-/// up to twice as many for each member. Linear in the names of the task, but for a logarithmic look at
-/// each above 65,535.
+/// `KERN_RESOURCE_SHORTAGE` for want of memory, of which it takes a few words for each member, whatever
+/// other names the task has. For n members it takes time in n log n.
 pub fn set_status(world: &World, alloc: Global, task: TaskId, name: Name) -> Result<Reply, Code>
     requires { HasTask world.now task }
     ensures { Serves world.now (Event.SetStatus task name) result world.now }
@@ -43,14 +47,61 @@ fn list_members(
 ) -> Result<Vec<Name>, AllocError>
     ensures { IfOk result (λ members. members.items ≡ members_in world.now set space.now.names) }
 {
-    let names = space.names(alloc)?;
-    let mut members = Vec::new(alloc);
-    for name in &names {
-        if names_member(world, space, *name, set) {
-            members.push(*name)?;
-        }
+    let ports = world.ports.members(set, alloc)?;
+    let numbers = gather(world, alloc, space, set, &ports)?;
+    names_of(&numbers, alloc)
+}
+
+// The numbers of the names that have the receive rights of those ports that are in the set.
+fn gather(
+    world: &World,
+    alloc: Global,
+    space: &Space,
+    set: SetId,
+    ports: &[PortId],
+) -> Result<BTreeSet<u32>, AllocError>
+    ensures { IfOk result (λ numbers. AreGathered world.now set space.now.names ports.now numbers) }
+{
+    let mut numbers = BTreeSet::new(alloc);
+    for port in ports {
+        note(&mut numbers, member_name(world, space, *port, set))?;
     }
-    Ok(members)
+    Ok(numbers)
+}
+
+// Puts a name's number, if there is one, among these.
+fn note(numbers: &mut BTreeSet<u32>, name: Option<Name>) -> Result<(), AllocError>
+    requires { IsOrdered nat_cmp numbers.old }
+    ensures { OnOk result (IsNoted numbers.old numbers.new name) }
+{
+    if let Some(name) = name {
+        numbers.insert(name.number())?;
+    }
+    Ok(())
+}
+
+// The numbers as names, in their order.
+fn names_of(numbers: &BTreeSet<u32>, alloc: Global) -> Result<Vec<Name>, AllocError>
+    ensures { IfOk result (λ names. names.items ≡ numbers.now.keys) }
+{
+    let mut names = Vec::new(alloc);
+    for number in numbers {
+        names.push(Name::new(*number))?;
+    }
+    Ok(names)
+}
+
+// The name that has the port's receive right, where the port is in the set.
+fn member_name(world: &World, space: &Space, port: PortId, set: SetId) -> Option<Name>
+    ensures found { IfSome result (λ name. is_member world.now set (map.get space.now.names name) ≡ true) }
+    ensures only { (name : ℕ) → port_at space.now.names name ≡ Some port → is_member world.now set (map.get space.now.names name) ≡ true → result ≡ Some name }
+{
+    let name = space.name_of_port(port)?;
+    if names_member(world, space, name, set) {
+        Some(name)
+    } else {
+        None
+    }
 }
 
 // Whether the name has the receive right of a port in the set.

@@ -1,11 +1,11 @@
 //! Lists of numbered items, each item in at most one: it joins at the end, and leaves from any place.
 //!
 //! Items are linked both ways through a vector of links, and the ends of each list that has items stand
-//! in a map by its number. There is room in the map for as many lists as items, so that only
-//! [`Lists::reserve`] takes memory.
+//! in a map by its number. There is room in the map for as many lists as items, so that no list takes
+//! memory but by [`Lists::reserve`].
 #![tactic(auto)]
 
-ghost use Rattle.std.specs.Prelude.{◌≡◌, ℕ, ◌+◌, ◌<◌, ◌^◌, ◌++◌, ◌∷◌, [], max, true, length, Some, None, OnOk, OnErr, slice_get};
+ghost use Rattle.std.specs.Prelude.{◌≡◌, ℕ, ◌+◌, ◌<◌, ◌^◌, ◌++◌, ◌∷◌, [], max, true, length, Some, None, IfOk, OnOk, OnErr, slice_get};
 ghost use Rattle.std.specs.List.{Contains};
 ghost use Rattle.std.specs.Option.{option_or};
 ghost use Rattle.std.specs.FinMap as map;
@@ -214,7 +214,8 @@ impl Lists {
     /// links move to a larger place.
     ///
     /// An error means that memory was refused, or that the items are 2^32 or more, whose links would
-    /// take 32 GiB; all is then as before. Nothing else here takes memory.
+    /// take 32 GiB; all is then as before. Nothing else here takes memory, but [`Lists::items`] for its
+    /// answer.
     pub fn reserve(&mut self, items: usize) -> Result<(), AllocError>
         ensures ok { OnOk result (self.new ≡ record self.old { items = max self.old.items items }) }
         ensures err { OnErr result (self.new ≡ self.old) }
@@ -278,5 +279,20 @@ impl Lists {
     {
         let link = self.links.get(item)?;
         link.behind.item()
+    }
+
+    /// The items of a list, in order. Linear in their number.
+    ///
+    /// An error means that memory was refused.
+    pub fn items(&self, list: u64, alloc: Global) -> Result<Vec<usize>, AllocError>
+        ensures { IfOk result (λ items. items.items ≡ list_of self.now list) }
+    {
+        let mut items = Vec::new(alloc);
+        let mut next = self.first(list);
+        while let Some(item) = next {
+            items.push(item)?;
+            next = self.after(list, item);
+        }
+        Ok(items)
     }
 }

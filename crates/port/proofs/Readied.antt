@@ -1,7 +1,9 @@
 -- The ready ports once a port changed, came or went.
-use Rattle.std.proofs.Common.{◌≡◌, ◌≢◌, inl, inr, ℕ, ◌<◌, ◌≤◌, Option, Some, None, is_some, List, [], ◌∷◌, length, slice_get, refl, ap, sym, subst, ◌∙◌, arith, Contains}
+use Rattle.std.proofs.Common.{◌≡◌, ◌≢◌, inl, inr, ℕ, ◌<◌, ◌≤◌, Option, Some, None, Result, Ok, Err, IfOk, is_some, List, [], ◌∷◌, length, get_or, slice_get, refl, ap, sym, subst, ◌∙◌, arith, Contains}
 use Rattle.std.specs.FinMap as map
 use Rattle.std.proofs.lemmas.Option.{slice_get_within, get_or_from_slice_get}
+use Rattle.std.proofs.lemmas.List.{length-map, get_or-map}
+use Rattle.std.proofs.lemmas.List.Elements.{Contains-get_or}
 use Rattle.member_lists.specs.Lists.{ListsView, list_of}
 use Rattle.member_lists.proofs.Listed.{apart_if_none}
 use Rattle.slab.specs.Slab.{Slab, get, with_value}
@@ -10,13 +12,17 @@ use Rattle.port.specs.Turns.{ReadyLists, turns_of, ready_if}
 use Rattle.port.specs.Ports.{PortView, PortsView, IsReadyIn, NoneReadyIn, IsIn, NoneIn}
 use Rattle.port.specs.Ready.{StandsIn, IsMoved}
 use Rattle.port.proofs.Moved.{moved_none}
-use Rattle.port.specs.Records.{ports_of, made_of, ids_at, ready_set, member_set, IsListed, IsReadied, IsMembered, IsSound, IsKept}
+use Rattle.port.specs.Records.{ports_of, made_of, id_in, ids_at, ready_set, member_set, IsListed, IsReadied, IsMembered, IsSound, IsKept}
 use Rattle.port.proofs.Keys.{same_some, some_or_none, equal_or_not}
 use Rattle.port.proofs.Records.{Keyed, port_of, Turns}
 use Rattle.port.proofs.Sound.{turns-set, live_port, live_at, record_at}
 
 no_some : (l : ℕ) → None ≡ Some l → ⊥
 no_some l e = cc
+
+pub if_ok : {X E : Type 0} (P Q : X → Type 0) (r : Result X E) → ((x : X) → P x → Q x) → IfOk r P → IfOk r Q
+if_ok P Q (Ok x) f h = f x h
+if_ok P Q (Err e) f h = tt
 
 module _ {M : Type 0} where
   pub ready_none : (ms : List M) (set : Option ℕ) → length ms ≡ 0 → ready_if ms set ≡ None
@@ -114,6 +120,21 @@ module _ {M : Type 0} where
   pub membered-set : (s : Slab (Record M)) (members : ListsView) (key : ℕ) (r a : Record M) → IsMembered (get s) members → get s key ≡ Some r → a.attributes.set ≡ r.attributes.set → IsMembered (get (with_value s key a)) members
   membered-set s members key r a so here same = listed-kept member_set (get s) (get (with_value s key a)) members so key r a here (turns-set s key r a here) same
 
+  -- ---- the identities under keys
+
+  ids_hold : (at : ℕ → Option (Record M)) (keys : List ℕ) (key : ℕ) → Contains keys key → Contains (ids_at at keys) (id_in (at key))
+  ids_hold at keys key c =
+      let long = length-map keys (λ k. id_in (at k)) in
+      let inside = c.1 in
+      (c.0, omega arith, get_or-map (λ k. id_in (at k)) keys c.0 key (id_in (at key)) c.1 ∙ ap (λ k. id_in (at k)) c.2)
+
+  ids_held : (at : ℕ → Option (Record M)) (keys : List ℕ) (id : ℕ) → Contains (ids_at at keys) id → (key : ℕ) × Contains keys key × (id_in (at key) ≡ id)
+  ids_held at keys id c =
+      let long = length-map keys (λ k. id_in (at k)) in
+      let less = c.1 in
+      let inside : c.0 < length keys = omega arith in
+      (get_or keys c.0 0, Contains-get_or keys c.0 0 inside, sym (get_or-map (λ k. id_in (at k)) keys c.0 0 id inside) ∙ c.2)
+
   -- ---- the first one
 
   module _ (s : Slab (Record M)) (keys : Keyed) (next : Option ℕ) (spare : List M) (slots : ℕ) (so : IsSound s keys next spare slots)
@@ -156,23 +177,42 @@ module _ {M : Type 0} where
       pub member_held : (key : ℕ) → slice_get (list_of members set) 0 ≡ Some key → Contains (list_of members set) key
       member_held key e = (0, slice_get_within (list_of members set) 0 key e, get_or_from_slice_get (list_of members set) 0 key key e)
 
-      pub member_first : (key : ℕ) (r : Record M) → slice_get (list_of members set) 0 ≡ Some key → get s key ≡ Some r → IsIn v set r.id
-      member_first key r e here =
+      pub member_in : (key : ℕ) (r : Record M) → Contains (list_of members set) key → get s key ≡ Some r → IsIn v set r.id
+      member_in key r inside here =
           let found : map.get keys r.id ≡ Some key = so.indexed.held key r here in
           record {
             given = subst (λ n. r.id < n) (ap (λ (b : PortsView M). b.made) view_is) (so.indexed.given r.id key found);
             view = port_of r;
             there = live_port s keys next spare slots so v view_is r.id key r found here;
-            member = (membered.stands key r here).only set (member_held key e);
+            member = (membered.stands key r here).only set inside;
           }
 
-      none_apart : slice_get (list_of members set) 0 ≡ None → (id : ℕ) (p : PortView M) → map.get v.ports id ≡ Some p → p.attributes.set ≢ Some set
-      none_apart e id p h member =
+      pub member_first : (key : ℕ) (r : Record M) → slice_get (list_of members set) 0 ≡ Some key → get s key ≡ Some r → IsIn v set r.id
+      member_first key r e here = member_in key r (member_held key e) here
+
+      member_key : (id : ℕ) (p : PortView M) → map.get v.ports id ≡ Some p → p.attributes.set ≡ Some set → (key : ℕ) × Contains (list_of members set) key × (id_in (get s key) ≡ id)
+      member_key id p h member =
           let key = live_at s keys next spare slots so v view_is id (ap is_some h) in
           let r = record_at s keys next spare slots so v view_is id key.0 key.1 in
           let same : p ≡ port_of r.0 = same_some p (port_of r.0) (sym h ∙ live_port s keys next spare slots so v view_is id key.0 r.0 key.1 r.1) in
           let in_set : r.0.attributes.set ≡ Some set = sym (ap (λ (q : PortView M). q.attributes.set) same) ∙ member in
-          nothing_held key.0 (list_of members set) e ((membered.stands key.0 r.0 r.1).there set in_set)
+          (key.0, (membered.stands key.0 r.0 r.1).there set in_set, ap id_in r.1 ∙ r.2)
+
+      none_apart : slice_get (list_of members set) 0 ≡ None → (id : ℕ) (p : PortView M) → map.get v.ports id ≡ Some p → p.attributes.set ≢ Some set
+      none_apart e id p h member = let key = member_key id p h member in nothing_held key.0 (list_of members set) e key.1
+
+      -- ---- all members
+
+      pub members_only : (port : ℕ) → Contains (ids_at (get s) (list_of members set)) port → IsIn v set port
+      members_only port inside =
+          let key = ids_held (get s) (list_of members set) port inside in
+          let r = membered.held key.0 set key.1 in
+          subst (IsIn v set) (sym (ap id_in r.1) ∙ key.2) (member_in key.0 r.0 key.1 r.1)
+
+      pub members_all : (id : ℕ) (p : PortView M) → map.get v.ports id ≡ Some p → p.attributes.set ≡ Some set → Contains (ids_at (get s) (list_of members set)) id
+      members_all id p h member =
+          let key = member_key id p h member in
+          subst (λ n. Contains (ids_at (get s) (list_of members set)) n) key.2 (ids_hold (get s) (list_of members set) key.0 key.1)
 
       -- what is ready in a set is in it
       none_turns : slice_get (list_of members set) 0 ≡ None → (l : List ℕ) → list_of ready set ≡ l → l ≡ []

@@ -6,6 +6,7 @@
 #![tactic(auto)]
 
 ghost use Rattle.std.specs.Prelude.{◌≡◌, ◌≢◌, ℕ, ◌+◌, ◌-◌, ◌<◌, ◌≤◌, ◌^◌, ◌↔◌, ◌++◌, ◌∷◌, [], List, length, IsTrue, true, false, cond, Some, None, IsSome, IfSome, IfOk, IfNone, OnOk, OnErr, option_copied, slice_get, drop};
+ghost use Rattle.std.specs.List.{Contains};
 ghost use Rattle.std.specs.Option.{option_map, option_and_then};
 ghost use Rattle.std.specs.FinMap as map;
 ghost use Rattle.std.specs.Ordering.{nat_cmp};
@@ -15,7 +16,7 @@ ghost use Rattle.port.specs.declared.Record.{Record as AnyRecord};
 ghost use Rattle.port.specs.Ready.{StandsIn, IsMoved, out_of, at_end};
 ghost use Rattle.port.specs.Turns.{turns_of, same_set};
 ghost use Rattle.port.specs.Ports.{one_made, one_received};
-ghost use Rattle.port.specs.Records.{ready_set, member_set};
+ghost use Rattle.port.specs.Records.{ready_set, member_set, ids_at};
 
 use mach_types::limits::FIRST_LIMIT;
 use mach_types::{PortId, SetId};
@@ -335,6 +336,22 @@ fn member_at<M: Message>(records: &Slab<Record<M>>, key: usize) -> Option<u64>
     Some(set.number())
 }
 
+// The identities of the ports under the keys.
+fn ids_of<M: Message>(
+    records: &Slab<Record<M>>,
+    keys: &[usize],
+    alloc: Global,
+) -> Result<Vec<PortId>, AllocError>
+    requires { (key : ℕ) → Contains keys.now key → IsSome (get records.now key) }
+    ensures { IfOk result (λ ids. ids.items ≡ ids_at (get records.now) keys.now) }
+{
+    let mut ids = Vec::new(alloc);
+    for key in keys {
+        ids.push(records[*key].id)?;
+    }
+    Ok(ids)
+}
+
 // Takes the port under the key out of the list of this set, if it stands in one.
 fn leave(lists: &mut Lists, key: usize, was: Option<u64>)
     requires { StandsIn lists.old key was }
@@ -556,6 +573,17 @@ impl<M: Message> Ports<M> {
     {
         let key = self.members.first(set.number())?;
         Some(self.records[key].id)
+    }
+
+    /// The ports of the set, in no order that is promised. Linear in their number.
+    ///
+    /// An error means that memory was refused.
+    pub fn members(&self, set: SetId, alloc: Global) -> Result<Vec<PortId>, AllocError>
+        ensures only { IfOk result (λ ports. (port : ℕ) → Contains ports.items port → IsIn self.now set port) }
+        ensures all { IfOk result (λ ports. (port : ℕ) (p : PortView M) → map.get self.now.ports port ≡ Some p → p.attributes.set ≡ Some set → Contains ports.items port) }
+    {
+        let keys = self.members.items(set.number(), alloc)?;
+        ids_of(&self.records, &keys, alloc)
     }
 
     /// Sets a port's attributes. Takes no memory. Constant time.

@@ -1,0 +1,117 @@
+-- The names of a set's members, gathered from its ports.
+use Rattle.std.proofs.Common.{◌≡◌, inl, inr, ℕ, Bool, true, false, List, [], ◌∷◌, ◌++◌, Option, Some, None, is_some, IfSome, refl, sym, ap, subst, ◌∙◌, ◌<◌, ◌⊎◌, arith}
+use Rattle.std.specs.Prelude.{Contains, cond}
+use Rattle.std.specs.Option.{option_and_then}
+use Rattle.std.specs.BTreeSet.{BTreeSet, contains, IsOrdered, IsEmpty, Updates}
+use Rattle.std.specs.FinMap as map
+use Rattle.std.specs.declared.cmp.Ordering.TheVariants.{Equal}
+use Rattle.std.specs.Ordering.{nat_cmp, eq_by_cmp}
+use Rattle.std.proofs.lemmas.Cmp.{nat_cmp_total}
+use Rattle.std.proofs.lemmas.List.Elements.{All-contains, filter_passes, Contains-push_cases}
+use Rattle.std.proofs.lemmas.Map.Lookups.{btree_set_from_contains}
+use Rattle.std.proofs.lemmas.Map.Views.{btree_set_contains_iff}
+use Rattle.name_space.specs.Entry.{port_named}
+use Rattle.name_space.specs.Names.{Names, port_at}
+use Rattle.port.specs.Ports.{PortView}
+use Rattle.copyin_base.specs.Kept.{Kept}
+use Rattle.copyin_base.specs.Worlds.{WorldView}
+use Rattle.copyin_base.specs.Worlds as world
+use Rattle.copyin_base.proofs.Told.{receive_has}
+use Rattle.kernel_core_base.specs.Gathered.{IsNoted, AreGathered}
+use Rattle.kernel_core_base.specs.Sets.{is_member, members_in}
+use Rattle.kernel_core_base.proofs.Filtered.{same_key, kept_key, kept_sorted}
+use Rattle.kernel_core_base.proofs.Members.{member_is, in_set_by}
+
+no_true : false ≡ true → ⊥
+no_true e = cc
+
+same_bool : (a b : Bool) → (a ≡ true → b ≡ true) → (b ≡ true → a ≡ true) → a ≡ b
+same_bool true b f g = sym (f refl)
+same_bool false true f g = g refl
+same_bool false false f g = refl
+
+-- ---- one name more
+
+pub noted_none : (old : BTreeSet ℕ) → IsOrdered nat_cmp old → IsNoted old old None
+noted_none old ordered = record { ordered = ordered; only = λ n has. inl has; kept = λ n has. has; has = λ n e. absurd (cc) }
+
+either : (b old : Bool) → cond b true old ≡ true → (old ≡ true) ⊎ (b ≡ true)
+either true old e = inr refl
+either false old e = inl e
+
+keeps : (b old : Bool) → old ≡ true → cond b true old ≡ true
+keeps true old e = refl
+keeps false old e = e
+
+pub noted_some : (old new : BTreeSet ℕ) (k : ℕ) → IsOrdered nat_cmp new → Updates nat_cmp old new k true → IsNoted old new (Some k)
+noted_some old new k ordered up = record {
+  ordered = ordered;
+  only = λ n has. elim (either (eq_by_cmp nat_cmp k n) (contains nat_cmp old n) (sym (up.0 n) ∙ has)) [
+    | inl was ↦ inl was
+    | inr is ↦ inr (ap Some (same_key k n is))
+  ];
+  kept = λ n has. up.0 n ∙ keeps (eq_by_cmp nat_cmp k n) (contains nat_cmp old n) has;
+  has = λ n e. subst (λ m. contains nat_cmp new m ≡ true) (same_some k n e) up.1;
+}
+  where
+    same_some : (a b : ℕ) → Some a ≡ Some b → a ≡ b
+    same_some a b e = cc
+
+-- ---- all names
+
+pub gathered_none : (w : WorldView) (set : ℕ) (names : Names) (numbers : BTreeSet ℕ) → IsOrdered nat_cmp numbers → IsEmpty numbers → AreGathered w set names [] numbers
+gathered_none w set names numbers ordered empty = record {
+  ordered = ordered;
+  only = λ n has. absurd (no_true (rw empty at has));
+  all = λ p n c named is. absurd (let less : c.0 < 0 = c.1 in omega arith);
+}
+
+pub gathered_more : (w : WorldView) (set : ℕ) (names : Names) (ports : List ℕ) (p : ℕ) (old new : BTreeSet ℕ) (name : Option ℕ) → AreGathered w set names ports old → IsNoted old new name
+    → IfSome name (λ n. is_member w set (map.get names n) ≡ true)
+    → ((n : ℕ) → port_at names n ≡ Some p → is_member w set (map.get names n) ≡ true → name ≡ Some n)
+    → AreGathered w set names (ports ++ p ∷ []) new
+gathered_more w set names ports p old new name g noted found only = record {
+  ordered = noted.ordered;
+  only = λ n has. elim (noted.only n has) [
+    | inl was ↦ g.only n was
+    | inr is ↦ subst (λ o. IfSome o (λ m. is_member w set (map.get names m) ≡ true)) is found
+  ];
+  all = λ q n c named is. elim (Contains-push_cases ports p q c) [
+    | inl was ↦ noted.kept n (g.all q n was named is)
+    | inr same ↦ noted.has n (only n (named ∙ ap Some (sym same)) is)
+  ];
+}
+
+-- what a member's name is for is one of the set's ports
+named_port : (w : WorldView) (set : ℕ) (names : Names) (ports : List ℕ) → ((p : ℕ) (v : PortView Kept) → world.port_at w p ≡ Some v → v.attributes.set ≡ Some set → Contains ports p)
+    → (n : ℕ) → is_member w set (map.get names n) ≡ true → (p : ℕ) × Contains ports p × (port_at names n ≡ Some p)
+named_port w set names ports all n is =
+    let m = member_is w set (map.get names n) is in
+    let i = in_set_by w m.p set m.in_it in
+    (m.p, all m.p i.v i.there i.is, ap (option_and_then port_named) m.under ∙ (receive_has m.e m.p m.named).0)
+
+pub gathered_all : (w : WorldView) (set : ℕ) (names : Names) (ports : List ℕ) (numbers : BTreeSet ℕ) → AreGathered w set names ports numbers
+    → ((p : ℕ) (v : PortView Kept) → world.port_at w p ≡ Some v → v.attributes.set ≡ Some set → Contains ports p) → numbers.keys ≡ members_in w set names
+gathered_all w set names ports numbers g all = btree_set_from_contains nat_cmp_total numbers listed g.ordered (kept_sorted names test) (λ n. same_bool (contains nat_cmp numbers n) (contains nat_cmp listed n) (to n) (back n)) equal_same
+  where
+    test : ℕ → Bool
+    test n = is_member w set (map.get names n)
+
+    listed : BTreeSet ℕ
+    listed = record { keys = members_in w set names }
+
+    equal_same : (x y : ℕ) → nat_cmp x y ≡ Equal → x ≡ y
+    equal_same x y e = map.nat_cmp-IsAntisymmetric x y e
+
+    to : (n : ℕ) → contains nat_cmp numbers n ≡ true → contains nat_cmp listed n ≡ true
+    to n has =
+        let is = g.only n has in
+        let m = member_is w set (map.get names n) is in
+        (btree_set_contains_iff nat_cmp_total equal_same listed n).1 (kept_key names test n (ap is_some m.under) is)
+
+    back : (n : ℕ) → contains nat_cmp listed n ≡ true → contains nat_cmp numbers n ≡ true
+    back n has =
+        let inside = (btree_set_contains_iff nat_cmp_total equal_same listed n).0 has in
+        let is : test n ≡ true = All-contains (λ k. test k ≡ true) (members_in w set names) n (filter_passes test (map.keys names)) inside in
+        let port = named_port w set names ports all n is in
+        g.all port.0 n port.1 port.2 is
