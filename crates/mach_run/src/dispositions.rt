@@ -118,17 +118,19 @@ fn line(
     Ok(line)
 }
 
+// The dispositions, as numbers and as two hexadecimal digits.
+const DISPOSITIONS: [(&str, &str); 6] = [
+    ("16", "10"),
+    ("17", "11"),
+    ("18", "12"),
+    ("19", "13"),
+    ("20", "14"),
+    ("21", "15"),
+];
+
 /// Whether the dispositions 16 to 21 are answered so at the place.
 fn are_answered(alloc: Global, place: Place, name: Named<'_>, letters: &str) -> Result<bool, Fail> {
-    let dispositions = [
-        ("16", "10"),
-        ("17", "11"),
-        ("18", "12"),
-        ("19", "13"),
-        ("20", "14"),
-        ("21", "15"),
-    ];
-    for (disposition, letter) in dispositions.into_iter().zip(letters.bytes()) {
+    for (disposition, letter) in DISPOSITIONS.into_iter().zip(letters.bytes()) {
         let mut script = String::from_str(alloc, NAMES.0)?;
         script.push_str(line(alloc, place, name, disposition)?.as_str())?;
         let mut replies = String::from_str(alloc, NAMES.1)?;
