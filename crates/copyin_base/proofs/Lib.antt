@@ -15,4 +15,3 @@ pub mod Told
 pub mod Acting
 pub mod Finding
 pub mod Exiting
-pub mod Notices

@@ -1,5 +1,4 @@
 pub mod Kept
-pub mod Queued
 pub mod Worlds
 pub mod Shows
 pub mod Stands
