@@ -1,5 +1,5 @@
 -- What is decided of a message before anything changes, and what is then done.
-use Rattle.std.specs.Prelude.{◌≡◌, ℕ, ◌+◌, ◌-◌, ◌<◌, ◌≤◌, ◌⊎◌, List, [], ◌∷◌, ◌++◌, length, Option, Some, None, if◌then◌else◌, ◌==◌, MatchBool}
+use Rattle.std.specs.Prelude.{◌≡◌, ℕ, ◌+◌, ◌-◌, ◌<◌, ◌≤◌, ◌⊎◌, false, List, [], ◌∷◌, ◌++◌, length, Option, Some, None, if◌then◌else◌, ◌==◌, MatchBool}
 use Rattle.mach_types.specs.declared.codes.MsgReturn.TheVariants.{SendInvalidDest, SendTimedOut, SendInvalidReply, SendInvalidRight, SendNoBuffer}
 use Rattle.mach_types.specs.Numbers.{kind_sent, msg_number, most_rights, null_word, dead_word}
 use Rattle.mach_types.specs.Tokens.{send, send_once, same_kind}
@@ -59,6 +59,7 @@ message_for {w} {task} {parsed} bytes j = record {
   by_once = same_kind (kind_sent j.destination.given) send_once;
   reply = j.reply;
   rights = j.rights;
+  told = false;
 }
 
 -- The message may be sent so.

@@ -16,14 +16,14 @@ ghost use Rattle.copyin.specs.Copies.{ports_copied, ledger_copied, ledger_queued
 
 use crate::copies::copy_right;
 use crate::judge::Plan;
-use copyin_base::{Carried, Mark, Message, World};
+use copyin_base::{Carried, Mark, Queued, World};
 use mach_types::{Disposition, Name, PortId, TaskId};
 use message_codec::PortWord;
 use port::{Attributes, Ports};
 use rights::{Ledger, RightKind};
 
 // The receive right goes from its port, whose counts start again and which is in no set.
-fn leave_port(ports: &mut Ports<Message>, port: PortId)
+fn leave_port(ports: &mut Ports<Queued>, port: PortId)
     ensures { ports.new ≡ ports_copied disposition_of.MoveReceive (mark_of.Port port) ports.old }
 {
     let Some(attributes) = ports.attributes(port) else {
@@ -41,7 +41,7 @@ fn leave_port(ports: &mut Ports<Message>, port: PortId)
 }
 
 // Sets what a right changes of its port when it goes.
-fn renew_port(ports: &mut Ports<Message>, given: Disposition, mark: Mark)
+fn renew_port(ports: &mut Ports<Queued>, given: Disposition, mark: Mark)
     ensures { ports.new ≡ ports_copied given mark ports.old }
 {
     let Mark::Port(port) = &mark else {
@@ -186,6 +186,6 @@ pub fn commit(world: &mut World, plan: Plan)
         message.rights.as_slice(),
     );
     let by_once = message.by_once;
-    world.ports.enqueue(port, message);
+    world.ports.enqueue(port, Queued::sent(message));
     use_right(&mut world.ledger, port, by_once);
 }

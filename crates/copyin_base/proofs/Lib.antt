@@ -15,3 +15,4 @@ pub mod Told
 pub mod Acting
 pub mod Finding
 pub mod Exiting
+pub mod Notices

@@ -1,5 +1,5 @@
--- A queued message as it is kept: its bytes as they were sent, where its port words stand, and its rights.
-use Rattle.std.specs.Prelude.{◌≡◌, ℕ, ◌^◌, ◌<◌, ◌≤◌, Bool, List, [], ◌∷◌, ◌++◌, length, take, drop, map, replicate, if◌then◌else◌, Option, Some, None, refl}
+-- A queued message as it is kept: its bytes as they were sent, where its port words stand, and its rights. A notice is kept as the message that is made of it.
+use Rattle.std.specs.Prelude.{◌≡◌, ℕ, ◌^◌, ◌<◌, ◌≤◌, Bool, true, List, [], ◌∷◌, ◌++◌, length, take, drop, map, replicate, if◌then◌else◌, Option, Some, None, refl}
 use Rattle.std.specs.Coded.{Coded, code_by, coded×, coded_ℕ, coded_bool, coded_list, coded_option}
 use Rattle.std.specs.Option.{option_map, unwrap_or}
 use Rattle.mach_types.specs.Numbers.{disposition, disposition_number, kind_sent}
@@ -26,6 +26,8 @@ pub record Kept : Type 0 where
   pub reply : Option Carried
   -- the rights of the body's words, from the front
   pub rights : List Carried
+  -- whether it is a notice, whose bytes are made when it is received
+  pub told : Bool
 
 abbrev pub span_code : Coded Span
 span_code = code_by (ℕ × (Bool × (ℕ × ℕ))) (coded× coded_ℕ (coded× coded_bool (coded× coded_ℕ coded_ℕ)))
@@ -35,10 +37,10 @@ span_code = code_by (ℕ × (Bool × (ℕ × ℕ))) (coded× coded_ℕ (coded× 
 
 abbrev pub kept_code : Coded Carried → Coded Kept
 kept_code one = code_by
-    (List ℕ × (ℕ × (Bool × (List Span × (Bool × (Option Carried × List Carried))))))
-    (coded× (coded_list coded_ℕ) (coded× coded_ℕ (coded× coded_bool (coded× (coded_list span_code) (coded× coded_bool (coded× (coded_option one) (coded_list one)))))))
-    (λ m. (m.bytes, (m.id, (m.is_complex, (m.spans, (m.by_once, (m.reply, m.rights)))))))
-    (λ x. record { bytes = x.0; id = x.1.0; is_complex = x.1.1.0; spans = x.1.1.1.0; by_once = x.1.1.1.1.0; reply = x.1.1.1.1.1.0; rights = x.1.1.1.1.1.1 })
+    (List ℕ × (ℕ × (Bool × (List Span × (Bool × (Option Carried × (List Carried × Bool)))))))
+    (coded× (coded_list coded_ℕ) (coded× coded_ℕ (coded× coded_bool (coded× (coded_list span_code) (coded× coded_bool (coded× (coded_option one) (coded× (coded_list one) coded_bool)))))))
+    (λ m. (m.bytes, (m.id, (m.is_complex, (m.spans, (m.by_once, (m.reply, (m.rights, m.told))))))))
+    (λ x. record { bytes = x.0; id = x.1.0; is_complex = x.1.1.0; spans = x.1.1.1.0; by_once = x.1.1.1.1.0; reply = x.1.1.1.1.1.0; rights = x.1.1.1.1.1.1.0; told = x.1.1.1.1.1.1.1 })
     (λ _. refl)
 
 -- ---- the message that it is
@@ -98,3 +100,11 @@ pub record Keeps (port : ℕ) (m : Kept) (message : Message) : Type 0 where
   pub few : length m.bytes ≤ 65536
   pub id_fits : m.id < 2 ^ 32
   pub message_is : message ≡ message_of port m written
+
+-- The message m is what lies there, whether it was sent or is a notice.
+abbrev pub IsMessageOf : (queued m : Kept) → Type 0
+IsMessageOf queued m = m ≡ record queued { told = m.told }
+
+-- Where a notice lies there, this is its message.
+abbrev pub Makes : (queued : Kept) → Option Kept → Type 0
+Makes queued made = queued.told ≡ true → (m : Kept) × (made ≡ Some m) × IsMessageOf queued m

@@ -1,4 +1,5 @@
 pub mod Kept
+pub mod Queued
 pub mod Worlds
 pub mod Shows
 pub mod Stands

@@ -10,8 +10,12 @@ mod code;
 mod entries;
 mod find;
 mod message;
+mod notice;
+mod queued;
 mod world;
 
 pub use code::Code;
 pub use message::{Carried, Mark, Message};
+pub use notice::Notice;
+pub use queued::{Queued, Slot};
 pub use world::World;

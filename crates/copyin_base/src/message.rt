@@ -1,9 +1,6 @@
-//! A message as it lies in a queue.
-use mach_types::{Disposition, Name, PortId};
-use message_codec::{Parsed, Spans};
-use port::Message as InSlot;
-use smallvec::SmallVec;
-use std::alloc::Global;
+//! A message that was sent, as it lies in a queue.
+use mach_types::{Disposition, PortId};
+use message_codec::Parsed;
 use std::marker::Model;
 
 /// What stands in a right's place in a queued message.
@@ -36,7 +33,7 @@ impl Default for Carried {
     }
 }
 
-/// A queued message: its bytes as they were sent, where its port words stand, and its rights.
+/// A message: its bytes as they were sent, where its port words stand, and its rights.
 #[derive(Drop)]
 pub struct Message {
     /// All its bytes, 24 to 65,536.
@@ -52,6 +49,7 @@ pub struct Message {
 }
 
 impl Model for Message {
+    ghost use Rattle.std.specs.Prelude.{false};
     ghost use Rattle.copyin_base.specs.Kept.{Kept, kept_code};
     ghost use Rattle.copyin_base.specs.contracts.message.Carried as carried;
 
@@ -59,26 +57,5 @@ impl Model for Message {
 
     ghost coded = { kept_code carried.the_row.coded };
 
-    ghost view = { λ m. record { bytes = m.bytes.items; id = m.parsed.id; is_complex = m.parsed.is_complex; spans = m.parsed.spans; by_once = m.by_once; reply = m.reply; rights = m.rights.items } };
-}
-
-impl InSlot for Message {
-    /// No bytes, and nothing read of them.
-    fn blank(alloc: Global) -> Message {
-        Message {
-            bytes: Vec::new(alloc),
-            parsed: Parsed {
-                remote_kind: 0,
-                local_kind: 0,
-                remote: Name::null(),
-                local: Name::null(),
-                id: 0,
-                is_complex: false,
-                spans: Spans::from_small_vec(SmallVec::new(alloc)),
-            },
-            by_once: false,
-            reply: None,
-            rights: Vec::new(alloc),
-        }
-    }
+    ghost view = { λ m. record { bytes = m.bytes.items; id = m.parsed.id; is_complex = m.parsed.is_complex; spans = m.parsed.spans; by_once = m.by_once; reply = m.reply; rights = m.rights.items; told = false } };
 }

@@ -2,7 +2,7 @@
 ghost use Rattle.std.specs.Prelude.{◌≡◌, ◌↔◌, IsTrue, max, OnOk, OnErr, Some, option_copied};
 ghost use Rattle.copyin_base.specs.Worlds.{HasTask, entry_at, no_world, space_at};
 
-use crate::message::Message;
+use crate::queued::Queued;
 use mach_types::{Name, TaskId};
 use name_space::{Entry, Space};
 use port::Ports;
@@ -20,7 +20,7 @@ pub struct World {
     /// The names of each task; none where the task has ended.
     pub spaces: Vec<Option<Space>>,
     /// The ports.
-    pub ports: Ports<Message>,
+    pub ports: Ports<Queued>,
     /// How many rights there are.
     pub ledger: Ledger,
     /// The port sets. Which ports are in one is an attribute of the ports.

@@ -6,7 +6,7 @@ use Rattle.mach_types.specs.Grammar.{WireBody, body_text}
 use Rattle.message_codec.specs.declared.header.Header.{Header}
 use Rattle.message_codec.specs.Received.{header_text, received_body, IsLaidOut}
 use Rattle.copyin_base.specs.declared.message.Carried.{Carried}
-use Rattle.copyin_base.specs.Kept.{Kept}
+use Rattle.copyin_base.specs.Kept.{Kept, IsMessageOf}
 use Rattle.copyin_base.specs.Worlds.{WorldView}
 use Rattle.std.specs.Option.{option_to_list}
 use Rattle.copyout.specs.Giving.{GivesMark, GivesAll}
@@ -80,9 +80,9 @@ delivers old mid new task m local sequence first names bytes h one rest bits siz
           ∙ ap (λ (ws : List ℕ). header_text (reversed m local sequence b.words) ++ body_text (received_body written ws)) (sym b.body);
     }
 
-pub takes_message : (w mid new : WorldView) (task port local sequence : ℕ) (m : Kept) (bytes : List ℕ) (t : TakesFront w port mid) → m ≡ t.front → sequence ≡ t.v.attributes.sequence →
+pub takes_message : (w mid new : WorldView) (task port local sequence : ℕ) (m : Kept) (bytes : List ℕ) (t : TakesFront w port mid) → IsMessageOf t.front m → sequence ≡ t.v.attributes.sequence →
     Delivers mid task m local sequence bytes new → TakesMessage w task port local bytes new
 takes_message w mid new task port local sequence m bytes t is number d =
-    let e : Delivers mid task t.front local t.v.attributes.sequence bytes new =
-    subst (λ (n : ℕ). Delivers mid task t.front local n bytes new) number (subst (λ (x : Kept). Delivers mid task x local sequence bytes new) is d) in
+    let e : Delivers mid task (record t.front { told = m.told }) local t.v.attributes.sequence bytes new =
+    subst (λ (n : ℕ). Delivers mid task (record t.front { told = m.told }) local n bytes new) number (subst (λ (x : Kept). Delivers mid task x local sequence bytes new) is d) in
     record { mid = mid; takes = t; words = e.words; gives = e.gives; text = e.text }

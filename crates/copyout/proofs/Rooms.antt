@@ -108,12 +108,16 @@ can_deliver w mid task port capacity r t =
           subst (λ (l : LedgerView). sends_for (carried_by t.front) p ≤ (counts_of l p).send) (sym ledger) (omega arith);
     }
 
--- the message that was taken is the one that was judged
-pub judged_front : (w w2 : WorldView) (task port number : ℕ) (m : Kept) → HasFront w port m → MakesRoom w task number w2 → (mid : WorldView) (t : TakesFront w2 port mid) → m ≡ t.front
-judged_front w w2 task port number m f r mid t =
+-- the front message is the one that was judged
+pub front_after : (w w2 : WorldView) (task port number : ℕ) (m now : Kept) → HasFront w port m → MakesRoom w task number w2 → HasFront w2 port now → m ≡ now
+front_after w w2 task port number m now f r t =
     let there : port_at w port ≡ Some t.v = ap (λ (y : WorldView). port_at y port) (sym r.rest) ∙ t.there in
     let v : f.v ≡ t.v = same_found (port_at w port) f.v t.v f.there there in
-    same_head t.v.queue m t.front f.behind t.behind (ap (λ (v : PortView Kept). v.queue) (sym v) ∙ f.queue) t.queue
+    same_head t.v.queue m now f.behind t.behind (ap (λ (v : PortView Kept). v.queue) (sym v) ∙ f.queue) t.queue
+
+-- and so is the message that was taken
+pub judged_front : (w w2 : WorldView) (task port number : ℕ) (m : Kept) → HasFront w port m → MakesRoom w task number w2 → (mid : WorldView) (t : TakesFront w2 port mid) → m ≡ t.front
+judged_front w w2 task port number m f r mid t = front_after w w2 task port number m t.front f r (record { v = t.v; there = t.there; behind = t.behind; queue = t.queue })
 
 -- ---- what is left of room
 

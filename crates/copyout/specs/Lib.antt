@@ -2,5 +2,6 @@ pub mod Giving
 pub mod Takes
 pub mod Room
 pub mod Ready
+pub mod Prepared
 pub mod Wanted
 pub mod Putting

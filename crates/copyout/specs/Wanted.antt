@@ -1,5 +1,5 @@
 -- Where a receipt wants memory, and what it leaves of what is kept for names and messages to come.
-use Rattle.std.specs.Prelude.{◌≡◌, ℕ, ◌+◌, ◌<◌, ◌≤◌, ◌⊎◌, length}
+use Rattle.std.specs.Prelude.{◌≡◌, ℕ, ◌+◌, ◌<◌, ◌≤◌, ◌⊎◌, true, length}
 use Rattle.copyin_base.specs.Kept.{Kept}
 use Rattle.copyin_base.specs.Wanted.{room_of}
 use Rattle.copyin_base.specs.Worlds.{WorldView}
@@ -10,11 +10,15 @@ use Rattle.copyout.specs.Ready.{HasFront, carried_by}
 abbrev pub inline_names : ℕ
 inline_names = 8
 
--- The port's front message carries more than 8 rights in its body, or needs more names than there is room for.
+-- The message carries more than 8 rights in its body, or is a notice, whose bytes are to be made.
+abbrev pub WantsToPrepare : Kept → Type 0
+WantsToPrepare m = (inline_names < length m.rights) ⊎ (m.told ≡ true)
+
+-- The port's front message is so, or needs more names than there is room for.
 pub record WantsToReceive (w : WorldView) (task port : ℕ) : Type 0 where
   pub front : Kept
   pub waits : HasFront w port front
-  pub wanted : (inline_names < length front.rights) ⊎ LackRoom w task (carried_by front)
+  pub wanted : WantsToPrepare front ⊎ LackRoom w task (carried_by front)
 
 -- No task has room for more names than it had, and one slot more is spare: that of the message.
 pub record ReturnsSlot (old new : WorldView) : Type 0 where

@@ -11,19 +11,20 @@ ghost use Rattle.rights.specs.declared.RightKind.TheVariants as right;
 ghost use Rattle.rights.specs.Ledger.{IsEntered, counts_of, taken};
 ghost use Rattle.rights.specs.Counts.{number_of};
 ghost use Rattle.copyin_base.specs.Changes.{MakesRoom};
-ghost use Rattle.copyin_base.specs.Kept.{Kept};
+ghost use Rattle.copyin_base.specs.Kept.{Kept, Makes};
 ghost use Rattle.copyin_base.specs.Wanted.{LacksRoomFor};
 ghost use Rattle.copyin_base.specs.Worlds.{WorldView, port_at, HasTask};
 ghost use Rattle.std.specs.Option.{option_to_list};
 ghost use Rattle.copyout.specs.Giving.{GivesAll};
 ghost use Rattle.copyout.specs.Takes.{TakesFront, TakesMessage, destination_right, reply_number, reply_word};
 ghost use Rattle.copyout.specs.Ready.{CanGive, Waits, HasFront, MayReceive, ReadyFor, Delivers, IsRefusedBy, carried_by};
-ghost use Rattle.copyout.specs.Wanted.{inline_names, WantsToReceive, ReturnsSlot};
+ghost use Rattle.copyout.specs.Prepared.{IsPrepared};
+ghost use Rattle.copyout.specs.Wanted.{WantsToPrepare, WantsToReceive, ReturnsSlot};
 ghost use Rattle.copyout.specs.declared.receipt.Refusal.TheVariants as refused;
 
 use crate::give::{give_right, give_rights};
 use crate::room::room_needed;
-use copyin_base::{Carried, Message, World};
+use copyin_base::{Carried, Message, Queued, World};
 use mach_types::bits::COMPLEX;
 use mach_types::limits::{MOST_BYTES, MOST_NAMES};
 use mach_types::{Bytes, KernReturn, Name, PortId, TaskId};
@@ -65,24 +66,24 @@ fn header_bits(reply: &Option<Carried>, by_once: bool, is_complex: bool) -> u32
 }
 
 // Takes the port's front message from the queue; its number is used.
-fn dequeue(world: &mut World, port: PortId) -> Message
+fn dequeue(world: &mut World, port: PortId) -> Queued
     requires { (m : Kept) × HasFront world.old port m }
     ensures { (m : Kept) (f : HasFront world.old port m) → (result ≡ m)
         × (world.new ≡ record world.old { ports = record (with_port world.old.ports port (record { queue = f.behind; attributes = record f.v.attributes { sequence = (f.v.attributes.sequence + 1) % 2 ^ 32 } })) { spare = world.old.ports.spare + 1 } }) }
 {
     match world.ports.take(port) {
-        Some(message) => message,
+        Some(queued) => queued,
         None => unreachable!(),
     }
 }
 
 // Counts the right by which the message came as gone.
-fn consume(world: &mut World, port: PortId, message: &Message)
+fn consume(world: &mut World, port: PortId, queued: &Queued)
     requires entered { IsEntered world.old.ledger port }
-    requires counted { 1 ≤ number_of (destination_right message.now) (counts_of world.old.ledger port) }
-    ensures { world.new ≡ record world.old { ledger = taken world.old.ledger port (destination_right message.now) 1 } }
+    requires counted { 1 ≤ number_of (destination_right queued.now) (counts_of world.old.ledger port) }
+    ensures { world.new ≡ record world.old { ledger = taken world.old.ledger port (destination_right queued.now) 1 } }
 {
-    let kind = if message.by_once {
+    let kind = if queued.by_once() {
         RightKind::Destination
     } else {
         RightKind::Send
@@ -91,13 +92,13 @@ fn consume(world: &mut World, port: PortId, message: &Message)
 }
 
 // Takes the port's front message; its number is used, and its destination right is consumed.
-fn take_front(world: &mut World, port: PortId) -> Message
+fn take_front(world: &mut World, port: PortId) -> Queued
     requires { Waits world.old port }
     ensures { (t : TakesFront world.old port world.new) × (result ≡ t.front) }
 {
-    let message = dequeue(world, port);
-    consume(world, port, &message);
-    message
+    let queued = dequeue(world, port);
+    consume(world, port, &queued);
+    queued
 }
 
 // Gives the task the right to answer with, if there is one, and answers its name.
@@ -161,6 +162,15 @@ fn deliver(
     spell(bytes, &parsed, &header, &names)
 }
 
+// What memory is taken for before the message is.
+#[derive(Drop)]
+struct Prepared {
+    // Room for a name for each right of the body.
+    names: SmallVec<Name, 8>,
+    // The message of a notice.
+    made: Option<Message>,
+}
+
 // Takes the port's front message and gives its rights. `names` is empty, and has room for the rights of
 // the body; room for the names that are needed was made, so it takes no memory.
 fn take_message(
@@ -168,71 +178,81 @@ fn take_message(
     task: TaskId,
     port: PortId,
     local: Name,
-    names: SmallVec<Name, 8>,
+    prepared: Prepared,
 ) -> Bytes
-    requires ready { ReadyFor world.old task port names.capacity }
-    requires none { names.items ≡ [] }
+    requires ready { ReadyFor world.old task port prepared.names.capacity }
+    requires none { prepared.names.items ≡ [] }
+    requires made { (m : Kept) → HasFront world.old port m → Makes m prepared.made }
     ensures { TakesMessage world.old task port local result world.new }
 {
+    let Prepared { names, made } = prepared;
     let sequence = world.attributes(port).sequence;
-    let message = take_front(world, port);
-    deliver(world, task, message, local, sequence, names)
+    let queued = take_front(world, port);
+    deliver(
+        world,
+        task,
+        queued.into_message(made),
+        local,
+        sequence,
+        names,
+    )
 }
 
 // The port's front message.
-fn front(world: &World, port: PortId) -> &Message
+fn front(world: &World, port: PortId) -> &Queued
     requires { (m : Kept) × HasFront world.now port m }
     ensures { HasFront world.now port result.now }
 {
     match world.ports.front(port) {
-        Some(message) => message,
+        Some(queued) => queued,
         None => unreachable!(),
     }
 }
 
 // Whether the message has more bytes than there is room for, or than may be.
-fn is_too_large(message: &Message, room: u32) -> bool
-    ensures { MatchBool result (min room most_bytes < length message.now.bytes) (length message.now.bytes ≤ min room most_bytes) }
+fn is_too_large(queued: &Queued, room: u32) -> bool
+    ensures { MatchBool result (min room most_bytes < length queued.now.bytes) (length queued.now.bytes ≤ min room most_bytes) }
 {
-    message.bytes.len() > MOST_BYTES.min(room as usize)
+    queued.len() > MOST_BYTES.min(room as usize)
 }
 
-// Room for a name for each right of the body: in place for up to 8.
-fn reserve_words(alloc: Global, message: &Message) -> Result<SmallVec<Name, 8>, AllocError>
-    ensures ok { IfOk result (λ names. (names.items ≡ []) × (length message.now.rights ≤ names.capacity)) }
-    ensures wanted { OnErr result (inline_names < length message.now.rights) }
+// Room for a name for each right of the body, in place for up to 8; and the message of a notice.
+fn prepare(alloc: Global, queued: &Queued) -> Result<Prepared, AllocError>
+    ensures ok { IfOk result (λ prepared. IsPrepared queued.now prepared) }
+    ensures wanted { OnErr result (WantsToPrepare queued.now) }
 {
     let mut names = SmallVec::new(alloc);
-    names.reserve(message.rights.len())?;
-    Ok(names)
+    names.reserve(queued.count_rights())?;
+    let made = queued.make(alloc)?;
+    Ok(Prepared { names, made })
 }
 
-// How many names the rights of the front message need, and room for the names of those of its body; or
-// why it isn't received.
+// How many names the rights of the front message need, and what memory is taken for before it is taken;
+// or why it isn't received.
 fn judge(
     world: &World,
     alloc: Global,
     task: TaskId,
     port: PortId,
     room: u32,
-) -> Result<(usize, SmallVec<Name, 8>), Refusal>
+) -> Result<(usize, Prepared), Refusal>
     requires there { HasTask world.now task }
     requires waits { (m : Kept) × HasFront world.now port m × (length m.bytes ≤ most_bytes) }
-    ensures ok { IfOk result (λ r. (may : MayReceive world.now task port room r.0) × (r.1.items ≡ []) × (length may.front.rights ≤ r.1.capacity)) }
+    ensures ok { IfOk result (λ r. (may : MayReceive world.now task port room r.0) × IsPrepared may.front r.1) }
     ensures err { IfErr result (λ refusal. (m : Kept) × HasFront world.now port m × IsRefusedBy world.now task m room refusal) }
     ensures wanted { IfErr result (λ refusal. refusal ≡ refused.Memory → WantsToReceive world.now task port) }
 {
-    let message = front(world, port);
-    if is_too_large(message, room) {
-        return Err(Refusal::TooLarge(message.bytes.len() as u32));
+    let queued = front(world, port);
+    if is_too_large(queued, room) {
+        return Err(Refusal::TooLarge(queued.len() as u32));
     }
     let space = world.space(task);
-    let needed = room_needed(world, space, message);
+    let needed = room_needed(world, space, queued);
     if needed > MOST_NAMES - space.len() {
         return Err(Refusal::Names);
     }
-    match reserve_words(alloc, message) {
-        Ok(names) => Ok((needed, names)),
+    match prepare(alloc, queued) {
+        Ok(prepared) => Ok((needed, prepared)),
         Err(_) => Err(Refusal::Memory),
     }
 }
@@ -255,9 +275,9 @@ fn make_room(world: &mut World, task: TaskId, needed: usize) -> Result<(), KernR
 /// which is judged in this order: the header is reversed, and the rights have the receiver's names, that
 /// of the right to answer with first.
 ///
-/// Memory is wanted for the names alone that the rights need and there is no room for, and for the words
-/// of a body with more than 8 rights: a message without rights is always received. Room for names is no
-/// more than before, and the message's slot is spare then.
+/// Memory is wanted for the names alone that the rights need and there is no room for, for the words of a
+/// body with more than 8 rights, and for the bytes of a notice: a message that was sent without rights is
+/// always received. Room for names is no more than before, and the message's slot is spare then.
 ///
 /// # Errors
 /// The message stays, and all is then as before.
@@ -283,9 +303,9 @@ pub fn receive(
     ensures err { IfErr result (λ refusal. (world.new ≡ world.old) × (m : Kept) × HasFront world.old port m × IsRefusedBy world.old task m room refusal) }
     ensures wanted { IfErr result (λ refusal. refusal ≡ refused.Memory → WantsToReceive world.old task port) }
 {
-    let (needed, names) = judge(world, alloc, task, port, room)?;
+    let (needed, prepared) = judge(world, alloc, task, port, room)?;
     match make_room(world, task, needed) {
-        Ok(()) => Ok(take_message(world, task, port, local, names)),
+        Ok(()) => Ok(take_message(world, task, port, local, prepared)),
         Err(_) => Err(Refusal::Memory),
     }
 }

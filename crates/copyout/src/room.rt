@@ -7,10 +7,11 @@ ghost use Rattle.name_space.specs.Names.{SpaceView, port_at};
 ghost use Rattle.copyin_base.specs.declared.message.Carried.{Carried as AnyCarried};
 ghost use Rattle.copyin_base.specs.declared.message.Mark.TheVariants as mark;
 ghost use Rattle.std.specs.Option.{option_to_list};
+ghost use Rattle.copyin_base.specs.Queued.{notice_kept};
 ghost use Rattle.copyout.specs.Ready.{carried_by};
 ghost use Rattle.copyout.specs.Room.{names_port, named_by, HasNone, Owns, Shares, Needs, IsMarked, Marks};
 
-use copyin_base::{Carried, Mark, Message, World};
+use copyin_base::{Carried, Mark, Message, Notice, Queued, Slot, World};
 use mach_types::{Disposition, Name, PortId};
 use name_space::Space;
 
@@ -236,12 +237,8 @@ fn lone_names(world: &World, space: &Space, carried: &Carried) -> usize
     }
 }
 
-/// How many names of their own the rights of the message need: exactly so many more names the task has
-/// once they were given.
-///
-/// Takes no memory. Linear in the number of rights, but where there are more than 1,000: those for ports
-/// that the task has no name for are then compared with some of those before them.
-pub fn room_needed(world: &World, space: &Space, message: &Message) -> usize
+// How many names of their own the rights of a message that was sent need.
+fn room_of_sent(world: &World, space: &Space, message: &Message) -> usize
     ensures { Needs world.now.ports space.now.names [] (carried_by message.now) result }
 {
     let rights = message.rights.as_slice();
@@ -250,5 +247,29 @@ pub fn room_needed(world: &World, space: &Space, message: &Message) -> usize
         (None, 1) => lone_names(world, space, &rights[0]),
         (Some(carried), 0) => lone_names(world, space, carried),
         (reply, _) => count_all(world, space, reply, rights),
+    }
+}
+
+// How many names of its own the right that a notice carries needs.
+fn room_of_notice(world: &World, space: &Space, notice: &Notice) -> usize
+    ensures { Needs world.now.ports space.now.names [] (carried_by (notice_kept notice.now)) result }
+{
+    match notice.carried() {
+        Some(carried) => lone_names(world, space, &carried),
+        None => 0,
+    }
+}
+
+/// How many names of their own the rights of the message need: exactly so many more names the task has
+/// once they were given.
+///
+/// Takes no memory. Linear in the number of rights, but where there are more than 1,000: those for ports
+/// that the task has no name for are then compared with some of those before them.
+pub fn room_needed(world: &World, space: &Space, queued: &Queued) -> usize
+    ensures { Needs world.now.ports space.now.names [] (carried_by queued.now) result }
+{
+    match &queued.slot {
+        Slot::Sent(message) => room_of_sent(world, space, message),
+        Slot::Told(notice) => room_of_notice(world, space, notice),
     }
 }

@@ -13,7 +13,7 @@ ghost use Rattle.copyin_base.specs.Wanted.{KeepsSpares};
 ghost use Rattle.copyin_base.specs.Worlds.{entry_at, HasTask};
 ghost use Rattle.kernel_core_base.specs.References.{left_with, recounted_at, CanCount, CanSet, SetsReferences, RemovesSet, CanCarry, Carries, deallocated, destroyed, IsChange, more_in, CanSum, CannotSum, changed_whole, FindsRight, CanChange, CannotChange};
 
-use copyin_base::{Code, Message, World};
+use copyin_base::{Code, Queued, World};
 use mach_types::limits::{MOST_REFERENCES, MOST_RIGHTS};
 use mach_types::{KernReturn, Name, Reply, Right, SetId, TaskId};
 use name_space::Entry;
@@ -88,7 +88,7 @@ fn set_references(world: &mut World, task: TaskId, name: Name, entry: Entry, ref
 }
 
 // A set goes, and its members are in none.
-fn drop_set(sets: &mut Sets, ports: &mut Ports<Message>, set: SetId)
+fn drop_set(sets: &mut Sets, ports: &mut Ports<Queued>, set: SetId)
     ensures sets { sets.new ≡ removed sets.old set }
     ensures ports { IsDisbanded ports.old ports.new set }
 {

@@ -1,7 +1,8 @@
-use Rattle.std.proofs.Common.{◌≡◌, ℕ, ◌<◌, ◌++◌, List, Option, sym, ap, ◌∙◌, subst, arith}
+use Rattle.std.proofs.Common.{◌≡◌, ℕ, ◌+◌, ◌-◌, ◌<◌, ◌++◌, List, [], ◌∷◌, Option, Some, sym, ap, ◌∙◌, subst, arith}
+use Rattle.std.specs.FinMap as map
 use Rattle.std.specs.Option.{option_to_list}
 use Rattle.message_codec.specs.declared.words.PortWord.{PortWord}
-use Rattle.port.specs.Ports.{IsLive}
+use Rattle.port.specs.Ports.{PortView, IsLive, with_port}
 use Rattle.rights.specs.Ledger.{counts_of}
 use Rattle.copyin_base.specs.declared.message.Carried.{Carried}
 use Rattle.copyin_base.specs.Kept.{Kept}
@@ -145,5 +146,7 @@ returns c =
     let live : IsLive c.world.inside.ports plan.port =
     subst (λ (w : WorldView). IsLive w.ports plan.port) (sym c.world.view_is) (carries_live c.args.world.now mid plan.task plan plan.port ca old_live) in
     λ task parsed written bytes p. commits c.args.world.now mid task parsed written bytes plan p c.world.inside.spaces.items c.world.inside.ports c.enqueue.new.self c.world.inside.ledger c.use_right.new.ledger c.world.inside.sets
-    (subst (λ (t : ℕ). Carries c.args.world.now t plan mid) p.task_is ca) live c.world.view_is c.enqueue.ensures
+    (subst (λ (t : ℕ). Carries c.args.world.now t plan mid) p.task_is ca) live c.world.view_is
+    (subst (λ (m : Kept). (v : PortView Kept) → map.get c.world.inside.ports.ports plan.port ≡ Some v
+    → c.enqueue.new.self ≡ record (with_port c.world.inside.ports plan.port (record v { queue = v.queue ++ m ∷ [] })) { spare = c.world.inside.ports.spare - 1 }) c.sent.ensures c.enqueue.ensures)
     (c.use_right.ensures ∙ ap (λ (m : Kept). ledger_queued m.by_once plan.port c.world.inside.ledger) c.message.view_is)

@@ -1,4 +1,4 @@
-use Rattle.std.proofs.Common.{refl, ◌∙◌, inl, inr}
+use Rattle.std.proofs.Common.{false, refl, ◌∙◌, inl, inr}
 use Rattle.std.proofs.lemmas.Result.{err_from_is_err_and}
 use Rattle.copyin.specs.Plans.{Plans}
 use Rattle.copyin.proofs.Planning.{words_given, cannot_judge, cannot_admit, admitted, port_lives, destination_sends, remote_sendable}
@@ -50,6 +50,7 @@ returns-clause-ok c = λ p.
         by_once = c.is_send_once.ensures.value i;
         reply = c.in_ok-rights.rights.reply;
         rights = (c.in-Ok.ensures.1 ∙ c.as_slice-2.ensures) i;
+        told = false;
       };
     }
 

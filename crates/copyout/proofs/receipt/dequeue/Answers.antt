@@ -11,7 +11,7 @@ pub returns : goal.returns
 returns c = λ m f.
     let ports : c.world.inside.ports ≡ c.args.world.now.ports = ap (λ (w : WorldView). w.ports) c.world.view_is in
     let there : map.get c.world.inside.ports.ports c.args.port ≡ Some f.v = ap (λ (p : PortsView Kept). map.get p.ports c.args.port) ports ∙ f.there in
-    let found : c.in-Some.message ≡ m = is_front c.world.inside.ports c.args.port f.v m c.in-Some.message f.behind there f.queue c.in-Some.ensures.front in
+    let found : c.in-Some.queued ≡ m = is_front c.world.inside.ports c.args.port f.v m c.in-Some.queued f.behind there f.queue c.in-Some.ensures.front in
     let after : List Kept → PortsView Kept → PortsView Kept = λ l p. record (with_port p c.args.port (record { queue = l; attributes = record f.v.attributes { sequence = (f.v.attributes.sequence + 1) % 2 ^ 32 } })) { spare = p.spare + 1 } in (
       found,
       same_world _ _ _ _ _ _ _ _ (ap (λ (w : WorldView). w.spaces) c.world.view_is)

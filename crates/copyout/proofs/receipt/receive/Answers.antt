@@ -1,14 +1,19 @@
 use Rattle.std.proofs.Common.{◌≤◌, subst, length}
 use Rattle.std.specs.Prelude.{min}
 use Rattle.mach_types.specs.Numbers.{most_bytes}
-use Rattle.copyin_base.specs.Kept.{Kept}
-use Rattle.copyout.proofs.Rooms.{ready_after, judged_front, returns_slot, names_enough, wants_room}
+use Rattle.copyin_base.specs.Kept.{Kept, Makes}
+use Rattle.copyout.proofs.Rooms.{ready_after, front_after, judged_front, returns_slot, names_enough, wants_room}
 use Rattle.copyout.proofs.receipt.receive.Goals as goal
 
 pub take_message-requires-clause-ready : goal.take_message-requires-clause-ready
 take_message-requires-clause-ready c =
     let j = c.in_ok-needed.ensures.ok in
-    ready_after c.args.world.now c.make_room.new.world c.args.task c.args.port c.args.room c.in_ok-needed.names.capacity c.in_ok-needed.needed c.requires.waits j.0 c.in-Ok.ensures.ok j.2
+    ready_after c.args.world.now c.make_room.new.world c.args.task c.args.port c.args.room c.in_ok-needed.prepared.names.capacity c.in_ok-needed.needed c.requires.waits j.0 c.in-Ok.ensures.ok j.1.words_fit
+
+pub take_message-requires-clause-made : goal.take_message-requires-clause-made
+take_message-requires-clause-made c =
+    let j = c.in_ok-needed.ensures.ok in
+    λ now f. subst (λ (m : Kept). Makes m c.in_ok-needed.prepared.made) (front_after c.args.world.now c.make_room.new.world c.args.task c.args.port c.in_ok-needed.needed j.0.front now j.0.waits c.in-Ok.ensures.ok f) j.1.made
 
 pub returns-in-Ok-clause-ok : goal.returns-in-Ok-clause-ok
 returns-in-Ok-clause-ok c =

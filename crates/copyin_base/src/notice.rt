@@ -1,0 +1,148 @@
+//! A notice that the kernel sends, and the message that it is.
+ghost use Rattle.std.specs.Prelude.{◌≡◌, ◌++◌, replicate, length, IfOk};
+ghost use Rattle.mach_model.specs.Notices.{notice_id};
+ghost use Rattle.copyin_base.specs.Kept.{IsMessageOf};
+ghost use Rattle.copyin_base.specs.Queued.{notice_of, item_words, item_text, carried_with, spans_for, rights_for, notice_kept};
+
+use crate::message::{Carried, Mark, Message};
+use mach_types::{Disposition, Name, PortId};
+use message_codec::{Parsed, Span, Spans};
+use smallvec::SmallVec;
+use std::alloc::{AllocError, Global};
+use type_descriptor::write_word;
+
+// The descriptors of an item of one name, one receive right, and one number, in the short form.
+const NAME_ITEM: u32 = 0x1001_200f;
+
+const RECEIVE_ITEM: u32 = 0x1001_2010;
+
+const NUMBER_ITEM: u32 = 0x1001_2002;
+
+/// A notice: what became of a name, a port or a right (IPC Interface, notifications).
+#[derive(Clone, Copy, Debug, PartialEq, Eq)]
+pub enum Notice {
+    /// The name that a request was made on is no name any more.
+    PortDeleted(Name),
+    /// The port would have died; its receive right comes with the notice.
+    PortDestroyed(PortId),
+    /// The port has no send rights any more, and so many were made.
+    NoSenders(u32),
+    /// A send-once right went unused.
+    SendOnce,
+    /// The port of the name died.
+    DeadName(Name),
+}
+
+impl Notice {
+    /// Its number: the id of the message that it is.
+    pub fn id(&self) -> u32
+        ensures { result ≡ notice_id (notice_of self.now) }
+    {
+        match self {
+            Notice::PortDeleted(_) => 65,
+            Notice::PortDestroyed(_) => 69,
+            Notice::NoSenders(_) => 70,
+            Notice::SendOnce => 71,
+            Notice::DeadName(_) => 72,
+        }
+    }
+
+    /// The right that it carries, if it does.
+    pub fn carried(&self) -> Option<Carried>
+        ensures { result ≡ carried_with self.now }
+    {
+        match self {
+            Notice::PortDestroyed(port) => Some(Carried {
+                given: Disposition::MoveReceive,
+                mark: Mark::Port(*port),
+            }),
+            _ => None,
+        }
+    }
+
+    // The descriptor and the word of its item.
+    fn words(&self) -> Option<(u32, u32)>
+        ensures { result ≡ item_words self.now }
+    {
+        match self {
+            Notice::PortDeleted(name) | Notice::DeadName(name) => Some((NAME_ITEM, name.number())),
+            Notice::PortDestroyed(_) => Some((RECEIVE_ITEM, 0)),
+            Notice::NoSenders(number) => Some((NUMBER_ITEM, *number)),
+            Notice::SendOnce => None,
+        }
+    }
+
+    /// How many bytes it has.
+    pub fn len(&self) -> usize
+        ensures { result ≡ length (notice_kept self.now).bytes }
+    {
+        match self {
+            Notice::SendOnce => 24,
+            _ => 32,
+        }
+    }
+
+    /// The message that it is. Its header is written when it is received.
+    ///
+    /// An error means that memory was refused.
+    pub fn message(&self, alloc: Global) -> Result<Message, AllocError>
+        ensures { IfOk result (λ message. IsMessageOf (notice_kept self.now) message) }
+    {
+        let carried = self.carried();
+        Ok(Message {
+            bytes: item_bytes(alloc, self.words())?,
+            parsed: Parsed {
+                remote_kind: Disposition::MoveSendOnce.number(),
+                local_kind: 0,
+                remote: Name::null(),
+                local: Name::null(),
+                id: self.id(),
+                is_complex: carried.is_some(),
+                spans: spans(alloc, carried),
+            },
+            by_once: true,
+            reply: None,
+            rights: rights(alloc, carried)?,
+        })
+    }
+}
+
+// 24 bytes for a header, and the words of an item.
+fn item_bytes(alloc: Global, words: Option<(u32, u32)>) -> Result<Vec<u8>, AllocError>
+    ensures { IfOk result (λ bytes. bytes.items ≡ replicate 24 0 ++ item_text words) }
+{
+    let Some((descriptor, word)) = words else {
+        return Vec::from_slice(alloc, &[0; 24]);
+    };
+    let mut bytes = [0; 32];
+    write_word(&mut bytes, 24, descriptor);
+    write_word(&mut bytes, 28, word);
+    Vec::from_slice(alloc, &bytes)
+}
+
+// Where the word of the right stands, behind the header and a descriptor.
+fn spans(alloc: Global, carried: Option<Carried>) -> Spans
+    ensures { result ≡ spans_for carried }
+{
+    let mut spans = SmallVec::new(alloc);
+    let Some(carried) = carried else {
+        return Spans::from_small_vec(spans);
+    };
+    spans.push_reserved(Span {
+        at: 24,
+        long: false,
+        disposition: carried.given.number(),
+        number: 1,
+    });
+    Spans::from_small_vec(spans)
+}
+
+// The right as the list of all of them.
+fn rights(alloc: Global, carried: Option<Carried>) -> Result<Vec<Carried>, AllocError>
+    ensures { IfOk result (λ rights. rights.items ≡ rights_for carried) }
+{
+    match carried {
+        Some(carried) => Vec::from_slice(alloc, &[carried]),
+        None => Ok(Vec::new(alloc)),
+    }
+}
