@@ -29,7 +29,7 @@ abbrev KeepsIfAny : Entry → Option Copied → Type 0
 KeepsIfAny e None = Unit {0}
 KeepsIfAny e (Some k) = Keeps e k
 
-if_either : {X : Type 0} (b : Bool) (x : X) (o : Option X) (P : X → Type 0) → P x → IfSome o P → IfSome (if b then Some x else o) P
+pub if_either : {X : Type 0} (b : Bool) (x : X) (o : Option X) (P : X → Type 0) → P x → IfSome o P → IfSome (if b then Some x else o) P
 if_either true x o P one other = one
 if_either false x o P one other = other
 

@@ -14,6 +14,7 @@ pub mod RefusedWords
 pub mod Overlays
 pub mod Judging
 pub mod Keeping
+pub mod HoldersKept
 pub mod Leaving
 pub mod Going
 pub mod Planning

@@ -6,12 +6,14 @@ use Rattle.std.specs.FinMap as map
 use Rattle.mach_model.specs.State.{State, at, queue}
 use Rattle.mach_model.proofs.At.{at_own, at_other}
 use Rattle.port.specs.declared.Attributes.{Attributes}
-use Rattle.port.specs.Ports.{PortView}
+use Rattle.port.specs.declared.Holder.{Holder}
+use Rattle.port.specs.Ports.{PortView, with_port}
 use Rattle.copyin_base.specs.Kept.{Kept}
-use Rattle.copyin_base.specs.Changes.{HasAttributes, SetsAttributes}
+use Rattle.copyin_base.specs.Changes.{HasAttributes, SetsAttributes, SetsHolder}
 use Rattle.copyin_base.specs.Worlds.{WorldView, port_at}
 use Rattle.copyin_base.specs.Shows.{AllKept, ShowsPort, Agrees}
 use Rattle.copyin_base.proofs.Agreeing.{ports_put, live_put}
+use Rattle.copyin_base.proofs.Gets.{same_found}
 
 -- The function has this value at p, and is elsewhere as it was.
 pub record IsAt {A : Type 0} (f g : ℕ → A) (p : ℕ) (x : A) : Type 0 where
@@ -74,3 +76,20 @@ module _ (w : WorldView) (s : State) (a : Agrees w s) (p : ℕ) (x : Attributes)
 
   pub set_agrees : (o : Option ℕ) (w2 : WorldView) → SetsAttributes w p (record x { set = o }) w2 → Agrees w2 (record s { sets_of = at s.sets_of p (option_to_list o) })
   set_agrees o w2 set = attributes_agree w w2 s a p _ set _ _ _ _ (is_same s.limit p _ shown.limit) (is_same s.make_send p _ shown.make_send) (is_same s.sequence p _ shown.sequence) (is_at s.sets_of p (option_to_list o))
+
+-- ---- who holds the receive right
+
+pub sets_holder : (old new : WorldView) (port : ℕ) (x : Attributes) (holder : Holder) → HasAttributes old port x → SetsAttributes old port (record x { holder = holder }) new → SetsHolder old port holder new
+sets_holder old new port x holder has set = record {
+  v = set.v;
+  there = set.there;
+  rest = set.rest ∙ ap (λ (y : Attributes). record old { ports = with_port old.ports port (record set.v { attributes = record y { holder = holder } }) })
+      (sym has.are ∙ ap (λ (v : PortView Kept). v.attributes) (same_found (port_at old port) has.v set.v has.there set.there));
+}
+
+-- it is of no account to the machine
+pub holder_agrees : (w w2 : WorldView) (s : State) → Agrees w s → (p : ℕ) (holder : Holder) → SetsHolder w p holder w2 → Agrees w2 s
+holder_agrees w w2 s a p holder set =
+    let b = a.ports p set.v set.there in
+    attributes_agree w w2 s a p (record set.v.attributes { holder = holder }) (record { v = set.v; there = set.there; rest = set.rest }) _ _ _ _
+    (is_same s.limit p _ b.limit) (is_same s.make_send p _ b.make_send) (is_same s.sequence p _ b.sequence) (is_same s.sets_of p _ b.sets)

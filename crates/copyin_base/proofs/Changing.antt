@@ -37,7 +37,7 @@ named_no_set e p is set f = apart p set (sym (target_named e p is) ∙ f)
     apart : (q n : ℕ) → Target.port q ≡ Target.set n → ⊥
     apart q n g = cc
 
-same_port : (o : Option ℕ) (p : ℕ) → (o ≡ Some p) ⊎ (o ≡ Some p → ⊥)
+pub same_port : (o : Option ℕ) (p : ℕ) → (o ≡ Some p) ⊎ (o ≡ Some p → ⊥)
 same_port None p = inr (λ e. cc)
 same_port (Some q) p = elim (eqb_tells q p) [
   | inl h ↦ inl (ap Some h.1)

@@ -9,6 +9,7 @@ pub mod Taking
 pub mod Putting
 pub mod Changing
 pub mod NamesChanged
+pub mod Holders
 pub mod Unused
 pub mod Tied
 pub mod Told

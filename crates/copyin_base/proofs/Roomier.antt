@@ -5,8 +5,10 @@ use Rattle.std.specs.Option.{option_map}
 use Rattle.std.specs.FinMap as map
 use Rattle.mach_model.specs.State.{State}
 use Rattle.name_space.specs.Names.{Names, SpaceView}
+use Rattle.port.specs.Ports.{PortsView}
+use Rattle.copyin_base.specs.Kept.{Kept}
 use Rattle.copyin_base.specs.Worlds.{WorldView, HasTask, space_at, with_space, entry_in, entry_at}
-use Rattle.copyin_base.specs.Shows.{Agrees, Shows, target_of}
+use Rattle.copyin_base.specs.Shows.{Agrees, HoldersAgree, Shows, target_of}
 use Rattle.copyin_base.specs.Changes.{MakesRoom, KeepsPlace, SameButRoom}
 use Rattle.copyin_base.proofs.Gets.{length-set}
 use Rattle.copyin_base.proofs.Spaces.{each-space-set}
@@ -61,8 +63,16 @@ room_agrees w v s same a =
     let is : record w { spaces = v.spaces } ≡ v = λ i. record { spaces = v.spaces; ports = sym same.ports i; ledger = sym same.ledger i; sets = sym same.sets i } in
     subst (λ (x : WorldView). Agrees x s) is (room_spaces w v s same a)
 
+-- the same stands under each name, and no port changed
+pub room_holders : (w v : WorldView) → SameButRoom w v → HoldersAgree w → HoldersAgree v
+room_holders w v same h = record {
+  held = λ task name e p is named receives x there.
+      h.held task name e p (sym (same_entry (space_at v task) (space_at w task) name (same.names task)) ∙ is) named receives x
+      (sym (ap (λ (y : PortsView Kept). map.get y.ports p) same.ports) ∙ there);
+}
+
 pub room_shows : (w v : WorldView) (s : State) → SameButRoom w v → Shows w s → Shows v s
-room_shows w v s same sh = record { agrees = room_agrees w v s same sh.agrees; lawful = sh.lawful; quiet = sh.quiet }
+room_shows w v s same sh = record { agrees = room_agrees w v s same sh.agrees; holders = room_holders w v same sh.holders; lawful = sh.lawful; quiet = sh.quiet }
 
 pub room_refl : (w : WorldView) → SameButRoom w w
 room_refl w = record { tasks = refl; names = λ task. refl; ports = refl; ledger = refl; sets = refl }
@@ -107,4 +117,4 @@ slots_agree w s n a = record {
 }
 
 pub slots_show : (w : WorldView) (s : State) (n : ℕ) → Shows w s → Shows (record w { ports = record w.ports { spare = n } }) s
-slots_show w s n sh = record { agrees = slots_agree w s n sh.agrees; lawful = sh.lawful; quiet = sh.quiet }
+slots_show w s n sh = record { agrees = slots_agree w s n sh.agrees; holders = record { held = sh.holders.held }; lawful = sh.lawful; quiet = sh.quiet }

@@ -8,6 +8,7 @@ use Rattle.name_space.specs.Entry.{port_named}
 use Rattle.name_space.specs.Names.{SpaceView, IsUsable, HasPlace, HasNoOther}
 use Rattle.name_space.specs.Names.{port_at as named_at}
 use Rattle.port.specs.declared.Attributes.{Attributes}
+use Rattle.port.specs.declared.Holder.{Holder}
 use Rattle.port.specs.Ports.{PortView, with_port}
 use Rattle.copyin_base.specs.Kept.{Kept}
 use Rattle.copyin_base.specs.Worlds.{WorldView, space_at, with_space, port_at, put}
@@ -68,6 +69,12 @@ pub record SetsAttributes (old : WorldView) (port : ℕ) (attributes : Attribute
   pub v : PortView Kept
   pub there : port_at old port ≡ Some v
   pub rest : new ≡ record old { ports = with_port old.ports port (record v { attributes = attributes }) }
+
+-- This holds the port's receive right now; all else of the port is as it was.
+pub record SetsHolder (old : WorldView) (port : ℕ) (holder : Holder) (new : WorldView) : Type 0 where
+  pub v : PortView Kept
+  pub there : port_at old port ≡ Some v
+  pub rest : new ≡ record old { ports = with_port old.ports port (record v { attributes = record v.attributes { holder = holder } }) }
 
 -- These are the attributes of a port that is there.
 pub record HasAttributes (w : WorldView) (port : ℕ) (attributes : Attributes) : Type 0 where

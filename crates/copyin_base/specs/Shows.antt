@@ -1,5 +1,5 @@
 -- When the kernel's tables show a state of the machine: they agree with it at each task, name, port and request.
-use Rattle.std.specs.Prelude.{◌≡◌, ℕ, ◌+◌, ◌<◌, Bool, List, [], ◌∷◌, length, Option, Some, is_some}
+use Rattle.std.specs.Prelude.{◌≡◌, ℕ, ◌+◌, ◌<◌, Bool, true, List, [], ◌∷◌, length, Option, Some, is_some}
 use Rattle.std.specs.Option.{option_map, option_to_list}
 use Rattle.std.specs.FinMap as map
 use Rattle.mach_types.specs.Tokens.{Kind, receive, send, send_once, same_kind, Request, in_request, Token, count, is_of, is_held}
@@ -13,12 +13,13 @@ use Rattle.name_space.specs.declared.Entry.{Entry as Named}
 use Rattle.name_space.specs.declared.Entry.TheVariants as named
 use Rattle.name_space.specs.Entry.{port_named, has_receive, send_references}
 use Rattle.name_space.specs.Names.{SpaceView}
+use Rattle.port.specs.declared.Holder.TheVariants as Holder
 use Rattle.port.specs.Ports.{PortView}
 use Rattle.port_set.specs.declared.SetRecord.{SetRecord}
 use Rattle.port_set.specs.Sets.{SetsView}
 use Rattle.rights.specs.Ledger.{LedgerView, counts_of}
 use Rattle.copyin_base.specs.Kept.{Kept, Keeps}
-use Rattle.copyin_base.specs.Worlds.{WorldView, space_in, entry_in, port_at}
+use Rattle.copyin_base.specs.Worlds.{WorldView, space_in, entry_in, entry_at, port_at}
 
 abbrev pub target_of : Named → Target
 target_of (named.Receive p) = Target.port p
@@ -112,8 +113,14 @@ pub record Agrees (w : WorldView) (s : State) : Type 0 where
   -- no request stands
   pub requests : (r : Request) (kind : Kind) (q : ℕ) → lying s kind q (in_request r) ≡ 0
 
+-- Where a port's receive right stands under a name, the port knows that the task holds it. This is of the tables alone.
+pub record HoldersAgree (w : WorldView) : Type 0 where
+  pub held : (task name : ℕ) (e : Named) (p : ℕ) → entry_at w task name ≡ Some e → port_named e ≡ Some p → has_receive e ≡ true →
+      (v : PortView Kept) → port_at w p ≡ Some v → v.attributes.holder ≡ Holder.Task task
+
 -- They agree with a state of which all is true that is true of every state that the machine reaches, as long as the rules of NotYet stand.
 pub record Shows (w : WorldView) (s : State) : Type 0 where
   pub agrees : Agrees w s
+  pub holders : HoldersAgree w
   pub lawful : IsLawful s
   pub quiet : IsQuiet s

@@ -24,6 +24,7 @@ use Rattle.copyin_base.proofs.Putting.{each_put}
 use Rattle.copyin_base.proofs.Spaces.{space-set_same}
 use Rattle.copyout.specs.Giving.{ledger_joined, GivesPort, GivesMark, NeedsOwn, free_names, free_room, MarkLacks, Lack}
 use Rattle.copyout.specs.Ready.{send_for, CanGive, CanGivePort, CanTakeName}
+use Rattle.copyout.proofs.PortsGiven.{given_live}
 
 pub kind_cases : (kind : Kind) → (kind ≡ send_once) ⊎ (kind ≢ send_once)
 kind_cases send = inr (λ h. cc)
@@ -84,7 +85,7 @@ after_port : (w mid : WorldView) (task : ℕ) (kind : Kind) (port word : ℕ) �
 after_port w mid task kind port word g = subst (λ (x : WorldView). After w x task kind (mark.Port port)) (sym g.rest) (record {
   space = record g.space { names = g.after; room = g.room };
   there = space-set_same w.spaces task (record g.space { names = g.after; room = g.room }) g.space g.there;
-  live = λ p. refl;
+  live = given_live task port w.ports kind;
   entered = λ p h. elim g.given [
     | inl j ↦ subst (λ (m : LedgerView). IsEntered m p) (sym j.1) (entered-joined kind port j.0.entry w.ledger p h)
     | inr t ↦ subst (λ (m : LedgerView). IsEntered m p) (sym t.1) h

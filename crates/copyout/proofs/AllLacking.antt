@@ -25,7 +25,7 @@ use Rattle.copyin_base.specs.Worlds.{WorldView, entry_in, space_at, with_space}
 use Rattle.copyin_base.specs.Shows.{target_of, onces_queued, Agrees}
 use Rattle.copyin_base.proofs.Changing.{target_named}
 use Rattle.copyin_base.proofs.Counting.{counts_same}
-use Rattle.copyout.specs.Giving.{joined, alone, ledger_joined, GivesPort, GivesMark, free_names, NoneLeft, NeedsOwn, MarkLacks, LackNames}
+use Rattle.copyout.specs.Giving.{joined, alone, ledger_joined, ports_given, GivesPort, GivesMark, free_names, NoneLeft, NeedsOwn, MarkLacks, LackNames}
 use Rattle.copyout.proofs.Given.{port_given, option_named, same_there}
 use Rattle.copyout.proofs.GivenAll.{AreLying, mark_given, own_mark, later}
 use Rattle.copyout.proofs.Rights.{rights_of}
@@ -118,6 +118,7 @@ module _ (w : WorldView) (s : State) (a : Agrees w s) (task : ℕ) (space : Spac
   gives_joined kind p word not is =
       let x = port_entry (map.get space.names word) p (option_named (map.get space.names word) p (sym (lookup_is word) ∙ is)) in (
         record (with_space w task (record space { names = map.insert space.names word (joined kind x.entry); room = space.room })) {
+          ports = ports_given kind task p w.ports;
           ledger = ledger_joined kind p x.entry w.ledger;
         },
         record {
@@ -133,7 +134,7 @@ module _ (w : WorldView) (s : State) (a : Agrees w s) (task : ℕ) (space : Spac
 
   gives_alone : (kind : Kind) (p word : ℕ) (x : Target) (named : State) → (kind ≢ send_once → (n : ℕ) → lookup s task n ≢ Some (Target.port p)) → Named task word x s named → Gives kind p word
   gives_alone kind p word x named none n = (
-    with_space w task (record space { names = map.insert space.names word (alone kind p); room = space.room - 1 }),
+    record (with_space w task (record space { names = map.insert space.names word (alone kind p); room = space.room - 1 })) { ports = ports_given kind task p w.ports },
     record {
       space = space;
       there = there;

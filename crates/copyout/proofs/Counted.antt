@@ -15,7 +15,7 @@ use Rattle.copyin_base.specs.Worlds.{WorldView, space_at, with_space}
 use Rattle.copyin_base.specs.Kept.{Kept}
 use Rattle.port.specs.Ports.{PortsView}
 use Rattle.copyin_base.proofs.Gets.{same_found}
-use Rattle.copyout.specs.Giving.{joined, alone, JoinsName, TakesName, ledger_joined, GivesPort, GivesMark, GivesAll, MarkLacks, Lack}
+use Rattle.copyout.specs.Giving.{joined, alone, JoinsName, TakesName, ledger_joined, ports_given, GivesPort, GivesMark, GivesAll, MarkLacks, Lack}
 use Rattle.copyout.specs.Room.{IsNamed, HasNone, Owns, Shares, Needs}
 use Rattle.copyout.proofs.Counting.{has_fresh, named_there, names_own, IsLeft, Follows, follows_same, follows_taken, follows_joined}
 
@@ -67,7 +67,9 @@ module _ (left : SpaceView → ℕ) (is_left : IsLeft left) (ports0 : PortsView 
   give_own o few =
       let fresh = has_fresh f.space.names in
       let live : is_some (map.get w.ports.ports o.port) ≡ true = f.live o.port ∙ o.there in
-      let mid : WorldView = with_space w task (record f.space { names = map.insert f.space.names fresh.0 (alone (kind_sent c.given) o.port); room = f.space.room - 1 }) in (
+      let mid : WorldView = record (with_space w task (record f.space { names = map.insert f.space.names fresh.0 (alone (kind_sent c.given) o.port); room = f.space.room - 1 })) {
+        ports = ports_given (kind_sent c.given) task o.port w.ports;
+      } in (
         fresh.0,
         mid,
         there_gives w mid task (kind_sent c.given) c.mark o.port fresh.0 o.for_port live (record {
@@ -129,6 +131,7 @@ module _ (left : SpaceView → ℕ) (is_left : IsLeft left) (ports0 : PortsView 
         let named : IsNamed f.space.names has.0 = f.named has.0 has.2 has.4 in
         let entry = named_there (map.get f.space.names named.0) has.0 named.1 in
         let mid : WorldView = record (with_space w task (record f.space { names = map.insert f.space.names named.0 (joined (kind_sent c.given) entry.0); room = f.space.room })) {
+          ports = ports_given (kind_sent c.given) task has.0 w.ports;
           ledger = ledger_joined (kind_sent c.given) has.0 entry.0 w.ledger;
         } in (
           named.0,

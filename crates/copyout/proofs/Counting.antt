@@ -24,6 +24,7 @@ use Rattle.copyin_base.proofs.Spaces.{space-set_same}
 use Rattle.copyout.specs.Giving.{free_names, free_room, joined, alone, JoinsName, TakesName, GivesPort}
 use Rattle.copyout.specs.Room.{names_port, named_by, IsThere, IsNamed, HasNone}
 use Rattle.copyout.proofs.Gives.{joined_port, alone_port}
+use Rattle.copyout.proofs.PortsGiven.{given_live}
 
 -- ---- a fresh name is there
 
@@ -148,7 +149,7 @@ module _ (left : SpaceView → ℕ) (is_left : IsLeft left) (ports0 : PortsView 
     there_after = ap (λ (x : WorldView). space_at x task) g.rest ∙ space-set_same w.spaces task (record g.space { names = g.after; room = g.room }) g.space g.there
 
     live_after : (p : ℕ) → is_some (map.get mid.ports.ports p) ≡ is_some (map.get ports0.ports p)
-    live_after p = ap (λ (x : WorldView). is_some (map.get x.ports.ports p)) g.rest ∙ f.live p
+    live_after p = ap (λ (x : WorldView). is_some (map.get x.ports.ports p)) g.rest ∙ given_live task port w.ports (kind_sent c.given) p ∙ f.live p
 
     -- under a name of its own
     pub follows_taken : (t : TakesName f.space.names (kind_sent c.given) port word g.after) → g.room ≡ f.space.room - 1 → Follows left ports0 names0 task (earlier ++ c ∷ []) mid (n + 1) (l - 1)

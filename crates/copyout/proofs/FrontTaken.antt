@@ -18,10 +18,11 @@ use Rattle.rights.specs.declared.RightKind.TheVariants as right
 use Rattle.rights.specs.Ledger.{taken}
 use Rattle.copyin_base.specs.Kept.{Kept, message_of}
 use Rattle.copyin_base.specs.Worlds.{WorldView}
-use Rattle.copyin_base.specs.Shows.{AllKept, came_by_once, onces_queued, ShowsPort, CountsAgree, Agrees}
+use Rattle.copyin_base.specs.Shows.{AllKept, came_by_once, onces_queued, ShowsPort, CountsAgree, Agrees, HoldersAgree}
 use Rattle.copyout.specs.Takes.{TakesFront}
 use Rattle.copyin_base.proofs.Agreeing.{live_put, ports_put}
 use Rattle.copyin_base.proofs.Counting.{right_taken, once_taken, queues_same}
+use Rattle.copyin_base.proofs.Holders.{KeepHolders, put_holders, holders_ports}
 use Rattle.copyin_base.proofs.Taking.{Without, take_lying}
 use Rattle.copyout.proofs.Fronts.{HasFront, behind_of, shown_front, shown_lives}
 
@@ -168,3 +169,8 @@ module _ (w : WorldView) (s : State) (a : Agrees w s) (l : IsLawful s) (p : ℕ)
   -- The tables agree with it.
   pub front_agrees : Agrees w' taken_state
   front_agrees = subst (λ (x : WorldView). Agrees x taken_state) (sym f.rest) after_agrees
+
+-- Each port still knows who holds its receive right.
+pub front_holders : (w : WorldView) (p : ℕ) (w' : WorldView) → TakesFront w p w' → HoldersAgree w → HoldersAgree w'
+front_holders w p w' f h = holders_ports w w' h (ap (λ (x : WorldView). x.spaces) f.rest)
+    (subst (λ (x : WorldView). KeepHolders w.ports.ports x.ports.ports) (sym f.rest) (put_holders w.ports.ports p f.v _ f.there refl))

@@ -27,7 +27,7 @@ use Rattle.rights.specs.Ledger.{LedgerView, taken}
 use Rattle.copyin_base.specs.Kept.{Kept}
 use Rattle.copyin_base.specs.Worlds.{WorldView, entry_in, entry_at, port_at}
 use Rattle.copyin_base.specs.Shows.{target_of, HasCount, onces_queued, ShowsPort, CountsAgree, Agrees}
-use Rattle.copyout.specs.Giving.{joined, alone, JoinsName, TakesName, ledger_joined, GivesPort}
+use Rattle.copyout.specs.Giving.{joined, alone, JoinsName, TakesName, ledger_joined, ports_given, GivesPort}
 use Rattle.copyout.specs.Putting.{NewName, PutsPort}
 use Rattle.copyin_base.proofs.Agreeing.{NamesAgree, CountRights, own_names, put_names, Near, near_agrees}
 use Rattle.copyin_base.proofs.Counting.{right_of, right_taken, counts_same}
@@ -35,6 +35,7 @@ use Rattle.copyin_base.proofs.Gets.{of_some, same_found}
 use Rattle.copyin_base.proofs.Putting.{each_put, put_same}
 use Rattle.copyin_base.proofs.Told.{port_of}
 use Rattle.copyout.proofs.Gives.{joined_keeps, alone_port}
+use Rattle.copyout.proofs.PortsGiven.{given_made, given_live, given_shows}
 use Rattle.copyin_base.proofs.Changing.{target_named}
 use Rattle.copyin_base.proofs.Taking.{Without, take_lying}
 use Rattle.copyout.proofs.Takings.{goes_comes}
@@ -218,7 +219,7 @@ gives_puts w task kind p word w' g = record {
 }
 
 module _ (w : WorldView) (s : State) (a : Agrees w s) (o k : ℕ) (l : IsMoving s o k) (task : ℕ) (kind : Kind) (p word : ℕ) (w' : WorldView) (some : 0 < lying s kind p (in_message o k)) where
-  lives : s.live_port p ≡ true
+  pub lives : s.live_port p ≡ true
   lives = go (s.live_port p) refl
     where
       go : (b : Bool) → s.live_port p ≡ b → s.live_port p ≡ true
@@ -254,17 +255,17 @@ module _ (w : WorldView) (s : State) (a : Agrees w s) (o k : ℕ) (l : IsMoving 
     lookup_is : (name : ℕ) → lookup s task name ≡ option_map target_of (map.get g.space.names name)
     lookup_is name = a.naming task name ∙ ap (option_map target_of) (entry_is name)
 
-    ports_are : w'.ports ≡ w.ports
+    ports_are : w'.ports ≡ ports_given kind task p w.ports
     ports_are = ap (λ (x : WorldView). x.ports) g.rest
 
     live_kept : (q : ℕ) → is_some (port_at w' q) ≡ is_some (port_at w q)
-    live_kept q = ap (λ (x : PortsView Kept). is_some (map.get x.ports q)) ports_are
+    live_kept q = ap (λ (x : PortsView Kept). is_some (map.get x.ports q)) ports_are ∙ given_live task p w.ports kind q
 
     made_kept : w'.ports.made ≡ w.ports.made
-    made_kept = ap (λ (x : PortsView Kept). x.made) ports_are
+    made_kept = ap (λ (x : PortsView Kept). x.made) ports_are ∙ given_made task p w.ports kind
 
     port_kept : (q : ℕ) (v : PortView Kept) → port_at w' q ≡ Some v → ShowsPort v s q
-    port_kept q v is = a.ports q v (sym (ap (λ (y : PortsView Kept). map.get y.ports q) ports_are) ∙ is)
+    port_kept q v is = given_shows w s a task p kind q v (sym (ap (λ (y : PortsView Kept). map.get y.ports q) ports_are) ∙ is)
 
     was_few : held s task send p ≤ most_references
     was_few = (l.naming task).few_references p

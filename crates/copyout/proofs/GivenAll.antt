@@ -18,9 +18,10 @@ use Rattle.copyin_base.specs.declared.message.Mark.{Mark}
 use Rattle.copyin_base.specs.declared.message.Mark.TheVariants as mark
 use Rattle.copyin_base.specs.Kept.{mark_of}
 use Rattle.copyin_base.specs.Worlds.{WorldView, port_at}
-use Rattle.copyin_base.specs.Shows.{Agrees}
+use Rattle.copyin_base.specs.Shows.{Agrees, HoldersAgree}
 use Rattle.copyout.specs.Giving.{GivesPort, GivesMark, GivesAll}
 use Rattle.copyout.proofs.Given.{port_given}
+use Rattle.copyout.proofs.GivenHolders.{port_given_holders}
 use Rattle.copyout.proofs.Rights.{right_of, rights_of, seconds}
 
 -- As many rights for live ports lie at the entry, or more.
@@ -74,6 +75,20 @@ module _ (w : WorldView) (s : State) (a : Agrees w s) (o k : ℕ) (l : IsMoving 
   mark_given mark.Null some g = nothing_given _ g.1 (g.0, refl)
   mark_given mark.Dead some g = nothing_given _ g.1 (g.0, refl)
 
+  -- Each port still knows who holds its receive right.
+  module _ (h : HoldersAgree w) where
+    port_holders : (p : ℕ) (b : Bool) → is_some (port_at w p) ≡ b → (s.live_port p ≡ true → 0 < lying s kind p (in_message o k)) →
+        MatchBool b (GivesPort w task kind p word w') ((word ≡ dead_word) × (w' ≡ w)) → HoldersAgree w'
+    port_holders p true e some g = port_given_holders w s a h o k l task kind p word w' (some (sym (a.live_port p) ∙ e)) g
+    port_holders p false e some g = subst HoldersAgree (sym g.1) h
+
+    pub mark_holders : (m : Mark) → ((q : ℕ) → s.live_port q ≡ true → mark_count kind q kind (mark_of m) ≤ lying s kind q (in_message o k)) →
+        GivesMark w task kind m word w' → HoldersAgree w'
+    mark_holders (mark.Port p) some g =
+        port_holders p (is_some (port_at w p)) refl (λ live. let n = some p live in let own = own_mark kind p in omega (arith, n, own)) g
+    mark_holders mark.Null some g = subst HoldersAgree (sym g.1) h
+    mark_holders mark.Dead some g = subst HoldersAgree (sym g.1) h
+
 -- ---- each
 
 -- what is so once one was given
@@ -93,14 +108,18 @@ pub record AllGiven (task o k : ℕ) (cs : List Carried) (s : State) (ws : List 
   pub t : State
   pub gives : Through (GiveWord task (in_message o k)) s ws (rights_of cs) t
   pub agrees : Agrees w' t
+  pub holders : HoldersAgree w'
 
-pub all_given : (cs : List Carried) (ws : List (ℕ × ℕ)) (w : WorldView) (s : State) → Agrees w s → (o k : ℕ) → IsMoving s o k → (task : ℕ) → s.live_task task ≡ true → AreLying s o k cs →
+pub all_given : (cs : List Carried) (ws : List (ℕ × ℕ)) (w : WorldView) (s : State) → Agrees w s → HoldersAgree w → (o k : ℕ) → IsMoving s o k → (task : ℕ) → s.live_task task ≡ true → AreLying s o k cs →
     (w' : WorldView) → GivesAll w task cs (seconds ws) w' → AllGiven task o k cs s ws w'
-all_given [] [] w s a o k l task is_task lie w' g = record { t = s; gives = refl; agrees = subst (λ (x : WorldView). Agrees x s) (sym g) a }
-all_given (c ∷ cs) (n ∷ ns) w s a o k l task is_task lie w' g =
-    let one = mark_given w s a o k l task (kind_sent c.given) n.1 g.0 c.mark (λ q live. let m = lie (kind_sent c.given) q live in omega (arith, m)) g.1 in
+all_given [] [] w s a h o k l task is_task lie w' g = record { t = s; gives = refl; agrees = subst (λ (x : WorldView). Agrees x s) (sym g) a; holders = subst HoldersAgree (sym g) h }
+all_given (c ∷ cs) (n ∷ ns) w s a h o k l task is_task lie w' g =
+    let some : (q : ℕ) → s.live_port q ≡ true → mark_count (kind_sent c.given) q (kind_sent c.given) (mark_of c.mark) ≤ lying s (kind_sent c.given) q (in_message o k) =
+    λ q live. let m = lie (kind_sent c.given) q live in omega (arith, m) in
+    let one = mark_given w s a o k l task (kind_sent c.given) n.1 g.0 c.mark some g.1 in
+    let held = mark_holders w s a o k l task (kind_sent c.given) n.1 g.0 h c.mark some g.1 in
     let next = later task o k c cs s n.1 one.t l is_task lie one.gives in
-    let rest = all_given cs ns g.0 one.t one.agrees o k next.0 task next.1 next.2 w' g.2 in
-    record { t = rest.t; gives = (one.t, one.gives, rest.gives); agrees = rest.agrees }
-all_given [] (n ∷ ns) w s a o k l task is_task lie w' g = absurd g
-all_given (c ∷ cs) [] w s a o k l task is_task lie w' g = absurd g
+    let rest = all_given cs ns g.0 one.t one.agrees held o k next.0 task next.1 next.2 w' g.2 in
+    record { t = rest.t; gives = (one.t, one.gives, rest.gives); agrees = rest.agrees; holders = rest.holders }
+all_given [] (n ∷ ns) w s a h o k l task is_task lie w' g = absurd g
+all_given (c ∷ cs) [] w s a h o k l task is_task lie w' g = absurd g

@@ -13,7 +13,7 @@ use Rattle.copyin_base.specs.Worlds.{WorldView, entry_in, entry_at, space_at, wi
 use Rattle.copyin_base.specs.Shows.{target_of, HasCount}
 use Rattle.copyin_base.specs.Changes.{CanPutLeft, PutsLeft, InsertsEntry}
 use Rattle.copyin_base.proofs.Gets.{same_found}
-use Rattle.copyout.specs.Giving.{joined, alone, ledger_joined, AddsSend, GivesPort}
+use Rattle.copyout.specs.Giving.{joined, alone, ledger_joined, ports_given, AddsSend, GivesPort}
 
 pub found_in : (w : WorldView) (task name : ℕ) (space : SpaceView) (entry : Entry) → space_at w task ≡ Some space → entry_at w task name ≡ Some entry →
     map.get space.names name ≡ Some entry
@@ -65,16 +65,16 @@ no_other names kind port x is lone p name named here =
 -- under the task's name for the port
 module _ (w w1 w2 : WorldView) (task : ℕ) (kind : Kind) (port name : ℕ) (entry left : Entry) (space : SpaceView)
     (there : space_at w task ≡ Some space) (is : left ≡ joined kind entry)
-    (dropped : w1 ≡ record w { ledger = ledger_joined kind port entry w.ledger })
+    (dropped : w1 ≡ record w { ports = ports_given kind task port w.ports; ledger = ledger_joined kind port entry w.ledger })
     (puts : PutsLeft w1 task name (Some left) w2) where
   replaced : w2 ≡ with_space w1 task (record space { names = map.insert space.names name left })
   replaced = subst (λ (x : SpaceView). w2 ≡ with_space w1 task (record x { names = map.insert x.names name left }))
       (same_found (space_at w1 task) puts.space space puts.there (ap (λ (x : WorldView). space_at x task) dropped ∙ there)) puts.rest
 
-  pub rest-joined : w2 ≡ record (with_space w task (record space { names = map.insert space.names name (joined kind entry) })) { ledger = ledger_joined kind port entry w.ledger }
+  pub rest-joined : w2 ≡ record (with_space w task (record space { names = map.insert space.names name (joined kind entry) })) { ports = ports_given kind task port w.ports; ledger = ledger_joined kind port entry w.ledger }
   rest-joined =
       let g : Entry → WorldView → WorldView = λ e x. with_space x task (record space { names = map.insert space.names name e }) in
-      replaced ∙ ap (g left) dropped ∙ ap (λ (e : Entry). g e (record w { ledger = ledger_joined kind port entry w.ledger })) is
+      replaced ∙ ap (g left) dropped ∙ ap (λ (e : Entry). g e (record w { ports = ports_given kind task port w.ports; ledger = ledger_joined kind port entry w.ledger })) is
 
   pub gives-joined : kind ≢ send_once → map.get space.names name ≡ Some entry → port_named entry ≡ Some port → GivesPort w task kind port name w2
   gives-joined not_once found named = record {
@@ -120,16 +120,16 @@ gives-added w w1 w2 task kind port name entry sent adds dropped = record {
     refl,
     refl,
   );
-  rest = dropped ∙ ap (λ (x : WorldView). record x { ledger = ledger_joined kind port entry x.ledger }) adds.rest;
+  rest = dropped ∙ ap (λ (x : WorldView). record x { ledger = ledger_joined kind port entry x.ledger }) adds.rest
+      ∙ ap (λ (k : Kind). record (with_space w task (record adds.space { names = map.insert adds.space.names name (with_send entry) })) { ports = ports_given k task port w.ports; ledger = ledger_joined kind port entry w.ledger }) (sym sent);
 }
 
 -- under a fresh name
-module _ (w w1 : WorldView) (task : ℕ) (kind : Kind) (port name : ℕ) (x : Entry) (space : SpaceView)
-    (there : space_at w task ≡ Some space) (is : x ≡ alone kind port) (puts : InsertsEntry w task name x w1) where
-  pub rest-taken : w1 ≡ with_space w task (record space { names = map.insert space.names name (alone kind port); room = space.room - 1 })
-  rest-taken =
-      let f : Entry → SpaceView → WorldView = λ e y. with_space w task (record y { names = map.insert y.names name e; room = y.room - 1 }) in
-      puts.rest ∙ ap (f x) (same_found (space_at w task) puts.space space puts.there there) ∙ ap (λ (e : Entry). f e space) is
+module _ (w w1 : WorldView) (task : ℕ) (kind : Kind) (port name : ℕ) (space : SpaceView)
+    (there : space_at w task ≡ Some space) (puts : InsertsEntry (record w { ports = ports_given kind task port w.ports }) task name (alone kind port) w1) where
+  pub rest-taken : w1 ≡ record (with_space w task (record space { names = map.insert space.names name (alone kind port); room = space.room - 1 })) { ports = ports_given kind task port w.ports; ledger = w.ledger }
+  rest-taken = puts.rest ∙ ap (λ (y : SpaceView). with_space (record w { ports = ports_given kind task port w.ports }) task (record y { names = map.insert y.names name (alone kind port); room = y.room - 1 }))
+      (same_found (space_at w task) puts.space space puts.there there)
 
   pub gives-taken : IsFreshName space.names name → map.len space.names < most_names → (kind ≢ send_once → (n : ℕ) → port_at space.names n ≢ Some port) → GivesPort w task kind port name w1
   gives-taken fresh room lone = record {

@@ -1,6 +1,8 @@
 pub mod Takings
 pub mod Rights
+pub mod PortsGiven
 pub mod Given
+pub mod GivenHolders
 pub mod GivenAll
 pub mod Fronts
 pub mod FrontTaken

@@ -41,7 +41,7 @@ use Rattle.copyout.proofs.Delivered.{gives_length}
 use Rattle.copyout.proofs.Rights.{rights_of, seconds, message_kept, BodyReceived, body_received, reply_received, words_received}
 use Rattle.copyout.proofs.GivenWords.{each_keeps, IsWord, each_fits, body_words_count, rights_length, length-body}
 use Rattle.copyout.proofs.Fronts.{HasFront, shown_is_front}
-use Rattle.copyout.proofs.FrontTaken.{kind_by, front, port_lives, kind_of_front, taken_state, taken_moves, front_agrees}
+use Rattle.copyout.proofs.FrontTaken.{kind_by, front, port_lives, kind_of_front, taken_state, taken_moves, front_agrees, front_holders}
 
 -- ---- words of a reply
 
@@ -159,7 +159,7 @@ module _ (w : WorldView) (s : State) (sh : Shows w s) (task port local : ℕ) (b
   words_are = words_received kept.reply m.words (body_words (received_body written names)) long body_first.are
 
   all : AllGiven task port (s.taken port) carried t0 ws w'
-  all = all_given carried ws m.mid t0 (front_agrees w s a l port m.mid m.takes) port (s.taken port) on_way task is_task are_lying w'
+  all = all_given carried ws m.mid t0 (front_agrees w s a l port m.mid m.takes) (front_holders w port m.mid m.takes sh.holders) port (s.taken port) on_way task is_task are_lying w'
       (subst (λ (xs : List ℕ). GivesAll m.mid task carried xs w') (sym words_are) m.gives)
 
   -- ---- the bytes
@@ -246,7 +246,7 @@ module _ (w : WorldView) (s : State) (sh : Shows w s) (task port local : ℕ) (b
     pub message_received : Received s task port room bytes w'
     message_received =
         let still = Receives-still task port room bytes s all.t l sh.quiet lives is_task receives in
-        record { t = all.t; receives = receives; shows = record { agrees = all.agrees; lawful = still.lawful; quiet = still.quiet } }
+        record { t = all.t; receives = receives; shows = record { agrees = all.agrees; holders = all.holders; lawful = still.lawful; quiet = still.quiet } }
 
   -- The port may be taken from: the task has its receive right, and it is in no set.
   pub takes_from : has_receive x ≡ true → m.takes.v.attributes.set ≡ None → TakesFrom s task (Waited.Port port) port

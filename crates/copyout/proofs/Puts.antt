@@ -10,7 +10,7 @@ use Rattle.name_space.specs.Entry.{port_named}
 use Rattle.name_space.specs.Names.{Names, SpaceView, port_at}
 use Rattle.copyin_base.specs.Worlds.{WorldView, entry_in, entry_at, space_at}
 use Rattle.copyin_base.specs.Changes.{CanInsert, InsertsEntry}
-use Rattle.copyout.specs.Giving.{alone}
+use Rattle.copyout.specs.Giving.{alone, ports_given}
 use Rattle.copyout.specs.Ready.{CanJoin}
 use Rattle.copyout.specs.Putting.{PutsPort, CanPut}
 use Rattle.copyout.proofs.Gives.{no_other, rest-taken}
@@ -40,14 +40,14 @@ is_free w task kind port word r unused = elim r.may [
     used None e f = let e' : None ≡ Some port = e in cc
     used (Some x) e f = cc
 
-pub can_insert : (w : WorldView) (task : ℕ) (kind : Kind) (port word : ℕ) (x : Entry) → (r : CanPut w task kind port word) → is_some (entry_at w task word) ≡ false → x ≡ alone kind port → CanInsert w task word x
-can_insert w task kind port word x r unused is =
+pub can_insert : (w : WorldView) (task : ℕ) (kind : Kind) (port word : ℕ) → (r : CanPut w task kind port word) → is_some (entry_at w task word) ≡ false → CanInsert w task word (alone kind port)
+can_insert w task kind port word r unused =
     let free = is_free w task kind port word r unused in
-    record { space = r.space; there = r.there; usable = r.usable; unused = free.unused; few = free.room; place = r.place free.unused; apart = no_other r.space.names kind port x is free.lone }
+    record { space = r.space; there = r.there; usable = r.usable; unused = free.unused; few = free.room; place = r.place free.unused; apart = no_other r.space.names kind port (alone kind port) refl free.lone }
 
-pub puts-new : (w w1 : WorldView) (task : ℕ) (kind : Kind) (port word : ℕ) (x : Entry) → (r : CanPut w task kind port word) → is_some (entry_at w task word) ≡ false → x ≡ alone kind port →
-    InsertsEntry w task word x w1 → PutsPort w task kind port word w1
-puts-new w w1 task kind port word x r unused is puts =
+pub puts-new : (w w1 : WorldView) (task : ℕ) (kind : Kind) (port word : ℕ) → (r : CanPut w task kind port word) → is_some (entry_at w task word) ≡ false →
+    InsertsEntry (record w { ports = ports_given kind task port w.ports }) task word (alone kind port) w1 → PutsPort w task kind port word w1
+puts-new w w1 task kind port word r unused puts =
     let free = is_free w task kind port word r unused in
     record {
       space = r.space;
@@ -56,5 +56,5 @@ puts-new w w1 task kind port word x r unused is puts =
       room = r.space.room - 1;
       ledger = w.ledger;
       given = inr (record { unused = free.unused; lone = free.lone; rest = refl }, refl, refl);
-      rest = rest-taken w w1 task kind port word x r.space r.there is puts;
+      rest = rest-taken w w1 task kind port word r.space r.there puts;
     }

@@ -31,6 +31,7 @@ use Rattle.copyout.specs.Wanted.{WantsToReceive, ReturnsSlot}
 use Rattle.copyout.proofs.After.{entered-put, sends-taken}
 use Rattle.copyout.proofs.Counted.{too_few, enough, left_then, starts}
 use Rattle.copyout.proofs.Counting.{names_are_free, room_is_free}
+use Rattle.copyout.proofs.PortsGiven.{given_spare}
 
 abbrev pub waits_kept : (w : WorldView) (xs : List (Option SpaceView)) (port : ℕ) → Waits w port → Waits (record w { spaces = xs }) port
 waits_kept w xs port x = record {
@@ -132,7 +133,7 @@ beside_same task w new e = record { others = λ n not. ap (λ (x : WorldView). s
 beside_port : (b : Bool) (task : ℕ) (w new : WorldView) (kind : Kind) (port word dead : ℕ) → MatchBool b (GivesPort w task kind port word new) ((word ≡ dead) × (new ≡ w)) → Beside task w new
 beside_port true task w new kind port word dead g = record {
   others = λ n not. ap (λ (x : WorldView). space_at x n) g.rest ∙ space-set_other w.spaces task (record g.space { names = g.after; room = g.room }) n not;
-  spare = ap (λ (x : WorldView). x.ports.spare) g.rest;
+  spare = ap (λ (x : WorldView). x.ports.spare) g.rest ∙ given_spare task port w.ports kind;
 }
 beside_port false task w new kind port word dead h = beside_same task w new h.1
 

@@ -1,5 +1,5 @@
 -- What giving one right keeps of the room for names, and of the spare slots.
-use Rattle.std.proofs.Common.{◌≡◌, ℕ, ◌≤◌, true, false, Bool, ap, arith, inl, inr}
+use Rattle.std.proofs.Common.{◌≡◌, ◌∙◌, ℕ, ◌≤◌, true, false, Bool, ap, arith, inl, inr}
 use Rattle.std.specs.Prelude.{is_some, max, MatchBool}
 use Rattle.std.specs.FinMap as map
 use Rattle.mach_types.specs.Tokens.{Kind}
@@ -11,9 +11,11 @@ use Rattle.copyin_base.proofs.Spares.{keeps_same, keeps_space}
 use Rattle.copyout.specs.Giving.{GivesPort, GivesMark}
 use Rattle.copyout.specs.Putting.{PutsPort}
 use Rattle.copyout.proofs.Given.{gives_puts}
+use Rattle.copyout.proofs.PortsGiven.{given_spare}
 
 pub put_keeps : (w new : WorldView) (task : ℕ) (kind : Kind) (port word : ℕ) → PutsPort w task kind port word new → KeepsSpares w new
-put_keeps w new task kind port word g = keeps_space w new task g.space (record g.space { names = g.after; room = g.room }) g.there (ap (λ (x : WorldView). x.spaces) g.rest) few (ap (λ (x : WorldView). x.ports.spare) g.rest)
+put_keeps w new task kind port word g = keeps_space w new task g.space (record g.space { names = g.after; room = g.room }) g.there (ap (λ (x : WorldView). x.spaces) g.rest) few
+    (ap (λ (x : WorldView). x.ports.spare) g.rest ∙ given_spare task port w.ports kind)
   where
     few : g.room ≤ max g.space.room 1
     few = elim g.given [

@@ -1,5 +1,5 @@
 -- What copying out gives a task: a name for each right of a message, in the tables.
-use Rattle.std.specs.Prelude.{◌≡◌, ◌≢◌, ℕ, ◌+◌, ◌-◌, ◌<◌, ◌⊎◌, true, List, Some, is_some, if◌then◌else◌, ◌==◌, min, MatchBool}
+use Rattle.std.specs.Prelude.{◌≡◌, ◌≢◌, ℕ, ◌+◌, ◌-◌, ◌<◌, ◌⊎◌, true, List, Option, Some, None, is_some, if◌then◌else◌, ◌==◌, min, MatchBool}
 use Rattle.std.specs.FinMap as map
 use Rattle.mach_types.specs.Numbers.{kind_sent, null_word, dead_word, most_names, most_references}
 use Rattle.mach_types.specs.Tokens.{Kind, receive, send, send_once}
@@ -8,11 +8,14 @@ use Rattle.name_space.specs.declared.Entry.{Entry}
 use Rattle.name_space.specs.declared.Entry.TheVariants as entry
 use Rattle.name_space.specs.Entry.{port_named, send_references, with_send}
 use Rattle.name_space.specs.Names.{Names, SpaceView, IsFreshName, port_at}
+use Rattle.port.specs.declared.Holder.TheVariants as Holder
+use Rattle.port.specs.Ports.{PortView, PortsView, with_port}
 use Rattle.rights.specs.Ledger.{LedgerView, taken}
 use Rattle.rights.specs.declared.RightKind.TheVariants as right
 use Rattle.copyin_base.specs.declared.message.Carried.{Carried}
 use Rattle.copyin_base.specs.declared.message.Mark.{Mark}
 use Rattle.copyin_base.specs.declared.message.Mark.TheVariants as mark
+use Rattle.copyin_base.specs.Kept.{Kept}
 use Rattle.copyin_base.specs.Worlds.{WorldView, space_at, with_space}
 
 -- the entry of the port's name with one right more
@@ -49,6 +52,16 @@ abbrev pub ledger_joined : Kind → (port : ℕ) → Entry → LedgerView → Le
 ledger_joined send p x ledger = if send_references x == most_references then taken ledger p right.Send 1 else ledger
 ledger_joined kind p x ledger = ledger
 
+-- the ports where this one, if it is there, knows that the task has its receive right
+abbrev pub port_held : (task port : ℕ) → PortsView Kept → Option (PortView Kept) → PortsView Kept
+port_held task p ports (Some v) = with_port ports p (record v { attributes = record v.attributes { holder = Holder.Task task } })
+port_held task p ports None = ports
+
+-- the ports once the right came to the task: with a receive right its port knows the task
+abbrev pub ports_given : Kind → (task port : ℕ) → PortsView Kept → PortsView Kept
+ports_given receive task p ports = port_held task p ports (map.get ports.ports p)
+ports_given kind task p ports = ports
+
 -- The task's name for the port, under which this stood, has a send reference more.
 pub record AddsSend (old : WorldView) (task port name : ℕ) (entry : Entry) (new : WorldView) : Type 0 where
   pub space : SpaceView
@@ -66,7 +79,7 @@ pub record GivesPort (old : WorldView) (task : ℕ) (kind : Kind) (port word : �
   pub ledger : LedgerView
   pub given : ((j : JoinsName space.names kind port word after) × (ledger ≡ ledger_joined kind port j.entry old.ledger) × (room ≡ space.room))
       ⊎ (TakesName space.names kind port word after × (ledger ≡ old.ledger) × (room ≡ space.room - 1))
-  pub rest : new ≡ record (with_space old task (record space { names = after; room = room })) { ledger = ledger }
+  pub rest : new ≡ record (with_space old task (record space { names = after; room = room })) { ports = ports_given kind task port old.ports; ledger = ledger }
 
 -- A right whose port isn't there any more is dead.
 abbrev pub GivesMark : WorldView → (task : ℕ) → Kind → Mark → (word : ℕ) → WorldView → Type 0

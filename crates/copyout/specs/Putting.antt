@@ -7,7 +7,7 @@ use Rattle.name_space.specs.Names.{Names, SpaceView, IsUsable, HasPlace, port_at
 use Rattle.rights.specs.Ledger.{LedgerView, IsEntered, counts_of}
 use Rattle.copyin_base.specs.Worlds.{WorldView, space_at, with_space}
 use Rattle.copyin_base.specs.Worlds.{port_at as table_at}
-use Rattle.copyout.specs.Giving.{alone, JoinsName, ledger_joined}
+use Rattle.copyout.specs.Giving.{alone, JoinsName, ledger_joined, ports_given}
 
 -- A right comes under a name that isn't in use; a send or receive right where the task has no name for the port.
 pub record NewName (names : Names) (kind : Kind) (port word : ℕ) (after : Names) : Type 0 where
@@ -24,7 +24,7 @@ pub record PutsPort (old : WorldView) (task : ℕ) (kind : Kind) (port word : �
   pub ledger : LedgerView
   pub given : ((j : JoinsName space.names kind port word after) × (ledger ≡ ledger_joined kind port j.entry old.ledger) × (room ≡ space.room))
       ⊎ (NewName space.names kind port word after × (ledger ≡ old.ledger) × (room ≡ space.room - 1))
-  pub rest : new ≡ record (with_space old task (record space { names = after; room = room })) { ledger = ledger }
+  pub rest : new ≡ record (with_space old task (record space { names = after; room = room })) { ports = ports_given kind task port old.ports; ledger = ledger }
 
 -- The name is the task's for the port, or it isn't in use and the task has none for it.
 abbrev pub MayName : Names → Kind → (port word : ℕ) → Type 0

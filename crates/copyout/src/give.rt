@@ -11,9 +11,10 @@ ghost use Rattle.rights.specs.declared.RightKind.TheVariants as right;
 ghost use Rattle.rights.specs.Ledger.{IsEntered, counts_of, taken};
 ghost use Rattle.copyin_base.specs.declared.message.Carried.{Carried as AnyCarried};
 ghost use Rattle.copyin_base.specs.declared.message.Mark.TheVariants as mark;
+ghost use Rattle.copyin_base.specs.Changes.{CanInsert, InsertsEntry};
 ghost use Rattle.copyin_base.specs.Worlds.{HasTask, entry_at, space_at};
 ghost use Rattle.std.specs.Option.{option_to_list};
-ghost use Rattle.copyout.specs.Giving.{joined, alone, ledger_joined, AddsSend, GivesPort, GivesMark, GivesAll};
+ghost use Rattle.copyout.specs.Giving.{joined, alone, ledger_joined, ports_given, AddsSend, GivesPort, GivesMark, GivesAll};
 ghost use Rattle.copyout.specs.Room.{HasNone};
 ghost use Rattle.copyout.specs.Ready.{CanGivePort, CanJoin, CanTakeName, CanGive};
 
@@ -22,12 +23,13 @@ use copyin_base::{Carried, Mark, World};
 use mach_types::limits::MOST_REFERENCES;
 use mach_types::{Disposition, Name, PortId, Right, TaskId};
 use name_space::{Entry, PortName};
+use port::Holder;
 use rights::RightKind;
 use smallvec::SmallVec;
 use user_refs::UserRefs;
 
 // What stands under a name of the right's own.
-pub(crate) fn alone(given: Disposition, port: PortId) -> Entry
+fn alone(given: Disposition, port: PortId) -> Entry
     ensures { result ≡ alone (kind_sent given) port }
 {
     match given.kind() {
@@ -56,6 +58,24 @@ fn joined(given: Disposition, entry: &Entry) -> Entry
         Right::Receive => with_receive(entry),
         Right::Send => entry.with_send(),
         _ => *entry,
+    }
+}
+
+// Whether it is a receive right.
+#[inline]
+fn is_receive(given: Disposition) -> bool
+    ensures { MatchBool result (kind_sent given ≡ receive) (kind_sent given ≢ receive) }
+{
+    matches!(given.kind(), Right::Receive)
+}
+
+// Of a receive right the port knows the task that holds it.
+fn hold(world: &mut World, task: TaskId, given: Disposition, port: PortId)
+    requires { is_some (map.get world.old.ports.ports port) ≡ true }
+    ensures { world.new ≡ record world.old { ports = ports_given (kind_sent given) task port world.old.ports } }
+{
+    if is_receive(given) {
+        world.set_holder(port, Holder::Task(task));
     }
 }
 
@@ -107,8 +127,25 @@ pub(crate) fn join(
     requires found { entry_at world.old task named.now.name ≡ Some named.now.entry }
     ensures { GivesPort world.old task (kind_sent given) port named.now.name world.new }
 {
+    hold(world, task, given, port);
     drop_pegged(world, given, port, &named.entry);
     world.put_left(task, named.name, Some(joined(given, &named.entry)));
+}
+
+// The right comes under this name, which isn't in use.
+pub(crate) fn put_alone(
+    world: &mut World,
+    task: TaskId,
+    given: Disposition,
+    port: PortId,
+    name: Name,
+)
+    requires live { is_some (map.get world.old.ports.ports port) ≡ true }
+    requires can { CanInsert world.old task name (alone (kind_sent given) port) }
+    ensures { InsertsEntry (record world.old { ports = ports_given (kind_sent given) task port world.old.ports }) task name (alone (kind_sent given) port) world.new }
+{
+    hold(world, task, given, port);
+    world.insert_entry(task, name, alone(given, port));
 }
 
 // The right comes under a fresh name.
@@ -117,7 +154,7 @@ fn take_name(world: &mut World, task: TaskId, given: Disposition, port: PortId) 
     ensures { GivesPort world.old task (kind_sent given) port result world.new }
 {
     let name = world.space(task).fresh();
-    world.insert_entry(task, name, alone(given, port));
+    put_alone(world, task, given, port, name);
     name
 }
 
@@ -192,7 +229,7 @@ fn give_port(world: &mut World, task: TaskId, given: Disposition, port: PortId) 
 /// Gives the task one right of a message, and answers the name under which the task has it
 /// (IPC Interface, `mach_msg`): a send or receive right under the task's name for the port, or else
 /// under a fresh one; a send-once right always under a fresh one. A send right that comes to 65,535
-/// references is dropped.
+/// references is dropped, and the port of a receive right knows that the task holds it.
 ///
 /// [`Name::null`] where there is no right, and [`Name::dead`] where its port is gone: nothing
 /// changes then. Room is used for a fresh name alone. Takes no memory. Constant time, and

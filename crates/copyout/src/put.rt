@@ -2,13 +2,14 @@
 ghost use Rattle.mach_types.specs.Numbers.{kind_sent};
 ghost use Rattle.copyout.specs.Putting.{CanPut, PutsPort};
 
-use crate::give::{alone, join};
+use crate::give::{join, put_alone};
 use copyin_base::World;
 use mach_types::{Disposition, Name, PortId, TaskId};
 use name_space::PortName;
 
 /// Gives the task a right for a port that is there, under this name: the task's name for the port, or
-/// one that isn't in use (Port Manipulation Interface, `mach_port_insert_right`).
+/// one that isn't in use (Port Manipulation Interface, `mach_port_insert_right`). The port of a receive
+/// right knows that the task holds it.
 ///
 /// A name that isn't in use has a place that was made: it is the fresh one where there is room for
 /// one, or the one for which a place is kept. Takes no memory. Constant time, and logarithmic for a
@@ -19,6 +20,6 @@ pub fn put_right(world: &mut World, task: TaskId, given: Disposition, port: Port
 {
     match world.lookup(task, name) {
         Some(entry) => join(world, task, given, port, &PortName { name, entry }),
-        None => world.insert_entry(task, name, alone(given, port)),
+        None => put_alone(world, task, given, port, name),
     }
 }

@@ -19,7 +19,7 @@ use Rattle.name_space.specs.declared.Entry.{Entry}
 use Rattle.name_space.specs.Names.{Names, SpaceView}
 use Rattle.copyin_base.specs.declared.message.Carried.{Carried}
 use Rattle.copyin_base.specs.declared.message.Mark.TheVariants as mark
-use Rattle.copyin_base.specs.Shows.{Agrees, Shows}
+use Rattle.copyin_base.specs.Shows.{Agrees, HoldersAgree, Shows}
 use Rattle.copyin_base.specs.Worlds.{WorldView, entry_in, entry_at, put, space_at, space_in}
 use Rattle.copyin_base.proofs.Gets.{same_found}
 use Rattle.copyin_base.proofs.Putting.{put_own, put_other, len_put, len_removed}
@@ -27,6 +27,7 @@ use Rattle.copyin.specs.declared.copies.Copied.{Copied}
 use Rattle.copyin.specs.Copies.{copied_from, CopiesRight}
 use Rattle.copyin.specs.Planned.{CanCopy}
 use Rattle.copyin.proofs.CopiedIn.{after}
+use Rattle.copyin.proofs.HoldersKept.{copied_holders}
 use Rattle.copyin.proofs.Stepping.{Went, went}
 use Rattle.kernel_core.specs.declared.transfer.Going.{Going}
 use Rattle.kernel_core.specs.Transfer.{CanGo, left_at, names_in, fewer_if, names_left, rights_then}
@@ -54,10 +55,11 @@ not_fewer : (o : Option Entry) (n : ℕ) → fewer_if false o n ≡ n
 not_fewer (Some e) n = refl
 not_fewer None n = refl
 
--- The tables after copying in, and a state of the machine with which they agree; a task's names then.
+-- The tables after copying in, and a state of the machine with which they agree; each port knows its holder still; a task's names then.
 pub record Left (w : WorldView) (s : State) (task number : ℕ) (g : Going) (mid : WorldView) : Type 0 where
   pub t : State
   pub agrees : Agrees mid t
+  pub holders : HoldersAgree mid
   pub copies : Copies s t 0 (length (s.log 0)) (kind_sent g.given) (to_port g.port)
   pub copy : CopyRight g.from (in_message 0 (length (s.log 0))) number g.name s (to_port g.port) t
   pub given_is : copy.given ≡ g.given
@@ -176,6 +178,7 @@ module _ (w : WorldView) (s : State) (sh : Shows w s) (task number : ℕ) (g : G
         record {
           t = it_went.t;
           agrees = subst (λ (x : WorldView). Agrees x it_went.t) same_mid it_went.along.agrees;
+          holders = copied_holders w mid from g.given name (mark.Port g.port) c sh.holders;
           copies = subst (λ (x : Disposition). Copies s it_went.t 0 k (kind_sent x) (to_port g.port)) given_is copies;
           copy = it_went.copy;
           given_is = given_is;

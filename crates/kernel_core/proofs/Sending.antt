@@ -1,5 +1,5 @@
 -- A send: refused in each state that the tables show, or done.
-use Rattle.std.proofs.Common.{◌≡◌, ℕ, ◌-◌, ◌<◌, List, refl, sym, ap, subst, ◌∙◌, ◌⊎◌, inl, inr, arith, length}
+use Rattle.std.proofs.Common.{◌≡◌, ℕ, ◌-◌, List, refl, sym, ap, subst, ◌∙◌, ◌⊎◌, inl, inr, arith}
 use Rattle.std.specs.Prelude.{max}
 use Rattle.mach_types.specs.declared.calls.Event.{Event}
 use Rattle.mach_types.specs.declared.calls.Reply.{Reply}
@@ -26,6 +26,7 @@ use Rattle.copyin.proofs.Texts.{good_header, none_first}
 use Rattle.copyin.proofs.RefusedWords.{cannot}
 use Rattle.copyin.proofs.Sent.{sent_state, sends, sent_agrees}
 use Rattle.copyin.proofs.Committing.{commits_rooms}
+use Rattle.copyin.proofs.HoldersKept.{commits_holders}
 use Rattle.kernel_core.specs.Send.{with_slots, with_slot, SendsText, UsesSlot}
 
 -- ---- spare slots are of no account to a plan
@@ -110,6 +111,7 @@ module _ (w : WorldView) (task : ℕ) (below : HasTask w task) (bytes : List ℕ
         owed = _;
         does = (refl, sends start s sh2 now task bytes d.parsed d.text j d.plans.slot d.plans.few, refl);
         agrees = sent_agrees start s sh2 now task bytes d.parsed d.text j new d.commits;
+        holders = commits_holders start task d.parsed d.text.written j bytes new d.commits sh2.holders;
       })
 
   pub uses_slot : (new : WorldView) → SendsText w task bytes new → UsesSlot w new

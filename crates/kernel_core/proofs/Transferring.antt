@@ -23,7 +23,7 @@ use Rattle.name_space.specs.Names.{Names, SpaceView, IsUsable}
 use Rattle.rights.specs.Ledger.{LedgerView}
 use Rattle.copyin_base.specs.Acts.{Acts, Declines, HasTasks, IsAllowed}
 use Rattle.copyin_base.specs.Changes.{MakesRoom, KeepsPlace, SameButRoom}
-use Rattle.copyin_base.specs.Shows.{target_of, Agrees, Shows}
+use Rattle.copyin_base.specs.Shows.{target_of, Agrees, HoldersAgree, Shows}
 use Rattle.copyin_base.specs.Stands.{Stands}
 use Rattle.copyin_base.specs.Worlds.{WorldView, space_at, HasTask}
 use Rattle.copyin_base.specs.declared.message.Mark.TheVariants as mark
@@ -38,6 +38,7 @@ use Rattle.copyout.specs.Giving.{alone, GivesPort, GivesMark}
 use Rattle.copyout.specs.Putting.{CanPut, PutsPort}
 use Rattle.copyout.specs.Ready.{CanGive}
 use Rattle.copyout.proofs.Given.{Put, port_put, Given, port_given}
+use Rattle.copyout.proofs.GivenHolders.{port_put_holders, port_given_holders}
 use Rattle.kernel_core.specs.declared.transfer.Going.{Going}
 use Rattle.kernel_core.specs.declared.transfer.Handed.{Handed}
 use Rattle.kernel_core.specs.declared.transfer.TaskName.{TaskName}
@@ -210,6 +211,9 @@ module _ (w : WorldView) (task number : ℕ) (g : Going) (goes : CanGo w number 
         pub insert_agrees : Agrees new inserted
         insert_agrees = subst (λ (xs : List Token). Agrees new (record put.named { ledger = xs ++ put.others })) (comes kind refl) put.agrees
 
+        pub insert_holders : HoldersAgree new
+        insert_holders = port_put_holders mid left.t left.agrees left.holders 0 k left.copies.keeps task kind g.port name new lie puts
+
         same_target : (c : Kind) → target_of (alone c g.port) ≡ target_for c g.port
         same_target receive = refl
         same_target send = refl
@@ -240,6 +244,9 @@ module _ (w : WorldView) (task number : ℕ) (g : Going) (goes : CanGo w number 
 
         pub given : Given left.t 0 k task kind g.port new_name new
         given = port_given mid left.t left.agrees 0 k left.copies.keeps task kind g.port new_name new lie gives_port
+
+        pub extract_holders : HoldersAgree new
+        extract_holders = port_given_holders mid left.t left.agrees left.holders 0 k left.copies.keeps task kind g.port new_name new lie gives_port
 
         others : Without (token kind g.port (in_message 0 k)) left.t.ledger
         others = take_lying 0 k kind g.port left.t.ledger lie
@@ -405,6 +412,7 @@ module _ (w : WorldView) (to from : TaskName) (number : ℕ) (handed : Handed) (
             owed = [];
             does = (refl, inserts w to.task number inserting may.goes ready Placed room s sh mid copies to.name may.unrefused new puts, refl);
             agrees = insert_agrees w to.task number inserting may.goes ready Placed room s sh mid copies to.name may.unrefused new puts;
+            holders = insert_holders w to.task number inserting may.goes ready Placed room s sh mid copies to.name may.unrefused new puts;
           })
 
 module _ (w : WorldView) (from : TaskName) (number to : ℕ) (handed : Handed) (may : MayExtract w from number to handed) where
@@ -449,4 +457,5 @@ module _ (w : WorldView) (from : TaskName) (number to : ℕ) (handed : Handed) (
             owed = [];
             does = (extracts w to number extracting may.goes ready Roomy roomed s sh mid copies may.unrefused new_name new gives, refl);
             agrees = (given w to number extracting may.goes ready Roomy roomed s sh mid copies may.unrefused new_name new gives).agrees;
+            holders = extract_holders w to number extracting may.goes ready Roomy roomed s sh mid copies may.unrefused new_name new gives;
           })

@@ -14,18 +14,21 @@ use Rattle.name_space.specs.declared.Entry.{Entry}
 use Rattle.name_space.specs.declared.Entry.TheVariants as entry
 use Rattle.name_space.specs.Entry.{port_named}
 use Rattle.name_space.specs.Names.{Names, SpaceView, IsFreshName, IsUsable, HasPlace, HasNoOther}
+use Rattle.port.specs.Ports.{PortsView}
 use Rattle.rights.specs.declared.RightKind.TheVariants as right
 use Rattle.rights.specs.Ledger.{entered, made}
 use Rattle.copyin_base.specs.Acts.{Acts, IsAllowed}
 use Rattle.copyin_base.specs.Changes.{MakesRoom, KeepsPlace, SameButRoom}
+use Rattle.copyin_base.specs.Kept.{Kept}
 use Rattle.copyin_base.specs.Worlds.{WorldView, entry_in, entry_at, space_at, HasTask}
-use Rattle.copyin_base.specs.Shows.{Agrees, target_of}
+use Rattle.copyin_base.specs.Shows.{Agrees, HoldersAgree, target_of}
 use Rattle.copyin_base.specs.Stands.{Stands}
 use Rattle.copyin_base.proofs.Acting.{done}
 use Rattle.copyin_base.proofs.Agreeing.{own_names}
 use Rattle.copyin_base.proofs.Gets.{same_found}
+use Rattle.copyin_base.proofs.Holders.{ReceivesAt, KeepHolders, same_holders, holders_added, holders_made}
 use Rattle.copyin_base.proofs.NamesChanged.{added_agrees}
-use Rattle.copyin_base.proofs.Roomier.{room_made, place_kept, room_entry, room_agrees, room_shows}
+use Rattle.copyin_base.proofs.Roomier.{room_made, place_kept, room_entry, room_agrees, room_holders, room_shows}
 use Rattle.kernel_core_base.specs.declared.names.NewRight.{NewRight}
 use Rattle.kernel_core_base.specs.declared.names.NewRight.TheVariants as new_right
 use Rattle.kernel_core_base.specs.Names.{first_port, right_made, entry_made, HasRoomFor, IsFullFor, HasRoomOf, IsFullOf, CanAdd, Adds}
@@ -148,7 +151,7 @@ makes new_right.DeadName s task name = inr (inr (refl, refl))
 abbrev with_number : WorldView → (task name : ℕ) → SpaceView → (room p : ℕ) → WorldView
 with_number w task name space room p = record w {
   spaces = slice_set w.spaces task (Some (record space { names = map.insert space.names name (entry.Receive p); room = room }));
-  ports = record w.ports { ports = map.insert w.ports.ports p first_port; made = w.ports.made + 1 };
+  ports = record w.ports { ports = map.insert w.ports.ports p (first_port task); made = w.ports.made + 1 };
   ledger = made (entered w.ledger p) p right.Receive 1;
 }
 
@@ -159,9 +162,16 @@ with_set_number w task name space room set = record w {
   sets = record { sets = map.insert w.sets.sets set (record { owner = task; name = name }); made = w.sets.made + 1 };
 }
 
+-- the names with this under one more
+abbrev with_entry : SpaceView → (name : ℕ) → Entry → SpaceView
+with_entry space name e = record space { names = map.insert space.names name e; room = space.room - 1 }
+
 module _ (w v : WorldView) (s : State) (a : Agrees w s) (l : IsLawful s) (task name : ℕ) (unused : entry_at w task name ≡ None) where
   free : (x : SpaceView) → space_at w task ≡ Some x → map.get x.names name ≡ None
   free x is = sym (ap (λ (o : Option SpaceView). entry_in o name) is) ∙ unused
+
+  same_ports : v.ports ≡ w.ports → KeepHolders w.ports.ports v.ports.ports
+  same_ports same = subst (λ (x : PortsView Kept). KeepHolders w.ports.ports x.ports) (sym same) (same_holders w.ports.ports)
 
   pub made_agrees : (r : NewRight) → Adds w task r name v → Agrees v (with_right r s task name)
   made_agrees new_right.Port adds =
@@ -173,6 +183,18 @@ module _ (w v : WorldView) (s : State) (a : Agrees w s) (l : IsLawful s) (task n
   made_agrees new_right.DeadName adds =
       subst (λ (x : WorldView). Agrees x (with_name task name (Target.dead 1) s)) (sym adds.rest)
       (added_agrees w s a task adds.space adds.there name (entry.DeadName 1) (adds.space.room - 1) (free adds.space adds.there) refl tt)
+
+  -- no task has the receive right of a port that isn't made yet
+  nobody : (u : ℕ) → ReceivesAt w u w.ports.made → ⊥
+  nobody u r = not_made w s a l u r.name r.entry w.ports.made r.found r.named a.ports_made
+
+  pub made_holders : (r : NewRight) → Adds w task r name v → HoldersAgree w → HoldersAgree v
+  made_holders new_right.Port adds h = holders_made w v h task adds.space (with_entry adds.space name (entry.Receive w.ports.made)) adds.there (ap (λ (x : WorldView). x.spaces) adds.rest)
+      w.ports.made name (first_port task) refl (ap (λ (x : WorldView). x.ports.ports) adds.rest) refl nobody
+  made_holders new_right.Set adds h = holders_added w v h task adds.space (with_entry adds.space name (entry.Set w.sets.made)) adds.there (ap (λ (x : WorldView). x.spaces) adds.rest)
+      name (entry.Set w.sets.made) refl refl (same_ports (ap (λ (x : WorldView). x.ports) adds.rest))
+  made_holders new_right.DeadName adds h = holders_added w v h task adds.space (with_entry adds.space name (entry.DeadName 1)) adds.there (ap (λ (x : WorldView). x.spaces) adds.rest)
+      name (entry.DeadName 1) refl refl (same_ports (ap (λ (x : WorldView). x.ports) adds.rest))
 
 -- a fresh name in the tables is one in the machine
 pub fresh : (w : WorldView) (s : State) → Agrees w s → (task : ℕ) (space : SpaceView) → space_at w task ≡ Some space → (name : ℕ) → IsFreshName space.names name → IsFresh (s.naming task) name
@@ -201,9 +223,16 @@ module _ (w w1 v : WorldView) (same : SameButRoom w w1) (task number name : ℕ)
         owed = [];
         does = (fresh w1 s (room_agrees w w1 s same sh.agrees) task space there name f, makes_number s, refl);
         agrees = made_agrees w1 v s (room_agrees w w1 s same sh.agrees) sh.lawful task name (ap (λ (o : Option SpaceView). entry_in o name) there ∙ f.unused) r adds;
+        holders = made_holders w1 v s (room_agrees w w1 s same sh.agrees) sh.lawful task name (ap (λ (o : Option SpaceView). entry_in o name) there ∙ f.unused) r adds (room_holders w w1 same sh.holders);
       })
 
   pub allocate_name_done : IsAllowed w (λ s. call_guards s (Event.AllocateName task number name)) → entry_at w task name ≡ None → Adds w1 task r name v →
       Acts w (Event.AllocateName task number name) (Reply.Name name) v
   allocate_name_done good unused adds = done w (Event.AllocateName task number name) (Reply.Name name) v below good
-      (λ now s sh. record { mid = with_right r s task name; owed = []; does = (refl, makes_number s, refl); agrees = made_agrees w1 v s (room_agrees w w1 s same sh.agrees) sh.lawful task name (room_entry w w1 same task name ∙ unused) r adds })
+      (λ now s sh. record {
+        mid = with_right r s task name;
+        owed = [];
+        does = (refl, makes_number s, refl);
+        agrees = made_agrees w1 v s (room_agrees w w1 s same sh.agrees) sh.lawful task name (room_entry w w1 same task name ∙ unused) r adds;
+        holders = made_holders w1 v s (room_agrees w w1 s same sh.agrees) sh.lawful task name (room_entry w w1 same task name ∙ unused) r adds (room_holders w w1 same sh.holders);
+      })

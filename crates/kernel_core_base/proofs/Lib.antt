@@ -21,6 +21,7 @@ pub mod ReceiveRight
 pub mod TokensMoved
 pub mod ReferencesSet
 pub mod SetRemoved
+pub mod HoldersKept
 pub mod ReferencesLost
 pub mod ReferencesPut
 pub mod ReferencesTold

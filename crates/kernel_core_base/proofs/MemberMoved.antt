@@ -1,5 +1,5 @@
 -- MoveMember: what refuses it, and what it does.
-use Rattle.std.proofs.Common.{◌≡◌, ℕ, ◌<◌, [], ◌∷◌, Option, Some, None, refl, sym, ap, ◌∙◌, arith, inl, inr, length, true}
+use Rattle.std.proofs.Common.{◌≡◌, ℕ, [], ◌∷◌, Option, Some, None, refl, sym, ap, ◌∙◌, arith, inl, inr, length, true}
 use Rattle.std.specs.Prelude.{◌≢◌, is_some}
 use Rattle.std.specs.Option.{option_to_list}
 use Rattle.mach_types.specs.declared.calls.Event.{Event}
@@ -22,6 +22,7 @@ use Rattle.copyin_base.specs.Stands.{Stands}
 use Rattle.copyin_base.proofs.Acting.{done}
 use Rattle.copyin_base.proofs.AttributesSet.{set_agrees}
 use Rattle.copyin_base.proofs.Finding.{finds_used, finds_port, finds_receive, receive_port_lives, receive_port_there}
+use Rattle.copyin_base.proofs.Holders.{holders_kept}
 use Rattle.copyin_base.proofs.Told.{used, found}
 use Rattle.kernel_core_base.specs.Sets.{set_of_port, GoesTo, MayMove}
 use Rattle.kernel_core_base.proofs.Members.{is_set_target, sets_are, sets_none}
@@ -134,6 +135,7 @@ moved w task member after p set below m b h new r = done w (Event.MoveMember tas
       owed = [];
       does = (refl, joins s sh.agrees set m.goes, refl);
       agrees = set_agrees w s sh.agrees p b h set new r;
+      holders = holders_kept w new sh.holders p b (record b { set = set }) h r refl;
     })
   where
     joins : (s : State) → Agrees w s → (set : Option ℕ) → GoesTo w task after set → JoinsSet task member after s (record s { sets_of = at s.sets_of p (option_to_list set) })

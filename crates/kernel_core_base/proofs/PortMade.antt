@@ -79,7 +79,7 @@ module _ (w : WorldView) (s : State) (a : Agrees w s) (l : IsLawful s) where
     right = entry.Receive new
 
     abbrev pub more_ports : PortsView Kept
-    more_ports = record w.ports { ports = map.insert w.ports.ports new first_port; made = w.ports.made + 1 }
+    more_ports = record w.ports { ports = map.insert w.ports.ports new (first_port task); made = w.ports.made + 1 }
 
     abbrev pub more_counts : LedgerView
     more_counts = made (entered w.ledger new) new right_kind.Receive 1
@@ -115,7 +115,7 @@ module _ (w : WorldView) (s : State) (a : Agrees w s) (l : IsLawful s) where
 
     -- ---- ports
 
-    first_shows : ShowsPort first_port t new
+    first_shows : ShowsPort (first_port task) t new
     first_shows = rw (eq-eqb new new refl) record { waiting = tt; limit = refl; make_send = refl; sequence = refl; sets = refl }
 
     -- ---- counts
@@ -142,9 +142,9 @@ module _ (w : WorldView) (s : State) (a : Agrees w s) (l : IsLawful s) where
           (subst (NamesAgree own.names) (sym (at_own s.naming task _)) (put_names space.names (s.naming task) (own_names w s a task space there) name (Some right) (of_some right HasCount tt)))
           (at_other s.naming task _);
       rights = references_agree w.spaces task space own there s.ledger t.ledger a.rights (put_rights space.names task t.ledger old_rights name (Some right) new_rights) others_hold;
-      live_port = each_put w.ports.ports new (Some first_port) (λ q o. is_some o ≡ t.live_port q) (sym (at_own s.live_port new true)) (λ q not. a.live_port q ∙ sym (at_other s.live_port new true q not));
+      live_port = each_put w.ports.ports new (Some (first_port task)) (λ q o. is_some o ≡ t.live_port q) (sym (at_own s.live_port new true)) (λ q not. a.live_port q ∙ sym (at_other s.live_port new true q not));
       ports_made = ap (λ (n : ℕ). n + 1) a.ports_made;
-      ports = ports_put w.ports.ports new first_port t first_shows (λ q v not is. rw (ne_eqb q new not) (a.ports q v is));
+      ports = ports_put w.ports.ports new (first_port task) t first_shows (λ q v not is. rw (ne_eqb q new not) (a.ports q v is));
       counts = right_made (entered w.ledger new) t.live_port s.ledger (onces_queued t) was_entered receive new (in_task task) (at_own s.live_port new true);
       total = let x = a.total in omega (arith, x);
       in_sets = sets_stay w.sets s.set_owner s.sets_made s.naming t.naming a.in_sets task (at_other s.naming task _)

@@ -1,5 +1,5 @@
 -- How many references of a right a name has, as the tables and the machine count them.
-use Rattle.std.proofs.Common.{◌≡◌, ℕ, ◌<◌, [], Some, refl, sym, ap, subst, ◌∙◌, arith, inl, inr, length, Option}
+use Rattle.std.proofs.Common.{◌≡◌, ℕ, ◌<◌, [], Some, refl, sym, ap, subst, ◌∙◌, arith, inl, inr, Option}
 use Rattle.std.specs.Prelude.{◌≢◌}
 use Rattle.mach_types.specs.declared.calls.Event.{Event}
 use Rattle.mach_types.specs.declared.calls.Reply.{Reply}
@@ -98,4 +98,5 @@ module _ (w : WorldView) (task name number : ℕ) (below : HasTask w task) where
           refl,
         );
         agrees = sh.agrees;
+        holders = sh.holders;
       })

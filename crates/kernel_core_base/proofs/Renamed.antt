@@ -1,5 +1,5 @@
 -- What is under a name moves to another, in the tables and in the machine alike; what is kept of a set goes along.
-use Rattle.std.proofs.Common.{◌≡◌, ℕ, ◌-◌, ◌<◌, [], Option, Some, None, refl, sym, ap, subst, ◌∙◌, Bool, length}
+use Rattle.std.proofs.Common.{◌≡◌, ℕ, ◌-◌, [], Option, Some, None, refl, sym, ap, subst, ◌∙◌, Bool}
 use Rattle.std.specs.Prelude.{is_some}
 use Rattle.std.specs.Option.{option_map}
 use Rattle.std.specs.FinMap as map
@@ -13,15 +13,18 @@ use Rattle.mach_model.specs.Lawful.{IsLawful}
 use Rattle.name_space.specs.declared.Entry.{Entry}
 use Rattle.name_space.specs.declared.Entry.TheVariants as entry
 use Rattle.name_space.specs.Names.{SpaceView}
+use Rattle.port.specs.Ports.{PortsView}
 use Rattle.port_set.specs.declared.SetRecord.{SetRecord}
 use Rattle.port_set.specs.Sets.{SetsView, IsThere}
 use Rattle.copyin_base.specs.Acts.{Acts, IsAllowed}
 use Rattle.copyin_base.specs.Changes.{KeepsPlace, SameButRoom}
+use Rattle.copyin_base.specs.Kept.{Kept}
 use Rattle.copyin_base.specs.Wanted.{kept_in, kept_of}
 use Rattle.copyin_base.specs.Worlds.{WorldView, entry_in, HasTask}
-use Rattle.copyin_base.specs.Shows.{Agrees, Shows, SetsAgree, target_of}
+use Rattle.copyin_base.specs.Shows.{Agrees, HoldersAgree, Shows, SetsAgree, target_of}
 use Rattle.copyin_base.specs.Stands.{Stands}
 use Rattle.copyin_base.proofs.Acting.{done}
+use Rattle.copyin_base.proofs.Holders.{KeepHolders, same_holders, moved_receives, holders_left}
 use Rattle.copyin_base.proofs.Roomier.{place_kept, room_entry, room_shows}
 use Rattle.copyin_base.proofs.NamesChanged.{kept_sets, sets_go, moved_agrees, target_found}
 use Rattle.copyin_base.proofs.Told.{found}
@@ -110,8 +113,14 @@ module _ (w w1 : WorldView) (task from to : ℕ) (e : Entry) (may : MayRename w 
     agrees v named = subst (λ (x : WorldView). Agrees x (after s)) (sym (named ∙ (λ i. record (moves.rest i) { sets = sets_named e to (moves.rest i).sets })))
         (moved_agrees w s sh.agrees task moves.space moves.there from to e (moves.space.room - 1) stands here free (sets_named e to w.sets) (in_sets e refl))
 
+  -- a receive right goes along with its name
+  holders : (v : WorldView) → v ≡ record w1 { sets = sets_named e to w1.sets } → HoldersAgree w → HoldersAgree v
+  holders v named h = holders_left w v h task moves.space (record moves.space { names = map.insert (map.remove moves.space.names from) to e; room = moves.space.room - 1 }) moves.there
+      (ap (λ (x : WorldView). x.spaces) named ∙ ap (λ (x : WorldView). x.spaces) moves.rest) (moved_receives moves.space.names from to e here)
+      (subst (λ (x : PortsView Kept). KeepHolders w.ports.ports x.ports) (sym (ap (λ (x : WorldView). x.ports) named ∙ ap (λ (x : WorldView). x.ports) moves.rest)) (same_holders w.ports.ports))
+
   -- from the tables before a place was kept
   pub rename_done : (old : WorldView) → SameButRoom old w → HasTask old task → IsAllowed old (λ s. call_guards s (Event.Rename task from to)) → (v : WorldView) →
       v ≡ record w1 { sets = sets_named e to w1.sets } → Acts old (Event.Rename task from to) (Reply.Code 0) v
   rename_done old same below good v named = done old (Event.Rename task from to) (Reply.Code 0) v below good
-      (λ now s sh. let here = room_shows old w s same sh in record { mid = after s; owed = []; does = (refl, renames s here, refl); agrees = agrees s here v named })
+      (λ now s sh. let here = room_shows old w s same sh in record { mid = after s; owed = []; does = (refl, renames s here, refl); agrees = agrees s here v named; holders = holders v named here.holders })

@@ -19,10 +19,11 @@ use Rattle.name_space.specs.Entry.{port_named, has_receive, send_references}
 use Rattle.name_space.specs.Names.{SpaceView}
 use Rattle.copyin_base.specs.Acts.{Acts}
 use Rattle.copyin_base.specs.Worlds.{WorldView, entry_in, space_at, space_in}
-use Rattle.copyin_base.specs.Shows.{Agrees, target_of, HasCount}
+use Rattle.copyin_base.specs.Shows.{Agrees, HoldersAgree, target_of, HasCount}
 use Rattle.copyin_base.proofs.Acting.{done}
 use Rattle.copyin_base.proofs.Agreeing.{sets_stay}
 use Rattle.copyin_base.proofs.Gets.{same_found}
+use Rattle.copyin_base.proofs.Holders.{same_holders, holders_pushed}
 use Rattle.kernel_core_base.specs.Tasks.{no_names}
 use Rattle.copyin_base.proofs.Spaces.{space-push_same, space-push_other, space-end}
 
@@ -81,7 +82,11 @@ module _ (w : WorldView) (s : State) (a : Agrees w s) where
     requests = a.requests;
   }
 
+-- the new task has no receive right
+task_holders : (w : WorldView) → HoldersAgree w → HoldersAgree (record w { spaces = w.spaces ++ Some no_names ∷ [] })
+task_holders w h = holders_pushed w (record w { spaces = w.spaces ++ Some no_names ∷ [] }) h no_names refl (λ n. map.get-empty {X = Entry} nat_cmp n) (same_holders w.ports.ports)
+
 pub task_created : (w : WorldView) (task : ℕ) (new : WorldView) → length w.spaces < most_tasks → task ≡ length w.spaces → new ≡ record w { spaces = w.spaces ++ Some no_names ∷ [] } → Acts w Event.TaskCreate (Reply.Task task) new
 task_created w task new few is made = rw (is, made) (done w Event.TaskCreate (Reply.Task (length w.spaces)) (record w { spaces = w.spaces ++ Some no_names ∷ [] }) tt
     record { allowed = λ s sh. ((λ many. let m = sh.agrees.tasks_made in omega (arith, many, m, few)), tt) }
-    (λ now s sh. record { mid = with_task w s sh.agrees; owed = []; does = (creates w s sh.agrees, refl); agrees = task_agrees w s sh.agrees }))
+    (λ now s sh. record { mid = with_task w s sh.agrees; owed = []; does = (creates w s sh.agrees, refl); agrees = task_agrees w s sh.agrees; holders = task_holders w sh.holders }))

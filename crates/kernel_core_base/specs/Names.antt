@@ -26,20 +26,20 @@ right_made new_right.Port = 1
 right_made new_right.Set = 3
 right_made new_right.DeadName = 4
 
--- a new port
-abbrev pub first_port : PortView Kept
-first_port = record { queue = []; attributes = first_attributes }
+-- a new port, whose receive right the task holds
+abbrev pub first_port : (task : ℕ) → PortView Kept
+first_port task = record { queue = []; attributes = first_attributes task }
 
--- one more port and its receive right, which no name is for yet
-abbrev pub with_new_port : WorldView → WorldView
-with_new_port w = record w {
-  ports = record w.ports { ports = map.insert w.ports.ports w.ports.made first_port; made = w.ports.made + 1 };
+-- one more port and its receive right, which the task holds and no name is for yet
+abbrev pub with_new_port : WorldView → (task : ℕ) → WorldView
+with_new_port w task = record w {
+  ports = record w.ports { ports = map.insert w.ports.ports w.ports.made (first_port task); made = w.ports.made + 1 };
   ledger = made (entered w.ledger w.ports.made) w.ports.made right.Receive 1;
 }
 
 -- one more of what is made, before it stands under its name
 abbrev pub with_made : WorldView → (task : ℕ) → NewRight → (name : ℕ) → WorldView
-with_made w task new_right.Port name = with_new_port w
+with_made w task new_right.Port name = with_new_port w task
 with_made w task new_right.Set name = record w { sets = created w.sets task name }
 with_made w task new_right.DeadName name = w
 

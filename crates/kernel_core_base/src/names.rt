@@ -184,23 +184,23 @@ fn make_right(
     ensures err { IfErr result (λ code. (code ≡ kern.ResourceShortage) × (world.new ≡ world.old) × (right ≢ AnyRight.DeadName)) }
 {
     let made = match right {
-        NewRight::Port => make_port(world).map(Entry::Receive),
+        NewRight::Port => make_port(world, task).map(Entry::Receive),
         NewRight::Set => world.sets.create(task, name).map(Entry::Set),
         NewRight::DeadName => Ok(Entry::DeadName(UserRefs::one())),
     };
     made.map_err(|_| KernReturn::ResourceShortage)
 }
 
-// A new port, and its receive right, which is counted.
-fn make_port(world: &mut World) -> Result<PortId, AllocError>
+// A new port, and its receive right, which is counted and which the port knows to be the task's.
+fn make_port(world: &mut World, task: TaskId) -> Result<PortId, AllocError>
     requires room { HasRoomFor world.old AnyRight.Port }
     requires unknown { map.get world.old.ledger.counts world.old.ports.made ≡ None }
-    ensures ok { IfOk result (λ port. (port ≡ world.old.ports.made) × (world.new ≡ with_new_port world.old)) }
+    ensures ok { IfOk result (λ port. (port ≡ world.old.ports.made) × (world.new ≡ with_new_port world.old task)) }
     ensures err { OnErr result (world.new ≡ world.old) }
 {
     let id = world.ports.next_id();
     world.ledger.enter(id)?;
-    match world.ports.allocate() {
+    match world.ports.allocate(task) {
         Ok(port) => {
             world.ledger.make(port, RightKind::Receive, 1).unwrap();
             Ok(port)

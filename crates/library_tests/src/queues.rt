@@ -1,5 +1,5 @@
 //! Ports, their queues, and the members of sets that are ready.
-use mach_types::{PortId, SetId};
+use mach_types::{PortId, SetId, TaskId};
 use port::{Message, Ports};
 use port_set::{disband, move_member, ready_member};
 use std::alloc::{AllocError, Global};
@@ -85,7 +85,7 @@ fn allocate(ports: &mut Ports<Note>) -> Result<Option<u64>, AllocError> {
     if ports.is_exhausted() {
         return Ok(None);
     }
-    Ok(Some(ports.allocate()?.number()))
+    Ok(Some(ports.allocate(TaskId::new(0))?.number()))
 }
 
 fn next_id(ports: &Ports<Note>) -> Option<u64> {

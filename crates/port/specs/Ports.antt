@@ -5,6 +5,7 @@ use Rattle.std.specs.FinMap as map
 use Rattle.std.specs.Ordering.{nat_cmp}
 use Rattle.mach_types.specs.Numbers.{first_limit}
 use Rattle.port.specs.declared.Attributes.{Attributes}
+use Rattle.port.specs.declared.Holder.TheVariants as Holder
 use Rattle.port.specs.Turns.{ReadyLists, turns_of, left, joined, ready_if, same_set}
 
 pub record PortView (M : Type 0) : Type 0 where
@@ -27,9 +28,9 @@ ports_code {M} m a = code_by
     (λ p. record { ports = p.0; ready = p.1.0; made = p.1.1.0; spare = p.1.1.1 })
     (λ _. refl)
 
--- a new port's attributes: limit 5, and no message yet sent, made or received
-abbrev pub first_attributes : Attributes
-first_attributes = record { limit = first_limit; make_send = 0; sequence = 0; set = None }
+-- a new port's attributes: limit 5, no message yet sent, made or received, and its receive right with the task
+abbrev pub first_attributes : (task : ℕ) → Attributes
+first_attributes task = record { limit = first_limit; make_send = 0; sequence = 0; set = None; holder = Holder.Task task }
 
 -- a send right more was made from the receive right
 abbrev pub one_made : Attributes → Attributes

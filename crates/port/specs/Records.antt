@@ -19,7 +19,7 @@ made_of (Some next) = next
 
 module _ {M : Type 0} where
   abbrev pub port_in : Option (Record M) → PortView M
-  port_in None = record { queue = []; attributes = first_attributes }
+  port_in None = record { queue = []; attributes = first_attributes 0 }
   port_in (Some r) = record { queue = r.queue; attributes = r.attributes }
 
   abbrev pub ports_of : (ℕ → Option (Record M)) → map.FinMap nat_cmp ℕ → map.FinMap nat_cmp (PortView M)

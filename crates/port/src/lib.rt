@@ -19,7 +19,7 @@ ghost use Rattle.port.specs.Ports.{one_made, one_received};
 ghost use Rattle.port.specs.Records.{ready_set, member_set, ids_at};
 
 use mach_types::limits::FIRST_LIMIT;
-use mach_types::{PortId, SetId};
+use mach_types::{PortId, SetId, TaskId};
 use member_lists::Lists;
 use number_map::NumberMap;
 use slab::Slab;
@@ -34,10 +34,47 @@ const MOST_SLOTS: usize = 1 << 63;
 // With so many records or fewer, each key fits 32 bits.
 const MOST_RECORDS: usize = 1 << 32;
 
+// A task's number is less than this.
+const TASK_NUMBERS: u64 = 1 << 32;
+
 /// A message that can lie in a slot.
 pub trait Message: Drop {
     /// What lies in a slot that no message is in. Takes no memory.
     fn blank(alloc: Global) -> Self;
+}
+
+/// Who holds a port's receive right.
+#[derive(Clone, Copy, Debug, PartialEq, Eq)]
+pub enum Holder {
+    /// The task: it stands under a name of it.
+    Task(TaskId),
+    /// A message in the queue of the port.
+    QueueOf(PortId),
+    /// Nobody: the right was taken, and not yet given on.
+    Nobody,
+}
+
+// What the number of a holder is of.
+#[derive(Clone, Copy)]
+enum HolderKind {
+    Task,
+    Queue,
+    Nobody,
+}
+
+impl Holder {
+    ghost use Rattle.port.specs.Holders.{holder_of};
+
+    // What it is, and its number.
+    fn parts(self) -> (HolderKind, u64)
+        ensures { holder_of result.0 result.1 ≡ self }
+    {
+        match self {
+            Holder::Task(task) => (HolderKind::Task, task.number() as u64),
+            Holder::QueueOf(port) => (HolderKind::Queue, port.number()),
+            Holder::Nobody => (HolderKind::Nobody, 0),
+        }
+    }
 }
 
 /// What a port has beside its queue. Setting it changes nothing else.
@@ -51,38 +88,44 @@ pub struct Attributes {
     pub sequence: u32,
     /// The port set that the port is in.
     pub set: Option<SetId>,
+    /// Who holds the port's receive right.
+    pub holder: Holder,
 }
 
 impl Attributes {
     ghost use Rattle.port.specs.Ports.{first_attributes};
 
-    // A new port's.
-    fn first() -> Attributes
-        ensures { result ≡ first_attributes }
+    // Those of a new port, whose receive right the task holds.
+    fn first(task: TaskId) -> Attributes
+        ensures { result ≡ first_attributes task }
     {
         Attributes {
             limit: FIRST_LIMIT,
             make_send: 0,
             sequence: 0,
             set: None,
+            holder: Holder::Task(task),
         }
     }
 }
 
-// Attributes as they are kept: in 24 bytes.
+// Attributes as they are kept: in 32 bytes.
 #[derive(Drop)]
 struct KeptAttributes {
     set: u64,
+    holder: u64,
     limit: u32,
     make_send: u32,
     sequence: u32,
     is_member: bool,
+    holder_kind: HolderKind,
 }
 
 impl Model for KeptAttributes {
     ghost use Rattle.std.specs.Prelude.{cond, Some, None};
     ghost use Rattle.port.specs.declared.Attributes.{Attributes};
     ghost use Rattle.port.specs.contracts.Attributes as attributes;
+    ghost use Rattle.port.specs.Holders.{holder_of};
 
     ghost Value = { Attributes };
 
@@ -93,6 +136,7 @@ impl Model for KeptAttributes {
       make_send = a.make_send;
       sequence = a.sequence;
       set = cond a.is_member (Some a.set) None;
+      holder = holder_of a.holder_kind a.holder;
     } };
 }
 
@@ -104,12 +148,15 @@ impl KeptAttributes {
             Some(set) => (set.number(), true),
             None => (0, false),
         };
+        let (holder_kind, holder) = attributes.holder.parts();
         KeptAttributes {
             set,
+            holder,
             limit: attributes.limit,
             make_send: attributes.make_send,
             sequence: attributes.sequence,
             is_member,
+            holder_kind,
         }
     }
 
@@ -121,6 +168,7 @@ impl KeptAttributes {
             make_send: self.make_send,
             sequence: self.sequence,
             set: self.set(),
+            holder: self.holder(),
         }
     }
 
@@ -131,6 +179,16 @@ impl KeptAttributes {
             Some(SetId::new(self.set))
         } else {
             None
+        }
+    }
+
+    fn holder(&self) -> Holder
+        ensures { result ≡ self.now.holder }
+    {
+        match self.holder_kind {
+            HolderKind::Task => Holder::Task(TaskId::new((self.holder % TASK_NUMBERS) as u32)),
+            HolderKind::Queue => Holder::QueueOf(PortId::new(self.holder)),
+            HolderKind::Nobody => Holder::Nobody,
         }
     }
 
@@ -162,7 +220,7 @@ struct Record<M> {
 }
 
 // A port without messages takes its record in the slab, and its place in the index.
-const _: () = prove!(mem::size_of::<Record<u8>>() <= 56);
+const _: () = prove!(mem::size_of::<Record<u8>>() <= 64);
 
 /// Ports by identity, and spare message slots. Without ports and slots nothing is allocated.
 #[derive(Drop)]
@@ -501,16 +559,16 @@ impl<M: Message> Ports<M> {
         PortId::new(self.next.unwrap())
     }
 
-    /// Makes a port: no messages, limit 5, counts 0, in no set (Port Manipulation Interface,
-    /// `mach_port_allocate`). Its identity is the number of ports made before. Constant time,
-    /// but where the records or the index move to a larger place.
+    /// Makes a port whose receive right the task holds: no messages, limit 5, counts 0, in no set
+    /// (Port Manipulation Interface, `mach_port_allocate`). Its identity is the number of ports made
+    /// before. Constant time, but where the records or the index move to a larger place.
     ///
     /// An error means that memory was refused, or that the records' places would be more than 2^32;
     /// all is then as before.
-    pub fn allocate(&mut self) -> Result<PortId, AllocError>
+    pub fn allocate(&mut self, task: TaskId) -> Result<PortId, AllocError>
         requires { self.old.made < most_identities }
         ensures identity { IfOk result (λ id. id ≡ self.old.made) }
-        ensures ok { OnOk result (self.new ≡ record self.old { ports = map.insert self.old.ports self.old.made (record { queue = []; attributes = first_attributes }); made = self.old.made + 1 }) }
+        ensures ok { OnOk result (self.new ≡ record self.old { ports = map.insert self.old.ports self.old.made (record { queue = []; attributes = first_attributes task }); made = self.old.made + 1 }) }
         ensures err { OnErr result (self.new ≡ self.old) }
     {
         let number = self.next.unwrap();
@@ -522,7 +580,7 @@ impl<M: Message> Ports<M> {
         let key = self.records.insert_reserved(Record {
             id,
             queue: LinkedList::new(*self.spare.allocator()),
-            attributes: KeptAttributes::new(Attributes::first()),
+            attributes: KeptAttributes::new(Attributes::first(task)),
         });
         self.by_id.insert(number, narrow(key));
         self.next = number.checked_add(1);

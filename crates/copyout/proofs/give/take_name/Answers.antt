@@ -1,13 +1,14 @@
-use Rattle.std.proofs.Common.{subst, inl, arith}
+use Rattle.std.proofs.Common.{subst, refl, inl, arith}
 use Rattle.mach_types.specs.Numbers.{kind_sent}
 use Rattle.name_space.specs.Names.{SpaceView, IsFreshName}
 use Rattle.copyin_base.specs.Worlds.{space_at}
 use Rattle.copyin_base.proofs.Gets.{same_found}
+use Rattle.copyout.specs.Giving.{alone}
 use Rattle.copyout.proofs.Gives.{no_other, gives-taken}
 use Rattle.copyout.proofs.give.take_name.Goals as goal
 
-pub insert_entry-requires : goal.insert_entry-requires
-insert_entry-requires c =
+pub put_alone-requires-clause-can : goal.put_alone-requires-clause-can
+put_alone-requires-clause-can c =
     let r = c.requires in
     let f = c.fresh-name.ensures in
     let fresh : IsFreshName r.space.names c.fresh-name.result =
@@ -19,7 +20,7 @@ insert_entry-requires c =
       unused = fresh.unused;
       few = r.not_full;
       place = inl (fresh, r.room);
-      apart = no_other r.space.names (kind_sent c.args.given) c.args.port c.alone.result c.alone.ensures r.lone;
+      apart = no_other r.space.names (kind_sent c.args.given) c.args.port (alone (kind_sent c.args.given) c.args.port) refl r.lone;
     }
 
 pub returns : goal.returns
@@ -27,5 +28,5 @@ returns c =
     let r = c.requires in
     let fresh : IsFreshName r.space.names c.fresh-name.result =
     subst (λ (x : SpaceView). IsFreshName x.names c.fresh-name.result) (same_found (space_at c.args.world.now c.args.task) c.space.result.now r.space c.space.ensures r.there) c.fresh-name.ensures.fresh in
-    gives-taken c.args.world.now c.insert_entry.new.self c.args.task (kind_sent c.args.given) c.args.port c.fresh-name.result c.alone.result r.space r.there c.alone.ensures c.insert_entry.ensures
+    gives-taken c.args.world.now c.put_alone.new.world c.args.task (kind_sent c.args.given) c.args.port c.fresh-name.result r.space r.there c.put_alone.ensures
     fresh r.not_full r.lone

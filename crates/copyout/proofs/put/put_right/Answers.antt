@@ -8,13 +8,12 @@ use Rattle.copyout.proofs.put.put_right.Goals as goal
 pub join-requires-clause-can : goal.join-requires-clause-can
 join-requires-clause-can c = can_join c.args.world.now c.args.task (kind_sent c.args.given) c.args.port c.args.name c.requires (sym (ap is_some c.lookup.ensures) ∙ ap is_some c.in-Some.is)
 
-pub insert_entry-requires : goal.insert_entry-requires
-insert_entry-requires c =
-    can_insert c.args.world.now c.args.task (kind_sent c.args.given) c.args.port c.args.name c.alone.result c.requires (sym (ap is_some c.lookup.ensures) ∙ ap is_some c.in-None.is) c.alone.ensures
+pub put_alone-requires-clause-can : goal.put_alone-requires-clause-can
+put_alone-requires-clause-can c = can_insert c.args.world.now c.args.task (kind_sent c.args.given) c.args.port c.args.name c.requires (sym (ap is_some c.lookup.ensures) ∙ ap is_some c.in-None.is)
 
 pub returns-in-Some : goal.returns-in-Some
 returns-in-Some c = gives_puts c.args.world.now c.args.task (kind_sent c.args.given) c.args.port c.args.name c.join.new.world c.join.ensures
 
 pub returns-in-None : goal.returns-in-None
-returns-in-None c = puts-new c.args.world.now c.insert_entry.new.self c.args.task (kind_sent c.args.given) c.args.port c.args.name c.alone.result c.requires
-    (sym (ap is_some c.lookup.ensures) ∙ ap is_some c.in-None.is) c.alone.ensures c.insert_entry.ensures
+returns-in-None c = puts-new c.args.world.now c.put_alone.new.world c.args.task (kind_sent c.args.given) c.args.port c.args.name c.requires
+    (sym (ap is_some c.lookup.ensures) ∙ ap is_some c.in-None.is) c.put_alone.ensures
