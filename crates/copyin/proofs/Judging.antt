@@ -1,6 +1,6 @@
 -- Words judged one after the other.
-use Rattle.std.proofs.Common.{◌≡◌, ℕ, ◌+◌, ◌<◌, Option, Some, None, List, [], ◌∷◌, ◌++◌, length, take, drop, get_or, refl, sym, ap, subst, ◌∙◌, ◌⊎◌, inl, inr, true, false, Result, Ok, Err, IfOk, IfErr, arith}
-use Rattle.std.specs.Prelude.{◌≢◌, ◌==◌, is_some}
+use Rattle.std.proofs.Common.{◌≡◌, ℕ, ◌+◌, ◌<◌, Option, Some, None, List, [], ◌∷◌, ◌++◌, length, take, drop, get_or, refl, sym, ap, subst, ◌∙◌, ◌⊎◌, inl, inr, false, Result, Ok, Err, IfOk, IfErr}
+use Rattle.std.specs.Prelude.{◌≢◌, ◌==◌}
 use Rattle.std.specs.Option.{option_to_list}
 use Rattle.std.proofs.lemmas.Bool.Decides.{eqb_tells}
 use Rattle.std.specs.FinMap as map
@@ -113,17 +113,10 @@ err_as (Err e) P Q f p = f e p
 
 -- ---- no word but the destination's
 
-pub none_replies : (names : Names) (o : Option PortWord) → is_some o ≡ false → CopiesReply names (option_to_list o) None names
+pub none_replies : (names : Names) (o : Option PortWord) → o ≡ None → CopiesReply names (option_to_list o) None names
 none_replies names None none = refl
 none_replies names (Some w) none = absurd (cc)
 
-pub none_goes : (names : Names) (ws : List PortWord) (cs : List Carried) → (length ws == 0) ≡ true → cs ≡ [] → CopiesBody names ws cs names
-none_goes names ws [] empty none = elim (eqb_tells (length ws) 0) [
-  | inl h ↦ none_there ws h.1
-  | inr h ↦ absurd (let no : true ≡ false = sym empty ∙ h.0 in cc)
-]
-  where
-    none_there : (ws : List PortWord) → length ws ≡ 0 → CopiesBody names ws [] names
-    none_there [] e = refl
-    none_there (x ∷ xs) e = absurd (omega arith)
-none_goes names ws (c ∷ cs) empty none = absurd (cc)
+pub none_goes : (names : Names) (ws : List PortWord) → ws ≡ [] → CopiesBody names ws [] names
+none_goes names [] none = refl
+none_goes names (w ∷ ws) none = absurd (cc)

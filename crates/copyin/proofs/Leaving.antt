@@ -11,13 +11,11 @@ use Rattle.name_space.specs.declared.Entry.{Entry}
 use Rattle.name_space.specs.declared.Entry.TheVariants as entry
 use Rattle.name_space.specs.Names.{Names, SpaceView}
 use Rattle.copyin.specs.declared.copies.Copied.{Copied}
-use Rattle.copyin.specs.Copies.{copied_from, ports_copied, ledger_copied, CopiesRight}
+use Rattle.copyin.specs.Copies.{copied_from}
 use Rattle.copyin.specs.Planned.{CanCopy}
 use Rattle.copyin_base.specs.declared.message.Carried.{Carried}
 use Rattle.copyin_base.specs.Changes.{PutsLeft}
 use Rattle.copyin_base.specs.Worlds.{WorldView, put, space_in}
-use Rattle.copyin_base.specs.declared.message.Mark.{Mark}
-use Rattle.copyin.proofs.Going.{copies_right}
 use Rattle.copyin.proofs.Overlays.{get_put, get_put_other}
 
 abbrev LeavesIfAny : Entry → Option Copied → Type 0

@@ -1,9 +1,11 @@
 -- How the words of a message are judged in a task's names. No public clause cites this module.
-use Rattle.std.specs.Prelude.{◌≡◌, ℕ, ◌+◌, ◌⊎◌, List, [], ◌∷◌, Option, IsSome, IfSome, All}
+use Rattle.std.specs.Prelude.{◌≡◌, ℕ, ◌+◌, ◌⊎◌, false, List, [], ◌∷◌, Option, None, IsSome, IfSome, All}
 use Rattle.std.specs.Option.{option_to_list}
-use Rattle.mach_types.specs.Numbers.{disposition}
+use Rattle.mach_types.specs.Numbers.{disposition, kind_sent}
 use Rattle.mach_types.specs.declared.codes.MsgReturn.{MsgReturn}
 use Rattle.mach_types.specs.declared.codes.MsgReturn.TheVariants.{SendInvalidDest, SendInvalidReply, SendInvalidRight}
+use Rattle.mach_types.specs.Tokens.{send_once, same_kind}
+use Rattle.message_codec.specs.declared.text.Parsed.{Parsed}
 use Rattle.message_codec.specs.declared.words.PortWord.{PortWord}
 use Rattle.name_space.specs.Names.{Names}
 use Rattle.copyin.specs.declared.judge.Destination.{Destination}
@@ -11,6 +13,7 @@ use Rattle.copyin.specs.declared.judge.Rights.{Rights}
 use Rattle.copyin.specs.declared.judge.Words.{Words}
 use Rattle.copyin_base.specs.declared.message.Carried.{Carried}
 use Rattle.copyin_base.specs.declared.message.Mark.TheVariants as mark
+use Rattle.copyin_base.specs.Kept.{Kept}
 use Rattle.copyin_base.specs.Worlds.{put}
 use Rattle.copyin.specs.Judging.{CopiesName, CopiesReply, CopiesBody, IsBad, BodyIsBad, made_by, made_by_reply, made_by_all}
 
@@ -19,6 +22,11 @@ pub record AreGiven (words : Words) : Type 0 where
   pub destination : IsSome (disposition words.destination.disposition)
   pub reply : IfSome words.reply (λ w. IsSome (disposition w.disposition))
   pub body : All (λ w. IsSome (disposition w.disposition)) words.body.items
+
+-- The destination's is the only word.
+pub record IsLone (words : Words) : Type 0 where
+  pub reply : words.reply ≡ None
+  pub body : words.body.items ≡ []
 
 abbrev pub RepliesBadly : Names → List PortWord → Type 0
 RepliesBadly names ws = (w : PortWord) × (ws ≡ w ∷ []) × IsBad names w
@@ -68,3 +76,16 @@ CannotGo names words code =
 
 abbrev pub made_by_rights : Rights → List Carried → ℕ
 made_by_rights rights carried = made_by rights.destination + made_by_reply rights.reply + made_by_all carried
+
+-- the message that is queued of this text, with these rights
+abbrev pub message_with : Parsed → (bytes : List ℕ) → Rights → List Carried → Kept
+message_with parsed bytes rights carried = record {
+  bytes = bytes;
+  id = parsed.id;
+  is_complex = parsed.is_complex;
+  spans = parsed.spans;
+  by_once = same_kind (kind_sent rights.destination.given) send_once;
+  reply = rights.reply;
+  rights = carried;
+  told = false;
+}

@@ -178,13 +178,8 @@ pub fn commit(world: &mut World, plan: Plan)
         message,
     } = plan;
     copy_word(world, task, words.destination, destination);
-    copy_reply(world, task, words.reply, message.reply);
-    copy_words(
-        world,
-        task,
-        words.body.as_slice(),
-        message.rights.as_slice(),
-    );
+    copy_reply(world, task, words.reply, message.reply());
+    copy_words(world, task, words.body.as_slice(), message.rights());
     let by_once = message.by_once;
     world.ports.enqueue(port, Queued::sent(message));
     use_right(&mut world.ledger, port, by_once);

@@ -17,7 +17,7 @@ ghost use Rattle.copyin_base.specs.declared.message.Carried.{Carried as AnyCarri
 ghost use Rattle.copyin_base.specs.declared.message.Mark.TheVariants as mark_of;
 ghost use Rattle.copyin.specs.Judging.{CopiesName, CopiesWord, CopiesReply, CopiesBody, IsBad, IsLeft, BodyIsBad, made_by, made_by_all};
 ghost use Rattle.copyin.specs.Overlays.{IsFull, Overlays};
-ghost use Rattle.copyin.specs.Goes.{AreGiven, RepliesBadly, LeadsNowhere, StartsAt, OthersGo, OthersCannot, GoAll, CannotGo, made_by_rights};
+ghost use Rattle.copyin.specs.Goes.{AreGiven, RepliesBadly, LeadsNowhere, StartsAt, OthersGo, OthersCannot, GoAll, CannotGo, IsLone, made_by_rights, message_with};
 ghost use Rattle.copyin.specs.Planned.{AreWords, IsPlan};
 ghost use Rattle.copyin.specs.Plans.{CannotPlan, HasSlot, HasNoSlot, reply_words};
 ghost use Rattle.copyin_base.specs.Stands.{IsTied};
@@ -25,7 +25,7 @@ ghost use Rattle.copyin_base.specs.Worlds.{put, HasTask};
 
 use crate::copies::copy_right;
 use crate::touched::Touched;
-use copyin_base::{Carried, Mark, Message, World};
+use copyin_base::{Carried, CarriedRights, Mark, Message, World};
 use mach_types::limits::MOST_RIGHTS;
 use mach_types::{Disposition, MsgReturn, Name, PortId, TaskId};
 use message_codec::{INLINE_WORDS, Parsed, PortWord, port_words};
@@ -302,6 +302,34 @@ struct Rights {
     reply: Option<Carried>,
 }
 
+// Whether the message carries the destination's right alone, as most do.
+fn is_lone(words: &Words, parsed: &Parsed) -> bool
+    ensures { IsTrue result ↔ (IsLone words.now × (parsed.now.spans ≡ [])) }
+{
+    words.reply.is_none() && words.body.is_empty() && parsed.spans.as_slice().is_empty()
+}
+
+// Judges the word of the destination, where it is the only one.
+fn judge_lone(space: &Space, words: &Words) -> Result<Rights, MsgReturn>
+    requires given { AreGiven words.now }
+    requires lone { IsLone words.now }
+    ensures ok { IfOk result (λ rights. GoAll space.now.names words.now rights []) }
+    ensures err { IfErr result (λ code. CannotGo space.now.names words.now code) }
+{
+    let Destination {
+        carried,
+        port,
+        left,
+    } = judge_destination(space, words.destination)?;
+    // No word after it is judged in what it leaves.
+    let _ = left;
+    Ok(Rights {
+        destination: carried,
+        port,
+        reply: None,
+    })
+}
+
 // Judges all words of a message: the destination, the reply and the body, whose rights it puts into a
 // list that has none.
 fn judge_all(
@@ -321,13 +349,6 @@ fn judge_all(
         port,
         left,
     } = judge_destination(space, words.destination)?;
-    if words.reply.is_none() && words.body.is_empty() {
-        return Ok(Rights {
-            destination: carried,
-            port,
-            reply: None,
-        });
-    }
     let reply = judge_others(alloc, space, words, left, body)?;
     Ok(Rights {
         destination: carried,
@@ -450,17 +471,55 @@ fn read_words(alloc: Global, parsed: &Parsed, bytes: &[u8]) -> Result<Words, Msg
     })
 }
 
-// What a queued message keeps of its bytes and of its body's rights.
-fn copies_of(
+// The message that is queued, for which memory is taken.
+fn message_of(
     alloc: Global,
+    parsed: &Parsed,
     bytes: &[u8],
-    rights: &[Carried],
-) -> Result<(Vec<u8>, Vec<Carried>), AllocError>
-    ensures { IfOk result (λ copies. (copies.0.items ≡ bytes.now) × (copies.1.items ≡ rights.now)) }
+    rights: &Rights,
+    body: &[Carried],
+) -> Result<Message, MsgReturn>
+    ensures ok { IfOk result (λ message. message ≡ message_with parsed.now bytes.now rights.now body.now) }
+    ensures err { IfErr result (λ code. code ≡ SendNoBuffer) }
 {
-    let bytes = Vec::from_slice(alloc, bytes)?;
-    let rights = Vec::from_slice(alloc, rights)?;
-    Ok((bytes, rights))
+    let spans = parsed.spans.as_slice();
+    let Ok(carried) = CarriedRights::of(alloc, rights.reply, spans, body) else {
+        return Err(MsgReturn::SendNoBuffer);
+    };
+    let Ok(bytes) = Vec::from_slice(alloc, bytes) else {
+        return Err(MsgReturn::SendNoBuffer);
+    };
+    Ok(Message {
+        bytes,
+        id: parsed.id,
+        is_complex: parsed.is_complex,
+        by_once: rights.destination.given.is_send_once(),
+        carried,
+    })
+}
+
+// The message that is queued where it carries nothing beside its bytes.
+fn lone_message(
+    alloc: Global,
+    parsed: &Parsed,
+    bytes: &[u8],
+    rights: &Rights,
+) -> Result<Message, MsgReturn>
+    requires spans { parsed.now.spans ≡ [] }
+    requires reply { rights.now.reply ≡ None }
+    ensures ok { IfOk result (λ message. message ≡ message_with parsed.now bytes.now rights.now []) }
+    ensures err { IfErr result (λ code. code ≡ SendNoBuffer) }
+{
+    let Ok(bytes) = Vec::from_slice(alloc, bytes) else {
+        return Err(MsgReturn::SendNoBuffer);
+    };
+    Ok(Message {
+        bytes,
+        id: parsed.id,
+        is_complex: parsed.is_complex,
+        by_once: rights.destination.given.is_send_once(),
+        carried: None,
+    })
 }
 
 /// Judges a message of the task, of which this was read, and makes the plan by which [`commit`] sends
@@ -484,38 +543,37 @@ pub fn check(
     world: &World,
     alloc: Global,
     task: TaskId,
-    parsed: Parsed,
+    parsed: &Parsed,
     bytes: &[u8],
 ) -> Result<Plan, MsgReturn>
     requires there { HasTask world.now task }
-    requires parses { Parses bytes.now parsed }
+    requires parses { Parses bytes.now parsed.now }
     requires tied { IsTied world.now task }
-    ensures ok { IfOk result (λ plan. (p : Parses bytes.now parsed) → IsPlan world.now task parsed p.written bytes.now plan) }
-    ensures err { IfErr result (λ code. (p : Parses bytes.now parsed) → CannotPlan world.now task parsed p.written (msg_number code)) }
+    ensures ok { IfOk result (λ plan. (p : Parses bytes.now parsed.now) → IsPlan world.now task parsed.now p.written bytes.now plan) }
+    ensures err { IfErr result (λ code. (p : Parses bytes.now parsed.now) → CannotPlan world.now task parsed.now p.written (msg_number code)) }
 {
-    let words = read_words(alloc, &parsed, bytes)?;
+    let words = read_words(alloc, parsed, bytes)?;
+    if is_lone(&words, parsed) {
+        let rights = judge_lone(world.space(task), &words)?;
+        admit(world, &rights, &[])?;
+        let message = lone_message(alloc, parsed, bytes, &rights)?;
+        return Ok(Plan {
+            task,
+            words,
+            destination: rights.destination,
+            port: rights.port,
+            message,
+        });
+    }
     let mut body = SmallVec::new(alloc);
     let rights = judge_all(alloc, world.space(task), &words, &mut body)?;
     admit(world, &rights, body.as_slice())?;
-    let Ok((bytes, carried)) = copies_of(alloc, bytes, body.as_slice()) else {
-        return Err(MsgReturn::SendNoBuffer);
-    };
-    let Rights {
-        destination,
-        port,
-        reply,
-    } = rights;
+    let message = message_of(alloc, parsed, bytes, &rights, body.as_slice())?;
     Ok(Plan {
         task,
         words,
-        destination,
-        port,
-        message: Message {
-            bytes,
-            parsed,
-            by_once: destination.given.is_send_once(),
-            reply,
-            rights: carried,
-        },
+        destination: rights.destination,
+        port: rights.port,
+        message,
     })
 }

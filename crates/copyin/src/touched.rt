@@ -30,26 +30,18 @@ pub(crate) struct Touched {
     pub(crate) many: BTreeMap<u32, Option<Entry>>,
 }
 
-// What stands under the name after the first few.
+// What stands under the name after the first few: what the last of them left that touched it.
 fn after_few(space: &Space, few: &[Touch], name: Name) -> Option<Entry>
     ensures { result ≡ map.get (puts space.now.names few.now) name }
 {
-    let mut standing = space.lookup(name);
-    for touch in few {
-        standing = after_touch(standing, touch, name);
+    let mut earlier = few;
+    while let Some((last, rest)) = earlier.split_last() {
+        if last.name == name.number() {
+            return last.left;
+        }
+        earlier = rest;
     }
-    standing
-}
-
-// What stands under the name after this was touched.
-fn after_touch(standing: Option<Entry>, touch: &Touch, name: Name) -> Option<Entry>
-    ensures { (names : Names) → standing ≡ map.get names name → result ≡ map.get (put names touch.now.name touch.now.left) name }
-{
-    if touch.name == name.number() {
-        touch.left
-    } else {
-        standing
-    }
+    space.lookup(name)
 }
 
 impl Touched {

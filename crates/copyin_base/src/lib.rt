@@ -15,7 +15,7 @@ mod queued;
 mod world;
 
 pub use code::Code;
-pub use message::{Carried, Mark, Message};
+pub use message::{Carried, CarriedRights, Mark, Message};
 pub use notice::Notice;
 pub use queued::{Queued, Slot};
 pub use world::World;

@@ -1,15 +1,21 @@
 //! A message that was sent, as it lies in a queue.
+ghost use Rattle.std.specs.Prelude.{◌≡◌, [], None, IfOk, IsOk};
+ghost use Rattle.copyin_base.specs.Carrying.{reply_in, spans_in, rights_in};
+
 use mach_types::{Disposition, PortId};
-use message_codec::Parsed;
+use message_codec::Span;
+use smallvec::SmallVec;
+use std::alloc::{AllocError, Global};
+use std::boxed::Box;
 use std::marker::Model;
 
 /// What stands in a right's place in a queued message.
 #[derive(Clone, Copy, Debug, PartialEq, Eq)]
 pub enum Mark {
-    /// A right for the port.
-    Port(PortId),
     /// No right: the word was 0.
     Null,
+    /// A right for the port.
+    Port(PortId),
     /// A right for a port that was dead when the message was sent.
     Dead,
 }
@@ -24,38 +30,114 @@ pub struct Carried {
 }
 
 impl Default for Carried {
-    /// No right: an unused place in a list of rights.
+    /// No right: an unused place in a list of rights, whose bytes are all zero.
     fn default() -> Carried {
         Carried {
-            given: Disposition::CopySend,
+            given: Disposition::MoveReceive,
             mark: Mark::Null,
         }
     }
 }
 
-/// A message: its bytes as they were sent, where its port words stand, and its rights.
+/// How many rights of a body, and spans of their words, need no allocation of their own.
+const INLINE_RIGHTS: usize = 2;
+
+/// What a message carries beside its bytes: its rights, and where their words stand.
+#[derive(Drop)]
+pub struct CarriedRights {
+    /// The right to answer with.
+    pub reply: Option<Carried>,
+    /// Where the port words of the body stand.
+    pub spans: SmallVec<Span, INLINE_RIGHTS>,
+    /// The rights of the body's port words, from the front.
+    pub rights: SmallVec<Carried, INLINE_RIGHTS>,
+}
+
+impl CarriedRights {
+    /// Keeps these, if there are any: most messages carry none, and need no memory for it.
+    ///
+    /// An error means that memory was refused.
+    pub fn of(
+        alloc: Global,
+        reply: Option<Carried>,
+        spans: &[Span],
+        rights: &[Carried],
+    ) -> Result<Option<Box<CarriedRights>>, AllocError>
+        ensures reply { IfOk result (λ carried. reply_in carried ≡ reply) }
+        ensures spans { IfOk result (λ carried. spans_in carried ≡ spans.now) }
+        ensures rights { IfOk result (λ carried. rights_in carried ≡ rights.now) }
+        ensures none { reply ≡ None → spans.now ≡ [] → rights.now ≡ [] → IsOk result }
+    {
+        if reply.is_none() && spans.is_empty() && rights.is_empty() {
+            return Ok(None);
+        }
+        let carried = CarriedRights {
+            reply,
+            spans: SmallVec::from_slice(alloc, spans)?,
+            rights: SmallVec::from_slice(alloc, rights)?,
+        };
+        let carried = Box::new(alloc, carried)?;
+        Ok(Some(carried))
+    }
+}
+
+/// A message: its bytes as they were sent, and what it carries beside them.
 #[derive(Drop)]
 pub struct Message {
     /// All its bytes, 24 to 65,536.
     pub bytes: Vec<u8>,
-    /// What was read of them.
-    pub parsed: Parsed,
+    /// Its id.
+    pub id: u32,
+    /// Whether its body is a list of items.
+    pub is_complex: bool,
     /// Whether it goes by a send-once right, and not by a send right.
     pub by_once: bool,
-    /// The right to answer with.
-    pub reply: Option<Carried>,
-    /// The rights of the body's port words, from the front.
-    pub rights: Vec<Carried>,
+    /// Its rights beside the destination's, and where the words of its body's stand. A message that
+    /// has none of these is small in its queue.
+    pub carried: Option<Box<CarriedRights>>,
 }
 
 impl Model for Message {
     ghost use Rattle.std.specs.Prelude.{false};
     ghost use Rattle.copyin_base.specs.Kept.{Kept, kept_code};
-    ghost use Rattle.copyin_base.specs.contracts.message.Carried as carried;
+    ghost use Rattle.copyin_base.specs.Carrying.{reply_in, spans_in, rights_in};
+    ghost use Rattle.copyin_base.specs.contracts.message.Carried as right;
 
     ghost Value = { Kept };
 
-    ghost coded = { kept_code carried.the_row.coded };
+    ghost coded = { kept_code right.the_row.coded };
 
-    ghost view = { λ m. record { bytes = m.bytes.items; id = m.parsed.id; is_complex = m.parsed.is_complex; spans = m.parsed.spans; by_once = m.by_once; reply = m.reply; rights = m.rights.items; told = false } };
+    ghost view = { λ m. record { bytes = m.bytes.items; id = m.id; is_complex = m.is_complex; spans = spans_in m.carried; by_once = m.by_once; reply = reply_in m.carried; rights = rights_in m.carried; told = false } };
+}
+
+impl Message {
+    /// The right to answer with.
+    pub fn reply(&self) -> Option<Carried>
+        ensures { result ≡ self.now.reply }
+    {
+        match &self.carried {
+            Some(carried) => carried.reply,
+            None => None,
+        }
+    }
+
+    /// Where the port words of the body stand.
+    pub fn spans(&self) -> &[Span]
+        ensures { result.now ≡ self.now.spans }
+    {
+        match &self.carried {
+            Some(carried) => carried.spans.as_slice(),
+            None => &[],
+        }
+    }
+
+    /// The rights of the body's port words, from the front.
+    pub fn rights(&self) -> &[Carried]
+        ensures { result.now ≡ self.now.rights }
+    {
+        match &self.carried {
+            Some(carried) => carried.rights.as_slice(),
+            None => &[],
+        }
+    }
 }

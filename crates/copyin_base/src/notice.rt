@@ -1,14 +1,15 @@
 //! A notice that the kernel sends, and the message that it is.
-ghost use Rattle.std.specs.Prelude.{◌≡◌, ◌++◌, replicate, length, IfOk};
+ghost use Rattle.std.specs.Prelude.{◌≡◌, ◌++◌, replicate, length, None, IfOk};
 ghost use Rattle.mach_model.specs.Notices.{notice_id};
+ghost use Rattle.copyin_base.specs.Carrying.{reply_in, spans_in, rights_in};
 ghost use Rattle.copyin_base.specs.Kept.{IsMessageOf};
 ghost use Rattle.copyin_base.specs.Queued.{notice_of, item_words, item_text, carried_with, spans_for, rights_for, notice_kept};
 
-use crate::message::{Carried, Mark, Message};
+use crate::message::{Carried, CarriedRights, Mark, Message};
 use mach_types::{Disposition, Name, PortId};
-use message_codec::{Parsed, Span, Spans};
-use smallvec::SmallVec;
+use message_codec::Span;
 use std::alloc::{AllocError, Global};
+use std::boxed::Box;
 use type_descriptor::write_word;
 
 // The descriptors of an item of one name, one receive right, and one number, in the short form.
@@ -91,18 +92,10 @@ impl Notice {
         let carried = self.carried();
         Ok(Message {
             bytes: item_bytes(alloc, self.words())?,
-            parsed: Parsed {
-                remote_kind: Disposition::MoveSendOnce.number(),
-                local_kind: 0,
-                remote: Name::null(),
-                local: Name::null(),
-                id: self.id(),
-                is_complex: carried.is_some(),
-                spans: spans(alloc, carried),
-            },
+            id: self.id(),
+            is_complex: carried.is_some(),
             by_once: true,
-            reply: None,
-            rights: rights(alloc, carried)?,
+            carried: carried_rights(alloc, carried)?,
         })
     }
 }
@@ -120,29 +113,23 @@ fn item_bytes(alloc: Global, words: Option<(u32, u32)>) -> Result<Vec<u8>, Alloc
     Vec::from_slice(alloc, &bytes)
 }
 
-// Where the word of the right stands, behind the header and a descriptor.
-fn spans(alloc: Global, carried: Option<Carried>) -> Spans
-    ensures { result ≡ spans_for carried }
+// The right, whose word stands behind the header and a descriptor.
+fn carried_rights(
+    alloc: Global,
+    carried: Option<Carried>,
+) -> Result<Option<Box<CarriedRights>>, AllocError>
+    ensures reply { IfOk result (λ kept. reply_in kept ≡ None) }
+    ensures spans { IfOk result (λ kept. spans_in kept ≡ spans_for carried) }
+    ensures rights { IfOk result (λ kept. rights_in kept ≡ rights_for carried) }
 {
-    let mut spans = SmallVec::new(alloc);
     let Some(carried) = carried else {
-        return Spans::from_small_vec(spans);
+        return Ok(None);
     };
-    spans.push_reserved(Span {
+    let span = Span {
         at: 24,
         long: false,
         disposition: carried.given.number(),
         number: 1,
-    });
-    Spans::from_small_vec(spans)
-}
-
-// The right as the list of all of them.
-fn rights(alloc: Global, carried: Option<Carried>) -> Result<Vec<Carried>, AllocError>
-    ensures { IfOk result (λ rights. rights.items ≡ rights_for carried) }
-{
-    match carried {
-        Some(carried) => Vec::from_slice(alloc, &[carried]),
-        None => Ok(Vec::new(alloc)),
-    }
+    };
+    CarriedRights::of(alloc, None, &[span], &[carried])
 }

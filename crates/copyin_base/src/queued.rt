@@ -73,7 +73,7 @@ impl Queued {
         ensures { result ≡ length self.now.rights }
     {
         match &self.slot {
-            Slot::Sent(message) => message.rights.len(),
+            Slot::Sent(message) => message.rights().len(),
             Slot::Told(notice) => usize::from(notice.carried().is_some()),
         }
     }

@@ -10,6 +10,7 @@ ghost use Rattle.port.specs.Ports.{with_port};
 ghost use Rattle.rights.specs.declared.RightKind.TheVariants as right;
 ghost use Rattle.rights.specs.Ledger.{IsEntered, counts_of, taken};
 ghost use Rattle.rights.specs.Counts.{number_of};
+ghost use Rattle.copyin_base.specs.Carrying.{spans_in};
 ghost use Rattle.copyin_base.specs.Changes.{MakesRoom};
 ghost use Rattle.copyin_base.specs.Kept.{Kept, Makes};
 ghost use Rattle.copyin_base.specs.Wanted.{LacksRoomFor};
@@ -24,14 +25,15 @@ ghost use Rattle.copyout.specs.declared.receipt.Refusal.TheVariants as refused;
 
 use crate::give::{give_right, give_rights};
 use crate::room::room_needed;
-use copyin_base::{Carried, Message, Queued, World};
+use copyin_base::{Carried, CarriedRights, Message, Queued, World};
 use mach_types::bits::COMPLEX;
 use mach_types::limits::{MOST_BYTES, MOST_NAMES};
 use mach_types::{Bytes, KernReturn, Name, PortId, TaskId};
-use message_codec::{Header, Parsed, put_received};
+use message_codec::{Header, Span, put_received};
 use rights::RightKind;
 use smallvec::SmallVec;
 use std::alloc::{AllocError, Global};
+use std::boxed::Box;
 
 /// Why a message isn't received. It stays, and all is as before.
 #[derive(Clone, Copy, Debug, PartialEq, Eq)]
@@ -112,15 +114,25 @@ fn give_reply(world: &mut World, task: TaskId, reply: &Option<Carried>) -> Name
     }
 }
 
+// Where the port words of a message stand that carries this.
+fn spans_of(carried: &Option<Box<CarriedRights>>) -> &[Span]
+    ensures { result.now ≡ spans_in carried.now }
+{
+    match carried {
+        Some(carried) => carried.spans.as_slice(),
+        None => &[],
+    }
+}
+
 // The bytes as the receiver gets them.
-fn spell(bytes: Vec<u8>, parsed: &Parsed, header: &Header, names: &[Name]) -> Bytes
-    requires laid_out { (written : WireBody) × IsLaidOut bytes.items parsed.now.spans written }
-    requires named { length names.now ≡ word_count parsed.now.spans }
-    ensures { (written : WireBody) → IsLaidOut bytes.items parsed.now.spans written
+fn spell(bytes: Vec<u8>, spans: &[Span], header: &Header, names: &[Name]) -> Bytes
+    requires laid_out { (written : WireBody) × IsLaidOut bytes.items spans.now written }
+    requires named { length names.now ≡ word_count spans.now }
+    ensures { (written : WireBody) → IsLaidOut bytes.items spans.now written
         → result ≡ header_text header.now ++ body_text (received_body written names.now) }
 {
     let mut bytes = bytes;
-    put_received(&mut bytes, parsed, header, names);
+    put_received(&mut bytes, spans, header, names);
     Bytes::from_vec(bytes)
 }
 
@@ -141,25 +153,26 @@ fn deliver(
     requires room { length message.rights ≤ names.capacity }
     ensures { Delivers world.old task message local sequence result world.new }
 {
+    let mut names = names;
+    let reply = message.reply();
+    let remote = give_reply(world, task, &reply);
+    give_rights(world, task, message.rights(), &mut names);
     let Message {
         bytes,
-        parsed,
+        id,
+        is_complex,
         by_once,
-        reply,
-        rights,
+        carried,
     } = message;
-    let mut names = names;
-    let remote = give_reply(world, task, &reply);
-    give_rights(world, task, &rights, &mut names);
     let header = Header {
-        bits: header_bits(&reply, by_once, parsed.is_complex),
+        bits: header_bits(&reply, by_once, is_complex),
         size: bytes.len() as u32,
         remote,
         local,
         sequence,
-        id: parsed.id,
+        id,
     };
-    spell(bytes, &parsed, &header, &names)
+    spell(bytes, spans_of(&carried), &header, &names)
 }
 
 // What memory is taken for before the message is.

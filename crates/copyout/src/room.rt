@@ -241,8 +241,8 @@ fn lone_names(world: &World, space: &Space, carried: &Carried) -> usize
 fn room_of_sent(world: &World, space: &Space, message: &Message) -> usize
     ensures { Needs world.now.ports space.now.names [] (carried_by message.now) result }
 {
-    let rights = message.rights.as_slice();
-    match (&message.reply, rights.len()) {
+    let rights = message.rights();
+    match (&message.reply(), rights.len()) {
         (None, 0) => 0,
         (None, 1) => lone_names(world, space, &rights[0]),
         (Some(carried), 0) => lone_names(world, space, carried),

@@ -55,7 +55,7 @@ fn send_text(world: &mut World, alloc: Global, task: TaskId, bytes: &[u8]) -> Re
         Ok(parsed) => parsed,
         Err(code) => return Err(code),
     };
-    let plan = match check(world, alloc, task, parsed, bytes) {
+    let plan = match check(world, alloc, task, &parsed, bytes) {
         Ok(plan) => plan,
         Err(code) => return Err(code),
     };

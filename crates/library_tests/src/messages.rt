@@ -37,7 +37,7 @@ fn receive(alloc: Global, bytes: &mut [u8], header: &Header, names: &[Name]) -> 
     if parsed.spans.as_slice().len() > 100 || parsed.spans.word_count() != names.len() as u64 {
         return false;
     }
-    put_received(bytes, &parsed, header, names);
+    put_received(bytes, parsed.spans.as_slice(), header, names);
     true
 }
 

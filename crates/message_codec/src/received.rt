@@ -7,7 +7,6 @@ ghost use Rattle.message_codec.specs.Putting.{with_span, with_spans};
 
 use crate::header::{Header, put_header};
 use crate::spans::Span;
-use crate::text::Parsed;
 use mach_types::{Disposition, Name};
 use type_descriptor::write_word;
 
@@ -60,12 +59,12 @@ fn put_spans(bytes: &mut [u8], spans: &[Span], names: &[Name])
 /// of each item with port words, and these words, of which `names` has one for each, from the front
 /// (IPC Interface, `mach_msg`). All other bytes stay as they were sent. Takes no memory, and time that
 /// grows with the number of items and words.
-pub fn put_received(bytes: &mut [u8], parsed: &Parsed, header: &Header, names: &[Name])
-    requires laid_out { (written : WireBody) × IsLaidOut bytes.old parsed.now.spans written }
-    requires named { length names.now ≡ word_count parsed.now.spans }
-    ensures { (written : WireBody) → IsLaidOut bytes.old parsed.now.spans written
+pub fn put_received(bytes: &mut [u8], spans: &[Span], header: &Header, names: &[Name])
+    requires laid_out { (written : WireBody) × IsLaidOut bytes.old spans.now written }
+    requires named { length names.now ≡ word_count spans.now }
+    ensures { (written : WireBody) → IsLaidOut bytes.old spans.now written
         → bytes.new ≡ header_text header.now ++ body_text (received_body written names.now) }
 {
     put_header(bytes, header);
-    put_spans(bytes, parsed.spans.as_slice(), names);
+    put_spans(bytes, spans, names);
 }

@@ -1,4 +1,4 @@
-use Rattle.std.proofs.Common.{◌≡◌, ℕ, ◌+◌, ◌-◌, ◌<◌, ◌++◌, List, [], ◌∷◌, Option, Some, sym, ap, ◌∙◌, subst, arith}
+use Rattle.std.proofs.Common.{◌≡◌, ℕ, ◌-◌, ◌<◌, ◌++◌, List, [], ◌∷◌, Option, Some, sym, ap, ◌∙◌, subst, arith}
 use Rattle.std.specs.FinMap as map
 use Rattle.std.specs.Option.{option_to_list}
 use Rattle.message_codec.specs.declared.words.PortWord.{PortWord}
@@ -32,7 +32,7 @@ copy_reply-requires c =
     let rights = option_to_list plan.message.reply in
     let go = go_on c.args.world.now one plan.task plan.words.destination (words ++ plan.words.body.items) plan.destination (rights ++ plan.message.rights)
     (plan_goes c.args.world.now plan.task q.1 q.2 q.3 plan own c.requires.tied) c.copy_word.ensures in
-    let same : plan.message.reply ≡ c.message.inside.reply = ap (λ (m : Kept). m.reply) (sym c.message.view_is) in
+    let same : plan.message.reply ≡ c.reply.result = sym c.reply.ensures in
     subst (λ (o : Option Carried). CanGo one plan.task words (option_to_list o)) same
     (front_goes one plan.task words plan.words.body.items rights plan.message.rights (plan_pairs c.args.world.now plan.task q.1 q.2 q.3 plan own c.requires.tied) go)
 
@@ -47,12 +47,12 @@ copy_words-requires c =
     let rights = option_to_list plan.message.reply in
     let go = go_on c.args.world.now one plan.task plan.words.destination (words ++ plan.words.body.items) plan.destination (rights ++ plan.message.rights)
     (plan_goes c.args.world.now plan.task q.1 q.2 q.3 plan own c.requires.tied) c.copy_word.ensures in
-    let same : c.message.inside.reply ≡ plan.message.reply = ap (λ (m : Kept). m.reply) c.message.view_is in
+    let same : c.reply.result ≡ plan.message.reply = c.reply.ensures in
     let went : ChangesWords one plan.task words rights two = subst (λ (o : Option Carried). ChangesWords one plan.task words (option_to_list o) two) same c.copy_reply.ensures in
     let last = rest_goes one two plan.task words plan.words.body.items rights plan.message.rights go went in
     let words_are : plan.words.body.items ≡ c.as_slice.result.now = sym c.as_slice.ensures in
-    let rights_are : plan.message.rights ≡ c.as_slice-2.result.now = ap (λ (m : Kept). m.rights) (sym c.message.view_is) ∙ sym c.as_slice-2.ensures.value in
-    subst (λ (ws : List PortWord). CanGo two plan.task ws c.as_slice-2.result.now) words_are (subst (λ (cs : List Carried). CanGo two plan.task plan.words.body.items cs) rights_are last)
+    let rights_are : plan.message.rights ≡ c.rights.result.now = sym c.rights.ensures in
+    subst (λ (ws : List PortWord). CanGo two plan.task ws c.rights.result.now) words_are (subst (λ (cs : List Carried). CanGo two plan.task plan.words.body.items cs) rights_are last)
 
 pub enqueue-requires-clause-live : goal.enqueue-requires-clause-live
 enqueue-requires-clause-live c =
@@ -60,9 +60,9 @@ enqueue-requires-clause-live c =
     let one = c.copy_word.new.world in
     let two = c.copy_reply.new.world in
     let mid = c.copy_words.new.world in
-    let same : c.message.inside.reply ≡ plan.message.reply = ap (λ (m : Kept). m.reply) c.message.view_is in
+    let same : c.reply.result ≡ plan.message.reply = c.reply.ensures in
     let words_are : c.as_slice.result.now ≡ plan.words.body.items = c.as_slice.ensures in
-    let rights_are : c.as_slice-2.result.now ≡ plan.message.rights = c.as_slice-2.ensures.value ∙ ap (λ (m : Kept). m.rights) c.message.view_is in
+    let rights_are : c.rights.result.now ≡ plan.message.rights = c.rights.ensures in
     let ca : Carries c.args.world.now plan.task plan mid = record {
       one = one;
       destination = c.copy_word.ensures;
@@ -84,9 +84,9 @@ enqueue-requires-clause-spare c =
     let one = c.copy_word.new.world in
     let two = c.copy_reply.new.world in
     let mid = c.copy_words.new.world in
-    let same : c.message.inside.reply ≡ plan.message.reply = ap (λ (m : Kept). m.reply) c.message.view_is in
+    let same : c.reply.result ≡ plan.message.reply = c.reply.ensures in
     let words_are : c.as_slice.result.now ≡ plan.words.body.items = c.as_slice.ensures in
-    let rights_are : c.as_slice-2.result.now ≡ plan.message.rights = c.as_slice-2.ensures.value ∙ ap (λ (m : Kept). m.rights) c.message.view_is in
+    let rights_are : c.rights.result.now ≡ plan.message.rights = c.rights.ensures in
     let ca : Carries c.args.world.now plan.task plan mid = record {
       one = one;
       destination = c.copy_word.ensures;
@@ -106,9 +106,9 @@ use_right-requires c once =
     let one = c.copy_word.new.world in
     let two = c.copy_reply.new.world in
     let mid = c.copy_words.new.world in
-    let same : c.message.inside.reply ≡ plan.message.reply = ap (λ (m : Kept). m.reply) c.message.view_is in
+    let same : c.reply.result ≡ plan.message.reply = c.reply.ensures in
     let words_are : c.as_slice.result.now ≡ plan.words.body.items = c.as_slice.ensures in
-    let rights_are : c.as_slice-2.result.now ≡ plan.message.rights = c.as_slice-2.ensures.value ∙ ap (λ (m : Kept). m.rights) c.message.view_is in
+    let rights_are : c.rights.result.now ≡ plan.message.rights = c.rights.ensures in
     let ca : Carries c.args.world.now plan.task plan mid = record {
       one = one;
       destination = c.copy_word.ensures;
@@ -129,9 +129,9 @@ returns c =
     let one = c.copy_word.new.world in
     let two = c.copy_reply.new.world in
     let mid = c.copy_words.new.world in
-    let same : c.message.inside.reply ≡ plan.message.reply = ap (λ (m : Kept). m.reply) c.message.view_is in
+    let same : c.reply.result ≡ plan.message.reply = c.reply.ensures in
     let words_are : c.as_slice.result.now ≡ plan.words.body.items = c.as_slice.ensures in
-    let rights_are : c.as_slice-2.result.now ≡ plan.message.rights = c.as_slice-2.ensures.value ∙ ap (λ (m : Kept). m.rights) c.message.view_is in
+    let rights_are : c.rights.result.now ≡ plan.message.rights = c.rights.ensures in
     let ca : Carries c.args.world.now plan.task plan mid = record {
       one = one;
       destination = c.copy_word.ensures;

@@ -1,25 +1,8 @@
-use Rattle.std.proofs.Common.{sym, inl, inr}
+use Rattle.std.proofs.Common.{inl, inr}
 use Rattle.std.proofs.lemmas.Result.{err_from_is_err_and}
 use Rattle.copyin_base.specs.Worlds.{put}
 use Rattle.copyin.specs.Goes.{Starts}
-use Rattle.copyin.proofs.Judging.{none_replies, none_goes}
 use Rattle.copyin.proofs.judge.judge_all.Goals as goal
-
-pub returns-then-is_empty-clause-ok : goal.returns-then-is_empty-clause-ok
-returns-then-is_empty-clause-ok c =
-    let starts = c.in_ok-carried.ensures.ok in
-    let first = put c.args.space.now.names c.args.words.now.destination.name c.in_ok-carried.field-0.left in
-    record {
-      to_port = starts.to_port;
-      first = first;
-      destination = starts.copies;
-      others = record {
-        second = first;
-        reply = none_replies first c.args.words.now.reply c.if-is_none.ensures;
-        last = first;
-        body = none_goes first c.args.words.now.body.items c.args.body.now.items (sym c.if-is_empty.ensures) c.requires.none;
-      };
-    }
 
 pub returns-in_err-reply-clause-err : goal.returns-in_err-reply-clause-err
 returns-in_err-reply-clause-err c =

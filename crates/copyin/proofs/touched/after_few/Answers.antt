@@ -1,18 +1,26 @@
-use Rattle.std.proofs.Common.{◌≡◌, ◌+◌, ◌∷◌, ◌++◌, [], take, sym, ap, ◌∙◌}
-use Rattle.std.proofs.lemmas.List.{take_more}
+use Rattle.std.proofs.Common.{◌≡◌, sym, ap, ◌∙◌}
 use Rattle.std.specs.FinMap as map
 use Rattle.name_space.specs.Names.{Names}
-use Rattle.copyin.specs.declared.touched.Touch.{Touch}
 use Rattle.copyin.specs.Overlays.{puts}
-use Rattle.copyin.proofs.Overlays.{puts-push}
+use Rattle.copyin_base.specs.Worlds.{put}
+use Rattle.copyin.proofs.Overlays.{get_put, get_put_other, puts-push}
 use Rattle.copyin.proofs.touched.after_few.Goals as goal
 
-pub loop-touch-preserved : goal.loop-touch-preserved
-loop-touch-preserved c =
+pub returns-then-last-number : goal.returns-then-last-number
+returns-then-last-number c =
     let names = c.args.space.now.names in
-    let few = c.args.few.now in
-    let i = c.loop-touch.touch-index in
-    let touch = c.touch-item.result in
-    let more : take (i + 1) few ≡ take i few ++ touch ∷ [] = take_more few i touch c.loop-touch-test.true ∙ ap (λ (x : Touch). take i few ++ x ∷ []) (sym c.touch-item.is) in
-    c.after_touch-standing.ensures (puts names (take i few)) c.loop-touch.invariant
-    ∙ ap (λ (m : Names). map.get m c.args.name) (sym (ap (puts names) more ∙ puts-push names (take i few) touch))
+    let last = c.in-Some.last.now in
+    let rest = c.in-Some.rest.now in
+    let same : c.args.name ≡ last.name = sym (c.if-last-number.true ∙ c.number.ensures) in
+    let stands : puts names c.loop-last.earlier.now ≡ put (puts names rest) last.name last.left = ap (puts names) (c.in-Some.ensures.cases.0) ∙ puts-push names rest last in
+    let put_last : map.get (put (puts names rest) last.name last.left) c.args.name ≡ last.left = rw same (get_put (puts names rest) last.name last.left) in
+    sym (c.loop-last.invariant ∙ ap (λ (m : Names). map.get m c.args.name) stands ∙ put_last)
+
+pub loop-last-preserved : goal.loop-last-preserved
+loop-last-preserved c =
+    let names = c.args.space.now.names in
+    let last = c.in-Some.last.now in
+    let rest = c.in-Some.rest.now in
+    let stands : puts names c.loop-last.earlier.now ≡ put (puts names rest) last.name last.left = ap (puts names) (c.in-Some.ensures.cases.0) ∙ puts-push names rest last in
+    c.loop-last.invariant ∙ ap (λ (m : Names). map.get m c.args.name) stands
+    ∙ get_put_other (puts names rest) last.name last.left c.args.name (λ e. c.if-last-number.false (sym e ∙ sym c.number.ensures))

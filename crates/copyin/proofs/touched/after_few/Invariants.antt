@@ -1,7 +1,10 @@
-use Rattle.std.proofs.Common.{◌≡◌, take}
+use Rattle.std.proofs.Common.{◌≡◌, length}
 use Rattle.std.specs.FinMap as map
 use Rattle.copyin.specs.Overlays.{puts}
 use Rattle.copyin.proofs.touched.after_few.Given as goal
 
-abbrev pub invariant-loop-touch : goal.invariant-loop-touch
-invariant-loop-touch l = l.standing ≡ map.get (puts l.space.names (take l.touch-index l.few)) l.name
+abbrev pub invariant-loop-last : goal.invariant-loop-last
+invariant-loop-last l = map.get (puts l.space.names l.few) l.name ≡ map.get (puts l.space.names l.earlier) l.name
+
+abbrev pub decreases-loop-last : goal.decreases-loop-last
+decreases-loop-last l = length l.earlier

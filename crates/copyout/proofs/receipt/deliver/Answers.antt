@@ -1,38 +1,69 @@
-use Rattle.std.proofs.Common.{◌≡◌, ℕ, ◌++◌, List, length, sym, ap, subst, ◌∙◌, refl, rules}
+use Rattle.std.proofs.Common.{◌≡◌, ℕ, ◌+◌, ◌*◌, ◌^◌, ◌++◌, List, Option, length, sym, ap, subst, ◌∙◌, refl, rules}
+use Rattle.std.specs.Prelude.{if◌then◌else◌}
+use Rattle.std.specs.Option.{option_to_list}
 use Rattle.mach_types.specs.Grammar.{body_text}
-use Rattle.message_codec.specs.Received.{header_text, received_body}
+use Rattle.message_codec.specs.declared.header.Header.{Header}
+use Rattle.message_codec.specs.declared.spans.Span.{Span}
+use Rattle.message_codec.specs.Received.{IsLaidOut, header_text, received_body}
 use Rattle.message_codec.specs.Spans.{word_count}
 use Rattle.copyin_base.specs.declared.message.Carried.{Carried}
 use Rattle.copyin_base.specs.Kept.{Kept}
 use Rattle.copyout.specs.Giving.{GivesAll}
-use Rattle.copyout.specs.Ready.{CanGive, Delivers, carried_by}
+use Rattle.copyout.specs.Ready.{CanGive}
+use Rattle.copyout.specs.Takes.{reply_number, reply_word}
 use Rattle.copyout.proofs.Delivered.{can_reply, can_rights, gives_length, delivers}
 use Rattle.copyout.proofs.receipt.deliver.Goals as goal
 
 pub give_reply-remote-requires : goal.give_reply-remote-requires
 give_reply-remote-requires c =
-    can_reply c.args.world.now c.args.task c.message.inside.reply c.message.inside.rights.items
-    (subst (λ (m : Kept). CanGive c.args.world.now c.args.task (carried_by m)) (sym c.message.view_is) c.requires.can)
+    let m = c.args.message in
+    subst (λ (o : Option Carried). CanGive c.args.world.now c.args.task (option_to_list o)) (sym c.reply-reply.ensures)
+    (can_reply c.args.world.now c.args.task m.reply m.rights c.requires.can)
 
 pub give_rights-requires-clause-can : goal.give_rights-requires-clause-can
 give_rights-requires-clause-can c =
-    let can = subst (λ (m : Kept). CanGive c.args.world.now c.args.task (carried_by m)) (sym c.message.view_is) c.requires.can in
-    let rights : c.deref.result.now ≡ c.message.inside.rights.items = c.deref.ensures.value in
+    let m = c.args.message in
+    let mid = c.give_reply-remote.new.world in
     let first = c.give_reply-remote.ensures in
-    subst (λ (xs : List Carried). CanGive c.give_reply-remote.new.world c.args.task xs) (sym rights)
-    (can_rights c.args.world.now c.give_reply-remote.new.world c.args.task c.message.inside.reply c.message.inside.rights.items first.0 can first.1)
+    subst (λ (xs : List Carried). CanGive mid c.args.task xs) (sym c.rights.ensures)
+    (can_rights c.args.world.now mid c.args.task m.reply m.rights first.0 c.requires.can
+    (subst (λ (o : Option Carried). GivesAll c.args.world.now c.args.task (option_to_list o) first.0 mid) c.reply-reply.ensures first.1))
+
+pub spell-requires-clause-laid_out : goal.spell-requires-clause-laid_out
+spell-requires-clause-laid_out c =
+    let bytes : c.args.message.bytes ≡ c.message.inside.bytes.items = ap (λ (m : Kept). m.bytes) (sym c.message.view_is) in
+    let spans : c.args.message.spans ≡ c.spans_of.result.now = ap (λ (m : Kept). m.spans) (sym c.message.view_is) ∙ sym c.spans_of.ensures in
+    let laid = c.requires.laid_out in (
+      laid.0,
+      subst (λ (ss : List Span). IsLaidOut c.message.inside.bytes.items ss laid.0) spans (subst (λ (bs : List ℕ). IsLaidOut bs c.args.message.spans laid.0) bytes laid.1),
+    )
 
 pub spell-requires-clause-named : goal.spell-requires-clause-named
 spell-requires-clause-named c =
-    let rights : c.deref.result.now ≡ c.message.inside.rights.items = c.deref.ensures.value in
-    ap length c.deref-2.ensures
-    ∙ gives_length c.give_reply-remote.new.world c.give_rights.new.world c.args.task c.deref.result.now c.give_rights.new.names.items c.give_rights.ensures
-    ∙ ap length rights ∙ ap (λ (m : Kept). length m.rights) c.message.view_is ∙ c.requires.a_right_each ∙ ap (λ (m : Kept). word_count m.spans) (sym c.message.view_is)
+    let spans : c.args.message.spans ≡ c.spans_of.result.now = ap (λ (m : Kept). m.spans) (sym c.message.view_is) ∙ sym c.spans_of.ensures in
+    ap length c.deref.ensures
+    ∙ gives_length c.give_reply-remote.new.world c.give_rights.new.world c.args.task c.rights.result.now c.give_rights.new.names.items c.give_rights.ensures
+    ∙ ap length c.rights.ensures ∙ c.requires.a_right_each ∙ ap word_count spans
 
 pub returns : goal.returns
 returns c =
+    let m = c.args.message in
+    let inside = c.message.inside in
+    let mid = c.give_reply-remote.new.world in
     let first = c.give_reply-remote.ensures in
-    subst (λ (m : Kept). Delivers c.args.world.now c.args.task m c.args.local c.args.sequence c.spell.result c.give_rights.new.world) c.message.view_is
-    (delivers c.args.world.now c.give_reply-remote.new.world c.give_rights.new.world c.args.task _ c.args.local c.args.sequence first.0 c.give_rights.new.names.items c.spell.result (record { bits = c.header_bits.result; size = c.len.result; remote = c.give_reply-remote.result; local = c.args.local; sequence = c.args.sequence; id = c.message.inside.parsed.id })
-    first.1 (subst (λ (xs : List Carried). GivesAll c.give_reply-remote.new.world c.args.task xs c.give_rights.new.names.items c.give_rights.new.world) c.deref.ensures.value c.give_rights.ensures)
-    (c.header_bits.ensures) (let h = c.len.ensures in let ok = c.message.inside.bytes.ok in search rules) first.2 refl refl refl (λ written laid. c.spell.ensures written laid ∙ ap (λ (ws : List ℕ). header_text (record { bits = c.header_bits.result; size = c.len.result; remote = c.give_reply-remote.result; local = c.args.local; sequence = c.args.sequence; id = c.message.inside.parsed.id }) ++ body_text (received_body written ws)) c.deref-2.ensures))
+    let header : Header = record { bits = c.header_bits.result; size = c.len.result; remote = c.give_reply-remote.result; local = c.args.local; sequence = c.args.sequence; id = inside.id } in
+    let bytes : m.bytes ≡ inside.bytes.items = ap (λ (x : Kept). x.bytes) (sym c.message.view_is) in
+    let spans : m.spans ≡ c.spans_of.result.now = ap (λ (x : Kept). x.spans) (sym c.message.view_is) ∙ sym c.spans_of.ensures in
+    let size : c.len.result ≡ length inside.bytes.items = let h = c.len.ensures in let ok = inside.bytes.ok in search rules in
+    delivers c.args.world.now mid c.give_rights.new.world c.args.task m c.args.local c.args.sequence first.0 c.give_rights.new.names.items c.spell.result header
+    (subst (λ (o : Option Carried). GivesAll c.args.world.now c.args.task (option_to_list o) first.0 mid) c.reply-reply.ensures first.1)
+    (subst (λ (xs : List Carried). GivesAll mid c.args.task xs c.give_rights.new.names.items c.give_rights.new.world) c.rights.ensures c.give_rights.ensures)
+    (c.header_bits.ensures
+    ∙ ap (λ (o : Option Carried). reply_number o + (if inside.by_once then 18 else 17) * 2 ^ 8 + (if inside.is_complex then 2 ^ 31 else 0)) c.reply-reply.ensures
+    ∙ ap (λ (x : Kept). reply_number m.reply + (if x.by_once then 18 else 17) * 2 ^ 8 + (if x.is_complex then 2 ^ 31 else 0)) c.message.view_is)
+    (size ∙ ap length (sym bytes))
+    (first.2 ∙ ap (λ (o : Option Carried). reply_word o first.0) c.reply-reply.ensures)
+    refl refl (ap (λ (x : Kept). x.id) c.message.view_is)
+    (λ written laid.
+    c.spell.ensures written (subst (λ (ss : List Span). IsLaidOut inside.bytes.items ss written) spans (subst (λ (bs : List ℕ). IsLaidOut bs m.spans written) bytes laid))
+    ∙ ap (λ (ws : List ℕ). header_text header ++ body_text (received_body written ws)) c.deref.ensures)
