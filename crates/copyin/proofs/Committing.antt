@@ -63,6 +63,24 @@ made_option (Some c) = omega arith
 not_none : {X : Type 0} (o : Option X) (x : X) → o ≡ None → o ≡ Some x → ⊥
 not_none o x a b = let e : None ≡ Some x = sym a ∙ b in cc
 
+-- The rights that were judged go, one after the other.
+module _ (w : WorldView) (task : ℕ) (parsed : Parsed) (written : WireBody) (j : Judged w task parsed written) (tied : AreTied j.space.names w.ports w.ledger) where
+  first_word : CopiesWord j.space.names (destination_word parsed) j.destination j.first
+  first_word =
+      let d = j.copies_destination in
+      goes_by_name j.space.names (destination_word parsed) j.destination j.first
+      (λ e. not_none _ d.entry (ap (λ (n : ℕ). map.get j.space.names n) e ∙ tied.not_null) d.found)
+      (λ e. not_none _ d.entry (ap (λ (n : ℕ). map.get j.space.names n) e ∙ tied.not_dead) d.found) d
+
+  pub judged_all : CopiesAll j.space.names (destination_word parsed ∷ (reply_words parsed ++ body_words written)) (j.destination ∷ (option_to_list j.reply ++ j.rights)) j.last
+  judged_all = (
+    j.first,
+    first_word,
+    Through-append CopiesWord j.first j.second j.last (reply_words parsed) (body_words written) (option_to_list j.reply) j.rights
+        (reply_all j.first (reply_words parsed) j.reply j.second j.copies_reply)
+        (body_all j.second (body_words written) j.rights j.last j.copies_body),
+  )
+
 module _ (w : WorldView) (task : ℕ) (parsed : Parsed) (written : WireBody) (bytes : List ℕ) (plan : Plan) (p : IsPlan w task parsed written bytes plan) (is_tied : IsTied w task) where
   tied : AreTied p.plans.judged.space.names w.ports w.ledger
   tied = is_tied.tied p.plans.judged.space p.plans.judged.there
@@ -73,26 +91,13 @@ module _ (w : WorldView) (task : ℕ) (parsed : Parsed) (written : WireBody) (by
   rights_are : plan.message.rights ≡ p.plans.judged.rights
   rights_are = ap (λ (m : Kept). m.rights) p.message
 
-  first_word : CopiesWord p.plans.judged.space.names (destination_word parsed) p.plans.judged.destination p.plans.judged.first
-  first_word =
-      let d = p.plans.judged.copies_destination in
-      goes_by_name p.plans.judged.space.names (destination_word parsed) p.plans.judged.destination p.plans.judged.first
-      (λ e. not_none _ d.entry (ap (λ (n : ℕ). map.get p.plans.judged.space.names n) e ∙ tied.not_null) d.found)
-      (λ e. not_none _ d.entry (ap (λ (n : ℕ). map.get p.plans.judged.space.names n) e ∙ tied.not_dead) d.found) d
-
   judged_go : CanGo w task (destination_word parsed ∷ (reply_words parsed ++ body_words written))
       (p.plans.judged.destination ∷ (option_to_list p.plans.judged.reply ++ p.plans.judged.rights))
   judged_go = record {
     space = p.plans.judged.space;
     there = p.plans.judged.there;
     last = p.plans.judged.last;
-    copies = (
-      p.plans.judged.first,
-      first_word,
-      Through-append CopiesWord p.plans.judged.first p.plans.judged.second p.plans.judged.last (reply_words parsed) (body_words written) (option_to_list p.plans.judged.reply) p.plans.judged.rights
-          (reply_all p.plans.judged.first (reply_words parsed) p.plans.judged.reply p.plans.judged.second p.plans.judged.copies_reply)
-          (body_all p.plans.judged.second (body_words written) p.plans.judged.rights p.plans.judged.last p.plans.judged.copies_body),
-    );
+    copies = judged_all w task parsed written p.plans.judged tied;
     few =
         let few : w.ledger.total + made_in p.plans.judged ≤ most_rights = p.plans.few in
         let a = made_append (option_to_list p.plans.judged.reply) p.plans.judged.rights in
@@ -216,7 +221,7 @@ carries_live old mid task plan p ca h = (stay_all old mid task plan ca).live p h
 pub carries_spare : (old mid : WorldView) (task : ℕ) (plan : Plan) → Carries old task plan mid → mid.ports.spare ≡ old.ports.spare
 carries_spare old mid task plan ca = (stay_all old mid task plan ca).spare
 
-same_options : (o : Option Carried) → option_to_list o ≡ option_list o
+pub same_options : (o : Option Carried) → option_to_list o ≡ option_list o
 same_options None = refl
 same_options (Some c) = refl
 

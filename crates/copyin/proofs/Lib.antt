@@ -19,3 +19,4 @@ pub mod Leaving
 pub mod Going
 pub mod Planning
 pub mod Committing
+pub mod SlotsKept

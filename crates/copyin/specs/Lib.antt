@@ -1,5 +1,6 @@
 pub mod Copies
 pub mod Judging
+pub mod Slots
 pub mod Plans
 pub mod Overlays
 pub mod Goes

@@ -6,6 +6,7 @@
 mod carry_out;
 mod copies;
 mod judge;
+mod slots;
 mod touched;
 
 pub use carry_out::{commit, copy_name};

@@ -11,7 +11,7 @@ use Rattle.mach_model.specs.Settles.{Settles}
 use Rattle.mach_model.proofs.StepQuiet.{Does-still}
 use Rattle.mach_model.proofs.Settling.{mid_settles}
 use Rattle.copyin_base.specs.Worlds.{WorldView}
-use Rattle.copyin_base.specs.Shows.{Agrees, HoldersAgree, Shows}
+use Rattle.copyin_base.specs.Shows.{Agrees, HoldersAgree, SlotsSuffice, Shows}
 use Rattle.copyin_base.specs.Acts.{ShowsMid, Acts, Declines, AreTasks, HasTasks, IsRefused, IsAllowed}
 use Rattle.copyin_base.proofs.Told.{among_tasks}
 
@@ -50,6 +50,7 @@ pub record Does-so (old : WorldView) (event : Event) (reply : Reply) (new : Worl
   pub does : Does now s event reply mid owed
   pub agrees : Agrees new mid
   pub holders : HoldersAgree new
+  pub slots : SlotsSuffice new
 
 pub done : (old : WorldView) (event : Event) (reply : Reply) (new : WorldView) → HasTasks old event → IsAllowed old (λ s. call_guards s event) →
     ((now : ℕ) (s : State) → Shows old s → Does-so old event reply new now s) → Acts old event reply new
@@ -57,11 +58,11 @@ done old event reply new tasks good does = record {
   acts = λ now s sh.
       let unrefused : NoneHolds (guards s event) = (tasks_live old s sh.agrees event tasks, good.allowed s sh) in
       let d = does now s sh in
-      record { unrefused = unrefused; mid = d.mid; owed = d.owed; does = d.does; shows = record { agrees = d.agrees; holders = d.holders; lawful = Does-still now s event reply d.mid d.owed unrefused d.does sh.lawful sh.quiet } };
+      record { unrefused = unrefused; mid = d.mid; owed = d.owed; does = d.does; shows = record { agrees = d.agrees; holders = d.holders; slots = d.slots; lawful = Does-still now s event reply d.mid d.owed unrefused d.does sh.lawful sh.quiet } };
 }
 
 -- ---- the end of a step
 
 -- Nothing is lost yet, so what is midway is the end.
 pub settled : (w : WorldView) (now : ℕ) (old mid : State) (owed : Owed) → ShowsMid w mid owed → (new : State) × Settles now old mid owed new × Shows w new
-settled w now old mid owed m = (mid, mid_settles now old mid owed m.lawful, record { agrees = m.agrees; holders = m.holders; lawful = m.lawful.lawful; quiet = m.lawful.quiet })
+settled w now old mid owed m = (mid, mid_settles now old mid owed m.lawful, record { agrees = m.agrees; holders = m.holders; slots = m.slots; lawful = m.lawful.lawful; quiet = m.lawful.quiet })

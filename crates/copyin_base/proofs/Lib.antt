@@ -2,6 +2,7 @@ pub mod Gets
 pub mod Spaces
 pub mod Roomier
 pub mod Spares
+pub mod Slots
 pub mod AttributesSet
 pub mod Counting
 pub mod Agreeing

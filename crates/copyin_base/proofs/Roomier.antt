@@ -1,15 +1,16 @@
 -- Tables that are as before but for room, for names or for messages, still agree.
-use Rattle.std.proofs.Common.{◌≡◌, ℕ, Option, Some, None, refl, sym, ap, subst, ◌∙◌}
+use Rattle.std.proofs.Common.{◌≡◌, ℕ, Option, Some, None, refl, sym, ap, subst, ◌∙◌, ◌≤◌, arith}
 use Rattle.std.specs.Prelude.{is_some}
 use Rattle.std.specs.Option.{option_map}
 use Rattle.std.specs.FinMap as map
 use Rattle.mach_model.specs.State.{State}
 use Rattle.name_space.specs.Names.{Names, SpaceView}
 use Rattle.port.specs.Ports.{PortsView}
+use Rattle.rights.specs.Ledger.{LedgerView}
 use Rattle.copyin_base.specs.Kept.{Kept}
 use Rattle.copyin_base.specs.Worlds.{WorldView, HasTask, space_at, with_space, entry_in, entry_at}
-use Rattle.copyin_base.specs.Shows.{Agrees, HoldersAgree, Shows, target_of}
-use Rattle.copyin_base.specs.Changes.{MakesRoom, KeepsPlace, SameButRoom}
+use Rattle.copyin_base.specs.Shows.{Agrees, HoldersAgree, SlotsSuffice, Shows, target_of}
+use Rattle.copyin_base.specs.Changes.{MakesRoom, KeepsPlace, SameButRoom, with_slots}
 use Rattle.copyin_base.proofs.Gets.{length-set}
 use Rattle.copyin_base.proofs.Spaces.{each-space-set}
 
@@ -71,8 +72,15 @@ room_holders w v same h = record {
       (sym (ap (λ (y : PortsView Kept). map.get y.ports p) same.ports) ∙ there);
 }
 
+-- nor did a slot or a right
+pub room_slots : (w v : WorldView) → SameButRoom w v → SlotsSuffice w → SlotsSuffice v
+room_slots w v same enough =
+    let spare : v.ports.spare ≡ w.ports.spare = ap (λ (y : PortsView Kept). y.spare) same.ports in
+    let unused : v.ledger.unused ≡ w.ledger.unused = ap (λ (y : LedgerView). y.unused) same.ledger in
+    omega (arith, enough, spare, unused)
+
 pub room_shows : (w v : WorldView) (s : State) → SameButRoom w v → Shows w s → Shows v s
-room_shows w v s same sh = record { agrees = room_agrees w v s same sh.agrees; holders = room_holders w v same sh.holders; lawful = sh.lawful; quiet = sh.quiet }
+room_shows w v s same sh = record { agrees = room_agrees w v s same sh.agrees; holders = room_holders w v same sh.holders; slots = room_slots w v same sh.slots; lawful = sh.lawful; quiet = sh.quiet }
 
 pub room_refl : (w : WorldView) → SameButRoom w w
 room_refl w = record { tasks = refl; names = λ task. refl; ports = refl; ledger = refl; sets = refl }
@@ -103,7 +111,7 @@ room_entry w v same task name = same_entry (space_at v task) (space_at w task) n
 -- ---- room for messages
 
 -- spare slots are of no account to the machine
-pub slots_agree : (w : WorldView) (s : State) (n : ℕ) → Agrees w s → Agrees (record w { ports = record w.ports { spare = n } }) s
+pub slots_agree : (w : WorldView) (s : State) (n : ℕ) → Agrees w s → Agrees (with_slots w n) s
 slots_agree w s n a = record {
   spaces = a.spaces;
   rights = a.rights;
@@ -116,5 +124,6 @@ slots_agree w s n a = record {
   requests = a.requests;
 }
 
-pub slots_show : (w : WorldView) (s : State) (n : ℕ) → Shows w s → Shows (record w { ports = record w.ports { spare = n } }) s
-slots_show w s n sh = record { agrees = slots_agree w s n sh.agrees; holders = record { held = sh.holders.held }; lawful = sh.lawful; quiet = sh.quiet }
+-- ... as long as they are enough
+pub slots_show : (w : WorldView) (s : State) (n : ℕ) → w.ledger.unused ≤ n → Shows w s → Shows (with_slots w n) s
+slots_show w s n enough sh = record { agrees = slots_agree w s n sh.agrees; holders = record { held = sh.holders.held }; slots = enough; lawful = sh.lawful; quiet = sh.quiet }

@@ -12,7 +12,7 @@ use Rattle.mach_model.specs.Machine.{Does}
 use Rattle.copyin_base.specs.declared.code.Code.{Code}
 use Rattle.copyin_base.specs.declared.code.Code.TheVariants.{Kern, Message}
 use Rattle.copyin_base.specs.Worlds.{WorldView, HasTask}
-use Rattle.copyin_base.specs.Shows.{Agrees, HoldersAgree, Shows}
+use Rattle.copyin_base.specs.Shows.{Agrees, HoldersAgree, SlotsSuffice, Shows}
 
 abbrev pub code_number : Code → ℕ
 code_number (Kern code) = kern_number code
@@ -24,6 +24,7 @@ code_number (Message code) = msg_number code
 pub record ShowsMid (w : WorldView) (mid : State) (owed : Owed) : Type 0 where
   pub agrees : Agrees w mid
   pub holders : HoldersAgree w
+  pub slots : SlotsSuffice w
   pub lawful : IsStill mid owed
 
 -- What was judged in the state allows the event, whose own part is done: the tables show the state midway.

@@ -63,6 +63,10 @@ pub record SameButRoom (old new : WorldView) : Type 0 where
   pub ledger : new.ledger ≡ old.ledger
   pub sets : new.sets ≡ old.sets
 
+-- All is as before but the number of spare message slots.
+abbrev pub with_slots : WorldView → ℕ → WorldView
+with_slots w n = record w { ports = record w.ports { spare = n } }
+
 -- ---- a port
 
 pub record SetsAttributes (old : WorldView) (port : ℕ) (attributes : Attributes) (new : WorldView) : Type 0 where

@@ -1,13 +1,14 @@
 -- When the kernel's tables show a state of the machine: they agree with it at each task, name, port and request.
-use Rattle.std.specs.Prelude.{◌≡◌, ℕ, ◌+◌, ◌<◌, Bool, true, List, [], ◌∷◌, length, Option, Some, is_some}
+use Rattle.std.specs.Prelude.{◌≡◌, ℕ, ◌+◌, ◌<◌, ◌≤◌, Bool, true, List, [], ◌∷◌, length, Option, Some, is_some}
 use Rattle.std.specs.Option.{option_map, option_to_list}
 use Rattle.std.specs.FinMap as map
-use Rattle.mach_types.specs.Tokens.{Kind, receive, send, send_once, same_kind, Request, in_request, Token, count, is_of, is_held}
+use Rattle.mach_types.specs.Tokens.{Kind, receive, send, send_once, Request, in_request, Token, count, is_of, is_held}
 use Rattle.mach_types.specs.Messages.{Entry}
 use Rattle.mach_model.specs.State.{State, Target, Names, queue}
 use Rattle.mach_model.specs.ReceiveRight.{one_if}
 use Rattle.mach_model.specs.Carried.{lying}
-use Rattle.mach_model.specs.Lawful.{IsLawful, tally}
+pub use Rattle.mach_model.specs.Unused.{came_by_once, onces_queued}
+use Rattle.mach_model.specs.Lawful.{IsLawful}
 use Rattle.mach_model.specs.NotYet.{IsQuiet}
 use Rattle.name_space.specs.declared.Entry.{Entry as Named}
 use Rattle.name_space.specs.declared.Entry.TheVariants as named
@@ -68,14 +69,6 @@ pub record PortAgrees (v : PortView Kept) (p : ℕ) (entries : List Entry) (of_l
 abbrev pub ShowsPort : PortView Kept → State → ℕ → Type 0
 ShowsPort v s p = PortAgrees v p (queue s p) (s.limit p) (s.make_send p) (s.sequence p) (s.sets_of p)
 
--- whether it came by a send-once right
-abbrev pub came_by_once : Entry → Bool
-came_by_once e = same_kind send_once e.message.kind
-
--- how many of the port's queued messages did
-abbrev pub onces_queued : State → (port : ℕ) → ℕ
-onces_queued s p = tally came_by_once (queue s p)
-
 -- Each count of rights is that of the ledger. Of the send-once rights, those that queued messages go by are counted apart.
 pub record CountsAgree (ledger : LedgerView) (live : ℕ → Bool) (tokens : List Token) (queued : ℕ → ℕ) (p : ℕ) : Type 0 where
   pub entered : map.contains_key ledger.counts p ≡ live p
@@ -118,9 +111,15 @@ pub record HoldersAgree (w : WorldView) : Type 0 where
   pub held : (task name : ℕ) (e : Named) (p : ℕ) → entry_at w task name ≡ Some e → port_named e ≡ Some p → has_receive e ≡ true →
       (v : PortView Kept) → port_at w p ≡ Some v → v.attributes.holder ≡ Holder.Task task
 
+-- For each send-once right that no queued message goes by a message slot is spare, so that what comes by the right has one. This is of the
+-- tables alone.
+abbrev pub SlotsSuffice : WorldView → Type 0
+SlotsSuffice w = w.ledger.unused ≤ w.ports.spare
+
 -- They agree with a state of which all is true that is true of every state that the machine reaches, as long as the rules of NotYet stand.
 pub record Shows (w : WorldView) (s : State) : Type 0 where
   pub agrees : Agrees w s
   pub holders : HoldersAgree w
+  pub slots : SlotsSuffice w
   pub lawful : IsLawful s
   pub quiet : IsQuiet s

@@ -1,5 +1,5 @@
 -- Where memory is wanted, and what is kept of it for what is to come.
-use Rattle.std.specs.Prelude.{◌≡◌, ◌≢◌, ℕ, ◌<◌, ◌≤◌, max, Option, Some, None}
+use Rattle.std.specs.Prelude.{◌≡◌, ◌≢◌, ℕ, ◌+◌, ◌<◌, ◌≤◌, max, Option, Some, None}
 use Rattle.name_space.specs.Names.{SpaceView}
 use Rattle.copyin_base.specs.Worlds.{WorldView, space_at}
 
@@ -30,6 +30,10 @@ kept_of w task = kept_in (space_at w task)
 -- No place is kept for the name of the task that is chosen.
 abbrev pub LacksPlace : WorldView → (task name : ℕ) → Type 0
 LacksPlace w task name = kept_of w task ≢ Some name
+
+-- Fewer message slots are spare than send-once rights that no queued message goes by, and so many more.
+abbrev pub LacksSlots : WorldView → (more : ℕ) → Type 0
+LacksSlots w more = w.ports.spare < w.ledger.unused + more
 
 -- Room for fresh names grows by one name at most, and spare slots stay.
 pub record KeepsSpares (old new : WorldView) : Type 0 where

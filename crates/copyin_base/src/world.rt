@@ -1,5 +1,9 @@
 //! The kernel's tables.
-ghost use Rattle.std.specs.Prelude.{◌≡◌, ◌↔◌, IsTrue, max, OnOk, OnErr, Some, option_copied};
+ghost use Rattle.std.specs.Prelude.{◌≡◌, ◌↔◌, ◌+◌, IsTrue, max, OnOk, OnErr, Some, option_copied};
+ghost use Rattle.rights.specs.Unused.{IsUnusedOfAll};
+ghost use Rattle.copyin_base.specs.Changes.{with_slots};
+ghost use Rattle.copyin_base.specs.Shows.{SlotsSuffice};
+ghost use Rattle.copyin_base.specs.Wanted.{LacksSlots};
 ghost use Rattle.copyin_base.specs.Worlds.{HasTask, entry_at, no_world, space_at};
 
 use crate::queued::Queued;
@@ -93,18 +97,32 @@ impl World {
         self.find_space(task)?.lookup(name)
     }
 
-    /// Makes one spare message slot where there is none; where there are some, nothing changes.
-    /// Constant time.
+    /// Makes message slots, so that one is spare for each send-once right that no queued message goes
+    /// by, and so many more; where there are enough, nothing changes. Linear in the slots that are made.
     ///
-    /// An error means that there was none and memory was refused; all is then as before.
-    pub fn reserve_slot(&mut self) -> Result<(), AllocError>
-        ensures rest { self.new ≡ record self.old { ports = record self.old.ports { spare = self.new.ports.spare } } }
-        ensures ok { OnOk result (self.new.ports.spare ≡ max self.old.ports.spare 1) }
-        ensures err { OnErr result ((self.old.ports.spare ≡ 0) × (self.new ≡ self.old)) }
+    /// An error means that there were too few and memory was refused; all is then as before.
+    pub fn reserve_slots(&mut self, more: usize) -> Result<(), AllocError>
+        ensures ok { OnOk result (self.new ≡ with_slots self.old (max self.old.ports.spare (self.old.ledger.unused + more))) }
+        ensures err { OnErr result (self.new ≡ self.old) }
+        ensures lacks { OnErr result (LacksSlots self.old more) }
+        ensures all { IsUnusedOfAll self.old.ledger }
     {
-        if self.ports.spare() > 0 {
+        let spare = self.ports.spare();
+        let Some(wanted) = (self.ledger.unused() as usize).checked_add(more) else {
+            return Err(AllocError);
+        };
+        if wanted <= spare {
             return Ok(());
         }
-        self.ports.reserve_slots(1)
+        self.ports.reserve_slots(wanted - spare)
+    }
+
+    /// Whether a message slot is spare for each send-once right that no queued message goes by. Constant
+    /// time.
+    pub fn slots_suffice(&self) -> bool
+        ensures value { IsTrue result ↔ SlotsSuffice self.now }
+        ensures all { IsUnusedOfAll self.now.ledger }
+    {
+        self.ledger.unused() as usize <= self.ports.spare()
     }
 }

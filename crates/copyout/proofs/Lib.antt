@@ -20,4 +20,5 @@ pub mod Counted
 pub mod Rooms
 pub mod Puts
 pub mod Spared
+pub mod Slots
 pub mod Marking

@@ -32,7 +32,7 @@ use Rattle.name_space.specs.Names.{SpaceView}
 use Rattle.copyin_base.specs.declared.message.Carried.{Carried}
 use Rattle.copyin_base.specs.Kept.{Kept, body_given}
 use Rattle.copyin_base.specs.Worlds.{WorldView, entry_in, entry_at, space_at}
-use Rattle.copyin_base.specs.Shows.{target_of, Agrees, Shows}
+use Rattle.copyin_base.specs.Shows.{target_of, Agrees, SlotsSuffice, Shows}
 use Rattle.copyout.specs.Takes.{TakesMessage, reversed, reply_number, reply_word, body_names}
 use Rattle.copyin_base.proofs.Changing.{target_named}
 use Rattle.copyout.proofs.GivenAll.{AreLying, AllGiven, all_given}
@@ -42,6 +42,7 @@ use Rattle.copyout.proofs.Rights.{rights_of, seconds, message_kept, BodyReceived
 use Rattle.copyout.proofs.GivenWords.{each_keeps, IsWord, each_fits, body_words_count, rights_length, length-body}
 use Rattle.copyout.proofs.Fronts.{HasFront, shown_is_front}
 use Rattle.copyout.proofs.FrontTaken.{kind_by, front, port_lives, kind_of_front, taken_state, taken_moves, front_agrees, front_holders}
+use Rattle.copyout.proofs.Slots.{all_slots, front_slots}
 
 -- ---- words of a reply
 
@@ -242,11 +243,14 @@ module _ (w : WorldView) (s : State) (sh : Shows w s) (task port local : ℕ) (b
       fits = let e = length_is in omega (arith, e, fits);
     }
 
+    slots : SlotsSuffice w'
+    slots = all_slots carried m.words m.mid w' task m.gives (front_slots w port m.mid m.takes sh.slots)
+
     -- The message is received, and the tables show the state that this leaves.
     pub message_received : Received s task port room bytes w'
     message_received =
         let still = Receives-still task port room bytes s all.t l sh.quiet lives is_task receives in
-        record { t = all.t; receives = receives; shows = record { agrees = all.agrees; holders = all.holders; lawful = still.lawful; quiet = still.quiet } }
+        record { t = all.t; receives = receives; shows = record { agrees = all.agrees; holders = all.holders; slots = slots; lawful = still.lawful; quiet = still.quiet } }
 
   -- The port may be taken from: the task has its receive right, and it is in no set.
   pub takes_from : has_receive x ≡ true → m.takes.v.attributes.set ≡ None → TakesFrom s task (Waited.Port port) port

@@ -21,6 +21,7 @@ use Rattle.copyin_base.specs.Worlds.{WorldView}
 use Rattle.copyin_base.proofs.Acting.{refused}
 use Rattle.copyin_base.proofs.Spares.{keeps_refl, keeps_same}
 use Rattle.kernel_core.specs.Send.{UsesSlot}
+use Rattle.kernel_core.specs.Transfer.{MakesSlots}
 use Rattle.kernel_core.specs.Wanted.{memory_code, WantsMemory, Wanted, Spares, answer, Performs}
 
 -- ---- codes
@@ -95,6 +96,13 @@ spared old event reply new k none = record {
   slots = let s = k.slots in omega (arith, s, none);
 }
 
+-- a right that was handed on
+pub handed_spares : (old : WorldView) (event : Event) (reply : Reply) (new : WorldView) → MakesSlots old new → accepts event reply ≡ 0 → Spares old event reply new
+handed_spares old event reply new k none = record {
+  rooms = k.rooms;
+  slots = let s = k.slots in omega (arith, s, none);
+}
+
 pub sent_spares : (old : WorldView) (event : Event) (result : Result Reply Code) (new : WorldView) → Stands old → Serves old event result new →
     OnOk result (UsesSlot old new) → OnErr result (new ≡ old) → Spares old event (answer result) new
 sent_spares old event (Ok reply) new stands serves uses same = record {
@@ -110,6 +118,11 @@ sent_spares old event (Err code) new stands serves uses same =
 pub carried : (old : WorldView) (event : Event) (result : Result Reply Code) (new : WorldView) → Serves old event result new →
     IfErr result (λ code. code_number code ≡ memory_code event → WantsMemory old event) → KeepsSpares old new → ((reply : Reply) → accepts event reply ≡ 0) → Performs old event result new
 carried old event result new serves wanted keeps none = record { serves = serves; wanted = wanted; spares = spared old event (answer result) new keeps (none (answer result)) }
+
+-- a call that hands a right on
+pub handed_on : (old : WorldView) (event : Event) (result : Result Reply Code) (new : WorldView) → Serves old event result new →
+    IfErr result (λ code. code_number code ≡ memory_code event → WantsMemory old event) → MakesSlots old new → ((reply : Reply) → accepts event reply ≡ 0) → Performs old event result new
+handed_on old event result new serves wanted keeps none = record { serves = serves; wanted = wanted; spares = handed_spares old event (answer result) new keeps (none (answer result)) }
 
 -- a call that isn't served yet: its first guard always holds, and isn't want of memory
 pub unserved : (w : WorldView) (event : Event) → IsRefused w (λ s. call_guards s event) (kern_number InvalidArgument) → HasTasks w event → memory_code event ≡ kern_number ResourceShortage →

@@ -3,6 +3,7 @@ mod Ready
 mod Receiving
 mod Sending
 mod Wanting
+mod Unused
 mod Stepping
 mod Keeping
 mod Sparing

@@ -273,7 +273,7 @@ module _ (w : WorldView) (task : ℕ) (below : HasTask w task) (waited : Waited)
   from s sh port f = takes_from w s sh task waited (good.allowed s sh) port f
 
   pub receipt_empty : NoneWaits w waited → IsReceipt w task waited room (Reply.Empty waited) w
-  receipt_empty none = record { receipt = λ large s sh. record { mid = s; receipt = (refl, empty_for w s sh task waited none, refl, refl); agrees = sh.agrees; holders = sh.holders } }
+  receipt_empty none = record { receipt = λ large s sh. record { mid = s; receipt = (refl, empty_for w s sh task waited none, refl, refl); agrees = sh.agrees; holders = sh.holders; slots = sh.slots } }
 
   module _ (port : ℕ) (f : IsFrom w waited port) where
     pub receipt_message : (name : ℕ) → FindsReceive w task name port → (bytes : List ℕ) (number : ℕ) (start new : WorldView) → MakesRoom w task number start → (t : TakesMessage start task port name bytes new) →
@@ -283,7 +283,7 @@ module _ (w : WorldView) (task : ℕ) (below : HasTask w task) (waited : Waited)
           let same : SameButRoom w start = room_made w start task number mr in
           let at : entry_at start task name ≡ Some finds.entry = room_entry w start same task name ∙ finds.found in
           let x = message_received start s (room_shows w start s same sh) task port name bytes new t finds.entry at (receive_has finds.entry port finds.named).0 room fits in
-          record { mid = x.t; receipt = (port, from s sh port f, x.receives, refl); agrees = x.shows.agrees; holders = x.shows.holders };
+          record { mid = x.t; receipt = (port, from s sh port f, x.receives, refl); agrees = x.shows.agrees; holders = x.shows.holders; slots = x.shows.slots };
     }
 
     module _ (m : Kept) (h : HasFront w port m) where
@@ -294,6 +294,7 @@ module _ (w : WorldView) (task : ℕ) (below : HasTask w task) (waited : Waited)
           receipt = receipt_large w s sh task port (live s sh) h.v h.there m h.behind h.queue waited (from s sh port f) room large n is (omega (arith, is, above));
           agrees = sh.agrees;
           holders = sh.holders;
+          slots = sh.slots;
         };
       }
 
@@ -319,7 +320,7 @@ module _ (w : WorldView) (task room : ℕ) (large : Bool) (below : HasTask w tas
 
       pub named_received : (reply : Reply) (new : WorldView) → IsReceipt w task waited room reply new → Acts w (Event.Receive task name room large) reply new
       named_received reply new r = done w (Event.Receive task name room large) reply new below good (λ now s sh.
-          let y = r.receipt large s sh in record { mid = y.mid; owed = []; does = (waited, x.waits s sh, y.receipt); agrees = y.agrees; holders = y.holders })
+          let y = r.receipt large s sh in record { mid = y.mid; owed = []; does = (waited, x.waits s sh, y.receipt); agrees = y.agrees; holders = y.holders; slots = y.slots })
 
   module _ (waited : Waited) where
     pub again_declined : (code : ℕ) → IsRefused w (λ s. again_guards s task waited) code → Declines w (Event.ReceiveAgain task waited room large) code w
@@ -331,4 +332,4 @@ module _ (w : WorldView) (task room : ℕ) (large : Bool) (below : HasTask w tas
 
       pub again_received : (reply : Reply) (new : WorldView) → IsReceipt w task waited room reply new → Acts w (Event.ReceiveAgain task waited room large) reply new
       again_received reply new r = done w (Event.ReceiveAgain task waited room large) reply new below record { allowed = λ s sh. good.allowed s sh } (λ now s sh.
-          let y = r.receipt large s sh in record { mid = y.mid; owed = []; does = y.receipt; agrees = y.agrees; holders = y.holders })
+          let y = r.receipt large s sh in record { mid = y.mid; owed = []; does = y.receipt; agrees = y.agrees; holders = y.holders; slots = y.slots })

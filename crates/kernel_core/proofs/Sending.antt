@@ -1,5 +1,5 @@
 -- A send: refused in each state that the tables show, or done.
-use Rattle.std.proofs.Common.{◌≡◌, ℕ, ◌-◌, List, refl, sym, ap, subst, ◌∙◌, ◌⊎◌, inl, inr, arith}
+use Rattle.std.proofs.Common.{◌≡◌, ℕ, ◌+◌, ◌<◌, List, refl, sym, ap, subst, ◌∙◌, ◌⊎◌, inl, inr, arith}
 use Rattle.std.specs.Prelude.{max}
 use Rattle.mach_types.specs.declared.calls.Event.{Event}
 use Rattle.mach_types.specs.declared.calls.Reply.{Reply}
@@ -14,11 +14,13 @@ use Rattle.mach_model.specs.Send.{SendRefuses}
 use Rattle.message_codec.specs.declared.text.Parsed.{Parsed}
 use Rattle.message_codec.specs.Parses.{Parses, IsCrowded}
 use Rattle.copyin_base.specs.Acts.{Acts, Declines}
-use Rattle.copyin_base.specs.Shows.{Shows}
-use Rattle.copyin_base.specs.Stands.{IsTied}
+use Rattle.copyin_base.specs.Changes.{with_slots}
+use Rattle.copyin_base.specs.Shows.{SlotsSuffice, Shows}
+use Rattle.copyin_base.specs.Stands.{Stands, AreTied, IsTied}
 use Rattle.copyin_base.specs.Worlds.{WorldView, HasTask}
 use Rattle.copyin_base.proofs.Acting.{refused, refused_later, done}
 use Rattle.copyin_base.proofs.Roomier.{slots_show}
+use Rattle.copyin_base.proofs.Tied.{stands_tied, stands_is_tied}
 use Rattle.copyin.specs.declared.judge.Plan.{Plan}
 use Rattle.copyin.specs.Planned.{IsPlan}
 use Rattle.copyin.specs.Plans.{Judged, CannotPlan, Commits}
@@ -26,8 +28,11 @@ use Rattle.copyin.proofs.Texts.{good_header, none_first}
 use Rattle.copyin.proofs.RefusedWords.{cannot}
 use Rattle.copyin.proofs.Sent.{sent_state, sends, sent_agrees}
 use Rattle.copyin.proofs.Committing.{commits_rooms}
+use Rattle.copyin.proofs.SlotsKept.{slot_there, commits_unused, commits_spare}
+use Rattle.copyin.specs.Slots.{slots_for}
+use Rattle.rights.specs.Unused.{IsUnusedOfAll}
 use Rattle.copyin.proofs.HoldersKept.{commits_holders}
-use Rattle.kernel_core.specs.Send.{with_slots, with_slot, SendsText, UsesSlot}
+use Rattle.kernel_core.specs.Send.{slotted, SendsText, UsesSlot}
 
 -- ---- spare slots are of no account to a plan
 
@@ -69,15 +74,28 @@ still_tied w w2 n task e t = subst (λ (x : WorldView). IsTied x task) (sym e) r
   unused = t.unused;
 }
 
--- the slot that was made, if there was none
-pub slotted : (w w2 : WorldView) → w2 ≡ with_slots w w2.ports.spare → w2.ports.spare ≡ max w.ports.spare 1 → w2 ≡ with_slot w
-slotted w w2 e n = e ∙ ap (with_slots w) n
+-- what the plan wants
+wants_slots : (w : WorldView) (task : ℕ) (parsed : Parsed) (written : WireBody) (bytes : List ℕ) (plan : Plan) (p : IsPlan w task parsed written bytes plan) →
+    slots_for plan.destination plan.message.reply plan.message.rights ≡ slots_for p.plans.judged.destination p.plans.judged.reply p.plans.judged.rights
+wants_slots w task parsed written bytes plan p = λ i. slots_for (p.destination i) (p.message i).reply (p.message i).rights
 
-pub sends_text : (w w2 new : WorldView) (task : ℕ) (bytes : List ℕ) (parsed : Parsed) (text : Parses bytes parsed) (plan : Plan) → w2 ≡ with_slot w → IsPlan w task parsed text.written bytes plan →
+pub sends_text : (w w2 new : WorldView) (task : ℕ) (bytes : List ℕ) (parsed : Parsed) (text : Parses bytes parsed) (plan : Plan) (more : ℕ) → w2 ≡ slotted w more →
+    more ≡ slots_for plan.destination plan.message.reply plan.message.rights → IsPlan w task parsed text.written bytes plan →
     ((p : IsPlan w2 task parsed text.written bytes plan) → Commits w2 task parsed text.written p.plans.judged bytes new) → SendsText w task bytes new
-sends_text w w2 new task bytes parsed text plan e p =
+sends_text w w2 new task bytes parsed text plan more e many p =
     subst (λ (x : WorldView). ((q : IsPlan x task parsed text.written bytes plan) → Commits x task parsed text.written q.plans.judged bytes new) → SendsText w task bytes new) (sym e)
-    (λ commits. let q = plan_at w (max w.ports.spare 1) task parsed text.written bytes plan p in record { parsed = parsed; text = text; plans = q.plans; commits = commits q })
+    (λ commits.
+    let q = plan_at w (max w.ports.spare (w.ledger.unused + more)) task parsed text.written bytes plan p in
+    record { parsed = parsed; text = text; more = more; plans = q.plans; wants = many ∙ wants_slots w task parsed text.written bytes plan p; commits = commits q })
+
+-- The message has a slot: one that was made, or that of the send-once right that it goes by.
+pub has_slot : (w w2 : WorldView) (task : ℕ) (parsed : Parsed) (written : WireBody) (bytes : List ℕ) (plan : Plan) (more : ℕ) → w2 ≡ slotted w more →
+    more ≡ slots_for plan.destination plan.message.reply plan.message.rights → IsUnusedOfAll w.ledger → Stands w → IsPlan w task parsed written bytes plan → 0 < w2.ports.spare
+has_slot w w2 task parsed written bytes plan more e many all stands p =
+    let some = slot_there w all stands.shown.slots task parsed written p.plans.judged (stands_is_tied w task stands) in
+    let spare : w2.ports.spare ≡ max w.ports.spare (w.ledger.unused + more) = ap (λ (x : WorldView). x.ports.spare) e in
+    let wants = wants_slots w task parsed written bytes plan p in
+    omega (arith, some, spare, many, wants)
 
 -- ---- refused
 
@@ -101,10 +119,24 @@ module _ (w : WorldView) (task : ℕ) (below : HasTask w task) (bytes : List ℕ
 
   -- ---- done
 
+  -- the sender's rights are tied to the tables in which the slots were made
+  start_tied : (s : State) → Shows w s → (new : WorldView) (d : SendsText w task bytes new) → AreTied d.plans.judged.space.names (slotted w d.more).ports (slotted w d.more).ledger
+  start_tied s sh new d =
+      stands_tied (slotted w d.more) task d.plans.judged.space record { state = s; shown = slots_show w s (max w.ports.spare (w.ledger.unused + d.more)) (omega arith) sh } d.plans.judged.there
+
+  -- the slots suffice: as many more are wanted as send-once rights are unused then, and one for the message
+  sent_slots : (s : State) → Shows w s → (new : WorldView) → SendsText w task bytes new → SlotsSuffice new
+  sent_slots s sh new d =
+      let tied = start_tied s sh new d in
+      let unused = commits_unused (slotted w d.more) task d.parsed d.text.written d.plans.judged tied bytes new d.commits in
+      let spare = commits_spare (slotted w d.more) task d.parsed d.text.written d.plans.judged tied bytes new d.commits in
+      let wants = d.wants in
+      omega (arith, unused, spare, wants)
+
   pub send_done : (new : WorldView) → SendsText w task bytes new → Acts w (Event.Send task bytes) (Reply.Code 0) new
   send_done new d = done w (Event.Send task bytes) (Reply.Code 0) new below record { allowed = λ s sh. good_header bytes d.parsed d.text } (λ now s sh.
-      let start = with_slot w in
-      let sh2 = slots_show w s (max w.ports.spare 1) sh in
+      let start = slotted w d.more in
+      let sh2 = slots_show w s (max w.ports.spare (w.ledger.unused + d.more)) (omega arith) sh in
       let j = d.plans.judged in
       record {
         mid = sent_state start s sh2 now task bytes d.parsed d.text j;
@@ -112,10 +144,17 @@ module _ (w : WorldView) (task : ℕ) (below : HasTask w task) (bytes : List ℕ
         does = (refl, sends start s sh2 now task bytes d.parsed d.text j d.plans.slot d.plans.few, refl);
         agrees = sent_agrees start s sh2 now task bytes d.parsed d.text j new d.commits;
         holders = commits_holders start task d.parsed d.text.written j bytes new d.commits sh2.holders;
+        slots = sent_slots s sh new d;
       })
 
-  pub uses_slot : (new : WorldView) → SendsText w task bytes new → UsesSlot w new
-  uses_slot new d = record {
-    slots = let e : new.ports.spare ≡ max w.ports.spare 1 - 1 = ap (λ (x : WorldView). x.ports.spare) d.commits.rest in omega (arith, e);
-    rooms = λ u. commits_rooms (with_slot w) task d.parsed d.text.written d.plans.judged bytes new d.commits u;
-  }
+  pub uses_slot : (new : WorldView) → Stands w → SendsText w task bytes new → UsesSlot w new
+  uses_slot new stands d =
+      let j = d.plans.judged in
+      let tied = start_tied stands.state stands.shown new d in record {
+        slots =
+            let unused = commits_unused (slotted w d.more) task d.parsed d.text.written j tied bytes new d.commits in
+            let spare = commits_spare (slotted w d.more) task d.parsed d.text.written j tied bytes new d.commits in
+            let wants = d.wants in
+            omega (arith, unused, spare, wants);
+        rooms = λ u. commits_rooms (slotted w d.more) task d.parsed d.text.written j bytes new d.commits u;
+      }

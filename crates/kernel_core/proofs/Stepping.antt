@@ -18,6 +18,7 @@ use Rattle.copyin_base.specs.Shows.{Agrees, Shows}
 use Rattle.copyin_base.specs.Stands.{Stands}
 use Rattle.copyin_base.specs.Worlds.{WorldView, no_world}
 use Rattle.copyin_base.proofs.Holders.{holders_none}
+use Rattle.copyin_base.proofs.Slots.{slots_none}
 use Rattle.kernel_core.specs.Answers.{Answers}
 
 -- What was done is settled: a step that is done.
@@ -71,7 +72,7 @@ opening_agrees = record {
     no_port p v e = let n : map.get no_world.ports.ports p ≡ None = map.get-empty {X = PortView Kept} nat_cmp p in cc
 
 pub opening_shows : Shows no_world opening
-opening_shows = record { agrees = opening_agrees; holders = holders_none; lawful = opening-lawful; quiet = opening-quiet }
+opening_shows = record { agrees = opening_agrees; holders = holders_none; slots = slots_none; lawful = opening-lawful; quiet = opening-quiet }
 
 pub opening_stands : Stands no_world
 opening_stands = record { state = opening; shown = opening_shows }

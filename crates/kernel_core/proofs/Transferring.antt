@@ -22,27 +22,32 @@ use Rattle.name_space.specs.declared.Entry.{Entry}
 use Rattle.name_space.specs.Names.{Names, SpaceView, IsUsable}
 use Rattle.rights.specs.Ledger.{LedgerView}
 use Rattle.copyin_base.specs.Acts.{Acts, Declines, HasTasks, IsAllowed}
-use Rattle.copyin_base.specs.Changes.{MakesRoom, KeepsPlace, SameButRoom}
-use Rattle.copyin_base.specs.Shows.{target_of, Agrees, HoldersAgree, Shows}
+use Rattle.port.specs.Ports.{PortsView}
+use Rattle.copyin_base.specs.Kept.{Kept}
+use Rattle.copyin_base.specs.Changes.{KeepsPlace, SameButRoom, with_slots}
+use Rattle.copyin_base.specs.Shows.{target_of, Agrees, HoldersAgree, SlotsSuffice, Shows}
 use Rattle.copyin_base.specs.Stands.{Stands}
 use Rattle.copyin_base.specs.Worlds.{WorldView, space_at, HasTask}
 use Rattle.copyin_base.specs.declared.message.Mark.TheVariants as mark
 use Rattle.copyin_base.proofs.Acting.{refused_later, done}
-use Rattle.copyin_base.proofs.Roomier.{room_made, place_kept, room_refl, room_entry, room_shows}
+use Rattle.copyin_base.proofs.Roomier.{room_made, place_kept, room_refl, room_entry, room_shows, slots_show}
 use Rattle.copyin_base.proofs.Taking.{Without, take_lying}
 use Rattle.copyin_base.proofs.Told.{space_there}
 use Rattle.copyin.specs.Copies.{CopiesRight}
 use Rattle.copyin.specs.Judging.{made_by_mark}
 use Rattle.copyin.specs.Planned.{CanCopy}
+use Rattle.copyin.specs.Slots.{once_made_by_mark}
+use Rattle.copyin.proofs.SlotsKept.{copied_once}
 use Rattle.copyout.specs.Giving.{alone, GivesPort, GivesMark}
 use Rattle.copyout.specs.Putting.{CanPut, PutsPort}
 use Rattle.copyout.specs.Ready.{CanGive}
 use Rattle.copyout.proofs.Given.{Put, port_put, Given, port_given}
 use Rattle.copyout.proofs.GivenHolders.{port_put_holders, port_given_holders}
+use Rattle.copyout.proofs.Slots.{put_slots, mark_slots}
 use Rattle.kernel_core.specs.declared.transfer.Going.{Going}
 use Rattle.kernel_core.specs.declared.transfer.Handed.{Handed}
 use Rattle.kernel_core.specs.declared.transfer.TaskName.{TaskName}
-use Rattle.kernel_core.specs.Transfer.{CanGo, WantsName, port_under, going_from, names_needed, MayInsert, MayExtract, left_at, names_in, fewer_if, names_left, rights_then, under_guards, out_guards, insert_later, extract_later}
+use Rattle.kernel_core.specs.Transfer.{CanGo, WantsName, port_under, going_from, names_needed, slots_needed, MayInsert, MayExtract, ReadiesInsert, ReadiesExtract, IsRoomier, left_at, names_in, fewer_if, names_left, rights_then, under_guards, out_guards, insert_later, extract_later}
 use Rattle.kernel_core.proofs.Going.{usable_name, insert_good, extract_good}
 use Rattle.kernel_core.proofs.Judged.{lies, lives, copied_in, sends_are, few, none_inserted, first_inserted, none_extracted, first_extracted}
 use Rattle.kernel_core.proofs.Left.{Left, is_left, went_world, went_left, can_copy}
@@ -121,22 +126,42 @@ some_room : {P : Type 0} (is_new : Bool) (room : ℕ) → MatchBool is_new P (¬
 some_room true room needs p = omega arith
 some_room false room needs p = absurd (needs p)
 
--- The tables after a place was made: all is as before, and this is so of the task's names.
-pub record Readies (w : WorldView) (task : ℕ) (Placed : SpaceView → Type 0) (ready : WorldView) : Type 0 where
-  pub same : SameButRoom w ready
+-- The tables after a place and slots were made: all is as before, so many more slots are spare than there are send-once rights that no
+-- queued message goes by, and this is so of the task's names.
+pub record Readies (w : WorldView) (task more : ℕ) (Placed : SpaceView → Type 0) (ready : WorldView) : Type 0 where
+  pub spare : ℕ
+  pub same : SameButRoom (with_slots w spare) ready
+  pub enough : w.ledger.unused + more ≤ spare
   pub space : SpaceView
   pub there : space_at ready task ≡ Some space
   pub placed : Placed space
 
-module _ (w : WorldView) (task number : ℕ) (g : Going) (goes : CanGo w number g) (ready : WorldView) (Placed : SpaceView → Type 0) (m : Readies w task Placed ready) where
-  same : SameButRoom w ready
+-- slots were made after room
+slots_same_room : (w mid ready : WorldView) (n : ℕ) → SameButRoom w mid → ready ≡ with_slots mid n → SameButRoom (with_slots w n) ready
+slots_same_room w mid ready n s e = subst (SameButRoom (with_slots w n)) (sym e) record {
+  tasks = s.tasks;
+  names = s.names;
+  ports = ap (λ (p : PortsView Kept). record p { spare = n }) s.ports;
+  ledger = s.ledger;
+  sets = s.sets;
+}
+
+enough_made : (w mid : WorldView) (more : ℕ) → SameButRoom w mid → w.ledger.unused + more ≤ max mid.ports.spare (mid.ledger.unused + more)
+enough_made w mid more s = let e : mid.ledger.unused ≡ w.ledger.unused = ap (λ (l : LedgerView). l.unused) s.ledger in omega (arith, e)
+
+module _ (w : WorldView) (task number : ℕ) (g : Going) (goes : CanGo w number g) (ready : WorldView) (Placed : SpaceView → Type 0)
+    (m : Readies w task (once_made_by_mark g.given (mark.Port g.port)) Placed ready) where
+  abbrev slotted_world : WorldView
+  slotted_world = with_slots w m.spare
+
+  same : SameButRoom slotted_world ready
   same = m.same
 
   goes_ready : CanGo ready number g
-  goes_ready = record { given = goes.given; entry = goes.entry; found = room_entry w ready same g.from g.name ∙ goes.found; is = goes.is }
+  goes_ready = record { given = goes.given; entry = goes.entry; found = room_entry slotted_world ready same g.from g.name ∙ goes.found; is = goes.is }
 
   same_at : left_at ready task g ≡ left_at w task g
-  same_at = λ i n. if task == g.from && n == g.name then g.left else room_entry w ready same task n i
+  same_at = λ i n. if task == g.from && n == g.name then g.left else room_entry slotted_world ready same task n i
 
   at_same : (n : ℕ) → left_at ready task g n ≡ left_at w task g n
   at_same n = ap (λ (f : ℕ → Option Entry). f n) same_at
@@ -155,7 +180,7 @@ module _ (w : WorldView) (task number : ℕ) (g : Going) (goes : CanGo w number 
 
   module _ (s : State) (sh : Shows w s) where
     shows_ready : Shows ready s
-    shows_ready = room_shows w ready s same sh
+    shows_ready = room_shows slotted_world ready s same (slots_show w s m.spare (let e = m.enough in omega (arith, e)) sh)
 
     pub ready_copies : ¬ (most_rights < rights_then w g) → CanCopy ready g.from g.name (record { given = g.given; mark = mark.Port g.port })
     ready_copies few = can_copy ready s shows_ready task number g goes_ready (subst (λ (n : ℕ). n ≤ most_rights) (sym same_rights) (few_then w g few))
@@ -172,6 +197,15 @@ module _ (w : WorldView) (task number : ℕ) (g : Going) (goes : CanGo w number 
 
       pub mid_gives : (WantsName w task g → 0 < m.space.room) → NoneHolds (extract_later w task g) → CanGive mid task (record { given = g.given; mark = mark.Port g.port } ∷ [])
       mid_gives wide none = can_give ready s task number g mid left m.space m.there (λ wants. wide (subst (λ (f : ℕ → Option Entry). (kind_sent g.given ≡ send_once) ⊎ ((k : ℕ) → port_under (f k) ≢ Some g.port)) same_at wants)) (extract_ready none)
+
+      -- the right that is made, if one is, has a slot
+      mid_slots : SlotsSuffice mid
+      mid_slots =
+          let c = copied_once ready mid g.from g.given g.name (mark.Port g.port) copies in
+          let spare : ready.ports.spare ≡ m.spare = ap (λ (p : PortsView Kept). p.spare) same.ports in
+          let unused : ready.ledger.unused ≡ w.ledger.unused = ap (λ (l : LedgerView). l.unused) same.ledger in
+          let e = m.enough in
+          omega (arith, c.unused, c.spare, spare, unused, e)
 
       abbrev k : ℕ
       k = length (s.log 0)
@@ -211,6 +245,9 @@ module _ (w : WorldView) (task number : ℕ) (g : Going) (goes : CanGo w number 
         pub insert_agrees : Agrees new inserted
         insert_agrees = subst (λ (xs : List Token). Agrees new (record put.named { ledger = xs ++ put.others })) (comes kind refl) put.agrees
 
+        pub insert_slots : SlotsSuffice new
+        insert_slots = put_slots mid new task kind g.port name puts mid_slots
+
         pub insert_holders : HoldersAgree new
         insert_holders = port_put_holders mid left.t left.agrees left.holders 0 k left.copies.keeps task kind g.port name new lie puts
 
@@ -244,6 +281,9 @@ module _ (w : WorldView) (task number : ℕ) (g : Going) (goes : CanGo w number 
 
         pub given : Given left.t 0 k task kind g.port new_name new
         given = port_given mid left.t left.agrees 0 k left.copies.keeps task kind g.port new_name new lie gives_port
+
+        pub extract_slots : SlotsSuffice new
+        extract_slots = mark_slots mid new task kind (mark.Port g.port) new_name gives mid_slots
 
         pub extract_holders : HoldersAgree new
         extract_holders = port_given_holders mid left.t left.agrees left.holders 0 k left.copies.keeps task kind g.port new_name new lie gives_port
@@ -370,15 +410,26 @@ module _ (w : WorldView) (to from : TaskName) (number : ℕ) (handed : Handed) (
   abbrev to_insert : Event
   to_insert = Event.InsertRight to.task to.name from.task from.name number
 
-  pub insert_short_of : (HasTask w to.task) × (HasTask w from.task) → Declines w to_insert (kern_number ResourceShortage) w
-  insert_short_of tasks = insert_short w to.task number inserting may.goes tasks.0 to.name may.to_named may.from_named tasks may.unrefused
+  -- where memory is lacking, only room was made
+  pub insert_short_of : (HasTask w to.task) × (HasTask w from.task) → (new : WorldView) → IsRoomier w new → Declines w to_insert (kern_number ResourceShortage) new
+  insert_short_of tasks new r = record {
+    refuses = (insert_short w to.task number inserting may.goes tasks.0 to.name may.to_named may.from_named tasks may.unrefused).refuses;
+    shows = λ s sh. room_shows w new s r.same sh;
+  }
 
   -- a place is kept for the name, where the right needs one
   abbrev Placed : SpaceView → Type 0
   Placed x = left_at w to.task inserting to.name ≡ None → x.kept ≡ Some to.name
 
+  -- what was so of a task's names still is
+  record PlacedNames (ready : WorldView) : Type 0 where
+    same : SameButRoom w ready
+    space : SpaceView
+    there : space_at ready to.task ≡ Some space
+    placed : Placed space
+
   placed : HasTask w to.task → (ready : WorldView) (is_new : Bool) → MatchBool is_new (left_at w to.task inserting to.name ≡ None) (left_at w to.task inserting to.name ≢ None) →
-      MatchBool is_new (KeepsPlace w to.task to.name ready) (ready ≡ w) → Readies w to.task Placed ready
+      MatchBool is_new (KeepsPlace w to.task to.name ready) (ready ≡ w) → PlacedNames ready
   placed below ready true needs k = record {
     same = place_kept w ready to.task to.name k;
     space = record k.space { kept = Some to.name };
@@ -392,9 +443,19 @@ module _ (w : WorldView) (to from : TaskName) (number : ℕ) (handed : Handed) (
     placed = λ unused. absurd (not unused);
   }
 
-  module _ (ready : WorldView) (kept : MatchBool handed.is_new (KeepsPlace w to.task to.name ready) (ready ≡ w)) (below : HasTask w to.task) where
-    room : Readies w to.task Placed ready
-    room = placed below ready handed.is_new may.is_new kept
+  module _ (ready : WorldView) (made : ReadiesInsert w to handed ready) (below : HasTask w to.task) where
+    at_place : PlacedNames made.mid
+    at_place = placed below made.mid handed.is_new may.is_new made.placed
+
+    room : Readies w to.task (slots_needed handed) Placed ready
+    room = record {
+      spare = max made.mid.ports.spare (made.mid.ledger.unused + slots_needed handed);
+      same = slots_same_room w made.mid ready (max made.mid.ports.spare (made.mid.ledger.unused + slots_needed handed)) at_place.same made.slot;
+      enough = enough_made w made.mid (slots_needed handed) at_place.same;
+      space = at_place.space;
+      there = ap (λ (x : WorldView). space_at x to.task) made.slot ∙ at_place.there;
+      placed = at_place.placed;
+    }
 
     pub inserts_copies : Stands w → CanCopy ready from.task from.name (record { given = handed.given; mark = mark.Port handed.port })
     inserts_copies stands = ready_copies w to.task number inserting may.goes ready Placed room stands.state stands.shown (λ many. may.unrefused.1.1.1.0 (inr many))
@@ -413,6 +474,7 @@ module _ (w : WorldView) (to from : TaskName) (number : ℕ) (handed : Handed) (
             does = (refl, inserts w to.task number inserting may.goes ready Placed room s sh mid copies to.name may.unrefused new puts, refl);
             agrees = insert_agrees w to.task number inserting may.goes ready Placed room s sh mid copies to.name may.unrefused new puts;
             holders = insert_holders w to.task number inserting may.goes ready Placed room s sh mid copies to.name may.unrefused new puts;
+            slots = insert_slots w to.task number inserting may.goes ready Placed room s sh mid copies to.name may.unrefused new puts;
           })
 
 module _ (w : WorldView) (from : TaskName) (number to : ℕ) (handed : Handed) (may : MayExtract w from number to handed) where
@@ -422,23 +484,34 @@ module _ (w : WorldView) (from : TaskName) (number to : ℕ) (handed : Handed) (
   abbrev to_extract : Event
   to_extract = Event.ExtractRight from.task from.name number to
 
-  pub extract_short_of : (HasTask w from.task) × (HasTask w to) → Declines w to_extract (kern_number ResourceShortage) w
-  extract_short_of tasks = extract_short w to number extracting may.goes tasks.1 tasks may.unrefused
+  pub extract_short_of : (HasTask w from.task) × (HasTask w to) → (new : WorldView) → IsRoomier w new → Declines w to_extract (kern_number ResourceShortage) new
+  extract_short_of tasks new r = record {
+    refuses = (extract_short w to number extracting may.goes tasks.1 tasks may.unrefused).refuses;
+    shows = λ s sh. room_shows w new s r.same sh;
+  }
 
   -- there is room for the name, where the right needs one
   abbrev Roomy : SpaceView → Type 0
   Roomy x = WantsName w to extracting → 0 < x.room
 
-  module _ (ready : WorldView) (n : ℕ) (made : MakesRoom w to n ready) (needed : n ≡ names_needed handed) where
-    abbrev roomy : SpaceView
-    roomy = record made.space { room = max made.space.room n }
+  module _ (ready : WorldView) (made : ReadiesExtract w to handed ready) where
+    abbrev n : ℕ
+    n = names_needed handed
 
-    roomed : Readies w to Roomy ready
+    abbrev roomy : SpaceView
+    roomy = record made.roomy.space { room = max made.roomy.space.room n }
+
+    same_names_then : SameButRoom w made.mid
+    same_names_then = room_made w made.mid to n made.roomy
+
+    roomed : Readies w to (slots_needed handed) Roomy ready
     roomed = record {
-      same = room_made w ready to n made;
+      spare = max made.mid.ports.spare (made.mid.ledger.unused + slots_needed handed);
+      same = slots_same_room w made.mid ready (max made.mid.ports.spare (made.mid.ledger.unused + slots_needed handed)) same_names_then made.slot;
+      enough = enough_made w made.mid (slots_needed handed) same_names_then;
       space = roomy;
-      there = ap (λ (x : WorldView). space_at x to) made.rest ∙ space-set_same w.spaces to roomy made.space made.there;
-      placed = λ wants. subst (λ (k : ℕ). 0 < max made.space.room k) (sym needed) (some_room handed.is_new made.space.room may.is_new wants);
+      there = ap (λ (x : WorldView). space_at x to) made.slot ∙ ap (λ (x : WorldView). space_at x to) made.roomy.rest ∙ space-set_same w.spaces to roomy made.roomy.space made.roomy.there;
+      placed = λ wants. some_room handed.is_new made.roomy.space.room may.is_new wants;
     }
 
     pub extracts_copies : Stands w → CanCopy ready from.task from.name (record { given = handed.given; mark = mark.Port handed.port })
@@ -458,4 +531,5 @@ module _ (w : WorldView) (from : TaskName) (number to : ℕ) (handed : Handed) (
             does = (extracts w to number extracting may.goes ready Roomy roomed s sh mid copies may.unrefused new_name new gives, refl);
             agrees = (given w to number extracting may.goes ready Roomy roomed s sh mid copies may.unrefused new_name new gives).agrees;
             holders = extract_holders w to number extracting may.goes ready Roomy roomed s sh mid copies may.unrefused new_name new gives;
+            slots = extract_slots w to number extracting may.goes ready Roomy roomed s sh mid copies may.unrefused new_name new gives;
           })

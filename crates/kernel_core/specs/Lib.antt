@@ -1,5 +1,5 @@
 pub mod Answers
-pub mod Transfer
 pub mod Send
+pub mod Transfer
 pub mod Receive
 pub mod Wanted

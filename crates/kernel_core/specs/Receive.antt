@@ -11,7 +11,7 @@ use Rattle.name_space.specs.declared.Entry.{Entry}
 use Rattle.name_space.specs.declared.Entry.TheVariants as entry
 use Rattle.port.specs.Ports.{PortView}
 use Rattle.copyin_base.specs.Kept.{Kept}
-use Rattle.copyin_base.specs.Shows.{Agrees, HoldersAgree, Shows}
+use Rattle.copyin_base.specs.Shows.{Agrees, HoldersAgree, SlotsSuffice, Shows}
 use Rattle.copyin_base.specs.Wanted.{room_of}
 use Rattle.copyin_base.specs.Worlds.{WorldView, port_at}
 
@@ -61,12 +61,13 @@ NoneWaits w waited = (p : ℕ) (v : PortView Kept) → port_at w p ≡ Some v �
 
 -- ---- what becomes of it, in each state that the tables show
 
--- A receipt of the machine, after which the tables agree with its state, and each port knows who holds its receive right.
+-- A receipt of the machine, after which the tables agree with its state, each port knows who holds its receive right, and slots suffice.
 pub record ReceiptOf (s : State) (task : ℕ) (waited : Waited) (room : ℕ) (large : Bool) (reply : Reply) (new : WorldView) : Type 0 where
   pub mid : State
   pub receipt : Receipt s task waited room large reply mid []
   pub agrees : Agrees new mid
   pub holders : HoldersAgree new
+  pub slots : SlotsSuffice new
 
 -- It is answered so, whether a longer message was to stay or not.
 pub record IsReceipt (old : WorldView) (task : ℕ) (waited : Waited) (room : ℕ) (reply : Reply) (new : WorldView) : Type 0 where

@@ -1,27 +1,28 @@
 -- What sending does to the tables.
-use Rattle.std.specs.Prelude.{◌≡◌, ℕ, ◌+◌, List, max}
+use Rattle.std.specs.Prelude.{◌≡◌, ℕ, ◌+◌, ◌≤◌, List, max}
 use Rattle.message_codec.specs.declared.text.Parsed.{Parsed}
 use Rattle.message_codec.specs.Parses.{Parses}
+use Rattle.copyin_base.specs.Changes.{with_slots}
 use Rattle.copyin_base.specs.Wanted.{room_of}
 use Rattle.copyin_base.specs.Worlds.{WorldView}
 use Rattle.copyin.specs.Plans.{Plans, Commits}
+use Rattle.copyin.specs.Slots.{slots_for}
 
--- All is as before but the number of spare message slots.
-abbrev pub with_slots : WorldView → ℕ → WorldView
-with_slots w n = record w { ports = record w.ports { spare = n } }
+-- with slots made where fewer are spare than one for each send-once right that no queued message goes by, and so many more
+abbrev pub slotted : WorldView → (more : ℕ) → WorldView
+slotted w more = with_slots w (max w.ports.spare (w.ledger.unused + more))
 
--- with a slot made where none is spare
-abbrev pub with_slot : WorldView → WorldView
-with_slot w = with_slots w (max w.ports.spare 1)
-
--- The bytes are a message that may be sent, and it is.
+-- The bytes are a message that may be sent, and it is, once the slots were made that it wants.
 pub record SendsText (old : WorldView) (task : ℕ) (bytes : List ℕ) (new : WorldView) : Type 0 where
   pub parsed : Parsed
   pub text : Parses bytes parsed
-  pub plans : Plans (with_slot old) task parsed text.written
-  pub commits : Commits (with_slot old) task parsed text.written plans.judged bytes new
+  pub more : ℕ
+  pub plans : Plans (slotted old more) task parsed text.written
+  pub wants : more ≡ slots_for plans.judged.destination plans.judged.reply plans.judged.rights
+  pub commits : Commits (slotted old more) task parsed text.written plans.judged bytes new
 
--- A spare slot is used, which is made where there is none; there is as much room for names as before.
+-- A spare slot is used; slots are made only where fewer are spare than that one and those of the send-once rights that no queued message
+-- goes by then. There is as much room for names as before.
 pub record UsesSlot (old new : WorldView) : Type 0 where
-  pub slots : new.ports.spare + 1 ≡ max old.ports.spare 1
+  pub slots : new.ports.spare + 1 ≤ max old.ports.spare (new.ledger.unused + 1)
   pub rooms : (task : ℕ) → room_of new task ≡ room_of old task

@@ -3,8 +3,9 @@ ghost use Rattle.std.specs.Prelude.{◌≡◌, ◌++◌, IfOk, IfErr, MatchBool}
 ghost use Rattle.std.specs.Option.{option_to_list};
 ghost use Rattle.mach_types.specs.declared.codes.KernReturn.TheVariants as kern;
 ghost use Rattle.mach_types.specs.Numbers.{kern_number};
-ghost use Rattle.mach_model.specs.State.{opening};
+ghost use Rattle.mach_model.specs.State.{State, opening};
 ghost use Rattle.mach_model.specs.Refusals.{tasks_of};
+ghost use Rattle.mach_laws.specs.Queued.{unused};
 ghost use Rattle.copyin_base.specs.Acts.{AreTasks, HasTasks, Declines};
 ghost use Rattle.copyin_base.specs.Shows.{Shows};
 ghost use Rattle.copyin_base.specs.Stands.{Stands};
@@ -72,21 +73,37 @@ impl Kernel {
     ///
     /// A refusal is answered by its code and leaves the state that the kernel shows; so is want of
     /// memory, which is answered only where the call may want some: `specs/Wanted` says where. Room for
-    /// one name that was made first may stay. A message slot is made only where none is spare, and then
-    /// one; an accepted message uses one, which is spare again once the message was received.
+    /// one name that was made first may stay. A message slot is spare for each send-once right that no
+    /// queued message goes by, so that what comes by the right has one; slots are made only for an
+    /// accepted message and for such rights that are made, where fewer are spare. An accepted message
+    /// uses one, which is spare again once the message was received.
     pub fn step(&mut self, event: &Event) -> Reply
         ensures answers { Answers self.old event.now result self.new }
         ensures wanted { Wanted self.old event.now result }
         ensures spares { Spares self.old event.now result self.new }
+        ensures unused { (s : State) → Shows self.new s → self.new.ledger.unused ≡ unused s }
     {
         match act(&mut self.world, self.alloc, event) {
             Ok(reply) => {
                 settle(&mut self.world);
+                check_slots(&self.world);
                 reply
             }
-            Err(code) => Reply::Code(code.number()),
+            Err(code) => {
+                check_slots(&self.world);
+                Reply::Code(code.number())
+            }
         }
     }
+}
+
+/// After a step a message slot is spare for each send-once right that no queued message goes by.
+fn check_slots(world: &World)
+    requires { Stands world.now }
+    ensures { (s : State) → Shows world.now s → world.now.ledger.unused ≡ unused s }
+{
+    let enough = world.slots_suffice();
+    prove!(enough);
 }
 
 /// Does the call's own part of a step, up to what [`settle`] ends, or refuses it.

@@ -1,9 +1,9 @@
 //! Whole runs.
-ghost use Rattle.std.specs.Prelude.{IfOk};
+ghost use Rattle.std.specs.Prelude.{◌≤◌, IfOk};
 ghost use Rattle.mach_model.specs.State.{State};
 ghost use Rattle.mach_model.specs.Machine.{Run};
 ghost use Rattle.mach_laws.specs.Headline.{Headline};
-ghost use Rattle.mach_laws.specs.Queued.{SlotsWithin};
+ghost use Rattle.mach_laws.specs.Queued.{SlotsWithin, unused};
 ghost use Rattle.copyin_base.specs.Shows.{Shows};
 
 use crate::kernel::Kernel;
@@ -13,15 +13,16 @@ use std::alloc::{AllocError, Global};
 /// Makes these calls on a new kernel, one after another, and gives the kernel that they leave with
 /// their answers in order. They are a run of the machine, to a state that the kernel shows, and all is
 /// true of it that `mach_laws`' `Headline` says: what received messages mean, in which order they come,
-/// and that each live port has one receive right. The kernel's spare message slots and its queued
-/// messages are together at most one more than there were ever messages queued before a call
-/// (`SlotsWithin`).
+/// and that each live port has one receive right. The kernel has a spare message slot for each send-once
+/// right that no queued message goes by, and its spare slots and its queued messages are together no
+/// more than there were ever queued messages and such rights (`SlotsWithin`).
 ///
 /// An error means that memory for the list of answers was refused. Where a step is refused memory,
 /// that is its answer, and the run goes on.
 pub fn run(alloc: Global, events: Vec<Event>) -> Result<(Kernel, Vec<Reply>), AllocError>
     ensures { IfOk result (λ done. (s : State) × Run events.items done.1.items s × Shows done.0 s
-        × (h : Headline events.items done.1.items s) × SlotsWithin done.0.ports.spare h.stages s) }
+        × (h : Headline events.items done.1.items s) × SlotsWithin done.0.ports.spare h.stages s
+        × (unused s ≤ done.0.ports.spare)) }
 {
     let mut kernel = Kernel::new(alloc);
     let mut replies = Vec::new(alloc);

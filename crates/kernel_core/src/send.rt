@@ -20,7 +20,7 @@ use std::alloc::Global;
 ///
 /// Errors, of which the first is answered: those of the text, as [`message_codec::parse`]; those of its
 /// rights and of the message as a whole, as [`copyin::check`]; `MACH_SEND_NO_BUFFER` where memory was
-/// refused for a slot in the queue. Linear in the message, but for what [`copyin::check`] says of each
+/// refused for the slots that it wants. Linear in the message, but for what [`copyin::check`] says of each
 /// right.
 pub(crate) fn send(
     world: &mut World,
@@ -59,7 +59,7 @@ fn send_text(world: &mut World, alloc: Global, task: TaskId, bytes: &[u8]) -> Re
         Ok(plan) => plan,
         Err(code) => return Err(code),
     };
-    let Ok(()) = world.reserve_slot() else {
+    let Ok(()) = world.reserve_slots(plan.count_slots()) else {
         return Err(MsgReturn::SendNoBuffer);
     };
     commit(world, plan);

@@ -28,11 +28,12 @@ use Rattle.copyin_base.proofs.Agreeing.{own_names}
 use Rattle.copyin_base.proofs.Gets.{same_found}
 use Rattle.copyin_base.proofs.Holders.{ReceivesAt, KeepHolders, same_holders, holders_added, holders_made}
 use Rattle.copyin_base.proofs.NamesChanged.{added_agrees}
-use Rattle.copyin_base.proofs.Roomier.{room_made, place_kept, room_entry, room_agrees, room_holders, room_shows}
+use Rattle.copyin_base.proofs.Roomier.{room_made, place_kept, room_entry, room_agrees, room_holders, room_slots, room_shows}
 use Rattle.kernel_core_base.specs.declared.names.NewRight.{NewRight}
 use Rattle.kernel_core_base.specs.declared.names.NewRight.TheVariants as new_right
 use Rattle.kernel_core_base.specs.Names.{first_port, right_made, entry_made, HasRoomFor, IsFullFor, HasRoomOf, IsFullOf, CanAdd, Adds}
 use Rattle.kernel_core_base.proofs.PortMade.{allocated, allocates, allocated_agrees, not_made, unknown}
+use Rattle.kernel_core_base.proofs.SlotsKept.{made_slots}
 use Rattle.kernel_core_base.proofs.SetMade.{set_agrees}
 use Rattle.copyin_base.proofs.Spaces.{space-set_same}
 
@@ -224,6 +225,7 @@ module _ (w w1 v : WorldView) (same : SameButRoom w w1) (task number name : ℕ)
         does = (fresh w1 s (room_agrees w w1 s same sh.agrees) task space there name f, makes_number s, refl);
         agrees = made_agrees w1 v s (room_agrees w w1 s same sh.agrees) sh.lawful task name (ap (λ (o : Option SpaceView). entry_in o name) there ∙ f.unused) r adds;
         holders = made_holders w1 v s (room_agrees w w1 s same sh.agrees) sh.lawful task name (ap (λ (o : Option SpaceView). entry_in o name) there ∙ f.unused) r adds (room_holders w w1 same sh.holders);
+        slots = made_slots w1 v (room_slots w w1 same sh.slots) task name r adds;
       })
 
   pub allocate_name_done : IsAllowed w (λ s. call_guards s (Event.AllocateName task number name)) → entry_at w task name ≡ None → Adds w1 task r name v →
@@ -235,4 +237,5 @@ module _ (w w1 v : WorldView) (same : SameButRoom w w1) (task number name : ℕ)
         does = (refl, makes_number s, refl);
         agrees = made_agrees w1 v s (room_agrees w w1 s same sh.agrees) sh.lawful task name (room_entry w w1 same task name ∙ unused) r adds;
         holders = made_holders w1 v s (room_agrees w w1 s same sh.agrees) sh.lawful task name (room_entry w w1 same task name ∙ unused) r adds (room_holders w w1 same sh.holders);
+        slots = made_slots w1 v (room_slots w w1 same sh.slots) task name r adds;
       })

@@ -22,6 +22,7 @@ pub mod TokensMoved
 pub mod ReferencesSet
 pub mod SetRemoved
 pub mod HoldersKept
+pub mod SlotsKept
 pub mod ReferencesLost
 pub mod ReferencesPut
 pub mod ReferencesTold

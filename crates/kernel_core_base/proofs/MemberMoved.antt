@@ -23,6 +23,7 @@ use Rattle.copyin_base.proofs.Acting.{done}
 use Rattle.copyin_base.proofs.AttributesSet.{set_agrees}
 use Rattle.copyin_base.proofs.Finding.{finds_used, finds_port, finds_receive, receive_port_lives, receive_port_there}
 use Rattle.copyin_base.proofs.Holders.{holders_kept}
+use Rattle.copyin_base.proofs.Slots.{slots_set}
 use Rattle.copyin_base.proofs.Told.{used, found}
 use Rattle.kernel_core_base.specs.Sets.{set_of_port, GoesTo, MayMove}
 use Rattle.kernel_core_base.proofs.Members.{is_set_target, sets_are, sets_none}
@@ -136,6 +137,7 @@ moved w task member after p set below m b h new r = done w (Event.MoveMember tas
       does = (refl, joins s sh.agrees set m.goes, refl);
       agrees = set_agrees w s sh.agrees p b h set new r;
       holders = holders_kept w new sh.holders p b (record b { set = set }) h r refl;
+      slots = slots_set w new sh.slots p (record b { set = set }) r;
     })
   where
     joins : (s : State) → Agrees w s → (set : Option ℕ) → GoesTo w task after set → JoinsSet task member after s (record s { sets_of = at s.sets_of p (option_to_list set) })

@@ -29,6 +29,7 @@ use Rattle.copyin_base.proofs.Acting.{done, refused}
 use Rattle.copyin_base.proofs.AttributesSet.{limit_agrees, make_send_agrees, sequence_agrees}
 use Rattle.copyin_base.proofs.Finding.{finds_port, finds_held, receive_allowed, receive_port_lives}
 use Rattle.copyin_base.proofs.Holders.{holders_kept}
+use Rattle.copyin_base.proofs.Slots.{slots_set}
 use Rattle.copyin_base.proofs.Told.{port_there, port_entered}
 use Rattle.kernel_core_base.specs.ReceiveRight.{set_name, status_of, HasPort, TellsPort}
 use Rattle.kernel_core_base.proofs.Holding.{one_in, one_holder}
@@ -97,7 +98,7 @@ has_port w task name p stands f =
 pub status_told : (w : WorldView) (task name p : ℕ) (status : Status) → HasTask w task → FindsReceive w task name p → TellsPort w p status →
     Acts w (Event.ReceiveStatus task name) (Reply.Status status) w
 status_told w task name p status below f t = done w (Event.ReceiveStatus task name) (Reply.Status status) w below (receive_allowed w task name p f)
-    (λ now s sh. record { mid = s; owed = []; does = (subst (TellsStatus s task name) (sym t.is) (tells w s sh task name p f t.v t.there), refl, refl); agrees = sh.agrees; holders = sh.holders })
+    (λ now s sh. record { mid = s; owed = []; does = (subst (TellsStatus s task name) (sym t.is) (tells w s sh task name p f t.v t.there), refl, refl); agrees = sh.agrees; holders = sh.holders; slots = sh.slots })
 
 -- ---- numbers that are set
 
@@ -118,6 +119,7 @@ module _ (w : WorldView) (task name p : ℕ) (below : HasTask w task) (f : Finds
         does = (refl, (p, finds_port w task name p f s a, finds_held w task name p f s a, refl), refl);
         agrees = limit_agrees w s a p b h n new r;
         holders = holders_kept w new sh.holders p b (record b { limit = n }) h r refl;
+        slots = slots_set w new sh.slots p (record b { limit = n }) r;
       })
 
   pub make_send_set : n < 2 ^ 32 → SetsAttributes w p (record b { make_send = n }) new → Acts w (Event.SetMscount task name n) (Reply.Code 0) new
@@ -128,6 +130,7 @@ module _ (w : WorldView) (task name p : ℕ) (below : HasTask w task) (f : Finds
         does = (refl, fits, (p, finds_port w task name p f s a, finds_held w task name p f s a, refl), refl);
         agrees = make_send_agrees w s a p b h n new r;
         holders = holders_kept w new sh.holders p b (record b { make_send = n }) h r refl;
+        slots = slots_set w new sh.slots p (record b { make_send = n }) r;
       })
 
   pub sequence_set : n < 2 ^ 32 → SetsAttributes w p (record b { sequence = n }) new → Acts w (Event.SetSeqno task name n) (Reply.Code 0) new
@@ -138,4 +141,5 @@ module _ (w : WorldView) (task name p : ℕ) (below : HasTask w task) (f : Finds
         does = (refl, fits, (p, finds_port w task name p f s a, finds_held w task name p f s a, refl), refl);
         agrees = sequence_agrees w s a p b h n new r;
         holders = holders_kept w new sh.holders p b (record b { sequence = n }) h r refl;
+        slots = slots_set w new sh.slots p (record b { sequence = n }) r;
       })

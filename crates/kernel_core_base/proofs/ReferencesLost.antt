@@ -30,6 +30,7 @@ use Rattle.kernel_core_base.specs.declared.references.Due.{Due}
 use Rattle.kernel_core_base.specs.declared.references.Due.TheVariants.{Nothing, References, Disbanding}
 use Rattle.kernel_core_base.specs.References.{Carries, deallocated, destroyed}
 use Rattle.kernel_core_base.proofs.HoldersKept.{carried_holders}
+use Rattle.kernel_core_base.proofs.SlotsKept.{carried_slots}
 use Rattle.kernel_core_base.proofs.ReferencesSet.{Comes, send_set, both_set, dead_set}
 use Rattle.kernel_core_base.proofs.SetRemoved.{removed_agrees}
 use Rattle.kernel_core_base.proofs.TokensMoved.{weigh_alike, weigh_unlike}
@@ -185,7 +186,7 @@ comes w s sh task name (Disbanding set) v counted c = record { t = without_set s
 pub carried : (w : WorldView) (event : Event) (task name : ℕ) (due : Due) (v : WorldView) → HasTasks w event → IsAllowed w (λ s. call_guards s event) → IsCountedDue due →
     ((now : ℕ) (s : State) → Shows w s → (t : State) → Becomes s task name due t → Does now s event (Reply.Code 0) t []) → Carries w task name due v → Acts w event (Reply.Code 0) v
 carried w event task name due v tasks allowed counted means c = done w event (Reply.Code 0) v tasks allowed
-    (λ now s sh. let x = comes w s sh task name due v counted c in record { mid = x.t; owed = []; does = means now s sh x.t x.does; agrees = x.agrees; holders = carried_holders w v sh.holders task name due c })
+    (λ now s sh. let x = comes w s sh task name due v counted c in record { mid = x.t; owed = []; does = means now s sh x.t x.does; agrees = x.agrees; holders = carried_holders w v sh.holders task name due c; slots = carried_slots w v sh.slots task name due c })
 
 module _ (w : WorldView) (task name : ℕ) (below : HasTask w task) (v : WorldView) where
   lose_one : (e : Entry) (p n : ℕ) → entry_at w task name ≡ Some e → port_named e ≡ Some p → send_references e ≡ n → ((s : State) → Shows w s → 0 < n) →

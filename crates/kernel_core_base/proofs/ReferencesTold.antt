@@ -99,4 +99,5 @@ module _ (w : WorldView) (task name number : ℕ) (below : HasTask w task) where
         );
         agrees = sh.agrees;
         holders = sh.holders;
+        slots = sh.slots;
       })

@@ -25,6 +25,7 @@ use Rattle.copyin_base.specs.Shows.{Agrees, HoldersAgree, Shows, SetsAgree, targ
 use Rattle.copyin_base.specs.Stands.{Stands}
 use Rattle.copyin_base.proofs.Acting.{done}
 use Rattle.copyin_base.proofs.Holders.{KeepHolders, same_holders, moved_receives, holders_left}
+use Rattle.copyin_base.proofs.Slots.{slots_stay}
 use Rattle.copyin_base.proofs.Roomier.{place_kept, room_entry, room_shows}
 use Rattle.copyin_base.proofs.NamesChanged.{kept_sets, sets_go, moved_agrees, target_found}
 use Rattle.copyin_base.proofs.Told.{found}
@@ -123,4 +124,4 @@ module _ (w w1 : WorldView) (task from to : ℕ) (e : Entry) (may : MayRename w 
   pub rename_done : (old : WorldView) → SameButRoom old w → HasTask old task → IsAllowed old (λ s. call_guards s (Event.Rename task from to)) → (v : WorldView) →
       v ≡ record w1 { sets = sets_named e to w1.sets } → Acts old (Event.Rename task from to) (Reply.Code 0) v
   rename_done old same below good v named = done old (Event.Rename task from to) (Reply.Code 0) v below good
-      (λ now s sh. let here = room_shows old w s same sh in record { mid = after s; owed = []; does = (refl, renames s here, refl); agrees = agrees s here v named; holders = holders v named here.holders })
+      (λ now s sh. let here = room_shows old w s same sh in record { mid = after s; owed = []; does = (refl, renames s here, refl); agrees = agrees s here v named; holders = holders v named here.holders; slots = slots_stay w v here.slots (ap (λ (x : WorldView). x.ledger) named ∙ ap (λ (x : WorldView). x.ledger) moves.rest) (ap (λ (x : WorldView). x.ports) named ∙ ap (λ (x : WorldView). x.ports) moves.rest) })

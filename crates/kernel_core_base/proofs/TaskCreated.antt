@@ -89,4 +89,4 @@ task_holders w h = holders_pushed w (record w { spaces = w.spaces ++ Some no_nam
 pub task_created : (w : WorldView) (task : ℕ) (new : WorldView) → length w.spaces < most_tasks → task ≡ length w.spaces → new ≡ record w { spaces = w.spaces ++ Some no_names ∷ [] } → Acts w Event.TaskCreate (Reply.Task task) new
 task_created w task new few is made = rw (is, made) (done w Event.TaskCreate (Reply.Task (length w.spaces)) (record w { spaces = w.spaces ++ Some no_names ∷ [] }) tt
     record { allowed = λ s sh. ((λ many. let m = sh.agrees.tasks_made in omega (arith, many, m, few)), tt) }
-    (λ now s sh. record { mid = with_task w s sh.agrees; owed = []; does = (creates w s sh.agrees, refl); agrees = task_agrees w s sh.agrees; holders = task_holders w sh.holders }))
+    (λ now s sh. record { mid = with_task w s sh.agrees; owed = []; does = (creates w s sh.agrees, refl); agrees = task_agrees w s sh.agrees; holders = task_holders w sh.holders; slots = sh.slots }))

@@ -10,28 +10,29 @@ use Rattle.mach_model.specs.Machine.{Step, Run}
 use Rattle.mach_model.proofs.StepQuiet.{IsCalm}
 use Rattle.mach_laws.specs.Paths.{Stage, Path}
 use Rattle.mach_laws.specs.Headline.{Headline}
-use Rattle.mach_laws.specs.Queued.{queued, accepts, delivers, SlotsWithin}
+use Rattle.mach_laws.specs.Queued.{queued, unused, accepts, delivers, SlotsWithin}
 use Rattle.mach_laws.proofs.Walking.{path_runs, path_push, path_lawful}
 use Rattle.mach_laws.proofs.Counted.{Step-counted}
 use Rattle.mach_laws.proofs.Promised.{path_headline}
 
 -- ---- the bound on slots
 
--- The arithmetic of a step: a slot is made only where none is spare and a message is accepted, and one is spare again where one is given.
-pub slots_kept : (most spare more waiting left accepted delivered : ℕ) → more + accepted ≤ max spare 1 + delivered → left + delivered ≡ waiting + accepted →
-    waiting ≤ most → spare + waiting ≤ most + 1 → more + left ≤ most + 1
-slots_kept most spare more waiting left accepted delivered step counted bound before = omega (arith, step, counted, bound, before)
+-- The arithmetic of a step: a slot is made only for a message that is accepted or a send-once right that is made, where none is spare for
+-- it, and one is spare again where a message is given.
+pub slots_kept : (most spare more waiting left free accepted delivered : ℕ) → more + accepted ≤ max (spare + delivered) (free + accepted) → left + delivered ≡ waiting + accepted →
+    left + free ≤ most → spare + waiting ≤ most → more + left ≤ most
+slots_kept most spare more waiting left free accepted delivered step counted bound before = omega (arith, step, counted, bound, before)
 
 pub slots_start : SlotsWithin 0 [] opening
-slots_start most bound = omega arith
+slots_start most bound last = omega arith
 
 pub slots_push : (now spare more : ℕ) (path : List Stage) (s : State) (event : Event) (reply : Reply) (t : State) → IsCalm s → Step now s event reply t →
-    more + accepts event reply ≤ max spare 1 + delivers event reply → SlotsWithin spare path s →
+    more + accepts event reply ≤ max (spare + delivers event reply) (unused t + accepts event reply) → SlotsWithin spare path s →
     SlotsWithin more (path ++ record { before = s; event = event; reply = reply; after = t } ∷ []) t
-slots_push now spare more path s event reply t l step fits within most bound =
+slots_push now spare more path s event reply t l step fits within most bound last =
     let stage : Stage = record { before = s; event = event; reply = reply; after = t } in
-    let parts = All-pop (λ (x : Stage). queued x.before ≤ most) (path ++ stage ∷ []) path (Some stage) refl bound in
-    slots_kept most spare more (queued s) (queued t) (accepts event reply) (delivers event reply) fits (Step-counted now s event reply t l step) parts.1 (within most parts.0)
+    let parts = All-pop (λ (x : Stage). queued x.before + unused x.before ≤ most) (path ++ stage ∷ []) path (Some stage) refl bound in
+    slots_kept most spare more (queued s) (queued t) (unused t) (accepts event reply) (delivers event reply) fits (Step-counted now s event reply t l step) last (within most parts.0 parts.1)
 
 -- ---- a run so far
 
@@ -47,7 +48,7 @@ pub followed_start : Followed [] [] opening 0
 followed_start = record { stages = []; path = refl; events_are = refl; replies_are = refl; slots = slots_start }
 
 pub followed_push : (events : List Event) (replies : List Reply) (s : State) (spare : ℕ) (event : Event) (reply : Reply) (t : State) (more : ℕ) → Followed events replies s spare →
-    Step (length events) s event reply t → more + accepts event reply ≤ max spare 1 + delivers event reply → Followed (events ++ event ∷ []) (replies ++ reply ∷ []) t more
+    Step (length events) s event reply t → more + accepts event reply ≤ max (spare + delivers event reply) (unused t + accepts event reply) → Followed (events ++ event ∷ []) (replies ++ reply ∷ []) t more
 followed_push events replies s spare event reply t more f step fits =
     let stage : Stage = record { before = s; event = event; reply = reply; after = t } in
     let long : length events ≡ length f.stages = sym (ap length f.events_are) ∙ length-map f.stages (λ (x : Stage). x.event) in

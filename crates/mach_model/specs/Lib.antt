@@ -20,5 +20,6 @@ pub mod Refusals
 pub mod Machine
 pub mod Carried
 pub mod Lawful
+pub mod Unused
 pub mod Midway
 pub mod SameEnd

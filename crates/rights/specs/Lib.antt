@@ -1,3 +1,4 @@
 pub mod Counts
 pub mod Ledger
 pub mod Counted
+pub mod Unused

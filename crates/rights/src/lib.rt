@@ -156,6 +156,7 @@ impl Model for Ledger {
 impl Ledger {
     ghost use Rattle.rights.specs.Counts.{no_rights, number_of, all_of};
     ghost use Rattle.rights.specs.Ledger.{IsEntered, counts_of, entered, made, taken, shifted, left};
+    ghost use Rattle.rights.specs.Unused.{IsUnusedOfAll};
 
     /// A ledger of no ports. Allocates nothing; constant time.
     pub fn new(alloc: Global) -> Ledger
@@ -244,7 +245,8 @@ impl Ledger {
     /// How many send-once rights there are that no queued message goes by: so many notices may come, and
     /// each wants a message slot. Constant time.
     pub fn unused(&self) -> u32
-        ensures { result ≡ self.now.unused }
+        ensures value { result ≡ self.now.unused }
+        ensures all { IsUnusedOfAll self.now }
     {
         self.unused
     }

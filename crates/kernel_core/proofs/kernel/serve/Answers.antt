@@ -3,7 +3,7 @@ use Rattle.mach_types.specs.declared.calls.Event.{Event}
 use Rattle.copyin_base.specs.Acts.{Serves}
 use Rattle.copyin_base.proofs.Spares.{keeps_refl}
 use Rattle.kernel_core_base.proofs.Wanted.{takes_none}
-use Rattle.kernel_core.proofs.Keeping.{always_wants, sent_spares, carried, unserved}
+use Rattle.kernel_core.proofs.Keeping.{always_wants, sent_spares, carried, handed_on, unserved}
 use Rattle.kernel_core.proofs.kernel.serve.Goals as goal
 
 pub returns-in-TaskCreate : goal.returns-in-TaskCreate
@@ -64,12 +64,12 @@ returns-in-SetSeqno c = rw c.in-SetSeqno.is (carried _ _ _ _ c.set_seqno.ensures
 pub returns-in-InsertRight : goal.returns-in-InsertRight
 returns-in-InsertRight c =
     let x = rw (c.new-to.ensures, c.new-from.ensures) at c.insert.ensures in
-    rw c.in-InsertRight.is (carried _ _ _ _ x.serves x.wanted x.spares (λ reply. refl))
+    rw c.in-InsertRight.is (handed_on _ _ _ _ x.serves x.wanted x.spares (λ reply. refl))
 
 pub returns-in-ExtractRight : goal.returns-in-ExtractRight
 returns-in-ExtractRight c =
     let x = rw c.new.ensures at c.extract.ensures in
-    rw c.in-ExtractRight.is (carried _ _ _ _ x.serves x.wanted x.spares (λ reply. refl))
+    rw c.in-ExtractRight.is (handed_on _ _ _ _ x.serves x.wanted x.spares (λ reply. refl))
 
 pub returns-in-RequestNotification : goal.returns-in-RequestNotification
 returns-in-RequestNotification c =

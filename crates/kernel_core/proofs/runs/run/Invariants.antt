@@ -1,9 +1,10 @@
-use Rattle.std.specs.Prelude.{take}
+use Rattle.std.specs.Prelude.{◌≤◌, take}
 use Rattle.mach_model.specs.State.{State}
+use Rattle.mach_laws.specs.Queued.{unused}
 use Rattle.mach_laws.proofs.Followed.{Followed}
 use Rattle.copyin_base.specs.Shows.{Shows}
 use Rattle.kernel_core.proofs.runs.run.Given as goal
 
--- the replies so far are those of a run over the events so far
+-- the replies so far are those of a run over the events so far, and slots suffice
 abbrev pub invariant-loop-event : goal.invariant-loop-event
-invariant-loop-event l = (s : State) × Followed (take l.event-index l.event-items) l.replies.items s l.kernel.ports.spare × Shows l.kernel s
+invariant-loop-event l = (s : State) × Followed (take l.event-index l.event-items) l.replies.items s l.kernel.ports.spare × Shows l.kernel s × (unused s ≤ l.kernel.ports.spare)

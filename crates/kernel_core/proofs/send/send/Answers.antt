@@ -10,7 +10,7 @@ returns-clause-serves c = rw c.number.ensures (send_done c.args.world.now c.args
     (subst (λ (xs : List ℕ). SendsText c.args.world.now c.args.task xs c.send_text.new.world) c.as_slice.ensures c.in_ok-send_text.ensures.ok))
 
 pub returns-clause-sent : goal.returns-clause-sent
-returns-clause-sent c = uses_slot c.args.world.now c.args.task c.requires.there c.as_slice.result.now c.send_text.new.world c.in_ok-send_text.ensures.ok
+returns-clause-sent c = uses_slot c.args.world.now c.args.task c.requires.there c.as_slice.result.now c.send_text.new.world c.requires.stands c.in_ok-send_text.ensures.ok
 
 pub returns-in_err-send_text-clause-wanted : goal.returns-in_err-send_text-clause-wanted
 returns-in_err-send_text-clause-wanted c =

@@ -1,7 +1,6 @@
-use Rattle.std.proofs.Common.{arith}
 use Rattle.mach_types.specs.Numbers.{msg_number}
 use Rattle.copyin_base.proofs.Tied.{stands_is_tied}
-use Rattle.kernel_core.proofs.Sending.{text_declined, plan_declined, no_memory, slotted, still_plan, still_tied, sends_text}
+use Rattle.kernel_core.proofs.Sending.{text_declined, plan_declined, no_memory, still_plan, still_tied, sends_text, has_slot}
 use Rattle.kernel_core.proofs.Wanting.{parse_wants, check_wants, plans_wants}
 use Rattle.kernel_core.proofs.send.send_text.Goals as goal
 
@@ -39,20 +38,22 @@ commit-requires-clause-planned c =
       c.in-Ok.parsed,
       text.written,
       c.args.bytes.now,
-      still_plan c.args.world.now c.reserve_slot.new.self c.reserve_slot.new.self.ports.spare c.args.task c.in-Ok.parsed text.written c.args.bytes.now c.in-Ok-check.plan c.reserve_slot.ensures.rest (c.in-Ok-check.ensures.ok text),
+      still_plan c.args.world.now c.reserve_slots.new.self _ c.args.task c.in-Ok.parsed text.written c.args.bytes.now c.in-Ok-check.plan c.in-Ok-reserve_slots.ensures.ok (c.in-Ok-check.ensures.ok text),
     )
 
 pub commit-requires-clause-spare : goal.commit-requires-clause-spare
-commit-requires-clause-spare c = omega (arith, c.in-Ok-reserve_slot.ensures.ok)
+commit-requires-clause-spare c =
+    let text = c.in-Ok.ensures.ok in
+    has_slot c.args.world.now c.reserve_slots.new.self c.args.task c.in-Ok.parsed text.written c.args.bytes.now c.in-Ok-check.plan c.count_slots.result
+    c.in-Ok-reserve_slots.ensures.ok c.count_slots.ensures c.reserve_slots.ensures.all c.requires.stands (c.in-Ok-check.ensures.ok text)
 
 pub commit-requires-clause-tied : goal.commit-requires-clause-tied
 commit-requires-clause-tied c =
-    still_tied c.args.world.now c.reserve_slot.new.self c.reserve_slot.new.self.ports.spare c.in-Ok-check.plan.task c.reserve_slot.ensures.rest (stands_is_tied c.args.world.now c.in-Ok-check.plan.task c.requires.stands)
+    still_tied c.args.world.now c.reserve_slots.new.self _ c.in-Ok-check.plan.task c.in-Ok-reserve_slots.ensures.ok (stands_is_tied c.args.world.now c.in-Ok-check.plan.task c.requires.stands)
 
 pub returns-clause-ok : goal.returns-clause-ok
 returns-clause-ok c =
     let text = c.in-Ok.ensures.ok in
-    let w2 = c.reserve_slot.new.self in
-    sends_text c.args.world.now w2 c.commit.new.world c.args.task c.args.bytes.now c.in-Ok.parsed text c.in-Ok-check.plan
-    (slotted c.args.world.now w2 c.reserve_slot.ensures.rest c.in-Ok-reserve_slot.ensures.ok) (c.in-Ok-check.ensures.ok text)
+    sends_text c.args.world.now c.reserve_slots.new.self c.commit.new.world c.args.task c.args.bytes.now c.in-Ok.parsed text c.in-Ok-check.plan c.count_slots.result
+    c.in-Ok-reserve_slots.ensures.ok c.count_slots.ensures (c.in-Ok-check.ensures.ok text)
     (λ p. c.commit.ensures c.args.task c.in-Ok.parsed text.written c.args.bytes.now p)

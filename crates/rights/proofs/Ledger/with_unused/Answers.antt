@@ -1,4 +1,4 @@
-use Rattle.std.proofs.Common.{ℕ, ◌+◌, ◌<◌, ◌^◌, ◌≡◌, arith}
+use Rattle.std.proofs.Common.{◌+◌, ◌<◌, ◌^◌, ◌≡◌, arith}
 use Rattle.rights.specs.Counts.{unused_of}
 use Rattle.rights.proofs.Found.{more-unused}
 use Rattle.rights.proofs.Ledger.with_unused.Goals as goal

@@ -6,6 +6,12 @@ use Rattle.kernel_core.proofs.Keeping.{done_wanted}
 use Rattle.kernel_core.proofs.Stepping.{acted, declined, still_stands}
 use Rattle.kernel_core.proofs.kernel.Kernel.step.Goals as goal
 
+pub check_slots-requires : goal.check_slots-requires
+check_slots-requires c = still_stands _ _ _ _ c.self.invariant (acted _ _ _ _ _ c.in-Ok.ensures.serves c.settle.ensures.settles)
+
+pub check_slots-requires-in-Err : goal.check_slots-requires-in-Err
+check_slots-requires-in-Err c = still_stands _ _ _ _ c.self.invariant (declined _ _ _ _ c.in-Err.ensures.serves)
+
 pub invariant_of-self : goal.invariant_of-self
 invariant_of-self c = still_stands _ _ _ _ c.self.invariant (acted _ _ _ _ _ c.in-Ok.ensures.serves c.settle.ensures.settles)
 
