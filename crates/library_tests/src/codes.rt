@@ -1,10 +1,24 @@
-//! Names that are printed; calls and answers compared and copied.
-use mach_types::{
-    Bytes, Disposition, Event, KernReturn, MsgReturn, Name, NameList, NameTypes, PortId, Reply,
-    Right, TaskId, Waited,
-};
-use std::alloc::{AllocError, Global};
-use std::test::Fail;
+//! Names that are printed.
+use mach_types::{Disposition, KernReturn, MsgReturn, Right};
+use std::alloc::Global;
+use std::fmt;
+use tracer_base::{ScriptFault, TextFault};
+
+fn is_printed<T: fmt::Display>(alloc: Global, value: &T, text: &str) -> bool {
+    match value.to_string(alloc) {
+        Ok(printed) => printed.as_str() == text,
+        Err(_) => false,
+    }
+}
+
+fn are_printed<T: fmt::Display>(alloc: Global, table: &[(T, &str)]) -> bool {
+    for (value, text) in table {
+        if !is_printed(alloc, value, text) {
+            return false;
+        }
+    }
+    true
+}
 
 const KERNEL_CODES: [(KernReturn, &str); 14] = [
     (KernReturn::Success, "KERN_SUCCESS"),
@@ -23,14 +37,6 @@ const KERNEL_CODES: [(KernReturn, &str); 14] = [
     (KernReturn::RightExists, "KERN_RIGHT_EXISTS"),
 ];
 
-#[test]
-fn codes_of_kernel_calls_are_printed_by_name(rt: HostRuntime) -> Result<(), Fail> {
-    for (value, name) in KERNEL_CODES {
-        assert!(rt; value.to_string(rt.alloc())?.as_str() == name, "{name}");
-    }
-    Ok(())
-}
-
 const SEND_CODES: [(MsgReturn, &str); 10] = [
     (MsgReturn::Success, "MACH_MSG_SUCCESS"),
     (MsgReturn::SendInvalidData, "MACH_SEND_INVALID_DATA"),
@@ -43,14 +49,6 @@ const SEND_CODES: [(MsgReturn, &str); 10] = [
     (MsgReturn::SendInvalidType, "MACH_SEND_INVALID_TYPE"),
     (MsgReturn::SendInvalidHeader, "MACH_SEND_INVALID_HEADER"),
 ];
-
-#[test]
-fn codes_of_sends_are_printed_by_name(rt: HostRuntime) -> Result<(), Fail> {
-    for (value, name) in SEND_CODES {
-        assert!(rt; value.to_string(rt.alloc())?.as_str() == name, "{name}");
-    }
-    Ok(())
-}
 
 const RECEIVE_CODES: [(MsgReturn, &str); 8] = [
     (MsgReturn::ReceiveInvalidName, "MACH_RCV_INVALID_NAME"),
@@ -69,14 +67,6 @@ const RECEIVE_CODES: [(MsgReturn, &str); 8] = [
     ),
 ];
 
-#[test]
-fn codes_of_receipts_are_printed_by_name(rt: HostRuntime) -> Result<(), Fail> {
-    for (value, name) in RECEIVE_CODES {
-        assert!(rt; value.to_string(rt.alloc())?.as_str() == name, "{name}");
-    }
-    Ok(())
-}
-
 const RIGHTS: [(Right, &str); 5] = [
     (Right::Send, "MACH_PORT_RIGHT_SEND"),
     (Right::Receive, "MACH_PORT_RIGHT_RECEIVE"),
@@ -84,14 +74,6 @@ const RIGHTS: [(Right, &str); 5] = [
     (Right::PortSet, "MACH_PORT_RIGHT_PORT_SET"),
     (Right::DeadName, "MACH_PORT_RIGHT_DEAD_NAME"),
 ];
-
-#[test]
-fn rights_are_printed_by_name(rt: HostRuntime) -> Result<(), Fail> {
-    for (value, name) in RIGHTS {
-        assert!(rt; value.to_string(rt.alloc())?.as_str() == name, "{name}");
-    }
-    Ok(())
-}
 
 const DISPOSITIONS: [(Disposition, &str); 6] = [
     (Disposition::MoveReceive, "MACH_MSG_TYPE_MOVE_RECEIVE"),
@@ -102,51 +84,25 @@ const DISPOSITIONS: [(Disposition, &str); 6] = [
     (Disposition::MakeSendOnce, "MACH_MSG_TYPE_MAKE_SEND_ONCE"),
 ];
 
-#[test]
-fn dispositions_are_printed_by_name(rt: HostRuntime) -> Result<(), Fail> {
-    for (value, name) in DISPOSITIONS {
-        assert!(rt; value.to_string(rt.alloc())?.as_str() == name, "{name}");
-    }
-    Ok(())
-}
+const FAULTS: [(ScriptFault, &str); 2] = [
+    (ScriptFault::BadCall(12), "line 12: bad call"),
+    (ScriptFault::OutOfMemory, "out of memory"),
+];
 
-/// A call that sends these two bytes.
-fn send(alloc: Global, bytes: [u8; 2]) -> Result<Event, AllocError> {
-    let bytes = Bytes::from_vec(Vec::from_slice(alloc, &bytes)?);
-    Ok(Event::Send(TaskId::new(1), bytes))
-}
-
-// The calls that hold bytes are copied whole, and differ where one field does.
-#[test]
-fn calls_are_compared_and_copied(rt: HostRuntime) -> Result<(), Fail> {
-    let call = send(rt.alloc(), [1, 2])?;
-    assert!(rt; call.clone()? == call);
-    assert!(rt; call != send(rt.alloc(), [1, 3])?);
-    assert!(rt; Event::Names(TaskId::new(1)) != Event::TaskCreate);
-    Ok(())
-}
-
-/// Whether the answer is equal to its copy, and not to the other.
-fn is_compared(answer: &Reply, other: &Reply) -> Result<bool, AllocError> {
-    let copy = answer.clone()?;
-    Ok(copy == *answer && *answer != *other)
-}
-
-/// One name with this type.
-fn typed(alloc: Global, bits: u32) -> Result<Reply, AllocError> {
-    let names = Vec::from_slice(alloc, &[(Name::new(7), bits)])?;
-    Ok(Reply::Names(NameTypes::from_vec(names)))
+fn codes_are_printed(alloc: Global) -> bool {
+    are_printed(alloc, &KERNEL_CODES)
+        && are_printed(alloc, &SEND_CODES)
+        && are_printed(alloc, &RECEIVE_CODES)
 }
 
 #[test]
-fn answers_are_compared_and_copied(rt: HostRuntime) -> Result<(), Fail> {
-    let types = typed(rt.alloc(), 0x0002_0000)?;
-    assert!(rt; is_compared(&types, &typed(rt.alloc(), 0x0001_0000)?)?);
-    let members = Vec::from_slice(rt.alloc(), &[Name::new(7)])?;
-    let members = Reply::Members(NameList::from_vec(members));
-    let none = Reply::Members(NameList::from_vec(Vec::new(rt.alloc())));
-    assert!(rt; is_compared(&members, &none)?);
-    let waited = Reply::Empty(Waited::Port(PortId::new(0)));
-    assert!(rt; is_compared(&waited, &none)?);
-    Ok(())
+fn codes_and_rights_are_printed_by_name(rt: HostRuntime) {
+    assert!(rt; codes_are_printed(rt.alloc()) && are_printed(rt.alloc(), &RIGHTS));
+    assert!(rt; are_printed(rt.alloc(), &DISPOSITIONS));
+}
+
+#[test]
+fn faults_have_texts(rt: HostRuntime) {
+    assert!(rt; are_printed(rt.alloc(), &FAULTS));
+    assert!(rt; is_printed(rt.alloc(), &TextFault::Bad, "bad text"));
 }

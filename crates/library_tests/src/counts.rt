@@ -6,7 +6,6 @@ ghost use Rattle.rights.specs.Ledger.{counts_of};
 
 use mach_types::PortId;
 use rights::{Ledger, RightKind};
-use std::test::Fail;
 
 fn has(ledger: &Ledger, port: PortId, kind: RightKind, number: u32) -> bool
     ensures entered { IsTrue result → map.contains_key ledger.now.counts port ≡ true }
@@ -38,27 +37,47 @@ fn shift(ledger: &mut Ledger, port: PortId) -> bool {
     is_there
 }
 
-#[test]
-fn rights_are_counted(rt: HostRuntime) -> Result<(), Fail> {
-    let mut ledger = Ledger::new(rt.alloc());
-    let port = PortId::new(3);
-    assert!(rt; ledger.counts(port).is_none());
-    ledger.enter(port)?;
-    assert!(rt; make(&mut ledger, port, RightKind::Receive, 1));
-    assert!(rt; make(&mut ledger, port, RightKind::SendOnce, 2));
-    assert!(rt; !make(&mut ledger, port, RightKind::Send, u32::MAX - 2));
-    assert!(rt; make(&mut ledger, port, RightKind::Send, u32::MAX - 3));
-    assert_eq!(rt; ledger.total(), u32::MAX);
-    assert!(rt; take(&mut ledger, port, RightKind::SendOnce, 1));
-    assert!(rt; !take(&mut ledger, port, RightKind::SendOnce, 2));
-    assert!(rt; has(&ledger, port, RightKind::SendOnce, 1));
-    assert!(rt; shift(&mut ledger, port));
-    assert!(rt; !shift(&mut ledger, port));
-    assert_eq!(rt; ledger.unused(), 0);
-    assert!(rt; has(&ledger, port, RightKind::Destination, 1));
+/// Whether all rights that there can be are made, and none beyond.
+fn all_are_made(ledger: &mut Ledger, port: PortId) -> bool {
+    make(ledger, port, RightKind::Receive, 1)
+        && make(ledger, port, RightKind::SendOnce, 2)
+        && !make(ledger, port, RightKind::Send, u32::MAX - 2)
+        && make(ledger, port, RightKind::Send, u32::MAX - 3)
+        && ledger.total() == u32::MAX
+}
+
+/// Whether, of two send-once rights, one is taken and one shifted, and then none is left.
+fn once_rights_go(ledger: &mut Ledger, port: PortId) -> bool {
+    take(ledger, port, RightKind::SendOnce, 1)
+        && !take(ledger, port, RightKind::SendOnce, 2)
+        && has(ledger, port, RightKind::SendOnce, 1)
+        && shift(ledger, port)
+        && !shift(ledger, port)
+        && ledger.unused() == 0
+        && has(ledger, port, RightKind::Destination, 1)
+}
+
+fn all_go(ledger: &mut Ledger, port: PortId) -> bool {
+    if !has(ledger, port, RightKind::SendOnce, 0) {
+        return false;
+    }
     let counts = ledger.leave(port);
-    assert_eq!(rt; counts.send_once, 0);
-    assert_eq!(rt; ledger.total(), 0);
-    assert!(rt; ledger.counts(port).is_none());
-    Ok(())
+    counts.send_once == 0 && ledger.total() == 0 && ledger.counts(port).is_none()
+}
+
+fn enter(ledger: &mut Ledger, port: PortId) -> bool {
+    ledger.counts(port).is_none() && ledger.enter(port).is_ok()
+}
+
+fn are_counted(ledger: &mut Ledger, port: PortId) -> bool {
+    enter(ledger, port)
+        && all_are_made(ledger, port)
+        && once_rights_go(ledger, port)
+        && all_go(ledger, port)
+}
+
+#[test]
+fn rights_are_counted(rt: HostRuntime) {
+    let mut ledger = Ledger::new(rt.alloc());
+    assert!(rt; are_counted(&mut ledger, PortId::new(3)));
 }

@@ -1,19 +1,27 @@
 //! Lists of numbered items.
 use member_lists::Lists;
-use std::test::Fail;
+use std::alloc::{AllocError, Global};
 
-#[test]
-fn items_join_and_leave(rt: HostRuntime) -> Result<(), Fail> {
-    let mut lists = Lists::new(rt.alloc());
-    assert_eq!(rt; lists.first(7), None);
+/// Whether the items 2 and 0 stand in list 7, and none in another one.
+fn are_in_order(lists: &Lists) -> bool {
+    lists.first(7) == Some(2)
+        && lists.after(7, 2) == Some(0)
+        && lists.after(7, 0).is_none()
+        && lists.first(1031).is_none()
+}
+
+fn join_and_leave(alloc: Global) -> Result<bool, AllocError> {
+    let mut lists = Lists::new(alloc);
+    let was_empty = lists.first(7).is_none();
     lists.reserve(4)?;
     lists.push(7, 2);
     lists.push(7, 0);
-    assert_eq!(rt; lists.first(7), Some(2));
-    assert_eq!(rt; lists.after(7, 2), Some(0));
-    assert_eq!(rt; lists.after(7, 0), None);
-    assert_eq!(rt; lists.first(1031), None);
+    let are_in_order = are_in_order(&lists);
     lists.remove(7, 0);
-    assert_eq!(rt; lists.after(7, 2), None);
-    Ok(())
+    Ok(was_empty && are_in_order && lists.after(7, 2).is_none())
+}
+
+#[test]
+fn items_join_and_leave(rt: HostRuntime) {
+    assert!(rt; join_and_leave(rt.alloc()) == Ok(true));
 }

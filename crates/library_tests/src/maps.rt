@@ -1,64 +1,70 @@
 //! A map from numbers.
 use number_map::NumberMap;
-use std::alloc::{AllocError, Global};
-use std::test::Fail;
 
-/// Sets the value under a key by where it lies, to one more, and by a wrong place, to two more than it was.
-fn set_twice(numbers: &mut NumberMap<u32>, key: u64) {
-    let Some(held) = numbers.locate(key) else {
-        return;
-    };
-    numbers.set_near(held.place, key, held.value.wrapping_add(1));
-    if numbers.get(key).is_some() {
-        numbers.set_near(held.place.wrapping_add(1), key, held.value.wrapping_add(2));
-    }
-}
-
-/// The squares of 0 to 99, with their roots.
-fn squares(alloc: Global) -> Result<NumberMap<u32>, AllocError> {
-    let mut numbers = NumberMap::<u32>::new(alloc);
-    numbers.reserve(100)?;
+fn add_squares(numbers: &mut NumberMap<u32>) {
     for root in 0..100_u64 {
         if numbers.room() > 0 && numbers.get(root * root).is_none() {
             numbers.insert(root * root, root as u32);
         }
     }
-    Ok(numbers)
 }
 
-#[test]
-fn room_is_made_and_used(rt: HostRuntime) -> Result<(), Fail> {
-    let mut numbers = NumberMap::<u32>::new(rt.alloc());
-    assert!(rt; numbers.room() == 0);
-    numbers.reserve(100)?;
-    assert!(rt; numbers.room() == 100);
-    let numbers = squares(rt.alloc())?;
-    assert!(rt; numbers.room() == 0 && numbers.len() == 100);
-    Ok(())
-}
-
-#[test]
-fn keys_go(rt: HostRuntime) -> Result<(), Fail> {
-    let mut numbers = squares(rt.alloc())?;
-    assert!(rt; numbers.get(99 * 99) == Some(99) && numbers.get(2).is_none());
-    if numbers.get(49).is_some() {
-        numbers.set(49, 8);
+fn set(numbers: &mut NumberMap<u32>, key: u64, value: u32) {
+    if numbers.get(key).is_some() {
+        numbers.set(key, value);
     }
-    set_twice(&mut numbers, 49);
-    assert!(rt; numbers.remove(49) == Some(10));
-    assert!(rt; numbers.remove(49).is_none() && numbers.len() == 99);
-    Ok(())
+}
+
+/// Sets a value that is there, as if it lay at this place.
+fn set_near(numbers: &mut NumberMap<u32>, place: usize, key: u64, value: u32) {
+    if numbers.get(key).is_some() {
+        numbers.set_near(place, key, value);
+    }
+}
+
+fn release(numbers: &mut NumberMap<u32>, key: u64) {
+    if numbers.get(key).is_some() {
+        numbers.release(key);
+    }
+}
+
+/// Whether a value is found that was set by where it lies, or by a wrong place.
+fn is_set(numbers: &mut NumberMap<u32>, key: u64) -> bool {
+    set(numbers, key, 8);
+    let Some(held) = numbers.locate(key) else {
+        return false;
+    };
+    set_near(numbers, held.place, key, held.value.wrapping_add(1));
+    let is_set = numbers.get(key) == Some(9);
+    set_near(numbers, held.place.wrapping_add(1), key, 10);
+    is_set && numbers.get(key) == Some(10)
+}
+
+fn are_found(numbers: &mut NumberMap<u32>) -> bool {
+    let is_empty = numbers.room() == 0;
+    let had_room = numbers.reserve(100).is_ok() && numbers.room() == 100;
+    add_squares(numbers);
+    let are_found = numbers.get(99 * 99) == Some(99) && numbers.get(2).is_none();
+    is_empty && had_room && are_found && numbers.room() == 0 && numbers.len() == 100
+}
+
+fn is_removed(numbers: &mut NumberMap<u32>, key: u64) -> bool {
+    is_set(numbers, key)
+        && numbers.remove(key) == Some(10)
+        && numbers.remove(key).is_none()
+        && numbers.len() == 99
+}
+
+/// Whether room that was left by a key is there again, and that of one that goes with its room.
+fn is_room_left(numbers: &mut NumberMap<u32>) -> bool {
+    let had_room = numbers.reserve(1).is_ok() && numbers.room() == 1;
+    let was_there = numbers.get(36) == Some(6);
+    release(numbers, 36);
+    had_room && was_there && numbers.get(36).is_none() && numbers.room() == 2
 }
 
 #[test]
-fn room_comes_back(rt: HostRuntime) -> Result<(), Fail> {
-    let mut numbers = squares(rt.alloc())?;
-    assert!(rt; numbers.remove(49) == Some(7));
-    numbers.reserve(1)?;
-    assert!(rt; numbers.get(36) == Some(6) && numbers.room() == 1);
-    if numbers.get(36).is_some() {
-        numbers.release(36);
-    }
-    assert!(rt; numbers.get(36).is_none() && numbers.room() == 2);
-    Ok(())
+fn keys_come_and_go(rt: HostRuntime) {
+    let mut map = NumberMap::new(rt.alloc());
+    assert!(rt; are_found(&mut map) && is_removed(&mut map, 49) && is_room_left(&mut map));
 }

@@ -1,222 +1,170 @@
-//! The names of a task.
+//! The names of a task. Names and ports stand by number.
 use mach_types::{Name, PortId, Right, SetId};
 use name_space::{Entry, Space};
-use std::alloc::{AllocError, Global};
-use std::test::Fail;
+use std::alloc::Global;
 use user_refs::UserRefs;
 
-type Told = (u32, u32, Option<PortId>, Option<PortId>, Option<SetId>);
+/// Whether an entry is of this type, its receive right for this port, and any right for that one.
+fn is_for(entry: &Entry, type_bits: u32, received: Option<PortId>, port: Option<PortId>) -> bool {
+    entry.type_bits() == type_bits && entry.receive_port() == received && entry.right_port() == port
+}
 
-// What an entry tells: its receive rights, its type, and the port or set that it is for.
-fn tell(entry: Entry) -> Told {
-    let references = entry.references(Right::Receive);
-    let (receive, right) = (entry.receive_port(), entry.right_port());
-    (references, entry.type_bits(), receive, right, entry.set())
+fn tells_of_port(port: PortId) -> bool {
+    let both = Entry::ReceiveAndSend(port, UserRefs::one());
+    let once = Entry::SendOnce(port);
+    is_for(&both, 0x0003_0000, Some(port), Some(port))
+        && is_for(&once, 0x0004_0000, None, Some(port))
+        && both.references(Right::Receive) == 1
+        && once.references(Right::Receive) == 0
+        && once.set().is_none()
+}
+
+fn tells_of_set(set: SetId) -> bool {
+    let entry = Entry::Set(set);
+    is_for(&entry, 0x0008_0000, None, None)
+        && entry.references(Right::Receive) == 0
+        && entry.set() == Some(set)
 }
 
 #[test]
-fn entries_tell_their_rights(rt: HostRuntime) -> Result<(), Fail> {
-    let port = PortId::new(7);
-    let set = SetId::new(3);
-    let both = tell(Entry::ReceiveAndSend(port, UserRefs::one()));
-    assert_eq!(rt; both, (1, 0x0003_0000, Some(port), Some(port), None));
-    let once = tell(Entry::SendOnce(port));
-    assert_eq!(rt; once, (0, 0x0004_0000, None, Some(port), None));
-    assert_eq!(rt;
-        tell(Entry::Set(set)),
-        (0, 0x0008_0000, None, None, Some(set))
-    );
-    Ok(())
+fn entries_tell_their_rights(rt: HostRuntime) {
+    assert!(rt; tells_of_port(PortId::new(7)) && tells_of_set(SetId::new(3)));
 }
 
-/// What is done to a space, or asked of it. Names and ports stand by number.
-enum Act {
-    Reserve(usize),
-    PutSet(u32),
-    PutDeadName(u32),
-    PutSendOnce(u32),
-    PutReceive(u32, u64),
-    AddSend(u32),
-    Kill(u32),
-    Rename(u32, u32),
-    Remove(u32),
-    Room,
-    Length,
-    Fresh,
-    AnyName,
-    NameOf(u64),
-    TypeOf(u32),
-    SendReferences(u32),
-    DeadReferences(u32),
-}
-
-/// Does it, and answers a number: what was asked for, the type of what was removed, or 1 where it was
-/// done; `None` where there is nothing of the kind, or the space can't take it.
-fn answer(space: &mut Space, act: &Act) -> Result<Option<u32>, AllocError> {
-    let told = match act {
-        Act::Reserve(room) => {
-            space.reserve(*room)?;
-            Some(1)
-        }
-        Act::PutSet(name) => put(space, *name, Entry::Set(SetId::new(0)))?,
-        Act::PutDeadName(name) => put(space, *name, Entry::DeadName(UserRefs::one()))?,
-        Act::PutSendOnce(name) => put(space, *name, Entry::SendOnce(PortId::new(7)))?,
-        Act::PutReceive(name, port) => put_receive(space, *name, *port)?,
-        Act::AddSend(name) => add_send(space, Name::new(*name)),
-        Act::Kill(name) => kill(space, Name::new(*name)),
-        Act::Rename(from, to) => rename(space, Name::new(*from), Name::new(*to))?,
-        Act::Remove(name) => space
-            .remove(Name::new(*name))
-            .map(|entry| entry.type_bits()),
-        Act::Room => u32::try_from(space.room()).ok(),
-        Act::Length => u32::try_from(space.len()).ok(),
-        Act::Fresh => Some(space.fresh().number()),
-        Act::AnyName => space.any_name().map(|name| name.number()),
-        Act::NameOf(port) => {
-            let name = space.name_of_port(PortId::new(*port));
-            name.map(|name| name.number())
-        }
-        Act::TypeOf(name) => type_of(space, Name::new(*name)),
-        Act::SendReferences(name) => references(space, Name::new(*name), Right::Send),
-        Act::DeadReferences(name) => references(space, Name::new(*name), Right::DeadName),
-    };
-    Ok(told)
-}
-
-/// Puts an entry that is for no port under a name.
-fn put(space: &mut Space, name: u32, entry: Entry) -> Result<Option<u32>, AllocError> {
+/// Puts an entry that is for no port under a name, if the space can take it.
+fn put(space: &mut Space, name: u32, entry: Entry) -> bool {
     let name = Name::new(name);
     let is_new = entry.port().is_none() && name.is_usable() && space.lookup(name).is_none();
-    if !is_new || space.is_full() {
-        return Ok(None);
+    if !is_new || space.is_full() || space.reserve_name(name).is_err() {
+        return false;
     }
-    space.reserve_name(name)?;
     space.insert(name, entry);
-    Ok(Some(1))
+    true
 }
 
-/// Puts a port's receive right under a name, where the port has none.
-fn put_receive(space: &mut Space, name: u32, port: u64) -> Result<Option<u32>, AllocError> {
+fn put_receive(space: &mut Space, name: u32, port: u64) -> bool {
     let (name, port) = (Name::new(name), PortId::new(port));
     let is_new = space.name_of_port(port).is_none() && name.is_usable();
     if !is_new || space.lookup(name).is_some() || space.is_full() {
-        return Ok(None);
+        return false;
     }
-    space.reserve_name(name)?;
+    if space.reserve_name(name).is_err() {
+        return false;
+    }
     space.insert(name, Entry::Receive(port));
-    Ok(Some(1))
+    true
 }
 
-/// Adds a send right to a receive right.
-fn add_send(space: &mut Space, name: Name) -> Option<u32> {
+fn add_send(space: &mut Space, name: u32) -> Option<u64> {
+    let name = Name::new(name);
     let Entry::Receive(port) = space.lookup(name)? else {
         return None;
     };
     space.replace(name, Entry::ReceiveAndSend(port, UserRefs::one()));
-    Some(1)
+    Some(port.number())
 }
 
-/// Puts a dead name in place of what stands under a name.
-fn kill(space: &mut Space, name: Name) -> Option<u32> {
-    space.lookup(name)?;
-    space.replace(name, Entry::DeadName(UserRefs::one()));
-    Some(1)
-}
-
-fn rename(space: &mut Space, from: Name, to: Name) -> Result<Option<u32>, AllocError> {
-    if space.lookup(from).is_none() || space.lookup(to).is_some() || !to.is_usable() {
-        return Ok(None);
+fn kill(space: &mut Space, name: u32) -> bool {
+    let name = Name::new(name);
+    let is_used = space.lookup(name).is_some();
+    if is_used {
+        space.replace(name, Entry::DeadName(UserRefs::one()));
     }
-    space.reserve_name(to)?;
+    is_used
+}
+
+fn rename(space: &mut Space, from: u32, to: u32) -> bool {
+    let (from, to) = (Name::new(from), Name::new(to));
+    let is_free = space.lookup(to).is_none() && to.is_usable();
+    if !is_free || space.lookup(from).is_none() || space.reserve_name(to).is_err() {
+        return false;
+    }
     space.rename(from, to);
-    Ok(Some(1))
+    true
 }
 
-fn type_of(space: &Space, name: Name) -> Option<u32> {
-    Some(space.lookup(name)?.type_bits())
+fn remove(space: &mut Space, name: u32) -> Option<u32> {
+    let entry = space.remove(Name::new(name))?;
+    Some(entry.type_bits())
 }
 
-fn references(space: &Space, name: Name, right: Right) -> Option<u32> {
-    Some(space.lookup(name)?.references(right))
+fn type_of(space: &Space, name: u32) -> Option<u32> {
+    let entry = space.lookup(Name::new(name))?;
+    Some(entry.type_bits())
 }
 
-/// The names, rising.
-fn listed(space: &Space, alloc: Global) -> Result<Vec<u32>, AllocError> {
-    let mut numbers = Vec::new(alloc);
-    for name in space.names(alloc)? {
-        numbers.push(name.number())?;
+fn references(space: &Space, name: u32, right: Right) -> Option<u32> {
+    let entry = space.lookup(Name::new(name))?;
+    Some(entry.references(right))
+}
+
+fn name_of(space: &Space, port: u64) -> Option<u32> {
+    let name = space.name_of_port(PortId::new(port))?;
+    Some(name.number())
+}
+
+fn are_names(space: &Space, alloc: Global, wanted: &[Name]) -> bool {
+    match space.names(alloc) {
+        Ok(names) => names.as_slice() == wanted,
+        Err(_) => false,
     }
-    Ok(numbers)
 }
 
-/// Does all in turn, and tells the place of the first that isn't answered so.
-fn first_wrong(
-    space: &mut Space,
-    acts: &[(Act, Option<u32>)],
-) -> Result<Option<usize>, AllocError> {
-    for place in 0..acts.len() {
-        let (act, wanted) = &acts[place];
-        if answer(space, act)? != *wanted {
-            return Ok(Some(place));
-        }
-    }
-    Ok(None)
+/// Whether names of every size come, into room that was made.
+fn names_come(space: &mut Space) -> bool {
+    space.is_empty()
+        && space.reserve(3).is_ok()
+        && space.room() == 3
+        && put(space, 1, Entry::SendOnce(PortId::new(7)))
+        && put(space, 0xffff_fffe, Entry::DeadName(UserRefs::one()))
+        && put(space, 3, Entry::Set(SetId::new(0)))
+        && !put(space, 0, Entry::Set(SetId::new(0)))
+        && space.room() == 0
 }
 
-// Names of every size come, into room that was made.
-const COMING: [(Act, Option<u32>); 9] = [
-    (Act::Reserve(3), Some(1)),
-    (Act::Room, Some(3)),
-    (Act::PutSendOnce(1), Some(1)),
-    (Act::PutDeadName(0xffff_fffe), Some(1)),
-    (Act::PutSet(3), Some(1)),
-    (Act::PutSet(0), None),
-    (Act::Room, Some(0)),
-    (Act::Length, Some(3)),
-    (Act::Fresh, Some(2)),
-];
+/// Whether the greatest name goes, and none that isn't there.
+fn names_go(space: &mut Space) -> bool {
+    space.len() == 3
+        && space.fresh().number() == 2
+        && references(space, 0xffff_fffe, Right::DeadName) == Some(1)
+        && remove(space, 0xffff_fffe) == Some(0x0010_0000)
+        && remove(space, 2).is_none()
+        && space.len() == 2
+}
 
-// The greatest of them goes, and one that isn't there.
-const GOING: [(Act, Option<u32>); 4] = [
-    (Act::DeadReferences(0xffff_fffe), Some(1)),
-    (Act::Remove(0xffff_fffe), Some(0x0010_0000)),
-    (Act::Remove(2), None),
-    (Act::Length, Some(2)),
-];
+fn come_and_go(space: &mut Space, alloc: Global) -> bool {
+    let wanted = [Name::new(1), Name::new(3), Name::new(0xffff_fffe)];
+    names_come(space) && are_names(space, alloc, &wanted) && names_go(space)
+}
 
 #[test]
-fn names_come_and_go(rt: HostRuntime) -> Result<(), Fail> {
+fn names_come_and_go(rt: HostRuntime) {
     let mut space = Space::new(rt.alloc());
-    assert!(rt; space.is_empty());
-    let wrong = first_wrong(&mut space, &COMING)?;
-    assert!(rt; wrong.is_none(), "act {wrong:?}");
-    let names = listed(&space, rt.alloc())?;
-    assert_eq!(rt; names.as_slice(), [1, 3, 0xffff_fffe].as_slice());
-    let wrong = first_wrong(&mut space, &GOING)?;
-    assert!(rt; wrong.is_none(), "act {wrong:?}");
-    Ok(())
+    assert!(rt; come_and_go(&mut space, rt.alloc()));
 }
 
-// A port's name is changed, and then is dead.
-const FOUND: [(Act, Option<u32>); 12] = [
-    (Act::NameOf(7), None),
-    (Act::PutReceive(9, 7), Some(1)),
-    (Act::NameOf(7), Some(9)),
-    (Act::AddSend(9), Some(1)),
-    (Act::TypeOf(9), Some(0x0003_0000)),
-    (Act::SendReferences(9), Some(1)),
-    (Act::Rename(9, 4), Some(1)),
-    (Act::NameOf(7), Some(4)),
-    (Act::AnyName, Some(4)),
-    (Act::TypeOf(9), None),
-    (Act::Kill(4), Some(1)),
-    (Act::NameOf(7), None),
-];
+/// Whether a port that comes under name 9 is found there, with a send right.
+fn is_found(space: &mut Space) -> bool {
+    name_of(space, 7).is_none()
+        && put_receive(space, 9, 7)
+        && name_of(space, 7) == Some(9)
+        && add_send(space, 9) == Some(7)
+        && type_of(space, 9) == Some(0x0003_0000)
+        && references(space, 9, Right::Send) == Some(1)
+}
+
+/// Whether it is found under name 4, until that is a dead name.
+fn is_found_renamed(space: &mut Space) -> bool {
+    rename(space, 9, 4)
+        && name_of(space, 7) == Some(4)
+        && space.any_name() == Some(Name::new(4))
+        && type_of(space, 9).is_none()
+        && kill(space, 4)
+        && name_of(space, 7).is_none()
+}
 
 #[test]
-fn a_port_is_found_by_its_name(rt: HostRuntime) -> Result<(), Fail> {
+fn a_port_is_found_by_its_name(rt: HostRuntime) {
     let mut space = Space::new(rt.alloc());
-    let wrong = first_wrong(&mut space, &FOUND)?;
-    assert!(rt; wrong.is_none(), "act {wrong:?}");
-    Ok(())
+    assert!(rt; is_found(&mut space) && is_found_renamed(&mut space));
 }

@@ -1,6 +1,5 @@
 //! Values by small numbers.
 use name_space_base::Pages;
-use std::test::Fail;
 
 // Puts a value under the least free number, where there is room.
 fn put_first(pages: &mut Pages<u32>, value: u32) -> Option<u32> {
@@ -21,43 +20,56 @@ fn put(pages: &mut Pages<u32>, number: u32, value: u32) -> bool {
     true
 }
 
-#[test]
-fn values_come_and_go(rt: HostRuntime) -> Result<(), Fail> {
-    let mut pages = Pages::new(rt.alloc());
-    assert!(rt; put_first(&mut pages, 5).is_none());
-    pages.reserve(2)?;
-    for number in 1..=2 {
-        assert!(rt; put_first(&mut pages, 10 * number) == Some(number));
-    }
-    assert!(rt; pages.room() == 0 && pages.len() == 2);
-    assert!(rt; pages.remove(1) == Some(10));
-    assert!(rt; pages.first_free() == 1 && pages.get(1).is_none() && pages.get(2) == Some(20));
-    Ok(())
+fn two_are_put(pages: &mut Pages<u32>) -> bool {
+    put_first(pages, 5).is_none()
+        && pages.reserve(2).is_ok()
+        && put_first(pages, 10) == Some(1)
+        && put_first(pages, 20) == Some(2)
+        && pages.room() == 0
+        && pages.len() == 2
+}
+
+fn first_is_removed(pages: &mut Pages<u32>) -> bool {
+    pages.remove(1) == Some(10)
+        && pages.first_free() == 1
+        && pages.get(1).is_none()
+        && pages.get(2) == Some(20)
+}
+
+/// Whether a value is put under a far number once its page is made.
+fn far_is_put(pages: &mut Pages<u32>) -> bool {
+    !put(pages, 40_000, 7)
+        && pages.make_page(40_000).is_ok()
+        && put(pages, 40_000, 7)
+        && pages.next_used(3) == Some(40_000)
+        && pages.next_used(40_001).is_none()
 }
 
 #[test]
-fn far_values_want_their_page(rt: HostRuntime) -> Result<(), Fail> {
+fn values_come_and_go(rt: HostRuntime) {
     let mut pages = Pages::new(rt.alloc());
-    assert!(rt; !put(&mut pages, 40_000, 7));
-    pages.make_page(40_000)?;
-    assert!(rt; put(&mut pages, 40_000, 7));
-    assert!(rt; pages.next_used(3) == Some(40_000) && pages.next_used(40_001).is_none());
-    Ok(())
+    assert!(rt; two_are_put(&mut pages) && first_is_removed(&mut pages) && far_is_put(&mut pages));
 }
 
-#[test]
-fn all_numbers_are_used(rt: HostRuntime) -> Result<(), Fail> {
-    let mut pages = Pages::new(rt.alloc());
+fn all_are_put(pages: &mut Pages<u32>) -> bool {
     for number in 1..=65535 {
-        pages.reserve(1)?;
-        assert_eq!(rt; put_first(&mut pages, number), Some(number));
+        if pages.reserve(1).is_err() || put_first(pages, number) != Some(number) {
+            return false;
+        }
     }
-    assert_eq!(rt; pages.first_free(), 65536);
-    assert!(rt; pages.reserve(1).is_err());
-    assert_eq!(rt; pages.remove(513), Some(513));
-    assert_eq!(rt; pages.first_free(), 513);
-    assert_eq!(rt; pages.next_used(513), Some(514));
-    assert_eq!(rt; pages.len(), 65534);
-    pages.reserve(1)?;
-    Ok(())
+    pages.first_free() == 65536 && pages.reserve(1).is_err()
+}
+
+fn one_is_free(pages: &mut Pages<u32>) -> bool {
+    pages.remove(513) == Some(513)
+        && pages.first_free() == 513
+        && pages.next_used(513) == Some(514)
+        && pages.len() == 65534
+        && pages.reserve(1).is_ok()
+}
+
+#[test]
+fn all_numbers_are_used(rt: HostRuntime) {
+    let mut pages = Pages::new(rt.alloc());
+    assert!(rt; all_are_put(&mut pages) && one_is_free(&mut pages));
 }

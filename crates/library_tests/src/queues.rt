@@ -1,9 +1,8 @@
-//! Ports, their queues, and the members of sets that are ready.
+//! Ports, their queues, and the members of sets that are ready. Ports and sets stand by number.
 use mach_types::{PortId, SetId, TaskId};
 use port::{Message, Ports};
 use port_set::{disband, move_member, ready_member};
-use std::alloc::{AllocError, Global};
-use std::test::Fail;
+use std::alloc::Global;
 
 #[derive(Drop)]
 struct Note(u32);
@@ -14,80 +13,6 @@ impl Message for Note {
     }
 }
 
-/// What is done to ports, or asked of them. Ports and sets stand by number, notes by what they say.
-enum Act {
-    ReserveSlots(usize),
-    Allocate,
-    Remove(u64),
-    Post(u64, u32),
-    Dequeue(u64),
-    Take(u64),
-    SetLimit(u64, u32),
-    CountMakeSend(u64),
-    Join(u64, u64),
-    Disband(u64),
-    NextId,
-    Spare,
-    Queued(u64),
-    Front(u64),
-    HasRoom(u64),
-    Limit(u64),
-    MakeSend(u64),
-    Sequence(u64),
-    Ready(u64),
-}
-
-/// Does it, and answers a number: what was asked for or made, what the note says that was taken, or 1
-/// where it was done; `None` where there is nothing of the kind, or the ports can't take it.
-fn answer(ports: &mut Ports<Note>, act: &Act) -> Result<Option<u64>, AllocError> {
-    let told = match act {
-        Act::ReserveSlots(slots) => {
-            ports.reserve_slots(*slots)?;
-            Some(1)
-        }
-        Act::Allocate => allocate(ports)?,
-        Act::Remove(port) => remove(ports, PortId::new(*port)),
-        Act::Post(port, says) => post(ports, PortId::new(*port), *says),
-        Act::Dequeue(port) => ports.dequeue(PortId::new(*port)).map(|note| note.0 as u64),
-        Act::Take(port) => ports.take(PortId::new(*port)).map(|note| note.0 as u64),
-        Act::SetLimit(port, limit) => set_limit(ports, PortId::new(*port), *limit, None),
-        Act::CountMakeSend(port) => {
-            ports.count_make_send(PortId::new(*port));
-            Some(1)
-        }
-        Act::Join(port, set) => join(ports, PortId::new(*port), SetId::new(*set)),
-        Act::Disband(set) => {
-            disband(ports, SetId::new(*set));
-            Some(1)
-        }
-        _ => asked(ports, act),
-    };
-    Ok(told)
-}
-
-/// Answers what changes nothing.
-fn asked(ports: &Ports<Note>, act: &Act) -> Option<u64> {
-    match act {
-        Act::NextId => next_id(ports),
-        Act::Spare => Some(ports.spare() as u64),
-        Act::Queued(port) => Some(ports.queued(PortId::new(*port)) as u64),
-        Act::Front(port) => front(ports, PortId::new(*port)),
-        Act::HasRoom(port) => Some(ports.has_room(PortId::new(*port)) as u64),
-        Act::Limit(port) => Some(ports.attributes(PortId::new(*port))?.limit as u64),
-        Act::MakeSend(port) => Some(ports.attributes(PortId::new(*port))?.make_send as u64),
-        Act::Sequence(port) => Some(ports.attributes(PortId::new(*port))?.sequence as u64),
-        Act::Ready(set) => Some(ready_member(ports, SetId::new(*set))?.number()),
-        _ => None,
-    }
-}
-
-fn allocate(ports: &mut Ports<Note>) -> Result<Option<u64>, AllocError> {
-    if ports.is_exhausted() {
-        return Ok(None);
-    }
-    Ok(Some(ports.allocate(TaskId::new(0))?.number()))
-}
-
 fn next_id(ports: &Ports<Note>) -> Option<u64> {
     if ports.is_exhausted() {
         return None;
@@ -95,143 +20,155 @@ fn next_id(ports: &Ports<Note>) -> Option<u64> {
     Some(ports.next_id().number())
 }
 
-/// Takes a port away whose queue is empty.
-fn remove(ports: &mut Ports<Note>, port: PortId) -> Option<u64> {
-    if ports.queued(port) > 0 {
+fn allocate(ports: &mut Ports<Note>) -> Option<u64> {
+    if ports.is_exhausted() {
         return None;
     }
-    ports.remove(port);
-    Some(1)
+    let port = ports.allocate(TaskId::new(0)).ok()?;
+    Some(port.number())
+}
+
+fn remove(ports: &mut Ports<Note>, port: u64) -> bool {
+    let port = PortId::new(port);
+    let is_empty = ports.queued(port) == 0;
+    if is_empty {
+        ports.remove(port);
+    }
+    is_empty
 }
 
 /// Queues a note, if the port has room and a slot is spare.
-fn post(ports: &mut Ports<Note>, port: PortId, says: u32) -> Option<u64> {
-    if !ports.has_room(port) || ports.spare() == 0 {
-        return None;
+fn post(ports: &mut Ports<Note>, port: u64, says: u32) -> bool {
+    let port = PortId::new(port);
+    let is_room = ports.has_room(port) && ports.spare() > 0;
+    if is_room {
+        ports.enqueue(port, Note(says));
     }
-    ports.enqueue(port, Note(says));
-    Some(1)
+    is_room
 }
 
-fn front(ports: &Ports<Note>, port: PortId) -> Option<u64> {
-    let note = ports.front(port)?;
-    Some(note.0 as u64)
+fn front(ports: &Ports<Note>, port: u64) -> Option<u32> {
+    let note = ports.front(PortId::new(port))?;
+    Some(note.0)
 }
 
-/// Sets the limit of a port, and takes it out of its set.
-fn set_limit(
-    ports: &mut Ports<Note>,
-    port: PortId,
-    limit: u32,
-    no_set: Option<SetId>,
-) -> Option<u64> {
-    let mut attributes = ports.attributes(port)?;
+fn dequeue(ports: &mut Ports<Note>, port: u64) -> Option<u32> {
+    let note = ports.dequeue(PortId::new(port))?;
+    Some(note.0)
+}
+
+fn take(ports: &mut Ports<Note>, port: u64) -> Option<u32> {
+    let note = ports.take(PortId::new(port))?;
+    Some(note.0)
+}
+
+fn set_limit(ports: &mut Ports<Note>, port: u64, limit: u32) {
+    let port = PortId::new(port);
+    let Some(mut attributes) = ports.attributes(port) else {
+        return;
+    };
     attributes.limit = limit;
-    attributes.set = no_set;
     ports.set_attributes(port, attributes);
-    Some(1)
 }
 
-/// Puts a port into a set, if it is there.
-fn join(ports: &mut Ports<Note>, port: PortId, set: SetId) -> Option<u64> {
-    ports.attributes(port)?;
-    move_member(ports, port, Some(set));
-    Some(1)
+/// A port's limit, how many send rights were made from its receive right, and its sequence number.
+fn counts(ports: &Ports<Note>, port: u64) -> Option<[u32; 3]> {
+    let Some(attributes) = ports.attributes(PortId::new(port)) else {
+        return None;
+    };
+    Some([attributes.limit, attributes.make_send, attributes.sequence])
 }
 
-/// Does all in turn with new ports, and tells the place of the first that isn't answered so.
-fn first_wrong(alloc: Global, acts: &[(Act, Option<u64>)]) -> Result<Option<usize>, AllocError> {
-    let mut ports = Ports::new(alloc);
-    for place in 0..acts.len() {
-        let (act, wanted) = &acts[place];
-        if answer(&mut ports, act)? != *wanted {
-            return Ok(Some(place));
-        }
+fn join(ports: &mut Ports<Note>, port: u64, set: u64) -> bool {
+    let port = PortId::new(port);
+    let is_there = ports.attributes(port).is_some();
+    if is_there {
+        move_member(ports, port, Some(SetId::new(set)));
     }
-    Ok(None)
+    is_there
 }
 
-// Two ports whose notes come out in the order that they came in, as far as there are slots.
-const QUEUES: [(Act, Option<u64>); 21] = [
-    (Act::NextId, Some(0)),
-    (Act::Allocate, Some(0)),
-    (Act::Allocate, Some(1)),
-    (Act::Post(0, 1), None),
-    (Act::ReserveSlots(2), Some(1)),
-    (Act::Post(0, 7), Some(1)),
-    (Act::Post(0, 8), Some(1)),
-    (Act::Post(1, 9), None),
-    (Act::Queued(0), Some(2)),
-    (Act::HasRoom(0), Some(1)),
-    (Act::Queued(1), Some(0)),
-    (Act::Front(0), Some(7)),
-    (Act::Dequeue(0), Some(7)),
-    (Act::Spare, Some(1)),
-    (Act::Post(1, 9), Some(1)),
-    (Act::Dequeue(0), Some(8)),
-    (Act::Dequeue(0), None),
-    (Act::Take(1), Some(9)),
-    (Act::Take(1), None),
-    (Act::Sequence(1), Some(1)),
-    (Act::Spare, Some(2)),
-];
-
-#[test]
-fn messages_come_out_in_order(rt: HostRuntime) -> Result<(), Fail> {
-    let wrong = first_wrong(rt.alloc(), &QUEUES)?;
-    assert!(rt; wrong.is_none(), "act {wrong:?}");
-    Ok(())
+fn ready(ports: &Ports<Note>, set: u64) -> Option<u64> {
+    let port = ready_member(ports, SetId::new(set))?;
+    Some(port.number())
 }
 
-// A port that is taken away, and the next one.
-const GONE: [(Act, Option<u64>); 12] = [
-    (Act::Allocate, Some(0)),
-    (Act::Limit(0), Some(5)),
-    (Act::SetLimit(0, 16), Some(1)),
-    (Act::Limit(0), Some(16)),
-    (Act::CountMakeSend(0), Some(1)),
-    (Act::MakeSend(0), Some(1)),
-    (Act::Queued(0), Some(0)),
-    (Act::Remove(0), Some(1)),
-    (Act::HasRoom(0), Some(0)),
-    (Act::Limit(0), None),
-    (Act::Allocate, Some(1)),
-    (Act::Limit(0), None),
-];
-
-#[test]
-fn a_gone_port_is_not_found(rt: HostRuntime) -> Result<(), Fail> {
-    let wrong = first_wrong(rt.alloc(), &GONE)?;
-    assert!(rt; wrong.is_none(), "act {wrong:?}");
-    Ok(())
+/// Whether two ports are made, and two notes find slots, and no third one.
+fn are_posted(ports: &mut Ports<Note>) -> bool {
+    let are_made = allocate(ports) == Some(0) && allocate(ports) == Some(1);
+    let has_slots = !post(ports, 0, 1) && ports.reserve_slots(2).is_ok();
+    are_made
+        && has_slots
+        && post(ports, 0, 7)
+        && post(ports, 0, 8)
+        && !post(ports, 1, 9)
+        && ports.queued(PortId::new(0)) == 2
+        && ports.queued(PortId::new(1)) == 0
 }
 
-// Ports that go into sets, with and without notes.
-const READY: [(Act, Option<u64>); 19] = [
-    (Act::ReserveSlots(3), Some(1)),
-    (Act::Allocate, Some(0)),
-    (Act::Allocate, Some(1)),
-    (Act::Post(0, 1), Some(1)),
-    (Act::Post(0, 1), Some(1)),
-    (Act::Ready(0), None),
-    (Act::Join(0, 1), Some(1)),
-    (Act::Join(1, 0), Some(1)),
-    (Act::Ready(0), None),
-    (Act::Post(1, 1), Some(1)),
-    (Act::Ready(0), Some(1)),
-    (Act::Join(1, 1), Some(1)),
-    (Act::Ready(0), None),
-    (Act::Ready(1), Some(0)),
-    (Act::Take(0), Some(1)),
-    (Act::Ready(1), Some(1)),
-    (Act::Disband(1), Some(1)),
-    (Act::Ready(1), None),
-    (Act::Queued(0), Some(1)),
-];
+/// Whether the notes come out in the order that they came in, and their slots are used again.
+fn are_taken(ports: &mut Ports<Note>) -> bool {
+    front(ports, 0) == Some(7)
+        && dequeue(ports, 0) == Some(7)
+        && ports.spare() == 1
+        && post(ports, 1, 9)
+        && dequeue(ports, 0) == Some(8)
+        && dequeue(ports, 0).is_none()
+        && take(ports, 1) == Some(9)
+        && take(ports, 1).is_none()
+}
+
+fn is_counted(ports: &mut Ports<Note>) -> bool {
+    let before = counts(ports, 1);
+    set_limit(ports, 1, 16);
+    ports.count_make_send(PortId::new(1));
+    before == Some([5, 0, 1]) && counts(ports, 1) == Some([16, 1, 1])
+}
+
+fn is_gone(ports: &mut Ports<Note>) -> bool {
+    remove(ports, 0)
+        && !ports.has_room(PortId::new(0))
+        && counts(ports, 0).is_none()
+        && next_id(ports) == Some(2)
+        && allocate(ports) == Some(2)
+        && counts(ports, 0).is_none()
+}
 
 #[test]
-fn a_member_with_a_message_is_ready(rt: HostRuntime) -> Result<(), Fail> {
-    let wrong = first_wrong(rt.alloc(), &READY)?;
-    assert!(rt; wrong.is_none(), "act {wrong:?}");
-    Ok(())
+fn messages_come_out_in_order(rt: HostRuntime) {
+    let mut ports = Ports::new(rt.alloc());
+    assert!(rt; are_posted(&mut ports) && are_taken(&mut ports) && ports.spare() == 2);
+    assert!(rt; is_counted(&mut ports) && is_gone(&mut ports));
+}
+
+fn is_ready(ports: &mut Ports<Note>) -> bool {
+    post(ports, 0, 1)
+        && post(ports, 0, 1)
+        && join(ports, 0, 1)
+        && join(ports, 1, 0)
+        && ready(ports, 0).is_none()
+        && post(ports, 1, 1)
+        && ready(ports, 0) == Some(1)
+}
+
+/// Whether two members of a set have their turns, until the set is no more.
+fn have_turns(ports: &mut Ports<Note>) -> bool {
+    let is_first = join(ports, 1, 1) && ready(ports, 0).is_none() && ready(ports, 1) == Some(0);
+    let is_next = take(ports, 0) == Some(1) && ready(ports, 1) == Some(1);
+    disband(ports, SetId::new(1));
+    is_first && is_next && ready(ports, 1).is_none() && ports.queued(PortId::new(0)) == 1
+}
+
+fn members_are_ready(ports: &mut Ports<Note>) -> bool {
+    allocate(ports) == Some(0)
+        && allocate(ports) == Some(1)
+        && ports.reserve_slots(3).is_ok()
+        && is_ready(ports)
+        && have_turns(ports)
+}
+
+#[test]
+fn a_member_with_a_message_is_ready(rt: HostRuntime) {
+    let mut ports = Ports::new(rt.alloc());
+    assert!(rt; members_are_ready(&mut ports));
 }

@@ -1,122 +1,102 @@
-//! Dead-name requests.
+//! Dead-name requests. Tasks, names and ports stand by number.
 use mach_types::{Name, PortId, TaskId};
 use request_table::{Request, Requests};
-use std::alloc::AllocError;
-use std::test::Fail;
 
-/// What is done to requests, or asked of them. Tasks, names and ports stand by number.
-#[derive(Clone, Copy, Debug)]
-enum Act {
-    Reserve(usize),
-    /// On this task's name, for this port; that one is told.
-    Insert(u32, u32, u64, u64),
-    SetNotify(u32, u32, u64),
-    Remove(u32, u32),
-    Rename(u32, u32, u32),
-    Notify(u32, u32),
-    First(u64),
-    Room,
-}
-
-/// Does it, and answers a number: the port to be told by the request that was found or taken out, the
-/// name of the first one of a port, how many fit, or 1 where it was done; `None` where there is no
-/// request, or no room.
-fn answer(requests: &mut Requests, act: Act) -> Result<Option<u64>, AllocError> {
-    let told = match act {
-        Act::Reserve(additional) => {
-            requests.reserve(additional)?;
-            Some(1)
-        }
-        Act::Insert(task, name, port, notify) => insert(requests, task, name, port, notify),
-        Act::SetNotify(task, name, notify) => {
-            requests.set_notify(TaskId::new(task), Name::new(name), PortId::new(notify));
-            Some(1)
-        }
-        Act::Remove(task, name) => notified(requests.remove(TaskId::new(task), Name::new(name))),
-        Act::Rename(task, from, to) => rename(requests, TaskId::new(task), from, to),
-        Act::Notify(task, name) => notified(requests.get(TaskId::new(task), Name::new(name))),
-        Act::First(port) => requests
-            .first_of(PortId::new(port))
-            .map(|request| request.name.number() as u64),
-        Act::Room => Some(requests.room() as u64),
-    };
-    Ok(told)
-}
-
-fn notified(request: Option<Request>) -> Option<u64> {
-    Some(request?.notify.number())
-}
-
-/// Puts a request in, if there is room and none on the name.
-fn insert(requests: &mut Requests, task: u32, name: u32, port: u64, notify: u64) -> Option<u64> {
+/// Puts a request on a task's name in, for a port, if there is room and none on the name.
+fn insert(requests: &mut Requests, on: (u32, u32), port: u64, notify: u64) -> bool {
     let request = Request {
-        task: TaskId::new(task),
-        name: Name::new(name),
+        task: TaskId::new(on.0),
+        name: Name::new(on.1),
         port: PortId::new(port),
         notify: PortId::new(notify),
     };
     if requests.room() == 0 || requests.get(request.task, request.name).is_some() {
-        return None;
+        return false;
     }
     requests.insert(request);
-    Some(1)
+    true
 }
 
-/// Puts a request on another name, if none is on that.
-fn rename(requests: &mut Requests, task: TaskId, from: u32, to: u32) -> Option<u64> {
-    if requests.get(task, Name::new(to)).is_some() {
-        return None;
+fn rename(requests: &mut Requests, task: u32, from: u32, to: u32) -> bool {
+    let (task, to) = (TaskId::new(task), Name::new(to));
+    let is_free = requests.get(task, to).is_none();
+    if is_free {
+        requests.rename(task, Name::new(from), to);
     }
-    requests.rename(task, Name::new(from), Name::new(to));
-    Some(1)
+    is_free
 }
 
-/// Does all in turn, and tells the first that isn't answered so.
-fn first_wrong(
-    requests: &mut Requests,
-    acts: &[(Act, Option<u64>)],
-) -> Result<Option<Act>, AllocError> {
-    for (act, wanted) in acts {
-        if answer(requests, *act)? != *wanted {
-            return Ok(Some(*act));
-        }
-    }
-    Ok(None)
+/// The port that the request on a name tells.
+fn told(requests: &Requests, task: u32, name: u32) -> Option<u64> {
+    let request = requests.get(TaskId::new(task), Name::new(name))?;
+    Some(request.notify.number())
+}
+
+fn set_told(requests: &mut Requests, task: u32, name: u32, notify: u64) {
+    requests.set_notify(TaskId::new(task), Name::new(name), PortId::new(notify));
+}
+
+fn remove(requests: &mut Requests, task: u32, name: u32) -> Option<u64> {
+    let request = requests.remove(TaskId::new(task), Name::new(name))?;
+    Some(request.notify.number())
+}
+
+fn first_of(requests: &Requests, port: u64) -> Option<u32> {
+    let request = requests.first_of(PortId::new(port))?;
+    Some(request.name.number())
+}
+
+/// Whether three requests come in, one on each name, where there is room for three.
+fn are_inserted(requests: &mut Requests) -> bool {
+    insert(requests, (1, 3), 50, 60)
+        && !insert(requests, (1, 3), 51, 60)
+        && insert(requests, (2, 3), 50, 61)
+        && insert(requests, (2, 4), 50, 62)
+        && !insert(requests, (2, 5), 50, 63)
+}
+
+fn are_found(requests: &mut Requests) -> bool {
+    let was_told = told(requests, 2, 3);
+    set_told(requests, 2, 3, 71);
+    set_told(requests, 9, 9, 71);
+    was_told == Some(61)
+        && told(requests, 2, 3) == Some(71)
+        && told(requests, 3, 3).is_none()
+        && first_of(requests, 50) == Some(3)
+        && first_of(requests, 51).is_none()
+}
+
+fn are_renamed_and_removed(requests: &mut Requests) -> bool {
+    rename(requests, 1, 3, 8)
+        && told(requests, 1, 8) == Some(60)
+        && !rename(requests, 2, 3, 4)
+        && remove(requests, 2, 3) == Some(71)
+        && remove(requests, 2, 3).is_none()
+}
+
+/// Whether a port's first request is the one that came first of those that are left.
+fn is_first_left(requests: &mut Requests) -> bool {
+    first_of(requests, 50) == Some(4)
+        && requests.room() == 1
+        && insert(requests, (7, 9), 51, 64)
+        && first_of(requests, 51) == Some(9)
+        && remove(requests, 2, 4) == Some(62)
+        && first_of(requests, 50) == Some(8)
+}
+
+fn come_and_go(requests: &mut Requests) -> bool {
+    !insert(requests, (1, 3), 50, 60)
+        && requests.reserve(3).is_ok()
+        && are_inserted(requests)
+        && are_found(requests)
+        && are_renamed_and_removed(requests)
+        && is_first_left(requests)
+        && requests.reserve(2).is_ok()
+        && requests.room() == 2
 }
 
 #[test]
-fn requests_come_and_go(rt: HostRuntime) -> Result<(), Fail> {
+fn requests_come_and_go(rt: HostRuntime) {
     let mut requests = Requests::new(rt.alloc());
-    let acts = [
-        (Act::Insert(1, 3, 50, 60), None),
-        (Act::Reserve(3), Some(1)),
-        (Act::Insert(1, 3, 50, 60), Some(1)),
-        (Act::Insert(1, 3, 51, 60), None),
-        (Act::Insert(2, 3, 50, 61), Some(1)),
-        (Act::Insert(2, 4, 50, 62), Some(1)),
-        (Act::Insert(2, 5, 50, 63), None),
-        (Act::Notify(2, 3), Some(61)),
-        (Act::Notify(3, 3), None),
-        (Act::SetNotify(2, 3, 71), Some(1)),
-        (Act::SetNotify(9, 9, 71), Some(1)),
-        (Act::Notify(2, 3), Some(71)),
-        (Act::First(50), Some(3)),
-        (Act::First(51), None),
-        (Act::Rename(1, 3, 8), Some(1)),
-        (Act::Notify(1, 8), Some(60)),
-        (Act::Rename(2, 3, 4), None),
-        (Act::Remove(2, 3), Some(71)),
-        (Act::Remove(2, 3), None),
-        (Act::First(50), Some(4)),
-        (Act::Room, Some(1)),
-        (Act::Insert(7, 9, 51, 64), Some(1)),
-        (Act::First(51), Some(9)),
-        (Act::Remove(2, 4), Some(62)),
-        (Act::First(50), Some(8)),
-        (Act::Reserve(2), Some(1)),
-        (Act::Room, Some(2)),
-    ];
-    let wrong = first_wrong(&mut requests, &acts)?;
-    assert!(rt; wrong.is_none(), "{wrong:?}");
-    Ok(())
+    assert!(rt; come_and_go(&mut requests));
 }

@@ -1,73 +1,76 @@
-//! Calls and replies as text.
+//! Calls and replies as text, compared and copied.
 use mach_types::{
     Bytes, Event, Name, NameList, NameTypes, PortId, Reply, SetId, Status, TaskId, Waited,
 };
-use std::alloc::{AllocError, Global};
-use std::io;
-use std::test::Fail;
+use std::alloc::Global;
 use tracer_base::{
     ScriptFault, TextFault, read_call, read_reply, read_script, write_call, write_reply,
 };
 
-#[test]
-fn reads_the_calls_of_rights(rt: HostRuntime) -> Result<(), Fail> {
-    let (from, name) = (TaskId::new(1), Name::new(2));
-    let event = read_call(rt.alloc(), b"insert 1 2 3 4 4294967295")?;
-    let wanted = Event::InsertRight(from, name, TaskId::new(3), Name::new(4), u32::MAX);
-    assert!(rt; event == wanted);
-    let event = read_call(rt.alloc(), b"extract 1 2 21 3")?;
-    assert!(rt; event == Event::ExtractRight(from, name, 21, TaskId::new(3)));
-    Ok(())
-}
-
-/// The text of what the line reads as.
-fn written(alloc: Global, line: &str) -> Result<Vec<u8>, Fail> {
-    let event = read_call(alloc, line.as_bytes())?;
-    let mut page = Vec::new(alloc);
-    write_call(&event, &mut page)?;
-    Ok(page)
-}
-
-// Lines of every call.
-const LINES: [&str; 29] = [
-    "task",
-    "alloc 0 4294967295",
-    "allocname 1 4 9",
-    "dealloc 1 4294967295",
-    "destroy 65535 7",
-    "modrefs 1 2 3 0",
-    "modrefs 1 2 3 7",
-    "modrefs 1 2 3 -1",
-    "modrefs 1 2 3 -10",
-    "modrefs 1 2 3 2147483647",
-    "modrefs 1 2 3 -2147483648",
-    "refs 1 4294967295 3",
-    "type 4294967295 0",
-    "names 3",
-    "rename 1 2 3",
-    "status 1 2",
-    "qlimit 1 2 17",
-    "mscount 1 2 4294967295",
-    "seqno 1 2 0",
-    "insert 1 2 3 4 4294967295",
-    "extract 1 2 21 3",
-    "move 1 2 0",
-    "members 1 3",
-    "send 0 -",
-    "send 4294967295 00ff9a",
-    "recv 1 2 65536 1",
-    "recv 1 2 0 0",
-    "again 1 p 18446744073709551615 24 0",
-    "again 1 s 0 65536 1",
-];
-
-#[test]
-fn calls_read_back_as_they_were_written(rt: HostRuntime) -> Result<(), Fail> {
-    for line in LINES {
-        let text = written(rt.alloc(), line)?;
-        assert!(rt; text.as_slice() == line.as_bytes(), "at {line}");
+fn reads_as(alloc: Global, line: &str, call: Event) -> bool {
+    match read_call(alloc, line.as_bytes()) {
+        Ok(read) => read == call,
+        Err(_) => false,
     }
-    Ok(())
+}
+
+fn rights_are_read(alloc: Global) -> bool {
+    let (from, to, name) = (TaskId::new(1), TaskId::new(3), Name::new(2));
+    let insert = Event::InsertRight(from, name, to, Name::new(4), u32::MAX);
+    let extract = Event::ExtractRight(from, name, 21, to);
+    reads_as(alloc, "insert 1 2 3 4 4294967295", insert)
+        && reads_as(alloc, "extract 1 2 21 3", extract)
+}
+
+fn are_one_call(alloc: Global, line: &str, other: &str) -> bool {
+    match read_call(alloc, line.as_bytes()) {
+        Ok(call) => reads_as(alloc, other, call),
+        Err(_) => false,
+    }
+}
+
+#[test]
+fn calls_differ_where_one_field_does(rt: HostRuntime) {
+    assert!(rt; rights_are_read(rt.alloc()) && !are_one_call(rt.alloc(), "names 1", "task"));
+    assert!(rt; are_one_call(rt.alloc(), "send 1 0102", "send 1 0102"));
+    assert!(rt; !are_one_call(rt.alloc(), "send 1 0102", "send 1 0103"));
+}
+
+fn is_written(alloc: Global, call: &Event, line: &str) -> bool {
+    let mut page = Vec::new(alloc);
+    write_call(call, &mut page).is_ok() && page.as_slice() == line.as_bytes()
+}
+
+fn is_copied<T: Clone + PartialEq + Drop>(value: &T) -> bool {
+    match value.clone() {
+        Ok(copy) => copy == *value,
+        Err(_) => false,
+    }
+}
+
+/// Whether the line is the text of what it reads as, and that is equal to its copy.
+fn reads_back(alloc: Global, line: &str) -> bool {
+    match read_call(alloc, line.as_bytes()) {
+        Ok(call) => is_copied(&call) && is_written(alloc, &call, line),
+        Err(_) => false,
+    }
+}
+
+// Lines of every call, parted by bars.
+const LINES: &str = "\
+    task|alloc 0 4294967295|allocname 1 4 9|dealloc 1 4294967295|destroy 65535 7|\
+    modrefs 1 2 3 0|modrefs 1 2 3 7|modrefs 1 2 3 -1|modrefs 1 2 3 -10|\
+    modrefs 1 2 3 2147483647|modrefs 1 2 3 -2147483648|refs 1 4294967295 3|\
+    type 4294967295 0|names 3|rename 1 2 3|status 1 2|qlimit 1 2 17|mscount 1 2 4294967295|\
+    seqno 1 2 0|insert 1 2 3 4 4294967295|extract 1 2 21 3|move 1 2 0|members 1 3|send 0 -|\
+    send 4294967295 00ff9a|recv 1 2 65536 1|recv 1 2 0 0|\
+    again 1 p 18446744073709551615 24 0|again 1 s 0 65536 1";
+
+#[test]
+fn calls_read_back_as_they_were_written(rt: HostRuntime) {
+    for line in LINES.split('|') {
+        assert!(rt; reads_back(rt.alloc(), line), "at {line}");
+    }
 }
 
 // Lines that are no call, parted by bars.
@@ -96,153 +99,157 @@ const BAD_LINES: &str = "\
     again 0 s 00 24 0|again 0 0 24 0|again 0 s 0 24 0 0|thread 1|end 0|mach-history 1|#|\
     task\0|\u{e9}";
 
-#[test]
-fn names_the_bad_line(rt: HostRuntime) -> Result<(), Fail> {
-    for line in BAD_LINES.split('|') {
-        let fault = read_call(rt.alloc(), line.as_bytes()).err();
-        assert!(rt; fault == Some(TextFault::Bad), "at {line:?}");
-        let script = format!(in rt.alloc(); "task\n{line}\nnot this\n")?;
-        let fault = read_script(rt.alloc(), script.as_bytes()).err();
-        assert!(rt; fault == Some(ScriptFault::BadCall(2)), "at {line:?}");
+fn is_named(alloc: Global, line: &str) -> bool {
+    match format!(in alloc; "task\n{line}\nnot this\n") {
+        Ok(script) => calls_in(alloc, script.as_str()) == Err(ScriptFault::BadCall(2)),
+        Err(_) => false,
     }
-    Ok(())
+}
+
+fn is_no_call(alloc: Global, line: &str) -> bool {
+    read_call(alloc, line.as_bytes()).err() == Some(TextFault::Bad)
+}
+
+#[test]
+fn names_the_bad_line(rt: HostRuntime) {
+    for line in BAD_LINES.split('|') {
+        assert!(rt;
+            is_no_call(rt.alloc(), line) && is_named(rt.alloc(), line),
+            "at {line:?}"
+        );
+    }
 }
 
 // Scripts with how many calls they have, or the line that is none.
-const SCRIPTS: [(&str, usize, Option<ScriptFault>); 4] = [
-    ("task\ntask", 0, Some(ScriptFault::BadCall(2))),
-    ("\n", 0, Some(ScriptFault::BadCall(1))),
-    ("task\nnames 0\n", 2, None),
-    ("", 0, None),
+const SCRIPTS: [(&str, Result<usize, ScriptFault>); 4] = [
+    ("task\ntask", Err(ScriptFault::BadCall(2))),
+    ("\n", Err(ScriptFault::BadCall(1))),
+    ("task\nnames 0\n", Ok(2)),
+    ("", Ok(0)),
 ];
+
+fn calls_in(alloc: Global, script: &str) -> Result<usize, ScriptFault> {
+    let calls = read_script(alloc, script.as_bytes())?;
+    Ok(calls.len())
+}
 
 #[test]
 fn the_last_line_needs_its_line_feed(rt: HostRuntime) {
-    for (script, calls, fault) in &SCRIPTS {
-        let told = match read_script(rt.alloc(), script.as_bytes()) {
-            Ok(events) => (events.len(), None),
-            Err(fault) => (0, Some(fault)),
-        };
-        assert!(rt; told == (*calls, *fault), "at {script:?}");
+    for (script, told) in &SCRIPTS {
+        assert!(rt; calls_in(rt.alloc(), script) == *told);
     }
 }
 
-/// What a reply tells, in numbers.
-enum Told {
-    Code(u32),
-    Task(u32),
-    Name(u32),
-    Refs(u32),
-    NameType(u32),
-    Names(&'static [(u32, u32)]),
-    Status([u32; 9]),
-    Members(&'static [u32]),
-    Right(u32, u8),
-    Previous(u32),
-    Message(&'static [u8]),
-    EmptyPort(u64),
-    EmptySet(u64),
-    TooLarge(u32),
-    NoRecord,
-}
-
-// Replies and their texts.
-const REPLIES: [(Told, &str); 19] = [
-    (Told::Code(0x1000_480c), "code 1000480c"),
-    (Told::Code(0), "code 00000000"),
-    (Told::Task(65535), "task 65535"),
-    (Told::Name(0xffff_ffff), "name 4294967295"),
-    (Told::Refs(10), "refs 10"),
-    (Told::NameType(0x8002_0000), "type 80020000"),
-    (
-        Told::Names(&[(3, 0x10000), (10, 0x8010_0000)]),
-        "names 3:00010000 10:80100000",
-    ),
-    (Told::Names(&[]), "names"),
-    (
-        Told::Status([1, 2, 3, 4, 5, 6, 7, 8, 4294967295]),
-        "status 1 2 3 4 5 6 7 8 4294967295",
-    ),
-    (Told::Members(&[2, 12]), "members 2 12"),
-    (Told::Members(&[]), "members"),
-    (Told::Right(7, 17), "right 7 17"),
-    (Told::Previous(0), "previous 0"),
-    (Told::Message(&[0x00, 0x9a, 0xff]), "message 009aff"),
-    (Told::Message(&[]), "message -"),
-    (Told::EmptyPort(u64::MAX), "empty p 18446744073709551615"),
-    (Told::EmptySet(1), "empty s 1"),
-    (Told::TooLarge(65536), "toolarge 65536"),
-    (Told::NoRecord, "norecord"),
-];
-
-fn reply_of(alloc: Global, told: &Told) -> Result<Reply, AllocError> {
-    let reply = match told {
-        Told::Code(code) => Reply::Code(*code),
-        Told::Task(task) => Reply::Task(TaskId::new(*task)),
-        Told::Name(name) => Reply::Name(Name::new(*name)),
-        Told::Refs(references) => Reply::Refs(*references),
-        Told::NameType(bits) => Reply::NameType(*bits),
-        Told::Names(names) => Reply::Names(names_of(alloc, names)?),
-        Told::Status(numbers) => Reply::Status(status_of(numbers)),
-        Told::Members(names) => Reply::Members(members_of(alloc, names)?),
-        Told::Right(name, kind) => Reply::Right(Name::new(*name), *kind),
-        Told::Previous(name) => Reply::Previous(Name::new(*name)),
-        Told::Message(bytes) => Reply::Message(Bytes::from_vec(Vec::from_slice(alloc, bytes)?)),
-        Told::EmptyPort(port) => Reply::Empty(Waited::Port(PortId::new(*port))),
-        Told::EmptySet(set) => Reply::Empty(Waited::Set(SetId::new(*set))),
-        Told::TooLarge(length) => Reply::TooLarge(*length),
-        Told::NoRecord => Reply::NoRecord,
-    };
-    Ok(reply)
-}
-
-fn names_of(alloc: Global, names: &[(u32, u32)]) -> Result<NameTypes, AllocError> {
-    let mut typed = Vec::new(alloc);
-    for (name, bits) in names {
-        typed.push((Name::new(*name), *bits))?;
-    }
-    Ok(NameTypes::from_vec(typed))
-}
-
-fn members_of(alloc: Global, names: &[u32]) -> Result<NameList, AllocError> {
-    let mut members = Vec::new(alloc);
-    for name in names {
-        members.push(Name::new(*name))?;
-    }
-    Ok(NameList::from_vec(members))
-}
-
-fn status_of(numbers: &[u32; 9]) -> Status {
-    Status {
-        set: Name::new(numbers[0]),
-        sequence: numbers[1],
-        make_send: numbers[2],
-        limit: numbers[3],
-        queued: numbers[4],
-        send_once: numbers[5],
-        has_send: numbers[6],
-        port_destroyed: numbers[7],
-        no_senders: numbers[8],
+fn is_read(alloc: Global, reply: &Reply, text: &str) -> bool {
+    match read_reply(alloc, text.as_bytes()) {
+        Ok(read) => read == *reply,
+        Err(_) => false,
     }
 }
 
-/// The text of a reply.
-fn text_of(alloc: Global, reply: &Reply) -> io::Result<Vec<u8>> {
-    let mut page = Vec::new(alloc);
-    write_reply(reply, &mut page)?;
-    Ok(page)
+fn are_one_reply(alloc: Global, text: &str, other: &str) -> bool {
+    match read_reply(alloc, text.as_bytes()) {
+        Ok(reply) => is_read(alloc, &reply, other),
+        Err(_) => false,
+    }
 }
 
 #[test]
-fn replies_are_written_and_read_back(rt: HostRuntime) -> Result<(), Fail> {
-    let alloc = rt.alloc();
-    for (told, want) in &REPLIES {
-        let text = text_of(alloc, &reply_of(alloc, told)?)?;
-        assert!(rt; text.as_slice() == want.as_bytes(), "at {want}");
-        let again = text_of(alloc, &read_reply(alloc, want.as_bytes())?)?;
-        assert!(rt; again.as_slice() == want.as_bytes(), "at {want}");
+fn replies_differ_where_one_field_does(rt: HostRuntime) {
+    assert!(rt; are_one_reply(rt.alloc(), "members 7", "members 7"));
+    assert!(rt; !are_one_reply(rt.alloc(), "members 7", "members"));
+    assert!(rt; !are_one_reply(rt.alloc(), "names 7:00020000", "names 7:00010000"));
+    assert!(rt; !are_one_reply(rt.alloc(), "empty p 0", "members"));
+}
+
+fn is_reply_written(alloc: Global, reply: &Reply, text: &str) -> bool {
+    let mut page = Vec::new(alloc);
+    write_reply(reply, &mut page).is_ok() && page.as_slice() == text.as_bytes()
+}
+
+/// Whether the reply is equal to its copy, and written as this text, which reads as the reply.
+fn is_told(alloc: Global, reply: Reply, text: &str) -> bool {
+    is_copied(&reply) && is_reply_written(alloc, &reply, text) && is_read(alloc, &reply, text)
+}
+
+fn numbers_are_told(alloc: Global) -> bool {
+    is_told(alloc, Reply::Code(0x1000_480c), "code 1000480c")
+        && is_told(alloc, Reply::Code(0), "code 00000000")
+        && is_told(alloc, Reply::Refs(10), "refs 10")
+        && is_told(alloc, Reply::NameType(0x8002_0000), "type 80020000")
+        && is_told(alloc, Reply::TooLarge(65536), "toolarge 65536")
+        && is_told(alloc, Reply::NoRecord, "norecord")
+}
+
+fn names_are_told(alloc: Global) -> bool {
+    is_told(alloc, Reply::Task(TaskId::new(65535)), "task 65535")
+        && is_told(alloc, Reply::Name(Name::new(u32::MAX)), "name 4294967295")
+        && is_told(alloc, Reply::Right(Name::new(7), 17), "right 7 17")
+        && is_told(alloc, Reply::Previous(Name::new(0)), "previous 0")
+}
+
+fn waiting_is_told(alloc: Global) -> bool {
+    let port = Waited::Port(PortId::new(u64::MAX));
+    let set = Waited::Set(SetId::new(1));
+    is_told(alloc, Reply::Empty(port), "empty p 18446744073709551615")
+        && is_told(alloc, Reply::Empty(set), "empty s 1")
+}
+
+fn status_is_told(alloc: Global) -> bool {
+    let status = Status {
+        set: Name::new(1),
+        sequence: 2,
+        make_send: 3,
+        limit: 4,
+        queued: 5,
+        send_once: 6,
+        has_send: 7,
+        port_destroyed: 8,
+        no_senders: u32::MAX,
+    };
+    is_told(
+        alloc,
+        Reply::Status(status),
+        "status 1 2 3 4 5 6 7 8 4294967295",
+    )
+}
+
+fn types_are_told(alloc: Global, names: &[(Name, u32)], text: &str) -> bool {
+    match Vec::from_slice(alloc, names) {
+        Ok(names) => is_told(alloc, Reply::Names(NameTypes::from_vec(names)), text),
+        Err(_) => false,
     }
-    Ok(())
+}
+
+fn members_are_told(alloc: Global, names: &[Name], text: &str) -> bool {
+    match Vec::from_slice(alloc, names) {
+        Ok(names) => is_told(alloc, Reply::Members(NameList::from_vec(names)), text),
+        Err(_) => false,
+    }
+}
+
+fn message_is_told(alloc: Global, bytes: &[u8], text: &str) -> bool {
+    match Vec::from_slice(alloc, bytes) {
+        Ok(bytes) => is_told(alloc, Reply::Message(Bytes::from_vec(bytes)), text),
+        Err(_) => false,
+    }
+}
+
+fn lists_are_told(alloc: Global) -> bool {
+    let types = [(Name::new(3), 0x10000), (Name::new(10), 0x8010_0000)];
+    types_are_told(alloc, &types, "names 3:00010000 10:80100000")
+        && types_are_told(alloc, &[], "names")
+        && members_are_told(alloc, &[Name::new(2), Name::new(12)], "members 2 12")
+        && members_are_told(alloc, &[], "members")
+        && message_is_told(alloc, &[0x00, 0x9a, 0xff], "message 009aff")
+        && message_is_told(alloc, &[], "message -")
+}
+
+#[test]
+fn replies_are_written_and_read_back(rt: HostRuntime) {
+    assert!(rt; numbers_are_told(rt.alloc()) && names_are_told(rt.alloc()));
+    assert!(rt; waiting_is_told(rt.alloc()) && status_is_told(rt.alloc()));
+    assert!(rt; lists_are_told(rt.alloc()));
 }
 
 // Texts that are no reply, parted by bars.
@@ -256,24 +263,14 @@ const BAD_REPLIES: &str = "\
     message - -|empty p|empty q 0|empty p 18446744073709551616|empty s 0 0|toolarge 00|\
     norecord 0|norecords|norecord\n|\u{e9}";
 
-#[test]
-fn refuses_what_is_no_reply(rt: HostRuntime) {
-    for line in BAD_REPLIES.split('|') {
-        let fault = read_reply(rt.alloc(), line.as_bytes()).err();
-        assert!(rt; fault == Some(TextFault::Bad), "at {line:?}");
-    }
-    let fault = read_reply(rt.alloc(), b"task\xff 0").err();
-    assert_eq!(rt; fault, Some(TextFault::Bad));
+fn is_no_reply(alloc: Global, text: &[u8]) -> bool {
+    read_reply(alloc, text).err() == Some(TextFault::Bad)
 }
 
 #[test]
-fn faults_have_texts(rt: HostRuntime) -> Result<(), Fail> {
-    let alloc = rt.alloc();
-    let text = ScriptFault::BadCall(12).to_string(alloc)?;
-    assert_eq!(rt; text.as_str(), "line 12: bad call");
-    let text = ScriptFault::OutOfMemory.to_string(alloc)?;
-    assert_eq!(rt; text.as_str(), "out of memory");
-    let text = TextFault::Bad.to_string(alloc)?;
-    assert_eq!(rt; text.as_str(), "bad text");
-    Ok(())
+fn refuses_what_is_no_reply(rt: HostRuntime) {
+    assert!(rt; is_no_reply(rt.alloc(), b"task\xff 0"));
+    for line in BAD_REPLIES.split('|') {
+        assert!(rt; is_no_reply(rt.alloc(), line.as_bytes()), "at {line:?}");
+    }
 }

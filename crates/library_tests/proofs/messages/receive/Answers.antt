@@ -1,4 +1,4 @@
-use Rattle.std.proofs.Common.{◌≡◌, List, sym, subst}
+use Rattle.std.proofs.Common.{List, sym, subst}
 use Rattle.mach_types.specs.Grammar.{WireBody}
 use Rattle.message_codec.specs.Parses.{Parses}
 use Rattle.message_codec.specs.Received.{IsLaidOut}
