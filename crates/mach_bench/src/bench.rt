@@ -1,4 +1,5 @@
 //! A kernel that is made ready for a workload, and the calls to measure.
+use crate::calls::{Call, Round};
 use kernel_core::Kernel;
 use mach_types::{Event, Reply};
 use std::alloc::{AllocError, Global};
@@ -20,32 +21,79 @@ impl From<AllocError> for Stop {
     }
 }
 
+/// What is done with a call.
+#[derive(Clone, Copy)]
+pub enum Step {
+    /// It is made at once, to make the kernel ready.
+    Make(Call),
+    /// It is put at the end of the cycle.
+    Add(Call),
+}
+
+/// Steps that are made in rounds.
+#[derive(Clone, Copy)]
+pub struct Group {
+    /// How many rounds.
+    pub rounds: u32,
+    /// The steps of each.
+    pub steps: &'static [Step],
+}
+
 /// A kernel, with the calls of one cycle.
 #[derive(Drop)]
 pub struct Bench {
-    /// What gives memory.
-    pub alloc: Global,
-    /// How many operations a cycle is.
-    pub operations: u32,
+    alloc: Global,
     kernel: Kernel,
     made: usize,
     cycle: Vec<Event>,
 }
 
 impl Bench {
-    /// An empty kernel, with no calls to measure. A cycle is one operation, unless that is set.
+    /// An empty kernel, with no calls to measure.
     pub fn new(alloc: Global) -> Bench {
         Bench {
             alloc,
-            operations: 1,
             kernel: Kernel::new(alloc),
             made: 0,
             cycle: Vec::new(alloc),
         }
     }
 
-    /// Makes a call at once, to make the kernel ready.
-    pub fn make(&mut self, event: &Event) -> Result<(), Stop> {
+    /// Takes the steps of these groups in turn.
+    pub fn take(&mut self, groups: &[Group]) -> Result<(), Stop> {
+        for group in groups {
+            self.take_rounds(group.rounds, group.steps)?;
+        }
+        Ok(())
+    }
+
+    /// Takes the steps in so many rounds.
+    fn take_rounds(&mut self, rounds: u32, steps: &[Step]) -> Result<(), Stop> {
+        let mut random = 1u32;
+        for index in 0..rounds {
+            random = random.wrapping_mul(1_664_525).wrapping_add(1_013_904_223);
+            self.take_steps(steps, Round { index, random })?;
+        }
+        Ok(())
+    }
+
+    /// Takes the steps of one round.
+    fn take_steps(&mut self, steps: &[Step], round: Round) -> Result<(), Stop> {
+        for step in steps {
+            self.take_step(*step, round)?;
+        }
+        Ok(())
+    }
+
+    fn take_step(&mut self, step: Step, round: Round) -> Result<(), Stop> {
+        match step {
+            Step::Make(call) => self.make(&call.event(self.alloc, round)?),
+            Step::Add(call) => self.add(call.event(self.alloc, round)?),
+        }
+    }
+
+    /// Makes a call at once.
+    fn make(&mut self, event: &Event) -> Result<(), Stop> {
         self.made = self.made.saturating_add(1);
         if is_refused(&self.kernel.step(event)) {
             return Err(Stop::Setup(self.made));
@@ -54,7 +102,7 @@ impl Bench {
     }
 
     /// Puts a call at the end of the cycle.
-    pub fn add(&mut self, event: Event) -> Result<(), Stop> {
+    fn add(&mut self, event: Event) -> Result<(), Stop> {
         match self.cycle.push(event) {
             Ok(()) => Ok(()),
             Err(_) => Err(Stop::OutOfMemory),

@@ -1,5 +1,6 @@
-//! The calls of which workloads and worlds are made, and the bytes of messages.
-use mach_types::{Bytes, Event, Name, TaskId};
+//! The calls of which workloads and worlds are made.
+use crate::messages::Message;
+use mach_types::{Event, Name, TaskId};
 use std::alloc::{AllocError, Global};
 
 /// The task whose names a world fills, and by which workloads receive.
@@ -13,6 +14,9 @@ pub const OTHER: u32 = 2;
 
 /// The name of a port set that `HOME` has in every world.
 pub const SET: u32 = 200;
+
+/// How many names a full task has.
+pub const FULL: u32 = 65_535;
 
 /// The number of a receive right, for allocation.
 pub const RECEIVE: u32 = 1;
@@ -38,62 +42,121 @@ pub const MAKE_SEND_ONCE: u32 = 21;
 /// The bit of a message's header that says that rights stand in its body.
 pub const COMPLEX: u32 = 0x8000_0000;
 
-/// The words of a header: its bits, destination and reply; size, sequence number and id are 0.
-pub fn header(bits: u32, to: u32, reply: u32) -> [u32; 6] {
-    [bits, 0, to, reply, 0, 0]
+/// Which of the rounds that calls are made in.
+#[derive(Clone, Copy)]
+pub struct Round {
+    /// Its number, from 0.
+    pub index: u32,
+    /// A number whose high bits are as good as random.
+    pub random: u32,
 }
 
-/// The word before an item of rights of this disposition, one or 64 of them.
-pub fn item_of(disposition: u32, is_long: bool) -> u32 {
-    disposition | if is_long { 0x1040_2000 } else { 0x1001_2000 }
+/// A name in a call.
+#[derive(Clone, Copy)]
+pub enum Label {
+    /// The same in each round.
+    Same(u32),
+    /// This in the first round, and one more in each further one.
+    Rising(u32),
+    /// One of those of a full task, at random.
+    Any,
 }
 
-/// Makes a right of this number, under a fresh name.
-pub fn make(task: u32, right: u32) -> Event {
-    Event::Allocate(TaskId::new(task), right)
-}
-
-/// Makes a right of this number, under this name.
-pub fn make_named(task: u32, right: u32, name: u32) -> Event {
-    Event::AllocateName(TaskId::new(task), right, Name::new(name))
-}
-
-/// Gives up one reference of `HOME`'s under the name.
-pub fn give_up(name: u32) -> Event {
-    Event::Deallocate(TaskId::new(HOME), Name::new(name))
-}
-
-/// Changes `HOME`'s send references under the name.
-pub fn change(name: u32, delta: i32) -> Event {
-    Event::ModRefs(TaskId::new(HOME), Name::new(name), 0, delta)
-}
-
-/// Gives the task, under the name, a send right made from what another has under a name.
-pub fn give(task: u32, name: u32, from: u32, poly: u32) -> Event {
-    let (task, from) = (TaskId::new(task), TaskId::new(from));
-    Event::InsertRight(task, Name::new(name), from, Name::new(poly), MAKE_SEND)
-}
-
-/// Puts `HOME`'s port into a set, or into none where that is 0.
-pub fn put(member: u32, set: u32) -> Event {
-    Event::MoveMember(TaskId::new(HOME), Name::new(member), Name::new(set))
-}
-
-/// Gives what `HOME` has under one name another in its place.
-pub fn rename(from: u32, to: u32) -> Event {
-    Event::Rename(TaskId::new(HOME), Name::new(from), Name::new(to))
-}
-
-/// Sends the message of these words.
-pub fn send(alloc: Global, task: u32, words: &[u32]) -> Result<Event, AllocError> {
-    let mut text = Vec::new(alloc);
-    for word in words {
-        text.extend_from_slice(&word.to_le_bytes())?;
+impl Label {
+    /// The name in this round.
+    pub fn number(self, round: Round) -> u32 {
+        match self {
+            Label::Same(name) => name,
+            Label::Rising(name) => name.wrapping_add(round.index),
+            Label::Any => round.random / 65_536 % FULL + 1,
+        }
     }
-    Ok(Event::Send(TaskId::new(task), Bytes::from_vec(text)))
+
+    /// The same, as a name.
+    fn name(self, round: Round) -> Name {
+        Name::new(self.number(round))
+    }
 }
 
-/// Receives by the name, with room for every message.
-pub fn receive(task: u32, name: u32) -> Event {
-    Event::Receive(TaskId::new(task), Name::new(name), 65_536, false)
+/// A call, as numbers: of `HOME` where it names no task.
+#[derive(Clone, Copy)]
+pub enum Call {
+    /// Makes a task.
+    Task,
+    /// The task makes a right of this number, under a fresh name.
+    Make(u32, u32),
+    /// The task makes a right of this number, under this name.
+    MakeNamed(u32, u32, Label),
+    /// Gives up one reference under the name.
+    GiveUp(Label),
+    /// Gives up all that is under the name.
+    Destroy(u32),
+    /// Changes the send references under the name.
+    Change(u32, i32),
+    /// The task gets, under the name, a send right made from what another has under a name.
+    Give(u32, Label, u32, Label),
+    /// Takes a send right, made from what `PEER` has under the name.
+    Extract(u32),
+    /// Asks for the type of the name.
+    Type(Label),
+    /// Asks for all names.
+    Names,
+    /// Gives what is under the first name the second in its place.
+    Rename(u32, u32),
+    /// Asks for the status of the port under the name.
+    Status(u32),
+    /// Puts the port into a set, or into none where that is 0.
+    Put(Label, u32),
+    /// The task sends the message.
+    Send(u32, Message),
+    /// The task receives by the name, with room for every message.
+    Receive(u32, u32),
+}
+
+impl Call {
+    /// The call in this round.
+    pub fn event(self, alloc: Global, round: Round) -> Result<Event, AllocError> {
+        match self {
+            Call::Send(task, message) => {
+                let bytes = message.bytes(alloc, round)?;
+                Ok(Event::Send(TaskId::new(task), bytes))
+            }
+            Call::Make(task, right) => Ok(Event::Allocate(TaskId::new(task), right)),
+            Call::MakeNamed(task, right, label) => {
+                Ok(Event::AllocateName(TaskId::new(task), right, label.name(round)))
+            }
+            Call::Receive(task, name) => {
+                Ok(Event::Receive(TaskId::new(task), Name::new(name), 65_536, false))
+            }
+            call => Ok(call.event_of_home(TaskId::new(HOME), round)),
+        }
+    }
+
+    /// The same, where it makes no right, sends and receives nothing.
+    fn event_of_home(self, home: TaskId, round: Round) -> Event {
+        match self {
+            Call::GiveUp(label) => Event::Deallocate(home, label.name(round)),
+            Call::Destroy(name) => Event::Destroy(home, Name::new(name)),
+            Call::Change(name, delta) => Event::ModRefs(home, Name::new(name), 0, delta),
+            Call::Give(task, label, from, poly) => give(
+                (TaskId::new(task), label.name(round)),
+                (TaskId::new(from), poly.name(round)),
+            ),
+            Call::Extract(name) => {
+                Event::ExtractRight(TaskId::new(PEER), Name::new(name), MAKE_SEND, home)
+            }
+            Call::Type(label) => Event::NameType(home, label.name(round)),
+            Call::Names => Event::Names(home),
+            Call::Rename(from, to) => Event::Rename(home, Name::new(from), Name::new(to)),
+            Call::Status(name) => Event::ReceiveStatus(home, Name::new(name)),
+            Call::Put(label, set) => Event::MoveMember(home, label.name(round), Name::new(set)),
+            // the only one left that comes here is `Call::Task`
+            _ => Event::TaskCreate,
+        }
+    }
+}
+
+/// The call that gives a task, under a name, a send right made from what another has under a name.
+fn give(to: (TaskId, Name), from: (TaskId, Name)) -> Event {
+    Event::InsertRight(to.0, to.1, from.0, from.1, MAKE_SEND)
 }

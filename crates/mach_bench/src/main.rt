@@ -6,21 +6,17 @@
 mod bench;
 mod calls;
 mod command_line;
-mod exchanges;
-mod names;
+mod messages;
 mod perform;
 mod workloads;
 mod worlds;
 
-use command_line::{USAGE, read_words};
+use command_line::{Refusal, read_words};
 use perform::{Fault, perform, report};
 use std::io::Write;
 use std::process::ExitCode;
 use std::rt::{Clock, Env};
 use std::{env, io};
-
-/// The status where the command line names no job.
-const NO_JOB: u8 = 2;
 
 fn main(rt: HostRuntime) -> ExitCode {
     let (mut out, mut err) = (rt.stdout(), rt.stderr());
@@ -35,24 +31,31 @@ fn answer<R: Env + Clock + AllocGlobal, W: Write, E: Write>(
     out: &mut W,
     err: &mut E,
 ) -> u8 {
-    let words: Vec<String> = match words_of(rt) {
-        Ok(words) => words,
-        Err(error) if error.kind() == io::ErrorKind::OutOfMemory => {
-            return report(Fault::OutOfMemory, err);
-        }
-        Err(_) => return refuse(err),
-    };
-    match read_words(words.as_slice()) {
-        Some(job) => perform(rt, rt.alloc(), job, out, err),
-        None => refuse(err),
+    match words_of(rt) {
+        Ok(words) => answer_words(rt, words.as_slice(), out, err),
+        Err(error) => report_error(&error, err),
     }
 }
 
-/// Tells on `err` how the program is called.
-fn refuse<E: Write>(err: &mut E) -> u8 {
-    let _ = err.write_all(b"error: these words name no job\n\n");
-    let _ = err.write_all(USAGE.as_bytes());
-    NO_JOB
+/// The same, of these words.
+fn answer_words<R: Clock + AllocGlobal, W: Write, E: Write>(
+    rt: &R,
+    words: &[String],
+    out: &mut W,
+    err: &mut E,
+) -> u8 {
+    match read_words(words) {
+        Ok(job) => perform(rt, job, out, err),
+        Err(refusal) => refusal.tell(err),
+    }
+}
+
+/// Tells on `err` why the words can't be had: memory was refused, or one of them is no text.
+fn report_error<E: Write>(error: &io::Error, err: &mut E) -> u8 {
+    match error.kind() {
+        io::ErrorKind::OutOfMemory => report(Fault::OutOfMemory, err),
+        _ => Refusal::NoJob.tell(err),
+    }
 }
 
 /// The words of the command line, the program's own name first.

@@ -3,8 +3,8 @@ ghost use Rattle.std.specs.Prelude.{◌≤◌, ◌≡◌};
 
 use crate::bench::{Bench, Stop};
 use crate::command_line::USAGE;
-use crate::workloads::{WORKLOADS, Workload};
-use crate::worlds::{WORLDS, World};
+use crate::workloads::{SEND_RECEIVE, Workload, all_workloads};
+use crate::worlds::{OPENING, SMALL, World, all_worlds};
 use std::alloc::Global;
 use std::io::Write;
 use std::rt::Clock;
@@ -13,7 +13,7 @@ use std::{fmt, io};
 
 /// What the program can do.
 #[derive(Clone, Copy)]
-pub enum Job<'a> {
+pub enum Job {
     /// Prints how the program is called.
     Help,
     /// Prints the names of the workloads and the worlds.
@@ -21,40 +21,38 @@ pub enum Job<'a> {
     /// Makes each workload once in the small world, and the first in each world.
     Check,
     /// Makes one workload in one world, so many times, by the clock.
-    Run(Run<'a>),
+    Run(Run, u32),
+}
+
+/// How many cycles are made.
+#[derive(Clone, Copy)]
+pub enum Cycles {
+    /// One, and no time is taken.
+    Once,
+    /// So many, by the clock.
+    Timed(u32),
 }
 
 /// What is to be run.
 #[derive(Clone, Copy)]
-pub struct Run<'a> {
-    /// The name of the workload.
-    pub workload: &'a str,
-    /// The name of the world.
-    pub world: &'a str,
-    /// How many cycles are made.
-    pub times: u32,
+pub struct Run {
+    /// The workload.
+    pub workload: &'static Workload,
+    /// The world.
+    pub world: &'static World,
 }
 
-impl<'a> Run<'a> {
-    /// One cycle of this workload in this world.
-    pub fn new(workload: &'a str, world: &'a str) -> Run<'a> {
-        Run {
-            workload,
-            world,
-            times: 1,
-        }
+impl fmt::Display for Run {
+    fn fmt<W: fmt::Write>(&self, f: &mut fmt::Formatter<W>) -> fmt::Result {
+        write!(f, "{} in {}", self.workload.name, self.world.name)
     }
 }
 
 /// What stops a job. Its text is the line that tells of it.
 #[derive(Clone, Copy)]
-pub enum Fault<'a> {
-    /// No workload has this name.
-    NoWorkload(&'a str),
-    /// No world has this name.
-    NoWorld(&'a str),
+pub enum Fault {
     /// A call was refused that should be done: of which run, in which part of it, and its number there, from 1.
-    Refused(Run<'a>, &'static str, usize),
+    Refused(Run, &'static str, usize),
     /// The clock can't be read.
     NoClock,
     /// What is told can't be written.
@@ -63,26 +61,15 @@ pub enum Fault<'a> {
     OutOfMemory,
 }
 
-impl<'a> fmt::Display for Fault<'a> {
+impl fmt::Display for Fault {
     fn fmt<W: fmt::Write>(&self, f: &mut fmt::Formatter<W>) -> fmt::Result {
         match self {
-            Fault::NoWorkload(name) => write!(f, "no workload {name}: see mach_bench list"),
-            Fault::NoWorld(name) => write!(f, "no world {name}: see mach_bench list"),
-            Fault::Refused(
-                Run {
-                    workload,
-                    world,
-                    ..
-                },
-                part,
-                number,
-            ) => write!(
-                f,
-                "{workload} in {world}: call {number} of the {part} was refused"
-            ),
-            Fault::NoClock => write!(f, "cannot read the clock"),
-            Fault::CannotWrite => write!(f, "cannot write"),
-            Fault::OutOfMemory => write!(f, "out of memory"),
+            Fault::Refused(run, part, number) => {
+                write!(f, "{run}: call {number} of the {part} was refused")
+            }
+            Fault::NoClock => f.write_str("cannot read the clock"),
+            Fault::CannotWrite => f.write_str("cannot write"),
+            Fault::OutOfMemory => f.write_str("out of memory"),
         }
     }
 }
@@ -91,49 +78,51 @@ impl<'a> fmt::Display for Fault<'a> {
 ///
 /// What the job tells goes to `out`, and a fault in one line to `err`. A call that is refused though it
 /// should be done is a fault: what comes after it is not made.
-pub fn perform<C: Clock, W: Write, E: Write>(
-    clock: &C,
-    alloc: Global,
-    job: Job<'_>,
+pub fn perform<R: Clock + AllocGlobal, W: Write, E: Write>(
+    rt: &R,
+    job: Job,
     out: &mut W,
     err: &mut E,
 ) -> u8
     ensures { result ≤ 1 }
 {
-    match do_job(clock, alloc, job, out) {
+    match do_and_flush(rt, job, out) {
         Ok(()) => 0,
         Err(fault) => report(fault, err),
     }
 }
 
-/// Does the job, and flushes what it told.
-fn do_job<'a, C: Clock, W: Write>(
-    clock: &C,
-    alloc: Global,
-    job: Job<'a>,
-    out: &mut W,
-) -> Result<(), Fault<'a>> {
-    match job {
-        Job::Help => written(out.write_all(USAGE.as_bytes()))?,
-        Job::List => list(out)?,
-        Job::Check => check(alloc, out)?,
-        Job::Run(run) => measure(clock, alloc, run, out)?,
-    }
-    written(out.flush())
-}
-
 /// Tells on `err` what the fault is, as one line, and answers its status, 1.
 ///
 /// Where `err` refuses the line, nothing is left to tell of it.
-pub fn report<E: Write>(fault: Fault<'_>, err: &mut E) -> u8
+pub fn report<E: Write>(fault: Fault, err: &mut E) -> u8
     ensures { result ≡ 1 }
 {
     let _ = writeln!(err, "{fault}");
     1
 }
 
+/// Does the job, and flushes what it told.
+fn do_and_flush<R: Clock + AllocGlobal, W: Write>(
+    rt: &R,
+    job: Job,
+    out: &mut W,
+) -> Result<(), Fault> {
+    do_job(rt, job, out)?;
+    written(out.flush())
+}
+
+fn do_job<R: Clock + AllocGlobal, W: Write>(rt: &R, job: Job, out: &mut W) -> Result<(), Fault> {
+    match job {
+        Job::Help => written(out.write_all(USAGE.as_bytes())),
+        Job::List => list(out),
+        Job::Check => check(rt, out),
+        Job::Run(run, times) => measure(rt, run, times, out),
+    }
+}
+
 /// What was written, or that it can't be.
-fn written<'a>(write: io::Result<()>) -> Result<(), Fault<'a>> {
+fn written(write: io::Result<()>) -> Result<(), Fault> {
     match write {
         Ok(()) => Ok(()),
         Err(_) => Err(Fault::CannotWrite),
@@ -141,77 +130,80 @@ fn written<'a>(write: io::Result<()>) -> Result<(), Fault<'a>> {
 }
 
 /// Prints the names of the workloads, and then those of the worlds, one a line.
-fn list<'a, W: Write>(out: &mut W) -> Result<(), Fault<'a>> {
-    written(out.write_all(WORKLOADS.as_bytes()))?;
-    for name in WORLDS.lines() {
-        written(writeln!(out, "--world {name}"))?;
+fn list<W: Write>(out: &mut W) -> Result<(), Fault> {
+    list_workloads(out)?;
+    list_worlds(out)
+}
+
+fn list_workloads<W: Write>(out: &mut W) -> Result<(), Fault> {
+    for workload in all_workloads() {
+        tell_name("", workload.name, out)?;
     }
     Ok(())
 }
 
-/// Makes each workload once in the small world, and the first in each other; no time is told.
-fn check<'a, W: Write>(alloc: Global, out: &mut W) -> Result<(), Fault<'a>> {
-    for name in WORKLOADS.lines() {
-        check_one(alloc, Run::new(name, "small"), out)?;
+fn list_worlds<W: Write>(out: &mut W) -> Result<(), Fault> {
+    for world in all_worlds() {
+        tell_name("--world ", world.name, out)?;
     }
-    for name in WORLDS.lines() {
-        if name != "small" {
-            check_one(alloc, Run::new("send-receive", name), out)?;
+    Ok(())
+}
+
+fn tell_name<W: Write>(before: &str, name: &str, out: &mut W) -> Result<(), Fault> {
+    written(writeln!(out, "{before}{name}"))
+}
+
+/// Makes each workload once in the small world, and the first in each other; no time is told.
+fn check<R: Clock + AllocGlobal, W: Write>(rt: &R, out: &mut W) -> Result<(), Fault> {
+    check_workloads(rt, out)?;
+    check_worlds(rt, out)
+}
+
+fn check_workloads<R: Clock + AllocGlobal, W: Write>(rt: &R, out: &mut W) -> Result<(), Fault> {
+    for workload in all_workloads() {
+        let world = &SMALL;
+        check_one(rt, Run { workload, world }, out)?;
+    }
+    Ok(())
+}
+
+fn check_worlds<R: Clock + AllocGlobal, W: Write>(rt: &R, out: &mut W) -> Result<(), Fault> {
+    for world in all_worlds() {
+        if world.name != SMALL.name {
+            let workload = &SEND_RECEIVE;
+            check_one(rt, Run { workload, world }, out)?;
         }
     }
     Ok(())
 }
 
 /// Makes one cycle, and prints how many operations it is.
-fn check_one<'a, W: Write>(alloc: Global, run: Run<'a>, out: &mut W) -> Result<(), Fault<'a>> {
-    let mut bench = ready(alloc, run)?;
-    done(bench.run(1), run)?;
-    let (name, place, operations) = (run.workload, run.world, bench.operations);
-    written(writeln!(out, "{name} in {place}: {operations} operations"))
+fn check_one<R: Clock + AllocGlobal, W: Write>(rt: &R, run: Run, out: &mut W) -> Result<(), Fault> {
+    make(rt, run, Cycles::Once)?;
+    let operations = run.workload.operations;
+    written(writeln!(out, "{run}: {operations} operations"))
 }
 
 /// Makes the cycles, and prints how many operations they were, and the time of each.
-fn measure<'a, C: Clock, W: Write>(
-    clock: &C,
-    alloc: Global,
-    run: Run<'a>,
+fn measure<R: Clock + AllocGlobal, W: Write>(
+    rt: &R,
+    run: Run,
+    times: u32,
     out: &mut W,
-) -> Result<(), Fault<'a>> {
-    let mut bench = ready(alloc, run)?;
-    let took = time_of(clock, &mut bench, run)?;
-    tell(run, bench.operations, took, out)
+) -> Result<(), Fault> {
+    let took = make(rt, run, Cycles::Timed(times))?;
+    let operations = operations_of(run, times);
+    tell(run, operations, nanoseconds_each(took, operations), out)
 }
 
-/// Makes the cycles, and answers how long they took.
-fn time_of<'a, C: Clock>(
-    clock: &C,
-    bench: &mut Bench,
-    run: Run<'a>,
-) -> Result<Duration, Fault<'a>> {
-    let Ok(start) = Instant::now(clock) else {
-        return Err(Fault::NoClock);
-    };
-    done(bench.run(run.times), run)?;
-    match start.elapsed(clock) {
-        Ok(took) => Ok(took),
-        Err(_) => Err(Fault::NoClock),
-    }
+/// How many operations so many cycles are.
+fn operations_of(run: Run, times: u32) -> u64 {
+    u64::from(run.workload.operations).saturating_mul(u64::from(times))
 }
 
-/// Prints how many operations the cycles were, each of so many, and the time of each.
-fn tell<'a, W: Write>(
-    run: Run<'a>,
-    operations: u32,
-    took: Duration,
-    out: &mut W,
-) -> Result<(), Fault<'a>> {
-    let operations = u64::from(operations).saturating_mul(u64::from(run.times));
-    let each = nanoseconds_each(took, operations);
-    let (name, place) = (run.workload, run.world);
-    written(writeln!(
-        out,
-        "{name} in {place}: {operations} operations, {each} ns each"
-    ))
+/// Prints how many operations were made, and the time of each.
+fn tell<W: Write>(run: Run, operations: u64, each: u128, out: &mut W) -> Result<(), Fault> {
+    written(writeln!(out, "{run}: {operations} operations, {each} ns each"))
 }
 
 /// The nanoseconds that each operation took, 0 where there is none.
@@ -221,23 +213,58 @@ fn nanoseconds_each(took: Duration, operations: u64) -> u128 {
         .unwrap_or(0)
 }
 
-/// A kernel with the world and what the workload needs.
-fn ready<'a>(alloc: Global, run: Run<'a>) -> Result<Bench, Fault<'a>> {
-    let Some(workload) = Workload::named(run.workload) else {
-        return Err(Fault::NoWorkload(run.workload));
+/// Makes the cycles on a new kernel, and answers how long they took, 0 where they aren't timed.
+///
+/// It does nothing else: each statement of a function that owns a kernel is dear to prove.
+fn make<R: Clock + AllocGlobal>(rt: &R, run: Run, cycles: Cycles) -> Result<Duration, Fault> {
+    let mut bench = Bench::new(rt.alloc());
+    make_on(rt, &mut bench, run, cycles)
+}
+
+/// The same on this one.
+fn make_on<C: Clock>(
+    clock: &C,
+    bench: &mut Bench,
+    run: Run,
+    cycles: Cycles,
+) -> Result<Duration, Fault> {
+    done(prepare(bench, run), run)?;
+    match cycles {
+        Cycles::Once => untimed(bench, run),
+        Cycles::Timed(times) => timed(clock, bench, run, times),
+    }
+}
+
+/// Makes the world and what the workload needs.
+fn prepare(bench: &mut Bench, run: Run) -> Result<(), Stop> {
+    bench.take(&OPENING)?;
+    bench.take(run.world.before)?;
+    bench.take(run.workload.groups)?;
+    bench.take(run.world.after)
+}
+
+/// Makes one cycle.
+fn untimed(bench: &mut Bench, run: Run) -> Result<Duration, Fault> {
+    match done(bench.run(1), run) {
+        Ok(()) => Ok(Duration::ZERO),
+        Err(fault) => Err(fault),
+    }
+}
+
+/// Makes the cycles, and answers how long they took.
+fn timed<C: Clock>(clock: &C, bench: &mut Bench, run: Run, times: u32) -> Result<Duration, Fault> {
+    let Ok(start) = Instant::now(clock) else {
+        return Err(Fault::NoClock);
     };
-    let Some(world) = World::named(run.world) else {
-        return Err(Fault::NoWorld(run.world));
-    };
-    let mut bench = Bench::new(alloc);
-    done(world.open(&mut bench), run)?;
-    done(workload.prepare(&mut bench), run)?;
-    done(world.close(&mut bench), run)?;
-    Ok(bench)
+    done(bench.run(times), run)?;
+    match start.elapsed(clock) {
+        Ok(took) => Ok(took),
+        Err(_) => Err(Fault::NoClock),
+    }
 }
 
 /// Tells of which run a stop is.
-fn done<'a>(made: Result<(), Stop>, run: Run<'a>) -> Result<(), Fault<'a>> {
+fn done(made: Result<(), Stop>, run: Run) -> Result<(), Fault> {
     match made {
         Ok(()) => Ok(()),
         Err(Stop::Setup(number)) => Err(Fault::Refused(run, "setup", number)),

@@ -1,9 +1,8 @@
 //! The words of the command line.
 use crate::perform::Job;
 use clap::{Arg, ArgMatches, Command, Error};
-use std::alloc::Global;
+use std::alloc::{AllocError, Global};
 
-// The calls of a script, for the help.
 const CALLS: &str = "\
     A script has one call a line: its word, and its arguments, each after one space.\n  \
     task                          makes a task; T, FROM and TO are tasks, from 0\n  \
@@ -30,7 +29,7 @@ const CALLS: &str = "\
     again T s SET ROOM LARGE";
 
 /// What the words ask for.
-#[derive(Clone, Copy, Debug, PartialEq, Eq)]
+#[derive(Clone, Copy)]
 pub struct Request<'a> {
     /// What to do.
     pub job: Job,
@@ -56,16 +55,25 @@ fn file_named<'a>(matches: &ArgMatches<'a>) -> Option<&'a str> {
     of_subcommand.get_str("FILE")
 }
 
-/// The program's subcommands, with their options.
-fn program<'a>(alloc: Global) -> Result<Command<'a>, Error> {
+/// The calls of a script, for the help. This alone names the long text: each mention of it is dear to prove.
+fn calls() -> &'static str {
+    CALLS
+}
+
+/// The subcommand that runs a script, with its options.
+fn run_command<'a>(alloc: Global) -> Result<Command<'a>, AllocError> {
     let file = Arg::new(alloc, "FILE").help("The script; standard input where there is none");
-    let run = Command::new(alloc, "run")
+    Command::new(alloc, "run")
         .about("Runs a script and prints a reply for each call")
-        .after_help(CALLS)
-        .arg(file)?;
-    let program = Command::new(alloc, "mach_run")
+        .after_help(calls())
+        .arg(file)
+}
+
+/// The program's subcommands.
+fn program<'a>(alloc: Global) -> Result<Command<'a>, AllocError> {
+    let run = run_command(alloc)?;
+    Command::new(alloc, "mach_run")
         .about("Mach 3 port IPC in user space")
         .subcommand_required(true)
-        .subcommand(run)?;
-    Ok(program)
+        .subcommand(run)
 }

@@ -26,7 +26,6 @@ use std::{env, io};
 
 /// The status where the command line has no such words.
 const USAGE: u8 = 2;
-
 /// How many bytes of output are gathered before they are written.
 const WRITTEN_AT_ONCE: usize = 65_536;
 
@@ -43,24 +42,41 @@ fn answer<R: Env + Files + Input + AllocGlobal, W: Write + Drop, E: Write>(
     out: W,
     err: &mut E,
 ) -> u8 {
-    let words: Vec<String> = match words_of(rt) {
-        Ok(words) => words,
-        Err(error) if error.kind() == io::ErrorKind::OutOfMemory => {
-            return report(Fault::OutOfMemory, err);
-        }
-        Err(_) => {
-            let _ = err.write_all(b"error: a word is not UTF-8\n\nUsage: mach_run <COMMAND>\n");
-            return USAGE;
-        }
-    };
-    match read_words(rt.alloc(), words.as_slice()) {
-        Ok(request) => open(rt, &request, out, err),
-        Err(error) if error.kind() == ErrorKind::OutOfMemory => { report(Fault::OutOfMemory, err) }
-        Err(error) => {
-            let _ = write!(err, "{error}");
-            USAGE
-        }
+    match words_of(rt) {
+        Ok(words) => answer_words(rt, words.as_slice(), out, err),
+        Err(error) => report_words(&error, err),
     }
+}
+
+/// The same, of these words.
+fn answer_words<R: Files + Input + AllocGlobal, W: Write + Drop, E: Write>(
+    rt: &R,
+    words: &[String],
+    out: W,
+    err: &mut E,
+) -> u8 {
+    match read_words(rt.alloc(), words) {
+        Ok(request) => open(rt, &request, out, err),
+        Err(error) => report_usage(&error, err),
+    }
+}
+
+/// Tells on `err` why the words can't be had: memory was refused, or one of them is no text.
+fn report_words<E: Write>(error: &io::Error, err: &mut E) -> u8 {
+    if error.kind() == io::ErrorKind::OutOfMemory {
+        return report(Fault::OutOfMemory, err);
+    }
+    let _ = err.write_all(b"error: a word is not UTF-8\n\nUsage: mach_run <COMMAND>\n");
+    USAGE
+}
+
+/// Tells on `err` why the words name no job.
+fn report_usage<E: Write>(error: &clap::Error, err: &mut E) -> u8 {
+    if error.kind() == ErrorKind::OutOfMemory {
+        return report(Fault::OutOfMemory, err);
+    }
+    let _ = write!(err, "{error}");
+    USAGE
 }
 
 /// The words of the command line, the program's own name first.

@@ -1,6 +1,8 @@
 //! The jobs of the program, over any reader and writers.
 ghost use Rattle.std.specs.Prelude.{◌≡◌, ◌≤◌, ℕ, List, Some, Err, IfOk, IfSome, IfErr, IsErr, OnOk, ◌⊎◌};
 ghost use Rattle.std.specs.Io.KnownBytes.{Appends, Keeps};
+ghost use Rattle.mach_model.specs.State.{opening};
+ghost use Rattle.copyin_base.specs.Shows.{Shows};
 ghost use Rattle.tracer_base.specs.Calls.{IsFirstBadLine};
 ghost use Rattle.mach_run.specs.declared.perform.Fault.TheVariants.{BadCall, OutOfMemory};
 ghost use Rattle.mach_run.specs.Output.{AreReplies, IsOutput};
@@ -15,7 +17,7 @@ use thiserror::Error;
 use tracer_base::write_reply_line;
 
 /// What the program can do.
-#[derive(Clone, Copy, Debug, PartialEq, Eq)]
+#[derive(Clone, Copy)]
 pub enum Job {
     /// Runs a script, and prints a reply for each of its calls.
     Run,
@@ -113,11 +115,20 @@ fn run<'a, R: Read, W: Write>(
 
 /// Makes the calls in turn on a new kernel, and writes their replies, one a line.
 ///
-/// An error is that of `out`; the calls after it are not made.
+/// An error is that of `out`; the calls after it are not made. This does nothing else, since each statement
+/// of a function that owns a kernel is dear to prove.
 fn answer_all<W: Write>(alloc: Global, events: &[Event], out: &mut W) -> io::Result<()>
     ensures { OnOk result ((text : List ℕ) × AreReplies events.now text × Appends (W.contents out.old) (W.contents out.new) text) }
 {
     let mut kernel = Kernel::new(alloc);
+    answer_each(&mut kernel, events, out)
+}
+
+/// Makes the calls in turn on this kernel, in which nothing was made yet, and writes their replies, one a line.
+fn answer_each<W: Write>(kernel: &mut Kernel, events: &[Event], out: &mut W) -> io::Result<()>
+    requires { Shows kernel.old opening }
+    ensures { OnOk result ((text : List ℕ) × AreReplies events.now text × Appends (W.contents out.old) (W.contents out.new) text) }
+{
     for event in events {
         let reply = kernel.step(event);
         write_reply_line(&reply, out)?;

@@ -1,10 +1,10 @@
 use crate::command_line::read_words;
 use crate::perform::{Job, perform};
+use clap::Error;
 use clap::error::ErrorKind;
 use std::alloc::Global;
 use std::io;
 use std::io::{Read, Write};
-use std::test::Fail;
 
 /// A reader that gives its text two bytes at a time, and then an end or a fault.
 #[derive(Drop)]
@@ -64,12 +64,37 @@ impl Write for Page {
     }
 }
 
-/// What `run` of the text answers and writes: the status, standard output and standard error.
-pub(crate) fn ran(alloc: Global, text: &[u8]) -> (u8, Vec<u8>, Vec<u8>) {
-    let mut source = Source { text, fault: None };
-    let (mut out, mut err) = (Page::new(alloc, usize::MAX), Page::new(alloc, usize::MAX));
+/// What `run` answers and writes: the status, standard output and standard error.
+#[derive(Drop)]
+struct Outcome {
+    status: u8,
+    out: Page,
+    err: Page,
+}
+
+impl Outcome {
+    /// Whether it wrote just this, and its status tells of a fault where it wrote of one.
+    fn is(&self, out: &str, err: &str) -> bool {
+        self.status == u8::from(!err.is_empty())
+            && self.out.bytes.as_slice() == out.as_bytes()
+            && self.err.bytes.as_slice() == err.as_bytes()
+    }
+}
+
+/// What `run` of the source makes, with this page for its output.
+fn run_on(alloc: Global, mut source: Source<'_>, mut out: Page) -> Outcome {
+    let mut err = Page::new(alloc, usize::MAX);
     let status = perform(alloc, Job::Run, "it", &mut source, &mut out, &mut err);
-    (status, out.bytes, err.bytes)
+    Outcome { status, out, err }
+}
+
+/// Whether `run` of the script writes just this on standard output and standard error.
+pub(crate) fn writes(alloc: Global, script: &str, out: &str, err: &str) -> bool {
+    let source = Source {
+        text: script.as_bytes(),
+        fault: None,
+    };
+    run_on(alloc, source, Page::new(alloc, usize::MAX)).is(out, err)
 }
 
 // A request and its reply, by two tasks.
@@ -109,54 +134,60 @@ const SCRIPTS: [(&str, &str, &str); 11] = [
     ("\n", "", "line 1: bad call\n"),
 ];
 
+/// This alone names the table: each mention of it is dear to prove.
+fn scripts() -> &'static [(&'static str, &'static str, &'static str)] {
+    &SCRIPTS
+}
+
+/// The first script that is not answered so.
+fn wrong_script(alloc: Global) -> Option<&'static str> {
+    for (script, replies, fault) in scripts() {
+        if !writes(alloc, script, replies, fault) {
+            return Some(script);
+        }
+    }
+    None
+}
+
 #[test]
 fn scripts_are_answered(rt: HostRuntime) {
-    for (script, replies, fault) in SCRIPTS {
-        let (status, out, err) = ran(rt.alloc(), script.as_bytes());
-        assert!(rt;
-            (status == 0) == fault.is_empty() && status <= 1,
-            "at {script:?}"
-        );
-        assert!(rt; out.as_slice() == replies.as_bytes(), "at {script:?}");
-        assert!(rt; err.as_slice() == fault.as_bytes(), "at {script:?}");
+    if let Some(script) = wrong_script(rt.alloc()) {
+        panic!(rt; "at {script}");
     }
 }
 
-// Faults of a reader, and what is written of them.
-const READ_FAULTS: [(io::ErrorKind, &str); 3] = [
-    (io::ErrorKind::Other, "cannot read it\n"),
-    (io::ErrorKind::IsADirectory, "cannot read it\n"),
-    (io::ErrorKind::OutOfMemory, "out of memory\n"),
-];
+/// Whether a fault of the reader, behind a script that isn't one, is told so, and nothing else.
+fn is_read_fault_told(alloc: Global, kind: io::ErrorKind, told: &str) -> bool {
+    let source = Source {
+        text: b"task\nnot this\n",
+        fault: Some(kind),
+    };
+    run_on(alloc, source, Page::new(alloc, usize::MAX)).is("", told)
+}
 
 #[test]
 fn a_read_fault_stops_all(rt: HostRuntime) {
     let alloc = rt.alloc();
-    for (kind, want) in READ_FAULTS {
-        let mut source = Source {
-            text: b"task\nnot this\n",
-            fault: Some(kind),
-        };
-        let (mut out, mut err) = (Page::new(alloc, usize::MAX), Page::new(alloc, usize::MAX));
-        let status = perform(alloc, Job::Run, "it", &mut source, &mut out, &mut err);
-        assert!(rt; status == 1 && out.bytes.is_empty());
-        assert!(rt; err.bytes.as_slice() == want.as_bytes());
-    }
+    assert!(rt; is_read_fault_told(alloc, io::ErrorKind::Other, "cannot read it\n"));
+    assert!(rt; is_read_fault_told(alloc, io::ErrorKind::IsADirectory, "cannot read it\n"));
+    assert!(rt; is_read_fault_told(alloc, io::ErrorKind::OutOfMemory, "out of memory\n"));
+}
+
+/// Whether it is told that this page refuses what two calls write.
+fn is_refusal_told(alloc: Global, out: Page) -> bool {
+    let source = Source {
+        text: b"task\ntask\n",
+        fault: None,
+    };
+    let outcome = run_on(alloc, source, out);
+    outcome.status == 1 && outcome.err.bytes.as_slice() == b"cannot write\n".as_slice()
 }
 
 #[test]
 fn a_refused_write_is_told(rt: HostRuntime) {
-    let alloc = rt.alloc();
     for room in 0..13usize {
-        let mut source = Source {
-            text: b"task\ntask\n",
-            fault: None,
-        };
-        let (mut out, mut err) = (Page::new(alloc, room), Page::new(alloc, usize::MAX));
-        let status = perform(alloc, Job::Run, "it", &mut source, &mut out, &mut err);
-        assert!(rt; status == 1);
         assert!(rt;
-            err.bytes.as_slice() == b"cannot write\n".as_slice(),
+            is_refusal_told(rt.alloc(), Page::new(rt.alloc(), room)),
             "at {room}"
         );
     }
@@ -164,16 +195,9 @@ fn a_refused_write_is_told(rt: HostRuntime) {
 
 #[test]
 fn a_refused_flush_is_told(rt: HostRuntime) {
-    let alloc = rt.alloc();
-    let mut source = Source {
-        text: b"task\n",
-        fault: None,
-    };
-    let (mut out, mut err) = (Page::new(alloc, usize::MAX), Page::new(alloc, usize::MAX));
+    let mut out = Page::new(rt.alloc(), usize::MAX);
     out.flushes = false;
-    let status = perform(alloc, Job::Run, "it", &mut source, &mut out, &mut err);
-    assert!(rt; status == 1);
-    assert!(rt; err.bytes.as_slice() == b"cannot write\n".as_slice());
+    assert!(rt; is_refusal_told(rt.alloc(), out));
 }
 
 #[test]
@@ -187,30 +211,37 @@ fn a_mute_error_stream_changes_no_status(rt: HostRuntime) {
     assert!(rt; perform(alloc, Job::Run, "it", &mut source, &mut out, &mut err) == 1);
 }
 
-/// The words of a command line, the program's name first.
-fn words(alloc: Global, text: &str) -> Result<Vec<String>, Fail> {
+/// The words of a command line, the program's name first; `None` where memory is refused.
+fn words(alloc: Global, text: &str) -> Option<Vec<String>> {
     let mut words = Vec::new(alloc);
     for word in text.split(' ') {
-        words.push(String::from_str(alloc, word)?)?;
+        words.push(String::from_str(alloc, word).ok()?).ok()?;
     }
-    Ok(words)
+    Some(words)
 }
 
-// Words that name a job, and the file that they name.
-const JOBS: [(&str, Option<&str>); 3] = [
-    ("mach_run run", None),
-    ("mach_run run f", Some("f")),
-    ("mach_run run -- -f", Some("-f")),
-];
+/// Whether these words name the job, and this file.
+fn names(words: &[String], alloc: Global, file: Option<&str>) -> bool {
+    match read_words(alloc, words) {
+        Ok(request) => request.file == file,
+        Err(_) => false,
+    }
+}
+
+/// Whether the words of the line name the job, and this file.
+fn line_names(alloc: Global, line: &str, file: Option<&str>) -> bool {
+    match words(alloc, line) {
+        Some(words) => names(words.as_slice(), alloc, file),
+        None => false,
+    }
+}
 
 #[test]
-fn reads_the_words(rt: HostRuntime) -> Result<(), Fail> {
-    for (line, file) in JOBS {
-        let words = words(rt.alloc(), line)?;
-        let request = read_words(rt.alloc(), words.as_slice())?;
-        assert!(rt; request.job == Job::Run && request.file == file);
-    }
-    Ok(())
+fn reads_the_words(rt: HostRuntime) {
+    let alloc = rt.alloc();
+    assert!(rt; line_names(alloc, "mach_run run", None));
+    assert!(rt; line_names(alloc, "mach_run run f", Some("f")));
+    assert!(rt; line_names(alloc, "mach_run run -- -f", Some("-f")));
 }
 
 // Words that name no job, or ask for the help.
@@ -230,28 +261,43 @@ const OTHER_WORDS: [&str; 13] = [
     "mach_run run -x",
 ];
 
-#[test]
-fn refuses_other_words(rt: HostRuntime) -> Result<(), Fail> {
-    for line in OTHER_WORDS {
-        let words = words(rt.alloc(), line)?;
-        let result = read_words(rt.alloc(), words.as_slice());
-        let Err(error) = result else {
-            panic!(rt; "{line} is not refused");
-        };
-        assert!(rt; error.kind() != ErrorKind::OutOfMemory);
-        let text = error.to_string(rt.alloc())?;
-        assert!(rt; text.contains("Usage: mach_run"), "{line}: {text}");
+/// What the error tells, where it isn't that memory was refused.
+fn told(alloc: Global, error: &Error) -> Option<String> {
+    match error.kind() {
+        ErrorKind::OutOfMemory => None,
+        _ => error.to_string(alloc).ok(),
     }
-    Ok(())
+}
+
+/// What is told of the words, where they are refused.
+fn refusal(alloc: Global, words: &[String]) -> Option<String> {
+    match read_words(alloc, words) {
+        Ok(_) => None,
+        Err(error) => told(alloc, &error),
+    }
+}
+
+/// Whether the words of the line are refused by a text that has this in it.
+fn is_refused(alloc: Global, line: &str, part: &str) -> bool {
+    let Some(words) = words(alloc, line) else {
+        return false;
+    };
+    match refusal(alloc, words.as_slice()) {
+        Some(text) => text.contains(part),
+        None => false,
+    }
 }
 
 #[test]
-fn the_help_lists_the_calls(rt: HostRuntime) -> Result<(), Fail> {
-    let words = words(rt.alloc(), "mach_run run --help")?;
-    let Err(error) = read_words(rt.alloc(), words.as_slice()) else {
-        panic!(rt; "the help is refused");
-    };
-    let text = error.to_string(rt.alloc())?;
-    assert!(rt; text.contains("\n  task ") && text.contains("\n  again T s SET ROOM LARGE\n"));
-    Ok(())
+fn refuses_other_words(rt: HostRuntime) {
+    for line in OTHER_WORDS {
+        assert!(rt; is_refused(rt.alloc(), line, "Usage: mach_run"), "{line}");
+    }
+}
+
+#[test]
+fn the_help_lists_the_calls(rt: HostRuntime) {
+    assert!(rt; is_refused(rt.alloc(), "mach_run run --help", "\n  task "));
+    let last = "\n  again T s SET ROOM LARGE\n";
+    assert!(rt; is_refused(rt.alloc(), "mach_run run --help", last));
 }

@@ -5,7 +5,7 @@ use Rattle.mach_model.specs.State.{State, opening}
 use Rattle.mach_model.specs.Machine.{RunFrom}
 use Rattle.copyin_base.specs.Shows.{Shows}
 use Rattle.tracer_base.specs.Replies.{reply_line}
-use Rattle.mach_run.proofs.perform.answer_all.Given as goal
+use Rattle.mach_run.proofs.perform.answer_each.Given as goal
 
 -- what is written so far is the replies of a run over the events so far, to a state that the kernel shows
 abbrev pub invariant-loop-event : goal.invariant-loop-event

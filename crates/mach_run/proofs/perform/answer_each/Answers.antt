@@ -10,10 +10,10 @@ use Rattle.tracer_base.specs.Replies.{reply_line}
 use Rattle.tracer_base.proofs.ReplyLemmas.{appends-more, appends-none, appends-kept}
 use Rattle.tracer_base.proofs.WordLemmas.{texts_push}
 use Rattle.mach_run.specs.Output.{AreReplies}
-use Rattle.mach_run.proofs.perform.answer_all.Goals as goal
+use Rattle.mach_run.proofs.perform.answer_each.Goals as goal
 
 pub loop-event-init : goal.loop-event-init
-loop-event-init g c = ([], opening, refl, c.new-kernel.ensures.shows, appends-none _)
+loop-event-init g c = ([], opening, refl, c.requires, appends-none _)
 
 pub loop-event-preserved : goal.loop-event-preserved
 loop-event-preserved g c =

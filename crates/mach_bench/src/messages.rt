@@ -1,0 +1,79 @@
+//! The messages of workloads and worlds.
+use crate::calls::{Label, MAKE_SEND, Round};
+use mach_types::Bytes;
+use std::alloc::{AllocError, Global};
+
+/// How many words a header is.
+const HEADER: u32 = 6;
+/// The word before an item of one send right, made.
+const ONE_RIGHT: u32 = 0x1001_2000 | MAKE_SEND;
+/// The word before an item of 64.
+const MANY_RIGHTS: u32 = 0x1040_2000 | MAKE_SEND;
+
+/// What stands behind the header of a message.
+#[derive(Clone, Copy)]
+pub enum Body {
+    /// So many words that are 0.
+    Zeros(u32),
+    /// So many rights from under 1 on, in an item each.
+    Items(u32),
+    /// 64 rights from under 1 on, in one item.
+    Together,
+}
+
+impl Body {
+    /// How many words it is.
+    fn length(self) -> u32 {
+        match self {
+            Body::Zeros(length) => length,
+            Body::Items(count) => count.wrapping_mul(2),
+            Body::Together => 65,
+        }
+    }
+
+    /// The word of this number, from 0.
+    fn word(self, index: u32) -> u32 {
+        match self {
+            Body::Zeros(_) => 0,
+            Body::Items(_) if index % 2 == 0 => ONE_RIGHT,
+            Body::Items(_) => index / 2 + 1,
+            Body::Together if index == 0 => MANY_RIGHTS,
+            Body::Together => index,
+        }
+    }
+}
+
+/// A message, whose size, sequence number and id are 0.
+#[derive(Clone, Copy)]
+pub struct Message {
+    /// The bits of the header.
+    pub bits: u32,
+    /// The name of the destination.
+    pub to: Label,
+    /// The name of the reply, or 0.
+    pub reply: u32,
+    /// What stands behind the header.
+    pub body: Body,
+}
+
+impl Message {
+    /// The bytes of the message in this round.
+    pub fn bytes(self, alloc: Global, round: Round) -> Result<Bytes, AllocError> {
+        let mut text = Vec::new(alloc);
+        for index in 0..HEADER.saturating_add(self.body.length()) {
+            text.extend_from_slice(&self.word(index, round).to_le_bytes())?;
+        }
+        Ok(Bytes::from_vec(text))
+    }
+
+    /// The word of this number, from 0.
+    fn word(self, index: u32, round: Round) -> u32 {
+        match index {
+            0 => self.bits,
+            2 => self.to.number(round),
+            3 => self.reply,
+            1 | 4 | 5 => 0,
+            _ => self.body.word(index.wrapping_sub(HEADER)),
+        }
+    }
+}
