@@ -21,7 +21,7 @@ use Rattle.copyin_base.specs.Worlds.{WorldView}
 use Rattle.copyin_base.proofs.Acting.{refused}
 use Rattle.copyin_base.proofs.Spares.{keeps_refl, keeps_same}
 use Rattle.kernel_core.specs.Send.{UsesSlot}
-use Rattle.kernel_core.specs.Transfer.{MakesSlots}
+use Rattle.kernel_core.specs.Room.{MakesSlots}
 use Rattle.kernel_core.specs.Wanted.{memory_code, WantsMemory, Wanted, Spares, answer, Performs}
 
 -- ---- codes

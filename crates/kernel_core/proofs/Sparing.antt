@@ -39,7 +39,8 @@ use Rattle.copyout.proofs.Slots.{put_unused, mark_unused}
 use Rattle.kernel_core.specs.declared.transfer.Handed.{Handed}
 use Rattle.kernel_core.specs.declared.transfer.TaskName.{TaskName}
 use Rattle.kernel_core.specs.Receive.{named_guards, given_by, FreesSlot}
-use Rattle.kernel_core.specs.Transfer.{under_guards, out_guards, names_needed, slots_needed, MayInsert, MayExtract, IsRoomier, MakesSlots}
+use Rattle.kernel_core.specs.Transfer.{under_guards, out_guards, names_needed, MayInsert, MayExtract}
+use Rattle.kernel_core.specs.Room.{slots_needed, IsRoomier, MakesSlots}
 use Rattle.kernel_core.specs.Send.{slotted}
 use Rattle.kernel_core.specs.Wanted.{WantsToInsert, WantsToExtract, Spares}
 

@@ -47,7 +47,8 @@ use Rattle.copyout.proofs.Slots.{put_slots, mark_slots}
 use Rattle.kernel_core.specs.declared.transfer.Going.{Going}
 use Rattle.kernel_core.specs.declared.transfer.Handed.{Handed}
 use Rattle.kernel_core.specs.declared.transfer.TaskName.{TaskName}
-use Rattle.kernel_core.specs.Transfer.{CanGo, WantsName, port_under, going_from, names_needed, slots_needed, MayInsert, MayExtract, ReadiesInsert, ReadiesExtract, IsRoomier, left_at, names_in, fewer_if, names_left, rights_then, under_guards, out_guards, insert_later, extract_later}
+use Rattle.kernel_core.specs.Transfer.{CanGo, WantsName, port_under, going_from, names_needed, MayInsert, MayExtract, left_at, names_in, fewer_if, names_left, rights_then, under_guards, out_guards, insert_later, extract_later}
+use Rattle.kernel_core.specs.Room.{slots_needed, ReadiesInsert, ReadiesExtract, IsRoomier}
 use Rattle.kernel_core.proofs.Going.{usable_name, insert_good, extract_good}
 use Rattle.kernel_core.proofs.Judged.{lies, lives, copied_in, sends_are, few, none_inserted, first_inserted, none_extracted, first_extracted}
 use Rattle.kernel_core.proofs.Left.{Left, is_left, went_world, went_left, can_copy}

@@ -1,5 +1,6 @@
 pub mod Answers
 pub mod Send
 pub mod Transfer
+pub mod Room
 pub mod Receive
 pub mod Wanted

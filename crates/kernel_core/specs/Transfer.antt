@@ -1,5 +1,5 @@
 -- Handing a right from a task to another, in the tables: what goes, what is left then, and what refuses it there.
-use Rattle.std.specs.Prelude.{◌≡◌, ◌≢◌, ℕ, ◌+◌, ◌-◌, ◌<◌, ◌≤◌, ◌⊎◌, Bool, [], ◌∷◌, Option, Some, None, if◌then◌else◌, ◌==◌, ◌&&◌, max, MatchBool}
+use Rattle.std.specs.Prelude.{◌≡◌, ◌≢◌, ℕ, ◌+◌, ◌-◌, ◌<◌, ◌≤◌, ◌⊎◌, Bool, [], ◌∷◌, Option, Some, None, if◌then◌else◌, ◌==◌, ◌&&◌, MatchBool}
 use Rattle.std.specs.Option.{option_and_then}
 use Rattle.std.specs.FinMap as map
 use Rattle.mach_types.specs.declared.codes.KernReturn.{KernReturn}
@@ -14,16 +14,12 @@ use Rattle.name_space.specs.declared.Entry.{Entry}
 use Rattle.name_space.specs.Entry.{port_named, send_references}
 use Rattle.name_space.specs.Names.{SpaceView}
 use Rattle.copyin_base.specs.declared.message.Mark.TheVariants as mark
-use Rattle.copyin_base.specs.Changes.{MakesRoom, KeepsPlace, SameButRoom}
-use Rattle.copyin_base.specs.Wanted.{room_of, KeepsSpares}
 use Rattle.copyin_base.specs.Worlds.{WorldView, entry_at, space_at}
 use Rattle.copyin.specs.Copies.{copied_from}
 use Rattle.copyin.specs.Judging.{made_by_mark}
-use Rattle.copyin.specs.Slots.{once_made_by_mark}
 use Rattle.kernel_core.specs.declared.transfer.Going.{Going}
 use Rattle.kernel_core.specs.declared.transfer.Handed.{Handed}
 use Rattle.kernel_core.specs.declared.transfer.TaskName.{TaskName}
-use Rattle.kernel_core.specs.Send.{slotted}
 
 -- ---- the right that goes
 
@@ -117,10 +113,6 @@ going_from from handed left = record { from = from.task; name = from.name; given
 abbrev pub names_needed : Handed → ℕ
 names_needed handed = if handed.is_new then 1 else 0
 
--- how many slots more it needs: one where it is a send-once right that is made
-abbrev pub slots_needed : Handed → ℕ
-slots_needed handed = once_made_by_mark handed.given (mark.Port handed.port)
-
 -- Where the kernel chooses the name, the right wants one of its own.
 abbrev pub WantsName : WorldView → (task : ℕ) → Going → Type 0
 WantsName w task g = (kind_sent g.given ≡ send_once) ⊎ ((n : ℕ) → port_under (left_at w task g n) ≢ Some g.port)
@@ -140,28 +132,3 @@ pub record MayExtract (w : WorldView) (from : TaskName) (number to : ℕ) (hande
   pub goes : CanGo w number (going_from from handed left)
   pub unrefused : NoneHolds (extract_later w to (going_from from handed left))
   pub is_new : MatchBool handed.is_new (WantsName w to (going_from from handed left)) (¬ (WantsName w to (going_from from handed left)))
-
--- ---- the memory that is made for it
-
--- A place is kept for its name, where that is new, and a slot made, where it needs one.
-pub record ReadiesInsert (old : WorldView) (to : TaskName) (handed : Handed) (new : WorldView) : Type 0 where
-  pub mid : WorldView
-  pub placed : MatchBool handed.is_new (KeepsPlace old to.task to.name mid) (mid ≡ old)
-  pub slot : new ≡ slotted mid (slots_needed handed)
-
--- Room is made for its name, where it needs one, and a slot.
-pub record ReadiesExtract (old : WorldView) (to : ℕ) (handed : Handed) (new : WorldView) : Type 0 where
-  pub mid : WorldView
-  pub roomy : MakesRoom old to (names_needed handed) mid
-  pub slot : new ≡ slotted mid (slots_needed handed)
-
--- Nothing but room for a name was made.
-pub record IsRoomier (old new : WorldView) : Type 0 where
-  pub same : SameButRoom old new
-  pub keeps : KeepsSpares old new
-
--- Room for fresh names grows by one name at most; slots are made only where fewer are spare than there are send-once rights then that no
--- queued message goes by.
-pub record MakesSlots (old new : WorldView) : Type 0 where
-  pub rooms : (task : ℕ) → room_of new task ≤ max (room_of old task) 1
-  pub slots : new.ports.spare ≤ max old.ports.spare new.ledger.unused

@@ -2,7 +2,7 @@ use Rattle.std.proofs.Common.{refl}
 use Rattle.std.proofs.lemmas.Result.{err_from_is_err_and}
 use Rattle.copyin_base.proofs.Roomier.{room_made}
 use Rattle.copyin_base.proofs.Spares.{keeps_refl}
-use Rattle.kernel_core.specs.Transfer.{slots_needed}
+use Rattle.kernel_core.specs.Room.{slots_needed}
 use Rattle.kernel_core.proofs.Transferring.{extract_short_of, extracts_copies, extracts_gives, extract_done}
 use Rattle.kernel_core.proofs.Sparing.{wants_extract, ready_keeps, extract_keeps, roomier_slots}
 use Rattle.kernel_core.proofs.transfer.extract.Goals as goal

@@ -1,7 +1,7 @@
 use Rattle.std.proofs.lemmas.Result.{err_from_is_err_and}
 use Rattle.std.proofs.Common.{refl}
 use Rattle.copyin_base.proofs.Spares.{keeps_refl}
-use Rattle.kernel_core.specs.Transfer.{slots_needed}
+use Rattle.kernel_core.specs.Room.{slots_needed}
 use Rattle.kernel_core.proofs.Going.{usable_name}
 use Rattle.kernel_core.proofs.Transferring.{insert_short_of, inserts_copies, inserts_puts, insert_done}
 use Rattle.kernel_core.proofs.Sparing.{wants_insert, placed_keeps, placed_room, insert_keeps, roomier_slots}

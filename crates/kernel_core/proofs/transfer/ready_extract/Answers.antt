@@ -3,7 +3,7 @@ use Rattle.std.proofs.lemmas.Result.{err_from_is_err_and}
 use Rattle.copyin_base.specs.Changes.{MakesRoom}
 use Rattle.copyin_base.specs.Wanted.{LacksRoomFor}
 use Rattle.copyin_base.proofs.Roomier.{room_made}
-use Rattle.kernel_core.specs.Transfer.{slots_needed}
+use Rattle.kernel_core.specs.Room.{slots_needed}
 use Rattle.kernel_core.proofs.Results.{if_err, on_ok, on_err}
 use Rattle.kernel_core.proofs.Sparing.{still_lacks, none_made, made_roomier}
 use Rattle.kernel_core.proofs.transfer.ready_extract.Goals as goal

@@ -1,6 +1,6 @@
 use Rattle.std.proofs.Common.{inl, inr}
 use Rattle.std.proofs.lemmas.Result.{err_from_is_err_and}
-use Rattle.kernel_core.specs.Transfer.{slots_needed}
+use Rattle.kernel_core.specs.Room.{slots_needed}
 use Rattle.kernel_core.proofs.Results.{if_err, on_ok, on_err}
 use Rattle.kernel_core.proofs.Sparing.{still_lacks, none_made, placed_room, placed_roomier}
 use Rattle.kernel_core.proofs.transfer.ready_insert.Goals as goal
