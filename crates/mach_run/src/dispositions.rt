@@ -7,11 +7,8 @@ use std::alloc::Global;
 // under 4 a send-once right, under 5 a dead name, under 6 a port set, and under 7 a receive right by which
 // all is sent.
 const NAMES: (&str, &str) = (
-    "task\n\
-    task\n\
-    task\n\
-    alloc 0 1\n\
-    alloc 0 1\n\
+    "task\ntask\ntask\n\
+    alloc 0 1\nalloc 0 1\n\
     insert 0 2 0 2 20\n\
     alloc 1 1\n\
     insert 0 3 1 1 20\n\
@@ -20,11 +17,8 @@ const NAMES: (&str, &str) = (
     alloc 0 4\n\
     alloc 0 3\n\
     alloc 0 1\n",
-    "task 0\n\
-    task 1\n\
-    task 2\n\
-    name 1\n\
-    name 2\n\
+    "task 0\ntask 1\ntask 2\n\
+    name 1\nname 2\n\
     code 00000000\n\
     name 1\n\
     code 00000000\n\

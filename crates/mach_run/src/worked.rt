@@ -8,13 +8,11 @@ use tracer_base::{read_script, write_reply_line};
 
 // The smallest message, and the status that it leaves.
 const SMALLEST_MESSAGE: (&str, &str) = (
-    "task\n\
-    alloc 0 1\n\
+    "task\nalloc 0 1\n\
     send 0 140000001800000001000000000000000000000007000000\n\
     recv 0 1 24 0\n\
     status 0 1\n",
-    "task 0\n\
-    name 1\n\
+    "task 0\nname 1\n\
     code 00000000\n\
     message 001100001800000000000000010000000000000007000000\n\
     status 0 1 1 5 0 0 0 0 0\n",
@@ -22,27 +20,23 @@ const SMALLEST_MESSAGE: (&str, &str) = (
 
 // A send-once right for a port of the sender, in a short descriptor.
 const SEND_ONCE_RIGHT: (&str, &str) = (
-    "task\n\
-    alloc 0 1\n\
+    "task\nalloc 0 1\n\
     send 0 1400008020000000010000000000000000000000080000001520011001000000\n\
     recv 0 1 32 0\n",
-    "task 0\n\
-    name 1\n\
+    "task 0\nname 1\n\
     code 00000000\n\
     message 0011008020000000000000000100000000000000080000001220011002000000\n",
 );
 
 // The same in the long descriptor; and one whose short fields are not zero.
 const LONG_DESCRIPTOR: (&str, &str) = (
-    "task\n\
-    alloc 0 1\n\
+    "task\nalloc 0 1\n\
     send 0 14000080280000000100000000000000000000000800000000000030150020000100000\
     001000000\n\
     recv 0 1 40 0\n\
     send 0 14000080280000000100000000000000000000000800000000000130150020000100000\
     001000000\n",
-    "task 0\n\
-    name 1\n\
+    "task 0\nname 1\n\
     code 00000000\n\
     message 0011008028000000000000000100000000000000080000000000003012002000010000\
     0002000000\n\
@@ -51,13 +45,11 @@ const LONG_DESCRIPTOR: (&str, &str) = (
 
 // An item of no data; and data past the end.
 const ITEM_OF_NO_DATA: (&str, &str) = (
-    "task\n\
-    alloc 0 1\n\
+    "task\nalloc 0 1\n\
     send 0 14000080200000000100000000000000000000000800000008080010\n\
     recv 0 1 28 0\n\
     send 0 1400008020000000010000000000000000000000080000000808051041424344\n",
-    "task 0\n\
-    name 1\n\
+    "task 0\nname 1\n\
     code 00000000\n\
     message 001100801c0000000000000001000000000000000800000008080010\n\
     code 10000008\n",
@@ -111,8 +103,7 @@ const MOVED_REPLY: (&str, &str) = (
 
 // A queue at its limit, and a message by a send-once right beyond it.
 const QUEUE_LIMIT: (&str, &str) = (
-    "task\n\
-    alloc 0 1\n\
+    "task\nalloc 0 1\n\
     send 0 140000001800000001000000000000000000000007000000\n\
     send 0 140000001800000001000000000000000000000007000000\n\
     send 0 140000001800000001000000000000000000000007000000\n\
@@ -121,8 +112,7 @@ const QUEUE_LIMIT: (&str, &str) = (
     send 0 140000001800000001000000000000000000000007000000\n\
     send 0 150000001800000001000000000000000000000007000000\n\
     status 0 1\n",
-    "task 0\n\
-    name 1\n\
+    "task 0\nname 1\n\
     code 00000000\n\
     code 00000000\n\
     code 00000000\n\
@@ -135,13 +125,11 @@ const QUEUE_LIMIT: (&str, &str) = (
 
 // Words that are no names.
 const NULL_AND_DEAD_WORDS: (&str, &str) = (
-    "task\n\
-    alloc 0 1\n\
+    "task\nalloc 0 1\n\
     send 0 1400008024000000010000000000000000000000070000001420021000000000fffffff\
     f\n\
     recv 0 1 36 0\n",
-    "task 0\n\
-    name 1\n\
+    "task 0\nname 1\n\
     code 00000000\n\
     message 0011008024000000000000000100000000000000070000001120021000000000ffffff\
     ff\n",
@@ -149,8 +137,7 @@ const NULL_AND_DEAD_WORDS: (&str, &str) = (
 
 // A right to answer with, and the answer by it.
 const ANSWERED: (&str, &str) = (
-    "task\n\
-    alloc 0 1\n\
+    "task\nalloc 0 1\n\
     alloc 0 1\n\
     send 0 141500001800000001000000020000000000000007000000\n\
     recv 0 1 24 0\n\
@@ -158,8 +145,7 @@ const ANSWERED: (&str, &str) = (
     send 0 120000001800000003000000000000000000000008000000\n\
     type 0 3\n\
     recv 0 2 24 0\n",
-    "task 0\n\
-    name 1\n\
+    "task 0\nname 1\n\
     name 2\n\
     code 00000000\n\
     message 121100001800000003000000010000000000000007000000\n\
@@ -188,8 +174,7 @@ const MOST_REFERENCES: (&str, &str) = (
 
 // The calls on a task's names and on a port's attributes.
 const NAMES_AND_ATTRIBUTES: (&str, &str) = (
-    "task\n\
-    alloc 0 1\n\
+    "task\nalloc 0 1\n\
     alloc 0 4\n\
     modrefs 0 2 4 2\n\
     refs 0 2 4\n\
@@ -207,8 +192,7 @@ const NAMES_AND_ATTRIBUTES: (&str, &str) = (
     send 0 140000001800000001000000000000000000000007000000\n\
     status 0 1\n\
     dealloc 0 1\n",
-    "task 0\n\
-    name 1\n\
+    "task 0\nname 1\n\
     name 2\n\
     code 00000000\n\
     refs 3\n\
@@ -244,8 +228,7 @@ const SCARCE_NAMES: (&str, &str) = (
 
 // A port in a set is received from by the set's name alone.
 const MEMBER_OF_A_SET: (&str, &str) = (
-    "task\n\
-    alloc 0 1\n\
+    "task\nalloc 0 1\n\
     alloc 0 3\n\
     move 0 1 2\n\
     recv 0 1 24 0\n\
@@ -254,8 +237,7 @@ const MEMBER_OF_A_SET: (&str, &str) = (
     recv 0 2 24 0\n\
     move 0 1 0\n\
     move 0 1 0\n",
-    "task 0\n\
-    name 1\n\
+    "task 0\nname 1\n\
     name 2\n\
     code 00000000\n\
     code 1000400a\n\
@@ -268,8 +250,7 @@ const MEMBER_OF_A_SET: (&str, &str) = (
 
 // A receive that waits while its port goes into a set, and one that waits while its set goes.
 const SETS_THAT_CHANGE: (&str, &str) = (
-    "task\n\
-    alloc 0 1\n\
+    "task\nalloc 0 1\n\
     alloc 0 1\n\
     alloc 0 3\n\
     recv 0 1 24 0\n\
@@ -284,8 +265,7 @@ const SETS_THAT_CHANGE: (&str, &str) = (
     destroy 0 3\n\
     again 0 s 0 24 0\n\
     recv 0 1 24 0\n",
-    "task 0\n\
-    name 1\n\
+    "task 0\nname 1\n\
     name 2\n\
     name 3\n\
     empty p 0\n\
@@ -339,8 +319,7 @@ const MANY_RIGHTS: (&str, &str) = (
 );
 
 // A set of which two members have a message each: they come in either order, and then there is none.
-const READY_MEMBERS: &str = "task\n\
-    alloc 0 1\n\
+const READY_MEMBERS: &str = "task\nalloc 0 1\n\
     alloc 0 1\n\
     alloc 0 3\n\
     move 0 1 3\n\
