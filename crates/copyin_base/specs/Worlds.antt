@@ -30,7 +30,7 @@ world_code space ports ledger sets =
 abbrev pub no_world : WorldView
 no_world = record {
   spaces = [];
-  ports = record { ports = map.empty; ready = map.empty; made = 0; spare = 0 };
+  ports = record { ports = map.empty; ready = map.empty; made = 0; spare = 0; destroyed = [] };
   ledger = record { counts = map.empty; total = 0; unused = 0 };
   sets = no_sets;
 }

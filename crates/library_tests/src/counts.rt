@@ -65,12 +65,9 @@ fn all_go(ledger: &mut Ledger, port: PortId) -> bool {
     counts.send_once == 0 && ledger.total() == 0 && ledger.counts(port).is_none()
 }
 
-fn enter(ledger: &mut Ledger, port: PortId) -> bool {
-    ledger.counts(port).is_none() && ledger.enter(port).is_ok()
-}
-
 fn are_counted(ledger: &mut Ledger, port: PortId) -> bool {
-    enter(ledger, port)
+    ledger.counts(port).is_none()
+        && ledger.enter(port).is_ok()
         && all_are_made(ledger, port)
         && once_rights_go(ledger, port)
         && all_go(ledger, port)

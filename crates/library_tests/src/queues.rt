@@ -1,4 +1,4 @@
-//! Ports, their queues, and the members of sets that are ready. Ports and sets stand by number.
+//! Ports by number: their queues, destroyed messages, and the members of sets that are ready.
 use mach_types::{PortId, SetId, TaskId};
 use port::{Message, Ports};
 use port_set::{disband, move_member, ready_member};
@@ -13,19 +13,14 @@ impl Message for Note {
     }
 }
 
-fn next_id(ports: &Ports<Note>) -> Option<u64> {
-    if ports.is_exhausted() {
-        return None;
-    }
-    Some(ports.next_id().number())
-}
-
+/// Makes a port, and answers its number where that is the one that was told before.
 fn allocate(ports: &mut Ports<Note>) -> Option<u64> {
     if ports.is_exhausted() {
         return None;
     }
+    let next = ports.next_id();
     let port = ports.allocate(TaskId::new(0)).ok()?;
-    Some(port.number())
+    (port == next).then_some(port.number())
 }
 
 fn remove(ports: &mut Ports<Note>, port: u64) -> bool {
@@ -47,28 +42,24 @@ fn post(ports: &mut Ports<Note>, port: u64, says: u32) -> bool {
     is_room
 }
 
-fn front(ports: &Ports<Note>, port: u64) -> Option<u32> {
-    let note = ports.front(PortId::new(port))?;
-    Some(note.0)
-}
-
 fn dequeue(ports: &mut Ports<Note>, port: u64) -> Option<u32> {
-    let note = ports.dequeue(PortId::new(port))?;
-    Some(note.0)
+    Some(ports.dequeue(PortId::new(port))?.0)
 }
 
 fn take(ports: &mut Ports<Note>, port: u64) -> Option<u32> {
-    let note = ports.take(PortId::new(port))?;
-    Some(note.0)
+    Some(ports.take(PortId::new(port))?.0)
+}
+
+fn take_destroyed(ports: &mut Ports<Note>) -> Option<u32> {
+    Some(ports.take_destroyed()?.0)
 }
 
 fn set_limit(ports: &mut Ports<Note>, port: u64, limit: u32) {
     let port = PortId::new(port);
-    let Some(mut attributes) = ports.attributes(port) else {
-        return;
-    };
-    attributes.limit = limit;
-    ports.set_attributes(port, attributes);
+    if let Some(mut attributes) = ports.attributes(port) {
+        attributes.limit = limit;
+        ports.set_attributes(port, attributes);
+    }
 }
 
 /// A port's limit, how many send rights were made from its receive right, and its sequence number.
@@ -89,8 +80,7 @@ fn join(ports: &mut Ports<Note>, port: u64, set: u64) -> bool {
 }
 
 fn ready(ports: &Ports<Note>, set: u64) -> Option<u64> {
-    let port = ready_member(ports, SetId::new(set))?;
-    Some(port.number())
+    Some(ready_member(ports, SetId::new(set))?.number())
 }
 
 /// Whether two ports are made, and two notes find slots, and no third one.
@@ -108,7 +98,7 @@ fn are_posted(ports: &mut Ports<Note>) -> bool {
 
 /// Whether the notes come out in the order that they came in, and their slots are used again.
 fn are_taken(ports: &mut Ports<Note>) -> bool {
-    front(ports, 0) == Some(7)
+    ports.front(PortId::new(0)).is_some_and(|note| note.0 == 7)
         && dequeue(ports, 0) == Some(7)
         && ports.spare() == 1
         && post(ports, 1, 9)
@@ -129,16 +119,30 @@ fn is_gone(ports: &mut Ports<Note>) -> bool {
     remove(ports, 0)
         && !ports.has_room(PortId::new(0))
         && counts(ports, 0).is_none()
-        && next_id(ports) == Some(2)
+        && ports.len() == 1
         && allocate(ports) == Some(2)
         && counts(ports, 0).is_none()
+}
+
+/// Whether the notes of two ports are destroyed in turn, and come out in that order.
+fn are_destroyed(ports: &mut Ports<Note>) -> bool {
+    post(ports, 1, 4)
+        && post(ports, 2, 5)
+        && ports.destroy_first(PortId::new(1))
+        && !ports.destroy_first(PortId::new(1))
+        && ports.destroy_first(PortId::new(2))
+        && ports.last_destroyed().is_some_and(|note| note.0 == 5)
+        && take_destroyed(ports) == Some(4)
+        && post(ports, 2, 6)
+        && take_destroyed(ports) == Some(5)
+        && take_destroyed(ports).is_none()
 }
 
 #[test]
 fn messages_come_out_in_order(rt: HostRuntime) {
     let mut ports = Ports::new(rt.alloc());
     assert!(rt; are_posted(&mut ports) && are_taken(&mut ports) && ports.spare() == 2);
-    assert!(rt; is_counted(&mut ports) && is_gone(&mut ports));
+    assert!(rt; is_counted(&mut ports) && is_gone(&mut ports) && are_destroyed(&mut ports));
 }
 
 fn is_ready(ports: &mut Ports<Note>) -> bool {

@@ -23,10 +23,11 @@ module _ {M : Type 0} where
   nothing_at : (s : Slab (Record M)) → s.slots ≡ [] → (k : ℕ) (r : Record M) → get s k ≡ Some r → ⊥
   nothing_at s e k r h = some_or_none r _ h (ap (λ (l : List (Option (Record M))). get_or l k None) e)
 
-  pub sound-empty : (s : Slab (Record M)) (keys : Keyed) (spare : List M) → s.slots ≡ [] → keys ≡ map.empty → spare ≡ [] → IsSound s keys (Some 0) spare 0
-  sound-empty s keys spare e none g =
+  pub sound-empty : (s : Slab (Record M)) (keys : Keyed) (spare destroyed : List M) → s.slots ≡ [] → keys ≡ map.empty → spare ≡ [] → destroyed ≡ [] → IsSound s keys (Some 0) spare destroyed 0
+  sound-empty s keys spare destroyed e none g d =
       let no_sum : sum_by queued_in s.slots ≡ 0 = ap (λ (l : List (Option (Record M))). sum_by queued_in l) e in
       let no_spare : length spare ≡ 0 = ap length g in
+      let none_destroyed : length destroyed ≡ 0 = ap length d in
       record {
         indexed = record {
           found = λ q k h. absurd (nothing_in _ none q k h);
@@ -43,19 +44,19 @@ module _ {M : Type 0} where
 
   -- ---- with one port more
 
-  module _ (s t : Slab (Record M)) (keys new_keys : Keyed) (next then : Option ℕ) (spare : List M) (slots : ℕ) (so : IsSound s keys next spare slots)
-      {turns : ReadyLists} (v : PortsView M) (view_is : record { ports = ports_of (get s) keys; ready = turns; made = made_of next; spare = length spare } ≡ v)
+  module _ (s t : Slab (Record M)) (keys new_keys : Keyed) (next then : Option ℕ) (spare destroyed : List M) (slots : ℕ) (so : IsSound s keys next spare destroyed slots)
+      {turns : ReadyLists} (v : PortsView M) (view_is : record { ports = ports_of (get s) keys; ready = turns; made = made_of next; spare = length spare; destroyed = destroyed } ≡ v)
       (key : ℕ) (a : Record M) (vacant : get s key ≡ None) (changed : get t key ≡ Some a) (others : (other : ℕ) → other ≢ key → get t other ≡ get s other)
       (id : a.id ≡ made_of next) (quiet : length a.queue ≡ 0)
       (put : new_keys ≡ map.insert keys (made_of next) key) (more : made_of then ≡ made_of next + 1) (fits : (n : ℕ) → then ≡ Some n → n < 2 ^ 64) where
     turns-came : Turns (get s) (get t) key (Some a)
     turns-came = record { changed = changed; others = others }
 
-    pub sound-came : IsSound t new_keys then spare slots
+    pub sound-came : IsSound t new_keys then spare destroyed slots
     sound-came = record {
       indexed = subst (λ n. IsIndexed (get t) new_keys n) (sym more) (subst (λ (m : Keyed). IsIndexed (get t) m (made_of next + 1)) (sym put)
           (indexed-came (get s) (get t) keys (made_of next) so.indexed key a vacant turns-came id));
-      counted = ap (λ n. n + length spare) (sum_same t.slots s.slots (λ k. elim (equal_or_not k key) [
+      counted = ap (λ n. n + length spare + length destroyed) (sum_same t.slots s.slots (λ k. elim (equal_or_not k key) [
         | inl e ↦ ap (λ b. queued_in (get t b)) e ∙ ap queued_in changed ∙ quiet ∙ sym (ap (λ b. queued_in (get s b)) e ∙ ap queued_in vacant)
         | inr d ↦ ap queued_in (others k d)
       ])) ∙ so.counted;
@@ -63,31 +64,31 @@ module _ {M : Type 0} where
       next_fits = fits;
     }
 
-    pub view-came : (now : ReadyLists) → now ≡ turns → ◌≡◌ {A = PortsView M} record { ports = ports_of (get t) new_keys; ready = now; made = made_of then; spare = length spare }
-        record { ports = map.insert v.ports v.made (port_of a); ready = v.ready; made = v.made + 1; spare = v.spare }
+    pub view-came : (now : ReadyLists) → now ≡ turns → ◌≡◌ {A = PortsView M} record { ports = ports_of (get t) new_keys; ready = now; made = made_of then; spare = length spare; destroyed = destroyed }
+        record { ports = map.insert v.ports v.made (port_of a); ready = v.ready; made = v.made + 1; spare = v.spare; destroyed = v.destroyed }
     view-came now same =
-        let mk : map.FinMap nat_cmp (PortView M) → ℕ → PortsView M = λ ports made. record { ports = ports; ready = turns; made = made; spare = length spare } in
-        ap (λ r. let w : PortsView M = record { ports = ports_of (get t) new_keys; ready = r; made = made_of then; spare = length spare } in w) same ∙
+        let mk : map.FinMap nat_cmp (PortView M) → ℕ → PortsView M = λ ports made. record { ports = ports; ready = turns; made = made; spare = length spare; destroyed = destroyed } in
+        ap (λ r. let w : PortsView M = record { ports = ports_of (get t) new_keys; ready = r; made = made_of then; spare = length spare; destroyed = destroyed } in w) same ∙
         ap (λ (m : Keyed). mk (ports_of (get t) m) (made_of then)) put
         ∙ ap (λ ports. mk ports (made_of then)) (ports-came (get s) (get t) keys (made_of next) so.indexed key a vacant turns-came id)
         ∙ ap (mk (map.insert (ports_of (get s) keys) (made_of next) (port_of a))) more
-        ∙ ap (λ (b : PortsView M). let c : PortsView M = record { ports = map.insert b.ports b.made (port_of a); ready = b.ready; made = b.made + 1; spare = b.spare } in c) view_is
+        ∙ ap (λ (b : PortsView M). let c : PortsView M = record { ports = map.insert b.ports b.made (port_of a); ready = b.ready; made = b.made + 1; spare = b.spare; destroyed = b.destroyed } in c) view_is
 
   -- ---- with one port less
 
-  module _ (s t : Slab (Record M)) (keys new_keys : Keyed) (next : Option ℕ) (spare : List M) (slots : ℕ) (so : IsSound s keys next spare slots)
-      {turns : ReadyLists} (v : PortsView M) (view_is : record { ports = ports_of (get s) keys; ready = turns; made = made_of next; spare = length spare } ≡ v)
+  module _ (s t : Slab (Record M)) (keys new_keys : Keyed) (next : Option ℕ) (spare destroyed : List M) (slots : ℕ) (so : IsSound s keys next spare destroyed slots)
+      {turns : ReadyLists} (v : PortsView M) (view_is : record { ports = ports_of (get s) keys; ready = turns; made = made_of next; spare = length spare; destroyed = destroyed } ≡ v)
       (id key : ℕ) (r : Record M) (found : map.get keys id ≡ Some key) (here : get s key ≡ Some r) (quiet : length r.queue ≡ 0)
       (changed : get t key ≡ None) (others : (other : ℕ) → other ≢ key → get t other ≡ get s other)
       (out : new_keys ≡ map.remove keys id) where
     turns-went : Turns (get s) (get t) key None
     turns-went = record { changed = changed; others = others }
 
-    pub sound-went : IsSound t new_keys next spare slots
+    pub sound-went : IsSound t new_keys next spare destroyed slots
     sound-went = record {
       indexed = subst (λ (m : Keyed). IsIndexed (get t) m (made_of next)) (sym out)
           (indexed-went (get s) (get t) keys (made_of next) so.indexed id key found turns-went);
-      counted = ap (λ n. n + length spare) (sum_same t.slots s.slots (λ k. elim (equal_or_not k key) [
+      counted = ap (λ n. n + length spare + length destroyed) (sum_same t.slots s.slots (λ k. elim (equal_or_not k key) [
         | inl e ↦ ap (λ b. queued_in (get t b)) e ∙ ap queued_in changed ∙ sym (ap (λ b. queued_in (get s b)) e ∙ ap queued_in here ∙ quiet)
         | inr d ↦ ap queued_in (others k d)
       ])) ∙ so.counted;
@@ -95,14 +96,14 @@ module _ {M : Type 0} where
       next_fits = so.next_fits;
     }
 
-    pub view-went : (now : ReadyLists) → now ≡ turns → ◌≡◌ {A = PortsView M} record { ports = ports_of (get t) new_keys; ready = now; made = made_of next; spare = length spare }
-        record { ports = map.remove v.ports id; ready = v.ready; made = v.made; spare = v.spare }
+    pub view-went : (now : ReadyLists) → now ≡ turns → ◌≡◌ {A = PortsView M} record { ports = ports_of (get t) new_keys; ready = now; made = made_of next; spare = length spare; destroyed = destroyed }
+        record { ports = map.remove v.ports id; ready = v.ready; made = v.made; spare = v.spare; destroyed = v.destroyed }
     view-went now same =
-        let mk : map.FinMap nat_cmp (PortView M) → PortsView M = λ ports. record { ports = ports; ready = turns; made = made_of next; spare = length spare } in
-        ap (λ r. let w : PortsView M = record { ports = ports_of (get t) new_keys; ready = r; made = made_of next; spare = length spare } in w) same ∙
+        let mk : map.FinMap nat_cmp (PortView M) → PortsView M = λ ports. record { ports = ports; ready = turns; made = made_of next; spare = length spare; destroyed = destroyed } in
+        ap (λ r. let w : PortsView M = record { ports = ports_of (get t) new_keys; ready = r; made = made_of next; spare = length spare; destroyed = destroyed } in w) same ∙
         ap (λ (m : Keyed). mk (ports_of (get t) m)) out
         ∙ ap mk (ports-went (get s) (get t) keys (made_of next) so.indexed id key found turns-went)
-        ∙ ap (λ (b : PortsView M). let c : PortsView M = record { ports = map.remove b.ports id; ready = b.ready; made = b.made; spare = b.spare } in c) view_is
+        ∙ ap (λ (b : PortsView M). let c : PortsView M = record { ports = map.remove b.ports id; ready = b.ready; made = b.made; spare = b.spare; destroyed = b.destroyed } in c) view_is
 
 -- the count of identities once one more was given
 pub made_more : (o : Option ℕ) (n : ℕ) → SomeIff o (n + 1 < 2 ^ 64) (n + 1) → n < 2 ^ 64 → made_of o ≡ n + 1

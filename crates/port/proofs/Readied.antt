@@ -137,8 +137,8 @@ module _ {M : Type 0} where
 
   -- ---- the first one
 
-  module _ (s : Slab (Record M)) (keys : Keyed) (next : Option ℕ) (spare : List M) (slots : ℕ) (so : IsSound s keys next spare slots)
-      {turns : ReadyLists} (v : PortsView M) (view_is : record { ports = ports_of (get s) keys; ready = turns; made = made_of next; spare = length spare } ≡ v)
+  module _ (s : Slab (Record M)) (keys : Keyed) (next : Option ℕ) (spare destroyed : List M) (slots : ℕ) (so : IsSound s keys next spare destroyed slots)
+      {turns : ReadyLists} (v : PortsView M) (view_is : record { ports = ports_of (get s) keys; ready = turns; made = made_of next; spare = length spare; destroyed = destroyed } ≡ v)
       (ready : ListsView) (readied : IsReadied (get s) ready) (set : ℕ) where
     pub first_held : (key : ℕ) → slice_get (list_of ready set) 0 ≡ Some key → Contains (list_of ready set) key
     first_held key e = (0, slice_get_within (list_of ready set) 0 key e, get_or_from_slice_get (list_of ready set) 0 key key e)
@@ -148,7 +148,7 @@ module _ {M : Type 0} where
         let is = ready_is r.queue r.attributes.set set ((readied.stands key r here).only set (first_held key e)) in
         record {
           view = port_of r;
-          there = live_port s keys next spare slots so v view_is r.id key r (so.indexed.held key r here) here;
+          there = live_port s keys next spare destroyed slots so v view_is r.id key r (so.indexed.held key r here) here;
           member = is.0;
           some = is.1;
         }
@@ -163,9 +163,9 @@ module _ {M : Type 0} where
         empty_at : (id : ℕ) (p : PortView M) → map.get v.ports id ≡ Some p → p.attributes.set ≡ Some set → (ms : List M) → p.queue ≡ ms → length p.queue ≡ 0
         empty_at id p h member [] is = ap length is
         empty_at id p h member (m ∷ ms) is =
-            let key = live_at s keys next spare slots so v view_is id (ap is_some h) in
-            let r = record_at s keys next spare slots so v view_is id key.0 key.1 in
-            let same : p ≡ port_of r.0 = same_some p (port_of r.0) (sym h ∙ live_port s keys next spare slots so v view_is id key.0 r.0 key.1 r.1) in
+            let key = live_at s keys next spare destroyed slots so v view_is id (ap is_some h) in
+            let r = record_at s keys next spare destroyed slots so v view_is id key.0 key.1 in
+            let same : p ≡ port_of r.0 = same_some p (port_of r.0) (sym h ∙ live_port s keys next spare destroyed slots so v view_is id key.0 r.0 key.1 r.1) in
             let queue : r.0.queue ≡ m ∷ ms = sym (ap (λ (q : PortView M). q.queue) same) ∙ is in
             let in_set : r.0.attributes.set ≡ Some set = sym (ap (λ (q : PortView M). q.attributes.set) same) ∙ member in
             let ready_in : ready_set r.0 ≡ Some set = ap (λ l. ready_if l r.0.attributes.set) queue ∙ in_set in
@@ -183,7 +183,7 @@ module _ {M : Type 0} where
           record {
             given = subst (λ n. r.id < n) (ap (λ (b : PortsView M). b.made) view_is) (so.indexed.given r.id key found);
             view = port_of r;
-            there = live_port s keys next spare slots so v view_is r.id key r found here;
+            there = live_port s keys next spare destroyed slots so v view_is r.id key r found here;
             member = (membered.stands key r here).only set inside;
           }
 
@@ -192,9 +192,9 @@ module _ {M : Type 0} where
 
       member_key : (id : ℕ) (p : PortView M) → map.get v.ports id ≡ Some p → p.attributes.set ≡ Some set → (key : ℕ) × Contains (list_of members set) key × (id_in (get s key) ≡ id)
       member_key id p h member =
-          let key = live_at s keys next spare slots so v view_is id (ap is_some h) in
-          let r = record_at s keys next spare slots so v view_is id key.0 key.1 in
-          let same : p ≡ port_of r.0 = same_some p (port_of r.0) (sym h ∙ live_port s keys next spare slots so v view_is id key.0 r.0 key.1 r.1) in
+          let key = live_at s keys next spare destroyed slots so v view_is id (ap is_some h) in
+          let r = record_at s keys next spare destroyed slots so v view_is id key.0 key.1 in
+          let same : p ≡ port_of r.0 = same_some p (port_of r.0) (sym h ∙ live_port s keys next spare destroyed slots so v view_is id key.0 r.0 key.1 r.1) in
           let in_set : r.0.attributes.set ≡ Some set = sym (ap (λ (q : PortView M). q.attributes.set) same) ∙ member in
           (key.0, (membered.stands key.0 r.0 r.1).there set in_set, ap id_in r.1 ∙ r.2)
 
@@ -228,15 +228,15 @@ module _ {M : Type 0} where
 
   -- ---- the same ports, with more places
 
-  pub kept-capacity : (s t : Slab (Record M)) (keys : Keyed) (next : Option ℕ) (spare : List M) (slots : ℕ) (ready members : ListsView) → t ≡ record s { capacity = t.capacity } → IsKept s keys next spare slots ready members → IsKept t keys next spare slots ready members
-  kept-capacity s t keys next spare slots ready members e k = subst (λ (u : Slab (Record M)). IsKept u keys next spare slots ready members) (sym e) (record {
+  pub kept-capacity : (s t : Slab (Record M)) (keys : Keyed) (next : Option ℕ) (spare destroyed : List M) (slots : ℕ) (ready members : ListsView) → t ≡ record s { capacity = t.capacity } → IsKept s keys next spare destroyed slots ready members → IsKept t keys next spare destroyed slots ready members
+  kept-capacity s t keys next spare destroyed slots ready members e k = subst (λ (u : Slab (Record M)). IsKept u keys next spare destroyed slots ready members) (sym e) (record {
     sound = record { indexed = k.sound.indexed; counted = k.sound.counted; few = k.sound.few; next_fits = k.sound.next_fits };
     readied = record { stands = k.readied.stands; held = k.readied.held; room = k.readied.room };
     membered = record { stands = k.membered.stands; held = k.membered.held; room = k.membered.room };
   })
 
-  pub kept-room : (s : Slab (Record M)) (keys : Keyed) (next : Option ℕ) (spare : List M) (slots : ℕ) (ready members : ListsView) (items : ℕ) → ready.items ≤ items → IsKept s keys next spare slots ready members → IsKept s keys next spare slots (record ready { items = items }) members
-  kept-room s keys next spare slots ready members items more k = record {
+  pub kept-room : (s : Slab (Record M)) (keys : Keyed) (next : Option ℕ) (spare destroyed : List M) (slots : ℕ) (ready members : ListsView) (items : ℕ) → ready.items ≤ items → IsKept s keys next spare destroyed slots ready members → IsKept s keys next spare destroyed slots (record ready { items = items }) members
+  kept-room s keys next spare destroyed slots ready members items more k = record {
     sound = k.sound;
     readied = listed-same ready_set (get s) (get s) ready items k.readied (λ n. refl) more;
     membered = k.membered;

@@ -36,28 +36,43 @@ module _ {M : Type 0} where
         let one : queued_in (get_or s.slots key None) ≡ length r.queue = ap queued_in here in
         omega arith
 
-  module _ (s : Slab (Record M)) (keys : Keyed) (next : Option ℕ) (spare left : List M) (slots : ℕ) (so : IsSound s keys next spare slots)
-      {turns : ReadyLists} (v : PortsView M) (view_is : record { ports = ports_of (get s) keys; ready = turns; made = made_of next; spare = length spare } ≡ v)
-      (id key : ℕ) (r a : Record M) (found : map.get keys id ≡ Some key) (here : get s key ≡ Some r) (same : a.id ≡ r.id)
-      (balance : length a.queue + length left ≡ length r.queue + length spare) where
-    pub is_port : (p : PortView M) → map.get v.ports id ≡ Some p → p ≡ port_of r
-    is_port p h = same_some p (port_of r) (sym h ∙ sym (ap (λ (b : PortsView M). map.get b.ports id) view_is) ∙ port_at (get s) keys id key r found here)
+  -- ---- a port that changes, and slots that move
 
-    pub sound-set : IsSound (with_value s key a) keys next left slots
-    sound-set = record {
+  module _ (s : Slab (Record M)) (keys : Keyed) (next : Option ℕ) (spare left destroyed more : List M) (slots : ℕ) (so : IsSound s keys next spare destroyed slots)
+      {turns : ReadyLists} (v : PortsView M) (view_is : record { ports = ports_of (get s) keys; ready = turns; made = made_of next; spare = length spare; destroyed = destroyed } ≡ v)
+      (id key : ℕ) (r a : Record M) (found : map.get keys id ≡ Some key) (here : get s key ≡ Some r) (same : a.id ≡ r.id)
+      (balance : length a.queue + length left + length more ≡ length r.queue + length spare + length destroyed) where
+    pub sound-moved : IsSound (with_value s key a) keys next left more slots
+    sound-moved = record {
       indexed = indexed-changed (get s) (get (with_value s key a)) keys (made_of next) so.indexed id key r a found here (turns-set s key r a here) same;
       counted = let e = so.counted in let f = sum-set s key r a here in omega arith;
       few = so.few;
       next_fits = so.next_fits;
     }
 
-    pub view-set : (then : ReadyLists) → then ≡ turned v.ready id (map.get v.ports id) (port_of a) → ◌≡◌ {A = PortsView M} record { ports = ports_of (get (with_value s key a)) keys; ready = then; made = made_of next; spare = length left }
-        record { ports = map.insert v.ports id (port_of a); ready = turned v.ready id (map.get v.ports id) (port_of a); made = v.made; spare = length left }
-    view-set then is =
-        let mk : map.FinMap nat_cmp (PortView M) → ℕ → PortsView M = λ ports made. record { ports = ports; ready = then; made = made; spare = length left } in
+    pub view-moved : (then : ReadyLists) → then ≡ turned v.ready id (map.get v.ports id) (port_of a) → ◌≡◌ {A = PortsView M} record { ports = ports_of (get (with_value s key a)) keys; ready = then; made = made_of next; spare = length left; destroyed = more }
+        record { ports = map.insert v.ports id (port_of a); ready = turned v.ready id (map.get v.ports id) (port_of a); made = v.made; spare = length left; destroyed = more }
+    view-moved then is =
+        let mk : map.FinMap nat_cmp (PortView M) → ℕ → PortsView M = λ ports made. record { ports = ports; ready = then; made = made; spare = length left; destroyed = more } in
         ap (λ ports. mk ports (made_of next)) (ports-changed (get s) (get (with_value s key a)) keys (made_of next) so.indexed id key r a found here (turns-set s key r a here) same)
         ∙ ap (λ (b : PortsView M). mk (map.insert b.ports id (port_of a)) b.made) view_is
-        ∙ ap (λ t. let w : PortsView M = record { ports = map.insert v.ports id (port_of a); ready = t; made = v.made; spare = length left } in w) is
+        ∙ ap (λ t. let w : PortsView M = record { ports = map.insert v.ports id (port_of a); ready = t; made = v.made; spare = length left; destroyed = more } in w) is
+
+  module _ (s : Slab (Record M)) (keys : Keyed) (next : Option ℕ) (spare left destroyed : List M) (slots : ℕ) (so : IsSound s keys next spare destroyed slots)
+      {turns : ReadyLists} (v : PortsView M) (view_is : record { ports = ports_of (get s) keys; ready = turns; made = made_of next; spare = length spare; destroyed = destroyed } ≡ v)
+      (id key : ℕ) (r a : Record M) (found : map.get keys id ≡ Some key) (here : get s key ≡ Some r) (same : a.id ≡ r.id)
+      (balance : length a.queue + length left ≡ length r.queue + length spare) where
+    pub is_port : (p : PortView M) → map.get v.ports id ≡ Some p → p ≡ port_of r
+    is_port p h = same_some p (port_of r) (sym h ∙ sym (ap (λ (b : PortsView M). map.get b.ports id) view_is) ∙ port_at (get s) keys id key r found here)
+
+    pub sound-set : IsSound (with_value s key a) keys next left destroyed slots
+    sound-set = sound-moved s keys next spare left destroyed destroyed slots so v view_is id key r a found here same (omega arith)
+
+    pub view-set : (then : ReadyLists) → then ≡ turned v.ready id (map.get v.ports id) (port_of a) → ◌≡◌ {A = PortsView M} record { ports = ports_of (get (with_value s key a)) keys; ready = then; made = made_of next; spare = length left; destroyed = destroyed }
+        record { ports = map.insert v.ports id (port_of a); ready = turned v.ready id (map.get v.ports id) (port_of a); made = v.made; spare = length left; destroyed = v.destroyed }
+    view-set then is =
+        view-moved s keys next spare left destroyed destroyed slots so v view_is id key r a found here same (omega arith) then is
+        ∙ ap (λ (b : PortsView M). let w : PortsView M = record { ports = map.insert v.ports id (port_of a); ready = turned v.ready id (map.get v.ports id) (port_of a); made = v.made; spare = length left; destroyed = b.destroyed } in w) view_is
 
   -- ---- after a port has come
 
@@ -84,8 +99,8 @@ module _ {M : Type 0} where
 
   -- ---- a port by its identity
 
-  module _ (s : Slab (Record M)) (keys : Keyed) (next : Option ℕ) (spare : List M) (slots : ℕ) (so : IsSound s keys next spare slots)
-      {turns : ReadyLists} (v : PortsView M) (view_is : record { ports = ports_of (get s) keys; ready = turns; made = made_of next; spare = length spare } ≡ v) (id : ℕ) where
+  module _ (s : Slab (Record M)) (keys : Keyed) (next : Option ℕ) (spare destroyed : List M) (slots : ℕ) (so : IsSound s keys next spare destroyed slots)
+      {turns : ReadyLists} (v : PortsView M) (view_is : record { ports = ports_of (get s) keys; ready = turns; made = made_of next; spare = length spare; destroyed = destroyed } ≡ v) (id : ℕ) where
     pub record_at : (k : ℕ) → map.get keys id ≡ Some k → (r : Record M) × (get s k ≡ Some r) × (r.id ≡ id)
     record_at k h = so.indexed.found id k h
 

@@ -128,8 +128,8 @@ module _ {M : Type 0} (at : ℕ → Option (Record M)) where
         | inr d ↦ eqb_other (id_in (at k)) id (λ e. d (same_some k key (sym (x.held k was.0 was.1) ∙ ap (map.get keys) (sym (ap id_in was.1) ∙ e) ∙ found))) ∙ sym (eqb_other k key d)
       ]
 
-module _ {M : Type 0} (s : Slab (Record M)) (keys : Keyed) (next : Option ℕ) (spare : List M) (slots : ℕ) (so : IsSound s keys next spare slots) (ready : ListsView)
-    (v : PortsView M) (view_is : record { ports = ports_of (get s) keys; ready = turns_at (get s) ready.lists; made = made_of next; spare = length spare } ≡ v) (readied : IsReadied (get s) ready) where
+module _ {M : Type 0} (s : Slab (Record M)) (keys : Keyed) (next : Option ℕ) (spare destroyed : List M) (slots : ℕ) (so : IsSound s keys next spare destroyed slots) (ready : ListsView)
+    (v : PortsView M) (view_is : record { ports = ports_of (get s) keys; ready = turns_at (get s) ready.lists; made = made_of next; spare = length spare; destroyed = destroyed } ≡ v) (readied : IsReadied (get s) ready) where
   ready_is : turns_at (get s) ready.lists ≡ v.ready
   ready_is = ap (λ (b : PortsView M). b.ready) view_is
 
@@ -166,7 +166,7 @@ module _ {M : Type 0} (s : Slab (Record M)) (keys : Keyed) (next : Option ℕ) (
     either false was now = moved was now
 
     live : map.get v.ports id ≡ Some (port_of r)
-    live = live_port s keys next spare slots so v view_is id key r found here
+    live = live_port s keys next spare destroyed slots so v view_is id key r found here
 
     leb_is : (n m : ℕ) → n ≤ m → leb n m ≡ true
     leb_is n m h = elim (leb_tells n m) [ inl t ↦ t.0 | inr f ↦ absurd (let less : m < n = f.1 in omega arith) ]

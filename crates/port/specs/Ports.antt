@@ -1,5 +1,5 @@
--- What contracts see of ports: each live port's queue and attributes, the ready ports of each set in their turns, how many were made, and how many slots are spare.
-use Rattle.std.specs.Prelude.{◌≡◌, ◌≢◌, ℕ, ◌+◌, ◌<◌, ◌%◌, ◌^◌, ◌&&◌, Bool, leb, cond, List, [], Option, Some, None, true, length, refl}
+-- What contracts see of ports: each live port's queue and attributes, the ready ports of each set in their turns, how many were made, how many slots are spare, and the messages that were destroyed.
+use Rattle.std.specs.Prelude.{◌≡◌, ◌≢◌, ℕ, ◌+◌, ◌<◌, ◌%◌, ◌^◌, ◌&&◌, ◌++◌, ◌∷◌, Bool, leb, cond, List, [], Option, Some, None, true, length, refl}
 use Rattle.std.specs.Coded.{Coded, code_by, coded×, coded_ℕ, coded_list}
 use Rattle.std.specs.FinMap as map
 use Rattle.std.specs.Ordering.{nat_cmp}
@@ -17,15 +17,16 @@ pub record PortsView (M : Type 0) : Type 0 where
   pub ready : ReadyLists
   pub made : ℕ
   pub spare : ℕ
+  pub destroyed : List M
 
 abbrev pub port_code : {M : Type 0} → Coded M → Coded Attributes → Coded (PortView M)
 port_code {M} m a = code_by (List M × Attributes) (coded× (coded_list m) a) (λ p. (p.queue, p.attributes)) (λ p. record { queue = p.0; attributes = p.1 }) (λ _. refl)
 
 abbrev pub ports_code : {M : Type 0} → Coded M → Coded Attributes → Coded (PortsView M)
 ports_code {M} m a = code_by
-    (map.FinMap nat_cmp (PortView M) × (ReadyLists × (ℕ × ℕ))) (coded× (map.code coded_ℕ (port_code m a)) (coded× (map.code coded_ℕ (coded_list coded_ℕ)) (coded× coded_ℕ coded_ℕ)))
-    (λ v. (v.ports, (v.ready, (v.made, v.spare))))
-    (λ p. record { ports = p.0; ready = p.1.0; made = p.1.1.0; spare = p.1.1.1 })
+    (map.FinMap nat_cmp (PortView M) × (ReadyLists × (ℕ × (ℕ × List M)))) (coded× (map.code coded_ℕ (port_code m a)) (coded× (map.code coded_ℕ (coded_list coded_ℕ)) (coded× coded_ℕ (coded× coded_ℕ (coded_list m)))))
+    (λ v. (v.ports, (v.ready, (v.made, (v.spare, v.destroyed)))))
+    (λ p. record { ports = p.0; ready = p.1.0; made = p.1.1.0; spare = p.1.1.1.0; destroyed = p.1.1.1.1 })
     (λ _. refl)
 
 -- a new port's attributes: limit 5, no message yet sent, made or received, and its receive right with the task
@@ -83,3 +84,16 @@ module _ {M : Type 0} where
   pub record NoneIn (v : PortsView M) (set : ℕ) : Type 0 where
     pub apart : (port : ℕ) (p : PortView M) → map.get v.ports port ≡ Some p → p.attributes.set ≢ Some set
     pub turns : turns_of v.ready set ≡ []
+
+  -- the port is gone, or has no message
+  abbrev pub NoneQueued : PortsView M → ℕ → Type 0
+  NoneQueued v port = (p : PortView M) → map.get v.ports port ≡ Some p → length p.queue ≡ 0
+
+  -- the first message of the port's queue is now the last of the destroyed ones
+  pub record DestroysFirst (old : PortsView M) (port : ℕ) (new : PortsView M) : Type 0 where
+    pub view : PortView M
+    pub there : map.get old.ports port ≡ Some view
+    pub first : M
+    pub behind : List M
+    pub queue : view.queue ≡ first ∷ behind
+    pub rest : new ≡ record (with_port old port (record view { queue = behind })) { destroyed = old.destroyed ++ first ∷ [] }

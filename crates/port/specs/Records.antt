@@ -47,9 +47,9 @@ module _ {M : Type 0} where
     pub held : (key : ℕ) (r : Record M) → at key ≡ Some r → map.get keys r.id ≡ Some key
     pub given : (id key : ℕ) → map.get keys id ≡ Some key → id < made
 
-  pub record IsSound (s : Slab (Record M)) (keys : map.FinMap nat_cmp ℕ) (next : Option ℕ) (spare : List M) (slots : ℕ) : Type 0 where
+  pub record IsSound (s : Slab (Record M)) (keys : map.FinMap nat_cmp ℕ) (next : Option ℕ) (spare destroyed : List M) (slots : ℕ) : Type 0 where
     pub indexed : IsIndexed (get s) keys (made_of next)
-    pub counted : sum_by queued_in s.slots + length spare ≡ slots
+    pub counted : sum_by queued_in s.slots + length spare + length destroyed ≡ slots
     pub few : slots < 2 ^ 63
     pub next_fits : (n : ℕ) → next ≡ Some n → n < 2 ^ 64
 
@@ -74,7 +74,7 @@ module _ {M : Type 0} where
   abbrev pub IsMembered : (ℕ → Option (Record M)) → ListsView → Type 0
   IsMembered at members = IsListed member_set at members
 
-  pub record IsKept (s : Slab (Record M)) (keys : map.FinMap nat_cmp ℕ) (next : Option ℕ) (spare : List M) (slots : ℕ) (ready members : ListsView) : Type 0 where
-    pub sound : IsSound s keys next spare slots
+  pub record IsKept (s : Slab (Record M)) (keys : map.FinMap nat_cmp ℕ) (next : Option ℕ) (spare destroyed : List M) (slots : ℕ) (ready members : ListsView) : Type 0 where
+    pub sound : IsSound s keys next spare destroyed slots
     pub readied : IsReadied (get s) ready
     pub membered : IsMembered (get s) members

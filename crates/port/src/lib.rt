@@ -1,11 +1,11 @@
 //! Ports: their queues, attributes and identities, and the message slots that are kept free.
 //!
 //! A port's queue is a list. A message lies in a slot; slots are made by [`Ports::reserve_slots`] alone
-//! and move between the queues and the spare ones, so that queueing takes no memory. Identities are
-//! given from 0 and never again: one whose port is gone finds nothing.
+//! and move between the queues, the destroyed messages and the spare ones, so that queueing takes no
+//! memory. Identities are given from 0 and never again: one whose port is gone finds nothing.
 #![tactic(auto)]
 
-ghost use Rattle.std.specs.Prelude.{◌≡◌, ◌≢◌, ℕ, ◌+◌, ◌-◌, ◌<◌, ◌≤◌, ◌^◌, ◌↔◌, ◌++◌, ◌∷◌, [], List, length, IsTrue, true, false, cond, Some, None, IsSome, IfSome, IfOk, IfNone, OnOk, OnErr, option_copied, slice_get, drop};
+ghost use Rattle.std.specs.Prelude.{◌≡◌, ◌≢◌, ℕ, ◌+◌, ◌-◌, ◌<◌, ◌≤◌, ◌^◌, ◌↔◌, ◌++◌, ◌∷◌, [], List, length, IsTrue, true, false, cond, Some, None, IsSome, IfSome, IfOk, IfNone, OnOk, OnErr, MatchBool, option_copied, slice_get, drop};
 ghost use Rattle.std.specs.List.{Contains};
 ghost use Rattle.std.specs.Option.{option_map, option_and_then};
 ghost use Rattle.std.specs.FinMap as map;
@@ -18,11 +18,14 @@ ghost use Rattle.port.specs.Turns.{turns_of, same_set};
 ghost use Rattle.port.specs.Ports.{one_made, one_received};
 ghost use Rattle.port.specs.Records.{ready_set, member_set, ids_at};
 
+mod slots;
+
 use mach_types::limits::FIRST_LIMIT;
 use mach_types::{PortId, SetId, TaskId};
 use member_lists::Lists;
 use number_map::NumberMap;
 use slab::Slab;
+use slots::{blank_slots, move_first, pop, push};
 use std::alloc::{AllocError, Global};
 use std::collections::LinkedList;
 use std::marker::Model;
@@ -222,7 +225,8 @@ struct Record<M> {
 // A port without messages takes its record in the slab, and its place in the index.
 const _: () = prove!(mem::size_of::<Record<u8>>() <= 64);
 
-/// Ports by identity, and spare message slots. Without ports and slots nothing is allocated.
+/// Ports by identity, messages that were destroyed, and spare message slots. Without ports and slots
+/// nothing is allocated.
 #[derive(Drop)]
 pub struct Ports<M: Message> {
     records: Slab<Record<M>>,
@@ -231,6 +235,7 @@ pub struct Ports<M: Message> {
     members: Lists,
     next: Option<u64>,
     spare: LinkedList<M>,
+    destroyed: LinkedList<M>,
     slots: usize,
 }
 
@@ -251,59 +256,10 @@ impl<M: Message> Model for Ports<M> {
       ready = turns_at (get a.records) a.ready.lists;
       made = made_of a.next;
       spare = length a.spare;
+      destroyed = a.destroyed;
     } };
 
-    ghost invariant = { λ a. IsKept a.records a.by_id.map a.next a.spare a.slots a.ready a.members };
-}
-
-// So many slots that no message is in.
-fn blank_slots<M: Message>(number: usize, alloc: Global) -> Result<LinkedList<M>, AllocError>
-    ensures { IfOk result (λ slots. length slots ≡ number) }
-{
-    let mut slots = LinkedList::new(alloc);
-    for _ in 0..number {
-        slots.push_back(M::blank(alloc))?;
-    }
-    Ok(slots)
-}
-
-// Moves the first node of a list to the end of another.
-fn move_first<M: Drop>(from: &mut LinkedList<M>, to: &mut LinkedList<M>)
-    requires some { 0 < length from.old }
-    requires fit { length from.old + length to.old < 2 ^ 63 }
-    ensures { (m : M) × (from.old ≡ m ∷ from.new) × (to.new ≡ to.old ++ m ∷ []) }
-{
-    let mut rest = from.split_off(1).unwrap();
-    to.append(from).unwrap();
-    from.append(&mut rest).unwrap();
-}
-
-// Puts a message at the end of a queue, in a spare node.
-fn push<M: Drop>(queue: &mut LinkedList<M>, spare: &mut LinkedList<M>, message: M)
-    requires some { 0 < length spare.old }
-    requires fit { length queue.old + length spare.old < 2 ^ 63 }
-    ensures queue { queue.new ≡ queue.old ++ message ∷ [] }
-    ensures spare { length spare.new + 1 ≡ length spare.old }
-{
-    if let Some(slot) = spare.front_mut() {
-        *slot = message;
-    }
-    move_first(spare, queue);
-}
-
-// Takes the message at the front of a queue that has one, and moves its node to the spare ones.
-fn pop<M: Drop>(queue: &mut LinkedList<M>, spare: &mut LinkedList<M>, blank: M) -> M
-    requires some { 0 < length queue.old }
-    requires fit { length queue.old + length spare.old < 2 ^ 63 }
-    ensures queue { queue.old ≡ result ∷ queue.new }
-    ensures spare { length spare.new ≡ length spare.old + 1 }
-{
-    let message = match queue.front_mut() {
-        Some(slot) => mem::replace(slot, blank),
-        None => unreachable!(),
-    };
-    move_first(queue, spare);
-    message
+    ghost invariant = { λ a. IsKept a.records a.by_id.map a.next a.spare a.destroyed a.slots a.ready a.members };
 }
 
 // Queues the message at the port under the key.
@@ -354,6 +310,17 @@ fn take_at<M: Message>(
     let record = &mut records[key];
     record.attributes.count_received();
     pop(&mut record.queue, spare, blank)
+}
+
+// Moves the message at the front of the queue of the port under the key to the end of the destroyed ones.
+fn destroy_at<M: Message>(records: &mut Slab<Record<M>>, key: usize, destroyed: &mut LinkedList<M>)
+    requires there { IsSome (get records.old key) }
+    requires some { (r : AnyRecord M) → get records.old key ≡ Some r → 0 < length r.queue }
+    requires fit { (r : AnyRecord M) → get records.old key ≡ Some r → length r.queue + length destroyed.old < 2 ^ 63 }
+    ensures { (r : AnyRecord M) → get records.old key ≡ Some r →
+        (m : M) × (rest : List M) × (r.queue ≡ m ∷ rest) × (records.new ≡ with_value records.old key (record r { queue = rest })) × (destroyed.new ≡ destroyed.old ++ m ∷ []) }
+{
+    move_first(&mut records[key].queue, destroyed);
 }
 
 // Counts a send right made from the receive right of the port under the key.
@@ -504,11 +471,11 @@ fn reserve_record<M: Message>(records: &mut Slab<Record<M>>) -> Result<(), Alloc
 
 impl<M: Message> Ports<M> {
     ghost use Rattle.mach_types.specs.Numbers.{most_identities};
-    ghost use Rattle.port.specs.Ports.{PortView, IsLive, with_port, first_attributes, IsReadyIn, NoneReadyIn, IsIn, NoneIn};
+    ghost use Rattle.port.specs.Ports.{PortView, IsLive, with_port, first_attributes, IsReadyIn, NoneReadyIn, IsIn, NoneIn, DestroysFirst, NoneQueued};
 
     /// No ports, and no slots. Allocates nothing; constant time.
     pub fn new(alloc: Global) -> Ports<M>
-        ensures { result ≡ record { ports = map.empty; ready = map.empty; made = 0; spare = 0 } }
+        ensures { result ≡ record { ports = map.empty; ready = map.empty; made = 0; spare = 0; destroyed = [] } }
     {
         Ports {
             records: Slab::new(alloc),
@@ -517,8 +484,16 @@ impl<M: Message> Ports<M> {
             members: Lists::new(alloc),
             next: Some(0),
             spare: LinkedList::new(alloc),
+            destroyed: LinkedList::new(alloc),
             slots: 0,
         }
+    }
+
+    /// How many ports there are. Constant time.
+    pub fn len(&self) -> usize
+        ensures { result ≡ map.len self.now.ports }
+    {
+        self.by_id.len()
     }
 
     /// How many message slots are spare. Constant time.
@@ -757,5 +732,45 @@ impl<M: Message> Ports<M> {
         let now = ready_at(&self.records, key);
         rejoin(&mut self.ready, key, was, now);
         Some(message)
+    }
+
+    /// Moves the message at the front of a port's queue, in its slot, behind the destroyed ones, and
+    /// answers whether there was one. A port that has more goes to the end of its set's ready ones.
+    /// Where the port is gone or has none, all is as before. Takes no memory. Constant time.
+    pub fn destroy_first(&mut self, port: PortId) -> bool
+        ensures { MatchBool result (DestroysFirst self.old port self.new) (NoneQueued self.old port × (self.new ≡ self.old)) }
+    {
+        let Some(key) = key_of(&self.by_id, port) else {
+            return false;
+        };
+        if self.records[key].queue.is_empty() {
+            return false;
+        }
+        let was = ready_at(&self.records, key);
+        destroy_at(&mut self.records, key, &mut self.destroyed);
+        let now = ready_at(&self.records, key);
+        rejoin(&mut self.ready, key, was, now);
+        true
+    }
+
+    /// The message that was destroyed last of those that weren't taken, if there is one. Constant time.
+    pub fn last_destroyed(&self) -> Option<&M>
+        ensures { option_copied result ≡ slice_get self.now.destroyed (length self.now.destroyed - 1) }
+    {
+        self.destroyed.back()
+    }
+
+    /// Takes the message that was destroyed first of those that weren't taken; its slot is spare again.
+    /// `None` where there is none, and all is then as before. Takes no memory. Constant time.
+    pub fn take_destroyed(&mut self) -> Option<M>
+        ensures first { result ≡ slice_get self.old.destroyed 0 }
+        ensures taken { IfSome result (λ m. self.new ≡ record self.old { spare = self.old.spare + 1; destroyed = drop 1 self.old.destroyed }) }
+        ensures none { IfNone result (self.new ≡ self.old) }
+    {
+        if self.destroyed.is_empty() {
+            return None;
+        }
+        let blank = M::blank(*self.spare.allocator());
+        Some(pop(&mut self.destroyed, &mut self.spare, blank))
     }
 }

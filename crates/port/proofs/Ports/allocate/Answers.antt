@@ -27,7 +27,7 @@ invariant_of-self-2 g c =
     ∙ ap (λ (w : MapView ℕ). map.insert w.map c.unwrap-number.result c.insert_reserved-key.result) c.in_ok-reserve.ensures.ok
     ∙ ap (λ n. map.insert c.self.inside.by_id.map n c.insert_reserved-key.result) (sym number) in
     record {
-      sound = sound-came c.self.inside.records c.insert_reserved-key.new.self c.self.inside.by_id.map c.insert.new.self.map c.self.inside.next c.checked_add-self-inside.result c.self.inside.spare c.self.inside.slots c.self.invariant.sound c.args.self.now c.self.view_is
+      sound = sound-came c.self.inside.records c.insert_reserved-key.new.self c.self.inside.by_id.map c.insert.new.self.map c.self.inside.next c.checked_add-self-inside.result c.self.inside.spare c.self.inside.destroyed c.self.inside.slots c.self.invariant.sound c.args.self.now c.self.view_is
           c.insert_reserved-key.result a vacant c.insert_reserved-key.ensures.updates.changed others (c.new-id.ensures ∙ sym number) (ap length c.new.ensures) put
           (made_more c.checked_add-self-inside.result c.unwrap-number.result c.checked_add-self-inside.ensures few ∙ ap (λ n. n + 1) (sym number)) (next_in_range c.checked_add-self-inside.result c.unwrap-number.result c.checked_add-self-inside.ensures);
       readied = subst (λ w. IsReadied (get c.insert_reserved-key.new.self) w) (sym c.in_ok-reserve-2.ensures.ok)
@@ -58,8 +58,9 @@ returns-clause-ok g c =
       ready = c.args.self.now.ready;
       made = c.args.self.now.made + 1;
       spare = c.args.self.now.spare;
+      destroyed = c.args.self.now.destroyed;
     } in
-    view-came c.self.inside.records c.insert_reserved-key.new.self c.self.inside.by_id.map c.insert.new.self.map c.self.inside.next c.checked_add-self-inside.result c.self.inside.spare c.self.inside.slots c.self.invariant.sound c.args.self.now c.self.view_is
+    view-came c.self.inside.records c.insert_reserved-key.new.self c.self.inside.by_id.map c.insert.new.self.map c.self.inside.next c.checked_add-self-inside.result c.self.inside.spare c.self.inside.destroyed c.self.inside.slots c.self.invariant.sound c.args.self.now c.self.view_is
     c.insert_reserved-key.result a vacant c.insert_reserved-key.ensures.updates.changed others (c.new-id.ensures ∙ sym number) (ap length c.new.ensures) put
     (made_more c.checked_add-self-inside.result c.unwrap-number.result c.checked_add-self-inside.ensures few ∙ ap (λ n. n + 1) (sym number)) (next_in_range c.checked_add-self-inside.result c.unwrap-number.result c.checked_add-self-inside.ensures)
     (turns_at (get c.insert_reserved-key.new.self) c.reserve-2.new.self.lists)
@@ -68,23 +69,23 @@ returns-clause-ok g c =
     ∙ ap (λ l. after l c.new-2.result) c.new.ensures ∙ ap (after []) (c.new-2.ensures ∙ c.first.ensures)
 
 pub invariant_of-self : goal.invariant_of-self
-invariant_of-self g c = kept-capacity c.self.inside.records c.reserve_record.new.records c.self.inside.by_id.map c.self.inside.next c.self.inside.spare c.self.inside.slots c.self.inside.ready c.self.inside.members c.reserve_record.ensures.rest_kept c.self.invariant
+invariant_of-self g c = kept-capacity c.self.inside.records c.reserve_record.new.records c.self.inside.by_id.map c.self.inside.next c.self.inside.spare c.self.inside.destroyed c.self.inside.slots c.self.inside.ready c.self.inside.members c.reserve_record.ensures.rest_kept c.self.invariant
 
 pub invariant_of-self-in_err-reserve : goal.invariant_of-self-in_err-reserve
 invariant_of-self-in_err-reserve g c =
-    subst (λ (m : map.FinMap nat_cmp ℕ). IsKept c.reserve_record.new.records m c.self.inside.next c.self.inside.spare c.self.inside.slots c.self.inside.ready c.self.inside.members) (sym (ap (λ (w : MapView ℕ). w.map) c.in_err-reserve.ensures.err))
-    (kept-capacity c.self.inside.records c.reserve_record.new.records c.self.inside.by_id.map c.self.inside.next c.self.inside.spare c.self.inside.slots c.self.inside.ready c.self.inside.members c.reserve_record.ensures.rest_kept c.self.invariant)
+    subst (λ (m : map.FinMap nat_cmp ℕ). IsKept c.reserve_record.new.records m c.self.inside.next c.self.inside.spare c.self.inside.destroyed c.self.inside.slots c.self.inside.ready c.self.inside.members) (sym (ap (λ (w : MapView ℕ). w.map) c.in_err-reserve.ensures.err))
+    (kept-capacity c.self.inside.records c.reserve_record.new.records c.self.inside.by_id.map c.self.inside.next c.self.inside.spare c.self.inside.destroyed c.self.inside.slots c.self.inside.ready c.self.inside.members c.reserve_record.ensures.rest_kept c.self.invariant)
 
 pub invariant_of-self-in_err-reserve-2 : goal.invariant_of-self-in_err-reserve-2
 invariant_of-self-in_err-reserve-2 g c =
-    subst (λ (m : map.FinMap nat_cmp ℕ). IsKept c.reserve_record.new.records m c.self.inside.next c.self.inside.spare c.self.inside.slots c.reserve-2.new.self c.self.inside.members) (sym (ap (λ (w : MapView ℕ). w.map) c.in_ok-reserve.ensures.ok))
-    (subst (λ (w : ListsView). IsKept c.reserve_record.new.records c.self.inside.by_id.map c.self.inside.next c.self.inside.spare c.self.inside.slots w c.self.inside.members) (sym c.in_err-reserve-2.ensures.err)
-    (kept-capacity c.self.inside.records c.reserve_record.new.records c.self.inside.by_id.map c.self.inside.next c.self.inside.spare c.self.inside.slots c.self.inside.ready c.self.inside.members c.reserve_record.ensures.rest_kept c.self.invariant))
+    subst (λ (m : map.FinMap nat_cmp ℕ). IsKept c.reserve_record.new.records m c.self.inside.next c.self.inside.spare c.self.inside.destroyed c.self.inside.slots c.reserve-2.new.self c.self.inside.members) (sym (ap (λ (w : MapView ℕ). w.map) c.in_ok-reserve.ensures.ok))
+    (subst (λ (w : ListsView). IsKept c.reserve_record.new.records c.self.inside.by_id.map c.self.inside.next c.self.inside.spare c.self.inside.destroyed c.self.inside.slots w c.self.inside.members) (sym c.in_err-reserve-2.ensures.err)
+    (kept-capacity c.self.inside.records c.reserve_record.new.records c.self.inside.by_id.map c.self.inside.next c.self.inside.spare c.self.inside.destroyed c.self.inside.slots c.self.inside.ready c.self.inside.members c.reserve_record.ensures.rest_kept c.self.invariant))
 
 pub invariant_of-self-in_err-reserve-3 : goal.invariant_of-self-in_err-reserve-3
 invariant_of-self-in_err-reserve-3 g c =
-    subst (λ (m : map.FinMap nat_cmp ℕ). IsKept c.reserve_record.new.records m c.self.inside.next c.self.inside.spare c.self.inside.slots c.reserve-2.new.self c.reserve-3.new.self) (sym (ap (λ (w : MapView ℕ). w.map) c.in_ok-reserve.ensures.ok))
-    (subst (λ (w : ListsView). IsKept c.reserve_record.new.records c.self.inside.by_id.map c.self.inside.next c.self.inside.spare c.self.inside.slots c.reserve-2.new.self w) (sym c.in_err-reserve-3.ensures.err)
-    (subst (λ (w : ListsView). IsKept c.reserve_record.new.records c.self.inside.by_id.map c.self.inside.next c.self.inside.spare c.self.inside.slots w c.self.inside.members) (sym c.in_ok-reserve-2.ensures.ok)
-    (kept-room c.reserve_record.new.records c.self.inside.by_id.map c.self.inside.next c.self.inside.spare c.self.inside.slots c.self.inside.ready c.self.inside.members (max c.self.inside.ready.items c.capacity.result) (omega arith)
-    (kept-capacity c.self.inside.records c.reserve_record.new.records c.self.inside.by_id.map c.self.inside.next c.self.inside.spare c.self.inside.slots c.self.inside.ready c.self.inside.members c.reserve_record.ensures.rest_kept c.self.invariant))))
+    subst (λ (m : map.FinMap nat_cmp ℕ). IsKept c.reserve_record.new.records m c.self.inside.next c.self.inside.spare c.self.inside.destroyed c.self.inside.slots c.reserve-2.new.self c.reserve-3.new.self) (sym (ap (λ (w : MapView ℕ). w.map) c.in_ok-reserve.ensures.ok))
+    (subst (λ (w : ListsView). IsKept c.reserve_record.new.records c.self.inside.by_id.map c.self.inside.next c.self.inside.spare c.self.inside.destroyed c.self.inside.slots c.reserve-2.new.self w) (sym c.in_err-reserve-3.ensures.err)
+    (subst (λ (w : ListsView). IsKept c.reserve_record.new.records c.self.inside.by_id.map c.self.inside.next c.self.inside.spare c.self.inside.destroyed c.self.inside.slots w c.self.inside.members) (sym c.in_ok-reserve-2.ensures.ok)
+    (kept-room c.reserve_record.new.records c.self.inside.by_id.map c.self.inside.next c.self.inside.spare c.self.inside.destroyed c.self.inside.slots c.self.inside.ready c.self.inside.members (max c.self.inside.ready.items c.capacity.result) (omega arith)
+    (kept-capacity c.self.inside.records c.reserve_record.new.records c.self.inside.by_id.map c.self.inside.next c.self.inside.spare c.self.inside.destroyed c.self.inside.slots c.self.inside.ready c.self.inside.members c.reserve_record.ensures.rest_kept c.self.invariant))))

@@ -15,19 +15,19 @@ use Rattle.port.proofs.Ports.count_make_send.Goals as goal
 pub count_at-requires : goal.count_at-requires
 count_at-requires g c =
     let found : map.get c.self.inside.by_id.map c.args.port ≡ Some c.in-Some.key = sym c.in-Some.ensures in
-    ap is_some (record_at c.self.inside.records c.self.inside.by_id.map c.self.inside.next c.self.inside.spare c.self.inside.slots c.self.invariant.sound c.args.self.now c.self.view_is c.args.port c.in-Some.key found).1
+    ap is_some (record_at c.self.inside.records c.self.inside.by_id.map c.self.inside.next c.self.inside.spare c.self.inside.destroyed c.self.inside.slots c.self.invariant.sound c.args.self.now c.self.view_is c.args.port c.in-Some.key found).1
 
 pub invariant_of-self : goal.invariant_of-self
 invariant_of-self g c =
     let found : map.get c.self.inside.by_id.map c.args.port ≡ Some c.in-Some.key = sym c.in-Some.ensures in
-    let there = record_at c.self.inside.records c.self.inside.by_id.map c.self.inside.next c.self.inside.spare c.self.inside.slots c.self.invariant.sound c.args.self.now c.self.view_is c.args.port c.in-Some.key found in
+    let there = record_at c.self.inside.records c.self.inside.by_id.map c.self.inside.next c.self.inside.spare c.self.inside.destroyed c.self.inside.slots c.self.invariant.sound c.args.self.now c.self.view_is c.args.port c.in-Some.key found in
     let r : Record g.row.M.Denot = there.0 in
     let a : Record g.row.M.Denot = record { id = r.id; queue = r.queue; attributes = one_made r.attributes } in
     let stands : StandsIn c.self.inside.ready c.in-Some.key (ready_set r) = c.self.invariant.readied.stands c.in-Some.key r there.1 in
     let moved : IsMoved c.self.inside.ready c.self.inside.ready c.in-Some.key (ready_set a) = record { stands = stands; was = λ x l not h. h; stays = λ x l not h. h; items = refl } in
     record {
-      sound = subst (λ (t : Slab (Record g.row.M.Denot)). IsSound t c.self.inside.by_id.map c.self.inside.next c.self.inside.spare c.self.inside.slots) (sym (c.count_at.ensures r there.1))
-          (sound-set c.self.inside.records c.self.inside.by_id.map c.self.inside.next c.self.inside.spare c.self.inside.spare c.self.inside.slots c.self.invariant.sound c.args.self.now c.self.view_is c.args.port c.in-Some.key r a found there.1 refl refl);
+      sound = subst (λ (t : Slab (Record g.row.M.Denot)). IsSound t c.self.inside.by_id.map c.self.inside.next c.self.inside.spare c.self.inside.destroyed c.self.inside.slots) (sym (c.count_at.ensures r there.1))
+          (sound-set c.self.inside.records c.self.inside.by_id.map c.self.inside.next c.self.inside.spare c.self.inside.spare c.self.inside.destroyed c.self.inside.slots c.self.invariant.sound c.args.self.now c.self.view_is c.args.port c.in-Some.key r a found there.1 refl refl);
       readied = subst (λ (t : Slab (Record g.row.M.Denot)). IsReadied (get t) c.self.inside.ready) (sym (c.count_at.ensures r there.1)) (listed-set ready_set c.self.inside.records c.self.inside.ready c.self.inside.ready c.in-Some.key r a c.self.invariant.readied there.1 moved);
       membered = subst (λ (t : Slab (Record g.row.M.Denot)). IsMembered (get t) c.self.inside.members) (sym (c.count_at.ensures r there.1)) (membered-set c.self.inside.records c.self.inside.members c.in-Some.key r a c.self.invariant.membered there.1 refl);
     }
@@ -35,23 +35,23 @@ invariant_of-self g c =
 pub returns-in-Some-clause-live : goal.returns-in-Some-clause-live
 returns-in-Some-clause-live g c p h =
     let found : map.get c.self.inside.by_id.map c.args.port ≡ Some c.in-Some.key = sym c.in-Some.ensures in
-    let there = record_at c.self.inside.records c.self.inside.by_id.map c.self.inside.next c.self.inside.spare c.self.inside.slots c.self.invariant.sound c.args.self.now c.self.view_is c.args.port c.in-Some.key found in
+    let there = record_at c.self.inside.records c.self.inside.by_id.map c.self.inside.next c.self.inside.spare c.self.inside.destroyed c.self.inside.slots c.self.invariant.sound c.args.self.now c.self.view_is c.args.port c.in-Some.key found in
     let r : Record g.row.M.Denot = there.0 in
     let a : Record g.row.M.Denot = record { id = r.id; queue = r.queue; attributes = one_made r.attributes } in
-    let is : p ≡ port_of r = is_port c.self.inside.records c.self.inside.by_id.map c.self.inside.next c.self.inside.spare c.self.inside.spare c.self.inside.slots c.self.invariant.sound c.args.self.now c.self.view_is c.args.port c.in-Some.key r a found there.1 refl refl p h in
-    let view : Slab (Record g.row.M.Denot) → PortsView g.row.M.Denot = λ t. record { ports = ports_of (get t) c.self.inside.by_id.map; ready = turns_at (get t) c.self.inside.ready.lists; made = made_of c.self.inside.next; spare = length c.self.inside.spare } in
-    let after : PortView g.row.M.Denot → ℕ → PortsView g.row.M.Denot = λ q n. record { ports = map.insert c.args.self.now.ports c.args.port (let b : PortView g.row.M.Denot = record { queue = q.queue; attributes = one_made q.attributes } in b); ready = turned c.args.self.now.ready c.args.port (map.get c.args.self.now.ports c.args.port) (let b : PortView g.row.M.Denot = record { queue = q.queue; attributes = one_made q.attributes } in b); made = c.args.self.now.made; spare = n } in
+    let is : p ≡ port_of r = is_port c.self.inside.records c.self.inside.by_id.map c.self.inside.next c.self.inside.spare c.self.inside.spare c.self.inside.destroyed c.self.inside.slots c.self.invariant.sound c.args.self.now c.self.view_is c.args.port c.in-Some.key r a found there.1 refl refl p h in
+    let view : Slab (Record g.row.M.Denot) → PortsView g.row.M.Denot = λ t. record { ports = ports_of (get t) c.self.inside.by_id.map; ready = turns_at (get t) c.self.inside.ready.lists; made = made_of c.self.inside.next; spare = length c.self.inside.spare; destroyed = c.self.inside.destroyed } in
+    let after : PortView g.row.M.Denot → ℕ → PortsView g.row.M.Denot = λ q n. record { ports = map.insert c.args.self.now.ports c.args.port (let b : PortView g.row.M.Denot = record { queue = q.queue; attributes = one_made q.attributes } in b); ready = turned c.args.self.now.ready c.args.port (map.get c.args.self.now.ports c.args.port) (let b : PortView g.row.M.Denot = record { queue = q.queue; attributes = one_made q.attributes } in b); made = c.args.self.now.made; spare = n; destroyed = c.args.self.now.destroyed } in
     let was : length c.self.inside.spare ≡ c.args.self.now.spare = ap (λ (b : PortsView g.row.M.Denot). b.spare) c.self.view_is in
     ap view (c.count_at.ensures r there.1)
-    ∙ view-set c.self.inside.records c.self.inside.by_id.map c.self.inside.next c.self.inside.spare c.self.inside.spare c.self.inside.slots c.self.invariant.sound c.args.self.now c.self.view_is c.args.port c.in-Some.key r a found there.1 refl refl (turns_at (get (with_value c.self.inside.records c.in-Some.key a)) c.self.inside.ready.lists)
-    (turned-same c.self.inside.records c.self.inside.by_id.map c.self.inside.next c.self.inside.spare c.self.inside.slots c.self.invariant.sound c.self.inside.ready c.args.self.now c.self.view_is c.self.invariant.readied c.args.port c.in-Some.key r a found there.1 refl refl (omega arith))
+    ∙ view-set c.self.inside.records c.self.inside.by_id.map c.self.inside.next c.self.inside.spare c.self.inside.spare c.self.inside.destroyed c.self.inside.slots c.self.invariant.sound c.args.self.now c.self.view_is c.args.port c.in-Some.key r a found there.1 refl refl (turns_at (get (with_value c.self.inside.records c.in-Some.key a)) c.self.inside.ready.lists)
+    (turned-same c.self.inside.records c.self.inside.by_id.map c.self.inside.next c.self.inside.spare c.self.inside.destroyed c.self.inside.slots c.self.invariant.sound c.self.inside.ready c.args.self.now c.self.view_is c.self.invariant.readied c.args.port c.in-Some.key r a found there.1 refl refl (omega arith))
     ∙ ap (λ q. after q (length c.self.inside.spare)) (sym is)
     ∙ ap (after p) was
 
 pub returns-in-Some-clause-gone : goal.returns-in-Some-clause-gone
 returns-in-Some-clause-gone g c h =
-    let there = record_at c.self.inside.records c.self.inside.by_id.map c.self.inside.next c.self.inside.spare c.self.inside.slots c.self.invariant.sound c.args.self.now c.self.view_is c.args.port c.in-Some.key (sym c.in-Some.ensures) in
-    absurd (some_or_none (port_of there.0) _ (live_port c.self.inside.records c.self.inside.by_id.map c.self.inside.next c.self.inside.spare c.self.inside.slots c.self.invariant.sound c.args.self.now c.self.view_is c.args.port c.in-Some.key there.0 (sym c.in-Some.ensures) there.1) h)
+    let there = record_at c.self.inside.records c.self.inside.by_id.map c.self.inside.next c.self.inside.spare c.self.inside.destroyed c.self.inside.slots c.self.invariant.sound c.args.self.now c.self.view_is c.args.port c.in-Some.key (sym c.in-Some.ensures) in
+    absurd (some_or_none (port_of there.0) _ (live_port c.self.inside.records c.self.inside.by_id.map c.self.inside.next c.self.inside.spare c.self.inside.destroyed c.self.inside.slots c.self.invariant.sound c.args.self.now c.self.view_is c.args.port c.in-Some.key there.0 (sym c.in-Some.ensures) there.1) h)
 
 pub returns-in-None-clause-live : goal.returns-in-None-clause-live
-returns-in-None-clause-live g c p h = absurd (some_or_none p _ h (gone_port c.self.inside.records c.self.inside.by_id.map c.self.inside.next c.self.inside.spare c.self.inside.slots c.self.invariant.sound c.args.self.now c.self.view_is c.args.port (sym c.in-None.ensures)))
+returns-in-None-clause-live g c p h = absurd (some_or_none p _ h (gone_port c.self.inside.records c.self.inside.by_id.map c.self.inside.next c.self.inside.spare c.self.inside.destroyed c.self.inside.slots c.self.invariant.sound c.args.self.now c.self.view_is c.args.port (sym c.in-None.ensures)))

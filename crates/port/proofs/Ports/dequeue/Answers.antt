@@ -18,23 +18,23 @@ pub returns-in_err-key-clause-front : goal.returns-in_err-key-clause-front
 returns-in_err-key-clause-front g c =
     let none : map.get c.self.inside.by_id.map c.args.port ≡ None = sym (c.in_err-key.ensures) in
     let front : PortView g.row.M.Denot → Option g.row.M.Denot = λ p. slice_get p.queue 0 in
-    c.from_residual.ensures ∙ ap (option_and_then front) (sym (gone_port c.self.inside.records c.self.inside.by_id.map c.self.inside.next c.self.inside.spare c.self.inside.slots c.self.invariant.sound c.args.self.now c.self.view_is c.args.port none))
+    c.from_residual.ensures ∙ ap (option_and_then front) (sym (gone_port c.self.inside.records c.self.inside.by_id.map c.self.inside.next c.self.inside.spare c.self.inside.destroyed c.self.inside.slots c.self.invariant.sound c.args.self.now c.self.view_is c.args.port none))
 
 pub index-requires : goal.index-requires
 index-requires g c =
     let found : map.get c.self.inside.by_id.map c.args.port ≡ Some c.in_ok-key.key = sym (c.in_ok-key.ensures) in
-    ap is_some (record_at c.self.inside.records c.self.inside.by_id.map c.self.inside.next c.self.inside.spare c.self.inside.slots c.self.invariant.sound c.args.self.now c.self.view_is c.args.port c.in_ok-key.key found).1
+    ap is_some (record_at c.self.inside.records c.self.inside.by_id.map c.self.inside.next c.self.inside.spare c.self.inside.destroyed c.self.inside.slots c.self.invariant.sound c.args.self.now c.self.view_is c.args.port c.in_ok-key.key found).1
 
 pub returns-then-is_empty-clause-front : goal.returns-then-is_empty-clause-front
 returns-then-is_empty-clause-front g c =
     let found : map.get c.self.inside.by_id.map c.args.port ≡ Some c.in_ok-key.key = sym (c.in_ok-key.ensures) in
     let front : PortView g.row.M.Denot → Option g.row.M.Denot = λ p. slice_get p.queue 0 in
-    sym (no_front c.index.result.now.queue (eqb-true (length c.index.result.now.queue) 0 (sym c.if-is_empty.ensures))) ∙ ap (option_and_then front) (sym (live_port c.self.inside.records c.self.inside.by_id.map c.self.inside.next c.self.inside.spare c.self.inside.slots c.self.invariant.sound c.args.self.now c.self.view_is c.args.port c.in_ok-key.key c.index.result.now found c.index.ensures))
+    sym (no_front c.index.result.now.queue (eqb-true (length c.index.result.now.queue) 0 (sym c.if-is_empty.ensures))) ∙ ap (option_and_then front) (sym (live_port c.self.inside.records c.self.inside.by_id.map c.self.inside.next c.self.inside.spare c.self.inside.destroyed c.self.inside.slots c.self.invariant.sound c.args.self.now c.self.view_is c.args.port c.in_ok-key.key c.index.result.now found c.index.ensures))
 
 pub invariant_of-self : goal.invariant_of-self
 invariant_of-self g c =
     let found : map.get c.self.inside.by_id.map c.args.port ≡ Some c.in_ok-key.key = sym (c.in_ok-key.ensures) in
-    let there = record_at c.self.inside.records c.self.inside.by_id.map c.self.inside.next c.self.inside.spare c.self.inside.slots c.self.invariant.sound c.args.self.now c.self.view_is c.args.port c.in_ok-key.key found in
+    let there = record_at c.self.inside.records c.self.inside.by_id.map c.self.inside.next c.self.inside.spare c.self.inside.destroyed c.self.inside.slots c.self.invariant.sound c.args.self.now c.self.view_is c.args.port c.in_ok-key.key found in
     let r : Record g.row.M.Denot = there.0 in
     let popped = c.pop_at-message.ensures.after r there.1 in
     let a : Record g.row.M.Denot = record { id = r.id; queue = popped.0; attributes = r.attributes } in
@@ -43,8 +43,8 @@ invariant_of-self g c =
     let now : get c.pop_at-message.new.records c.in_ok-key.key ≡ Some a = ap (λ (t : Slab (Record g.row.M.Denot)). get t c.in_ok-key.key) popped.2 ∙ (turns-set c.self.inside.records c.in_ok-key.key r a there.1).changed in
     let moved : IsMoved c.self.inside.ready c.rejoin.new.lists c.in_ok-key.key (ready_set a) = subst (λ o. IsMoved c.self.inside.ready c.rejoin.new.lists c.in_ok-key.key o) (c.ready_at-now.ensures a now) c.rejoin.ensures.moved in
     record {
-      sound = subst (λ (t : Slab (Record g.row.M.Denot)). IsSound t c.self.inside.by_id.map c.self.inside.next c.pop_at-message.new.spare c.self.inside.slots) (sym popped.2)
-          (sound-set c.self.inside.records c.self.inside.by_id.map c.self.inside.next c.self.inside.spare c.pop_at-message.new.spare c.self.inside.slots c.self.invariant.sound c.args.self.now c.self.view_is c.args.port c.in_ok-key.key r a found there.1 refl (omega arith));
+      sound = subst (λ (t : Slab (Record g.row.M.Denot)). IsSound t c.self.inside.by_id.map c.self.inside.next c.pop_at-message.new.spare c.self.inside.destroyed c.self.inside.slots) (sym popped.2)
+          (sound-set c.self.inside.records c.self.inside.by_id.map c.self.inside.next c.self.inside.spare c.pop_at-message.new.spare c.self.inside.destroyed c.self.inside.slots c.self.invariant.sound c.args.self.now c.self.view_is c.args.port c.in_ok-key.key r a found there.1 refl (omega arith));
       readied = subst (λ (t : Slab (Record g.row.M.Denot)). IsReadied (get t) c.rejoin.new.lists) (sym popped.2) (listed-set ready_set c.self.inside.records c.self.inside.ready c.rejoin.new.lists c.in_ok-key.key r a c.self.invariant.readied there.1 moved);
       membered = subst (λ (t : Slab (Record g.row.M.Denot)). IsMembered (get t) c.self.inside.members) (sym popped.2) (membered-set c.self.inside.records c.self.inside.members c.in_ok-key.key r a c.self.invariant.membered there.1 refl);
     }
@@ -52,37 +52,38 @@ invariant_of-self g c =
 pub returns-clause-front : goal.returns-clause-front
 returns-clause-front g c =
     let found : map.get c.self.inside.by_id.map c.args.port ≡ Some c.in_ok-key.key = sym (c.in_ok-key.ensures) in
-    let there = record_at c.self.inside.records c.self.inside.by_id.map c.self.inside.next c.self.inside.spare c.self.inside.slots c.self.invariant.sound c.args.self.now c.self.view_is c.args.port c.in_ok-key.key found in
+    let there = record_at c.self.inside.records c.self.inside.by_id.map c.self.inside.next c.self.inside.spare c.self.inside.destroyed c.self.inside.slots c.self.invariant.sound c.args.self.now c.self.view_is c.args.port c.in_ok-key.key found in
     let r : Record g.row.M.Denot = there.0 in
     let popped = c.pop_at-message.ensures.after r there.1 in
     let a : Record g.row.M.Denot = record { id = r.id; queue = popped.0; attributes = r.attributes } in
     let longer : length r.queue ≡ length (c.pop_at-message.result ∷ popped.0) = ap length popped.1 in
     let more = c.pop_at-message.ensures.spare in
     let front : PortView g.row.M.Denot → Option g.row.M.Denot = λ p. slice_get p.queue 0 in
-    sym (ap (λ (l : List g.row.M.Denot). slice_get l 0) popped.1) ∙ ap (option_and_then front) (sym (live_port c.self.inside.records c.self.inside.by_id.map c.self.inside.next c.self.inside.spare c.self.inside.slots c.self.invariant.sound c.args.self.now c.self.view_is c.args.port c.in_ok-key.key r found there.1))
+    sym (ap (λ (l : List g.row.M.Denot). slice_get l 0) popped.1) ∙ ap (option_and_then front) (sym (live_port c.self.inside.records c.self.inside.by_id.map c.self.inside.next c.self.inside.spare c.self.inside.destroyed c.self.inside.slots c.self.invariant.sound c.args.self.now c.self.view_is c.args.port c.in_ok-key.key r found there.1))
 
 pub returns-clause-taken : goal.returns-clause-taken
 returns-clause-taken g c p h =
     let found : map.get c.self.inside.by_id.map c.args.port ≡ Some c.in_ok-key.key = sym (c.in_ok-key.ensures) in
-    let there = record_at c.self.inside.records c.self.inside.by_id.map c.self.inside.next c.self.inside.spare c.self.inside.slots c.self.invariant.sound c.args.self.now c.self.view_is c.args.port c.in_ok-key.key found in
+    let there = record_at c.self.inside.records c.self.inside.by_id.map c.self.inside.next c.self.inside.spare c.self.inside.destroyed c.self.inside.slots c.self.invariant.sound c.args.self.now c.self.view_is c.args.port c.in_ok-key.key found in
     let r : Record g.row.M.Denot = there.0 in
     let popped = c.pop_at-message.ensures.after r there.1 in
     let a : Record g.row.M.Denot = record { id = r.id; queue = popped.0; attributes = r.attributes } in
     let longer : length r.queue ≡ length (c.pop_at-message.result ∷ popped.0) = ap length popped.1 in
     let more = c.pop_at-message.ensures.spare in
-    let is : p ≡ port_of r = is_port c.self.inside.records c.self.inside.by_id.map c.self.inside.next c.self.inside.spare c.pop_at-message.new.spare c.self.inside.slots c.self.invariant.sound c.args.self.now c.self.view_is c.args.port c.in_ok-key.key r a found there.1 refl (omega arith) p h in
-    let view : Slab (Record g.row.M.Denot) → PortsView g.row.M.Denot = λ t. record { ports = ports_of (get t) c.self.inside.by_id.map; ready = turns_at (get t) c.rejoin.new.lists.lists; made = made_of c.self.inside.next; spare = length c.pop_at-message.new.spare } in
+    let is : p ≡ port_of r = is_port c.self.inside.records c.self.inside.by_id.map c.self.inside.next c.self.inside.spare c.pop_at-message.new.spare c.self.inside.destroyed c.self.inside.slots c.self.invariant.sound c.args.self.now c.self.view_is c.args.port c.in_ok-key.key r a found there.1 refl (omega arith) p h in
+    let view : Slab (Record g.row.M.Denot) → PortsView g.row.M.Denot = λ t. record { ports = ports_of (get t) c.self.inside.by_id.map; ready = turns_at (get t) c.rejoin.new.lists.lists; made = made_of c.self.inside.next; spare = length c.pop_at-message.new.spare; destroyed = c.self.inside.destroyed } in
     let after : List g.row.M.Denot → Attributes → ℕ → PortsView g.row.M.Denot = λ l b n. record {
       ports = map.insert c.args.self.now.ports c.args.port (let q : PortView g.row.M.Denot = record { queue = l; attributes = b } in q);
       ready = turned c.args.self.now.ready c.args.port (map.get c.args.self.now.ports c.args.port) (let q : PortView g.row.M.Denot = record { queue = l; attributes = b } in q);
       made = c.args.self.now.made;
       spare = n;
+      destroyed = c.args.self.now.destroyed;
     } in
     let was : length c.self.inside.spare ≡ c.args.self.now.spare = ap (λ (b : PortsView g.row.M.Denot). b.spare) c.self.view_is in
     let rest : popped.0 ≡ drop 1 p.queue = ap (λ (l : List g.row.M.Denot). drop 1 l) (sym popped.1 ∙ ap (λ (q : PortView g.row.M.Denot). q.queue) (sym is)) in
     ap view popped.2
-    ∙ view-set c.self.inside.records c.self.inside.by_id.map c.self.inside.next c.self.inside.spare c.pop_at-message.new.spare c.self.inside.slots c.self.invariant.sound c.args.self.now c.self.view_is c.args.port c.in_ok-key.key r a found there.1 refl (omega arith) (turns_at (get (with_value c.self.inside.records c.in_ok-key.key a)) c.rejoin.new.lists.lists)
-    (turned-taken c.self.inside.records c.self.inside.by_id.map c.self.inside.next c.self.inside.spare c.self.inside.slots c.self.invariant.sound c.self.inside.ready c.args.self.now c.self.view_is c.self.invariant.readied c.args.port c.in_ok-key.key r a found there.1 refl c.rejoin.new.lists (omega arith) (c.rejoin.ensures.turned ∙ ap (λ o. at_end (out_of c.self.inside.ready c.in_ok-key.key o) c.in_ok-key.key c.ready_at-now.result) (c.ready_at-was.ensures r there.1)
+    ∙ view-set c.self.inside.records c.self.inside.by_id.map c.self.inside.next c.self.inside.spare c.pop_at-message.new.spare c.self.inside.destroyed c.self.inside.slots c.self.invariant.sound c.args.self.now c.self.view_is c.args.port c.in_ok-key.key r a found there.1 refl (omega arith) (turns_at (get (with_value c.self.inside.records c.in_ok-key.key a)) c.rejoin.new.lists.lists)
+    (turned-taken c.self.inside.records c.self.inside.by_id.map c.self.inside.next c.self.inside.spare c.self.inside.destroyed c.self.inside.slots c.self.invariant.sound c.self.inside.ready c.args.self.now c.self.view_is c.self.invariant.readied c.args.port c.in_ok-key.key r a found there.1 refl c.rejoin.new.lists (omega arith) (c.rejoin.ensures.turned ∙ ap (λ o. at_end (out_of c.self.inside.ready c.in_ok-key.key o) c.in_ok-key.key c.ready_at-now.result) (c.ready_at-was.ensures r there.1)
     ∙ ap (at_end (out_of c.self.inside.ready c.in_ok-key.key (ready_set r)) c.in_ok-key.key) (c.ready_at-now.ensures a (ap (λ (t : Slab (Record g.row.M.Denot)). get t c.in_ok-key.key) popped.2 ∙ (turns-set c.self.inside.records c.in_ok-key.key r a there.1).changed))))
     ∙ ap (λ l. after l r.attributes (length c.pop_at-message.new.spare)) rest
     ∙ ap (λ (q : PortView g.row.M.Denot). after (drop 1 p.queue) q.attributes (length c.pop_at-message.new.spare)) (sym is)
@@ -91,5 +92,5 @@ returns-clause-taken g c p h =
 pub rejoin-requires-clause-was : goal.rejoin-requires-clause-was
 rejoin-requires-clause-was g c =
     let found : map.get c.self.inside.by_id.map c.args.port ≡ Some c.in_ok-key.key = sym (c.in_ok-key.ensures) in
-    let there = record_at c.self.inside.records c.self.inside.by_id.map c.self.inside.next c.self.inside.spare c.self.inside.slots c.self.invariant.sound c.args.self.now c.self.view_is c.args.port c.in_ok-key.key found in
+    let there = record_at c.self.inside.records c.self.inside.by_id.map c.self.inside.next c.self.inside.spare c.self.inside.destroyed c.self.inside.slots c.self.invariant.sound c.args.self.now c.self.view_is c.args.port c.in_ok-key.key found in
     subst (λ o. StandsIn c.self.inside.ready c.in_ok-key.key o) (sym (c.ready_at-was.ensures there.0 there.1)) (c.self.invariant.readied.stands c.in_ok-key.key there.0 there.1)

@@ -14,18 +14,18 @@ use Rattle.port.proofs.Ports.enqueue.Goals as goal
 
 pub unwrap-key-requires : goal.unwrap-key-requires
 unwrap-key-requires g c =
-    let there = live_at c.self.inside.records c.self.inside.by_id.map c.self.inside.next c.self.inside.spare c.self.inside.slots c.self.invariant.sound c.args.self.now c.self.view_is c.args.port c.requires.live in
+    let there = live_at c.self.inside.records c.self.inside.by_id.map c.self.inside.next c.self.inside.spare c.self.inside.destroyed c.self.inside.slots c.self.invariant.sound c.args.self.now c.self.view_is c.args.port c.requires.live in
     ap is_some (c.key_of.ensures ∙ sym (refl) ∙ there.1)
 
 pub push_at-requires-clause-there : goal.push_at-requires-clause-there
 push_at-requires-clause-there g c =
     let found : map.get c.self.inside.by_id.map c.args.port ≡ Some c.unwrap-key.result = sym (sym c.unwrap-key.ensures ∙ c.key_of.ensures) in
-    ap is_some (record_at c.self.inside.records c.self.inside.by_id.map c.self.inside.next c.self.inside.spare c.self.inside.slots c.self.invariant.sound c.args.self.now c.self.view_is c.args.port c.unwrap-key.result found).1
+    ap is_some (record_at c.self.inside.records c.self.inside.by_id.map c.self.inside.next c.self.inside.spare c.self.inside.destroyed c.self.inside.slots c.self.invariant.sound c.args.self.now c.self.view_is c.args.port c.unwrap-key.result found).1
 
 pub invariant_of-self : goal.invariant_of-self
 invariant_of-self g c =
     let found : map.get c.self.inside.by_id.map c.args.port ≡ Some c.unwrap-key.result = sym (sym c.unwrap-key.ensures ∙ c.key_of.ensures) in
-    let there = record_at c.self.inside.records c.self.inside.by_id.map c.self.inside.next c.self.inside.spare c.self.inside.slots c.self.invariant.sound c.args.self.now c.self.view_is c.args.port c.unwrap-key.result found in
+    let there = record_at c.self.inside.records c.self.inside.by_id.map c.self.inside.next c.self.inside.spare c.self.inside.destroyed c.self.inside.slots c.self.invariant.sound c.args.self.now c.self.view_is c.args.port c.unwrap-key.result found in
     let r : Record g.row.M.Denot = there.0 in
     let a : Record g.row.M.Denot = record { id = r.id; queue = r.queue ++ c.args.message ∷ []; attributes = r.attributes } in
     let longer : length (r.queue ++ c.args.message ∷ []) ≡ length r.queue + 1 = length-append r.queue (c.args.message ∷ []) in
@@ -33,8 +33,8 @@ invariant_of-self g c =
     let now : get c.push_at.new.records c.unwrap-key.result ≡ Some a = ap (λ (t : Slab (Record g.row.M.Denot)). get t c.unwrap-key.result) (c.push_at.ensures.after r there.1) ∙ (turns-set c.self.inside.records c.unwrap-key.result r a there.1).changed in
     let moved : IsMoved c.self.inside.ready c.renew.new.lists c.unwrap-key.result (ready_set a) = subst (λ o. IsMoved c.self.inside.ready c.renew.new.lists c.unwrap-key.result o) (c.ready_at-now.ensures a now) c.renew.ensures.moved in
     record {
-      sound = subst (λ (t : Slab (Record g.row.M.Denot)). IsSound t c.self.inside.by_id.map c.self.inside.next c.push_at.new.spare c.self.inside.slots) (sym (c.push_at.ensures.after r there.1))
-          (sound-set c.self.inside.records c.self.inside.by_id.map c.self.inside.next c.self.inside.spare c.push_at.new.spare c.self.inside.slots c.self.invariant.sound c.args.self.now c.self.view_is c.args.port c.unwrap-key.result r a found there.1 refl (omega arith));
+      sound = subst (λ (t : Slab (Record g.row.M.Denot)). IsSound t c.self.inside.by_id.map c.self.inside.next c.push_at.new.spare c.self.inside.destroyed c.self.inside.slots) (sym (c.push_at.ensures.after r there.1))
+          (sound-set c.self.inside.records c.self.inside.by_id.map c.self.inside.next c.self.inside.spare c.push_at.new.spare c.self.inside.destroyed c.self.inside.slots c.self.invariant.sound c.args.self.now c.self.view_is c.args.port c.unwrap-key.result r a found there.1 refl (omega arith));
       readied = subst (λ (t : Slab (Record g.row.M.Denot)). IsReadied (get t) c.renew.new.lists) (sym (c.push_at.ensures.after r there.1)) (listed-set ready_set c.self.inside.records c.self.inside.ready c.renew.new.lists c.unwrap-key.result r a c.self.invariant.readied there.1 moved);
       membered = subst (λ (t : Slab (Record g.row.M.Denot)). IsMembered (get t) c.self.inside.members) (sym (c.push_at.ensures.after r there.1)) (membered-set c.self.inside.records c.self.inside.members c.unwrap-key.result r a c.self.invariant.membered there.1 refl);
     }
@@ -42,18 +42,18 @@ invariant_of-self g c =
 pub returns : goal.returns
 returns g c p h =
     let found : map.get c.self.inside.by_id.map c.args.port ≡ Some c.unwrap-key.result = sym (sym c.unwrap-key.ensures ∙ c.key_of.ensures) in
-    let there = record_at c.self.inside.records c.self.inside.by_id.map c.self.inside.next c.self.inside.spare c.self.inside.slots c.self.invariant.sound c.args.self.now c.self.view_is c.args.port c.unwrap-key.result found in
+    let there = record_at c.self.inside.records c.self.inside.by_id.map c.self.inside.next c.self.inside.spare c.self.inside.destroyed c.self.inside.slots c.self.invariant.sound c.args.self.now c.self.view_is c.args.port c.unwrap-key.result found in
     let r : Record g.row.M.Denot = there.0 in
     let a : Record g.row.M.Denot = record { id = r.id; queue = r.queue ++ c.args.message ∷ []; attributes = r.attributes } in
     let longer : length (r.queue ++ c.args.message ∷ []) ≡ length r.queue + 1 = length-append r.queue (c.args.message ∷ []) in
     let less = c.push_at.ensures.spare in
-    let is : p ≡ port_of r = is_port c.self.inside.records c.self.inside.by_id.map c.self.inside.next c.self.inside.spare c.push_at.new.spare c.self.inside.slots c.self.invariant.sound c.args.self.now c.self.view_is c.args.port c.unwrap-key.result r a found there.1 refl (omega arith) p h in
-    let view : Slab (Record g.row.M.Denot) → PortsView g.row.M.Denot = λ t. record { ports = ports_of (get t) c.self.inside.by_id.map; ready = turns_at (get t) c.renew.new.lists.lists; made = made_of c.self.inside.next; spare = length c.push_at.new.spare } in
-    let after : PortView g.row.M.Denot → ℕ → PortsView g.row.M.Denot = λ q n. record { ports = map.insert c.args.self.now.ports c.args.port (let b : PortView g.row.M.Denot = record { queue = q.queue ++ c.args.message ∷ []; attributes = q.attributes } in b); ready = turned c.args.self.now.ready c.args.port (map.get c.args.self.now.ports c.args.port) (let b : PortView g.row.M.Denot = record { queue = q.queue ++ c.args.message ∷ []; attributes = q.attributes } in b); made = c.args.self.now.made; spare = n } in
+    let is : p ≡ port_of r = is_port c.self.inside.records c.self.inside.by_id.map c.self.inside.next c.self.inside.spare c.push_at.new.spare c.self.inside.destroyed c.self.inside.slots c.self.invariant.sound c.args.self.now c.self.view_is c.args.port c.unwrap-key.result r a found there.1 refl (omega arith) p h in
+    let view : Slab (Record g.row.M.Denot) → PortsView g.row.M.Denot = λ t. record { ports = ports_of (get t) c.self.inside.by_id.map; ready = turns_at (get t) c.renew.new.lists.lists; made = made_of c.self.inside.next; spare = length c.push_at.new.spare; destroyed = c.self.inside.destroyed } in
+    let after : PortView g.row.M.Denot → ℕ → PortsView g.row.M.Denot = λ q n. record { ports = map.insert c.args.self.now.ports c.args.port (let b : PortView g.row.M.Denot = record { queue = q.queue ++ c.args.message ∷ []; attributes = q.attributes } in b); ready = turned c.args.self.now.ready c.args.port (map.get c.args.self.now.ports c.args.port) (let b : PortView g.row.M.Denot = record { queue = q.queue ++ c.args.message ∷ []; attributes = q.attributes } in b); made = c.args.self.now.made; spare = n; destroyed = c.args.self.now.destroyed } in
     let was : length c.self.inside.spare ≡ c.args.self.now.spare = ap (λ (b : PortsView g.row.M.Denot). b.spare) c.self.view_is in
     ap view (c.push_at.ensures.after r there.1)
-    ∙ view-set c.self.inside.records c.self.inside.by_id.map c.self.inside.next c.self.inside.spare c.push_at.new.spare c.self.inside.slots c.self.invariant.sound c.args.self.now c.self.view_is c.args.port c.unwrap-key.result r a found there.1 refl (omega arith) (turns_at (get (with_value c.self.inside.records c.unwrap-key.result a)) c.renew.new.lists.lists)
-    (turned-renewed c.self.inside.records c.self.inside.by_id.map c.self.inside.next c.self.inside.spare c.self.inside.slots c.self.invariant.sound c.self.inside.ready c.args.self.now c.self.view_is c.self.invariant.readied c.args.port c.unwrap-key.result r a found there.1 refl c.renew.new.lists (omega arith) (c.renew.ensures.turned ∙ ap (λ o. cond (same_set o c.ready_at-now.result) c.self.inside.ready (at_end (out_of c.self.inside.ready c.unwrap-key.result o) c.unwrap-key.result c.ready_at-now.result)) (c.ready_at-was.ensures r there.1)
+    ∙ view-set c.self.inside.records c.self.inside.by_id.map c.self.inside.next c.self.inside.spare c.push_at.new.spare c.self.inside.destroyed c.self.inside.slots c.self.invariant.sound c.args.self.now c.self.view_is c.args.port c.unwrap-key.result r a found there.1 refl (omega arith) (turns_at (get (with_value c.self.inside.records c.unwrap-key.result a)) c.renew.new.lists.lists)
+    (turned-renewed c.self.inside.records c.self.inside.by_id.map c.self.inside.next c.self.inside.spare c.self.inside.destroyed c.self.inside.slots c.self.invariant.sound c.self.inside.ready c.args.self.now c.self.view_is c.self.invariant.readied c.args.port c.unwrap-key.result r a found there.1 refl c.renew.new.lists (omega arith) (c.renew.ensures.turned ∙ ap (λ o. cond (same_set o c.ready_at-now.result) c.self.inside.ready (at_end (out_of c.self.inside.ready c.unwrap-key.result o) c.unwrap-key.result c.ready_at-now.result)) (c.ready_at-was.ensures r there.1)
     ∙ ap (λ o. cond (same_set (ready_set r) o) c.self.inside.ready (at_end (out_of c.self.inside.ready c.unwrap-key.result (ready_set r)) c.unwrap-key.result o)) (c.ready_at-now.ensures a (ap (λ (t : Slab (Record g.row.M.Denot)). get t c.unwrap-key.result) (c.push_at.ensures.after r there.1) ∙ (turns-set c.self.inside.records c.unwrap-key.result r a there.1).changed))))
     ∙ ap (λ q. after q (length c.push_at.new.spare)) (sym is)
     ∙ ap (after p) (omega arith)
@@ -61,7 +61,7 @@ returns g c p h =
 pub ready_at-now-requires : goal.ready_at-now-requires
 ready_at-now-requires g c =
     let found : map.get c.self.inside.by_id.map c.args.port ≡ Some c.unwrap-key.result = sym (sym c.unwrap-key.ensures ∙ c.key_of.ensures) in
-    let there = record_at c.self.inside.records c.self.inside.by_id.map c.self.inside.next c.self.inside.spare c.self.inside.slots c.self.invariant.sound c.args.self.now c.self.view_is c.args.port c.unwrap-key.result found in
+    let there = record_at c.self.inside.records c.self.inside.by_id.map c.self.inside.next c.self.inside.spare c.self.inside.destroyed c.self.inside.slots c.self.invariant.sound c.args.self.now c.self.view_is c.args.port c.unwrap-key.result found in
     let r : Record g.row.M.Denot = there.0 in
     let a : Record g.row.M.Denot = record { id = r.id; queue = r.queue ++ c.args.message ∷ []; attributes = r.attributes } in
     ap is_some (ap (λ (t : Slab (Record g.row.M.Denot)). get t c.unwrap-key.result) (c.push_at.ensures.after r there.1) ∙ (turns-set c.self.inside.records c.unwrap-key.result r a there.1).changed)
@@ -69,6 +69,6 @@ ready_at-now-requires g c =
 pub renew-requires-clause-was : goal.renew-requires-clause-was
 renew-requires-clause-was g c =
     let found : map.get c.self.inside.by_id.map c.args.port ≡ Some c.unwrap-key.result = sym (sym c.unwrap-key.ensures ∙ c.key_of.ensures) in
-    let there = record_at c.self.inside.records c.self.inside.by_id.map c.self.inside.next c.self.inside.spare c.self.inside.slots c.self.invariant.sound c.args.self.now c.self.view_is c.args.port c.unwrap-key.result found in
+    let there = record_at c.self.inside.records c.self.inside.by_id.map c.self.inside.next c.self.inside.spare c.self.inside.destroyed c.self.inside.slots c.self.invariant.sound c.args.self.now c.self.view_is c.args.port c.unwrap-key.result found in
     let r : Record g.row.M.Denot = there.0 in
     subst (λ o. StandsIn c.self.inside.ready c.unwrap-key.result o) (sym (c.ready_at-was.ensures r there.1)) (c.self.invariant.readied.stands c.unwrap-key.result r there.1)

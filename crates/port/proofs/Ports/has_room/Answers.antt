@@ -15,12 +15,12 @@ room_told a b n m e f = (λ t. let less : a < b = (less_told a b).0 t in omega a
 pub index-record-requires : goal.index-record-requires
 index-record-requires g c =
     let found : map.get c.self.inside.by_id.map c.args.port ≡ Some c.in-Some.key = sym (c.in-Some.ensures) in
-    ap is_some (record_at c.self.inside.records c.self.inside.by_id.map c.self.inside.next c.self.inside.spare c.self.inside.slots c.self.invariant.sound c.args.self.now c.self.view_is c.args.port c.in-Some.key found).1
+    ap is_some (record_at c.self.inside.records c.self.inside.by_id.map c.self.inside.next c.self.inside.spare c.self.inside.destroyed c.self.inside.slots c.self.invariant.sound c.args.self.now c.self.view_is c.args.port c.in-Some.key found).1
 
 pub returns-in-Some : goal.returns-in-Some
 returns-in-Some g c =
     let found : map.get c.self.inside.by_id.map c.args.port ≡ Some c.in-Some.key = sym (c.in-Some.ensures) in
-    let is : map.get c.args.self.now.ports c.args.port ≡ Some (port_of c.index-record.result.now) = live_port c.self.inside.records c.self.inside.by_id.map c.self.inside.next c.self.inside.spare c.self.inside.slots c.self.invariant.sound c.args.self.now c.self.view_is c.args.port c.in-Some.key c.index-record.result.now found c.index-record.ensures in
+    let is : map.get c.args.self.now.ports c.args.port ≡ Some (port_of c.index-record.result.now) = live_port c.self.inside.records c.self.inside.by_id.map c.self.inside.next c.self.inside.spare c.self.inside.destroyed c.self.inside.slots c.self.invariant.sound c.args.self.now c.self.view_is c.args.port c.in-Some.key c.index-record.result.now found c.index-record.ensures in
     record {
       live = λ p h.
           let same : port_of c.index-record.result.now ≡ p = same_some (port_of c.index-record.result.now) p (sym is ∙ h) in
@@ -31,7 +31,7 @@ returns-in-Some g c =
 
 pub returns-in-None : goal.returns-in-None
 returns-in-None g c =
-    let gone : map.get c.args.self.now.ports c.args.port ≡ None = gone_port c.self.inside.records c.self.inside.by_id.map c.self.inside.next c.self.inside.spare c.self.inside.slots c.self.invariant.sound c.args.self.now c.self.view_is c.args.port (sym c.in-None.ensures) in
+    let gone : map.get c.args.self.now.ports c.args.port ≡ None = gone_port c.self.inside.records c.self.inside.by_id.map c.self.inside.next c.self.inside.spare c.self.inside.destroyed c.self.inside.slots c.self.invariant.sound c.args.self.now c.self.view_is c.args.port (sym c.in-None.ensures) in
     record {
       live = λ p h. absurd (some_or_none p _ h gone);
       gone = λ h. refl;

@@ -14,7 +14,7 @@ use Rattle.port.proofs.Ports.new.Goals as goal
 
 pub invariant_of-result : goal.invariant_of-result
 invariant_of-result g c = record {
-  sound = sound-empty c.new.result c.new-2.result.map c.new-5.result c.new.ensures.empty (ap (λ (w : MapView ℕ). w.map) c.new-2.ensures) c.new-5.ensures;
+  sound = sound-empty c.new.result c.new-2.result.map c.new-5.result c.new-6.result c.new.ensures.empty (ap (λ (w : MapView ℕ). w.map) c.new-2.ensures) c.new-5.ensures c.new-6.ensures;
   readied = listed-none ready_set (get c.new.result) c.new-3.result (λ k. ap (λ (l : List (Option (Record g.row.M.Denot))). get_or l k None) c.new.ensures.empty) (ap (λ (w : ListsView). w.lists) c.new-3.ensures);
   membered = listed-none member_set (get c.new.result) c.new-4.result (λ k. ap (λ (l : List (Option (Record g.row.M.Denot))). get_or l k None) c.new.ensures.empty) (ap (λ (w : ListsView). w.lists) c.new-4.ensures);
 }
@@ -22,7 +22,8 @@ invariant_of-result g c = record {
 pub returns : goal.returns
 returns g c =
     let lists : map.FinMap nat_cmp (List ℕ) = c.new-3.result.lists in
-    let mk : map.FinMap nat_cmp (PortView g.row.M.Denot) → map.FinMap nat_cmp (List ℕ) → ℕ → PortsView g.row.M.Denot = λ ports turns n. record { ports = ports; ready = turns; made = 0; spare = n } in
-    ap (λ ports. mk ports (turns_at (get c.new.result) lists) (length c.new-5.result)) (ports-empty (get c.new.result) c.new-2.result.map (ap (λ (w : MapView ℕ). w.map) c.new-2.ensures))
-    ∙ ap (λ turns. mk map.empty turns (length c.new-5.result)) (turns-none (get c.new.result) lists (ap (λ (w : ListsView). w.lists) c.new-3.ensures))
-    ∙ ap (λ l. mk map.empty map.empty (length l)) c.new-5.ensures
+    let mk : map.FinMap nat_cmp (PortView g.row.M.Denot) → map.FinMap nat_cmp (List ℕ) → ℕ → List g.row.M.Denot → PortsView g.row.M.Denot = λ ports turns n gone. record { ports = ports; ready = turns; made = 0; spare = n; destroyed = gone } in
+    ap (λ ports. mk ports (turns_at (get c.new.result) lists) (length c.new-5.result) c.new-6.result) (ports-empty (get c.new.result) c.new-2.result.map (ap (λ (w : MapView ℕ). w.map) c.new-2.ensures))
+    ∙ ap (λ turns. mk map.empty turns (length c.new-5.result) c.new-6.result) (turns-none (get c.new.result) lists (ap (λ (w : ListsView). w.lists) c.new-3.ensures))
+    ∙ ap (λ l. mk map.empty map.empty (length l) c.new-6.result) c.new-5.ensures
+    ∙ ap (mk map.empty map.empty 0) c.new-6.ensures

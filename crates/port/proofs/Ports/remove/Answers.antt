@@ -17,16 +17,16 @@ use Rattle.port.proofs.Ports.remove.Goals as goal
 pub remove-requires-in-Some : goal.remove-requires-in-Some
 remove-requires-in-Some g c =
     let found : map.get c.self.inside.by_id.map c.args.port ≡ Some c.in-Some.key = sym (c.in-Some.ensures.value ∙ ap (map.get c.self.inside.by_id.map) c.number.ensures) in
-    ap is_some (record_at c.self.inside.records c.self.inside.by_id.map c.self.inside.next c.self.inside.spare c.self.inside.slots c.self.invariant.sound c.args.self.now c.self.view_is c.args.port c.in-Some.key found).1
+    ap is_some (record_at c.self.inside.records c.self.inside.by_id.map c.self.inside.next c.self.inside.spare c.self.inside.destroyed c.self.inside.slots c.self.invariant.sound c.args.self.now c.self.view_is c.args.port c.in-Some.key found).1
 
 pub invariant_of-self : goal.invariant_of-self
 invariant_of-self g c =
     let found : map.get c.self.inside.by_id.map c.args.port ≡ Some c.in-Some.key = sym (c.in-Some.ensures.value ∙ ap (map.get c.self.inside.by_id.map) c.number.ensures) in
-    let quiet : length c.remove-in-Some.result.queue ≡ 0 = (c.requires (port_of c.remove-in-Some.result) (live_port c.self.inside.records c.self.inside.by_id.map c.self.inside.next c.self.inside.spare c.self.inside.slots c.self.invariant.sound c.args.self.now c.self.view_is c.args.port c.in-Some.key c.remove-in-Some.result found c.remove-in-Some.ensures.value)) in
+    let quiet : length c.remove-in-Some.result.queue ≡ 0 = (c.requires (port_of c.remove-in-Some.result) (live_port c.self.inside.records c.self.inside.by_id.map c.self.inside.next c.self.inside.spare c.self.inside.destroyed c.self.inside.slots c.self.invariant.sound c.args.self.now c.self.view_is c.args.port c.in-Some.key c.remove-in-Some.result found c.remove-in-Some.ensures.value)) in
     let out : c.remove.new.self.map ≡ map.remove c.self.inside.by_id.map c.args.port =
     ap (λ (w : MapView ℕ). w.map) c.remove.ensures.after ∙ ap (map.remove c.self.inside.by_id.map) c.number.ensures in
     record {
-      sound = sound-went c.self.inside.records c.remove-in-Some.new.self c.self.inside.by_id.map c.remove.new.self.map c.self.inside.next c.self.inside.spare c.self.inside.slots c.self.invariant.sound c.args.self.now c.self.view_is
+      sound = sound-went c.self.inside.records c.remove-in-Some.new.self c.self.inside.by_id.map c.remove.new.self.map c.self.inside.next c.self.inside.spare c.self.inside.destroyed c.self.inside.slots c.self.invariant.sound c.args.self.now c.self.view_is
           c.args.port c.in-Some.key c.remove-in-Some.result found c.remove-in-Some.ensures.value quiet c.remove-in-Some.ensures.updates.changed c.remove-in-Some.ensures.updates.others out;
       readied = listed-went ready_set (get c.self.inside.records) (get c.remove-in-Some.new.self) c.self.inside.ready c.self.invariant.readied c.in-Some.key c.self.inside.ready
           (record { changed = c.remove-in-Some.ensures.updates.changed; others = c.remove-in-Some.ensures.updates.others })
@@ -39,10 +39,10 @@ invariant_of-self g c =
 pub returns-in-Some : goal.returns-in-Some
 returns-in-Some g c =
     let found : map.get c.self.inside.by_id.map c.args.port ≡ Some c.in-Some.key = sym (c.in-Some.ensures.value ∙ ap (map.get c.self.inside.by_id.map) c.number.ensures) in
-    let quiet : length c.remove-in-Some.result.queue ≡ 0 = (c.requires (port_of c.remove-in-Some.result) (live_port c.self.inside.records c.self.inside.by_id.map c.self.inside.next c.self.inside.spare c.self.inside.slots c.self.invariant.sound c.args.self.now c.self.view_is c.args.port c.in-Some.key c.remove-in-Some.result found c.remove-in-Some.ensures.value)) in
+    let quiet : length c.remove-in-Some.result.queue ≡ 0 = (c.requires (port_of c.remove-in-Some.result) (live_port c.self.inside.records c.self.inside.by_id.map c.self.inside.next c.self.inside.spare c.self.inside.destroyed c.self.inside.slots c.self.invariant.sound c.args.self.now c.self.view_is c.args.port c.in-Some.key c.remove-in-Some.result found c.remove-in-Some.ensures.value)) in
     let out : c.remove.new.self.map ≡ map.remove c.self.inside.by_id.map c.args.port =
     ap (λ (w : MapView ℕ). w.map) c.remove.ensures.after ∙ ap (map.remove c.self.inside.by_id.map) c.number.ensures in
-    view-went c.self.inside.records c.remove-in-Some.new.self c.self.inside.by_id.map c.remove.new.self.map c.self.inside.next c.self.inside.spare c.self.inside.slots c.self.invariant.sound c.args.self.now c.self.view_is
+    view-went c.self.inside.records c.remove-in-Some.new.self c.self.inside.by_id.map c.remove.new.self.map c.self.inside.next c.self.inside.spare c.self.inside.destroyed c.self.inside.slots c.self.invariant.sound c.args.self.now c.self.view_is
     c.args.port c.in-Some.key c.remove-in-Some.result found c.remove-in-Some.ensures.value quiet c.remove-in-Some.ensures.updates.changed c.remove-in-Some.ensures.updates.others out
     (turns_at (get c.remove-in-Some.new.self) c.self.inside.ready.lists)
     (turns-apart (get c.self.inside.records) (get c.remove-in-Some.new.self) c.self.inside.ready c.in-Some.key (apart-quiet (get c.self.inside.records) c.self.inside.ready c.self.invariant.readied c.in-Some.key c.remove-in-Some.result c.remove-in-Some.ensures.value quiet)
@@ -51,24 +51,24 @@ returns-in-Some g c =
 pub returns-in-None : goal.returns-in-None
 returns-in-None g c =
     let none : map.get c.self.inside.by_id.map c.args.port ≡ None = sym (c.in-None.ensures.value ∙ ap (map.get c.self.inside.by_id.map) c.number.ensures) in
-    let view : map.FinMap nat_cmp ℕ → PortsView g.row.M.Denot = λ keys. record { ports = ports_of (get c.self.inside.records) keys; ready = turns_at (get c.self.inside.records) c.self.inside.ready.lists; made = made_of c.self.inside.next; spare = length c.self.inside.spare } in
-    let after : map.FinMap nat_cmp (PortView g.row.M.Denot) → PortsView g.row.M.Denot = λ ports. record { ports = ports; ready = c.args.self.now.ready; made = c.args.self.now.made; spare = c.args.self.now.spare } in
+    let view : map.FinMap nat_cmp ℕ → PortsView g.row.M.Denot = λ keys. record { ports = ports_of (get c.self.inside.records) keys; ready = turns_at (get c.self.inside.records) c.self.inside.ready.lists; made = made_of c.self.inside.next; spare = length c.self.inside.spare; destroyed = c.self.inside.destroyed } in
+    let after : map.FinMap nat_cmp (PortView g.row.M.Denot) → PortsView g.row.M.Denot = λ ports. record { ports = ports; ready = c.args.self.now.ready; made = c.args.self.now.made; spare = c.args.self.now.spare; destroyed = c.args.self.now.destroyed } in
     let same : c.remove.new.self.map ≡ c.self.inside.by_id.map = ap (λ (w : MapView ℕ). w.map) c.remove.ensures.after ∙ ap (map.remove c.self.inside.by_id.map) c.number.ensures ∙ remove-absent c.self.inside.by_id.map c.args.port none in
-    ap view same ∙ c.self.view_is ∙ ap after (sym (remove-absent c.args.self.now.ports c.args.port (gone_port c.self.inside.records c.self.inside.by_id.map c.self.inside.next c.self.inside.spare c.self.inside.slots c.self.invariant.sound c.args.self.now c.self.view_is c.args.port none)))
+    ap view same ∙ c.self.view_is ∙ ap after (sym (remove-absent c.args.self.now.ports c.args.port (gone_port c.self.inside.records c.self.inside.by_id.map c.self.inside.next c.self.inside.spare c.self.inside.destroyed c.self.inside.slots c.self.invariant.sound c.args.self.now c.self.view_is c.args.port none)))
 
 pub invariant_of-self-in-None : goal.invariant_of-self-in-None
 invariant_of-self-in-None g c =
     let none : map.get c.self.inside.by_id.map c.args.port ≡ None = sym (c.in-None.ensures.value ∙ ap (map.get c.self.inside.by_id.map) c.number.ensures) in
     let same : c.remove.new.self.map ≡ c.self.inside.by_id.map = ap (λ (w : MapView ℕ). w.map) c.remove.ensures.after ∙ ap (map.remove c.self.inside.by_id.map) c.number.ensures ∙ remove-absent c.self.inside.by_id.map c.args.port none in
-    subst (λ (keys : map.FinMap nat_cmp ℕ). IsKept c.self.inside.records keys c.self.inside.next c.self.inside.spare c.self.inside.slots c.self.inside.ready c.self.inside.members) (sym same) c.self.invariant
+    subst (λ (keys : map.FinMap nat_cmp ℕ). IsKept c.self.inside.records keys c.self.inside.next c.self.inside.spare c.self.inside.destroyed c.self.inside.slots c.self.inside.ready c.self.inside.members) (sym same) c.self.invariant
 
 pub member_at-set-requires : goal.member_at-set-requires
 member_at-set-requires g c =
     let found : map.get c.self.inside.by_id.map c.args.port ≡ Some c.in-Some.key = sym (c.in-Some.ensures.value ∙ ap (map.get c.self.inside.by_id.map) c.number.ensures) in
-    ap is_some (record_at c.self.inside.records c.self.inside.by_id.map c.self.inside.next c.self.inside.spare c.self.inside.slots c.self.invariant.sound c.args.self.now c.self.view_is c.args.port c.in-Some.key found).1
+    ap is_some (record_at c.self.inside.records c.self.inside.by_id.map c.self.inside.next c.self.inside.spare c.self.inside.destroyed c.self.inside.slots c.self.invariant.sound c.args.self.now c.self.view_is c.args.port c.in-Some.key found).1
 
 pub leave-requires : goal.leave-requires
 leave-requires g c =
     let found : map.get c.self.inside.by_id.map c.args.port ≡ Some c.in-Some.key = sym (c.in-Some.ensures.value ∙ ap (map.get c.self.inside.by_id.map) c.number.ensures) in
-    let there = record_at c.self.inside.records c.self.inside.by_id.map c.self.inside.next c.self.inside.spare c.self.inside.slots c.self.invariant.sound c.args.self.now c.self.view_is c.args.port c.in-Some.key found in
+    let there = record_at c.self.inside.records c.self.inside.by_id.map c.self.inside.next c.self.inside.spare c.self.inside.destroyed c.self.inside.slots c.self.invariant.sound c.args.self.now c.self.view_is c.args.port c.in-Some.key found in
     subst (λ o. StandsIn c.self.inside.members c.in-Some.key o) (sym (c.member_at-set.ensures there.0 there.1)) (c.self.invariant.membered.stands c.in-Some.key there.0 there.1)
