@@ -112,7 +112,9 @@ impl High {
         Ok(())
     }
 
-    // Puts an entry under a name that is in use, or for which the place is kept. Takes no memory.
+    // Puts an entry under a name that is in use, or for which the place is kept. Takes no memory. Names
+    // above all pages are few: what is done for them stays out of the way of the others.
+    #[inline(never)]
     pub(crate) fn put(&mut self, name: u32, entry: Entry)
         requires place { (map.contains_key self.old.names name ≡ true) ⊎ (self.old.kept ≡ Some name) }
         ensures { self.new ≡ record self.old { names = map.insert self.old.names name entry } }
@@ -136,6 +138,7 @@ impl High {
     }
 
     // Takes out what stands under the name, and answers it.
+    #[inline(never)]
     pub(crate) fn remove(&mut self, name: u32) -> Option<Entry>
         ensures value { result ≡ map.get self.old.names name }
         ensures after { self.new ≡ record self.old { names = map.remove self.old.names name } }

@@ -153,6 +153,7 @@ impl Table {
     }
 
     // Puts an entry under an unused name, in its place. Takes no memory.
+    #[inline(always)]
     pub(crate) fn insert(&mut self, name: Name, entry: Entry)
         requires usable { IsUsable name }
         requires unused { map.get self.old.names name ≡ None }
@@ -197,6 +198,7 @@ impl Table {
     }
 
     // Takes out what stands under the name, and answers it.
+    #[inline(always)]
     pub(crate) fn remove(&mut self, name: Name) -> Option<Entry>
         ensures value { result ≡ map.get self.old.names name }
         ensures after { self.new ≡ record self.old { names = map.remove self.old.names name } }

@@ -158,14 +158,13 @@ fn take_out<V: Copy>(nodes: &mut Vec<Node<V>>, heads: &mut Vec<u32>, place: usiz
 }
 
 // Puts each node in its chain, where all chains are empty.
-fn link_all<V: Copy>(nodes: &mut Vec<Node<V>>, heads: &mut Vec<u32>)
-    requires some { 0 < length heads.old.items }
-    requires empty { (c : ℕ) → head_at heads.old.items c ≡ 0 }
-    requires few { length nodes.old.items < 2 ^ 32 }
-    ensures indexed { IsIndexed nodes.new.items heads.new.items }
-    ensures entries { SameEntries nodes.old.items nodes.new.items }
-    ensures heads { length heads.new.items ≡ length heads.old.items }
-    ensures capacity { vec_capacity nodes.new ≡ vec_capacity nodes.old }
+fn link_all<V: Copy>(nodes: &mut [Node<V>], heads: &mut [u32])
+    requires some { 0 < length heads.old }
+    requires empty { (c : ℕ) → head_at heads.old c ≡ 0 }
+    requires few { length nodes.old < 2 ^ 32 }
+    ensures indexed { IsIndexed nodes.new heads.new }
+    ensures entries { SameEntries nodes.old nodes.new }
+    ensures heads { length heads.new ≡ length heads.old }
 {
     for place in 0..nodes.len() {
         let slot = slot_of(nodes[place].key, heads.len());
@@ -180,10 +179,9 @@ fn make_slots(heads: &mut Vec<u32>, slots: usize) -> Result<(), AllocError>
     ensures empty { OnOk result ((c : ℕ) → head_at heads.new.items c ≡ 0) }
     ensures err { OnErr result (heads.new.items ≡ heads.old.items) }
 {
-    heads.resize(slots, 0)?;
-    for slot in 0..heads.len() {
-        heads[slot] = 0;
-    }
+    let mut made = Vec::new(*heads.allocator());
+    made.resize(slots, 0)?;
+    *heads = made;
     Ok(())
 }
 
@@ -205,7 +203,7 @@ fn widen<V: Copy>(nodes: &mut Vec<Node<V>>, heads: &mut Vec<u32>) -> Result<(), 
         .checked_next_power_of_two()
         .ok_or(AllocError)?;
     make_slots(heads, slots)?;
-    link_all(nodes, heads);
+    link_all(nodes.as_mut_slice(), heads.as_mut_slice());
     Ok(())
 }
 
