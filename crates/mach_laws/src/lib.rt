@@ -27,6 +27,7 @@ ghost use Rattle.mach_model.specs.Refusals.{Refuses, guards};
 ghost use Rattle.mach_model.specs.Machine.{Does, Done, Step, Run};
 ghost use Rattle.mach_model.specs.Lawful.{IsLawful};
 ghost use Rattle.mach_model.specs.Midway.{MidLawful};
+ghost use Rattle.mach_model.specs.Turns.{Ending, IsReached, IsDone, IsBounded, listed};
 ghost use Rattle.mach_laws.specs.Paths.{Stage, Path};
 ghost use Rattle.mach_laws.specs.Sent.{Accepts};
 ghost use Rattle.mach_laws.specs.Received.{AsksFrom, WasSent};
@@ -117,6 +118,15 @@ pub fn no_answer_is_lost()
 /// In a step no more ports die than there were rights, live ports and messages together before it.
 pub fn deaths_are_work()
     ensures { (now : ℕ) (old new : State) (event : Event) (reply : Reply) → Step now old event reply new → deaths old new ≤ work_in old }
+{}
+
+/// The end of a step can be made in turns, of which each judges a port, destroys a message, loses a right, buries a
+/// port or tells one that it has no senders: a chain of them that has nothing left to do has come to an end of the
+/// step, which is lawful. It has at most a turn for each port that died or was sent away, each message that waited at a dead port, each
+/// right that was lost in a message and each request that ended, and at least one for each port that died.
+pub fn turns_end_a_step()
+    ensures { (now : ℕ) (old mid : State) (owed : Owed) (ending : Ending) → MidLawful mid owed → IsReached old mid owed ending → IsDone old mid ending →
+        (new : State) × Settles now old mid owed new × IsLawful new × IsBounded mid new (listed ending.saved) ending }
 {}
 
 /// After every run, whatever an event may do can be made a step.

@@ -47,3 +47,12 @@ pub mod SettledDetermined
 pub mod SettledOnce
 pub mod Grounding
 pub mod GroundedSteps
+pub mod TurnsDeaths
+pub mod TurnsPosted
+pub mod TurnsSettle
+pub mod TurnsSound
+pub mod TurnsLeft
+pub mod TurnsCounted
+pub mod TurnsLogs
+pub mod TurnsMade
+pub mod TurnsBounded

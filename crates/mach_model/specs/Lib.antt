@@ -23,3 +23,4 @@ pub mod Lawful
 pub mod Unused
 pub mod Midway
 pub mod SameEnd
+pub mod Turns

@@ -1,0 +1,406 @@
+-- Each turn as a function: what it makes of an ending, and when that is a turn.
+use Rattle.std.proofs.Common.{◌≡◌, ℕ, suc, zero, ◌+◌, ◌<◌, ◌≤◌, List, [], ◌∷◌, ◌++◌, refl, sym, ap, subst, ◌∙◌, arith, true, false, Bool, ◌⊎◌, inl, inr, length, get_or}
+use Rattle.std.specs.Prelude.{◌≢◌, if◌then◌else◌, All, Contains, ◌==◌, ◌&&◌, not, map as list_map, filter}
+use Rattle.std.proofs.lemmas.List.{append-nil}
+use Rattle.std.proofs.lemmas.List.Elements.{All-cons, All-head, All-tail, All-append, All-map}
+use Rattle.std.proofs.lemmas.Bool.{eq-eqb, eqb-true}
+use Rattle.mach_types.specs.Tokens.{Kind, receive, send, send_once, Request, no_senders, port_destroyed, Place, in_task, in_message, in_request, Token, token, weigh, count, is_of, same_kind, dead_name}
+use Rattle.mach_model.specs.State.{State, senders, same_request}
+use Rattle.mach_model.specs.Death.{same_place, IsSaved}
+use Rattle.mach_model.specs.Notices.{Notice, port_sent, no_more_senders, right_unused, Owed}
+use Rattle.mach_model.specs.Settles.{tokens_of}
+use Rattle.mach_model.specs.Carried.{lying}
+use Rattle.mach_model.specs.Lawful.{tally}
+use Rattle.mach_model.specs.Midway.{MidLawful}
+use Rattle.mach_model.specs.Turns.{Begun, Ending, IsReached, IsWaiting, Destroys, listed, lives_after, outcome, is_judged, IsFound, AreJudged, IsAtDoomed, IsRequestOf, death_notice, IsOffPort, Takes, Dooms, Saves, Loses, PaysAtBurial, Buries, TellsSenderless, owed_in, went_in, IsOnGone, PaidForName, Begins}
+use Rattle.mach_model.proofs.Weigh.{left_of, right_of, count_some}
+use Rattle.mach_model.proofs.Settling.{is_at, own_test, place_refl}
+use Rattle.mach_model.proofs.SettledParts.{kind_is, of_kind, at_place, place_is}
+use Rattle.mach_model.proofs.TurnsDeaths.{IsSound}
+use Rattle.mach_model.proofs.TurnsSettle.{tokens_joined, weaker}
+use Rattle.mach_model.proofs.TurnsSound.{reached_sound}
+use Rattle.mach_model.proofs.TurnsLeft.{left_stood}
+
+-- ---- lists of rights in parts
+
+-- the first that is this right goes
+abbrev pub without : Token → List Token → List Token
+without x [] = []
+without x (y ∷ ys) = if is_at x.kind x.port x.place y then ys else y ∷ without x ys
+
+same_weight : (h : Token → ℕ) (x y : Token) → is_at x.kind x.port x.place y ≡ true → h y ≡ h x
+same_weight h x y e =
+    let k = (of_kind x.kind x.port y (left_of (is_of x.kind x.port y) (same_place x.place y.place) e)).0 in
+    let a = at_place x.kind x.port x.place y e in
+    let p = a.0 in
+    let l = a.1 in
+    λ i. h (token (k i) (p i) (l i))
+
+pub without_weigh : (x : Token) (xs : List Token) → 0 < count (is_at x.kind x.port x.place) xs → (h : Token → ℕ) → weigh h xs ≡ weigh h (without x xs) + h x
+without_weigh x [] some h = absurd (omega (arith, some))
+without_weigh x (y ∷ ys) some h = go (is_at x.kind x.port x.place y) refl some (λ more. without_weigh x ys more h)
+  where
+    go : (b : Bool) → is_at x.kind x.port x.place y ≡ b → 0 < (if b then suc zero else zero) + count (is_at x.kind x.port x.place) ys →
+        (0 < count (is_at x.kind x.port x.place) ys → weigh h ys ≡ weigh h (without x ys) + h x) → h y + weigh h ys ≡ weigh h (if b then ys else y ∷ without x ys) + h x
+    go true e some ih = let a = same_weight h x y e in omega (arith, a)
+    go false e some ih = let a = ih (omega (arith, some)) in omega (arith, a)
+
+pub parted : (h : Token → ℕ) (t : Token → Bool) (xs : List Token) → weigh h xs ≡ weigh h (filter (λ x. not (t x)) xs) + weigh h (filter t xs)
+parted h t [] = omega arith
+parted h t (x ∷ xs) = go (t x) (parted h t xs)
+  where
+    go : (b : Bool) → weigh h xs ≡ weigh h (filter (λ x. not (t x)) xs) + weigh h (filter t xs) →
+        h x + weigh h xs ≡ weigh h (if not b then x ∷ filter (λ x. not (t x)) xs else filter (λ x. not (t x)) xs) + weigh h (if b then x ∷ filter t xs else filter t xs)
+    go true ih = omega (arith, ih)
+    go false ih = omega (arith, ih)
+
+-- what is so of those that pass, and of those that don't
+passing : (P : Token → Type 0) (t : Token → Bool) (xs : List Token) → All P xs → All (λ x. P x × (t x ≡ true)) (filter t xs)
+passing P t [] all = λ k d below. absurd (omega arith)
+passing P t (x ∷ xs) all = go (t x) refl (All-head P x xs all) (passing P t xs (All-tail P x xs all))
+  where
+    go : (b : Bool) → t x ≡ b → P x → All (λ x. P x × (t x ≡ true)) (filter t xs) → All (λ x. P x × (t x ≡ true)) (if b then x ∷ filter t xs else filter t xs)
+    go true e h rest = All-cons (λ x. P x × (t x ≡ true)) x (filter t xs) (h, e) rest
+    go false e h rest = rest
+
+any_all : (xs : List Token) → All (λ x. Unit {0}) xs
+any_all xs = λ k d below. tt
+
+not_true : (b : Bool) → not b ≡ true → b ≡ false
+not_true true e = absurd (cc)
+not_true false e = refl
+
+not_both : (a b : Bool) → not (a && not b) ≡ true → a ≡ true → b ≡ true
+not_both true true e f = refl
+not_both true false e f = absurd (cc)
+not_both false b e f = absurd (cc)
+
+abbrev pub notes : (Token → Notice) → List Token → Owed
+notes n xs = list_map (λ x. (x, n x)) xs
+
+notes_tokens : (n : Token → Notice) (xs : List Token) → tokens_of (notes n xs) ≡ xs
+notes_tokens n [] = refl
+notes_tokens n (x ∷ xs) = ap (λ (ys : List Token). x ∷ ys) (notes_tokens n xs)
+
+-- ---- a port is judged
+
+abbrev pub doom : ℕ → Ending → Ending
+doom p e = record e { doomed = p ∷ e.doomed; turns = e.turns + 1 }
+
+pub doom_is : (mid : State) (e : Ending) (p : ℕ) → IsFound mid e p → is_judged e p ≡ false → ¬ (IsSaved mid p) → Dooms mid e (doom p e)
+doom_is mid e p found unjudged unsaved = record { port = p; found = found; unjudged = unjudged; unsaved = unsaved; rest = refl }
+
+abbrev pub is_at_doomed : Ending → Place → Bool
+is_at_doomed e (in_task task) = false
+is_at_doomed e (in_message q k) = listed e.doomed q
+is_at_doomed e (in_request r) = false
+
+at_doomed : (e : Ending) (place : Place) → is_at_doomed e place ≡ true → IsAtDoomed e place
+at_doomed e (in_task task) h = absurd (cc)
+at_doomed e (in_message q k) h = h
+at_doomed e (in_request r) h = absurd (cc)
+
+abbrev pub is_carried_here : Ending → ℕ → Token → Bool
+is_carried_here e p x = is_of receive p x && is_at_doomed e x.place
+
+abbrev pub kept_right : (notify p : ℕ) → Token
+kept_right notify p = token send_once notify (in_request (port_destroyed p))
+
+abbrev pub save : (notify p : ℕ) → Ending → Ending
+save notify p e = record e {
+  saved = p ∷ e.saved;
+  left = filter (λ x. not (is_carried_here e p x)) (without (kept_right notify p) e.left);
+  paid = e.paid ++ (kept_right notify p, port_sent p) ∷ [];
+  gone = e.gone ++ filter (is_carried_here e p) (without (kept_right notify p) e.left);
+  turns = e.turns + 1;
+}
+
+pub save_is : (mid : State) (e : Ending) (p : ℕ) → IsFound mid e p → is_judged e p ≡ false → (saved : IsSaved mid p) →
+    0 < count (is_at send_once saved.notify (in_request (port_destroyed p))) e.left → Saves mid e (save saved.notify p e)
+save_is mid e p found unjudged saved there = record {
+  port = p;
+  found = found;
+  unjudged = unjudged;
+  saved = saved;
+  going = filter (is_carried_here e p) (without (kept_right saved.notify p) e.left);
+  carried = weaker (λ x. Unit {0} × (is_carried_here e p x ≡ true)) (λ x. (x.kind ≡ receive) × (x.port ≡ p) × IsAtDoomed e x.place)
+      (λ x h. (
+        (of_kind receive p x (left_of (is_of receive p x) (is_at_doomed e x.place) h.1)).0,
+        (of_kind receive p x (left_of (is_of receive p x) (is_at_doomed e x.place) h.1)).1,
+        at_doomed e x.place (right_of (is_of receive p x) (is_at_doomed e x.place) h.1),
+      ))
+      (filter (is_carried_here e p) (without (kept_right saved.notify p) e.left))
+      (passing (λ x. Unit {0}) (is_carried_here e p) (without (kept_right saved.notify p) e.left) (any_all (without (kept_right saved.notify p) e.left)));
+  takes = record {
+    left = λ h.
+        let a = without_weigh (kept_right saved.notify p) e.left there h in
+        let b = parted h (is_carried_here e p) (without (kept_right saved.notify p) e.left) in omega (arith, a, b);
+    paid = refl;
+    gone = refl;
+  };
+  rest = refl;
+}
+
+-- ---- a right of a destroyed message is lost
+
+abbrev pub lose : Token → Ending → Ending
+lose x e = record e {
+  left = without x e.left;
+  paid = if same_kind send_once x.kind then e.paid ++ (x, right_unused) ∷ [] else e.paid;
+  gone = if same_kind send_once x.kind then e.gone else e.gone ++ x ∷ [];
+  turns = e.turns + 1;
+}
+
+pub lose_is : (mid : State) (e : Ending) (x : Token) → AreJudged mid e → listed e.doomed x.port ≡ false → IsAtDoomed e x.place → 0 < count (is_at x.kind x.port x.place) e.left → Loses mid e (lose x e)
+lose_is mid e x judged lives at there = record { right = x; judged = judged; lives = lives; destroyed = at; takes = go (same_kind send_once x.kind) refl; rest = refl }
+  where
+    go : (b : Bool) → same_kind send_once x.kind ≡ b → (x.kind ≡ send_once) × Takes e (lose x e) ((x, right_unused) ∷ []) [] ⊎ (x.kind ≢ send_once) × Takes e (lose x e) [] (x ∷ [])
+    go true is = inl (
+      kind_is send_once x.kind is,
+      record {
+        left = λ h. let a = without_weigh x e.left there h in omega (arith, a);
+        paid = rw is refl;
+        gone = rw is (sym (append-nil e.gone));
+      },
+    )
+    go false is = inr (
+      (λ once. let a = ap (same_kind send_once) once in cc),
+      record {
+        left = λ h. let a = without_weigh x e.left there h in omega (arith, a);
+        paid = rw is (sym (append-nil e.paid));
+        gone = rw is refl;
+      },
+    )
+
+-- ---- requests pay
+
+-- a right that the request keeps, for a port that lives
+abbrev pub is_paying : Ending → Request → Token → Bool
+is_paying e r x = same_place (in_request r) x.place && not (listed e.doomed x.port)
+
+-- these requests in turn, each with its notice
+abbrev pub paying_of : Ending → (Request → Notice) → List Request → List Token → Owed
+paying_of e n [] xs = []
+paying_of e n (r ∷ rs) xs = notes (λ x. n r) (filter (is_paying e r) xs) ++ paying_of e n rs (filter (λ x. not (is_paying e r x)) xs)
+
+abbrev pub left_of_all : Ending → List Request → List Token → List Token
+left_of_all e [] xs = xs
+left_of_all e (r ∷ rs) xs = left_of_all e rs (filter (λ x. not (is_paying e r x)) xs)
+
+paying_weigh : (e : Ending) (n : Request → Notice) (rs : List Request) (xs : List Token) (h : Token → ℕ) → weigh h xs ≡ weigh h (left_of_all e rs xs) + weigh h (tokens_of (paying_of e n rs xs))
+paying_weigh e n [] xs h = omega arith
+paying_weigh e n (r ∷ rs) xs h =
+    let a = parted h (is_paying e r) xs in
+    let b = paying_weigh e n rs (filter (λ x. not (is_paying e r x)) xs) h in
+    let c = tokens_joined h (notes (λ x. n r) (filter (is_paying e r) xs)) (paying_of e n rs (filter (λ x. not (is_paying e r x)) xs)) in
+    let d : weigh h (tokens_of (notes (λ x. n r) (filter (is_paying e r) xs))) ≡ weigh h (filter (is_paying e r) xs) = ap (weigh h) (notes_tokens (λ x. n r) (filter (is_paying e r) xs)) in
+    omega (arith, a, b, c, d)
+
+-- a right that a request keeps is a send-once right
+abbrev pub IsOnceKept : Token → Type 0
+IsOnceKept x = (r : Request) → x.place ≡ in_request r → x.kind ≡ send_once
+
+pub all_once_kept : (old mid : State) (owed : Owed) (e : Ending) → MidLawful mid owed → IsSound old mid owed e → All IsOnceKept e.left
+all_once_kept old mid owed e l s k d below r at = go (get_or e.left k d).kind refl
+  where
+    none : (kind : Kind) → (get_or e.left k d).kind ≡ kind → kind ≢ send_once → ⊥
+    none kind is not =
+        let some = count_some (is_at (get_or e.left k d).kind (get_or e.left k d).port (get_or e.left k d).place) e.left k d below (own_test (get_or e.left k d)) in
+        let a = s.parts (λ y. if is_at (get_or e.left k d).kind (get_or e.left k d).port (get_or e.left k d).place y then 1 else 0) in
+        let z = l.once_kept r kind (get_or e.left k d).port not in
+        let same : lying mid (get_or e.left k d).kind (get_or e.left k d).port (get_or e.left k d).place ≡ lying mid kind (get_or e.left k d).port (in_request r) =
+        λ i. lying mid (is i) (get_or e.left k d).port (at i) in
+        omega (arith, some, a, z, same)
+
+    go : (kind : Kind) → (get_or e.left k d).kind ≡ kind → (get_or e.left k d).kind ≡ send_once
+    go receive is = absurd (none receive is (λ f. cc))
+    go send is = absurd (none send is (λ f. cc))
+    go send_once is = is
+
+-- what paid is the right of one of the requests
+pub record IsPaying (e : Ending) (n : Request → Notice) (rs : List Request) (x : Token × Notice) : Type 0 where
+  pub request : Request
+  pub one : Contains rs request
+  pub once : x.0.kind ≡ send_once
+  pub lives : listed e.doomed x.0.port ≡ false
+  pub kept : x.0.place ≡ in_request request
+  pub tells : x.1 ≡ n request
+
+later : (r : Request) (rs : List Request) (q : Request) → Contains rs q → Contains (r ∷ rs) q
+later r rs q (i, below, is) = (suc i, omega (arith, below), is)
+
+all_paying : (e : Ending) (n : Request → Notice) (rs : List Request) (xs : List Token) → All IsOnceKept xs → All (IsPaying e n rs) (paying_of e n rs xs)
+all_paying e n [] xs all = λ k d below. absurd (omega arith)
+all_paying e n (r ∷ rs) xs all = All-append (IsPaying e n (r ∷ rs)) (notes (λ x. n r) (filter (is_paying e r) xs)) (paying_of e n rs (filter (λ x. not (is_paying e r x)) xs))
+    (All-map (IsPaying e n (r ∷ rs)) (λ x. (x, n r)) (filter (is_paying e r) xs)
+    (weaker (λ x. IsOnceKept x × (is_paying e r x ≡ true)) (λ x. IsPaying e n (r ∷ rs) (x, n r)) first (filter (is_paying e r) xs) (passing IsOnceKept (is_paying e r) xs all)))
+    (weaker (IsPaying e n rs) (IsPaying e n (r ∷ rs)) (λ x h. record { request = h.request; one = later r rs h.request h.one; once = h.once; lives = h.lives; kept = h.kept; tells = h.tells })
+    (paying_of e n rs (filter (λ x. not (is_paying e r x)) xs))
+    (all_paying e n rs (filter (λ x. not (is_paying e r x)) xs) (weaker (λ x. IsOnceKept x × (not (is_paying e r x) ≡ true)) IsOnceKept (λ x h. h.0) (filter (λ x. not (is_paying e r x)) xs)
+    (passing IsOnceKept (λ x. not (is_paying e r x)) xs all))))
+  where
+    first : (x : Token) → IsOnceKept x × (is_paying e r x ≡ true) → IsPaying e n (r ∷ rs) (x, n r)
+    first x h =
+        let at = place_is (in_request r) x.place (left_of (same_place (in_request r) x.place) (not (listed e.doomed x.port)) h.1) in
+        record {
+          request = r;
+          one = (zero, omega arith, refl);
+          once = h.0 r at;
+          lives = not_true (listed e.doomed x.port) (right_of (same_place (in_request r) x.place) (not (listed e.doomed x.port)) h.1);
+          kept = at;
+          tells = refl;
+        }
+
+-- no right that is left is one of them
+abbrev pub IsOffRequests : Ending → List Request → Token → Type 0
+IsOffRequests e rs x = (r : Request) → Contains rs r → x.place ≡ in_request r → listed e.doomed x.port ≡ true
+
+off_requests : (e : Ending) (P : Token → Type 0) (rs : List Request) (xs : List Token) → All P xs → All (λ x. P x × IsOffRequests e rs x) (left_of_all e rs xs)
+off_requests e P [] xs all = weaker P (λ x. P x × IsOffRequests e [] x) (λ x h. (h, λ r c at. none r c)) xs all
+  where
+    none : {A : Type 0} (r : Request) → Contains [] r → A
+    none r (i, below, is) = absurd (omega (arith, below))
+off_requests e P (r ∷ rs) xs all =
+    weaker (λ x. (P x × (not (is_paying e r x) ≡ true)) × IsOffRequests e rs x) (λ x. P x × IsOffRequests e (r ∷ rs) x) (λ x h. (h.0.0, off x h.0.1 h.1))
+    (left_of_all e rs (filter (λ x. not (is_paying e r x)) xs))
+    (off_requests e (λ x. P x × (not (is_paying e r x) ≡ true)) rs (filter (λ x. not (is_paying e r x)) xs) (passing P (λ x. not (is_paying e r x)) xs all))
+  where
+    off : (x : Token) → not (is_paying e r x) ≡ true → IsOffRequests e rs x → IsOffRequests e (r ∷ rs) x
+    off x h rest q (zero, below, is) at =
+        not_both (same_place (in_request r) x.place) (listed e.doomed x.port) h (subst (λ (y : Place). same_place (in_request r) y ≡ true) (sym (at ∙ ap in_request (sym is))) (place_refl (in_request r)))
+    off x h rest q (suc i, below, is) at = rest q (i, omega (arith, below), is) at
+
+-- ---- a port is buried
+
+abbrev pub burial_left : ℕ → List Request → Ending → List Token
+burial_left p rs e = left_of_all e rs e.left
+
+abbrev pub bury : ℕ → List Request → Ending → Ending
+bury p rs e = record e {
+  buried = p ∷ e.buried;
+  ended = rs ++ e.ended;
+  left = filter (λ x. not (x.port == p)) (burial_left p rs e);
+  paid = e.paid ++ paying_of e death_notice rs e.left;
+  gone = e.gone ++ filter (λ x. x.port == p) (burial_left p rs e);
+  turns = e.turns + length rs;
+}
+
+pub bury_is : (old mid : State) (owed : Owed) (e : Ending) (p : ℕ) (rs : List Request) → MidLawful mid owed → IsReached old mid owed e → AreJudged mid e → listed e.doomed p ≡ true → listed e.buried p ≡ false →
+    All (λ r. (mid.stands r ≡ true) × IsRequestOf mid p r) rs → ((r : Request) → tally (same_request r) rs ≤ 1) → ((r : Request) → mid.stands r ≡ true → IsRequestOf mid p r → Contains rs r) → Buries mid e (bury p rs e)
+bury_is old mid owed e p rs l reached judged doomed unburied ends once every = record {
+  port = p;
+  judged = judged;
+  doomed = doomed;
+  unburied = unburied;
+  ended = rs;
+  ends = ends;
+  each_once = once;
+  paying = paying_of e death_notice rs e.left;
+  pays = weaker (IsPaying e death_notice rs) (PaysAtBurial mid e p) pays (paying_of e death_notice rs e.left)
+      (all_paying e death_notice rs e.left (all_once_kept old mid owed e l (reached_sound old mid owed e reached)));
+  going = filter (λ x. x.port == p) (burial_left p rs e);
+  goes = weaker (λ x. Unit {0} × ((x.port == p) ≡ true)) (λ x. x.port ≡ p) (λ x h. eqb-true x.port p h.1) (filter (λ x. x.port == p) (burial_left p rs e))
+      (passing (λ x. Unit {0}) (λ x. x.port == p) (burial_left p rs e) (any_all (burial_left p rs e)));
+  takes = record {
+    left = λ h. let a = paying_weigh e death_notice rs e.left h in let b = parted h (λ x. x.port == p) (burial_left p rs e) in omega (arith, a, b);
+    paid = refl;
+    gone = refl;
+  };
+  all_left = weaker (λ x. (Stood x × IsOffRequests e rs x) × (not (x.port == p) ≡ true)) (IsOffPort mid e p) off (filter (λ x. not (x.port == p)) (burial_left p rs e))
+      (passing (λ x. Stood x × IsOffRequests e rs x) (λ x. not (x.port == p)) (burial_left p rs e) (off_requests e Stood rs e.left (left_stood old mid owed e l reached)));
+  rest = refl;
+}
+  where
+    Stood : Token → Type 0
+    Stood x = (r : Request) → x.place ≡ in_request r → mid.stands r ≡ true
+
+    of_one : (r : Request) → Contains rs r → (mid.stands r ≡ true) × IsRequestOf mid p r
+    of_one r (i, below, is) = subst (λ (q : Request). (mid.stands q ≡ true) × IsRequestOf mid p q) is (ends i r below)
+
+    pays : (x : Token × Notice) → IsPaying e death_notice rs x → PaysAtBurial mid e p x
+    pays x h = let r = of_one h.request h.one in record { request = h.request; once = h.once; lives = h.lives; stands = r.0; is_of = r.1; kept = h.kept; tells = h.tells }
+
+    off : (x : Token) → (Stood x × IsOffRequests e rs x) × (not (x.port == p) ≡ true) → IsOffPort mid e p x
+    off x h = (
+      (λ is. let a = eq-eqb x.port p is in let b = not_true (x.port == p) h.1 in cc),
+      λ r at of. h.0.1 r (every r (h.0.0 r at) of) at,
+    )
+
+-- ---- a port is told that it has no senders
+
+abbrev pub tell : (count p : ℕ) → Ending → Ending
+tell made p e = record e {
+  told = p ∷ e.told;
+  ended = no_senders p ∷ e.ended;
+  left = left_of_all e (no_senders p ∷ []) e.left;
+  paid = e.paid ++ paying_of e (λ r. no_more_senders made) (no_senders p ∷ []) e.left;
+  turns = e.turns + 1;
+}
+
+pub tell_is : (old mid : State) (owed : Owed) (e : Ending) (p : ℕ) → MidLawful mid owed → IsReached old mid owed e → AreJudged mid e → lives_after mid e p ≡ true → mid.stands (no_senders p) ≡ true →
+    0 < senders old p → count (is_of send p) e.left ≡ 0 → listed e.told p ≡ false → TellsSenderless old mid e (tell ((outcome mid e).make_send p) p e)
+tell_is old mid owed e p l reached judged lives stands had none untold = record {
+  port = p;
+  judged = judged;
+  lives = lives;
+  stands = stands;
+  had = had;
+  has_none = none;
+  untold = untold;
+  paying = paying_of e tells (no_senders p ∷ []) e.left;
+  pays = weaker (IsPaying e tells (no_senders p ∷ [])) Pays (λ x h. (h.once, h.kept ∙ ap in_request (sym (own h.request h.one)), h.tells)) (paying_of e tells (no_senders p ∷ []) e.left)
+      (all_paying e tells (no_senders p ∷ []) e.left (all_once_kept old mid owed e l (reached_sound old mid owed e reached)));
+  takes = record { left = λ h. let a = paying_weigh e tells (no_senders p ∷ []) e.left h in omega (arith, a); paid = refl; gone = sym (append-nil e.gone) };
+  all_left = weaker (λ x. Unit {0} × IsOffRequests e (no_senders p ∷ []) x) (λ x. x.place ≡ in_request (no_senders p) → listed e.doomed x.port ≡ true) (λ x h at. h.1 (no_senders p) (zero, omega arith, refl) at)
+      (left_of_all e (no_senders p ∷ []) e.left) (off_requests e (λ x. Unit {0}) (no_senders p ∷ []) e.left (any_all e.left));
+  rest = refl;
+}
+  where
+    tells : Request → Notice
+    tells r = no_more_senders ((outcome mid e).make_send p)
+
+    Pays : Token × Notice → Type 0
+    Pays x = (x.0.kind ≡ send_once) × (x.0.place ≡ in_request (no_senders p)) × (x.1 ≡ no_more_senders ((outcome mid e).make_send p))
+
+    own : (r : Request) → Contains (no_senders p ∷ []) r → no_senders p ≡ r
+    own r (zero, below, is) = is
+    own r (suc i, below, is) = absurd (omega (arith, below))
+
+-- ---- the beginning, and a message
+
+abbrev pub start : Begun → List Token → Ending
+start begun left = record { doomed = []; saved = []; buried = []; told = []; destroyed = []; ended = []; begun = begun; left = left; paid = []; gone = []; turns = 0 }
+
+abbrev pub is_on_gone : State → Place → Bool
+is_on_gone mid (in_task task) = false
+is_on_gone mid (in_message q k) = false
+is_on_gone mid (in_request (no_senders p)) = false
+is_on_gone mid (in_request (port_destroyed p)) = false
+is_on_gone mid (in_request (dead_name task name)) = not (mid.stands (dead_name task name))
+
+on_gone : (mid : State) (place : Place) → IsOnGone mid place → is_on_gone mid place ≡ true
+on_gone mid (in_task task) h = absurd h
+on_gone mid (in_message q k) h = absurd h
+on_gone mid (in_request (no_senders p)) h = absurd h
+on_gone mid (in_request (port_destroyed p)) h = absurd h
+on_gone mid (in_request (dead_name task name)) h = rw h refl
+
+-- The step's own part posted what is owed, and the notices of all rights of requests whose names went, in any order.
+pub start_is : (mid : State) (owed : Owed) (begun : Begun) → owed_in begun ≡ owed → All (PaidForName mid) (went_in begun) →
+    ((h : Token → ℕ) → weigh h (tokens_of (went_in begun)) ≡ weigh h (filter (λ x. is_on_gone mid x.place) mid.ledger)) →
+    Begins mid owed (start begun (filter (λ x. not (is_on_gone mid x.place)) mid.ledger))
+start_is mid owed begun owes went same = record {
+  owes = owes;
+  went = went;
+  rights = λ h. let a = parted h (λ x. is_on_gone mid x.place) mid.ledger in let b = same h in omega (arith, a, b);
+  all_went = weaker (λ x. Unit {0} × (not (is_on_gone mid x.place) ≡ true)) (λ x. ¬ (IsOnGone mid x.place))
+      (λ x h gone. let a = on_gone mid x.place gone in let b = not_true (is_on_gone mid x.place) h.1 in cc) (filter (λ x. not (is_on_gone mid x.place)) mid.ledger)
+      (passing (λ x. Unit {0}) (λ x. not (is_on_gone mid x.place)) mid.ledger (any_all mid.ledger));
+  rest = refl;
+}
+
+abbrev pub destroy : (port entry : ℕ) → Ending → Ending
+destroy p k e = record e { destroyed = (p, k) ∷ e.destroyed; turns = e.turns + 1 }
+
+pub destroy_is : (mid : State) (e : Ending) (p k : ℕ) → listed e.doomed p ≡ true → IsWaiting mid e (p, k) → ¬ (Contains e.destroyed (p, k)) → Destroys mid e (destroy p k e)
+destroy_is mid e p k doomed waits not = record { port = p; entry = k; doomed = doomed; waits = waits.0; within = waits.1; undestroyed = not; rest = refl }

@@ -1,0 +1,304 @@
+-- The end of a step, turn by turn (this project's own): ports are judged, messages are destroyed, rights are lost, dead ports are
+-- buried, and ports are told that they have no senders. `Settles` says what a chain of turns comes to that has nothing left to do.
+use Rattle.std.specs.Prelude.{◌≡◌, ◌≢◌, ℕ, zero, suc, ◌+◌, ◌<◌, ◌≤◌, ◌⊎◌, Bool, true, false, List, [], ◌∷◌, ◌++◌, length, Option, Some, if◌then◌else◌, ◌==◌, ◌&&◌, ◌||◌, not, All, Contains}
+use Rattle.mach_types.specs.Tokens.{receive, send, send_once, Request, no_senders, port_destroyed, dead_name, Place, in_task, in_message, in_request, Token, token, weigh, count, is_of}
+use Rattle.mach_model.specs.State.{State, Target, lookup, queue, senders, same_request}
+use Rattle.mach_model.specs.Death.{CarriedAt, IsOrphan, IsSaved}
+use Rattle.mach_model.specs.Notices.{Notice, port_deleted, port_sent, no_more_senders, right_unused, name_died, Owed}
+use Rattle.mach_model.specs.Settles.{tokens_of}
+use Rattle.mach_model.specs.Lawful.{tally}
+
+-- ---- what was done so far
+
+-- A notice that the step's own part posted, with the right that paid for it, and whether it is one of those owed: the others are
+-- paid for by rights of requests whose names went.
+abbrev pub Begun : Type 0
+Begun = List (Bool × (Token × Notice))
+
+abbrev pub owed_in : Begun → Owed
+owed_in [] = []
+owed_in (y ∷ ys) = if y.0 then y.1 ∷ owed_in ys else owed_in ys
+
+abbrev pub went_in : Begun → Owed
+went_in [] = []
+went_in (y ∷ ys) = if y.0 then went_in ys else y.1 ∷ went_in ys
+
+-- Notices stand in the order in which they were posted: first those that the step's own part posted, then those that were paid for.
+pub record Ending : Type 0 where
+  -- ports that die, ports that are sent away, dead ports that left, and ports that were told that they have no senders
+  pub doomed : List ℕ
+  pub saved : List ℕ
+  pub buried : List ℕ
+  pub told : List ℕ
+  -- the port and entry of each message that was destroyed, and the requests that ended with a burial or were told of no senders
+  pub destroyed : List (ℕ × ℕ)
+  pub ended : List Request
+  pub begun : Begun
+  -- of the rights after the step's own part those that nothing has become of, those that paid, and those that went
+  pub left : List Token
+  pub paid : Owed
+  pub gone : List Token
+  pub turns : ℕ
+
+abbrev pub listed : List ℕ → ℕ → Bool
+listed [] p = false
+listed (q ∷ qs) p = p == q || listed qs p
+
+-- ---- what that leaves, but for names, logs and rights
+
+abbrev pub lives_after : State → Ending → ℕ → Bool
+lives_after mid e p = mid.live_port p && not (listed e.doomed p)
+
+abbrev pub became_dead : State → Ending → Option Target → Bool
+became_dead mid e (Some (Target.port p)) = not (lives_after mid e p)
+became_dead mid e (Some (Target.once p)) = not (lives_after mid e p)
+became_dead mid e target = false
+
+abbrev pub has_ended : State → Ending → Request → Bool
+has_ended mid e (no_senders p) = not (lives_after mid e p) || listed e.told p
+has_ended mid e (port_destroyed p) = not (lives_after mid e p) || listed e.saved p
+has_ended mid e (dead_name task name) = became_dead mid e (lookup mid task name)
+
+abbrev pub outcome : State → Ending → State
+outcome mid e = record mid {
+  live_port = lives_after mid e;
+  stands = λ r. mid.stands r && not (has_ended mid e r);
+  sets_of = λ p. if listed e.saved p then [] else if lives_after mid e p then mid.sets_of p else [];
+  make_send = λ p. if listed e.saved p then 0 else mid.make_send p;
+  sequence = λ p. if listed e.saved p then 0 else mid.sequence p;
+}
+
+-- ---- what the turns speak of
+
+abbrev pub is_judged : Ending → ℕ → Bool
+is_judged e p = listed e.doomed p || listed e.saved p
+
+-- The port has lost its receive right, or a doomed one's queue carries it.
+abbrev pub IsFound : State → Ending → ℕ → Type 0
+IsFound mid e p = IsOrphan mid p ⊎ ((q : ℕ) × (listed e.doomed q ≡ true) × CarriedAt mid p q)
+
+abbrev pub AreJudged : State → Ending → Type 0
+AreJudged mid e = (p : ℕ) → IsFound mid e p → is_judged e p ≡ true
+
+-- a place in the queue of a doomed port
+abbrev pub IsAtDoomed : Ending → Place → Type 0
+IsAtDoomed e (in_message q k) = listed e.doomed q ≡ true
+IsAtDoomed e place = ⊥
+
+abbrev pub IsNameOf : ℕ → Option Target → Type 0
+IsNameOf p (Some (Target.port q)) = q ≡ p
+IsNameOf p (Some (Target.once q)) = q ≡ p
+IsNameOf p target = ⊥
+
+-- the port's own requests, and those on a name of it
+abbrev pub IsRequestOf : State → ℕ → Request → Type 0
+IsRequestOf mid p (no_senders q) = q ≡ p
+IsRequestOf mid p (port_destroyed q) = q ≡ p
+IsRequestOf mid p (dead_name task name) = IsNameOf p (lookup mid task name)
+
+-- what the right of such a request tells when the port is dead
+abbrev pub death_notice : Request → Notice
+death_notice (no_senders p) = right_unused
+death_notice (port_destroyed p) = right_unused
+death_notice (dead_name task name) = name_died name
+
+-- a request on a name that went in the step's own part
+abbrev pub IsOnGone : State → Place → Type 0
+IsOnGone mid (in_request (dead_name task name)) = mid.stands (dead_name task name) ≡ false
+IsOnGone mid place = ⊥
+
+-- Of the rights that are left some pay, in this order, and some go.
+pub record Takes (e f : Ending) (paying : Owed) (going : List Token) : Type 0 where
+  pub left : (h : Token → ℕ) → weigh h e.left ≡ weigh h f.left + weigh h (tokens_of paying) + weigh h going
+  pub paid : f.paid ≡ e.paid ++ paying
+  pub gone : f.gone ≡ e.gone ++ going
+
+-- ---- the beginning
+
+-- The right of a request on a name that went has paid for this.
+pub record PaidForName (mid : State) (x : Token × Notice) : Type 0 where
+  pub task : ℕ
+  pub name : ℕ
+  pub once : x.0.kind ≡ send_once
+  pub kept : x.0.place ≡ in_request (dead_name task name)
+  pub went : mid.stands (dead_name task name) ≡ false
+  pub tells : x.1 ≡ port_deleted name
+
+pub record Begins (mid : State) (owed : Owed) (e : Ending) : Type 0 where
+  pub owes : owed_in e.begun ≡ owed
+  pub went : All (PaidForName mid) (went_in e.begun)
+  pub rights : (h : Token → ℕ) → weigh h mid.ledger ≡ weigh h e.left + weigh h (tokens_of (went_in e.begun))
+  pub all_went : All (λ x. ¬ (IsOnGone mid x.place)) e.left
+  pub rest : e ≡ record {
+    doomed = [];
+    saved = [];
+    buried = [];
+    told = [];
+    destroyed = [];
+    ended = [];
+    begun = e.begun;
+    left = e.left;
+    paid = [];
+    gone = [];
+    turns = 0;
+  }
+
+-- ---- the turns
+
+-- A port that is found is doomed.
+pub record Dooms (mid : State) (e f : Ending) : Type 0 where
+  pub port : ℕ
+  pub found : IsFound mid e port
+  pub unjudged : is_judged e port ≡ false
+  pub unsaved : ¬ (IsSaved mid port)
+  pub rest : f ≡ record e { doomed = port ∷ e.doomed; turns = e.turns + 1 }
+
+-- Or it is sent away: its receive right leaves the queue that carries it, and the right of its request pays.
+pub record Saves (mid : State) (e f : Ending) : Type 0 where
+  pub port : ℕ
+  pub found : IsFound mid e port
+  pub unjudged : is_judged e port ≡ false
+  pub saved : IsSaved mid port
+  pub going : List Token
+  pub carried : All (λ x. (x.kind ≡ receive) × (x.port ≡ port) × IsAtDoomed e x.place) going
+  pub takes : Takes e f ((token send_once saved.notify (in_request (port_destroyed port)), port_sent port) ∷ []) going
+  pub rest : f ≡ record e { saved = port ∷ e.saved; left = f.left; paid = f.paid; gone = f.gone; turns = e.turns + 1 }
+
+-- A message of a doomed port is destroyed, or a notice that the step's own part posted there.
+pub record Destroys (mid : State) (e f : Ending) : Type 0 where
+  pub port : ℕ
+  pub entry : ℕ
+  pub doomed : listed e.doomed port ≡ true
+  pub waits : mid.taken port ≤ entry
+  pub within : entry < length (mid.log port) + tally (λ y. y.1.0.port == port) e.begun
+  pub undestroyed : ¬ (Contains e.destroyed (port, entry))
+  pub rest : f ≡ record e { destroyed = (port, entry) ∷ e.destroyed; turns = e.turns + 1 }
+
+-- When all are judged, a right of a destroyed message is lost whose port lives: it pays, or goes.
+pub record Loses (mid : State) (e f : Ending) : Type 0 where
+  pub right : Token
+  pub judged : AreJudged mid e
+  pub lives : listed e.doomed right.port ≡ false
+  pub destroyed : IsAtDoomed e right.place
+  pub takes : (right.kind ≡ send_once) × Takes e f ((right, right_unused) ∷ []) [] ⊎ (right.kind ≢ send_once) × Takes e f [] (right ∷ [])
+  pub rest : f ≡ record e { left = f.left; paid = f.paid; gone = f.gone; turns = e.turns + 1 }
+
+-- The right of a request of the port pays, since its own port lives.
+pub record PaysAtBurial (mid : State) (e : Ending) (port : ℕ) (x : Token × Notice) : Type 0 where
+  pub request : Request
+  pub once : x.0.kind ≡ send_once
+  pub lives : listed e.doomed x.0.port ≡ false
+  pub stands : mid.stands request ≡ true
+  pub is_of : IsRequestOf mid port request
+  pub kept : x.0.place ≡ in_request request
+  pub tells : x.1 ≡ death_notice request
+
+-- no right for the port, and none of its requests that could pay
+abbrev pub IsOffPort : State → Ending → ℕ → Token → Type 0
+IsOffPort mid e port x = (x.port ≢ port) × ((request : Request) → x.place ≡ in_request request → IsRequestOf mid port request → listed e.doomed x.port ≡ true)
+
+-- A doomed port leaves with all rights for it; its requests end, and those on its names, a turn each.
+pub record Buries (mid : State) (e f : Ending) : Type 0 where
+  pub port : ℕ
+  pub judged : AreJudged mid e
+  pub doomed : listed e.doomed port ≡ true
+  pub unburied : listed e.buried port ≡ false
+  pub ended : List Request
+  pub ends : All (λ r. (mid.stands r ≡ true) × IsRequestOf mid port r) ended
+  pub each_once : (r : Request) → tally (same_request r) ended ≤ 1
+  pub paying : Owed
+  pub pays : All (PaysAtBurial mid e port) paying
+  pub going : List Token
+  pub goes : All (λ x. x.port ≡ port) going
+  pub takes : Takes e f paying going
+  pub all_left : All (IsOffPort mid e port) f.left
+  pub rest : f ≡ record e { buried = port ∷ e.buried; ended = ended ++ e.ended; left = f.left; paid = f.paid; gone = f.gone; turns = e.turns + length ended }
+
+-- A port that lives, and had senders, is told that it has none.
+pub record TellsSenderless (old mid : State) (e f : Ending) : Type 0 where
+  pub port : ℕ
+  pub judged : AreJudged mid e
+  pub lives : lives_after mid e port ≡ true
+  pub stands : mid.stands (no_senders port) ≡ true
+  pub had : 0 < senders old port
+  pub has_none : count (is_of send port) e.left ≡ 0
+  pub untold : listed e.told port ≡ false
+  pub paying : Owed
+  pub pays : All (λ x. (x.0.kind ≡ send_once) × (x.0.place ≡ in_request (no_senders port)) × (x.1 ≡ no_more_senders ((outcome mid e).make_send port))) paying
+  pub takes : Takes e f paying []
+  pub all_left : All (λ x. x.place ≡ in_request (no_senders port) → listed e.doomed x.port ≡ true) f.left
+  pub rest : f ≡ record e { told = port ∷ e.told; ended = no_senders port ∷ e.ended; left = f.left; paid = f.paid; gone = f.gone; turns = e.turns + 1 }
+
+abbrev pub Turn : (old mid : State) → Ending → Ending → Type 0
+Turn old mid e f = Dooms mid e f ⊎ Saves mid e f ⊎ Destroys mid e f ⊎ Loses mid e f ⊎ Buries mid e f ⊎ TellsSenderless old mid e f
+
+-- A chain of turns leads to it.
+pub data IsReached (old mid : State) (owed : Owed) : Ending → Type 0 where
+  begins : (e : Ending) → Begins mid owed e → IsReached old mid owed e
+  turns : (e f : Ending) → IsReached old mid owed e → Turn old mid e f → IsReached old mid owed f
+
+-- Nothing is left to do.
+pub record IsDone (old mid : State) (e : Ending) : Type 0 where
+  pub judged : AreJudged mid e
+  pub lost : All (λ x. ¬ (IsAtDoomed e x.place)) e.left
+  pub buried : (p : ℕ) → listed e.doomed p ≡ true → listed e.buried p ≡ true
+  pub told : (p : ℕ) → mid.stands (no_senders p) ≡ true → lives_after mid e p ≡ true → 0 < senders old p → count (is_of send p) e.left ≡ 0 → listed e.told p ≡ true
+
+-- ---- how many there are
+
+abbrev pub is_queued : Place → Bool
+is_queued (in_task task) = false
+is_queued (in_message q k) = true
+is_queued (in_request request) = false
+
+-- how many of the rights that paid or went lay in messages
+abbrev pub lost_in : Ending → ℕ
+lost_in e = count (λ x. is_queued x.place) (tokens_of e.paid) + count (λ x. is_queued x.place) e.gone
+
+-- a message of the port that waits, or a notice that the step's own part posted there
+abbrev pub IsWaiting : State → Ending → ℕ × ℕ → Type 0
+IsWaiting mid e m = (mid.taken m.0 ≤ m.1) × (m.1 < length (mid.log m.0) + tally (λ y. y.1.0.port == m.0) e.begun)
+
+-- There are no more turns than ports that were judged, messages that were destroyed, rights in messages that were lost, and requests
+-- that ended; each of these was counted once. And there are no fewer than the ports that were judged.
+pub record IsCounted (mid : State) (e : Ending) : Type 0 where
+  pub least : length e.doomed + length e.saved ≤ e.turns
+  pub turns : e.turns ≤ length e.doomed + length e.saved + length e.destroyed + lost_in e + length e.ended
+  pub port_once : (p : ℕ) → tally (λ q. p == q) e.doomed + tally (λ q. p == q) e.saved ≤ 1
+  pub destroyed : All (λ m. (listed e.doomed m.0 ≡ true) × IsWaiting mid e m) e.destroyed
+  pub message_once : (m : ℕ × ℕ) → tally (λ n. m.0 == n.0 && m.1 == n.1) e.destroyed ≤ 1
+  pub ended : All (λ r. (mid.stands r ≡ true) × (has_ended mid e r ≡ true)) e.ended
+  pub request_once : (r : Request) → tally (same_request r) e.ended ≤ 1
+
+-- how many of the first numbers pass, and what they have in all
+abbrev pub number : (ℕ → Bool) → ℕ → ℕ
+number f zero = 0
+number f (suc n) = (if f n then 1 else 0) + number f n
+
+abbrev pub total : (ℕ → ℕ) → ℕ → ℕ
+total f zero = 0
+total f (suc n) = f n + total f n
+
+-- ports that died in the step
+abbrev pub has_died : (mid new : State) → ℕ → Bool
+has_died mid new p = mid.live_port p && not (new.live_port p)
+
+-- the messages that waited at the port, with the notices that the step's own part posted there
+abbrev pub waiting_at : State → Ending → ℕ → ℕ
+waiting_at mid e p = length (queue mid p) + tally (λ y. y.1.0.port == p) e.begun
+
+-- The right lay in a message, and its port or the message's is dead.
+abbrev pub is_lost_at : State → (port : ℕ) → Place → Bool
+is_lost_at new p (in_task task) = false
+is_lost_at new p (in_message q k) = not (new.live_port q && new.live_port p)
+is_lost_at new p (in_request request) = false
+
+abbrev pub is_lost : State → Token → Bool
+is_lost new x = is_lost_at new x.port x.place
+
+-- The bound in the machine's own numbers: ports that died and ports that were sent away, messages of dead ports, rights in messages
+-- that left, and requests that ended. Each port that died took a turn.
+pub record IsBounded (mid new : State) (is_sent : ℕ → Bool) (e : Ending) : Type 0 where
+  pub most : e.turns ≤ number (has_died mid new) mid.ports_made + number is_sent mid.ports_made
+      + total (λ p. if has_died mid new p then waiting_at mid e p else 0) mid.ports_made + count (is_lost new) mid.ledger + length e.ended
+  pub least : number (has_died mid new) mid.ports_made ≤ e.turns
