@@ -7,3 +7,5 @@ pub mod PutWords
 pub mod PutSpans
 pub mod Spelling
 pub mod ReadWords
+pub mod FieldTexts
+pub mod ReceivedTexts

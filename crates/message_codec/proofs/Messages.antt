@@ -51,16 +51,16 @@ in_words bytes none = elim (cases_eq (length bytes % 4) 0) [ inl h ↦ h | inr h
 pub short_enough : (bytes : List ℕ) → NoneHolds (header_guards bytes) → length bytes ≤ 65536
 short_enough bytes none = let h : 65536 < length bytes → ⊥ = none.1.0 in omega arith
 
-header-spells : (bytes : List ℕ) (written : WireBody) → AreBytes bytes → NoneHolds (header_guards bytes)
+pub header-spells : (bytes : List ℕ) (written : WireBody) → AreBytes bytes → 24 ≤ length bytes → word_at bytes 0 / 2 ^ 16 % 2 ^ 15 ≡ 0
     → drop 24 bytes ≡ body_text written → IsWireBody written → complex_bit written ≡ word_at bytes 0 / 2 ^ 31 * 2 ^ 31
     → Spells bytes (header_at bytes) written
-header-spells bytes written are none body fits flag =
+header-spells bytes written are room known body fits flag =
     let first : word_at bytes 0 ≡ bits (header_at bytes) written =
-    first_word (word_at bytes 0) (complex_bit written) (word_at-lt bytes 0 are) (known_of (word_at bytes 0) (word_at bytes 12) none.1.1.0) flag in
+    first_word (word_at bytes 0) (complex_bit written) (word_at-lt bytes 0 are) known flag in
     let rest : List ℕ → List ℕ = λ r. word (word_at bytes 4) ++ word (word_at bytes 8) ++ word (word_at bytes 12) ++ word (word_at bytes 16) ++ word (word_at bytes 20) ++ r in
     record {
       is_text =
-          six_words bytes are (long_enough bytes none)
+          six_words bytes are room
           ∙ ap (λ (n : ℕ). word n ++ rest (drop 24 bytes)) first
           ∙ ap (λ (r : List ℕ). word (bits (header_at bytes) written) ++ rest r) body;
       header_fits = record {
@@ -92,10 +92,10 @@ items_are_not_refused bytes xs code none body fits refused = elim refused [
 
 -- ---- whole texts
 
-no_flag : (n : ℕ) → n < 2 ^ 32 → ¬ (is_bit n 31) → 0 ≡ n / 2 ^ 31 * 2 ^ 31
+pub no_flag : (n : ℕ) → n < 2 ^ 32 → ¬ (is_bit n 31) → 0 ≡ n / 2 ^ 31 * 2 ^ 31
 no_flag n fits plain = omega arith
 
-flag_is : (n : ℕ) → n < 2 ^ 32 → is_bit n 31 → 2 ^ 31 ≡ n / 2 ^ 31 * 2 ^ 31
+pub flag_is : (n : ℕ) → n < 2 ^ 32 → is_bit n 31 → 2 ^ 31 ≡ n / 2 ^ 31 * 2 ^ 31
 flag_is n fits complex = omega arith
 
 pub raw-message : (bytes : List ℕ) → AreBytes bytes → NoneHolds (header_guards bytes) → ¬ (is_bit (word_at bytes 0) 31)
@@ -104,14 +104,14 @@ raw-message bytes are none plain =
     let room : 24 ≤ length bytes = long_enough bytes none in
     let whole : length bytes % 4 ≡ 0 = in_words bytes none in
     record {
-      spells = header-spells bytes (raw (drop 24 bytes)) are none refl (omega (arith, length-drop 24 bytes)) (no_flag (word_at bytes 0) (word_at-lt bytes 0 are) plain);
+      spells = header-spells bytes (raw (drop 24 bytes)) are room (known_of (word_at bytes 0) (word_at bytes 12) none.1.1.0) refl (omega (arith, length-drop 24 bytes)) (no_flag (word_at bytes 0) (word_at-lt bytes 0 are) plain);
       unrefused = λ code. raw_not_refused bytes code none plain;
     }
 
 pub items-message : (bytes : List ℕ) (xs : List _) → AreBytes bytes → NoneHolds (header_guards bytes) → is_bit (word_at bytes 0) 31
     → drop 24 bytes ≡ wires_text xs → All IsWire xs → IsMessage bytes (header_at bytes) (items xs)
 items-message bytes xs are none complex body fits = record {
-  spells = header-spells bytes (items xs) are none body fits (flag_is (word_at bytes 0) (word_at-lt bytes 0 are) complex);
+  spells = header-spells bytes (items xs) are (long_enough bytes none) (known_of (word_at bytes 0) (word_at bytes 12) none.1.1.0) body fits (flag_is (word_at bytes 0) (word_at-lt bytes 0 are) complex);
   unrefused = λ code. items_are_not_refused bytes xs code none body fits;
 }
 
@@ -172,7 +172,7 @@ no_flag_in remote local r l h = omega arith
 word_at-first : (n : ℕ) (rest : List ℕ) → n < 2 ^ 32 → word_at (word n ++ rest) 0 ≡ n
 word_at-first n rest fits = word_at-word n rest fits
 
-raw_bits : (h : Header) (body : List ℕ) → IsHeader h → ¬ (is_bit (word_at (text h (raw body)) 0) 31)
+pub raw_bits : (h : Header) (body : List ℕ) → IsHeader h → ¬ (is_bit (word_at (text h (raw body)) 0) 31)
 raw_bits h body fits set =
     let n = h.remote_kind + h.local_kind * 2 ^ 8 + 0 in
     let small : n < 2 ^ 32 = omega (arith, fits.remote_kind, fits.local_kind) in

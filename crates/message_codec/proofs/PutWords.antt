@@ -1,7 +1,8 @@
 -- Words written one after another, and the byte of a kind.
-use Rattle.std.proofs.Common.{◌≡◌, ℕ, ◌+◌, ◌*◌, ◌/◌, ◌%◌, ◌^◌, ◌<◌, ◌≤◌, ◌⊎◌, inl, inr, List, [], ◌∷◌, ◌++◌, length, take, drop, get_or, set, refl, sym, ap, ◌∙◌, arith, length-append, append_assoc}
+use Rattle.std.proofs.Common.{◌≡◌, ℕ, ◌+◌, ◌*◌, ◌/◌, ◌%◌, ◌^◌, ◌<◌, ◌≤◌, ◌⊎◌, inl, inr, List, [], ◌∷◌, ◌++◌, length, take, drop, get_or, set, refl, sym, ap, ◌∙◌, arith, length-append, append_assoc, All, subst}
 use Rattle.std.proofs.lemmas.Bool.{cases_eq}
 use Rattle.std.proofs.lemmas.List.{drop_at, take_at, set_at, drop-drop, take_more, length-take-le, get_or_read}
+use Rattle.std.proofs.lemmas.List.Elements.{All-push}
 use Rattle.mach_types.specs.Grammar.{word, half, words_text, descriptor_text, FitsForm, NamesPorts}
 use Rattle.mach_types.specs.Messages.{Form, short, long}
 use Rattle.type_descriptor.proofs.ByteWords.{one_more_word}
@@ -29,6 +30,13 @@ names-step at i v next names bytes old new room within value next_is before wrot
     one_more_word next v front bytes old new len old_is wrote
     ∙ ap (λ (t : List ℕ). t ++ drop (next + 4) bytes) (append_assoc (take at bytes) (words_text (take i names)) (word v) ∙ ap (λ (t : List ℕ). take at bytes ++ t) (sym more))
     ∙ ap (λ (n : ℕ). (take at bytes ++ words_text (take (i + 1) names)) ++ drop n bytes) e
+
+-- one word more is a word
+pub words-step : (names : List ℕ) (i v : ℕ) → i < length names → v ≡ get_or names i v → v < 2 ^ 32
+    → All (λ (w : ℕ). w < 2 ^ 32) (take i names) → All (λ (w : ℕ). w < 2 ^ 32) (take (i + 1) names)
+words-step names i v within value small all =
+    let more : take (i + 1) names ≡ take i names ++ v ∷ [] = take_more names i v within ∙ ap (λ (n : ℕ). take i names ++ n ∷ []) (sym value) in
+    subst (λ (t : List ℕ). All (λ (w : ℕ). w < 2 ^ 32) t) (sym more) (All-push (λ (w : ℕ). w < 2 ^ 32) (take i names) v all small)
 
 -- words written in the place of as many
 pub with_words-at : (at : ℕ) (front old tail names : List ℕ) → length front ≡ at → length old ≡ 4 * length names

@@ -37,7 +37,7 @@ word_after front rest i j e =
       get_at front rest (i + 3) (j + 3) (omega arith),
     ) refl
 
-word_in : (words tail : List ℕ) (k : ℕ) → All IsWord words → k < length words → word_at (words_text words ++ tail) (4 * k) ≡ get_or words k 0
+pub word_in : (words tail : List ℕ) (k : ℕ) → All IsWord words → k < length words → word_at (words_text words ++ tail) (4 * k) ≡ get_or words k 0
 word_in [] tail k are h = absurd (omega arith)
 word_in (w ∷ ws) tail zero are h = word_at-word w (words_text ws ++ tail) (are 0 w (omega arith))
 word_in (w ∷ ws) tail (suc k) are h =

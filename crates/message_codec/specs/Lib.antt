@@ -4,3 +4,5 @@ pub mod Parses
 pub mod Received
 pub mod Putting
 pub mod Words
+pub mod Writing
+pub mod ReceivedShows

@@ -4,6 +4,7 @@ ghost use Rattle.mach_types.specs.Guards.{FirstIs, NoneHolds};
 ghost use Rattle.mach_types.specs.Numbers.{msg_number};
 ghost use Rattle.mach_types.specs.TextGuards.{BadHeader, IsSendable, header_guards, is_bit};
 ghost use Rattle.message_codec.specs.Received.{header_text};
+ghost use Rattle.message_codec.specs.Putting.{WordsFit};
 
 use mach_types::bits::COMPLEX;
 use mach_types::limits::MOST_BYTES;
@@ -60,7 +61,7 @@ pub(crate) fn is_complex(bits: u32) -> bool
 }
 
 /// Whether no message has these bits with this local port.
-fn is_bad_header(bits: u32, local: u32) -> bool
+pub(crate) fn is_bad_header(bits: u32, local: u32) -> bool
     ensures { IsTrue result ↔ BadHeader bits local }
 {
     let reply = local_kind(bits);
@@ -90,7 +91,8 @@ pub(crate) fn check_header(bytes: &[u8]) -> Result<(), MsgReturn>
 /// Writes the six words over the first 24 bytes.
 pub(crate) fn put_header(bytes: &mut [u8], header: &Header)
     requires { 24 ≤ length bytes.old }
-    ensures { bytes.new ≡ header_text header.now ++ drop 24 bytes.old }
+    ensures bytes { bytes.new ≡ header_text header.now ++ drop 24 bytes.old }
+    ensures words { WordsFit header.now }
 {
     write_word(bytes, 0, header.bits);
     write_word(bytes, 4, header.size);

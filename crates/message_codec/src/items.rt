@@ -19,11 +19,11 @@ use type_descriptor::{Descriptor, data_len, descriptor_len, read_descriptor};
 
 /// An item that was read.
 #[derive(Clone, Copy)]
-struct Item {
+pub(crate) struct Item {
     /// Its port words, if it has any.
-    span: Option<Span>,
+    pub(crate) span: Option<Span>,
     /// The offset of what follows it, in bytes.
-    end: usize,
+    pub(crate) end: usize,
 }
 
 /// The span of the item with this descriptor at this offset, if it has port words.
@@ -44,7 +44,7 @@ fn span_of(descriptor: &Descriptor, at: u32) -> Option<Span>
 }
 
 /// The item at an offset, where some bytes are left.
-fn read_item(bytes: &[u8], at: usize) -> Result<Item, MsgReturn>
+pub(crate) fn read_item(bytes: &[u8], at: usize) -> Result<Item, MsgReturn>
     requires more { at < length bytes.now }
     requires whole { (length bytes.now - at) % 4 ≡ 0 }
     requires fits { length bytes.now ≤ most_bytes }

@@ -7,13 +7,23 @@
 
 mod header;
 mod items;
+mod reader;
 mod received;
 mod spans;
 mod text;
 mod words;
+mod writer;
 
 pub use header::Header;
+pub use reader::{
+    Received, ReceivedBody, ReceivedData, ReceivedHeader, ReceivedItem, ReceivedItems,
+    ReceivedPorts, read_received,
+};
 pub use received::put_received;
 pub use spans::{Span, Spans};
 pub use text::{Parsed, parse};
 pub use words::{INLINE_WORDS, PortWord, port_words};
+pub use writer::{PortRight, SendBody, SendHeader, SendItem, WriteError, write_message};
+
+#[cfg(test)]
+mod tests;

@@ -1,5 +1,5 @@
 //! Writing what a receiver gets.
-ghost use Rattle.std.specs.Prelude.{◌≡◌, ◌+◌, ◌*◌, ◌<◌, ◌≤◌, ◌++◌, List, length, take, drop};
+ghost use Rattle.std.specs.Prelude.{◌≡◌, ◌+◌, ◌*◌, ◌^◌, ◌<◌, ◌≤◌, ◌++◌, List, length, take, drop, All};
 ghost use Rattle.mach_types.specs.Grammar.{WireBody, body_text, words_text};
 ghost use Rattle.message_codec.specs.Received.{header_text, received_body, received_kind, IsLaidOut};
 ghost use Rattle.message_codec.specs.Spans.{words_place, word_count, SpansFit};
@@ -21,9 +21,10 @@ fn kind_received(disposition: u8) -> u8
 }
 
 /// Writes names as words, from an offset on.
-fn put_names(bytes: &mut [u8], at: usize, names: &[Name])
+pub(crate) fn put_names(bytes: &mut [u8], at: usize, names: &[Name])
     requires { at + 4 * length names.now ≤ length bytes.old }
-    ensures { bytes.new ≡ take at bytes.old ++ words_text names.now ++ drop (at + 4 * length names.now) bytes.old }
+    ensures bytes { bytes.new ≡ take at bytes.old ++ words_text names.now ++ drop (at + 4 * length names.now) bytes.old }
+    ensures words { All (λ w. w < 2 ^ 32) names.now }
 {
     let mut next = at;
     for name in names {

@@ -15,4 +15,4 @@ pub returns : goal.returns
 returns c = λ written laid.
     let spans = c.args.spans.now in
     c.put_spans.ensures
-    ∙ rw c.put_header.ensures (laid_out-received c.args.bytes.now spans c.args.names.now (header_text c.args.header.now) written laid refl c.requires.named)
+    ∙ rw c.put_header.ensures.bytes (laid_out-received c.args.bytes.now spans c.args.names.now (header_text c.args.header.now) written laid refl c.requires.named)
