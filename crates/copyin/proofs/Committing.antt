@@ -1,5 +1,5 @@
 -- A plan that is carried out.
-use Rattle.std.proofs.Common.{◌≡◌, ℕ, ◌+◌, ◌-◌, ◌<◌, ◌≤◌, Bool, true, false, Option, Some, None, List, [], ◌∷◌, ◌++◌, suc, length, refl, sym, ap, subst, ◌∙◌, inl, inr, arith}
+use Rattle.std.proofs.Common.{◌≡◌, ℕ, ◌+◌, ◌-◌, ◌<◌, ◌≤◌, true, false, Option, Some, None, List, [], ◌∷◌, ◌++◌, suc, length, refl, sym, ap, subst, ◌∙◌, inl, inr, arith}
 use Rattle.std.specs.Prelude.{is_some}
 use Rattle.std.specs.Option.{option_to_list}
 use Rattle.std.proofs.lemmas.Bool.Decides.{eqb_tells}
@@ -10,21 +10,20 @@ use Rattle.mach_model.proofs.Walks.{Through-append}
 use Rattle.message_codec.specs.declared.text.Parsed.{Parsed}
 use Rattle.message_codec.specs.declared.words.PortWord.{PortWord}
 use Rattle.message_codec.specs.Words.{body_words}
-use Rattle.name_space.specs.Names.{Names, SpaceView}
+use Rattle.name_space.specs.Names.{Names}
 use Rattle.port.specs.Ports.{PortView, PortsView, IsLive, with_port}
-use Rattle.port_set.specs.Sets.{SetsView}
-use Rattle.rights.specs.Ledger.{LedgerView, counts_of}
+use Rattle.rights.specs.Ledger.{counts_of}
 use Rattle.copyin.specs.declared.judge.Plan.{Plan}
 use Rattle.copyin_base.specs.declared.message.Carried.{Carried}
 use Rattle.copyin.specs.Judging.{CopiesWord, CopiesReply, CopiesBody, made_by_reply, made_by_all}
 use Rattle.copyin_base.specs.Kept.{Kept}
 use Rattle.copyin.specs.Planned.{CanGo, CopiesAll, IsPlan}
-use Rattle.copyin.specs.Plans.{destination_word, reply_words, Judged, ChangesWord, ChangesWords, Commits, option_list, message_for, made_in}
+use Rattle.copyin.specs.Plans.{destination_word, reply_words, Judged, ChangesWord, ChangesWords, Commits, option_list, made_in}
 use Rattle.copyin_base.specs.Stands.{AreTied, IsTied}
 use Rattle.copyin_base.specs.Wanted.{room_in, room_of}
-use Rattle.copyin_base.specs.Worlds.{WorldView, put}
+use Rattle.copyin_base.specs.Worlds.{WorldView, port_at, put}
 use Rattle.copyin.specs.Copies.{ports_copied, ledger_queued, CopiesRight}
-use Rattle.copyin_base.proofs.Spaces.{same_world, each-space-set}
+use Rattle.copyin_base.proofs.Spaces.{each-space-set}
 use Rattle.copyin.proofs.Going.{go_on}
 use Rattle.copyin.proofs.Judging.{goes_by_name}
 use Rattle.copyin.proofs.Keeping.{keeps, live_copied, spare_copied}
@@ -232,37 +231,28 @@ some_of (Some x) h = (x, refl)
 abbrev with_queued : PortsView Kept → ℕ → PortView Kept → Kept → (spare : ℕ) → PortsView Kept
 with_queued ports p v m spare = record (with_port ports p (record v { queue = v.queue ++ m ∷ [] })) { spare = spare }
 
-same_queued : (a b : PortsView Kept) (p q : ℕ) (v : PortView Kept) (m k : Kept) (n spare : ℕ) → a ≡ b → p ≡ q → m ≡ k → n ≡ spare → with_queued a p v m n ≡ with_queued b q v k spare
-same_queued a b p q v m k n spare x y z w = rw (x, y, z, w) refl
-
-same_shift : (a b : Bool) (p q : ℕ) (l m : LedgerView) → a ≡ b → p ≡ q → l ≡ m → ledger_queued a p l ≡ ledger_queued b q m
-same_shift a b p q l m x y z = rw (x, y, z) refl
-
-pub commits : (old mid : WorldView) (task : ℕ) (parsed : Parsed) (written : WireBody) (bytes : List ℕ) (plan : Plan) (p : IsPlan old task parsed written bytes plan)
-    (spaces : List (Option SpaceView)) (ports new_ports : PortsView Kept) (ledger new_ledger : LedgerView) (sets : SetsView) → Carries old task plan mid → IsLive ports plan.port
-    → ◌≡◌ {A = WorldView} (record { spaces = spaces; ports = ports; ledger = ledger; sets = sets }) mid
-    → ((v : PortView Kept) → map.get ports.ports plan.port ≡ Some v → new_ports ≡ record (with_port ports plan.port (record v { queue = v.queue ++ plan.message ∷ [] })) { spare = ports.spare - 1 })
-    → new_ledger ≡ ledger_queued plan.message.by_once plan.port ledger
-    → Commits old task parsed written p.plans.judged bytes (record { spaces = spaces; ports = new_ports; ledger = new_ledger; sets = sets })
-commits old mid task parsed written bytes plan p spaces ports new_ports ledger new_ledger sets ca live view queued shifts =
-    let found = some_of (map.get ports.ports plan.port) live in
+pub commits : (old mid : WorldView) (task : ℕ) (parsed : Parsed) (written : WireBody) (bytes : List ℕ) (plan : Plan) (p : IsPlan old task parsed written bytes plan) (new : WorldView) → Carries old task plan mid
+    → IsLive mid.ports plan.port
+    → ((v : PortView Kept) → port_at mid plan.port ≡ Some v → new ≡ record mid { ports = with_queued mid.ports plan.port v plan.message (mid.ports.spare - 1); ledger = ledger_queued plan.message.by_once plan.port mid.ledger })
+    → Commits old task parsed written p.plans.judged bytes new
+commits old mid task parsed written bytes plan p new ca live queued =
+    let found = some_of (port_at mid plan.port) live in
     let v : PortView Kept = found.0 in
     let all = Through-append (λ old w c new. ChangesWord old task w c new) ca.one ca.two mid (option_to_list plan.words.reply) plan.words.body.items (option_to_list plan.message.reply) plan.message.rights ca.reply ca.body in
     let whole : ChangesWords old task (plan.words.destination ∷ (option_to_list plan.words.reply ++ plan.words.body.items)) (plan.destination ∷ (option_to_list plan.message.reply ++ plan.message.rights)) mid =
     (ca.one, ca.destination, all) in
-    let e : ports ≡ mid.ports = ap (λ (w : WorldView). w.ports) view in
-    let s : spaces ≡ mid.spaces = ap (λ (w : WorldView). w.spaces) view in
-    let l : new_ledger ≡ ledger_queued (message_for bytes p.plans.judged).by_once p.plans.judged.port mid.ledger =
-    shifts ∙ same_shift _ _ _ _ _ _ (ap (λ (m : Kept). m.by_once) p.message) p.port (ap (λ (w : WorldView). w.ledger) view) in
-    let less : ports.spare - 1 ≡ old.ports.spare - 1 = ap (λ (n : ℕ). n - 1) (ap (λ (ps : PortsView Kept). ps.spare) e ∙ carries_spare old mid task plan ca) in
+    let less : mid.ports.spare - 1 ≡ old.ports.spare - 1 = ap (λ (n : ℕ). n - 1) (carries_spare old mid task plan ca) in
     let reply : option_to_list plan.message.reply ≡ option_list p.plans.judged.reply = ap (λ (m : Kept). option_to_list m.reply) p.message ∙ same_options p.plans.judged.reply in
     let rights : plan.message.rights ≡ p.plans.judged.rights = ap (λ (m : Kept). m.rights) p.message in
     record {
       mid = mid;
       changes = rw (p.words.destination, p.words.reply, p.words.body, p.destination, reply, rights) at whole;
       v = v;
-      there = ap (λ (ps : PortsView Kept). map.get ps.ports p.plans.judged.port) (sym e) ∙ ap (λ (q : ℕ). map.get ports.ports q) (sym p.port) ∙ found.1;
-      rest = same_world _ _ _ _ _ _ _ _ s (queued v found.1 ∙ same_queued ports mid.ports plan.port p.plans.judged.port v plan.message (message_for bytes p.plans.judged) (ports.spare - 1) (old.ports.spare - 1) e p.port p.message less) l (ap (λ (w : WorldView). w.sets) view);
+      there = ap (λ (q : ℕ). port_at mid q) (sym p.port) ∙ found.1;
+      rest = queued v found.1 ∙ (λ i. record mid {
+        ports = with_queued mid.ports (p.port i) v (p.message i) (less i);
+        ledger = ledger_queued (p.message i).by_once (p.port i) mid.ledger;
+      });
     }
 
 -- A message that is sent leaves as much room for names.

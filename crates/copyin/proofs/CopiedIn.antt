@@ -45,6 +45,7 @@ pub record Goes (w : WorldView) (s : State) (o k task name : ℕ) (space : Space
   pub t : State
   pub copy : (number : ℕ) → disposition number ≡ Some d → CopyRight task (in_message o k) number name s (mark_of c.mark) t
   pub agrees : Agrees (after w task name space d c) t
+  pub stands : (r : Request) → t.stands r ≡ s.stands r
 
 pub the_same : (a b : Entry) → Some a ≡ Some b → b ≡ a
 the_same a b e = cc
@@ -118,6 +119,7 @@ module _ (w : WorldView) (s : State) (a : Agrees w s) (o k : ℕ) (l : IsMoving 
       ports = ports;
       counts = counts;
       total = omega (arith, total, a.total);
+      stands = λ r. refl;
       requests = λ r c q. let z = kept_entry r o k c kind q p in omega (arith, z);
       no_set = named_no_set entry p named;
     }
@@ -146,6 +148,7 @@ module _ (w : WorldView) (s : State) (a : Agrees w s) (o k : ℕ) (l : IsMoving 
           };
           agrees = changed_agrees w s a task name (l.naming task) space there entry found (Some entry) space.room w.ports (made w.ledger p right.Send 1) t unchanged
               (made_rest send p named s.make_send w2 refl (λ q. refl) a.ports (right_made w.ledger s.live_port s.ledger (onces_queued s) a.counts send p (in_message o k) live) refl);
+          stands = λ r. refl;
         }
 
     pub makes_once : (holds : has_receive entry ≡ true) → Goes w s o k task name space MakeSendOnce (record { left = Some entry; mark = mark.Port p })
@@ -169,6 +172,7 @@ module _ (w : WorldView) (s : State) (a : Agrees w s) (o k : ℕ) (l : IsMoving 
           };
           agrees = changed_agrees w s a task name (l.naming task) space there entry found (Some entry) space.room w.ports (made w.ledger p right.SendOnce 1) t unchanged
               (made_rest send_once p named s.make_send w2 refl (λ q. refl) a.ports (right_made w.ledger s.live_port s.ledger (onces_queued s) a.counts send_once p (in_message o k) live) refl);
+          stands = λ r. refl;
         }
 
     pub there_port : s.live_port p ≡ true → (v : PortView Kept) × (port_at w p ≡ Some v)
@@ -207,4 +211,5 @@ module _ (w : WorldView) (s : State) (a : Agrees w s) (o k : ℕ) (l : IsMoving 
               (subst (IsAt s.make_send f p) (sym (ap (λ (n : ℕ). (n + 1) % 2 ^ 32) b.make_send)) (is_at s.make_send p ((s.make_send p + 1) % 2 ^ 32)))
               (is_same s.sequence p _ b.sequence) (is_same s.sets_of p _ b.sets))
               (right_made w.ledger s.live_port s.ledger (onces_queued s) a.counts send p (in_message o k) live) refl);
+          stands = λ r. refl;
         }

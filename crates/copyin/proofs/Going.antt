@@ -19,6 +19,7 @@ use Rattle.copyin_base.specs.declared.message.Mark.{Mark}
 use Rattle.copyin.specs.Copies.{copied_from, ports_copied, ledger_copied, CopiesRight}
 use Rattle.copyin.specs.Judging.{made_by, made_by_mark}
 use Rattle.copyin_base.specs.Kept.{Kept}
+use Rattle.copyin_base.specs.Requests.{RequestTablesView}
 use Rattle.copyin.specs.Planned.{CanGo, CanCopy, CopiesAll}
 use Rattle.copyin.specs.Plans.{ChangesWord, ChangesWords}
 use Rattle.copyin_base.specs.Stands.{AreTied}
@@ -65,10 +66,11 @@ same_left w task name c can found e copied k a b x y =
     same_found _ _ _ y (x ∙ ap (λ (z : Entry). copied_from c.given z) ee ∙ can.is)
 
 pub copies_right : (old mid : WorldView) (task name : ℕ) (c : Carried) (can : CanCopy old task name c) (k : Copied) → k ≡ can.copied → PutsLeft old task name k.left mid →
-    (spaces : List (Option SpaceView)) (ports : PortsView Kept) (ledger : LedgerView) (sets : SetsView) → ◌≡◌ {A = WorldView} (record { spaces = spaces; ports = ports; ledger = ledger; sets = sets }) mid →
+    (spaces : List (Option SpaceView)) (ports : PortsView Kept) (ledger : LedgerView) (sets : SetsView) (requests : RequestTablesView) →
+    ◌≡◌ {A = WorldView} (record { spaces = spaces; ports = ports; ledger = ledger; sets = sets; requests = requests }) mid →
     (new_ports : PortsView Kept) (new_ledger : LedgerView) → new_ports ≡ ports_copied c.given k.mark ports → new_ledger ≡ ledger_copied c.given k.mark ledger →
-    CopiesRight old task c.given name c.mark (record { spaces = spaces; ports = new_ports; ledger = new_ledger; sets = sets })
-copies_right old mid task name c can k kk puts spaces ports ledger sets view new_ports new_ledger p l =
+    CopiesRight old task c.given name c.mark (record { spaces = spaces; ports = new_ports; ledger = new_ledger; sets = sets; requests = requests })
+copies_right old mid task name c can k kk puts spaces ports ledger sets requests view new_ports new_ledger p l =
     let is = view ∙ puts.rest in
     let here : puts.space ≡ can.space = same_found (space_at old task) puts.space can.space puts.there can.there in
     record {
@@ -79,9 +81,9 @@ copies_right old mid task name c can k kk puts spaces ports ledger sets view new
       copied = can.copied;
       is = can.is;
       mark_is = can.mark_is;
-      rest = same_world _ _ _ _ _ _ _ _ (ap (λ (w : WorldView). w.spaces) is ∙ rw (here, kk) refl)
+      rest = same_world _ _ _ _ _ _ _ _ _ _ (ap (λ (w : WorldView). w.spaces) is ∙ rw (here, kk) refl)
           (p ∙ rw kk refl ∙ ap (λ (w : WorldView). ports_copied c.given can.copied.mark w.ports) is) (l ∙ rw kk refl ∙ ap (λ (w : WorldView). ledger_copied c.given can.copied.mark w.ledger) is)
-          (ap (λ (w : WorldView). w.sets) is);
+          (ap (λ (w : WorldView). w.sets) is) (ap (λ (w : WorldView). w.requests) is);
     }
 
 -- ---- and what is left to do
@@ -139,7 +141,7 @@ go_on old new task w ws c cs go ch = elim (eqb_tells w.name null_word) [
         let after : SpaceView = record go.space { names = put go.space.names w.name n.copied.left } in
         let m = n.copied.mark in
         let is : new ≡ record old { spaces = slice_set old.spaces task (Some after); ports = ports_copied c.given m old.ports; ledger = ledger_copied c.given m old.ledger } =
-        r.rest ∙ same_world _ _ _ _ _ _ _ _ (rw (here, kk) refl) (rw kk refl) (rw kk refl) refl in
+        r.rest ∙ same_world _ _ _ _ _ _ _ _ _ _ (rw (here, kk) refl) (rw kk refl) (rw kk refl) refl refl in
         let total = total_copied c.given m old.ledger in
         let one : made_by c ≡ made_by_mark c.given m = ap (λ (x : Mark). made_by_mark c.given x) n.mark in
         subst (λ (x : WorldView). CanGo x task ws cs) (sym is) (record {

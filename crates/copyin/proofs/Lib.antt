@@ -16,6 +16,7 @@ pub mod Judging
 pub mod Keeping
 pub mod HoldersKept
 pub mod Leaving
+pub mod Tables
 pub mod Going
 pub mod Planning
 pub mod Committing

@@ -126,7 +126,7 @@ module _ (w : WorldView) (s : State) (a : Agrees w s) (p : ℕ) (v : PortView Ke
     counts = counted m.by_once unused once_more;
     total = total_queued m.by_once ∙ a.total;
     in_sets = a.in_sets;
-    requests = a.requests;
+    of_requests = a.of_requests;
   }
 
 -- ---- the message of a text

@@ -1,24 +1,28 @@
 //! Carrying out a plan.
-ghost use Rattle.std.specs.Prelude.{◌≡◌, ℕ, ◌<◌, ◌≤◌, ◌+◌, List, [], ◌∷◌, true};
+ghost use Rattle.std.specs.Prelude.{◌≡◌, ℕ, ◌<◌, ◌≤◌, ◌+◌, ◌-◌, ◌++◌, List, [], ◌∷◌, true, Some, IfSome};
 ghost use Rattle.std.specs.Option.{option_to_list};
 ghost use Rattle.mach_types.specs.Grammar.{WireBody};
 ghost use Rattle.mach_types.specs.Numbers.{most_rights};
 ghost use Rattle.mach_types.specs.declared.rights.Disposition.TheVariants as disposition_of;
 ghost use Rattle.message_codec.specs.declared.text.Parsed.{Parsed as AnyParsed};
+ghost use Rattle.port.specs.Ports.{PortView, IsLive, with_port};
 ghost use Rattle.rights.specs.Ledger.{IsEntered, counts_of};
 ghost use Rattle.copyin_base.specs.declared.message.Mark.TheVariants as mark_of;
 ghost use Rattle.copyin.specs.Judging.{made_by, made_by_mark};
 ghost use Rattle.copyin.specs.Planned.{IsPlan, CanGo, CanCopy};
 ghost use Rattle.copyin.specs.Plans.{ChangesWord, ChangesWords, Commits};
-ghost use Rattle.copyin_base.specs.Changes.{PutsLeft};
+ghost use Rattle.copyin_base.specs.Changes.{IsForLive, PutsLeft};
+ghost use Rattle.copyin_base.specs.Kept.{Kept};
 ghost use Rattle.copyin_base.specs.Stands.{IsTied};
+ghost use Rattle.copyin_base.specs.Worlds.{entry_at, port_at};
 ghost use Rattle.copyin.specs.Copies.{ports_copied, ledger_copied, ledger_queued, CopiesRight};
 
 use crate::copies::copy_right;
 use crate::judge::Plan;
-use copyin_base::{Carried, Mark, Queued, World};
+use copyin_base::{Carried, Mark, Message, Queued, World};
 use mach_types::{Disposition, Name, PortId, TaskId};
 use message_codec::PortWord;
+use name_space::Entry;
 use port::{Attributes, Ports};
 use rights::{Ledger, RightKind};
 
@@ -74,6 +78,17 @@ fn count_right(ledger: &mut Ledger, given: Disposition, mark: Mark)
     }
 }
 
+// What stands under the name. Names are read with the ports that are there, so it is for one of them,
+// if for any.
+fn entry_under(world: &World, task: TaskId, name: Name) -> Option<Entry>
+    ensures value { result ≡ entry_at world.now task name }
+    ensures lives { IfSome result (λ e. IsForLive world.now e) }
+{
+    // Only where a field is used does the proof see how the names are read.
+    let _ = &world.ports;
+    world.lookup(task, name)
+}
+
 // Leaves what is left of the right under the name that it goes from, and tells what stands for the
 // right. One that is made from a right that stays leaves just that: no name is looked up for it.
 fn leave_name(world: &mut World, task: TaskId, name: Name, carried: Carried) -> Mark
@@ -84,7 +99,7 @@ fn leave_name(world: &mut World, task: TaskId, name: Name, carried: Carried) -> 
     if carried.given.makes_right() {
         return carried.mark;
     }
-    let entry = world.lookup(task, name).unwrap();
+    let entry = entry_under(world, task, name).unwrap();
     let copied = copy_right(carried.given, &entry).unwrap();
     world.put_left(task, name, copied.left);
     copied.mark
@@ -125,6 +140,22 @@ fn use_right(ledger: &mut Ledger, port: PortId, by_once: bool)
     if by_once {
         ledger.shift(port);
     }
+}
+
+// The message joins the end of its port's queue, in a spare slot, and the right that it goes by is
+// unused no more.
+fn queue_message(world: &mut World, port: PortId, message: Message)
+    requires live { IsLive world.old.ports port }
+    requires spare { 0 < world.old.ports.spare }
+    requires unused { message.by_once ≡ true → 0 < (counts_of world.old.ledger port).send_once }
+    ensures { (v : PortView Kept) → port_at world.old port ≡ Some v → world.new ≡ record world.old {
+      ports = record (with_port world.old.ports port (record v { queue = v.queue ++ message ∷ [] })) { spare = world.old.ports.spare - 1 };
+      ledger = ledger_queued message.by_once port world.old.ledger;
+    } }
+{
+    let by_once = message.by_once;
+    world.ports.enqueue(port, Queued::sent(message));
+    use_right(&mut world.ledger, port, by_once);
 }
 
 // A word's right goes, if the word is a name.
@@ -180,7 +211,5 @@ pub fn commit(world: &mut World, plan: Plan)
     copy_word(world, task, words.destination, destination);
     copy_reply(world, task, words.reply, message.reply());
     copy_words(world, task, words.body.as_slice(), message.rights());
-    let by_once = message.by_once;
-    world.ports.enqueue(port, Queued::sent(message));
-    use_right(&mut world.ledger, port, by_once);
+    queue_message(world, port, message);
 }

@@ -25,11 +25,11 @@ ghost use Rattle.copyin_base.specs.Worlds.{put, HasTask};
 
 use crate::copies::copy_right;
 use crate::touched::Touched;
-use copyin_base::{Carried, CarriedRights, Mark, Message, World};
+use copyin_base::{Carried, CarriedRights, Mark, Message, TaskNames, World};
 use mach_types::limits::MOST_RIGHTS;
 use mach_types::{Disposition, MsgReturn, Name, PortId, TaskId};
 use message_codec::{INLINE_WORDS, Parsed, PortWord, port_words};
-use name_space::{Entry, Space};
+use name_space::Entry;
 use smallvec::SmallVec;
 use std::alloc::{AllocError, Global};
 
@@ -81,7 +81,7 @@ fn leave(
 
 // Judges the right that goes from what stands under the word's name, which is refused with this code.
 fn judge_name(
-    space: &Space,
+    space: &TaskNames<'_>,
     touched: &mut Touched,
     word: PortWord,
     refusal: MsgReturn,
@@ -120,7 +120,7 @@ fn mark_of_word(word: Name) -> Option<Mark>
 
 // Judges a word: two words are no names and pass.
 fn judge_word(
-    space: &Space,
+    space: &TaskNames<'_>,
     touched: &mut Touched,
     word: PortWord,
     refusal: MsgReturn,
@@ -148,7 +148,7 @@ fn takes_receive(word: &PortWord) -> bool
 
 // Judges a word of the body: no receive right goes in a message yet.
 fn judge_body_word(
-    space: &Space,
+    space: &TaskNames<'_>,
     touched: &mut Touched,
     word: &PortWord,
 ) -> Result<Carried, MsgReturn>
@@ -182,7 +182,7 @@ fn keep(
 
 // Judges a word of the body, and adds its right to those that go.
 fn judge_next(
-    space: &Space,
+    space: &TaskNames<'_>,
     touched: &mut Touched,
     rights: &mut SmallVec<Carried, INLINE_WORDS>,
     word: &PortWord,
@@ -206,7 +206,7 @@ fn judge_next(
 // Judges the words of the body, each in what the one before left, and puts their rights into a list
 // that has none.
 fn judge_body(
-    space: &Space,
+    space: &TaskNames<'_>,
     touched: &mut Touched,
     rights: &mut SmallVec<Carried, INLINE_WORDS>,
     words: &[PortWord],
@@ -228,7 +228,7 @@ fn judge_body(
 
 // Judges the word of the right to answer with.
 fn judge_reply(
-    space: &Space,
+    space: &TaskNames<'_>,
     touched: &mut Touched,
     word: Option<PortWord>,
 ) -> Result<Option<Carried>, MsgReturn>
@@ -269,7 +269,7 @@ struct Destination {
 }
 
 // Judges the word of the destination: only a right for a port will do.
-fn judge_destination(space: &Space, word: PortWord) -> Result<Destination, MsgReturn>
+fn judge_destination(space: &TaskNames<'_>, word: PortWord) -> Result<Destination, MsgReturn>
     requires { IsSome (disposition word.disposition) }
     ensures ok { IfOk result (λ d. StartsAt space.now.names word d) }
     ensures err { IfErr result (λ code. (code ≡ SendInvalidDest) × LeadsNowhere space.now.names word) }
@@ -310,7 +310,7 @@ fn is_lone(words: &Words, parsed: &Parsed) -> bool
 }
 
 // Judges the word of the destination, where it is the only one.
-fn judge_lone(space: &Space, words: &Words) -> Result<Rights, MsgReturn>
+fn judge_lone(space: &TaskNames<'_>, words: &Words) -> Result<Rights, MsgReturn>
     requires given { AreGiven words.now }
     requires lone { IsLone words.now }
     ensures ok { IfOk result (λ rights. GoAll space.now.names words.now rights []) }
@@ -334,7 +334,7 @@ fn judge_lone(space: &Space, words: &Words) -> Result<Rights, MsgReturn>
 // list that has none.
 fn judge_all(
     alloc: Global,
-    space: &Space,
+    space: &TaskNames<'_>,
     words: &Words,
     body: &mut SmallVec<Carried, INLINE_WORDS>,
 ) -> Result<Rights, MsgReturn>
@@ -360,7 +360,7 @@ fn judge_all(
 // Judges the reply and the body, where this is left under the destination's name.
 fn judge_others(
     alloc: Global,
-    space: &Space,
+    space: &TaskNames<'_>,
     words: &Words,
     left: Option<Entry>,
     body: &mut SmallVec<Carried, INLINE_WORDS>,
@@ -554,7 +554,7 @@ pub fn check(
 {
     let words = read_words(alloc, parsed, bytes)?;
     if is_lone(&words, parsed) {
-        let rights = judge_lone(world.space(task), &words)?;
+        let rights = judge_lone(&world.space(task), &words)?;
         admit(world, &rights, &[])?;
         let message = lone_message(alloc, parsed, bytes, &rights)?;
         return Ok(Plan {
@@ -566,7 +566,7 @@ pub fn check(
         });
     }
     let mut body = SmallVec::new(alloc);
-    let rights = judge_all(alloc, world.space(task), &words, &mut body)?;
+    let rights = judge_all(alloc, &world.space(task), &words, &mut body)?;
     admit(world, &rights, body.as_slice())?;
     let message = message_of(alloc, parsed, bytes, &rights, body.as_slice())?;
     Ok(Plan {

@@ -7,8 +7,9 @@ ghost use Rattle.copyin.specs.Overlays.{IsFull, Overlays, puts};
 ghost use Rattle.copyin_base.specs.Worlds.{put};
 
 use arrayvec::ArrayVec;
+use copyin_base::TaskNames;
 use mach_types::Name;
-use name_space::{Entry, Space};
+use name_space::Entry;
 use std::alloc::{AllocError, Global};
 use std::collections::BTreeMap;
 
@@ -31,7 +32,7 @@ pub(crate) struct Touched {
 }
 
 // What stands under the name after the first few: what the last of them left that touched it.
-fn after_few(space: &Space, few: &[Touch], name: Name) -> Option<Entry>
+fn after_few(space: &TaskNames<'_>, few: &[Touch], name: Name) -> Option<Entry>
     ensures { result ≡ map.get (puts space.now.names few.now) name }
 {
     let mut earlier = few;
@@ -62,7 +63,7 @@ impl Touched {
     }
 
     /// What stands under the name now.
-    pub(crate) fn standing(&self, space: &Space, name: Name) -> Option<Entry>
+    pub(crate) fn standing(&self, space: &TaskNames<'_>, name: Name) -> Option<Entry>
         ensures { (now : Names) → Overlays self.now space.now.names now → result ≡ map.get now name }
     {
         match self.many.get(&name.number()) {

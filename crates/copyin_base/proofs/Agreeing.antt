@@ -1,6 +1,6 @@
 -- The tables still agree with a state when one task's names, and attributes and counts of ports, have changed. Each group of what they
 -- tell has a frame of its own.
-use Rattle.std.proofs.Common.{◌≡◌, ℕ, Bool, true, List, Option, Some, None, refl, sym, ap, subst, ◌∙◌, inl, inr, length}
+use Rattle.std.proofs.Common.{◌≡◌, ℕ, Bool, true, List, Option, Some, None, refl, sym, ap, subst, ◌∙◌, inl, inr, length, arith}
 use Rattle.std.specs.Prelude.{slice_set, is_some}
 use Rattle.std.specs.Option.{option_map}
 use Rattle.std.specs.FinMap as map
@@ -19,7 +19,9 @@ use Rattle.port.specs.Ports.{PortView}
 use Rattle.port_set.specs.Sets.{SetsView}
 use Rattle.copyin_base.specs.Kept.{Kept}
 use Rattle.copyin_base.specs.Worlds.{WorldView, space_in, space_at, entry_in, port_at, put}
+use Rattle.copyin_base.specs.Requests.{RequestTablesView, notify_of, RequestsAgree}
 use Rattle.copyin_base.specs.Shows.{target_of, HasCount, ShowsPort, ShowsCounts, SpacesAgree, ReferencesAgree, SetsAgree, Agrees}
+use Rattle.copyin_base.proofs.Requesting.{requests_stay}
 use Rattle.copyin_base.proofs.Gets.{length-set, of_some, same_found}
 use Rattle.copyin_base.proofs.Putting.{each_put, put_own, put_other, same_len}
 use Rattle.copyin_base.proofs.Spaces.{each-space-set}
@@ -137,6 +139,9 @@ pub record Near (w w2 : WorldView) (s t : State) (task : ℕ) (space2 : SpaceVie
   pub ports : (p : ℕ) (v : PortView Kept) → port_at w2 p ≡ Some v → ShowsPort v t p
   pub counts : (p : ℕ) → ShowsCounts w2 t p
   pub total : w2.ledger.total ≡ length t.ledger
+  -- so are the requests and their rights
+  pub kept_requests : w2.requests ≡ w.requests
+  pub stands : (r : Request) → t.stands r ≡ s.stands r
   pub requests : (r : Request) (kind : Kind) (q : ℕ) → lying t kind q (in_request r) ≡ lying s kind q (in_request r)
   -- the sets are as they were, and what named one still does
   pub sets : w2.sets ≡ w.sets
@@ -154,6 +159,9 @@ module _ (w w2 : WorldView) (s t : State) (a : Agrees w s) (task : ℕ) (space s
   in_sets_agree : SetsAgree w.sets s.set_owner s.sets_made t.naming
   in_sets_agree = sets_stay w.sets s.set_owner s.sets_made s.naming t.naming a.in_sets task near.naming_others near.set_names
 
+  made : w2.ports.made ≡ w.ports.made
+  made = near.made
+
   pub near_agrees : Agrees w2 t
   near_agrees = record {
     spaces = subst (λ (x : List (Option SpaceView)). SpacesAgree x t.live_task t.tasks_made t.naming) (sym near.spaces)
@@ -166,5 +174,7 @@ module _ (w w2 : WorldView) (s t : State) (a : Agrees w s) (task : ℕ) (space s
     total = near.total;
     in_sets = subst (λ (x : SetsView). SetsAgree x t.set_owner t.sets_made t.naming) (sym near.sets)
         (subst (λ (x : State). SetsAgree w.sets x.set_owner x.sets_made t.naming) (sym near.rest) in_sets_agree);
-    requests = λ r kind q. near.requests r kind q ∙ a.requests r kind q;
+    of_requests = subst (λ (x : RequestTablesView). RequestsAgree (notify_of x) w2.ports.made t.stands t.live_port t.ledger) (sym near.kept_requests)
+        (requests_stay (notify_of w.requests) w.ports.made w2.ports.made s.stands t.stands s.live_port t.live_port s.ledger t.ledger a.of_requests
+        (omega (arith, made)) near.stands (λ q less. ap (λ (x : State). x.live_port q) near.rest) near.requests);
   }

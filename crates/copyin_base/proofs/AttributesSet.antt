@@ -53,7 +53,7 @@ attributes_agree w w2 s a p x set limit make_send sequence sets_of l m n o = sub
   counts = a.counts;
   total = a.total;
   in_sets = a.in_sets;
-  requests = a.requests;
+  of_requests = a.of_requests;
 }
   where
     t : State

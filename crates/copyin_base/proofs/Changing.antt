@@ -57,6 +57,7 @@ pub record Rest (w w2 : WorldView) (s t : State) (task : ℕ) (entry : Entry) (l
   pub ports : (p : ℕ) (v : PortView Kept) → port_at w2 p ≡ Some v → ShowsPort v t p
   pub counts : (p : ℕ) → ShowsCounts w2 t p
   pub total : w2.ledger.total ≡ length t.ledger
+  pub stands : (r : Request) → t.stands r ≡ s.stands r
   pub requests : (r : Request) (kind : Kind) (q : ℕ) → lying t kind q (in_request r) ≡ lying s kind q (in_request r)
   pub no_set : (set : ℕ) → target_of entry ≡ Target.set set → ⊥
 
@@ -121,6 +122,8 @@ module _ (w : WorldView) (s : State) (a : Agrees w s) (task name : ℕ) (naming 
       ports = r.ports;
       counts = r.counts;
       total = r.total;
+      kept_requests = refl;
+      stands = r.stands;
       requests = r.requests;
       sets = refl;
       set_names = set_names r.no_set;

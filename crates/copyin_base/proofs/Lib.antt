@@ -5,9 +5,12 @@ pub mod Spares
 pub mod Slots
 pub mod AttributesSet
 pub mod Counting
+pub mod Requesting
 pub mod Agreeing
 pub mod Taking
 pub mod Putting
+pub mod Reading
+pub mod Written
 pub mod Changing
 pub mod NamesChanged
 pub mod Holders

@@ -1,5 +1,5 @@
 -- Only names of one task have changed, and no right was made or lost: the tables still agree.
-use Rattle.std.proofs.Common.{◌≡◌, ℕ, Option, Some, None, refl, sym, ap, subst, ◌∙◌, Bool, inl, inr}
+use Rattle.std.proofs.Common.{◌≡◌, ℕ, Option, Some, None, refl, sym, ap, subst, ◌∙◌, Bool, inl, inr, arith}
 use Rattle.std.specs.Option.{option_map}
 use Rattle.std.specs.FinMap as map
 use Rattle.std.proofs.lemmas.Bool.Decides.{eqb_tells}
@@ -14,7 +14,9 @@ use Rattle.name_space.specs.Names.{Names as TableNames}
 use Rattle.port_set.specs.declared.SetRecord.{SetRecord}
 use Rattle.port_set.specs.Sets.{SetsView, renamed}
 use Rattle.copyin_base.specs.Worlds.{WorldView, space_at, with_space}
+use Rattle.copyin_base.specs.Requests.{notify_of}
 use Rattle.copyin_base.specs.Shows.{target_of, HasCount, SetsAgree, Agrees}
+use Rattle.copyin_base.proofs.Requesting.{requests_stay}
 use Rattle.copyin_base.proofs.Agreeing.{NamesAgree, CountRights, own_names, own_rights, put_names, put_rights, spaces_agree, references_agree, sets_stay}
 use Rattle.copyin_base.proofs.Gets.{of_some, same_found}
 use Rattle.copyin_base.proofs.Putting.{each_put, put_other, get_removed}
@@ -39,10 +41,10 @@ module _ (w : WorldView) (s : State) (a : Agrees w s) (task : ℕ) (space : Spac
       (λ n set is. ap (λ (m : Names). map.get m n) (at_own s.naming task own) ∙ stays n set is)
 
   pub names_agree : (names : TableNames) (room : ℕ) (own : Names) (stands : Request → Bool) (sets : SetsView) (owner : ℕ → Option ℕ) (made : ℕ) →
-      NamesAgree names own → CountRights names task s.ledger → SetsAgree sets owner made (at s.naming task own) →
+      ((r : Request) → stands r ≡ s.stands r) → NamesAgree names own → CountRights names task s.ledger → SetsAgree sets owner made (at s.naming task own) →
       Agrees (record (with_space w task (record space { names = names; room = room })) { sets = sets })
       (record s { naming = at s.naming task own; stands = stands; set_owner = owner; sets_made = made })
-  names_agree names room own stands sets owner made named counted in_sets = record {
+  names_agree names room own stands sets owner made same named counted in_sets = record {
     spaces = spaces_agree w.spaces task space (record space { names = names; room = room }) there s.live_task s.tasks_made s.naming (at s.naming task own) a.spaces
         (subst (NamesAgree names) (sym (at_own s.naming task own)) named) (others own);
     rights = references_agree w.spaces task space (record space { names = names; room = room }) there s.ledger s.ledger a.rights counted (λ u not kind q. refl);
@@ -52,7 +54,8 @@ module _ (w : WorldView) (s : State) (a : Agrees w s) (task : ℕ) (space : Spac
     counts = a.counts;
     total = a.total;
     in_sets = in_sets;
-    requests = a.requests;
+    of_requests = requests_stay (notify_of w.requests) w.ports.made w.ports.made s.stands stands s.live_port s.live_port s.ledger s.ledger a.of_requests (omega arith) same (λ q less. refl)
+        (λ r kind q. refl);
   }
 
   -- ---- one more name, of no port
@@ -74,7 +77,7 @@ module _ (w : WorldView) (s : State) (a : Agrees w s) (task : ℕ) (space : Spac
     pub with_sets : (sets : SetsView) (owner : ℕ → Option ℕ) (made : ℕ) → SetsAgree sets owner made (at s.naming task more_own) →
         Agrees (record (with_space w task (record space { names = more; room = room })) { sets = sets })
         (record s { naming = at s.naming task more_own; set_owner = owner; sets_made = made })
-    with_sets sets owner made in_sets = names_agree more room more_own s.stands sets owner made
+    with_sets sets owner made in_sets = names_agree more room more_own s.stands sets owner made (λ r. refl)
         (put_names space.names (s.naming task) (own_names w s a task space there) name (Some e) (of_some e HasCount count))
         (put_rights space.names task s.ledger (own_rights w s a task space there) name (Some e) (λ x p is named. absurd (no_some p (sym no_port ∙ ap port_named (same_found (Some x) e x (sym is) refl) ∙ named))))
         in_sets
@@ -106,9 +109,9 @@ module _ (w : WorldView) (s : State) (a : Agrees w s) (task : ℕ) (space : Spac
     stood : (n : ℕ) (x : Target) → n ≡ from → map.get (s.naming task) n ≡ Some x → target_of e ≡ x
     stood n x same is = same_found (map.get (s.naming task) from) (target_of e) x target_found (ap (map.get (s.naming task)) (sym same) ∙ is)
 
-    pub moved_agrees : (sets : SetsView) → SetsAgree sets s.set_owner s.sets_made (at s.naming task moved_own) →
+    pub moved_agrees : ((r : Request) → stands r ≡ s.stands r) → (sets : SetsView) → SetsAgree sets s.set_owner s.sets_made (at s.naming task moved_own) →
         Agrees (record (with_space w task (record space { names = moved; room = room })) { sets = sets }) (record s { naming = at s.naming task moved_own; stands = stands })
-    moved_agrees sets in_sets = names_agree moved room moved_own stands sets s.set_owner s.sets_made
+    moved_agrees same sets in_sets = names_agree moved room moved_own stands sets s.set_owner s.sets_made same
         (put_names _ _ (put_names space.names (s.naming task) (own_names w s a task space there) from None (λ x is. absurd (no_some x is))) to (Some e)
         (of_some e HasCount ((own_names w s a task space there).counted from e found)))
         (put_rights _ task s.ledger (put_rights space.names task s.ledger (own_rights w s a task space there) from None (λ x p is. absurd (no_some x is))) to (Some e)

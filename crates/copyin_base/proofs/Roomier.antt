@@ -56,12 +56,12 @@ room_spaces w v s same a =
       counts = a.counts;
       total = a.total;
       in_sets = a.in_sets;
-      requests = a.requests;
+      of_requests = a.of_requests;
     }
 
 pub room_agrees : (w v : WorldView) (s : State) → SameButRoom w v → Agrees w s → Agrees v s
 room_agrees w v s same a =
-    let is : record w { spaces = v.spaces } ≡ v = λ i. record { spaces = v.spaces; ports = sym same.ports i; ledger = sym same.ledger i; sets = sym same.sets i } in
+    let is : record w { spaces = v.spaces } ≡ v = λ i. record { spaces = v.spaces; ports = sym same.ports i; ledger = sym same.ledger i; sets = sym same.sets i; requests = sym same.requests i } in
     subst (λ (x : WorldView). Agrees x s) is (room_spaces w v s same a)
 
 -- the same stands under each name, and no port changed
@@ -83,7 +83,7 @@ pub room_shows : (w v : WorldView) (s : State) → SameButRoom w v → Shows w s
 room_shows w v s same sh = record { agrees = room_agrees w v s same sh.agrees; holders = room_holders w v same sh.holders; slots = room_slots w v same sh.slots; lawful = sh.lawful; quiet = sh.quiet }
 
 pub room_refl : (w : WorldView) → SameButRoom w w
-room_refl w = record { tasks = refl; names = λ task. refl; ports = refl; ledger = refl; sets = refl }
+room_refl w = record { tasks = refl; names = λ task. refl; ports = refl; ledger = refl; sets = refl; requests = refl }
 
 pub roomier : (w : WorldView) (task : ℕ) (space : SpaceView) (room : ℕ) (kept : Option ℕ) → space_at w task ≡ Some space → SameButRoom w (with_space w task (record space { room = room; kept = kept }))
 roomier w task space room kept there = record {
@@ -92,6 +92,7 @@ roomier w task space room kept there = record {
   ports = refl;
   ledger = refl;
   sets = refl;
+  requests = refl;
 }
 
 pub room_made : (w v : WorldView) (task number : ℕ) → MakesRoom w task number v → SameButRoom w v
@@ -121,7 +122,7 @@ slots_agree w s n a = record {
   counts = a.counts;
   total = a.total;
   in_sets = a.in_sets;
-  requests = a.requests;
+  of_requests = a.of_requests;
 }
 
 -- ... as long as they are enough

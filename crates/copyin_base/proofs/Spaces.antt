@@ -7,8 +7,8 @@ use Rattle.port.specs.Ports.{PortsView}
 use Rattle.port_set.specs.Sets.{SetsView}
 use Rattle.rights.specs.Ledger.{LedgerView}
 use Rattle.copyin_base.specs.Kept.{Kept}
-use Rattle.copyin_base.specs.Worlds.{WorldView, space_in, space_at, with_space}
-use Rattle.copyin_base.proofs.Gets.{same_found}
+use Rattle.copyin_base.specs.Requests.{RequestTablesView}
+use Rattle.copyin_base.specs.Worlds.{WorldView, space_in}
 
 -- ---- the spaces after one was set, and after one was put at the end
 
@@ -48,9 +48,9 @@ space-end (x ∷ xs) = space-end xs
 
 -- ---- in the tables
 
-pub same_world : (a b : List (Option SpaceView)) (p q : PortsView Kept) (l m : LedgerView) (x y : SetsView) → a ≡ b → p ≡ q → l ≡ m → x ≡ y →
-    ◌≡◌ {A = WorldView} (record { spaces = a; ports = p; ledger = l; sets = x }) (record { spaces = b; ports = q; ledger = m; sets = y })
-same_world a b p q l m x y e f g h = λ i. record { spaces = e i; ports = f i; ledger = g i; sets = h i }
+pub same_world : (a b : List (Option SpaceView)) (p q : PortsView Kept) (l m : LedgerView) (x y : SetsView) (r t : RequestTablesView) → a ≡ b → p ≡ q → l ≡ m → x ≡ y → r ≡ t →
+    ◌≡◌ {A = WorldView} (record { spaces = a; ports = p; ledger = l; sets = x; requests = r }) (record { spaces = b; ports = q; ledger = m; sets = y; requests = t })
+same_world a b p q l m x y r t e f g h k = λ i. record { spaces = e i; ports = f i; ledger = g i; sets = h i; requests = k i }
 
 -- what is set again was never set before
 pub set-set : {A : Type 0} (xs : List A) (i : ℕ) (y z : A) → slice_set (slice_set xs i y) i z ≡ slice_set xs i z
@@ -63,24 +63,6 @@ pub read_there : (spaces : List (Option SpaceView)) (i : ℕ) (space : SpaceView
 read_there [] i space read is at = absurd (let none : None ≡ Some space = is in cc)
 read_there (x ∷ xs) zero space read is at = at ∙ is
 read_there (x ∷ xs) (suc i) space read is at = read_there xs i space read is at
-
--- what is lent of the space of the task is that space
-pub space_read : (old : WorldView) (task : ℕ) (space : SpaceView) (spaces : List (Option SpaceView)) (ports : PortsView Kept) (ledger : LedgerView) (sets : SetsView) (i : ℕ) (read : Option SpaceView) (lent : SpaceView) →
-    space_at old task ≡ Some space → ◌≡◌ {A = WorldView} (record { spaces = spaces; ports = ports; ledger = ledger; sets = sets }) old → i ≡ task → read ≡ get_or spaces i read → read ≡ Some lent → lent ≡ space
-space_read old task space spaces ports ledger sets i read lent there view index is some =
-    same_found read lent space some (read_there spaces i space read (ap (λ (j : ℕ). space_in spaces j) index ∙ ap (λ (w : WorldView). space_at w task) view ∙ there) is)
-
--- The tables are those of before, but for the space of the task: what was lent of it became this.
-pub space_replaced : (old : WorldView) (task : ℕ) (space : SpaceView) (become : SpaceView → SpaceView) (spaces : List (Option SpaceView)) (ports : PortsView Kept) (ledger : LedgerView) (sets : SetsView)
-    (i : ℕ) (read : Option SpaceView) (lent after : SpaceView) → space_at old task ≡ Some space → ◌≡◌ {A = WorldView} (record { spaces = spaces; ports = ports; ledger = ledger; sets = sets }) old → i ≡ task →
-    read ≡ get_or spaces i read → read ≡ Some lent → after ≡ become lent →
-    ◌≡◌ {A = WorldView} (record { spaces = slice_set spaces i (Some after); ports = ports; ledger = ledger; sets = sets }) (with_space old task (become space))
-space_replaced old task space become spaces ports ledger sets i read lent after there view index is some new =
-    let same : spaces ≡ old.spaces = ap (λ (w : WorldView). w.spaces) view in
-    let here = space_read old task space spaces ports ledger sets i read lent there view index is some in
-    same_world _ _ _ _ _ _ _ _
-    (ap (λ (x : SpaceView). slice_set spaces i (Some x)) (new ∙ ap become here) ∙ ap (λ (j : ℕ). slice_set spaces j (Some (become space))) index ∙ ap (λ (xs : List (Option SpaceView)). slice_set xs task (Some (become space))) same)
-    (ap (λ (w : WorldView). w.ports) view) (ap (λ (w : WorldView). w.ledger) view) (ap (λ (w : WorldView). w.sets) view)
 
 -- what follows where all went well
 pub on_ok : {T E : Type 0} (r : Result T E) (P Q : Type 0) → (P → Q) → OnOk r P → OnOk r Q

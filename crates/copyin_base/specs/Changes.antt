@@ -4,23 +4,28 @@ use Rattle.std.specs.Option.{option_map}
 use Rattle.std.specs.FinMap as map
 use Rattle.mach_types.specs.Numbers.{most_names}
 use Rattle.name_space.specs.declared.Entry.{Entry}
-use Rattle.name_space.specs.Entry.{port_named}
+use Rattle.name_space.specs.Entry.{port_named, port_of}
 use Rattle.name_space.specs.Names.{SpaceView, IsUsable, HasPlace, HasNoOther}
 use Rattle.name_space.specs.Names.{port_at as named_at}
 use Rattle.port.specs.declared.Attributes.{Attributes}
 use Rattle.port.specs.declared.Holder.{Holder}
-use Rattle.port.specs.Ports.{PortView, with_port}
+use Rattle.port.specs.Ports.{PortView, with_port, IsLive}
 use Rattle.copyin_base.specs.Kept.{Kept}
 use Rattle.copyin_base.specs.Worlds.{WorldView, space_at, with_space, port_at, put}
 
 -- ---- what stands under a name
 
--- The name is in use, and what is left there is for the port that it was for, if for any.
+-- The port is there that the entry is for, if it is for any.
+abbrev pub IsForLive : WorldView → Entry → Type 0
+IsForLive w entry = (port : ℕ) → port_of entry ≡ Some port → IsLive w.ports port
+
+-- The name is in use, and what is left there is for the port that it was for, if for any, which is there.
 pub record CanPutLeft (w : WorldView) (task name : ℕ) (left : Option Entry) : Type 0 where
   pub space : SpaceView
   pub there : space_at w task ≡ Some space
   pub used : map.contains_key space.names name ≡ true
   pub same : IfSome left (λ e. (port : ℕ) → port_named e ≡ Some port → named_at space.names name ≡ Some port)
+  pub lives : IfSome left (λ e. IsForLive w e)
 
 -- This is left under the name; the name goes where nothing is.
 pub record PutsLeft (old : WorldView) (task name : ℕ) (left : Option Entry) (new : WorldView) : Type 0 where
@@ -28,7 +33,8 @@ pub record PutsLeft (old : WorldView) (task name : ℕ) (left : Option Entry) (n
   pub there : space_at old task ≡ Some space
   pub rest : new ≡ with_space old task (record space { names = put space.names name left })
 
--- The task may have the entry under the name, in a place that was made: the name isn't in use, and no other is for the entry's port.
+-- The task may have the entry under the name, in a place that was made: the name isn't in use, no other is for the entry's port, and that is
+-- there.
 pub record CanInsert (w : WorldView) (task name : ℕ) (entry : Entry) : Type 0 where
   pub space : SpaceView
   pub there : space_at w task ≡ Some space
@@ -37,6 +43,7 @@ pub record CanInsert (w : WorldView) (task name : ℕ) (entry : Entry) : Type 0 
   pub few : map.len space.names < most_names
   pub place : HasPlace space name
   pub apart : HasNoOther space.names entry
+  pub lives : IsForLive w entry
 
 pub record InsertsEntry (old : WorldView) (task name : ℕ) (entry : Entry) (new : WorldView) : Type 0 where
   pub space : SpaceView
@@ -62,6 +69,7 @@ pub record SameButRoom (old new : WorldView) : Type 0 where
   pub ports : new.ports ≡ old.ports
   pub ledger : new.ledger ≡ old.ledger
   pub sets : new.sets ≡ old.sets
+  pub requests : new.requests ≡ old.requests
 
 -- All is as before but the number of spare message slots.
 abbrev pub with_slots : WorldView → ℕ → WorldView

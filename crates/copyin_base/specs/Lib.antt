@@ -1,6 +1,8 @@
 pub mod Carrying
 pub mod Kept
 pub mod Queued
+pub mod Reading
+pub mod Requests
 pub mod Worlds
 pub mod Shows
 pub mod Stands

@@ -20,6 +20,7 @@ use Rattle.port_set.specs.declared.SetRecord.{SetRecord}
 use Rattle.port_set.specs.Sets.{SetsView}
 use Rattle.rights.specs.Ledger.{LedgerView, counts_of}
 use Rattle.copyin_base.specs.Kept.{Kept, Keeps}
+use Rattle.copyin_base.specs.Requests.{notify_of, RequestsAgree}
 use Rattle.copyin_base.specs.Worlds.{WorldView, space_in, entry_in, entry_at, port_at}
 
 abbrev pub target_of : Named → Target
@@ -103,8 +104,8 @@ pub record Agrees (w : WorldView) (s : State) : Type 0 where
   pub total : w.ledger.total ≡ length s.ledger
   pub in_sets : SetsAgree w.sets s.set_owner s.sets_made s.naming
   pub open in_sets use *
-  -- no request stands
-  pub requests : (r : Request) (kind : Kind) (q : ℕ) → lying s kind q (in_request r) ≡ 0
+  pub of_requests : RequestsAgree (notify_of w.requests) w.ports.made s.stands s.live_port s.ledger
+  pub open of_requests use *
 
 -- Where a port's receive right stands under a name, the port knows that the task holds it. This is of the tables alone.
 pub record HoldersAgree (w : WorldView) : Type 0 where

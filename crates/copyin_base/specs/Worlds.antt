@@ -9,6 +9,7 @@ use Rattle.port.specs.Ports.{PortView, PortsView}
 use Rattle.port_set.specs.Sets.{SetsView, no_sets}
 use Rattle.rights.specs.Ledger.{LedgerView}
 use Rattle.copyin_base.specs.Kept.{Kept}
+use Rattle.copyin_base.specs.Requests.{RequestTablesView, none_requested}
 
 pub record WorldView : Type 0 where
   -- the names of each task, by the task's number, and nothing where the task has ended
@@ -16,14 +17,15 @@ pub record WorldView : Type 0 where
   pub ports : PortsView Kept
   pub ledger : LedgerView
   pub sets : SetsView
+  pub requests : RequestTablesView
 
-abbrev pub world_code : Coded SpaceView → Coded (PortsView Kept) → Coded LedgerView → Coded SetsView → Coded WorldView
-world_code space ports ledger sets =
+abbrev pub world_code : Coded SpaceView → Coded (PortsView Kept) → Coded LedgerView → Coded SetsView → Coded RequestTablesView → Coded WorldView
+world_code space ports ledger sets requests =
     code_by
-    (List (Option SpaceView) × (PortsView Kept × (LedgerView × SetsView)))
-    (coded× (coded_list (coded_option space)) (coded× ports (coded× ledger sets)))
-    (λ w. (w.spaces, (w.ports, (w.ledger, w.sets))))
-    (λ x. record { spaces = x.0; ports = x.1.0; ledger = x.1.1.0; sets = x.1.1.1 })
+    (List (Option SpaceView) × (PortsView Kept × (LedgerView × (SetsView × RequestTablesView))))
+    (coded× (coded_list (coded_option space)) (coded× ports (coded× ledger (coded× sets requests))))
+    (λ w. (w.spaces, (w.ports, (w.ledger, (w.sets, w.requests)))))
+    (λ x. record { spaces = x.0; ports = x.1.0; ledger = x.1.1.0; sets = x.1.1.1.0; requests = x.1.1.1.1 })
     (λ _. refl)
 
 -- the tables before anything was made
@@ -33,6 +35,7 @@ no_world = record {
   ports = record { ports = map.empty; ready = map.empty; made = 0; spare = 0; destroyed = [] };
   ledger = record { counts = map.empty; total = 0; unused = 0 };
   sets = no_sets;
+  requests = none_requested;
 }
 
 -- the names of the task; nothing where there was no such task, or it has ended

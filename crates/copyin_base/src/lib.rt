@@ -1,6 +1,7 @@
 //! The kernel's tables, and the verbs that every call on them is made of.
 //!
-//! [`World`] has the tasks' names, the ports with their queues, the counts of rights and the port sets.
+//! [`World`] has the tasks' names, the ports with their queues, the counts of rights, the port sets and the
+//! requests for notices.
 //! `specs/Shows` says when the tables show a state of the machine of `mach_model`, and `specs/Acts` what
 //! a call on them promises.
 #![tactic(auto)]
@@ -12,10 +13,14 @@ mod find;
 mod message;
 mod notice;
 mod queued;
+mod requests;
+mod task_names;
 mod world;
 
 pub use code::Code;
 pub use message::{Carried, CarriedRights, Mark, Message};
 pub use notice::Notice;
 pub use queued::{Queued, Slot};
+pub use requests::RequestTables;
+pub use task_names::TaskNames;
 pub use world::World;

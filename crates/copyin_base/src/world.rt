@@ -1,5 +1,5 @@
 //! The kernel's tables.
-ghost use Rattle.std.specs.Prelude.{◌≡◌, ◌↔◌, ◌+◌, IsTrue, max, OnOk, OnErr, Some, option_copied};
+ghost use Rattle.std.specs.Prelude.{◌≡◌, ◌↔◌, ◌+◌, IsTrue, max, OnOk, OnErr, Some};
 ghost use Rattle.rights.specs.Unused.{IsUnusedOfAll};
 ghost use Rattle.copyin_base.specs.Changes.{with_slots};
 ghost use Rattle.copyin_base.specs.Shows.{SlotsSuffice};
@@ -7,6 +7,8 @@ ghost use Rattle.copyin_base.specs.Wanted.{LacksSlots};
 ghost use Rattle.copyin_base.specs.Worlds.{HasTask, entry_at, no_world, space_at};
 
 use crate::queued::Queued;
+use crate::requests::RequestTables;
+use crate::task_names::TaskNames;
 use mach_types::{Name, TaskId};
 use name_space::{Entry, Space};
 use port::Ports;
@@ -15,10 +17,12 @@ use rights::Ledger;
 use std::alloc::{AllocError, Global};
 use std::marker::Model;
 
-/// The tasks' names, the ports with their queues, the counts of all rights, and the port sets.
+/// The tasks' names, the ports with their queues, the counts of all rights, the port sets, and
+/// the requests for notices.
 ///
-/// A task's number is its place, also after its end. What ties the tables to one another is no part
-/// of this type: who holds a world keeps that it shows a state of the machine.
+/// A task's number is its place, also after its end. Contracts see its names as [`TaskNames`] are: what is
+/// kept, read with the ports that are there. What else ties the tables to one another is no part of this
+/// type: who holds a world keeps that it shows a state of the machine.
 #[derive(Drop)]
 pub struct World {
     /// The names of each task; none where the task has ended.
@@ -29,6 +33,8 @@ pub struct World {
     pub ledger: Ledger,
     /// The port sets. Which ports are in one is an attribute of the ports.
     pub sets: Sets,
+    /// The requests for notices.
+    pub requests: RequestTables,
 }
 
 impl Model for World {
@@ -40,15 +46,21 @@ impl Model for World {
     ghost use Rattle.rights.specs.contracts.Counts as counts;
     ghost use Rattle.port_set.specs.Sets.{sets_code};
     ghost use Rattle.port_set.specs.contracts.SetRecord as set_record;
+    ghost use Rattle.mach_types.specs.contracts.identities.PortId as port_id;
+    ghost use Rattle.request_table.specs.contracts.Request as request;
+    ghost use Rattle.copyin_base.specs.Requests.{request_tables_code};
     ghost use Rattle.copyin_base.specs.Kept.{kept_code};
     ghost use Rattle.copyin_base.specs.contracts.message.Carried as carried;
+    ghost use Rattle.copyin_base.specs.Reading.{AreGiven, live_in, read_spaces};
     ghost use Rattle.copyin_base.specs.Worlds.{WorldView, world_code};
 
     ghost Value = { WorldView };
 
-    ghost coded = { world_code (space_code entry.the_row.coded) (ports_code (kept_code carried.the_row.coded) attributes.the_row.coded) (ledger_code counts.the_row.coded) (sets_code set_record.the_row.coded) };
+    ghost coded = { world_code (space_code entry.the_row.coded) (ports_code (kept_code carried.the_row.coded) attributes.the_row.coded) (ledger_code counts.the_row.coded) (sets_code set_record.the_row.coded) (request_tables_code request.the_row.coded port_id.the_row.coded) };
 
-    ghost view = { λ w. record { spaces = w.spaces.items; ports = w.ports; ledger = w.ledger; sets = w.sets } };
+    ghost view = { λ w. record { spaces = read_spaces (live_in w.ports) w.spaces.items; ports = w.ports; ledger = w.ledger; sets = w.sets; requests = w.requests } };
+
+    ghost invariant = { λ w. AreGiven w.spaces.items w.ports };
 }
 
 impl World {
@@ -61,6 +73,7 @@ impl World {
             ports: Ports::new(alloc),
             ledger: Ledger::new(alloc),
             sets: Sets::new(alloc),
+            requests: RequestTables::new(alloc),
         }
     }
 
@@ -72,9 +85,9 @@ impl World {
     }
 
     /// The names of a task that lives. Constant time.
-    pub fn space(&self, task: TaskId) -> &Space
+    pub fn space(&self, task: TaskId) -> TaskNames<'_>
         requires { HasTask self.now task }
-        ensures { space_at self.now task ≡ Some result.now }
+        ensures { space_at self.now task ≡ Some result }
     {
         let Some(space) = self.find_space(task) else {
             unreachable!()
@@ -83,10 +96,11 @@ impl World {
     }
 
     /// The task's names, if the task lives. Constant time.
-    pub fn find_space(&self, task: TaskId) -> Option<&Space>
-        ensures { option_copied result ≡ space_at self.now task }
+    pub fn find_space(&self, task: TaskId) -> Option<TaskNames<'_>>
+        ensures { result ≡ space_at self.now task }
     {
-        self.spaces.get(task.number() as usize)?.as_ref()
+        let kept = self.spaces.get(task.number() as usize)?.as_ref()?;
+        Some(TaskNames::of(kept, &self.ports))
     }
 
     /// What stands under the task's name, if anything does. Constant time, and logarithmic for a

@@ -22,8 +22,10 @@ use Rattle.copyin_base.specs.declared.message.Mark.{Mark}
 use Rattle.copyin_base.specs.declared.message.Mark.TheVariants as mark
 use Rattle.copyin_base.specs.Kept.{mark_of}
 use Rattle.copyin_base.specs.Worlds.{WorldView, entry_in, space_at, with_space}
+use Rattle.copyin_base.specs.Requests.{notify_of}
 use Rattle.copyin_base.specs.Shows.{target_of, onces_queued, Agrees}
 use Rattle.copyin_base.proofs.Changing.{target_named}
+use Rattle.copyin_base.proofs.Requesting.{requests_stay}
 use Rattle.copyin_base.proofs.Counting.{counts_same}
 use Rattle.copyout.specs.Giving.{joined, alone, ledger_joined, ports_given, GivesPort, GivesMark, free_names, NoneLeft, NeedsOwn, MarkLacks, LackNames}
 use Rattle.copyout.proofs.Given.{port_given, option_named, same_there}
@@ -43,7 +45,7 @@ reordered_agrees w s t a r = subst (Agrees w) (sym r.rest) record {
   counts = counts_same w.ledger s.live_port s.ledger (onces_queued s) a.counts t.ledger (λ c q. same (is_of c q));
   total = let m = r.tokens (λ x. 1) in omega (arith, m, a.total, length-weigh s.ledger, length-weigh t.ledger);
   in_sets = a.in_sets;
-  requests = λ r kind q. same _ ∙ a.requests r kind q;
+  of_requests = requests_stay (notify_of w.requests) w.ports.made w.ports.made s.stands s.stands s.live_port s.live_port s.ledger t.ledger a.of_requests (omega arith) (λ r. refl) (λ q less. refl) (λ r kind q. same _);
 }
   where
     same : (test : Token → Bool) → count test t.ledger ≡ count test s.ledger

@@ -1,5 +1,5 @@
 -- A port's front message taken from its queue.
-use Rattle.std.proofs.Common.{◌≡◌, ℕ, ◌+◌, List, ◌∷◌, Option, Some, sym, ap, ◌∙◌}
+use Rattle.std.proofs.Common.{◌≡◌, ℕ, ◌+◌, List, ◌∷◌, Option, Some, refl, sym, ap, subst, ◌∙◌, drop}
 use Rattle.std.specs.Prelude.{slice_get, ◌%◌, ◌^◌}
 use Rattle.std.specs.Option.{option_and_then}
 use Rattle.std.specs.FinMap as map
@@ -10,6 +10,7 @@ use Rattle.port.specs.declared.Attributes.{Attributes}
 use Rattle.copyin_base.specs.Changes.{HasAttributes}
 use Rattle.copyin_base.specs.Kept.{Kept}
 use Rattle.copyin_base.proofs.Gets.{same_found}
+use Rattle.copyin_base.proofs.Reading.{SamePorts, same_put}
 use Rattle.copyin_base.specs.Worlds.{WorldView, port_at}
 use Rattle.copyout.specs.Takes.{TakesFront, destination_right}
 use Rattle.copyout.specs.Ready.{HasFront, Waits}
@@ -19,6 +20,11 @@ pub is_front : (ports : PortsView Kept) (port : ℕ) (v : PortView Kept) (m foun
 is_front ports port v m found behind there queue is =
     let f : PortView Kept → Option Kept = λ p. slice_get p.queue 0 in
     same_some found m (is ∙ ap (option_and_then f) there ∙ ap (λ (l : List Kept). slice_get l 0) queue)
+
+-- ... and no port came or went
+pub taken_ports : (ports new : PortsView Kept) (port : ℕ) (v : PortView Kept) → map.get ports.ports port ≡ Some v →
+    new ≡ record (with_port ports port (record { queue = drop 1 v.queue; attributes = record v.attributes { sequence = (v.attributes.sequence + 1) % 2 ^ 32 } })) { spare = ports.spare + 1 } → SamePorts ports new
+taken_ports ports new port v there is = subst (SamePorts ports) (sym is) (record { live = same_put ports port v _ there; made = refl })
 
 pub sequence_is : (w : WorldView) (port : ℕ) (x : Attributes) → HasAttributes w port x → (v : PortView Kept) → port_at w port ≡ Some v → x.sequence ≡ v.attributes.sequence
 sequence_is w port x has v there =

@@ -18,10 +18,12 @@ use Rattle.rights.specs.declared.RightKind.TheVariants as right
 use Rattle.rights.specs.Ledger.{taken}
 use Rattle.copyin_base.specs.Kept.{Kept, message_of}
 use Rattle.copyin_base.specs.Worlds.{WorldView}
+use Rattle.copyin_base.specs.Requests.{notify_of}
 use Rattle.copyin_base.specs.Shows.{AllKept, came_by_once, onces_queued, ShowsPort, CountsAgree, Agrees, HoldersAgree}
 use Rattle.copyout.specs.Takes.{TakesFront}
 use Rattle.copyin_base.proofs.Agreeing.{live_put, ports_put}
 use Rattle.copyin_base.proofs.Counting.{right_taken, once_taken, queues_same}
+use Rattle.copyin_base.proofs.Requesting.{requests_stay}
 use Rattle.copyin_base.proofs.Holders.{KeepHolders, put_holders, holders_ports}
 use Rattle.copyin_base.proofs.Taking.{Without, take_lying}
 use Rattle.copyout.proofs.Fronts.{HasFront, behind_of, shown_front, shown_lives}
@@ -160,10 +162,9 @@ module _ (w : WorldView) (s : State) (a : Agrees w s) (l : IsLawful s) (p : ℕ)
     counts = counted f.front.by_once refl left.parts;
     total = let m = left.parts (λ x. 1) in omega (arith, m, a.total, length-weigh s.ledger, length-weigh taken_state.ledger);
     in_sets = a.in_sets;
-    requests = λ r kind q.
+    of_requests = requests_stay (notify_of w.requests) w.ports.made w.ports.made s.stands s.stands s.live_port s.live_port s.ledger left.others a.of_requests (omega arith) (λ r. refl) (λ q less. refl) (λ r kind q.
         let m = tokens_for (λ x. is_of kind q x && same_place (in_request r) x.place) in
-        let z = both_test (is_of kind q going) false (inr refl) in
-        let was = a.requests r kind q in omega (arith, m, z, was);
+        let z = both_test (is_of kind q going) false (inr refl) in omega (arith, m, z));
   }
 
   -- The tables agree with it.

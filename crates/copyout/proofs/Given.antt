@@ -354,6 +354,8 @@ module _ (w : WorldView) (s : State) (a : Agrees w s) (o k : ℕ) (l : IsMoving 
             ports = port_kept;
             counts = settled_counts w s a tokens o k task kind p moves lives w'.ledger settled;
             total = settled_total w s a tokens o k task kind p moves lives w'.ledger settled;
+            kept_requests = ap (λ (x : WorldView). x.requests) g.rest;
+            stands = λ r. refl;
             requests = lying_kept s same_name o k task kind p moves;
             sets = ap (λ (x : WorldView). x.sets) g.rest;
             set_names = λ n set named. named;
@@ -485,6 +487,8 @@ module _ (w : WorldView) (s : State) (a : Agrees w s) (o k : ℕ) (l : IsMoving 
             ports = port_kept;
             counts = settled_counts w s a tokens o k task kind p moves lives w'.ledger settled;
             total = settled_total w s a tokens o k task kind p moves lives w'.ledger settled;
+            kept_requests = ap (λ (y : WorldView). y.requests) g.rest;
+            stands = λ r. refl;
             requests = lying_kept s new_name o k task kind p moves;
             sets = ap (λ (y : WorldView). y.sets) g.rest;
             set_names = λ n set named. stays n (Target.set set) named;

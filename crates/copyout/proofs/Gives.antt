@@ -7,12 +7,14 @@ use Rattle.mach_types.specs.Numbers.{most_names}
 use Rattle.mach_types.specs.Tokens.{Kind, receive, send, send_once}
 use Rattle.name_space.specs.declared.Entry.{Entry}
 use Rattle.name_space.specs.declared.Entry.TheVariants as entry_of
-use Rattle.name_space.specs.Entry.{port_named, with_send}
+use Rattle.name_space.specs.Entry.{port_named, port_of, with_send}
 use Rattle.name_space.specs.Names.{Names, SpaceView, IsFreshName, HasNoOther, port_at}
+use Rattle.port.specs.Ports.{IsLive}
 use Rattle.copyin_base.specs.Worlds.{WorldView, entry_in, entry_at, space_at, with_space}
 use Rattle.copyin_base.specs.Shows.{target_of, HasCount}
-use Rattle.copyin_base.specs.Changes.{CanPutLeft, PutsLeft, InsertsEntry}
+use Rattle.copyin_base.specs.Changes.{IsForLive, CanPutLeft, PutsLeft, InsertsEntry}
 use Rattle.copyin_base.proofs.Gets.{same_found}
+use Rattle.copyin_base.proofs.Reading.{named_port}
 use Rattle.copyout.specs.Giving.{joined, alone, ledger_joined, ports_given, AddsSend, GivesPort}
 
 pub found_in : (w : WorldView) (task name : ℕ) (space : SpaceView) (entry : Entry) → space_at w task ≡ Some space → entry_at w task name ≡ Some entry →
@@ -46,14 +48,44 @@ alone_port send port p e = (λ h. cc, cc)
 alone_port receive port p e = (λ h. cc, cc)
 alone_port send_once port p e = absurd (let e' : None ≡ Some p = e in cc)
 
+-- it stays for the port that it was for
+pub joined_for : (kind : Kind) (x : Entry) → port_of (joined kind x) ≡ port_of x
+joined_for send (entry_of.Receive p) = refl
+joined_for send (entry_of.Send p n) = refl
+joined_for send (entry_of.ReceiveAndSend p n) = refl
+joined_for send (entry_of.SendOnce p) = refl
+joined_for send (entry_of.DeadName n) = refl
+joined_for send (entry_of.Set n) = refl
+joined_for receive (entry_of.Receive p) = refl
+joined_for receive (entry_of.Send p n) = refl
+joined_for receive (entry_of.ReceiveAndSend p n) = refl
+joined_for receive (entry_of.SendOnce p) = refl
+joined_for receive (entry_of.DeadName n) = refl
+joined_for receive (entry_of.Set n) = refl
+joined_for send_once x = refl
+
+alone_for : (kind : Kind) (port : ℕ) → port_of (alone kind port) ≡ Some port
+alone_for send port = refl
+alone_for receive port = refl
+alone_for send_once port = refl
+
+pub for_one : (p q : ℕ) → Some p ≡ Some q → p ≡ q
+for_one p q is = cc
+
+-- a right's name of its own is for its port, which is there
+pub alone_lives : (w : WorldView) (kind : Kind) (port : ℕ) → IsLive w.ports port → IsForLive w (alone kind port)
+alone_lives w kind port live p for = subst (λ (q : ℕ). IsLive w.ports q) (for_one port p (sym (alone_for kind port) ∙ for)) live
+
 -- the entry may come in place of what stands under the name
-pub can_replace : (w : WorldView) (task : ℕ) (kind : Kind) (name : ℕ) (entry put : Entry) (space : SpaceView) → space_at w task ≡ Some space → put ≡ joined kind entry →
-    map.get space.names name ≡ Some entry → CanPutLeft w task name (Some put)
-can_replace w task kind name entry put space there is found = record {
+pub can_replace : (w : WorldView) (task : ℕ) (kind : Kind) (port name : ℕ) (entry put : Entry) (space : SpaceView) → space_at w task ≡ Some space → put ≡ joined kind entry →
+    map.get space.names name ≡ Some entry → port_named entry ≡ Some port → IsLive w.ports port → CanPutLeft w task name (Some put)
+can_replace w task kind port name entry put space there is found own live = record {
   space = space;
   there = there;
   used = ap is_some found;
   same = λ p named. ap (option_and_then port_named) found ∙ sym (joined_port kind entry) ∙ sym (ap port_named is) ∙ named;
+  lives = λ p for. subst (λ (q : ℕ). IsLive w.ports q)
+      (for_one port p (sym (named_port entry port own) ∙ sym (joined_for kind entry) ∙ sym (ap port_of is) ∙ for)) live;
 }
 
 -- it is for no port, or the task has no other name for it

@@ -12,6 +12,7 @@ pub mod AllLacking
 pub mod Refusing
 pub mod Waiting
 pub mod Gives
+pub mod Adding
 pub mod After
 pub mod Front
 pub mod Delivered

@@ -5,6 +5,7 @@ use Rattle.std.specs.FinMap as map
 use Rattle.mach_types.specs.Tokens.{Kind, receive, send, send_once}
 use Rattle.mach_model.specs.State.{State}
 use Rattle.name_space.specs.declared.Entry.{Entry}
+use Rattle.name_space.specs.Entry.{port_of}
 use Rattle.name_space.specs.Names.{HasNoOther}
 use Rattle.port.specs.declared.Holder.TheVariants as Holder
 use Rattle.port.specs.Ports.{PortView, PortsView}
@@ -17,8 +18,9 @@ use Rattle.copyin_base.proofs.Holders.{ChangesHolder, put_holder}
 use Rattle.copyout.specs.Giving.{port_held, ports_given}
 
 -- an entry may still come under the name
-pub can_insert_held : (w w1 : WorldView) (task name : ℕ) (ports : PortsView Kept) (x y : Entry) → w1 ≡ record w { ports = ports } → y ≡ x → CanInsert w task name x → CanInsert w1 task name y
-can_insert_held w w1 task name ports x y same is r = subst (λ (v : WorldView). CanInsert v task name y) (sym same) (record {
+pub can_insert_held : (w w1 : WorldView) (task name : ℕ) (ports : PortsView Kept) (x y : Entry) → w1 ≡ record w { ports = ports } → y ≡ x →
+    ((q : ℕ) → is_some (map.get ports.ports q) ≡ is_some (map.get w.ports.ports q)) → CanInsert w task name x → CanInsert w1 task name y
+can_insert_held w w1 task name ports x y same is live r = subst (λ (v : WorldView). CanInsert v task name y) (sym same) (record {
   space = r.space;
   there = r.there;
   usable = r.usable;
@@ -26,6 +28,7 @@ can_insert_held w w1 task name ports x y same is r = subst (λ (v : WorldView). 
   few = r.few;
   place = r.place;
   apart = subst (HasNoOther r.space.names) (sym is) r.apart;
+  lives = λ p for. live p ∙ r.lives p (sym (ap port_of is) ∙ for);
 })
 
 -- ---- what stays

@@ -13,7 +13,7 @@ use Rattle.copyin_base.specs.Changes.{CanInsert, InsertsEntry}
 use Rattle.copyout.specs.Giving.{alone, ports_given}
 use Rattle.copyout.specs.Ready.{CanJoin}
 use Rattle.copyout.specs.Putting.{PutsPort, CanPut}
-use Rattle.copyout.proofs.Gives.{no_other, rest-taken}
+use Rattle.copyout.proofs.Gives.{no_other, alone_lives, rest-taken}
 
 entry_is : (w : WorldView) (task word : ℕ) (space : SpaceView) → space_at w task ≡ Some space → entry_at w task word ≡ map.get space.names word
 entry_is w task word space there = ap (λ (o : Option SpaceView). entry_in o word) there
@@ -43,7 +43,7 @@ is_free w task kind port word r unused = elim r.may [
 pub can_insert : (w : WorldView) (task : ℕ) (kind : Kind) (port word : ℕ) → (r : CanPut w task kind port word) → is_some (entry_at w task word) ≡ false → CanInsert w task word (alone kind port)
 can_insert w task kind port word r unused =
     let free = is_free w task kind port word r unused in
-    record { space = r.space; there = r.there; usable = r.usable; unused = free.unused; few = free.room; place = r.place free.unused; apart = no_other r.space.names kind port (alone kind port) refl free.lone }
+    record { space = r.space; there = r.there; usable = r.usable; unused = free.unused; few = free.room; place = r.place free.unused; apart = no_other r.space.names kind port (alone kind port) refl free.lone; lives = alone_lives w kind port r.live }
 
 pub puts-new : (w w1 : WorldView) (task : ℕ) (kind : Kind) (port word : ℕ) → (r : CanPut w task kind port word) → is_some (entry_at w task word) ≡ false →
     InsertsEntry (record w { ports = ports_given kind task port w.ports }) task word (alone kind port) w1 → PutsPort w task kind port word w1

@@ -161,7 +161,8 @@ fn take_name(world: &mut World, task: TaskId, given: Disposition, port: PortId) 
 // Adds a send reference under the task's name for the port, if it has one, and answers that name with
 // what stood under it before.
 fn add_send(world: &mut World, task: TaskId, port: PortId) -> Option<PortName>
-    requires { HasTask world.old task }
+    requires there { HasTask world.old task }
+    requires live { IsLive world.old.ports port }
     ensures found { IfSome result (λ named. AddsSend world.old task port named.name named.entry world.new) }
     ensures none { IfNone result ((space : SpaceView) → space_at world.old task ≡ Some space → HasNone space.names port) }
     ensures same { IfNone result (world.new ≡ world.old) }
@@ -195,7 +196,7 @@ fn shared_entry(world: &World, task: TaskId, given: Disposition, port: PortId) -
     ensures none { IfNone result (kind_sent given ≢ send_once → (space : SpaceView) → space_at world.now task ≡ Some space → HasNone space.names port) }
 {
     let space = world.space(task);
-    let name = shared_name(space, given, port)?;
+    let name = shared_name(&space, given, port)?;
     let entry = space.lookup(name)?;
     Some(PortName { name, entry })
 }

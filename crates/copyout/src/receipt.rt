@@ -260,7 +260,7 @@ fn judge(
         return Err(Refusal::TooLarge(queued.len() as u32));
     }
     let space = world.space(task);
-    let needed = room_needed(world, space, queued);
+    let needed = room_needed(world, &space, queued);
     if needed > MOST_NAMES - space.len() {
         return Err(Refusal::Names);
     }

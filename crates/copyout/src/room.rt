@@ -11,9 +11,8 @@ ghost use Rattle.copyin_base.specs.Queued.{notice_kept};
 ghost use Rattle.copyout.specs.Ready.{carried_by};
 ghost use Rattle.copyout.specs.Room.{names_port, named_by, HasNone, Owns, Shares, Needs, IsMarked, Marks};
 
-use copyin_base::{Carried, Mark, Message, Notice, Queued, Slot, World};
+use copyin_base::{Carried, Mark, Message, Notice, Queued, Slot, TaskNames, World};
 use mach_types::{Disposition, Name, PortId};
-use name_space::Space;
 
 // So few rights are all compared with those before them.
 const FEW: usize = 8;
@@ -55,7 +54,7 @@ fn reply_names(reply: &Option<Carried>, port: PortId) -> bool
 
 /// The name under which the right comes, if the task has one for the port: a send-once right never
 /// shares a name.
-pub(crate) fn shared_name(space: &Space, given: Disposition, port: PortId) -> Option<Name>
+pub(crate) fn shared_name(space: &TaskNames<'_>, given: Disposition, port: PortId) -> Option<Name>
     ensures some { IfSome result (λ name. (kind_sent given ≢ send_once) × (port_at space.now.names name ≡ Some port)) }
     ensures none { IfNone result (kind_sent given ≢ send_once → HasNone space.now.names port) }
 {
@@ -109,7 +108,7 @@ fn mark_port(marks: &mut [bool], port: PortId)
 // the task doesn't, is marked, and so is the right's then.
 fn needs_own(
     world: &World,
-    space: &Space,
+    space: &TaskNames<'_>,
     reply: &Option<Carried>,
     earlier: &[Carried],
     carried: &Carried,
@@ -141,7 +140,7 @@ fn needs_own(
 // How many names of its own the right needs, behind the earlier ones: 1 or none.
 fn own_names(
     world: &World,
-    space: &Space,
+    space: &TaskNames<'_>,
     reply: &Option<Carried>,
     earlier: &[Carried],
     carried: &Carried,
@@ -163,7 +162,12 @@ fn own_names(
 }
 
 // How many names of its own the right to answer with needs. Its port is marked.
-fn reply_own(world: &World, space: &Space, reply: &Option<Carried>, marks: &mut [bool]) -> usize
+fn reply_own(
+    world: &World,
+    space: &TaskNames<'_>,
+    reply: &Option<Carried>,
+    marks: &mut [bool],
+) -> usize
     requires some { 0 < length marks.old }
     ensures few { result ≤ 1 }
     ensures some { length marks.new ≡ length marks.old }
@@ -179,7 +183,7 @@ fn reply_own(world: &World, space: &Space, reply: &Option<Carried>, marks: &mut 
 // How many names of their own the rights need, that to answer with first. The marks are of any kind.
 fn count_names(
     world: &World,
-    space: &Space,
+    space: &TaskNames<'_>,
     reply: &Option<Carried>,
     rights: &[Carried],
     marks: &mut [bool],
@@ -196,14 +200,24 @@ fn count_names(
 
 // How many names of their own many rights need, that to answer with first. Its marks stand apart.
 #[inline(never)]
-fn count_many(world: &World, space: &Space, reply: &Option<Carried>, rights: &[Carried]) -> usize
+fn count_many(
+    world: &World,
+    space: &TaskNames<'_>,
+    reply: &Option<Carried>,
+    rights: &[Carried],
+) -> usize
     ensures { Needs world.now.ports space.now.names [] (option_to_list reply.now ++ rights.now) result }
 {
     count_names(world, space, reply, rights, &mut [false; PLACES])
 }
 
 // How many names of their own the rights need, that to answer with first.
-fn count_all(world: &World, space: &Space, reply: &Option<Carried>, rights: &[Carried]) -> usize
+fn count_all(
+    world: &World,
+    space: &TaskNames<'_>,
+    reply: &Option<Carried>,
+    rights: &[Carried],
+) -> usize
     ensures { Needs world.now.ports space.now.names [] (option_to_list reply.now ++ rights.now) result }
 {
     if rights.len() > FEW {
@@ -214,7 +228,7 @@ fn count_all(world: &World, space: &Space, reply: &Option<Carried>, rights: &[Ca
 }
 
 // Whether a right that is the only one needs a name of its own.
-fn needs_lone(world: &World, space: &Space, carried: &Carried) -> bool
+fn needs_lone(world: &World, space: &TaskNames<'_>, carried: &Carried) -> bool
     ensures { MatchBool result (Owns world.now.ports space.now.names [] carried.now) (Shares world.now.ports space.now.names [] carried.now) }
 {
     let Mark::Port(port) = carried.mark else {
@@ -227,7 +241,7 @@ fn needs_lone(world: &World, space: &Space, carried: &Carried) -> bool
 }
 
 // How many names of its own a right needs that is the only one: 1 or none. It is compared with none.
-fn lone_names(world: &World, space: &Space, carried: &Carried) -> usize
+fn lone_names(world: &World, space: &TaskNames<'_>, carried: &Carried) -> usize
     ensures { Needs world.now.ports space.now.names [] (carried.now ∷ []) result }
 {
     if needs_lone(world, space, carried) {
@@ -238,7 +252,7 @@ fn lone_names(world: &World, space: &Space, carried: &Carried) -> usize
 }
 
 // How many names of their own the rights of a message that was sent need.
-fn room_of_sent(world: &World, space: &Space, message: &Message) -> usize
+fn room_of_sent(world: &World, space: &TaskNames<'_>, message: &Message) -> usize
     ensures { Needs world.now.ports space.now.names [] (carried_by message.now) result }
 {
     let rights = message.rights();
@@ -251,7 +265,7 @@ fn room_of_sent(world: &World, space: &Space, message: &Message) -> usize
 }
 
 // How many names of its own the right that a notice carries needs.
-fn room_of_notice(world: &World, space: &Space, notice: &Notice) -> usize
+fn room_of_notice(world: &World, space: &TaskNames<'_>, notice: &Notice) -> usize
     ensures { Needs world.now.ports space.now.names [] (carried_by (notice_kept notice.now)) result }
 {
     match notice.carried() {
@@ -265,7 +279,7 @@ fn room_of_notice(world: &World, space: &Space, notice: &Notice) -> usize
 ///
 /// Takes no memory. Linear in the number of rights, but where there are more than 1,000: those for ports
 /// that the task has no name for are then compared with some of those before them.
-pub fn room_needed(world: &World, space: &Space, queued: &Queued) -> usize
+pub fn room_needed(world: &World, space: &TaskNames<'_>, queued: &Queued) -> usize
     ensures { Needs world.now.ports space.now.names [] (carried_by queued.now) result }
 {
     match &queued.slot {

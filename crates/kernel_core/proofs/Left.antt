@@ -95,7 +95,7 @@ module _ (w : WorldView) (s : State) (sh : Shows w s) (task number : ℕ) (g : G
 
   pub it_went : Went w s 0 k from (record { disposition = number; name = name }) carried after_names
   it_went = went w s 0 k from source.0.names (record { disposition = number; name = name }) carried after_names
-      (record { agrees = sh.agrees; moving = moving s 0 k sh.lawful; space = source.0; there = source.1; names_are = refl })
+      (record { agrees = sh.agrees; moving = moving s 0 k sh.lawful; space = source.0; there = source.1; names_are = refl; none = sh.quiet.none_stands })
       (record { is_given = goes.given; entry = goes.entry; found = source.2; copied = copied; is = goes.is; mark = refl; left = refl })
 
   module _ (x : SpaceView) (was : space_at w task ≡ Some x) (mid : WorldView) (c : CopiesRight w from g.given name (mark.Port g.port) mid) where

@@ -1,19 +1,24 @@
 -- A step: a call's own part, and what settles after it; or a refusal. And the opening.
-use Rattle.std.proofs.Common.{◌≡◌, ℕ, Some, None, refl, sym, ap, inl, inr}
+use Rattle.std.proofs.Common.{◌≡◌, ℕ, ◌^◌, Bool, true, false, Option, Some, None, refl, sym, ap, ◌∙◌, inl, inr}
+use Rattle.std.specs.Prelude.{is_some, if◌then◌else◌, nat_lt}
 use Rattle.std.specs.FinMap as map
 use Rattle.std.specs.Option.{option_map}
 use Rattle.std.specs.Ordering.{nat_cmp}
 use Rattle.mach_types.specs.declared.calls.Event.{Event}
 use Rattle.mach_types.specs.declared.calls.Reply.{Reply}
+use Rattle.mach_types.specs.Tokens.{Request, no_senders, port_destroyed, dead_name}
 use Rattle.mach_model.specs.State.{State, opening}
 use Rattle.mach_model.specs.Notices.{Owed}
 use Rattle.mach_model.specs.Settles.{Settles}
 use Rattle.mach_model.proofs.Opening.{opening-lawful, opening-quiet}
 use Rattle.port.specs.Ports.{PortView}
 use Rattle.port_set.specs.declared.SetRecord.{SetRecord}
+use Rattle.request_table.specs.declared.Request.{Request as NameRequest}
+use Rattle.request_table.specs.Requests.{name_key}
 use Rattle.rights.specs.declared.Counts.{Counts}
 use Rattle.copyin_base.specs.Acts.{ShowsMid, Acts, Declines}
 use Rattle.copyin_base.specs.Kept.{Kept}
+use Rattle.copyin_base.specs.Requests.{notify_of, none_requested, rights_kept}
 use Rattle.copyin_base.specs.Shows.{Agrees, Shows}
 use Rattle.copyin_base.specs.Stands.{Stands}
 use Rattle.copyin_base.specs.Worlds.{WorldView, no_world}
@@ -65,9 +70,22 @@ opening_agrees = record {
     sets_made = refl;
     set_named = λ set r e. absurd (let n : map.get no_world.sets.sets set ≡ None = map.get-empty {X = SetRecord} nat_cmp set in cc);
   };
-  requests = λ r kind q. refl;
+  of_requests = record {
+    standing = λ r. sym (ap is_some (nothing r));
+    kept = λ r kind q. sym (ap (λ (o : Option ℕ). rights_kept opening.live_port o kind q) (nothing r));
+    given = λ r q is. absurd (let e : None ≡ Some q = sym (nothing r) ∙ is in cc);
+  };
 }
   where
+    nothing : (r : Request) → notify_of none_requested r ≡ None
+    nothing (no_senders p) = map.get-empty nat_cmp p
+    nothing (port_destroyed p) = map.get-empty nat_cmp p
+    nothing (dead_name task name) = named (nat_lt name (2 ^ 32))
+      where
+        named : (b : Bool) → (if b then option_map (λ (r : NameRequest). r.notify) (map.get none_requested.names.requests (name_key task name)) else None) ≡ None
+        named true = ap (option_map (λ (r : NameRequest). r.notify)) (map.get-empty nat_cmp (name_key task name))
+        named false = refl
+
     no_port : (p : ℕ) (v : PortView Kept) → map.get no_world.ports.ports p ≡ Some v → ⊥
     no_port p v e = let n : map.get no_world.ports.ports p ≡ None = map.get-empty {X = PortView Kept} nat_cmp p in cc
 

@@ -145,6 +145,7 @@ slots_same_room w mid ready n s e = subst (SameButRoom (with_slots w n)) (sym e)
   ports = ap (λ (p : PortsView Kept). record p { spare = n }) s.ports;
   ledger = s.ledger;
   sets = s.sets;
+  requests = s.requests;
 }
 
 enough_made : (w mid : WorldView) (more : ℕ) → SameButRoom w mid → w.ledger.unused + more ≤ max mid.ports.spare (mid.ledger.unused + more)

@@ -43,14 +43,17 @@ impl Model for Kernel {
     ghost use Rattle.rights.specs.contracts.Counts as counts;
     ghost use Rattle.port_set.specs.Sets.{sets_code};
     ghost use Rattle.port_set.specs.contracts.SetRecord as set_record;
+    ghost use Rattle.mach_types.specs.contracts.identities.PortId as port_id;
+    ghost use Rattle.request_table.specs.contracts.Request as request;
     ghost use Rattle.copyin_base.specs.Kept.{kept_code};
+    ghost use Rattle.copyin_base.specs.Requests.{request_tables_code};
     ghost use Rattle.copyin_base.specs.contracts.message.Carried as carried;
     ghost use Rattle.copyin_base.specs.Worlds.{WorldView, world_code};
     ghost use Rattle.copyin_base.specs.Stands.{Stands};
 
     ghost Value = { WorldView };
 
-    ghost coded = { world_code (space_code entry.the_row.coded) (ports_code (kept_code carried.the_row.coded) attributes.the_row.coded) (ledger_code counts.the_row.coded) (sets_code set_record.the_row.coded) };
+    ghost coded = { world_code (space_code entry.the_row.coded) (ports_code (kept_code carried.the_row.coded) attributes.the_row.coded) (ledger_code counts.the_row.coded) (sets_code set_record.the_row.coded) (request_tables_code request.the_row.coded port_id.the_row.coded) };
 
     ghost view = { λ k. k.world };
 

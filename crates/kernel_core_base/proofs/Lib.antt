@@ -10,6 +10,7 @@ pub mod Wanted
 pub mod Listed
 pub mod NamesTold
 pub mod TokensRenamed
+pub mod EntryMoved
 pub mod Renamed
 pub mod Filtered
 pub mod Members

@@ -24,6 +24,7 @@ use Rattle.rights.specs.declared.RightKind.TheVariants as right_kind
 use Rattle.rights.specs.Counts.{no_rights}
 use Rattle.rights.specs.Ledger.{LedgerView, entered, made}
 use Rattle.copyin_base.specs.Kept.{Kept}
+use Rattle.copyin_base.specs.Requests.{notify_of}
 use Rattle.copyin_base.specs.Worlds.{WorldView, entry_in, space_at}
 use Rattle.copyin_base.specs.Shows.{Agrees, onces_queued, CountsAgree, ShowsPort, HasCount, target_of}
 use Rattle.copyin_base.proofs.Agreeing.{NamesAgree, CountRights, own_names, own_rights, put_names, put_rights, spaces_agree, references_agree, sets_stay, ports_put}
@@ -31,6 +32,7 @@ use Rattle.copyin_base.proofs.Changing.{target_named}
 use Rattle.copyin_base.proofs.Counting.{counts_agree, right_made}
 use Rattle.copyin_base.proofs.Gets.{of_some}
 use Rattle.copyin_base.proofs.Putting.{each_put}
+use Rattle.copyin_base.proofs.Requesting.{requests_stay}
 use Rattle.kernel_core_base.specs.Names.{first_port}
 
 abbrev pub allocated : State → (task name : ℕ) → State
@@ -149,5 +151,6 @@ module _ (w : WorldView) (s : State) (a : Agrees w s) (l : IsLawful s) where
       total = let x = a.total in omega (arith, x);
       in_sets = sets_stay w.sets s.set_owner s.sets_made s.naming t.naming a.in_sets task (at_other s.naming task _)
           (λ n set is. ap (λ (m : Names). map.get m n) (at_own s.naming task _) ∙ kept (s.naming task) name (Target.port new) n (Target.set set) not_named is);
-      requests = λ r kind q. requests r kind q ∙ a.requests r kind q;
+      of_requests = requests_stay (notify_of w.requests) w.ports.made (w.ports.made + 1) s.stands s.stands s.live_port t.live_port s.ledger t.ledger a.of_requests (omega arith) (λ r. refl)
+          (λ q less. at_other s.live_port new true q (λ e. let m = a.ports_made in omega (arith, less, e, m))) requests;
     }

@@ -180,7 +180,7 @@ comes w s sh task name (References (entry_of.DeadName n) m) v counted c = record
 comes w s sh task name (References (entry_of.Receive p) m) v counted c = absurd counted
 comes w s sh task name (References (entry_of.SendOnce p) m) v counted c = absurd counted
 comes w s sh task name (References (entry_of.Set set) m) v counted c = absurd counted
-comes w s sh task name (Disbanding set) v counted c = record { t = without_set set (without_name task name s); does = refl; agrees = removed_agrees w s sh.agrees task name set v c }
+comes w s sh task name (Disbanding set) v counted c = record { t = without_set set (without_name task name s); does = refl; agrees = removed_agrees w s sh.agrees sh.quiet.none_stands task name set v c }
 
 -- An event that is allowed does this, which is due and is done.
 pub carried : (w : WorldView) (event : Event) (task name : ℕ) (due : Due) (v : WorldView) → HasTasks w event → IsAllowed w (λ s. call_guards s event) → IsCountedDue due →

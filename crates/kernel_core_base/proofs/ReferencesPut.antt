@@ -9,17 +9,19 @@ use Rattle.mach_model.proofs.Settling.{named_lives}
 use Rattle.mach_model.proofs.Weigh.{held_le_of}
 use Rattle.name_space.specs.declared.Entry.{Entry}
 use Rattle.name_space.specs.declared.Entry.TheVariants as entry_of
-use Rattle.name_space.specs.Entry.{port_named, send_references}
+use Rattle.name_space.specs.Entry.{port_named, port_of, send_references}
 use Rattle.name_space.specs.Names.{SpaceView}
+use Rattle.name_space.specs.Names.{port_at as named_at}
 use Rattle.port.specs.Ports.{PortsView}
 use Rattle.port_set.specs.Sets.{SetsView, removed, IsDisbanded}
 use Rattle.rights.specs.Ledger.{LedgerView}
-use Rattle.copyin_base.specs.Changes.{CanPutLeft, PutsLeft}
+use Rattle.copyin_base.specs.Changes.{IsForLive, CanPutLeft, PutsLeft}
 use Rattle.copyin_base.specs.Kept.{Kept}
 use Rattle.copyin_base.specs.Stands.{Stands}
 use Rattle.copyin_base.specs.Worlds.{WorldView, entry_in, entry_at, space_at}
 use Rattle.copyin_base.proofs.Changing.{target_named}
 use Rattle.copyin_base.proofs.Gets.{seen, of_some}
+use Rattle.copyin_base.proofs.Tied.{stands_tied}
 use Rattle.copyin_base.proofs.Told.{found, port_entered}
 use Rattle.kernel_core_base.specs.References.{left_with, recounted_at, CanCount, CanSet, SetsReferences, RemovesSet}
 
@@ -39,42 +41,48 @@ at w task name e is = elim (seen (space_at w task)) [
     no_entry e f = cc
 
 can_put : (w : WorldView) (task name : ℕ) (e : Entry) (left : Option Entry) → entry_at w task name ≡ Some e →
-    ((x : Entry) (p : ℕ) → left ≡ Some x → port_named x ≡ Some p → port_named e ≡ Some p) → CanPutLeft w task name left
+    ((x : Entry) → left ≡ Some x → (port_named x ≡ port_named e) × IsForLive w x) → CanPutLeft w task name left
 can_put w task name e left is same = let x = at w task name e is in record {
   space = x.space;
   there = x.there;
   used = ap (λ (o : Option Entry). is_some o) x.found;
-  same = go left (λ y p e named. ap (λ (o : Option Entry). option_and_then port_named o) x.found ∙ same y p e named);
+  same = go left (λ y. (p : ℕ) → port_named y ≡ Some p → named_at x.space.names name ≡ Some p) (λ y left_is p named.
+      ap (λ (o : Option Entry). option_and_then port_named o) x.found ∙ sym (same y left_is).0 ∙ named);
+  lives = go left (IsForLive w) (λ y left_is. (same y left_is).1);
 }
   where
-    go : {P : Entry → ℕ → Type 0} (o : Option Entry) → ((y : Entry) (p : ℕ) → o ≡ Some y → port_named y ≡ Some p → P y p) → IfSome o (λ y. (p : ℕ) → port_named y ≡ Some p → P y p)
-    go (Some y) f = λ p named. f y p refl named
-    go None f = tt
+    go : (o : Option Entry) (P : Entry → Type 0) → ((y : Entry) → o ≡ Some y → P y) → IfSome o P
+    go (Some y) P f = f y refl
+    go None P f = tt
 
-left_same : (e : Entry) (m : ℕ) (x : Entry) (p : ℕ) → left_with e m ≡ Some x → port_named x ≡ Some p → port_named e ≡ Some p
-left_same (entry_of.Send q n) m x p is = go (nat_lt 0 m) is
+-- what is left is for the port that was named
+left_alike : (e : Entry) (m : ℕ) (x : Entry) → left_with e m ≡ Some x → (port_named x ≡ port_named e) × (port_of x ≡ port_of e)
+left_alike (entry_of.Send q n) m x is = go (nat_lt 0 m) is
   where
-    go : (b : Bool) → (if b then Some (entry_of.Send q m) else None) ≡ Some x → port_named x ≡ Some p → Some q ≡ Some p
-    go true e named = of_some (entry_of.Send q m) (λ y. port_named y ≡ Some p → Some q ≡ Some p) (λ f. f) x e named
-    go false e named = absurd (cc)
-left_same (entry_of.ReceiveAndSend q n) m x p is = go (nat_lt 0 m) is
+    go : (b : Bool) → (if b then Some (entry_of.Send q m) else None) ≡ Some x → (port_named x ≡ Some q) × (port_of x ≡ Some q)
+    go true e = of_some (entry_of.Send q m) (λ y. (port_named y ≡ Some q) × (port_of y ≡ Some q)) (refl, refl) x e
+    go false e = absurd (cc)
+left_alike (entry_of.ReceiveAndSend q n) m x is = go (nat_lt 0 m) is
   where
-    go : (b : Bool) → (if b then Some (entry_of.ReceiveAndSend q m) else Some (entry_of.Receive q)) ≡ Some x → port_named x ≡ Some p → Some q ≡ Some p
-    go true e named = of_some (entry_of.ReceiveAndSend q m) (λ y. port_named y ≡ Some p → Some q ≡ Some p) (λ f. f) x e named
-    go false e named = of_some (entry_of.Receive q) (λ y. port_named y ≡ Some p → Some q ≡ Some p) (λ f. f) x e named
-left_same (entry_of.DeadName n) m x p is = go (nat_lt 0 m) is
+    go : (b : Bool) → (if b then Some (entry_of.ReceiveAndSend q m) else Some (entry_of.Receive q)) ≡ Some x → (port_named x ≡ Some q) × (port_of x ≡ Some q)
+    go true e = of_some (entry_of.ReceiveAndSend q m) (λ y. (port_named y ≡ Some q) × (port_of y ≡ Some q)) (refl, refl) x e
+    go false e = of_some (entry_of.Receive q) (λ y. (port_named y ≡ Some q) × (port_of y ≡ Some q)) (refl, refl) x e
+left_alike (entry_of.DeadName n) m x is = go (nat_lt 0 m) is
   where
-    go : (b : Bool) → (if b then Some (entry_of.DeadName m) else None) ≡ Some x → port_named x ≡ Some p → None ≡ Some p
-    go true e named = of_some (entry_of.DeadName m) (λ y. port_named y ≡ Some p → None ≡ Some p) (λ f. f) x e named
-    go false e named = absurd (cc)
-left_same (entry_of.Receive q) m x p is = of_some (entry_of.Receive q) (λ y. port_named y ≡ Some p → Some q ≡ Some p) (λ f. f) x is
-left_same (entry_of.SendOnce q) m x p is = of_some (entry_of.SendOnce q) (λ y. port_named y ≡ Some p → None ≡ Some p) (λ f. f) x is
-left_same (entry_of.Set q) m x p is = of_some (entry_of.Set q) (λ y. port_named y ≡ Some p → None ≡ Some p) (λ f. f) x is
+    go : (b : Bool) → (if b then Some (entry_of.DeadName m) else None) ≡ Some x → (port_named x ≡ None) × (port_of x ≡ None)
+    go true e = of_some (entry_of.DeadName m) (λ y. (port_named y ≡ None) × (port_of y ≡ None)) (refl, refl) x e
+    go false e = absurd (cc)
+left_alike (entry_of.Receive q) m x is = of_some (entry_of.Receive q) (λ y. (port_named y ≡ Some q) × (port_of y ≡ Some q)) (refl, refl) x is
+left_alike (entry_of.SendOnce q) m x is = of_some (entry_of.SendOnce q) (λ y. (port_named y ≡ None) × (port_of y ≡ Some q)) (refl, refl) x is
+left_alike (entry_of.Set q) m x is = of_some (entry_of.Set q) (λ y. (port_named y ≡ None) × (port_of y ≡ None)) (refl, refl) x is
 
 -- ---- references
 
-pub can_put_left : (w : WorldView) (task name m : ℕ) (e : Entry) (left : Option Entry) → CanSet w task name e m → left ≡ left_with e m → CanPutLeft w task name left
-can_put_left w task name m e left can is = can_put w task name e left can.found (λ x p is_x named. left_same e m x p (sym is ∙ is_x) named)
+pub can_put_left : (w : WorldView) (task name m : ℕ) (e : Entry) (left : Option Entry) → Stands w → CanSet w task name e m → left ≡ left_with e m → CanPutLeft w task name left
+can_put_left w task name m e left stands can is =
+    let t = at w task name e can.found in
+    can_put w task name e left can.found (λ x is_x. let h = left_alike e m x (sym is ∙ is_x) in
+    (h.0, λ p for. (stands_tied w task t.space stands t.there).live name e p t.found (sym h.1 ∙ for)))
 
 pub can_count : (w : WorldView) (task name m : ℕ) (e : Entry) → Stands w → CanSet w task name e m → CanCount w.ledger e m
 can_count w task name m e stands can p named =
@@ -105,7 +113,7 @@ references_set old mid x task name m e left ledger can puts left_is view counts 
 -- ---- a set
 
 pub can_put_none : (w : WorldView) (task name set : ℕ) → entry_at w task name ≡ Some (entry_of.Set set) → CanPutLeft w task name None
-can_put_none w task name set is = can_put w task name (entry_of.Set set) None is (λ x p e. absurd (let f : None ≡ Some x = e in cc))
+can_put_none w task name set is = can_put w task name (entry_of.Set set) None is (λ x e. absurd (let f : None ≡ Some x = e in cc))
 
 pub set_removed : (old mid x : WorldView) (task name set : ℕ) (ports : PortsView Kept) (sets : SetsView) → entry_at old task name ≡ Some (entry_of.Set set) → PutsLeft old task name None mid → x ≡ mid →
     sets ≡ removed x.sets set → IsDisbanded x.ports ports set → RemovesSet old task name set (record x { ports = ports; sets = sets })

@@ -29,6 +29,7 @@ use Rattle.copyin_base.proofs.Counting.{one_of, none_of_port, counts_agree}
 use Rattle.copyin_base.proofs.Gets.{of_some, same_found}
 use Rattle.copyin_base.proofs.NamesChanged.{names_agree}
 use Rattle.copyin_base.proofs.Putting.{put_other, put_same}
+use Rattle.copyin_base.proofs.Requesting.{none_ended}
 use Rattle.kernel_core_base.specs.References.{left_with, recounted, SetsReferences}
 use Rattle.kernel_core_base.proofs.TokensMoved.{weigh_alike, weigh_unlike, Recounts, recount}
 
@@ -43,6 +44,10 @@ module _ (w : WorldView) (s : State) (sh : Shows w s) (task name : ℕ) (space :
   -- the tables with this under the name and these counts
   abbrev tables : Option Entry → LedgerView → WorldView
   tables left ledger = record w { spaces = slice_set w.spaces task (Some (record space { names = put space.names name left })); ledger = ledger }
+
+  -- no request ends with the name
+  ends : (r : Request) → request_at s.stands (dead_name task name) false r ≡ s.stands r
+  ends = none_ended s.stands sh.quiet.none_stands (dead_name task name)
 
   is_target : lookup s task name ≡ Some (target_of entry)
   is_target = target_found w s sh.agrees task name (sh.lawful.naming task) space there entry found
@@ -114,9 +119,9 @@ module _ (w : WorldView) (s : State) (sh : Shows w s) (task name : ℕ) (space :
     abbrev IsLeft : Entry → Type 0
     IsLeft e = HasCount e × (port_named e ≡ Some p) × (has_receive e ≡ has_receive entry) × (send_references e ≡ m)
 
-    agree : (left : Option Entry) (names : ℕ → Names) (stands : Request → Bool) → names task ≡ put (s.naming task) name (option_map target_of left) → ((u : ℕ) → (u ≡ task → ⊥) → names u ≡ s.naming u) →
+    agree : (left : Option Entry) (names : ℕ → Names) (stands : Request → Bool) → ((r : Request) → stands r ≡ s.stands r) → names task ≡ put (s.naming task) name (option_map target_of left) → ((u : ℕ) → (u ≡ task → ⊥) → names u ≡ s.naming u) →
         ((e : Entry) → left ≡ Some e → IsLeft e) → Agrees (tables left (recounted w.ledger p (held s task send p) m)) (record s { naming = names; stands = stands; ledger = ledger })
-    agree left names stands own others is = changed_agrees w s sh.agrees task name (sh.lawful.naming task) space there entry found left space.room w.ports
+    agree left names stands same own others is = changed_agrees w s sh.agrees task name (sh.lawful.naming task) space there entry found left space.room w.ports
         (recounted w.ledger p (held s task send p) m) (record s { naming = names; stands = stands; ledger = ledger }) own record {
           rest = refl;
           naming_others = others;
@@ -137,6 +142,7 @@ module _ (w : WorldView) (s : State) (sh : Shows w s) (task name : ℕ) (space :
           ports = sh.agrees.ports;
           counts = counted;
           total = total;
+          stands = same;
           requests = λ r c q. same_weight (λ x. if is_of c q x && same_place (in_request r) x.place then 1 else 0) (both_test (is_of c q (token send p (in_task task))) false (inr refl));
           no_set = named_no_set entry p named;
         }
@@ -151,23 +157,23 @@ module _ (w : WorldView) (s : State) (sh : Shows w s) (task name : ℕ) (space :
     kept e same is b = record {
       t = record s { ledger = ledger };
       does = record { tokens = recounts.moves; rest = ap (λ (y : Bool). record (name_kept y task name s) { ledger = ledger }) (sym b) };
-      agrees = agree (Some e) s.naming s.stands (sym (put_same (s.naming task) name (target_of e) (is_target ∙ ap Some (sym same)))) (λ u not. refl) (of_some e IsLeft is);
+      agrees = agree (Some e) s.naming s.stands (λ r. refl) (sym (put_same (s.naming task) name (target_of e) (is_target ∙ ap Some (sym same)))) (λ u not. refl) (of_some e IsLeft is);
     }
 
     gone : stays ≡ false → Sets None
     gone b = record {
       t = record (without_name task name s) { ledger = ledger };
       does = record { tokens = recounts.moves; rest = ap (λ (y : Bool). record (name_kept y task name s) { ledger = ledger }) (sym b) };
-      agrees = agree None (at s.naming task (map.remove (s.naming task) name)) (request_at s.stands (dead_name task name) false) (at_own s.naming task (map.remove (s.naming task) name))
+      agrees = agree None (at s.naming task (map.remove (s.naming task) name)) (request_at s.stands (dead_name task name) false) ends (at_own s.naming task (map.remove (s.naming task) name))
           (at_other s.naming task (map.remove (s.naming task) name)) (λ e is. let f : None ≡ Some e = is in absurd (cc));
     }
 
   -- ---- a dead name
 
   module _ (portless : port_named entry ≡ None) (setless : (set : ℕ) → target_of entry ≡ Target.set set → ⊥) where
-    plain : (left : Option Entry) (stands : Request → Bool) → ((e : Entry) → left ≡ Some e → HasCount e × (port_named e ≡ None)) →
+    plain : (left : Option Entry) (stands : Request → Bool) → ((r : Request) → stands r ≡ s.stands r) → ((e : Entry) → left ≡ Some e → HasCount e × (port_named e ≡ None)) →
         Agrees (tables left w.ledger) (record s { naming = at s.naming task (put (s.naming task) name (option_map target_of left)); stands = stands })
-    plain left stands is = names_agree w s sh.agrees task space there (put space.names name left) space.room own stands w.sets s.set_owner s.sets_made
+    plain left stands same is = names_agree w s sh.agrees task space there (put space.names name left) space.room own stands w.sets s.set_owner s.sets_made same
         (put_names space.names (s.naming task) (own_names w s sh.agrees task space there) name left (λ e is_e. (is e is_e).0))
         (put_rights space.names task s.ledger (own_rights w s sh.agrees task space there) name left (λ e p is_e named. absurd (nowhere p (sym (is e is_e).1 ∙ named))))
         (sets_stay w.sets s.set_owner s.sets_made s.naming (at s.naming task own) sh.agrees.in_sets task (at_other s.naming task own)
@@ -233,5 +239,5 @@ module _ (w : WorldView) (s : State) (sh : Shows w s) (task name m : ℕ) (v : W
 
       go : (b : Bool) → Agrees (tables w s sh task name r.space r.there (entry_of.DeadName n) r.found (if b then Some (entry_of.DeadName m) else None) w.ledger)
           (if b then with_name task name (Target.dead m) s else without_name task name s)
-      go true = plain w s sh task name r.space r.there (entry_of.DeadName n) r.found refl setless (Some (entry_of.DeadName m)) s.stands (of_some (entry_of.DeadName m) (λ x. HasCount x × (port_named x ≡ None)) (tt, refl))
-      go false = plain w s sh task name r.space r.there (entry_of.DeadName n) r.found refl setless None (request_at s.stands (dead_name task name) false) (λ e is. let f : None ≡ Some e = is in absurd (cc))
+      go true = plain w s sh task name r.space r.there (entry_of.DeadName n) r.found refl setless (Some (entry_of.DeadName m)) s.stands (λ x. refl) (of_some (entry_of.DeadName m) (λ x. HasCount x × (port_named x ≡ None)) (tt, refl))
+      go false = plain w s sh task name r.space r.there (entry_of.DeadName n) r.found refl setless None (request_at s.stands (dead_name task name) false) (ends w s sh task name r.space r.there (entry_of.DeadName n) r.found) (λ e is. let f : None ≡ Some e = is in absurd (cc))

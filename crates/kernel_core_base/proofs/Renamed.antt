@@ -1,15 +1,16 @@
 -- What is under a name moves to another, in the tables and in the machine alike; what is kept of a set goes along.
-use Rattle.std.proofs.Common.{◌≡◌, ℕ, ◌-◌, [], Option, Some, None, refl, sym, ap, subst, ◌∙◌, Bool}
-use Rattle.std.specs.Prelude.{is_some}
+use Rattle.std.proofs.Common.{◌≡◌, ℕ, ◌-◌, [], Option, Some, None, refl, sym, ap, subst, ◌∙◌, Bool, true, false}
+use Rattle.std.specs.Prelude.{is_some, if◌then◌else◌}
 use Rattle.std.specs.Option.{option_map}
 use Rattle.std.specs.FinMap as map
 use Rattle.mach_types.specs.declared.calls.Event.{Event}
 use Rattle.mach_types.specs.declared.calls.Reply.{Reply}
-use Rattle.mach_types.specs.Tokens.{Request}
-use Rattle.mach_model.specs.State.{State, Target, lookup, at}
+use Rattle.mach_types.specs.Tokens.{Request, dead_name}
+use Rattle.mach_model.specs.State.{State, Target, lookup, at, same_request}
 use Rattle.mach_model.specs.Names.{renamed_requests, Renames}
 use Rattle.mach_model.specs.Refusals.{call_guards}
 use Rattle.mach_model.specs.Lawful.{IsLawful}
+use Rattle.mach_model.specs.NotYet.{NoRequests}
 use Rattle.name_space.specs.declared.Entry.{Entry}
 use Rattle.name_space.specs.declared.Entry.TheVariants as entry
 use Rattle.name_space.specs.Names.{SpaceView}
@@ -19,6 +20,7 @@ use Rattle.port_set.specs.Sets.{SetsView, IsThere}
 use Rattle.copyin_base.specs.Acts.{Acts, IsAllowed}
 use Rattle.copyin_base.specs.Changes.{KeepsPlace, SameButRoom}
 use Rattle.copyin_base.specs.Kept.{Kept}
+use Rattle.copyin_base.specs.Requests.{notify_of}
 use Rattle.copyin_base.specs.Wanted.{kept_in, kept_of}
 use Rattle.copyin_base.specs.Worlds.{WorldView, entry_in, HasTask}
 use Rattle.copyin_base.specs.Shows.{Agrees, HoldersAgree, Shows, SetsAgree, target_of}
@@ -28,6 +30,7 @@ use Rattle.copyin_base.proofs.Holders.{KeepHolders, same_holders, moved_receives
 use Rattle.copyin_base.proofs.Slots.{slots_stay}
 use Rattle.copyin_base.proofs.Roomier.{place_kept, room_entry, room_shows}
 use Rattle.copyin_base.proofs.NamesChanged.{kept_sets, sets_go, moved_agrees, target_found}
+use Rattle.copyin_base.proofs.Requesting.{none_kept}
 use Rattle.copyin_base.proofs.Told.{found}
 use Rattle.kernel_core_base.specs.Names.{MayRename, MovesEntry, renamed_in, sets_named}
 use Rattle.kernel_core_base.proofs.TokensRenamed.{renamed_weigh}
@@ -54,6 +57,15 @@ set_of None task e = absurd (cc)
 
 set_kept : (w : WorldView) (s : State) → Agrees w s → IsLawful s → (task name set : ℕ) → lookup s task name ≡ Some (Target.set set) → (r : SetRecord) × (map.get w.sets.sets set ≡ Some r) × (r.owner ≡ task)
 set_kept w s a l task name set named = set_of (map.get w.sets.sets set) task (sym (l.set_owned task name set named) ∙ a.set_owner set)
+
+-- where none stands, none goes along
+none_moved : (stands : Request → Bool) → NoRequests stands → (task o n : ℕ) (r : Request) → renamed_requests task o n stands r ≡ stands r
+none_moved stands none task o n r = go (same_request r (dead_name task o)) (same_request r (dead_name task n))
+  where
+    go : (b c : Bool) → (if b then false else (if c then stands (dead_name task o) else stands r)) ≡ stands r
+    go true c = sym (none r)
+    go false true = none (dead_name task o) ∙ sym (none r)
+    go false false = refl
 
 module _ (w w1 : WorldView) (task from to : ℕ) (e : Entry) (may : MayRename w task from to e) (moves : MovesEntry w task from to e w1) where
   names_set : (s : State) → Agrees w s → (set : ℕ) → e ≡ entry.Set set → lookup s task from ≡ Some (Target.set set)
@@ -87,7 +99,7 @@ module _ (w w1 : WorldView) (task from to : ℕ) (e : Entry) (may : MayRename w 
       target = target_of e;
       found = target_found w s sh.agrees task moves.space moves.there from to e (moves.space.room - 1) stands here free;
       rest = refl;
-      tokens = λ h. renamed_weigh task from to s.ledger sh.agrees.requests h;
+      tokens = λ h. renamed_weigh task from to s.ledger (none_kept (notify_of w.requests) w.ports.made s.stands s.live_port s.ledger sh.agrees.of_requests sh.quiet.none_stands) h;
     }
 
     abbrev Go : SetsView → Type 0
@@ -112,7 +124,7 @@ module _ (w w1 : WorldView) (task from to : ℕ) (e : Entry) (may : MayRename w 
 
     agrees : (v : WorldView) → v ≡ record w1 { sets = sets_named e to w1.sets } → Agrees v (after s)
     agrees v named = subst (λ (x : WorldView). Agrees x (after s)) (sym (named ∙ (λ i. record (moves.rest i) { sets = sets_named e to (moves.rest i).sets })))
-        (moved_agrees w s sh.agrees task moves.space moves.there from to e (moves.space.room - 1) stands here free (sets_named e to w.sets) (in_sets e refl))
+        (moved_agrees w s sh.agrees task moves.space moves.there from to e (moves.space.room - 1) stands here free (none_moved s.stands sh.quiet.none_stands task from to) (sets_named e to w.sets) (in_sets e refl))
 
   -- a receive right goes along with its name
   holders : (v : WorldView) → v ≡ record w1 { sets = sets_named e to w1.sets } → HoldersAgree w → HoldersAgree v

@@ -6,6 +6,7 @@ use Rattle.std.specs.FinMap as map
 use Rattle.std.proofs.lemmas.Bool.Decides.{eqb_tells}
 use Rattle.mach_types.specs.Tokens.{dead_name}
 use Rattle.mach_model.specs.State.{State, Target, Names, lookup, at, request_at, without_name}
+use Rattle.mach_model.specs.NotYet.{NoRequests}
 use Rattle.mach_model.specs.Sets.{without_set}
 use Rattle.mach_model.proofs.At.{at_own, at_other}
 use Rattle.name_space.specs.declared.Entry.{Entry}
@@ -13,12 +14,14 @@ use Rattle.port.specs.Ports.{PortView, PortsView}
 use Rattle.port_set.specs.declared.SetRecord.{SetRecord}
 use Rattle.port_set.specs.Sets.{in_set, removed, IsDisbanded}
 use Rattle.copyin_base.specs.Kept.{Kept}
+use Rattle.copyin_base.specs.Requests.{notify_of, RequestsAgree}
 use Rattle.copyin_base.specs.Worlds.{WorldView, port_at}
 use Rattle.copyin_base.specs.Shows.{target_of, ShowsPort, SetsAgree, Agrees}
 use Rattle.copyin_base.proofs.Agreeing.{own_names, own_rights, put_names, put_rights}
 use Rattle.copyin_base.proofs.Gets.{seen, same_found}
 use Rattle.copyin_base.proofs.NamesChanged.{names_agree}
 use Rattle.copyin_base.proofs.Putting.{each_put, get_removed}
+use Rattle.copyin_base.proofs.Requesting.{none_ended}
 use Rattle.kernel_core_base.specs.References.{RemovesSet}
 
 no_some : {A : Type 0} (x : A) → None ≡ Some x → ⊥
@@ -110,12 +113,12 @@ module _ (w : WorldView) (s : State) (a : Agrees w s) (set : ℕ) (ports2 : Port
     counts = a.counts;
     total = a.total;
     in_sets = a.in_sets;
-    requests = a.requests;
+    of_requests = subst (λ (k : ℕ). RequestsAgree (notify_of w.requests) k s.stands s.live_port s.ledger) (sym d.made) a.of_requests;
   }
 
 -- ---- the name and the set go
 
-module _ (w : WorldView) (s : State) (a : Agrees w s) (task name set : ℕ) (v : WorldView) (r : RemovesSet w task name set v) where
+module _ (w : WorldView) (s : State) (a : Agrees w s) (none : NoRequests s.stands) (task name set : ℕ) (v : WorldView) (r : RemovesSet w task name set v) where
   abbrev own : Names
   own = map.remove (s.naming task) name
 
@@ -146,6 +149,7 @@ module _ (w : WorldView) (s : State) (a : Agrees w s) (task name set : ℕ) (v :
   names_go : Agrees (record w { spaces = slice_set w.spaces task (Some (record r.space { names = map.remove r.space.names name })); sets = removed w.sets set })
       (record s { naming = at s.naming task own; stands = request_at s.stands (dead_name task name) false; set_owner = at s.set_owner set None })
   names_go = names_agree w s a task r.space r.there (map.remove r.space.names name) r.space.room own (request_at s.stands (dead_name task name) false) (removed w.sets set) (at s.set_owner set None) s.sets_made
+      (none_ended s.stands none (dead_name task name))
       (put_names r.space.names (s.naming task) (own_names w s a task r.space r.there) name None (λ e is. absurd (nothing e is)))
       (put_rights r.space.names task s.ledger (own_rights w s a task r.space r.there) name None (λ e p is. absurd (nothing e is))) in_sets
 

@@ -1,6 +1,6 @@
 -- A task that is made: the tables agree with the state after.
-use Rattle.std.proofs.Common.{◌≡◌, ℕ, ◌+◌, ◌<◌, List, [], ◌∷◌, ◌++◌, Option, Some, None, refl, sym, ap, subst, ◌∙◌, arith, true, inl, inr, length}
-use Rattle.std.specs.Prelude.{is_some}
+use Rattle.std.proofs.Common.{◌≡◌, ℕ, ◌+◌, ◌<◌, List, [], ◌∷◌, ◌++◌, Option, Some, None, refl, sym, ap, subst, ◌∙◌, arith, Bool, true, false, inl, inr, length}
+use Rattle.std.specs.Prelude.{is_some, if◌then◌else◌}
 use Rattle.std.specs.Option.{option_map}
 use Rattle.std.specs.FinMap as map
 use Rattle.std.specs.Ordering.{nat_cmp}
@@ -17,13 +17,17 @@ use Rattle.mach_model.proofs.At.{at_other}
 use Rattle.name_space.specs.declared.Entry.{Entry}
 use Rattle.name_space.specs.Entry.{port_named, has_receive, send_references}
 use Rattle.name_space.specs.Names.{SpaceView}
+use Rattle.port.specs.Ports.{PortsView}
 use Rattle.copyin_base.specs.Acts.{Acts}
+use Rattle.copyin_base.specs.Kept.{Kept}
+use Rattle.copyin_base.specs.Reading.{AreGiven}
 use Rattle.copyin_base.specs.Worlds.{WorldView, entry_in, space_at, space_in}
 use Rattle.copyin_base.specs.Shows.{Agrees, HoldersAgree, target_of, HasCount}
 use Rattle.copyin_base.proofs.Acting.{done}
 use Rattle.copyin_base.proofs.Agreeing.{sets_stay}
 use Rattle.copyin_base.proofs.Gets.{same_found}
 use Rattle.copyin_base.proofs.Holders.{same_holders, holders_pushed}
+use Rattle.copyin_base.proofs.Reading.{given_pushed}
 use Rattle.kernel_core_base.specs.Tasks.{no_names}
 use Rattle.copyin_base.proofs.Spaces.{space-push_same, space-push_other, space-end}
 
@@ -79,8 +83,16 @@ module _ (w : WorldView) (s : State) (a : Agrees w s) where
     counts = a.counts;
     total = a.total;
     in_sets = sets_stay w.sets s.set_owner s.sets_made s.naming with_task.naming a.in_sets task (at_other s.naming task map.empty) (λ n set is. absurd (let none = nothing n in cc));
-    requests = a.requests;
+    of_requests = a.of_requests;
   }
+
+-- A place was asked for at the end of the tasks: it came, or all is as before.
+pub pushed_or_not : (spaces after : List (Option SpaceView)) (ports : PortsView Kept) → AreGiven spaces ports → (new : SpaceView) → new.names ≡ map.empty →
+    (came : Bool) → after ≡ (if came then spaces ++ Some new ∷ [] else spaces) → AreGiven after ports
+pushed_or_not spaces after ports g new none true is =
+    subst (λ (xs : List (Option SpaceView)). AreGiven xs ports) (sym is)
+    (given_pushed spaces ports g new (λ name e p found. absurd (none_under name e (ap (λ m. map.get m name) (sym none) ∙ found))))
+pushed_or_not spaces after ports g new none false is = subst (λ (xs : List (Option SpaceView)). AreGiven xs ports) (sym is) g
 
 -- the new task has no receive right
 task_holders : (w : WorldView) → HoldersAgree w → HoldersAgree (record w { spaces = w.spaces ++ Some no_names ∷ [] })

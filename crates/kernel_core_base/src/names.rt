@@ -19,10 +19,10 @@ ghost use Rattle.kernel_core_base.specs.declared.names.NewRight.TheVariants as A
 ghost use Rattle.kernel_core_base.specs.Names.{right_made, with_new_port, IsFullFor, HasRoomFor, IsFullOf, HasRoomOf, MayMake, CanAdd, Adds, MakesRight, MovesEntry, MayRename, sets_named, type_found, types_of};
 ghost use Rattle.kernel_core_base.specs.Wanted.{MayLackMemory};
 
-use copyin_base::{Code, World};
+use copyin_base::{Code, TaskNames, World};
 use mach_types::limits::MOST_RIGHTS;
 use mach_types::{KernReturn, Name, NameTypes, PortId, Reply, Right, TaskId};
-use name_space::{Entry, Space};
+use name_space::Entry;
 use rights::RightKind;
 use std::alloc::{AllocError, Global};
 use user_refs::UserRefs;
@@ -238,14 +238,14 @@ pub fn list_names(world: &World, alloc: Global, task: TaskId) -> Result<Reply, C
     ensures serves { Serves world.now (Event.Names task) result world.now }
     ensures wanted { IfErr result (λ code. code_number code ≡ kern_number kern.ResourceShortage → MayLackMemory world.now (Event.Names task)) }
 {
-    match names_with_types(world.space(task), alloc) {
+    match names_with_types(&world.space(task), alloc) {
         Ok(entries) => Ok(Reply::Names(NameTypes::from_vec(entries))),
         Err(_) => Err(Code::Kern(KernReturn::ResourceShortage)),
     }
 }
 
 // The names with their types, names rising.
-fn names_with_types(space: &Space, alloc: Global) -> Result<Vec<(Name, u32)>, AllocError>
+fn names_with_types(space: &TaskNames<'_>, alloc: Global) -> Result<Vec<(Name, u32)>, AllocError>
     ensures ok { IfOk result (λ entries. entries.items ≡ types_of space.now.names) }
     ensures err { OnErr result (0 < map.len space.now.names) }
 {
@@ -262,7 +262,7 @@ fn names_with_types(space: &Space, alloc: Global) -> Result<Vec<(Name, u32)>, Al
 }
 
 // The type of a name, 0 where it isn't in use.
-fn type_at(space: &Space, name: Name) -> u32
+fn type_at(space: &TaskNames<'_>, name: Name) -> u32
     ensures { result ≡ type_found (map.get space.now.names name) }
 {
     match space.lookup(name) {

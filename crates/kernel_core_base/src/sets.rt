@@ -14,9 +14,8 @@ ghost use Rattle.kernel_core_base.specs.Gathered.{IsNoted, AreGathered};
 ghost use Rattle.kernel_core_base.specs.Sets.{set_of_port, is_member, members_in, MayMove};
 ghost use Rattle.copyin_base.specs.Worlds.{HasTask};
 
-use copyin_base::{Code, World};
+use copyin_base::{Code, TaskNames, World};
 use mach_types::{KernReturn, Name, NameList, PortId, Reply, SetId, TaskId};
-use name_space::Space;
 use port::Attributes;
 use std::alloc::{AllocError, Global};
 use std::collections::BTreeSet;
@@ -32,7 +31,7 @@ pub fn set_status(world: &World, alloc: Global, task: TaskId, name: Name) -> Res
     ensures { Serves world.now (Event.SetStatus task name) result world.now }
 {
     let set = world.find_set(task, name)?;
-    match list_members(world, alloc, world.space(task), set) {
+    match list_members(world, alloc, &world.space(task), set) {
         Ok(members) => Ok(Reply::Members(NameList::from_vec(members))),
         Err(_) => Err(Code::Kern(KernReturn::ResourceShortage)),
     }
@@ -42,7 +41,7 @@ pub fn set_status(world: &World, alloc: Global, task: TaskId, name: Name) -> Res
 fn list_members(
     world: &World,
     alloc: Global,
-    space: &Space,
+    space: &TaskNames<'_>,
     set: SetId,
 ) -> Result<Vec<Name>, AllocError>
     ensures { IfOk result (λ members. members.items ≡ members_in world.now set space.now.names) }
@@ -56,7 +55,7 @@ fn list_members(
 fn gather(
     world: &World,
     alloc: Global,
-    space: &Space,
+    space: &TaskNames<'_>,
     set: SetId,
     ports: &[PortId],
 ) -> Result<BTreeSet<u32>, AllocError>
@@ -92,7 +91,7 @@ fn names_of(numbers: &BTreeSet<u32>, alloc: Global) -> Result<Vec<Name>, AllocEr
 }
 
 // The name that has the port's receive right, where the port is in the set.
-fn member_name(world: &World, space: &Space, port: PortId, set: SetId) -> Option<Name>
+fn member_name(world: &World, space: &TaskNames<'_>, port: PortId, set: SetId) -> Option<Name>
     ensures found { IfSome result (λ name. is_member world.now set (map.get space.now.names name) ≡ true) }
     ensures only { (name : ℕ) → port_at space.now.names name ≡ Some port → is_member world.now set (map.get space.now.names name) ≡ true → result ≡ Some name }
 {
@@ -105,7 +104,7 @@ fn member_name(world: &World, space: &Space, port: PortId, set: SetId) -> Option
 }
 
 // Whether the name has the receive right of a port in the set.
-fn names_member(world: &World, space: &Space, name: Name, set: SetId) -> bool
+fn names_member(world: &World, space: &TaskNames<'_>, name: Name, set: SetId) -> bool
     ensures { result ≡ is_member world.now set (map.get space.now.names name) }
 {
     let Some(entry) = space.lookup(name) else {

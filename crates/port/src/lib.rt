@@ -5,7 +5,7 @@
 //! memory. Identities are given from 0 and never again: one whose port is gone finds nothing.
 #![tactic(auto)]
 
-ghost use Rattle.std.specs.Prelude.{◌≡◌, ◌≢◌, ℕ, ◌+◌, ◌-◌, ◌<◌, ◌≤◌, ◌^◌, ◌↔◌, ◌++◌, ◌∷◌, [], List, length, IsTrue, true, false, cond, Some, None, IsSome, IfSome, IfOk, IfNone, OnOk, OnErr, MatchBool, option_copied, slice_get, drop};
+ghost use Rattle.std.specs.Prelude.{◌≡◌, ◌≢◌, ℕ, ◌+◌, ◌-◌, ◌<◌, ◌≤◌, ◌^◌, ◌↔◌, ◌++◌, ◌∷◌, [], List, length, IsTrue, true, false, cond, Some, None, IsSome, is_some, IfSome, IfOk, IfNone, OnOk, OnErr, MatchBool, option_copied, slice_get, drop};
 ghost use Rattle.std.specs.List.{Contains};
 ghost use Rattle.std.specs.Option.{option_map, option_and_then};
 ghost use Rattle.std.specs.FinMap as map;
@@ -585,6 +585,13 @@ impl<M: Message> Ports<M> {
     {
         let key = key_of(&self.by_id, port)?;
         Some(self.records[key].attributes.get())
+    }
+
+    /// Whether the port is there. Constant time.
+    pub fn contains(&self, port: PortId) -> bool
+        ensures { result ≡ is_some (map.get self.now.ports port) }
+    {
+        key_of(&self.by_id, port).is_some()
     }
 
     /// The port of the set that has a message and whose turn it is, if there is one. A port gets its

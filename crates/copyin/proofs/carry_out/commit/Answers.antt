@@ -1,15 +1,9 @@
-use Rattle.std.proofs.Common.{◌≡◌, ℕ, ◌-◌, ◌<◌, ◌++◌, List, [], ◌∷◌, Option, Some, sym, ap, ◌∙◌, subst, arith}
-use Rattle.std.specs.FinMap as map
+use Rattle.std.proofs.Common.{◌≡◌, ℕ, ◌++◌, List, Option, sym, subst, arith}
 use Rattle.std.specs.Option.{option_to_list}
 use Rattle.message_codec.specs.declared.words.PortWord.{PortWord}
-use Rattle.port.specs.Ports.{PortView, IsLive, with_port}
-use Rattle.rights.specs.Ledger.{counts_of}
 use Rattle.copyin_base.specs.declared.message.Carried.{Carried}
-use Rattle.copyin_base.specs.Kept.{Kept}
-use Rattle.copyin.specs.Copies.{ledger_queued}
 use Rattle.copyin.specs.Planned.{CanGo}
 use Rattle.copyin.specs.Plans.{ChangesWords}
-use Rattle.copyin_base.specs.Worlds.{WorldView}
 use Rattle.copyin.proofs.Going.{go_on, first_goes}
 use Rattle.copyin.proofs.Committing.{Carries, own_task, plan_goes, plan_pairs, plan_lives, plan_unused, front_goes, rest_goes, carries_live, carries_spare, commits}
 use Rattle.copyin.proofs.carry_out.commit.Goals as goal
@@ -54,8 +48,8 @@ copy_words-requires c =
     let rights_are : plan.message.rights ≡ c.rights.result.now = sym c.rights.ensures in
     subst (λ (ws : List PortWord). CanGo two plan.task ws c.rights.result.now) words_are (subst (λ (cs : List Carried). CanGo two plan.task plan.words.body.items cs) rights_are last)
 
-pub enqueue-requires-clause-live : goal.enqueue-requires-clause-live
-enqueue-requires-clause-live c =
+pub queue_message-requires-clause-live : goal.queue_message-requires-clause-live
+queue_message-requires-clause-live c =
     let plan = c.args.plan in
     let one = c.copy_word.new.world in
     let two = c.copy_reply.new.world in
@@ -74,12 +68,10 @@ enqueue-requires-clause-live c =
     let q = c.requires.planned in
     let own = own_task c.args.world.now q.0 q.1 q.2 q.3 c.args.plan q.4 in
     let old_live = plan_lives c.args.world.now plan.task q.1 q.2 q.3 plan own c.requires.tied in
-    let live : IsLive c.world.inside.ports plan.port =
-    subst (λ (w : WorldView). IsLive w.ports plan.port) (sym c.world.view_is) (carries_live c.args.world.now mid plan.task plan plan.port ca old_live) in
-    live
+    carries_live c.args.world.now mid plan.task plan plan.port ca old_live
 
-pub enqueue-requires-clause-spare : goal.enqueue-requires-clause-spare
-enqueue-requires-clause-spare c =
+pub queue_message-requires-clause-spare : goal.queue_message-requires-clause-spare
+queue_message-requires-clause-spare c =
     let plan = c.args.plan in
     let one = c.copy_word.new.world in
     let two = c.copy_reply.new.world in
@@ -96,12 +88,11 @@ enqueue-requires-clause-spare c =
           (subst (λ (cs : List Carried). ChangesWords two plan.task c.as_slice.result.now cs mid) rights_are c.copy_words.ensures);
     } in
     let same_spare = carries_spare c.args.world.now mid plan.task plan ca in
-    let view : c.world.inside.ports.spare ≡ mid.ports.spare = ap (λ (w : WorldView). w.ports.spare) c.world.view_is in
     let some = c.requires.spare in
-    omega (arith, same_spare, view, some)
+    omega (arith, same_spare, some)
 
-pub use_right-requires : goal.use_right-requires
-use_right-requires c once =
+pub queue_message-requires-clause-unused : goal.queue_message-requires-clause-unused
+queue_message-requires-clause-unused c once =
     let plan = c.args.plan in
     let one = c.copy_word.new.world in
     let two = c.copy_reply.new.world in
@@ -119,9 +110,7 @@ use_right-requires c once =
     } in
     let q = c.requires.planned in
     let own = own_task c.args.world.now q.0 q.1 q.2 q.3 c.args.plan q.4 in
-    let by : c.message.inside.by_once ≡ plan.message.by_once = ap (λ (m : Kept). m.by_once) c.message.view_is in
-    subst (λ (w : WorldView). 0 < (counts_of w.ledger plan.port).send_once) (sym c.world.view_is)
-    (plan_unused c.args.world.now plan.task q.1 q.2 q.3 plan own c.requires.tied one two mid ca.destination ca.reply ca.body (sym by ∙ once))
+    plan_unused c.args.world.now plan.task q.1 q.2 q.3 plan own c.requires.tied one two mid ca.destination ca.reply ca.body once
 
 pub returns : goal.returns
 returns c =
@@ -143,10 +132,5 @@ returns c =
     let q = c.requires.planned in
     let own = own_task c.args.world.now q.0 q.1 q.2 q.3 c.args.plan q.4 in
     let old_live = plan_lives c.args.world.now plan.task q.1 q.2 q.3 plan own c.requires.tied in
-    let live : IsLive c.world.inside.ports plan.port =
-    subst (λ (w : WorldView). IsLive w.ports plan.port) (sym c.world.view_is) (carries_live c.args.world.now mid plan.task plan plan.port ca old_live) in
-    λ task parsed written bytes p. commits c.args.world.now mid task parsed written bytes plan p c.world.inside.spaces.items c.world.inside.ports c.enqueue.new.self c.world.inside.ledger c.use_right.new.ledger c.world.inside.sets
-    (subst (λ (t : ℕ). Carries c.args.world.now t plan mid) p.task_is ca) live c.world.view_is
-    (subst (λ (m : Kept). (v : PortView Kept) → map.get c.world.inside.ports.ports plan.port ≡ Some v
-    → c.enqueue.new.self ≡ record (with_port c.world.inside.ports plan.port (record v { queue = v.queue ++ m ∷ [] })) { spare = c.world.inside.ports.spare - 1 }) c.sent.ensures c.enqueue.ensures)
-    (c.use_right.ensures ∙ ap (λ (m : Kept). ledger_queued m.by_once plan.port c.world.inside.ledger) c.message.view_is)
+    let live = carries_live c.args.world.now mid plan.task plan plan.port ca old_live in
+    λ task parsed written bytes p. commits c.args.world.now mid task parsed written bytes plan p c.queue_message.new.world (subst (λ (t : ℕ). Carries c.args.world.now t plan mid) p.task_is ca) live c.queue_message.ensures

@@ -15,33 +15,33 @@ judge_lone-requires-clause-given c = words_given c.args.bytes.now c.args.parsed.
 pub returns-in_err-rights-clause-err : goal.returns-in_err-rights-clause-err
 returns-in_err-rights-clause-err c =
     let e = err_from_is_err_and c.from_residual-in_err-rights.result c.from_residual-in_err-rights.ensures.1 in
-    rw (e.1, e.2) (λ p. cannot_judge c.args.world.now c.args.task c.args.parsed.now p.written c.space.result.now c.in_ok-words.words c.space.ensures (c.in_ok-words.ensures.ok p) c.in_err-rights.field-0.0 (inr c.in_err-rights.ensures.err))
+    rw (e.1, e.2) (λ p. cannot_judge c.args.world.now c.args.task c.args.parsed.now p.written c.space.result c.in_ok-words.words c.space.ensures (c.in_ok-words.ensures.ok p) c.in_err-rights.field-0.0 (inr c.in_err-rights.ensures.err))
 
 pub admit-requires-clause-live : goal.admit-requires-clause-live
 admit-requires-clause-live c =
     let p = c.requires.parses in
-    port_lives c.args.world.now c.args.task c.args.parsed.now p.written c.space.result.now c.in_ok-words.words c.space.ensures (c.in_ok-words.ensures.ok p) c.in_ok-rights.rights [] c.in_ok-rights.ensures.ok (c.requires.tied.tied c.space.result.now c.space.ensures)
+    port_lives c.args.world.now c.args.task c.args.parsed.now p.written c.space.result c.in_ok-words.words c.space.ensures (c.in_ok-words.ensures.ok p) c.in_ok-rights.rights [] c.in_ok-rights.ensures.ok (c.requires.tied.tied c.space.result c.space.ensures)
 
 pub admit-requires-clause-sends : goal.admit-requires-clause-sends
 admit-requires-clause-sends c =
     let p = c.requires.parses in
-    destination_sends c.args.world.now c.args.task c.args.parsed.now p.written c.space.result.now c.in_ok-words.words c.space.ensures (c.in_ok-words.ensures.ok p) c.in_ok-rights.rights [] c.in_ok-rights.ensures.ok (remote_sendable c.args.bytes.now c.args.parsed.now p)
+    destination_sends c.args.world.now c.args.task c.args.parsed.now p.written c.space.result c.in_ok-words.words c.space.ensures (c.in_ok-words.ensures.ok p) c.in_ok-rights.rights [] c.in_ok-rights.ensures.ok (remote_sendable c.args.bytes.now c.args.parsed.now p)
 
 pub returns-in_err-admit-clause-err : goal.returns-in_err-admit-clause-err
 returns-in_err-admit-clause-err c =
     let e = err_from_is_err_and c.from_residual-in_err-admit.result c.from_residual-in_err-admit.ensures.1 in
-    rw (e.1, e.2) (λ p. cannot_admit c.args.world.now c.args.task c.args.parsed.now p.written c.space.result.now c.in_ok-words.words c.space.ensures (c.in_ok-words.ensures.ok p) c.in_ok-rights.rights [] c.in_ok-rights.ensures.ok [] refl c.in_err-admit.field-0.0 c.in_err-admit.ensures.err)
+    rw (e.1, e.2) (λ p. cannot_admit c.args.world.now c.args.task c.args.parsed.now p.written c.space.result c.in_ok-words.words c.space.ensures (c.in_ok-words.ensures.ok p) c.in_ok-rights.rights [] c.in_ok-rights.ensures.ok [] refl c.in_err-admit.field-0.0 c.in_err-admit.ensures.err)
 
 pub returns-in_err-message-clause-err : goal.returns-in_err-message-clause-err
 returns-in_err-message-clause-err c =
     let e = err_from_is_err_and c.from_residual-in_err-message.result c.from_residual-in_err-message.ensures.1 in
     rw (e.1, e.2) (λ p.
-    let plans : Plans c.args.world.now c.args.task c.args.parsed.now p.written = admitted c.args.world.now c.args.task c.args.parsed.now p.written c.space.result.now c.in_ok-words.words c.space.ensures (c.in_ok-words.ensures.ok p) c.in_ok-rights.rights [] c.in_ok-rights.ensures.ok [] refl c.in_ok-admit.ensures.ok in
+    let plans : Plans c.args.world.now c.args.task c.args.parsed.now p.written = admitted c.args.world.now c.args.task c.args.parsed.now p.written c.space.result c.in_ok-words.words c.space.ensures (c.in_ok-words.ensures.ok p) c.in_ok-rights.rights [] c.in_ok-rights.ensures.ok [] refl c.in_ok-admit.ensures.ok in
     inr (inr (inr (inr (inl plans, ap msg_number c.in_err-message.ensures.err)))))
 
 pub returns-then-is_lone-clause-ok : goal.returns-then-is_lone-clause-ok
 returns-then-is_lone-clause-ok c = λ p. record {
-  plans = admitted c.args.world.now c.args.task c.args.parsed.now p.written c.space.result.now c.in_ok-words.words c.space.ensures (c.in_ok-words.ensures.ok p) c.in_ok-rights.rights [] c.in_ok-rights.ensures.ok [] refl c.in_ok-admit.ensures.ok;
+  plans = admitted c.args.world.now c.args.task c.args.parsed.now p.written c.space.result c.in_ok-words.words c.space.ensures (c.in_ok-words.ensures.ok p) c.in_ok-rights.rights [] c.in_ok-rights.ensures.ok [] refl c.in_ok-admit.ensures.ok;
   task_is = refl;
   words = c.in_ok-words.ensures.ok p;
   destination = refl;
@@ -57,33 +57,33 @@ judge_all-requires-clause-given c = words_given c.args.bytes.now c.args.parsed.n
 pub returns-in_err-rights-2-clause-err : goal.returns-in_err-rights-2-clause-err
 returns-in_err-rights-2-clause-err c =
     let e = err_from_is_err_and c.from_residual-in_err-rights-2.result c.from_residual-in_err-rights-2.ensures.1 in
-    rw (e.1, e.2) (λ p. cannot_judge c.args.world.now c.args.task c.args.parsed.now p.written c.space-2.result.now c.in_ok-words.words c.space-2.ensures (c.in_ok-words.ensures.ok p) c.in_err-rights-2.field-0.0 c.in_err-rights-2.ensures.err)
+    rw (e.1, e.2) (λ p. cannot_judge c.args.world.now c.args.task c.args.parsed.now p.written c.space-2.result c.in_ok-words.words c.space-2.ensures (c.in_ok-words.ensures.ok p) c.in_err-rights-2.field-0.0 c.in_err-rights-2.ensures.err)
 
 pub admit-requires-2-clause-live : goal.admit-requires-2-clause-live
 admit-requires-2-clause-live c =
     let p = c.requires.parses in
-    port_lives c.args.world.now c.args.task c.args.parsed.now p.written c.space-2.result.now c.in_ok-words.words c.space-2.ensures (c.in_ok-words.ensures.ok p) c.in_ok-rights-2.rights c.judge_all.new.body.items c.in_ok-rights-2.ensures.ok (c.requires.tied.tied c.space-2.result.now c.space-2.ensures)
+    port_lives c.args.world.now c.args.task c.args.parsed.now p.written c.space-2.result c.in_ok-words.words c.space-2.ensures (c.in_ok-words.ensures.ok p) c.in_ok-rights-2.rights c.judge_all.new.body.items c.in_ok-rights-2.ensures.ok (c.requires.tied.tied c.space-2.result c.space-2.ensures)
 
 pub admit-requires-2-clause-sends : goal.admit-requires-2-clause-sends
 admit-requires-2-clause-sends c =
     let p = c.requires.parses in
-    destination_sends c.args.world.now c.args.task c.args.parsed.now p.written c.space-2.result.now c.in_ok-words.words c.space-2.ensures (c.in_ok-words.ensures.ok p) c.in_ok-rights-2.rights c.judge_all.new.body.items c.in_ok-rights-2.ensures.ok (remote_sendable c.args.bytes.now c.args.parsed.now p)
+    destination_sends c.args.world.now c.args.task c.args.parsed.now p.written c.space-2.result c.in_ok-words.words c.space-2.ensures (c.in_ok-words.ensures.ok p) c.in_ok-rights-2.rights c.judge_all.new.body.items c.in_ok-rights-2.ensures.ok (remote_sendable c.args.bytes.now c.args.parsed.now p)
 
 pub returns-in_err-admit-2-clause-err : goal.returns-in_err-admit-2-clause-err
 returns-in_err-admit-2-clause-err c =
     let e = err_from_is_err_and c.from_residual-in_err-admit-2.result c.from_residual-in_err-admit-2.ensures.1 in
-    rw (e.1, e.2) (λ p. cannot_admit c.args.world.now c.args.task c.args.parsed.now p.written c.space-2.result.now c.in_ok-words.words c.space-2.ensures (c.in_ok-words.ensures.ok p) c.in_ok-rights-2.rights c.judge_all.new.body.items c.in_ok-rights-2.ensures.ok c.as_slice.result.now c.as_slice.ensures c.in_err-admit-2.field-0.0 c.in_err-admit-2.ensures.err)
+    rw (e.1, e.2) (λ p. cannot_admit c.args.world.now c.args.task c.args.parsed.now p.written c.space-2.result c.in_ok-words.words c.space-2.ensures (c.in_ok-words.ensures.ok p) c.in_ok-rights-2.rights c.judge_all.new.body.items c.in_ok-rights-2.ensures.ok c.as_slice.result.now c.as_slice.ensures c.in_err-admit-2.field-0.0 c.in_err-admit-2.ensures.err)
 
 pub returns-in_err-message-2-clause-err : goal.returns-in_err-message-2-clause-err
 returns-in_err-message-2-clause-err c =
     let e = err_from_is_err_and c.from_residual-in_err-message-2.result c.from_residual-in_err-message-2.ensures.1 in
     rw (e.1, e.2) (λ p.
-    let plans : Plans c.args.world.now c.args.task c.args.parsed.now p.written = admitted c.args.world.now c.args.task c.args.parsed.now p.written c.space-2.result.now c.in_ok-words.words c.space-2.ensures (c.in_ok-words.ensures.ok p) c.in_ok-rights-2.rights c.judge_all.new.body.items c.in_ok-rights-2.ensures.ok c.as_slice.result.now c.as_slice.ensures c.in_ok-admit-2.ensures.ok in
+    let plans : Plans c.args.world.now c.args.task c.args.parsed.now p.written = admitted c.args.world.now c.args.task c.args.parsed.now p.written c.space-2.result c.in_ok-words.words c.space-2.ensures (c.in_ok-words.ensures.ok p) c.in_ok-rights-2.rights c.judge_all.new.body.items c.in_ok-rights-2.ensures.ok c.as_slice.result.now c.as_slice.ensures c.in_ok-admit-2.ensures.ok in
     inr (inr (inr (inr (inl plans, ap msg_number c.in_err-message-2.ensures.err)))))
 
 pub returns-clause-ok : goal.returns-clause-ok
 returns-clause-ok c = λ p. record {
-  plans = admitted c.args.world.now c.args.task c.args.parsed.now p.written c.space-2.result.now c.in_ok-words.words c.space-2.ensures (c.in_ok-words.ensures.ok p) c.in_ok-rights-2.rights c.judge_all.new.body.items c.in_ok-rights-2.ensures.ok c.as_slice.result.now c.as_slice.ensures c.in_ok-admit-2.ensures.ok;
+  plans = admitted c.args.world.now c.args.task c.args.parsed.now p.written c.space-2.result c.in_ok-words.words c.space-2.ensures (c.in_ok-words.ensures.ok p) c.in_ok-rights-2.rights c.judge_all.new.body.items c.in_ok-rights-2.ensures.ok c.as_slice.result.now c.as_slice.ensures c.in_ok-admit-2.ensures.ok;
   task_is = refl;
   words = c.in_ok-words.ensures.ok p;
   destination = refl;

@@ -1,9 +1,11 @@
 use Rattle.std.proofs.Common.{◌≡◌, ◌≤◌, ◌∙◌, ap, sym, subst, Some}
+use Rattle.std.specs.Prelude.{is_some}
 use Rattle.mach_types.specs.Numbers.{kind_sent}
 use Rattle.rights.specs.Ledger.{LedgerView, IsEntered, counts_of}
-use Rattle.copyin_base.specs.Worlds.{WorldView, space_at}
+use Rattle.copyin_base.specs.Worlds.{WorldView, space_at, port_at}
 use Rattle.copyout.specs.Giving.{ledger_joined, ports_given}
 use Rattle.copyout.proofs.Gives.{found_in, named_in, can_replace, gives-joined}
+use Rattle.copyout.proofs.PortsGiven.{given_live}
 use Rattle.copyout.proofs.give.join.Goals as goal
 
 pub drop_pegged-requires-clause-entered : goal.drop_pegged-requires-clause-entered
@@ -18,8 +20,11 @@ put_left-requires c =
     let r = c.requires.can in
     let there : space_at c.drop_pegged.new.world c.args.task ≡ Some r.space =
     ap (λ (x : WorldView). space_at x c.args.task) c.drop_pegged.ensures ∙ ap (λ (x : WorldView). space_at x c.args.task) c.hold.ensures ∙ r.there in
-    can_replace c.drop_pegged.new.world c.args.task (kind_sent c.args.given) c.args.named.now.name c.args.named.now.entry c.joined.result r.space there c.joined.ensures
-    (found_in c.args.world.now c.args.task c.args.named.now.name r.space c.args.named.now.entry r.there c.requires.found)
+    let found = found_in c.args.world.now c.args.task c.args.named.now.name r.space c.args.named.now.entry r.there c.requires.found in
+    can_replace c.drop_pegged.new.world c.args.task (kind_sent c.args.given) c.args.port c.args.named.now.name c.args.named.now.entry c.joined.result r.space there c.joined.ensures found
+    (named_in r.space.names c.args.named.now.name c.args.port c.args.named.now.entry found r.named)
+    (ap (λ (x : WorldView). is_some (port_at x c.args.port)) c.drop_pegged.ensures ∙ ap (λ (x : WorldView). is_some (port_at x c.args.port)) c.hold.ensures
+    ∙ given_live c.args.task c.args.port c.args.world.now.ports (kind_sent c.args.given) c.args.port ∙ r.live)
 
 pub returns : goal.returns
 returns c =

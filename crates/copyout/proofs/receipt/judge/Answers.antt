@@ -11,7 +11,7 @@ returns-then-needed-len-clause-err c =
       c.front-queued.ensures,
       (
         c.if-is_too_large.ensures,
-        names_lack c.args.world.now c.args.task c.front-queued.result.now c.space-space.result.now c.room_needed-needed.result
+        names_lack c.args.world.now c.args.task c.front-queued.result.now c.space-space.result c.room_needed-needed.result
             c.space-space.ensures c.room_needed-needed.ensures (omega (arith, size, few)) (omega (arith, size, above)),
       ),
     )
@@ -24,7 +24,7 @@ returns-in-Ok-clause-ok c =
         front = c.front-queued.result.now;
         waits = c.front-queued.ensures;
         fits = c.if-is_too_large.ensures;
-        space = c.space-space.result.now;
+        space = c.space-space.result;
         there = c.space-space.ensures;
         needs = c.room_needed-needed.ensures;
         names = omega (arith, size, below);
@@ -40,7 +40,7 @@ returns-in-Err-clause-err c =
       c.front-queued.ensures,
       (
         c.if-is_too_large.ensures,
-        names_enough c.args.world.now c.args.task c.front-queued.result.now c.space-space.result.now c.room_needed-needed.result
+        names_enough c.args.world.now c.args.task c.front-queued.result.now c.space-space.result c.room_needed-needed.result
             c.space-space.ensures c.room_needed-needed.ensures (omega (arith, size, below)),
       ),
     )

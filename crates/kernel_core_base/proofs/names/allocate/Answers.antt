@@ -15,7 +15,7 @@ returns-in_err-reserve_names-clause-serves c =
 pub add_right-requires : goal.add_right-requires
 add_right-requires c =
     can_add_fresh c.args.world.now c.reserve_names.new.self c.requires.stands c.args.task c.in_ok-made.made c.fresh-name.result c.in_ok-made.ensures.made.room c.in_ok-reserve_names.ensures.ok
-    c.space.result.now c.space.ensures c.fresh-name.ensures.fresh c.fresh-name.ensures.small
+    c.space.result c.space.ensures c.fresh-name.ensures.fresh c.fresh-name.ensures.small
 
 pub returns-in_err-add_right-clause-serves : goal.returns-in_err-add_right-clause-serves
 returns-in_err-add_right-clause-serves c =
@@ -27,4 +27,4 @@ pub returns-clause-serves : goal.returns-clause-serves
 returns-clause-serves c =
     allocate_done c.args.world.now c.reserve_names.new.self c.add_right.new.world (room_made c.args.world.now c.reserve_names.new.self c.args.task 1 c.in_ok-reserve_names.ensures.ok)
     c.args.task c.args.right c.fresh-name.result c.in_ok-made.made c.requires.there c.in_ok-made.ensures.made.number_is
-    c.in_ok-made.ensures.ok c.space.result.now c.space.ensures c.fresh-name.ensures.fresh c.in_ok-add_right.ensures.ok
+    c.in_ok-made.ensures.ok c.space.result c.space.ensures c.fresh-name.ensures.fresh c.in_ok-add_right.ensures.ok

@@ -8,4 +8,4 @@ use Rattle.kernel_core_base.proofs.names.list_names.Goals as goal
 pub returns-in-Ok-clause-serves : goal.returns-in-Ok-clause-serves
 returns-in-Ok-clause-serves c =
     subst (λ (xs : List (ℕ × ℕ)). Acts c.args.world.now (Event.Names c.args.task) (Reply.Names xs) c.args.world.now) (sym (c.from_vec.ensures ∙ c.in-Ok.ensures.ok))
-    (names_listed c.args.world.now c.args.task c.space.result.now c.requires.there c.space.ensures)
+    (names_listed c.args.world.now c.args.task c.space.result c.requires.there c.space.ensures)

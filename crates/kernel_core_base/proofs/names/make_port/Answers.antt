@@ -1,8 +1,12 @@
-use Rattle.std.proofs.Common.{◌≡◌, None, sym, ap, ◌∙◌}
+use Rattle.std.proofs.Common.{◌≡◌, ℕ, None, OnOk, sym, ap, subst, ◌∙◌}
 use Rattle.std.specs.FinMap as map
-use Rattle.rights.specs.Ledger.{left}
+use Rattle.port.specs.Ports.{PortsView}
+use Rattle.rights.specs.declared.RightKind.TheVariants as right
+use Rattle.rights.specs.Ledger.{LedgerView, left, entered, made}
+use Rattle.copyin_base.specs.Kept.{Kept}
 use Rattle.copyin_base.specs.Worlds.{WorldView}
-use Rattle.copyin_base.proofs.Spaces.{same_world}
+use Rattle.copyin_base.proofs.Written.{tables, made_given, made_written}
+use Rattle.kernel_core_base.specs.Names.{first_port}
 use Rattle.kernel_core_base.proofs.Entered.{entered_there, entered_and_left}
 use Rattle.kernel_core_base.proofs.names.make_port.Goals as goal
 
@@ -18,4 +22,26 @@ returns-in-Err-clause-err c =
     ap (map.get c.world.inside.ledger.counts) c.next_id-id.ensures ∙ ap (λ (w : WorldView). map.get w.ledger.counts w.ports.made) c.world.view_is ∙ c.requires.unknown in
     let ledger : c.leave.new.self ≡ c.world.inside.ledger =
     c.leave.ensures.after ∙ ap (λ l. left l c.next_id-id.result) c.in_ok-enter.ensures.ok ∙ entered_and_left c.world.inside.ledger c.next_id-id.result none in
-    same_world _ _ _ _ _ _ _ _ (λ i. c.world.inside.spaces.items) c.in-Err.ensures.err ledger (λ i. c.world.inside.sets) ∙ c.world.view_is
+    ap (λ (x : PortsView Kept). tables c.world.inside.spaces.items x c.leave.new.self c.world.inside.sets c.world.inside.requests) c.in-Err.ensures.err
+    ∙ ap (λ (x : LedgerView). tables c.world.inside.spaces.items c.world.inside.ports x c.world.inside.sets c.world.inside.requests) ledger ∙ c.world.view_is
+
+pub invariant_of-world-in-Ok : goal.invariant_of-world-in-Ok
+invariant_of-world-in-Ok c =
+    made_given c.args.world.now c.world.inside.spaces.items c.world.inside.ports c.world.inside.ledger c.world.inside.sets c.world.inside.requests c.world.view_is c.world.invariant
+    (first_port c.args.task) c.allocate.new.self c.in-Ok.ensures.ok
+
+pub returns-in-Ok-clause-ok : goal.returns-in-Ok-clause-ok
+returns-in-Ok-clause-ok c =
+    let old : WorldView = c.args.world.now in
+    let counted : c.make.new.self ≡ made c.enter.new.self c.in-Ok.port right.Receive 1 = subst (λ r. OnOk r (c.make.new.self ≡ made c.enter.new.self c.in-Ok.port right.Receive 1)) c.unwrap.ensures c.make.ensures.ok in
+    let ledger : c.make.new.self ≡ made (entered old.ledger old.ports.made) old.ports.made right.Receive 1 =
+    counted ∙ ap (λ (l : LedgerView). made l c.in-Ok.port right.Receive 1) c.in_ok-enter.ensures.ok
+    ∙ ap (λ (n : ℕ). made (entered c.world.inside.ledger n) c.in-Ok.port right.Receive 1) c.next_id-id.ensures
+    ∙ ap (λ (n : ℕ). made (entered c.world.inside.ledger c.world.inside.ports.made) n right.Receive 1) c.in-Ok.ensures.identity
+    ∙ ap (λ (w : WorldView). made (entered w.ledger w.ports.made) w.ports.made right.Receive 1) c.world.view_is in (
+      c.in-Ok.ensures.identity ∙ ap (λ (w : WorldView). w.ports.made) c.world.view_is,
+      ap (λ (l : LedgerView). tables c.world.inside.spaces.items c.allocate.new.self l c.world.inside.sets c.world.inside.requests) ledger
+          ∙ ap (λ (w : WorldView). record w { ledger = made (entered old.ledger old.ports.made) old.ports.made right.Receive 1 })
+          (made_written old c.world.inside.spaces.items c.world.inside.ports c.world.inside.ledger c.world.inside.sets c.world.inside.requests c.world.view_is c.world.invariant
+          (first_port c.args.task) c.allocate.new.self c.in-Ok.ensures.ok),
+    )

@@ -1,33 +1,41 @@
-use Rattle.std.proofs.Common.{◌≡◌, ℕ, ◌-◌, sym, Option, Some, None, ap, ◌∙◌, refl}
-use Rattle.std.specs.FinMap as map
-use Rattle.name_space.specs.declared.Entry.{Entry}
+use Rattle.std.proofs.Common.{sym, Option, ap, ◌∙◌}
 use Rattle.name_space.specs.Names.{SpaceView}
 use Rattle.copyin_base.specs.Wanted.{kept_in}
 use Rattle.copyin_base.specs.Worlds.{WorldView, entry_in, space_at}
-use Rattle.copyin_base.proofs.Spaces.{space_replaced, space_read}
+use Rattle.kernel_core_base.proofs.EntryMoved.{space_of, kept_used, kept_unused, kept_place, moved_given, moved_entry}
 use Rattle.kernel_core_base.proofs.names.move_entry.Goals as goal
 
-space_of : (o : Option SpaceView) (name : ℕ) (e : Entry) → entry_in o name ≡ Some e → (space : SpaceView) × (o ≡ Some space) × (map.get space.names name ≡ Some e)
-space_of (Some space) name e is = (space, refl, is)
-space_of None name e is = absurd (cc)
+pub rename-requires-clause-used : goal.rename-requires-clause-used
+rename-requires-clause-used c =
+    let w : WorldView = c.args.world.now in
+    let s = space_of (space_at w c.args.task) c.args.from c.requires.may.0 c.requires.may.1.found in
+    kept_used w c.args.task s.0 c.world.inside.spaces.items c.world.inside.ports c.world.inside.ledger c.world.inside.sets c.world.inside.requests _ _ c.in-Some.space s.1 c.world.view_is c.number.ensures c.index_mut.ensures.value c.in-Some.is
+    c.args.from c.requires.may.0 s.2
+
+pub rename-requires-clause-unused : goal.rename-requires-clause-unused
+rename-requires-clause-unused c =
+    let w : WorldView = c.args.world.now in
+    let s = space_of (space_at w c.args.task) c.args.from c.requires.may.0 c.requires.may.1.found in
+    kept_unused w c.args.task s.0 c.world.inside.spaces.items c.world.inside.ports c.world.inside.ledger c.world.inside.sets c.world.inside.requests _ _ c.in-Some.space s.1 c.world.view_is c.number.ensures c.index_mut.ensures.value c.in-Some.is
+    c.args.to (sym (ap (λ (o : Option SpaceView). entry_in o c.args.to) s.1) ∙ c.requires.may.1.unused)
 
 pub rename-requires-clause-place : goal.rename-requires-clause-place
 rename-requires-clause-place c =
     let w : WorldView = c.args.world.now in
-    let may = c.requires.may.1 in
-    let s = space_of (space_at w c.args.task) c.args.from c.requires.may.0 may.found in
-    let here = space_read w c.args.task s.0 _ _ _ _ _ _ _ s.1 c.world.view_is c.number.ensures c.index_mut.ensures.value c.in-Some.is in
-    ap (λ (x : SpaceView). x.kept) here ∙ ap kept_in (sym s.1) ∙ c.requires.place
+    let s = space_of (space_at w c.args.task) c.args.from c.requires.may.0 c.requires.may.1.found in
+    kept_place w c.args.task s.0 c.world.inside.spaces.items c.world.inside.ports c.world.inside.ledger c.world.inside.sets c.world.inside.requests _ _ c.in-Some.space s.1 c.world.view_is c.number.ensures c.index_mut.ensures.value c.in-Some.is
+    ∙ ap kept_in (sym s.1) ∙ c.requires.place
+
+pub invariant_of-world : goal.invariant_of-world
+invariant_of-world c =
+    let w : WorldView = c.args.world.now in
+    let s = space_of (space_at w c.args.task) c.args.from c.requires.may.0 c.requires.may.1.found in
+    moved_given w c.args.task s.0 c.world.inside.spaces.items c.world.inside.ports c.world.inside.ledger c.world.inside.sets c.world.inside.requests _ _ c.in-Some.space s.1 c.world.view_is c.number.ensures c.index_mut.ensures.value c.in-Some.is
+    c.args.from c.args.to c.requires.may.0 s.2 c.world.invariant c.rename.new.self c.rename.ensures
 
 pub returns : goal.returns
 returns c = λ e may.
     let w : WorldView = c.args.world.now in
     let s = space_of (space_at w c.args.task) c.args.from e may.found in
-    let here = space_read w c.args.task s.0 _ _ _ _ _ _ _ s.1 c.world.view_is c.number.ensures c.index_mut.ensures.value c.in-Some.is in
-    let become = λ (x : SpaceView). record x { names = map.insert (map.remove x.names c.args.from) c.args.to e; room = x.room - 1 } in
-    record {
-      space = s.0;
-      there = s.1;
-      rest = space_replaced w c.args.task s.0 become _ _ _ _ _ _ _ _ s.1 c.world.view_is c.number.ensures c.index_mut.ensures.value c.in-Some.is
-          (c.rename.ensures e (ap (λ (x : SpaceView). map.get x.names c.args.from) here ∙ s.2));
-    }
+    moved_entry w c.args.task s.0 c.world.inside.spaces.items c.world.inside.ports c.world.inside.ledger c.world.inside.sets c.world.inside.requests _ _ c.in-Some.space s.1 c.world.view_is c.number.ensures c.index_mut.ensures.value c.in-Some.is
+    c.args.from c.args.to e s.2 c.rename.new.self c.rename.ensures

@@ -1,8 +1,9 @@
 use Rattle.std.proofs.Common.{◌∙◌, ap, sym, Some}
 use Rattle.name_space.specs.Names.{SpaceView}
+use Rattle.copyin_base.specs.Reading.{live_in, read_space}
 use Rattle.copyin_base.specs.Wanted.{kept_in}
-use Rattle.copyin_base.proofs.Spaces.{space_replaced, space_read}
 use Rattle.copyin_base.proofs.Told.{space_there}
+use Rattle.copyin_base.proofs.Written.{lent_read, space_written}
 use Rattle.copyin_base.proofs.world.World.reserve_name.Goals as goal
 use Rattle.copyin_base.proofs.world.World.reserve_name.Goals.{in-Ok, in-Err}
 
@@ -13,7 +14,7 @@ returns-clause-ok c = elim c.match-reserve_name.branch [
       record {
         space = x.0;
         there = x.1;
-        rest = space_replaced _ _ x.0 (λ y. record y { kept = Some c.args.name }) _ _ _ _ _ _ _ _ x.1 c.self.view_is c.number.ensures c.index_mut.ensures.value c.in-Some.is w.in-Ok.ensures.ok;
+        rest = space_written c.args.self.now c.args.task x.0 c.self.inside.spaces.items c.self.inside.ports c.self.inside.ledger c.self.inside.sets c.self.inside.requests _ _ c.in-Some.space x.1 c.self.view_is c.number.ensures c.index_mut.ensures.value c.in-Some.is (λ y. record y { kept = Some c.args.name }) c.reserve_name.new.self (ap (read_space (live_in c.self.inside.ports)) w.in-Ok.ensures.ok);
       })
   | in-Err w ↦ rw w.result-is tt
 ]
@@ -23,6 +24,6 @@ returns-clause-lacks c = elim c.match-reserve_name.branch [
   | in-Ok w ↦ rw w.result-is tt
   | in-Err w ↦ rw w.result-is (
       let x = space_there c.args.self.now c.args.task c.requires.there in
-      let here = space_read c.args.self.now c.args.task x.0 _ _ _ _ _ _ c.in-Some.space x.1 c.self.view_is c.number.ensures c.index_mut.ensures.value c.in-Some.is in
-      λ kept. w.in-Err.ensures.wanted (ap (λ (y : SpaceView). y.kept) here ∙ ap kept_in (sym x.1) ∙ kept))
+      let here = lent_read c.args.self.now c.args.task x.0 c.self.inside.spaces.items c.self.inside.ports c.self.inside.ledger c.self.inside.sets c.self.inside.requests _ _ c.in-Some.space x.1 c.self.view_is c.number.ensures c.index_mut.ensures.value c.in-Some.is in
+      λ kept. w.in-Err.ensures.wanted (ap (λ (y : SpaceView). y.kept) (sym here) ∙ ap kept_in (sym x.1) ∙ kept))
 ]

@@ -1,0 +1,12 @@
+use Rattle.std.proofs.Common.{◌≡◌, ℕ, ◌≤◌, subst, ap, sym, ◌∙◌}
+use Rattle.std.specs.Prelude.{◌↔◌, IsTrue}
+use Rattle.std.specs.FinMap as map
+use Rattle.mach_types.specs.Numbers.{most_names}
+use Rattle.name_space.specs.Names.{SpaceView}
+use Rattle.copyin_base.specs.Reading.{live_in}
+use Rattle.copyin_base.proofs.Reading.{len_read}
+use Rattle.copyin_base.proofs.task_names.TaskNames.is_full.Goals as goal
+
+pub returns : goal.returns
+returns c = subst (λ (n : ℕ). IsTrue c.is_full.result ↔ (most_names ≤ n))
+    (sym (len_read (live_in c.self.inside.ports.now) c.self.inside.kept.now.names) ∙ ap (λ (x : SpaceView). map.len x.names) c.self.view_is) c.is_full.ensures

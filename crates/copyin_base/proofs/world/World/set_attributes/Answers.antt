@@ -1,0 +1,18 @@
+use Rattle.copyin_base.specs.Worlds.{port_at}
+use Rattle.copyin_base.proofs.Told.{port_got}
+use Rattle.copyin_base.proofs.Written.{port_given, port_written}
+use Rattle.copyin_base.proofs.world.World.set_attributes.Goals as goal
+
+pub invariant_of-self : goal.invariant_of-self
+invariant_of-self c =
+    let x = port_got (port_at c.args.self.now c.args.port) c.requires in
+    port_given c.args.self.now c.self.inside.spaces.items c.self.inside.ports c.self.inside.ledger c.self.inside.sets c.self.inside.requests c.self.view_is c.args.port x.0 (record x.0 { attributes = c.args.attributes }) c.set_attributes.new.self x.1 (c.set_attributes.ensures x.0) c.self.invariant
+
+pub returns : goal.returns
+returns c =
+    let x = port_got (port_at c.args.self.now c.args.port) c.requires in
+    record {
+      v = x.0;
+      there = x.1;
+      rest = port_written c.args.self.now c.self.inside.spaces.items c.self.inside.ports c.self.inside.ledger c.self.inside.sets c.self.inside.requests c.self.view_is c.args.port x.0 (record x.0 { attributes = c.args.attributes }) c.set_attributes.new.self x.1 (c.set_attributes.ensures x.0);
+    }

@@ -1,0 +1,52 @@
+-- The requests for notices that the tables keep, each with its notify port.
+use Rattle.std.specs.Prelude.{◌≡◌, ℕ, ◌<◌, ◌^◌, Bool, true, false, List, Option, Some, None, is_some, if◌then◌else◌, nat_lt, ◌==◌, ◌&&◌, refl}
+use Rattle.std.specs.Option.{option_map}
+use Rattle.std.specs.Coded.{Coded, code_by, coded×, coded_ℕ}
+use Rattle.std.specs.FinMap as map
+use Rattle.number_map.specs.Maps.{MapView, map_code}
+use Rattle.request_table.specs.declared.Request.{Request as NameRequest}
+use Rattle.request_table.specs.Requests.{RequestsView, requests_code, no_requests as no_name_requests, name_key}
+use Rattle.mach_types.specs.Tokens.{Kind, receive, send, send_once, Request, no_senders, port_destroyed, dead_name, in_request, Token}
+use Rattle.mach_model.specs.Carried.{lying_among}
+
+pub record RequestTablesView : Type 0 where
+  -- the dead-name requests, by names and by ports
+  pub names : RequestsView
+  -- the notify ports of the two requests on a port, by ports
+  pub no_senders : MapView ℕ
+  pub port_destroyed : MapView ℕ
+
+abbrev pub request_tables_code : Coded NameRequest → Coded ℕ → Coded RequestTablesView
+request_tables_code request port =
+    code_by
+    (RequestsView × (MapView ℕ × MapView ℕ))
+    (coded× (requests_code request) (coded× (map_code port) (map_code port)))
+    (λ v. (v.names, (v.no_senders, v.port_destroyed)))
+    (λ x. record { names = x.0; no_senders = x.1.0; port_destroyed = x.1.1 })
+    (λ _. refl)
+
+abbrev pub none_requested : RequestTablesView
+none_requested = record {
+  names = no_name_requests;
+  no_senders = record { map = map.empty; room = 0 };
+  port_destroyed = record { map = map.empty; room = 0 };
+}
+
+-- the notify port of a request that stands; no name is 2^32 or more
+abbrev pub notify_of : RequestTablesView → Request → Option ℕ
+notify_of v (no_senders p) = map.get v.no_senders.map p
+notify_of v (port_destroyed p) = map.get v.port_destroyed.map p
+notify_of v (dead_name task name) = if nat_lt name (2 ^ 32) then option_map (λ (r : NameRequest). r.notify) (map.get v.names.requests (name_key task name)) else None
+
+-- how many rights of this kind for the port a request with this notify port keeps: one send-once right, as long as its port lives
+abbrev pub rights_kept : (live : ℕ → Bool) → (notify : Option ℕ) → Kind → (port : ℕ) → ℕ
+rights_kept live (Some notify) send_once q = if notify == q && live q then 1 else 0
+rights_kept live (Some notify) receive q = 0
+rights_kept live (Some notify) send q = 0
+rights_kept live None kind q = 0
+
+-- The requests that stand are those that are kept, each with the right for its notify port, which was made.
+pub record RequestsAgree (notify : Request → Option ℕ) (made : ℕ) (stands : Request → Bool) (live : ℕ → Bool) (tokens : List Token) : Type 0 where
+  pub standing : (r : Request) → stands r ≡ is_some (notify r)
+  pub kept : (r : Request) (kind : Kind) (q : ℕ) → lying_among tokens kind q (in_request r) ≡ rights_kept live (notify r) kind q
+  pub given : (r : Request) (q : ℕ) → notify r ≡ Some q → q < made

@@ -1,0 +1,48 @@
+//! Requests for notices.
+use mach_types::PortId;
+use number_map::NumberMap;
+use request_table::Requests;
+use std::alloc::Global;
+use std::marker::Model;
+
+/// The requests for notices that stand, each with its notify port (Port Manipulation Interface,
+/// `mach_port_request_notification`).
+///
+/// A notify port may have died: it is then in no table of ports.
+#[derive(Drop)]
+pub struct RequestTables {
+    /// Those for the death of a name's port, by names and by ports.
+    pub names: Requests,
+    /// The notify ports of those for no senders, by ports.
+    pub no_senders: NumberMap<PortId>,
+    /// The notify ports of those for a port's receive right, by ports.
+    pub port_destroyed: NumberMap<PortId>,
+}
+
+impl Model for RequestTables {
+    ghost use Rattle.mach_types.specs.contracts.identities.PortId as port_id;
+    ghost use Rattle.request_table.specs.contracts.Request as request;
+    ghost use Rattle.copyin_base.specs.Requests.{RequestTablesView, request_tables_code};
+
+    ghost Value = { RequestTablesView };
+
+    ghost coded = { request_tables_code request.the_row.coded port_id.the_row.coded };
+
+    ghost view = { λ a. record { names = a.names; no_senders = a.no_senders; port_destroyed = a.port_destroyed } };
+}
+
+impl RequestTables {
+    ghost use Rattle.std.specs.Prelude.{◌≡◌};
+    ghost use Rattle.copyin_base.specs.Requests.{none_requested};
+
+    /// No requests. Takes no memory.
+    pub fn new(alloc: Global) -> RequestTables
+        ensures { result ≡ none_requested }
+    {
+        RequestTables {
+            names: Requests::new(alloc),
+            no_senders: NumberMap::new(alloc),
+            port_destroyed: NumberMap::new(alloc),
+        }
+    }
+}

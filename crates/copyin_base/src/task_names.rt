@@ -1,0 +1,124 @@
+//! The names of one task, as they are read.
+ghost use Rattle.std.specs.Prelude.{◌≡◌, ◌↔◌, ◌+◌, ◌≤◌, ◌≢◌, ℕ, Bool, false, Some, IfOk, IfSome, IsTrue};
+ghost use Rattle.std.specs.FinMap as map;
+ghost use Rattle.mach_types.specs.Numbers.{most_names};
+ghost use Rattle.name_space.specs.Entry.{port_of};
+ghost use Rattle.name_space.specs.Names.{IsFreshName, port_at};
+ghost use Rattle.copyin_base.specs.Reading.{live_in, read_space, reading};
+
+use crate::queued::Queued;
+use mach_types::{Name, PortId};
+use name_space::{Entry, Space};
+use port::Ports;
+use std::alloc::{AllocError, Global};
+use std::marker::Model;
+use user_refs::UserRefs;
+
+/// The names of a task that lives. What a name keeps is read with the ports that are there: a right for a
+/// port that is gone is a dead name with as many references. Contracts see the names as they are read.
+#[derive(Drop)]
+pub struct TaskNames<'a> {
+    kept: &'a Space,
+    ports: &'a Ports<Queued>,
+}
+
+impl<'a> Model for TaskNames<'a> {
+    ghost use Rattle.name_space.specs.Names.{SpaceView, space_code};
+    ghost use Rattle.name_space.specs.contracts.Entry as entry;
+    ghost use Rattle.copyin_base.specs.Reading.{live_in, read_space};
+
+    ghost Value = { SpaceView };
+
+    ghost coded = { space_code entry.the_row.coded };
+
+    ghost view = { λ fields. read_space (live_in fields.ports.now) fields.kept.now };
+}
+
+// What is left under a name of a right for a port that is gone.
+fn dead_name(kept: Entry) -> Entry
+    ensures { (live : ℕ → Bool) (port : ℕ) → port_of kept ≡ Some port → live port ≡ false → result ≡ reading live kept }
+{
+    match kept {
+        Entry::Send(_, references) | Entry::ReceiveAndSend(_, references) => {
+            Entry::DeadName(references)
+        }
+        Entry::Receive(_) | Entry::SendOnce(_) => Entry::DeadName(UserRefs::one()),
+        Entry::DeadName(_) | Entry::Set(_) => kept,
+    }
+}
+
+// What stands under a name that keeps this.
+fn read(ports: &Ports<Queued>, kept: Entry) -> Entry
+    ensures { result ≡ reading (live_in ports.now) kept }
+{
+    match kept.right_port() {
+        Some(port) if !ports.contains(port) => dead_name(kept),
+        _ => kept,
+    }
+}
+
+impl<'a> TaskNames<'a> {
+    // Those that are kept here, read with these ports.
+    pub(crate) fn of(kept: &'a Space, ports: &'a Ports<Queued>) -> TaskNames<'a>
+        ensures { result ≡ read_space (live_in ports.now) kept.now }
+    {
+        TaskNames { kept, ports }
+    }
+
+    /// How many there are, 0 to 65,535. Constant time.
+    pub fn len(&self) -> usize
+        ensures value { result ≡ map.len self.now.names }
+        ensures few { result ≤ most_names }
+    {
+        self.kept.len()
+    }
+
+    /// Whether there are none. Constant time.
+    pub fn is_empty(&self) -> bool
+        ensures { IsTrue result ↔ (map.len self.now.names ≡ 0) }
+    {
+        self.kept.is_empty()
+    }
+
+    /// Whether there are as many as there can be, 65,535. Constant time.
+    pub fn is_full(&self) -> bool
+        ensures { IsTrue result ↔ (most_names ≤ map.len self.now.names) }
+    {
+        self.kept.is_full()
+    }
+
+    /// What stands under the name, if anything does. Constant time, and logarithmic for a name above
+    /// 65,535.
+    pub fn lookup(&self, name: Name) -> Option<Entry>
+        ensures { result ≡ map.get self.now.names name }
+    {
+        let kept = self.kept.lookup(name)?;
+        Some(read(self.ports, kept))
+    }
+
+    /// The least number from 1 that is no name, at most 65,536. Constant time.
+    pub fn fresh(&self) -> Name
+        ensures fresh { IsFreshName self.now.names result }
+        ensures small { result ≤ most_names + 1 }
+    {
+        self.kept.fresh()
+    }
+
+    /// The name that has the port's receive right or send rights, if one has. Constant time.
+    pub fn name_of_port(&self, port: PortId) -> Option<Name>
+        ensures found { IfSome result (λ name. port_at self.now.names name ≡ Some port) }
+        ensures only { (name : ℕ) → port_at self.now.names name ≡ Some port → result ≡ Some name }
+    {
+        if !self.ports.contains(port) {
+            return None;
+        }
+        self.kept.name_of_port(port)
+    }
+
+    /// The names, rising. Linear in them, with memory for each; an error means that it was refused.
+    pub fn names(&self, alloc: Global) -> Result<Vec<Name>, AllocError>
+        ensures { IfOk result (λ names. names.items ≡ map.keys self.now.names) }
+    {
+        self.kept.names(alloc)
+    }
+}
