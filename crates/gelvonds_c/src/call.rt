@@ -1,0 +1,66 @@
+//! One call by a handle, and the answers that are a code or a number.
+ghost use Rattle.std.specs.Prelude.{◌≡◌, ℕ, MatchOption};
+ghost use Rattle.gelvonds_c.specs.Calls.{Calls, Asks, Tells, number_or};
+
+use crate::codes::{NO_ANSWER, NO_KERNEL, SUCCESS};
+use crate::handle::Handle;
+use mach_types::{Event, Reply};
+use std::alloc::Global;
+
+/// Makes the call by the kernel that the handle holds, and answers it; `None` where it holds none.
+///
+/// The handle holds the same kernel after it. Takes no memory but what the kernel takes.
+pub fn call(alloc: Global, handle: &mut Handle, event: &Event) -> Option<Reply>
+    ensures { Calls handle.old.kernel event.now result handle.new.kernel }
+{
+    match handle.take(alloc) {
+        Some(mut kernel) => {
+            let reply = kernel.step(event);
+            *handle = Handle::of(kernel);
+            Some(reply)
+        }
+        None => None,
+    }
+}
+
+/// Makes a call that answers a code.
+pub fn code(alloc: Global, handle: &mut Handle, event: &Event) -> i32
+    ensures { Asks handle.old.kernel event.now handle.new.kernel }
+{
+    code_of(&call(alloc, handle, event))
+}
+
+/// Makes a call that answers a number, and writes that, or answers why not.
+pub fn number(alloc: Global, handle: &mut Handle, event: &Event, out: &mut u32) -> i32
+    ensures { Tells handle.old.kernel event.now handle.new.kernel out.old out.new }
+{
+    let reply = call(alloc, handle, event);
+    match number_of(&reply) {
+        Some(number) => {
+            *out = number;
+            SUCCESS
+        }
+        None => code_of(&reply),
+    }
+}
+
+/// The code of an answer that is one.
+pub fn code_of(reply: &Option<Reply>) -> i32 {
+    match reply {
+        Some(Reply::Code(code)) => code.cast_signed(),
+        Some(_) => NO_ANSWER,
+        None => NO_KERNEL,
+    }
+}
+
+/// The number of an answer that is one: a task, a name, a count of references or a type.
+fn number_of(reply: &Option<Reply>) -> Option<u32>
+    ensures { MatchOption result ((other : ℕ) → number_or reply.now other ≡ other) (λ number. (other : ℕ) → number_or reply.now other ≡ number) }
+{
+    match reply {
+        Some(Reply::Task(task)) => Some(task.number()),
+        Some(Reply::Name(name)) => Some(name.number()),
+        Some(Reply::Refs(number) | Reply::NameType(number)) => Some(*number),
+        _ => None,
+    }
+}

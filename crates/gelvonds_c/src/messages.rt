@@ -1,0 +1,142 @@
+//! Calls that send and receive.
+ghost use Rattle.std.specs.Prelude.{◌≡◌, ◌⊎◌, IfSome, length, min};
+ghost use Rattle.mach_types.specs.declared.calls.Event.TheVariants.{Send, Receive, ReceiveAgain};
+ghost use Rattle.mach_types.specs.declared.calls.Waited.{Waited};
+ghost use Rattle.gelvonds_c.specs.Calls.{Asks, IsWaited};
+
+use crate::call::{call, code, code_of};
+use crate::codes::{NO_ANSWER, NO_WAITED, SUCCESS};
+use crate::handle::Handle;
+use mach_types::{Bytes, Event, MsgReturn, Name, PortId, Reply, SetId, TaskId, Waited};
+use std::alloc::Global;
+
+const PORT: u32 = 1;
+
+const SET: u32 = 2;
+
+/// What a receive waited for, by identity.
+#[repr(C)]
+#[derive(Clone, Copy)]
+pub struct WaitedFor {
+    /// The identity.
+    pub identity: u64,
+    /// 1 for a port, 2 for a set.
+    pub kind: u32,
+}
+
+/// `mach_msg` with `MACH_SEND_MSG`, that doesn't wait.
+#[unsafe(no_mangle)]
+pub extern "C" fn gelvonds_send(alloc: Global, handle: &mut Handle, task: u32, bytes: &[u8]) -> i32
+    ensures { Asks handle.old.kernel (Send task bytes.now) handle.new.kernel ⊎ handle.new.kernel ≡ handle.old.kernel }
+{
+    match Vec::from_slice(alloc, bytes) {
+        Ok(copy) => {
+            let event = Event::Send(TaskId::new(task), Bytes::from_vec(copy));
+            code(alloc, handle, &event)
+        }
+        Err(_) => MsgReturn::SendNoBuffer.number().cast_signed(),
+    }
+}
+
+/// `mach_msg` with `MACH_RCV_MSG`, that doesn't wait.
+#[unsafe(no_mangle)]
+pub extern "C" fn gelvonds_receive(
+    alloc: Global,
+    handle: &mut Handle,
+    task: u32,
+    name: u32,
+    buffer: &mut [u8],
+    large: bool,
+    count: &mut usize,
+    waited: &mut WaitedFor,
+) -> i32
+    ensures { Asks handle.old.kernel (Receive task name (min (length buffer.old) 4294967295) large) handle.new.kernel }
+{
+    let room = room_of(buffer.len());
+    let event = Event::Receive(TaskId::new(task), Name::new(name), room, large);
+    received(&call(alloc, handle, &event), buffer, count, waited)
+}
+
+/// A later try of a receive that found no message.
+#[unsafe(no_mangle)]
+pub extern "C" fn gelvonds_receive_again(
+    alloc: Global,
+    handle: &mut Handle,
+    task: u32,
+    buffer: &mut [u8],
+    large: bool,
+    count: &mut usize,
+    waited: &mut WaitedFor,
+) -> i32
+    ensures { ((w : Waited) × IsWaited waited.old.kind waited.old.identity w × Asks handle.old.kernel (ReceiveAgain task w (min (length buffer.old) 4294967295) large) handle.new.kernel) ⊎ handle.new.kernel ≡ handle.old.kernel }
+{
+    let Some(before) = waited_before(waited) else {
+        return NO_WAITED;
+    };
+    let room = room_of(buffer.len());
+    let event = Event::ReceiveAgain(TaskId::new(task), before, room, large);
+    received(&call(alloc, handle, &event), buffer, count, waited)
+}
+
+/// The room, at most what 32 bits tell.
+fn room_of(places: usize) -> u32
+    ensures { result ≡ min places 4294967295 }
+{
+    u32::try_from(places).unwrap_or(u32::MAX)
+}
+
+/// What was waited for, where its kind is one.
+fn waited_before(waited: &WaitedFor) -> Option<Waited>
+    ensures { IfSome result (λ w. IsWaited waited.now.kind waited.now.identity w) }
+{
+    match waited.kind {
+        PORT => Some(Waited::Port(PortId::new(waited.identity))),
+        SET => Some(Waited::Set(SetId::new(waited.identity))),
+        _ => None,
+    }
+}
+
+/// What was waited for, for C.
+fn waited_for(waited: &Waited) -> WaitedFor {
+    match waited {
+        Waited::Port(port) => WaitedFor {
+            identity: port.number(),
+            kind: PORT,
+        },
+        Waited::Set(set) => WaitedFor {
+            identity: set.number(),
+            kind: SET,
+        },
+    }
+}
+
+/// Writes what a receive answers, and answers its code.
+fn received(
+    reply: &Option<Reply>,
+    buffer: &mut [u8],
+    count: &mut usize,
+    waited: &mut WaitedFor,
+) -> i32 {
+    match reply {
+        Some(Reply::Message(bytes)) => put_bytes(bytes.as_slice(), buffer, count),
+        Some(Reply::Empty(found)) => {
+            *waited = waited_for(found);
+            MsgReturn::ReceiveTimedOut.number().cast_signed()
+        }
+        Some(Reply::TooLarge(needed)) => {
+            *count = *needed as usize;
+            MsgReturn::ReceiveTooLarge.number().cast_signed()
+        }
+        _ => code_of(reply),
+    }
+}
+
+/// Writes a message, which the kernel gives only where there is room.
+fn put_bytes(bytes: &[u8], buffer: &mut [u8], count: &mut usize) -> i32 {
+    *count = bytes.len();
+    if bytes.len() > buffer.len() {
+        return NO_ANSWER;
+    }
+    buffer[..bytes.len()].copy_from_slice(bytes);
+    SUCCESS
+}

@@ -1,0 +1,56 @@
+//! Calls of port sets.
+ghost use Rattle.mach_types.specs.declared.calls.Event.TheVariants.{MoveMember, SetStatus};
+ghost use Rattle.gelvonds_c.specs.Calls.{Asks};
+
+use crate::call::{call, code, code_of};
+use crate::codes::{SUCCESS, TOO_SHORT};
+use crate::handle::Handle;
+use mach_types::{Event, Name, Reply, TaskId};
+use std::alloc::Global;
+
+/// `mach_port_move_member`.
+#[unsafe(no_mangle)]
+pub extern "C" fn gelvonds_port_move_member(
+    alloc: Global,
+    handle: &mut Handle,
+    task: u32,
+    member: u32,
+    after: u32,
+) -> i32
+    ensures { Asks handle.old.kernel (MoveMember task member after) handle.new.kernel }
+{
+    let event = Event::MoveMember(TaskId::new(task), Name::new(member), Name::new(after));
+    code(alloc, handle, &event)
+}
+
+/// `mach_port_get_set_status`.
+#[unsafe(no_mangle)]
+pub extern "C" fn gelvonds_port_get_set_status(
+    alloc: Global,
+    handle: &mut Handle,
+    task: u32,
+    name: u32,
+    members: &mut [u32],
+    count: &mut usize,
+) -> i32
+    ensures { Asks handle.old.kernel (SetStatus task name) handle.new.kernel }
+{
+    let event = Event::SetStatus(TaskId::new(task), Name::new(name));
+    let reply = call(alloc, handle, &event);
+    match &reply {
+        Some(Reply::Members(found)) => put_members(found.as_slice(), members, count),
+        _ => code_of(&reply),
+    }
+}
+
+/// Writes the names where there is room for all, and tells how many they are.
+fn put_members(found: &[Name], members: &mut [u32], count: &mut usize) -> i32 {
+    *count = found.len();
+    if found.len() > members.len() {
+        return TOO_SHORT;
+    }
+    for (slot, name) in members.iter_mut().zip(found) {
+        *slot = name.number();
+    }
+    SUCCESS
+}

@@ -1,0 +1,268 @@
+/* Gelvonds for C: Mach 3 port IPC in one process, by calls of a kernel of one's own.
+ *
+ * Each function but gelvonds_make and gelvonds_free makes one call of a task, by the kernel's own step, and
+ * answers its code: Mach's number, or one of the library's own (GELVONDS_..). The Mach calls are those of
+ * Keith Loepere, Mach 3 Kernel Interfaces (1992), in the chapter that each comment names; docs/CALLS.md says
+ * what each does and which refusal comes first. docs/EMBEDDING.md says how to build and link.
+ *
+ * Every function but gelvonds_make, gelvonds_free and gelvonds_receive_again may also answer
+ *   GELVONDS_NO_KERNEL  the handle holds no kernel
+ *   KERN_INVALID_TASK   (not gelvonds_task_create) a task that it names doesn't live
+ * and gelvonds_receive_again GELVONDS_NO_KERNEL, GELVONDS_NO_WAITED and KERN_INVALID_TASK. Where another
+ * code than 0 comes, nothing is written through a pointer, but for what a function's comment says.
+ *
+ * What can't be told, and so is left to the caller:
+ *   - that a handle was set to GELVONDS_NONE, and then only by this library: never copied and used twice,
+ *     never used while another call uses it (one lock round each handle, where threads share it);
+ *   - that no pointer is NULL, also not one beside a length of 0, that each points to as many places as the
+ *     call says, and that no two overlap. */
+#ifndef GELVONDS_H
+#define GELVONDS_H
+
+#include <stdbool.h>
+#include <stddef.h>
+#include <stdint.h>
+
+#ifdef __cplusplus
+extern "C" {
+#endif
+
+/* A kernel: its tasks, their names, ports and queued messages. The field is the library's own. */
+typedef struct gelvonds {
+    void *kernel;
+} gelvonds;
+
+/* What a handle is before gelvonds_make. */
+#define GELVONDS_NONE { 0 }
+
+/* A task's number, from 0 in the order of their creation; never used again. */
+typedef uint32_t gelvonds_task;
+/* mach_port_t: a task's name of a right. 0 is MACH_PORT_NULL, 0xffffffff MACH_PORT_DEAD. */
+typedef uint32_t gelvonds_name;
+/* kern_return_t and mach_msg_return_t. */
+typedef int32_t gelvonds_code;
+
+/* mach_port_status_t. */
+typedef struct gelvonds_status {
+    gelvonds_name mps_pset; /* the task's name of a set that the port is in, or 0 */
+    uint32_t mps_seqno;     /* the sequence number of the next message received */
+    uint32_t mps_mscount;   /* how many send rights were made from the receive right */
+    uint32_t mps_qlimit;    /* the queue limit, 0 to 16 */
+    uint32_t mps_msgcount;  /* the messages queued */
+    uint32_t mps_sorights;  /* the port's send-once rights, anywhere */
+    uint32_t mps_srights;   /* 1 where the port has a send right anywhere, else 0 */
+    uint32_t mps_pdrequest; /* 1 where a port-destroyed request stands, else 0 */
+    uint32_t mps_nsrequest; /* 1 where a no-senders request stands, else 0 */
+} gelvonds_status;
+
+/* What a receive that found no message waited for: a port or a set, by identity, whatever its name is. */
+typedef struct gelvonds_waited {
+    uint64_t identity;
+    uint32_t kind; /* GELVONDS_PORT or GELVONDS_SET */
+} gelvonds_waited;
+
+#define GELVONDS_PORT 1u
+#define GELVONDS_SET 2u
+
+/* Codes of the library's own. */
+#define GELVONDS_NO_KERNEL 0x47000001 /* the handle holds no kernel */
+#define GELVONDS_IN_USE 0x47000002    /* the handle holds a kernel already */
+#define GELVONDS_TOO_SHORT 0x47000003 /* a list is longer than the array: its length was told */
+#define GELVONDS_NO_WAITED 0x47000004 /* a gelvonds_waited whose kind is neither */
+#define GELVONDS_NO_ANSWER 0x47000005 /* the kernel's answer is none that the call has: never comes */
+
+/* kern_return_t. */
+#ifndef KERN_SUCCESS
+#define KERN_SUCCESS 0
+#define KERN_NO_SPACE 3           /* a limit of names, tasks, rights or identities */
+#define KERN_INVALID_ARGUMENT 4
+#define KERN_RESOURCE_SHORTAGE 6  /* memory was refused */
+#define KERN_NOT_IN_SET 12
+#define KERN_NAME_EXISTS 13
+#define KERN_INVALID_NAME 15
+#define KERN_INVALID_TASK 16
+#define KERN_INVALID_RIGHT 17
+#define KERN_INVALID_VALUE 18
+#define KERN_UREFS_OVERFLOW 19    /* more than 65,535 user references */
+#define KERN_INVALID_CAPABILITY 20
+#define KERN_RIGHT_EXISTS 21      /* the task has the port under another name */
+#endif
+
+/* mach_msg_return_t. */
+#ifndef MACH_MSG_SUCCESS
+#define MACH_MSG_SUCCESS 0
+#define MACH_SEND_INVALID_DATA 0x10000002
+#define MACH_SEND_INVALID_DEST 0x10000003
+#define MACH_SEND_TIMED_OUT 0x10000004
+#define MACH_SEND_MSG_TOO_SMALL 0x10000008
+#define MACH_SEND_INVALID_REPLY 0x10000009
+#define MACH_SEND_INVALID_RIGHT 0x1000000a
+#define MACH_SEND_NO_BUFFER 0x1000000d
+#define MACH_SEND_INVALID_TYPE 0x1000000f
+#define MACH_SEND_INVALID_HEADER 0x10000010
+#define MACH_RCV_INVALID_NAME 0x10004002
+#define MACH_RCV_TIMED_OUT 0x10004003
+#define MACH_RCV_TOO_LARGE 0x10004004
+#define MACH_RCV_PORT_CHANGED 0x10004006
+#define MACH_RCV_PORT_DIED 0x10004009
+#define MACH_RCV_IN_SET 0x1000400a
+#define MACH_RCV_BODY_ERROR 0x1000400c
+#define MACH_MSG_IPC_SPACE 0x00002000
+#define MACH_MSG_IPC_KERNEL 0x00000800
+#endif
+
+/* The kinds of rights (mach_port_right_t), and the bits of a name's type (mach_port_type_t). */
+#ifndef MACH_PORT_RIGHT_SEND
+#define MACH_PORT_RIGHT_SEND 0u
+#define MACH_PORT_RIGHT_RECEIVE 1u
+#define MACH_PORT_RIGHT_SEND_ONCE 2u
+#define MACH_PORT_RIGHT_PORT_SET 3u
+#define MACH_PORT_RIGHT_DEAD_NAME 4u
+#define MACH_PORT_TYPE_SEND 0x00010000u
+#define MACH_PORT_TYPE_RECEIVE 0x00020000u
+#define MACH_PORT_TYPE_SEND_ONCE 0x00040000u
+#define MACH_PORT_TYPE_PORT_SET 0x00080000u
+#define MACH_PORT_TYPE_DEAD_NAME 0x00100000u
+#endif
+
+/* How a right is taken from a name (mach_msg_type_name_t). */
+#ifndef MACH_MSG_TYPE_MOVE_RECEIVE
+#define MACH_MSG_TYPE_MOVE_RECEIVE 16u
+#define MACH_MSG_TYPE_MOVE_SEND 17u
+#define MACH_MSG_TYPE_MOVE_SEND_ONCE 18u
+#define MACH_MSG_TYPE_COPY_SEND 19u
+#define MACH_MSG_TYPE_MAKE_SEND 20u
+#define MACH_MSG_TYPE_MAKE_SEND_ONCE 21u
+#endif
+
+/* ---- the kernel ---- */
+
+/* Makes a kernel in which nothing was made yet. KERN_RESOURCE_SHORTAGE: memory, and the handle holds none;
+ * GELVONDS_IN_USE: it holds a kernel already, which stays. */
+gelvonds_code gelvonds_make(gelvonds *kernel);
+
+/* Ends the kernel: gives back all its memory, and the handle holds none. Nothing where it holds none. */
+void gelvonds_free(gelvonds *kernel);
+
+/* ---- tasks: Task Interface ---- */
+
+/* task_create: makes a task with no names.
+ * KERN_NO_SPACE: 65,536 tasks were made; KERN_RESOURCE_SHORTAGE: memory. */
+gelvonds_code gelvonds_task_create(gelvonds *kernel, gelvonds_task *child);
+
+/* ---- names: Port Manipulation Interface ---- */
+
+/* mach_port_allocate: makes a port, of which the task has the receive right (MACH_PORT_RIGHT_RECEIVE), an
+ * empty set (.._PORT_SET) or a dead name (.._DEAD_NAME), under a fresh name.
+ * KERN_INVALID_VALUE: another right; KERN_NO_SPACE: a limit; KERN_RESOURCE_SHORTAGE: memory. */
+gelvonds_code gelvonds_port_allocate(gelvonds *kernel, gelvonds_task task, uint32_t right, gelvonds_name *name);
+
+/* mach_port_allocate_name: the same, under this name. KERN_INVALID_VALUE: another right, or no name;
+ * KERN_NAME_EXISTS: in use; KERN_NO_SPACE: a limit; KERN_RESOURCE_SHORTAGE: memory. */
+gelvonds_code gelvonds_port_allocate_name(gelvonds *kernel, gelvonds_task task, uint32_t right, gelvonds_name name);
+
+/* mach_port_deallocate: takes one send reference, one reference of a dead name or a send-once right.
+ * KERN_INVALID_NAME: nothing there; KERN_INVALID_RIGHT: none of these, or a right that can't go yet. */
+gelvonds_code gelvonds_port_deallocate(gelvonds *kernel, gelvonds_task task, gelvonds_name name);
+
+/* mach_port_destroy: takes all that is under the name.
+ * KERN_INVALID_NAME: nothing there; KERN_INVALID_RIGHT: a right that can't go yet. */
+gelvonds_code gelvonds_port_destroy(gelvonds *kernel, gelvonds_task task, gelvonds_name name);
+
+/* mach_port_mod_refs: changes the references of the right by so many. KERN_INVALID_VALUE: no right, fewer than
+ * 0 references, or another change than 0 or -1 of a right without references; KERN_INVALID_NAME: nothing there;
+ * KERN_INVALID_RIGHT: no such right there, or one that can't go yet; KERN_UREFS_OVERFLOW: more than 65,535
+ * references; KERN_NO_SPACE: a limit of rights. */
+gelvonds_code gelvonds_port_mod_refs(gelvonds *kernel, gelvonds_task task, gelvonds_name name, uint32_t right, int32_t delta);
+
+/* mach_port_get_refs: how many references of the right are there.
+ * KERN_INVALID_VALUE: no right; KERN_INVALID_NAME: nothing there. */
+gelvonds_code gelvonds_port_get_refs(gelvonds *kernel, gelvonds_task task, gelvonds_name name, uint32_t right, uint32_t *refs);
+
+/* mach_port_type: which rights are under the name, as the sum of MACH_PORT_TYPE_.. KERN_INVALID_NAME: none. */
+gelvonds_code gelvonds_port_type(gelvonds *kernel, gelvonds_task task, gelvonds_name name, uint32_t *type);
+
+/* mach_port_rename: what is under the old name is under the new one. KERN_INVALID_VALUE: the new one is no
+ * name; KERN_INVALID_NAME: nothing under the old one; KERN_NAME_EXISTS: the new one is in use;
+ * KERN_RESOURCE_SHORTAGE: memory. */
+gelvonds_code gelvonds_port_rename(gelvonds *kernel, gelvonds_task task, gelvonds_name old_name, gelvonds_name new_name);
+
+/* mach_port_names: all names of the task, rising, with their types at the same places. *count is how many they
+ * are, also where GELVONDS_TOO_SHORT comes: an array has less room than that, and nothing was written to
+ * either. KERN_RESOURCE_SHORTAGE: memory. */
+gelvonds_code gelvonds_port_names(gelvonds *kernel, gelvonds_task task, gelvonds_name *names, size_t names_room,
+                                  uint32_t *types, size_t types_room, size_t *count);
+
+/* ---- the receive right: Port Manipulation Interface ----
+ * All four: KERN_INVALID_NAME: nothing under the name; KERN_INVALID_RIGHT: no receive right. */
+
+/* mach_port_get_receive_status. */
+gelvonds_code gelvonds_port_get_receive_status(gelvonds *kernel, gelvonds_task task, gelvonds_name name, gelvonds_status *status);
+
+/* mach_port_set_qlimit: how many messages the queue takes by send rights. KERN_INVALID_VALUE: more than 16. */
+gelvonds_code gelvonds_port_set_qlimit(gelvonds *kernel, gelvonds_task task, gelvonds_name name, uint32_t limit);
+
+/* mach_port_set_mscount: the make-send count. */
+gelvonds_code gelvonds_port_set_mscount(gelvonds *kernel, gelvonds_task task, gelvonds_name name, uint32_t count);
+
+/* mach_port_set_seqno: the sequence number of the next message received. */
+gelvonds_code gelvonds_port_set_seqno(gelvonds *kernel, gelvonds_task task, gelvonds_name name, uint32_t number);
+
+/* ---- port sets: Port Manipulation Interface ---- */
+
+/* mach_port_move_member: the port leaves its set, and goes into this one unless after is 0.
+ * KERN_INVALID_NAME: nothing under a name; KERN_INVALID_RIGHT: no receive right, or no set;
+ * KERN_NOT_IN_SET: after is 0, and the port is in no set. */
+gelvonds_code gelvonds_port_move_member(gelvonds *kernel, gelvonds_task task, gelvonds_name member, gelvonds_name after);
+
+/* mach_port_get_set_status: the task's names of the members, rising. *count as of gelvonds_port_names.
+ * KERN_INVALID_NAME: nothing there; KERN_INVALID_RIGHT: no set; KERN_RESOURCE_SHORTAGE: memory;
+ * GELVONDS_TOO_SHORT: more members than room. */
+gelvonds_code gelvonds_port_get_set_status(gelvonds *kernel, gelvonds_task task, gelvonds_name name,
+                                           gelvonds_name *members, size_t room, size_t *count);
+
+/* ---- rights from task to task: Port Manipulation Interface ---- */
+
+/* mach_port_insert_right: copies in what the task `from` has under poly, by the disposition (MACH_MSG_TYPE_..),
+ * and puts it under the name in the task. KERN_INVALID_VALUE: no name, or no disposition;
+ * KERN_INVALID_CAPABILITY: poly is no name, or dead; KERN_INVALID_NAME: nothing under poly;
+ * KERN_INVALID_RIGHT: it lacks what the disposition needs; KERN_RIGHT_EXISTS, KERN_NAME_EXISTS,
+ * KERN_UREFS_OVERFLOW, KERN_NO_SPACE: it doesn't fit under the name; KERN_RESOURCE_SHORTAGE: memory. */
+gelvonds_code gelvonds_port_insert_right(gelvonds *kernel, gelvonds_task task, gelvonds_name name,
+                                         gelvonds_task from, gelvonds_name poly, uint32_t disposition);
+
+/* mach_port_extract_right: takes by the disposition what the task has under the name, and gives it to the task
+ * `to`: *poly is its name there, *kind MACH_MSG_TYPE_MOVE_.. of the right. KERN_INVALID_VALUE: no disposition;
+ * KERN_INVALID_NAME: nothing there; KERN_INVALID_RIGHT: it lacks what the disposition needs; KERN_NO_SPACE: a
+ * limit; KERN_RESOURCE_SHORTAGE: memory. */
+gelvonds_code gelvonds_port_extract_right(gelvonds *kernel, gelvonds_task task, gelvonds_name name, uint32_t disposition,
+                                          gelvonds_task to, gelvonds_name *poly, uint32_t *kind);
+
+/* ---- messages: IPC Interface; docs/FORMATS.md has their bytes ---- */
+
+/* mach_msg with MACH_SEND_MSG, that doesn't wait: the message joins the end of its destination's queue, or a
+ * MACH_SEND_.. code comes: MSG_TOO_SMALL, INVALID_DATA (more than 65,536 bytes), INVALID_HEADER, INVALID_TYPE,
+ * INVALID_DEST, INVALID_REPLY, INVALID_RIGHT, TIMED_OUT (the queue is full), NO_BUFFER (memory). The bytes are
+ * copied. */
+gelvonds_code gelvonds_send(gelvonds *kernel, gelvonds_task task, const uint8_t *bytes, size_t length);
+
+/* mach_msg with MACH_RCV_MSG, that doesn't wait: the front message of the port, or of any member of the set,
+ * under the name, into the buffer; *length is its length. large: MACH_RCV_LARGE, whether a message
+ * longer than the room is to stay.
+ * MACH_RCV_TOO_LARGE: it is longer; *length is told. MACH_RCV_TIMED_OUT: there is none; *waited is told.
+ * MACH_RCV_INVALID_NAME, MACH_RCV_IN_SET: no receive right and no set, or a port that is in a set.
+ * MACH_RCV_BODY_ERROR | MACH_MSG_IPC_SPACE, .. | MACH_MSG_IPC_KERNEL: names or memory; the message stays. */
+gelvonds_code gelvonds_receive(gelvonds *kernel, gelvonds_task task, gelvonds_name name, uint8_t *buffer, size_t room,
+                               bool large, size_t *length, gelvonds_waited *waited);
+
+/* A later try of a receive that answered MACH_RCV_TIMED_OUT: from what *waited says, whatever its name is now.
+ * As gelvonds_receive; and MACH_RCV_PORT_DIED: the port or set isn't there; MACH_RCV_PORT_CHANGED: the task
+ * hasn't its receive right, or it is in a set; GELVONDS_NO_WAITED: no kind, and no call is made. */
+gelvonds_code gelvonds_receive_again(gelvonds *kernel, gelvonds_task task, uint8_t *buffer, size_t room,
+                                     bool large, size_t *length, gelvonds_waited *waited);
+
+#ifdef __cplusplus
+}
+#endif
+
+#endif
