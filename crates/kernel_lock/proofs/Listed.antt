@@ -1,0 +1,143 @@
+-- A task has no more names, and a set no more members, than a task may have names.
+use Rattle.std.proofs.Common.{◌≡◌, ◌⊎◌, ◌≤◌, ℕ, zero, suc, ◌<◌, Bool, true, false, ◌&&◌, T, List, [], ◌∷◌, length, refl, sym, ap, ◌∙◌, arith, inl, inr, map as list_map}
+use Rattle.std.specs.Prelude.{AllPairs, All, Contains, is_some}
+use Rattle.std.specs.declared.cmp.Ordering.{Ordering}
+use Rattle.std.specs.declared.cmp.Ordering.TheVariants.{Less, Equal, Greater}
+use Rattle.std.specs.Ordering.{nat_cmp, eq_by_cmp, is_lt, is_eq}
+use Rattle.std.specs.Cmp.{ranked}
+use Rattle.std.specs.FinMap as map
+use Rattle.std.specs.FinMap.{nat_cmp-IsAntisymmetric}
+use Rattle.std.specs.FinMap.Entries.{is_sorted, below_all}
+use Rattle.std.proofs.lemmas.List.Kept.{AllPairs-cons}
+use Rattle.std.proofs.lemmas.Map.Views.{Contains-from_any}
+use mathlib.Core.Logic.{dite}
+use native.Mathlib.Decide.{ℕ_discrete}
+use Rattle.mach_types.specs.Numbers.{most_names}
+use Rattle.mach_model.specs.State.{State}
+use Rattle.mach_model.specs.Names.{names_of}
+use Rattle.mach_model.specs.Sets.{TellsMembers}
+use Rattle.mach_model.specs.Lawful.{IsLawful}
+
+-- ---- rising lists
+
+abbrev IsRising : List ℕ → Type 0
+IsRising xs = AllPairs (λ a b. a < b) xs
+
+contains_first : (x : ℕ) (xs : List ℕ) → Contains (x ∷ xs) x
+contains_first x xs = (0, (omega arith), refl)
+
+contains_later : (x : ℕ) (xs : List ℕ) (n : ℕ) → Contains xs n → Contains (x ∷ xs) n
+contains_later x xs n (k, within, is) = (suc k, (omega (arith, within)), is)
+
+contains_cases : (x : ℕ) (xs : List ℕ) (n : ℕ) → Contains (x ∷ xs) n → (x ≡ n) ⊎ Contains xs n
+contains_cases x xs n (zero, within, is) = inl is
+contains_cases x xs n (suc k, within, is) = inr (k, (omega (arith, within)), is)
+
+none_contained : (n : ℕ) → Contains [] n → ⊥
+none_contained n (k, within, is) = omega (arith, within)
+
+below_later : (x : ℕ) (xs : List ℕ) (n : ℕ) → IsRising (x ∷ xs) → Contains xs n → x < n
+below_later x xs n rising (k, within, is) = let h = rising 0 (suc k) n (omega arith) (omega (arith, within)) in omega (arith, h, is)
+
+rising_tail : (x : ℕ) (xs : List ℕ) → IsRising (x ∷ xs) → IsRising xs
+rising_tail x xs rising = λ i j d less within. rising (suc i) (suc j) d (omega (arith, less)) (omega (arith, within))
+
+-- the first of one list is not behind that of the other
+not_behind : (x y : ℕ) (xs ys : List ℕ) → IsRising (y ∷ ys) → ((n : ℕ) → Contains (x ∷ xs) n → Contains (y ∷ ys) n) → (x < y → ⊥)
+not_behind x y xs ys rising f less = elim (contains_cases y ys x (f x (contains_first x xs))) [
+  | inl h ↦ omega (arith, h, less)
+  | inr h ↦ let g = below_later y ys x rising h in omega (arith, g, less)
+]
+
+tail_in_tail : (x y : ℕ) (xs ys : List ℕ) → x ≡ y → IsRising (x ∷ xs) → ((n : ℕ) → Contains (x ∷ xs) n → Contains (y ∷ ys) n) → (n : ℕ) → Contains xs n → Contains ys n
+tail_in_tail x y xs ys e rising f n h = elim (contains_cases y ys n (f n (contains_later x xs n h))) [
+  | inl g ↦ absurd (let b = below_later x xs n rising h in omega (arith, b, e, g))
+  | inr g ↦ g
+]
+
+-- what is above the other's first is in its tail
+all_in_tail : (x y : ℕ) (xs ys : List ℕ) → y < x → IsRising (x ∷ xs) → ((n : ℕ) → Contains (x ∷ xs) n → Contains (y ∷ ys) n) → (n : ℕ) → Contains (x ∷ xs) n → Contains ys n
+all_in_tail x y xs ys above rising f n h = elim (contains_cases y ys n (f n h)) [
+  | inl g ↦ absurd (elim (contains_cases x xs n h) [
+    | inl k ↦ omega (arith, above, g, k)
+    | inr k ↦ let b = below_later x xs n rising k in omega (arith, b, above, g)
+  ])
+  | inr g ↦ g
+]
+
+fewer : (xs ys : List ℕ) → IsRising xs → IsRising ys → ((n : ℕ) → Contains xs n → Contains ys n) → length xs ≤ length ys
+fewer [] ys a b f = omega arith
+fewer (x ∷ xs) [] a b f = absurd (none_contained x (f x (contains_first x xs)))
+fewer (x ∷ xs) (y ∷ ys) a b f = dite (ℕ_discrete x y)
+    (λ same. let h = fewer xs ys (rising_tail x xs a) (rising_tail y ys b) (tail_in_tail x y xs ys same a f) in omega (arith, h))
+    (λ other.
+    let low = not_behind x y xs ys b f in
+    let above : y < x = omega (arith, low, other) in
+    let h = fewer (x ∷ xs) ys a (rising_tail y ys b) (all_in_tail x y xs ys above a f) in
+    omega (arith, h))
+
+-- ---- the keys of a map
+
+first : (a b : Bool) → T (a && b) → T a
+first true b p = tt
+first false b p = p
+
+second : (a b : Bool) → T (a && b) → T b
+second true b p = p
+second false b p = absurd p
+
+less : (a b : ℕ) → T (is_lt (nat_cmp a b)) → a < b
+less a b h = go (nat_cmp a b) refl h
+  where
+    go : (r : Ordering) → nat_cmp a b ≡ r → T (is_lt r) → a < b
+    go Less e h = ranked a b Less (sym e)
+    go Equal e h = absurd h
+    go Greater e h = absurd h
+
+abbrev keys_in : {X : Type 0} → List (ℕ × X) → List ℕ
+keys_in es = list_map (λ e. e.0) es
+
+above_all : {X : Type 0} (k : ℕ) (es : List (ℕ × X)) → T (below_all nat_cmp k es) → All (λ q. k < q) (keys_in es)
+above_all k [] h i d within = absurd (omega (arith, within))
+above_all k (e ∷ es) h zero d within = less k e.0 (first _ _ h)
+above_all k (e ∷ es) h (suc i) d within = above_all k es (second _ _ h) i d (omega (arith, within))
+
+keys_rise : {X : Type 0} (es : List (ℕ × X)) → T (is_sorted nat_cmp es) → IsRising (keys_in es)
+keys_rise [] h = λ i j d lt within. absurd (omega (arith, within))
+keys_rise (e ∷ es) h = AllPairs-cons (λ a b. a < b) e.0 (keys_in es) (above_all e.0 es (first _ _ h)) (keys_rise es (second _ _ h))
+
+is_equal : (r : Ordering) → is_eq r ≡ true → r ≡ Equal
+is_equal Less e = absurd (cc)
+is_equal Equal e = refl
+is_equal Greater e = absurd (cc)
+
+same_key : (x y : ℕ) → eq_by_cmp nat_cmp x y ≡ true → x ≡ y
+same_key x y e = nat_cmp-IsAntisymmetric x y (is_equal (nat_cmp x y) e)
+
+is_key : {X : Type 0} (m : map.FinMap nat_cmp X) (n : ℕ) → is_some (map.get m n) ≡ true → Contains (map.keys m) n
+is_key m n some = Contains-from_any same_key n (map.keys m) (sym (map.contains_key-keys m n) ∙ some)
+
+keys_len : {X : Type 0} (es : List (ℕ × X)) → length (keys_in es) ≡ length es
+keys_len [] = refl
+keys_len (e ∷ es) = ap suc (keys_len es)
+
+mapped_len : {A B : Type 0} (f : A → B) (xs : List A) → length (list_map f xs) ≡ length xs
+mapped_len f [] = refl
+mapped_len f (x ∷ xs) = ap suc (mapped_len f xs)
+
+-- ---- names and members
+
+pub names_few : (s : State) (task : ℕ) (names : List (ℕ × ℕ)) → IsLawful s → names ≡ names_of s task → length names ≤ most_names
+names_few s task names l is =
+    let m = s.naming task in
+    let few = (l.naming task).few_names in
+    let told = ap length is ∙ mapped_len _ (map.entries m) in
+    omega (arith, few, told, map.len-entries m)
+
+pub members_few : (s : State) (task name : ℕ) (members : List ℕ) → IsLawful s → TellsMembers s task name members → length members ≤ most_names
+members_few s task name members l tells =
+    let m = s.naming task in
+    let few = (l.naming task).few_names in
+    let h = fewer members (map.keys m) tells.rising (keys_rise (map.entries m) (map.entries_sorted m))
+    (λ n in_it. let p = (tells.each n).0 in_it in is_key m n (ap is_some p.1)) in
+    omega (arith, few, h, keys_len (map.entries m), map.len-entries m)

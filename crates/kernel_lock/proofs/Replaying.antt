@@ -1,0 +1,56 @@
+-- A step at the end of a history.
+use Rattle.std.proofs.Common.{◌≡◌, ◌≢◌, ℕ, ◌+◌, List, [], ◌∷◌, ◌++◌, length, sym, subst}
+use mathlib.Core.List.{map-append}
+use Rattle.mach_types.specs.declared.calls.Event.{Event}
+use Rattle.mach_types.specs.declared.calls.Reply.{Reply}
+use Rattle.mach_model.specs.State.{State, opening}
+use Rattle.mach_model.specs.Machine.{Step, Run}
+use Rattle.mach_model.proofs.Runs.{RunFrom-push}
+use Rattle.copyin_base.specs.Worlds.{WorldView}
+use Rattle.kernel_core.specs.Answers.{Answers}
+use Rattle.kernel_lock.specs.declared.entry.Entry.{Entry}
+use Rattle.kernel_lock.specs.History.{events_of, replies_of, LeadsTo, Legal, entry}
+use Rattle.mach_model.proofs.StepLawful.{Run-lawful}
+use Rattle.kernel_lock.specs.Replays.{Replays}
+use Rattle.kernel_lock.specs.Room.{IsBounded}
+use Rattle.kernel_lock.proofs.Bounds.{bounded, answered}
+
+-- the number of the step that comes next
+abbrev pub next : List Entry → ℕ
+next log = 0 + length (events_of log)
+
+pub leads_push : (log : List Entry) (s t : State) (e : Entry) → LeadsTo log s → Step (next log) s e.event e.reply t → LeadsTo (log ++ e ∷ []) t
+leads_push log s t e run step =
+    subst
+    (λ (x : List Event × List Reply). Run x.0 x.1 t)
+    (λ i. (sym (map-append (λ (x : Entry). x.event) log (e ∷ [])) i, sym (map-append (λ (x : Entry). x.reply) log (e ∷ [])) i))
+    (RunFrom-push 0 opening (events_of log) (replies_of log) s e.event e.reply t run step)
+
+pub replays_push : (log : List Entry) (old new : WorldView) (e : Entry) → Replays log old → Answers old e.event e.reply new → Replays (log ++ e ∷ []) new
+replays_push log old new e r answers =
+    let a = answers (next log) r.state r.shown in record {
+      state = a.0;
+      leads = leads_push log r.state a.0 e r.leads a.1;
+      shown = a.2;
+    }
+
+pub legal_of : (log : List Entry) (world : WorldView) → Replays log world → Legal log
+legal_of log world r = record { state = r.state; leads = r.leads }
+
+-- the step is stored with a copy of its reply
+pub stores : (log : List Entry) (old new : WorldView) (caller : ℕ) (event : Event) (reply copy : Reply) → Replays log old → Answers old event reply new → copy ≡ reply → Replays (log ++ entry caller event copy ∷ []) new
+stores log old new caller event reply copy r answers same = replays_push log old new (entry caller event copy) r (subst (λ (x : Reply). Answers old event x new) (sym same) answers)
+
+pub stores_legal : (log seen : List Entry) (old new : WorldView) (caller : ℕ) (event : Event) (reply copy : Reply) → Replays log old → Answers old event reply new → copy ≡ reply → seen ≡ log → Legal (seen ++ entry caller event copy ∷ [])
+stores_legal log seen old new caller event reply copy r answers same is =
+    subst (λ (l : List Entry). Legal (l ++ entry caller event copy ∷ [])) (sym is) (legal_of _ new (stores log old new caller event reply copy r answers same))
+
+pub is_bounded : (log : List Entry) (old new : WorldView) (event : Event) (reply : Reply) → Replays log old → Answers old event reply new → IsBounded event reply
+is_bounded log old new event reply r answers =
+    let a = answers (next log) r.state r.shown in
+    bounded (next log) r.state event reply a.0 (Run-lawful (events_of log) (replies_of log) r.state r.leads) a.1
+
+pub is_answered : (log : List Entry) (old new : WorldView) (event : Event) (reply : Reply) → Replays log old → Answers old event reply new → reply ≢ Reply.NoRecord
+is_answered log old new event reply r answers =
+    let a = answers (next log) r.state r.shown in
+    answered (next log) r.state event reply a.0 (Run-lawful (events_of log) (replies_of log) r.state r.leads) a.1

@@ -1,0 +1,6 @@
+use Rattle.std.proofs.Common.{ℕ, ◌<◌, slice_index_or}
+use Rattle.kernel_lock.specs.Fits.{IsWord}
+use Rattle.kernel_lock.proofs.entry.are_typed.Given as goal
+
+abbrev pub invariant-loop-name : goal.invariant-loop-name
+invariant-loop-name l = (i : ℕ) (d : ℕ × ℕ) → i < l.name-index → IsWord (slice_index_or l.names i d).0 × IsWord (slice_index_or l.names i d).1

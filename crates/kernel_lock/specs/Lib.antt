@@ -1,0 +1,7 @@
+pub mod History
+pub mod Replays
+pub mod Views
+pub mod Table
+pub mod Berth
+pub mod Room
+pub mod Fits

@@ -1,0 +1,21 @@
+//! One kernel behind a lock, for many threads, with its history.
+//!
+//! [`Shared`] is the kernel behind its lock. A caller has a [`Pass`], makes calls with it, and every call
+//! stands in the history. The history is kept by the type of the locked kernel: its events and replies are
+//! a run of the machine to a state that this very kernel shows (`specs/Replays`). Its length stands on a
+//! [`Board`], which a [`Watch`] reads without waiting for anybody; what a watch has seen is a beginning of
+//! the one history, and so is what a pass has seen (`specs/History`, `specs/Table`).
+#![tactic(auto)]
+
+mod berth;
+mod board;
+mod entry;
+mod lock;
+mod room;
+
+pub use board::{Board, Watch};
+pub use entry::Entry;
+pub use lock::{Held, LockedKernel, Pass, Shared};
+
+#[cfg(test)]
+mod tests;

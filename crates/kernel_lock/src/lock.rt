@@ -1,0 +1,316 @@
+//! The kernel behind its lock, with its history.
+ghost use Rattle.std.specs.Prelude.{◌≡◌, ◌+◌, ◌<◌, ◌^◌, [], ◌∷◌, length, None, IfOk, slice_index_or, slice_set};
+ghost use Rattle.kernel_lock.specs.History.{Legal, StartsWith, Stepped, Called};
+ghost use Rattle.kernel_lock.specs.Replays.{Replays};
+
+use crate::berth::{Berth, Hand};
+use crate::board::{Board, Look, NewPass, NewWatch, Place, Tell, Watch};
+use crate::entry::Entry;
+use crate::room::Room;
+use kernel_core::Kernel;
+use mach_types::{Event, Reply};
+use std::alloc::{AllocError, Global};
+use std::marker::Model;
+use std::snapshot::Snapshot;
+use std::sync::{Mutex, MutexGuard, Wait};
+use std::thread;
+
+/// A caller: its number, how many of its calls were recorded, and what it has seen of the history.
+///
+/// It is used with the [`Shared`] that made it and with that one's board: `requires` ask for it. To contracts
+/// it is its board, its number and what it has seen.
+#[derive(Drop)]
+pub struct Pass {
+    caller: u64,
+    count: u64,
+    seat: Place,
+}
+
+impl Model for Pass {
+    ghost use Rattle.std.specs.Prelude.{◌≡◌, [], length};
+    ghost use Rattle.kernel_lock.specs.History.{Known, calls_by};
+    ghost use Rattle.kernel_lock.specs.Views.{pass_view};
+
+    ghost Value = { Known };
+
+    ghost view = { λ p. record { table = p.seat.table_id; caller = p.caller; seen = p.seat.me.0.seen } };
+
+    ghost invariant = { λ p. (p.seat.me ≡ (pass_view p.caller (calls_by p.caller p.seat.me.0.seen) p.seat.me.0.seen, [])) × (p.count ≡ length (calls_by p.caller p.seat.me.0.seen)) };
+}
+
+/// The kernel, with the history that led to it, and with the count of each caller's calls.
+///
+/// The type keeps that the history's events and replies are a run of the machine to a state that this
+/// kernel shows, and that each count is that of the caller's entries. To contracts it is its board, the
+/// history, and the kernel's tables.
+#[derive(Drop)]
+pub struct LockedKernel {
+    alloc: Global,
+    kernel: Kernel,
+    history: Vec<Entry>,
+    counts: Vec<u64>,
+    seat: Place,
+}
+
+impl Model for LockedKernel {
+    ghost use Rattle.std.specs.Prelude.{◌≡◌, [], length};
+    ghost use Rattle.kernel_lock.specs.History.{CountsFit};
+    ghost use Rattle.kernel_lock.specs.Replays.{Stored, stored_code, Replays};
+    ghost use Rattle.atomic_table.specs.Seated.{table_id_coded};
+    ghost use Rattle.kernel_lock.specs.contracts.entry.Entry as entry;
+    ghost use Rattle.kernel_core.specs.contracts.kernel.Kernel as machine;
+    ghost use Rattle.kernel_lock.specs.Views.{desk_view};
+
+    ghost Value = { Stored };
+
+    ghost coded = { stored_code table_id_coded entry.the_row.coded machine.the_row.coded };
+
+    ghost view = { λ k. record { table = k.seat.table_id; log = k.history.items; kernel = k.kernel } };
+
+    ghost invariant = { λ k. Replays k.history.items k.kernel × CountsFit k.counts.items k.history.items × (k.seat.me ≡ (desk_view k.history.items (length k.counts.items), [])) };
+}
+
+impl LockedKernel {
+    /// The stored history, oldest entry first. It is a run to a state that the kernel shows. Constant time.
+    pub fn entries(&self) -> &[Entry]
+        ensures stored { result.now ≡ self.now.log }
+        ensures replays { Replays self.now.log self.now.kernel }
+    {
+        self.history.as_slice()
+    }
+
+    /// Makes one call of the pass's caller, whole, and puts it at the end of the history as it was answered.
+    ///
+    /// All growths come first: the entry's place, and room for a copy of whatever reply the event may have.
+    /// Where one is refused the answer is `NoRecord`, and nothing has happened. Waits for nobody.
+    pub fn step_locked(&mut self, board: &Board, pass: &mut Pass, event: Event) -> Reply
+        requires { (self.old.table ≡ board.now) × (pass.old.table ≡ board.now) }
+        ensures tied { (self.new.table ≡ board.now) × (pass.new.table ≡ board.now) }
+        ensures step { Stepped self.old.log self.new.log pass.old pass.new event result }
+    {
+        let Ok(room) = Room::of(self.alloc, &event) else {
+            return Reply::NoRecord;
+        };
+        if self.history.reserve(1).is_err() {
+            return Reply::NoRecord;
+        }
+        let length = self.history.len() as u64;
+        let reply = self.kernel.step(&event);
+        let entry = Entry {
+            caller: pass.caller,
+            event,
+            reply: room.copy(&reply),
+        };
+        board.publish(&mut self.seat, &mut pass.seat, length, &entry);
+        let Ok(()) = self.history.push(entry) else {
+            unreachable!()
+        };
+        pass.count += 1;
+        count_one(&mut self.counts, pass.caller);
+        reply
+    }
+
+    fn new_pass(&mut self, board: &Board) -> Result<Pass, AllocError>
+        requires { self.old.table ≡ board.now }
+        ensures same { self.new ≡ self.old }
+        ensures new { IfOk result (λ p. (p.table ≡ board.now) × (p.seen ≡ [])) }
+    {
+        let caller = self.counts.len() as u64;
+        self.counts.push(0)?;
+        let seat = board.table.shared.split_seat::<NewPass>(&mut self.seat);
+        Ok(Pass {
+            caller,
+            count: 0,
+            seat,
+        })
+    }
+
+    fn new_watch(&mut self, board: &Board) -> Watch
+        requires { self.old.table ≡ board.now }
+        ensures same { self.new ≡ self.old }
+        ensures new { (result.table ≡ board.now) × (result.log ≡ []) }
+    {
+        let seat = board.table.shared.split_seat::<NewWatch>(&mut self.seat);
+        Watch { seat }
+    }
+}
+
+/// A kernel behind its lock, for many threads, and the board beside it.
+///
+/// To contracts it is which board that is.
+#[derive(Drop)]
+pub struct Shared {
+    gate: Mutex<()>,
+    berth: Berth,
+    board: Board,
+}
+
+impl Model for Shared {
+    ghost use Rattle.std.specs.Prelude.{◌≡◌};
+    ghost use Rattle.atomic_table.specs.Seated.{TableId};
+
+    ghost Value = { TableId };
+
+    ghost view = { λ s. s.board };
+
+    ghost invariant = { λ s. s.berth.table.shared.key.value.table_id ≡ s.board };
+}
+
+/// The kernel, while this thread has it; dropping it gives the kernel back.
+///
+/// It gives no `&mut LockedKernel`, so that no other kernel can be put in its place.
+pub struct Held<'a> {
+    kernel: LockedKernel,
+    hand: Hand,
+    berth: &'a Berth,
+    gate: MutexGuard<'a, ()>,
+    ghost hand_is: { (hand.table_id ≡ berth.now.table.shared.table_id) × (hand.me.1 ≡ (0, None) ∷ []) },
+    ghost tied: { kernel.table ≡ berth.now.table.shared.key.value.table_id },
+}
+
+impl<'a> Drop for Held<'a> {
+    fn drop(self) {
+        let Self {
+            kernel,
+            hand,
+            berth,
+            gate,
+        } = self;
+        berth.put(hand, kernel);
+        drop(gate);
+    }
+}
+
+impl<'a> Held<'a> {
+    /// The stored history, as [`LockedKernel::entries`] gives it.
+    pub fn entries(&self) -> &[Entry]
+        ensures stored { result.now ≡ self.now.kernel.log }
+        ensures replays { Replays self.now.kernel.log self.now.kernel.kernel }
+    {
+        self.kernel.entries()
+    }
+
+    /// One call, as [`LockedKernel::step_locked`] makes it.
+    pub fn step_locked(&mut self, board: &Board, pass: &mut Pass, event: Event) -> Reply
+        requires { (self.old.kernel.table ≡ board.now) × (pass.old.table ≡ board.now) }
+        ensures tied { (self.new.kernel.table ≡ board.now) × (pass.new.table ≡ board.now) }
+        ensures step { Stepped self.old.kernel.log self.new.kernel.log pass.old pass.new event result }
+    {
+        self.kernel.step_locked(board, pass, event)
+    }
+
+    fn new_pass(&mut self, board: &Board) -> Result<Pass, AllocError>
+        requires { self.old.kernel.table ≡ board.now }
+        ensures new { IfOk result (λ p. (p.table ≡ board.now) × (p.seen ≡ [])) }
+    {
+        self.kernel.new_pass(board)
+    }
+
+    fn new_watch(&mut self, board: &Board) -> Watch
+        requires { self.old.kernel.table ≡ board.now }
+        ensures new { (result.table ≡ board.now) × (result.log ≡ []) }
+    {
+        self.kernel.new_watch(board)
+    }
+}
+
+impl Shared {
+    /// A kernel in which nothing was made yet, with the empty history. An error means that memory for its
+    /// board or its place was refused.
+    pub fn new(alloc: Global) -> Result<Shared, AllocError> {
+        let (board, desk) = Board::open(alloc)?;
+        let key = Snapshot::of(&desk);
+        let kernel = LockedKernel {
+            alloc,
+            kernel: Kernel::new(alloc),
+            history: Vec::new(alloc),
+            counts: Vec::new(alloc),
+            seat: desk,
+        };
+        let berth = Berth::new(alloc, &key, kernel)?;
+        Ok(Shared {
+            gate: Mutex::new(()),
+            berth,
+            board,
+        })
+    }
+
+    /// The kernel, as soon as no other thread has it. May wait; takes no memory.
+    pub fn lock<R: Wait>(&self, rt: &R) -> Held<'_>
+        ensures { result.kernel.table ≡ self.entry.now }
+    {
+        let gate = self.gate.lock(rt);
+        for _ in rt.forever() {
+            if let Some((kernel, hand)) = self.berth.take() {
+                return Held {
+                    kernel,
+                    hand,
+                    berth: &self.berth,
+                    gate,
+                };
+            }
+            thread::yield_now();
+        }
+        unreachable!()
+    }
+
+    /// The board on which the history's length stands.
+    pub fn board(&self) -> &Board
+        ensures { result.now ≡ self.now }
+    {
+        &self.board
+    }
+
+    /// A new caller, which has seen nothing; callers are numbered from 0. May wait. An error means that
+    /// memory for its count was refused, and there is no new caller.
+    pub fn pass<R: Wait>(&self, rt: &R) -> Result<Pass, AllocError>
+        ensures { IfOk result (λ p. (p.table ≡ self.now) × (p.seen ≡ [])) }
+    {
+        self.lock(rt).new_pass(&self.board)
+    }
+
+    /// A new watch, which has seen nothing. May wait; takes no memory.
+    pub fn watch<R: Wait>(&self, rt: &R) -> Watch
+        ensures { (result.table ≡ self.now) × (result.log ≡ []) }
+    {
+        self.lock(rt).new_watch(&self.board)
+    }
+
+    /// Makes one call under the lock, as [`LockedKernel::step_locked`] does. May wait.
+    #[tactic(auto, using(crate::proofs::Lists::called_of))]
+    pub fn call<R: Wait>(&self, rt: &R, pass: &mut Pass, event: Event) -> Reply
+        requires { pass.old.table ≡ self.now }
+        ensures tied { pass.new.table ≡ self.now }
+        ensures call { Called pass.old pass.new event result }
+    {
+        self.lock(rt).step_locked(&self.board, pass, event)
+    }
+}
+
+impl Pass {
+    /// Makes a watch see what the pass has seen. Waits for nobody, and takes no memory.
+    pub fn tell(&mut self, board: &Board, watch: &mut Watch)
+        requires { (self.old.table ≡ board.now) × (watch.old.table ≡ board.now) }
+        ensures same { self.new ≡ self.old }
+        ensures tied { watch.new.table ≡ board.now }
+        ensures told { StartsWith watch.new.log self.old.seen }
+        ensures begins { StartsWith watch.new.log watch.old.log }
+        ensures legal { Legal watch.new.log }
+    {
+        let shared = &board.table.shared;
+        let copy = shared.split_seat::<Tell>(&mut self.seat);
+        shared.join_seat::<Tell>(&mut watch.seat, copy);
+        shared.load::<Look>(&mut watch.seat, 0);
+    }
+}
+
+// One call more of this caller.
+fn count_one(counts: &mut Vec<u64>, caller: u64)
+    requires inside { caller < length counts.old.items }
+    requires small { slice_index_or counts.old.items caller 0 < 2 ^ 63 }
+    ensures { counts.new.items ≡ slice_set counts.old.items caller (slice_index_or counts.old.items caller 0 + 1) }
+{
+    let at = caller as usize;
+    let count = counts[at];
+    counts[at] = count + 1;
+}
