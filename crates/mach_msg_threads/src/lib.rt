@@ -11,3 +11,6 @@ mod tries;
 
 pub use gate::Gate;
 pub use message::{Outcome, mach_msg};
+
+#[cfg(test)]
+mod tests;

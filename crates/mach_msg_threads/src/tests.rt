@@ -1,3 +1,5 @@
+ghost use Rattle.std.specs.Prelude.{◌≡◌, IfOk};
+
 use super::*;
 use kernel_lock::{Pass, Shared};
 use mach_types::{Event, Name, TaskId};
@@ -6,9 +8,13 @@ use std::sync::Wait;
 use std::test::*;
 
 const SEND: u32 = 0x1;
+
 const RECEIVE: u32 = 0x2;
+
 const SEND_TIMEOUT: u32 = 0x10;
+
 const RECEIVE_TIMEOUT: u32 = 0x100;
+
 const LARGE: u32 = 0x800;
 
 /// Says yes so many times, and keeps what it was told.
@@ -71,30 +77,172 @@ fn one_port<R: Wait>(rt: &R, shared: &Shared) -> Result<Pass, Fail>
     Ok(pass)
 }
 
-/// A call of the task by this gate, with a buffer of 24 bytes, all 0xee before.
-fn calls<R: Wait>(
-    rt: &R,
-    shared: &Shared,
-    pass: &mut Pass,
-    gate: &mut Times,
-    asked: (u32, &[u8], usize),
-) -> (Outcome, [u8; 24])
+/// What is asked for: options, whether the bytes are those of the message, how large the buffer is, and how
+/// often the gate says that it is to be tried again.
+#[derive(Clone, Copy)]
+struct Asked {
+    options: u32,
+    sends: bool,
+    room: usize,
+    again: u32,
+}
+
+/// A receipt of at most 24 bytes.
+const fn receives(options: u32, again: u32) -> Asked {
+    Asked {
+        options,
+        sends: false,
+        room: 24,
+        again,
+    }
+}
+
+/// A send of the message, and perhaps a receipt of at most 24 bytes.
+const fn sends(options: u32, again: u32) -> Asked {
+    Asked {
+        options,
+        sends: true,
+        room: 24,
+        again,
+    }
+}
+
+/// What it came to, the buffer afterwards, and what the gate was told.
+#[derive(Clone, Copy, PartialEq)]
+struct Answer {
+    outcome: Outcome,
+    room: [u8; 24],
+    told: (u32, u32, u32),
+}
+
+/// A call of the task with a buffer that is all 0xee before.
+fn calls<R: Wait>(rt: &R, alloc: Global, shared: &Shared, pass: &mut Pass, asked: Asked) -> Answer
     requires { pass.old.table ≡ shared.now }
     ensures { pass.new.table ≡ shared.now }
 {
+    let mut gate = Times::new(asked.again);
     let mut room = [0xee; 24];
-    let (options, bytes, length) = asked;
+    let length = asked.room.min(24);
+    let bytes: &[u8] = if asked.sends { &MESSAGE } else { &[] };
+    let task = TaskId::new(0);
+    let name = Name::new(1);
+    let buf = &mut room[..length];
+    let options = asked.options;
     let outcome = mach_msg(
-        rt,
-        Global,
-        shared,
-        pass,
-        gate,
-        TaskId::new(0),
-        options,
-        bytes,
-        &mut room[..length.min(24)],
-        Name::new(1),
+        rt, alloc, shared, pass, &mut gate, task, options, bytes, buf, name,
     );
-    (outcome, room)
+    Answer {
+        outcome,
+        room,
+        told: gate.told(),
+    }
+}
+
+/// Five messages: as many as a new port's queue takes.
+fn fills<R: Wait>(rt: &R, alloc: Global, shared: &Shared, pass: &mut Pass)
+    requires { pass.old.table ≡ shared.now }
+    ensures { pass.new.table ≡ shared.now }
+{
+    calls(rt, alloc, shared, pass, sends(SEND, 0));
+    calls(rt, alloc, shared, pass, sends(SEND, 0));
+    calls(rt, alloc, shared, pass, sends(SEND, 0));
+    calls(rt, alloc, shared, pass, sends(SEND, 0));
+    calls(rt, alloc, shared, pass, sends(SEND, 0));
+}
+
+/// With nothing in the buffer.
+const fn empty(code: u32, len: u32, told: (u32, u32, u32)) -> Answer {
+    Answer {
+        outcome: Outcome { code, len },
+        room: [0xee; 24],
+        told,
+    }
+}
+
+#[test]
+fn options_are_judged(rt: HostRuntime) -> Result<(), Fail> {
+    let shared = Shared::new(rt.alloc())?;
+    let mut pass = one_port(&rt, &shared)?;
+    let unlawful = calls(&rt, rt.alloc(), &shared, &mut pass, receives(4, 0));
+    assert!(rt; unlawful == empty(4, 0, (0, 0, 0)));
+    let none = calls(&rt, rt.alloc(), &shared, &mut pass, sends(0, 0));
+    assert!(rt; none == empty(0, 0, (0, 0, 0)));
+    let held = shared.lock(&rt);
+    assert_eq!(rt; held.entries().len(), 2);
+    Ok(())
+}
+
+#[test]
+fn a_message_comes_back(rt: HostRuntime) -> Result<(), Fail> {
+    let shared = Shared::new(rt.alloc())?;
+    let mut pass = one_port(&rt, &shared)?;
+    let both = calls(
+        &rt,
+        rt.alloc(),
+        &shared,
+        &mut pass,
+        sends(SEND | RECEIVE, 0),
+    );
+    assert_eq!(rt; both.outcome, Outcome { code: 0, len: 24 });
+    assert!(rt; both.room == RECEIVED);
+    assert_eq!(rt; both.told, (0, 2, 2));
+    Ok(())
+}
+
+#[test]
+fn a_long_message_stays(rt: HostRuntime) -> Result<(), Fail> {
+    let shared = Shared::new(rt.alloc())?;
+    let mut pass = one_port(&rt, &shared)?;
+    let sent = calls(&rt, rt.alloc(), &shared, &mut pass, sends(SEND, 0));
+    assert!(rt; sent == empty(0, 0, (0, 1, 1)));
+    let short = Asked {
+        room: 20,
+        ..receives(RECEIVE | LARGE, 0)
+    };
+    let long = calls(&rt, rt.alloc(), &shared, &mut pass, short);
+    assert!(rt; long == empty(0x1000_4004, 24, (0, 1, 1)));
+    Ok(())
+}
+
+#[test]
+fn receives_are_tried_as_the_gate_says(rt: HostRuntime) -> Result<(), Fail> {
+    let shared = Shared::new(rt.alloc())?;
+    let mut pass = one_port(&rt, &shared)?;
+    let once = calls(
+        &rt,
+        rt.alloc(),
+        &shared,
+        &mut pass,
+        receives(RECEIVE | RECEIVE_TIMEOUT, 3),
+    );
+    assert!(rt; once == empty(0x1000_4003, 0, (0, 0, 1)));
+    let thrice = calls(&rt, rt.alloc(), &shared, &mut pass, receives(RECEIVE, 2));
+    assert!(rt; thrice == empty(0x1000_4003, 0, (3, 0, 3)));
+    let held = shared.lock(&rt);
+    assert_eq!(rt; held.entries().len(), 6);
+    Ok(())
+}
+
+#[test]
+fn sends_are_tried_as_the_gate_says(rt: HostRuntime) -> Result<(), Fail> {
+    let shared = Shared::new(rt.alloc())?;
+    let mut pass = one_port(&rt, &shared)?;
+    fills(&rt, rt.alloc(), &shared, &mut pass);
+    let once = calls(
+        &rt,
+        rt.alloc(),
+        &shared,
+        &mut pass,
+        sends(SEND | SEND_TIMEOUT, 3),
+    );
+    assert!(rt; once == empty(0x1000_0004, 0, (0, 0, 1)));
+    let thrice = calls(
+        &rt,
+        rt.alloc(),
+        &shared,
+        &mut pass,
+        sends(SEND | RECEIVE, 2),
+    );
+    assert!(rt; thrice == empty(0x1000_0004, 0, (3, 0, 3)));
+    Ok(())
 }
