@@ -80,6 +80,7 @@ fn leave(
 }
 
 // Judges the right that goes from what stands under the word's name, which is refused with this code.
+#[inline(always)]
 fn judge_name(
     space: &TaskNames<'_>,
     touched: &mut Touched,
@@ -119,6 +120,7 @@ fn mark_of_word(word: Name) -> Option<Mark>
 }
 
 // Judges a word: two words are no names and pass.
+#[inline(always)]
 fn judge_word(
     space: &TaskNames<'_>,
     touched: &mut Touched,
@@ -269,6 +271,7 @@ struct Destination {
 }
 
 // Judges the word of the destination: only a right for a port will do.
+#[inline(always)]
 fn judge_destination(space: &TaskNames<'_>, word: PortWord) -> Result<Destination, MsgReturn>
     requires { IsSome (disposition word.disposition) }
     ensures ok { IfOk result (λ d. StartsAt space.now.names word d) }
@@ -358,6 +361,7 @@ fn judge_all(
 }
 
 // Judges the reply and the body, where this is left under the destination's name.
+#[inline(never)]
 fn judge_others(
     alloc: Global,
     space: &TaskNames<'_>,

@@ -69,7 +69,7 @@ pub(crate) fn shared_name(space: &TaskNames<'_>, given: Disposition, port: PortI
 pub(crate) fn has_port(world: &World, port: PortId) -> bool
     ensures { result ≡ is_some (map.get world.now.ports.ports port) }
 {
-    world.ports.attributes(port).is_some()
+    world.ports.contains(port)
 }
 
 // Where a port is marked.
@@ -138,6 +138,7 @@ fn needs_own(
 }
 
 // How many names of its own the right needs, behind the earlier ones: 1 or none.
+#[inline(always)]
 fn own_names(
     world: &World,
     space: &TaskNames<'_>,
