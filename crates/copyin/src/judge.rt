@@ -62,6 +62,7 @@ pub struct Plan {
 
 // Puts what a right leaves under its name over what stood there: one that is made from a right that
 // stays leaves just that.
+#[inline(always)]
 fn leave(
     touched: &mut Touched,
     given: Disposition,

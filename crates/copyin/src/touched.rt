@@ -63,6 +63,7 @@ impl Touched {
     }
 
     /// What stands under the name now.
+    #[inline(always)]
     pub(crate) fn standing(&self, space: &TaskNames<'_>, name: Name) -> Option<Entry>
         ensures { (now : Names) → Overlays self.now space.now.names now → result ≡ map.get now name }
     {

@@ -106,6 +106,7 @@ fn mark_port(marks: &mut [bool], port: PortId)
 
 // Whether the right needs a name of its own, behind the earlier ones. Each port that these name, and
 // the task doesn't, is marked, and so is the right's then.
+#[inline(always)]
 fn needs_own(
     world: &World,
     space: &TaskNames<'_>,
