@@ -12,3 +12,5 @@ mod Judged
 mod Readied
 mod Going
 mod Transferring
+mod Listed
+mod Bounding

@@ -4,3 +4,4 @@ pub mod Transfer
 pub mod Room
 pub mod Receive
 pub mod Wanted
+pub mod Bounds

@@ -1,17 +1,21 @@
 //! A kernel, and its steps.
-ghost use Rattle.std.specs.Prelude.{◌≡◌, ◌++◌, IfOk, IfErr, MatchBool};
+ghost use Rattle.std.specs.Prelude.{◌≡◌, ◌≤◌, ℕ, ◌++◌, IfOk, IfErr, MatchBool};
 ghost use Rattle.std.specs.Option.{option_to_list};
 ghost use Rattle.mach_types.specs.declared.codes.KernReturn.TheVariants as kern;
-ghost use Rattle.mach_types.specs.Numbers.{kern_number};
+ghost use Rattle.mach_types.specs.Numbers.{kern_number, most_bytes};
+ghost use Rattle.mach_types.specs.declared.calls.Reply.{Reply as AnyReply};
 ghost use Rattle.mach_model.specs.State.{State, opening};
+ghost use Rattle.mach_model.specs.Machine.{Step};
 ghost use Rattle.mach_model.specs.Refusals.{tasks_of};
 ghost use Rattle.mach_laws.specs.Queued.{unused};
 ghost use Rattle.copyin_base.specs.Acts.{AreTasks, HasTasks, Declines};
 ghost use Rattle.copyin_base.specs.Shows.{Shows};
 ghost use Rattle.copyin_base.specs.Stands.{Stands};
 ghost use Rattle.kernel_core.specs.Answers.{Answers};
+ghost use Rattle.kernel_core.specs.Bounds.{most_told, IsWithin};
 ghost use Rattle.kernel_core.specs.Wanted.{Wanted, Spares, Performs};
 
+use crate::bound;
 use crate::receive::{Buffer, receive, receive_again};
 use crate::send::send;
 use crate::settle::settle;
@@ -70,6 +74,20 @@ impl Kernel {
             alloc,
             world: World::new(alloc),
         }
+    }
+
+    /// How many bytes, names or members the reply to a call has at most now, 0 to 65,536.
+    ///
+    /// Bytes where the call receives: as many as it has room for, 65,536 at most. Names, or members of
+    /// a set, where it lists them: as many as the task has names. No other reply has any. No reply of
+    /// the call's step is longer: room for a copy of it can be made before the step. Takes no memory.
+    /// Constant time.
+    pub fn reply_bound(&self, event: &Event) -> usize
+        ensures most { result ≡ most_told self.now event.now }
+        ensures few { result ≤ most_bytes }
+        ensures within { (now : ℕ) (s t : State) (reply : AnyReply) → Shows self.now s → Step now s event.now reply t → IsWithin event.now result reply }
+    {
+        bound::most_told(&self.world, event)
     }
 
     /// Makes one call of a task, whole, and answers it.

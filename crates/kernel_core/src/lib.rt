@@ -7,6 +7,7 @@
 //! after it.
 #![tactic(auto)]
 
+mod bound;
 mod kernel;
 mod receive;
 mod runs;

@@ -1,6 +1,5 @@
 pub mod Lists
-pub mod Listed
-pub mod Bounds
+pub mod Answered
 pub mod Replaying
 pub mod Moves
 pub mod Berths

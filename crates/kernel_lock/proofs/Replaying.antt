@@ -7,13 +7,13 @@ use Rattle.mach_model.specs.State.{State, opening}
 use Rattle.mach_model.specs.Machine.{Step, Run}
 use Rattle.mach_model.proofs.Runs.{RunFrom-push}
 use Rattle.copyin_base.specs.Worlds.{WorldView}
+use Rattle.copyin_base.specs.Shows.{Shows}
 use Rattle.kernel_core.specs.Answers.{Answers}
+use Rattle.kernel_core.specs.Bounds.{IsWithin}
 use Rattle.kernel_lock.specs.declared.entry.Entry.{Entry}
 use Rattle.kernel_lock.specs.History.{events_of, replies_of, LeadsTo, Legal, entry}
-use Rattle.mach_model.proofs.StepLawful.{Run-lawful}
 use Rattle.kernel_lock.specs.Replays.{Replays}
-use Rattle.kernel_lock.specs.Room.{IsBounded}
-use Rattle.kernel_lock.proofs.Bounds.{bounded, answered}
+use Rattle.kernel_lock.proofs.Answered.{answered}
 
 -- the number of the step that comes next
 abbrev pub next : List Entry → ℕ
@@ -45,12 +45,14 @@ pub stores_legal : (log seen : List Entry) (old new : WorldView) (caller : ℕ) 
 stores_legal log seen old new caller event reply copy r answers same is =
     subst (λ (l : List Entry). Legal (l ++ entry caller event copy ∷ [])) (sym is) (legal_of _ new (stores log old new caller event reply copy r answers same))
 
-pub is_bounded : (log : List Entry) (old new : WorldView) (event : Event) (reply : Reply) → Replays log old → Answers old event reply new → IsBounded event reply
-is_bounded log old new event reply r answers =
+-- what is so of each reply to the event, by the states that the kernel shows, is so of its step's
+pub is_within : (log : List Entry) (old new : WorldView) (event : Event) (most : ℕ) (reply : Reply) → Replays log old → Answers old event reply new
+    → ((now : ℕ) (s t : State) (reply : Reply) → Shows old s → Step now s event reply t → IsWithin event most reply) → IsWithin event most reply
+is_within log old new event most reply r answers within =
     let a = answers (next log) r.state r.shown in
-    bounded (next log) r.state event reply a.0 (Run-lawful (events_of log) (replies_of log) r.state r.leads) a.1
+    within (next log) r.state a.0 reply r.shown a.1
 
 pub is_answered : (log : List Entry) (old new : WorldView) (event : Event) (reply : Reply) → Replays log old → Answers old event reply new → reply ≢ Reply.NoRecord
 is_answered log old new event reply r answers =
     let a = answers (next log) r.state r.shown in
-    answered (next log) r.state event reply a.0 (Run-lawful (events_of log) (replies_of log) r.state r.leads) a.1
+    answered (next log) r.state event reply a.0 a.1

@@ -1,5 +1,6 @@
 //! The kernel behind its lock, with its history.
 ghost use Rattle.std.specs.Prelude.{◌≡◌, ◌+◌, ◌<◌, ◌^◌, [], ◌∷◌, length, None, IfOk, slice_index_or, slice_set};
+ghost use Rattle.mach_types.specs.declared.calls.Reply.{Reply as AnyReply};
 ghost use Rattle.kernel_lock.specs.History.{Legal, StartsWith, Stepped, Called};
 ghost use Rattle.kernel_lock.specs.Replays.{Replays};
 
@@ -81,14 +82,16 @@ impl LockedKernel {
 
     /// Makes one call of the pass's caller, whole, and puts it at the end of the history as it was answered.
     ///
-    /// All growths come first: the entry's place, and room for a copy of whatever reply the event may have.
-    /// Where one is refused the answer is `NoRecord`, and nothing has happened. Waits for nobody.
+    /// All growths come first: the entry's place, and room for a copy of the reply, as much as
+    /// [`Kernel::reply_bound`] tells of the event. Where one is refused the answer is `NoRecord`, and
+    /// nothing has happened: the kernel, its history and the pass are as before. Waits for nobody.
     pub fn step_locked(&mut self, board: &Board, pass: &mut Pass, event: Event) -> Reply
         requires { (self.old.table ≡ board.now) × (pass.old.table ≡ board.now) }
         ensures tied { (self.new.table ≡ board.now) × (pass.new.table ≡ board.now) }
         ensures step { Stepped self.old.log self.new.log pass.old pass.new event result }
+        ensures unmade { result ≡ AnyReply.NoRecord → self.new ≡ self.old }
     {
-        let Ok(room) = Room::of(self.alloc, &event) else {
+        let Ok(room) = Room::of(self.alloc, &event, self.kernel.reply_bound(&event)) else {
             return Reply::NoRecord;
         };
         if self.history.reserve(1).is_err() {
@@ -195,6 +198,7 @@ impl<'a> Held<'a> {
         requires { (self.old.kernel.table ≡ board.now) × (pass.old.table ≡ board.now) }
         ensures tied { (self.new.kernel.table ≡ board.now) × (pass.new.table ≡ board.now) }
         ensures step { Stepped self.old.kernel.log self.new.kernel.log pass.old pass.new event result }
+        ensures unmade { result ≡ AnyReply.NoRecord → self.new.kernel ≡ self.old.kernel }
     {
         self.kernel.step_locked(board, pass, event)
     }

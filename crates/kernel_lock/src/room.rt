@@ -1,12 +1,10 @@
-//! Room for the copy of a reply, made before the step whose reply it is.
-//!
-//! It is as much as any reply to the event may need, whatever the kernel's state; what the reply leaves of
-//! it is given back.
+//! Room for the copy of a reply, made before the step whose reply it is: as much as that reply may need
+//! by the kernel's tables. What the reply leaves of it is given back.
 ghost use Rattle.std.specs.Prelude.{◌≡◌, [], IfOk};
 ghost use Rattle.mach_types.specs.declared.calls.Reply.{Reply};
-ghost use Rattle.kernel_lock.specs.Room.{bytes_bound, names_bound, members_bound, HasRoom, IsBounded};
+ghost use Rattle.kernel_core.specs.Bounds.{as_bytes, as_names, as_members, IsWithin};
+ghost use Rattle.kernel_lock.specs.Room.{HasRoom};
 
-use mach_types::limits::{MOST_BYTES, MOST_NAMES};
 use mach_types::{Bytes, Event, Name, NameList, NameTypes, Reply};
 use std::alloc::{AllocError, Global};
 
@@ -19,15 +17,15 @@ pub(crate) struct Room {
 }
 
 impl Room {
-    /// Room for a copy of whatever reply the event has.
-    pub(crate) fn of(alloc: Global, event: &Event) -> Result<Room, AllocError>
+    /// Room for a copy of each reply to the event that has no more than so many bytes, names or members.
+    pub(crate) fn of(alloc: Global, event: &Event, most: usize) -> Result<Room, AllocError>
         ensures empty { IfOk result (λ room. (room.bytes.items ≡ []) × (room.names.items ≡ []) × (room.members.items ≡ [])) }
-        ensures room { IfOk result (λ room. (reply : Reply) → IsBounded event.now reply → HasRoom room reply) }
+        ensures room { IfOk result (λ room. (reply : Reply) → IsWithin event.now most reply → HasRoom room reply) }
     {
         Ok(Room {
-            bytes: Vec::with_capacity(alloc, most_bytes(event))?,
-            names: Vec::with_capacity(alloc, most_names(event))?,
-            members: Vec::with_capacity(alloc, most_members(event))?,
+            bytes: Vec::with_capacity(alloc, as_bytes(event, most))?,
+            names: Vec::with_capacity(alloc, as_names(event, most))?,
+            members: Vec::with_capacity(alloc, as_members(event, most))?,
         })
     }
 
@@ -79,34 +77,32 @@ impl Room {
     }
 }
 
-/// The most bytes that a reply to the event has.
-fn most_bytes(event: &Event) -> usize
-    ensures { result ≡ bytes_bound event.now }
+/// Of so many, those that are bytes.
+fn as_bytes(event: &Event, most: usize) -> usize
+    ensures { result ≡ as_bytes event.now most }
 {
     match event {
-        Event::Receive(_, _, room, _) | Event::ReceiveAgain(_, _, room, _) => {
-            (*room as usize).min(MOST_BYTES)
-        }
+        Event::Receive(..) | Event::ReceiveAgain(..) => most,
         _ => 0,
     }
 }
 
-/// The most names.
-fn most_names(event: &Event) -> usize
-    ensures { result ≡ names_bound event.now }
+/// Those that are names.
+fn as_names(event: &Event, most: usize) -> usize
+    ensures { result ≡ as_names event.now most }
 {
     match event {
-        Event::Names(_) => MOST_NAMES,
+        Event::Names(_) => most,
         _ => 0,
     }
 }
 
-/// The most members.
-fn most_members(event: &Event) -> usize
-    ensures { result ≡ members_bound event.now }
+/// Those that are a set's members.
+fn as_members(event: &Event, most: usize) -> usize
+    ensures { result ≡ as_members event.now most }
 {
     match event {
-        Event::SetStatus(_, _) => MOST_NAMES,
+        Event::SetStatus(..) => most,
         _ => 0,
     }
 }

@@ -5,13 +5,13 @@ use Rattle.kernel_lock.specs.History.{StartsWith, calls_by, entry, CountsFit, Kn
 use Rattle.kernel_lock.specs.Replays.{Replays}
 use Rattle.kernel_lock.specs.Views.{desk_view, pass_view}
 use Rattle.kernel_lock.proofs.Lists.{calls_few, calls_own, one_more_call, stepped_of, extends}
-use Rattle.kernel_lock.proofs.Replaying.{stores, stores_legal, legal_of, is_bounded, is_answered}
+use Rattle.kernel_lock.proofs.Replaying.{stores, stores_legal, legal_of, is_within, is_answered}
 use Rattle.kernel_lock.proofs.lock.LockedKernel.step_locked.Goals as goal
 
 pub copy-requires-clause-room : goal.copy-requires-clause-room
 copy-requires-clause-room c =
     let k = c.self.inside in
-    c.in-Ok.ensures.room _ (is_bounded k.history.items k.kernel _ _ _ c.self.invariant.0 c.step-reply.ensures.answers)
+    c.in-Ok.ensures.room _ (is_within k.history.items k.kernel _ _ _ _ c.self.invariant.0 c.step-reply.ensures.answers c.reply_bound.ensures.within)
 
 pub publish-requires-clause-legal : goal.publish-requires-clause-legal
 publish-requires-clause-legal c =
@@ -106,3 +106,8 @@ returns-clause-step c =
     let old : v ≡ c.args.pass.now = (λ i. record { table = sym (ap (λ x. x.table) c.pass.view_is ∙ c.requires.1) i; caller = p.caller; seen = p.seat.me.0.seen }) ∙ c.pass.view_is in
     let new : w ≡ record { table = c.publish.new.pass.table_id; caller = p.caller; seen = c.publish.new.pass.me.0.seen } = λ i. record { table = sym told.pass.0 i; caller = p.caller; seen = c.publish.new.pass.me.0.seen } in
     subst (λ (x : List Entry × Known × Known). Stepped x.0 c.push.new.self.items x.1 x.2 c.args.event c.step-reply.result) (λ i. (ap (λ x. x.log) c.self.view_is i, old i, new i)) all
+
+pub returns-clause-unmade : goal.returns-clause-unmade
+returns-clause-unmade c =
+    let k = c.self.inside in
+    λ e. absurd (is_answered k.history.items k.kernel c.step-reply.new.self c.args.event c.step-reply.result c.self.invariant.0 c.step-reply.ensures.answers e)

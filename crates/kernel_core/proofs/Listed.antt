@@ -1,5 +1,5 @@
--- A task has no more names, and a set no more members, than a task may have names.
-use Rattle.std.proofs.Common.{◌≡◌, ◌⊎◌, ◌≤◌, ℕ, zero, suc, ◌<◌, Bool, true, false, ◌&&◌, T, List, [], ◌∷◌, length, refl, sym, ap, ◌∙◌, arith, inl, inr, map as list_map}
+-- A listing has no more names, and a set no more members, than the task has names.
+use Rattle.std.proofs.Common.{◌≡◌, ◌⊎◌, ◌≤◌, ℕ, zero, suc, ◌<◌, Bool, true, false, ◌&&◌, T, List, [], ◌∷◌, length, Option, Some, None, refl, sym, ap, ◌∙◌, arith, inl, inr, map as list_map}
 use Rattle.std.specs.Prelude.{AllPairs, All, Contains, is_some}
 use Rattle.std.specs.declared.cmp.Ordering.{Ordering}
 use Rattle.std.specs.declared.cmp.Ordering.TheVariants.{Less, Equal, Greater}
@@ -12,11 +12,14 @@ use Rattle.std.proofs.lemmas.List.Kept.{AllPairs-cons}
 use Rattle.std.proofs.lemmas.Map.Views.{Contains-from_any}
 use mathlib.Core.Logic.{dite}
 use native.Mathlib.Decide.{ℕ_discrete}
-use Rattle.mach_types.specs.Numbers.{most_names}
 use Rattle.mach_model.specs.State.{State}
 use Rattle.mach_model.specs.Names.{names_of}
 use Rattle.mach_model.specs.Sets.{TellsMembers}
-use Rattle.mach_model.specs.Lawful.{IsLawful}
+use Rattle.mach_model.specs.Tasks.{IsNoTask}
+use Rattle.name_space.specs.Names.{SpaceView}
+use Rattle.copyin_base.specs.Shows.{Shows}
+use Rattle.copyin_base.specs.Worlds.{WorldView, space_at}
+use Rattle.kernel_core.specs.Transfer.{names_in}
 
 -- ---- rising lists
 
@@ -125,19 +128,24 @@ mapped_len : {A B : Type 0} (f : A → B) (xs : List A) → length (list_map f x
 mapped_len f [] = refl
 mapped_len f (x ∷ xs) = ap suc (mapped_len f xs)
 
--- ---- names and members
+-- ---- names and members, of a task that lives
 
-pub names_few : (s : State) (task : ℕ) (names : List (ℕ × ℕ)) → IsLawful s → names ≡ names_of s task → length names ≤ most_names
-names_few s task names l is =
+names_are : (w : WorldView) (s : State) (task : ℕ) → Shows w s → ¬ (IsNoTask s task) → map.len (s.naming task) ≡ names_in (space_at w task)
+names_are w s task sh lives = go (space_at w task) refl
+  where
+    go : (o : Option SpaceView) → space_at w task ≡ o → map.len (s.naming task) ≡ names_in o
+    go (Some space) e = sym (sh.agrees.names_kept task space e)
+    go None e = absurd (lives (sym (sh.agrees.live_task task) ∙ ap is_some e))
+
+pub names_few : (w : WorldView) (s : State) (task : ℕ) (names : List (ℕ × ℕ)) → Shows w s → ¬ (IsNoTask s task) → names ≡ names_of s task → length names ≤ names_in (space_at w task)
+names_few w s task names sh lives is =
     let m = s.naming task in
-    let few = (l.naming task).few_names in
     let told = ap length is ∙ mapped_len _ (map.entries m) in
-    omega (arith, few, told, map.len-entries m)
+    omega (arith, told, map.len-entries m, names_are w s task sh lives)
 
-pub members_few : (s : State) (task name : ℕ) (members : List ℕ) → IsLawful s → TellsMembers s task name members → length members ≤ most_names
-members_few s task name members l tells =
+pub members_few : (w : WorldView) (s : State) (task name : ℕ) (members : List ℕ) → Shows w s → ¬ (IsNoTask s task) → TellsMembers s task name members → length members ≤ names_in (space_at w task)
+members_few w s task name members sh lives tells =
     let m = s.naming task in
-    let few = (l.naming task).few_names in
     let h = fewer members (map.keys m) tells.rising (keys_rise (map.entries m) (map.entries_sorted m))
     (λ n in_it. let p = (tells.each n).0 in_it in is_key m n (ap is_some p.1)) in
-    omega (arith, few, h, keys_len (map.entries m), map.len-entries m)
+    omega (arith, h, keys_len (map.entries m), map.len-entries m, names_are w s task sh lives)
