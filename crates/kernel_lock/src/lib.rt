@@ -19,3 +19,5 @@ pub use lock::{Held, LockedKernel, Pass, Shared};
 
 #[cfg(test)]
 mod tests;
+#[cfg(test)]
+mod thread_tests;
