@@ -1,8 +1,11 @@
 //! The kernel behind its lock, with its history.
 ghost use Rattle.std.specs.Prelude.{◌≡◌, ◌+◌, ◌<◌, ◌^◌, [], ◌∷◌, length, None, IfOk, slice_index_or, slice_set};
 ghost use Rattle.mach_types.specs.declared.calls.Reply.{Reply as AnyReply};
+ghost use Rattle.mach_model.specs.State.{opening};
+ghost use Rattle.copyin_base.specs.Shows.{Shows};
 ghost use Rattle.kernel_lock.specs.History.{Legal, StartsWith, Stepped, Called};
 ghost use Rattle.kernel_lock.specs.Replays.{Replays};
+ghost use Rattle.kernel_lock.specs.Views.{desk_view};
 
 use crate::berth::{Berth, Hand};
 use crate::board::{Board, Look, NewPass, NewWatch, Place, Tell, Watch};
@@ -72,6 +75,22 @@ impl Model for LockedKernel {
 }
 
 impl LockedKernel {
+    // A kernel in which nothing was made yet, with the empty history and no callers. Takes no memory.
+    fn new(alloc: Global, seat: Place) -> LockedKernel
+        requires { seat.me ≡ (desk_view [] 0, []) }
+        ensures tied { result.table ≡ seat.table_id }
+        ensures empty { result.log ≡ [] }
+        ensures opening { Shows result.kernel opening }
+    {
+        LockedKernel {
+            alloc,
+            kernel: Kernel::new(alloc),
+            history: Vec::new(alloc),
+            counts: Vec::new(alloc),
+            seat,
+        }
+    }
+
     /// The stored history, oldest entry first. It is a run to a state that the kernel shows. Constant time.
     pub fn entries(&self) -> &[Entry]
         ensures stored { result.now ≡ self.now.log }
@@ -224,14 +243,7 @@ impl Shared {
     pub fn new(alloc: Global) -> Result<Shared, AllocError> {
         let (board, desk) = Board::open(alloc)?;
         let key = Snapshot::of(&desk);
-        let kernel = LockedKernel {
-            alloc,
-            kernel: Kernel::new(alloc),
-            history: Vec::new(alloc),
-            counts: Vec::new(alloc),
-            seat: desk,
-        };
-        let berth = Berth::new(alloc, &key, kernel)?;
+        let berth = Berth::new(alloc, &key, LockedKernel::new(alloc, desk))?;
         Ok(Shared {
             gate: Mutex::new(()),
             berth,
