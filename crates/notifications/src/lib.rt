@@ -1,0 +1,26 @@
+//! Notices are posted.
+//!
+//! [`post`] puts a notice into its port's queue. `specs/SoFar` says what the tables are while a step ends,
+//! between two of the turns of `mach_model`.
+#![tactic(auto)]
+
+ghost use Rattle.copyin_base.specs.Shows.{SlotsSuffice};
+ghost use Rattle.notifications.specs.Posting.{CanPost, Posts};
+
+use copyin_base::{Notice, Queued, World};
+use mach_types::PortId;
+
+/// Puts the notice at the end of the port's queue, in a spare slot. A send-once right for the port, which
+/// no queued message went by, pays for it: it is now one that a queued message goes by.
+///
+/// Takes no memory and cannot fail. Constant time.
+pub fn post(world: &mut World, port: PortId, notice: Notice)
+    requires { CanPost world.old port }
+    ensures posts { Posts world.old port notice world.new }
+    ensures slots { SlotsSuffice world.new }
+{
+    // So it is seen that a slot is spare.
+    let _ = world.ledger.unused();
+    world.ports.enqueue(port, Queued::told(notice));
+    world.ledger.shift(port);
+}
