@@ -74,6 +74,12 @@ abbrev pub Receives : (task name room : ℕ) (large once : Bool) → Known → R
 Receives task name room large once v reply w =
     Called v w (Event.Receive task name room large) reply ⊎ ((once ≡ false) × ReceivesLater task name room large v reply w)
 
+-- how many bytes a call may receive
+abbrev pub most_received : Event → ℕ
+most_received (Event.Receive task name room large) = min room most_bytes
+most_received (Event.ReceiveAgain task waited room large) = min room most_bytes
+most_received event = 0
+
 -- what a receive's reply comes to; a try that isn't recorded found no memory
 abbrev pub received_code : Reply → ℕ
 received_code (Reply.Message bytes) = 0

@@ -1,6 +1,6 @@
 //! The message call.
 ghost use Rattle.std.specs.Prelude.{◌≡◌, ◌≤◌, ◌<◌, ◌^◌, length, IfSome, IfNone};
-ghost use Rattle.kernel_lock.specs.Room.{reply_bytes};
+ghost use Rattle.kernel_core.specs.Bounds.{reply_bytes};
 ghost use Rattle.mach_msg_threads.specs.Tries.{received_code, received_length, received_into, AreOptions, AsksFor, MessageCall};
 
 use crate::gate::Gate;

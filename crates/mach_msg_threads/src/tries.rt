@@ -1,10 +1,10 @@
 //! A part of a message call: tries of the same, one after another.
 ghost use Rattle.std.specs.Prelude.{◌≡◌, ◌≤◌, ◌↔◌, min, IfOk, IsTrue};
 ghost use Rattle.mach_types.specs.Numbers.{most_bytes};
-ghost use Rattle.kernel_lock.specs.Room.{reply_bytes, bytes_bound};
+ghost use Rattle.kernel_core.specs.Bounds.{reply_bytes};
 ghost use Rattle.mach_types.specs.declared.calls.Event.{Event};
 ghost use Rattle.kernel_lock.specs.History.{Called};
-ghost use Rattle.mach_msg_threads.specs.Tries.{SendPart, Receives, TriesAgain, IsFull, sent_code, waited_in};
+ghost use Rattle.mach_msg_threads.specs.Tries.{SendPart, Receives, TriesAgain, IsFull, most_received, sent_code, waited_in};
 
 use crate::gate::{Gate, is_change};
 use kernel_lock::{Pass, Shared};
@@ -98,7 +98,7 @@ fn attempt<G: Gate, R: Wait>(
     requires { pass.old.table ≡ shared.now }
     ensures tied { pass.new.table ≡ shared.now }
     ensures call { Called pass.old pass.new event result }
-    ensures bytes { reply_bytes result ≤ bytes_bound event }
+    ensures bytes { reply_bytes result ≤ most_received event }
 {
     let reply = shared.call(rt, pass, event);
     gate.stepped(is_change(&reply));
