@@ -24,11 +24,10 @@ pub struct Outcome {
 /// Sends and receives (IPC Interface, `mach_msg`), waiting as long as the gate says so.
 ///
 /// With `SEND_MSG` the bytes are sent, and nothing is received unless that was done. A queue that is full is
-/// tried again, but for `SEND_TIMEOUT`. With `RCV_MSG` a message is received into the buffer; of one that is
-/// longer than 65,536 bytes only those count. Where there is none it is tried again, but for `RCV_TIMEOUT`,
-/// from what the name stood for at the first try. Ahead of each try that is made again the gate is asked, and
-/// it is told of each call. What lies in the buffer behind the message stays, and all of it where none was
-/// received.
+/// tried again, but for `SEND_TIMEOUT`. With `RCV_MSG` a message is received into the buffer, of which no more
+/// than 65,536 bytes count. Where there is no message it is tried again, but for `RCV_TIMEOUT`, from what the
+/// name stood for at the first try. Ahead of each try that is made again the gate is asked, and it is told of
+/// each call. What lies in the buffer behind the message stays, and all of it where none was received.
 ///
 /// `KERN_INVALID_ARGUMENT` where an option is set that isn't one of the five, with no try; with neither
 /// `SEND_MSG` nor `RCV_MSG` all is done. Any other code is that of a send or of a receive.
