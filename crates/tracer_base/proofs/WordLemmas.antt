@@ -93,17 +93,14 @@ Lacks-line byte (word ∷ next ∷ others) low plain =
     (All-cons (λ other. other ≢ byte) 32 (line (next ∷ others)) (λ same. omega (arith, same))
     (Lacks-line byte (next ∷ others) low (All-tail IsWord word (next ∷ others) plain)))
 
--- a keyword and arguments that were read as the words of a text are its line
-pub line_read : (word keyword text : List ℕ) (arguments left behind : List (List ℕ)) → keyword ∷ behind ≡ words text → word ≡ keyword → arguments ++ left ≡ behind → left ≡ [] → line (word ∷ arguments) ≡ text
-line_read word keyword text arguments left behind split same read none =
-    let all : word ∷ arguments ≡ words text = ap (λ w. w ∷ arguments) same ∙ ap (λ rest. keyword ∷ rest) (sym (append-nil arguments) ∙ ap (λ rest. arguments ++ rest) (sym none) ∙ read) ∙ split in
-    ap line all ∙ line-words text
+-- words that were read as all the words of a text are its line's
+pub line_of_words : (read left : List (List ℕ)) (text : List ℕ) → read ++ left ≡ words text → left ≡ [] → line read ≡ text
+line_of_words read left text split none =
+    ap line (sym (append-nil read) ∙ ap (λ rest. read ++ rest) (sym none) ∙ split) ∙ line-words text
 
--- the words of the line of a keyword and arguments are these
-pub line_parts : (word keyword text : List ℕ) (arguments behind : List (List ℕ)) → All IsWord (word ∷ arguments) → line (word ∷ arguments) ≡ text → keyword ∷ behind ≡ words text → (word ≡ keyword) × (arguments ≡ behind)
-line_parts word keyword text arguments behind plain same split =
-    let all : word ∷ arguments ≡ keyword ∷ behind = sym (words-line word arguments plain) ∙ ap words same ∙ sym split in
-    (cc, cc)
+-- the first words of two equal lists are one, and so are those behind them
+pub first_word : (word keyword : List ℕ) (others behind : List (List ℕ)) → word ∷ others ≡ keyword ∷ behind → (word ≡ keyword) × (others ≡ behind)
+first_word word keyword others behind same = (cc, cc)
 
 -- where texts of values are left to read, they begin with the text of a value
 pub next_of : {X : Type 0} (f : X → List ℕ) (P : X → Type 0) (done all : List X) (left : List (List ℕ)) → All P all → map f done ++ left ≡ map f all → (left ≡ [] → ⊥)

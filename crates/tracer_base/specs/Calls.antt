@@ -60,8 +60,11 @@ call_arguments (Send task bytes) = decimal task ∷ bytes_text bytes ∷ []
 call_arguments (Receive task name room large) = decimal task ∷ decimal name ∷ decimal room ∷ flag_text large ∷ []
 call_arguments (ReceiveAgain task waited room large) = decimal task ∷ (waited_words waited ++ decimal room ∷ flag_text large ∷ [])
 
+abbrev pub call_words : Event → List (List ℕ)
+call_words event = call_word event ∷ call_arguments event
+
 abbrev pub call_text : Event → List ℕ
-call_text event = line (call_word event ∷ call_arguments event)
+call_text event = line (call_words event)
 
 -- its numbers fit 32 bits, a delta with its sign and an identity 64, and its bytes are bytes; no line has yet a call that ends a task or asks for a notice
 abbrev pub Fits : Event → Type 0

@@ -50,8 +50,11 @@ reply_arguments (Empty waited) = waited_words waited
 reply_arguments (TooLarge length_of) = decimal length_of ∷ []
 reply_arguments NoRecord = []
 
+abbrev pub reply_words : Reply → List (List ℕ)
+reply_words reply = reply_word reply ∷ reply_arguments reply
+
 abbrev pub reply_text : Reply → List ℕ
-reply_text reply = line (reply_word reply ∷ reply_arguments reply)
+reply_text reply = line (reply_words reply)
 
 -- a line of what a script is answered: a reply, and a line feed
 abbrev pub reply_line : Reply → List ℕ

@@ -3,7 +3,7 @@ ghost use Rattle.std.specs.Prelude.{◌≡◌, ◌<◌, ◌^◌, ℕ, ℤ, Bool,
 ghost use Rattle.std.specs.Fmt.{signed_decimal};
 ghost use Rattle.std.specs.Io.KnownBytes.{Appends};
 ghost use Rattle.mach_types.specs.declared.calls.Event.{Event as AnyEvent};
-ghost use Rattle.tracer_base.specs.Calls.{Fits, call_word, call_arguments, call_text};
+ghost use Rattle.tracer_base.specs.Calls.{Fits, call_word, call_arguments, call_words, call_text};
 ghost use Rattle.mach_types.specs.declared.calls.Waited.{Waited as AnyWaited};
 ghost use Rattle.tracer_base.specs.Numbers.{FitsDelta};
 ghost use Rattle.tracer_base.specs.Text.{bytes_text, flag_text, waited_words, FitsWaited};
@@ -28,10 +28,20 @@ pub fn read_call(alloc: Global, text: &[u8]) -> Result<Event, TextFault>
     ensures each { (event : AnyEvent) → Fits event → call_text event ≡ text.now → IsOkUnless result TextFault.OutOfMemory }
 {
     let mut words = Words::of(text);
-    let keyword = words.keyword()?;
-    let event = read_arguments(alloc, keyword, &mut words)?;
+    let event = next_call(alloc, &mut words)?;
     words.end()?;
     Ok(event)
+}
+
+/// The call that the next words say: the call's keyword, and its arguments. Faults and cost are as for
+/// [`read_call`].
+pub fn next_call(alloc: Global, words: &mut Words<'_>) -> Result<Event, TextFault>
+    ensures ok { IfOk result (λ event. call_words event ++ words.new ≡ words.old) }
+    ensures fits { IfOk result Fits }
+    ensures read { (event : AnyEvent) (behind : List (List ℕ)) → Fits event → call_words event ++ behind ≡ words.old → IsRead result words.new behind }
+{
+    let keyword = words.keyword()?;
+    read_arguments(alloc, keyword, words)
 }
 
 /// The call of this keyword, with its arguments from `words`. Faults are as for [`read_call`].

@@ -12,8 +12,8 @@ mod replies;
 mod script;
 mod words;
 
-pub use calls::{read_call, write_call};
+pub use calls::{next_call, read_call, write_call};
 pub use fault::TextFault;
-pub use replies::{read_reply, write_reply, write_reply_line};
+pub use replies::{next_reply, read_reply, write_reply, write_reply_line};
 pub use script::{ScriptFault, read_script};
-pub use words::split_once;
+pub use words::{Words, split_once};

@@ -4,7 +4,7 @@ ghost use Rattle.std.specs.Io.KnownBytes.{Appends};
 ghost use Rattle.mach_types.specs.declared.calls.Reply.{Reply as AnyReply};
 ghost use Rattle.mach_types.specs.declared.calls.Status.{Status as AnyStatus};
 ghost use Rattle.mach_types.specs.declared.calls.Waited.{Waited as AnyWaited};
-ghost use Rattle.tracer_base.specs.Replies.{typed_name_text, status_words, reply_word, reply_arguments, reply_text, reply_line, FitsReply, FitsStatus, FitsTypedName};
+ghost use Rattle.tracer_base.specs.Replies.{typed_name_text, status_words, reply_word, reply_arguments, reply_words, reply_text, reply_line, FitsReply, FitsStatus, FitsTypedName};
 ghost use Rattle.tracer_base.specs.Text.{code_text, waited_words, FitsWaited};
 ghost use Rattle.tracer_base.specs.Words.{IsRead};
 
@@ -22,19 +22,31 @@ use std::io::Write;
 /// refused. Time and memory grow with the length of the text.
 pub fn read_reply(alloc: Global, text: &[u8]) -> Result<Reply, TextFault>
     ensures ok { IfOk result (λ reply. reply_text reply ≡ text.now) }
+    ensures fits { IfOk result FitsReply }
     ensures each { (reply : AnyReply) → FitsReply reply → reply_text reply ≡ text.now → IsOkUnless result TextFault.OutOfMemory }
 {
     let mut words = Words::of(text);
-    let keyword = words.keyword()?;
-    let reply = read_answer(alloc, keyword, &mut words)?;
+    let reply = next_reply(alloc, &mut words)?;
     words.end()?;
     Ok(reply)
+}
+
+/// The reply that the next words say: the reply's keyword, and what it answers. Faults and cost are as for
+/// [`read_reply`].
+pub fn next_reply(alloc: Global, words: &mut Words<'_>) -> Result<Reply, TextFault>
+    ensures ok { IfOk result (λ reply. reply_words reply ++ words.new ≡ words.old) }
+    ensures fits { IfOk result FitsReply }
+    ensures read { (reply : AnyReply) → FitsReply reply → reply_words reply ≡ words.old → IsRead result words.new [] }
+{
+    let keyword = words.keyword()?;
+    read_answer(alloc, keyword, words)
 }
 
 /// The reply of this keyword, with what it answers from `words`. Faults are as for [`read_reply`].
 fn read_answer(alloc: Global, keyword: &str, words: &mut Words<'_>) -> Result<Reply, TextFault>
     ensures word { IfOk result (λ reply. reply_word reply ≡ keyword.now) }
     ensures arguments { IfOk result (λ reply. reply_arguments reply ++ words.new ≡ words.old) }
+    ensures fits { IfOk result FitsReply }
     ensures read { (reply : AnyReply) → FitsReply reply → reply_word reply ≡ keyword.now → reply_arguments reply ≡ words.old → IsRead result words.new [] }
 {
     match keyword {
@@ -60,6 +72,7 @@ fn read_answer(alloc: Global, keyword: &str, words: &mut Words<'_>) -> Result<Re
 fn read_names(alloc: Global, words: &mut Words<'_>) -> Result<Reply, TextFault>
     ensures word { IfOk result (λ reply. reply_word reply ≡ codes "names") }
     ensures arguments { IfOk result (λ reply. reply_arguments reply ++ words.new ≡ words.old) }
+    ensures fits { IfOk result FitsReply }
     ensures read { (names : List (ℕ × ℕ)) → All FitsTypedName names → map typed_name_text names ≡ words.old → IsRead result words.new [] }
 {
     let mut names = Vec::new(alloc);
@@ -74,6 +87,7 @@ fn read_names(alloc: Global, words: &mut Words<'_>) -> Result<Reply, TextFault>
 fn read_members(alloc: Global, words: &mut Words<'_>) -> Result<Reply, TextFault>
     ensures word { IfOk result (λ reply. reply_word reply ≡ codes "members") }
     ensures arguments { IfOk result (λ reply. reply_arguments reply ++ words.new ≡ words.old) }
+    ensures fits { IfOk result FitsReply }
     ensures read { (names : List ℕ) → All (λ name. name < 2 ^ 32) names → map decimal names ≡ words.old → IsRead result words.new [] }
 {
     let mut names = Vec::new(alloc);
@@ -88,6 +102,7 @@ fn read_members(alloc: Global, words: &mut Words<'_>) -> Result<Reply, TextFault
 fn read_right(words: &mut Words<'_>) -> Result<Reply, TextFault>
     ensures word { IfOk result (λ reply. reply_word reply ≡ codes "right") }
     ensures arguments { IfOk result (λ reply. reply_arguments reply ++ words.new ≡ words.old) }
+    ensures fits { IfOk result FitsReply }
     ensures read { (name kind : ℕ) → name < 2 ^ 32 → kind < 2 ^ 8 → decimal name ∷ decimal kind ∷ [] ≡ words.old → IsRead result words.new [] }
 {
     Ok(Reply::Right(words.name()?, words.small_number()?))
@@ -97,6 +112,7 @@ fn read_right(words: &mut Words<'_>) -> Result<Reply, TextFault>
 fn read_empty(words: &mut Words<'_>) -> Result<Reply, TextFault>
     ensures word { IfOk result (λ reply. reply_word reply ≡ codes "empty") }
     ensures arguments { IfOk result (λ reply. reply_arguments reply ++ words.new ≡ words.old) }
+    ensures fits { IfOk result FitsReply }
     ensures read { (waited : AnyWaited) → FitsWaited waited → waited_words waited ≡ words.old → IsRead result words.new [] }
 {
     Ok(Reply::Empty(words.waited()?))
@@ -106,6 +122,7 @@ fn read_empty(words: &mut Words<'_>) -> Result<Reply, TextFault>
 fn read_status(words: &mut Words<'_>) -> Result<Reply, TextFault>
     ensures word { IfOk result (λ reply. reply_word reply ≡ codes "status") }
     ensures arguments { IfOk result (λ reply. reply_arguments reply ++ words.new ≡ words.old) }
+    ensures fits { IfOk result FitsReply }
     ensures read { (status : AnyStatus) → FitsStatus status → status_words status ≡ words.old → IsRead result words.new [] }
 {
     let [set, sequence, make_send] = three_numbers(words)?;
@@ -127,6 +144,7 @@ fn read_status(words: &mut Words<'_>) -> Result<Reply, TextFault>
 /// The next three words as numbers of 32 bits.
 fn three_numbers(words: &mut Words<'_>) -> Result<[u32; 3], TextFault>
     ensures ok { IfOk result (λ read. map decimal read ++ words.new ≡ words.old) }
+    ensures fits { IfOk result (All (λ number. number < 2 ^ 32)) }
     ensures read { (a b c : ℕ) (behind : List (List ℕ)) → a < 2 ^ 32 → b < 2 ^ 32 → c < 2 ^ 32
         → decimal a ∷ decimal b ∷ decimal c ∷ behind ≡ words.old → IsRead result words.new behind }
 {

@@ -104,6 +104,7 @@ impl<'a> Words<'a> {
     /// The next word as a decimal number of 8 bits.
     pub fn small_number(&mut self) -> Result<u8, TextFault>
         ensures ok { IfOk result (λ number. decimal number ∷ self.new ≡ self.old) }
+        ensures fits { IfOk result (λ number. number < 2 ^ 8) }
         ensures read { (number : ℕ) (behind : List (List ℕ)) → number < 2 ^ 8 → decimal number ∷ behind ≡ self.old
             → IsRead result self.new behind }
     {
@@ -174,7 +175,7 @@ impl<'a> Words<'a> {
     }
 
     /// The next word as a decimal number of 64 bits.
-    fn identity(&mut self) -> Result<u64, TextFault>
+    pub fn identity(&mut self) -> Result<u64, TextFault>
         ensures ok { IfOk result (λ number. decimal number ∷ self.new ≡ self.old) }
         ensures fits { IfOk result (λ number. number < 2 ^ 64) }
         ensures read { (number : ℕ) (behind : List (List ℕ)) → number < 2 ^ 64 → decimal number ∷ behind ≡ self.old
@@ -213,6 +214,7 @@ impl<'a> Words<'a> {
     /// The next word as a code or a type, eight hexadecimal digits.
     pub fn code(&mut self) -> Result<u32, TextFault>
         ensures ok { IfOk result (λ code. code_text code ∷ self.new ≡ self.old) }
+        ensures fits { IfOk result (λ code. code < 2 ^ 32) }
         ensures read { (code : ℕ) (behind : List (List ℕ)) → code < 2 ^ 32 → code_text code ∷ behind ≡ self.old
             → IsRead result self.new behind }
     {
@@ -222,6 +224,7 @@ impl<'a> Words<'a> {
     /// The next word as a name, a colon and the name's type.
     pub fn typed_name(&mut self) -> Result<(Name, u32), TextFault>
         ensures ok { IfOk result (λ entry. typed_name_text entry ∷ self.new ≡ self.old) }
+        ensures fits { IfOk result FitsTypedName }
         ensures read { (entry : ℕ × ℕ) (behind : List (List ℕ)) → FitsTypedName entry → typed_name_text entry ∷ behind ≡ self.old
             → IsRead result self.new behind }
     {
@@ -242,6 +245,7 @@ impl<'a> Words<'a> {
 /// The name and its type that the text spells, with a colon between them.
 fn parse_typed_name(text: &[u8]) -> Option<(Name, u32)>
     ensures spelled { IfSome result (λ entry. typed_name_text entry ≡ text.now) }
+    ensures fits { IfSome result FitsTypedName }
     ensures each { (entry : ℕ × ℕ) → FitsTypedName entry → typed_name_text entry ≡ text.now → IsSome result }
 {
     let (name, bits) = split_once(text, b':')?;
