@@ -1,0 +1,85 @@
+-- The lines of entries.
+use Rattle.std.proofs.Common.{codes, ◌≡◌, ◌≢◌, ℕ, ◌<◌, List, [], ◌∷◌, ◌++◌, All, refl, sym, ◌∙◌, arith, decimal, append_assoc, ap, flat_map, length, take, get_or, ◌+◌}
+use Rattle.std.proofs.lemmas.List.{take_more}
+use Rattle.std.proofs.lemmas.List.Elements.{All-append, All-head, All-tail}
+use Rattle.kernel_lock.specs.declared.entry.Entry.{Entry}
+use Rattle.tracer_base.specs.Calls.{call_words, call_text}
+use Rattle.tracer_base.specs.Replies.{reply_words, reply_text}
+use Rattle.tracer_base.specs.Words.{line, words, Lacks, IsWord}
+use Rattle.tracer_base.proofs.NumberLemmas.{IsWord-decimal}
+use Rattle.tracer_base.proofs.WordLemmas.{IsWord-plain, words-line, Lacks-line, same_parts, parted-lacks, texts_push}
+use Rattle.tracer_base.proofs.CallLemmas.{before, plain-call}
+use Rattle.tracer_base.proofs.ReplyLemmas.{plain-reply}
+use Rattle.tracer.specs.declared.histories.HistoryFault.{HistoryFault}
+use Rattle.tracer.specs.declared.histories.HistoryFault.TheVariants.{BadLine, Memory}
+use Rattle.tracer.specs.Histories.{heading, entry_words, entry_text, entry_line, history_text, FitsLine, StartsNoEntry}
+
+plain-entry : (e : Entry) → FitsLine e → All IsWord (entry_words e)
+plain-entry e fits =
+    before (decimal e.caller) (call_words e.event ++ codes "->" ∷ reply_words e.reply) (IsWord-decimal e.caller fits.caller)
+    (All-append IsWord (call_words e.event) (codes "->" ∷ reply_words e.reply) (plain-call e.event fits.call)
+    (before (codes "->") (reply_words e.reply) (IsWord-plain (codes "->") refl) (plain-reply e.reply fits.reply)))
+
+-- the words of an entry's text are the entry's
+pub words-entry : (e : Entry) → FitsLine e → words (entry_text e) ≡ entry_words e
+words-entry e fits = words-line (decimal e.caller) (call_words e.event ++ codes "->" ∷ reply_words e.reply) (plain-entry e fits)
+
+Lacks-entry_text : (e : Entry) → FitsLine e → Lacks 10 (entry_text e)
+Lacks-entry_text e fits = Lacks-line 10 (entry_words e) (omega arith) (plain-entry e fits)
+
+-- where an entry's line begins a text, the text's first line is the entry's text
+pub first_text : (e : Entry) (rest text line others : List ℕ) → FitsLine e → entry_line e ++ rest ≡ text → Lacks 10 line → line ++ 10 ∷ others ≡ text → entry_text e ≡ line
+first_text e rest text line others fits same lacks whole =
+    let parts = same_parts 10 (entry_text e) line rest others (Lacks-entry_text e fits) lacks (sym (append_assoc (entry_text e) (10 ∷ []) rest) ∙ same ∙ sym whole) in
+    parts.0
+
+-- no entry's line begins a text without a line feed
+pub no_line : (e : Entry) (rest text : List ℕ) → entry_line e ++ rest ≡ text → Lacks 10 text → ⊥
+no_line e rest text same lacks = parted-lacks 10 (entry_text e) rest text (sym (append_assoc (entry_text e) (10 ∷ []) rest) ∙ same) lacks
+
+-- the line of an entry at the front of a text is told from what is behind it
+one_line : (e other : Entry) (rest behind : List ℕ) → FitsLine e → FitsLine other → entry_line e ++ rest ≡ entry_line other ++ behind → rest ≡ behind
+one_line e other rest behind fits fits_too same =
+    let parts = same_parts 10 (entry_text e) (entry_text other) rest behind (Lacks-entry_text e fits) (Lacks-entry_text other fits_too)
+    (sym (append_assoc (entry_text e) (10 ∷ []) rest) ∙ same ∙ append_assoc (entry_text other) (10 ∷ []) behind) in
+    parts.1
+
+-- a text with a line feed in it is not empty
+some_line : (text rest : List ℕ) → text ++ 10 ∷ rest ≡ [] → ⊥
+some_line [] rest none = absurd cc
+some_line (byte ∷ text) rest none = absurd cc
+
+-- what is left of the lines of entries, when some are read, begins with the line of an entry
+pub next_line : (done all : List Entry) (rest : List ℕ) → All FitsLine done → All FitsLine all → flat_map entry_line done ++ rest ≡ flat_map entry_line all → rest ≢ [] → StartsNoEntry rest → ⊥
+next_line [] [] rest fit fit_all same some bad = some same
+next_line [] (e ∷ all) rest fit fit_all same some bad = bad e (flat_map entry_line all) (All-head FitsLine e all fit_all) (sym same)
+next_line (e ∷ done) [] rest fit fit_all same some bad =
+    let rest_of = flat_map entry_line done ++ rest in
+    some_line (entry_text e) rest_of (sym (append_assoc (entry_text e) (10 ∷ []) rest_of) ∙ sym (append_assoc (entry_line e) (flat_map entry_line done) rest) ∙ same)
+next_line (e ∷ done) (other ∷ all) rest fit fit_all same some bad =
+    let left = one_line e other (flat_map entry_line done ++ rest) (flat_map entry_line all) (All-head FitsLine e done fit) (All-head FitsLine other all fit_all)
+    (sym (append_assoc (entry_line e) (flat_map entry_line done) rest) ∙ same) in
+    next_line done all rest (All-tail FitsLine e done fit) (All-tail FitsLine other all fit_all) left some bad
+
+-- what stands behind the heading is told by the whole text
+pub behind : (rest other : List ℕ) → heading ++ rest ≡ heading ++ other → rest ≡ other
+behind rest other same = cc
+
+-- a fault that names no line is want of memory
+pub memory : (fault : HistoryFault) → ((n : ℕ) → fault ≢ BadLine n) → fault ≡ Memory
+memory (BadLine n) bad = absurd (bad n refl)
+memory Memory bad = refl
+
+-- one more entry's line behind those of the entries before it
+pub history_push : (entries : List Entry) (e : Entry) → history_text (entries ++ e ∷ []) ≡ history_text entries ++ entry_line e
+history_push entries e = ap (λ lines. heading ++ lines) (texts_push entry_line entries e)
+
+-- the same, of the entries up to a place
+pub history_more : (entries : List Entry) (i : ℕ) (e : Entry) → i < length entries → get_or entries i e ≡ e → history_text (take (i + 1) entries) ≡ history_text (take i entries) ++ entry_line e
+history_more entries i e low here =
+    ap history_text (take_more entries i e low) ∙ ap (λ (x : Entry). history_text (take i entries ++ x ∷ [])) here ∙ history_push (take i entries) e
+
+-- one more entry is read
+pub reads_more : (entries : List Entry) (e : Entry) (rest others text : List ℕ) → history_text entries ++ rest ≡ text → entry_line e ++ others ≡ rest → history_text (entries ++ e ∷ []) ++ others ≡ text
+reads_more entries e rest others text so_far next =
+    ap (λ t. t ++ others) (history_push entries e) ∙ append_assoc (history_text entries) (entry_line e) others ∙ ap (λ t. history_text entries ++ t) next ∙ so_far

@@ -1,0 +1,13 @@
+use Rattle.std.proofs.Common.{rules, ◌≡◌, ◌∷◌, ◌++◌}
+use Rattle.tracer_base.specs.Words.{Lacks}
+use Rattle.tracer.proofs.EntryLemmas.{first_text}
+use Rattle.tracer.proofs.lines.first_line.Goals as goal
+
+pub returns-in_err-read_entry-clause-bad : goal.returns-in_err-read_entry-clause-bad
+returns-in_err-read_entry-clause-bad c =
+    λ told entry rest fits whole.
+    let parted : c.in-Some.line.now ++ 10 ∷ c.in-Some.rest.now ≡ c.args.text.now = search rules in
+    let lacks : Lacks 10 c.in-Some.line.now = search rules in
+    let own = first_text entry rest c.args.text.now c.in-Some.line.now c.in-Some.rest.now fits whole lacks parted in
+    let kept = c.read_entry.ensures.each entry fits own in
+    absurd (search (rules, told, kept))
