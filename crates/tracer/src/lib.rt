@@ -12,3 +12,6 @@ mod lines;
 pub use histories::{History, HistoryFault, behind_heading, read_history, write_history};
 pub use levels::level;
 pub use lines::{first_line, line};
+
+#[cfg(test)]
+mod tests;
