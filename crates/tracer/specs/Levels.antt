@@ -1,5 +1,5 @@
 -- How much the entries of a history matter.
-use Rattle.std.specs.Prelude.{ℕ, ◌==◌, if◌then◌else◌}
+use Rattle.std.specs.Prelude.{◌==◌, if◌then◌else◌}
 use Rattle.log.specs.declared.level.Level.{Level}
 use Rattle.log.specs.declared.level.Level.TheVariants.{Warn, Info}
 use Rattle.mach_types.specs.declared.calls.Reply.{Reply}

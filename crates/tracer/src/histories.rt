@@ -92,6 +92,7 @@ pub fn read_history(alloc: Global, text: &[u8]) -> Result<History, HistoryFault>
     ensures fits { IfOk result (All FitsLine) }
     ensures ok { IfOk result (λ history. history_text history ≡ text.now) }
     ensures each { (entries : List AnyEntry) → All FitsLine entries → history_text entries ≡ text.now → IsOkUnless result Memory }
+    ensures same { (entries : List AnyEntry) → All FitsLine entries → history_text entries ≡ text.now → IfOk result (λ history. history ≡ entries) }
     ensures bad { (n : ℕ) → result ≡ Err (HistoryFault.BadLine n) → IsFirstBadLine text.now n }
 {
     let Some(mut rest) = behind_heading(text) else {

@@ -36,6 +36,7 @@ pub fn line<W: Write>(entry: &Entry, out: &mut W) -> io::Result<()>
 pub fn first_line(alloc: Global, text: &[u8]) -> Result<(Entry, &[u8]), TextFault>
     ensures fits { IfOk result (λ read. FitsLine read.0) }
     ensures ok { IfOk result (λ read. entry_line read.0 ++ read.1.now ≡ text.now) }
+    ensures same { (entry : AnyEntry) (rest : List ℕ) → FitsLine entry → entry_line entry ++ rest ≡ text.now → IfOk result (λ read. (read.0 ≡ entry) × (read.1.now ≡ rest)) }
     ensures bad { result ≡ Err TextFault.Bad → StartsNoEntry text.now }
 {
     let Some((line, rest)) = split_once(text, b'\n') else {

@@ -98,7 +98,7 @@ first_byte [] rest small same some = absurd (some (sym same))
 first_byte (byte ∷ others) rest small same some = (byte, hex_digits others, small 0 0 (omega arith), same)
 
 -- the bytes of a code
-bytes_of_code : (code : ℕ) → All (λ byte. byte < 256) (to_be_bytes w32 code)
+pub bytes_of_code : (code : ℕ) → All (λ byte. byte < 256) (to_be_bytes w32 code)
 bytes_of_code code = search (rules, All-cons, All-nil, arith)
 
 small_at : (bytes : List ℕ) (i : ℕ) → All (λ byte. byte < 256) bytes → get_or bytes i 0 < 256

@@ -11,10 +11,10 @@ use Rattle.std.proofs.lemmas.List.Elements.{All-from_get_or, All-cons}
 use Rattle.tracer_base.specs.Numbers.{HasPlainStart, FitsDelta}
 use Rattle.tracer_base.specs.Words.{IsWord}
 
-abbrev Digits : List ℕ → Type 0
+abbrev pub Digits : List ℕ → Type 0
 Digits ds = (i : ℕ) → i < length ds → IsInRange 48 57 (get_or ds i 0)
 
-own : IsNumeralModel Digits (digits_value 10)
+pub own : IsNumeralModel Digits (digits_value 10)
 own = numerals_by_value Digits tells_by_index
 
 one_digit : (n : ℕ) → n < 2 ^ 64 → slice_index (decimal n) 0 ≡ 48 → length (decimal n) ≡ 1

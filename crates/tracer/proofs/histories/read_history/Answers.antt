@@ -1,7 +1,7 @@
-use Rattle.std.proofs.Common.{rules, ◌≡◌, ◌≢◌, ◌∙◌, [], Err, flat_map, ap, sym}
+use Rattle.std.proofs.Common.{rules, ◌≡◌, ◌≢◌, ◌∙◌, [], Err, flat_map, length, ap, sym}
 use Rattle.std.proofs.lemmas.List.Elements.{All-push}
 use Rattle.tracer.specs.Histories.{entry_line, FitsLine, HasNoHeading}
-use Rattle.tracer.proofs.EntryLemmas.{next_line, behind, memory, reads_more}
+use Rattle.tracer.proofs.EntryLemmas.{next_line, behind, memory, reads_more, read_all, same_history}
 use Rattle.tracer.proofs.histories.read_history.Goals as goal
 
 pub returns-in_default-clause-each : goal.returns-in_default-clause-each
@@ -29,3 +29,11 @@ loop-rest-preserved c =
       All-push FitsLine done c.in_ok-entry.entry inv.0 read.fits,
       reads_more done c.in_ok-entry.entry c.loop-rest.rest.now c.in_ok-entry.others.now c.args.text.now inv.1 read.ok,
     )
+
+pub returns-clause-same : goal.returns-clause-same
+returns-clause-same c =
+    λ all fit same.
+    let inv = c.loop-rest.invariant in
+    let none : length c.loop-rest.rest.now ≡ 0 = search rules in
+    let read = read_all c.loop-rest.entries.items c.loop-rest.rest.now c.args.text.now inv.1 none in
+    same_history c.loop-rest.entries.items all inv.0 fit (read ∙ sym same)
