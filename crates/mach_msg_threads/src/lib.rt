@@ -2,15 +2,23 @@
 //!
 //! [`mach_msg`] sends and receives as Mach's call does. The kernel itself never waits: a try that finds the
 //! queue full, or no message, is made again as long as the caller's [`Gate`] says so. Each try is a call of
-//! its own in the history.
+//! its own in the history. [`run_blocks`] runs blocks of calls, each in a thread of its own.
 #![tactic(auto)]
 
+mod block;
+mod blocks;
+mod fault;
 mod gate;
 mod message;
 mod tries;
 
+pub use block::{Answer, Block, Call};
+pub use blocks::run_blocks;
+pub use fault::RunFault;
 pub use gate::Gate;
 pub use message::{Outcome, mach_msg};
 
+#[cfg(test)]
+mod block_tests;
 #[cfg(test)]
 mod tests;

@@ -1,6 +1,7 @@
 //! The message call.
 ghost use Rattle.std.specs.Prelude.{◌≡◌, ◌≤◌, ◌<◌, ◌^◌, length, IfSome, IfNone};
 ghost use Rattle.kernel_core.specs.Bounds.{reply_bytes};
+ghost use Rattle.mach_msg_threads.specs.Blocks.{count_received};
 ghost use Rattle.mach_msg_threads.specs.Tries.{received_code, received_length, received_into, AreOptions, AsksFor, MessageCall};
 
 use crate::gate::Gate;
@@ -19,6 +20,15 @@ pub struct Outcome {
     pub code: u32,
     /// How many bytes were received, or are needed where the message is too long; else 0.
     pub len: u32,
+}
+
+impl Outcome {
+    // How many bytes of the buffer were received.
+    pub(crate) fn received(&self) -> usize
+        ensures { result ≡ count_received self.now }
+    {
+        if self.code == 0 { self.len as usize } else { 0 }
+    }
 }
 
 /// Sends and receives (IPC Interface, `mach_msg`), waiting as long as the gate says so.

@@ -87,8 +87,8 @@ fn waited_for(reply: &Reply) -> Option<Waited>
     }
 }
 
-// One try, of which the gate is told.
-fn attempt<G: Gate, R: Wait>(
+/// One call, of which the gate is told.
+pub(crate) fn attempt<G: Gate, R: Wait>(
     rt: &R,
     shared: &Shared,
     pass: &mut Pass,
