@@ -52,7 +52,7 @@ pub record Part (w : WorldView) (s : State) (o k task : ℕ) (ws : List PortWord
 pub part : (w : WorldView) (s : State) (o k task : ℕ) (names : Names) (ws : List PortWord) (cs : List Carried) (left : Names) → Along w s o k task names → CopiesBody names ws cs left →
     Part w s o k task ws cs left
 part w s o k task names [] [] left at b =
-    record { w2 = w; t = s; along = record { agrees = at.agrees; moving = at.moving; space = at.space; there = at.there; names_are = at.names_are ∙ sym b; none = at.none }; copy = refl; changes = refl; rest = shape-same s s refl; given = refl; total = omega arith }
+    record { w2 = w; t = s; along = record { agrees = at.agrees; moving = at.moving; space = at.space; there = at.there; names_are = at.names_are ∙ sym b; requested = at.requested }; copy = refl; changes = refl; rest = shape-same s s refl; given = refl; total = omega arith }
 part w s o k task names [] (c ∷ cs) left at b = absurd b
 part w s o k task names (v ∷ ws) [] left at b = absurd b
 part w s o k task names (v ∷ ws) (c ∷ cs) left at b =

@@ -23,9 +23,10 @@ use Rattle.rights.specs.declared.RightKind.TheVariants as right
 use Rattle.copyin.specs.declared.copies.Copied.{Copied}
 use Rattle.copyin_base.specs.declared.message.Mark.TheVariants as mark
 use Rattle.copyin_base.specs.Kept.{Kept, mark_of}
+use Rattle.copyin_base.specs.Requests.{requests_after}
 use Rattle.copyin_base.specs.Worlds.{WorldView, port_at, put, space_at}
 use Rattle.copyin.specs.Copies.{ports_copied, ledger_copied, port_copied}
-use Rattle.copyin_base.specs.Shows.{onces_queued, ShowsPort, target_of, HasCount, ShowsCounts, Agrees}
+use Rattle.copyin_base.specs.Shows.{onces_queued, ShowsPort, target_of, HasCount, ShowsCounts, Agrees, RequestsStand}
 use Rattle.copyin_base.proofs.AttributesSet.{IsAt, is_at, is_same}
 use Rattle.copyin_base.proofs.Counting.{right_made}
 use Rattle.copyin_base.proofs.Putting.{put_same}
@@ -38,6 +39,7 @@ after w task name space d c = record w {
   spaces = slice_set w.spaces task (Some (record space { names = put space.names name c.left }));
   ports = ports_copied d c.mark w.ports;
   ledger = ledger_copied d c.mark w.ledger;
+  requests = requests_after w.requests task name c.left;
 }
 
 -- The machine does so too.
@@ -45,7 +47,6 @@ pub record Goes (w : WorldView) (s : State) (o k task name : ℕ) (space : Space
   pub t : State
   pub copy : (number : ℕ) → disposition number ≡ Some d → CopyRight task (in_message o k) number name s (mark_of c.mark) t
   pub agrees : Agrees (after w task name space d c) t
-  pub stands : (r : Request) → t.stands r ≡ s.stands r
 
 pub the_same : (a b : Entry) → Some a ≡ Some b → b ≡ a
 the_same a b e = cc
@@ -102,7 +103,7 @@ module _ (w : WorldView) (s : State) (a : Agrees w s) (o k : ℕ) (l : IsMoving 
 
     made_rest : (w2 : WorldView) → w2.ports.made ≡ w.ports.made → ((q : ℕ) → is_some (port_at w2 q) ≡ is_some (port_at w q)) →
         ((q : ℕ) (v : PortView Kept) → port_at w2 q ≡ Some v → ShowsPort v made_state q) →
-        ((q : ℕ) → ShowsCounts w2 made_state q) → w2.ledger.total ≡ w.ledger.total + 1 → Rest w w2 s made_state task entry (Some entry)
+        ((q : ℕ) → ShowsCounts w2 made_state q) → w2.ledger.total ≡ w.ledger.total + 1 → Rest w w2 s made_state task name entry (Some entry)
     made_rest w2 made live ports counts total = record {
       rest = refl;
       naming_others = λ u not. refl;
@@ -128,8 +129,8 @@ module _ (w : WorldView) (s : State) (a : Agrees w s) (o k : ℕ) (l : IsMoving 
     pub is_port : lookup s task name ≡ Some (Target.port p)
     is_port = stands_for ∙ ap Some is_target
 
-    pub copies_send : (holds : 0 < send_references entry) → Goes w s o k task name space CopySend (record { left = Some entry; mark = mark.Port p })
-    copies_send holds =
+    pub copies_send : RequestsStand w → (holds : 0 < send_references entry) → Goes w s o k task name space CopySend (record { left = Some entry; mark = mark.Port p })
+    copies_send requested holds =
         let live = live_of p named (omega (arith, holds)) in
         let t = made_state send p named s.make_send in
         let c : Copied = record { left = Some entry; mark = mark.Port p } in
@@ -146,13 +147,12 @@ module _ (w : WorldView) (s : State) (a : Agrees w s) (o k : ℕ) (l : IsMoving 
             rest = refl;
             tokens = λ h. omega arith;
           };
-          agrees = changed_agrees w s a task name (l.naming task) space there entry found (Some entry) space.room w.ports (made w.ledger p right.Send 1) t unchanged
+          agrees = changed_agrees w s a task name (l.naming task) space there entry found (Some entry) space.room w.ports (made w.ledger p right.Send 1) t unchanged requested
               (made_rest send p named s.make_send w2 refl (λ q. refl) a.ports (right_made w.ledger s.live_port s.ledger (onces_queued s) a.counts send p (in_message o k) live) refl);
-          stands = λ r. refl;
         }
 
-    pub makes_once : (holds : has_receive entry ≡ true) → Goes w s o k task name space MakeSendOnce (record { left = Some entry; mark = mark.Port p })
-    makes_once holds =
+    pub makes_once : RequestsStand w → (holds : has_receive entry ≡ true) → Goes w s o k task name space MakeSendOnce (record { left = Some entry; mark = mark.Port p })
+    makes_once requested holds =
         let one : one_if (has_receive entry) ≡ 1 = ap one_if holds in
         let live = live_of p named (omega (arith, one)) in
         let t = made_state send_once p named s.make_send in
@@ -170,9 +170,8 @@ module _ (w : WorldView) (s : State) (a : Agrees w s) (o k : ℕ) (l : IsMoving 
             rest = refl;
             tokens = λ h. omega arith;
           };
-          agrees = changed_agrees w s a task name (l.naming task) space there entry found (Some entry) space.room w.ports (made w.ledger p right.SendOnce 1) t unchanged
+          agrees = changed_agrees w s a task name (l.naming task) space there entry found (Some entry) space.room w.ports (made w.ledger p right.SendOnce 1) t unchanged requested
               (made_rest send_once p named s.make_send w2 refl (λ q. refl) a.ports (right_made w.ledger s.live_port s.ledger (onces_queued s) a.counts send_once p (in_message o k) live) refl);
-          stands = λ r. refl;
         }
 
     pub there_port : s.live_port p ≡ true → (v : PortView Kept) × (port_at w p ≡ Some v)
@@ -182,8 +181,8 @@ module _ (w : WorldView) (s : State) (a : Agrees w s) (o k : ℕ) (l : IsMoving 
         go (Some v) e = (v, e)
         go None e = absurd (let b : false ≡ true = sym (ap is_some e) ∙ a.live_port p ∙ live in cc)
 
-    pub makes_send : (holds : has_receive entry ≡ true) → Goes w s o k task name space MakeSend (record { left = Some entry; mark = mark.Port p })
-    makes_send holds =
+    pub makes_send : RequestsStand w → (holds : has_receive entry ≡ true) → Goes w s o k task name space MakeSend (record { left = Some entry; mark = mark.Port p })
+    makes_send requested holds =
         let one : one_if (has_receive entry) ≡ 1 = ap one_if holds in
         let live = live_of p named (omega (arith, one)) in
         let f : ℕ → ℕ = at s.make_send p ((s.make_send p + 1) % 2 ^ 32) in
@@ -205,11 +204,10 @@ module _ (w : WorldView) (s : State) (a : Agrees w s) (o k : ℕ) (l : IsMoving 
             tokens = λ h. omega arith;
           };
           agrees = changed_agrees w s a task name (l.naming task) space there entry found (Some entry) space.room (port_copied MakeSend p w.ports (map.get w.ports.ports p))
-              (made w.ledger p right.Send 1) t unchanged
+              (made w.ledger p right.Send 1) t unchanged requested
               (made_rest send p named f w2 (ports_made w s a MakeSend p v.0 v.1) (ports_live w s a MakeSend p v.0 v.1)
               (port_changed w s a MakeSend p v.0 v.1 t refl
               (subst (IsAt s.make_send f p) (sym (ap (λ (n : ℕ). (n + 1) % 2 ^ 32) b.make_send)) (is_at s.make_send p ((s.make_send p + 1) % 2 ^ 32)))
               (is_same s.sequence p _ b.sequence) (is_same s.sets_of p _ b.sets))
               (right_made w.ledger s.live_port s.ledger (onces_queued s) a.counts send p (in_message o k) live) refl);
-          stands = λ r. refl;
         }

@@ -6,9 +6,8 @@ use Rattle.std.specs.FinMap as map
 use Rattle.std.proofs.lemmas.Bool.{ltb-true, ltb-false}
 use Rattle.mach_types.specs.declared.rights.Disposition.{Disposition}
 use Rattle.mach_types.specs.declared.rights.Disposition.TheVariants.{MoveReceive, MoveSend, MoveSendOnce, CopySend, MakeSend, MakeSendOnce}
-use Rattle.mach_types.specs.Tokens.{receive, send, Request, dead_name}
+use Rattle.mach_types.specs.Tokens.{receive, send, Request}
 use Rattle.mach_model.specs.State.{State, Target, lookup, held, without_name, with_name}
-use Rattle.mach_model.specs.NotYet.{NoRequests}
 use Rattle.mach_model.proofs.At.{at_own, at_other}
 use Rattle.mach_model.proofs.Moving.{IsMoving, shape}
 use Rattle.name_space.specs.declared.Entry.{Entry}
@@ -22,9 +21,9 @@ use Rattle.rights.specs.Ledger.{LedgerView}
 use Rattle.copyin_base.specs.Kept.{Kept}
 use Rattle.copyin.specs.Copies.{copied_from, one_less}
 use Rattle.copyin_base.specs.Worlds.{WorldView, port_at, put, space_at}
-use Rattle.copyin_base.specs.Shows.{onces_queued, CountsAgree, ShowsPort, target_of, HasCount, Agrees}
+use Rattle.copyin_base.specs.Shows.{onces_queued, CountsAgree, ShowsPort, target_of, HasCount, Agrees, RequestsStand}
 use Rattle.copyin_base.proofs.Changing.{Rest, changed_agrees}
-use Rattle.copyin_base.proofs.Requesting.{none_ended}
+use Rattle.copyin_base.proofs.Requesting.{stands_after}
 use Rattle.copyin.proofs.CopiedIn.{Goes, after, the_same, no_entry, stands_for, own_held, counted, unchanged, copies_send, makes_send, makes_once}
 use Rattle.copyin.proofs.MovedIn.{LeftIs, sends_moved, once_moves, receive_moves}
 
@@ -34,7 +33,7 @@ dead_no_set : (n set : ℕ) → Target.dead n ≡ Target.set set → ⊥
 dead_no_set n set e = cc
 
 module _ (w : WorldView) (s : State) (a : Agrees w s) (o k : ℕ) (l : IsMoving s o k) (task name : ℕ) (space : SpaceView) (there : space_at w task ≡ Some space)
-    (n : ℕ) (found : map.get space.names name ≡ Some (DeadName n)) (none : NoRequests s.stands) where
+    (n : ℕ) (found : map.get space.names name ≡ Some (DeadName n)) (requested : RequestsStand w) where
   dead_named : lookup s task name ≡ Some (Target.dead n)
   dead_named = stands_for w s a o k l task name space there (DeadName n) found
 
@@ -56,11 +55,11 @@ module _ (w : WorldView) (s : State) (a : Agrees w s) (o k : ℕ) (l : IsMoving 
   dead_count true e is = subst HasCount (sym (the_same (DeadName (n - 1)) e is)) tt
   dead_count false e is = absurd (no_entry e is)
 
-  stands_are : (b : Bool) (r : Request) → (fewer b).stands r ≡ s.stands r
+  stands_are : (b : Bool) (r : Request) → (fewer b).stands r ≡ stands_after s.stands task name (left_by b) r
   stands_are true r = refl
-  stands_are false r = none_ended s.stands none (dead_name task name) r
+  stands_are false r = refl
 
-  fewer_rest : (b : Bool) (w2 : WorldView) → w2.ports ≡ w.ports → w2.ledger ≡ w.ledger → Rest w w2 s (fewer b) task (DeadName n) (left_by b)
+  fewer_rest : (b : Bool) (w2 : WorldView) → w2.ports ≡ w.ports → w2.ledger ≡ w.ledger → Rest w w2 s (fewer b) task name (DeadName n) (left_by b)
   fewer_rest b w2 ports ledger = record {
     rest = shape_is b;
     naming_others = others b;
@@ -101,16 +100,14 @@ module _ (w : WorldView) (s : State) (a : Agrees w s) (o k : ℕ) (l : IsMoving 
   dead_moves MoveSend which = record {
     t = fewer (nat_lt 1 n);
     copy = λ number e. record { given = MoveSend; is_given = e; target = Target.dead n; found = dead_named; legal = tt; mark_is = refl; rest = refl; tokens = λ h. omega arith };
-    agrees = changed_agrees w s a task name (l.naming task) space there (DeadName n) found fewer_left space.room w.ports w.ledger (fewer (nat_lt 1 n)) (fewer_named (nat_lt 1 n))
+    agrees = changed_agrees w s a task name (l.naming task) space there (DeadName n) found fewer_left space.room w.ports w.ledger (fewer (nat_lt 1 n)) (fewer_named (nat_lt 1 n)) requested
         (fewer_rest (nat_lt 1 n) (after w task name space MoveSend (record { left = fewer_left; mark = mark.Dead })) refl refl);
-    stands = stands_are (nat_lt 1 n);
   }
   dead_moves MoveSendOnce which = record {
     t = fewer (nat_lt 1 n);
     copy = λ number e. record { given = MoveSendOnce; is_given = e; target = Target.dead n; found = dead_named; legal = tt; mark_is = refl; rest = refl; tokens = λ h. omega arith };
-    agrees = changed_agrees w s a task name (l.naming task) space there (DeadName n) found fewer_left space.room w.ports w.ledger (fewer (nat_lt 1 n)) (fewer_named (nat_lt 1 n))
+    agrees = changed_agrees w s a task name (l.naming task) space there (DeadName n) found fewer_left space.room w.ports w.ledger (fewer (nat_lt 1 n)) (fewer_named (nat_lt 1 n)) requested
         (fewer_rest (nat_lt 1 n) (after w task name space MoveSendOnce (record { left = fewer_left; mark = mark.Dead })) refl refl);
-    stands = stands_are (nat_lt 1 n);
   }
   dead_moves d (inl e) = absurd (cc)
   dead_moves d (inr e) = absurd (cc)
@@ -120,7 +117,7 @@ module _ (w : WorldView) (s : State) (a : Agrees w s) (o k : ℕ) (l : IsMoving 
     t = s;
     copy = λ number e. record { given = CopySend; is_given = e; target = Target.dead n; found = dead_named; legal = tt; mark_is = refl; rest = refl; tokens = λ h. omega arith };
     agrees = changed_agrees w s a task name (l.naming task) space there (DeadName n) found (Some (DeadName n)) space.room w.ports w.ledger s
-        (unchanged w s a o k l task name space there (DeadName n) found) record {
+        (unchanged w s a o k l task name space there (DeadName n) found) requested record {
           rest = refl;
           naming_others = λ u not. refl;
           held_others = λ u not c q. refl;
@@ -136,7 +133,6 @@ module _ (w : WorldView) (s : State) (a : Agrees w s) (o k : ℕ) (l : IsMoving 
           requests = λ r c q. refl;
           no_set = dead_no_set n;
         };
-    stands = λ r. refl;
   }
 
 -- ---- all of them
@@ -157,12 +153,12 @@ is_none : (n : ℕ) → n ≡ 0 → nat_lt 0 n ≡ false
 is_none n e = ap (nat_lt 0) e
 
 module _ (w : WorldView) (s : State) (a : Agrees w s) (o k : ℕ) (l : IsMoving s o k) (task name : ℕ) (space : SpaceView) (there : space_at w task ≡ Some space)
-    (none : NoRequests s.stands) where
+    (requested : RequestsStand w) where
   goes_send : (p n : ℕ) → map.get space.names name ≡ Some (Send p n) → Goes w s o k task name space MoveSend (record { left = one_less (Send p) None n; mark = mark.Port p })
   goes_send p n found =
       let h = own_held w s a o k l task name space there (Send p n) found p refl in
       let some : 0 < n = counted w s a o k l task name space there (Send p n) found in
-      sends_moved w s a o k l task name space there (Send p n) found none p n refl refl refl some (nat_lt 1 n)
+      sends_moved w s a o k l task name space there (Send p n) found requested p n refl refl refl some (nat_lt 1 n)
       (ap (λ (x : ℕ). nat_lt 1 x || nat_lt 0 (held s task receive p)) h.1 ∙ ap (λ (x : ℕ). nat_lt 1 n || nat_lt 0 x) h.0 ∙ or_false (nat_lt 1 n))
       (one_less (Send p) None n) (left_of (nat_lt 1 n)) (λ e is. left_is (nat_lt 1 n) refl e is)
     where
@@ -183,7 +179,7 @@ module _ (w : WorldView) (s : State) (a : Agrees w s) (o k : ℕ) (l : IsMoving 
   goes_both p n found =
       let h = own_held w s a o k l task name space there (ReceiveAndSend p n) found p refl in
       let some : 0 < n = counted w s a o k l task name space there (ReceiveAndSend p n) found in
-      sends_moved w s a o k l task name space there (ReceiveAndSend p n) found none p n refl refl refl some true
+      sends_moved w s a o k l task name space there (ReceiveAndSend p n) found requested p n refl refl refl some true
       (ap (λ (x : ℕ). nat_lt 1 (held s task send p) || nat_lt 0 x) h.0 ∙ or_true (nat_lt 1 (held s task send p)))
       (one_less (ReceiveAndSend p) (Some (Receive p)) n) (left_of (nat_lt 1 n)) (λ e is. left_is some (nat_lt 1 n) refl e is)
     where
@@ -205,13 +201,13 @@ module _ (w : WorldView) (s : State) (a : Agrees w s) (o k : ℕ) (l : IsMoving 
   goes_receive : (p : ℕ) → map.get space.names name ≡ Some (Receive p) → Goes w s o k task name space MoveReceive (record { left = None; mark = mark.Port p })
   goes_receive p found =
       let h = own_held w s a o k l task name space there (Receive p) found p refl in
-      receive_moves w s a o k l task name space there (Receive p) found none p refl refl refl false (is_none (held s task send p) h.1) None refl (λ e is. absurd (no_entry e is))
+      receive_moves w s a o k l task name space there (Receive p) found requested p refl refl refl false (is_none (held s task send p) h.1) None refl (λ e is. absurd (no_entry e is))
 
   goes_all : (p n : ℕ) → map.get space.names name ≡ Some (ReceiveAndSend p n) → Goes w s o k task name space MoveReceive (record { left = Some (Send p n); mark = mark.Port p })
   goes_all p n found =
       let h = own_held w s a o k l task name space there (ReceiveAndSend p n) found p refl in
       let some : 0 < n = counted w s a o k l task name space there (ReceiveAndSend p n) found in
-      receive_moves w s a o k l task name space there (ReceiveAndSend p n) found none p refl refl refl true
+      receive_moves w s a o k l task name space there (ReceiveAndSend p n) found requested p refl refl refl true
       (ap (nat_lt 0) h.1 ∙ is_above 0 n some (nat_lt 0 n) refl) (Some (Send p n)) (Send p n, refl, refl)
       (λ e is. subst (λ (x : Entry). HasCount x × (port_named x ≡ Some p) × (has_receive x ≡ false) × (send_references x ≡ n)) (sym (the_same (Send p n) e is)) (some, refl, refl, refl))
 
@@ -227,16 +223,16 @@ module _ (w : WorldView) (s : State) (a : Agrees w s) (o k : ℕ) (l : IsMoving 
   goes MoveReceive (ReceiveAndSend p n) c found e = its MoveReceive _ c e (goes_all p n found)
   goes MoveSend (Send p n) c found e = its MoveSend _ c e (goes_send p n found)
   goes MoveSend (ReceiveAndSend p n) c found e = its MoveSend _ c e (goes_both p n found)
-  goes MoveSend (DeadName n) c found e = its MoveSend _ c e (dead_moves w s a o k l task name space there n found none MoveSend (inl refl))
-  goes MoveSendOnce (SendOnce p) c found e = its MoveSendOnce _ c e (once_moves w s a o k l task name space there (SendOnce p) found none p refl)
-  goes MoveSendOnce (DeadName n) c found e = its MoveSendOnce _ c e (dead_moves w s a o k l task name space there n found none MoveSendOnce (inr refl))
+  goes MoveSend (DeadName n) c found e = its MoveSend _ c e (dead_moves w s a o k l task name space there n found requested MoveSend (inl refl))
+  goes MoveSendOnce (SendOnce p) c found e = its MoveSendOnce _ c e (once_moves w s a o k l task name space there (SendOnce p) found requested p refl)
+  goes MoveSendOnce (DeadName n) c found e = its MoveSendOnce _ c e (dead_moves w s a o k l task name space there n found requested MoveSendOnce (inr refl))
   goes CopySend (Send p n) c found e =
-      its CopySend _ c e (copies_send w s a o k l task name space there (Send p n) found p refl refl (counted w s a o k l task name space there (Send p n) found))
+      its CopySend _ c e (copies_send w s a o k l task name space there (Send p n) found p refl refl requested (counted w s a o k l task name space there (Send p n) found))
   goes CopySend (ReceiveAndSend p n) c found e =
-      its CopySend _ c e (copies_send w s a o k l task name space there (ReceiveAndSend p n) found p refl refl (counted w s a o k l task name space there (ReceiveAndSend p n) found))
-  goes CopySend (DeadName n) c found e = its CopySend _ c e (dead_copies w s a o k l task name space there n found none)
-  goes MakeSend (Receive p) c found e = its MakeSend _ c e (makes_send w s a o k l task name space there (Receive p) found p refl refl refl)
-  goes MakeSend (ReceiveAndSend p n) c found e = its MakeSend _ c e (makes_send w s a o k l task name space there (ReceiveAndSend p n) found p refl refl refl)
-  goes MakeSendOnce (Receive p) c found e = its MakeSendOnce _ c e (makes_once w s a o k l task name space there (Receive p) found p refl refl refl)
-  goes MakeSendOnce (ReceiveAndSend p n) c found e = its MakeSendOnce _ c e (makes_once w s a o k l task name space there (ReceiveAndSend p n) found p refl refl refl)
+      its CopySend _ c e (copies_send w s a o k l task name space there (ReceiveAndSend p n) found p refl refl requested (counted w s a o k l task name space there (ReceiveAndSend p n) found))
+  goes CopySend (DeadName n) c found e = its CopySend _ c e (dead_copies w s a o k l task name space there n found requested)
+  goes MakeSend (Receive p) c found e = its MakeSend _ c e (makes_send w s a o k l task name space there (Receive p) found p refl refl requested refl)
+  goes MakeSend (ReceiveAndSend p n) c found e = its MakeSend _ c e (makes_send w s a o k l task name space there (ReceiveAndSend p n) found p refl refl requested refl)
+  goes MakeSendOnce (Receive p) c found e = its MakeSendOnce _ c e (makes_once w s a o k l task name space there (Receive p) found p refl refl requested refl)
+  goes MakeSendOnce (ReceiveAndSend p n) c found e = its MakeSendOnce _ c e (makes_once w s a o k l task name space there (ReceiveAndSend p n) found p refl refl requested refl)
   goes d entry c found e = absurd (let f : None ≡ Some c = e in cc)

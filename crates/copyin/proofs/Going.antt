@@ -19,7 +19,7 @@ use Rattle.copyin_base.specs.declared.message.Mark.{Mark}
 use Rattle.copyin.specs.Copies.{copied_from, ports_copied, ledger_copied, CopiesRight}
 use Rattle.copyin.specs.Judging.{made_by, made_by_mark}
 use Rattle.copyin_base.specs.Kept.{Kept}
-use Rattle.copyin_base.specs.Requests.{RequestTablesView}
+use Rattle.copyin_base.specs.Requests.{RequestTablesView, requests_after}
 use Rattle.copyin.specs.Planned.{CanGo, CanCopy, CopiesAll}
 use Rattle.copyin.specs.Plans.{ChangesWord, ChangesWords}
 use Rattle.copyin_base.specs.Stands.{AreTied}
@@ -83,7 +83,7 @@ copies_right old mid task name c can k kk puts spaces ports ledger sets requests
       mark_is = can.mark_is;
       rest = same_world _ _ _ _ _ _ _ _ _ _ (ap (λ (w : WorldView). w.spaces) is ∙ rw (here, kk) refl)
           (p ∙ rw kk refl ∙ ap (λ (w : WorldView). ports_copied c.given can.copied.mark w.ports) is) (l ∙ rw kk refl ∙ ap (λ (w : WorldView). ledger_copied c.given can.copied.mark w.ledger) is)
-          (ap (λ (w : WorldView). w.sets) is) (ap (λ (w : WorldView). w.requests) is);
+          (ap (λ (w : WorldView). w.sets) is) (ap (λ (w : WorldView). w.requests) is ∙ rw kk refl);
     }
 
 -- ---- and what is left to do
@@ -140,8 +140,13 @@ go_on old new task w ws c cs go ch = elim (eqb_tells w.name null_word) [
         let kk : r.copied ≡ n.copied = same_found _ _ _ r.is (ap (λ (e : Entry). copied_from c.given e) ee ∙ n.is) in
         let after : SpaceView = record go.space { names = put go.space.names w.name n.copied.left } in
         let m = n.copied.mark in
-        let is : new ≡ record old { spaces = slice_set old.spaces task (Some after); ports = ports_copied c.given m old.ports; ledger = ledger_copied c.given m old.ledger } =
-        r.rest ∙ same_world _ _ _ _ _ _ _ _ _ _ (rw (here, kk) refl) (rw kk refl) (rw kk refl) refl refl in
+        let is : new ≡ record old {
+          spaces = slice_set old.spaces task (Some after);
+          ports = ports_copied c.given m old.ports;
+          ledger = ledger_copied c.given m old.ledger;
+          requests = requests_after old.requests task w.name n.copied.left;
+        } =
+        r.rest ∙ same_world _ _ _ _ _ _ _ _ _ _ (rw (here, kk) refl) (rw kk refl) (rw kk refl) refl (rw kk refl) in
         let total = total_copied c.given m old.ledger in
         let one : made_by c ≡ made_by_mark c.given m = ap (λ (x : Mark). made_by_mark c.given x) n.mark in
         subst (λ (x : WorldView). CanGo x task ws cs) (sym is) (record {

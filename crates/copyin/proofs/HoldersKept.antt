@@ -102,7 +102,7 @@ port_holders : (d : Disposition) (p : ℕ) (ports : PortsView Kept) (o : Option 
 port_holders d p ports None is = same_holders ports.ports
 port_holders d p ports (Some v) is = put_holders ports.ports p v (record v { attributes = attributes_copied d v.attributes }) is (holder_copied d v.attributes)
 
-copied_ports : (d : Disposition) (m : Mark) (ports : PortsView Kept) → KeepHolders ports.ports (ports_copied d m ports).ports
+pub copied_ports : (d : Disposition) (m : Mark) (ports : PortsView Kept) → KeepHolders ports.ports (ports_copied d m ports).ports
 copied_ports MakeSend (mark.Port p) ports = port_holders MakeSend p ports (map.get ports.ports p) refl
 copied_ports MoveReceive (mark.Port p) ports = port_holders MoveReceive p ports (map.get ports.ports p) refl
 copied_ports MoveSend (mark.Port p) ports = same_holders ports.ports

@@ -19,10 +19,11 @@ use Rattle.copyin.specs.Copies.{copied_from, one_less, ports_copied, port_copied
 use Rattle.copyin.specs.Judging.{made_by_mark}
 use Rattle.copyin_base.specs.Kept.{Kept}
 
--- What is left is for the port for which the entry was, and so is the right that goes.
+-- What is left is for the port for which the entry was, if it was for one, and so is the right that goes.
 pub record Keeps (e : Entry) (k : Copied) : Type 0 where
   pub named : IfSome k.left (λ left. (p : ℕ) → port_named left ≡ Some p → port_named e ≡ Some p)
   pub held : IfSome k.left (λ left. (p : ℕ) → port_of left ≡ Some p → port_of e ≡ Some p)
+  pub stays : IfSome k.left (λ left. (p : ℕ) → port_of e ≡ Some p → port_of left ≡ Some p)
   pub mark : (p : ℕ) → k.mark ≡ mark.Port p → port_of e ≡ Some p
 
 abbrev KeepsIfAny : Entry → Option Copied → Type 0
@@ -35,48 +36,51 @@ if_either false x o P one other = other
 
 kept_less : (e : Entry) (with_references : ℕ → Entry) (o : Option Entry) (m : Mark) (n : ℕ)
     → ((p : ℕ) → port_named (with_references (n - 1)) ≡ Some p → port_named e ≡ Some p) → ((p : ℕ) → port_of (with_references (n - 1)) ≡ Some p → port_of e ≡ Some p)
+    → ((p : ℕ) → port_of e ≡ Some p → port_of (with_references (n - 1)) ≡ Some p)
     → IfSome o (λ left. (p : ℕ) → port_named left ≡ Some p → port_named e ≡ Some p) → IfSome o (λ left. (p : ℕ) → port_of left ≡ Some p → port_of e ≡ Some p)
+    → IfSome o (λ left. (p : ℕ) → port_of e ≡ Some p → port_of left ≡ Some p)
     → ((p : ℕ) → m ≡ mark.Port p → port_of e ≡ Some p) → Keeps e (record { left = one_less with_references o n; mark = m })
-kept_less e with_references o m n a b c d f = record {
-  named = if_either (nat_lt 1 n) (with_references (n - 1)) o (λ left. (p : ℕ) → port_named left ≡ Some p → port_named e ≡ Some p) a c;
-  held = if_either (nat_lt 1 n) (with_references (n - 1)) o (λ left. (p : ℕ) → port_of left ≡ Some p → port_of e ≡ Some p) b d;
+kept_less e with_references o m n a b c x y z f = record {
+  named = if_either (nat_lt 1 n) (with_references (n - 1)) o (λ left. (p : ℕ) → port_named left ≡ Some p → port_named e ≡ Some p) a x;
+  held = if_either (nat_lt 1 n) (with_references (n - 1)) o (λ left. (p : ℕ) → port_of left ≡ Some p → port_of e ≡ Some p) b y;
+  stays = if_either (nat_lt 1 n) (with_references (n - 1)) o (λ left. (p : ℕ) → port_of e ≡ Some p → port_of left ≡ Some p) c z;
   mark = f;
 }
 
 kept : (d : Disposition) (e : Entry) → KeepsIfAny e (copied_from d e)
-kept MoveReceive (entry.Receive p) = record { named = tt; held = tt; mark = λ q h. (cc) }
+kept MoveReceive (entry.Receive p) = record { named = tt; held = tt; stays = tt; mark = λ q h. (cc) }
 kept MoveReceive (entry.Send p n) = tt
-kept MoveReceive (entry.ReceiveAndSend p n) = record { named = λ q h. h; held = λ q h. h; mark = λ q h. (cc) }
+kept MoveReceive (entry.ReceiveAndSend p n) = record { named = λ q h. h; held = λ q h. h; stays = λ q h. h; mark = λ q h. (cc) }
 kept MoveReceive (entry.SendOnce p) = tt
 kept MoveReceive (entry.DeadName n) = tt
 kept MoveReceive (entry.Set s) = tt
 kept MoveSend (entry.Receive p) = tt
-kept MoveSend (entry.Send p n) = kept_less (entry.Send p n) (entry.Send p) None (mark.Port p) n (λ q h. h) (λ q h. h) tt tt (λ q h. (cc))
-kept MoveSend (entry.ReceiveAndSend p n) = kept_less (entry.ReceiveAndSend p n) (entry.ReceiveAndSend p) (Some (entry.Receive p)) (mark.Port p) n (λ q h. h) (λ q h. h) (λ q h. h) (λ q h. h) (λ q h. (cc))
+kept MoveSend (entry.Send p n) = kept_less (entry.Send p n) (entry.Send p) None (mark.Port p) n (λ q h. h) (λ q h. h) (λ q h. h) tt tt tt (λ q h. (cc))
+kept MoveSend (entry.ReceiveAndSend p n) = kept_less (entry.ReceiveAndSend p n) (entry.ReceiveAndSend p) (Some (entry.Receive p)) (mark.Port p) n (λ q h. h) (λ q h. h) (λ q h. h) (λ q h. h) (λ q h. h) (λ q h. h) (λ q h. (cc))
 kept MoveSend (entry.SendOnce p) = tt
-kept MoveSend (entry.DeadName n) = kept_less (entry.DeadName n) entry.DeadName None mark.Dead n (λ q h. h) (λ q h. h) tt tt (λ q h. (cc))
+kept MoveSend (entry.DeadName n) = kept_less (entry.DeadName n) entry.DeadName None mark.Dead n (λ q h. h) (λ q h. h) (λ q h. h) tt tt tt (λ q h. (cc))
 kept MoveSend (entry.Set s) = tt
 kept MoveSendOnce (entry.Receive p) = tt
 kept MoveSendOnce (entry.Send p n) = tt
 kept MoveSendOnce (entry.ReceiveAndSend p n) = tt
-kept MoveSendOnce (entry.SendOnce p) = record { named = tt; held = tt; mark = λ q h. (cc) }
-kept MoveSendOnce (entry.DeadName n) = kept_less (entry.DeadName n) entry.DeadName None mark.Dead n (λ q h. h) (λ q h. h) tt tt (λ q h. (cc))
+kept MoveSendOnce (entry.SendOnce p) = record { named = tt; held = tt; stays = tt; mark = λ q h. (cc) }
+kept MoveSendOnce (entry.DeadName n) = kept_less (entry.DeadName n) entry.DeadName None mark.Dead n (λ q h. h) (λ q h. h) (λ q h. h) tt tt tt (λ q h. (cc))
 kept MoveSendOnce (entry.Set s) = tt
 kept CopySend (entry.Receive p) = tt
-kept CopySend (entry.Send p n) = record { named = λ q h. h; held = λ q h. h; mark = λ q h. (cc) }
-kept CopySend (entry.ReceiveAndSend p n) = record { named = λ q h. h; held = λ q h. h; mark = λ q h. (cc) }
+kept CopySend (entry.Send p n) = record { named = λ q h. h; held = λ q h. h; stays = λ q h. h; mark = λ q h. (cc) }
+kept CopySend (entry.ReceiveAndSend p n) = record { named = λ q h. h; held = λ q h. h; stays = λ q h. h; mark = λ q h. (cc) }
 kept CopySend (entry.SendOnce p) = tt
-kept CopySend (entry.DeadName n) = record { named = λ q h. h; held = λ q h. h; mark = λ q h. (cc) }
+kept CopySend (entry.DeadName n) = record { named = λ q h. h; held = λ q h. h; stays = λ q h. h; mark = λ q h. (cc) }
 kept CopySend (entry.Set s) = tt
-kept MakeSend (entry.Receive p) = record { named = λ q h. h; held = λ q h. h; mark = λ q h. (cc) }
+kept MakeSend (entry.Receive p) = record { named = λ q h. h; held = λ q h. h; stays = λ q h. h; mark = λ q h. (cc) }
 kept MakeSend (entry.Send p n) = tt
-kept MakeSend (entry.ReceiveAndSend p n) = record { named = λ q h. h; held = λ q h. h; mark = λ q h. (cc) }
+kept MakeSend (entry.ReceiveAndSend p n) = record { named = λ q h. h; held = λ q h. h; stays = λ q h. h; mark = λ q h. (cc) }
 kept MakeSend (entry.SendOnce p) = tt
 kept MakeSend (entry.DeadName n) = tt
 kept MakeSend (entry.Set s) = tt
-kept MakeSendOnce (entry.Receive p) = record { named = λ q h. h; held = λ q h. h; mark = λ q h. (cc) }
+kept MakeSendOnce (entry.Receive p) = record { named = λ q h. h; held = λ q h. h; stays = λ q h. h; mark = λ q h. (cc) }
 kept MakeSendOnce (entry.Send p n) = tt
-kept MakeSendOnce (entry.ReceiveAndSend p n) = record { named = λ q h. h; held = λ q h. h; mark = λ q h. (cc) }
+kept MakeSendOnce (entry.ReceiveAndSend p n) = record { named = λ q h. h; held = λ q h. h; stays = λ q h. h; mark = λ q h. (cc) }
 kept MakeSendOnce (entry.SendOnce p) = tt
 kept MakeSendOnce (entry.DeadName n) = tt
 kept MakeSendOnce (entry.Set s) = tt
@@ -111,7 +115,7 @@ total_copied MakeSendOnce mark.Dead l = omega arith
 no_true : false ≡ true → ⊥
 no_true e = cc
 
-still : {V : Type 0} (m : map.FinMap nat_cmp V) (q p : ℕ) (v : V) → map.contains_key m p ≡ true → map.contains_key (map.insert m q v) p ≡ true
+pub still : {V : Type 0} (m : map.FinMap nat_cmp V) (q p : ℕ) (v : V) → map.contains_key m p ≡ true → map.contains_key (map.insert m q v) p ≡ true
 still {V} m q p v h = elim (eqb_tells p q) [
   | inl e ↦ subst (λ (n : ℕ). map.contains_key (map.insert m q v) n ≡ true) (sym e.1) (ap is_some (get_own m q v))
   | inr e ↦ ap is_some (get_other m q v p e.1) ∙ h
@@ -161,26 +165,33 @@ live_copied MakeSendOnce (mark.Port q) ports p h = h
 live_copied MakeSendOnce mark.Null ports p h = h
 live_copied MakeSendOnce mark.Dead ports p h = h
 
-spare_port_copied : (d : Disposition) (q : ℕ) (ports : PortsView Kept) (o : Option (PortView Kept)) → (port_copied d q ports o).spare ≡ ports.spare
-spare_port_copied d q ports None = refl
-spare_port_copied d q ports (Some v) = refl
+-- Of the ports that are there one has other attributes, and its turn; all else is as it was.
+abbrev StaysElse : (old new : PortsView Kept) → Type 0
+StaysElse old new = new ≡ record old { ports = new.ports; ready = new.ready }
+
+else_port_copied : (d : Disposition) (q : ℕ) (ports : PortsView Kept) (o : Option (PortView Kept)) → StaysElse ports (port_copied d q ports o)
+else_port_copied d q ports None = refl
+else_port_copied d q ports (Some v) = refl
+
+pub else_copied : (d : Disposition) (m : Mark) (ports : PortsView Kept) → StaysElse ports (ports_copied d m ports)
+else_copied MoveReceive (mark.Port q) ports = else_port_copied MoveReceive q ports (map.get ports.ports q)
+else_copied MoveReceive mark.Null ports = refl
+else_copied MoveReceive mark.Dead ports = refl
+else_copied MoveSend (mark.Port q) ports = refl
+else_copied MoveSend mark.Null ports = refl
+else_copied MoveSend mark.Dead ports = refl
+else_copied MoveSendOnce (mark.Port q) ports = refl
+else_copied MoveSendOnce mark.Null ports = refl
+else_copied MoveSendOnce mark.Dead ports = refl
+else_copied CopySend (mark.Port q) ports = refl
+else_copied CopySend mark.Null ports = refl
+else_copied CopySend mark.Dead ports = refl
+else_copied MakeSend (mark.Port q) ports = else_port_copied MakeSend q ports (map.get ports.ports q)
+else_copied MakeSend mark.Null ports = refl
+else_copied MakeSend mark.Dead ports = refl
+else_copied MakeSendOnce (mark.Port q) ports = refl
+else_copied MakeSendOnce mark.Null ports = refl
+else_copied MakeSendOnce mark.Dead ports = refl
 
 pub spare_copied : (d : Disposition) (m : Mark) (ports : PortsView Kept) → (ports_copied d m ports).spare ≡ ports.spare
-spare_copied MoveReceive (mark.Port q) ports = spare_port_copied MoveReceive q ports (map.get ports.ports q)
-spare_copied MoveReceive mark.Null ports = refl
-spare_copied MoveReceive mark.Dead ports = refl
-spare_copied MoveSend (mark.Port q) ports = refl
-spare_copied MoveSend mark.Null ports = refl
-spare_copied MoveSend mark.Dead ports = refl
-spare_copied MoveSendOnce (mark.Port q) ports = refl
-spare_copied MoveSendOnce mark.Null ports = refl
-spare_copied MoveSendOnce mark.Dead ports = refl
-spare_copied CopySend (mark.Port q) ports = refl
-spare_copied CopySend mark.Null ports = refl
-spare_copied CopySend mark.Dead ports = refl
-spare_copied MakeSend (mark.Port q) ports = spare_port_copied MakeSend q ports (map.get ports.ports q)
-spare_copied MakeSend mark.Null ports = refl
-spare_copied MakeSend mark.Dead ports = refl
-spare_copied MakeSendOnce (mark.Port q) ports = refl
-spare_copied MakeSendOnce mark.Null ports = refl
-spare_copied MakeSendOnce mark.Dead ports = refl
+spare_copied d m ports = ap (λ (x : PortsView Kept). x.spare) (else_copied d m ports)

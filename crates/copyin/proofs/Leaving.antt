@@ -15,6 +15,7 @@ use Rattle.copyin.specs.Copies.{copied_from}
 use Rattle.copyin.specs.Planned.{CanCopy}
 use Rattle.copyin_base.specs.declared.message.Carried.{Carried}
 use Rattle.copyin_base.specs.Changes.{PutsLeft}
+use Rattle.copyin_base.specs.Requests.{requests_after}
 use Rattle.copyin_base.specs.Worlds.{WorldView, put, space_in}
 use Rattle.copyin.proofs.Overlays.{get_put, get_put_other}
 
@@ -70,5 +71,6 @@ stays_put w task name c can makes =
     record {
       space = can.space;
       there = can.there;
-      rest = ap (λ (xs : List (Option SpaceView)). record w { spaces = xs }) (sym spaces_are);
+      -- where something is left, no request ends
+      rest = λ i. record w { spaces = sym spaces_are i; requests = requests_after w.requests task name (sym all i) };
     }

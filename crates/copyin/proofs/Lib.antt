@@ -1,3 +1,6 @@
+pub mod Keeping
+pub mod Walking
+pub mod RequestedKept
 pub mod PortCopied
 pub mod CopiedIn
 pub mod MovedIn
@@ -13,8 +16,9 @@ pub mod Refused
 pub mod RefusedWords
 pub mod Overlays
 pub mod Judging
-pub mod Keeping
 pub mod HoldersKept
+pub mod CarriersKept
+pub mod SendersKept
 pub mod Leaving
 pub mod Tables
 pub mod Going

@@ -4,12 +4,11 @@ use Rattle.std.specs.Prelude.{is_some, if◌then◌else◌, ◌&&◌, ◌||◌, 
 use Rattle.std.specs.Option.{option_map}
 use Rattle.std.specs.FinMap as map
 use Rattle.mach_types.specs.declared.rights.Disposition.TheVariants.{MoveReceive, MoveSend, MoveSendOnce}
-use Rattle.mach_types.specs.Tokens.{Kind, receive, send, send_once, Request, dead_name, in_task, in_message, in_request, Token, token, count, is_of, is_held, Moves}
+use Rattle.mach_types.specs.Tokens.{Kind, receive, send, send_once, Request, in_task, in_message, in_request, Token, token, count, is_of, is_held, Moves}
 use Rattle.mach_model.specs.State.{State, Target, lookup, held, at}
 use Rattle.mach_model.specs.Death.{same_place}
 use Rattle.mach_model.specs.ReceiveRight.{one_if}
 use Rattle.mach_model.specs.CopyIn.{name_kept}
-use Rattle.mach_model.specs.NotYet.{NoRequests}
 use Rattle.mach_model.proofs.At.{at_own, at_other}
 use Rattle.mach_model.proofs.Weigh.{length-weigh}
 use Rattle.mach_model.proofs.Moving.{IsMoving, shape}
@@ -25,9 +24,9 @@ use Rattle.rights.specs.Ledger.{LedgerView}
 use Rattle.copyin_base.specs.Kept.{Kept}
 use Rattle.copyin_base.specs.Worlds.{WorldView, port_at, put, space_at}
 use Rattle.copyin.specs.Copies.{port_copied}
-use Rattle.copyin_base.specs.Shows.{onces_queued, CountsAgree, ShowsPort, target_of, HasCount, Agrees}
+use Rattle.copyin_base.specs.Shows.{onces_queued, CountsAgree, ShowsPort, target_of, HasCount, Agrees, RequestsStand}
 use Rattle.copyin_base.proofs.AttributesSet.{is_at}
-use Rattle.copyin_base.proofs.Requesting.{none_ended}
+use Rattle.copyin_base.proofs.Requesting.{stands_after}
 use Rattle.copyin_base.proofs.Counting.{counts_same}
 use Rattle.copyin_base.proofs.Changing.{named_no_set, Rest, changed_agrees}
 use Rattle.copyin.proofs.PortCopied.{ports_made, ports_live, port_changed}
@@ -43,7 +42,7 @@ once_no_set : (p set : ℕ) → Target.once p ≡ Target.set set → ⊥
 once_no_set p set e = cc
 
 module _ (w : WorldView) (s : State) (a : Agrees w s) (o k : ℕ) (l : IsMoving s o k) (task name : ℕ) (space : SpaceView) (there : space_at w task ≡ Some space)
-    (entry : Entry) (found : map.get space.names name ≡ Some entry) (none : NoRequests s.stands) where
+    (entry : Entry) (found : map.get space.names name ≡ Some entry) (requested : RequestsStand w) where
   is_named : lookup s task name ≡ Some (target_of entry)
   is_named = stands_for w s a o k l task name space there entry found
 
@@ -84,9 +83,10 @@ module _ (w : WorldView) (s : State) (a : Agrees w s) (o k : ℕ) (l : IsMoving 
     others_named true u not = refl
     others_named false u not = at_other s.naming task (map.remove (s.naming task) name) u not
 
-    stands_are : (x : Bool) (r : Request) → (kept x).stands r ≡ s.stands r
-    stands_are true r = refl
-    stands_are false r = none_ended s.stands none (dead_name task name) r
+    -- where the name goes the request on it ends
+    stands_are : (x : Bool) → LeftIs entry x left → (r : Request) → (kept x).stands r ≡ stands_after s.stands task name left r
+    stands_are true h r = ap (λ (y : Option Entry). stands_after s.stands task name y r) (sym h.1)
+    stands_are false h r = ap (λ (y : Option Entry). stands_after s.stands task name y r) (sym h)
 
     tokens_of : (x : Bool) → (kept x).ledger ≡ ledger
     tokens_of x = refl
@@ -96,7 +96,7 @@ module _ (w : WorldView) (s : State) (a : Agrees w s) (o k : ℕ) (l : IsMoving 
         ((e : Entry) → left ≡ Some e → HasCount e) → ((set : ℕ) → target_of entry ≡ Target.set set → ⊥) → w2.ledger ≡ w.ledger →
         w2.ports.made ≡ w.ports.made → ((q : ℕ) → is_some (port_at w2 q) ≡ is_some (port_at w q)) →
         ((q : ℕ) (v : PortView Kept) → port_at w2 q ≡ Some v → ShowsPort v moved_state q) →
-        Rest w w2 s moved_state task entry left
+        Rest w w2 s moved_state task name entry left
     moved_rest w2 own other count_is no_set same_ledger made live ports = record {
       rest = shape_is b;
       naming_others = others_named b;
@@ -109,7 +109,7 @@ module _ (w : WorldView) (s : State) (a : Agrees w s) (o k : ℕ) (l : IsMoving 
       ports = ports;
       counts = λ q. subst (λ (x : LedgerView). CountsAgree x moved_state.live_port ledger (onces_queued moved_state) q) (sym same_ledger) (counts_are b q);
       total = let t = ap (λ x. x.total) same_ledger in let m = moves (λ x. 1) in omega (arith, t, a.total, m, length-weigh s.ledger, length-weigh ledger);
-      stands = stands_are b;
+      stands = stands_are b is_left;
       requests = λ r c q.
           let m = moves (λ x. if is_of c q x && same_place (in_request r) x.place then 1 else 0) in
           let y = kept_task r task c kind q p in let z = kept_entry r o k c kind q p in omega (arith, m, y, z);
@@ -173,10 +173,9 @@ module _ (w : WorldView) (s : State) (a : Agrees w s) (o k : ℕ) (l : IsMoving 
             tokens = moves send p holds b left is_left s.sets_of s.make_send s.sequence;
           };
           agrees = changed_agrees w s a task name (l.naming task) space there entry found left space.room w.ports w.ledger t
-              (moved_named send p holds b left is_left s.sets_of s.make_send s.sequence)
+              (moved_named send p holds b left is_left s.sets_of s.make_send s.sequence) requested
               (moved_rest send p holds b left is_left s.sets_of s.make_send s.sequence (after w task name space MoveSend c) own
               (λ q not. elsewhere q (λ e. not (named ∙ ap Some (sym e)))) (λ e is. (left_is e is).0) (named_no_set entry p named) refl refl (λ q. refl) (kept_ports b));
-          stands = stands_are send p holds b left is_left s.sets_of s.make_send s.sequence b;
         }
       where
         rest_is : (x : Bool) → (nat_lt 1 (held s task send p) || nat_lt 0 (held s task receive p)) ≡ x →
@@ -221,11 +220,10 @@ module _ (w : WorldView) (s : State) (a : Agrees w s) (o k : ℕ) (l : IsMoving 
             tokens = moves send_once p once_some false None refl s.sets_of s.make_send s.sequence;
           };
           agrees = changed_agrees w s a task name (l.naming task) space there entry found None space.room w.ports w.ledger once_state
-              (moved_named send_once p once_some false None refl s.sets_of s.make_send s.sequence)
+              (moved_named send_once p once_some false None refl s.sets_of s.make_send s.sequence) requested
               (moved_rest send_once p once_some false None refl s.sets_of s.make_send s.sequence (after w task name space MoveSendOnce c)
               (λ e q is. absurd (no_entry e is)) (λ q not. (others_held receive q refl, others_held send q refl)) (λ e is. absurd (no_entry e is))
               (λ set e. once_no_set p set (ap target_of (sym is_once) ∙ e)) refl refl (λ q. refl) a.ports);
-          stands = stands_are send_once p once_some false None refl s.sets_of s.make_send s.sequence false;
         }
 
   -- ---- the receive right moves
@@ -290,10 +288,9 @@ module _ (w : WorldView) (s : State) (a : Agrees w s) (o k : ℕ) (l : IsMoving 
             tokens = moves receive p receive_held b left is_left f1 f2 f3;
           };
           agrees = changed_agrees w s a task name (l.naming task) space there entry found left space.room (port_copied MoveReceive p w.ports (map.get w.ports.ports p)) w.ledger receive_state
-              (moved_named receive p receive_held b left is_left f1 f2 f3)
+              (moved_named receive p receive_held b left is_left f1 f2 f3) requested
               (moved_rest receive p receive_held b left is_left f1 f2 f3 (after w task name space MoveReceive c) left_held
               (λ q not. not_here q (λ e. not (named ∙ ap Some (sym e)))) (λ e is. (left_is e is).0) (named_no_set entry p named) refl
               (ports_made w s a MoveReceive p v.0 v.1) (ports_live w s a MoveReceive p v.0 v.1)
               (port_changed w s a MoveReceive p v.0 v.1 receive_state (shape_is receive p receive_held b left is_left f1 f2 f3 b) (is_at s.make_send p 0) (is_at s.sequence p 0) (is_at s.sets_of p [])));
-          stands = stands_are receive p receive_held b left is_left f1 f2 f3 b;
         }

@@ -78,7 +78,7 @@ module _ (w : WorldView) (s : State) (o k task : ℕ) (names : Names) (at : Alon
       record {
         w2 = w;
         t = s;
-        along = record { agrees = at.agrees; moving = at.moving; space = at.space; there = at.there; names_are = at.names_are ∙ sym h; none = at.none };
+        along = record { agrees = at.agrees; moving = at.moving; space = at.space; there = at.there; names_are = at.names_are ∙ sym h; requested = at.requested };
         copy = (zero_kind, null_if zero_kind, refl);
         changes = refl;
         rest = refl;
@@ -106,7 +106,7 @@ module _ (w : WorldView) (s : State) (sh : Shows w s) (task : ℕ) (bytes : List
   message = message_of j.port (message_for bytes j) text.written
 
   pub start : Along w s j.port (length (s.log j.port)) task j.space.names
-  start = record { agrees = sh.agrees; moving = moving s j.port (length (s.log j.port)) sh.lawful; space = j.space; there = j.there; names_are = refl; none = sh.quiet.none_stands }
+  start = record { agrees = sh.agrees; moving = moving s j.port (length (s.log j.port)) sh.lawful; space = j.space; there = j.there; names_are = refl; requested = sh.requested }
 
   pub first : Went w s j.port (length (s.log j.port)) task (destination_word parsed) j.destination j.first
   first = went w s j.port (length (s.log j.port)) task j.space.names (destination_word parsed) j.destination j.first start j.copies_destination

@@ -55,7 +55,7 @@ bad_words w s o k task names (v ∷ ws) at (inr (mid, (c, word), rest)) =
 
 module _ (w : WorldView) (s : State) (sh : Shows w s) (task : ℕ) (bytes : List ℕ) (parsed : Parsed) (text : Parses bytes parsed) where
   start_at : (p : ℕ) (space : SpaceView) → space_at w task ≡ Some space → Along w s p (length (s.log p)) task space.names
-  start_at p space there = record { agrees = sh.agrees; moving = moving s p (length (s.log p)) sh.lawful; space = space; there = there; names_are = refl; none = sh.quiet.none_stands }
+  start_at p space there = record { agrees = sh.agrees; moving = moving s p (length (s.log p)) sh.lawful; space = space; there = there; names_are = refl; requested = sh.requested }
 
   -- ---- the destination
 

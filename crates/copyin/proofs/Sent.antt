@@ -24,10 +24,11 @@ use Rattle.port.specs.Ports.{PortView, with_port}
 use Rattle.copyin_base.specs.Kept.{Kept, Keeps}
 use Rattle.copyin_base.specs.Worlds.{WorldView, port_at}
 use Rattle.rights.specs.Ledger.{counts_of}
-use Rattle.copyin_base.specs.Shows.{AllKept, came_by_once, onces_queued, ShowsPort, CountsAgree, Agrees, Shows}
+use Rattle.copyin_base.specs.Shows.{AllKept, came_by_once, onces_queued, ShowsPort, CountsAgree, Agrees, RequestsStand, Shows}
 use Rattle.copyin_base.proofs.Counting.{once_queued, queues_same}
 use Rattle.copyin_base.proofs.Tied.{stands_is_tied}
 use Rattle.copyin.specs.Copies.{ledger_queued}
+use Rattle.copyin.proofs.RequestedKept.{commits_requested}
 use Rattle.copyin.proofs.Unused.{once_stays}
 use Rattle.copyin_base.proofs.Agreeing.{live_put, ports_put}
 use Rattle.copyin.specs.Plans.{destination_word, reply_words, option_list, Judged, made_in, message_for, HasSlot, HasNoSlot, Commits}
@@ -230,3 +231,6 @@ module _ (w : WorldView) (s : State) (sh : Shows w s) (now task : ℕ) (bytes : 
         ledger = ledger_queued (same_kind (kind_sent j.destination.given) send_once) j.port y.ledger;
       }) (sym mid_is) ∙ sym c.rest)
       (appended_agrees x.w2 copied_state x.along.agrees j.port c.v there (message_for bytes j) now m keeps within (w.ports.spare - 1) is_unused)
+
+  pub sent_requested : (new : WorldView) → Commits w task parsed text.written j bytes new → RequestsStand new
+  sent_requested new c = commits_requested w task parsed text.written j bytes new c sh.requested

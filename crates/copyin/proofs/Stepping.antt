@@ -9,7 +9,6 @@ use Rattle.mach_types.specs.Tokens.{in_message}
 use Rattle.mach_types.specs.Messages.{null, dead}
 use Rattle.mach_model.specs.State.{State}
 use Rattle.mach_model.specs.CopyIn.{CopyRight, CopyWord}
-use Rattle.mach_model.specs.NotYet.{NoRequests}
 use Rattle.mach_model.proofs.Moving.{IsMoving, shape}
 use Rattle.mach_model.proofs.CopyingIn.{CopyRight-copies}
 use Rattle.message_codec.specs.declared.words.PortWord.{PortWord}
@@ -22,11 +21,12 @@ use Rattle.copyin_base.specs.declared.message.Mark.TheVariants as mark
 use Rattle.copyin_base.specs.Kept.{mark_of}
 use Rattle.copyin.specs.Copies.{copied_from, CopiesRight, ledger_copied}
 use Rattle.copyin_base.specs.Worlds.{WorldView, put, space_at}
-use Rattle.copyin_base.specs.Shows.{Agrees}
+use Rattle.copyin_base.specs.Shows.{Agrees, RequestsStand}
 use Rattle.copyin.specs.Judging.{CopiesName, CopiesWord, PassesAs, made_by, made_by_mark}
 use Rattle.copyin.specs.Plans.{ChangesWord, ChangesWords}
 use Rattle.copyin.proofs.CopiedIn.{after}
 use Rattle.copyin.proofs.GoesIn.{goes}
+use Rattle.copyin.proofs.RequestedKept.{copied_requested}
 use Rattle.copyin_base.proofs.Spaces.{space-set_same}
 
 -- Tables and a state that agree while rights are on their way; the task has these names.
@@ -36,8 +36,7 @@ pub record Along (w : WorldView) (s : State) (o k task : ℕ) (names : Names) : 
   pub space : SpaceView
   pub there : space_at w task ≡ Some space
   pub names_are : space.names ≡ names
-  -- no request stands
-  pub none : NoRequests s.stands
+  pub requested : RequestsStand w
 
 -- ---- how many rights are made
 
@@ -87,12 +86,14 @@ pub went : (w : WorldView) (s : State) (o k task : ℕ) (names : Names) (word : 
     Went w s o k task word c left
 went w s o k task names word c left at n =
     let found : map.get at.space.names word.name ≡ Some n.entry = ap (λ (m : Names). map.get m word.name) at.names_are ∙ n.found in
-    let g = goes w s at.agrees o k at.moving task word.name at.space at.there at.none c.given n.entry n.copied found n.is in
+    let g = goes w s at.agrees o k at.moving task word.name at.space at.there at.requested c.given n.entry n.copied found n.is in
     let copy : CopyRight task (in_message o k) word.disposition word.name s (mark_of c.mark) g.t =
     subst (λ (x : _). CopyRight task (in_message o k) word.disposition word.name s (mark_of x) g.t) (sym n.mark) (g.copy word.disposition n.is_given) in
     let copies = CopyRight-copies task o k word.disposition word.name s (mark_of c.mark) g.t at.moving copy in
+    let w2 = after w task word.name at.space c.given n.copied in
+    let changes : CopiesRight w task c.given word.name c.mark w2 = record { space = at.space; there = at.there; entry = n.entry; found = found; copied = n.copied; is = n.is; mark_is = n.mark; rest = refl } in
     record {
-      w2 = after w task word.name at.space c.given n.copied;
+      w2 = w2;
       t = g.t;
       along = record {
         agrees = g.agrees;
@@ -100,10 +101,10 @@ went w s o k task names word c left at n =
         space = record at.space { names = put at.space.names word.name n.copied.left };
         there = space-set_same w.spaces task (record at.space { names = put at.space.names word.name n.copied.left }) at.space at.there;
         names_are = ap (λ (m : Names). put m word.name n.copied.left) at.names_are ∙ sym n.left;
-        none = λ r. g.stands r ∙ at.none r;
+        requested = copied_requested w w2 task c.given word.name c.mark changes at.requested;
       };
       copy = copy;
-      changes = record { space = at.space; there = at.there; entry = n.entry; found = found; copied = n.copied; is = n.is; mark_is = n.mark; rest = refl };
+      changes = changes;
       rest = copies.rest;
       total = ledger_total c.given n.copied.mark w.ledger ∙ ap (λ (m : Mark). w.ledger.total + made_by_mark c.given m) (sym n.mark);
     }
@@ -132,7 +133,7 @@ module _ (w : WorldView) (s : State) (o k task : ℕ) (names : Names) (word : Po
     pub total : w2.ledger.total ≡ w.ledger.total + made_by c
 
   stays : left ≡ names → Along w s o k task left
-  stays e = record { agrees = at.agrees; moving = at.moving; space = at.space; there = at.there; names_are = at.names_are ∙ sym e; none = at.none }
+  stays e = record { agrees = at.agrees; moving = at.moving; space = at.space; there = at.there; names_are = at.names_are ∙ sym e; requested = at.requested }
 
   nothing : made_by c ≡ 0 → w.ledger.total ≡ w.ledger.total + made_by c
   nothing e = omega (arith, e)

@@ -13,6 +13,7 @@ use Rattle.rights.specs.declared.RightKind.TheVariants as right
 use Rattle.copyin_base.specs.declared.message.Mark.{Mark}
 use Rattle.copyin_base.specs.declared.message.Mark.TheVariants as mark
 use Rattle.copyin_base.specs.Kept.{Kept}
+use Rattle.copyin_base.specs.Requests.{requests_after}
 use Rattle.copyin_base.specs.Worlds.{WorldView, put, space_at}
 use Rattle.copyin.specs.declared.copies.Copied.{Copied}
 
@@ -72,7 +73,7 @@ ledger_copied d one ledger = ledger
 abbrev pub ledger_queued : (by_once : Bool) → (port : ℕ) → LedgerView → LedgerView
 ledger_queued by_once port ledger = if by_once then shifted ledger port else ledger
 
--- A right is copied in from what stands under the name.
+-- A right is copied in from what stands under the name. Where nothing is left there the name goes, and the request on it ends.
 pub record CopiesRight (old : WorldView) (task : ℕ) (d : Disposition) (name : ℕ) (one : Mark) (new : WorldView) : Type 0 where
   pub space : SpaceView
   pub there : space_at old task ≡ Some space
@@ -85,4 +86,5 @@ pub record CopiesRight (old : WorldView) (task : ℕ) (d : Disposition) (name : 
     spaces = slice_set old.spaces task (Some (record space { names = put space.names name copied.left }));
     ports = ports_copied d copied.mark old.ports;
     ledger = ledger_copied d copied.mark old.ledger;
+    requests = requests_after old.requests task name copied.left;
   }

@@ -26,7 +26,8 @@ use name_space::Entry;
 use port::{Attributes, Ports};
 use rights::{Ledger, RightKind};
 
-// The receive right goes from its port, whose counts start again and which is in no set.
+// The receive right goes from its port, whose counts start again and which is in no set. Its holder is
+// set where it is given.
 fn leave_port(ports: &mut Ports<Queued>, port: PortId)
     ensures { ports.new ≡ ports_copied disposition_of.MoveReceive (mark_of.Port port) ports.old }
 {
@@ -90,7 +91,8 @@ fn entry_under(world: &World, task: TaskId, name: Name) -> Option<Entry>
 }
 
 // Leaves what is left of the right under the name that it goes from, and tells what stands for the
-// right. One that is made from a right that stays leaves just that: no name is looked up for it.
+// right. Where nothing is left the name goes, and the request on it ends. One that is made from a right
+// that stays leaves just that: no name is looked up for it.
 fn leave_name(world: &mut World, task: TaskId, name: Name, carried: Carried) -> Mark
     requires { CanCopy world.old task name carried }
     ensures left { (can : CanCopy world.old task name carried) → PutsLeft world.old task name can.copied.left world.new }
@@ -119,7 +121,9 @@ fn count_copied(world: &mut World, carried: Carried)
 }
 
 /// The right under the name goes by its disposition: what is left stays under the name, the port
-/// changes as the disposition says, and a right that is made is counted.
+/// changes as the disposition says, and a right that is made is counted. Where nothing is left the name
+/// goes, and the request on it ends: its right is kept until the step's end pays with it. A send right
+/// that moves is counted as before, and a receive right has the holder that it had.
 ///
 /// Takes no memory. Constant time, and logarithmic for a name above 65,535. A right that is made
 /// from one that stays looks up no name.

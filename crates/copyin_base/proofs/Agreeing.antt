@@ -127,6 +127,24 @@ module _ (ports : map.FinMap nat_cmp (PortView Kept)) (p : ℕ) (v2 : PortView K
 
 -- ---- all together
 
+-- What is to be known of the change, but for the requests.
+pub record NearBy (w w2 : WorldView) (s t : State) (task : ℕ) (space2 : SpaceView) : Type 0 where
+  pub spaces : w2.spaces ≡ slice_set w.spaces task (Some space2)
+  pub rest : t ≡ shape s t
+  pub naming_others : (u : ℕ) → (u ≡ task → ⊥) → t.naming u ≡ s.naming u
+  pub names : NamesAgree space2.names (t.naming task)
+  pub held_others : (u : ℕ) → (u ≡ task → ⊥) → (kind : Kind) (q : ℕ) → held t u kind q ≡ held s u kind q
+  pub references : CountRights space2.names task t.ledger
+  pub made : w2.ports.made ≡ w.ports.made
+  pub live : (p : ℕ) → is_some (port_at w2 p) ≡ is_some (port_at w p)
+  pub ports : (p : ℕ) (v : PortView Kept) → port_at w2 p ≡ Some v → ShowsPort v t p
+  pub counts : (p : ℕ) → ShowsCounts w2 t p
+  pub total : w2.ledger.total ≡ length t.ledger
+  -- the sets are as they were, and what named one still does
+  pub sets : w2.sets ≡ w.sets
+  pub set_names : (n set : ℕ) → lookup s task n ≡ Some (Target.set set) → map.get (t.naming task) n ≡ Some (Target.set set)
+
+-- ... where requests and their rights are as they were
 pub record Near (w w2 : WorldView) (s t : State) (task : ℕ) (space2 : SpaceView) : Type 0 where
   pub spaces : w2.spaces ≡ slice_set w.spaces task (Some space2)
   pub rest : t ≡ shape s t
@@ -148,7 +166,7 @@ pub record Near (w w2 : WorldView) (s t : State) (task : ℕ) (space2 : SpaceVie
   pub set_names : (n set : ℕ) → lookup s task n ≡ Some (Target.set set) → map.get (t.naming task) n ≡ Some (Target.set set)
 
 module _ (w w2 : WorldView) (s t : State) (a : Agrees w s) (task : ℕ) (space space2 : SpaceView) (there : space_at w task ≡ Some space)
-    (near : Near w w2 s t task space2) where
+    (near : NearBy w w2 s t task space2) where
   -- the groups, before what they stand over is that of the tables and of the state now
   tasks_agree : SpacesAgree (slice_set w.spaces task (Some space2)) s.live_task s.tasks_made t.naming
   tasks_agree = spaces_agree w.spaces task space space2 there s.live_task s.tasks_made s.naming t.naming a.spaces near.names near.naming_others
@@ -159,11 +177,8 @@ module _ (w w2 : WorldView) (s t : State) (a : Agrees w s) (task : ℕ) (space s
   in_sets_agree : SetsAgree w.sets s.set_owner s.sets_made t.naming
   in_sets_agree = sets_stay w.sets s.set_owner s.sets_made s.naming t.naming a.in_sets task near.naming_others near.set_names
 
-  made : w2.ports.made ≡ w.ports.made
-  made = near.made
-
-  pub near_agrees : Agrees w2 t
-  near_agrees = record {
+  pub near_by_agrees : RequestsAgree (notify_of w2.requests) w2.requests.names.went w2.ports.made t.stands t.live_port t.ledger → Agrees w2 t
+  near_by_agrees of_requests = record {
     spaces = subst (λ (x : List (Option SpaceView)). SpacesAgree x t.live_task t.tasks_made t.naming) (sym near.spaces)
         (subst (λ (x : State). SpacesAgree (slice_set w.spaces task (Some space2)) x.live_task x.tasks_made t.naming) (sym near.rest) tasks_agree);
     rights = subst (λ (x : List (Option SpaceView)). ReferencesAgree x t.ledger) (sym near.spaces) rights_agree;
@@ -174,7 +189,31 @@ module _ (w w2 : WorldView) (s t : State) (a : Agrees w s) (task : ℕ) (space s
     total = near.total;
     in_sets = subst (λ (x : SetsView). SetsAgree x t.set_owner t.sets_made t.naming) (sym near.sets)
         (subst (λ (x : State). SetsAgree w.sets x.set_owner x.sets_made t.naming) (sym near.rest) in_sets_agree);
-    of_requests = subst (λ (x : RequestTablesView). RequestsAgree (notify_of x) w2.ports.made t.stands t.live_port t.ledger) (sym near.kept_requests)
-        (requests_stay (notify_of w.requests) w.ports.made w2.ports.made s.stands t.stands s.live_port t.live_port s.ledger t.ledger a.of_requests
-        (omega (arith, made)) near.stands (λ q less. ap (λ (x : State). x.live_port q) near.rest) near.requests);
+    of_requests = of_requests;
   }
+
+module _ (w w2 : WorldView) (s t : State) (a : Agrees w s) (task : ℕ) (space space2 : SpaceView) (there : space_at w task ≡ Some space)
+    (near : Near w w2 s t task space2) where
+  made : w2.ports.made ≡ w.ports.made
+  made = near.made
+
+  pub near_agrees : Agrees w2 t
+  near_agrees = near_by_agrees w w2 s t a task space space2 there
+      record {
+        spaces = near.spaces;
+        rest = near.rest;
+        naming_others = near.naming_others;
+        names = near.names;
+        held_others = near.held_others;
+        references = near.references;
+        made = near.made;
+        live = near.live;
+        ports = near.ports;
+        counts = near.counts;
+        total = near.total;
+        sets = near.sets;
+        set_names = near.set_names;
+      }
+      (subst (λ (x : RequestTablesView). RequestsAgree (notify_of x) x.names.went w2.ports.made t.stands t.live_port t.ledger) (sym near.kept_requests)
+      (requests_stay (notify_of w.requests) w.requests.names.went w.ports.made w2.ports.made s.stands t.stands s.live_port t.live_port s.ledger t.ledger a.of_requests
+      (omega (arith, made)) near.stands (λ q less. ap (λ (x : State). x.live_port q) near.rest) near.requests))

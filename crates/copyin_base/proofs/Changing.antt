@@ -1,5 +1,5 @@
 -- One name of a task has changed, in the tables and in the machine alike.
-use Rattle.std.proofs.Common.{◌≡◌, ℕ, Option, Some, None, refl, sym, ap, subst, ◌∙◌, ◌⊎◌, inl, inr, length}
+use Rattle.std.proofs.Common.{◌≡◌, ℕ, ◌<◌, ◌^◌, arith, Option, Some, None, refl, sym, ap, subst, ◌∙◌, ◌⊎◌, inl, inr, length}
 use Rattle.std.specs.Prelude.{is_some}
 use Rattle.std.specs.Option.{option_map}
 use Rattle.std.specs.FinMap as map
@@ -17,8 +17,12 @@ use Rattle.port.specs.Ports.{PortView, PortsView}
 use Rattle.rights.specs.Ledger.{LedgerView}
 use Rattle.copyin_base.specs.Kept.{Kept}
 use Rattle.copyin_base.specs.Worlds.{WorldView, space_at, with_space, entry_in, entry_at, port_at, put}
-use Rattle.copyin_base.specs.Shows.{target_of, HasCount, ShowsPort, ShowsCounts, Agrees}
-use Rattle.copyin_base.proofs.Agreeing.{NamesAgree, CountRights, own_names, put_names, near_agrees}
+use Rattle.request_table.specs.declared.Request.{Request as NameRequest}
+use Rattle.request_table.specs.Requests.{name_key}
+use Rattle.copyin_base.specs.Requests.{notify_of, RequestsAgree, requests_after}
+use Rattle.copyin_base.specs.Shows.{target_of, HasCount, ShowsPort, ShowsCounts, Agrees, RequestsStand}
+use Rattle.copyin_base.proofs.Agreeing.{NamesAgree, CountRights, own_names, put_names, near_by_agrees}
+use Rattle.copyin_base.proofs.Requesting.{same_key, stands_after, requests_stay, requests_left}
 use Rattle.copyin_base.proofs.Putting.{each_put, put_other}
 
 -- an entry by receive or send rights stands for its port
@@ -45,7 +49,7 @@ same_port (Some q) p = elim (eqb_tells q p) [
 ]
 
 -- The rest of what is to be known of a change: the ports, the counts, and the rights that the task has now.
-pub record Rest (w w2 : WorldView) (s t : State) (task : ℕ) (entry : Entry) (left : Option Entry) : Type 0 where
+pub record Rest (w w2 : WorldView) (s t : State) (task name : ℕ) (entry : Entry) (left : Option Entry) : Type 0 where
   pub rest : t ≡ shape s t
   pub naming_others : (u : ℕ) → (u ≡ task → ⊥) → t.naming u ≡ s.naming u
   pub held_others : (u : ℕ) → (u ≡ task → ⊥) → (kind : Kind) (q : ℕ) → held t u kind q ≡ held s u kind q
@@ -57,7 +61,8 @@ pub record Rest (w w2 : WorldView) (s t : State) (task : ℕ) (entry : Entry) (l
   pub ports : (p : ℕ) (v : PortView Kept) → port_at w2 p ≡ Some v → ShowsPort v t p
   pub counts : (p : ℕ) → ShowsCounts w2 t p
   pub total : w2.ledger.total ≡ length t.ledger
-  pub stands : (r : Request) → t.stands r ≡ s.stands r
+  -- where the name goes the request on it ends
+  pub stands : (r : Request) → t.stands r ≡ stands_after s.stands task name left r
   pub requests : (r : Request) (kind : Kind) (q : ℕ) → lying t kind q (in_request r) ≡ lying s kind q (in_request r)
   pub no_set : (set : ℕ) → target_of entry ≡ Target.set set → ⊥
 
@@ -82,7 +87,7 @@ module _ (w : WorldView) (s : State) (a : Agrees w s) (task name : ℕ) (naming 
     space2 = record space { names = put space.names name left; room = room }
 
     abbrev w2 : WorldView
-    w2 = record (with_space w task space2) { ports = ports; ledger = ledger }
+    w2 = record (with_space w task space2) { ports = ports; ledger = ledger; requests = requests_after w.requests task name left }
 
     -- another name isn't of the same port
     not_same : (n : ℕ) (e : Entry) (p : ℕ) → (n ≡ name → ⊥) → map.get space.names n ≡ Some e → port_named e ≡ Some p → port_named entry ≡ Some p → ⊥
@@ -91,7 +96,7 @@ module _ (w : WorldView) (s : State) (a : Agrees w s) (task name : ℕ) (naming 
         let y : lookup s task name ≡ Some (Target.port p) = target_found ∙ ap Some (target_named entry p own_named) in
         not (naming.one_name n name p x y)
 
-    references : Rest w w2 s t task entry left → CountRights (put space.names name left) task t.ledger
+    references : Rest w w2 s t task name entry left → CountRights (put space.names name left) task t.ledger
     references r = each_put space.names name left (λ n x. (e : Entry) (p : ℕ) → x ≡ Some e → port_named e ≡ Some p →
         (held t task receive p ≡ one_if (has_receive e)) × (held t task send p ≡ send_references e))
         r.own_references (λ n not e p is en.
@@ -109,22 +114,38 @@ module _ (w : WorldView) (s : State) (a : Agrees w s) (task name : ℕ) (naming 
         the_target : (x y : Target) → Some x ≡ Some y → x ≡ y
         the_target x y e = cc
 
-    pub changed_agrees : Rest w w2 s t task entry left → Agrees w2 t
-    changed_agrees r = near_agrees w w2 s t a task space space2 there record {
-      spaces = refl;
-      rest = r.rest;
-      naming_others = r.naming_others;
-      names = subst (NamesAgree (put space.names name left)) (sym own) (put_names space.names (s.naming task) (own_names w s a task space there) name left r.own_count);
-      held_others = r.held_others;
-      references = references r;
-      made = r.made;
-      live = r.live;
-      ports = r.ports;
-      counts = r.counts;
-      total = r.total;
-      kept_requests = refl;
-      stands = r.stands;
-      requests = r.requests;
-      sets = refl;
-      set_names = set_names r.no_set;
-    }
+    small : name < 2 ^ 32
+    small = naming.space.name_fits name (target_of entry) target_found
+
+    -- the request on the name is kept by it
+    own_request : RequestsStand w → (r : NameRequest) → map.get w.requests.names.requests (name_key task name) ≡ Some r → (r.task ≡ task) × (r.name ≡ name)
+    own_request requested r is =
+        let on = requested.on_names (name_key task name) r is in
+        same_key r.task r.name task name on.small small on.own
+
+    requests_agree : RequestsStand w → Rest w w2 s t task name entry left →
+        RequestsAgree (notify_of w2.requests) w2.requests.names.went w2.ports.made t.stands t.live_port t.ledger
+    requests_agree requested r =
+        let made = r.made in
+        requests_stay (notify_of w2.requests) w2.requests.names.went w.ports.made ports.made (stands_after s.stands task name left) t.stands s.live_port t.live_port s.ledger t.ledger
+        (requests_left w.requests task name small (own_request requested) w.ports.made s.stands s.live_port s.ledger a.of_requests left)
+        (omega (arith, made)) r.stands (λ q less. ap (λ (x : State). x.live_port q) r.rest) r.requests
+
+    pub changed_agrees : RequestsStand w → Rest w w2 s t task name entry left → Agrees w2 t
+    changed_agrees requested r = near_by_agrees w w2 s t a task space space2 there
+        record {
+          spaces = refl;
+          rest = r.rest;
+          naming_others = r.naming_others;
+          names = subst (NamesAgree (put space.names name left)) (sym own) (put_names space.names (s.naming task) (own_names w s a task space there) name left r.own_count);
+          held_others = r.held_others;
+          references = references r;
+          made = r.made;
+          live = r.live;
+          ports = r.ports;
+          counts = r.counts;
+          total = r.total;
+          sets = refl;
+          set_names = set_names r.no_set;
+        }
+        (requests_agree requested r)

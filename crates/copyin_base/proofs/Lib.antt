@@ -21,3 +21,10 @@ pub mod Acting
 pub mod Finding
 pub mod Exiting
 pub mod Notices
+pub mod Listed
+pub mod SendersNoted
+pub mod Carriers
+pub mod Requested
+pub mod Idle
+pub mod Noting
+pub mod KeptEntries

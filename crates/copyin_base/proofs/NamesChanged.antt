@@ -1,9 +1,12 @@
 -- Only names of one task have changed, and no right was made or lost: the tables still agree.
-use Rattle.std.proofs.Common.{◌≡◌, ℕ, Option, Some, None, refl, sym, ap, subst, ◌∙◌, Bool, inl, inr, arith}
+use Rattle.std.proofs.Common.{◌≡◌, ℕ, ◌<◌, ◌^◌, true, List, length, Option, Some, None, refl, sym, ap, subst, ◌∙◌, Bool, inl, inr, arith}
 use Rattle.std.specs.Option.{option_map}
 use Rattle.std.specs.FinMap as map
 use Rattle.std.proofs.lemmas.Bool.Decides.{eqb_tells}
-use Rattle.mach_types.specs.Tokens.{Request}
+use Rattle.mach_types.specs.Tokens.{Kind, receive, send, Request, Token, count, is_of, is_held}
+use Rattle.mach_model.specs.Lawful.{IsLawful}
+use Rattle.mach_model.specs.Unused.{onces_queued}
+use Rattle.request_table.specs.Requests.{name_key}
 use Rattle.mach_model.specs.State.{State, Target, Names, lookup, at}
 use Rattle.mach_model.proofs.At.{at_own, at_other}
 use Rattle.mach_model.proofs.Names.{get_own}
@@ -14,9 +17,11 @@ use Rattle.name_space.specs.Names.{Names as TableNames}
 use Rattle.port_set.specs.declared.SetRecord.{SetRecord}
 use Rattle.port_set.specs.Sets.{SetsView, renamed}
 use Rattle.copyin_base.specs.Worlds.{WorldView, space_at, with_space}
-use Rattle.copyin_base.specs.Requests.{notify_of}
-use Rattle.copyin_base.specs.Shows.{target_of, HasCount, SetsAgree, Agrees}
-use Rattle.copyin_base.proofs.Requesting.{requests_stay}
+use Rattle.copyin_base.specs.Requests.{RequestTablesView, notify_of, RequestsAgree, requests_after}
+use Rattle.copyin_base.specs.Shows.{target_of, HasCount, SetsAgree, Agrees, RequestsStand}
+use Rattle.copyin_base.proofs.Counting.{counts_same}
+use Rattle.copyin_base.proofs.Requesting.{same_key, stands_after, requests_left}
+use Rattle.copyin_base.proofs.Told.{is_there}
 use Rattle.copyin_base.proofs.Agreeing.{NamesAgree, CountRights, own_names, own_rights, put_names, put_rights, spaces_agree, references_agree, sets_stay}
 use Rattle.copyin_base.proofs.Gets.{of_some, same_found}
 use Rattle.copyin_base.proofs.Putting.{each_put, put_other, get_removed}
@@ -40,23 +45,42 @@ module _ (w : WorldView) (s : State) (a : Agrees w s) (task : ℕ) (space : Spac
   kept_by own stays = sets_stay w.sets s.set_owner s.sets_made s.naming (at s.naming task own) a.in_sets task (others own)
       (λ n set is. ap (λ (m : Names). map.get m n) (at_own s.naming task own) ∙ stays n set is)
 
-  pub names_agree : (names : TableNames) (room : ℕ) (own : Names) (stands : Request → Bool) (sets : SetsView) (owner : ℕ → Option ℕ) (made : ℕ) →
-      ((r : Request) → stands r ≡ s.stands r) → NamesAgree names own → CountRights names task s.ledger → SetsAgree sets owner made (at s.naming task own) →
-      Agrees (record (with_space w task (record space { names = names; room = room })) { sets = sets })
-      (record s { naming = at s.naming task own; stands = stands; set_owner = owner; sets_made = made })
-  names_agree names room own stands sets owner made same named counted in_sets = record {
+  -- Names, sets and requests are these now, and as many rights are there, and with each task, though they may lie at other requests.
+  pub names_agree_with : (names : TableNames) (room : ℕ) (own : Names) (stands : Request → Bool) (sets : SetsView) (owner : ℕ → Option ℕ) (made : ℕ) (requests : RequestTablesView) (tokens : List Token) →
+      ((kind : Kind) (q : ℕ) → count (is_of kind q) tokens ≡ count (is_of kind q) s.ledger) → ((u : ℕ) (kind : Kind) (q : ℕ) → count (is_held u kind q) tokens ≡ count (is_held u kind q) s.ledger) →
+      length s.ledger ≡ length tokens → RequestsAgree (notify_of requests) requests.names.went w.ports.made stands s.live_port tokens → NamesAgree names own → CountRights names task tokens →
+      SetsAgree sets owner made (at s.naming task own) →
+      Agrees (record (with_space w task (record space { names = names; room = room })) { sets = sets; requests = requests })
+      (record s { naming = at s.naming task own; stands = stands; set_owner = owner; sets_made = made; ledger = tokens })
+  names_agree_with names room own stands sets owner made requests tokens same held total of_requests named counted in_sets = record {
     spaces = spaces_agree w.spaces task space (record space { names = names; room = room }) there s.live_task s.tasks_made s.naming (at s.naming task own) a.spaces
         (subst (NamesAgree names) (sym (at_own s.naming task own)) named) (others own);
-    rights = references_agree w.spaces task space (record space { names = names; room = room }) there s.ledger s.ledger a.rights counted (λ u not kind q. refl);
+    rights = references_agree w.spaces task space (record space { names = names; room = room }) there s.ledger tokens a.rights counted (λ u not kind q. held u kind q);
     live_port = a.live_port;
     ports_made = a.ports_made;
     ports = a.ports;
-    counts = a.counts;
-    total = a.total;
+    counts = counts_same w.ledger s.live_port s.ledger (onces_queued s) a.counts tokens same;
+    total = a.total ∙ total;
     in_sets = in_sets;
-    of_requests = requests_stay (notify_of w.requests) w.ports.made w.ports.made s.stands stands s.live_port s.live_port s.ledger s.ledger a.of_requests (omega arith) same (λ q less. refl)
-        (λ r kind q. refl);
+    of_requests = of_requests;
   }
+
+  pub names_agree : (names : TableNames) (room : ℕ) (own : Names) (stands : Request → Bool) (sets : SetsView) (owner : ℕ → Option ℕ) (made : ℕ) (requests : RequestTablesView) →
+      RequestsAgree (notify_of requests) requests.names.went w.ports.made stands s.live_port s.ledger → NamesAgree names own → CountRights names task s.ledger → SetsAgree sets owner made (at s.naming task own) →
+      Agrees (record (with_space w task (record space { names = names; room = room })) { sets = sets; requests = requests })
+      (record s { naming = at s.naming task own; stands = stands; set_owner = owner; sets_made = made })
+  names_agree names room own stands sets owner made requests of_requests named counted in_sets =
+      names_agree_with names room own stands sets owner made requests s.ledger (λ kind q. refl) (λ u kind q. refl) refl of_requests named counted in_sets
+
+  -- This was left under a name: the requests after it agree with those that stand after it.
+  pub left_requests : IsLawful s → RequestsStand w → (name : ℕ) → map.contains_key space.names name ≡ true → {A : Type 0} (left : Option A) →
+      RequestsAgree (notify_of (requests_after w.requests task name left)) (requests_after w.requests task name left).names.went w.ports.made (stands_after s.stands task name left) s.live_port s.ledger
+  left_requests l requested name used left =
+      let e = is_there (map.get space.names name) used in
+      let small : name < 2 ^ 32 = (l.naming task).space.name_fits name (target_of e.0) (was_named name ∙ ap (option_map target_of) e.1) in
+      requests_left w.requests task name small
+      (λ r is. let on = requested.on_names (name_key task name) r is in same_key r.task r.name task name on.small small on.own)
+      w.ports.made s.stands s.live_port s.ledger a.of_requests left
 
   -- ---- one more name, of no port
 
@@ -77,7 +101,7 @@ module _ (w : WorldView) (s : State) (a : Agrees w s) (task : ℕ) (space : Spac
     pub with_sets : (sets : SetsView) (owner : ℕ → Option ℕ) (made : ℕ) → SetsAgree sets owner made (at s.naming task more_own) →
         Agrees (record (with_space w task (record space { names = more; room = room })) { sets = sets })
         (record s { naming = at s.naming task more_own; set_owner = owner; sets_made = made })
-    with_sets sets owner made in_sets = names_agree more room more_own s.stands sets owner made (λ r. refl)
+    with_sets sets owner made in_sets = names_agree more room more_own s.stands sets owner made w.requests a.of_requests
         (put_names space.names (s.naming task) (own_names w s a task space there) name (Some e) (of_some e HasCount count))
         (put_rights space.names task s.ledger (own_rights w s a task space there) name (Some e) (λ x p is named. absurd (no_some p (sym no_port ∙ ap port_named (same_found (Some x) e x (sym is) refl) ∙ named))))
         in_sets
@@ -109,14 +133,21 @@ module _ (w : WorldView) (s : State) (a : Agrees w s) (task : ℕ) (space : Spac
     stood : (n : ℕ) (x : Target) → n ≡ from → map.get (s.naming task) n ≡ Some x → target_of e ≡ x
     stood n x same is = same_found (map.get (s.naming task) from) (target_of e) x target_found (ap (map.get (s.naming task)) (sym same) ∙ is)
 
-    pub moved_agrees : ((r : Request) → stands r ≡ s.stands r) → (sets : SetsView) → SetsAgree sets s.set_owner s.sets_made (at s.naming task moved_own) →
-        Agrees (record (with_space w task (record space { names = moved; room = room })) { sets = sets }) (record s { naming = at s.naming task moved_own; stands = stands })
-    moved_agrees same sets in_sets = names_agree moved room moved_own stands sets s.set_owner s.sets_made same
+    -- The request on it goes along, and so does its right.
+    pub moved_agrees : (requests : RequestTablesView) (tokens : List Token) →
+        ((kind : Kind) (q : ℕ) → count (is_of kind q) tokens ≡ count (is_of kind q) s.ledger) → ((u : ℕ) (kind : Kind) (q : ℕ) → count (is_held u kind q) tokens ≡ count (is_held u kind q) s.ledger) →
+        length s.ledger ≡ length tokens → RequestsAgree (notify_of requests) requests.names.went w.ports.made stands s.live_port tokens →
+        (sets : SetsView) → SetsAgree sets s.set_owner s.sets_made (at s.naming task moved_own) →
+        Agrees (record (with_space w task (record space { names = moved; room = room })) { sets = sets; requests = requests }) (record s { naming = at s.naming task moved_own; stands = stands; ledger = tokens })
+    moved_agrees requests tokens same held total of_requests sets in_sets = names_agree_with moved room moved_own stands sets s.set_owner s.sets_made requests tokens same held total of_requests
         (put_names _ _ (put_names space.names (s.naming task) (own_names w s a task space there) from None (λ x is. absurd (no_some x is))) to (Some e)
         (of_some e HasCount ((own_names w s a task space there).counted from e found)))
-        (put_rights _ task s.ledger (put_rights space.names task s.ledger (own_rights w s a task space there) from None (λ x p is. absurd (no_some x is))) to (Some e)
-        (λ x p is named. own_rights w s a task space there from x p (found ∙ is) named))
+        (put_rights _ task tokens (put_rights space.names task tokens own from None (λ x p is. absurd (no_some x is))) to (Some e)
+        (λ x p is named. own from x p (found ∙ is) named))
         in_sets
+      where
+        own : CountRights space.names task tokens
+        own n x p is named = let o = own_rights w s a task space there n x p is named in (held task receive p ∙ o.0, held task send p ∙ o.1)
 
     -- the sets, where the name of one goes along
     pub kept_sets : ((t : ℕ) → target_of e ≡ Target.set t → ⊥) → SetsAgree w.sets s.set_owner s.sets_made (at s.naming task moved_own)

@@ -1,12 +1,21 @@
 -- The requests that the tables keep still agree where they, the rights that they keep and what stands are as they were.
-use Rattle.std.proofs.Common.{◌≡◌, ℕ, ◌<◌, ◌≤◌, Bool, true, false, List, Option, Some, None, refl, sym, ap, subst, ◌∙◌, arith, inl, inr}
-use Rattle.std.specs.Prelude.{is_some, if◌then◌else◌, ◌==◌, ◌&&◌}
+use Rattle.std.proofs.Common.{◌≡◌, ℕ, ◌+◌, ◌<◌, ◌≤◌, ◌^◌, Bool, true, false, List, [], ◌∷◌, ◌++◌, Option, Some, None, refl, sym, ap, subst, ◌∙◌, arith, inl, inr}
+use Rattle.std.specs.Prelude.{is_some, if◌then◌else◌, ◌==◌, ◌&&◌, nat_lt}
+use Rattle.std.specs.Option.{option_map}
+use Rattle.std.specs.FinMap as map
+use Rattle.std.specs.Ordering.{nat_cmp}
 use Rattle.std.proofs.lemmas.Bool.Decides.{eqb_tells}
-use Rattle.mach_types.specs.Tokens.{Kind, receive, send, send_once, Request, in_request, Token}
+use Rattle.std.proofs.lemmas.Bool.{eq-eqb, lt-ltb, ltb-true}
+use Rattle.mach_types.specs.Tokens.{Kind, receive, send, send_once, Request, no_senders, port_destroyed, dead_name, in_request, Token}
 use Rattle.mach_model.specs.State.{State, same_request, request_at}
 use Rattle.mach_model.specs.Carried.{lying_among}
 use Rattle.mach_model.specs.NotYet.{NoRequests}
-use Rattle.copyin_base.specs.Requests.{rights_kept, RequestsAgree}
+use Rattle.mach_model.proofs.Names.{removed_own}
+use Rattle.request_table.specs.declared.Request.{Request as NameRequest}
+use Rattle.request_table.specs.Requests.{name_key, key_of}
+use Rattle.copyin_base.specs.Requests.{RequestTablesView, notify_of, rights_kept, was_on, rights_went, AreMade, RequestsAgree, left_by, request_left, requests_after}
+use Rattle.copyin_base.proofs.Gets.{of_some}
+use Rattle.copyin_base.proofs.Putting.{get_removed}
 
 kept_alike : (live live2 : ℕ → Bool) (o : Option ℕ) → ((n : ℕ) → o ≡ Some n → live2 n ≡ live n) → (kind : Kind) (q : ℕ) → rights_kept live2 o kind q ≡ rights_kept live o kind q
 kept_alike live live2 None same kind q = refl
@@ -17,15 +26,175 @@ kept_alike live live2 (Some n) same send_once q = elim (eqb_tells n q) [
   | inr h ↦ rw h.0 refl
 ]
 
+went_alike : (live live2 : ℕ → Bool) (made : ℕ) (went : List NameRequest) → AreMade made went → ((q : ℕ) → q < made → live2 q ≡ live q) → (r : Request) (kind : Kind) (q : ℕ) →
+    rights_went live2 went r kind q ≡ rights_went live went r kind q
+went_alike live live2 made [] a same r kind q = refl
+went_alike live live2 made (x ∷ went) a same r kind q =
+    let here : rights_kept live2 (Some x.notify) kind q ≡ rights_kept live (Some x.notify) kind q =
+    kept_alike live live2 (Some x.notify) (of_some x.notify (λ n. live2 n ≡ live n) (same x.notify a.0)) kind q in
+    let rest = went_alike live live2 made went a.1 same r kind q in
+    λ i. (if was_on r x then here i else 0) + rest i
+
+made_more : (made made2 : ℕ) (went : List NameRequest) → made ≤ made2 → AreMade made went → AreMade made2 went
+made_more made made2 [] more a = tt
+made_more made made2 (x ∷ went) more a = ((let less = a.0 in omega (arith, less, more)), made_more made made2 went more a.1)
+
 -- Ports may have been made, and others than those of the requests have gone.
-pub requests_stay : (notify : Request → Option ℕ) (made made2 : ℕ) (stands stands2 : Request → Bool) (live live2 : ℕ → Bool) (tokens tokens2 : List Token) →
-    RequestsAgree notify made stands live tokens → made ≤ made2 → ((r : Request) → stands2 r ≡ stands r) → ((q : ℕ) → q < made → live2 q ≡ live q) →
-    ((r : Request) (kind : Kind) (q : ℕ) → lying_among tokens2 kind q (in_request r) ≡ lying_among tokens kind q (in_request r)) → RequestsAgree notify made2 stands2 live2 tokens2
-requests_stay notify made made2 stands stands2 live live2 tokens tokens2 a more same lives lying = record {
+pub requests_stay : (notify : Request → Option ℕ) (went : List NameRequest) (made made2 : ℕ) (stands stands2 : Request → Bool) (live live2 : ℕ → Bool) (tokens tokens2 : List Token) →
+    RequestsAgree notify went made stands live tokens → made ≤ made2 → ((r : Request) → stands2 r ≡ stands r) → ((q : ℕ) → q < made → live2 q ≡ live q) →
+    ((r : Request) (kind : Kind) (q : ℕ) → lying_among tokens2 kind q (in_request r) ≡ lying_among tokens kind q (in_request r)) → RequestsAgree notify went made2 stands2 live2 tokens2
+requests_stay notify went made made2 stands stands2 live live2 tokens tokens2 a more same lives lying = record {
   standing = λ r. same r ∙ a.standing r;
-  kept = λ r kind q. lying r kind q ∙ a.kept r kind q ∙ sym (kept_alike live live2 (notify r) (λ n is. lives n (a.given r n is)) kind q);
+  kept = λ r kind q.
+      let one = kept_alike live live2 (notify r) (λ n is. lives n (a.given r n is)) kind q in
+      let all = went_alike live live2 made went a.given_went lives r kind q in
+      lying r kind q ∙ a.kept r kind q ∙ sym (λ i. one i + all i);
   given = λ r q is. let less = a.given r q is in omega (arith, less, more);
+  given_went = made_more made made2 went more a.given_went;
 }
+
+-- ---- a name goes
+
+-- no two names have the same number
+pub same_key : (t n u m : ℕ) → n < 2 ^ 32 → m < 2 ^ 32 → name_key t n ≡ name_key u m → (t ≡ u) × (n ≡ m)
+same_key t n u m few small e = (omega (arith, few, small, e), omega (arith, few, small, e))
+
+-- the requests that stand after this was left under a name
+abbrev pub stands_after : {A : Type 0} → (Request → Bool) → (task name : ℕ) → (left : Option A) → Request → Bool
+stands_after stands task name (Some e) = stands
+stands_after stands task name None = request_at stands (dead_name task name) false
+
+went_append : (live : ℕ → Bool) (went : List NameRequest) (g : NameRequest) (r : Request) (kind : Kind) (q : ℕ) →
+    rights_went live (went ++ g ∷ []) r kind q ≡ rights_went live went r kind q + (if was_on r g then rights_kept live (Some g.notify) kind q else 0)
+went_append live [] g r kind q = omega arith
+went_append live (x ∷ went) g r kind q = let rest = went_append live went g r kind q in omega (arith, rest)
+
+made_append : (made : ℕ) (went : List NameRequest) (g : NameRequest) → AreMade made went → g.notify < made → AreMade made (went ++ g ∷ [])
+made_append made [] g a less = (less, tt)
+made_append made (x ∷ went) g a less = (a.0, made_append made went g a.1 less)
+
+module _ (v : RequestTablesView) (task name : ℕ) (small : name < 2 ^ 32)
+    (own : (r : NameRequest) → map.get v.names.requests (name_key task name) ≡ Some r → (r.task ≡ task) × (r.name ≡ name)) where
+  abbrev this : Request
+  this = dead_name task name
+
+  notify_this : (o : Option NameRequest) → map.get v.names.requests (name_key task name) ≡ o → notify_of v this ≡ option_map (λ (r : NameRequest). r.notify) o
+  notify_this o is = go (nat_lt name (2 ^ 32)) (lt-ltb name (2 ^ 32) small) ∙ ap (option_map (λ (r : NameRequest). r.notify)) is
+    where
+      go : (b : Bool) → b ≡ true → (if b then option_map (λ (r : NameRequest). r.notify) (map.get v.names.requests (name_key task name)) else None) ≡ option_map (λ (r : NameRequest). r.notify) (map.get v.names.requests (name_key task name))
+      go true e = refl
+      go false e = absurd (cc)
+
+  is_this : (r : Request) → same_request r this ≡ true → r ≡ this
+  is_this (no_senders p) e = absurd (cc)
+  is_this (port_destroyed p) e = absurd (cc)
+  is_this (dead_name t n) e = elim (eqb_tells t task) [
+    | inl h ↦ elim (eqb_tells n name) [
+      | inl k ↦ λ i. dead_name (h.1 i) (k.1 i)
+      | inr k ↦ absurd (let f : (t == task && n == name) ≡ false = rw (h.0, k.0) refl in let g : true ≡ false = sym e ∙ f in cc)
+    ]
+    | inr h ↦ absurd (let f : (t == task && n == name) ≡ false = rw h.0 refl in let g : true ≡ false = sym e ∙ f in cc)
+  ]
+
+  abbrev gone : Option NameRequest → RequestTablesView
+  gone o = record v { names = left_by v.names o }
+
+  -- another request is kept as it was
+  other_notify : (g : NameRequest) → (g.task ≡ task) × (g.name ≡ name) → (r : Request) → same_request r this ≡ false → notify_of (gone (Some g)) r ≡ notify_of v r
+  other_notify g at (no_senders p) other = refl
+  other_notify g at (port_destroyed p) other = refl
+  other_notify g at (dead_name t n) other = go (nat_lt n (2 ^ 32)) refl
+    where
+      key : key_of g ≡ name_key task name
+      key = λ i. name_key (at.0 i) (at.1 i)
+
+      differs : n < 2 ^ 32 → name_key t n ≡ key_of g → ⊥
+      differs few e =
+          let same = same_key t n task name few small (e ∙ key) in
+          let f : (t == task && n == name) ≡ true = rw (eq-eqb t task same.0, eq-eqb n name same.1) refl in
+          let g : false ≡ true = sym other ∙ f in cc
+
+      go : (b : Bool) → nat_lt n (2 ^ 32) ≡ b →
+          (if b then option_map (λ (r : NameRequest). r.notify) (map.get (map.remove v.names.requests (key_of g)) (name_key t n)) else None) ≡
+          (if b then option_map (λ (r : NameRequest). r.notify) (map.get v.names.requests (name_key t n)) else None)
+      go true is = ap (option_map (λ (r : NameRequest). r.notify)) (get_removed v.names.requests (key_of g) (name_key t n) (differs (ltb-true n (2 ^ 32) is)))
+      go false is = refl
+
+  this_gone : (g : NameRequest) → (g.task ≡ task) × (g.name ≡ name) → notify_of (gone (Some g)) this ≡ None
+  this_gone g at = go (nat_lt name (2 ^ 32))
+    where
+      found : map.get (map.remove v.names.requests (key_of g)) (name_key task name) ≡ None
+      found = subst (λ (k : ℕ). map.get (map.remove v.names.requests (key_of g)) k ≡ None) (λ i. name_key (at.0 i) (at.1 i)) (removed_own v.names.requests (key_of g))
+
+      go : (b : Bool) → (if b then option_map (λ (r : NameRequest). r.notify) (map.get (map.remove v.names.requests (key_of g)) (name_key task name)) else None) ≡ None
+      go true = ap (option_map (λ (r : NameRequest). r.notify)) found
+      go false = refl
+
+  was_this : (g : NameRequest) → (g.task ≡ task) × (g.name ≡ name) → (r : Request) → was_on r g ≡ same_request r this
+  was_this g at (no_senders p) = refl
+  was_this g at (port_destroyed p) = refl
+  was_this g at (dead_name t n) = λ i. t == at.0 i && n == at.1 i
+
+  module _ (made : ℕ) (stands : Request → Bool) (live : ℕ → Bool) (tokens : List Token) (a : RequestsAgree (notify_of v) v.names.went made stands live tokens) where
+    ended : (o : Option NameRequest) → map.get v.names.requests (name_key task name) ≡ o →
+        RequestsAgree (notify_of (gone o)) (left_by v.names o).went made (request_at stands this false) live tokens
+    ended None is = record {
+      standing = λ r. standing r (same_request r this) refl;
+      kept = a.kept;
+      given = a.given;
+      given_went = a.given_went;
+    }
+      where
+        standing : (r : Request) (b : Bool) → same_request r this ≡ b → (if b then false else stands r) ≡ is_some (notify_of v r)
+        standing r false e = a.standing r
+        standing r true e = sym (ap (λ (x : Request). is_some (notify_of v x)) (is_this r e) ∙ ap is_some (notify_this None is))
+    ended (Some g) is = record {
+      standing = λ r. standing r (same_request r this) refl;
+      kept = λ r kind q. a.kept r kind q ∙ kept r kind q (same_request r this) refl;
+      given = λ r q. given r q (same_request r this) refl;
+      given_went = made_append made v.names.went g a.given_went (a.given this g.notify (notify_this (Some g) is));
+    }
+      where
+        at : (g.task ≡ task) × (g.name ≡ name)
+        at = own g is
+
+        now_this : (r : Request) → same_request r this ≡ true → notify_of (gone (Some g)) r ≡ None
+        now_this r e = ap (notify_of (gone (Some g))) (is_this r e) ∙ this_gone g at
+
+        was : (r : Request) → same_request r this ≡ true → notify_of v r ≡ Some g.notify
+        was r e = ap (notify_of v) (is_this r e) ∙ notify_this (Some g) is
+
+        standing : (r : Request) (b : Bool) → same_request r this ≡ b → (if b then false else stands r) ≡ is_some (notify_of (gone (Some g)) r)
+        standing r true e = sym (ap is_some (now_this r e))
+        standing r false e = a.standing r ∙ sym (ap is_some (other_notify g at r e))
+
+        given : (r : Request) (q : ℕ) (b : Bool) → same_request r this ≡ b → notify_of (gone (Some g)) r ≡ Some q → q < made
+        given r q true e to = absurd (let f : None ≡ Some q = sym (now_this r e) ∙ to in cc)
+        given r q false e to = a.given r q (sym (other_notify g at r e) ∙ to)
+
+        kept : (r : Request) (kind : Kind) (q : ℕ) (b : Bool) → same_request r this ≡ b →
+            rights_kept live (notify_of v r) kind q + rights_went live v.names.went r kind q ≡ rights_kept live (notify_of (gone (Some g)) r) kind q + rights_went live (v.names.went ++ g ∷ []) r kind q
+        kept r kind q true e =
+            let before = ap (λ (o : Option ℕ). rights_kept live o kind q) (was r e) in
+            let after : rights_kept live (notify_of (gone (Some g)) r) kind q ≡ 0 = ap (λ (o : Option ℕ). rights_kept live o kind q) (now_this r e) in
+            let one : (if was_on r g then rights_kept live (Some g.notify) kind q else 0) ≡ rights_kept live (Some g.notify) kind q =
+            ap (λ (b : Bool). if b then rights_kept live (Some g.notify) kind q else 0) (was_this g at r ∙ e) in
+            let all = went_append live v.names.went g r kind q in
+            omega (arith, before, after, one, all)
+        kept r kind q false e =
+            let same = ap (λ (o : Option ℕ). rights_kept live o kind q) (other_notify g at r e) in
+            let one : (if was_on r g then rights_kept live (Some g.notify) kind q else 0) ≡ 0 = ap (λ (b : Bool). if b then rights_kept live (Some g.notify) kind q else 0) (was_this g at r ∙ e) in
+            let all = went_append live v.names.went g r kind q in
+            omega (arith, same, one, all)
+
+    -- The request on a name ends as the name goes; its right is kept as one of those whose names went.
+    pub requests_end : RequestsAgree (notify_of (request_left v task name)) (request_left v task name).names.went made (request_at stands this false) live tokens
+    requests_end = ended (map.get v.names.requests (name_key task name)) refl
+
+    pub requests_left : {A : Type 0} (left : Option A) →
+        RequestsAgree (notify_of (requests_after v task name left)) (requests_after v task name left).names.went made (stands_after stands task name left) live tokens
+    requests_left (Some e) = a
+    requests_left None = requests_end
 
 -- where none stands, none ends
 pub none_ended : (stands : Request → Bool) → NoRequests stands → (ended r : Request) → request_at stands ended false r ≡ stands r
@@ -36,10 +205,14 @@ none_ended stands none ended r = go (same_request r ended)
     go false = refl
 
 -- ... and none keeps a right
-pub none_kept : (notify : Request → Option ℕ) (made : ℕ) (stands : Request → Bool) (live : ℕ → Bool) (tokens : List Token) → RequestsAgree notify made stands live tokens → NoRequests stands →
+pub none_kept : (notify : Request → Option ℕ) (made : ℕ) (stands : Request → Bool) (live : ℕ → Bool) (tokens : List Token) → RequestsAgree notify [] made stands live tokens → NoRequests stands →
     (r : Request) (kind : Kind) (q : ℕ) → lying_among tokens kind q (in_request r) ≡ 0
-none_kept notify made stands live tokens a none r kind q = a.kept r kind q ∙ go (notify r) (sym (a.standing r) ∙ none r)
+none_kept notify made stands live tokens a none r kind q = let k = a.kept r kind q in let z = go (notify r) (sym (a.standing r) ∙ none r) in omega (arith, k, z)
   where
     go : (o : Option ℕ) → is_some o ≡ false → rights_kept live o kind q ≡ 0
     go None e = refl
     go (Some n) e = absurd (cc)
+
+-- where none is kept, none ends
+pub empty_left : (v : RequestTablesView) → v.names.requests ≡ map.empty → (task name : ℕ) → v ≡ request_left v task name
+empty_left v none task name = ap (λ (o : Option NameRequest). record v { names = left_by v.names o }) (sym (ap (λ m. map.get m (name_key task name)) none ∙ map.get-empty nat_cmp (name_key task name)))

@@ -8,10 +8,14 @@ use Rattle.name_space.specs.Names.{Names, SpaceView}
 use Rattle.port.specs.Ports.{PortsView}
 use Rattle.rights.specs.Ledger.{LedgerView}
 use Rattle.copyin_base.specs.Kept.{Kept}
-use Rattle.copyin_base.specs.Worlds.{WorldView, HasTask, space_at, with_space, entry_in, entry_at}
-use Rattle.copyin_base.specs.Shows.{Agrees, HoldersAgree, SlotsSuffice, Shows, target_of}
+use Rattle.copyin_base.specs.Requests.{RequestTablesView}
+use Rattle.copyin_base.specs.Worlds.{WorldView, HasTask, IsIdle, space_at, with_space, entry_in, entry_at}
+use Rattle.copyin_base.specs.Shows.{Agrees, HoldersAgree, CarriersAgree, SlotsSuffice, RequestsStand, Shows, target_of}
 use Rattle.copyin_base.specs.Changes.{MakesRoom, KeepsPlace, SameButRoom, with_slots}
 use Rattle.copyin_base.proofs.Gets.{length-set}
+use Rattle.copyin_base.proofs.Carriers.{carriers_same}
+use Rattle.copyin_base.proofs.Idle.{none_lost_room}
+use Rattle.copyin_base.proofs.Requested.{requested_room, requested_ports}
 use Rattle.copyin_base.proofs.Spaces.{each-space-set}
 
 abbrev names_in : Option SpaceView → Option Names
@@ -79,8 +83,31 @@ room_slots w v same enough =
     let unused : v.ledger.unused ≡ w.ledger.unused = ap (λ (y : LedgerView). y.unused) same.ledger in
     omega (arith, enough, spare, unused)
 
+-- nor has a step's end anything to do
+pub room_idle : (w v : WorldView) → SameButRoom w v → IsIdle w → IsIdle v
+room_idle w v same i = record {
+  none_lost = none_lost_room w v i.none_lost same;
+  noted = ap (λ (y : PortsView Kept). y.noted) same.ports ∙ i.noted;
+  went = ap (λ (y : RequestTablesView). y.names.went) same.requests ∙ i.went;
+}
+
+pub room_carriers : (w v : WorldView) → SameButRoom w v → CarriersAgree w → CarriersAgree v
+room_carriers w v same a = carriers_same w v a (ap (λ (y : PortsView Kept). y.made) same.ports) (ap (λ (y : PortsView Kept). y.ports) same.ports)
+
+pub room_requested : (w v : WorldView) → SameButRoom w v → RequestsStand w → RequestsStand v
+room_requested w v same r = requested_room w v r same (λ task name. same_entry (space_at v task) (space_at w task) name (same.names task))
+
 pub room_shows : (w v : WorldView) (s : State) → SameButRoom w v → Shows w s → Shows v s
-room_shows w v s same sh = record { agrees = room_agrees w v s same sh.agrees; holders = room_holders w v same sh.holders; slots = room_slots w v same sh.slots; lawful = sh.lawful; quiet = sh.quiet }
+room_shows w v s same sh = record {
+  agrees = room_agrees w v s same sh.agrees;
+  holders = room_holders w v same sh.holders;
+  carriers = room_carriers w v same sh.carriers;
+  slots = room_slots w v same sh.slots;
+  requested = room_requested w v same sh.requested;
+  idle = room_idle w v same sh.idle;
+  lawful = sh.lawful;
+  quiet = sh.quiet;
+}
 
 pub room_refl : (w : WorldView) → SameButRoom w w
 room_refl w = record { tasks = refl; names = λ task. refl; ports = refl; ledger = refl; sets = refl; requests = refl }
@@ -125,6 +152,18 @@ slots_agree w s n a = record {
   of_requests = a.of_requests;
 }
 
+pub slots_requested : (w : WorldView) (n : ℕ) → RequestsStand w → RequestsStand (with_slots w n)
+slots_requested w n r = requested_ports w (with_slots w n) r (λ p lives. lives) refl refl
+
 -- ... as long as they are enough
 pub slots_show : (w : WorldView) (s : State) (n : ℕ) → w.ledger.unused ≤ n → Shows w s → Shows (with_slots w n) s
-slots_show w s n enough sh = record { agrees = slots_agree w s n sh.agrees; holders = record { held = sh.holders.held }; slots = enough; lawful = sh.lawful; quiet = sh.quiet }
+slots_show w s n enough sh = record {
+  agrees = slots_agree w s n sh.agrees;
+  holders = record { held = sh.holders.held };
+  carriers = record { given = sh.carriers.given; carried = sh.carriers.carried };
+  slots = enough;
+  requested = slots_requested w n sh.requested;
+  idle = record { none_lost = record { lost = sh.idle.none_lost.lost; doomed = sh.idle.none_lost.doomed; destroyed = sh.idle.none_lost.destroyed }; noted = sh.idle.noted; went = sh.idle.went };
+  lawful = sh.lawful;
+  quiet = sh.quiet;
+}

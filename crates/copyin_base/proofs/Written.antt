@@ -3,6 +3,7 @@ use Rattle.std.proofs.Common.{◌≡◌, ℕ, ◌+◌, ◌<◌, List, [], ◌∷
 use Rattle.std.specs.Prelude.{slice_set, is_some, IfSome}
 use Rattle.std.specs.FinMap as map
 use Rattle.std.specs.Ordering.{nat_cmp}
+use Rattle.member_lists.specs.Lists.{without}
 use Rattle.name_space.specs.declared.Entry.{Entry}
 use Rattle.name_space.specs.Entry.{port_of}
 use Rattle.name_space.specs.Names.{SpaceView}
@@ -82,6 +83,16 @@ module _ (old : WorldView) (task : ℕ) (space : SpaceView) (spaces : List (Opti
 -- a port that is there was put again
 pub port_put : (ports : PortsView Kept) (p : ℕ) (v v2 : PortView Kept) → map.get ports.ports p ≡ Some v → SamePorts ports (with_port ports p v2)
 port_put ports p v v2 there = record { live = same_put ports p v v2 there; made = refl }
+
+-- where no port was lost, none leaves those that were
+pub held_put : (ports : PortsView Kept) (p : ℕ) (v2 : PortView Kept) (new : PortsView Kept) → ports.lost ≡ [] → new ≡ record (with_port ports p v2) { lost = without p ports.lost } → new ≡ with_port ports p v2
+held_put ports p v2 new none is =
+    let same : without p ports.lost ≡ ports.lost = subst (λ (xs : List ℕ). without p xs ≡ xs) (sym none) refl in
+    is ∙ ap (λ (xs : List ℕ). record (with_port ports p v2) { lost = xs }) same
+
+-- ports were noted
+pub noted_ports : (ports : PortsView Kept) (noted : List ℕ) → SamePorts ports (record ports { noted = noted })
+noted_ports ports noted = record { live = λ p. refl; made = refl }
 
 -- the members of a set are in none now
 pub disbanded_ports : (old new : PortsView Kept) (set : ℕ) → IsDisbanded old new set → SamePorts old new

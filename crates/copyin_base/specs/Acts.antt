@@ -11,8 +11,10 @@ use Rattle.mach_model.specs.Refusals.{Refuses, guards, tasks_of}
 use Rattle.mach_model.specs.Machine.{Does}
 use Rattle.copyin_base.specs.declared.code.Code.{Code}
 use Rattle.copyin_base.specs.declared.code.Code.TheVariants.{Kern, Message}
+use Rattle.copyin_base.specs.Changes.{NotesSenders}
+use Rattle.copyin_base.specs.Posted.{with_posted, IsLeft}
 use Rattle.copyin_base.specs.Worlds.{WorldView, HasTask}
-use Rattle.copyin_base.specs.Shows.{Agrees, HoldersAgree, SlotsSuffice, Shows}
+use Rattle.copyin_base.specs.Shows.{Agrees, HoldersAgree, CarriersAgree, SlotsSuffice, RequestsStand, Shows}
 
 abbrev pub code_number : Code → ℕ
 code_number (Kern code) = kern_number code
@@ -20,24 +22,29 @@ code_number (Message code) = msg_number code
 
 -- ---- a step's own part
 
--- The tables show the state midway, where this is owed: nothing, as long as the rules of NotYet stand.
-pub record ShowsMid (w : WorldView) (mid : State) (owed : Owed) : Type 0 where
-  pub agrees : Agrees w mid
+-- The tables show the state midway, where this is owed, and tell what the step's end has to do; old are the tables before the step. As long as the
+-- rules of NotYet stand nothing is owed.
+pub record ShowsMid (now : ℕ) (old w : WorldView) (mid : State) (owed : Owed) : Type 0 where
+  pub agrees : Agrees w (with_posted now mid owed)
   pub holders : HoldersAgree w
+  pub carriers : CarriersAgree w
   pub slots : SlotsSuffice w
+  pub requested : RequestsStand w
+  pub notes : NotesSenders old w
+  pub left : IsLeft w mid
   pub lawful : IsStill mid owed
 
 -- What was judged in the state allows the event, whose own part is done: the tables show the state midway.
-pub record IsDone (now : ℕ) (s : State) (event : Event) (reply : Reply) (new : WorldView) : Type 0 where
+pub record IsDone (now : ℕ) (old : WorldView) (s : State) (event : Event) (reply : Reply) (new : WorldView) : Type 0 where
   pub unrefused : NoneHolds (guards s event)
   pub mid : State
   pub owed : Owed
   pub does : Does now s event reply mid owed
-  pub shows : ShowsMid new mid owed
+  pub shows : ShowsMid now old new mid owed
 
 -- The event is done in each state that the tables show before.
 pub record Acts (old : WorldView) (event : Event) (reply : Reply) (new : WorldView) : Type 0 where
-  pub acts : (now : ℕ) (s : State) → Shows old s → IsDone now s event reply new
+  pub acts : (now : ℕ) (s : State) → Shows old s → IsDone now old s event reply new
 
 -- The event is refused in each state that the tables show before, and they show it after; only room may have been made.
 pub record Declines (old : WorldView) (event : Event) (code : ℕ) (new : WorldView) : Type 0 where

@@ -1,5 +1,5 @@
 -- What the verbs of the tables change: what stands under one name, or the attributes of one port. All else stays.
-use Rattle.std.specs.Prelude.{◌≡◌, ℕ, ◌-◌, ◌<◌, Option, Some, None, IfSome, length, max, true}
+use Rattle.std.specs.Prelude.{◌≡◌, ◌⊎◌, ℕ, ◌-◌, ◌<◌, List, Option, Some, None, IfSome, length, max, true, Contains}
 use Rattle.std.specs.Option.{option_map}
 use Rattle.std.specs.FinMap as map
 use Rattle.mach_types.specs.Numbers.{most_names}
@@ -10,7 +10,9 @@ use Rattle.name_space.specs.Names.{port_at as named_at}
 use Rattle.port.specs.declared.Attributes.{Attributes}
 use Rattle.port.specs.declared.Holder.{Holder}
 use Rattle.port.specs.Ports.{PortView, with_port, IsLive}
+use Rattle.rights.specs.Ledger.{counts_of}
 use Rattle.copyin_base.specs.Kept.{Kept}
+use Rattle.copyin_base.specs.Requests.{requests_after}
 use Rattle.copyin_base.specs.Worlds.{WorldView, space_at, with_space, port_at, put}
 
 -- ---- what stands under a name
@@ -27,11 +29,11 @@ pub record CanPutLeft (w : WorldView) (task name : ℕ) (left : Option Entry) : 
   pub same : IfSome left (λ e. (port : ℕ) → port_named e ≡ Some port → named_at space.names name ≡ Some port)
   pub lives : IfSome left (λ e. IsForLive w e)
 
--- This is left under the name; the name goes where nothing is.
+-- This is left under the name; the name goes where nothing is, and the request on it ends.
 pub record PutsLeft (old : WorldView) (task name : ℕ) (left : Option Entry) (new : WorldView) : Type 0 where
   pub space : SpaceView
   pub there : space_at old task ≡ Some space
-  pub rest : new ≡ with_space old task (record space { names = put space.names name left })
+  pub rest : new ≡ record (with_space old task (record space { names = put space.names name left })) { requests = requests_after old.requests task name left }
 
 -- The task may have the entry under the name, in a place that was made: the name isn't in use, no other is for the entry's port, and that is
 -- there.
@@ -93,3 +95,24 @@ pub record HasAttributes (w : WorldView) (port : ℕ) (attributes : Attributes) 
   pub v : PortView Kept
   pub there : port_at w port ≡ Some v
   pub are : v.attributes ≡ attributes
+
+-- ---- send rights that go
+
+-- The port is there and has no send rights, and a request stands to be told of that.
+pub record IsSenderless (w : WorldView) (port : ℕ) : Type 0 where
+  pub live : IsLive w.ports port
+  pub asked : map.contains_key w.requests.no_senders.map port ≡ true
+  pub none : (counts_of w.ledger port).send ≡ 0
+
+-- Where the port is so, it is noted, for the end of the step; all else stays.
+pub record NotesSenderless (old : WorldView) (port : ℕ) (new : WorldView) : Type 0 where
+  pub noted : List ℕ
+  pub rest : new ≡ record old { ports = record old.ports { noted = noted } }
+  pub notes : IsSenderless old port → Contains noted port
+  pub stay : (q : ℕ) → Contains old.ports.noted q → Contains noted q
+  pub only : (q : ℕ) → Contains noted q → Contains old.ports.noted q ⊎ (q ≡ port) × IsSenderless old port
+
+-- Each port that had send rights, and is senderless now, is noted; each that is noted had send rights.
+pub record NotesSenders (old new : WorldView) : Type 0 where
+  pub noted : (port : ℕ) → 0 < (counts_of old.ledger port).send → IsSenderless new port → Contains new.ports.noted port
+  pub had : (port : ℕ) → Contains new.ports.noted port → 0 < (counts_of old.ledger port).send

@@ -6,6 +6,7 @@ pub mod Requests
 pub mod Worlds
 pub mod Shows
 pub mod Stands
+pub mod Posted
 pub mod Acts
 pub mod Finds
 pub mod Changes

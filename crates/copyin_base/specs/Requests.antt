@@ -1,11 +1,11 @@
 -- The requests for notices that the tables keep, each with its notify port.
-use Rattle.std.specs.Prelude.{◌≡◌, ℕ, ◌<◌, ◌^◌, Bool, true, false, List, Option, Some, None, is_some, if◌then◌else◌, nat_lt, ◌==◌, ◌&&◌, refl}
+use Rattle.std.specs.Prelude.{◌≡◌, ℕ, ◌+◌, ◌<◌, ◌^◌, Bool, true, false, List, [], ◌∷◌, Option, Some, None, is_some, if◌then◌else◌, nat_lt, ◌==◌, ◌&&◌, refl}
 use Rattle.std.specs.Option.{option_map}
 use Rattle.std.specs.Coded.{Coded, code_by, coded×, coded_ℕ}
 use Rattle.std.specs.FinMap as map
 use Rattle.number_map.specs.Maps.{MapView, map_code}
 use Rattle.request_table.specs.declared.Request.{Request as NameRequest}
-use Rattle.request_table.specs.Requests.{RequestsView, requests_code, no_requests as no_name_requests, name_key}
+use Rattle.request_table.specs.Requests.{RequestsView, requests_code, no_requests as no_name_requests, name_key, with_name_gone}
 use Rattle.mach_types.specs.Tokens.{Kind, receive, send, send_once, Request, no_senders, port_destroyed, dead_name, in_request, Token}
 use Rattle.mach_model.specs.Carried.{lying_among}
 
@@ -45,8 +45,40 @@ rights_kept live (Some notify) receive q = 0
 rights_kept live (Some notify) send q = 0
 rights_kept live None kind q = 0
 
--- The requests that stand are those that are kept, each with the right for its notify port, which was made.
-pub record RequestsAgree (notify : Request → Option ℕ) (made : ℕ) (stands : Request → Bool) (live : ℕ → Bool) (tokens : List Token) : Type 0 where
+-- The request that ended as its name went was on this name.
+abbrev pub was_on : Request → NameRequest → Bool
+was_on (dead_name task name) r = task == r.task && name == r.name
+was_on request r = false
+
+-- how many rights of this kind for the port a request on a name keeps that ended as the name went, until its right has paid for a notice
+abbrev pub rights_went : (live : ℕ → Bool) → (went : List NameRequest) → Request → Kind → (port : ℕ) → ℕ
+rights_went live [] request kind q = 0
+rights_went live (r ∷ went) request kind q = (if was_on request r then rights_kept live (Some r.notify) kind q else 0) + rights_went live went request kind q
+
+-- The notify port of each was made.
+abbrev pub AreMade : (made : ℕ) → List NameRequest → Type 0
+AreMade made [] = Unit {0}
+AreMade made (r ∷ went) = (r.notify < made) × AreMade made went
+
+-- The requests that stand are those that are kept, each with the right for its notify port, which was made. Those that ended as their names
+-- went still keep theirs.
+pub record RequestsAgree (notify : Request → Option ℕ) (went : List NameRequest) (made : ℕ) (stands : Request → Bool) (live : ℕ → Bool) (tokens : List Token) : Type 0 where
   pub standing : (r : Request) → stands r ≡ is_some (notify r)
-  pub kept : (r : Request) (kind : Kind) (q : ℕ) → lying_among tokens kind q (in_request r) ≡ rights_kept live (notify r) kind q
+  pub kept : (r : Request) (kind : Kind) (q : ℕ) → lying_among tokens kind q (in_request r) ≡ rights_kept live (notify r) kind q + rights_went live went r kind q
   pub given : (r : Request) (q : ℕ) → notify r ≡ Some q → q < made
+  pub given_went : AreMade made went
+
+-- ---- a name goes
+
+abbrev pub left_by : RequestsView → Option NameRequest → RequestsView
+left_by names (Some r) = with_name_gone names r
+left_by names None = names
+
+-- The request on the name ends, if there is one, as the name goes.
+abbrev pub request_left : RequestTablesView → (task name : ℕ) → RequestTablesView
+request_left v task name = record v { names = left_by v.names (map.get v.names.requests (name_key task name)) }
+
+-- the requests after this was left under a name: it goes where nothing is
+abbrev pub requests_after : {A : Type 0} → RequestTablesView → (task name : ℕ) → (left : Option A) → RequestTablesView
+requests_after v task name (Some entry) = v
+requests_after v task name None = request_left v task name

@@ -1,7 +1,8 @@
 -- When the kernel's tables show a state of the machine: they agree with it at each task, name, port and request.
-use Rattle.std.specs.Prelude.{◌≡◌, ℕ, ◌+◌, ◌<◌, ◌≤◌, Bool, true, List, [], ◌∷◌, length, Option, Some, is_some}
+use Rattle.std.specs.Prelude.{◌≡◌, ℕ, ◌+◌, ◌<◌, ◌≤◌, ◌^◌, Bool, true, List, [], ◌∷◌, length, Option, Some, is_some, Contains}
 use Rattle.std.specs.Option.{option_map, option_to_list}
 use Rattle.std.specs.FinMap as map
+use Rattle.mach_types.specs.declared.rights.Disposition.TheVariants.{MoveReceive}
 use Rattle.mach_types.specs.Tokens.{Kind, receive, send, send_once, Request, in_request, Token, count, is_of, is_held}
 use Rattle.mach_types.specs.Messages.{Entry}
 use Rattle.mach_model.specs.State.{State, Target, Names, queue}
@@ -12,16 +13,19 @@ use Rattle.mach_model.specs.Lawful.{IsLawful}
 use Rattle.mach_model.specs.NotYet.{IsQuiet}
 use Rattle.name_space.specs.declared.Entry.{Entry as Named}
 use Rattle.name_space.specs.declared.Entry.TheVariants as named
-use Rattle.name_space.specs.Entry.{port_named, has_receive, send_references}
+use Rattle.name_space.specs.Entry.{port_named, port_of, has_receive, send_references}
 use Rattle.name_space.specs.Names.{SpaceView}
 use Rattle.port.specs.declared.Holder.TheVariants as Holder
-use Rattle.port.specs.Ports.{PortView}
+use Rattle.port.specs.Ports.{PortView, IsLive}
 use Rattle.port_set.specs.declared.SetRecord.{SetRecord}
 use Rattle.port_set.specs.Sets.{SetsView}
+use Rattle.request_table.specs.declared.Request.{Request as NameRequest}
+use Rattle.request_table.specs.Requests.{key_of}
 use Rattle.rights.specs.Ledger.{LedgerView, counts_of}
+use Rattle.copyin_base.specs.declared.message.Mark.TheVariants as mark
 use Rattle.copyin_base.specs.Kept.{Kept, Keeps}
 use Rattle.copyin_base.specs.Requests.{notify_of, RequestsAgree}
-use Rattle.copyin_base.specs.Worlds.{WorldView, space_in, entry_in, entry_at, port_at}
+use Rattle.copyin_base.specs.Worlds.{WorldView, space_in, entry_in, entry_at, port_at, IsIdle}
 
 abbrev pub target_of : Named → Target
 target_of (named.Receive p) = Target.port p
@@ -104,13 +108,39 @@ pub record Agrees (w : WorldView) (s : State) : Type 0 where
   pub total : w.ledger.total ≡ length s.ledger
   pub in_sets : SetsAgree w.sets s.set_owner s.sets_made s.naming
   pub open in_sets use *
-  pub of_requests : RequestsAgree (notify_of w.requests) w.ports.made s.stands s.live_port s.ledger
+  pub of_requests : RequestsAgree (notify_of w.requests) w.requests.names.went w.ports.made s.stands s.live_port s.ledger
   pub open of_requests use *
 
 -- Where a port's receive right stands under a name, the port knows that the task holds it. This is of the tables alone.
 pub record HoldersAgree (w : WorldView) : Type 0 where
   pub held : (task name : ℕ) (e : Named) (p : ℕ) → entry_at w task name ≡ Some e → port_named e ≡ Some p → has_receive e ≡ true →
       (v : PortView Kept) → port_at w p ≡ Some v → v.attributes.holder ≡ Holder.Task task
+
+-- The message carries the port's receive right.
+abbrev pub CarriesReceive : Kept → (port : ℕ) → Type 0
+CarriesReceive m p = Contains m.rights (record { given = MoveReceive; mark = mark.Port p })
+
+-- Where a queued message carries a port's receive right, the port was made, and knows that the queue holds it, where it is there. This is of the
+-- tables alone.
+pub record CarriersAgree (w : WorldView) : Type 0 where
+  pub given : (q : ℕ) (u : PortView Kept) (m : Kept) (p : ℕ) → port_at w q ≡ Some u → Contains u.queue m → CarriesReceive m p → p < w.ports.made
+  pub carried : (q : ℕ) (u : PortView Kept) (m : Kept) (p : ℕ) → port_at w q ≡ Some u → Contains u.queue m → CarriesReceive m p →
+      (v : PortView Kept) → port_at w p ≡ Some v → v.attributes.holder ≡ Holder.QueueOf q
+
+-- The request is kept by its own name, under which a right stands for its port, which is there.
+pub record IsOnName (w : WorldView) (key : ℕ) (r : NameRequest) : Type 0 where
+  pub own : key_of r ≡ key
+  pub small : r.name < 2 ^ 32
+  pub entry : Named
+  pub found : entry_at w r.task r.name ≡ Some entry
+  pub for_port : port_of entry ≡ Some r.port
+  pub live : IsLive w.ports r.port
+
+-- Each request stands on a name or a port that is there. This is of the tables alone.
+pub record RequestsStand (w : WorldView) : Type 0 where
+  pub on_names : (key : ℕ) (r : NameRequest) → map.get w.requests.names.requests key ≡ Some r → IsOnName w key r
+  pub no_senders : (p : ℕ) → map.contains_key w.requests.no_senders.map p ≡ true → IsLive w.ports p
+  pub port_destroyed : (p : ℕ) → map.contains_key w.requests.port_destroyed.map p ≡ true → IsLive w.ports p
 
 -- For each send-once right that no queued message goes by a message slot is spare, so that what comes by the right has one. This is of the
 -- tables alone.
@@ -121,6 +151,9 @@ SlotsSuffice w = w.ledger.unused ≤ w.ports.spare
 pub record Shows (w : WorldView) (s : State) : Type 0 where
   pub agrees : Agrees w s
   pub holders : HoldersAgree w
+  pub carriers : CarriersAgree w
   pub slots : SlotsSuffice w
+  pub requested : RequestsStand w
+  pub idle : IsIdle w
   pub lawful : IsLawful s
   pub quiet : IsQuiet s

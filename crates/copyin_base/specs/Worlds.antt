@@ -32,7 +32,7 @@ world_code space ports ledger sets requests =
 abbrev pub no_world : WorldView
 no_world = record {
   spaces = [];
-  ports = record { ports = map.empty; ready = map.empty; made = 0; spare = 0; destroyed = [] };
+  ports = record { ports = map.empty; ready = map.empty; made = 0; spare = 0; destroyed = []; lost = []; doomed = []; noted = [] };
   ledger = record { counts = map.empty; total = 0; unused = 0 };
   sets = no_sets;
   requests = none_requested;
@@ -68,3 +68,17 @@ port_at w p = map.get w.ports.ports p
 abbrev pub put : {V : Type 0} → map.FinMap nat_cmp V → (name : ℕ) → Option V → map.FinMap nat_cmp V
 put m name (Some v) = map.insert m name v
 put m name None = map.remove m name
+
+-- ---- what a step's end has to do
+
+-- No port has lost its receive right or is doomed, and no message was destroyed.
+pub record NoneLost (w : WorldView) : Type 0 where
+  pub lost : w.ports.lost ≡ []
+  pub doomed : w.ports.doomed ≡ []
+  pub destroyed : w.ports.destroyed ≡ []
+
+-- Nothing is to be done: besides, no port was noted that lost its last send right, and no request waits whose name went.
+pub record IsIdle (w : WorldView) : Type 0 where
+  pub none_lost : NoneLost w
+  pub noted : w.ports.noted ≡ []
+  pub went : w.requests.names.went ≡ []

@@ -1,7 +1,8 @@
 //! The attributes of a port, read and set.
 ghost use Rattle.std.specs.Prelude.{◌≡◌, true, is_some};
+ghost use Rattle.port.specs.Holding.{CanHold, KeepsHolder};
 ghost use Rattle.copyin_base.specs.Changes.{HasAttributes, SetsAttributes, SetsHolder};
-ghost use Rattle.copyin_base.specs.Worlds.{port_at};
+ghost use Rattle.copyin_base.specs.Worlds.{NoneLost, port_at};
 
 use crate::world::World;
 use mach_types::PortId;
@@ -19,26 +20,26 @@ impl World {
         attributes
     }
 
-    /// Sets the attributes of a port that is there. Takes no memory. Constant time.
+    /// Sets the attributes of a port that is there; who holds its receive right stays. Takes no memory.
+    /// Constant time.
     pub fn set_attributes(&mut self, port: PortId, attributes: Attributes)
-        requires { is_some (port_at self.old port) ≡ true }
+        requires there { is_some (port_at self.old port) ≡ true }
+        requires holder { KeepsHolder self.old.ports port attributes }
         ensures { SetsAttributes self.old port attributes self.new }
     {
         self.ports.set_attributes(port, attributes);
     }
 
-    /// Says who holds the receive right of a port that is there now. Takes no memory. Constant time.
+    /// Says which task, or the queue of which port, holds the receive right of a port that is there now.
+    /// No port is lost or doomed yet. Takes no memory. Constant time.
     pub fn set_holder(&mut self, port: PortId, holder: Holder)
-        requires { is_some (port_at self.old port) ≡ true }
+        requires there { is_some (port_at self.old port) ≡ true }
+        requires can { CanHold holder }
+        requires none_lost { NoneLost self.old }
         ensures { SetsHolder self.old port holder self.new }
     {
-        let attributes = self.attributes(port);
-        self.set_attributes(
-            port,
-            Attributes {
-                holder,
-                ..attributes
-            },
-        );
+        // So it is seen that the port isn't doomed.
+        let _ = self.ports.first_doomed();
+        self.ports.hold(port, holder);
     }
 }

@@ -1,5 +1,5 @@
 //! What stands under a name, changed.
-ghost use Rattle.std.specs.Prelude.{◌≡◌, OnOk, OnErr, IfErr};
+ghost use Rattle.std.specs.Prelude.{◌≡◌, Some, None, OnOk, OnErr, IfErr};
 ghost use Rattle.mach_types.specs.declared.codes.KernReturn.TheVariants as kern;
 ghost use Rattle.name_space.specs.Names.{IsUsable};
 ghost use Rattle.copyin_base.specs.Changes.{CanPutLeft, PutsLeft, CanInsert, InsertsEntry, MakesRoom, KeepsPlace};
@@ -11,21 +11,40 @@ use mach_types::{KernReturn, Name, TaskId};
 use name_space::Entry;
 
 impl World {
-    /// Leaves this under a name that is in use; where nothing is left the name goes.
+    // Puts another entry under a name that is in use.
+    fn replace_entry(&mut self, task: TaskId, name: Name, entry: Entry)
+        requires { CanPutLeft self.old task name (Some entry) }
+        ensures { PutsLeft self.old task name (Some entry) self.new }
+    {
+        let Some(space) = &mut self.spaces[task.number() as usize] else {
+            unreachable!()
+        };
+        space.replace(name, entry);
+    }
+
+    // Takes a name that is in use away, and the request on it.
+    fn remove_name(&mut self, task: TaskId, name: Name)
+        requires { CanPutLeft self.old task name None }
+        ensures { PutsLeft self.old task name None self.new }
+    {
+        let Some(space) = &mut self.spaces[task.number() as usize] else {
+            unreachable!()
+        };
+        space.remove(name);
+        self.requests.leave(task, name);
+    }
+
+    /// Leaves this under a name that is in use; where nothing is left the name goes, and the request on
+    /// it ends: its right is kept until the step's end pays with it.
     ///
     /// Takes no memory. Constant time, and logarithmic for a name above 65,535.
     pub fn put_left(&mut self, task: TaskId, name: Name, left: Option<Entry>)
         requires { CanPutLeft self.old task name left }
         ensures { PutsLeft self.old task name left self.new }
     {
-        let Some(space) = &mut self.spaces[task.number() as usize] else {
-            unreachable!()
-        };
         match left {
-            Some(entry) => space.replace(name, entry),
-            None => {
-                space.remove(name);
-            }
+            Some(entry) => self.replace_entry(task, name, entry),
+            None => self.remove_name(task, name),
         }
     }
 

@@ -14,6 +14,7 @@ mod message;
 mod notice;
 mod queued;
 mod requests;
+mod senders;
 mod task_names;
 mod world;
 

@@ -1,5 +1,5 @@
 //! Requests for notices.
-use mach_types::PortId;
+use mach_types::{Name, PortId, TaskId};
 use number_map::NumberMap;
 use request_table::Requests;
 use std::alloc::Global;
@@ -33,7 +33,7 @@ impl Model for RequestTables {
 
 impl RequestTables {
     ghost use Rattle.std.specs.Prelude.{◌≡◌};
-    ghost use Rattle.copyin_base.specs.Requests.{none_requested};
+    ghost use Rattle.copyin_base.specs.Requests.{none_requested, request_left};
 
     /// No requests. Takes no memory.
     pub fn new(alloc: Global) -> RequestTables
@@ -43,6 +43,15 @@ impl RequestTables {
             names: Requests::new(alloc),
             no_senders: NumberMap::new(alloc),
             port_destroyed: NumberMap::new(alloc),
+        }
+    }
+    /// The task's name goes: the request on it, if there is one, ends, and is the last of those whose
+    /// right waits to pay. Takes no memory. Constant time.
+    pub fn leave(&mut self, task: TaskId, name: Name)
+        ensures { self.new ≡ request_left self.old task name }
+    {
+        if !self.names.is_empty() {
+            self.names.leave(task, name);
         }
     }
 }

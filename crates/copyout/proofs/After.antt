@@ -24,7 +24,7 @@ use Rattle.copyin_base.proofs.Putting.{each_put}
 use Rattle.copyin_base.proofs.Spaces.{space-set_same}
 use Rattle.copyout.specs.Giving.{ledger_joined, GivesPort, GivesMark, NeedsOwn, free_names, free_room, MarkLacks, Lack}
 use Rattle.copyout.specs.Ready.{send_for, CanGive, CanGivePort, CanTakeName}
-use Rattle.copyout.proofs.PortsGiven.{given_live}
+use Rattle.copyout.proofs.PortsGiven.{SameLists, lists_refl, lists_none_lost, given_live, given_lists}
 
 pub kind_cases : (kind : Kind) → (kind ≡ send_once) ⊎ (kind ≢ send_once)
 kind_cases send = inr (λ h. cc)
@@ -76,10 +76,11 @@ pub record After (w mid : WorldView) (task : ℕ) (kind : Kind) (one : Mark) : T
   pub live : (p : ℕ) → is_some (port_at mid p) ≡ is_some (port_at w p)
   pub entered : (p : ℕ) → IsEntered w.ledger p → IsEntered mid.ledger p
   pub sends : (p : ℕ) → (counts_of w.ledger p).send ≤ (counts_of mid.ledger p).send + send_for kind one p
+  pub lists : SameLists w.ports mid.ports
 
 after_same : (w mid : WorldView) (task : ℕ) (kind : Kind) (one : Mark) (space : SpaceView) → space_at w task ≡ Some space → mid ≡ w → After w mid task kind one
 after_same w mid task kind one space there e = subst (λ (x : WorldView). After w x task kind one) (sym e)
-    (record { space = space; there = there; live = λ p. refl; entered = λ p h. h; sends = λ p. omega arith })
+    (record { space = space; there = there; live = λ p. refl; entered = λ p h. h; sends = λ p. omega arith; lists = lists_refl w.ports })
 
 after_port : (w mid : WorldView) (task : ℕ) (kind : Kind) (port word : ℕ) → GivesPort w task kind port word mid → After w mid task kind (mark.Port port)
 after_port w mid task kind port word g = subst (λ (x : WorldView). After w x task kind (mark.Port port)) (sym g.rest) (record {
@@ -94,6 +95,7 @@ after_port w mid task kind port word g = subst (λ (x : WorldView). After w x ta
     | inl j ↦ subst (λ (m : LedgerView). (counts_of w.ledger p).send ≤ (counts_of m p).send + send_for kind (mark.Port port) p) (sym j.1) (sends-joined kind port j.0.entry w.ledger p)
     | inr t ↦ subst (λ (m : LedgerView). (counts_of w.ledger p).send ≤ (counts_of m p).send + send_for kind (mark.Port port) p) (sym t.1) (omega arith)
   ];
+  lists = given_lists task port w.ports kind;
 })
 
 after_if : (b : Bool) (w mid : WorldView) (task : ℕ) (kind : Kind) (port word dead : ℕ) (space : SpaceView) → space_at w task ≡ Some space →
@@ -117,6 +119,7 @@ can_give_one w task c cs g = record {
   room = λ h. elim h [ inl a ↦ g.room (inl a) | inr b ↦ absurd b.2 ];
   entered = g.entered;
   counted = λ p live. let h = g.counted p live in omega arith;
+  none_lost = g.none_lost;
 }
 
 pub can_give_rest : (w mid : WorldView) (task : ℕ) (c : Carried) (cs : List Carried) (word : ℕ) → CanGive w task (c ∷ cs) →
@@ -130,6 +133,7 @@ can_give_rest w mid task c cs word g gives =
       room = λ h. g.room (inr (mid, (word, gives), h));
       entered = λ p live. a.entered p (g.entered p (sym (a.live p) ∙ live));
       counted = λ p live. let h = g.counted p (sym (a.live p) ∙ live) in let k = a.sends p in omega arith;
+      none_lost = lists_none_lost w mid a.lists g.none_lost;
     }
 
 send_own : (kind : Kind) (one : Mark) (p : ℕ) → kind ≡ send → one ≡ mark.Port p → send_for kind one p ≡ 1
@@ -155,13 +159,14 @@ can_give_port w task c p is live g = record {
   live = live;
   entered = g.entered p live;
   counted = λ e. let h = g.counted p live in let k = send_own (kind_sent c.given) c.mark p e is in omega arith;
+  none_lost = g.none_lost;
 }
 
 pub can_take : (w : WorldView) (task : ℕ) (kind : Kind) (port : ℕ) (g : CanGivePort w task kind port) →
     (kind ≢ send_once → (name : ℕ) → port_named_at g.space.names name ≢ Some port) → CanTakeName w task kind port
 can_take w task kind port g lone =
     let own = g.own (elim (kind_cases kind) [ inl e ↦ inl e | inr n ↦ inr (g.space, g.there, lone n) ]) in
-    record { space = g.space; there = g.there; room = own.1; not_full = own.0; lone = lone; live = g.live }
+    record { space = g.space; there = g.there; room = own.1; not_full = own.0; lone = lone; live = g.live; none_lost = g.none_lost }
 
 -- ---- one element after another
 

@@ -45,7 +45,7 @@ reordered_agrees w s t a r = subst (Agrees w) (sym r.rest) record {
   counts = counts_same w.ledger s.live_port s.ledger (onces_queued s) a.counts t.ledger (λ c q. same (is_of c q));
   total = let m = r.tokens (λ x. 1) in omega (arith, m, a.total, length-weigh s.ledger, length-weigh t.ledger);
   in_sets = a.in_sets;
-  of_requests = requests_stay (notify_of w.requests) w.ports.made w.ports.made s.stands s.stands s.live_port s.live_port s.ledger t.ledger a.of_requests (omega arith) (λ r. refl) (λ q less. refl) (λ r kind q. same _);
+  of_requests = requests_stay (notify_of w.requests) w.requests.names.went w.ports.made w.ports.made s.stands s.stands s.live_port s.live_port s.ledger t.ledger a.of_requests (omega arith) (λ r. refl) (λ q less. refl) (λ r kind q. same _);
 }
   where
     same : (test : Token → Bool) → count test t.ledger ≡ count test s.ledger

@@ -10,7 +10,7 @@ use Rattle.copyin_base.specs.Kept.{Kept, IsMessageOf}
 use Rattle.copyin_base.specs.Worlds.{WorldView}
 use Rattle.std.specs.Option.{option_to_list}
 use Rattle.copyout.specs.Giving.{GivesMark, GivesAll}
-use Rattle.copyout.specs.Takes.{TakesFront, TakesMessage, reply_number, reply_word, body_names, reversed}
+use Rattle.copyout.specs.Takes.{TakesFront, TakesMessage, NotesFront, reply_number, reply_word, body_names, reversed}
 use Rattle.copyout.specs.Ready.{CanGive, Delivers}
 use Rattle.copyout.proofs.After.{can_give_one, can_give_rest}
 
@@ -22,6 +22,7 @@ can_reply w task None rights g = record {
   room = λ h. absurd h;
   entered = g.entered;
   counted = λ p live. omega arith;
+  none_lost = g.none_lost;
 }
 can_reply w task (Some c) rights g = can_give_one w task c rights g
 
@@ -80,9 +81,10 @@ delivers old mid new task m local sequence first names bytes h one rest bits siz
           ∙ ap (λ (ws : List ℕ). header_text (reversed m local sequence b.words) ++ body_text (received_body written ws)) (sym b.body);
     }
 
-pub takes_message : (w mid new : WorldView) (task port local sequence : ℕ) (m : Kept) (bytes : List ℕ) (t : TakesFront w port mid) → IsMessageOf t.front m → sequence ≡ t.v.attributes.sequence →
-    Delivers mid task m local sequence bytes new → TakesMessage w task port local bytes new
-takes_message w mid new task port local sequence m bytes t is number d =
-    let e : Delivers mid task (record t.front { told = m.told }) local t.v.attributes.sequence bytes new =
-    subst (λ (n : ℕ). Delivers mid task (record t.front { told = m.told }) local n bytes new) number (subst (λ (x : Kept). Delivers mid task x local sequence bytes new) is d) in
-    record { mid = mid; takes = t; words = e.words; gives = e.gives; text = e.text }
+-- ... and its port is noted where it came by the last send right
+pub takes_message : (w mid taken new : WorldView) (task port local sequence : ℕ) (m : Kept) (bytes : List ℕ) (t : TakesFront w port mid) → IsMessageOf t.front m → sequence ≡ t.v.attributes.sequence →
+    Delivers mid task m local sequence bytes taken → NotesFront taken port t.front new → (x : WorldView) × (y : TakesMessage w task port local bytes x) × NotesFront x port y.takes.front new
+takes_message w mid taken new task port local sequence m bytes t is number d notes =
+    let e : Delivers mid task (record t.front { told = m.told }) local t.v.attributes.sequence bytes taken =
+    subst (λ (n : ℕ). Delivers mid task (record t.front { told = m.told }) local n bytes taken) number (subst (λ (x : Kept). Delivers mid task x local sequence bytes taken) is d) in
+    (taken, record { mid = mid; takes = t; words = e.words; gives = e.gives; text = e.text }, notes)

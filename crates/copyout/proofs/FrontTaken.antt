@@ -19,10 +19,12 @@ use Rattle.rights.specs.Ledger.{taken}
 use Rattle.copyin_base.specs.Kept.{Kept, message_of}
 use Rattle.copyin_base.specs.Worlds.{WorldView}
 use Rattle.copyin_base.specs.Requests.{notify_of}
-use Rattle.copyin_base.specs.Shows.{AllKept, came_by_once, onces_queued, ShowsPort, CountsAgree, Agrees, HoldersAgree}
+use Rattle.copyin_base.specs.Shows.{AllKept, came_by_once, onces_queued, ShowsPort, CountsAgree, Agrees, HoldersAgree, CarriersAgree, RequestsStand}
 use Rattle.copyout.specs.Takes.{TakesFront}
 use Rattle.copyin_base.proofs.Agreeing.{live_put, ports_put}
+use Rattle.copyin_base.proofs.Carriers.{carriers_taken}
 use Rattle.copyin_base.proofs.Counting.{right_taken, once_taken, queues_same}
+use Rattle.copyin_base.proofs.Requested.{requested_put}
 use Rattle.copyin_base.proofs.Requesting.{requests_stay}
 use Rattle.copyin_base.proofs.Holders.{KeepHolders, put_holders, holders_ports}
 use Rattle.copyin_base.proofs.Taking.{Without, take_lying}
@@ -162,7 +164,7 @@ module _ (w : WorldView) (s : State) (a : Agrees w s) (l : IsLawful s) (p : ℕ)
     counts = counted f.front.by_once refl left.parts;
     total = let m = left.parts (λ x. 1) in omega (arith, m, a.total, length-weigh s.ledger, length-weigh taken_state.ledger);
     in_sets = a.in_sets;
-    of_requests = requests_stay (notify_of w.requests) w.ports.made w.ports.made s.stands s.stands s.live_port s.live_port s.ledger left.others a.of_requests (omega arith) (λ r. refl) (λ q less. refl) (λ r kind q.
+    of_requests = requests_stay (notify_of w.requests) w.requests.names.went w.ports.made w.ports.made s.stands s.stands s.live_port s.live_port s.ledger left.others a.of_requests (omega arith) (λ r. refl) (λ q less. refl) (λ r kind q.
         let m = tokens_for (λ x. is_of kind q x && same_place (in_request r) x.place) in
         let z = both_test (is_of kind q going) false (inr refl) in omega (arith, m, z));
   }
@@ -175,3 +177,15 @@ module _ (w : WorldView) (s : State) (a : Agrees w s) (l : IsLawful s) (p : ℕ)
 pub front_holders : (w : WorldView) (p : ℕ) (w' : WorldView) → TakesFront w p w' → HoldersAgree w → HoldersAgree w'
 front_holders w p w' f h = holders_ports w w' h (ap (λ (x : WorldView). x.spaces) f.rest)
     (subst (λ (x : WorldView). KeepHolders w.ports.ports x.ports.ports) (sym f.rest) (put_holders w.ports.ports p f.v _ f.there refl))
+
+-- ... and so does each whose receive right a message carries that is queued behind it
+pub front_carriers : (w : WorldView) (p : ℕ) (w' : WorldView) → TakesFront w p w' → CarriersAgree w → CarriersAgree w'
+front_carriers w p w' f c = carriers_taken w w' c p f.v
+    (record { queue = f.behind; attributes = record f.v.attributes { sequence = (f.v.attributes.sequence + 1) % 2 ^ 32 } }) f.front f.there
+    (ap (λ (x : WorldView). x.ports.made) f.rest) (ap (λ (x : WorldView). x.ports.ports) f.rest) f.queue refl
+
+-- Requests stand where they stood.
+pub front_requested : (w : WorldView) (p : ℕ) (w' : WorldView) → TakesFront w p w' → RequestsStand w → RequestsStand w'
+front_requested w p w' f r = requested_put w w' r p
+    (record { queue = f.behind; attributes = record f.v.attributes { sequence = (f.v.attributes.sequence + 1) % 2 ^ 32 } })
+    (ap (λ (x : WorldView). x.ports.ports) f.rest) (ap (λ (x : WorldView). x.requests) f.rest) (ap (λ (x : WorldView). x.spaces) f.rest)

@@ -10,7 +10,7 @@ use Rattle.mach_types.specs.Bodies.{Through}
 use Rattle.mach_model.specs.State.{State}
 use Rattle.mach_model.specs.CopyOut.{GiveRight, GiveMark, GiveWord}
 use Rattle.mach_model.specs.Carried.{mark_count, rights_count, lying}
-use Rattle.mach_model.proofs.Moving.{IsMoving}
+use Rattle.mach_model.proofs.Moving.{IsMoving, IsOutside}
 use Rattle.mach_model.proofs.CopyingOut.{Removes}
 use Rattle.mach_model.proofs.CopyingMarks.{words_remove}
 use Rattle.copyin_base.specs.declared.message.Carried.{Carried}
@@ -18,10 +18,10 @@ use Rattle.copyin_base.specs.declared.message.Mark.{Mark}
 use Rattle.copyin_base.specs.declared.message.Mark.TheVariants as mark
 use Rattle.copyin_base.specs.Kept.{mark_of}
 use Rattle.copyin_base.specs.Worlds.{WorldView, port_at}
-use Rattle.copyin_base.specs.Shows.{Agrees, HoldersAgree}
+use Rattle.copyin_base.specs.Shows.{Agrees}
 use Rattle.copyout.specs.Giving.{GivesPort, GivesMark, GivesAll}
 use Rattle.copyout.proofs.Given.{port_given}
-use Rattle.copyout.proofs.GivenHolders.{port_given_holders}
+use Rattle.copyout.proofs.GivenSound.{AreSound, StaySound, stay_same, stay_trans, port_given_sound}
 use Rattle.copyout.proofs.Rights.{right_of, rights_of, seconds}
 
 -- As many rights for live ports lie at the entry, or more.
@@ -75,27 +75,32 @@ module _ (w : WorldView) (s : State) (a : Agrees w s) (o k : ℕ) (l : IsMoving 
   mark_given mark.Null some g = nothing_given _ g.1 (g.0, refl)
   mark_given mark.Dead some g = nothing_given _ g.1 (g.0, refl)
 
-  -- Each port still knows who holds its receive right.
-  module _ (h : HoldersAgree w) where
-    port_holders : (p : ℕ) (b : Bool) → is_some (port_at w p) ≡ b → (s.live_port p ≡ true → 0 < lying s kind p (in_message o k)) →
-        MatchBool b (GivesPort w task kind p word w') ((word ≡ dead_word) × (w' ≡ w)) → HoldersAgree w'
-    port_holders p true e some g = port_given_holders w s a h o k l task kind p word w' (some (sym (a.live_port p) ∙ e)) g
-    port_holders p false e some g = subst HoldersAgree (sym g.1) h
+  -- What is true of the tables alone still is.
+  module _ (h : AreSound w) (outside : IsOutside s o k) where
+    port_sound : (p : ℕ) (b : Bool) → is_some (port_at w p) ≡ b → (s.live_port p ≡ true → 0 < lying s kind p (in_message o k)) →
+        MatchBool b (GivesPort w task kind p word w') ((word ≡ dead_word) × (w' ≡ w)) → StaySound w w'
+    port_sound p true e some g = port_given_sound w s a h o k l outside task kind p word w' (some (sym (a.live_port p) ∙ e)) g
+    port_sound p false e some g = stay_same w w' h g.1
 
-    pub mark_holders : (m : Mark) → ((q : ℕ) → s.live_port q ≡ true → mark_count kind q kind (mark_of m) ≤ lying s kind q (in_message o k)) →
-        GivesMark w task kind m word w' → HoldersAgree w'
-    mark_holders (mark.Port p) some g =
-        port_holders p (is_some (port_at w p)) refl (λ live. let n = some p live in let own = own_mark kind p in omega (arith, n, own)) g
-    mark_holders mark.Null some g = subst HoldersAgree (sym g.1) h
-    mark_holders mark.Dead some g = subst HoldersAgree (sym g.1) h
+    pub mark_sound : (m : Mark) → ((q : ℕ) → s.live_port q ≡ true → mark_count kind q kind (mark_of m) ≤ lying s kind q (in_message o k)) →
+        GivesMark w task kind m word w' → StaySound w w'
+    mark_sound (mark.Port p) some g =
+        port_sound p (is_some (port_at w p)) refl (λ live. let n = some p live in let own = own_mark kind p in omega (arith, n, own)) g
+    mark_sound mark.Null some g = stay_same w w' h g.1
+    mark_sound mark.Dead some g = stay_same w w' h g.1
 
 -- ---- each
+
+-- one right lies there no more
+one_removes : (task o k : ℕ) (c : Carried) (s : State) (word : ℕ) (mid : State) → IsMoving s o k → s.live_task task ≡ true →
+    GiveMark task (in_message o k) (kind_sent c.given) (mark_of c.mark) s word mid → Removes s mid o k (λ kind q. rights_count kind q (right_of c ∷ []))
+one_removes task o k c s word mid l is_task g = words_remove task o k ((0, word) ∷ []) s (right_of c ∷ []) mid l is_task (mid, g, refl)
 
 -- what is so once one was given
 pub later : (task o k : ℕ) (c : Carried) (cs : List Carried) (s : State) (word : ℕ) (mid : State) → IsMoving s o k → s.live_task task ≡ true → AreLying s o k (c ∷ cs) →
     GiveMark task (in_message o k) (kind_sent c.given) (mark_of c.mark) s word mid → IsMoving mid o k × (mid.live_task task ≡ true) × AreLying mid o k cs
 later task o k c cs s word mid l is_task lie g =
-    let less : Removes s mid o k (λ kind q. rights_count kind q (right_of c ∷ [])) = words_remove task o k ((0, word) ∷ []) s (right_of c ∷ []) mid l is_task (mid, g, refl) in (
+    let less = one_removes task o k c s word mid l is_task g in (
       less.keeps,
       ap (λ (x : State). x.live_task task) less.rest ∙ is_task,
       λ kind q live.
@@ -103,23 +108,37 @@ later task o k c cs s word mid l is_task lie g =
           let m = less.lies kind q live' in let n = lie kind q live' in omega (arith, m, n),
     )
 
+-- What is so while rights are given: they are on their way from an entry that isn't queued, and as many lie there.
+pub record IsGiving (s : State) (task o k : ℕ) (cs : List Carried) : Type 0 where
+  pub moving : IsMoving s o k
+  pub outside : IsOutside s o k
+  pub is_task : s.live_task task ≡ true
+  pub lie : AreLying s o k cs
+
+gives_on : (task o k : ℕ) (c : Carried) (cs : List Carried) (s : State) (word : ℕ) (mid : State) → IsGiving s task o k (c ∷ cs) →
+    GiveMark task (in_message o k) (kind_sent c.given) (mark_of c.mark) s word mid → IsGiving mid task o k cs
+gives_on task o k c cs s word mid i g =
+    let next = later task o k c cs s word mid i.moving i.is_task i.lie g in
+    let less = one_removes task o k c s word mid i.moving i.is_task g in
+    record { moving = next.0; outside = subst (λ (x : State). IsOutside x o k) (sym less.rest) i.outside; is_task = next.1; lie = next.2 }
+
 -- The state once all were given, the words being these but for their numbers.
-pub record AllGiven (task o k : ℕ) (cs : List Carried) (s : State) (ws : List (ℕ × ℕ)) (w' : WorldView) : Type 0 where
+pub record AllGiven (task o k : ℕ) (cs : List Carried) (w : WorldView) (s : State) (ws : List (ℕ × ℕ)) (w' : WorldView) : Type 0 where
   pub t : State
   pub gives : Through (GiveWord task (in_message o k)) s ws (rights_of cs) t
   pub agrees : Agrees w' t
-  pub holders : HoldersAgree w'
+  pub stay : StaySound w w'
 
-pub all_given : (cs : List Carried) (ws : List (ℕ × ℕ)) (w : WorldView) (s : State) → Agrees w s → HoldersAgree w → (o k : ℕ) → IsMoving s o k → (task : ℕ) → s.live_task task ≡ true → AreLying s o k cs →
-    (w' : WorldView) → GivesAll w task cs (seconds ws) w' → AllGiven task o k cs s ws w'
-all_given [] [] w s a h o k l task is_task lie w' g = record { t = s; gives = refl; agrees = subst (λ (x : WorldView). Agrees x s) (sym g) a; holders = subst HoldersAgree (sym g) h }
-all_given (c ∷ cs) (n ∷ ns) w s a h o k l task is_task lie w' g =
+pub all_given : (cs : List Carried) (ws : List (ℕ × ℕ)) (w : WorldView) (s : State) → Agrees w s → AreSound w → (o k task : ℕ) → IsGiving s task o k cs →
+    (w' : WorldView) → GivesAll w task cs (seconds ws) w' → AllGiven task o k cs w s ws w'
+all_given [] [] w s a h o k task i w' g = record { t = s; gives = refl; agrees = subst (λ (x : WorldView). Agrees x s) (sym g) a; stay = stay_same w w' h g }
+all_given (c ∷ cs) (n ∷ ns) w s a h o k task i w' g =
     let some : (q : ℕ) → s.live_port q ≡ true → mark_count (kind_sent c.given) q (kind_sent c.given) (mark_of c.mark) ≤ lying s (kind_sent c.given) q (in_message o k) =
-    λ q live. let m = lie (kind_sent c.given) q live in omega (arith, m) in
-    let one = mark_given w s a o k l task (kind_sent c.given) n.1 g.0 c.mark some g.1 in
-    let held = mark_holders w s a o k l task (kind_sent c.given) n.1 g.0 h c.mark some g.1 in
-    let next = later task o k c cs s n.1 one.t l is_task lie one.gives in
-    let rest = all_given cs ns g.0 one.t one.agrees held o k next.0 task next.1 next.2 w' g.2 in
-    record { t = rest.t; gives = (one.t, one.gives, rest.gives); agrees = rest.agrees; holders = rest.holders }
-all_given [] (n ∷ ns) w s a h o k l task is_task lie w' g = absurd g
-all_given (c ∷ cs) [] w s a h o k l task is_task lie w' g = absurd g
+    λ q live. let m = i.lie (kind_sent c.given) q live in omega (arith, m) in
+    let one = mark_given w s a o k i.moving task (kind_sent c.given) n.1 g.0 c.mark some g.1 in
+    let first = mark_sound w s a o k i.moving task (kind_sent c.given) n.1 g.0 h i.outside c.mark some g.1 in
+    let next = gives_on task o k c cs s n.1 one.t i one.gives in
+    let rest = all_given cs ns g.0 one.t one.agrees first.sound o k task next w' g.2 in
+    record { t = rest.t; gives = (one.t, one.gives, rest.gives); agrees = rest.agrees; stay = stay_trans w g.0 w' first rest.stay }
+all_given [] (n ∷ ns) w s a h o k task i w' g = absurd g
+all_given (c ∷ cs) [] w s a h o k task i w' g = absurd g

@@ -17,9 +17,9 @@ use Rattle.copyin_base.specs.Worlds.{WorldView}
 use Rattle.copyin_base.specs.Shows.{Agrees, HoldersAgree}
 use Rattle.copyin_base.proofs.Gets.{same_found}
 use Rattle.copyin_base.proofs.Holders.{IsReceive, ReceivesIn, ReceivesAt, receives_at, put_receives, left_receives, added_receives, KeepHolders, ChangesHolder, same_holders, unheld, unheld_lying, holders_left, holders_given}
-use Rattle.copyout.specs.Giving.{joined, alone, ports_given, GivesPort}
+use Rattle.copyout.specs.Giving.{joined, alone, ports_given}
 use Rattle.copyout.specs.Putting.{PutsPort}
-use Rattle.copyout.proofs.Given.{gives_puts, lives}
+use Rattle.copyout.proofs.Given.{lives}
 use Rattle.copyout.proofs.Gives.{joined_keeps}
 use Rattle.copyout.proofs.PortsGiven.{given_changes}
 
@@ -97,7 +97,3 @@ module _ (w : WorldView) (s : State) (a : Agrees w s) (h : HoldersAgree w) (o k 
   -- It comes under the name.
   pub port_put_holders : PutsPort w task kind p word w' → HoldersAgree w'
   port_put_holders g = right_comes w w' h task p word kind g none_has
-
-  -- It comes.
-  pub port_given_holders : GivesPort w task kind p word w' → HoldersAgree w'
-  port_given_holders g = port_put_holders (gives_puts w task kind p word w' g)

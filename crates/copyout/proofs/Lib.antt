@@ -3,10 +3,15 @@ pub mod Rights
 pub mod PortsGiven
 pub mod Given
 pub mod GivenHolders
+pub mod GivenCarriers
+pub mod GivenRequests
+pub mod GivenSenders
+pub mod GivenSound
 pub mod GivenAll
 pub mod Fronts
 pub mod FrontTaken
 pub mod GivenWords
+pub mod FrontNoted
 pub mod MessageTaken
 pub mod AllLacking
 pub mod Refusing

@@ -1,5 +1,5 @@
 -- A message that is received in the tables is received by the machine.
-use Rattle.std.proofs.Common.{◌≡◌, ℕ, ◌+◌, ◌*◌, ◌^◌, ◌<◌, ◌≤◌, List, [], ◌∷◌, ◌++◌, Option, Some, None, refl, sym, ap, subst, ◌∙◌, arith, true, false, Bool, length, drop, All, length-append}
+use Rattle.std.proofs.Common.{◌≡◌, ℕ, ◌+◌, ◌*◌, ◌^◌, ◌<◌, ◌≤◌, List, [], ◌∷◌, ◌++◌, Option, Some, None, refl, sym, ap, subst, ◌∙◌, arith, inl, true, false, Bool, length, drop, All, length-append}
 use Rattle.std.specs.Prelude.{if◌then◌else◌, is_some, min}
 use Rattle.std.specs.Option.{option_map, option_to_list}
 use Rattle.std.proofs.lemmas.List.{length-drop}
@@ -18,9 +18,9 @@ use Rattle.mach_model.specs.ReceivedMeans.{IsReceived}
 use Rattle.mach_model.specs.Receive.{TakesFrom, Receives}
 use Rattle.mach_model.specs.Carried.{rights_count}
 use Rattle.mach_model.specs.Lawful.{IsLawful}
-use Rattle.mach_model.proofs.Moving.{IsMoving}
-use Rattle.mach_model.proofs.ReceiveLawful.{taken_moving, lies}
-use Rattle.mach_model.proofs.StepQuiet.{Receives-still}
+use Rattle.mach_model.proofs.At.{at_own}
+use Rattle.mach_model.proofs.Moving.{IsMoving, IsOutside}
+use Rattle.mach_model.proofs.ReceiveLawful.{taken_moving, lies, Receives-removes}
 use Rattle.message_codec.specs.declared.header.Header.{Header}
 use Rattle.message_codec.specs.Parses.{is_items}
 use Rattle.message_codec.specs.Received.{header_text, received_body}
@@ -31,17 +31,24 @@ use Rattle.name_space.specs.Entry.{port_named, has_receive}
 use Rattle.name_space.specs.Names.{SpaceView}
 use Rattle.copyin_base.specs.declared.message.Carried.{Carried}
 use Rattle.copyin_base.specs.Kept.{Kept, body_given}
-use Rattle.copyin_base.specs.Worlds.{WorldView, entry_in, entry_at, space_at}
-use Rattle.copyin_base.specs.Shows.{target_of, Agrees, SlotsSuffice, Shows}
-use Rattle.copyout.specs.Takes.{TakesMessage, reversed, reply_number, reply_word, body_names}
+use Rattle.copyin_base.specs.Changes.{NotesSenderless, NotesSenders}
+use Rattle.copyin_base.specs.Posted.{IsLeft}
+use Rattle.copyin_base.specs.Worlds.{WorldView, NoneLost, entry_in, entry_at, space_at}
+use Rattle.copyin_base.specs.Shows.{target_of, Agrees, HoldersAgree, CarriersAgree, SlotsSuffice, RequestsStand, Shows}
+use Rattle.copyin_base.proofs.Listed.{none_listed}
+use Rattle.copyin_base.proofs.SendersNoted.{noted_agrees, noted_holders, noted_carriers, noted_slots, noted_requested, noted_none_lost}
+use Rattle.copyout.specs.Takes.{TakesMessage, NotesFront, reversed, reply_number, reply_word, body_names}
 use Rattle.copyin_base.proofs.Changing.{target_named}
 use Rattle.copyout.proofs.GivenAll.{AreLying, AllGiven, all_given}
+use Rattle.copyout.proofs.GivenSound.{AreSound}
+use Rattle.copyout.proofs.FrontNoted.{by_note, front_notes}
 use Rattle.copyout.specs.Giving.{GivesAll}
 use Rattle.copyout.proofs.Delivered.{gives_length}
 use Rattle.copyout.proofs.Rights.{rights_of, seconds, message_kept, BodyReceived, body_received, reply_received, words_received}
 use Rattle.copyout.proofs.GivenWords.{each_keeps, IsWord, each_fits, body_words_count, rights_length, length-body}
 use Rattle.copyout.proofs.Fronts.{HasFront, shown_is_front}
-use Rattle.copyout.proofs.FrontTaken.{kind_by, front, port_lives, kind_of_front, taken_state, taken_moves, front_agrees, front_holders}
+use Rattle.copyout.proofs.FrontTaken.{kind_by, front, port_lives, kind_of_front, taken_state, taken_moves, front_agrees, front_holders, front_carriers, front_requested}
+use Rattle.copyout.proofs.Rooms.{front_none_lost}
 use Rattle.copyout.proofs.Slots.{all_slots, front_slots}
 
 -- ---- words of a reply
@@ -86,11 +93,18 @@ some_space : (o : Option SpaceView) (name : ℕ) (x : Named) → entry_in o name
 some_space (Some space) name x e = refl
 some_space None name x e = absurd (let e' : None ≡ Some x = e in cc)
 
--- The machine's receipt, and that the tables agree with what it leaves.
-pub record Received (s : State) (task port room : ℕ) (bytes : List ℕ) (w' : WorldView) : Type 0 where
+-- The machine's receipt, which the tables w were before, and that they agree with what it leaves, and tell what the step's end has to do.
+pub record Received (w : WorldView) (s : State) (task port room : ℕ) (bytes : List ℕ) (new : WorldView) : Type 0 where
   pub t : State
   pub receives : Receives task port room bytes s t
-  pub shows : Shows w' t
+  pub agrees : Agrees new t
+  pub holders : HoldersAgree new
+  pub carriers : CarriersAgree new
+  pub slots : SlotsSuffice new
+  pub requested : RequestsStand new
+  pub notes : NotesSenders w new
+  pub none_lost : NoneLost new
+  pub left : IsLeft new t
 
 module _ (w : WorldView) (s : State) (sh : Shows w s) (task port local : ℕ) (bytes : List ℕ) (w' : WorldView) (m : TakesMessage w task port local bytes w')
     (x : Named) (found : entry_at w task local ≡ Some x) (named : port_named x ≡ Some port) where
@@ -159,8 +173,21 @@ module _ (w : WorldView) (s : State) (sh : Shows w s) (task port local : ℕ) (b
   words_are : seconds ws ≡ m.words
   words_are = words_received kept.reply m.words (body_words (received_body written names)) long body_first.are
 
-  all : AllGiven task port (s.taken port) carried t0 ws w'
-  all = all_given carried ws m.mid t0 (front_agrees w s a l port m.mid m.takes) (front_holders w port m.mid m.takes sh.holders) port (s.taken port) on_way task is_task are_lying w'
+  -- the entry was taken
+  outside : IsOutside t0 port (s.taken port)
+  outside = inl (let own : t0.taken port ≡ s.taken port + 1 = at_own s.taken port (s.taken port + 1) in omega (arith, own))
+
+  sound : AreSound m.mid
+  sound = record {
+    holders = front_holders w port m.mid m.takes sh.holders;
+    carriers = front_carriers w port m.mid m.takes sh.carriers;
+    requested = front_requested w port m.mid m.takes sh.requested;
+    none_lost = front_none_lost w m.mid port m.takes sh.idle.none_lost;
+  }
+
+  all : AllGiven task port (s.taken port) carried m.mid t0 ws w'
+  all = all_given carried ws m.mid t0 (front_agrees w s a l port m.mid m.takes) sound port (s.taken port) task
+      record { moving = on_way; outside = outside; is_task = is_task; lie = are_lying } w'
       (subst (λ (xs : List ℕ). GivesAll m.mid task carried xs w') (sym words_are) m.gives)
 
   -- ---- the bytes
@@ -246,11 +273,35 @@ module _ (w : WorldView) (s : State) (sh : Shows w s) (task port local : ℕ) (b
     slots : SlotsSuffice w'
     slots = all_slots carried m.words m.mid w' task m.gives (front_slots w port m.mid m.takes sh.slots)
 
-    -- The message is received, and the tables show the state that this leaves.
-    pub message_received : Received s task port room bytes w'
-    message_received =
-        let still = Receives-still task port room bytes s all.t l sh.quiet lives is_task receives in
-        record { t = all.t; receives = receives; shows = record { agrees = all.agrees; holders = all.holders; slots = slots; lawful = still.lawful; quiet = still.quiet } }
+    -- The message is received, the port is noted where it came by its last send right, and the tables agree with the state that this leaves.
+    pub message_received : (new : WorldView) → NotesFront w' port kept new → Received w s task port room bytes new
+    message_received new notes = record {
+      t = all.t;
+      receives = receives;
+      agrees = noted (λ x. Agrees x all.t) (λ n. noted_agrees w' new port n all.t all.agrees) all.agrees;
+      holders = noted HoldersAgree (λ n. noted_holders w' new port n all.stay.sound.holders) all.stay.sound.holders;
+      carriers = noted CarriersAgree (λ n. noted_carriers w' new port n all.stay.sound.carriers) all.stay.sound.carriers;
+      slots = noted SlotsSuffice (λ n. noted_slots w' new port n slots) slots;
+      requested = noted RequestsStand (λ n. noted_requested w' new port n all.stay.sound.requested) all.stay.sound.requested;
+      notes = front_notes w s sh port m.mid m.takes w' all.stay.senders new notes;
+      none_lost = no_port_lost;
+      left = record {
+        doomed = no_port_lost.doomed;
+        destroyed = no_port_lost.destroyed;
+        lost = λ p c. absurd (none_listed new.ports.lost no_port_lost.lost p c);
+        orphans = λ p o. let one = on_way_still.one_receive p o.0 in let zero = o.1 in absurd (omega (arith, one, zero));
+      };
+    }
+      where
+        noted : (P : WorldView → Type 0) → (NotesSenderless w' port new → P new) → P w' → P new
+        noted P kept_by before = by_note P kept.by_once w' new port kept_by before notes
+
+        no_port_lost : NoneLost new
+        no_port_lost = noted NoneLost (λ n. noted_none_lost w' new port n all.stay.sound.none_lost) all.stay.sound.none_lost
+
+        -- each port that lives has its receive right
+        on_way_still : IsMoving all.t port (s.taken port)
+        on_way_still = (Receives-removes task port room bytes s all.t l lives is_task receives).keeps
 
   -- The port may be taken from: the task has its receive right, and it is in no set.
   pub takes_from : has_receive x ≡ true → m.takes.v.attributes.set ≡ None → TakesFrom s task (Waited.Port port) port

@@ -11,10 +11,11 @@ use Rattle.port.specs.declared.Holder.TheVariants as Holder
 use Rattle.port.specs.Ports.{PortView, PortsView}
 use Rattle.copyin_base.specs.Changes.{CanInsert}
 use Rattle.copyin_base.specs.Kept.{Kept}
-use Rattle.copyin_base.specs.Worlds.{WorldView, port_at}
+use Rattle.copyin_base.specs.Worlds.{WorldView, NoneLost, port_at}
 use Rattle.copyin_base.specs.Shows.{ShowsPort, Agrees}
 use Rattle.copyin_base.proofs.Agreeing.{live_put, ports_put}
 use Rattle.copyin_base.proofs.Holders.{ChangesHolder, put_holder}
+use Rattle.copyin_base.proofs.Idle.{none_lost_by}
 use Rattle.copyout.specs.Giving.{port_held, ports_given}
 
 -- an entry may still come under the name
@@ -33,7 +34,29 @@ can_insert_held w w1 task name ports x y same is live r = subst (λ (v : WorldVi
 
 -- ---- what stays
 
+-- The same ports are lost, doomed and noted, and the same messages destroyed.
+pub record SameLists (ports new : PortsView Kept) : Type 0 where
+  pub lost : new.lost ≡ ports.lost
+  pub doomed : new.doomed ≡ ports.doomed
+  pub destroyed : new.destroyed ≡ ports.destroyed
+  pub noted : new.noted ≡ ports.noted
+
+pub lists_refl : (ports : PortsView Kept) → SameLists ports ports
+lists_refl ports = record { lost = refl; doomed = refl; destroyed = refl; noted = refl }
+
+pub lists_none_lost : (w w2 : WorldView) → SameLists w.ports w2.ports → NoneLost w → NoneLost w2
+lists_none_lost w w2 same n = none_lost_by w w2 n same.lost same.doomed same.destroyed
+
 module _ (task p : ℕ) (ports : PortsView Kept) where
+  held_lists : (o : Option (PortView Kept)) → SameLists ports (port_held task p ports o)
+  held_lists (Some v) = record { lost = refl; doomed = refl; destroyed = refl; noted = refl }
+  held_lists None = lists_refl ports
+
+  pub given_lists : (kind : Kind) → SameLists ports (ports_given kind task p ports)
+  given_lists receive = held_lists (map.get ports.ports p)
+  given_lists send = lists_refl ports
+  given_lists send_once = lists_refl ports
+
   held_made : (o : Option (PortView Kept)) → (port_held task p ports o).made ≡ ports.made
   held_made (Some v) = refl
   held_made None = refl

@@ -20,7 +20,7 @@ entry_is w task word space there = ap (λ (o : Option SpaceView). entry_in o wor
 
 pub can_join : (w : WorldView) (task : ℕ) (kind : Kind) (port word : ℕ) → CanPut w task kind port word → is_some (entry_at w task word) ≡ true → CanJoin w task kind port word
 can_join w task kind port word r used = elim r.may [
-  | inl h ↦ record { space = r.space; there = r.there; not_once = h.0; named = h.1; live = r.live; entered = r.entered; counted = r.counted }
+  | inl h ↦ record { space = r.space; there = r.there; not_once = h.0; named = h.1; live = r.live; entered = r.entered; counted = r.counted; none_lost = r.none_lost }
   | inr h ↦ absurd (let e : false ≡ true = sym (ap is_some (entry_is w task word r.space r.there ∙ h.0)) ∙ used in cc)
 ]
 

@@ -18,9 +18,10 @@ use Rattle.copyin_base.specs.declared.message.Mark.{Mark}
 use Rattle.copyin_base.specs.declared.message.Mark.TheVariants as mark
 use Rattle.copyin_base.specs.Kept.{Kept}
 use Rattle.copyin_base.specs.Wanted.{room_of, room_in}
-use Rattle.copyin_base.specs.Worlds.{WorldView, HasTask, port_at, space_at, space_in, with_space}
+use Rattle.copyin_base.specs.Worlds.{WorldView, HasTask, NoneLost, port_at, space_at, space_in, with_space}
 use Rattle.copyin_base.proofs.Agreeing.{live_put}
 use Rattle.copyin_base.proofs.Gets.{same_found, same_head}
+use Rattle.copyin_base.proofs.Idle.{none_lost_by}
 use Rattle.copyin_base.proofs.Spaces.{space-set_same, space-set_other}
 use Rattle.copyin_base.proofs.Told.{space_there}
 use Rattle.copyout.specs.Giving.{LackNames, free_names, free_room, GivesPort, GivesMark, GivesAll}
@@ -47,6 +48,7 @@ waits_kept w xs port x = record {
   entered = x.entered;
   destination = x.destination;
   counted = x.counted;
+  none_lost = record { lost = x.none_lost.lost; doomed = x.none_lost.doomed; destroyed = x.none_lost.destroyed };
 }
 
 pub same_front : (w : WorldView) (port : ℕ) (x : Waits w port) (m : Kept) → HasFront w port m → x.front ≡ m
@@ -80,6 +82,10 @@ front_live w mid port t p = ap (λ (x : WorldView). is_some (port_at x p)) t.res
 front_there : (w mid : WorldView) (task port : ℕ) (t : TakesFront w port mid) (space : SpaceView) → space_at w task ≡ Some space → space_at mid task ≡ Some space
 front_there w mid task port t space there = ap (λ (x : WorldView). space_at x task) t.rest ∙ there
 
+-- no port is lost
+pub front_none_lost : (w mid : WorldView) (port : ℕ) → TakesFront w port mid → NoneLost w → NoneLost mid
+front_none_lost w mid port t none = none_lost_by w mid none (ap (λ (x : WorldView). x.ports.lost) t.rest) (ap (λ (x : WorldView). x.ports.doomed) t.rest) (ap (λ (x : WorldView). x.ports.destroyed) t.rest)
+
 sends_dest : (once : Bool) (m : LedgerView) (p q : ℕ) →
     (counts_of m q).send ≤ (counts_of (taken m p (if once then right.Destination else right.Send) 1) q).send + (if once then 0 else if p == q then 1 else 0)
 sends_dest false m p q = sends-taken m p q
@@ -107,6 +113,7 @@ can_deliver w mid task port capacity r t =
           subst (λ (m : Kept). sends_for (carried_by m) p + (if m.by_once then 0 else if port == p then 1 else 0) ≤ (counts_of w.ledger p).send) same (r.waits.counted p (sym (live p) ∙ is)) in
           let k = sends_dest t.front.by_once w.ledger port p in
           subst (λ (l : LedgerView). sends_for (carried_by t.front) p ≤ (counts_of l p).send) (sym ledger) (omega arith);
+      none_lost = front_none_lost w mid port t r.waits.none_lost;
     }
 
 -- the front message is the one that was judged

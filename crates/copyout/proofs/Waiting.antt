@@ -63,7 +63,8 @@ module _ (w : WorldView) (s : State) (sh : Shows w s) (p : ℕ) (v : PortView Ke
   its_send true q = refl
   its_send false q = refl
 
-  destination : (b : Bool) → m.by_once ≡ b → 1 ≤ number_of (destination_right m) (counts_of w.ledger p)
+  -- the right by which it goes is counted
+  pub destination : (b : Bool) → m.by_once ≡ b → 1 ≤ number_of (destination_right m) (counts_of w.ledger p)
   destination true e =
       let once : came_by_once front.first ≡ true = ap (λ (x : Message). same_kind send_once x.kind) front.keeps.message_is ∙ ap (λ (x : Bool). same_kind send_once (if x then send_once else send)) e in
       let all : onces_queued s p ≡ (if came_by_once front.first then suc zero else zero) + tally came_by_once front.others = ap (tally came_by_once) front.parts in
@@ -93,4 +94,5 @@ module _ (w : WorldView) (s : State) (sh : Shows w s) (p : ℕ) (v : PortView Ke
         let a = sends_counted (carried_by m) q in
         let b = its_send m.by_once q in
         let c = (sh.agrees.counts q).senders in omega (arith, l, a, b, c);
+    none_lost = sh.idle.none_lost;
   }

@@ -5,7 +5,7 @@ use Rattle.mach_types.specs.Numbers.{most_names}
 use Rattle.mach_types.specs.Tokens.{Kind, send, send_once}
 use Rattle.name_space.specs.Names.{Names, SpaceView, IsUsable, HasPlace, port_at}
 use Rattle.rights.specs.Ledger.{LedgerView, IsEntered, counts_of}
-use Rattle.copyin_base.specs.Worlds.{WorldView, space_at, with_space}
+use Rattle.copyin_base.specs.Worlds.{WorldView, NoneLost, space_at, with_space}
 use Rattle.copyin_base.specs.Worlds.{port_at as table_at}
 use Rattle.copyout.specs.Giving.{alone, JoinsName, ledger_joined, ports_given}
 
@@ -42,3 +42,4 @@ pub record CanPut (w : WorldView) (task : ℕ) (kind : Kind) (port word : ℕ) :
   pub live : is_some (table_at w port) ≡ true
   pub entered : IsEntered w.ledger port
   pub counted : kind ≡ send → 1 ≤ (counts_of w.ledger port).send
+  pub none_lost : NoneLost w

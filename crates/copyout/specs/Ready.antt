@@ -1,4 +1,4 @@
--- What must be so before rights are given: the names suffice, room is made, and the rights are counted.
+-- What must be so before rights are given: the names suffice, room is made, the rights are counted, and no port is lost whose holder is to be set.
 use Rattle.std.specs.Prelude.{◌≡◌, ◌≢◌, ℕ, ◌+◌, ◌<◌, ◌≤◌, true, List, [], ◌∷◌, ◌++◌, length, Some, is_some, if◌then◌else◌, ◌==◌, min}
 use Rattle.std.specs.FinMap as map
 use Rattle.mach_types.specs.Numbers.{kind_sent, most_bytes, most_names}
@@ -15,7 +15,7 @@ use Rattle.copyin_base.specs.declared.message.Carried.{Carried}
 use Rattle.copyin_base.specs.declared.message.Mark.{Mark}
 use Rattle.copyin_base.specs.declared.message.Mark.TheVariants as mark
 use Rattle.copyin_base.specs.Kept.{Kept}
-use Rattle.copyin_base.specs.Worlds.{WorldView, port_at, space_at}
+use Rattle.copyin_base.specs.Worlds.{WorldView, NoneLost, port_at, space_at}
 use Rattle.std.specs.Option.{option_to_list}
 use Rattle.copyout.specs.Giving.{NeedsOwn, LackNames, LackRoom, free_names, GivesAll}
 use Rattle.copyout.specs.Room.{Needs}
@@ -44,6 +44,7 @@ pub record CanGive (w : WorldView) (task : ℕ) (carried : List Carried) : Type 
   pub room : ¬ (LackRoom w task carried)
   pub entered : AllEntered w
   pub counted : (p : ℕ) → is_some (port_at w p) ≡ true → sends_for carried p ≤ (counts_of w.ledger p).send
+  pub none_lost : NoneLost w
 
 -- A right for a port that is there can be given.
 pub record CanGivePort (w : WorldView) (task : ℕ) (kind : Kind) (port : ℕ) : Type 0 where
@@ -53,6 +54,7 @@ pub record CanGivePort (w : WorldView) (task : ℕ) (kind : Kind) (port : ℕ) :
   pub live : is_some (port_at w port) ≡ true
   pub entered : IsEntered w.ledger port
   pub counted : kind ≡ send → 1 ≤ (counts_of w.ledger port).send
+  pub none_lost : NoneLost w
 
 -- It can come under the task's name for the port.
 pub record CanJoin (w : WorldView) (task : ℕ) (kind : Kind) (port name : ℕ) : Type 0 where
@@ -63,6 +65,7 @@ pub record CanJoin (w : WorldView) (task : ℕ) (kind : Kind) (port name : ℕ) 
   pub live : is_some (port_at w port) ≡ true
   pub entered : IsEntered w.ledger port
   pub counted : kind ≡ send → 1 ≤ (counts_of w.ledger port).send
+  pub none_lost : NoneLost w
 
 -- It can come under a name of its own.
 pub record CanTakeName (w : WorldView) (task : ℕ) (kind : Kind) (port : ℕ) : Type 0 where
@@ -72,6 +75,7 @@ pub record CanTakeName (w : WorldView) (task : ℕ) (kind : Kind) (port : ℕ) :
   pub not_full : map.len space.names < most_names
   pub lone : kind ≢ send_once → (name : ℕ) → port_named_at space.names name ≢ Some port
   pub live : is_some (port_at w port) ≡ true
+  pub none_lost : NoneLost w
 
 abbrev pub carried_by : Kept → List Carried
 carried_by m = option_to_list m.reply ++ m.rights
@@ -83,7 +87,7 @@ pub record HasFront (w : WorldView) (port : ℕ) (m : Kept) : Type 0 where
   pub behind : List Kept
   pub queue : v.queue ≡ m ∷ behind
 
--- A message waits at the port: its bytes are laid out with a right for each port word, and its rights are in the ledger.
+-- A message waits at the port: its bytes are laid out with a right for each port word, and its rights are in the ledger. No port was lost.
 pub record Waits (w : WorldView) (port : ℕ) : Type 0 where
   pub v : PortView Kept
   pub there : port_at w port ≡ Some v
@@ -98,6 +102,7 @@ pub record Waits (w : WorldView) (port : ℕ) : Type 0 where
   pub destination : 1 ≤ number_of (destination_right front) (counts_of w.ledger port)
   pub counted : (p : ℕ) → is_some (port_at w p) ≡ true →
       sends_for (carried_by front) p + (if front.by_once then 0 else if port == p then 1 else 0) ≤ (counts_of w.ledger p).send
+  pub none_lost : NoneLost w
 
 -- The front message may be received: it fits, and its rights need so many names, which the task may have.
 pub record MayReceive (w : WorldView) (task port room needed : ℕ) : Type 0 where

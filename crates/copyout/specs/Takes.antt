@@ -1,5 +1,5 @@
 -- What a receipt does to the tables.
-use Rattle.std.specs.Prelude.{◌≡◌, ℕ, ◌+◌, ◌*◌, ◌%◌, ◌^◌, List, [], ◌∷◌, ◌++◌, length, drop, Option, Some, None, if◌then◌else◌}
+use Rattle.std.specs.Prelude.{◌≡◌, ℕ, ◌+◌, ◌*◌, ◌%◌, ◌^◌, List, [], ◌∷◌, ◌++◌, length, drop, Option, Some, None, if◌then◌else◌, MatchBool}
 use Rattle.mach_types.specs.Numbers.{kind_sent, kind_number, null_word}
 use Rattle.mach_types.specs.Grammar.{WireBody, body_text}
 use Rattle.message_codec.specs.declared.header.Header.{Header}
@@ -9,6 +9,7 @@ use Rattle.rights.specs.Ledger.{taken}
 use Rattle.rights.specs.declared.RightKind.{RightKind}
 use Rattle.rights.specs.declared.RightKind.TheVariants as right
 use Rattle.copyin_base.specs.declared.message.Carried.{Carried}
+use Rattle.copyin_base.specs.Changes.{NotesSenderless}
 use Rattle.copyin_base.specs.Kept.{Kept}
 use Rattle.copyin_base.specs.Worlds.{WorldView, port_at}
 use Rattle.std.specs.Option.{option_to_list}
@@ -62,3 +63,8 @@ pub record TakesMessage (old : WorldView) (task port local : ℕ) (bytes : List 
   pub gives : GivesAll mid task (option_to_list takes.front.reply ++ takes.front.rights) words new
   pub text : (written : WireBody) → IsLaidOut takes.front.bytes takes.front.spans written →
       bytes ≡ header_text (reversed takes.front local takes.v.attributes.sequence words) ++ body_text (received_body written (body_names takes.front.reply words))
+
+-- The right by which this message came to the port is gone: where it was the port's last send right, and a request stands to be told of that, the
+-- port is noted.
+abbrev pub NotesFront : (old : WorldView) → (port : ℕ) → (front : Kept) → (new : WorldView) → Type 0
+NotesFront old port front new = MatchBool front.by_once (new ≡ old) (NotesSenderless old port new)

@@ -12,7 +12,7 @@ ghost use Rattle.rights.specs.Ledger.{IsEntered, counts_of, taken};
 ghost use Rattle.copyin_base.specs.declared.message.Carried.{Carried as AnyCarried};
 ghost use Rattle.copyin_base.specs.declared.message.Mark.TheVariants as mark;
 ghost use Rattle.copyin_base.specs.Changes.{CanInsert, InsertsEntry};
-ghost use Rattle.copyin_base.specs.Worlds.{HasTask, entry_at, space_at};
+ghost use Rattle.copyin_base.specs.Worlds.{HasTask, NoneLost, entry_at, space_at};
 ghost use Rattle.std.specs.Option.{option_to_list};
 ghost use Rattle.copyout.specs.Giving.{joined, alone, ledger_joined, ports_given, AddsSend, GivesPort, GivesMark, GivesAll};
 ghost use Rattle.copyout.specs.Room.{HasNone};
@@ -71,7 +71,8 @@ fn is_receive(given: Disposition) -> bool
 
 // Of a receive right the port knows the task that holds it.
 fn hold(world: &mut World, task: TaskId, given: Disposition, port: PortId)
-    requires { is_some (map.get world.old.ports.ports port) ≡ true }
+    requires live { is_some (map.get world.old.ports.ports port) ≡ true }
+    requires none_lost { NoneLost world.old }
     ensures { world.new ≡ record world.old { ports = ports_given (kind_sent given) task port world.old.ports } }
 {
     if is_receive(given) {
@@ -79,7 +80,8 @@ fn hold(world: &mut World, task: TaskId, given: Disposition, port: PortId)
     }
 }
 
-// Counts a send right of the port as gone: it is rare.
+// Counts a send right of the port as gone: it is rare. It isn't the port's last, as the name that it
+// would have come under has 65,535 others, so the port isn't noted for want of senders.
 #[cold]
 fn drop_send(world: &mut World, port: PortId)
     requires entered { IsEntered world.old.ledger port }
@@ -142,6 +144,7 @@ pub(crate) fn put_alone(
 )
     requires live { is_some (map.get world.old.ports.ports port) ≡ true }
     requires can { CanInsert world.old task name (alone (kind_sent given) port) }
+    requires none_lost { NoneLost world.old }
     ensures { InsertsEntry (record world.old { ports = ports_given (kind_sent given) task port world.old.ports }) task name (alone (kind_sent given) port) world.new }
 {
     hold(world, task, given, port);

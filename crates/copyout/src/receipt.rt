@@ -11,13 +11,13 @@ ghost use Rattle.rights.specs.declared.RightKind.TheVariants as right;
 ghost use Rattle.rights.specs.Ledger.{IsEntered, counts_of, taken};
 ghost use Rattle.rights.specs.Counts.{number_of};
 ghost use Rattle.copyin_base.specs.Carrying.{spans_in};
-ghost use Rattle.copyin_base.specs.Changes.{MakesRoom};
+ghost use Rattle.copyin_base.specs.Changes.{MakesRoom, NotesSenderless};
 ghost use Rattle.copyin_base.specs.Kept.{Kept, Makes};
 ghost use Rattle.copyin_base.specs.Wanted.{LacksRoomFor};
 ghost use Rattle.copyin_base.specs.Worlds.{WorldView, port_at, HasTask};
 ghost use Rattle.std.specs.Option.{option_to_list};
 ghost use Rattle.copyout.specs.Giving.{GivesAll};
-ghost use Rattle.copyout.specs.Takes.{TakesFront, TakesMessage, destination_right, reply_number, reply_word};
+ghost use Rattle.copyout.specs.Takes.{TakesFront, TakesMessage, NotesFront, destination_right, reply_number, reply_word};
 ghost use Rattle.copyout.specs.Ready.{CanGive, Waits, HasFront, MayReceive, ReadyFor, Delivers, IsRefusedBy, carried_by};
 ghost use Rattle.copyout.specs.Prepared.{IsPrepared};
 ghost use Rattle.copyout.specs.Wanted.{WantsToPrepare, WantsToReceive, ReturnsSlot};
@@ -184,8 +184,18 @@ struct Prepared {
     made: Option<Message>,
 }
 
-// Takes the port's front message and gives its rights. `names` is empty, and has room for the rights of
-// the body; room for the names that are needed was made, so it takes no memory.
+// Notes the port for the end of the step where the message came by its last send right, which is gone.
+fn note_front(world: &mut World, port: PortId, by_once: bool)
+    ensures { MatchBool by_once (world.new ≡ world.old) (NotesSenderless world.old port world.new) }
+{
+    if !by_once {
+        world.note_senderless(port);
+    }
+}
+
+// Takes the port's front message, gives its rights, and notes the port where the message came by its
+// last send right. `names` is empty, and has room for the rights of the body; room for the names that
+// are needed was made, so it takes no memory.
 fn take_message(
     world: &mut World,
     task: TaskId,
@@ -196,19 +206,22 @@ fn take_message(
     requires ready { ReadyFor world.old task port prepared.names.capacity }
     requires none { prepared.names.items ≡ [] }
     requires made { (m : Kept) → HasFront world.old port m → Makes m prepared.made }
-    ensures { TakesMessage world.old task port local result world.new }
+    ensures { (taken : WorldView) × (t : TakesMessage world.old task port local result taken) × NotesFront taken port t.takes.front world.new }
 {
     let Prepared { names, made } = prepared;
     let sequence = world.attributes(port).sequence;
     let queued = take_front(world, port);
-    deliver(
+    let by_once = queued.by_once();
+    let bytes = deliver(
         world,
         task,
         queued.into_message(made),
         local,
         sequence,
         names,
-    )
+    );
+    note_front(world, port, by_once);
+    bytes
 }
 
 // The port's front message.
@@ -292,6 +305,9 @@ fn make_room(world: &mut World, task: TaskId, needed: usize) -> Result<(), KernR
 /// body with more than 8 rights, and for the bytes of a notice: a message that was sent without rights is
 /// always received. Room for names is no more than before, and the message's slot is spare then.
 ///
+/// The right by which the message came is gone: where it was the port's last send right, and a request
+/// stands to be told of that, the port is noted for the end of the step.
+///
 /// # Errors
 /// The message stays, and all is then as before.
 /// - [`Refusal::TooLarge`]: it has more bytes than `room`, or more than 65,536.
@@ -310,8 +326,8 @@ pub fn receive(
 ) -> Result<Bytes, Refusal>
     requires there { HasTask world.old task }
     requires waits { Waits world.old port }
-    ensures ok { IfOk result (λ bytes. (needed : ℕ) × (start : WorldView) × MakesRoom world.old task needed start × (t : TakesMessage start task port local bytes world.new)
-        × (length t.takes.front.bytes ≤ min room most_bytes)) }
+    ensures ok { IfOk result (λ bytes. (needed : ℕ) × (start : WorldView) × (taken : WorldView) × MakesRoom world.old task needed start × (t : TakesMessage start task port local bytes taken)
+        × (length t.takes.front.bytes ≤ min room most_bytes) × NotesFront taken port t.takes.front world.new) }
     ensures kept { OnOk result (ReturnsSlot world.old world.new) }
     ensures err { IfErr result (λ refusal. (world.new ≡ world.old) × (m : Kept) × HasFront world.old port m × IsRefusedBy world.old task m room refusal) }
     ensures wanted { IfErr result (λ refusal. refusal ≡ refused.Memory → WantsToReceive world.old task port) }

@@ -109,7 +109,7 @@ module _ (w : WorldView) (from name number : ℕ) (d : Disposition) (given : dis
     illegal s sh none legal =
         let space = space_of (space_at w from) is in
         let l = legal_copies w s 0 (length (s.log 0)) from space.0.names
-        (record { agrees = sh.agrees; moving = moving s 0 (length (s.log 0)) sh.lawful; space = space.0; there = space.1; names_are = refl; none = sh.quiet.none_stands }) name number legal in
+        (record { agrees = sh.agrees; moving = moving s 0 (length (s.log 0)) sh.lawful; space = space.0; there = space.1; names_are = refl; requested = sh.requested }) name number legal in
         let c = l.2 in
         let same_entry : c.entry ≡ e = same_found (map.get space.0.names name) c.entry e c.found space.2 in
         let same_given : l.0.given ≡ d = the_same l.0.given d (sym c.is_given ∙ given) in

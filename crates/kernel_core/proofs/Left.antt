@@ -19,16 +19,21 @@ use Rattle.name_space.specs.declared.Entry.{Entry}
 use Rattle.name_space.specs.Names.{Names, SpaceView}
 use Rattle.copyin_base.specs.declared.message.Carried.{Carried}
 use Rattle.copyin_base.specs.declared.message.Mark.TheVariants as mark
-use Rattle.copyin_base.specs.Shows.{Agrees, HoldersAgree, Shows}
+use Rattle.copyin_base.specs.Shows.{Agrees, Shows}
 use Rattle.copyin_base.specs.Worlds.{WorldView, entry_in, entry_at, put, space_at, space_in}
 use Rattle.copyin_base.proofs.Gets.{same_found}
 use Rattle.copyin_base.proofs.Putting.{put_own, put_other, len_put, len_removed}
+use Rattle.copyin_base.proofs.SendersNoted.{KeepsSenders}
 use Rattle.copyin.specs.declared.copies.Copied.{Copied}
 use Rattle.copyin.specs.Copies.{copied_from, CopiesRight}
 use Rattle.copyin.specs.Planned.{CanCopy}
+use Rattle.copyin.proofs.CarriersKept.{copied_carriers}
 use Rattle.copyin.proofs.CopiedIn.{after}
 use Rattle.copyin.proofs.HoldersKept.{copied_holders}
+use Rattle.copyin.proofs.RequestedKept.{copied_requested}
+use Rattle.copyin.proofs.SendersKept.{copied_senders, copied_none_lost}
 use Rattle.copyin.proofs.Stepping.{Went, went}
+use Rattle.copyout.proofs.GivenSound.{AreSound}
 use Rattle.kernel_core.specs.declared.transfer.Going.{Going}
 use Rattle.kernel_core.specs.Transfer.{CanGo, left_at, names_in, fewer_if, names_left, rights_then}
 use Rattle.copyin_base.proofs.Spaces.{space-set_same, space-set_other}
@@ -55,11 +60,13 @@ not_fewer : (o : Option Entry) (n : ℕ) → fewer_if false o n ≡ n
 not_fewer (Some e) n = refl
 not_fewer None n = refl
 
--- The tables after copying in, and a state of the machine with which they agree; each port knows its holder still; a task's names then.
+-- The tables after copying in, and a state of the machine with which they agree; what is true of the tables alone still is, and no port lost
+-- its last send right; a task's names then.
 pub record Left (w : WorldView) (s : State) (task number : ℕ) (g : Going) (mid : WorldView) : Type 0 where
   pub t : State
   pub agrees : Agrees mid t
-  pub holders : HoldersAgree mid
+  pub sound : AreSound mid
+  pub senders : KeepsSenders w mid
   pub copies : Copies s t 0 (length (s.log 0)) (kind_sent g.given) (to_port g.port)
   pub copy : CopyRight g.from (in_message 0 (length (s.log 0))) number g.name s (to_port g.port) t
   pub given_is : copy.given ≡ g.given
@@ -95,7 +102,7 @@ module _ (w : WorldView) (s : State) (sh : Shows w s) (task number : ℕ) (g : G
 
   pub it_went : Went w s 0 k from (record { disposition = number; name = name }) carried after_names
   it_went = went w s 0 k from source.0.names (record { disposition = number; name = name }) carried after_names
-      (record { agrees = sh.agrees; moving = moving s 0 k sh.lawful; space = source.0; there = source.1; names_are = refl; none = sh.quiet.none_stands })
+      (record { agrees = sh.agrees; moving = moving s 0 k sh.lawful; space = source.0; there = source.1; names_are = refl; requested = sh.requested })
       (record { is_given = goes.given; entry = goes.entry; found = source.2; copied = copied; is = goes.is; mark = refl; left = refl })
 
   module _ (x : SpaceView) (was : space_at w task ≡ Some x) (mid : WorldView) (c : CopiesRight w from g.given name (mark.Port g.port) mid) where
@@ -178,7 +185,13 @@ module _ (w : WorldView) (s : State) (sh : Shows w s) (task number : ℕ) (g : G
         record {
           t = it_went.t;
           agrees = subst (λ (x : WorldView). Agrees x it_went.t) same_mid it_went.along.agrees;
-          holders = copied_holders w mid from g.given name (mark.Port g.port) c sh.holders;
+          sound = record {
+            holders = copied_holders w mid from g.given name (mark.Port g.port) c sh.holders;
+            carriers = copied_carriers w mid from g.given name (mark.Port g.port) c sh.carriers;
+            requested = copied_requested w mid from g.given name (mark.Port g.port) c sh.requested;
+            none_lost = copied_none_lost w mid from g.given name (mark.Port g.port) c sh.idle.none_lost;
+          };
+          senders = copied_senders w mid from g.given name (mark.Port g.port) c sh.requested;
           copies = subst (λ (x : Disposition). Copies s it_went.t 0 k (kind_sent x) (to_port g.port)) given_is copies;
           copy = it_went.copy;
           given_is = given_is;

@@ -5,6 +5,7 @@ mod Sending
 mod Wanting
 mod Unused
 mod Stepping
+mod Settling
 mod Keeping
 mod Sparing
 mod Left

@@ -83,6 +83,7 @@ module _ (w : WorldView) (s : State) (task number : ℕ) (g : Going) (mid : Worl
     live = is_there;
     entered = entered g.port is_there;
     counted = counted kind refl;
+    none_lost = l.sound.none_lost;
   }
     where
       below : (n : ℕ) → ¬ (most_names ≤ n) → n < most_names
@@ -116,6 +117,7 @@ module _ (w : WorldView) (s : State) (task number : ℕ) (g : Going) (mid : Worl
     ];
     entered = entered;
     counted = λ p live. one_send kind refl p;
+    none_lost = l.sound.none_lost;
   }
     where
       many : NoneLeft free_names mid task → most_names ≤ names_left w task g

@@ -13,7 +13,8 @@ use Rattle.mach_types.specs.Tokens.{receive}
 use Rattle.mach_model.specs.State.{State, Target, lookup, held, Holds}
 use Rattle.mach_model.specs.ReceiveRight.{NamesReceive}
 use Rattle.mach_model.specs.Sets.{IsSet}
-use Rattle.mach_model.specs.Receive.{TakesFrom, IsEmptyFor}
+use Rattle.mach_model.specs.Machine.{Does}
+use Rattle.mach_model.specs.Receive.{TakesFrom, IsEmptyFor, Receipt}
 use Rattle.mach_model.specs.Refusals.{again_guards, call_guards}
 use Rattle.name_space.specs.declared.Entry.{Entry}
 use Rattle.name_space.specs.declared.Entry.TheVariants as entry
@@ -28,17 +29,19 @@ use Rattle.copyin_base.specs.Kept.{Kept}
 use Rattle.copyin_base.specs.Shows.{target_of, Shows}
 use Rattle.copyin_base.specs.Stands.{Stands}
 use Rattle.copyin_base.specs.Worlds.{WorldView, entry_at, port_at, HasTask}
-use Rattle.copyin_base.proofs.Acting.{refused, refused_later, done}
+use Rattle.copyin_base.proofs.Acting.{Does-so, refused, refused_later, done}
 use Rattle.copyin_base.proofs.Told.{port_of, receive_has, unused, found, names_port, holds_receive, names_receive, not_receive, receive_lives, port_there, among_tasks}
 use Rattle.copyin_base.proofs.Gets.{seen}
 use Rattle.copyin_base.proofs.Roomier.{room_made, room_entry, room_shows}
+use Rattle.copyin_base.proofs.SendersNoted.{senders_same}
 use Rattle.copyout.specs.Ready.{HasFront, Waits, carried_by}
 use Rattle.copyout.specs.Giving.{LackNames}
-use Rattle.copyout.specs.Takes.{TakesMessage}
+use Rattle.copyout.specs.Takes.{TakesMessage, NotesFront}
+use Rattle.copyout.proofs.FrontNoted.{notes_roomier}
 use Rattle.copyout.proofs.Fronts.{shown_empty}
 use Rattle.copyout.proofs.MessageTaken.{message_received}
 use Rattle.copyout.proofs.Refusing.{refuses_names, refuses_memory, receipt_large}
-use Rattle.kernel_core.specs.Receive.{named_guards, Sources, IsMember, IsAlone, IsOf, IsFrom, HasMessage, NoneWaits, IsReceipt, StaysFor}
+use Rattle.kernel_core.specs.Receive.{named_guards, Sources, IsMember, IsAlone, IsOf, IsFrom, HasMessage, NoneWaits, ReceiptOf, IsReceipt, StaysFor}
 use Rattle.kernel_core_base.proofs.Holding.{in_one, one_in, none_in, some_in, held_lives, one_true}
 use Rattle.kernel_core.proofs.Judged.{not_not}
 use Rattle.copyout.proofs.Waiting.{waits}
@@ -272,30 +275,50 @@ module _ (w : WorldView) (task : ℕ) (below : HasTask w task) (waited : Waited)
   from : (s : State) (sh : Shows w s) (port : ℕ) → IsFrom w waited port → TakesFrom s task waited port
   from s sh port f = takes_from w s sh task waited (good.allowed s sh) port f
 
+  -- a receipt that leaves the tables
+  as_before : (large : Bool) (s : State) → Shows w s → (reply : Reply) → Receipt s task waited room large reply s [] → ReceiptOf w s task waited room large reply w
+  as_before large s sh reply receipt = record {
+    mid = s;
+    receipt = receipt;
+    agrees = sh.agrees;
+    holders = sh.holders;
+    carriers = sh.carriers;
+    slots = sh.slots;
+    requested = sh.requested;
+    notes = senders_same w sh.idle.noted;
+    none_lost = sh.idle.none_lost;
+  }
+
   pub receipt_empty : NoneWaits w waited → IsReceipt w task waited room (Reply.Empty waited) w
-  receipt_empty none = record { receipt = λ large s sh. record { mid = s; receipt = (refl, empty_for w s sh task waited none, refl, refl); agrees = sh.agrees; holders = sh.holders; slots = sh.slots } }
+  receipt_empty none = record { receipt = λ large s sh. as_before large s sh (Reply.Empty waited) (refl, empty_for w s sh task waited none, refl, refl) }
 
   module _ (port : ℕ) (f : IsFrom w waited port) where
-    pub receipt_message : (name : ℕ) → FindsReceive w task name port → (bytes : List ℕ) (number : ℕ) (start new : WorldView) → MakesRoom w task number start → (t : TakesMessage start task port name bytes new) →
-        length t.takes.front.bytes ≤ min room most_bytes → IsReceipt w task waited room (Reply.Message bytes) new
-    receipt_message name finds bytes number start new mr t fits = record {
+    pub receipt_message : (name : ℕ) → FindsReceive w task name port → (bytes : List ℕ) (number : ℕ) (start taken new : WorldView) → MakesRoom w task number start →
+        (t : TakesMessage start task port name bytes taken) → length t.takes.front.bytes ≤ min room most_bytes → NotesFront taken port t.takes.front new →
+        IsReceipt w task waited room (Reply.Message bytes) new
+    receipt_message name finds bytes number start taken new mr t fits notes = record {
       receipt = λ large s sh.
           let same : SameButRoom w start = room_made w start task number mr in
           let at : entry_at start task name ≡ Some finds.entry = room_entry w start same task name ∙ finds.found in
-          let x = message_received start s (room_shows w start s same sh) task port name bytes new t finds.entry at (receive_has finds.entry port finds.named).0 room fits in
-          record { mid = x.t; receipt = (port, from s sh port f, x.receives, refl); agrees = x.shows.agrees; holders = x.shows.holders; slots = x.shows.slots };
+          let x = message_received start s (room_shows w start s same sh) task port name bytes taken t finds.entry at (receive_has finds.entry port finds.named).0 room fits new notes in
+          record {
+            mid = x.t;
+            receipt = (port, from s sh port f, x.receives, refl);
+            agrees = x.agrees;
+            holders = x.holders;
+            carriers = x.carriers;
+            slots = x.slots;
+            requested = x.requested;
+            notes = notes_roomier w start new same x.notes;
+            none_lost = x.none_lost;
+          };
     }
 
     module _ (m : Kept) (h : HasFront w port m) where
       pub receipt_too_large : (n : ℕ) → n ≡ length m.bytes → min room most_bytes < length m.bytes → IsReceipt w task waited room (Reply.TooLarge n) w
       receipt_too_large n is above = record {
-        receipt = λ large s sh. record {
-          mid = s;
-          receipt = receipt_large w s sh task port (live s sh) h.v h.there m h.behind h.queue waited (from s sh port f) room large n is (omega (arith, is, above));
-          agrees = sh.agrees;
-          holders = sh.holders;
-          slots = sh.slots;
-        };
+        receipt = λ large s sh. as_before large s sh (Reply.TooLarge n)
+            (receipt_large w s sh task port (live s sh) h.v h.there m h.behind h.queue waited (from s sh port f) room large n is (omega (arith, is, above)));
       }
 
       pub stays_for_names : length m.bytes ≤ min room most_bytes → LackNames w task (carried_by m) → StaysFor w task waited room (msg_number ReceiveBodyErrorNames)
@@ -305,6 +328,23 @@ module _ (w : WorldView) (task : ℕ) (below : HasTask w task) (waited : Waited)
       stays_for_memory fits lack = record { refuses = λ s sh. refuses_memory w s sh task port (live s sh) h.v h.there m h.behind h.queue waited (from s sh port f) room fits lack }
 
 -- ---- the calls
+
+-- a call whose own part is this receipt
+does_receipt : {task room : ℕ} {waited : Waited} {large : Bool} (w : WorldView) (event : Event) (reply : Reply) (new : WorldView) (now : ℕ) (s : State) →
+    (y : ReceiptOf w s task waited room large reply new) → Does now s event reply y.mid [] → Does-so w event reply new now s
+does_receipt w event reply new now s y does = record {
+  mid = y.mid;
+  owed = [];
+  does = does;
+  none_owed = refl;
+  agrees = y.agrees;
+  holders = y.holders;
+  carriers = y.carriers;
+  slots = y.slots;
+  requested = y.requested;
+  notes = y.notes;
+  none_lost = y.none_lost;
+}
 
 module _ (w : WorldView) (task room : ℕ) (large : Bool) (below : HasTask w task) where
   module _ (name : ℕ) where
@@ -320,7 +360,7 @@ module _ (w : WorldView) (task room : ℕ) (large : Bool) (below : HasTask w tas
 
       pub named_received : (reply : Reply) (new : WorldView) → IsReceipt w task waited room reply new → Acts w (Event.Receive task name room large) reply new
       named_received reply new r = done w (Event.Receive task name room large) reply new below good (λ now s sh.
-          let y = r.receipt large s sh in record { mid = y.mid; owed = []; does = (waited, x.waits s sh, y.receipt); agrees = y.agrees; holders = y.holders; slots = y.slots })
+          let y = r.receipt large s sh in does_receipt w (Event.Receive task name room large) reply new now s y (waited, x.waits s sh, y.receipt))
 
   module _ (waited : Waited) where
     pub again_declined : (code : ℕ) → IsRefused w (λ s. again_guards s task waited) code → Declines w (Event.ReceiveAgain task waited room large) code w
@@ -332,4 +372,4 @@ module _ (w : WorldView) (task room : ℕ) (large : Bool) (below : HasTask w tas
 
       pub again_received : (reply : Reply) (new : WorldView) → IsReceipt w task waited room reply new → Acts w (Event.ReceiveAgain task waited room large) reply new
       again_received reply new r = done w (Event.ReceiveAgain task waited room large) reply new below record { allowed = λ s sh. good.allowed s sh } (λ now s sh.
-          let y = r.receipt large s sh in record { mid = y.mid; owed = []; does = y.receipt; agrees = y.agrees; holders = y.holders; slots = y.slots })
+          let y = r.receipt large s sh in does_receipt w (Event.ReceiveAgain task waited room large) reply new now s y y.receipt)

@@ -1,5 +1,5 @@
 -- A send: refused in each state that the tables show, or done.
-use Rattle.std.proofs.Common.{◌≡◌, ℕ, ◌+◌, ◌<◌, List, refl, sym, ap, subst, ◌∙◌, ◌⊎◌, inl, inr, arith}
+use Rattle.std.proofs.Common.{◌≡◌, ℕ, ◌+◌, ◌<◌, List, [], refl, sym, ap, subst, ◌∙◌, ◌⊎◌, inl, inr, arith}
 use Rattle.std.specs.Prelude.{max}
 use Rattle.mach_types.specs.declared.calls.Event.{Event}
 use Rattle.mach_types.specs.declared.calls.Reply.{Reply}
@@ -14,7 +14,7 @@ use Rattle.mach_model.specs.Send.{SendRefuses}
 use Rattle.message_codec.specs.declared.text.Parsed.{Parsed}
 use Rattle.message_codec.specs.Parses.{Parses, IsCrowded}
 use Rattle.copyin_base.specs.Acts.{Acts, Declines}
-use Rattle.copyin_base.specs.Changes.{with_slots}
+use Rattle.copyin_base.specs.Changes.{with_slots, NotesSenders}
 use Rattle.copyin_base.specs.Shows.{SlotsSuffice, Shows}
 use Rattle.copyin_base.specs.Stands.{Stands, AreTied, IsTied}
 use Rattle.copyin_base.specs.Worlds.{WorldView, HasTask}
@@ -27,14 +27,20 @@ use Rattle.copyin.specs.Plans.{Judged, CannotPlan, Commits}
 use Rattle.copyin.proofs.Texts.{good_header, none_first}
 use Rattle.copyin.proofs.RefusedWords.{cannot}
 use Rattle.copyin.proofs.Sent.{sent_state, sends, sent_agrees}
+use Rattle.copyin.proofs.CarriersKept.{commits_carriers}
 use Rattle.copyin.proofs.Committing.{commits_rooms}
+use Rattle.copyin.proofs.RequestedKept.{commits_requested}
+use Rattle.copyin.proofs.SendersKept.{commits_senders, commits_none_lost}
 use Rattle.copyin.proofs.SlotsKept.{slot_there, commits_unused, commits_spare}
 use Rattle.copyin.specs.Slots.{slots_for}
 use Rattle.rights.specs.Unused.{IsUnusedOfAll}
 use Rattle.copyin.proofs.HoldersKept.{commits_holders}
 use Rattle.kernel_core.specs.Send.{slotted, SendsText, UsesSlot}
 
--- ---- spare slots are of no account to a plan
+-- ---- spare slots are of no account to a plan, nor to what is noted
+
+pub notes_slots : (w : WorldView) (n : ℕ) (new : WorldView) → NotesSenders (with_slots w n) new → NotesSenders w new
+notes_slots w n new notes = record { noted = notes.noted; had = notes.had }
 
 module _ (w : WorldView) (n : ℕ) (task : ℕ) (parsed : Parsed) (written : WireBody) where
   abbrev judged_at : Judged w task parsed written → Judged (with_slots w n) task parsed written
@@ -140,11 +146,16 @@ module _ (w : WorldView) (task : ℕ) (below : HasTask w task) (bytes : List ℕ
       let j = d.plans.judged in
       record {
         mid = sent_state start s sh2 now task bytes d.parsed d.text j;
-        owed = _;
+        owed = [];
         does = (refl, sends start s sh2 now task bytes d.parsed d.text j d.plans.slot d.plans.few, refl);
+        none_owed = refl;
         agrees = sent_agrees start s sh2 now task bytes d.parsed d.text j new d.commits;
         holders = commits_holders start task d.parsed d.text.written j bytes new d.commits sh2.holders;
+        carriers = commits_carriers start task d.parsed d.text.written j bytes new d.commits sh2.carriers;
         slots = sent_slots s sh new d;
+        requested = commits_requested start task d.parsed d.text.written j bytes new d.commits sh2.requested;
+        notes = notes_slots w (max w.ports.spare (w.ledger.unused + d.more)) new (commits_senders start task d.parsed d.text.written j bytes new d.commits sh2.requested sh2.idle.noted);
+        none_lost = commits_none_lost start task d.parsed d.text.written j bytes new d.commits sh2.idle.none_lost;
       })
 
   pub uses_slot : (new : WorldView) → Stands w → SendsText w task bytes new → UsesSlot w new

@@ -1,5 +1,5 @@
 -- A step: a call's own part, and what settles after it; or a refusal. And the opening.
-use Rattle.std.proofs.Common.{◌≡◌, ℕ, ◌^◌, Bool, true, false, Option, Some, None, refl, sym, ap, ◌∙◌, inl, inr}
+use Rattle.std.proofs.Common.{◌≡◌, ℕ, ◌^◌, Bool, true, false, Option, Some, None, refl, sym, ap, ◌∙◌, arith, inl, inr}
 use Rattle.std.specs.Prelude.{is_some, if◌then◌else◌, nat_lt}
 use Rattle.std.specs.FinMap as map
 use Rattle.std.specs.Option.{option_map}
@@ -22,16 +22,19 @@ use Rattle.copyin_base.specs.Requests.{notify_of, none_requested, rights_kept}
 use Rattle.copyin_base.specs.Shows.{Agrees, Shows}
 use Rattle.copyin_base.specs.Stands.{Stands}
 use Rattle.copyin_base.specs.Worlds.{WorldView, no_world}
+use Rattle.copyin_base.proofs.Carriers.{carriers_none}
 use Rattle.copyin_base.proofs.Holders.{holders_none}
+use Rattle.copyin_base.proofs.Idle.{idle_none}
+use Rattle.copyin_base.proofs.Requested.{requested_none}
 use Rattle.copyin_base.proofs.Slots.{slots_none}
 use Rattle.kernel_core.specs.Answers.{Answers}
 
 -- What was done is settled: a step that is done.
 pub acted : (old mid new : WorldView) (event : Event) (reply : Reply) → Acts old event reply mid →
-    ((now : ℕ) (s t : State) (owed : Owed) → ShowsMid mid t owed → (u : State) × Settles now s t owed u × Shows new u) → Answers old event reply new
+    ((now : ℕ) (tables : WorldView) (s t : State) (owed : Owed) → ShowsMid now tables mid t owed → (u : State) × Settles now s t owed u × Shows new u) → Answers old event reply new
 acted old mid new event reply a settles = λ now s sh.
     let d = a.acts now s sh in
-    let e = settles now s d.mid d.owed d.shows in
+    let e = settles now old s d.mid d.owed d.shows in
     (e.0, inr (record { unrefused = d.unrefused; mid = d.mid; owed = d.owed; does = d.does; settles = e.1 }), e.2)
 
 -- A refusal is a step that is refused.
@@ -72,8 +75,9 @@ opening_agrees = record {
   };
   of_requests = record {
     standing = λ r. sym (ap is_some (nothing r));
-    kept = λ r kind q. sym (ap (λ (o : Option ℕ). rights_kept opening.live_port o kind q) (nothing r));
+    kept = λ r kind q. let none = ap (λ (o : Option ℕ). rights_kept opening.live_port o kind q) (nothing r) in omega (arith, none);
     given = λ r q is. absurd (let e : None ≡ Some q = sym (nothing r) ∙ is in cc);
+    given_went = tt;
   };
 }
   where
@@ -90,7 +94,16 @@ opening_agrees = record {
     no_port p v e = let n : map.get no_world.ports.ports p ≡ None = map.get-empty {X = PortView Kept} nat_cmp p in cc
 
 pub opening_shows : Shows no_world opening
-opening_shows = record { agrees = opening_agrees; holders = holders_none; slots = slots_none; lawful = opening-lawful; quiet = opening-quiet }
+opening_shows = record {
+  agrees = opening_agrees;
+  holders = holders_none;
+  carriers = carriers_none;
+  slots = slots_none;
+  requested = requested_none;
+  idle = idle_none;
+  lawful = opening-lawful;
+  quiet = opening-quiet;
+}
 
 pub opening_stands : Stands no_world
 opening_stands = record { state = opening; shown = opening_shows }

@@ -16,7 +16,9 @@ use Rattle.mach_model.specs.State.{State, Target, lookup, held, with_name}
 use Rattle.mach_model.specs.Carried.{lying}
 use Rattle.mach_model.specs.CopyIn.{CopyRight}
 use Rattle.mach_model.specs.CopyOut.{given_to, NamedOnce, NamedFor}
+use Rattle.mach_model.proofs.Moving.{IsOutside}
 use Rattle.mach_model.specs.Refusals.{IsNoName, insert_guards, extract_guards}
+use Rattle.mach_model.specs.Machine.{Does}
 use Rattle.mach_model.specs.Transfer.{target_for, inserted_guards, extracted_guards, pegged, Inserts, Extracts}
 use Rattle.name_space.specs.declared.Entry.{Entry}
 use Rattle.name_space.specs.Names.{Names, SpaceView, IsUsable}
@@ -24,13 +26,14 @@ use Rattle.rights.specs.Ledger.{LedgerView}
 use Rattle.copyin_base.specs.Acts.{Acts, Declines, HasTasks, IsAllowed}
 use Rattle.port.specs.Ports.{PortsView}
 use Rattle.copyin_base.specs.Kept.{Kept}
-use Rattle.copyin_base.specs.Changes.{KeepsPlace, SameButRoom, with_slots}
-use Rattle.copyin_base.specs.Shows.{target_of, Agrees, HoldersAgree, SlotsSuffice, Shows}
+use Rattle.copyin_base.specs.Changes.{KeepsPlace, SameButRoom, NotesSenders, with_slots}
+use Rattle.copyin_base.specs.Shows.{target_of, Agrees, SlotsSuffice, Shows}
 use Rattle.copyin_base.specs.Stands.{Stands}
 use Rattle.copyin_base.specs.Worlds.{WorldView, space_at, HasTask}
 use Rattle.copyin_base.specs.declared.message.Mark.TheVariants as mark
-use Rattle.copyin_base.proofs.Acting.{refused_later, done}
+use Rattle.copyin_base.proofs.Acting.{Does-so, refused_later, done}
 use Rattle.copyin_base.proofs.Roomier.{room_made, place_kept, room_refl, room_entry, room_shows, slots_show}
+use Rattle.copyin_base.proofs.SendersNoted.{senders_same, senders_kept, keeps_senders_trans}
 use Rattle.copyin_base.proofs.Taking.{Without, take_lying}
 use Rattle.copyin_base.proofs.Told.{space_there}
 use Rattle.copyin.specs.Copies.{CopiesRight}
@@ -42,7 +45,8 @@ use Rattle.copyout.specs.Giving.{alone, GivesPort, GivesMark}
 use Rattle.copyout.specs.Putting.{CanPut, PutsPort}
 use Rattle.copyout.specs.Ready.{CanGive}
 use Rattle.copyout.proofs.Given.{Put, port_put, Given, port_given}
-use Rattle.copyout.proofs.GivenHolders.{port_put_holders, port_given_holders}
+use Rattle.copyout.proofs.FrontNoted.{notes_roomier}
+use Rattle.copyout.proofs.GivenSound.{StaySound, port_put_sound, port_given_sound}
 use Rattle.copyout.proofs.Slots.{put_slots, mark_slots}
 use Rattle.kernel_core.specs.declared.transfer.Going.{Going}
 use Rattle.kernel_core.specs.declared.transfer.Handed.{Handed}
@@ -53,6 +57,7 @@ use Rattle.kernel_core.proofs.Going.{usable_name, insert_good, extract_good}
 use Rattle.kernel_core.proofs.Judged.{lies, lives, copied_in, sends_are, few, none_inserted, first_inserted, none_extracted, first_extracted}
 use Rattle.kernel_core.proofs.Left.{Left, is_left, went_world, went_left, can_copy}
 use Rattle.kernel_core.proofs.Readied.{few_then, can_put, can_give}
+use Rattle.kernel_core.proofs.Sending.{notes_slots}
 use Rattle.copyin_base.proofs.Spaces.{space-set_same}
 
 one_given : (o : Option Disposition) (a b : Disposition) → o ≡ Some a → o ≡ Some b → a ≡ b
@@ -215,10 +220,36 @@ module _ (w : WorldView) (task number : ℕ) (g : Going) (goes : CanGo w number 
       lie : 0 < lying left.t kind g.port (in_message 0 k)
       lie = lies ready s task number g mid left
 
+      -- no log has the entry
+      outside : IsOutside left.t 0 k
+      outside = inr (let same : length (left.t.log 0) ≡ k = ap (λ (x : State). length (x.log 0)) left.copies.rest in omega (arith, same))
+
+      -- no port loses its last send right
+      stay_notes : (new : WorldView) → StaySound mid new → NotesSenders w new
+      stay_notes new stay = notes_slots w m.spare new (notes_roomier slotted_world ready new same
+          (senders_kept ready ready new (senders_same ready shows_ready.idle.noted) (keeps_senders_trans ready mid new left.senders stay.senders)))
+
+      -- the call does so, where what comes is sound, and its slots suffice
+      does_so : (event : Event) (reply : Reply) (new : WorldView) (now : ℕ) (t : State) → Does now s event reply t [] → Agrees new t → StaySound mid new → SlotsSuffice new →
+          Does-so w event reply new now s
+      does_so event reply new now t does agrees stay slots = record {
+        mid = t;
+        owed = [];
+        does = does;
+        none_owed = refl;
+        agrees = agrees;
+        holders = stay.sound.holders;
+        carriers = stay.sound.carriers;
+        slots = slots;
+        requested = stay.sound.requested;
+        notes = stay_notes new stay;
+        none_lost = stay.sound.none_lost;
+      }
+
       -- ---- under a name
 
       module _ (name : ℕ) (none : NoneHolds (insert_later w task name g)) (new : WorldView) (puts : PutsPort mid task kind g.port name new) where
-        pub put : Put left.t 0 k task kind g.port name new
+        put : Put left.t 0 k task kind g.port name new
         put = port_put mid left.t left.agrees 0 k left.copies.keeps task kind g.port name new lie puts
 
         abbrev copied : State
@@ -244,14 +275,14 @@ module _ (w : WorldView) (task number : ℕ) (g : Going) (goes : CanGo w number 
         abbrev inserted : State
         inserted = record put.named { ledger = token kind g.port (in_task task) ∷ put.others }
 
-        pub insert_agrees : Agrees new inserted
+        insert_agrees : Agrees new inserted
         insert_agrees = subst (λ (xs : List Token). Agrees new (record put.named { ledger = xs ++ put.others })) (comes kind refl) put.agrees
 
-        pub insert_slots : SlotsSuffice new
+        insert_slots : SlotsSuffice new
         insert_slots = put_slots mid new task kind g.port name puts mid_slots
 
-        pub insert_holders : HoldersAgree new
-        insert_holders = port_put_holders mid left.t left.agrees left.holders 0 k left.copies.keeps task kind g.port name new lie puts
+        insert_sound : StaySound mid new
+        insert_sound = port_put_sound mid left.t left.agrees left.sound 0 k left.copies.keeps outside task kind g.port name new lie puts
 
         same_target : (c : Kind) → target_of (alone c g.port) ≡ target_for c g.port
         same_target receive = refl
@@ -264,7 +295,7 @@ module _ (w : WorldView) (task number : ℕ) (g : Going) (goes : CanGo w number 
           | inr h ↦ inr (h.0, ap (λ (x : State). record x { ledger = copied.ledger }) h.2 ∙ ap (λ (x : Target). with_name task name x copied) (same_target kind))
         ]
 
-        pub inserts : Inserts task name g.from g.name number s inserted
+        inserts : Inserts task name g.from g.name number s inserted
         inserts =
             let same = one_given (disposition number) g.given copy.given goes.given copy.is_given in
             record {
@@ -275,20 +306,23 @@ module _ (w : WorldView) (task number : ℕ) (g : Going) (goes : CanGo w number 
               named = subst (λ (d : Disposition). (lookup copied task name ≢ None) × (inserted ≡ copied) ⊎ (lookup copied task name ≡ None) × (inserted ≡ with_name task name (target_for (kind_sent d) g.port) copied)) same named_then;
             }
 
+        pub inserts_so : (now : ℕ) → Does-so w (Event.InsertRight task name g.from g.name number) (Reply.Code 0) new now s
+        inserts_so now = does_so (Event.InsertRight task name g.from g.name number) (Reply.Code 0) new now inserted (refl, inserts, refl) insert_agrees insert_sound insert_slots
+
       -- ---- under a name that the kernel chooses
 
       module _ (none : NoneHolds (extract_later w task g)) (new_name : ℕ) (new : WorldView) (gives : GivesMark mid task kind (mark.Port g.port) new_name new) where
         gives_port : GivesPort mid task kind g.port new_name new
         gives_port = subst (λ (b : Bool). MatchBool b (GivesPort mid task kind g.port new_name new) ((new_name ≡ dead_word) × (new ≡ mid))) (left.agrees.live_port g.port ∙ lives ready s task number g mid left) gives
 
-        pub given : Given left.t 0 k task kind g.port new_name new
+        given : Given left.t 0 k task kind g.port new_name new
         given = port_given mid left.t left.agrees 0 k left.copies.keeps task kind g.port new_name new lie gives_port
 
-        pub extract_slots : SlotsSuffice new
+        extract_slots : SlotsSuffice new
         extract_slots = mark_slots mid new task kind (mark.Port g.port) new_name gives mid_slots
 
-        pub extract_holders : HoldersAgree new
-        extract_holders = port_given_holders mid left.t left.agrees left.holders 0 k left.copies.keeps task kind g.port new_name new lie gives_port
+        extract_sound : StaySound mid new
+        extract_sound = port_given_sound mid left.t left.agrees left.sound 0 k left.copies.keeps outside task kind g.port new_name new lie gives_port
 
         others : Without (token kind g.port (in_message 0 k)) left.t.ledger
         others = take_lying 0 k kind g.port left.t.ledger lie
@@ -338,7 +372,7 @@ module _ (w : WorldView) (task number : ℕ) (g : Going) (goes : CanGo w number 
                 let b = ltb-false (held left.t task send g.port) most_references e in
                 let c = ap (weigh h) (one_pegged (omega (arith, a, b))) in omega (arith, c)
 
-        pub extracts : Extracts g.from g.name number task new_name (kind_number kind) s given.t
+        extracts : Extracts g.from g.name number task new_name (kind_number kind) s given.t
         extracts =
             let same = one_given (disposition number) g.given copy_out.given goes.given copy_out.is_given in
             record {
@@ -355,6 +389,9 @@ module _ (w : WorldView) (task number : ℕ) (g : Going) (goes : CanGo w number 
                   let b = others.parts h in
                   let c = comes_out kind refl h in omega (arith, a, b, c);
             }
+
+        pub extracts_so : (now : ℕ) → Does-so w (Event.ExtractRight g.from g.name number task) (Reply.Right new_name (kind_number kind)) new now s
+        extracts_so now = does_so (Event.ExtractRight g.from g.name number task) (Reply.Right new_name (kind_number kind)) new now given.t (extracts, refl) given.agrees extract_sound extract_slots
 
 -- ---- what was judged, by where it stands
 
@@ -470,14 +507,8 @@ module _ (w : WorldView) (to from : TaskName) (number : ℕ) (handed : Handed) (
       pub insert_done : (new : WorldView) → PutsPort mid to.task (kind_sent handed.given) handed.port to.name new → (HasTask w to.task) × (HasTask w from.task) →
           Acts w to_insert (Reply.Code 0) new
       insert_done new puts tasks = done w to_insert (Reply.Code 0) new tasks
-          record { allowed = λ s sh. (insert_allowed w to.task number inserting may.goes tasks.0 to.name may.to_named may.from_named).allowed s sh } (λ now s sh. record {
-            mid = _;
-            owed = [];
-            does = (refl, inserts w to.task number inserting may.goes ready Placed room s sh mid copies to.name may.unrefused new puts, refl);
-            agrees = insert_agrees w to.task number inserting may.goes ready Placed room s sh mid copies to.name may.unrefused new puts;
-            holders = insert_holders w to.task number inserting may.goes ready Placed room s sh mid copies to.name may.unrefused new puts;
-            slots = insert_slots w to.task number inserting may.goes ready Placed room s sh mid copies to.name may.unrefused new puts;
-          })
+          record { allowed = λ s sh. (insert_allowed w to.task number inserting may.goes tasks.0 to.name may.to_named may.from_named).allowed s sh }
+          (λ now s sh. inserts_so w to.task number inserting may.goes ready Placed room s sh mid copies to.name may.unrefused new puts now)
 
 module _ (w : WorldView) (from : TaskName) (number to : ℕ) (handed : Handed) (may : MayExtract w from number to handed) where
   abbrev extracting : Going
@@ -527,11 +558,5 @@ module _ (w : WorldView) (from : TaskName) (number to : ℕ) (handed : Handed) (
       pub extract_done : (new_name : ℕ) (new : WorldView) → GivesMark mid to (kind_sent handed.given) (mark.Port handed.port) new_name new → (HasTask w from.task) × (HasTask w to) →
           Acts w to_extract (Reply.Right new_name (kind_number (kind_sent handed.given))) new
       extract_done new_name new gives tasks = done w to_extract (Reply.Right new_name (kind_number (kind_sent handed.given))) new tasks
-          record { allowed = λ s sh. (extract_allowed w to number extracting may.goes tasks.1).allowed s sh } (λ now s sh. record {
-            mid = _;
-            owed = [];
-            does = (extracts w to number extracting may.goes ready Roomy roomed s sh mid copies may.unrefused new_name new gives, refl);
-            agrees = (given w to number extracting may.goes ready Roomy roomed s sh mid copies may.unrefused new_name new gives).agrees;
-            holders = extract_holders w to number extracting may.goes ready Roomy roomed s sh mid copies may.unrefused new_name new gives;
-            slots = extract_slots w to number extracting may.goes ready Roomy roomed s sh mid copies may.unrefused new_name new gives;
-          })
+          record { allowed = λ s sh. (extract_allowed w to number extracting may.goes tasks.1).allowed s sh }
+          (λ now s sh. extracts_so w to number extracting may.goes ready Roomy roomed s sh mid copies may.unrefused new_name new gives now)

@@ -10,10 +10,11 @@ use Rattle.mach_model.specs.Refusals.{again_guards, call_guards}
 use Rattle.name_space.specs.declared.Entry.{Entry}
 use Rattle.name_space.specs.declared.Entry.TheVariants as entry
 use Rattle.port.specs.Ports.{PortView}
+use Rattle.copyin_base.specs.Changes.{NotesSenders}
 use Rattle.copyin_base.specs.Kept.{Kept}
-use Rattle.copyin_base.specs.Shows.{Agrees, HoldersAgree, SlotsSuffice, Shows}
+use Rattle.copyin_base.specs.Shows.{Agrees, HoldersAgree, CarriersAgree, SlotsSuffice, RequestsStand, Shows}
 use Rattle.copyin_base.specs.Wanted.{room_of}
-use Rattle.copyin_base.specs.Worlds.{WorldView, port_at}
+use Rattle.copyin_base.specs.Worlds.{WorldView, NoneLost, port_at}
 
 -- ---- where from, in each state that the tables show
 
@@ -61,17 +62,22 @@ NoneWaits w waited = (p : ℕ) (v : PortView Kept) → port_at w p ≡ Some v �
 
 -- ---- what becomes of it, in each state that the tables show
 
--- A receipt of the machine, after which the tables agree with its state, each port knows who holds its receive right, and slots suffice.
-pub record ReceiptOf (s : State) (task : ℕ) (waited : Waited) (room : ℕ) (large : Bool) (reply : Reply) (new : WorldView) : Type 0 where
+-- A receipt of the machine, after which the tables agree with its state, each port knows who holds its receive right, slots suffice, each
+-- request stands on what is there, a port that lost its last send right is noted, and none lost its receive right; old are the tables before.
+pub record ReceiptOf (old : WorldView) (s : State) (task : ℕ) (waited : Waited) (room : ℕ) (large : Bool) (reply : Reply) (new : WorldView) : Type 0 where
   pub mid : State
   pub receipt : Receipt s task waited room large reply mid []
   pub agrees : Agrees new mid
   pub holders : HoldersAgree new
+  pub carriers : CarriersAgree new
   pub slots : SlotsSuffice new
+  pub requested : RequestsStand new
+  pub notes : NotesSenders old new
+  pub none_lost : NoneLost new
 
 -- It is answered so, whether a longer message was to stay or not.
 pub record IsReceipt (old : WorldView) (task : ℕ) (waited : Waited) (room : ℕ) (reply : Reply) (new : WorldView) : Type 0 where
-  pub receipt : (large : Bool) (s : State) → Shows old s → ReceiptOf s task waited room large reply new
+  pub receipt : (large : Bool) (s : State) → Shows old s → ReceiptOf old s task waited room large reply new
 
 -- how many messages the answer gives
 abbrev pub given_by : Reply → ℕ

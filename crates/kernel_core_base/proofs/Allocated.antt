@@ -8,6 +8,7 @@ use Rattle.mach_types.specs.declared.calls.Reply.{Reply}
 use Rattle.mach_types.specs.Numbers.{most_names, most_rights, most_identities}
 use Rattle.mach_model.specs.State.{State, Target, with_name, IsFresh}
 use Rattle.mach_model.specs.Names.{Makes, IsNoMaking, IsFull, with_set}
+use Rattle.mach_model.specs.Machine.{Does}
 use Rattle.mach_model.specs.Refusals.{call_guards}
 use Rattle.mach_model.specs.Lawful.{IsLawful}
 use Rattle.name_space.specs.declared.Entry.{Entry}
@@ -21,17 +22,19 @@ use Rattle.copyin_base.specs.Acts.{Acts, IsAllowed}
 use Rattle.copyin_base.specs.Changes.{MakesRoom, KeepsPlace, SameButRoom}
 use Rattle.copyin_base.specs.Kept.{Kept}
 use Rattle.copyin_base.specs.Worlds.{WorldView, entry_in, entry_at, space_at, HasTask}
-use Rattle.copyin_base.specs.Shows.{Agrees, HoldersAgree, target_of}
+use Rattle.copyin_base.specs.Shows.{Agrees, HoldersAgree, Shows, target_of}
 use Rattle.copyin_base.specs.Stands.{Stands}
-use Rattle.copyin_base.proofs.Acting.{done}
+use Rattle.copyin_base.proofs.Acting.{Does-so, done}
 use Rattle.copyin_base.proofs.Agreeing.{own_names}
 use Rattle.copyin_base.proofs.Gets.{same_found}
 use Rattle.copyin_base.proofs.Holders.{ReceivesAt, KeepHolders, same_holders, holders_added, holders_made}
 use Rattle.copyin_base.proofs.NamesChanged.{added_agrees}
-use Rattle.copyin_base.proofs.Roomier.{room_made, place_kept, room_entry, room_agrees, room_holders, room_slots, room_shows}
+use Rattle.copyin_base.proofs.Roomier.{room_made, place_kept, room_entry, room_agrees, room_shows}
 use Rattle.kernel_core_base.specs.declared.names.NewRight.{NewRight}
 use Rattle.kernel_core_base.specs.declared.names.NewRight.TheVariants as new_right
 use Rattle.kernel_core_base.specs.Names.{first_port, right_made, entry_made, HasRoomFor, IsFullFor, HasRoomOf, IsFullOf, CanAdd, Adds}
+use Rattle.copyin_base.proofs.SendersNoted.{senders_same, senders_kept}
+use Rattle.kernel_core_base.proofs.MadeKept.{made_carriers, made_none_lost, made_requested, made_senders, room_senders}
 use Rattle.kernel_core_base.proofs.PortMade.{allocated, allocates, allocated_agrees, not_made, unknown}
 use Rattle.kernel_core_base.proofs.SlotsKept.{made_slots}
 use Rattle.kernel_core_base.proofs.SetMade.{set_agrees}
@@ -216,26 +219,32 @@ module _ (w w1 v : WorldView) (same : SameButRoom w w1) (task number name : ℕ)
   makes_number : (s : State) → Makes task number name s (with_right r s task name)
   makes_number s = subst (λ (n : ℕ). Makes task n name s (with_right r s task name)) is (makes r s task name)
 
+  -- it is made once room was
+  makes_so : (event : Event) (now : ℕ) (s : State) → Shows w s → entry_at w1 task name ≡ None → Adds w1 task r name v → Does now s event (Reply.Name name) (with_right r s task name) [] →
+      Does-so w event (Reply.Name name) v now s
+  makes_so event now s sh unused adds does =
+      let here = room_shows w w1 s same sh in record {
+        mid = with_right r s task name;
+        owed = [];
+        does = does;
+        none_owed = refl;
+        agrees = made_agrees w1 v s here.agrees here.lawful task name unused r adds;
+        holders = made_holders w1 v s here.agrees here.lawful task name unused r adds here.holders;
+        carriers = made_carriers w1 v task name r adds here.carriers;
+        slots = made_slots w1 v here.slots task name r adds;
+        requested = made_requested w1 v task name here.requested r adds unused;
+        notes = senders_kept w w1 v (senders_kept w w w1 (senders_same w sh.idle.noted) (room_senders w w1 same sh.requested))
+            (made_senders w1 v task name here.requested r adds (unknown w1 s here.agrees here.lawful));
+        none_lost = made_none_lost w1 v task name r adds here.idle.none_lost;
+      }
+
   pub allocate_done : IsAllowed w (λ s. call_guards s (Event.Allocate task number)) → (space : SpaceView) → space_at w1 task ≡ Some space → IsFreshName space.names name → Adds w1 task r name v →
       Acts w (Event.Allocate task number) (Reply.Name name) v
   allocate_done good space there f adds = done w (Event.Allocate task number) (Reply.Name name) v below good
-      (λ now s sh. record {
-        mid = with_right r s task name;
-        owed = [];
-        does = (fresh w1 s (room_agrees w w1 s same sh.agrees) task space there name f, makes_number s, refl);
-        agrees = made_agrees w1 v s (room_agrees w w1 s same sh.agrees) sh.lawful task name (ap (λ (o : Option SpaceView). entry_in o name) there ∙ f.unused) r adds;
-        holders = made_holders w1 v s (room_agrees w w1 s same sh.agrees) sh.lawful task name (ap (λ (o : Option SpaceView). entry_in o name) there ∙ f.unused) r adds (room_holders w w1 same sh.holders);
-        slots = made_slots w1 v (room_slots w w1 same sh.slots) task name r adds;
-      })
+      (λ now s sh. makes_so (Event.Allocate task number) now s sh (ap (λ (o : Option SpaceView). entry_in o name) there ∙ f.unused) adds
+      (fresh w1 s (room_agrees w w1 s same sh.agrees) task space there name f, makes_number s, refl))
 
   pub allocate_name_done : IsAllowed w (λ s. call_guards s (Event.AllocateName task number name)) → entry_at w task name ≡ None → Adds w1 task r name v →
       Acts w (Event.AllocateName task number name) (Reply.Name name) v
   allocate_name_done good unused adds = done w (Event.AllocateName task number name) (Reply.Name name) v below good
-      (λ now s sh. record {
-        mid = with_right r s task name;
-        owed = [];
-        does = (refl, makes_number s, refl);
-        agrees = made_agrees w1 v s (room_agrees w w1 s same sh.agrees) sh.lawful task name (room_entry w w1 same task name ∙ unused) r adds;
-        holders = made_holders w1 v s (room_agrees w w1 s same sh.agrees) sh.lawful task name (room_entry w w1 same task name ∙ unused) r adds (room_holders w w1 same sh.holders);
-        slots = made_slots w1 v (room_slots w w1 same sh.slots) task name r adds;
-      })
+      (λ now s sh. makes_so (Event.AllocateName task number name) now s sh (room_entry w w1 same task name ∙ unused) adds (refl, makes_number s, refl))

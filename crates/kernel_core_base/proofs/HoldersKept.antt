@@ -9,9 +9,11 @@ use Rattle.copyin_base.specs.Worlds.{WorldView, put}
 use Rattle.copyin_base.specs.Shows.{HoldersAgree}
 use Rattle.copyin_base.proofs.Gets.{same_found}
 use Rattle.copyin_base.proofs.Holders.{IsReceive, receives_at, none_receives, left_receives, removed_receives, KeepHolders, same_holders, disbanded_holders, holders_left}
+use Rattle.copyin_base.proofs.SendersNoted.{noted_holders}
 use Rattle.kernel_core_base.specs.declared.references.Due.{Due}
 use Rattle.kernel_core_base.specs.declared.references.Due.TheVariants.{Nothing, References, Disbanding}
-use Rattle.kernel_core_base.specs.References.{left_with, SetsReferences, RemovesSet, Carries}
+use Rattle.kernel_core_base.specs.References.{left_with, CountsReferences, RemovesSet, Carries}
+use Rattle.kernel_core_base.proofs.FewerNoted.{fewer_keeps}
 
 -- ---- what is left has the receive right only if the entry had it
 
@@ -43,8 +45,8 @@ left_receive (entry_of.Set set) m p = λ i. i
 -- ---- in the tables
 
 module _ (w v : WorldView) (h : HoldersAgree w) (task name : ℕ) where
-  references_holders : (e : Entry) (m : ℕ) → SetsReferences w task name e m v → HoldersAgree v
-  references_holders e m r = holders_left w v h task r.space (record r.space { names = put r.space.names name (left_with e m) }) r.there (ap (λ (x : WorldView). x.spaces) r.rest)
+  counted_holders : (e : Entry) (m : ℕ) → CountsReferences w task name e m v → HoldersAgree v
+  counted_holders e m r = holders_left w v h task r.space (record r.space { names = put r.space.names name (left_with e m) }) r.there (ap (λ (x : WorldView). x.spaces) r.rest)
       (left_receives r.space.names name (left_with e m) (λ p i. receives_at (λ n. map.get r.space.names n) name p
       (subst (λ (o : Option Entry). IsReceive o p) (sym r.found) (left_receive e m p i))))
       (subst (λ (x : WorldView). KeepHolders w.ports.ports x.ports.ports) (sym r.rest) (same_holders w.ports.ports))
@@ -53,7 +55,8 @@ module _ (w v : WorldView) (h : HoldersAgree w) (task name : ℕ) where
   set_holders set r = holders_left w v h task r.space (record r.space { names = put r.space.names name None }) r.there (ap (λ (x : WorldView). x.spaces) r.rest)
       (removed_receives r.space.names name) (disbanded_holders w.ports v.ports set r.disbanded)
 
+module _ (w v : WorldView) (h : HoldersAgree w) (task name : ℕ) where
   pub carried_holders : (due : Due) → Carries w task name due v → HoldersAgree v
   carried_holders Nothing same = subst HoldersAgree (sym same) h
-  carried_holders (References e m) r = references_holders e m r
-  carried_holders (Disbanding set) r = set_holders set r
+  carried_holders (References e m) r = fewer_keeps HoldersAgree r.counted v e m r.notes (λ p n. noted_holders r.counted v p n) (counted_holders w r.counted h task name e m r.counts)
+  carried_holders (Disbanding set) r = set_holders w v h task name set r

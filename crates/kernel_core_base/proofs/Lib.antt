@@ -1,4 +1,5 @@
 pub mod TaskCreated
+pub mod MadeKept
 pub mod PortMade
 pub mod SetMade
 pub mod Allocated
@@ -10,6 +11,7 @@ pub mod Wanted
 pub mod Listed
 pub mod NamesTold
 pub mod TokensRenamed
+pub mod RequestMoved
 pub mod EntryMoved
 pub mod Renamed
 pub mod Filtered
@@ -18,14 +20,17 @@ pub mod Gathering
 pub mod MemberMoved
 pub mod Queued
 pub mod Holding
+pub mod AttributesKept
 pub mod ReceiveRight
 pub mod TokensMoved
 pub mod ReferencesSet
 pub mod SetRemoved
+pub mod FewerNoted
 pub mod HoldersKept
 pub mod SlotsKept
-pub mod ReferencesLost
 pub mod ReferencesPut
+pub mod CarriedKept
+pub mod ReferencesLost
 pub mod ReferencesTold
 pub mod ReferencesJudged
 pub mod ReferencesModified

@@ -11,9 +11,9 @@ use Rattle.std.specs.FinMap.Entries.{find, is_sorted, below_all, same_entries}
 use Rattle.mach_model.specs.State.{Target, Names}
 use Rattle.name_space.specs.declared.Entry.{Entry}
 use Rattle.name_space.specs.Names.{Names as TableNames}
-use Rattle.name_space.specs.Entry.{type_in}
+use Rattle.copyin_base.specs.Requests.{RequestTablesView}
 use Rattle.copyin_base.specs.Shows.{target_of}
-use Rattle.kernel_core_base.specs.Names.{type_found, types_of}
+use Rattle.kernel_core_base.specs.Names.{type_of_entry, type_found, types_of}
 
 -- ---- each entry of a sorted list is found by its key
 
@@ -99,12 +99,12 @@ map-map {X} {Y} {B} f g (e ∷ es) = ap (λ (bs : List B). g (f e) ∷ bs) (map-
 -- ---- the types
 
 -- Looking at each name gives what the machine lists, where each name has its type.
-pub types_listed : (m : TableNames) (own : Names) (type : ℕ → Target → ℕ) → ((q : ℕ) → map.get own q ≡ option_map target_of (map.get m q)) →
-    ((q : ℕ) (e : Entry) → map.get m q ≡ Some e → type_in e ≡ type q (target_of e)) → types_of m ≡ list_map (λ e. (e.0, type e.0 e.1)) (map.entries own)
-types_listed m own type named typed =
-    map-map (λ (e : ℕ × Entry). e.0) (λ n. (n, type_found (map.get m n))) (map.entries m)
-    ∙ map_each (λ (e : ℕ × Entry). (e.0, type_found (map.get m e.0))) (λ (e : ℕ × Entry). (e.0, type e.0 (target_of e.1))) (map.entries m)
-    (each_by (λ k v. map.get m k ≡ Some v) (λ k v. ◌≡◌ {A = ℕ × ℕ} (k, type_found (map.get m k)) (k, type k (target_of v))) (map.entries m)
-    (λ k v h. ap (λ (n : ℕ). (k, n)) (ap type_found h ∙ typed k v h)) (each_entry m))
+pub types_listed : (requests : RequestTablesView) (task : ℕ) (m : TableNames) (own : Names) (type : ℕ → Target → ℕ) → ((q : ℕ) → map.get own q ≡ option_map target_of (map.get m q)) →
+    ((q : ℕ) (e : Entry) → map.get m q ≡ Some e → type_of_entry requests task q e ≡ type q (target_of e)) → types_of requests task m ≡ list_map (λ e. (e.0, type e.0 e.1)) (map.entries own)
+types_listed requests task m own type named typed =
+    map-map (λ (e : ℕ × Entry). e.0) (λ n. (n, type_found requests task n (map.get m n))) (map.entries m)
+    ∙ map_each (λ (e : ℕ × Entry). (e.0, type_found requests task e.0 (map.get m e.0))) (λ (e : ℕ × Entry). (e.0, type e.0 (target_of e.1))) (map.entries m)
+    (each_by (λ k v. map.get m k ≡ Some v) (λ k v. ◌≡◌ {A = ℕ × ℕ} (k, type_found requests task k (map.get m k)) (k, type k (target_of v))) (map.entries m)
+    (λ k v h. ap (λ (n : ℕ). (k, n)) (ap (type_found requests task k) h ∙ typed k v h)) (each_entry m))
     ∙ sym (ap (λ (es : List (ℕ × Target)). list_map (λ e. (e.0, type e.0 e.1)) es) (entries_alike target_of m own named)
     ∙ map-map (λ (e : ℕ × Entry). (e.0, target_of e.1)) (λ (e : ℕ × Target). (e.0, type e.0 e.1)) (map.entries m))

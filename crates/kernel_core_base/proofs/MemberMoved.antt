@@ -22,10 +22,9 @@ use Rattle.copyin_base.specs.Stands.{Stands}
 use Rattle.copyin_base.proofs.Acting.{done}
 use Rattle.copyin_base.proofs.AttributesSet.{set_agrees}
 use Rattle.copyin_base.proofs.Finding.{finds_used, finds_port, finds_receive, receive_port_lives, receive_port_there}
-use Rattle.copyin_base.proofs.Holders.{holders_kept}
-use Rattle.copyin_base.proofs.Slots.{slots_set}
 use Rattle.copyin_base.proofs.Told.{used, found}
 use Rattle.kernel_core_base.specs.Sets.{set_of_port, GoesTo, MayMove}
+use Rattle.kernel_core_base.proofs.AttributesKept.{sets_so}
 use Rattle.kernel_core_base.proofs.Members.{is_set_target, sets_are, sets_none}
 
 one_port : (p q : ℕ) (o : Option Target) → o ≡ Some (Target.port p) → o ≡ Some (Target.port q) → p ≡ q
@@ -131,14 +130,8 @@ mover_there w task member after p set stands m = receive_port_there w task membe
 pub moved : (w : WorldView) (task member after p : ℕ) (set : Option ℕ) → HasTask w task → MayMove w task member after p set →
     (b : Attributes) → HasAttributes w p b → (new : WorldView) → SetsAttributes w p (record b { set = set }) new → Acts w (Event.MoveMember task member after) (Reply.Code 0) new
 moved w task member after p set below m b h new r = done w (Event.MoveMember task member after) (Reply.Code 0) new below m.allowed
-    (λ now s sh. record {
-      mid = record s { sets_of = at s.sets_of p (option_to_list set) };
-      owed = [];
-      does = (refl, joins s sh.agrees set m.goes, refl);
-      agrees = set_agrees w s sh.agrees p b h set new r;
-      holders = holders_kept w new sh.holders p b (record b { set = set }) h r refl;
-      slots = slots_set w new sh.slots p (record b { set = set }) r;
-    })
+    (λ now s sh. sets_so w p b h (record b { set = set }) refl new r (Event.MoveMember task member after) now s (record s { sets_of = at s.sets_of p (option_to_list set) }) sh
+    (refl, joins s sh.agrees set m.goes, refl) (set_agrees w s sh.agrees p b h set new r))
   where
     joins : (s : State) → Agrees w s → (set : Option ℕ) → GoesTo w task after set → JoinsSet task member after s (record s { sets_of = at s.sets_of p (option_to_list set) })
     joins s a (Some set) goes = (p, (finds_port w task member p m.finds s a), inr (set, found w s a task after (entry.Set set) goes, refl))

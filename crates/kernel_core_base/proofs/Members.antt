@@ -5,7 +5,7 @@ use Rattle.mach_types.specs.declared.codes.KernReturn.TheVariants.{ResourceShort
 use Rattle.mach_types.specs.Numbers.{kern_number}
 use Rattle.mach_model.specs.Refusals.{set_guards}
 use Rattle.copyin_base.specs.Acts.{IsAllowed, Acts, Declines}
-use Rattle.copyin_base.proofs.Acting.{done, refused_later}
+use Rattle.copyin_base.proofs.Acting.{done, looked, refused_later}
 use Rattle.std.proofs.Common.{◌≡◌, ℕ, zero, suc, ◌<◌, List, [], ◌∷◌, Option, Some, None, refl, sym, ap, subst, ◌∙◌, arith, true, inl, inr}
 use Rattle.std.specs.Prelude.{◌==◌, Contains, is_some}
 use Rattle.std.specs.Option.{option_map, option_to_list, option_and_then}
@@ -174,4 +174,4 @@ module _ (w : WorldView) (task name set : ℕ) (is : entry_at w task name ≡ So
   pub set_told : HasTask w task → (space : SpaceView) → space_at w task ≡ Some space →
       Acts w (Event.SetStatus task name) (Reply.Members (members_in w set space.names)) w
   set_told below space there = done w (Event.SetStatus task name) (Reply.Members (members_in w set space.names)) w below set_allowed
-      (λ now s sh. record { mid = s; owed = []; does = (members_told w s sh task name set space there is, refl, refl); agrees = sh.agrees; holders = sh.holders; slots = sh.slots })
+      (λ now s sh. looked w (Event.SetStatus task name) (Reply.Members (members_in w set space.names)) now s sh (members_told w s sh task name set space there is, refl, refl))

@@ -1,6 +1,8 @@
 -- What NameType and Names tell is true of each state that the tables show.
-use Rattle.std.proofs.Common.{◌≡◌, ℕ, ◌<◌, [], Option, Some, refl, ap, ◌∙◌, arith}
-use Rattle.std.specs.Prelude.{nat_lt, if◌then◌else◌}
+use Rattle.std.proofs.Common.{◌≡◌, ℕ, ◌<◌, ◌^◌, Bool, Option, Some, None, refl, sym, ap, ◌∙◌, arith}
+use Rattle.std.specs.Prelude.{nat_lt, if◌then◌else◌, is_some}
+use Rattle.std.specs.Option.{option_map}
+use Rattle.std.specs.FinMap as map
 use Rattle.std.proofs.lemmas.Bool.Decides.{nat_tests}
 use Rattle.mach_types.specs.declared.calls.Event.{Event}
 use Rattle.mach_types.specs.declared.calls.Reply.{Reply}
@@ -13,14 +15,17 @@ use Rattle.name_space.specs.declared.Entry.{Entry}
 use Rattle.name_space.specs.declared.Entry.TheVariants as entry
 use Rattle.name_space.specs.Entry.{type_in}
 use Rattle.name_space.specs.Names.{SpaceView}
+use Rattle.request_table.specs.declared.Request.{Request}
+use Rattle.request_table.specs.Requests.{name_key}
 use Rattle.copyin_base.specs.Acts.{Acts}
 use Rattle.copyin_base.specs.Worlds.{WorldView, entry_in, entry_at, space_at, HasTask}
 use Rattle.copyin_base.specs.Shows.{Agrees, Shows, target_of}
-use Rattle.copyin_base.proofs.Acting.{done}
+use Rattle.copyin_base.proofs.Acting.{done, looked}
 use Rattle.copyin_base.proofs.Agreeing.{own_names}
 use Rattle.copyin_base.proofs.Told.{used, found}
-use Rattle.kernel_core_base.specs.Names.{types_of}
+use Rattle.kernel_core_base.specs.Names.{bit_requested, type_of_entry, types_of}
 use Rattle.kernel_core_base.proofs.Listed.{types_listed}
+use Rattle.kernel_core_base.proofs.RequestMoved.{notify_small}
 
 some_bit : (n bit : ℕ) → 0 < n → (if nat_lt 0 n then bit else 0) ≡ bit
 some_bit n bit some = grind (arith, nat_tests)
@@ -42,22 +47,34 @@ bits w s a task name (entry.SendOnce p) is = refl
 bits w s a task name (entry.DeadName n) is = refl
 bits w s a task name (entry.Set set) is = refl
 
--- the type in the tables is the machine's, as no request stands
-type_whole : (w : WorldView) (s : State) → Shows w s → (task name : ℕ) (e : Entry) → entry_at w task name ≡ Some e → type_in e ≡ type_of s task name (target_of e)
+-- the bit for a request on a name that is in use
+request_whole : (w : WorldView) (s : State) → Shows w s → (task name : ℕ) (e : Entry) → entry_at w task name ≡ Some e →
+    bit_requested (map.get w.requests.names.requests (name_key task name)) ≡ (if s.stands (dead_name task name) then request_bit else 0)
+request_whole w s sh task name e is = go (map.get w.requests.names.requests (name_key task name)) (sh.agrees.standing (dead_name task name) ∙ ap is_some (notify_small w.requests task name small))
+  where
+    small : name < 2 ^ 32
+    small = (sh.lawful.naming task).space.name_fits name (target_of e) (found w s sh.agrees task name e is)
+
+    go : (o : Option Request) → s.stands (dead_name task name) ≡ is_some (option_map (λ (r : Request). r.notify) o) → bit_requested o ≡ (if s.stands (dead_name task name) then request_bit else 0)
+    go None stands = sym (ap (λ (b : Bool). if b then request_bit else 0) stands)
+    go (Some r) stands = sym (ap (λ (b : Bool). if b then request_bit else 0) stands)
+
+-- the type in the tables is the machine's
+type_whole : (w : WorldView) (s : State) → Shows w s → (task name : ℕ) (e : Entry) → entry_at w task name ≡ Some e → type_of_entry w.requests task name e ≡ type_of s task name (target_of e)
 type_whole w s sh task name e is =
     let b = bits w s sh.agrees task name e is in
-    let n : (if s.stands (dead_name task name) then request_bit else 0) ≡ 0 = rw (sh.quiet.none_stands (dead_name task name)) refl in
+    let n = request_whole w s sh task name e is in
     omega (arith, b, n)
 
-pub type_told : (w : WorldView) (task name : ℕ) (e : Entry) → HasTask w task → entry_at w task name ≡ Some e → Acts w (Event.NameType task name) (Reply.NameType (type_in e)) w
-type_told w task name e below is = done w (Event.NameType task name) (Reply.NameType (type_in e)) w below record { allowed = λ s sh. (used w s sh.agrees task name e is, tt) }
-    (λ now s sh. record { mid = s; owed = []; does = ((target_of e, found w s sh.agrees task name e is, type_whole w s sh task name e is), refl, refl); agrees = sh.agrees; holders = sh.holders; slots = sh.slots })
+pub type_told : (w : WorldView) (task name : ℕ) (e : Entry) → HasTask w task → entry_at w task name ≡ Some e → Acts w (Event.NameType task name) (Reply.NameType (type_of_entry w.requests task name e)) w
+type_told w task name e below is = done w (Event.NameType task name) (Reply.NameType (type_of_entry w.requests task name e)) w below record { allowed = λ s sh. (used w s sh.agrees task name e is, tt) }
+    (λ now s sh. looked w (Event.NameType task name) (Reply.NameType (type_of_entry w.requests task name e)) now s sh ((target_of e, found w s sh.agrees task name e is, type_whole w s sh task name e is), refl, refl))
 
 -- the tables list what the machine does
-listed : (w : WorldView) (s : State) → Shows w s → (task : ℕ) (space : SpaceView) → space_at w task ≡ Some space → types_of space.names ≡ names_of s task
-listed w s sh task space there = types_listed space.names (s.naming task) (type_of s task) (own_names w s sh.agrees task space there).naming
+listed : (w : WorldView) (s : State) → Shows w s → (task : ℕ) (space : SpaceView) → space_at w task ≡ Some space → types_of w.requests task space.names ≡ names_of s task
+listed w s sh task space there = types_listed w.requests task space.names (s.naming task) (type_of s task) (own_names w s sh.agrees task space there).naming
     (λ n e is. type_whole w s sh task n e (ap (λ (o : Option SpaceView). entry_in o n) there ∙ is))
 
-pub names_listed : (w : WorldView) (task : ℕ) (space : SpaceView) → HasTask w task → space_at w task ≡ Some space → Acts w (Event.Names task) (Reply.Names (types_of space.names)) w
-names_listed w task space below there = done w (Event.Names task) (Reply.Names (types_of space.names)) w below record { allowed = λ s sh. tt }
-    (λ now s sh. record { mid = s; owed = []; does = (listed w s sh task space there, refl, refl); agrees = sh.agrees; holders = sh.holders; slots = sh.slots })
+pub names_listed : (w : WorldView) (task : ℕ) (space : SpaceView) → HasTask w task → space_at w task ≡ Some space → Acts w (Event.Names task) (Reply.Names (types_of w.requests task space.names)) w
+names_listed w task space below there = done w (Event.Names task) (Reply.Names (types_of w.requests task space.names)) w below record { allowed = λ s sh. tt }
+    (λ now s sh. looked w (Event.Names task) (Reply.Names (types_of w.requests task space.names)) now s sh (listed w s sh task space there, refl, refl))

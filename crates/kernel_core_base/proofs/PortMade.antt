@@ -151,6 +151,6 @@ module _ (w : WorldView) (s : State) (a : Agrees w s) (l : IsLawful s) where
       total = let x = a.total in omega (arith, x);
       in_sets = sets_stay w.sets s.set_owner s.sets_made s.naming t.naming a.in_sets task (at_other s.naming task _)
           (λ n set is. ap (λ (m : Names). map.get m n) (at_own s.naming task _) ∙ kept (s.naming task) name (Target.port new) n (Target.set set) not_named is);
-      of_requests = requests_stay (notify_of w.requests) w.ports.made (w.ports.made + 1) s.stands s.stands s.live_port t.live_port s.ledger t.ledger a.of_requests (omega arith) (λ r. refl)
+      of_requests = requests_stay (notify_of w.requests) w.requests.names.went w.ports.made (w.ports.made + 1) s.stands s.stands s.live_port t.live_port s.ledger t.ledger a.of_requests (omega arith) (λ r. refl)
           (λ q less. at_other s.live_port new true q (λ e. let m = a.ports_made in omega (arith, less, e, m))) requests;
     }

@@ -1,5 +1,5 @@
 -- What a task asks of a receive right, and sets.
-use Rattle.std.proofs.Common.{◌≡◌, ℕ, ◌<◌, ◌≤◌, ◌^◌, true, [], List, Option, Some, None, refl, sym, ap, subst, ◌∙◌, arith, inl, inr}
+use Rattle.std.proofs.Common.{◌≡◌, ℕ, ◌<◌, ◌≤◌, ◌^◌, true, List, Option, Some, None, refl, sym, ap, subst, ◌∙◌, arith, inl, inr}
 use Rattle.std.specs.Prelude.{min, nat_lt, Contains}
 use Rattle.std.specs.Option.{option_map, option_to_list, unwrap_or}
 use Rattle.std.specs.FinMap as map
@@ -25,13 +25,12 @@ use Rattle.copyin_base.specs.Kept.{Kept}
 use Rattle.copyin_base.specs.Shows.{Shows}
 use Rattle.copyin_base.specs.Stands.{Stands}
 use Rattle.copyin_base.specs.Worlds.{WorldView, port_at, HasTask}
-use Rattle.copyin_base.proofs.Acting.{done, refused}
+use Rattle.copyin_base.proofs.Acting.{done, looked, refused}
 use Rattle.copyin_base.proofs.AttributesSet.{limit_agrees, make_send_agrees, sequence_agrees}
 use Rattle.copyin_base.proofs.Finding.{finds_port, finds_held, receive_allowed, receive_port_lives}
-use Rattle.copyin_base.proofs.Holders.{holders_kept}
-use Rattle.copyin_base.proofs.Slots.{slots_set}
 use Rattle.copyin_base.proofs.Told.{port_there, port_entered}
 use Rattle.kernel_core_base.specs.ReceiveRight.{set_name, status_of, HasPort, TellsPort}
+use Rattle.kernel_core_base.proofs.AttributesKept.{sets_so}
 use Rattle.kernel_core_base.proofs.Holding.{one_in, one_holder}
 use Rattle.kernel_core_base.proofs.Queued.{few_queued, as_many}
 
@@ -62,7 +61,7 @@ set_told w s sh task p holds (Some set) is = go (map.get w.sets.sets set) refl
         inr (set, within, subst (λ (t : ℕ). lookup s t r.name ≡ Some (Target.set set)) same (sh.agrees.set_named set r e))
 
 tells : (w : WorldView) (s : State) → Shows w s → (task name p : ℕ) → FindsReceive w task name p → (v : PortView Kept) → port_at w p ≡ Some v →
-    TellsStatus s task name (status_of w.sets v (counts_of w.ledger p))
+    TellsStatus s task name (status_of w.sets w.requests p v (counts_of w.ledger p))
 tells w s sh task name p f v there =
     let a = sh.agrees in
     let x = a.ports p v there in
@@ -76,8 +75,8 @@ tells w s sh task name p f v there =
       queued = as_many p v.queue (queue s p) x.waiting;
       send_once = c.once_rights;
       has_send = has_one (counts_of w.ledger p).send ∙ ap (λ (n : ℕ). one_if (nat_lt 0 n)) c.senders;
-      port_destroyed = ap one_if (sym (sh.quiet.none_stands (port_destroyed p)));
-      no_senders = ap one_if (sym (sh.quiet.none_stands (no_senders p)));
+      port_destroyed = ap one_if (sym (a.standing (port_destroyed p)));
+      no_senders = ap one_if (sym (a.standing (no_senders p)));
     }
 
 -- what the tables have of a port whose receive right is named
@@ -98,7 +97,7 @@ has_port w task name p stands f =
 pub status_told : (w : WorldView) (task name p : ℕ) (status : Status) → HasTask w task → FindsReceive w task name p → TellsPort w p status →
     Acts w (Event.ReceiveStatus task name) (Reply.Status status) w
 status_told w task name p status below f t = done w (Event.ReceiveStatus task name) (Reply.Status status) w below (receive_allowed w task name p f)
-    (λ now s sh. record { mid = s; owed = []; does = (subst (TellsStatus s task name) (sym t.is) (tells w s sh task name p f t.v t.there), refl, refl); agrees = sh.agrees; holders = sh.holders; slots = sh.slots })
+    (λ now s sh. looked w (Event.ReceiveStatus task name) (Reply.Status status) now s sh (subst (TellsStatus s task name) (sym t.is) (tells w s sh task name p f t.v t.there), refl, refl))
 
 -- ---- numbers that are set
 
@@ -113,33 +112,15 @@ module _ (w : WorldView) (task name p : ℕ) (below : HasTask w task) (f : Finds
   pub limit_set : n ≤ greatest_limit → SetsAttributes w p (record b { limit = n }) new → Acts w (Event.SetQlimit task name n) (Reply.Code 0) new
   limit_set few r = done w (Event.SetQlimit task name n) (Reply.Code 0) new below
       (record { allowed = λ s sh. ((λ many. omega (arith, few, many)), (receive_allowed w task name p f).allowed s sh) })
-      (λ now s sh. let a = sh.agrees in record {
-        mid = record s { limit = at s.limit p n };
-        owed = [];
-        does = (refl, (p, finds_port w task name p f s a, finds_held w task name p f s a, refl), refl);
-        agrees = limit_agrees w s a p b h n new r;
-        holders = holders_kept w new sh.holders p b (record b { limit = n }) h r refl;
-        slots = slots_set w new sh.slots p (record b { limit = n }) r;
-      })
+      (λ now s sh. let a = sh.agrees in sets_so w p b h (record b { limit = n }) refl new r (Event.SetQlimit task name n) now s (record s { limit = at s.limit p n }) sh
+      (refl, (p, finds_port w task name p f s a, finds_held w task name p f s a, refl), refl) (limit_agrees w s a p b h n new r))
 
   pub make_send_set : n < 2 ^ 32 → SetsAttributes w p (record b { make_send = n }) new → Acts w (Event.SetMscount task name n) (Reply.Code 0) new
   make_send_set fits r = done w (Event.SetMscount task name n) (Reply.Code 0) new below (receive_allowed w task name p f)
-      (λ now s sh. let a = sh.agrees in record {
-        mid = record s { make_send = at s.make_send p n };
-        owed = [];
-        does = (refl, fits, (p, finds_port w task name p f s a, finds_held w task name p f s a, refl), refl);
-        agrees = make_send_agrees w s a p b h n new r;
-        holders = holders_kept w new sh.holders p b (record b { make_send = n }) h r refl;
-        slots = slots_set w new sh.slots p (record b { make_send = n }) r;
-      })
+      (λ now s sh. let a = sh.agrees in sets_so w p b h (record b { make_send = n }) refl new r (Event.SetMscount task name n) now s (record s { make_send = at s.make_send p n }) sh
+      (refl, fits, (p, finds_port w task name p f s a, finds_held w task name p f s a, refl), refl) (make_send_agrees w s a p b h n new r))
 
   pub sequence_set : n < 2 ^ 32 → SetsAttributes w p (record b { sequence = n }) new → Acts w (Event.SetSeqno task name n) (Reply.Code 0) new
   sequence_set fits r = done w (Event.SetSeqno task name n) (Reply.Code 0) new below (receive_allowed w task name p f)
-      (λ now s sh. let a = sh.agrees in record {
-        mid = record s { sequence = at s.sequence p n };
-        owed = [];
-        does = (refl, fits, (p, finds_port w task name p f s a, finds_held w task name p f s a, refl), refl);
-        agrees = sequence_agrees w s a p b h n new r;
-        holders = holders_kept w new sh.holders p b (record b { sequence = n }) h r refl;
-        slots = slots_set w new sh.slots p (record b { sequence = n }) r;
-      })
+      (λ now s sh. let a = sh.agrees in sets_so w p b h (record b { sequence = n }) refl new r (Event.SetSeqno task name n) now s (record s { sequence = at s.sequence p n }) sh
+      (refl, fits, (p, finds_port w task name p f s a, finds_held w task name p f s a, refl), refl) (sequence_agrees w s a p b h n new r))

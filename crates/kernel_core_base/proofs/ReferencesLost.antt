@@ -25,10 +25,13 @@ use Rattle.copyin_base.specs.Shows.{Agrees, Shows, target_of}
 use Rattle.copyin_base.proofs.Acting.{done}
 use Rattle.copyin_base.proofs.Changing.{target_named}
 use Rattle.copyin_base.proofs.Gets.{same_found}
+use Rattle.copyin_base.proofs.SendersNoted.{noted_agrees}
 use Rattle.copyin_base.proofs.Told.{used, found, not_receive}
 use Rattle.kernel_core_base.specs.declared.references.Due.{Due}
 use Rattle.kernel_core_base.specs.declared.references.Due.TheVariants.{Nothing, References, Disbanding}
-use Rattle.kernel_core_base.specs.References.{Carries, deallocated, destroyed}
+use Rattle.kernel_core_base.specs.References.{SetsReferences, Carries, deallocated, destroyed}
+use Rattle.kernel_core_base.proofs.CarriedKept.{carried_carriers, carried_requested, carried_notes, carried_none_lost}
+use Rattle.kernel_core_base.proofs.FewerNoted.{fewer_keeps}
 use Rattle.kernel_core_base.proofs.HoldersKept.{carried_holders}
 use Rattle.kernel_core_base.proofs.SlotsKept.{carried_slots}
 use Rattle.kernel_core_base.proofs.ReferencesSet.{Comes, send_set, both_set, dead_set}
@@ -172,21 +175,38 @@ IsCountedDue (References (entry_of.SendOnce p) m) = ⊥
 IsCountedDue (References (entry_of.Set set) m) = ⊥
 IsCountedDue due = Unit {0}
 
+-- noting a port leaves what the tables agree with
+comes_noted : (w : WorldView) (s : State) (task name : ℕ) (e : Entry) (m : ℕ) (v : WorldView) (P : State → Type 0) → (r : SetsReferences w task name e m v) → Comes P r.counted → Comes P v
+comes_noted w s task name e m v P r x = fewer_keeps (Comes P) r.counted v e m r.notes (λ p n y. record { t = y.t; does = y.does; agrees = noted_agrees r.counted v p n y.t y.agrees }) x
+
 comes : (w : WorldView) (s : State) (sh : Shows w s) (task name : ℕ) (due : Due) (v : WorldView) → IsCountedDue due → Carries w task name due v → Comes (λ t. Becomes s task name due t) v
 comes w s sh task name Nothing v counted c = record { t = s; does = refl; agrees = subst (λ (x : WorldView). Agrees x s) (sym c) sh.agrees }
-comes w s sh task name (References (entry_of.Send p n) m) v counted c = send_set w s sh task name m v p n c
-comes w s sh task name (References (entry_of.ReceiveAndSend p n) m) v counted c = both_set w s sh task name m v p n c
-comes w s sh task name (References (entry_of.DeadName n) m) v counted c = record { t = with_dead task name m s; does = refl; agrees = dead_set w s sh task name m v n c }
+comes w s sh task name (References (entry_of.Send p n) m) v counted c = comes_noted w s task name (entry_of.Send p n) m v (λ t. SetsSends task name p m s t) c (send_set w s sh task name m c.counted p n c.counts)
+comes w s sh task name (References (entry_of.ReceiveAndSend p n) m) v counted c = comes_noted w s task name (entry_of.ReceiveAndSend p n) m v (λ t. SetsSends task name p m s t) c (both_set w s sh task name m c.counted p n c.counts)
+comes w s sh task name (References (entry_of.DeadName n) m) v counted c = comes_noted w s task name (entry_of.DeadName n) m v (λ t. t ≡ with_dead task name m s) c
+    (record { t = with_dead task name m s; does = refl; agrees = dead_set w s sh task name m c.counted n c.counts })
 comes w s sh task name (References (entry_of.Receive p) m) v counted c = absurd counted
 comes w s sh task name (References (entry_of.SendOnce p) m) v counted c = absurd counted
 comes w s sh task name (References (entry_of.Set set) m) v counted c = absurd counted
-comes w s sh task name (Disbanding set) v counted c = record { t = without_set set (without_name task name s); does = refl; agrees = removed_agrees w s sh.agrees sh.quiet.none_stands task name set v c }
+comes w s sh task name (Disbanding set) v counted c = record { t = without_set set (without_name task name s); does = refl; agrees = removed_agrees w s sh.agrees sh.lawful sh.requested task name set v c }
 
 -- An event that is allowed does this, which is due and is done.
 pub carried : (w : WorldView) (event : Event) (task name : ℕ) (due : Due) (v : WorldView) → HasTasks w event → IsAllowed w (λ s. call_guards s event) → IsCountedDue due →
     ((now : ℕ) (s : State) → Shows w s → (t : State) → Becomes s task name due t → Does now s event (Reply.Code 0) t []) → Carries w task name due v → Acts w event (Reply.Code 0) v
 carried w event task name due v tasks allowed counted means c = done w event (Reply.Code 0) v tasks allowed
-    (λ now s sh. let x = comes w s sh task name due v counted c in record { mid = x.t; owed = []; does = means now s sh x.t x.does; agrees = x.agrees; holders = carried_holders w v sh.holders task name due c; slots = carried_slots w v sh.slots task name due c })
+    (λ now s sh. let x = comes w s sh task name due v counted c in record {
+      mid = x.t;
+      owed = [];
+      does = means now s sh x.t x.does;
+      none_owed = refl;
+      agrees = x.agrees;
+      holders = carried_holders w v sh.holders task name due c;
+      carriers = carried_carriers w v task name due c sh.carriers;
+      slots = carried_slots w v sh.slots task name due c;
+      requested = carried_requested w v task name due c sh.requested;
+      notes = carried_notes w v s sh task name due c;
+      none_lost = carried_none_lost w v task name due c sh.idle.none_lost;
+    })
 
 module _ (w : WorldView) (task name : ℕ) (below : HasTask w task) (v : WorldView) where
   lose_one : (e : Entry) (p n : ℕ) → entry_at w task name ≡ Some e → port_named e ≡ Some p → send_references e ≡ n → ((s : State) → Shows w s → 0 < n) →

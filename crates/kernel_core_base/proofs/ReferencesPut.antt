@@ -23,7 +23,7 @@ use Rattle.copyin_base.proofs.Changing.{target_named}
 use Rattle.copyin_base.proofs.Gets.{seen, of_some}
 use Rattle.copyin_base.proofs.Tied.{stands_tied}
 use Rattle.copyin_base.proofs.Told.{found, port_entered}
-use Rattle.kernel_core_base.specs.References.{left_with, recounted_at, CanCount, CanSet, SetsReferences, RemovesSet}
+use Rattle.kernel_core_base.specs.References.{left_with, recounted_at, CanCount, CanSet, CountsReferences, RemovesSet}
 
 -- the space in which an entry stands
 record At (w : WorldView) (task name : ℕ) (e : Entry) : Type 0 where
@@ -56,7 +56,7 @@ can_put w task name e left is same = let x = at w task name e is in record {
     go None P f = tt
 
 -- what is left is for the port that was named
-left_alike : (e : Entry) (m : ℕ) (x : Entry) → left_with e m ≡ Some x → (port_named x ≡ port_named e) × (port_of x ≡ port_of e)
+pub left_alike : (e : Entry) (m : ℕ) (x : Entry) → left_with e m ≡ Some x → (port_named x ≡ port_named e) × (port_of x ≡ port_of e)
 left_alike (entry_of.Send q n) m x is = go (nat_lt 0 m) is
   where
     go : (b : Bool) → (if b then Some (entry_of.Send q m) else None) ≡ Some x → (port_named x ≡ Some q) × (port_of x ≡ Some q)
@@ -99,7 +99,7 @@ pub still_counts : (old mid x : WorldView) (task name m : ℕ) (e : Entry) (left
 still_counts old mid x task name m e left puts view can = subst (λ (l : LedgerView). CanCount l e m) (sym (ap (λ (y : WorldView). y.ledger) (view ∙ puts.rest))) can
 
 pub references_set : (old mid x : WorldView) (task name m : ℕ) (e : Entry) (left : Option Entry) (ledger : LedgerView) → CanSet old task name e m → PutsLeft old task name left mid → left ≡ left_with e m → x ≡ mid →
-    ledger ≡ recounted_at x.ledger (port_named e) (send_references e) m → SetsReferences old task name e m (record x { ledger = ledger })
+    ledger ≡ recounted_at x.ledger (port_named e) (send_references e) m → CountsReferences old task name e m (record x { ledger = ledger })
 references_set old mid x task name m e left ledger can puts left_is view counts =
     let q = subst (λ (o : Option Entry). PutsLeft old task name o mid) left_is puts in
     let same = view ∙ q.rest in

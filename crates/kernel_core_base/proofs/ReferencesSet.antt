@@ -1,6 +1,6 @@
 -- The references under a name became so many, in the tables and in the machine alike.
 use Rattle.std.proofs.Common.{◌≡◌, ℕ, ◌+◌, ◌-◌, List, Option, Some, None, refl, sym, ap, subst, ◌∙◌, arith, Bool, true, false, inr, length}
-use Rattle.std.specs.Prelude.{if◌then◌else◌, ◌==◌, ◌&&◌, ◌||◌, nat_lt, slice_set}
+use Rattle.std.specs.Prelude.{is_some, if◌then◌else◌, ◌==◌, ◌&&◌, ◌||◌, nat_lt, slice_set}
 use Rattle.std.specs.Option.{option_map}
 use Rattle.std.specs.FinMap as map
 use Rattle.std.proofs.lemmas.Bool.{ltb-true, ltb-false, ne_eqb}
@@ -21,16 +21,17 @@ use Rattle.name_space.specs.Names.{SpaceView}
 use Rattle.rights.specs.Counts.{with_more, with_fewer}
 use Rattle.rights.specs.Ledger.{LedgerView, made, taken, counts_of}
 use Rattle.rights.specs.declared.RightKind.TheVariants as right
+use Rattle.copyin_base.specs.Requests.{requests_after}
 use Rattle.copyin_base.specs.Worlds.{WorldView, put, space_at}
 use Rattle.copyin_base.specs.Shows.{target_of, HasCount, onces_queued, CountsAgree, Agrees, Shows}
 use Rattle.copyin_base.proofs.Agreeing.{own_names, own_rights, put_names, put_rights, sets_stay}
 use Rattle.copyin_base.proofs.Changing.{named_no_set, target_named, target_found, held_by, changed_agrees}
 use Rattle.copyin_base.proofs.Counting.{one_of, none_of_port, counts_agree}
 use Rattle.copyin_base.proofs.Gets.{of_some, same_found}
-use Rattle.copyin_base.proofs.NamesChanged.{names_agree}
+use Rattle.copyin_base.proofs.NamesChanged.{names_agree, left_requests}
 use Rattle.copyin_base.proofs.Putting.{put_other, put_same}
-use Rattle.copyin_base.proofs.Requesting.{none_ended}
-use Rattle.kernel_core_base.specs.References.{left_with, recounted, SetsReferences}
+use Rattle.copyin_base.proofs.Requesting.{stands_after}
+use Rattle.kernel_core_base.specs.References.{left_with, recounted, CountsReferences}
 use Rattle.kernel_core_base.proofs.TokensMoved.{weigh_alike, weigh_unlike, Recounts, recount}
 
 -- The machine comes to a state that the tables agree with.
@@ -43,11 +44,11 @@ module _ (w : WorldView) (s : State) (sh : Shows w s) (task name : ℕ) (space :
     (entry : Entry) (found : map.get space.names name ≡ Some entry) where
   -- the tables with this under the name and these counts
   abbrev tables : Option Entry → LedgerView → WorldView
-  tables left ledger = record w { spaces = slice_set w.spaces task (Some (record space { names = put space.names name left })); ledger = ledger }
-
-  -- no request ends with the name
-  ends : (r : Request) → request_at s.stands (dead_name task name) false r ≡ s.stands r
-  ends = none_ended s.stands sh.quiet.none_stands (dead_name task name)
+  tables left ledger = record w {
+    spaces = slice_set w.spaces task (Some (record space { names = put space.names name left }));
+    ledger = ledger;
+    requests = requests_after w.requests task name left;
+  }
 
   is_target : lookup s task name ≡ Some (target_of entry)
   is_target = target_found w s sh.agrees task name (sh.lawful.naming task) space there entry found
@@ -119,10 +120,10 @@ module _ (w : WorldView) (s : State) (sh : Shows w s) (task name : ℕ) (space :
     abbrev IsLeft : Entry → Type 0
     IsLeft e = HasCount e × (port_named e ≡ Some p) × (has_receive e ≡ has_receive entry) × (send_references e ≡ m)
 
-    agree : (left : Option Entry) (names : ℕ → Names) (stands : Request → Bool) → ((r : Request) → stands r ≡ s.stands r) → names task ≡ put (s.naming task) name (option_map target_of left) → ((u : ℕ) → (u ≡ task → ⊥) → names u ≡ s.naming u) →
+    agree : (left : Option Entry) (names : ℕ → Names) (stands : Request → Bool) → ((r : Request) → stands r ≡ stands_after s.stands task name left r) → names task ≡ put (s.naming task) name (option_map target_of left) → ((u : ℕ) → (u ≡ task → ⊥) → names u ≡ s.naming u) →
         ((e : Entry) → left ≡ Some e → IsLeft e) → Agrees (tables left (recounted w.ledger p (held s task send p) m)) (record s { naming = names; stands = stands; ledger = ledger })
     agree left names stands same own others is = changed_agrees w s sh.agrees task name (sh.lawful.naming task) space there entry found left space.room w.ports
-        (recounted w.ledger p (held s task send p) m) (record s { naming = names; stands = stands; ledger = ledger }) own record {
+        (recounted w.ledger p (held s task send p) m) (record s { naming = names; stands = stands; ledger = ledger }) own sh.requested record {
           rest = refl;
           naming_others = others;
           held_others = λ u not c q. same_weight (λ x. if is_held u c q x then 1 else 0) (both_test (is_of c q (token send p (in_task task))) (task == u) (inr (ne_eqb task u (λ e. not (sym e)))));
@@ -164,16 +165,17 @@ module _ (w : WorldView) (s : State) (sh : Shows w s) (task name : ℕ) (space :
     gone b = record {
       t = record (without_name task name s) { ledger = ledger };
       does = record { tokens = recounts.moves; rest = ap (λ (y : Bool). record (name_kept y task name s) { ledger = ledger }) (sym b) };
-      agrees = agree None (at s.naming task (map.remove (s.naming task) name)) (request_at s.stands (dead_name task name) false) ends (at_own s.naming task (map.remove (s.naming task) name))
+      agrees = agree None (at s.naming task (map.remove (s.naming task) name)) (request_at s.stands (dead_name task name) false) (λ r. refl) (at_own s.naming task (map.remove (s.naming task) name))
           (at_other s.naming task (map.remove (s.naming task) name)) (λ e is. let f : None ≡ Some e = is in absurd (cc));
     }
 
   -- ---- a dead name
 
   module _ (portless : port_named entry ≡ None) (setless : (set : ℕ) → target_of entry ≡ Target.set set → ⊥) where
-    plain : (left : Option Entry) (stands : Request → Bool) → ((r : Request) → stands r ≡ s.stands r) → ((e : Entry) → left ≡ Some e → HasCount e × (port_named e ≡ None)) →
-        Agrees (tables left w.ledger) (record s { naming = at s.naming task (put (s.naming task) name (option_map target_of left)); stands = stands })
-    plain left stands same is = names_agree w s sh.agrees task space there (put space.names name left) space.room own stands w.sets s.set_owner s.sets_made same
+    plain : (left : Option Entry) → ((e : Entry) → left ≡ Some e → HasCount e × (port_named e ≡ None)) →
+        Agrees (tables left w.ledger) (record s { naming = at s.naming task (put (s.naming task) name (option_map target_of left)); stands = stands_after s.stands task name left })
+    plain left is = names_agree w s sh.agrees task space there (put space.names name left) space.room own (stands_after s.stands task name left) w.sets s.set_owner s.sets_made
+        (requests_after w.requests task name left) (left_requests w s sh.agrees task space there sh.lawful sh.requested name (ap is_some found) left)
         (put_names space.names (s.naming task) (own_names w s sh.agrees task space there) name left (λ e is_e. (is e is_e).0))
         (put_rights space.names task s.ledger (own_rights w s sh.agrees task space there) name left (λ e p is_e named. absurd (nowhere p (sym (is e is_e).1 ∙ named))))
         (sets_stay w.sets s.set_owner s.sets_made s.naming (at s.naming task own) sh.agrees.in_sets task (at_other s.naming task own)
@@ -199,10 +201,11 @@ either true = refl
 either false = refl
 
 module _ (w : WorldView) (s : State) (sh : Shows w s) (task name m : ℕ) (v : WorldView) where
-  pub send_set : (p n : ℕ) → SetsReferences w task name (entry_of.Send p n) m v → Comes (λ t. SetsSends task name p m s t) v
+  pub send_set : (p n : ℕ) → CountsReferences w task name (entry_of.Send p n) m v → Comes (λ t. SetsSends task name p m s t) v
   send_set p n r = subst (Comes (λ t. SetsSends task name p m s t)) (sym (r.rest ∙ ap (λ (k : ℕ). record w {
     spaces = slice_set w.spaces task (Some (record r.space { names = put r.space.names name (left_with (entry_of.Send p n) m) }));
     ledger = recounted w.ledger p k m;
+    requests = requests_after w.requests task name (left_with (entry_of.Send p n) m);
   }) (sym h.1))) (go (nat_lt 0 m) refl)
     where
       e : Entry
@@ -215,10 +218,11 @@ module _ (w : WorldView) (s : State) (sh : Shows w s) (task name m : ℕ) (v : W
       go true b = kept w s sh task name r.space r.there (entry_of.Send p n) r.found p m refl (entry_of.Send p m) refl (ltb-true 0 m b, refl, refl, refl) (ap (λ (y : Bool). y || nat_lt 0 (held s task receive p)) b)
       go false b = gone w s sh task name r.space r.there (entry_of.Send p n) r.found p m refl (ap (λ (y : Bool). y || nat_lt 0 (held s task receive p)) b ∙ ap (nat_lt 0) h.0)
 
-  pub both_set : (p n : ℕ) → SetsReferences w task name (entry_of.ReceiveAndSend p n) m v → Comes (λ t. SetsSends task name p m s t) v
+  pub both_set : (p n : ℕ) → CountsReferences w task name (entry_of.ReceiveAndSend p n) m v → Comes (λ t. SetsSends task name p m s t) v
   both_set p n r = subst (Comes (λ t. SetsSends task name p m s t)) (sym (r.rest ∙ ap (λ (k : ℕ). record w {
     spaces = slice_set w.spaces task (Some (record r.space { names = put r.space.names name (left_with (entry_of.ReceiveAndSend p n) m) }));
     ledger = recounted w.ledger p k m;
+    requests = requests_after w.requests task name (left_with (entry_of.ReceiveAndSend p n) m);
   }) (sym h.1))) (go (nat_lt 0 m) refl)
     where
       h : (held s task receive p ≡ 1) × (held s task send p ≡ n)
@@ -231,7 +235,7 @@ module _ (w : WorldView) (s : State) (sh : Shows w s) (task name m : ℕ) (v : W
       go true b = kept w s sh task name r.space r.there (entry_of.ReceiveAndSend p n) r.found p m refl (entry_of.ReceiveAndSend p m) refl (ltb-true 0 m b, refl, refl, refl) is_kept
       go false b = kept w s sh task name r.space r.there (entry_of.ReceiveAndSend p n) r.found p m refl (entry_of.Receive p) refl (tt, refl, refl, sym (no_less m b)) is_kept
 
-  pub dead_set : (n : ℕ) → SetsReferences w task name (entry_of.DeadName n) m v → Agrees v (with_dead task name m s)
+  pub dead_set : (n : ℕ) → CountsReferences w task name (entry_of.DeadName n) m v → Agrees v (with_dead task name m s)
   dead_set n r = subst (λ (x : WorldView). Agrees x (with_dead task name m s)) (sym r.rest) (go (nat_lt 0 m))
     where
       setless : (set : ℕ) → Target.dead n ≡ Target.set set → ⊥
@@ -239,5 +243,5 @@ module _ (w : WorldView) (s : State) (sh : Shows w s) (task name m : ℕ) (v : W
 
       go : (b : Bool) → Agrees (tables w s sh task name r.space r.there (entry_of.DeadName n) r.found (if b then Some (entry_of.DeadName m) else None) w.ledger)
           (if b then with_name task name (Target.dead m) s else without_name task name s)
-      go true = plain w s sh task name r.space r.there (entry_of.DeadName n) r.found refl setless (Some (entry_of.DeadName m)) s.stands (λ x. refl) (of_some (entry_of.DeadName m) (λ x. HasCount x × (port_named x ≡ None)) (tt, refl))
-      go false = plain w s sh task name r.space r.there (entry_of.DeadName n) r.found refl setless None (request_at s.stands (dead_name task name) false) (ends w s sh task name r.space r.there (entry_of.DeadName n) r.found) (λ e is. let f : None ≡ Some e = is in absurd (cc))
+      go true = plain w s sh task name r.space r.there (entry_of.DeadName n) r.found refl setless (Some (entry_of.DeadName m)) (of_some (entry_of.DeadName m) (λ x. HasCount x × (port_named x ≡ None)) (tt, refl))
+      go false = plain w s sh task name r.space r.there (entry_of.DeadName n) r.found refl setless None (λ e is. let f : None ≡ Some e = is in absurd (cc))

@@ -1,5 +1,5 @@
 -- How many references of a right a name has, as the tables and the machine count them.
-use Rattle.std.proofs.Common.{◌≡◌, ℕ, ◌<◌, [], Some, refl, sym, ap, subst, ◌∙◌, arith, inl, inr, Option}
+use Rattle.std.proofs.Common.{◌≡◌, ℕ, ◌<◌, Some, refl, sym, ap, subst, ◌∙◌, arith, inl, inr, Option}
 use Rattle.std.specs.Prelude.{◌≢◌}
 use Rattle.mach_types.specs.declared.calls.Event.{Event}
 use Rattle.mach_types.specs.declared.calls.Reply.{Reply}
@@ -17,7 +17,7 @@ use Rattle.name_space.specs.Entry.{references_in}
 use Rattle.copyin_base.specs.Acts.{IsRefused, Acts, Declines}
 use Rattle.copyin_base.specs.Shows.{Agrees, target_of}
 use Rattle.copyin_base.specs.Worlds.{WorldView, entry_at, HasTask}
-use Rattle.copyin_base.proofs.Acting.{done, refused}
+use Rattle.copyin_base.proofs.Acting.{done, looked, refused}
 use Rattle.copyin_base.proofs.Told.{used, found}
 
 pub few_numbers : (r : Right) → ¬ (4 < right_number r)
@@ -85,19 +85,12 @@ module _ (w : WorldView) (task name number : ℕ) (below : HasTask w task) where
   pub refs_told : (r : Right) (e : Entry) → right_number r ≡ number → entry_at w task name ≡ Some e → Acts w (Event.GetRefs task name number) (Reply.Refs (references_in r e)) w
   refs_told r e is there = done w (Event.GetRefs task name number) (Reply.Refs (references_in r e)) w below
       (record { allowed = λ s sh. (subst (λ (k : ℕ). ¬ (4 < k)) is (few_numbers r), (used w s sh.agrees task name e there, tt)) })
-      (λ now s sh. record {
-        mid = s;
-        owed = [];
-        does = (
-          (
-            target_of e,
-            found w s sh.agrees task name e there,
-            subst (λ (k : ℕ). references_in r e ≡ references s task (target_of e) k) is (counted w s sh.agrees task name r e there),
-          ),
-          refl,
-          refl,
-        );
-        agrees = sh.agrees;
-        holders = sh.holders;
-        slots = sh.slots;
-      })
+      (λ now s sh. looked w (Event.GetRefs task name number) (Reply.Refs (references_in r e)) now s sh (
+        (
+          target_of e,
+          found w s sh.agrees task name e there,
+          subst (λ (k : ℕ). references_in r e ≡ references s task (target_of e) k) is (counted w s sh.agrees task name r e there),
+        ),
+        refl,
+        refl,
+      ))

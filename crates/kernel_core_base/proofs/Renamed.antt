@@ -1,26 +1,26 @@
 -- What is under a name moves to another, in the tables and in the machine alike; what is kept of a set goes along.
-use Rattle.std.proofs.Common.{◌≡◌, ℕ, ◌-◌, [], Option, Some, None, refl, sym, ap, subst, ◌∙◌, Bool, true, false}
-use Rattle.std.specs.Prelude.{is_some, if◌then◌else◌}
+use Rattle.std.proofs.Common.{◌≡◌, ℕ, ◌-◌, ◌<◌, ◌^◌, [], Option, Some, None, refl, sym, ap, subst, ◌∙◌, Bool}
+use Rattle.std.specs.Prelude.{is_some}
 use Rattle.std.specs.Option.{option_map}
 use Rattle.std.specs.FinMap as map
 use Rattle.mach_types.specs.declared.calls.Event.{Event}
 use Rattle.mach_types.specs.declared.calls.Reply.{Reply}
-use Rattle.mach_types.specs.Tokens.{Request, dead_name}
-use Rattle.mach_model.specs.State.{State, Target, lookup, at, same_request}
+use Rattle.mach_types.specs.Tokens.{Request}
+use Rattle.mach_model.specs.State.{State, Target, lookup, at}
 use Rattle.mach_model.specs.Names.{renamed_requests, Renames}
 use Rattle.mach_model.specs.Refusals.{call_guards}
 use Rattle.mach_model.specs.Lawful.{IsLawful}
-use Rattle.mach_model.specs.NotYet.{NoRequests}
 use Rattle.name_space.specs.declared.Entry.{Entry}
 use Rattle.name_space.specs.declared.Entry.TheVariants as entry
 use Rattle.name_space.specs.Names.{SpaceView}
 use Rattle.port.specs.Ports.{PortsView}
 use Rattle.port_set.specs.declared.SetRecord.{SetRecord}
 use Rattle.port_set.specs.Sets.{SetsView, IsThere}
+use Rattle.request_table.specs.Requests.{name_key}
 use Rattle.copyin_base.specs.Acts.{Acts, IsAllowed}
 use Rattle.copyin_base.specs.Changes.{KeepsPlace, SameButRoom}
 use Rattle.copyin_base.specs.Kept.{Kept}
-use Rattle.copyin_base.specs.Requests.{notify_of}
+use Rattle.copyin_base.specs.Requests.{RequestTablesView, notify_of, RequestsAgree}
 use Rattle.copyin_base.specs.Wanted.{kept_in, kept_of}
 use Rattle.copyin_base.specs.Worlds.{WorldView, entry_in, HasTask}
 use Rattle.copyin_base.specs.Shows.{Agrees, HoldersAgree, Shows, SetsAgree, target_of}
@@ -30,10 +30,14 @@ use Rattle.copyin_base.proofs.Holders.{KeepHolders, same_holders, moved_receives
 use Rattle.copyin_base.proofs.Slots.{slots_stay}
 use Rattle.copyin_base.proofs.Roomier.{place_kept, room_entry, room_shows}
 use Rattle.copyin_base.proofs.NamesChanged.{kept_sets, sets_go, moved_agrees, target_found}
-use Rattle.copyin_base.proofs.Requesting.{none_kept}
+use Rattle.copyin_base.proofs.Carriers.{carriers_same}
+use Rattle.copyin_base.proofs.Idle.{none_lost_same}
+use Rattle.copyin_base.proofs.SendersNoted.{senders_same, senders_kept, keeps_senders_same}
 use Rattle.copyin_base.proofs.Told.{found}
-use Rattle.kernel_core_base.specs.Names.{MayRename, MovesEntry, renamed_in, sets_named}
-use Rattle.kernel_core_base.proofs.TokensRenamed.{renamed_weigh}
+use Rattle.kernel_core_base.specs.Names.{MayRename, MovesEntry, renamed_in, request_moved, sets_named}
+use Rattle.kernel_core_base.proofs.MadeKept.{room_senders}
+use Rattle.kernel_core_base.proofs.RequestMoved.{none_on, own_on, names_differ, requests_moved, requested_moved}
+use Rattle.kernel_core_base.proofs.TokensRenamed.{moved_tokens, moved_weigh, moved_length, moved_of, moved_held}
 use Rattle.copyin_base.proofs.Spaces.{space-set_same}
 
 -- ---- once a place is kept for the name
@@ -58,16 +62,11 @@ set_of None task e = absurd (cc)
 set_kept : (w : WorldView) (s : State) → Agrees w s → IsLawful s → (task name set : ℕ) → lookup s task name ≡ Some (Target.set set) → (r : SetRecord) × (map.get w.sets.sets set ≡ Some r) × (r.owner ≡ task)
 set_kept w s a l task name set named = set_of (map.get w.sets.sets set) task (sym (l.set_owned task name set named) ∙ a.set_owner set)
 
--- where none stands, none goes along
-none_moved : (stands : Request → Bool) → NoRequests stands → (task o n : ℕ) (r : Request) → renamed_requests task o n stands r ≡ stands r
-none_moved stands none task o n r = go (same_request r (dead_name task o)) (same_request r (dead_name task n))
-  where
-    go : (b c : Bool) → (if b then false else (if c then stands (dead_name task o) else stands r)) ≡ stands r
-    go true c = sym (none r)
-    go false true = none (dead_name task o) ∙ sym (none r)
-    go false false = refl
+module _ (w w1 : WorldView) (task from to : ℕ) (small : to < 2 ^ 32) (e : Entry) (may : MayRename w task from to e) (moves : MovesEntry w task from to e w1) where
+  -- no request is on the new name
+  pub no_request_to : Stands w → map.get w1.requests.names.requests (name_key task to) ≡ None
+  no_request_to stands = ap (λ (x : WorldView). map.get x.requests.names.requests (name_key task to)) moves.rest ∙ none_on w stands.shown.requested task to small may.unused
 
-module _ (w w1 : WorldView) (task from to : ℕ) (e : Entry) (may : MayRename w task from to e) (moves : MovesEntry w task from to e w1) where
   names_set : (s : State) → Agrees w s → (set : ℕ) → e ≡ entry.Set set → lookup s task from ≡ Some (Target.set set)
   names_set s a set kind = found w s a task from e may.found ∙ ap (λ (x : Entry). Some (target_of x)) kind
 
@@ -84,10 +83,20 @@ module _ (w w1 : WorldView) (task from to : ℕ) (e : Entry) (may : MayRename w 
   free : map.get moves.space.names to ≡ None
   free = sym (ap (λ (o : Option SpaceView). entry_in o to) moves.there) ∙ may.unused
 
+  -- the tables once the request on the name and what is kept of a set went along
+  abbrev pub named_so : WorldView
+  named_so = record w1 { sets = sets_named e to w1.sets; requests = request_moved w1.requests task from to }
+
+  -- what was done one after the other
+  pub named_from : (x : WorldView) → x ≡ w1 → (requests : RequestTablesView) → requests ≡ request_moved x.requests task from to → (v : WorldView) → v ≡ record x { sets = sets_named e to x.sets; requests = requests } → v ≡ named_so
+  named_from x view requests moved v named =
+      named ∙ (λ i. record (view i) { sets = sets_named e to (view i).sets; requests = (moved ∙ ap (λ (y : WorldView). request_moved y.requests task from to) view) i })
+
   abbrev after : State → State
   after s = record s {
     naming = at s.naming task (map.insert (map.remove (s.naming task) from) to (target_of e));
     stands = renamed_requests task from to s.stands;
+    ledger = moved_tokens task from to s.ledger;
   }
 
   module _ (s : State) (sh : Shows w s) where
@@ -99,8 +108,15 @@ module _ (w w1 : WorldView) (task from to : ℕ) (e : Entry) (may : MayRename w 
       target = target_of e;
       found = target_found w s sh.agrees task moves.space moves.there from to e (moves.space.room - 1) stands here free;
       rest = refl;
-      tokens = λ h. renamed_weigh task from to s.ledger (none_kept (notify_of w.requests) w.ports.made s.stands s.live_port s.ledger sh.agrees.of_requests sh.quiet.none_stands) h;
+      tokens = λ h. moved_weigh task from to h s.ledger;
     }
+
+    small_from : from < 2 ^ 32
+    small_from = (sh.lawful.naming task).space.name_fits from (target_of e) (found w s sh.agrees task from e may.found)
+
+    of_requests : RequestsAgree (notify_of (request_moved w.requests task from to)) (request_moved w.requests task from to).names.went w.ports.made stands s.live_port (moved_tokens task from to s.ledger)
+    of_requests = requests_moved w.requests task from to small_from small (names_differ w task from to e may.found may.unused) (own_on w sh.requested task from small_from)
+        (none_on w sh.requested task to small may.unused) w.ports.made s.stands s.live_port s.ledger sh.agrees.of_requests sh.idle.went
 
     abbrev Go : SetsView → Type 0
     Go sets = SetsAgree sets s.set_owner s.sets_made (after s).naming
@@ -122,18 +138,36 @@ module _ (w w1 : WorldView) (task from to : ℕ) (e : Entry) (may : MayRename w 
     in_sets (entry.SendOnce p) kind = other (λ t g. let f = sym (ap target_of kind) ∙ g in cc)
     in_sets (entry.DeadName n) kind = other (λ t g. let f = sym (ap target_of kind) ∙ g in cc)
 
-    agrees : (v : WorldView) → v ≡ record w1 { sets = sets_named e to w1.sets } → Agrees v (after s)
-    agrees v named = subst (λ (x : WorldView). Agrees x (after s)) (sym (named ∙ (λ i. record (moves.rest i) { sets = sets_named e to (moves.rest i).sets })))
-        (moved_agrees w s sh.agrees task moves.space moves.there from to e (moves.space.room - 1) stands here free (none_moved s.stands sh.quiet.none_stands task from to) (sets_named e to w.sets) (in_sets e refl))
+    agrees : (v : WorldView) → v ≡ named_so → Agrees v (after s)
+    agrees v named = subst (λ (x : WorldView). Agrees x (after s)) (sym (named ∙ (λ i. record (moves.rest i) { sets = sets_named e to (moves.rest i).sets; requests = request_moved (moves.rest i).requests task from to })))
+        (moved_agrees w s sh.agrees task moves.space moves.there from to e (moves.space.room - 1) stands here free (request_moved w.requests task from to) (moved_tokens task from to s.ledger)
+        (λ kind q. moved_of task from to kind q s.ledger) (λ u kind q. moved_held task from to u kind q s.ledger) (moved_length task from to s.ledger) of_requests (sets_named e to w.sets) (in_sets e refl))
 
   -- a receive right goes along with its name
-  holders : (v : WorldView) → v ≡ record w1 { sets = sets_named e to w1.sets } → HoldersAgree w → HoldersAgree v
+  holders : (v : WorldView) → v ≡ named_so → HoldersAgree w → HoldersAgree v
   holders v named h = holders_left w v h task moves.space (record moves.space { names = map.insert (map.remove moves.space.names from) to e; room = moves.space.room - 1 }) moves.there
       (ap (λ (x : WorldView). x.spaces) named ∙ ap (λ (x : WorldView). x.spaces) moves.rest) (moved_receives moves.space.names from to e here)
       (subst (λ (x : PortsView Kept). KeepHolders w.ports.ports x.ports) (sym (ap (λ (x : WorldView). x.ports) named ∙ ap (λ (x : WorldView). x.ports) moves.rest)) (same_holders w.ports.ports))
 
   -- from the tables before a place was kept
-  pub rename_done : (old : WorldView) → SameButRoom old w → HasTask old task → IsAllowed old (λ s. call_guards s (Event.Rename task from to)) → (v : WorldView) →
-      v ≡ record w1 { sets = sets_named e to w1.sets } → Acts old (Event.Rename task from to) (Reply.Code 0) v
+  pub rename_done : (old : WorldView) → SameButRoom old w → HasTask old task → IsAllowed old (λ s. call_guards s (Event.Rename task from to)) → (v : WorldView) → v ≡ named_so → Acts old (Event.Rename task from to) (Reply.Code 0) v
   rename_done old same below good v named = done old (Event.Rename task from to) (Reply.Code 0) v below good
-      (λ now s sh. let here = room_shows old w s same sh in record { mid = after s; owed = []; does = (refl, renames s here, refl); agrees = agrees s here v named; holders = holders v named here.holders; slots = slots_stay w v here.slots (ap (λ (x : WorldView). x.ledger) named ∙ ap (λ (x : WorldView). x.ledger) moves.rest) (ap (λ (x : WorldView). x.ports) named ∙ ap (λ (x : WorldView). x.ports) moves.rest) })
+      (λ now s sh.
+      let here = room_shows old w s same sh in
+      let ports : v.ports ≡ w.ports = ap (λ (x : WorldView). x.ports) named ∙ ap (λ (x : WorldView). x.ports) moves.rest in
+      let ledger : v.ledger ≡ w.ledger = ap (λ (x : WorldView). x.ledger) named ∙ ap (λ (x : WorldView). x.ledger) moves.rest in
+      let none : v.requests.no_senders ≡ w.requests.no_senders = ap (λ (x : WorldView). x.requests.no_senders) named ∙ ap (λ (x : WorldView). x.requests.no_senders) moves.rest in record {
+        mid = after s;
+        owed = [];
+        does = (refl, renames s here, refl);
+        none_owed = refl;
+        agrees = agrees s here v named;
+        holders = holders v named here.holders;
+        carriers = carriers_same w v here.carriers (ap (λ (p : PortsView Kept). p.made) ports) (ap (λ (p : PortsView Kept). p.ports) ports);
+        slots = slots_stay w v here.slots ledger ports;
+        requested = requested_moved w w1 v here.requested task from to (small_from s here) small e may.found may.unused moves (ap (λ (x : WorldView). x.spaces) named) (ap (λ (x : WorldView). x.ports) named)
+            (ap (λ (x : WorldView). x.requests) named);
+        notes = senders_kept old w v (senders_kept old old w (senders_same old sh.idle.noted) (room_senders old w same sh.requested))
+            (keeps_senders_same w v here.requested none ledger (ap (λ (p : PortsView Kept). p.noted) ports));
+        none_lost = none_lost_same w v here.idle.none_lost ports;
+      })

@@ -6,7 +6,7 @@ use Rattle.std.specs.FinMap as map
 use Rattle.std.proofs.lemmas.Bool.Decides.{eqb_tells}
 use Rattle.mach_types.specs.Tokens.{dead_name}
 use Rattle.mach_model.specs.State.{State, Target, Names, lookup, at, request_at, without_name}
-use Rattle.mach_model.specs.NotYet.{NoRequests}
+use Rattle.mach_model.specs.Lawful.{IsLawful}
 use Rattle.mach_model.specs.Sets.{without_set}
 use Rattle.mach_model.proofs.At.{at_own, at_other}
 use Rattle.name_space.specs.declared.Entry.{Entry}
@@ -14,14 +14,13 @@ use Rattle.port.specs.Ports.{PortView, PortsView}
 use Rattle.port_set.specs.declared.SetRecord.{SetRecord}
 use Rattle.port_set.specs.Sets.{in_set, removed, IsDisbanded}
 use Rattle.copyin_base.specs.Kept.{Kept}
-use Rattle.copyin_base.specs.Requests.{notify_of, RequestsAgree}
+use Rattle.copyin_base.specs.Requests.{notify_of, RequestsAgree, request_left}
 use Rattle.copyin_base.specs.Worlds.{WorldView, port_at}
-use Rattle.copyin_base.specs.Shows.{target_of, ShowsPort, SetsAgree, Agrees}
+use Rattle.copyin_base.specs.Shows.{target_of, ShowsPort, SetsAgree, Agrees, RequestsStand}
 use Rattle.copyin_base.proofs.Agreeing.{own_names, own_rights, put_names, put_rights}
 use Rattle.copyin_base.proofs.Gets.{seen, same_found}
-use Rattle.copyin_base.proofs.NamesChanged.{names_agree}
+use Rattle.copyin_base.proofs.NamesChanged.{names_agree, left_requests}
 use Rattle.copyin_base.proofs.Putting.{each_put, get_removed}
-use Rattle.copyin_base.proofs.Requesting.{none_ended}
 use Rattle.kernel_core_base.specs.References.{RemovesSet}
 
 no_some : {A : Type 0} (x : A) → None ≡ Some x → ⊥
@@ -113,12 +112,12 @@ module _ (w : WorldView) (s : State) (a : Agrees w s) (set : ℕ) (ports2 : Port
     counts = a.counts;
     total = a.total;
     in_sets = a.in_sets;
-    of_requests = subst (λ (k : ℕ). RequestsAgree (notify_of w.requests) k s.stands s.live_port s.ledger) (sym d.made) a.of_requests;
+    of_requests = subst (λ (k : ℕ). RequestsAgree (notify_of w.requests) w.requests.names.went k s.stands s.live_port s.ledger) (sym d.made) a.of_requests;
   }
 
 -- ---- the name and the set go
 
-module _ (w : WorldView) (s : State) (a : Agrees w s) (none : NoRequests s.stands) (task name set : ℕ) (v : WorldView) (r : RemovesSet w task name set v) where
+module _ (w : WorldView) (s : State) (a : Agrees w s) (lawful : IsLawful s) (requested : RequestsStand w) (task name set : ℕ) (v : WorldView) (r : RemovesSet w task name set v) where
   abbrev own : Names
   own = map.remove (s.naming task) name
 
@@ -146,14 +145,21 @@ module _ (w : WorldView) (s : State) (a : Agrees w s) (none : NoRequests s.stand
   nothing : (e : Entry) → None ≡ Some e → ⊥
   nothing e is = no_some e is
 
-  names_go : Agrees (record w { spaces = slice_set w.spaces task (Some (record r.space { names = map.remove r.space.names name })); sets = removed w.sets set })
+  abbrev without : WorldView
+  without = record w {
+    spaces = slice_set w.spaces task (Some (record r.space { names = map.remove r.space.names name }));
+    sets = removed w.sets set;
+    requests = request_left w.requests task name;
+  }
+
+  names_go : Agrees without
       (record s { naming = at s.naming task own; stands = request_at s.stands (dead_name task name) false; set_owner = at s.set_owner set None })
   names_go = names_agree w s a task r.space r.there (map.remove r.space.names name) r.space.room own (request_at s.stands (dead_name task name) false) (removed w.sets set) (at s.set_owner set None) s.sets_made
-      (none_ended s.stands none (dead_name task name))
+      (request_left w.requests task name) (left_requests w s a task r.space r.there lawful requested name (ap is_some r.found) {A = Entry} None)
       (put_names r.space.names (s.naming task) (own_names w s a task r.space r.there) name None (λ e is. absurd (nothing e is)))
       (put_rights r.space.names task s.ledger (own_rights w s a task r.space r.there) name None (λ e p is. absurd (nothing e is))) in_sets
 
   pub removed_agrees : Agrees v (without_set set (without_name task name s))
   removed_agrees = subst (λ (x : WorldView). Agrees x (without_set set (without_name task name s))) (sym r.rest)
-      (disbanded_agrees (record w { spaces = slice_set w.spaces task (Some (record r.space { names = map.remove r.space.names name })); sets = removed w.sets set })
+      (disbanded_agrees without
       (record s { naming = at s.naming task own; stands = request_at s.stands (dead_name task name) false; set_owner = at s.set_owner set None }) names_go set v.ports r.disbanded)

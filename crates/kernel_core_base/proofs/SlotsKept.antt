@@ -1,18 +1,21 @@
 -- What is made under a name, and what is due to one, uses no slot and makes no send-once right.
 use Rattle.std.proofs.Common.{◌≡◌, ℕ, ◌+◌, Bool, true, false, Option, Some, None, refl, ap, arith}
 use Rattle.std.specs.Prelude.{◌-◌, if◌then◌else◌, nat_lt}
+use Rattle.name_space.specs.declared.Entry.{Entry}
 use Rattle.name_space.specs.Entry.{port_named, send_references}
 use Rattle.rights.specs.declared.RightKind.TheVariants as right
 use Rattle.rights.specs.Ledger.{LedgerView, made, taken}
 use Rattle.copyin_base.specs.Shows.{SlotsSuffice}
 use Rattle.copyin_base.specs.Worlds.{WorldView}
+use Rattle.copyin_base.proofs.SendersNoted.{noted_slots}
 use Rattle.copyin_base.proofs.Slots.{slots_same, slots_kept}
 use Rattle.kernel_core_base.specs.declared.names.NewRight.{NewRight}
 use Rattle.kernel_core_base.specs.declared.names.NewRight.TheVariants as new_right
 use Rattle.kernel_core_base.specs.declared.references.Due.{Due}
 use Rattle.kernel_core_base.specs.declared.references.Due.TheVariants.{Nothing, References, Disbanding}
 use Rattle.kernel_core_base.specs.Names.{Adds}
-use Rattle.kernel_core_base.specs.References.{recounted_at, Carries}
+use Rattle.kernel_core_base.specs.References.{recounted_at, CountsReferences, Carries}
+use Rattle.kernel_core_base.proofs.FewerNoted.{fewer_keeps}
 
 -- send rights are counted apart
 unused_recounted : (l : LedgerView) (o : Option ℕ) (n m : ℕ) → (recounted_at l o n m).unused ≡ l.unused
@@ -23,14 +26,17 @@ unused_recounted l (Some p) n m = go (nat_lt n m)
     go true = omega arith
     go false = omega arith
 
+counted_slots : (w v : WorldView) → SlotsSuffice w → (task name : ℕ) (e : Entry) (m : ℕ) → CountsReferences w task name e m v → SlotsSuffice v
+counted_slots w v enough task name e m r =
+    let unused : v.ledger.unused ≡ (recounted_at w.ledger (port_named e) (send_references e) m).unused = ap (λ (x : WorldView). x.ledger.unused) r.rest in
+    let same = unused_recounted w.ledger (port_named e) (send_references e) m in
+    let spare : v.ports.spare ≡ w.ports.spare = ap (λ (x : WorldView). x.ports.spare) r.rest in
+    omega (arith, enough, unused, same, spare)
+
 module _ (w v : WorldView) (enough : SlotsSuffice w) (task name : ℕ) where
   pub carried_slots : (due : Due) → Carries w task name due v → SlotsSuffice v
   carried_slots Nothing same = slots_same w v enough same
-  carried_slots (References e m) r =
-      let unused : v.ledger.unused ≡ (recounted_at w.ledger (port_named e) (send_references e) m).unused = ap (λ (x : WorldView). x.ledger.unused) r.rest in
-      let same = unused_recounted w.ledger (port_named e) (send_references e) m in
-      let spare : v.ports.spare ≡ w.ports.spare = ap (λ (x : WorldView). x.ports.spare) r.rest in
-      omega (arith, enough, unused, same, spare)
+  carried_slots (References e m) r = fewer_keeps SlotsSuffice r.counted v e m r.notes (λ p n. noted_slots r.counted v p n) (counted_slots w r.counted enough task name e m r.counts)
   carried_slots (Disbanding set) r = slots_kept w v enough (ap (λ (x : WorldView). x.ledger.unused) r.rest) r.disbanded.spare
 
   pub made_slots : (r : NewRight) → Adds w task r name v → SlotsSuffice v

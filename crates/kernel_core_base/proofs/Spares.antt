@@ -3,11 +3,13 @@ use Rattle.std.proofs.Common.{◌≡◌, ℕ, ap, ◌∙◌, arith}
 use Rattle.name_space.specs.declared.Entry.{Entry}
 use Rattle.copyin_base.specs.Wanted.{KeepsSpares}
 use Rattle.copyin_base.specs.Worlds.{WorldView}
-use Rattle.copyin_base.proofs.Spares.{keeps_same, keeps_space}
+use Rattle.copyin_base.proofs.SendersNoted.{noted_keeps}
+use Rattle.copyin_base.proofs.Spares.{keeps_same, keeps_space, keeps_trans}
 use Rattle.kernel_core_base.specs.declared.references.Due.{Due}
 use Rattle.kernel_core_base.specs.declared.references.Due.TheVariants.{Nothing, References, Disbanding}
 use Rattle.kernel_core_base.specs.Names.{MovesEntry}
 use Rattle.kernel_core_base.specs.References.{Carries}
+use Rattle.kernel_core_base.proofs.FewerNoted.{fewer_keeps}
 
 module _ (old new : WorldView) (task : ℕ) where
   pub moved_keeps : (mid : WorldView) (from to : ℕ) (e : Entry) → MovesEntry old task from to e mid → new.spaces ≡ mid.spaces → new.ports ≡ mid.ports → KeepsSpares old new
@@ -16,5 +18,8 @@ module _ (old new : WorldView) (task : ℕ) where
 
   pub carried_keeps : (name : ℕ) (due : Due) → Carries old task name due new → KeepsSpares old new
   carried_keeps name Nothing is = keeps_same old new is
-  carried_keeps name (References e m) r = keeps_space old new task r.space _ r.there (ap (λ (w : WorldView). w.spaces) r.rest) (omega arith) (ap (λ (w : WorldView). w.ports.spare) r.rest)
+  carried_keeps name (References e m) r =
+      let c = r.counts in
+      fewer_keeps (KeepsSpares old) r.counted new e m r.notes (λ p n keeps. keeps_trans old r.counted new keeps (noted_keeps r.counted new p n))
+      (keeps_space old r.counted task c.space _ c.there (ap (λ (w : WorldView). w.spaces) c.rest) (omega arith) (ap (λ (w : WorldView). w.ports.spare) c.rest))
   carried_keeps name (Disbanding set) r = keeps_space old new task r.space _ r.there (ap (λ (w : WorldView). w.spaces) r.rest) (omega arith) r.disbanded.spare

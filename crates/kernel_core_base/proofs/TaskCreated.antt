@@ -28,7 +28,10 @@ use Rattle.copyin_base.proofs.Agreeing.{sets_stay}
 use Rattle.copyin_base.proofs.Gets.{same_found}
 use Rattle.copyin_base.proofs.Holders.{same_holders, holders_pushed}
 use Rattle.copyin_base.proofs.Reading.{given_pushed}
+use Rattle.copyin_base.proofs.Idle.{none_lost_same}
+use Rattle.copyin_base.proofs.SendersNoted.{senders_same, senders_kept}
 use Rattle.kernel_core_base.specs.Tasks.{no_names}
+use Rattle.kernel_core_base.proofs.MadeKept.{with_new_task, task_carriers, task_requested, task_senders}
 use Rattle.copyin_base.proofs.Spaces.{space-push_same, space-push_other, space-end}
 
 none_under : (n : ℕ) (e : Entry) → map.get no_names.names n ≡ Some e → ⊥
@@ -101,4 +104,16 @@ task_holders w h = holders_pushed w (record w { spaces = w.spaces ++ Some no_nam
 pub task_created : (w : WorldView) (task : ℕ) (new : WorldView) → length w.spaces < most_tasks → task ≡ length w.spaces → new ≡ record w { spaces = w.spaces ++ Some no_names ∷ [] } → Acts w Event.TaskCreate (Reply.Task task) new
 task_created w task new few is made = rw (is, made) (done w Event.TaskCreate (Reply.Task (length w.spaces)) (record w { spaces = w.spaces ++ Some no_names ∷ [] }) tt
     record { allowed = λ s sh. ((λ many. let m = sh.agrees.tasks_made in omega (arith, many, m, few)), tt) }
-    (λ now s sh. record { mid = with_task w s sh.agrees; owed = []; does = (creates w s sh.agrees, refl); agrees = task_agrees w s sh.agrees; holders = task_holders w sh.holders; slots = sh.slots }))
+    (λ now s sh. record {
+      mid = with_task w s sh.agrees;
+      owed = [];
+      does = (creates w s sh.agrees, refl);
+      none_owed = refl;
+      agrees = task_agrees w s sh.agrees;
+      holders = task_holders w sh.holders;
+      carriers = task_carriers w sh.carriers;
+      slots = sh.slots;
+      requested = task_requested w sh.requested;
+      notes = senders_kept w w (with_new_task w) (senders_same w sh.idle.noted) (task_senders w sh.requested);
+      none_lost = none_lost_same w (with_new_task w) sh.idle.none_lost refl;
+    }))

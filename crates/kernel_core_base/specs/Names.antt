@@ -3,7 +3,7 @@
 use Rattle.std.specs.Prelude.{◌≡◌, ℕ, ◌+◌, ◌-◌, ◌<◌, ◌≤◌, ◌⊎◌, List, [], Option, Some, None, slice_set}
 use Rattle.std.specs.Prelude as std
 use Rattle.std.specs.FinMap as map
-use Rattle.mach_types.specs.Numbers.{most_names, most_rights, most_identities}
+use Rattle.mach_types.specs.Numbers.{most_names, most_rights, most_identities, request_bit}
 use Rattle.name_space.specs.declared.Entry.{Entry}
 use Rattle.name_space.specs.declared.Entry.TheVariants as entry
 use Rattle.name_space.specs.Entry.{type_in}
@@ -13,7 +13,10 @@ use Rattle.port_set.specs.declared.SetRecord.{SetRecord}
 use Rattle.port_set.specs.Sets.{SetsView, created, renamed}
 use Rattle.rights.specs.declared.RightKind.TheVariants as right
 use Rattle.rights.specs.Ledger.{entered, made}
+use Rattle.request_table.specs.declared.Request.{Request}
+use Rattle.request_table.specs.Requests.{RequestsView, name_key, with_request, without_request}
 use Rattle.copyin_base.specs.Kept.{Kept}
+use Rattle.copyin_base.specs.Requests.{RequestTablesView}
 use Rattle.copyin_base.specs.Worlds.{WorldView, entry_at, space_at}
 use Rattle.kernel_core_base.specs.declared.names.NewRight.{NewRight}
 use Rattle.kernel_core_base.specs.declared.names.NewRight.TheVariants as new_right
@@ -124,13 +127,31 @@ abbrev pub sets_named : Entry → (name : ℕ) → SetsView → SetsView
 sets_named (entry.Set set) name sets = renamed_in (map.get sets.sets set) sets set name
 sets_named e name sets = sets
 
+-- the dead-name requests after one, if there is one, comes to this name: it is the last of its port's then
+abbrev pub renamed_by : RequestsView → (name : ℕ) → Option Request → RequestsView
+renamed_by names name (Some r) = with_request (without_request names r) (record r { name = name })
+renamed_by names name None = names
+
+-- the requests after what was under the first name of the task comes under the second
+abbrev pub request_moved : RequestTablesView → (task from to : ℕ) → RequestTablesView
+request_moved v task from to = record v { names = renamed_by v.names to (map.get v.names.requests (name_key task from)) }
+
 -- ---- types
 
--- the type of what is under a name, 0 where nothing is
-abbrev pub type_found : Option Entry → ℕ
-type_found (Some e) = type_in e
-type_found None = 0
+-- the bit for a request on the name
+abbrev pub bit_requested : Option Request → ℕ
+bit_requested (Some r) = request_bit
+bit_requested None = 0
 
--- the names with the types of what is under them, names rising
-abbrev pub types_of : Names → List (ℕ × ℕ)
-types_of names = std.map (λ n. (n, type_found (map.get names n))) (map.keys names)
+-- the type of a task's name under which this stands
+abbrev pub type_of_entry : RequestTablesView → (task name : ℕ) → Entry → ℕ
+type_of_entry requests task name e = type_in e + bit_requested (map.get requests.names.requests (name_key task name))
+
+-- the type of what is under a name, 0 where nothing is
+abbrev pub type_found : RequestTablesView → (task name : ℕ) → Option Entry → ℕ
+type_found requests task name (Some e) = type_of_entry requests task name e
+type_found requests task name None = 0
+
+-- the names of the task with their types, names rising
+abbrev pub types_of : RequestTablesView → (task : ℕ) → Names → List (ℕ × ℕ)
+types_of requests task names = std.map (λ n. (n, type_found requests task n (map.get names n))) (map.keys names)

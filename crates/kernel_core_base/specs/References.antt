@@ -1,5 +1,5 @@
 -- Taking rights from under a name, and changing how many references are under it, in the tables.
-use Rattle.std.specs.Prelude.{◌≡◌, ℕ, ℤ, pos, negsuc, ◌+◌, ◌-◌, ◌<◌, ◌≤◌, ◌⊎◌, Option, Some, None, slice_set, Result, Ok, Err, if◌then◌else◌, ◌==◌, nat_lt}
+use Rattle.std.specs.Prelude.{◌≡◌, ℕ, ℤ, pos, negsuc, ◌+◌, ◌-◌, ◌<◌, ◌≤◌, ◌⊎◌, Bool, true, false, Option, Some, None, slice_set, Result, Ok, Err, if◌then◌else◌, ◌==◌, nat_lt}
 use Rattle.std.specs.FinMap as map
 use Rattle.mach_types.specs.declared.codes.KernReturn.{KernReturn}
 use Rattle.mach_types.specs.declared.codes.KernReturn.TheVariants.{NoSpace, InvalidRight, InvalidValue, UrefsOverflow}
@@ -13,6 +13,8 @@ use Rattle.name_space.specs.Names.{SpaceView}
 use Rattle.port_set.specs.Sets.{removed, IsDisbanded}
 use Rattle.rights.specs.declared.RightKind.TheVariants as kind
 use Rattle.rights.specs.Ledger.{LedgerView, IsEntered, counts_of, made, taken}
+use Rattle.copyin_base.specs.Changes.{NotesSenderless}
+use Rattle.copyin_base.specs.Requests.{request_left, requests_after}
 use Rattle.copyin_base.specs.Worlds.{WorldView, entry_at, put, space_at}
 use Rattle.kernel_core_base.specs.declared.references.Change.{Change}
 use Rattle.kernel_core_base.specs.declared.references.Change.TheVariants.{More, Fewer}
@@ -47,17 +49,35 @@ pub record CanSet (w : WorldView) (task name : ℕ) (e : Entry) (references : �
   pub few : references ≤ most_references
   pub room : (p : ℕ) → port_named e ≡ Some p → w.ledger.total + (references - send_references e) ≤ most_rights
 
--- The references of the entry, which stood under the name, become so many.
-pub record SetsReferences (old : WorldView) (task name : ℕ) (e : Entry) (references : ℕ) (new : WorldView) : Type 0 where
+-- The references of the entry, which stood under the name, become so many, of its port's rights too; where the name goes the request on it
+-- ends.
+pub record CountsReferences (old : WorldView) (task name : ℕ) (e : Entry) (references : ℕ) (new : WorldView) : Type 0 where
   pub space : SpaceView
   pub there : space_at old task ≡ Some space
   pub found : map.get space.names name ≡ Some e
   pub rest : new ≡ record old {
     spaces = slice_set old.spaces task (Some (record space { names = put space.names name (left_with e references) }));
     ledger = recounted_at old.ledger (port_named e) (send_references e) references;
+    requests = requests_after old.requests task name (left_with e references);
   }
 
--- The name of a set goes, and the set with it; its members are in no set.
+-- The port, if there is one, is noted if send rights of it went and none is left.
+abbrev pub NotesLost : WorldView → (port : Option ℕ) → (went : Bool) → WorldView → Type 0
+NotesLost old (Some p) true new = NotesSenderless old p new
+NotesLost old (Some p) false new = new ≡ old
+NotesLost old None went new = new ≡ old
+
+-- ... as that of an entry whose send references became so many
+abbrev pub NotesFewer : WorldView → Entry → (references : ℕ) → WorldView → Type 0
+NotesFewer old e m new = NotesLost old (port_named e) (nat_lt m (send_references e)) new
+
+-- The references become so many, and the port is noted that lost its last send right.
+pub record SetsReferences (old : WorldView) (task name : ℕ) (e : Entry) (references : ℕ) (new : WorldView) : Type 0 where
+  pub counted : WorldView
+  pub counts : CountsReferences old task name e references counted
+  pub notes : NotesFewer counted e references new
+
+-- The name of a set goes, and the set with it; its members are in no set, and a request on the name ends.
 pub record RemovesSet (old : WorldView) (task name set : ℕ) (new : WorldView) : Type 0 where
   pub space : SpaceView
   pub there : space_at old task ≡ Some space
@@ -67,6 +87,7 @@ pub record RemovesSet (old : WorldView) (task name set : ℕ) (new : WorldView) 
     spaces = slice_set old.spaces task (Some (record space { names = put space.names name None }));
     ports = new.ports;
     sets = removed old.sets set;
+    requests = request_left old.requests task name;
   }
 
 -- ---- what is due

@@ -1,6 +1,6 @@
 //! A task's names: allocating a port, a port set or a dead name under one, listing them with their
 //! types, and giving one another number.
-ghost use Rattle.std.specs.Prelude.{◌≡◌, ◌≢◌, ℕ, ◌<◌, Some, None, false, IsTrue, IfOk, IfErr, OnOk, OnErr};
+ghost use Rattle.std.specs.Prelude.{◌≡◌, ◌≢◌, ℕ, ◌<◌, ◌^◌, Some, None, false, IsTrue, IfOk, IfErr, OnOk, OnErr};
 ghost use Rattle.std.specs.FinMap as map;
 ghost use Rattle.mach_types.specs.declared.calls.Event.{Event};
 ghost use Rattle.mach_types.specs.declared.codes.KernReturn.TheVariants as kern;
@@ -11,21 +11,26 @@ ghost use Rattle.name_space.specs.Names.{IsUsable};
 ghost use Rattle.name_space.specs.declared.Entry.{Entry as AnyEntry};
 ghost use Rattle.name_space.specs.declared.Entry.TheVariants as entry_of;
 ghost use Rattle.port_set.specs.Sets.{IsThere, created};
+ghost use Rattle.request_table.specs.Requests.{name_key};
 ghost use Rattle.copyin_base.specs.Acts.{code_number, Serves, IsRefused, IsAllowed};
 ghost use Rattle.copyin_base.specs.Stands.{Stands};
 ghost use Rattle.copyin_base.specs.Wanted.{KeepsSpares, kept_of};
 ghost use Rattle.copyin_base.specs.Worlds.{entry_at, HasTask};
 ghost use Rattle.kernel_core_base.specs.declared.names.NewRight.TheVariants as AnyRight;
-ghost use Rattle.kernel_core_base.specs.Names.{right_made, with_new_port, IsFullFor, HasRoomFor, IsFullOf, HasRoomOf, MayMake, CanAdd, Adds, MakesRight, MovesEntry, MayRename, sets_named, type_found, types_of};
+ghost use Rattle.kernel_core_base.specs.Names.{right_made, with_new_port, IsFullFor, HasRoomFor, IsFullOf, HasRoomOf, MayMake, CanAdd, Adds, MakesRight, MovesEntry, MayRename, request_moved, sets_named, bit_requested, type_of_entry, type_found, types_of};
 ghost use Rattle.kernel_core_base.specs.Wanted.{MayLackMemory};
 
-use copyin_base::{Code, TaskNames, World};
+use copyin_base::{Code, RequestTables, TaskNames, World};
 use mach_types::limits::MOST_RIGHTS;
 use mach_types::{KernReturn, Name, NameTypes, PortId, Reply, Right, TaskId};
 use name_space::Entry;
 use rights::RightKind;
 use std::alloc::{AllocError, Global};
 use user_refs::UserRefs;
+
+// The bit of a name's type for a dead-name request on it (Port Manipulation Interface,
+// `MACH_PORT_TYPE_DNREQUEST`).
+const DEAD_NAME_REQUESTED: u32 = 0x8000_0000;
 
 // What can be made under a name.
 #[derive(Clone, Copy)]
@@ -213,7 +218,7 @@ fn make_port(world: &mut World, task: TaskId) -> Result<PortId, AllocError>
 }
 
 /// `NameType` (Port Manipulation Interface, `mach_port_type`): a bit for each kind of right that the
-/// task has under the name. The task lives.
+/// task has under the name, and one for a dead-name request on it. The task lives.
 ///
 /// `KERN_INVALID_NAME` for a name that isn't in use. Constant time, and logarithmic for a name
 /// above 65,535.
@@ -223,7 +228,7 @@ pub fn name_type(world: &World, task: TaskId, name: Name) -> Result<Reply, Code>
     ensures { Serves world.now (Event.NameType task name) result world.now }
 {
     let entry = world.find(task, name)?;
-    Ok(Reply::NameType(entry.type_bits()))
+    Ok(Reply::NameType(type_of(&world.requests, task, name, &entry)))
 }
 
 /// `Names` (Port Manipulation Interface, `mach_port_names`): the names of the task with their types,
@@ -238,15 +243,20 @@ pub fn list_names(world: &World, alloc: Global, task: TaskId) -> Result<Reply, C
     ensures serves { Serves world.now (Event.Names task) result world.now }
     ensures wanted { IfErr result (λ code. code_number code ≡ kern_number kern.ResourceShortage → MayLackMemory world.now (Event.Names task)) }
 {
-    match names_with_types(&world.space(task), alloc) {
+    match names_with_types(&world.requests, task, &world.space(task), alloc) {
         Ok(entries) => Ok(Reply::Names(NameTypes::from_vec(entries))),
         Err(_) => Err(Code::Kern(KernReturn::ResourceShortage)),
     }
 }
 
-// The names with their types, names rising.
-fn names_with_types(space: &TaskNames<'_>, alloc: Global) -> Result<Vec<(Name, u32)>, AllocError>
-    ensures ok { IfOk result (λ entries. entries.items ≡ types_of space.now.names) }
+// The names of a task with their types, names rising.
+fn names_with_types(
+    requests: &RequestTables,
+    task: TaskId,
+    space: &TaskNames<'_>,
+    alloc: Global,
+) -> Result<Vec<(Name, u32)>, AllocError>
+    ensures ok { IfOk result (λ entries. entries.items ≡ types_of requests.now task space.now.names) }
     ensures err { OnErr result (0 < map.len space.now.names) }
 {
     let mut entries = Vec::new(alloc);
@@ -256,23 +266,41 @@ fn names_with_types(space: &TaskNames<'_>, alloc: Global) -> Result<Vec<(Name, u
     let names = space.names(alloc)?;
     entries.reserve(names.len())?;
     for name in &names {
-        entries.push((*name, type_at(space, *name)))?;
+        entries.push((*name, type_at(requests, task, space, *name)))?;
     }
     Ok(entries)
 }
 
-// The type of a name, 0 where it isn't in use.
-fn type_at(space: &TaskNames<'_>, name: Name) -> u32
-    ensures { result ≡ type_found (map.get space.now.names name) }
+// The type of a task's name, 0 where it isn't in use.
+fn type_at(requests: &RequestTables, task: TaskId, space: &TaskNames<'_>, name: Name) -> u32
+    ensures { result ≡ type_found requests.now task name (map.get space.now.names name) }
 {
     match space.lookup(name) {
-        Some(entry) => entry.type_bits(),
+        Some(entry) => type_of(requests, task, name, &entry),
+        None => 0,
+    }
+}
+
+// The type of a task's name under which this stands.
+fn type_of(requests: &RequestTables, task: TaskId, name: Name, entry: &Entry) -> u32
+    ensures { result ≡ type_of_entry requests.now task name entry.now }
+{
+    entry.type_bits() | request_bit(requests, task, name)
+}
+
+// The bit for a dead-name request on a task's name, 0 where there is none.
+fn request_bit(requests: &RequestTables, task: TaskId, name: Name) -> u32
+    ensures { result ≡ bit_requested (map.get requests.now.names.requests (name_key task name)) }
+{
+    match requests.names.get(task, name) {
+        Some(_) => DEAD_NAME_REQUESTED,
         None => 0,
     }
 }
 
 /// `Rename` (Port Manipulation Interface, `mach_port_rename`): what is under the first name goes under
-/// the second. A set's members, and a port's rights and messages, stay as they are. The task lives.
+/// the second, and a dead-name request on it along. A set's members, and a port's rights and messages,
+/// stay as they are. The task lives.
 ///
 /// `KERN_INVALID_VALUE` where the second is 0 or 0xffffffff; `KERN_INVALID_NAME` where the first
 /// isn't in use; `KERN_NAME_EXISTS` where the second is, also by the first itself;
@@ -289,6 +317,7 @@ pub fn rename(world: &mut World, task: TaskId, from: Name, to: Name) -> Result<R
     let entry = judge_rename(world, task, from, to)?;
     world.reserve_name(task, to)?;
     move_entry(world, task, from, to);
+    move_request(&mut world.requests, task, from, to);
     name_set(world, entry, to);
     Ok(Reply::Code(0))
 }
@@ -297,6 +326,7 @@ pub fn rename(world: &mut World, task: TaskId, from: Name, to: Name) -> Result<R
 fn judge_rename(world: &World, task: TaskId, from: Name, to: Name) -> Result<Entry, KernReturn>
     requires { HasTask world.now task }
     ensures may { IfOk result (λ entry. MayRename world.now task from to entry) }
+    ensures small { to < 2 ^ 32 }
     ensures ok { OnOk result (IsAllowed world.now (λ s. call_guards s (Event.Rename task from to))) }
     ensures err { IfErr result (λ code. IsRefused world.now (λ s. call_guards s (Event.Rename task from to)) (kern_number code)) }
 {
@@ -321,6 +351,16 @@ fn move_entry(world: &mut World, task: TaskId, from: Name, to: Name)
         unreachable!()
     };
     space.rename(from, to);
+}
+
+// The request on a task's name, if there is one, goes along to another name, which has none.
+fn move_request(requests: &mut RequestTables, task: TaskId, from: Name, to: Name)
+    requires { map.get requests.old.names.requests (name_key task to) ≡ None }
+    ensures { requests.new ≡ request_moved requests.old task from to }
+{
+    if !requests.names.is_empty() {
+        requests.names.rename(task, from, to);
+    }
 }
 
 // Keeps the name for the entry's set, if it is one.

@@ -1,6 +1,8 @@
 //! What a task may ask of a receive right, and set.
 ghost use Rattle.std.specs.Prelude.{◌≡◌, ◌<◌};
+ghost use Rattle.std.specs.FinMap as map;
 ghost use Rattle.mach_types.specs.declared.calls.Event.{Event};
+ghost use Rattle.mach_model.specs.ReceiveRight.{one_if};
 ghost use Rattle.copyin_base.specs.Acts.{Serves};
 ghost use Rattle.copyin_base.specs.Stands.{Stands};
 ghost use Rattle.copyin_base.specs.Wanted.{KeepsSpares};
@@ -10,10 +12,12 @@ ghost use Rattle.copyin_base.specs.Worlds.{HasTask};
 use copyin_base::{Code, World};
 use mach_types::limits::GREATEST_LIMIT;
 use mach_types::{KernReturn, Name, PortId, Reply, SetId, Status, TaskId};
+use number_map::NumberMap;
 use port::Attributes;
 
 /// `ReceiveStatus` (Port Manipulation Interface, `mach_port_get_receive_status`): with the name that the
-/// task, which lives, has for the set that the port is in, 0 where it is in none.
+/// task, which lives, has for the set that the port is in, 0 where it is in none, and with 1 for each
+/// request that stands to be told of the port's receive right, or that it has no senders.
 ///
 /// `KERN_INVALID_NAME` for a name that isn't in use; `KERN_INVALID_RIGHT` where it has no receive
 /// right. Constant time, and logarithmic for a name above 65,535.
@@ -27,7 +31,7 @@ pub fn receive_status(world: &World, task: TaskId, name: Name) -> Result<Reply, 
     Ok(Reply::Status(status_of(world, port)))
 }
 
-// The status of a port. Nothing can be requested yet.
+// The status of a port.
 fn status_of(world: &World, port: PortId) -> Status
     requires { HasPort world.now port }
     ensures { TellsPort world.now port result }
@@ -42,8 +46,18 @@ fn status_of(world: &World, port: PortId) -> Status
         queued: world.ports.queued(port) as u32,
         send_once: counts.send_once + counts.destination,
         has_send: counts.send.min(1),
-        port_destroyed: 0,
-        no_senders: 0,
+        port_destroyed: is_requested(&world.requests.port_destroyed, port),
+        no_senders: is_requested(&world.requests.no_senders, port),
+    }
+}
+
+// 1 where a request stands on the port, else 0.
+fn is_requested(notify_ports: &NumberMap<PortId>, port: PortId) -> u32
+    ensures { result ≡ one_if (map.contains_key notify_ports.now.map port) }
+{
+    match notify_ports.get(port.number()) {
+        Some(_) => 1,
+        None => 0,
     }
 }
 

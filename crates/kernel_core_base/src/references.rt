@@ -11,7 +11,7 @@ ghost use Rattle.copyin_base.specs.Acts.{IsRefused, Serves};
 ghost use Rattle.copyin_base.specs.Stands.{Stands};
 ghost use Rattle.copyin_base.specs.Wanted.{KeepsSpares};
 ghost use Rattle.copyin_base.specs.Worlds.{entry_at, HasTask};
-ghost use Rattle.kernel_core_base.specs.References.{left_with, recounted_at, CanCount, CanSet, SetsReferences, RemovesSet, CanCarry, Carries, deallocated, destroyed, IsChange, more_in, CanSum, CannotSum, changed_whole, FindsRight, CanChange, CannotChange};
+ghost use Rattle.kernel_core_base.specs.References.{left_with, recounted_at, CanCount, CanSet, NotesFewer, CountsReferences, SetsReferences, RemovesSet, CanCarry, Carries, deallocated, destroyed, IsChange, more_in, CanSum, CannotSum, changed_whole, FindsRight, CanChange, CannotChange};
 
 use copyin_base::{Code, Queued, World};
 use mach_types::limits::{MOST_REFERENCES, MOST_RIGHTS};
@@ -77,14 +77,35 @@ fn count_sends(ledger: &mut Ledger, entry: &Entry, references: u32)
     }
 }
 
+// Notes the port of an entry whose send references became fewer, where it has no send rights left.
+fn note_fewer(world: &mut World, entry: &Entry, references: u32)
+    ensures { NotesFewer world.old entry.now references world.new }
+{
+    if let Some(port) = entry.port() {
+        if references < entry.send_references() {
+            world.note_senderless(port);
+        }
+    }
+}
+
+// Changes the name and the counts where the references of what stands under it become so many.
+fn count_references(world: &mut World, task: TaskId, name: Name, entry: &Entry, references: u32)
+    requires stands { Stands world.old }
+    requires can { CanSet world.old task name entry.now references }
+    ensures { CountsReferences world.old task name entry.now references world.new }
+{
+    world.put_left(task, name, left_under(entry, references));
+    count_sends(&mut world.ledger, entry, references);
+}
+
 // Makes the references of what stands under a name so many. A name of nothing else goes with the last.
 fn set_references(world: &mut World, task: TaskId, name: Name, entry: Entry, references: u32)
     requires stands { Stands world.old }
     requires can { CanSet world.old task name entry references }
     ensures { SetsReferences world.old task name entry references world.new }
 {
-    world.put_left(task, name, left_under(&entry, references));
-    count_sends(&mut world.ledger, &entry, references);
+    count_references(world, task, name, &entry, references);
+    note_fewer(world, &entry, references);
 }
 
 // A set goes, and its members are in none.

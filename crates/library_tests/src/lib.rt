@@ -11,6 +11,8 @@ mod counts;
 #[cfg(test)]
 mod descriptors;
 #[cfg(test)]
+mod holders;
+#[cfg(test)]
 mod lists;
 #[cfg(test)]
 mod maps;

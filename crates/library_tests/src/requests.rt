@@ -100,3 +100,91 @@ fn requests_come_and_go(rt: HostRuntime) {
     let mut requests = Requests::new(rt.alloc());
     assert!(rt; come_and_go(&mut requests));
 }
+
+fn leave(requests: &mut Requests, task: u32, name: u32) {
+    requests.leave(TaskId::new(task), Name::new(name));
+}
+
+/// The name of the first request whose name went.
+fn first_went(requests: &Requests) -> Option<u32> {
+    let request = requests.first_went()?;
+    Some(request.name.number())
+}
+
+/// The port told by the first request whose name went, which is taken out.
+fn take_went(requests: &mut Requests) -> Option<u64> {
+    let request = requests.take_went()?;
+    Some(request.notify.number())
+}
+
+/// Whether four requests fill the table, three on names of one port.
+fn are_filled(requests: &mut Requests) -> bool {
+    requests.is_empty()
+        && first_went(requests).is_none()
+        && take_went(requests).is_none()
+        && requests.reserve(4).is_ok()
+        && insert(requests, (1, 3), 50, 60)
+        && insert(requests, (1, 4), 50, 61)
+        && insert(requests, (2, 3), 50, 62)
+        && insert(requests, (2, 4), 51, 63)
+        && !requests.is_empty()
+}
+
+/// Whether the names that go are on no port any more, and no room for others yet.
+fn have_left(requests: &mut Requests) -> bool {
+    leave(requests, 9, 9);
+    let none_went = first_went(requests).is_none();
+    leave(requests, 2, 3);
+    leave(requests, 1, 3);
+    leave(requests, 1, 3);
+    none_went
+        && first_went(requests) == Some(3)
+        && told(requests, 1, 3).is_none()
+        && told(requests, 2, 3).is_none()
+        && remove(requests, 1, 3).is_none()
+        && first_of(requests, 50) == Some(4)
+        && requests.room() == 0
+        && !insert(requests, (1, 3), 50, 64)
+}
+
+/// Whether those that went are told in the order in which they went, each then being room for another.
+fn are_told_in_order(requests: &mut Requests) -> bool {
+    rename(requests, 1, 4, 7)
+        && remove(requests, 2, 4) == Some(63)
+        && take_went(requests) == Some(62)
+        && requests.room() == 2
+        && insert(requests, (1, 3), 50, 64)
+        && insert(requests, (5, 5), 52, 65)
+        && !insert(requests, (5, 6), 52, 65)
+        && take_went(requests) == Some(60)
+        && first_went(requests).is_none()
+        && take_went(requests).is_none()
+        && requests.room() == 1
+}
+
+/// Whether all go, while there is room for one, then for more.
+fn are_emptied(requests: &mut Requests) -> bool {
+    leave(requests, 1, 7);
+    leave(requests, 5, 5);
+    let is_reserved = requests.reserve(5).is_ok() && requests.room() == 5;
+    leave(requests, 1, 3);
+    is_reserved
+        && first_of(requests, 50).is_none()
+        && requests.room() == 5
+        && !requests.is_empty()
+        && take_went(requests) == Some(61)
+        && take_went(requests) == Some(65)
+        && !requests.is_empty()
+        && take_went(requests) == Some(64)
+        && requests.is_empty()
+        && requests.room() == 8
+}
+
+#[test]
+fn names_of_requests_go(rt: HostRuntime) {
+    let mut requests = Requests::new(rt.alloc());
+    assert!(rt; are_filled(&mut requests));
+    assert!(rt; have_left(&mut requests));
+    assert!(rt; are_told_in_order(&mut requests));
+    assert!(rt; are_emptied(&mut requests));
+}

@@ -48,7 +48,7 @@ pub record PaysFrom (lives : ℕ → Bool) (w : WorldView) (s : State) (tokens :
   pub counts : (kind : Kind) (q : ℕ) → count (is_of kind q) tokens ≡ count (is_of kind q) s.ledger
   pub held : (task : ℕ) (kind : Kind) (q : ℕ) → count (is_held task kind q) tokens ≡ count (is_held task kind q) s.ledger
   pub total : length s.ledger ≡ length tokens
-  pub of_requests : RequestsAgree (notify_of w.requests) w.ports.made stands lives (filter (λ x. lives x.port) tokens)
+  pub of_requests : RequestsAgree (notify_of w.requests) w.requests.names.went w.ports.made stands lives (filter (λ x. lives x.port) tokens)
 
 pub filter_weigh : (h : Token → ℕ) (t : Token → Bool) (xs : List Token) → weigh h (filter t xs) ≡ weigh (λ x. if t x then h x else 0) xs
 filter_weigh h t [] = refl
@@ -66,7 +66,7 @@ module _ (lives : ℕ → Bool) (w : WorldView) (s : State) (a : AgreesOf lives 
     counts = λ kind n. let m = moves (λ x. if is_of kind n x then 1 else 0) in omega (arith, m);
     held = λ task kind n. let m = moves (λ x. if is_held task kind n x then 1 else 0) in omega (arith, m);
     total = (let m = moves (λ x. 1) in let b = length-weigh s.ledger in let c = length-weigh tokens in omega (arith, m, b, c));
-    of_requests = requests_stay (notify_of w.requests) w.ports.made w.ports.made s.stands s.stands lives lives (filter (λ x. lives x.port) s.ledger) (filter (λ x. lives x.port) tokens)
+    of_requests = requests_stay (notify_of w.requests) w.requests.names.went w.ports.made w.ports.made s.stands s.stands lives lives (filter (λ x. lives x.port) s.ledger) (filter (λ x. lives x.port) tokens)
         a.of_requests (omega arith) (λ r. refl) (λ n h. refl) same;
   }
     where

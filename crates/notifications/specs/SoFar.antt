@@ -83,13 +83,18 @@ pub record AgreesOf (lives : ℕ → Bool) (w : WorldView) (s : State) : Type 0 
   pub counts : (p : ℕ) → CountsAgree w.ledger s.live_port s.ledger (λ q. if lives q then onces_queued s q else (counts_of w.ledger q).destination) p
   pub total : w.ledger.total ≡ length s.ledger
   pub in_sets : SetsAgree w.sets s.set_owner s.sets_made s.naming
-  pub of_requests : RequestsAgree (notify_of w.requests) w.ports.made s.stands lives (filter (λ x. lives x.port) s.ledger)
+  pub of_requests : RequestsAgree (notify_of w.requests) w.requests.names.went w.ports.made s.stands lives (filter (λ x. lives x.port) s.ledger)
 
--- Where the port's receive right lies. Nobody has one that was lost, or that lies in a message that was destroyed.
+-- The port's receive right was lost, or lies in a message that was destroyed.
+abbrev pub IsWithNobody : State → (destroyed : List (ℕ × ℕ)) → (port : ℕ) → Type 0
+IsWithNobody s destroyed p = (count (is_of receive p) s.ledger ≡ 0) ⊎ ((q : ℕ) × (k : ℕ) × LiesAt s receive p (in_message q k) × Contains destroyed (q, k))
+
+-- Where the port's receive right lies. Nobody has that of a port that was lost, or is doomed.
 abbrev pub IsHolder : State → (destroyed : List (ℕ × ℕ)) → (port : ℕ) → Holder → Type 0
 IsHolder s destroyed p (holder.Task task) = LiesAt s receive p (in_task task)
 IsHolder s destroyed p (holder.QueueOf q) = (k : ℕ) × LiesAt s receive p (in_message q k) × ¬ (Contains destroyed (q, k))
-IsHolder s destroyed p holder.Nobody = (count (is_of receive p) s.ledger ≡ 0) ⊎ ((q : ℕ) × (k : ℕ) × LiesAt s receive p (in_message q k) × Contains destroyed (q, k))
+IsHolder s destroyed p holder.Nobody = IsWithNobody s destroyed p
+IsHolder s destroyed p holder.Doomed = IsWithNobody s destroyed p
 
 abbrev pub HoldersTell : WorldView → State → (destroyed : List (ℕ × ℕ)) → Type 0
 HoldersTell w s destroyed = (p : ℕ) (v : PortView Kept) → port_at w p ≡ Some v → IsHolder s destroyed p v.attributes.holder

@@ -12,7 +12,7 @@ use Rattle.port.specs.Records.{ports_of, port_in, queued_in, IsIndexed, IsSound,
 use Rattle.port.proofs.Keys.{same_some, some_or_none, equal_or_not, out_here, out_other, same_gets}
 use Rattle.member_lists.proofs.Values.{len-with_values}
 use Rattle.port.proofs.Records.{Keyed, port_of, Turns, ports-came, indexed-came, ports-went, indexed-went}
-use Rattle.port.proofs.Sound.{sum_same, no_true}
+use Rattle.port.proofs.Sound.{sum_same, no_true, AreSame, relisted}
 
 nothing_in : (n : Keyed) → n ≡ map.empty → (k x : ℕ) → map.get n k ≡ Some x → ⊥
 nothing_in n e k x h = some_or_none x _ h (ap (λ (m : Keyed). map.get m k) e ∙ map.get-empty nat_cmp k)
@@ -45,7 +45,7 @@ module _ {M : Type 0} where
   -- ---- with one port more
 
   module _ (s t : Slab (Record M)) (keys new_keys : Keyed) (next then : Option ℕ) (spare destroyed : List M) (slots : ℕ) (so : IsSound s keys next spare destroyed slots)
-      {turns : ReadyLists} (v : PortsView M) (view_is : record { ports = ports_of (get s) keys; ready = turns; made = made_of next; spare = length spare; destroyed = destroyed } ≡ v)
+      {turns : ReadyLists} {lost doomed noted : List ℕ} (v : PortsView M) (view_is : record { ports = ports_of (get s) keys; ready = turns; made = made_of next; spare = length spare; destroyed = destroyed; lost = lost; doomed = doomed; noted = noted } ≡ v)
       (key : ℕ) (a : Record M) (vacant : get s key ≡ None) (changed : get t key ≡ Some a) (others : (other : ℕ) → other ≢ key → get t other ≡ get s other)
       (id : a.id ≡ made_of next) (quiet : length a.queue ≡ 0)
       (put : new_keys ≡ map.insert keys (made_of next) key) (more : made_of then ≡ made_of next + 1) (fits : (n : ℕ) → then ≡ Some n → n < 2 ^ 64) where
@@ -64,20 +64,22 @@ module _ {M : Type 0} where
       next_fits = fits;
     }
 
-    pub view-came : (now : ReadyLists) → now ≡ turns → ◌≡◌ {A = PortsView M} record { ports = ports_of (get t) new_keys; ready = now; made = made_of then; spare = length spare; destroyed = destroyed }
-        record { ports = map.insert v.ports v.made (port_of a); ready = v.ready; made = v.made + 1; spare = v.spare; destroyed = v.destroyed }
-    view-came now same =
-        let mk : map.FinMap nat_cmp (PortView M) → ℕ → PortsView M = λ ports made. record { ports = ports; ready = turns; made = made; spare = length spare; destroyed = destroyed } in
-        ap (λ r. let w : PortsView M = record { ports = ports_of (get t) new_keys; ready = r; made = made_of then; spare = length spare; destroyed = destroyed } in w) same ∙
+    pub view-came : {l d n : List ℕ} (now : ReadyLists) → now ≡ turns → AreSame l d n lost doomed noted →
+        ◌≡◌ {A = PortsView M} record { ports = ports_of (get t) new_keys; ready = now; made = made_of then; spare = length spare; destroyed = destroyed; lost = l; doomed = d; noted = n }
+        record { ports = map.insert v.ports v.made (port_of a); ready = v.ready; made = v.made + 1; spare = v.spare; destroyed = v.destroyed; lost = v.lost; doomed = v.doomed; noted = v.noted }
+    view-came {l} {d} {n} now same lists =
+        let mk : map.FinMap nat_cmp (PortView M) → ℕ → PortsView M = λ ports made. record { ports = ports; ready = turns; made = made; spare = length spare; destroyed = destroyed; lost = lost; doomed = doomed; noted = noted } in
+        let from : ReadyLists → PortsView M = λ r. record { ports = ports_of (get t) new_keys; ready = r; made = made_of then; spare = length spare; destroyed = destroyed; lost = l; doomed = d; noted = n } in
+        ap from same ∙ relisted (from turns) l d n lost doomed noted lists ∙
         ap (λ (m : Keyed). mk (ports_of (get t) m) (made_of then)) put
         ∙ ap (λ ports. mk ports (made_of then)) (ports-came (get s) (get t) keys (made_of next) so.indexed key a vacant turns-came id)
         ∙ ap (mk (map.insert (ports_of (get s) keys) (made_of next) (port_of a))) more
-        ∙ ap (λ (b : PortsView M). let c : PortsView M = record { ports = map.insert b.ports b.made (port_of a); ready = b.ready; made = b.made + 1; spare = b.spare; destroyed = b.destroyed } in c) view_is
+        ∙ ap (λ (b : PortsView M). let c : PortsView M = record { ports = map.insert b.ports b.made (port_of a); ready = b.ready; made = b.made + 1; spare = b.spare; destroyed = b.destroyed; lost = b.lost; doomed = b.doomed; noted = b.noted } in c) view_is
 
   -- ---- with one port less
 
   module _ (s t : Slab (Record M)) (keys new_keys : Keyed) (next : Option ℕ) (spare destroyed : List M) (slots : ℕ) (so : IsSound s keys next spare destroyed slots)
-      {turns : ReadyLists} (v : PortsView M) (view_is : record { ports = ports_of (get s) keys; ready = turns; made = made_of next; spare = length spare; destroyed = destroyed } ≡ v)
+      {turns : ReadyLists} {lost doomed noted : List ℕ} (v : PortsView M) (view_is : record { ports = ports_of (get s) keys; ready = turns; made = made_of next; spare = length spare; destroyed = destroyed; lost = lost; doomed = doomed; noted = noted } ≡ v)
       (id key : ℕ) (r : Record M) (found : map.get keys id ≡ Some key) (here : get s key ≡ Some r) (quiet : length r.queue ≡ 0)
       (changed : get t key ≡ None) (others : (other : ℕ) → other ≢ key → get t other ≡ get s other)
       (out : new_keys ≡ map.remove keys id) where
@@ -96,14 +98,16 @@ module _ {M : Type 0} where
       next_fits = so.next_fits;
     }
 
-    pub view-went : (now : ReadyLists) → now ≡ turns → ◌≡◌ {A = PortsView M} record { ports = ports_of (get t) new_keys; ready = now; made = made_of next; spare = length spare; destroyed = destroyed }
-        record { ports = map.remove v.ports id; ready = v.ready; made = v.made; spare = v.spare; destroyed = v.destroyed }
-    view-went now same =
-        let mk : map.FinMap nat_cmp (PortView M) → PortsView M = λ ports. record { ports = ports; ready = turns; made = made_of next; spare = length spare; destroyed = destroyed } in
-        ap (λ r. let w : PortsView M = record { ports = ports_of (get t) new_keys; ready = r; made = made_of next; spare = length spare; destroyed = destroyed } in w) same ∙
+    pub view-went : {l d n l2 d2 n2 : List ℕ} (now : ReadyLists) → now ≡ turns → AreSame l d n l2 d2 n2 →
+        ◌≡◌ {A = PortsView M} record { ports = ports_of (get t) new_keys; ready = now; made = made_of next; spare = length spare; destroyed = destroyed; lost = l; doomed = d; noted = n }
+        record { ports = map.remove v.ports id; ready = v.ready; made = v.made; spare = v.spare; destroyed = v.destroyed; lost = l2; doomed = d2; noted = n2 }
+    view-went {l} {d} {n} {l2} {d2} {n2} now same lists =
+        let mk : map.FinMap nat_cmp (PortView M) → PortsView M = λ ports. record { ports = ports; ready = turns; made = made_of next; spare = length spare; destroyed = destroyed; lost = l2; doomed = d2; noted = n2 } in
+        let from : ReadyLists → PortsView M = λ r. record { ports = ports_of (get t) new_keys; ready = r; made = made_of next; spare = length spare; destroyed = destroyed; lost = l; doomed = d; noted = n } in
+        ap from same ∙ relisted (from turns) l d n l2 d2 n2 lists ∙
         ap (λ (m : Keyed). mk (ports_of (get t) m)) out
         ∙ ap mk (ports-went (get s) (get t) keys (made_of next) so.indexed id key found turns-went)
-        ∙ ap (λ (b : PortsView M). let c : PortsView M = record { ports = map.remove b.ports id; ready = b.ready; made = b.made; spare = b.spare; destroyed = b.destroyed } in c) view_is
+        ∙ ap (λ (b : PortsView M). let c : PortsView M = record { ports = map.remove b.ports id; ready = b.ready; made = b.made; spare = b.spare; destroyed = b.destroyed; lost = l2; doomed = d2; noted = n2 } in c) view_is
 
 -- the count of identities once one more was given
 pub made_more : (o : Option ℕ) (n : ℕ) → SomeIff o (n + 1 < 2 ^ 64) (n + 1) → n < 2 ^ 64 → made_of o ≡ n + 1

@@ -6,3 +6,4 @@ pub mod Moved
 pub mod Readied
 pub mod Turned
 pub mod InTurn
+pub mod Waiting

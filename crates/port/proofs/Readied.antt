@@ -1,5 +1,5 @@
 -- The ready ports once a port changed, came or went.
-use Rattle.std.proofs.Common.{◌≡◌, ◌≢◌, inl, inr, ℕ, ◌<◌, ◌≤◌, Option, Some, None, Result, Ok, Err, IfOk, is_some, List, [], ◌∷◌, length, get_or, slice_get, refl, ap, sym, subst, ◌∙◌, arith, Contains}
+use Rattle.std.proofs.Common.{◌≡◌, ◌≢◌, inl, inr, ℕ, ◌<◌, ◌≤◌, Option, Some, None, Result, Ok, Err, IfOk, OnErr, is_some, List, [], ◌∷◌, length, get_or, slice_get, refl, ap, sym, subst, ◌∙◌, arith, Contains}
 use Rattle.std.specs.FinMap as map
 use Rattle.std.proofs.lemmas.Option.{slice_get_within, get_or_from_slice_get}
 use Rattle.std.proofs.lemmas.List.{length-map, get_or-map}
@@ -12,7 +12,7 @@ use Rattle.port.specs.Turns.{ReadyLists, turns_of, ready_if}
 use Rattle.port.specs.Ports.{PortView, PortsView, IsReadyIn, NoneReadyIn, IsIn, NoneIn}
 use Rattle.port.specs.Ready.{StandsIn, IsMoved}
 use Rattle.port.proofs.Moved.{moved_none}
-use Rattle.port.specs.Records.{ports_of, made_of, id_in, ids_at, ready_set, member_set, IsListed, IsReadied, IsMembered, IsSound, IsKept}
+use Rattle.port.specs.Records.{ports_of, made_of, id_in, ids_at, ready_set, member_set, waiting_list, noting_list, IsListed, IsReadied, IsMembered, IsSound, IsKept}
 use Rattle.port.proofs.Keys.{same_some, some_or_none, equal_or_not}
 use Rattle.port.proofs.Records.{Keyed, port_of, Turns}
 use Rattle.port.proofs.Sound.{turns-set, live_port, live_at, record_at}
@@ -23,6 +23,10 @@ no_some l e = cc
 pub if_ok : {X E : Type 0} (P Q : X → Type 0) (r : Result X E) → ((x : X) → P x → Q x) → IfOk r P → IfOk r Q
 if_ok P Q (Ok x) f h = f x h
 if_ok P Q (Err e) f h = tt
+
+pub on_err : {X E : Type 0} (r : Result X E) (P : Type 0) → P → OnErr r P
+on_err (Ok x) P p = tt
+on_err (Err e) P p = p
 
 module _ {M : Type 0} where
   pub ready_none : (ms : List M) (set : Option ℕ) → length ms ≡ 0 → ready_if ms set ≡ None
@@ -116,19 +120,19 @@ module _ {M : Type 0} where
   pub listed-set : (home : Record M → Option ℕ) (s : Slab (Record M)) (lists then : ListsView) (key : ℕ) (r a : Record M) → IsListed home (get s) lists → get s key ≡ Some r → IsMoved lists then key (home a) → IsListed home (get (with_value s key a)) then
   listed-set home s lists then key r a so here moved = listed-changed home (get s) (get (with_value s key a)) lists so key r a then here (turns-set s key r a here) moved
 
-  -- a port in no other set
-  pub membered-set : (s : Slab (Record M)) (members : ListsView) (key : ℕ) (r a : Record M) → IsMembered (get s) members → get s key ≡ Some r → a.attributes.set ≡ r.attributes.set → IsMembered (get (with_value s key a)) members
-  membered-set s members key r a so here same = listed-kept member_set (get s) (get (with_value s key a)) members so key r a here (turns-set s key r a here) same
+  -- a port that belongs where it did
+  pub listed-stays : (home : Record M → Option ℕ) (s : Slab (Record M)) (lists : ListsView) (key : ℕ) (r a : Record M) → IsListed home (get s) lists → get s key ≡ Some r → home a ≡ home r → IsListed home (get (with_value s key a)) lists
+  listed-stays home s lists key r a so here same = listed-kept home (get s) (get (with_value s key a)) lists so key r a here (turns-set s key r a here) same
 
   -- ---- the identities under keys
 
-  ids_hold : (at : ℕ → Option (Record M)) (keys : List ℕ) (key : ℕ) → Contains keys key → Contains (ids_at at keys) (id_in (at key))
+  pub ids_hold : (at : ℕ → Option (Record M)) (keys : List ℕ) (key : ℕ) → Contains keys key → Contains (ids_at at keys) (id_in (at key))
   ids_hold at keys key c =
       let long = length-map keys (λ k. id_in (at k)) in
       let inside = c.1 in
       (c.0, omega arith, get_or-map (λ k. id_in (at k)) keys c.0 key (id_in (at key)) c.1 ∙ ap (λ k. id_in (at k)) c.2)
 
-  ids_held : (at : ℕ → Option (Record M)) (keys : List ℕ) (id : ℕ) → Contains (ids_at at keys) id → (key : ℕ) × Contains keys key × (id_in (at key) ≡ id)
+  pub ids_held : (at : ℕ → Option (Record M)) (keys : List ℕ) (id : ℕ) → Contains (ids_at at keys) id → (key : ℕ) × Contains keys key × (id_in (at key) ≡ id)
   ids_held at keys id c =
       let long = length-map keys (λ k. id_in (at k)) in
       let less = c.1 in
@@ -138,14 +142,14 @@ module _ {M : Type 0} where
   -- ---- the first one
 
   module _ (s : Slab (Record M)) (keys : Keyed) (next : Option ℕ) (spare destroyed : List M) (slots : ℕ) (so : IsSound s keys next spare destroyed slots)
-      {turns : ReadyLists} (v : PortsView M) (view_is : record { ports = ports_of (get s) keys; ready = turns; made = made_of next; spare = length spare; destroyed = destroyed } ≡ v)
+      {turns : ReadyLists} {lost doomed noted : List ℕ} (v : PortsView M) (view_is : record { ports = ports_of (get s) keys; ready = turns; made = made_of next; spare = length spare; destroyed = destroyed; lost = lost; doomed = doomed; noted = noted } ≡ v)
       (ready : ListsView) (readied : IsReadied (get s) ready) (set : ℕ) where
     pub first_held : (key : ℕ) → slice_get (list_of ready set) 0 ≡ Some key → Contains (list_of ready set) key
     first_held key e = (0, slice_get_within (list_of ready set) 0 key e, get_or_from_slice_get (list_of ready set) 0 key key e)
 
     pub ready_first : (key : ℕ) (r : Record M) → slice_get (list_of ready set) 0 ≡ Some key → get s key ≡ Some r → IsReadyIn v set r.id
     ready_first key r e here =
-        let is = ready_is r.queue r.attributes.set set ((readied.stands key r here).only set (first_held key e)) in
+        let is = ready_is r.queue r.kept.attributes.set set ((readied.stands key r here).only set (first_held key e)) in
         record {
           view = port_of r;
           there = live_port s keys next spare destroyed slots so v view_is r.id key r (so.indexed.held key r here) here;
@@ -167,8 +171,8 @@ module _ {M : Type 0} where
             let r = record_at s keys next spare destroyed slots so v view_is id key.0 key.1 in
             let same : p ≡ port_of r.0 = same_some p (port_of r.0) (sym h ∙ live_port s keys next spare destroyed slots so v view_is id key.0 r.0 key.1 r.1) in
             let queue : r.0.queue ≡ m ∷ ms = sym (ap (λ (q : PortView M). q.queue) same) ∙ is in
-            let in_set : r.0.attributes.set ≡ Some set = sym (ap (λ (q : PortView M). q.attributes.set) same) ∙ member in
-            let ready_in : ready_set r.0 ≡ Some set = ap (λ l. ready_if l r.0.attributes.set) queue ∙ in_set in
+            let in_set : r.0.kept.attributes.set ≡ Some set = sym (ap (λ (q : PortView M). q.attributes.set) same) ∙ member in
+            let ready_in : ready_set r.0 ≡ Some set = ap (λ l. ready_if l r.0.kept.attributes.set) queue ∙ in_set in
             absurd (nothing_held key.0 (list_of ready set) e ((readied.stands key.0 r.0 r.1).there set ready_in))
 
     -- ---- the first member
@@ -195,7 +199,7 @@ module _ {M : Type 0} where
           let key = live_at s keys next spare destroyed slots so v view_is id (ap is_some h) in
           let r = record_at s keys next spare destroyed slots so v view_is id key.0 key.1 in
           let same : p ≡ port_of r.0 = same_some p (port_of r.0) (sym h ∙ live_port s keys next spare destroyed slots so v view_is id key.0 r.0 key.1 r.1) in
-          let in_set : r.0.attributes.set ≡ Some set = sym (ap (λ (q : PortView M). q.attributes.set) same) ∙ member in
+          let in_set : r.0.kept.attributes.set ≡ Some set = sym (ap (λ (q : PortView M). q.attributes.set) same) ∙ member in
           (key.0, (membered.stands key.0 r.0 r.1).there set in_set, ap id_in r.1 ∙ r.2)
 
       none_apart : slice_get (list_of members set) 0 ≡ None → (id : ℕ) (p : PortView M) → map.get v.ports id ≡ Some p → p.attributes.set ≢ Some set
@@ -220,7 +224,7 @@ module _ {M : Type 0} where
       none_turns e (x ∷ l) is =
           let inside : Contains (list_of ready set) x = subst (λ m. Contains m x) (sym is) (0, omega arith, refl) in
           let was = readied.held x set inside in
-          let in_set : was.0.attributes.set ≡ Some set = (ready_is was.0.queue was.0.attributes.set set ((readied.stands x was.0 was.1).only set inside)).0 in
+          let in_set : was.0.kept.attributes.set ≡ Some set = (ready_is was.0.queue was.0.kept.attributes.set set ((readied.stands x was.0 was.1).only set inside)).0 in
           absurd (nothing_held x (list_of members set) e ((membered.stands x was.0 was.1).there set in_set))
 
       pub none_in : slice_get (list_of members set) 0 ≡ None → turns_of v.ready set ≡ ids_at (get s) (list_of ready set) → NoneIn v set
@@ -228,16 +232,28 @@ module _ {M : Type 0} where
 
   -- ---- the same ports, with more places
 
-  pub kept-capacity : (s t : Slab (Record M)) (keys : Keyed) (next : Option ℕ) (spare destroyed : List M) (slots : ℕ) (ready members : ListsView) → t ≡ record s { capacity = t.capacity } → IsKept s keys next spare destroyed slots ready members → IsKept t keys next spare destroyed slots ready members
-  kept-capacity s t keys next spare destroyed slots ready members e k = subst (λ (u : Slab (Record M)). IsKept u keys next spare destroyed slots ready members) (sym e) (record {
-    sound = record { indexed = k.sound.indexed; counted = k.sound.counted; few = k.sound.few; next_fits = k.sound.next_fits };
-    readied = record { stands = k.readied.stands; held = k.readied.held; room = k.readied.room };
-    membered = record { stands = k.membered.stands; held = k.membered.held; room = k.membered.room };
-  })
+  pub listed-capacity : (home : Record M → Option ℕ) (s t : Slab (Record M)) (lists : ListsView) (items : ℕ) → t ≡ record s { capacity = t.capacity } → lists.items ≤ items → IsListed home (get s) lists → IsListed home (get t) (record lists { items = items })
+  listed-capacity home s t lists items e more so = listed-same home (get s) (get t) lists items so (λ k. ap (λ (u : Slab (Record M)). get u k) e) more
 
-  pub kept-room : (s : Slab (Record M)) (keys : Keyed) (next : Option ℕ) (spare destroyed : List M) (slots : ℕ) (ready members : ListsView) (items : ℕ) → ready.items ≤ items → IsKept s keys next spare destroyed slots ready members → IsKept s keys next spare destroyed slots (record ready { items = items }) members
-  kept-room s keys next spare destroyed slots ready members items more k = record {
-    sound = k.sound;
-    readied = listed-same ready_set (get s) (get s) ready items k.readied (λ n. refl) more;
-    membered = k.membered;
+  pub sound-capacity : (s t : Slab (Record M)) (keys : Keyed) (next : Option ℕ) (spare destroyed : List M) (slots : ℕ) → t ≡ record s { capacity = t.capacity } → IsSound s keys next spare destroyed slots → IsSound t keys next spare destroyed slots
+  sound-capacity s t keys next spare destroyed slots e so = subst (λ (u : Slab (Record M)). IsSound u keys next spare destroyed slots) (sym e) (record { indexed = so.indexed; counted = so.counted; few = so.few; next_fits = so.next_fits })
+
+  -- the same ports, with room for more in their lists
+  pub kept-wider : (s t : Slab (Record M)) (keys : Keyed) (next : Option ℕ) (spare destroyed : List M) (slots : ℕ) (ready members waiting noted : ListsView) (a b c d : ℕ) → t ≡ record s { capacity = t.capacity } →
+      ready.items ≤ a → members.items ≤ b → waiting.items ≤ c → noted.items ≤ d → IsKept s keys next spare destroyed slots ready members waiting noted →
+      IsKept t keys next spare destroyed slots (record ready { items = a }) (record members { items = b }) (record waiting { items = c }) (record noted { items = d })
+  kept-wider s t keys next spare destroyed slots ready members waiting noted a b c d e ma mb mc md k = record {
+    sound = sound-capacity s t keys next spare destroyed slots e k.sound;
+    readied = listed-capacity ready_set s t ready a e ma k.readied;
+    membered = listed-capacity member_set s t members b e mb k.membered;
+    awaited = listed-capacity waiting_list s t waiting c e mc k.awaited;
+    are_noted = listed-capacity noting_list s t noted d e md k.are_noted;
   }
+
+  -- and where some of it was refused, which left all as it was
+  pub kept-then : (s t : Slab (Record M)) (keys keys2 : Keyed) (next : Option ℕ) (spare destroyed : List M) (slots : ℕ) (ready ready2 members members2 waiting waiting2 noted noted2 : ListsView) (a b c d : ℕ) → t ≡ record s { capacity = t.capacity } → keys2 ≡ keys →
+      ready2 ≡ record ready { items = a } → members2 ≡ record members { items = b } → waiting2 ≡ record waiting { items = c } → noted2 ≡ record noted { items = d } →
+      ready.items ≤ a → members.items ≤ b → waiting.items ≤ c → noted.items ≤ d → IsKept s keys next spare destroyed slots ready members waiting noted →
+      IsKept t keys2 next spare destroyed slots ready2 members2 waiting2 noted2
+  kept-then s t keys keys2 next spare destroyed slots ready ready2 members members2 waiting waiting2 noted noted2 a b c d e ek ea eb ec ed ma mb mc md k =
+      rw (ek, ea, eb, ec, ed) (kept-wider s t keys next spare destroyed slots ready members waiting noted a b c d e ma mb mc md k)

@@ -14,7 +14,7 @@ Keyed = map.FinMap nat_cmp ℕ
 
 module _ {M : Type 0} where
   abbrev pub port_of : Record M → PortView M
-  port_of r = record { queue = r.queue; attributes = r.attributes }
+  port_of r = record { queue = r.queue; attributes = r.kept.attributes }
 
   -- the same in each place but one
   pub record Turns (at new : ℕ → Option (Record M)) (key : ℕ) (slot : Option (Record M)) : Type 0 where

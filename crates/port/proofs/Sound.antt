@@ -17,6 +17,18 @@ use Rattle.port.proofs.Records.{Keyed, port_of, Turns, port_at, no_port_at, live
 pub no_true : false ≡ true → ⊥
 no_true e = cc
 
+-- the lost, the doomed and the noted ports are these
+pub record AreSame (l d n lost doomed noted : List ℕ) : Type 0 where
+  pub lost_is : l ≡ lost
+  pub doomed_is : d ≡ doomed
+  pub noted_is : n ≡ noted
+
+pub relisted : {M : Type 0} (v : PortsView M) (l d n lost doomed noted : List ℕ) → AreSame l d n lost doomed noted →
+    ◌≡◌ {A = PortsView M} (record v { lost = l; doomed = d; noted = n }) (record v { lost = lost; doomed = doomed; noted = noted })
+relisted {M} v l d n lost doomed noted same =
+    let mk : List ℕ → List ℕ → List ℕ → PortsView M = λ x y z. record v { lost = x; doomed = y; noted = z } in
+    ap (λ x. mk x d n) same.lost_is ∙ ap (λ y. mk lost y n) same.doomed_is ∙ ap (mk lost doomed) same.noted_is
+
 module _ {M : Type 0} where
   pub within : (l : List (Option (Record M))) (k : ℕ) (r : Record M) → get_or l k None ≡ Some r → k < length l
   within [] k r h = absurd (some_or_none r None h refl)
@@ -39,7 +51,7 @@ module _ {M : Type 0} where
   -- ---- a port that changes, and slots that move
 
   module _ (s : Slab (Record M)) (keys : Keyed) (next : Option ℕ) (spare left destroyed more : List M) (slots : ℕ) (so : IsSound s keys next spare destroyed slots)
-      {turns : ReadyLists} (v : PortsView M) (view_is : record { ports = ports_of (get s) keys; ready = turns; made = made_of next; spare = length spare; destroyed = destroyed } ≡ v)
+      {turns : ReadyLists} {lost doomed noted : List ℕ} (v : PortsView M) (view_is : record { ports = ports_of (get s) keys; ready = turns; made = made_of next; spare = length spare; destroyed = destroyed; lost = lost; doomed = doomed; noted = noted } ≡ v)
       (id key : ℕ) (r a : Record M) (found : map.get keys id ≡ Some key) (here : get s key ≡ Some r) (same : a.id ≡ r.id)
       (balance : length a.queue + length left + length more ≡ length r.queue + length spare + length destroyed) where
     pub sound-moved : IsSound (with_value s key a) keys next left more slots
@@ -50,16 +62,19 @@ module _ {M : Type 0} where
       next_fits = so.next_fits;
     }
 
-    pub view-moved : (then : ReadyLists) → then ≡ turned v.ready id (map.get v.ports id) (port_of a) → ◌≡◌ {A = PortsView M} record { ports = ports_of (get (with_value s key a)) keys; ready = then; made = made_of next; spare = length left; destroyed = more }
-        record { ports = map.insert v.ports id (port_of a); ready = turned v.ready id (map.get v.ports id) (port_of a); made = v.made; spare = length left; destroyed = more }
-    view-moved then is =
-        let mk : map.FinMap nat_cmp (PortView M) → ℕ → PortsView M = λ ports made. record { ports = ports; ready = then; made = made; spare = length left; destroyed = more } in
+    pub view-moved : {l d n l2 d2 n2 : List ℕ} (then : ReadyLists) → then ≡ turned v.ready id (map.get v.ports id) (port_of a) → AreSame l d n l2 d2 n2 →
+        ◌≡◌ {A = PortsView M} record { ports = ports_of (get (with_value s key a)) keys; ready = then; made = made_of next; spare = length left; destroyed = more; lost = l; doomed = d; noted = n }
+        record { ports = map.insert v.ports id (port_of a); ready = turned v.ready id (map.get v.ports id) (port_of a); made = v.made; spare = length left; destroyed = more; lost = l2; doomed = d2; noted = n2 }
+    view-moved {l} {d} {n} {l2} {d2} {n2} then is lists =
+        let mk : map.FinMap nat_cmp (PortView M) → ℕ → PortsView M = λ ports made. record { ports = ports; ready = then; made = made; spare = length left; destroyed = more; lost = l; doomed = d; noted = n } in
+        let to : ReadyLists → PortsView M = λ t. record { ports = map.insert v.ports id (port_of a); ready = t; made = v.made; spare = length left; destroyed = more; lost = l; doomed = d; noted = n } in
         ap (λ ports. mk ports (made_of next)) (ports-changed (get s) (get (with_value s key a)) keys (made_of next) so.indexed id key r a found here (turns-set s key r a here) same)
         ∙ ap (λ (b : PortsView M). mk (map.insert b.ports id (port_of a)) b.made) view_is
-        ∙ ap (λ t. let w : PortsView M = record { ports = map.insert v.ports id (port_of a); ready = t; made = v.made; spare = length left; destroyed = more } in w) is
+        ∙ ap to is
+        ∙ relisted (to (turned v.ready id (map.get v.ports id) (port_of a))) l d n l2 d2 n2 lists
 
   module _ (s : Slab (Record M)) (keys : Keyed) (next : Option ℕ) (spare left destroyed : List M) (slots : ℕ) (so : IsSound s keys next spare destroyed slots)
-      {turns : ReadyLists} (v : PortsView M) (view_is : record { ports = ports_of (get s) keys; ready = turns; made = made_of next; spare = length spare; destroyed = destroyed } ≡ v)
+      {turns : ReadyLists} {lost doomed noted : List ℕ} (v : PortsView M) (view_is : record { ports = ports_of (get s) keys; ready = turns; made = made_of next; spare = length spare; destroyed = destroyed; lost = lost; doomed = doomed; noted = noted } ≡ v)
       (id key : ℕ) (r a : Record M) (found : map.get keys id ≡ Some key) (here : get s key ≡ Some r) (same : a.id ≡ r.id)
       (balance : length a.queue + length left ≡ length r.queue + length spare) where
     pub is_port : (p : PortView M) → map.get v.ports id ≡ Some p → p ≡ port_of r
@@ -68,11 +83,12 @@ module _ {M : Type 0} where
     pub sound-set : IsSound (with_value s key a) keys next left destroyed slots
     sound-set = sound-moved s keys next spare left destroyed destroyed slots so v view_is id key r a found here same (omega arith)
 
-    pub view-set : (then : ReadyLists) → then ≡ turned v.ready id (map.get v.ports id) (port_of a) → ◌≡◌ {A = PortsView M} record { ports = ports_of (get (with_value s key a)) keys; ready = then; made = made_of next; spare = length left; destroyed = destroyed }
-        record { ports = map.insert v.ports id (port_of a); ready = turned v.ready id (map.get v.ports id) (port_of a); made = v.made; spare = length left; destroyed = v.destroyed }
-    view-set then is =
-        view-moved s keys next spare left destroyed destroyed slots so v view_is id key r a found here same (omega arith) then is
-        ∙ ap (λ (b : PortsView M). let w : PortsView M = record { ports = map.insert v.ports id (port_of a); ready = turned v.ready id (map.get v.ports id) (port_of a); made = v.made; spare = length left; destroyed = b.destroyed } in w) view_is
+    pub view-set : {l d n l2 d2 n2 : List ℕ} (then : ReadyLists) → then ≡ turned v.ready id (map.get v.ports id) (port_of a) → AreSame l d n l2 d2 n2 →
+        ◌≡◌ {A = PortsView M} record { ports = ports_of (get (with_value s key a)) keys; ready = then; made = made_of next; spare = length left; destroyed = destroyed; lost = l; doomed = d; noted = n }
+        record { ports = map.insert v.ports id (port_of a); ready = turned v.ready id (map.get v.ports id) (port_of a); made = v.made; spare = length left; destroyed = v.destroyed; lost = l2; doomed = d2; noted = n2 }
+    view-set {l} {d} {n} {l2} {d2} {n2} then is lists =
+        view-moved s keys next spare left destroyed destroyed slots so v view_is id key r a found here same (omega arith) then is lists
+        ∙ ap (λ (b : PortsView M). let w : PortsView M = record { ports = map.insert v.ports id (port_of a); ready = turned v.ready id (map.get v.ports id) (port_of a); made = v.made; spare = length left; destroyed = b.destroyed; lost = l2; doomed = d2; noted = n2 } in w) view_is
 
   -- ---- after a port has come
 
@@ -100,7 +116,7 @@ module _ {M : Type 0} where
   -- ---- a port by its identity
 
   module _ (s : Slab (Record M)) (keys : Keyed) (next : Option ℕ) (spare destroyed : List M) (slots : ℕ) (so : IsSound s keys next spare destroyed slots)
-      {turns : ReadyLists} (v : PortsView M) (view_is : record { ports = ports_of (get s) keys; ready = turns; made = made_of next; spare = length spare; destroyed = destroyed } ≡ v) (id : ℕ) where
+      {turns : ReadyLists} {lost doomed noted : List ℕ} (v : PortsView M) (view_is : record { ports = ports_of (get s) keys; ready = turns; made = made_of next; spare = length spare; destroyed = destroyed; lost = lost; doomed = doomed; noted = noted } ≡ v) (id : ℕ) where
     pub record_at : (k : ℕ) → map.get keys id ≡ Some k → (r : Record M) × (get s k ≡ Some r) × (r.id ≡ id)
     record_at k h = so.indexed.found id k h
 

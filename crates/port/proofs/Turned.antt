@@ -13,7 +13,7 @@ use Rattle.port.specs.declared.Record.{Record}
 use Rattle.port.specs.Turns.{ReadyLists, turns_of, with_turns, left, joined, same_set}
 use Rattle.port.specs.Ready.{out_of, at_end}
 use Rattle.port.specs.Ports.{PortsView, turned}
-use Rattle.port.specs.Records.{ports_of, id_in, ids_at, turns_at, made_of, ready_set, IsIndexed, IsReadied, IsSound}
+use Rattle.port.specs.Records.{ports_of, id_in, ids_at, turns_at, made_of, ready_set, IsIndexed, IsListed, IsReadied, IsSound}
 use Rattle.port.proofs.Keys.{same_some, some_or_none, equal_or_not, put_here, put_other, out_here, out_other, same_gets}
 use Rattle.member_lists.proofs.Values.{get-with_values, len-with_values}
 use Rattle.port.proofs.Records.{Keyed, port_of}
@@ -31,7 +31,7 @@ module _ {M : Type 0} (at : ℕ → Option (Record M)) where
   through true x xs = refl
   through false x xs = refl
 
-  ids-without : (key id : ℕ) (xs : List ℕ) → ((k : ℕ) → 0 < times k xs → eqb (id_in (at k)) id ≡ eqb k key) → ids_at at (without key xs) ≡ without id (ids_at at xs)
+  pub ids-without : (key id : ℕ) (xs : List ℕ) → ((k : ℕ) → 0 < times k xs → eqb (id_in (at k)) id ≡ eqb k key) → ids_at at (without key xs) ≡ without id (ids_at at xs)
   ids-without key id [] own = refl
   ids-without key id (x ∷ xs) own =
       let here : eqb (id_in (at x)) id ≡ eqb x key = own x (let e = times_here x x xs refl in omega arith) in
@@ -40,15 +40,15 @@ module _ {M : Type 0} (at : ℕ → Option (Record M)) where
       ∙ ap (λ l. cond (not (eqb x key)) (id_in (at x) ∷ l) l) rest
       ∙ ap (λ b. cond (not b) (id_in (at x) ∷ without id (ids_at at xs)) (without id (ids_at at xs))) (sym here)
 
-  ids-pushed : (xs : List ℕ) (key : ℕ) → ids_at at (xs ++ key ∷ []) ≡ ids_at at xs ++ id_in (at key) ∷ []
+  pub ids-pushed : (xs : List ℕ) (key : ℕ) → ids_at at (xs ++ key ∷ []) ≡ ids_at at xs ++ id_in (at key) ∷ []
   ids-pushed [] key = refl
   ids-pushed (x ∷ xs) key = ap (λ ys. id_in (at x) ∷ ys) (ids-pushed xs key)
 
-  ids-first : (xs : List ℕ) → slice_get (ids_at at xs) 0 ≡ option_map (λ k. id_in (at k)) (slice_get xs 0)
+  pub ids-first : (xs : List ℕ) → slice_get (ids_at at xs) 0 ≡ option_map (λ k. id_in (at k)) (slice_get xs 0)
   ids-first [] = refl
   ids-first (x ∷ xs) = refl
 
-  ids-same : (new : ℕ → Option (Record M)) (xs : List ℕ) → ((k : ℕ) → 0 < times k xs → id_in (new k) ≡ id_in (at k)) → ids_at new xs ≡ ids_at at xs
+  pub ids-same : (new : ℕ → Option (Record M)) (xs : List ℕ) → ((k : ℕ) → 0 < times k xs → id_in (new k) ≡ id_in (at k)) → ids_at new xs ≡ ids_at at xs
   ids-same new [] same = refl
   ids-same new (x ∷ xs) same =
       ap (λ n. n ∷ ids_at new xs) (same x (let e = times_here x x xs refl in omega arith))
@@ -109,18 +109,18 @@ module _ {M : Type 0} (at : ℕ → Option (Record M)) where
     | inr d ↦ ap id_in (others k d)
   ])
 
-  pub apart-vacant : (v : ListsView) → IsReadied at v → (key : ℕ) → at key ≡ None → (l : ℕ) → Contains (list_of v l) key → ⊥
-  apart-vacant v readied key vacant l c = let was = readied.held key l c in some_or_none was.0 _ was.1 vacant
+  pub apart-vacant : (home : Record M → Option ℕ) (v : ListsView) → IsListed home at v → (key : ℕ) → at key ≡ None → (l : ℕ) → Contains (list_of v l) key → ⊥
+  apart-vacant home v readied key vacant l c = let was = readied.held key l c in some_or_none was.0 _ was.1 vacant
 
   pub apart-quiet : (v : ListsView) → IsReadied at v → (key : ℕ) (r : Record M) → at key ≡ Some r → length r.queue ≡ 0 → (l : ℕ) → Contains (list_of v l) key → ⊥
-  apart-quiet v readied key r here quiet l c = none_is l (sym (ready_none r.queue r.attributes.set quiet) ∙ (readied.stands key r here).only l c)
+  apart-quiet v readied key r here quiet l c = none_is l (sym (ready_none r.queue r.kept.attributes.set quiet) ∙ (readied.stands key r here).only l c)
     where
       none_is : (l : ℕ) → None ≡ Some l → ⊥
       none_is l e = cc
 
   -- no other port under a key has this identity
-  own : (keys : Keyed) (made : ℕ) → IsIndexed at keys made → (v : ListsView) → IsReadied at v → (id key : ℕ) → map.get keys id ≡ Some key → (k l : ℕ) → Contains (list_of v l) k → eqb (id_in (at k)) id ≡ eqb k key
-  own keys made x v readied id key found k l c =
+  pub own : (home : Record M → Option ℕ) (keys : Keyed) (made : ℕ) → IsIndexed at keys made → (v : ListsView) → IsListed home at v → (id key : ℕ) → map.get keys id ≡ Some key → (k l : ℕ) → Contains (list_of v l) k → eqb (id_in (at k)) id ≡ eqb k key
+  own home keys made x v readied id key found k l c =
       let was = readied.held k l c in
       let there = x.found id key found in
       elim (equal_or_not k key) [
@@ -129,7 +129,7 @@ module _ {M : Type 0} (at : ℕ → Option (Record M)) where
       ]
 
 module _ {M : Type 0} (s : Slab (Record M)) (keys : Keyed) (next : Option ℕ) (spare destroyed : List M) (slots : ℕ) (so : IsSound s keys next spare destroyed slots) (ready : ListsView)
-    (v : PortsView M) (view_is : record { ports = ports_of (get s) keys; ready = turns_at (get s) ready.lists; made = made_of next; spare = length spare; destroyed = destroyed } ≡ v) (readied : IsReadied (get s) ready) where
+    {lost doomed noted : List ℕ} (v : PortsView M) (view_is : record { ports = ports_of (get s) keys; ready = turns_at (get s) ready.lists; made = made_of next; spare = length spare; destroyed = destroyed; lost = lost; doomed = doomed; noted = noted } ≡ v) (readied : IsReadied (get s) ready) where
   ready_is : turns_at (get s) ready.lists ≡ v.ready
   ready_is = ap (λ (b : PortsView M). b.ready) view_is
 
@@ -155,7 +155,7 @@ module _ {M : Type 0} (s : Slab (Record M)) (keys : Keyed) (next : Option ℕ) (
     moved was now =
         turns-same (get s) (get (with_value s key a)) (at_end (out_of ready key was) key now) (λ k l c. new_ids k)
         ∙ turns-in (get s) (out_of ready key was) key id now its_id
-        ∙ ap (λ t. joined t id now) (turns-out (get s) ready key id was (own (get s) keys (made_of next) so.indexed ready readied id key found))
+        ∙ ap (λ t. joined t id now) (turns-out (get s) ready key id was (own (get s) ready_set keys (made_of next) so.indexed ready readied id key found))
         ∙ ap (λ t. joined (left t id was) id now) ready_is
 
     kept : turns_at (get (with_value s key a)) ready.lists ≡ v.ready

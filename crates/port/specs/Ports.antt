@@ -1,4 +1,4 @@
--- What contracts see of ports: each live port's queue and attributes, the ready ports of each set in their turns, how many were made, how many slots are spare, and the messages that were destroyed.
+-- What contracts see of ports: each live port's queue and attributes, the ready ports of each set in their turns, how many were made, how many slots are spare, the messages that were destroyed, and the ports that the end of a step looks at.
 use Rattle.std.specs.Prelude.{◌≡◌, ◌≢◌, ℕ, ◌+◌, ◌<◌, ◌%◌, ◌^◌, ◌&&◌, ◌++◌, ◌∷◌, Bool, leb, cond, List, [], Option, Some, None, true, length, refl}
 use Rattle.std.specs.Coded.{Coded, code_by, coded×, coded_ℕ, coded_list}
 use Rattle.std.specs.FinMap as map
@@ -18,15 +18,22 @@ pub record PortsView (M : Type 0) : Type 0 where
   pub made : ℕ
   pub spare : ℕ
   pub destroyed : List M
+  -- the ports whose receive right was lost, and that are yet to be judged, in that order
+  pub lost : List ℕ
+  -- the ports that are doomed and not yet removed, in the order in which they were doomed
+  pub doomed : List ℕ
+  -- the ports that were noted, in that order
+  pub noted : List ℕ
 
 abbrev pub port_code : {M : Type 0} → Coded M → Coded Attributes → Coded (PortView M)
 port_code {M} m a = code_by (List M × Attributes) (coded× (coded_list m) a) (λ p. (p.queue, p.attributes)) (λ p. record { queue = p.0; attributes = p.1 }) (λ _. refl)
 
 abbrev pub ports_code : {M : Type 0} → Coded M → Coded Attributes → Coded (PortsView M)
 ports_code {M} m a = code_by
-    (map.FinMap nat_cmp (PortView M) × (ReadyLists × (ℕ × (ℕ × List M)))) (coded× (map.code coded_ℕ (port_code m a)) (coded× (map.code coded_ℕ (coded_list coded_ℕ)) (coded× coded_ℕ (coded× coded_ℕ (coded_list m)))))
-    (λ v. (v.ports, (v.ready, (v.made, (v.spare, v.destroyed)))))
-    (λ p. record { ports = p.0; ready = p.1.0; made = p.1.1.0; spare = p.1.1.1.0; destroyed = p.1.1.1.1 })
+    (map.FinMap nat_cmp (PortView M) × (ReadyLists × (ℕ × (ℕ × (List M × (List ℕ × (List ℕ × List ℕ)))))))
+    (coded× (map.code coded_ℕ (port_code m a)) (coded× (map.code coded_ℕ (coded_list coded_ℕ)) (coded× coded_ℕ (coded× coded_ℕ (coded× (coded_list m) (coded× (coded_list coded_ℕ) (coded× (coded_list coded_ℕ) (coded_list coded_ℕ))))))))
+    (λ v. (v.ports, (v.ready, (v.made, (v.spare, (v.destroyed, (v.lost, (v.doomed, v.noted))))))))
+    (λ p. record { ports = p.0; ready = p.1.0; made = p.1.1.0; spare = p.1.1.1.0; destroyed = p.1.1.1.1.0; lost = p.1.1.1.1.1.0; doomed = p.1.1.1.1.1.1.0; noted = p.1.1.1.1.1.1.1 })
     (λ _. refl)
 
 -- a new port's attributes: limit 5, no message yet sent, made or received, and its receive right with the task

@@ -1,26 +1,60 @@
 -- How ports are kept. No public clause cites this module.
-use Rattle.std.specs.Prelude.{◌≡◌, ℕ, ◌+◌, ◌<◌, ◌≤◌, ◌^◌, true, is_some, List, [], ◌∷◌, Option, Some, None, length}
+use Rattle.std.specs.Prelude.{◌≡◌, ℕ, ◌+◌, ◌<◌, ◌≤◌, ◌^◌, ◌++◌, cond, List, [], ◌∷◌, Option, Some, None, length}
 use Rattle.std.specs.Prelude as std
 use Rattle.std.specs.List.{sum_by, Contains}
 use Rattle.std.specs.FinMap as map
 use Rattle.std.specs.Ordering.{nat_cmp}
 use Rattle.slab.specs.Slab.{Slab, get}
-use Rattle.member_lists.specs.Lists.{ListsView, list_of}
+use Rattle.member_lists.specs.Lists.{ListsView, list_of, without}
 use Rattle.member_lists.specs.Values.{with_values}
+use Rattle.port.specs.declared.Holder.{Holder}
+use Rattle.port.specs.declared.Holder.TheVariants.{Task, QueueOf, Nobody, Doomed}
 use Rattle.port.specs.declared.Record.{Record}
+use Rattle.port.specs.Holding.{held}
 use Rattle.port.specs.Ready.{StandsIn}
 use Rattle.port.specs.Turns.{ReadyLists, ready_if}
-use Rattle.port.specs.Ports.{PortView, first_attributes}
+use Rattle.port.specs.Ports.{PortView, PortsView, first_attributes, with_port}
 
 -- how many numbers were given out, where the next is this, or none is left
 abbrev pub made_of : Option ℕ → ℕ
 made_of None = 2 ^ 64
 made_of (Some next) = next
 
+-- the numbers of the lists that ports without a holder, and those noted, stand in
+abbrev pub lost_list : ℕ
+lost_list = 0
+
+abbrev pub doomed_list : ℕ
+doomed_list = 1
+
+abbrev pub noted_list : ℕ
+noted_list = 0
+
+-- the list that a port with this holder waits in, if nobody holds it
+abbrev pub waits_in : Holder → Option ℕ
+waits_in (Task task) = None
+waits_in (QueueOf port) = None
+waits_in Nobody = Some lost_list
+waits_in Doomed = Some doomed_list
+
+-- the ports that were lost, once this one has the holder and is no longer among them
+abbrev pub lost_with : Holder → (port : ℕ) → List ℕ → List ℕ
+lost_with (Task task) port lost = lost
+lost_with (QueueOf q) port lost = lost
+lost_with Nobody port lost = lost ++ port ∷ []
+lost_with Doomed port lost = lost
+
+-- the doomed ports, likewise
+abbrev pub doomed_with : Holder → (port : ℕ) → List ℕ → List ℕ
+doomed_with (Task task) port doomed = doomed
+doomed_with (QueueOf q) port doomed = doomed
+doomed_with Nobody port doomed = doomed
+doomed_with Doomed port doomed = doomed ++ port ∷ []
+
 module _ {M : Type 0} where
   abbrev pub port_in : Option (Record M) → PortView M
   port_in None = record { queue = []; attributes = first_attributes 0 }
-  port_in (Some r) = record { queue = r.queue; attributes = r.attributes }
+  port_in (Some r) = record { queue = r.queue; attributes = r.kept.attributes }
 
   abbrev pub ports_of : (ℕ → Option (Record M)) → map.FinMap nat_cmp ℕ → map.FinMap nat_cmp (PortView M)
   ports_of at keys = with_values (λ key. port_in (at key)) keys
@@ -32,6 +66,10 @@ module _ {M : Type 0} where
   -- the identities of the ports under the keys
   abbrev pub ids_at : (ℕ → Option (Record M)) → List ℕ → List ℕ
   ids_at at keys = std.map (λ key. id_in (at key)) keys
+
+  -- the identities of the ports in a list
+  abbrev pub ids_in : (ℕ → Option (Record M)) → ListsView → (list : ℕ) → List ℕ
+  ids_in at lists list = ids_at at (list_of lists list)
 
   abbrev pub turns_at : (ℕ → Option (Record M)) → map.FinMap nat_cmp (List ℕ) → ReadyLists
   turns_at at lists = with_values (ids_at at) lists
@@ -54,11 +92,19 @@ module _ {M : Type 0} where
     pub next_fits : (n : ℕ) → next ≡ Some n → n < 2 ^ 64
 
   abbrev pub ready_set : Record M → Option ℕ
-  ready_set r = ready_if r.queue r.attributes.set
+  ready_set r = ready_if r.queue r.kept.attributes.set
 
   -- the set that a port is in
   abbrev pub member_set : Record M → Option ℕ
-  member_set r = r.attributes.set
+  member_set r = r.kept.attributes.set
+
+  -- the list that a port waits in, if nobody holds it
+  abbrev pub waiting_list : Record M → Option ℕ
+  waiting_list r = waits_in r.kept.attributes.holder
+
+  -- the list of the noted ports, if a port is noted
+  abbrev pub noting_list : Record M → Option ℕ
+  noting_list r = cond r.kept.is_noted (Some noted_list) None
 
   -- The ports stand by their keys in the lists where they belong, and nothing else does.
   pub record IsListed (home : Record M → Option ℕ) (at : ℕ → Option (Record M)) (lists : ListsView) : Type 0 where
@@ -74,7 +120,21 @@ module _ {M : Type 0} where
   abbrev pub IsMembered : (ℕ → Option (Record M)) → ListsView → Type 0
   IsMembered at members = IsListed member_set at members
 
-  pub record IsKept (s : Slab (Record M)) (keys : map.FinMap nat_cmp ℕ) (next : Option ℕ) (spare destroyed : List M) (slots : ℕ) (ready members : ListsView) : Type 0 where
+  -- the ports that nobody holds stand in the lists of the lost and of the doomed
+  abbrev pub IsAwaited : (ℕ → Option (Record M)) → ListsView → Type 0
+  IsAwaited at waiting = IsListed waiting_list at waiting
+
+  -- the noted ports stand in their list
+  abbrev pub IsNoted : (ℕ → Option (Record M)) → ListsView → Type 0
+  IsNoted at noted = IsListed noting_list at noted
+
+  pub record IsKept (s : Slab (Record M)) (keys : map.FinMap nat_cmp ℕ) (next : Option ℕ) (spare destroyed : List M) (slots : ℕ) (ready members waiting noted : ListsView) : Type 0 where
     pub sound : IsSound s keys next spare destroyed slots
     pub readied : IsReadied (get s) ready
     pub membered : IsMembered (get s) members
+    pub awaited : IsAwaited (get s) waiting
+    pub are_noted : IsNoted (get s) noted
+
+  -- the port has another holder: it left the ports that nobody holds, and is the last of those where it belongs
+  abbrev pub with_holder : PortsView M → (port : ℕ) → PortView M → Holder → PortsView M
+  with_holder v port p holder = record (with_port v port (held p holder)) { lost = lost_with holder port (without port v.lost); doomed = doomed_with holder port (without port v.doomed) }

@@ -15,17 +15,25 @@ ghost use Rattle.slab.specs.Slab.{get, with_value, HasRoomFor};
 ghost use Rattle.port.specs.declared.Record.{Record as AnyRecord};
 ghost use Rattle.port.specs.Ready.{StandsIn, IsMoved, out_of, at_end};
 ghost use Rattle.port.specs.Turns.{turns_of, same_set};
+ghost use Rattle.port.specs.Holding.{held_by};
 ghost use Rattle.port.specs.Ports.{one_made, one_received};
 ghost use Rattle.port.specs.Records.{ready_set, member_set, ids_at};
 
+mod by_key;
+mod moves;
 mod slots;
 
+use by_key::{
+    DOOMED, LOST, NOTED, count_at, destroy_at, hold_at, ids_of, member_at, narrow, note_at,
+    noted_at, pop_at, push_at, ready_at, reserve_record, set_at, take_at, waiting_at,
+};
 use mach_types::limits::FIRST_LIMIT;
 use mach_types::{PortId, SetId, TaskId};
 use member_lists::Lists;
+use moves::{join, leave, rejoin, renew};
 use number_map::NumberMap;
 use slab::Slab;
-use slots::{blank_slots, move_first, pop, push};
+use slots::{blank_slots, pop};
 use std::alloc::{AllocError, Global};
 use std::collections::LinkedList;
 use std::marker::Model;
@@ -33,9 +41,6 @@ use std::mem;
 
 // A list has fewer elements than this.
 const MOST_SLOTS: usize = 1 << 63;
-
-// With so many records or fewer, each key fits 32 bits.
-const MOST_RECORDS: usize = 1 << 32;
 
 // A task's number is less than this.
 const TASK_NUMBERS: u64 = 1 << 32;
@@ -53,8 +58,10 @@ pub enum Holder {
     Task(TaskId),
     /// A message in the queue of the port.
     QueueOf(PortId),
-    /// Nobody: the right was taken, and not yet given on.
+    /// Nobody: the right was lost, and the port is yet to be judged.
     Nobody,
+    /// Nobody, and the port is to be removed: it was judged, and nobody can hold it again.
+    Doomed,
 }
 
 // What the number of a holder is of.
@@ -63,6 +70,7 @@ enum HolderKind {
     Task,
     Queue,
     Nobody,
+    Doomed,
 }
 
 impl Holder {
@@ -76,6 +84,7 @@ impl Holder {
             Holder::Task(task) => (HolderKind::Task, task.number() as u64),
             Holder::QueueOf(port) => (HolderKind::Queue, port.number()),
             Holder::Nobody => (HolderKind::Nobody, 0),
+            Holder::Doomed => (HolderKind::Doomed, 0),
         }
     }
 }
@@ -112,59 +121,64 @@ impl Attributes {
     }
 }
 
-// Attributes as they are kept: in 32 bytes.
+// What is kept of a port beside its queue: its attributes, and whether it is noted, in 32 bytes.
 #[derive(Drop)]
-struct KeptAttributes {
+struct Kept {
     set: u64,
     holder: u64,
     limit: u32,
     make_send: u32,
     sequence: u32,
     is_member: bool,
+    is_noted: bool,
     holder_kind: HolderKind,
 }
 
-impl Model for KeptAttributes {
+impl Model for Kept {
     ghost use Rattle.std.specs.Prelude.{cond, Some, None};
-    ghost use Rattle.port.specs.declared.Attributes.{Attributes};
     ghost use Rattle.port.specs.contracts.Attributes as attributes;
-    ghost use Rattle.port.specs.Holders.{holder_of};
+    ghost use Rattle.port.specs.Holders.{KeptView, kept_code, holder_of};
 
-    ghost Value = { Attributes };
+    ghost Value = { KeptView };
 
-    ghost coded = { attributes.the_row.coded };
+    ghost coded = { kept_code attributes.the_row.coded };
 
     ghost view = { λ a. record {
-      limit = a.limit;
-      make_send = a.make_send;
-      sequence = a.sequence;
-      set = cond a.is_member (Some a.set) None;
-      holder = holder_of a.holder_kind a.holder;
+      attributes = record {
+        limit = a.limit;
+        make_send = a.make_send;
+        sequence = a.sequence;
+        set = cond a.is_member (Some a.set) None;
+        holder = holder_of a.holder_kind a.holder;
+      };
+      is_noted = a.is_noted;
     } };
 }
 
-impl KeptAttributes {
-    fn new(attributes: Attributes) -> KeptAttributes
-        ensures { result ≡ attributes }
+impl Kept {
+    // Of a port that isn't noted.
+    fn new(attributes: Attributes) -> Kept
+        ensures { result ≡ record { attributes = attributes; is_noted = false } }
     {
         let (set, is_member) = match attributes.set {
             Some(set) => (set.number(), true),
             None => (0, false),
         };
         let (holder_kind, holder) = attributes.holder.parts();
-        KeptAttributes {
+        Kept {
             set,
             holder,
             limit: attributes.limit,
             make_send: attributes.make_send,
             sequence: attributes.sequence,
             is_member,
+            is_noted: false,
             holder_kind,
         }
     }
 
-    fn get(&self) -> Attributes
-        ensures { result ≡ self.now }
+    fn attributes(&self) -> Attributes
+        ensures { result ≡ self.now.attributes }
     {
         Attributes {
             limit: self.limit,
@@ -176,7 +190,7 @@ impl KeptAttributes {
     }
 
     fn set(&self) -> Option<SetId>
-        ensures { result ≡ self.now.set }
+        ensures { result ≡ self.now.attributes.set }
     {
         if self.is_member {
             Some(SetId::new(self.set))
@@ -186,31 +200,57 @@ impl KeptAttributes {
     }
 
     fn holder(&self) -> Holder
-        ensures { result ≡ self.now.holder }
+        ensures { result ≡ self.now.attributes.holder }
     {
         match self.holder_kind {
             HolderKind::Task => Holder::Task(TaskId::new((self.holder % TASK_NUMBERS) as u32)),
             HolderKind::Queue => Holder::QueueOf(PortId::new(self.holder)),
             HolderKind::Nobody => Holder::Nobody,
+            HolderKind::Doomed => Holder::Doomed,
         }
     }
 
     fn limit(&self) -> u32
-        ensures { result ≡ self.now.limit }
+        ensures { result ≡ self.now.attributes.limit }
     {
         self.limit
     }
 
     fn count_made(&mut self)
-        ensures { self.new ≡ one_made self.old }
+        ensures { self.new ≡ record self.old { attributes = one_made self.old.attributes } }
     {
         self.make_send = self.make_send.wrapping_add(1);
     }
 
     fn count_received(&mut self)
-        ensures { self.new ≡ one_received self.old }
+        ensures { self.new ≡ record self.old { attributes = one_received self.old.attributes } }
     {
         self.sequence = self.sequence.wrapping_add(1);
+    }
+
+    // Sets the attributes; whether the port is noted stays.
+    fn set_attributes(&mut self, attributes: Attributes)
+        ensures { self.new ≡ record self.old { attributes = attributes } }
+    {
+        let is_noted = self.is_noted;
+        *self = Kept::new(attributes);
+        self.is_noted = is_noted;
+    }
+
+    // Says who holds the receive right now.
+    fn set_holder(&mut self, holder: Holder)
+        ensures { self.new ≡ record self.old { attributes = held_by self.old.attributes holder } }
+    {
+        let (kind, number) = holder.parts();
+        self.holder_kind = kind;
+        self.holder = number;
+    }
+
+    // Says whether the port is noted now.
+    fn set_noted(&mut self, is_noted: bool)
+        ensures { self.new ≡ record self.old { is_noted = is_noted } }
+    {
+        self.is_noted = is_noted;
     }
 }
 
@@ -219,7 +259,7 @@ impl KeptAttributes {
 struct Record<M> {
     id: PortId,
     queue: LinkedList<M>,
-    attributes: KeptAttributes,
+    kept: Kept,
 }
 
 // A port without messages takes its record in the slab, and its place in the index.
@@ -233,6 +273,10 @@ pub struct Ports<M: Message> {
     by_id: NumberMap<u32>,
     ready: Lists,
     members: Lists,
+    // Those without a holder, in the list LOST or DOOMED.
+    waiting: Lists,
+    // Those noted, in the list NOTED.
+    noted: Lists,
     next: Option<u64>,
     spare: LinkedList<M>,
     destroyed: LinkedList<M>,
@@ -249,7 +293,7 @@ impl<M: Message> Model for Ports<M> {
     ghost coded = { ports_code M.code attributes.the_row.coded };
 
     ghost use Rattle.slab.specs.Slab.{get};
-    ghost use Rattle.port.specs.Records.{ports_of, turns_at, made_of, IsKept};
+    ghost use Rattle.port.specs.Records.{ports_of, turns_at, ids_in, made_of, lost_list, doomed_list, noted_list, IsKept};
 
     ghost view = { λ a. record {
       ports = ports_of (get a.records) a.by_id.map;
@@ -257,185 +301,12 @@ impl<M: Message> Model for Ports<M> {
       made = made_of a.next;
       spare = length a.spare;
       destroyed = a.destroyed;
+      lost = ids_in (get a.records) a.waiting lost_list;
+      doomed = ids_in (get a.records) a.waiting doomed_list;
+      noted = ids_in (get a.records) a.noted noted_list;
     } };
 
-    ghost invariant = { λ a. IsKept a.records a.by_id.map a.next a.spare a.destroyed a.slots a.ready a.members };
-}
-
-// Queues the message at the port under the key.
-fn push_at<M: Message>(
-    records: &mut Slab<Record<M>>,
-    key: usize,
-    spare: &mut LinkedList<M>,
-    message: M,
-)
-    requires there { IsSome (get records.old key) }
-    requires some { 0 < length spare.old }
-    requires fit { (r : AnyRecord M) → get records.old key ≡ Some r → length r.queue + length spare.old < 2 ^ 63 }
-    ensures after { (r : AnyRecord M) → get records.old key ≡ Some r → records.new ≡ with_value records.old key (record r { queue = r.queue ++ message ∷ [] }) }
-    ensures spare { length spare.new + 1 ≡ length spare.old }
-{
-    push(&mut records[key].queue, spare, message);
-}
-
-// Takes the message at the front of the queue of the port under the key.
-fn pop_at<M: Message>(
-    records: &mut Slab<Record<M>>,
-    key: usize,
-    spare: &mut LinkedList<M>,
-    blank: M,
-) -> M
-    requires there { IsSome (get records.old key) }
-    requires some { (r : AnyRecord M) → get records.old key ≡ Some r → 0 < length r.queue }
-    requires fit { (r : AnyRecord M) → get records.old key ≡ Some r → length r.queue + length spare.old < 2 ^ 63 }
-    ensures after { (r : AnyRecord M) → get records.old key ≡ Some r → (rest : List M) × (r.queue ≡ result ∷ rest) × (records.new ≡ with_value records.old key (record r { queue = rest })) }
-    ensures spare { length spare.new ≡ length spare.old + 1 }
-{
-    pop(&mut records[key].queue, spare, blank)
-}
-
-// Takes the message at the front of the queue of the port under the key, and raises the sequence number.
-fn take_at<M: Message>(
-    records: &mut Slab<Record<M>>,
-    key: usize,
-    spare: &mut LinkedList<M>,
-    blank: M,
-) -> M
-    requires there { IsSome (get records.old key) }
-    requires some { (r : AnyRecord M) → get records.old key ≡ Some r → 0 < length r.queue }
-    requires fit { (r : AnyRecord M) → get records.old key ≡ Some r → length r.queue + length spare.old < 2 ^ 63 }
-    ensures after { (r : AnyRecord M) → get records.old key ≡ Some r → (rest : List M) × (r.queue ≡ result ∷ rest) × (records.new ≡ with_value records.old key (record r { queue = rest; attributes = one_received r.attributes })) }
-    ensures spare { length spare.new ≡ length spare.old + 1 }
-{
-    let record = &mut records[key];
-    record.attributes.count_received();
-    pop(&mut record.queue, spare, blank)
-}
-
-// Moves the message at the front of the queue of the port under the key to the end of the destroyed ones.
-fn destroy_at<M: Message>(records: &mut Slab<Record<M>>, key: usize, destroyed: &mut LinkedList<M>)
-    requires there { IsSome (get records.old key) }
-    requires some { (r : AnyRecord M) → get records.old key ≡ Some r → 0 < length r.queue }
-    requires fit { (r : AnyRecord M) → get records.old key ≡ Some r → length r.queue + length destroyed.old < 2 ^ 63 }
-    ensures { (r : AnyRecord M) → get records.old key ≡ Some r →
-        (m : M) × (rest : List M) × (r.queue ≡ m ∷ rest) × (records.new ≡ with_value records.old key (record r { queue = rest })) × (destroyed.new ≡ destroyed.old ++ m ∷ []) }
-{
-    move_first(&mut records[key].queue, destroyed);
-}
-
-// Counts a send right made from the receive right of the port under the key.
-fn count_at<M: Message>(records: &mut Slab<Record<M>>, key: usize)
-    requires { IsSome (get records.old key) }
-    ensures { (r : AnyRecord M) → get records.old key ≡ Some r → records.new ≡ with_value records.old key (record r { attributes = one_made r.attributes }) }
-{
-    records[key].attributes.count_made();
-}
-
-// Sets the attributes of the port under the key.
-fn set_at<M: Message>(records: &mut Slab<Record<M>>, key: usize, attributes: Attributes)
-    requires { IsSome (get records.old key) }
-    ensures { (r : AnyRecord M) → get records.old key ≡ Some r → records.new ≡ with_value records.old key (record r { attributes = attributes }) }
-{
-    records[key].attributes = KeptAttributes::new(attributes);
-}
-
-// The number of the set that the port under the key is ready in: its set, where it has a message.
-fn ready_at<M: Message>(records: &Slab<Record<M>>, key: usize) -> Option<u64>
-    requires { IsSome (get records.now key) }
-    ensures { (r : AnyRecord M) → get records.now key ≡ Some r → result ≡ ready_set r }
-{
-    let record = &records[key];
-    if record.queue.is_empty() {
-        return None;
-    }
-    let set = record.attributes.set()?;
-    Some(set.number())
-}
-
-// The number of the set that the port under the key is in.
-fn member_at<M: Message>(records: &Slab<Record<M>>, key: usize) -> Option<u64>
-    requires { IsSome (get records.now key) }
-    ensures { (r : AnyRecord M) → get records.now key ≡ Some r → result ≡ member_set r }
-{
-    let set = records[key].attributes.set()?;
-    Some(set.number())
-}
-
-// The identities of the ports under the keys.
-fn ids_of<M: Message>(
-    records: &Slab<Record<M>>,
-    keys: &[usize],
-    alloc: Global,
-) -> Result<Vec<PortId>, AllocError>
-    requires { (key : ℕ) → Contains keys.now key → IsSome (get records.now key) }
-    ensures { IfOk result (λ ids. ids.items ≡ ids_at (get records.now) keys.now) }
-{
-    let mut ids = Vec::new(alloc);
-    for key in keys {
-        ids.push(records[*key].id)?;
-    }
-    Ok(ids)
-}
-
-// Takes the port under the key out of the list of this set, if it stands in one.
-fn leave(lists: &mut Lists, key: usize, was: Option<u64>)
-    requires { StandsIn lists.old key was }
-    ensures moved { IsMoved lists.old lists.new key None }
-    ensures left { lists.new ≡ out_of lists.old key was }
-{
-    if let Some(set) = was {
-        lists.remove(set, key);
-    }
-}
-
-// Puts the port under the key at the end of the list of this set, if it belongs to one.
-fn join(lists: &mut Lists, key: usize, now: Option<u64>)
-    requires room { key < lists.old.items }
-    requires apart { StandsIn lists.old key None }
-    ensures moved { IsMoved lists.old lists.new key now }
-    ensures joined { lists.new ≡ at_end lists.old key now }
-{
-    if let Some(set) = now {
-        lists.push(set, key);
-    }
-}
-
-// Whether the two are the same number, or none.
-fn is_same(one: Option<u64>, other: Option<u64>) -> bool
-    ensures same { IsTrue result → one ≡ other }
-    ensures told { result ≡ same_set one other }
-{
-    match one {
-        Some(one) => match other {
-            Some(other) => one == other,
-            None => false,
-        },
-        None => other.is_none(),
-    }
-}
-
-// Takes the port under the key out of the list of one set, and puts it at the end of the list of
-// another or the same.
-fn rejoin(lists: &mut Lists, key: usize, was: Option<u64>, now: Option<u64>)
-    requires room { key < lists.old.items }
-    requires was { StandsIn lists.old key was }
-    ensures moved { IsMoved lists.old lists.new key now }
-    ensures turned { lists.new ≡ at_end (out_of lists.old key was) key now }
-{
-    leave(&mut *lists, key, was);
-    join(lists, key, now);
-}
-
-// Puts the port under the key into the list of another set; it keeps its place in the same.
-fn renew(lists: &mut Lists, key: usize, was: Option<u64>, now: Option<u64>)
-    requires room { key < lists.old.items }
-    requires was { StandsIn lists.old key was }
-    ensures moved { IsMoved lists.old lists.new key now }
-    ensures turned { lists.new ≡ cond (same_set was now) lists.old (at_end (out_of lists.old key was) key now) }
-{
-    if !is_same(was, now) {
-        rejoin(lists, key, was, now);
-    }
+    ghost invariant = { λ a. IsKept a.records a.by_id.map a.next a.spare a.destroyed a.slots a.ready a.members a.waiting a.noted };
 }
 
 // The key of a port's record, if the port is there.
@@ -448,40 +319,25 @@ fn key_of(by_id: &NumberMap<u32>, port: PortId) -> Option<usize>
     }
 }
 
-// A key in 32 bits.
-fn narrow(key: usize) -> u32
-    requires { key < 2 ^ 32 }
-    ensures { result ≡ key }
-{
-    key as u32
-}
-
-// Makes room for one more record, whose key fits 32 bits.
-fn reserve_record<M: Message>(records: &mut Slab<Record<M>>) -> Result<(), AllocError>
-    ensures room { OnOk result (HasRoomFor records.new 1) }
-    ensures few { OnOk result (records.new.capacity ≤ 2 ^ 32) }
-    ensures rest_kept { records.new ≡ record records.old { capacity = records.new.capacity } }
-{
-    records.reserve(1)?;
-    if records.capacity() > MOST_RECORDS {
-        return Err(AllocError);
-    }
-    Ok(())
-}
-
 impl<M: Message> Ports<M> {
     ghost use Rattle.mach_types.specs.Numbers.{most_identities};
+    ghost use Rattle.member_lists.specs.Lists.{without};
+    ghost use Rattle.port.specs.Holding.{CanHold, held, KeepsHolder, IsHeldBy, NoneHeldBy};
     ghost use Rattle.port.specs.Ports.{PortView, IsLive, with_port, first_attributes, IsReadyIn, NoneReadyIn, IsIn, NoneIn, DestroysFirst, NoneQueued};
+    ghost use Rattle.port.specs.Records.{with_holder};
+    ghost use Rattle.port.specs.declared.Holder.TheVariants as Holder;
 
     /// No ports, and no slots. Allocates nothing; constant time.
     pub fn new(alloc: Global) -> Ports<M>
-        ensures { result ≡ record { ports = map.empty; ready = map.empty; made = 0; spare = 0; destroyed = [] } }
+        ensures { result ≡ record { ports = map.empty; ready = map.empty; made = 0; spare = 0; destroyed = []; lost = []; doomed = []; noted = [] } }
     {
         Ports {
             records: Slab::new(alloc),
             by_id: NumberMap::new(alloc),
             ready: Lists::new(alloc),
             members: Lists::new(alloc),
+            waiting: Lists::new(alloc),
+            noted: Lists::new(alloc),
             next: Some(0),
             spare: LinkedList::new(alloc),
             destroyed: LinkedList::new(alloc),
@@ -552,27 +408,33 @@ impl<M: Message> Ports<M> {
         self.by_id.reserve(1)?;
         self.ready.reserve(self.records.capacity())?;
         self.members.reserve(self.records.capacity())?;
+        self.waiting.reserve(self.records.capacity())?;
+        self.noted.reserve(self.records.capacity())?;
         let key = self.records.insert_reserved(Record {
             id,
             queue: LinkedList::new(*self.spare.allocator()),
-            attributes: KeptAttributes::new(Attributes::first(task)),
+            kept: Kept::new(Attributes::first(task)),
         });
         self.by_id.insert(number, narrow(key));
         self.next = number.checked_add(1);
         Ok(id)
     }
 
-    /// Removes a port that has no messages; what was allocated for it is freed or kept for others.
-    /// Takes no memory. Constant time.
+    /// Removes a port that has no messages: it is in no set, neither lost nor doomed, and not noted.
+    /// What was allocated for it is freed or kept for others. Takes no memory. Constant time.
     pub fn remove(&mut self, port: PortId)
         requires { (p : PortView M) → map.get self.old.ports port ≡ Some p → length p.queue ≡ 0 }
-        ensures { self.new ≡ record self.old { ports = map.remove self.old.ports port } }
+        ensures { self.new ≡ record self.old { ports = map.remove self.old.ports port; lost = without port self.old.lost; doomed = without port self.old.doomed; noted = without port self.old.noted } }
     {
         match self.by_id.remove(port.number()) {
             Some(key) => {
                 let key = key as usize;
                 let set = member_at(&self.records, key);
                 leave(&mut self.members, key, set);
+                let list = waiting_at(&self.records, key);
+                leave(&mut self.waiting, key, list);
+                let list = noted_at(&self.records, key);
+                leave(&mut self.noted, key, list);
                 self.records.remove(key);
             }
             None => {}
@@ -584,7 +446,7 @@ impl<M: Message> Ports<M> {
         ensures { result ≡ option_map (λ p. p.attributes) (map.get self.now.ports port) }
     {
         let key = key_of(&self.by_id, port)?;
-        Some(self.records[key].attributes.get())
+        Some(self.records[key].kept.attributes())
     }
 
     /// Whether the port is there. Constant time.
@@ -626,9 +488,10 @@ impl<M: Message> Ports<M> {
         ids_of(&self.records, &keys, alloc)
     }
 
-    /// Sets a port's attributes. Takes no memory. Constant time.
+    /// Sets a port's attributes; its holder stays. Takes no memory. Constant time.
     pub fn set_attributes(&mut self, port: PortId, attributes: Attributes)
-        requires { IsLive self.old port }
+        requires live { IsLive self.old port }
+        requires holder { KeepsHolder self.old port attributes }
         ensures { (p : PortView M) → map.get self.old.ports port ≡ Some p → self.new ≡ with_port self.old port (record p { attributes = attributes }) }
     {
         let key = key_of(&self.by_id, port).unwrap();
@@ -639,6 +502,109 @@ impl<M: Message> Ports<M> {
         renew(&mut self.ready, key, was, now);
         let set = member_at(&self.records, key);
         renew(&mut self.members, key, member, set);
+    }
+
+    // Says who holds a port's receive right now; the port leaves the lost and the doomed ones, and
+    // is the last of those where it belongs now.
+    fn set_holder(&mut self, port: PortId, holder: Holder)
+        requires { IsLive self.old port }
+        ensures held { (p : PortView M) → map.get self.old.ports port ≡ Some p → self.new ≡ with_holder self.old port p holder }
+        ensures lost { (p : PortView M) → map.get self.old.ports port ≡ Some p → p.attributes.holder ≢ Holder.Nobody → without port self.old.lost ≡ self.old.lost }
+        ensures doomed { (p : PortView M) → map.get self.old.ports port ≡ Some p → p.attributes.holder ≢ Holder.Doomed → without port self.old.doomed ≡ self.old.doomed }
+    {
+        let key = key_of(&self.by_id, port).unwrap();
+        let was = waiting_at(&self.records, key);
+        hold_at(&mut self.records, key, holder);
+        let now = waiting_at(&self.records, key);
+        rejoin(&mut self.waiting, key, was, now);
+    }
+
+    /// Says that a port's receive right was lost: nobody holds it, and the port is to be judged, as
+    /// the last of those that were lost. Takes no memory. Constant time.
+    pub fn lose(&mut self, port: PortId)
+        requires live { IsLive self.old port }
+        requires held { (p : PortView M) → map.get self.old.ports port ≡ Some p → CanHold p.attributes.holder }
+        ensures { (p : PortView M) → map.get self.old.ports port ≡ Some p →
+            self.new ≡ record (with_port self.old port (held p Holder.Nobody)) { lost = self.old.lost ++ port ∷ [] } }
+    {
+        self.set_holder(port, Holder::Nobody);
+    }
+
+    /// Says that the task, or a message in the queue, holds the receive right of a port that isn't
+    /// doomed; where it was lost, it no longer is. Takes no memory. Constant time.
+    pub fn hold(&mut self, port: PortId, holder: Holder)
+        requires live { IsLive self.old port }
+        requires holder { CanHold holder }
+        requires stays { (p : PortView M) → map.get self.old.ports port ≡ Some p → p.attributes.holder ≢ Holder.Doomed }
+        ensures { (p : PortView M) → map.get self.old.ports port ≡ Some p →
+            self.new ≡ record (with_port self.old port (held p holder)) { lost = without port self.old.lost } }
+    {
+        self.set_holder(port, holder);
+    }
+
+    /// The port that is to be judged first: that whose receive right was lost first of those that
+    /// nobody holds, and that weren't judged. Constant time.
+    pub fn first_lost(&self) -> Option<PortId>
+        ensures first { result ≡ slice_get self.now.lost 0 }
+        ensures some { IfSome result (λ port. IsHeldBy self.now port Holder.Nobody) }
+        ensures none { IfNone result (NoneHeldBy self.now Holder.Nobody) }
+        ensures all { (port : ℕ) → Contains self.now.lost port ↔ IsHeldBy self.now port Holder.Nobody }
+    {
+        let key = self.waiting.first(LOST)?;
+        Some(self.records[key].id)
+    }
+
+    /// Dooms a port that was lost: nobody can hold its receive right again, and it is to be removed,
+    /// as the last of those that are doomed. Until then it stays in its set, and keeps its messages.
+    /// Takes no memory. Constant time.
+    pub fn doom(&mut self, port: PortId)
+        requires { IsHeldBy self.old port Holder.Nobody }
+        ensures { (p : PortView M) → map.get self.old.ports port ≡ Some p →
+            self.new ≡ record (with_port self.old port (held p Holder.Doomed)) { lost = without port self.old.lost; doomed = self.old.doomed ++ port ∷ [] } }
+    {
+        self.set_holder(port, Holder::Doomed);
+    }
+
+    /// The port that was doomed first of those that weren't removed. Constant time.
+    pub fn first_doomed(&self) -> Option<PortId>
+        ensures first { result ≡ slice_get self.now.doomed 0 }
+        ensures some { IfSome result (λ port. IsHeldBy self.now port Holder.Doomed) }
+        ensures none { IfNone result (NoneHeldBy self.now Holder.Doomed) }
+        ensures all { (port : ℕ) → Contains self.now.doomed port ↔ IsHeldBy self.now port Holder.Doomed }
+    {
+        let key = self.waiting.first(DOOMED)?;
+        Some(self.records[key].id)
+    }
+
+    /// Notes a port, as the last of those noted; where it is noted, or gone, nothing changes. Takes
+    /// no memory. Constant time.
+    pub fn note(&mut self, port: PortId)
+        ensures fresh { IsLive self.old port → ¬ (Contains self.old.noted port) → self.new ≡ record self.old { noted = self.old.noted ++ port ∷ [] } }
+        ensures again { Contains self.old.noted port → self.new ≡ self.old }
+        ensures gone { map.get self.old.ports port ≡ None → self.new ≡ self.old }
+    {
+        let Some(key) = key_of(&self.by_id, port) else {
+            return;
+        };
+        let was = noted_at(&self.records, key);
+        if was.is_none() {
+            note_at(&mut self.records, key, true);
+            join(&mut self.noted, key, Some(NOTED));
+        }
+    }
+
+    /// Takes the port that was noted first of those noted. `None` where none is, and all is then as
+    /// before. Takes no memory. Constant time.
+    pub fn take_noted(&mut self) -> Option<PortId>
+        ensures first { result ≡ slice_get self.old.noted 0 }
+        ensures taken { IfSome result (λ port. self.new ≡ record self.old { noted = without port self.old.noted }) }
+        ensures none { IfNone result (self.new ≡ self.old) }
+        ensures live { (port : ℕ) → Contains self.old.noted port → IsLive self.old port }
+    {
+        let key = self.noted.first(NOTED)?;
+        leave(&mut self.noted, key, Some(NOTED));
+        note_at(&mut self.records, key, false);
+        Some(self.records[key].id)
     }
 
     /// Counts a send right made from the port's receive right, modulo 2^32; where the port is gone,
@@ -661,7 +627,7 @@ impl<M: Message> Ports<M> {
         match key_of(&self.by_id, port) {
             Some(key) => {
                 let record = &self.records[key];
-                record.queue.len() < record.attributes.limit() as usize
+                record.queue.len() < record.kept.limit() as usize
             }
             None => false,
         }

@@ -21,7 +21,7 @@ as_many true x y e = omega arith
 as_many false x y e = omega arith
 
 pub none_left : {M : Type 0} (old : PortsView M) (set : ℕ) → IsLeaving old old set
-none_left old set = record { gone = λ q h. h; members = λ q p h m. inl h; others = λ q p h m. h; turns = λ other d. refl; made = refl; spare = refl; destroyed = refl }
+none_left old set = record { gone = λ q h. h; members = λ q p h m. inl h; others = λ q p h m. h; turns = λ other d. refl; made = refl; spare = refl; destroyed = refl; lost = refl; doomed = refl; noted = refl }
 
 pub live_in : {M : Type 0} (v : PortsView M) (set port : ℕ) → IsIn v set port → map.contains_key v.ports port ≡ true
 live_in v set port inside = ap is_some inside.there
@@ -113,6 +113,9 @@ module _ {M : Type 0} (mid new : PortsView M) (set port : ℕ) (inside : IsIn mi
       made = made_same ∙ so.made;
       spare = ap (λ (v : PortsView M). v.spare) is ∙ so.spare;
       destroyed = ap (λ (v : PortsView M). v.destroyed) is ∙ so.destroyed;
+      lost = ap (λ (v : PortsView M). v.lost) is ∙ so.lost;
+      doomed = ap (λ (v : PortsView M). v.doomed) is ∙ so.doomed;
+      noted = ap (λ (v : PortsView M). v.noted) is ∙ so.noted;
     }
 
 pub left_all : {M : Type 0} (old new : PortsView M) (set : ℕ) → IsLeaving old new set → NoneIn new set → IsDisbanded old new set
@@ -125,4 +128,7 @@ left_all old new set so none = record {
   made = so.made;
   spare = so.spare;
   destroyed = so.destroyed;
+  lost = so.lost;
+  doomed = so.doomed;
+  noted = so.noted;
 }

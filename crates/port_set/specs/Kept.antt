@@ -19,7 +19,7 @@ is_set set None = false
 is_set set (Some its) = eqb its set
 
 module _ {M : Type 0} where
-  -- Some members of the set are in no set now; each other port, the turns in each other set, the counts, and the destroyed messages, are as they were.
+  -- Some members of the set are in no set now; each other port, the turns in each other set, the counts, the destroyed messages, and the ports lost, doomed and noted, are as they were.
   pub record IsLeaving (old new : PortsView M) (set : ℕ) : Type 0 where
     pub gone : (q : ℕ) → map.get old.ports q ≡ None → map.get new.ports q ≡ None
     pub members : (q : ℕ) (p : PortView M) → map.get old.ports q ≡ Some p → p.attributes.set ≡ Some set → (map.get new.ports q ≡ Some p) ⊎ (map.get new.ports q ≡ Some (in_set p None))
@@ -28,6 +28,9 @@ module _ {M : Type 0} where
     pub made : new.made ≡ old.made
     pub spare : new.spare ≡ old.spare
     pub destroyed : new.destroyed ≡ old.destroyed
+    pub lost : new.lost ≡ old.lost
+    pub doomed : new.doomed ≡ old.doomed
+    pub noted : new.noted ≡ old.noted
 
   abbrev pub is_member : ℕ → Option (PortView M) → Bool
   is_member set None = false

@@ -41,7 +41,7 @@ module _ {M : Type 0} where
   abbrev pub in_set : PortView M → Option ℕ → PortView M
   in_set p set = record p { attributes = record p.attributes { set = set } }
 
-  -- Each member of the set is in no set now, and none has a turn in it; each other port, the turns in each other set, the counts, and the destroyed messages, are as they were.
+  -- Each member of the set is in no set now, and none has a turn in it; each other port, the turns in each other set, the counts, the destroyed messages, and the ports lost, doomed and noted, are as they were.
   pub record IsDisbanded (old new : PortsView M) (set : ℕ) : Type 0 where
     pub gone : (port : ℕ) → map.get old.ports port ≡ None → map.get new.ports port ≡ None
     pub members : (port : ℕ) (p : PortView M) → map.get old.ports port ≡ Some p → p.attributes.set ≡ Some set → map.get new.ports port ≡ Some (in_set p None)
@@ -51,3 +51,6 @@ module _ {M : Type 0} where
     pub made : new.made ≡ old.made
     pub spare : new.spare ≡ old.spare
     pub destroyed : new.destroyed ≡ old.destroyed
+    pub lost : new.lost ≡ old.lost
+    pub doomed : new.doomed ≡ old.doomed
+    pub noted : new.noted ≡ old.noted

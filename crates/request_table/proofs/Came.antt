@@ -15,7 +15,7 @@ use Rattle.member_lists.proofs.Listed.{list_same, list_other, items_same, in_pus
 use Rattle.request_table.specs.declared.Request.{Request}
 use Rattle.request_table.specs.declared.Entry.{Entry}
 use Rattle.request_table.specs.Requests.{RequestsView, key_of, with_names, with_request}
-use Rattle.request_table.specs.Kept.{requests_of, key_at, names_at, IsPlaced, IsHeld, IsKept, IsTaken}
+use Rattle.request_table.specs.Kept.{requests_of, key_at, names_at, IsPlaced, IsHeld, IsKept, IsWhole, IsTaken}
 use Rattle.request_table.proofs.Moved.{some_not_none, len_put}
 use Rattle.request_table.proofs.View.{get-with_values}
 use Rattle.request_table.proofs.Names.{keys_at, keys-pushed, names-list, names-with_list, names-same}
@@ -25,6 +25,9 @@ Entries = map.FinMap nat_cmp Entry
 
 abbrev pub its_request : Entry → Request
 its_request e = e.request
+
+abbrev pub shown : map.FinMap nat_cmp Request → map.FinMap nat_cmp (List ℕ) → ℕ → List Request → RequestsView
+shown requests names room went = record { requests = requests; names = names; room = room; went = went }
 
 -- ---- the map of requests
 
@@ -113,6 +116,25 @@ module _ (entries : MapView Entry) (lists : ListsView) (keys free : List ℕ) (c
       let h = so.held l x c in
       let f = so.found h.key h.entry h.there in
       ap (λ o. unwrap_or o 0) (stays x (let b = f.below in let i = h.item_is in let n = so.fits in let d = so.in_keys in omega arith)))
+
+  pub whole-grown : (went : List Request) → length went ≤ entries.room → (entries' : MapView Entry) (lists' : ListsView) (keys' free' : List ℕ) (capacity' : ℕ) (went' : List Request) (places' room items : ℕ) →
+      entries' ≡ record { map = entries.map; room = room } → lists' ≡ record { lists = lists.lists; items = items } →
+      ((x : ℕ) → x < length keys → slice_get keys' x ≡ slice_get keys x) → length keys ≤ length keys' → free' ≡ free → went' ≡ went → entries.room ≤ room →
+      map.len entries.map + room ≤ items → map.len entries.map + room ≤ length keys' → map.len entries.map + room ≤ capacity' → map.len entries.map + room ≤ places' →
+      IsWhole entries' lists' keys' free' capacity' fresh went' places'
+  whole-grown went few entries' lists' keys' free' capacity' went' places' room items more longer stays long same still rise in_lists in_keys in_free in_went = record {
+    standing = kept-grown entries' lists' keys' free' capacity' room items more longer stays long same rise in_lists in_keys in_free;
+    waiting = (let roomier = ap (λ (w : MapView Entry). w.room) more in let n = ap (λ (l : List Request). length l) still in omega arith);
+    in_went = (let total = ap (λ (w : MapView Entry). map.len w.map + w.room) more in omega arith);
+  }
+
+  pub view-grown : (went : List Request) (entries' : MapView Entry) (lists' : ListsView) (keys' : List ℕ) (went' : List Request) (room : ℕ) → entries' ≡ record { map = entries.map; room = room } →
+      lists'.lists ≡ lists.lists → ((x : ℕ) → x < length keys → slice_get keys' x ≡ slice_get keys x) → went' ≡ went →
+      shown (requests_of entries'.map) (names_at keys' lists'.lists) (entries'.room - length went') went' ≡ shown (requests_of entries.map) (names_at keys lists.lists) (room - length went) went
+  view-grown went entries' lists' keys' went' room more same stays still =
+      ap (λ (w : MapView Entry). shown (requests_of w.map) (names_at keys' lists'.lists) (w.room - length went') went') more
+      ∙ ap (λ n. shown (requests_of entries.map) n (room - length went') went') (names-grown lists' keys' same stays)
+      ∙ ap (λ (l : List Request). shown (requests_of entries.map) (names_at keys lists.lists) (room - length l) l) still
 
   -- ---- one more
 
@@ -242,16 +264,23 @@ module _ (entries : MapView Entry) (lists : ListsView) (keys free : List ℕ) (c
         ∙ ap (with_names (names_at new lists.lists) r.port) pushed
         ∙ ap (λ (names : map.FinMap nat_cmp (List ℕ)). with_names names r.port (unwrap_or (map.get names r.port) [] ++ k ∷ [])) same_names
 
-    pub view-came : (v : RequestsView) → record { requests = requests_of entries.map; names = names_at keys lists.lists; room = entries.room } ≡ v →
+    pub total-came : (entries' : MapView Entry) → entries' ≡ record { map = map.insert entries.map k (let e : Entry = record { request = r; item = item } in e); room = entries.room - 1 } →
+        map.len entries'.map + entries'.room ≡ map.len entries.map + entries.room
+    total-came entries' more = ap (λ (w : MapView Entry). map.len w.map + w.room) more ∙ (let n = grown_len in omega arith)
+
+    pub view-came : (went : List Request) (v : RequestsView) → shown (requests_of entries.map) (names_at keys lists.lists) (entries.room - length went) went ≡ v →
         (entries' : MapView Entry) (lists' : ListsView) (keys' : List ℕ) → entries' ≡ record { map = map.insert entries.map k (let e : Entry = record { request = r; item = item } in e); room = entries.room - 1 } →
         lists' ≡ with_list lists r.port (list_of lists r.port ++ item ∷ []) → keys' ≡ slice_set keys item k →
-        record { requests = requests_of entries'.map; names = names_at keys' lists'.lists; room = entries'.room } ≡ with_request v r
-    view-came v view_is entries' lists' keys' more listed set =
-        let mk : map.FinMap nat_cmp Request → map.FinMap nat_cmp (List ℕ) → ℕ → RequestsView = λ q n m. record { requests = q; names = n; room = m } in
-        ap (λ (w : MapView Entry). mk (requests_of w.map) (names_at keys' lists'.lists) w.room) more
-        ∙ ap (λ (w : ListsView). mk (requests_of then_entries.map) (names_at keys' w.lists) (entries.room - 1)) listed
-        ∙ ap (λ l. mk (requests_of then_entries.map) (names_at l then_lists.lists) (entries.room - 1)) set
-        ∙ ap (λ q. mk q (names_at (slice_set keys item k) then_lists.lists) (entries.room - 1)) (requests-put entries.map k entry)
-        ∙ ap (λ n. mk (map.insert (requests_of entries.map) k r) n (entries.room - 1)) came-names
-        ∙ ap (λ n. mk (map.insert (requests_of entries.map) n r) (with_names (names_at keys lists.lists) r.port (unwrap_or (map.get (names_at keys lists.lists) r.port) [] ++ n ∷ [])) (entries.room - 1)) (sym own)
+        shown (requests_of entries'.map) (names_at keys' lists'.lists) (entries'.room - length went) went ≡ with_request v r
+    view-came went v view_is entries' lists' keys' more listed set =
+        let mk : map.FinMap nat_cmp Request → map.FinMap nat_cmp (List ℕ) → ℕ → RequestsView = λ q n m. shown q n m went in
+        let left : ℕ = entries.room - length went - 1 in
+        let less : entries.room - 1 - length went ≡ left = omega arith in
+        ap (λ (w : MapView Entry). mk (requests_of w.map) (names_at keys' lists'.lists) (w.room - length went)) more
+        ∙ ap (mk (requests_of then_entries.map) (names_at keys' lists'.lists)) less
+        ∙ ap (λ (w : ListsView). mk (requests_of then_entries.map) (names_at keys' w.lists) left) listed
+        ∙ ap (λ l. mk (requests_of then_entries.map) (names_at l then_lists.lists) left) set
+        ∙ ap (λ q. mk q (names_at (slice_set keys item k) then_lists.lists) left) (requests-put entries.map k entry)
+        ∙ ap (λ n. mk (map.insert (requests_of entries.map) k r) n left) came-names
+        ∙ ap (λ n. mk (map.insert (requests_of entries.map) n r) (with_names (names_at keys lists.lists) r.port (unwrap_or (map.get (names_at keys lists.lists) r.port) [] ++ n ∷ [])) left) (sym own)
         ∙ ap (λ w. with_request w r) view_is

@@ -1,18 +1,22 @@
 -- What the view says of requests that are kept.
-use Rattle.std.proofs.Common.{◌≡◌, ℕ, ◌^◌, ◌<◌, Option, Some, None, List, [], ◌∷◌, slice_get, refl, ap, sym, subst, ◌∙◌, arith, Contains}
+use Rattle.std.proofs.Common.{◌≡◌, ◌↔◌, Bool, false, IsTrue, eqb, ℕ, ◌-◌, ◌^◌, ◌<◌, length, Option, Some, None, List, [], ◌∷◌, slice_get, refl, ap, sym, subst, ◌∙◌, arith, Contains}
 use Rattle.std.specs.Prelude.{unwrap_or}
 use Rattle.std.specs.Option.{option_map, option_and_then}
 use Rattle.std.specs.FinMap as map
+use Rattle.std.specs.Ordering.{nat_cmp}
+use Rattle.std.proofs.lemmas.List.{nil_from_length}
 use Rattle.std.proofs.lemmas.Option.{slice_get_within, get_or_from_slice_get}
 use Rattle.number_map.specs.Maps.{MapView}
 use Rattle.member_lists.specs.Lists.{ListsView, list_of}
-use Rattle.member_lists.proofs.Times.{same_some, none_some}
+use Rattle.member_lists.proofs.Times.{same_some, none_some, eqb_is, eqb_same}
 use Rattle.request_table.specs.declared.Request.{Request}
 use Rattle.request_table.specs.declared.Entry.{Entry}
 use Rattle.request_table.specs.Requests.{RequestsView, name_key, names_of, IsOn, NoneOn}
 use Rattle.request_table.specs.Kept.{requests_of, key_at, names_at, IsHeld, IsKept}
+use Rattle.request_table.proofs.Moved.{no_true}
+use Rattle.request_table.proofs.View.{len-with_values}
 use Rattle.request_table.proofs.Names.{keys_at, keys-first, names-list}
-use Rattle.request_table.proofs.Came.{its_request, get-requests}
+use Rattle.request_table.proofs.Came.{its_request, shown, get-requests}
 
 nothing_held : (x : ℕ) (l : List ℕ) → slice_get l 0 ≡ None → Contains l x → ⊥
 nothing_held x [] e c = let less : c.0 < 0 = c.1 in omega arith
@@ -38,7 +42,7 @@ pub same_name : (task name task' name' : ℕ) → name < 2 ^ 32 → name' < 2 ^ 
 same_name task name task' name' small small' e = omega arith
 
 module _ (entries : MapView Entry) (lists : ListsView) (keys free : List ℕ) (capacity fresh : ℕ) (so : IsKept entries lists keys free capacity fresh)
-    (v : RequestsView) (view_is : record { requests = requests_of entries.map; names = names_at keys lists.lists; room = entries.room } ≡ v) where
+    (went : List Request) (v : RequestsView) (view_is : shown (requests_of entries.map) (names_at keys lists.lists) (entries.room - length went) went ≡ v) where
   pub got : (q : ℕ) → map.get v.requests q ≡ option_map its_request (map.get entries.map q)
   got q = ap (λ (w : RequestsView). map.get w.requests q) (sym view_is) ∙ get-requests entries.map q
 
@@ -51,8 +55,32 @@ module _ (entries : MapView Entry) (lists : ListsView) (keys free : List ℕ) (c
   pub none-entry : (q : ℕ) → map.get v.requests q ≡ None → map.get entries.map q ≡ None
   none-entry q none = of_request (map.get entries.map q) (sym (got q) ∙ none)
 
-  pub room_is : entries.room ≡ v.room
+  pub room_is : entries.room - length went ≡ v.room
   room_is = ap (λ (w : RequestsView). w.room) view_is
+
+  -- ---- whether there are any
+
+  len_is : map.len v.requests ≡ map.len entries.map
+  len_is = ap (λ (w : RequestsView). map.len w.requests) (sym view_is) ∙ len-with_values its_request entries.map
+
+  went_is : v.went ≡ went
+  went_is = ap (λ (w : RequestsView). w.went) (sym view_is)
+
+  module _ (len : ℕ) (counted : len ≡ map.len entries.map) where
+    no_len : v.requests ≡ map.empty → len ≡ 0
+    no_len e = counted ∙ sym len_is ∙ ap (λ (m : map.FinMap nat_cmp Request). map.len m) e ∙ map.len-empty nat_cmp Request
+
+    pub empty-tells : (waiting : ℕ) → waiting ≡ length went → (told : Bool) → told ≡ eqb waiting 0 → len ≡ 0 → IsTrue told ↔ ((v.requests ≡ map.empty) × (v.went ≡ []))
+    empty-tells waiting long told is none = (
+      λ yes. (map.empty_of_len v.requests (len_is ∙ sym counted ∙ none), went_is ∙ nil_from_length went (sym long ∙ eqb_is waiting 0 (sym is ∙ yes))),
+      λ p. is ∙ eqb_same waiting 0 (long ∙ ap (λ (l : List Request). length l) (sym went_is ∙ p.1)),
+    )
+
+    pub some-tells : eqb len 0 ≡ false → IsTrue (eqb len 0) ↔ ((v.requests ≡ map.empty) × (v.went ≡ []))
+    some-tells some = (
+      λ yes. absurd (no_true (sym some ∙ yes)),
+      λ p. eqb_same len 0 (no_len p.0),
+    )
 
   pub task_is : (task name : ℕ) → name < 2 ^ 32 → (e : Entry) → map.get entries.map (name_key task name) ≡ Some e → e.request.task ≡ task
   task_is task name small e at = let f = so.found (name_key task name) e at in same_task e.request.task e.request.name task name f.small small f.own

@@ -16,7 +16,7 @@ use Rattle.request_table.specs.Requests.{RequestsView, with_names, without_reque
 use Rattle.request_table.specs.Kept.{requests_of, key_at, names_at, IsPlaced, IsHeld, IsKept}
 use Rattle.request_table.proofs.Moved.{len_set, len_out, left_in, left_other, left_none, times_pushed_here, times_pushed_other}
 use Rattle.request_table.proofs.Names.{keys_at, keys-without, names-list, names-with_list}
-use Rattle.request_table.proofs.Came.{Entries, requests-put, requests-out}
+use Rattle.request_table.proofs.Came.{Entries, shown, requests-put, requests-out}
 
 not_none : {A : Type 0} (x : A) → None ≡ Some x → ⊥
 not_none x e = cc
@@ -164,20 +164,24 @@ module _ (entries : MapView Entry) (lists : ListsView) (keys free : List ℕ) (c
       names-with_list keys lists port left
       ∙ ap (with_names (names_at keys lists.lists) port) those_left
 
-  module _ (v : RequestsView) (view_is : record { requests = requests_of entries.map; names = names_at keys lists.lists; room = entries.room } ≡ v) where
-    abbrev mk : map.FinMap nat_cmp Request → map.FinMap nat_cmp (List ℕ) → ℕ → RequestsView
-    mk q n m = record { requests = q; names = n; room = m }
+  pub total-went : (entries' : MapView Entry) → entries' ≡ record { map = map.remove entries.map k; room = entries.room + 1 } → map.len entries'.map + entries'.room ≡ map.len entries.map + entries.room
+  total-went entries' less = ap (λ (w : MapView Entry). map.len w.map + w.room) less ∙ (let n = fewer_len in let s = some_len in omega arith)
 
-    pub view-went : (entries' : MapView Entry) (lists' : ListsView) → entries' ≡ record { map = map.remove entries.map k; room = entries.room + 1 } →
-        lists' ≡ with_list lists was.request.port (without was.item (list_of lists was.request.port)) →
-        record { requests = requests_of entries'.map; names = names_at keys lists'.lists; room = entries'.room } ≡ without_request v was.request
-    view-went entries' lists' less listed =
-        ap (λ (w : MapView Entry). mk (requests_of w.map) (names_at keys lists'.lists) w.room) less
-        ∙ ap (λ (w : ListsView). mk (requests_of (map.remove entries.map k)) (names_at keys w.lists) (entries.room + 1)) listed
-        ∙ ap (λ q. mk q (names_at keys then_lists.lists) (entries.room + 1)) (requests-out entries.map k)
-        ∙ ap (λ n. mk (map.remove (requests_of entries.map) k) n (entries.room + 1)) went-names
-        ∙ ap (λ n. mk (map.remove (requests_of entries.map) n) (with_names (names_at keys lists.lists) port (without n (unwrap_or (map.get (names_at keys lists.lists) port) []))) (entries.room + 1)) (sym place.own)
-        ∙ ap (λ w. without_request w was.request) view_is
+  pub view-went : (went : List Request) (few : length went ≤ entries.room) (v : RequestsView) → shown (requests_of entries.map) (names_at keys lists.lists) (entries.room - length went) went ≡ v →
+      (entries' : MapView Entry) (lists' : ListsView) → entries' ≡ record { map = map.remove entries.map k; room = entries.room + 1 } →
+      lists' ≡ with_list lists was.request.port (without was.item (list_of lists was.request.port)) →
+      shown (requests_of entries'.map) (names_at keys lists'.lists) (entries'.room - length went) went ≡ without_request v was.request
+  view-went went few v view_is entries' lists' less listed =
+      let mk : map.FinMap nat_cmp Request → map.FinMap nat_cmp (List ℕ) → ℕ → RequestsView = λ q n m. shown q n m went in
+      let room : ℕ = entries.room - length went + 1 in
+      let more : entries.room + 1 - length went ≡ room = omega arith in
+      ap (λ (w : MapView Entry). mk (requests_of w.map) (names_at keys lists'.lists) (w.room - length went)) less
+      ∙ ap (mk (requests_of (map.remove entries.map k)) (names_at keys lists'.lists)) more
+      ∙ ap (λ (w : ListsView). mk (requests_of (map.remove entries.map k)) (names_at keys w.lists) room) listed
+      ∙ ap (λ q. mk q (names_at keys then_lists.lists) room) (requests-out entries.map k)
+      ∙ ap (λ n. mk (map.remove (requests_of entries.map) k) n room) went-names
+      ∙ ap (λ n. mk (map.remove (requests_of entries.map) n) (with_names (names_at keys lists.lists) port (without n (unwrap_or (map.get (names_at keys lists.lists) port) []))) room) (sym place.own)
+      ∙ ap (λ w. without_request w was.request) view_is
 
   -- ---- another port is told
 
@@ -233,11 +237,14 @@ module _ (entries : MapView Entry) (lists : ListsView) (keys free : List ℕ) (c
         } in
         subst (λ (w : MapView Entry). IsKept w lists keys free capacity fresh) (sym is) mid
 
-    pub view-told : (v : RequestsView) → record { requests = requests_of entries.map; names = names_at keys lists.lists; room = entries.room } ≡ v →
+    pub total-told : (entries' : MapView Entry) → entries' ≡ record { map = map.insert entries.map k now; room = entries.room } → map.len entries'.map + entries'.room ≡ map.len entries.map + entries.room
+    total-told entries' is = ap (λ (w : MapView Entry). map.len w.map + w.room) is ∙ ap (λ n. n + entries.room) told_len
+
+    pub view-told : (went : List Request) (v : RequestsView) → shown (requests_of entries.map) (names_at keys lists.lists) (entries.room - length went) went ≡ v →
         (entries' : MapView Entry) → entries' ≡ record { map = map.insert entries.map k now; room = entries.room } →
-        record { requests = requests_of entries'.map; names = names_at keys lists.lists; room = entries'.room } ≡ record v { requests = map.insert v.requests k now.request }
-    view-told v view_is entries' is =
-        let made : map.FinMap nat_cmp Request → ℕ → RequestsView = λ q m. record { requests = q; names = names_at keys lists.lists; room = m } in
-        ap (λ (w : MapView Entry). made (requests_of w.map) w.room) is
-        ∙ ap (λ q. made q entries.room) (requests-put entries.map k now)
+        shown (requests_of entries'.map) (names_at keys lists.lists) (entries'.room - length went) went ≡ record v { requests = map.insert v.requests k now.request }
+    view-told went v view_is entries' is =
+        let made : map.FinMap nat_cmp Request → ℕ → RequestsView = λ q m. shown q (names_at keys lists.lists) m went in
+        ap (λ (w : MapView Entry). made (requests_of w.map) (w.room - length went)) is
+        ∙ ap (λ q. made q (entries.room - length went)) (requests-put entries.map k now)
         ∙ ap (λ (w : RequestsView). let u : RequestsView = record w { requests = map.insert w.requests k now.request } in u) view_is

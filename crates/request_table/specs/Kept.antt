@@ -54,6 +54,12 @@ pub record IsKept (entries : MapView Entry) (lists : ListsView) (keys free : Lis
   pub in_keys : map.len entries.map + entries.room ≤ length keys
   pub in_free : map.len entries.map + entries.room ≤ capacity
 
+-- The requests that are kept, and those whose names went: each of these has a place among the room, and there is a place for each that may go.
+pub record IsWhole (entries : MapView Entry) (lists : ListsView) (keys free : List ℕ) (capacity fresh : ℕ) (went : List Request) (places : ℕ) : Type 0 where
+  pub standing : IsKept entries lists keys free capacity fresh
+  pub waiting : length went ≤ entries.room
+  pub in_went : map.len entries.map + entries.room ≤ places
+
 -- An item was taken that was free, or is the first that never was.
 pub record IsTaken (old new : List ℕ) (fresh fresh' item : ℕ) : Type 0 where
   pub was : (0 < times item old) ⊎ (fresh ≤ item)

@@ -1,5 +1,5 @@
--- What contracts see of requests: each under the number of its name, the names of each port in the order in which they came, and how many more fit with no memory taken.
-use Rattle.std.specs.Prelude.{◌≡◌, ◌≢◌, ℕ, ◌+◌, ◌-◌, ◌*◌, ◌^◌, ◌++◌, List, [], ◌∷◌, Some, unwrap_or, refl}
+-- What contracts see of requests: each under the number of its name, the names of each port in the order in which they came, how many more fit with no memory taken, and those whose names went, in the order in which they went.
+use Rattle.std.specs.Prelude.{◌≡◌, ◌≢◌, ℕ, ◌+◌, ◌-◌, ◌*◌, ◌^◌, ◌++◌, List, [], ◌∷◌, Some, unwrap_or, drop, refl}
 use Rattle.std.specs.Coded.{Coded, code_by, coded×, coded_ℕ, coded_list}
 use Rattle.std.specs.FinMap as map
 use Rattle.std.specs.Ordering.{nat_cmp}
@@ -10,16 +10,18 @@ pub record RequestsView : Type 0 where
   pub requests : map.FinMap nat_cmp Request
   pub names : map.FinMap nat_cmp (List ℕ)
   pub room : ℕ
+  pub went : List Request
 
 abbrev pub requests_code : Coded Request → Coded RequestsView
 requests_code code = code_by
-    (map.FinMap nat_cmp Request × (map.FinMap nat_cmp (List ℕ) × ℕ)) (coded× (map.code coded_ℕ code) (coded× (map.code coded_ℕ (coded_list coded_ℕ)) coded_ℕ))
-    (λ v. (v.requests, (v.names, v.room)))
-    (λ p. record { requests = p.0; names = p.1.0; room = p.1.1 })
+    (map.FinMap nat_cmp Request × (map.FinMap nat_cmp (List ℕ) × (ℕ × List Request)))
+    (coded× (map.code coded_ℕ code) (coded× (map.code coded_ℕ (coded_list coded_ℕ)) (coded× coded_ℕ (coded_list code))))
+    (λ v. (v.requests, (v.names, (v.room, v.went))))
+    (λ p. record { requests = p.0; names = p.1.0; room = p.1.1.0; went = p.1.1.1 })
     (λ _. refl)
 
 abbrev pub no_requests : RequestsView
-no_requests = record { requests = map.empty; names = map.empty; room = 0 }
+no_requests = record { requests = map.empty; names = map.empty; room = 0; went = [] }
 
 -- The number of a task's name: no two names of tasks have the same, since a name is less than 2^32.
 abbrev pub name_key : (task name : ℕ) → ℕ
@@ -43,6 +45,7 @@ with_request v r = record {
   requests = map.insert v.requests (key_of r) r;
   names = with_names v.names r.port (names_of v r.port ++ key_of r ∷ []);
   room = v.room - 1;
+  went = v.went;
 }
 
 -- a request less; the other names of its port keep their order
@@ -51,7 +54,21 @@ without_request v r = record {
   requests = map.remove v.requests (key_of r);
   names = with_names v.names r.port (without (key_of r) (names_of v r.port));
   room = v.room + 1;
+  went = v.went;
 }
+
+-- a request whose name went stands no more, and is the last of those that went; its place is no room yet
+abbrev pub with_name_gone : RequestsView → Request → RequestsView
+with_name_gone v r = record {
+  requests = map.remove v.requests (key_of r);
+  names = with_names v.names r.port (without (key_of r) (names_of v r.port));
+  room = v.room;
+  went = v.went ++ r ∷ [];
+}
+
+-- the first of those that went is no more, and its place is room
+abbrev pub without_first_went : RequestsView → RequestsView
+without_first_went v = record v { room = v.room + 1; went = drop 1 v.went }
 
 -- the request is there, and on a name of this port
 pub record IsOn (v : RequestsView) (port : ℕ) (r : Request) : Type 0 where

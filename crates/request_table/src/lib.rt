@@ -3,9 +3,12 @@
 //!
 //! A request is found by its name, and the requests on a port's names stand in a list. They leave in
 //! any order, and only [`Requests::reserve`] takes memory.
+//!
+//! A request whose name went is kept until it is told: it stands on no name then, and is not room for
+//! another yet.
 #![tactic(auto)]
 
-ghost use Rattle.std.specs.Prelude.{◌≡◌, ℕ, ◌+◌, ◌<◌, ◌≤◌, ◌^◌, max, length, Some, None, IsOk, IfSome, IfNone, OnOk, OnErr, slice_get};
+ghost use Rattle.std.specs.Prelude.{◌≡◌, ℕ, ◌+◌, ◌<◌, ◌≤◌, ◌^◌, ◌↔◌, ◌∷◌, [], max, length, Some, None, IsOk, IfSome, IfNone, IsTrue, OnOk, OnErr, slice_get};
 ghost use Rattle.std.specs.Option.{option_and_then};
 ghost use Rattle.std.specs.FinMap as map;
 ghost use Rattle.std.specs.Vec.{vec_capacity};
@@ -17,6 +20,7 @@ use mach_types::{Name, PortId, TaskId};
 use member_lists::Lists;
 use number_map::NumberMap;
 use std::alloc::{AllocError, Global};
+use std::collections::VecDeque;
 use std::marker::Model;
 
 /// A request: once the port that a name stands for is dead, its task is told.
@@ -49,6 +53,8 @@ pub struct Requests {
     // The items below `fresh` that stand for none.
     free: Vec<usize>,
     fresh: usize,
+    // Those whose names went. Each of them keeps a place of `by_name` as room.
+    went: VecDeque<Request>,
 }
 
 impl Model for Requests {
@@ -59,16 +65,19 @@ impl Model for Requests {
 
     ghost coded = { requests_code request.the_row.coded };
 
+    ghost use Rattle.std.specs.Prelude.{length, ◌-◌};
     ghost use Rattle.std.specs.Vec.{vec_capacity};
-    ghost use Rattle.request_table.specs.Kept.{requests_of, names_at, IsKept};
+    ghost use Rattle.std.specs.VecDeque.{deque_capacity};
+    ghost use Rattle.request_table.specs.Kept.{requests_of, names_at, IsWhole};
 
     ghost view = { λ a. record {
       requests = requests_of a.by_name.map;
       names = names_at a.keys.items a.by_port.lists;
-      room = a.by_name.room;
+      room = a.by_name.room - length a.went.items;
+      went = a.went.items;
     } };
 
-    ghost invariant = { λ a. IsKept a.by_name a.by_port a.keys.items a.free.items (vec_capacity a.free) a.fresh };
+    ghost invariant = { λ a. IsWhole a.by_name a.by_port a.keys.items a.free.items (vec_capacity a.free) a.fresh a.went.items (deque_capacity a.went) };
 }
 
 // The number of a task's name, which is less than 2^32.
@@ -108,7 +117,7 @@ fn take_item(free: &mut Vec<usize>, fresh: &mut usize) -> usize
 }
 
 impl Requests {
-    ghost use Rattle.request_table.specs.Requests.{no_requests, with_request, without_request, names_of, key_of as key_in, IsOn, NoneOn};
+    ghost use Rattle.request_table.specs.Requests.{no_requests, with_request, without_request, with_name_gone, without_first_went, names_of, key_of as key_in, IsOn, NoneOn};
     ghost use Rattle.request_table.specs.declared.Request.{Request as AnyRequest};
 
     /// No requests, and room for none. Allocates nothing; constant time.
@@ -121,14 +130,22 @@ impl Requests {
             keys: Vec::new(alloc),
             free: Vec::new(alloc),
             fresh: 0,
+            went: VecDeque::new(alloc),
         }
+    }
+
+    /// Whether there are none: none that stands, and none whose name went. Constant time.
+    pub fn is_empty(&self) -> bool
+        ensures { IsTrue result ↔ ((self.now.requests ≡ map.empty) × (self.now.went ≡ [])) }
+    {
+        self.by_name.len() == 0 && self.went.is_empty()
     }
 
     /// How many more requests can be put in. Constant time.
     pub fn room(&self) -> usize
         ensures { result ≡ self.now.room }
     {
-        self.by_name.room()
+        self.by_name.room() - self.went.len()
     }
 
     /// Makes room for at least so many more requests. Constant time where there is room for them, and
@@ -142,16 +159,14 @@ impl Requests {
         ensures err { OnErr result (self.new ≡ self.old) }
         ensures had_room { additional ≤ self.old.room → IsOk result }
     {
-        if additional > self.by_name.room() {
-            let items = self
-                .by_name
-                .len()
-                .checked_add(additional)
-                .ok_or(AllocError)?;
+        if additional > self.room() {
+            let room = additional.checked_add(self.went.len()).ok_or(AllocError)?;
+            let items = room.checked_add(self.by_name.len()).ok_or(AllocError)?;
             grow(&mut self.keys, items)?;
             self.free.reserve(items)?;
+            self.went.reserve(items)?;
             self.by_port.reserve(items)?;
-            self.by_name.reserve(additional)?;
+            self.by_name.reserve(room)?;
         }
         Ok(())
     }
@@ -209,6 +224,34 @@ impl Requests {
         self.by_port.remove(request.port.number(), item);
         self.free.push_reserved(item);
         Some(request)
+    }
+
+    /// A task's name goes: the request on it stands no more, and is the last of those whose names went.
+    /// Its place is not room for another yet, till [`Requests::take_went`] answers it; where there is no
+    /// request, nothing changes. Constant time.
+    pub fn leave(&mut self, task: TaskId, name: Name)
+        ensures there { (r : AnyRequest) → map.get self.old.requests (name_key task name) ≡ Some r → self.new ≡ with_name_gone self.old r }
+        ensures absent { map.get self.old.requests (name_key task name) ≡ None → self.new ≡ self.old }
+    {
+        if let Some(request) = self.remove(task, name) {
+            self.went.push_back_reserved(request);
+        }
+    }
+
+    /// The first of the requests whose names went, if there is one. Constant time.
+    pub fn first_went(&self) -> Option<Request>
+        ensures { result ≡ slice_get self.now.went 0 }
+    {
+        self.went.front().copied()
+    }
+
+    /// Takes out the first of the requests whose names went, if there is one, and answers it; its place
+    /// is room for another. `None` leaves all as it was. Constant time.
+    pub fn take_went(&mut self) -> Option<Request>
+        ensures some { IfSome result (λ r. (self.old.went ≡ r ∷ self.new.went) × (self.new ≡ without_first_went self.old)) }
+        ensures none { IfNone result ((self.old.went ≡ []) × (self.new ≡ self.old)) }
+    {
+        self.went.pop_front()
     }
 
     /// Puts the request on one name of a task on another, which has none; where there is no such

@@ -18,6 +18,7 @@ join-requires-clause-can c =
       live = r.live;
       entered = r.entered;
       counted = r.counted;
+      none_lost = r.none_lost;
     }
 
 pub take_name-requires : goal.take_name-requires

@@ -1,3 +1,4 @@
+use Rattle.copyout.proofs.FrontNoted.{note_returns}
 use Rattle.std.proofs.Common.{◌≤◌, subst, length}
 use Rattle.std.specs.Prelude.{min}
 use Rattle.mach_types.specs.Numbers.{most_bytes}
@@ -19,14 +20,17 @@ pub returns-in-Ok-clause-ok : goal.returns-in-Ok-clause-ok
 returns-in-Ok-clause-ok c =
     let m = c.in_ok-needed.ensures.ok.0 in
     let r = c.in-Ok.ensures.ok in
-    let t = c.take_message.ensures in
+    let x = c.take_message.ensures in
+    let t = x.1 in
     let front = judged_front c.args.world.now c.make_room.new.world c.args.task c.args.port c.in_ok-needed.needed m.front m.waits r t.mid t.takes in
-    (c.in_ok-needed.needed, c.make_room.new.world, r, t, subst (λ (k : Kept). length k.bytes ≤ min c.args.room most_bytes) front m.fits)
+    (c.in_ok-needed.needed, c.make_room.new.world, x.0, r, t, subst (λ (k : Kept). length k.bytes ≤ min c.args.room most_bytes) front m.fits, x.2)
 
 pub returns-in-Ok-clause-kept : goal.returns-in-Ok-clause-kept
 returns-in-Ok-clause-kept c =
-    returns_slot c.args.world.now c.make_room.new.world c.take_message.new.world c.args.task c.args.port c.args.room c.in_ok-needed.needed c.args.local c.take_message.result
-    c.in_ok-needed.ensures.ok.0 c.in-Ok.ensures.ok c.take_message.ensures
+    let x = c.take_message.ensures in
+    note_returns c.args.world.now x.0 c.take_message.new.world c.args.port x.1.takes.front
+    (returns_slot c.args.world.now c.make_room.new.world x.0 c.args.task c.args.port c.args.room c.in_ok-needed.needed c.args.local c.take_message.result c.in_ok-needed.ensures.ok.0 c.in-Ok.ensures.ok x.1)
+    x.2
 
 pub returns-in-Err-clause-err : goal.returns-in-Err-clause-err
 returns-in-Err-clause-err c =

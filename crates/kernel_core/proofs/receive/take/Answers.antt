@@ -19,7 +19,7 @@ pub returns-in-Ok-clause-ok : goal.returns-in-Ok-clause-ok
 returns-in-Ok-clause-ok c =
     let x = c.in-Ok.ensures.ok in
     receipt_message c.args.world.now c.args.task c.requires.there c.args.waited c.requires.may c.args.room c.in-Some.port c.in-Some.ensures.from c.name_of-name.result c.name_of-name.ensures
-    c.in-Ok.bytes x.0 x.1 c.receive.new.world x.2 x.3 x.4
+    c.in-Ok.bytes x.0 x.1 x.2 c.receive.new.world x.3 x.4 x.5 x.6
 
 pub returns-in-Err-TooLarge-clause-ok : goal.returns-in-Err-TooLarge-clause-ok
 returns-in-Err-TooLarge-clause-ok c =

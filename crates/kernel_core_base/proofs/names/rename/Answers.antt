@@ -1,11 +1,14 @@
-use Rattle.std.proofs.Common.{refl, sym, ap, subst}
+use Rattle.std.proofs.Common.{refl, sym, ap, subst, ◌∙◌}
 use Rattle.mach_types.specs.declared.calls.Event.{Event}
+use Rattle.std.specs.FinMap as map
+use Rattle.port_set.specs.Sets.{IsThere}
+use Rattle.request_table.specs.Requests.{name_key}
 use Rattle.copyin_base.specs.Changes.{SameButRoom}
 use Rattle.copyin_base.specs.Worlds.{WorldView}
 use Rattle.copyin_base.proofs.Roomier.{place_kept, room_refl}
 use Rattle.copyin_base.proofs.Spares.{keeps_trans, place_keeps}
 use Rattle.kernel_core_base.proofs.Memory.{no_memory}
-use Rattle.kernel_core_base.proofs.Renamed.{may_still, is_kept, stand_still, set_there, rename_done}
+use Rattle.kernel_core_base.proofs.Renamed.{may_still, is_kept, stand_still, no_request_to, set_there, named_from, rename_done}
 use Rattle.kernel_core_base.proofs.Spares.{moved_keeps}
 use Rattle.kernel_core_base.proofs.names.rename.Goals as goal
 
@@ -23,19 +26,31 @@ move_entry-requires c =
       place = is_kept c.args.world.now c.reserve_name.new.self c.args.task c.args.to m;
     }
 
-pub name_set-requires : goal.name_set-requires
-name_set-requires c =
+pub move_request-requires : goal.move_request-requires
+move_request-requires c =
     let m = c.in_ok-reserve_name.ensures.ok in
     let may = may_still c.args.world.now c.reserve_name.new.self c.args.task c.args.to m c.args.from c.in_ok-entry.entry c.in_ok-entry.ensures.may in
-    set_there c.reserve_name.new.self c.move_entry.new.world c.args.task c.args.from c.args.to c.in_ok-entry.entry may (c.move_entry.ensures c.in_ok-entry.entry may)
+    ap (λ (w : WorldView). map.get w.requests.names.requests (name_key c.args.task c.args.to)) c.world.view_is
+    ∙ no_request_to c.reserve_name.new.self c.move_entry.new.world c.args.task c.args.from c.args.to c.in_ok-entry.ensures.small c.in_ok-entry.entry may (c.move_entry.ensures c.in_ok-entry.entry may)
     (stand_still c.args.world.now c.reserve_name.new.self c.args.task c.args.to m c.requires.stands)
+
+pub name_set-requires : goal.name_set-requires
+name_set-requires c = λ set kind.
+    let m = c.in_ok-reserve_name.ensures.ok in
+    let may = may_still c.args.world.now c.reserve_name.new.self c.args.task c.args.to m c.args.from c.in_ok-entry.entry c.in_ok-entry.ensures.may in
+    subst (λ (w : WorldView). IsThere w.sets set) (sym c.world.view_is)
+    (set_there c.reserve_name.new.self c.move_entry.new.world c.args.task c.args.from c.args.to c.in_ok-entry.ensures.small c.in_ok-entry.entry may (c.move_entry.ensures c.in_ok-entry.entry may)
+    (stand_still c.args.world.now c.reserve_name.new.self c.args.task c.args.to m c.requires.stands) set kind)
 
 pub returns-clause-serves : goal.returns-clause-serves
 returns-clause-serves c =
     let m = c.in_ok-reserve_name.ensures.ok in
     let may = may_still c.args.world.now c.reserve_name.new.self c.args.task c.args.to m c.args.from c.in_ok-entry.entry c.in_ok-entry.ensures.may in
-    rename_done c.reserve_name.new.self c.move_entry.new.world c.args.task c.args.from c.args.to c.in_ok-entry.entry may (c.move_entry.ensures c.in_ok-entry.entry may)
-    c.args.world.now (place_kept c.args.world.now c.reserve_name.new.self c.args.task c.args.to m) c.requires.there c.in_ok-entry.ensures.ok c.name_set.new.world c.name_set.ensures
+    let moves = c.move_entry.ensures c.in_ok-entry.entry may in
+    rename_done c.reserve_name.new.self c.move_entry.new.world c.args.task c.args.from c.args.to c.in_ok-entry.ensures.small c.in_ok-entry.entry may moves
+    c.args.world.now (place_kept c.args.world.now c.reserve_name.new.self c.args.task c.args.to m) c.requires.there c.in_ok-entry.ensures.ok c.name_set.new.world
+    (named_from c.reserve_name.new.self c.move_entry.new.world c.args.task c.args.from c.args.to c.in_ok-entry.ensures.small c.in_ok-entry.entry may moves
+    _ c.world.view_is c.move_request.new.requests c.move_request.ensures c.name_set.new.world c.name_set.ensures)
 
 pub returns-clause-spares : goal.returns-clause-spares
 returns-clause-spares c =
@@ -43,4 +58,4 @@ returns-clause-spares c =
     let may = may_still c.args.world.now c.reserve_name.new.self c.args.task c.args.to m c.args.from c.in_ok-entry.entry c.in_ok-entry.ensures.may in
     keeps_trans c.args.world.now c.reserve_name.new.self c.name_set.new.world (place_keeps c.args.world.now c.reserve_name.new.self c.args.task c.args.to m)
     (moved_keeps c.reserve_name.new.self c.name_set.new.world c.args.task c.move_entry.new.world c.args.from c.args.to c.in_ok-entry.entry (c.move_entry.ensures c.in_ok-entry.entry may)
-    (ap (λ (w : WorldView). w.spaces) c.name_set.ensures) (ap (λ (w : WorldView). w.ports) c.name_set.ensures))
+    (ap (λ (w : WorldView). w.spaces) c.name_set.ensures ∙ ap (λ (w : WorldView). w.spaces) c.world.view_is) (ap (λ (w : WorldView). w.ports) c.name_set.ensures ∙ ap (λ (w : WorldView). w.ports) c.world.view_is))

@@ -1,6 +1,10 @@
-use Rattle.std.proofs.Common.{arith}
+use Rattle.std.proofs.Common.{refl, arith}
+use Rattle.kernel_core_base.proofs.AttributesKept.{keeps_holder}
 use Rattle.kernel_core_base.proofs.ReceiveRight.{make_send_set}
 use Rattle.kernel_core_base.proofs.receive_right.set_mscount.Goals as goal
+
+pub set_attributes-requires-clause-holder : goal.set_attributes-requires-clause-holder
+set_attributes-requires-clause-holder c = keeps_holder c.args.world.now c.in_ok-port.port c.attributes-attributes.result c.attributes-attributes.ensures (record c.attributes-attributes.result { make_send = c.args.count }) refl
 
 pub returns-clause-serves : goal.returns-clause-serves
 returns-clause-serves c =

@@ -1,5 +1,7 @@
+use Rattle.std.proofs.Common.{refl}
 use Rattle.mach_types.specs.declared.calls.Event.{Event}
 use Rattle.copyin_base.proofs.Exiting.{exits}
+use Rattle.kernel_core_base.proofs.AttributesKept.{keeps_holder}
 use Rattle.kernel_core_base.proofs.MemberMoved.{mover_there, moved}
 use Rattle.kernel_core_base.proofs.sets.move_member.Goals as goal
 
@@ -9,6 +11,10 @@ returns-in_err-moving-clause-serves c =
 
 pub attributes-attributes-requires : goal.attributes-attributes-requires
 attributes-attributes-requires c = mover_there c.args.world.now c.args.task c.args.member c.args.after c.in_ok-moving.moving.port c.in_ok-moving.moving.set c.requires.stands c.in_ok-moving.ensures.ok
+
+pub set_attributes-requires-clause-holder : goal.set_attributes-requires-clause-holder
+set_attributes-requires-clause-holder c =
+    keeps_holder c.args.world.now c.in_ok-moving.moving.port c.attributes-attributes.result c.attributes-attributes.ensures (record c.attributes-attributes.result { set = c.in_ok-moving.moving.set }) refl
 
 pub returns-clause-serves : goal.returns-clause-serves
 returns-clause-serves c =

@@ -1,4 +1,4 @@
-use Rattle.std.proofs.Common.{◌≡◌, ◌≢◌, ◌+◌, ◌<◌, ◌^◌, ℕ, None, ap, sym, ◌∙◌, List, [], length, max, subst, arith}
+use Rattle.std.proofs.Common.{◌≡◌, ◌≢◌, ◌+◌, ◌<◌, ◌^◌, ℕ, Bool, false, cond, Option, Some, None, refl, ap, sym, ◌∙◌, List, [], length, max, subst, arith}
 use Rattle.std.specs.FinMap as map
 use Rattle.std.specs.Ordering.{nat_cmp}
 use Rattle.member_lists.specs.Lists.{ListsView}
@@ -6,16 +6,27 @@ use Rattle.number_map.specs.Maps.{MapView}
 use Rattle.slab.specs.Slab.{Slab, get}
 use Rattle.port.specs.declared.Attributes.{Attributes}
 use Rattle.port.specs.declared.Record.{Record}
-use Rattle.port.specs.Ports.{PortView, PortsView}
-use Rattle.port.specs.Records.{turns_at, made_of, ready_set, member_set, IsReadied, IsMembered, IsKept}
-use Rattle.port.proofs.Readied.{ready_none, listed-came, kept-capacity, kept-room}
+use Rattle.port.specs.Holders.{KeptView}
+use Rattle.port.specs.Ports.{PortView, PortsView, first_attributes}
+use Rattle.port.specs.Records.{turns_at, made_of, noted_list, waits_in, ready_set, member_set, waiting_list, noting_list, IsReadied, IsMembered, IsAwaited, IsNoted}
+use Rattle.port.proofs.Readied.{ready_none, listed-came, kept-then, on_err}
+use Rattle.port.proofs.Waiting.{came-same, view-then}
 use Rattle.port.proofs.Turned.{turns-apart, apart-vacant}
 use Rattle.port.proofs.Grown.{made_more, next_in_range, sound-came, view-came}
 use Rattle.port.proofs.Ports.allocate.Goals as goal
 
+abbrev unnoted : Attributes → KeptView
+unnoted b = record { attributes = b; is_noted = false }
+
+abbrev first_kept : ℕ → KeptView
+first_kept task = unnoted (first_attributes task)
+
+abbrev notes : Bool → Option ℕ
+notes b = cond b (Some noted_list) None
+
 pub invariant_of-self-2 : goal.invariant_of-self-2
 invariant_of-self-2 g c =
-    let a : Record g.row.M.Denot = record { id = c.new-id.result; queue = c.new.result; attributes = c.new-2.result } in
+    let a : Record g.row.M.Denot = record { id = c.new-id.result; queue = c.new.result; kept = c.new-2.result } in
     let number : made_of c.self.inside.next ≡ c.unwrap-number.result = ap made_of c.unwrap-number.ensures in
     let few : c.unwrap-number.result < 2 ^ 64 = c.self.invariant.sound.next_fits c.unwrap-number.result c.unwrap-number.ensures in
     let kept : (k : ℕ) → get c.reserve_record.new.records k ≡ get c.self.inside.records k = λ k. ap (λ (s : Slab (Record g.row.M.Denot)). get s k) c.reserve_record.ensures.rest_kept in
@@ -26,23 +37,32 @@ invariant_of-self-2 g c =
     ∙ ap (λ k. map.insert c.reserve.new.self.map c.unwrap-number.result k) c.narrow.ensures
     ∙ ap (λ (w : MapView ℕ). map.insert w.map c.unwrap-number.result c.insert_reserved-key.result) c.in_ok-reserve.ensures.ok
     ∙ ap (λ n. map.insert c.self.inside.by_id.map n c.insert_reserved-key.result) (sym number) in
+    let kept_is : c.new-2.result ≡ first_kept c.args.task = c.new-2.ensures ∙ ap unnoted c.first.ensures in
     record {
       sound = sound-came c.self.inside.records c.insert_reserved-key.new.self c.self.inside.by_id.map c.insert.new.self.map c.self.inside.next c.checked_add-self-inside.result c.self.inside.spare c.self.inside.destroyed c.self.inside.slots c.self.invariant.sound c.args.self.now c.self.view_is
           c.insert_reserved-key.result a vacant c.insert_reserved-key.ensures.updates.changed others (c.new-id.ensures ∙ sym number) (ap length c.new.ensures) put
           (made_more c.checked_add-self-inside.result c.unwrap-number.result c.checked_add-self-inside.ensures few ∙ ap (λ n. n + 1) (sym number)) (next_in_range c.checked_add-self-inside.result c.unwrap-number.result c.checked_add-self-inside.ensures);
       readied = subst (λ w. IsReadied (get c.insert_reserved-key.new.self) w) (sym c.in_ok-reserve-2.ensures.ok)
           (listed-came ready_set (get c.self.inside.records) (get c.insert_reserved-key.new.self) c.self.inside.ready c.self.invariant.readied c.insert_reserved-key.result a (max c.self.inside.ready.items c.capacity.result) vacant
-          (record { changed = c.insert_reserved-key.ensures.updates.changed; others = others }) (ready_none a.queue a.attributes.set (ap length c.new.ensures))
+          (record { changed = c.insert_reserved-key.ensures.updates.changed; others = others }) (ready_none a.queue a.kept.attributes.set (ap length c.new.ensures))
           (omega (arith, c.insert_reserved-key.ensures.key_in_range, c.insert_reserved-key.ensures.capacity, c.capacity.ensures.value)) (omega arith));
       membered = subst (λ w. IsMembered (get c.insert_reserved-key.new.self) w) (sym c.in_ok-reserve-3.ensures.ok)
           (listed-came member_set (get c.self.inside.records) (get c.insert_reserved-key.new.self) c.self.inside.members c.self.invariant.membered c.insert_reserved-key.result a (max c.self.inside.members.items c.capacity-2.result) vacant
-          (record { changed = c.insert_reserved-key.ensures.updates.changed; others = others }) (ap (λ (b : Attributes). b.set) (c.new-2.ensures ∙ c.first.ensures))
+          (record { changed = c.insert_reserved-key.ensures.updates.changed; others = others }) (ap (λ (b : KeptView). b.attributes.set) kept_is)
           (omega (arith, c.insert_reserved-key.ensures.key_in_range, c.insert_reserved-key.ensures.capacity, c.capacity-2.ensures.value)) (omega arith));
+      awaited = subst (λ w. IsAwaited (get c.insert_reserved-key.new.self) w) (sym c.in_ok-reserve-4.ensures.ok)
+          (listed-came waiting_list (get c.self.inside.records) (get c.insert_reserved-key.new.self) c.self.inside.waiting c.self.invariant.awaited c.insert_reserved-key.result a (max c.self.inside.waiting.items c.capacity-3.result) vacant
+          (record { changed = c.insert_reserved-key.ensures.updates.changed; others = others }) (ap (λ (b : KeptView). waits_in b.attributes.holder) kept_is)
+          (omega (arith, c.insert_reserved-key.ensures.key_in_range, c.insert_reserved-key.ensures.capacity, c.capacity-3.ensures.value)) (omega arith));
+      are_noted = subst (λ w. IsNoted (get c.insert_reserved-key.new.self) w) (sym c.in_ok-reserve-5.ensures.ok)
+          (listed-came noting_list (get c.self.inside.records) (get c.insert_reserved-key.new.self) c.self.inside.noted c.self.invariant.are_noted c.insert_reserved-key.result a (max c.self.inside.noted.items c.capacity-4.result) vacant
+          (record { changed = c.insert_reserved-key.ensures.updates.changed; others = others }) (ap (λ (b : KeptView). notes b.is_noted) kept_is)
+          (omega (arith, c.insert_reserved-key.ensures.key_in_range, c.insert_reserved-key.ensures.capacity, c.capacity-4.ensures.value)) (omega arith));
     }
 
 pub returns-clause-ok : goal.returns-clause-ok
 returns-clause-ok g c =
-    let a : Record g.row.M.Denot = record { id = c.new-id.result; queue = c.new.result; attributes = c.new-2.result } in
+    let a : Record g.row.M.Denot = record { id = c.new-id.result; queue = c.new.result; kept = c.new-2.result } in
     let number : made_of c.self.inside.next ≡ c.unwrap-number.result = ap made_of c.unwrap-number.ensures in
     let few : c.unwrap-number.result < 2 ^ 64 = c.self.invariant.sound.next_fits c.unwrap-number.result c.unwrap-number.ensures in
     let kept : (k : ℕ) → get c.reserve_record.new.records k ≡ get c.self.inside.records k = λ k. ap (λ (s : Slab (Record g.row.M.Denot)). get s k) c.reserve_record.ensures.rest_kept in
@@ -59,33 +79,75 @@ returns-clause-ok g c =
       made = c.args.self.now.made + 1;
       spare = c.args.self.now.spare;
       destroyed = c.args.self.now.destroyed;
+      lost = c.args.self.now.lost;
+      doomed = c.args.self.now.doomed;
+      noted = c.args.self.now.noted;
     } in
     view-came c.self.inside.records c.insert_reserved-key.new.self c.self.inside.by_id.map c.insert.new.self.map c.self.inside.next c.checked_add-self-inside.result c.self.inside.spare c.self.inside.destroyed c.self.inside.slots c.self.invariant.sound c.args.self.now c.self.view_is
     c.insert_reserved-key.result a vacant c.insert_reserved-key.ensures.updates.changed others (c.new-id.ensures ∙ sym number) (ap length c.new.ensures) put
     (made_more c.checked_add-self-inside.result c.unwrap-number.result c.checked_add-self-inside.ensures few ∙ ap (λ n. n + 1) (sym number)) (next_in_range c.checked_add-self-inside.result c.unwrap-number.result c.checked_add-self-inside.ensures)
     (turns_at (get c.insert_reserved-key.new.self) c.reserve-2.new.self.lists)
     (ap (λ (w : ListsView). turns_at (get c.insert_reserved-key.new.self) w.lists) c.in_ok-reserve-2.ensures.ok
-    ∙ turns-apart (get c.self.inside.records) (get c.insert_reserved-key.new.self) c.self.inside.ready c.insert_reserved-key.result (apart-vacant (get c.self.inside.records) c.self.inside.ready c.self.invariant.readied c.insert_reserved-key.result vacant) others)
-    ∙ ap (λ l. after l c.new-2.result) c.new.ensures ∙ ap (after []) (c.new-2.ensures ∙ c.first.ensures)
+    ∙ turns-apart (get c.self.inside.records) (get c.insert_reserved-key.new.self) c.self.inside.ready c.insert_reserved-key.result (apart-vacant (get c.self.inside.records) ready_set c.self.inside.ready c.self.invariant.readied c.insert_reserved-key.result vacant) others)
+    (came-same c.self.inside.records c.self.inside.by_id.map c.self.inside.next c.self.inside.spare c.self.inside.destroyed c.self.inside.slots c.self.invariant.sound c.self.inside.waiting c.self.inside.noted c.args.self.now c.self.view_is c.self.invariant.awaited c.self.invariant.are_noted c.insert_reserved-key.new.self c.insert_reserved-key.result vacant others c.reserve-4.new.self c.reserve-5.new.self (max c.self.inside.waiting.items c.capacity-3.result) (max c.self.inside.noted.items c.capacity-4.result) c.in_ok-reserve-4.ensures.ok c.in_ok-reserve-5.ensures.ok)
+    ∙ ap (λ l. after l c.new-2.result.attributes) c.new.ensures ∙ ap (λ (b : KeptView). after [] b.attributes) c.new-2.ensures ∙ ap (after []) c.first.ensures
 
 pub invariant_of-self : goal.invariant_of-self
-invariant_of-self g c = kept-capacity c.self.inside.records c.reserve_record.new.records c.self.inside.by_id.map c.self.inside.next c.self.inside.spare c.self.inside.destroyed c.self.inside.slots c.self.inside.ready c.self.inside.members c.reserve_record.ensures.rest_kept c.self.invariant
+invariant_of-self g c =
+    kept-then c.self.inside.records c.reserve_record.new.records c.self.inside.by_id.map c.self.inside.by_id.map c.self.inside.next c.self.inside.spare c.self.inside.destroyed c.self.inside.slots
+    c.self.inside.ready c.self.inside.ready c.self.inside.members c.self.inside.members c.self.inside.waiting c.self.inside.waiting c.self.inside.noted c.self.inside.noted
+    c.self.inside.ready.items c.self.inside.members.items c.self.inside.waiting.items c.self.inside.noted.items c.reserve_record.ensures.rest_kept refl
+    refl refl refl refl (omega arith) (omega arith) (omega arith) (omega arith) c.self.invariant
 
 pub invariant_of-self-in_err-reserve : goal.invariant_of-self-in_err-reserve
 invariant_of-self-in_err-reserve g c =
-    subst (λ (m : map.FinMap nat_cmp ℕ). IsKept c.reserve_record.new.records m c.self.inside.next c.self.inside.spare c.self.inside.destroyed c.self.inside.slots c.self.inside.ready c.self.inside.members) (sym (ap (λ (w : MapView ℕ). w.map) c.in_err-reserve.ensures.err))
-    (kept-capacity c.self.inside.records c.reserve_record.new.records c.self.inside.by_id.map c.self.inside.next c.self.inside.spare c.self.inside.destroyed c.self.inside.slots c.self.inside.ready c.self.inside.members c.reserve_record.ensures.rest_kept c.self.invariant)
+    kept-then c.self.inside.records c.reserve_record.new.records c.self.inside.by_id.map c.reserve.new.self.map c.self.inside.next c.self.inside.spare c.self.inside.destroyed c.self.inside.slots
+    c.self.inside.ready c.self.inside.ready c.self.inside.members c.self.inside.members c.self.inside.waiting c.self.inside.waiting c.self.inside.noted c.self.inside.noted
+    c.self.inside.ready.items c.self.inside.members.items c.self.inside.waiting.items c.self.inside.noted.items c.reserve_record.ensures.rest_kept (ap (λ (w : MapView ℕ). w.map) c.in_err-reserve.ensures.err)
+    refl refl refl refl (omega arith) (omega arith) (omega arith) (omega arith) c.self.invariant
 
 pub invariant_of-self-in_err-reserve-2 : goal.invariant_of-self-in_err-reserve-2
 invariant_of-self-in_err-reserve-2 g c =
-    subst (λ (m : map.FinMap nat_cmp ℕ). IsKept c.reserve_record.new.records m c.self.inside.next c.self.inside.spare c.self.inside.destroyed c.self.inside.slots c.reserve-2.new.self c.self.inside.members) (sym (ap (λ (w : MapView ℕ). w.map) c.in_ok-reserve.ensures.ok))
-    (subst (λ (w : ListsView). IsKept c.reserve_record.new.records c.self.inside.by_id.map c.self.inside.next c.self.inside.spare c.self.inside.destroyed c.self.inside.slots w c.self.inside.members) (sym c.in_err-reserve-2.ensures.err)
-    (kept-capacity c.self.inside.records c.reserve_record.new.records c.self.inside.by_id.map c.self.inside.next c.self.inside.spare c.self.inside.destroyed c.self.inside.slots c.self.inside.ready c.self.inside.members c.reserve_record.ensures.rest_kept c.self.invariant))
+    kept-then c.self.inside.records c.reserve_record.new.records c.self.inside.by_id.map c.reserve.new.self.map c.self.inside.next c.self.inside.spare c.self.inside.destroyed c.self.inside.slots
+    c.self.inside.ready c.reserve-2.new.self c.self.inside.members c.self.inside.members c.self.inside.waiting c.self.inside.waiting c.self.inside.noted c.self.inside.noted
+    c.self.inside.ready.items c.self.inside.members.items c.self.inside.waiting.items c.self.inside.noted.items c.reserve_record.ensures.rest_kept (ap (λ (w : MapView ℕ). w.map) c.in_ok-reserve.ensures.ok)
+    c.in_err-reserve-2.ensures.err refl refl refl (omega arith) (omega arith) (omega arith) (omega arith) c.self.invariant
 
 pub invariant_of-self-in_err-reserve-3 : goal.invariant_of-self-in_err-reserve-3
 invariant_of-self-in_err-reserve-3 g c =
-    subst (λ (m : map.FinMap nat_cmp ℕ). IsKept c.reserve_record.new.records m c.self.inside.next c.self.inside.spare c.self.inside.destroyed c.self.inside.slots c.reserve-2.new.self c.reserve-3.new.self) (sym (ap (λ (w : MapView ℕ). w.map) c.in_ok-reserve.ensures.ok))
-    (subst (λ (w : ListsView). IsKept c.reserve_record.new.records c.self.inside.by_id.map c.self.inside.next c.self.inside.spare c.self.inside.destroyed c.self.inside.slots c.reserve-2.new.self w) (sym c.in_err-reserve-3.ensures.err)
-    (subst (λ (w : ListsView). IsKept c.reserve_record.new.records c.self.inside.by_id.map c.self.inside.next c.self.inside.spare c.self.inside.destroyed c.self.inside.slots w c.self.inside.members) (sym c.in_ok-reserve-2.ensures.ok)
-    (kept-room c.reserve_record.new.records c.self.inside.by_id.map c.self.inside.next c.self.inside.spare c.self.inside.destroyed c.self.inside.slots c.self.inside.ready c.self.inside.members (max c.self.inside.ready.items c.capacity.result) (omega arith)
-    (kept-capacity c.self.inside.records c.reserve_record.new.records c.self.inside.by_id.map c.self.inside.next c.self.inside.spare c.self.inside.destroyed c.self.inside.slots c.self.inside.ready c.self.inside.members c.reserve_record.ensures.rest_kept c.self.invariant))))
+    kept-then c.self.inside.records c.reserve_record.new.records c.self.inside.by_id.map c.reserve.new.self.map c.self.inside.next c.self.inside.spare c.self.inside.destroyed c.self.inside.slots
+    c.self.inside.ready c.reserve-2.new.self c.self.inside.members c.reserve-3.new.self c.self.inside.waiting c.self.inside.waiting c.self.inside.noted c.self.inside.noted
+    (max c.self.inside.ready.items c.capacity.result) c.self.inside.members.items c.self.inside.waiting.items c.self.inside.noted.items c.reserve_record.ensures.rest_kept (ap (λ (w : MapView ℕ). w.map) c.in_ok-reserve.ensures.ok)
+    c.in_ok-reserve-2.ensures.ok c.in_err-reserve-3.ensures.err refl refl (omega arith) (omega arith) (omega arith) (omega arith) c.self.invariant
+
+pub invariant_of-self-in_err-reserve-4 : goal.invariant_of-self-in_err-reserve-4
+invariant_of-self-in_err-reserve-4 g c =
+    kept-then c.self.inside.records c.reserve_record.new.records c.self.inside.by_id.map c.reserve.new.self.map c.self.inside.next c.self.inside.spare c.self.inside.destroyed c.self.inside.slots
+    c.self.inside.ready c.reserve-2.new.self c.self.inside.members c.reserve-3.new.self c.self.inside.waiting c.reserve-4.new.self c.self.inside.noted c.self.inside.noted
+    (max c.self.inside.ready.items c.capacity.result) (max c.self.inside.members.items c.capacity-2.result) c.self.inside.waiting.items c.self.inside.noted.items c.reserve_record.ensures.rest_kept (ap (λ (w : MapView ℕ). w.map) c.in_ok-reserve.ensures.ok)
+    c.in_ok-reserve-2.ensures.ok c.in_ok-reserve-3.ensures.ok c.in_err-reserve-4.ensures.err refl (omega arith) (omega arith) (omega arith) (omega arith) c.self.invariant
+
+pub invariant_of-self-in_err-reserve-5 : goal.invariant_of-self-in_err-reserve-5
+invariant_of-self-in_err-reserve-5 g c =
+    kept-then c.self.inside.records c.reserve_record.new.records c.self.inside.by_id.map c.reserve.new.self.map c.self.inside.next c.self.inside.spare c.self.inside.destroyed c.self.inside.slots
+    c.self.inside.ready c.reserve-2.new.self c.self.inside.members c.reserve-3.new.self c.self.inside.waiting c.reserve-4.new.self c.self.inside.noted c.reserve-5.new.self
+    (max c.self.inside.ready.items c.capacity.result) (max c.self.inside.members.items c.capacity-2.result) (max c.self.inside.waiting.items c.capacity-3.result) c.self.inside.noted.items c.reserve_record.ensures.rest_kept (ap (λ (w : MapView ℕ). w.map) c.in_ok-reserve.ensures.ok)
+    c.in_ok-reserve-2.ensures.ok c.in_ok-reserve-3.ensures.ok c.in_ok-reserve-4.ensures.ok c.in_err-reserve-5.ensures.err (omega arith) (omega arith) (omega arith) (omega arith) c.self.invariant
+
+pub returns-in_err-reserve-4-clause-err : goal.returns-in_err-reserve-4-clause-err
+returns-in_err-reserve-4-clause-err g c =
+    on_err _ _ (view-then c.self.inside.records c.reserve_record.new.records c.self.inside.by_id.map c.reserve.new.self.map c.self.inside.next c.self.inside.spare c.self.inside.destroyed
+    c.self.inside.ready c.reserve-2.new.self (max c.self.inside.ready.items c.capacity.result) c.in_ok-reserve-2.ensures.ok
+    c.self.inside.waiting c.reserve-4.new.self c.self.inside.waiting.items c.in_err-reserve-4.ensures.err
+    c.self.inside.noted c.self.inside.noted c.self.inside.noted.items refl
+    c.reserve_record.ensures.rest_kept (ap (λ (w : MapView ℕ). w.map) c.in_ok-reserve.ensures.ok)
+    ∙ c.self.view_is)
+
+pub returns-in_err-reserve-5-clause-err : goal.returns-in_err-reserve-5-clause-err
+returns-in_err-reserve-5-clause-err g c =
+    on_err _ _ (view-then c.self.inside.records c.reserve_record.new.records c.self.inside.by_id.map c.reserve.new.self.map c.self.inside.next c.self.inside.spare c.self.inside.destroyed
+    c.self.inside.ready c.reserve-2.new.self (max c.self.inside.ready.items c.capacity.result) c.in_ok-reserve-2.ensures.ok
+    c.self.inside.waiting c.reserve-4.new.self (max c.self.inside.waiting.items c.capacity-3.result) c.in_ok-reserve-4.ensures.ok
+    c.self.inside.noted c.reserve-5.new.self c.self.inside.noted.items c.in_err-reserve-5.ensures.err
+    c.reserve_record.ensures.rest_kept (ap (λ (w : MapView ℕ). w.map) c.in_ok-reserve.ensures.ok)
+    ∙ c.self.view_is)

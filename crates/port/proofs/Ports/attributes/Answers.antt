@@ -21,4 +21,4 @@ pub returns : goal.returns
 returns g c =
     let found : map.get c.self.inside.by_id.map c.args.port ≡ Some c.in_ok-key.key = sym (c.in_ok-key.ensures) in
     let field : PortView g.row.M.Denot → Attributes = λ p. p.attributes in
-    ap (λ a. Some a) c.get.ensures ∙ ap (option_map field) (sym (live_port c.self.inside.records c.self.inside.by_id.map c.self.inside.next c.self.inside.spare c.self.inside.destroyed c.self.inside.slots c.self.invariant.sound c.args.self.now c.self.view_is c.args.port c.in_ok-key.key c.index.result.now found c.index.ensures))
+    ap (λ a. Some a) c.attributes.ensures ∙ ap (option_map field) (sym (live_port c.self.inside.records c.self.inside.by_id.map c.self.inside.next c.self.inside.spare c.self.inside.destroyed c.self.inside.slots c.self.invariant.sound c.args.self.now c.self.view_is c.args.port c.in_ok-key.key c.index.result.now found c.index.ensures))

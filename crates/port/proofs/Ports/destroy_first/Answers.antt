@@ -4,12 +4,13 @@ use Rattle.std.specs.FinMap as map
 use Rattle.slab.specs.Slab.{Slab, get, with_value}
 use Rattle.port.specs.declared.Record.{Record}
 use Rattle.port.specs.Ports.{PortView, PortsView, turned}
-use Rattle.port.specs.Records.{ports_of, turns_at, made_of, ready_set, IsReadied, IsMembered, IsSound}
+use Rattle.port.specs.Records.{ports_of, turns_at, made_of, ready_set, IsReadied, IsMembered, IsSound, ids_in, lost_list, doomed_list, noted_list, member_set, waiting_list, noting_list, IsAwaited, IsNoted}
 use Rattle.port.specs.Ready.{StandsIn, IsMoved, out_of, at_end}
 use Rattle.port.proofs.Keys.{same_some, some_or_none}
-use Rattle.port.proofs.Readied.{listed-set, membered-set}
+use Rattle.port.proofs.Readied.{listed-set, listed-stays}
 use Rattle.port.proofs.Records.{port_of}
 use Rattle.port.proofs.Sound.{record_at, live_port, gone_port, turns-set, sound-moved, view-moved}
+use Rattle.port.proofs.Waiting.{stay-same}
 use Rattle.port.proofs.Turned.{turned-taken}
 use Rattle.port.proofs.Ports.destroy_first.Goals as goal
 
@@ -36,7 +37,7 @@ invariant_of-self g c =
     let there = record_at c.self.inside.records c.self.inside.by_id.map c.self.inside.next c.self.inside.spare c.self.inside.destroyed c.self.inside.slots c.self.invariant.sound c.args.self.now c.self.view_is c.args.port c.in-Some.key found in
     let r : Record g.row.M.Denot = there.0 in
     let moved_on = c.destroy_at.ensures r there.1 in
-    let a : Record g.row.M.Denot = record { id = r.id; queue = moved_on.1; attributes = r.attributes } in
+    let a : Record g.row.M.Denot = record { id = r.id; queue = moved_on.1; kept = record { attributes = r.kept.attributes; is_noted = r.kept.is_noted } } in
     let shorter : length r.queue ≡ length (moved_on.0 ∷ moved_on.1) = ap length moved_on.2 in
     let longer : length c.destroy_at.new.destroyed ≡ length c.self.inside.destroyed + 1 = ap length moved_on.4 ∙ length-append c.self.inside.destroyed (moved_on.0 ∷ []) in
     let now : get c.destroy_at.new.records c.in-Some.key ≡ Some a = ap (λ (t : Slab (Record g.row.M.Denot)). get t c.in-Some.key) moved_on.3 ∙ (turns-set c.self.inside.records c.in-Some.key r a there.1).changed in
@@ -45,7 +46,9 @@ invariant_of-self g c =
       sound = subst (λ (t : Slab (Record g.row.M.Denot)). IsSound t c.self.inside.by_id.map c.self.inside.next c.self.inside.spare c.destroy_at.new.destroyed c.self.inside.slots) (sym moved_on.3)
           (sound-moved c.self.inside.records c.self.inside.by_id.map c.self.inside.next c.self.inside.spare c.self.inside.spare c.self.inside.destroyed c.destroy_at.new.destroyed c.self.inside.slots c.self.invariant.sound c.args.self.now c.self.view_is c.args.port c.in-Some.key r a found there.1 refl (omega arith));
       readied = subst (λ (t : Slab (Record g.row.M.Denot)). IsReadied (get t) c.rejoin.new.lists) (sym moved_on.3) (listed-set ready_set c.self.inside.records c.self.inside.ready c.rejoin.new.lists c.in-Some.key r a c.self.invariant.readied there.1 moved);
-      membered = subst (λ (t : Slab (Record g.row.M.Denot)). IsMembered (get t) c.self.inside.members) (sym moved_on.3) (membered-set c.self.inside.records c.self.inside.members c.in-Some.key r a c.self.invariant.membered there.1 refl);
+      membered = subst (λ (t : Slab (Record g.row.M.Denot)). IsMembered (get t) c.self.inside.members) (sym moved_on.3) (listed-stays member_set c.self.inside.records c.self.inside.members c.in-Some.key r a c.self.invariant.membered there.1 refl);
+      awaited = subst (λ (t : Slab (Record g.row.M.Denot)). IsAwaited (get t) c.self.inside.waiting) (sym moved_on.3) (listed-stays waiting_list c.self.inside.records c.self.inside.waiting c.in-Some.key r a c.self.invariant.awaited there.1 refl);
+      are_noted = subst (λ (t : Slab (Record g.row.M.Denot)). IsNoted (get t) c.self.inside.noted) (sym moved_on.3) (listed-stays noting_list c.self.inside.records c.self.inside.noted c.in-Some.key r a c.self.invariant.are_noted there.1 refl);
     }
 
 pub returns : goal.returns
@@ -54,16 +57,19 @@ returns g c =
     let there = record_at c.self.inside.records c.self.inside.by_id.map c.self.inside.next c.self.inside.spare c.self.inside.destroyed c.self.inside.slots c.self.invariant.sound c.args.self.now c.self.view_is c.args.port c.in-Some.key found in
     let r : Record g.row.M.Denot = there.0 in
     let moved_on = c.destroy_at.ensures r there.1 in
-    let a : Record g.row.M.Denot = record { id = r.id; queue = moved_on.1; attributes = r.attributes } in
+    let a : Record g.row.M.Denot = record { id = r.id; queue = moved_on.1; kept = record { attributes = r.kept.attributes; is_noted = r.kept.is_noted } } in
     let shorter : length r.queue ≡ length (moved_on.0 ∷ moved_on.1) = ap length moved_on.2 in
     let longer : length c.destroy_at.new.destroyed ≡ length c.self.inside.destroyed + 1 = ap length moved_on.4 ∙ length-append c.self.inside.destroyed (moved_on.0 ∷ []) in
-    let view : Slab (Record g.row.M.Denot) → PortsView g.row.M.Denot = λ t. record { ports = ports_of (get t) c.self.inside.by_id.map; ready = turns_at (get t) c.rejoin.new.lists.lists; made = made_of c.self.inside.next; spare = length c.self.inside.spare; destroyed = c.destroy_at.new.destroyed } in
+    let view : Slab (Record g.row.M.Denot) → PortsView g.row.M.Denot = λ t. record { ports = ports_of (get t) c.self.inside.by_id.map; ready = turns_at (get t) c.rejoin.new.lists.lists; made = made_of c.self.inside.next; spare = length c.self.inside.spare; destroyed = c.destroy_at.new.destroyed; lost = ids_in (get t) c.self.inside.waiting lost_list; doomed = ids_in (get t) c.self.inside.waiting doomed_list; noted = ids_in (get t) c.self.inside.noted noted_list } in
     let after : ℕ → List g.row.M.Denot → PortsView g.row.M.Denot = λ n d. record {
       ports = map.insert c.args.self.now.ports c.args.port (port_of a);
       ready = turned c.args.self.now.ready c.args.port (map.get c.args.self.now.ports c.args.port) (port_of a);
       made = c.args.self.now.made;
       spare = n;
       destroyed = d;
+      lost = c.args.self.now.lost;
+      doomed = c.args.self.now.doomed;
+      noted = c.args.self.now.noted;
     } in
     record {
       view = port_of r;
@@ -76,6 +82,7 @@ returns g c =
           ∙ view-moved c.self.inside.records c.self.inside.by_id.map c.self.inside.next c.self.inside.spare c.self.inside.spare c.self.inside.destroyed c.destroy_at.new.destroyed c.self.inside.slots c.self.invariant.sound c.args.self.now c.self.view_is c.args.port c.in-Some.key r a found there.1 refl (omega arith) (turns_at (get (with_value c.self.inside.records c.in-Some.key a)) c.rejoin.new.lists.lists)
           (turned-taken c.self.inside.records c.self.inside.by_id.map c.self.inside.next c.self.inside.spare c.self.inside.destroyed c.self.inside.slots c.self.invariant.sound c.self.inside.ready c.args.self.now c.self.view_is c.self.invariant.readied c.args.port c.in-Some.key r a found there.1 refl c.rejoin.new.lists (omega arith) (c.rejoin.ensures.turned ∙ ap (λ o. at_end (out_of c.self.inside.ready c.in-Some.key o) c.in-Some.key c.ready_at-now.result) (c.ready_at-was.ensures r there.1)
           ∙ ap (at_end (out_of c.self.inside.ready c.in-Some.key (ready_set r)) c.in-Some.key) (c.ready_at-now.ensures a (ap (λ (t : Slab (Record g.row.M.Denot)). get t c.in-Some.key) moved_on.3 ∙ (turns-set c.self.inside.records c.in-Some.key r a there.1).changed))))
+          (stay-same c.self.inside.records c.self.inside.by_id.map c.self.inside.next c.self.inside.spare c.self.inside.destroyed c.self.inside.slots c.self.invariant.sound c.self.inside.waiting c.self.inside.noted c.args.self.now c.self.view_is c.in-Some.key r a there.1 refl)
           ∙ ap (after (length c.self.inside.spare)) moved_on.4
           ∙ ap (λ (b : PortsView g.row.M.Denot). after b.spare (b.destroyed ++ moved_on.0 ∷ [])) c.self.view_is;
     }

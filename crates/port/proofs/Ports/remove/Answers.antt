@@ -4,10 +4,12 @@ use Rattle.std.specs.Ordering.{nat_cmp}
 use Rattle.number_map.specs.Maps.{MapView}
 use Rattle.slab.specs.Slab.{get}
 use Rattle.port.specs.Ports.{PortView, PortsView}
-use Rattle.port.specs.Records.{ports_of, turns_at, made_of, ready_set, member_set, IsKept}
+use Rattle.port.specs.Records.{ports_of, turns_at, ids_in, made_of, lost_list, doomed_list, noted_list, ready_set, member_set, waiting_list, noting_list, IsKept}
 use Rattle.port.proofs.Records.{port_of}
-use Rattle.port.proofs.Sound.{record_at, live_port, gone_port}
-use Rattle.port.specs.Ready.{StandsIn}
+use Rattle.port.proofs.Sound.{record_at, live_port, gone_port, relisted}
+use Rattle.port.proofs.Waiting.{gone-same, went-same}
+use Rattle.port.specs.Ready.{StandsIn, out_of}
+use Rattle.member_lists.specs.Lists.{without}
 use Rattle.port.proofs.Moved.{moved_none}
 use Rattle.port.proofs.Readied.{ready_none, listed-went}
 use Rattle.port.proofs.Turned.{turns-apart, apart-quiet}
@@ -30,10 +32,14 @@ invariant_of-self g c =
           c.args.port c.in-Some.key c.remove-in-Some.result found c.remove-in-Some.ensures.value quiet c.remove-in-Some.ensures.updates.changed c.remove-in-Some.ensures.updates.others out;
       readied = listed-went ready_set (get c.self.inside.records) (get c.remove-in-Some.new.self) c.self.inside.ready c.self.invariant.readied c.in-Some.key c.self.inside.ready
           (record { changed = c.remove-in-Some.ensures.updates.changed; others = c.remove-in-Some.ensures.updates.others })
-          (moved_none c.self.inside.ready c.in-Some.key None (subst (λ o. StandsIn c.self.inside.ready c.in-Some.key o) (ready_none c.remove-in-Some.result.queue c.remove-in-Some.result.attributes.set quiet)
+          (moved_none c.self.inside.ready c.in-Some.key None (subst (λ o. StandsIn c.self.inside.ready c.in-Some.key o) (ready_none c.remove-in-Some.result.queue c.remove-in-Some.result.kept.attributes.set quiet)
           (c.self.invariant.readied.stands c.in-Some.key c.remove-in-Some.result c.remove-in-Some.ensures.value)));
       membered = listed-went member_set (get c.self.inside.records) (get c.remove-in-Some.new.self) c.self.inside.members c.self.invariant.membered c.in-Some.key c.leave.new.lists
           (record { changed = c.remove-in-Some.ensures.updates.changed; others = c.remove-in-Some.ensures.updates.others }) c.leave.ensures.moved;
+      awaited = listed-went waiting_list (get c.self.inside.records) (get c.remove-in-Some.new.self) c.self.inside.waiting c.self.invariant.awaited c.in-Some.key c.leave-in-Some.new.lists
+          (record { changed = c.remove-in-Some.ensures.updates.changed; others = c.remove-in-Some.ensures.updates.others }) c.leave-in-Some.ensures.moved;
+      are_noted = listed-went noting_list (get c.self.inside.records) (get c.remove-in-Some.new.self) c.self.inside.noted c.self.invariant.are_noted c.in-Some.key c.leave-in-Some-2.new.lists
+          (record { changed = c.remove-in-Some.ensures.updates.changed; others = c.remove-in-Some.ensures.updates.others }) c.leave-in-Some-2.ensures.moved;
     }
 
 pub returns-in-Some : goal.returns-in-Some
@@ -47,20 +53,26 @@ returns-in-Some g c =
     (turns_at (get c.remove-in-Some.new.self) c.self.inside.ready.lists)
     (turns-apart (get c.self.inside.records) (get c.remove-in-Some.new.self) c.self.inside.ready c.in-Some.key (apart-quiet (get c.self.inside.records) c.self.inside.ready c.self.invariant.readied c.in-Some.key c.remove-in-Some.result c.remove-in-Some.ensures.value quiet)
     c.remove-in-Some.ensures.updates.others)
+    (went-same c.self.inside.records c.self.inside.by_id.map c.self.inside.next c.self.inside.spare c.self.inside.destroyed c.self.inside.slots c.self.invariant.sound c.self.inside.waiting c.self.inside.noted c.args.self.now c.self.view_is c.self.invariant.awaited c.self.invariant.are_noted
+    c.args.port c.in-Some.key c.remove-in-Some.result found c.remove-in-Some.ensures.value c.remove-in-Some.new.self c.remove-in-Some.ensures.updates.others c.leave-in-Some.new.lists c.leave-in-Some-2.new.lists
+    c.leave-in-Some.ensures.moved (c.leave-in-Some.ensures.left ∙ ap (out_of c.self.inside.waiting c.in-Some.key) (c.waiting_at-list.ensures c.remove-in-Some.result c.remove-in-Some.ensures.value))
+    c.leave-in-Some-2.ensures.moved (c.leave-in-Some-2.ensures.left ∙ ap (out_of c.self.inside.noted c.in-Some.key) (c.noted_at-list.ensures c.remove-in-Some.result c.remove-in-Some.ensures.value)))
 
 pub returns-in-None : goal.returns-in-None
 returns-in-None g c =
     let none : map.get c.self.inside.by_id.map c.args.port ≡ None = sym (c.in-None.ensures.value ∙ ap (map.get c.self.inside.by_id.map) c.number.ensures) in
-    let view : map.FinMap nat_cmp ℕ → PortsView g.row.M.Denot = λ keys. record { ports = ports_of (get c.self.inside.records) keys; ready = turns_at (get c.self.inside.records) c.self.inside.ready.lists; made = made_of c.self.inside.next; spare = length c.self.inside.spare; destroyed = c.self.inside.destroyed } in
-    let after : map.FinMap nat_cmp (PortView g.row.M.Denot) → PortsView g.row.M.Denot = λ ports. record { ports = ports; ready = c.args.self.now.ready; made = c.args.self.now.made; spare = c.args.self.now.spare; destroyed = c.args.self.now.destroyed } in
+    let view : map.FinMap nat_cmp ℕ → PortsView g.row.M.Denot = λ keys. record { ports = ports_of (get c.self.inside.records) keys; ready = turns_at (get c.self.inside.records) c.self.inside.ready.lists; made = made_of c.self.inside.next; spare = length c.self.inside.spare; destroyed = c.self.inside.destroyed; lost = ids_in (get c.self.inside.records) c.self.inside.waiting lost_list; doomed = ids_in (get c.self.inside.records) c.self.inside.waiting doomed_list; noted = ids_in (get c.self.inside.records) c.self.inside.noted noted_list } in
+    let after : map.FinMap nat_cmp (PortView g.row.M.Denot) → PortsView g.row.M.Denot = λ ports. record { ports = ports; ready = c.args.self.now.ready; made = c.args.self.now.made; spare = c.args.self.now.spare; destroyed = c.args.self.now.destroyed; lost = c.args.self.now.lost; doomed = c.args.self.now.doomed; noted = c.args.self.now.noted } in
     let same : c.remove.new.self.map ≡ c.self.inside.by_id.map = ap (λ (w : MapView ℕ). w.map) c.remove.ensures.after ∙ ap (map.remove c.self.inside.by_id.map) c.number.ensures ∙ remove-absent c.self.inside.by_id.map c.args.port none in
     ap view same ∙ c.self.view_is ∙ ap after (sym (remove-absent c.args.self.now.ports c.args.port (gone_port c.self.inside.records c.self.inside.by_id.map c.self.inside.next c.self.inside.spare c.self.inside.destroyed c.self.inside.slots c.self.invariant.sound c.args.self.now c.self.view_is c.args.port none)))
+    ∙ relisted (after (map.remove c.args.self.now.ports c.args.port)) c.args.self.now.lost c.args.self.now.doomed c.args.self.now.noted (without c.args.port c.args.self.now.lost) (without c.args.port c.args.self.now.doomed) (without c.args.port c.args.self.now.noted)
+    (gone-same c.self.inside.records c.self.inside.by_id.map c.self.inside.next c.self.inside.spare c.self.inside.destroyed c.self.inside.slots c.self.invariant.sound c.self.inside.waiting c.self.inside.noted c.args.self.now c.self.view_is c.self.invariant.awaited c.self.invariant.are_noted c.args.port none)
 
 pub invariant_of-self-in-None : goal.invariant_of-self-in-None
 invariant_of-self-in-None g c =
     let none : map.get c.self.inside.by_id.map c.args.port ≡ None = sym (c.in-None.ensures.value ∙ ap (map.get c.self.inside.by_id.map) c.number.ensures) in
     let same : c.remove.new.self.map ≡ c.self.inside.by_id.map = ap (λ (w : MapView ℕ). w.map) c.remove.ensures.after ∙ ap (map.remove c.self.inside.by_id.map) c.number.ensures ∙ remove-absent c.self.inside.by_id.map c.args.port none in
-    subst (λ (keys : map.FinMap nat_cmp ℕ). IsKept c.self.inside.records keys c.self.inside.next c.self.inside.spare c.self.inside.destroyed c.self.inside.slots c.self.inside.ready c.self.inside.members) (sym same) c.self.invariant
+    subst (λ (keys : map.FinMap nat_cmp ℕ). IsKept c.self.inside.records keys c.self.inside.next c.self.inside.spare c.self.inside.destroyed c.self.inside.slots c.self.inside.ready c.self.inside.members c.self.inside.waiting c.self.inside.noted) (sym same) c.self.invariant
 
 pub member_at-set-requires : goal.member_at-set-requires
 member_at-set-requires g c =
@@ -72,3 +84,25 @@ leave-requires g c =
     let found : map.get c.self.inside.by_id.map c.args.port ≡ Some c.in-Some.key = sym (c.in-Some.ensures.value ∙ ap (map.get c.self.inside.by_id.map) c.number.ensures) in
     let there = record_at c.self.inside.records c.self.inside.by_id.map c.self.inside.next c.self.inside.spare c.self.inside.destroyed c.self.inside.slots c.self.invariant.sound c.args.self.now c.self.view_is c.args.port c.in-Some.key found in
     subst (λ o. StandsIn c.self.inside.members c.in-Some.key o) (sym (c.member_at-set.ensures there.0 there.1)) (c.self.invariant.membered.stands c.in-Some.key there.0 there.1)
+
+pub waiting_at-list-requires : goal.waiting_at-list-requires
+waiting_at-list-requires g c =
+    let found : map.get c.self.inside.by_id.map c.args.port ≡ Some c.in-Some.key = sym (c.in-Some.ensures.value ∙ ap (map.get c.self.inside.by_id.map) c.number.ensures) in
+    ap is_some (record_at c.self.inside.records c.self.inside.by_id.map c.self.inside.next c.self.inside.spare c.self.inside.destroyed c.self.inside.slots c.self.invariant.sound c.args.self.now c.self.view_is c.args.port c.in-Some.key found).1
+
+pub leave-requires-in-Some : goal.leave-requires-in-Some
+leave-requires-in-Some g c =
+    let found : map.get c.self.inside.by_id.map c.args.port ≡ Some c.in-Some.key = sym (c.in-Some.ensures.value ∙ ap (map.get c.self.inside.by_id.map) c.number.ensures) in
+    let there = record_at c.self.inside.records c.self.inside.by_id.map c.self.inside.next c.self.inside.spare c.self.inside.destroyed c.self.inside.slots c.self.invariant.sound c.args.self.now c.self.view_is c.args.port c.in-Some.key found in
+    subst (λ o. StandsIn c.self.inside.waiting c.in-Some.key o) (sym (c.waiting_at-list.ensures there.0 there.1)) (c.self.invariant.awaited.stands c.in-Some.key there.0 there.1)
+
+pub noted_at-list-requires : goal.noted_at-list-requires
+noted_at-list-requires g c =
+    let found : map.get c.self.inside.by_id.map c.args.port ≡ Some c.in-Some.key = sym (c.in-Some.ensures.value ∙ ap (map.get c.self.inside.by_id.map) c.number.ensures) in
+    ap is_some (record_at c.self.inside.records c.self.inside.by_id.map c.self.inside.next c.self.inside.spare c.self.inside.destroyed c.self.inside.slots c.self.invariant.sound c.args.self.now c.self.view_is c.args.port c.in-Some.key found).1
+
+pub leave-requires-in-Some-2 : goal.leave-requires-in-Some-2
+leave-requires-in-Some-2 g c =
+    let found : map.get c.self.inside.by_id.map c.args.port ≡ Some c.in-Some.key = sym (c.in-Some.ensures.value ∙ ap (map.get c.self.inside.by_id.map) c.number.ensures) in
+    let there = record_at c.self.inside.records c.self.inside.by_id.map c.self.inside.next c.self.inside.spare c.self.inside.destroyed c.self.inside.slots c.self.invariant.sound c.args.self.now c.self.view_is c.args.port c.in-Some.key found in
+    subst (λ o. StandsIn c.self.inside.noted c.in-Some.key o) (sym (c.noted_at-list.ensures there.0 there.1)) (c.self.invariant.are_noted.stands c.in-Some.key there.0 there.1)

@@ -1,16 +1,23 @@
-use Rattle.copyin_base.specs.Worlds.{port_at}
+use Rattle.std.proofs.Common.{sym, subst}
+use Rattle.port.specs.Holding.{KeepsHolder}
+use Rattle.port.specs.Ports.{PortsView}
+use Rattle.copyin_base.specs.Kept.{Kept}
+use Rattle.copyin_base.specs.Worlds.{WorldView, port_at}
 use Rattle.copyin_base.proofs.Told.{port_got}
 use Rattle.copyin_base.proofs.Written.{port_given, port_written}
 use Rattle.copyin_base.proofs.world.World.set_attributes.Goals as goal
 
+pub set_attributes-requires-clause-holder : goal.set_attributes-requires-clause-holder
+set_attributes-requires-clause-holder c = subst (λ (w : WorldView). KeepsHolder w.ports c.args.port c.args.attributes) (sym c.self.view_is) c.requires.holder
+
 pub invariant_of-self : goal.invariant_of-self
 invariant_of-self c =
-    let x = port_got (port_at c.args.self.now c.args.port) c.requires in
+    let x = port_got (port_at c.args.self.now c.args.port) c.requires.there in
     port_given c.args.self.now c.self.inside.spaces.items c.self.inside.ports c.self.inside.ledger c.self.inside.sets c.self.inside.requests c.self.view_is c.args.port x.0 (record x.0 { attributes = c.args.attributes }) c.set_attributes.new.self x.1 (c.set_attributes.ensures x.0) c.self.invariant
 
 pub returns : goal.returns
 returns c =
-    let x = port_got (port_at c.args.self.now c.args.port) c.requires in
+    let x = port_got (port_at c.args.self.now c.args.port) c.requires.there in
     record {
       v = x.0;
       there = x.1;

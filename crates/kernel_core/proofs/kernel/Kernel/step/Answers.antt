@@ -1,8 +1,9 @@
 use Rattle.std.proofs.Common.{sym, subst}
 use Rattle.copyin_base.specs.Worlds.{WorldView}
 use Rattle.copyin_base.specs.Shows.{Shows}
-use Rattle.kernel_core.specs.Wanted.{Wanted}
+use Rattle.kernel_core.specs.Wanted.{Wanted, Spares}
 use Rattle.kernel_core.proofs.Keeping.{done_wanted}
+use Rattle.kernel_core.proofs.Settling.{cleared_spares}
 use Rattle.kernel_core.proofs.Stepping.{acted, declined, still_stands}
 use Rattle.kernel_core.proofs.kernel.Kernel.step.Goals as goal
 
@@ -26,3 +27,6 @@ returns-in-Err-clause-answers c = λ now s sh. rw c.number.ensures (declined _ _
 
 pub returns-in-Ok-clause-wanted : goal.returns-in-Ok-clause-wanted
 returns-in-Ok-clause-wanted c = subst (λ (w : WorldView). Wanted w c.args.event.now c.in-Ok.reply) c.self.view_is (done_wanted _ _ _ _ c.self.invariant c.in-Ok.ensures.serves)
+
+pub returns-in-Ok-clause-spares : goal.returns-in-Ok-clause-spares
+returns-in-Ok-clause-spares c = subst (λ (w : WorldView). Spares w c.args.event.now c.in-Ok.reply c.settle.new.world) c.self.view_is (cleared_spares _ _ _ _ _ c.settle.ensures.clears c.in-Ok.ensures.spares)

@@ -1,7 +1,7 @@
 use Rattle.std.proofs.Common.{subst, ap, sym, ◌∙◌}
 use Rattle.port.specs.Ready.{IsMoved, at_end}
 use Rattle.port.proofs.Moved.{moved_in, apart_of}
-use Rattle.port.proofs.join.Goals as goal
+use Rattle.port.proofs.moves.join.Goals as goal
 
 pub push-requires-clause-apart : goal.push-requires-clause-apart
 push-requires-clause-apart c = apart_of c.args.lists.now c.args.key c.requires.apart

@@ -1,7 +1,7 @@
 use Rattle.std.proofs.Common.{◌≡◌, take}
 use Rattle.slab.specs.Slab.{get}
 use Rattle.port.specs.Records.{ids_at}
-use Rattle.port.proofs.ids_of.Given as goal
+use Rattle.port.proofs.by_key.ids_of.Given as goal
 
 -- the identities under the keys so far
 abbrev pub invariant-loop-key : goal.invariant-loop-key

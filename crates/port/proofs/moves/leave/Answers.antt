@@ -1,7 +1,7 @@
 use Rattle.std.proofs.Common.{subst, ap, sym, ◌∙◌}
 use Rattle.port.specs.Ready.{StandsIn, out_of}
 use Rattle.port.proofs.Moved.{moved_out}
-use Rattle.port.proofs.leave.Goals as goal
+use Rattle.port.proofs.moves.leave.Goals as goal
 
 pub returns-in-Some-clause-moved : goal.returns-in-Some-clause-moved
 returns-in-Some-clause-moved c = moved_out c.args.lists.now c.remove.new.self c.args.key c.in-Some.set (subst (λ o. StandsIn c.args.lists.now c.args.key o) c.in-Some.is c.requires) c.remove.ensures

@@ -1,0 +1,42 @@
+//! Ports that lose their last send right.
+ghost use Rattle.std.specs.Prelude.{◌≡◌, ◌↔◌, IsTrue};
+ghost use Rattle.rights.specs.Ledger.{counts_of};
+ghost use Rattle.copyin_base.specs.Changes.{IsSenderless, NotesSenderless};
+
+use crate::world::World;
+use mach_types::PortId;
+use rights::Ledger;
+
+// Whether the port has no send rights.
+fn has_no_sends(ledger: &Ledger, port: PortId) -> bool
+    ensures { IsTrue result ↔ ((counts_of ledger.now port).send ≡ 0) }
+{
+    match ledger.counts(port) {
+        Some(counts) => counts.send == 0,
+        None => true,
+    }
+}
+
+impl World {
+    // Whether the port is there and has no send rights, and a request stands to be told of that.
+    fn is_senderless(&self, port: PortId) -> bool
+        ensures { IsTrue result ↔ IsSenderless self.now port }
+    {
+        self.requests.no_senders.get(port.number()).is_some()
+            && self.ports.contains(port)
+            && has_no_sends(&self.ledger, port)
+    }
+
+    /// Notes the port for the end of the step where it is there, has no send rights, and a request stands
+    /// to be told of that (Port Manipulation Interface, `mach_port_request_notification`). Each call asks
+    /// for this where a send right of the port went.
+    ///
+    /// Takes no memory. Constant time.
+    pub fn note_senderless(&mut self, port: PortId)
+        ensures { NotesSenderless self.old port self.new }
+    {
+        if self.is_senderless(port) {
+            self.ports.note(port);
+        }
+    }
+}

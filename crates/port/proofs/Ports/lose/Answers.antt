@@ -1,0 +1,21 @@
+use Rattle.std.proofs.Common.{◌≡◌, List, ℕ, Some, is_some, ap, sym, ◌∙◌, refl, ◌∷◌, ◌++◌, []}
+use Rattle.std.specs.FinMap as map
+use Rattle.member_lists.specs.Lists.{without}
+use Rattle.port.specs.declared.Holder.TheVariants as Holder
+use Rattle.port.specs.Holding.{held}
+use Rattle.port.specs.Ports.{PortView, with_port}
+use Rattle.port.specs.Records.{lost_with, doomed_with, with_holder}
+use Rattle.port.proofs.Keys.{same_some}
+use Rattle.port.proofs.Sound.{relisted}
+use Rattle.port.proofs.Waiting.{can_hold, lost_held, doomed_held, not_doomed}
+use Rattle.port.proofs.Ports.lose.Goals as goal
+
+pub returns : goal.returns
+returns g c p h =
+    c.set_holder.ensures.held p h
+    ∙ relisted (with_port c.args.self.now c.args.port (held p Holder.Nobody)) (without c.args.port c.args.self.now.lost ++ c.args.port ∷ []) (without c.args.port c.args.self.now.doomed) c.args.self.now.noted
+    (c.args.self.now.lost ++ c.args.port ∷ []) c.args.self.now.doomed c.args.self.now.noted (record {
+      lost_is = ap (λ (l : List ℕ). l ++ c.args.port ∷ []) (c.set_holder.ensures.lost p h (can_hold p.attributes.holder Holder.Nobody (λ e. e) (c.requires.held p h)));
+      doomed_is = c.set_holder.ensures.doomed p h (can_hold p.attributes.holder Holder.Doomed (λ e. e) (c.requires.held p h));
+      noted_is = refl;
+    })

@@ -1,0 +1,207 @@
+//! Records of ports under their keys: what is read of one, and what changes in one.
+ghost use Rattle.std.specs.Prelude.{◌≡◌, ℕ, ◌+◌, ◌<◌, ◌≤◌, ◌^◌, ◌++◌, ◌∷◌, [], List, length, Some, IsSome, IfOk, OnOk};
+ghost use Rattle.std.specs.List.{Contains};
+ghost use Rattle.slab.specs.Slab.{get, with_value, HasRoomFor};
+ghost use Rattle.port.specs.declared.Record.{Record as AnyRecord};
+ghost use Rattle.port.specs.Holding.{held_by};
+ghost use Rattle.port.specs.Ports.{one_made, one_received};
+ghost use Rattle.port.specs.Records.{ready_set, member_set, waiting_list, noting_list, ids_at};
+
+use crate::slots::{move_first, pop, push};
+use crate::{Attributes, Holder, Message, Record};
+use mach_types::PortId;
+use slab::Slab;
+use std::alloc::{AllocError, Global};
+use std::collections::LinkedList;
+
+// With so many records or fewer, each key fits 32 bits.
+const MOST_RECORDS: usize = 1 << 32;
+
+// The list of the ports that were lost.
+pub(crate) const LOST: u64 = 0;
+
+// The list of the ports that are doomed.
+pub(crate) const DOOMED: u64 = 1;
+
+// The list of the ports that are noted.
+pub(crate) const NOTED: u64 = 0;
+
+// Queues the message at the port under the key.
+pub(crate) fn push_at<M: Message>(
+    records: &mut Slab<Record<M>>,
+    key: usize,
+    spare: &mut LinkedList<M>,
+    message: M,
+)
+    requires there { IsSome (get records.old key) }
+    requires some { 0 < length spare.old }
+    requires fit { (r : AnyRecord M) → get records.old key ≡ Some r → length r.queue + length spare.old < 2 ^ 63 }
+    ensures after { (r : AnyRecord M) → get records.old key ≡ Some r → records.new ≡ with_value records.old key (record r { queue = r.queue ++ message ∷ [] }) }
+    ensures spare { length spare.new + 1 ≡ length spare.old }
+{
+    push(&mut records[key].queue, spare, message);
+}
+
+// Takes the message at the front of the queue of the port under the key.
+pub(crate) fn pop_at<M: Message>(
+    records: &mut Slab<Record<M>>,
+    key: usize,
+    spare: &mut LinkedList<M>,
+    blank: M,
+) -> M
+    requires there { IsSome (get records.old key) }
+    requires some { (r : AnyRecord M) → get records.old key ≡ Some r → 0 < length r.queue }
+    requires fit { (r : AnyRecord M) → get records.old key ≡ Some r → length r.queue + length spare.old < 2 ^ 63 }
+    ensures after { (r : AnyRecord M) → get records.old key ≡ Some r → (rest : List M) × (r.queue ≡ result ∷ rest) × (records.new ≡ with_value records.old key (record r { queue = rest })) }
+    ensures spare { length spare.new ≡ length spare.old + 1 }
+{
+    pop(&mut records[key].queue, spare, blank)
+}
+
+// Takes the message at the front of the queue of the port under the key, and raises the sequence number.
+pub(crate) fn take_at<M: Message>(
+    records: &mut Slab<Record<M>>,
+    key: usize,
+    spare: &mut LinkedList<M>,
+    blank: M,
+) -> M
+    requires there { IsSome (get records.old key) }
+    requires some { (r : AnyRecord M) → get records.old key ≡ Some r → 0 < length r.queue }
+    requires fit { (r : AnyRecord M) → get records.old key ≡ Some r → length r.queue + length spare.old < 2 ^ 63 }
+    ensures after { (r : AnyRecord M) → get records.old key ≡ Some r → (rest : List M) × (r.queue ≡ result ∷ rest) × (records.new ≡ with_value records.old key (record r { queue = rest; kept = record r.kept { attributes = one_received r.kept.attributes } })) }
+    ensures spare { length spare.new ≡ length spare.old + 1 }
+{
+    let record = &mut records[key];
+    record.kept.count_received();
+    pop(&mut record.queue, spare, blank)
+}
+
+// Moves the message at the front of the queue of the port under the key to the end of the destroyed ones.
+pub(crate) fn destroy_at<M: Message>(
+    records: &mut Slab<Record<M>>,
+    key: usize,
+    destroyed: &mut LinkedList<M>,
+)
+    requires there { IsSome (get records.old key) }
+    requires some { (r : AnyRecord M) → get records.old key ≡ Some r → 0 < length r.queue }
+    requires fit { (r : AnyRecord M) → get records.old key ≡ Some r → length r.queue + length destroyed.old < 2 ^ 63 }
+    ensures { (r : AnyRecord M) → get records.old key ≡ Some r →
+        (m : M) × (rest : List M) × (r.queue ≡ m ∷ rest) × (records.new ≡ with_value records.old key (record r { queue = rest })) × (destroyed.new ≡ destroyed.old ++ m ∷ []) }
+{
+    move_first(&mut records[key].queue, destroyed);
+}
+
+// Counts a send right made from the receive right of the port under the key.
+pub(crate) fn count_at<M: Message>(records: &mut Slab<Record<M>>, key: usize)
+    requires { IsSome (get records.old key) }
+    ensures { (r : AnyRecord M) → get records.old key ≡ Some r → records.new ≡ with_value records.old key (record r { kept = record r.kept { attributes = one_made r.kept.attributes } }) }
+{
+    records[key].kept.count_made();
+}
+
+// Sets the attributes of the port under the key.
+pub(crate) fn set_at<M: Message>(records: &mut Slab<Record<M>>, key: usize, attributes: Attributes)
+    requires { IsSome (get records.old key) }
+    ensures { (r : AnyRecord M) → get records.old key ≡ Some r → records.new ≡ with_value records.old key (record r { kept = record r.kept { attributes = attributes } }) }
+{
+    records[key].kept.set_attributes(attributes);
+}
+
+// Says who holds the receive right of the port under the key now.
+pub(crate) fn hold_at<M: Message>(records: &mut Slab<Record<M>>, key: usize, holder: Holder)
+    requires { IsSome (get records.old key) }
+    ensures { (r : AnyRecord M) → get records.old key ≡ Some r → records.new ≡ with_value records.old key (record r { kept = record r.kept { attributes = held_by r.kept.attributes holder } }) }
+{
+    records[key].kept.set_holder(holder);
+}
+
+// Says whether the port under the key is noted now.
+pub(crate) fn note_at<M: Message>(records: &mut Slab<Record<M>>, key: usize, is_noted: bool)
+    requires { IsSome (get records.old key) }
+    ensures { (r : AnyRecord M) → get records.old key ≡ Some r → records.new ≡ with_value records.old key (record r { kept = record r.kept { is_noted = is_noted } }) }
+{
+    records[key].kept.set_noted(is_noted);
+}
+
+// The number of the set that the port under the key is ready in: its set, where it has a message.
+pub(crate) fn ready_at<M: Message>(records: &Slab<Record<M>>, key: usize) -> Option<u64>
+    requires { IsSome (get records.now key) }
+    ensures { (r : AnyRecord M) → get records.now key ≡ Some r → result ≡ ready_set r }
+{
+    let record = &records[key];
+    if record.queue.is_empty() {
+        return None;
+    }
+    let set = record.kept.set()?;
+    Some(set.number())
+}
+
+// The number of the set that the port under the key is in.
+pub(crate) fn member_at<M: Message>(records: &Slab<Record<M>>, key: usize) -> Option<u64>
+    requires { IsSome (get records.now key) }
+    ensures { (r : AnyRecord M) → get records.now key ≡ Some r → result ≡ member_set r }
+{
+    let set = records[key].kept.set()?;
+    Some(set.number())
+}
+
+// The list that the port under the key waits in, if nobody holds it.
+pub(crate) fn waiting_at<M: Message>(records: &Slab<Record<M>>, key: usize) -> Option<u64>
+    requires { IsSome (get records.now key) }
+    ensures { (r : AnyRecord M) → get records.now key ≡ Some r → result ≡ waiting_list r }
+{
+    match records[key].kept.holder() {
+        Holder::Nobody => Some(LOST),
+        Holder::Doomed => Some(DOOMED),
+        _ => None,
+    }
+}
+
+// The list of the noted ports, if the port under the key is noted.
+pub(crate) fn noted_at<M: Message>(records: &Slab<Record<M>>, key: usize) -> Option<u64>
+    requires { IsSome (get records.now key) }
+    ensures { (r : AnyRecord M) → get records.now key ≡ Some r → result ≡ noting_list r }
+{
+    if records[key].kept.is_noted {
+        Some(NOTED)
+    } else {
+        None
+    }
+}
+
+// The identities of the ports under the keys.
+pub(crate) fn ids_of<M: Message>(
+    records: &Slab<Record<M>>,
+    keys: &[usize],
+    alloc: Global,
+) -> Result<Vec<PortId>, AllocError>
+    requires { (key : ℕ) → Contains keys.now key → IsSome (get records.now key) }
+    ensures { IfOk result (λ ids. ids.items ≡ ids_at (get records.now) keys.now) }
+{
+    let mut ids = Vec::new(alloc);
+    for key in keys {
+        ids.push(records[*key].id)?;
+    }
+    Ok(ids)
+}
+
+// A key in 32 bits.
+pub(crate) fn narrow(key: usize) -> u32
+    requires { key < 2 ^ 32 }
+    ensures { result ≡ key }
+{
+    key as u32
+}
+
+// Makes room for one more record, whose key fits 32 bits.
+pub(crate) fn reserve_record<M: Message>(records: &mut Slab<Record<M>>) -> Result<(), AllocError>
+    ensures room { OnOk result (HasRoomFor records.new 1) }
+    ensures few { OnOk result (records.new.capacity ≤ 2 ^ 32) }
+    ensures rest_kept { records.new ≡ record records.old { capacity = records.new.capacity } }
+{
+    records.reserve(1)?;
+    if records.capacity() > MOST_RECORDS {
+        return Err(AllocError);
+    }
+    Ok(())
+}
