@@ -76,8 +76,9 @@ pub(crate) fn run_block<G: Gate + Drop, R: Wait>(
     Ok((pass, answers))
 }
 
-// One call. An error means that memory for a message call's buffer was refused, and the call wasn't made.
-fn make_call<G: Gate, R: Wait>(
+/// Makes one call of a block in this thread, of which the gate is told. May wait. An error means that memory
+/// for a message call's buffer was refused, and the call wasn't made.
+pub fn make_call<G: Gate, R: Wait>(
     rt: &R,
     alloc: Global,
     shared: &Shared,

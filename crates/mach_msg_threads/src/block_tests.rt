@@ -409,15 +409,36 @@ fn two_blocks_feed_each_other(rt: HostRuntime) -> Result<(), Fail> {
     Ok(())
 }
 
+/// Two blocks with such gates, of which the first receives what the second sends after another call.
+/// Whether it did.
+fn second_feeds_first<R: Threads + Wait + Sync>(
+    rt: &R,
+    alloc: Global,
+    first: Waits<'_, R>,
+    second: Waits<'_, R>,
+) -> Result<bool, Fail> {
+    let shared = Shared::new(alloc)?;
+    two_ports(rt, &shared)?;
+    let mut first = caller(rt, alloc, &shared, first)?;
+    first.calls.push(receive(alloc, 1, 0, 24))?;
+    let mut second = caller(rt, alloc, &shared, second)?;
+    second.calls.push(asks(1))?;
+    second.calls.push(send(alloc, &TO_FIRST)?)?;
+    let mut blocks = Vec::new(alloc);
+    blocks.push(first)?;
+    blocks.push(second)?;
+    let all = run_blocks(rt, alloc, &shared, blocks)?;
+    let outcome = Outcome { code: 0, len: 24 };
+    Ok(all.len() == 2 && all[0].1.len() == 1 && is_outcome(&all[0].1[0], outcome, &FROM_FIRST))
+}
+
 /// A block waits as long as its gate does.
 #[test]
 fn gate_holds(rt: HostRuntime) -> Result<(), Fail> {
-    let shared = Shared::new(rt.alloc())?;
-    two_ports(&rt, &shared)?;
     let changes = Changes::new();
     let (here, there) = (Flags::new(), Flags::new());
     let held = AtomicBool::new(false);
-    let gate = Waits {
+    let first = Waits {
         rt: &rt,
         changes: &changes,
         seen: 0,
@@ -425,9 +446,7 @@ fn gate_holds(rt: HostRuntime) -> Result<(), Fail> {
         other: None,
         held: &held,
     };
-    let mut first = caller(&rt, rt.alloc(), &shared, gate)?;
-    first.calls.push(receive(rt.alloc(), 1, 0, 24))?;
-    let gate = Waits {
+    let second = Waits {
         rt: &rt,
         changes: &changes,
         seen: 0,
@@ -435,16 +454,7 @@ fn gate_holds(rt: HostRuntime) -> Result<(), Fail> {
         other: Some(&here),
         held: &held,
     };
-    let mut second = caller(&rt, rt.alloc(), &shared, gate)?;
-    second.calls.push(asks(1))?;
-    second.calls.push(send(rt.alloc(), &TO_FIRST)?)?;
-    let mut blocks = Vec::new(rt.alloc());
-    blocks.push(first)?;
-    blocks.push(second)?;
-    let all = run_blocks(&rt, rt.alloc(), &shared, blocks)?;
-    assert_eq!(rt; all.len(), 2);
-    assert_eq!(rt; all[0].1.len(), 1);
-    assert!(rt; is_outcome(&all[0].1[0], Outcome { code: 0, len: 24 }, &FROM_FIRST));
+    assert!(rt; second_feeds_first(&rt, rt.alloc(), first, second)?);
     assert!(rt; held.load(Ordering::SeqCst));
     Ok(())
 }

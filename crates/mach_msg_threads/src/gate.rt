@@ -15,7 +15,7 @@ pub trait Gate {
 }
 
 /// Whether a call with this reply may have changed what another waits for.
-pub(crate) fn is_change(reply: &Reply) -> bool {
+pub fn is_change(reply: &Reply) -> bool {
     match reply {
         Reply::NoRecord | Reply::Empty(_) => false,
         Reply::Code(code) => *code != MsgReturn::SendTimedOut.number(),

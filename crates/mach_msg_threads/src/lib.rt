@@ -12,10 +12,10 @@ mod gate;
 mod message;
 mod tries;
 
-pub use block::{Answer, Block, Call};
+pub use block::{Answer, Block, Call, make_call};
 pub use blocks::run_blocks;
 pub use fault::RunFault;
-pub use gate::Gate;
+pub use gate::{Gate, is_change};
 pub use message::{Outcome, mach_msg};
 
 #[cfg(test)]

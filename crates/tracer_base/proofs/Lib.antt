@@ -1,3 +1,4 @@
+pub mod BlockLemmas
 pub mod NumberLemmas
 pub mod HexLemmas
 pub mod WordLemmas

@@ -4,6 +4,7 @@
 //! single spaces (`specs/Words`). Nothing here knows the kernel.
 #![tactic(auto)]
 
+mod blocks;
 mod calls;
 mod fault;
 mod hexadecimal;
@@ -12,6 +13,9 @@ mod replies;
 mod script;
 mod words;
 
+pub use blocks::{
+    MOST_THREADS, MessageCall, ScriptLine, read_script_line, write_outcome_line, write_thread_line,
+};
 pub use calls::{next_call, read_call, write_call};
 pub use fault::TextFault;
 pub use replies::{next_reply, read_reply, write_reply, write_reply_line};

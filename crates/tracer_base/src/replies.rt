@@ -185,7 +185,7 @@ pub fn write_reply_line<W: Write>(reply: &Reply, out: &mut W) -> io::Result<()>
 }
 
 /// Writes the text, and then the code as eight digits.
-fn write_code<W: Write>(text: &[u8], code: u32, out: &mut W) -> io::Result<()>
+pub(crate) fn write_code<W: Write>(text: &[u8], code: u32, out: &mut W) -> io::Result<()>
     ensures { OnOk result (Appends (W.contents out.old) (W.contents out.new) (text.now ++ code_text code)) }
 {
     out.write_all(text)?;
