@@ -28,7 +28,8 @@ fn allocate(ports: &mut Ports<Empty>, number: u64) -> bool {
 }
 
 fn holder(ports: &Ports<Empty>, port: u64) -> Option<Holder> {
-    Some(ports.attributes(PortId::new(port))?.holder)
+    let attributes = ports.attributes(PortId::new(port))?;
+    Some(attributes.holder)
 }
 
 fn lose(ports: &mut Ports<Empty>, port: u64) -> bool {
@@ -171,16 +172,30 @@ fn ports_are_noted_once(rt: HostRuntime) {
     assert!(rt; take_noted(&mut ports) == Some(1) && take_noted(&mut ports) == Some(2));
 }
 
+/// Puts a port into a set, if it is there.
+fn put_in(ports: &mut Ports<Empty>, port: PortId, set: SetId) -> bool {
+    let is_there = ports.contains(port);
+    if is_there {
+        move_member(ports, port, Some(set));
+    }
+    is_there
+}
+
+/// Queues a message, if the port has room and a slot is spare.
+fn queue(ports: &mut Ports<Empty>, port: PortId) -> bool {
+    let is_room = ports.has_room(port) && ports.spare() > 0;
+    if is_room {
+        ports.enqueue(port, Empty);
+    }
+    is_room
+}
+
 /// Whether a doomed port keeps its message, and its turn in its set.
 fn stays_in_turn(ports: &mut Ports<Empty>) -> bool {
     let port = PortId::new(0);
     let set = SetId::new(0);
-    let is_there = ports.contains(port) && ports.spare() > 0;
-    if is_there {
-        move_member(ports, port, Some(set));
-        ports.enqueue(port, Empty);
-    }
-    is_there
+    put_in(ports, port, set)
+        && queue(ports, port)
         && lose(ports, 0)
         && doom_first(ports) == Some(0)
         && ready_member(ports, set) == Some(port)
