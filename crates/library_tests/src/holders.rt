@@ -27,9 +27,12 @@ fn allocate(ports: &mut Ports<Empty>, number: u64) -> bool {
     true
 }
 
-fn holder(ports: &Ports<Empty>, port: u64) -> Option<Holder> {
-    let attributes = ports.attributes(PortId::new(port))?;
-    Some(attributes.holder)
+/// Whether this holds the port's receive right.
+fn is_held_by(ports: &Ports<Empty>, port: u64, holder: Holder) -> bool {
+    let Some(attributes) = ports.attributes(PortId::new(port)) else {
+        return false;
+    };
+    attributes.holder == holder
 }
 
 fn lose(ports: &mut Ports<Empty>, port: u64) -> bool {
@@ -97,9 +100,9 @@ fn are_lost(ports: &mut Ports<Empty>) -> bool {
         && !lose(ports, 2)
         && lose(ports, 3)
         && first_lost(ports) == Some(2)
-        && holder(ports, 0) == Some(Holder::Nobody)
+        && is_held_by(ports, 0, Holder::Nobody)
         && send(ports, 0, 1)
-        && holder(ports, 0) == Some(Holder::QueueOf(PortId::new(1)))
+        && is_held_by(ports, 0, Holder::QueueOf(PortId::new(1)))
 }
 
 /// Whether the others are doomed in the order in which they were lost, and one that is lost anew is
@@ -111,7 +114,7 @@ fn are_doomed(ports: &mut Ports<Empty>) -> bool {
         && doom_first(ports) == Some(3)
         && doom_first(ports) == Some(0)
         && doom_first(ports).is_none()
-        && holder(ports, 3) == Some(Holder::Doomed)
+        && is_held_by(ports, 3, Holder::Doomed)
         && !send(ports, 3, 1)
         && !lose(ports, 3)
 }
