@@ -19,6 +19,4 @@ pub use gate::{Gate, is_change};
 pub use message::{Outcome, mach_msg};
 
 #[cfg(test)]
-mod block_tests;
-#[cfg(test)]
 mod tests;
