@@ -1,5 +1,4 @@
 pub mod Answers
-pub mod Settle
 pub mod Send
 pub mod Transfer
 pub mod Room
