@@ -28,4 +28,3 @@ pub mod Requested
 pub mod Idle
 pub mod Noting
 pub mod KeptEntries
-pub mod Disbanded

@@ -1,5 +1,5 @@
 //! The names of one task, as they are read.
-ghost use Rattle.std.specs.Prelude.{◌≡◌, ◌↔◌, ◌+◌, ◌≤◌, ◌≢◌, ℕ, Bool, false, true, Some, IfOk, IfSome, IfNone, IsTrue};
+ghost use Rattle.std.specs.Prelude.{◌≡◌, ◌↔◌, ◌+◌, ◌≤◌, ◌≢◌, ℕ, Bool, false, Some, IfOk, IfSome, IsTrue};
 ghost use Rattle.std.specs.FinMap as map;
 ghost use Rattle.mach_types.specs.Numbers.{most_names};
 ghost use Rattle.name_space.specs.Entry.{port_of};
@@ -113,15 +113,6 @@ impl<'a> TaskNames<'a> {
             return None;
         }
         self.kept.name_of_port(port)
-    }
-
-    /// A name in use, if there is one. Constant time, but for four words of each page of 256 names, up to
-    /// 65,535, that was used and has none.
-    pub fn any_name(&self) -> Option<Name>
-        ensures none { IfNone result (map.len self.now.names ≡ 0) }
-        ensures found { IfSome result (λ name. map.contains_key self.now.names name ≡ true) }
-    {
-        self.kept.any_name()
     }
 
     /// The names, rising. Linear in them, with memory for each; an error means that it was refused.

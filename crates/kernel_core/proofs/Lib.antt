@@ -4,8 +4,8 @@ mod Receiving
 mod Sending
 mod Wanting
 mod Unused
-mod Ending
 mod Stepping
+mod Settling
 mod Keeping
 mod Sparing
 mod Left

@@ -16,8 +16,6 @@ use Rattle.mach_model.specs.Sets.{IsSet}
 use Rattle.mach_model.specs.Machine.{Does}
 use Rattle.mach_model.specs.Receive.{TakesFrom, IsEmptyFor, Receipt}
 use Rattle.mach_model.specs.Refusals.{again_guards, call_guards}
-use Rattle.mach_model.proofs.ReceiveLawful.{Receives-removes}
-use Rattle.mach_model.proofs.StepLawful.{TakesFrom-live}
 use Rattle.name_space.specs.declared.Entry.{Entry}
 use Rattle.name_space.specs.declared.Entry.TheVariants as entry
 use Rattle.name_space.specs.Entry.{port_named, has_receive, receive_named, set_named}
@@ -31,7 +29,7 @@ use Rattle.copyin_base.specs.Kept.{Kept}
 use Rattle.copyin_base.specs.Shows.{target_of, Shows}
 use Rattle.copyin_base.specs.Stands.{Stands}
 use Rattle.copyin_base.specs.Worlds.{WorldView, entry_at, port_at, HasTask}
-use Rattle.copyin_base.proofs.Acting.{Leaves-so, refused, refused_later, none_left, done_leaving}
+use Rattle.copyin_base.proofs.Acting.{Does-so, refused, refused_later, done}
 use Rattle.copyin_base.proofs.Told.{port_of, receive_has, unused, found, names_port, holds_receive, names_receive, not_receive, receive_lives, port_there, among_tasks}
 use Rattle.copyin_base.proofs.Gets.{seen}
 use Rattle.copyin_base.proofs.Roomier.{room_made, room_entry, room_shows}
@@ -289,7 +287,6 @@ module _ (w : WorldView) (task : ℕ) (below : HasTask w task) (waited : Waited)
     requested = sh.requested;
     notes = senders_same w sh.idle.noted;
     none_lost = sh.idle.none_lost;
-    unlost = λ p o. let one = sh.lawful.one_receive p o.0 in let none = o.1 in omega (arith, one, none);
   }
 
   pub receipt_empty : NoneWaits w waited → IsReceipt w task waited room (Reply.Empty waited) w
@@ -314,10 +311,6 @@ module _ (w : WorldView) (task : ℕ) (below : HasTask w task) (waited : Waited)
             requested = x.requested;
             notes = notes_roomier w start new same x.notes;
             none_lost = x.none_lost;
-            unlost = λ p o.
-                let lives = TakesFrom-live s sh.lawful task waited port (from s sh port f) in
-                let one = (Receives-removes task port room bytes s x.t sh.lawful lives (live s sh) x.receives).keeps.one_receive p o.0 in
-                let none = o.1 in omega (arith, one, none);
           };
     }
 
@@ -338,18 +331,19 @@ module _ (w : WorldView) (task : ℕ) (below : HasTask w task) (waited : Waited)
 
 -- a call whose own part is this receipt
 does_receipt : {task room : ℕ} {waited : Waited} {large : Bool} (w : WorldView) (event : Event) (reply : Reply) (new : WorldView) (now : ℕ) (s : State) →
-    (y : ReceiptOf w s task waited room large reply new) → Does now s event reply y.mid [] → Leaves-so w event reply new now s
+    (y : ReceiptOf w s task waited room large reply new) → Does now s event reply y.mid [] → Does-so w event reply new now s
 does_receipt w event reply new now s y does = record {
   mid = y.mid;
   owed = [];
   does = does;
+  none_owed = refl;
   agrees = y.agrees;
   holders = y.holders;
   carriers = y.carriers;
   slots = y.slots;
   requested = y.requested;
   notes = y.notes;
-  left = none_left new y.mid y.none_lost y.unlost;
+  none_lost = y.none_lost;
 }
 
 module _ (w : WorldView) (task room : ℕ) (large : Bool) (below : HasTask w task) where
@@ -365,7 +359,7 @@ module _ (w : WorldView) (task room : ℕ) (large : Bool) (below : HasTask w tas
       named_stays code r = refused_later w (Event.Receive task name room large) below code good (λ s sh. (waited, x.waits s sh, r.refuses s sh))
 
       pub named_received : (reply : Reply) (new : WorldView) → IsReceipt w task waited room reply new → Acts w (Event.Receive task name room large) reply new
-      named_received reply new r = done_leaving w (Event.Receive task name room large) reply new below good (λ now s sh.
+      named_received reply new r = done w (Event.Receive task name room large) reply new below good (λ now s sh.
           let y = r.receipt large s sh in does_receipt w (Event.Receive task name room large) reply new now s y (waited, x.waits s sh, y.receipt))
 
   module _ (waited : Waited) where
@@ -377,5 +371,5 @@ module _ (w : WorldView) (task room : ℕ) (large : Bool) (below : HasTask w tas
       again_stays code r = refused_later w (Event.ReceiveAgain task waited room large) below code record { allowed = λ s sh. good.allowed s sh } (λ s sh. r.refuses s sh)
 
       pub again_received : (reply : Reply) (new : WorldView) → IsReceipt w task waited room reply new → Acts w (Event.ReceiveAgain task waited room large) reply new
-      again_received reply new r = done_leaving w (Event.ReceiveAgain task waited room large) reply new below record { allowed = λ s sh. good.allowed s sh } (λ now s sh.
+      again_received reply new r = done w (Event.ReceiveAgain task waited room large) reply new below record { allowed = λ s sh. good.allowed s sh } (λ now s sh.
           let y = r.receipt large s sh in does_receipt w (Event.ReceiveAgain task waited room large) reply new now s y y.receipt)

@@ -1,5 +1,5 @@
 -- Where the calls that hand, send and receive rights want memory, and what they keep for names and messages to come.
-use Rattle.std.proofs.Common.{◌≡◌, ◌≢◌, ℕ, ◌<◌, ◌≤◌, ◌+◌, ◌⊎◌, Option, Some, None, Ok, refl, sym, ap, subst, ◌∙◌, arith, inl, inr, true, false, Bool}
+use Rattle.std.proofs.Common.{◌≡◌, ◌≢◌, ℕ, ◌<◌, ◌≤◌, ◌+◌, ◌⊎◌, Option, Some, None, refl, sym, ap, subst, ◌∙◌, arith, inl, inr, true, false, Bool}
 use Rattle.std.specs.Prelude.{if◌then◌else◌, max, MatchBool}
 use Rattle.std.specs.FinMap as map
 use Rattle.mach_types.specs.declared.calls.Event.{Event}
@@ -13,7 +13,7 @@ use Rattle.mach_types.specs.Guards.{FirstIs}
 use Rattle.mach_types.specs.Numbers.{kern_number, msg_number}
 use Rattle.mach_types.specs.Tokens.{Kind}
 use Rattle.mach_model.specs.Refusals.{again_guards}
-use Rattle.mach_laws.specs.Counts.{accepts, takes_from}
+use Rattle.mach_laws.specs.Order.{accepts, delivers}
 use Rattle.name_space.specs.declared.Entry.{Entry}
 use Rattle.port.specs.Ports.{PortView, PortsView}
 use Rattle.copyin_base.specs.declared.message.Mark.{Mark}
@@ -42,8 +42,7 @@ use Rattle.kernel_core.specs.Receive.{named_guards, given_by, FreesSlot}
 use Rattle.kernel_core.specs.Transfer.{under_guards, out_guards, names_needed, MayInsert, MayExtract}
 use Rattle.kernel_core.specs.Room.{slots_needed, IsRoomier, MakesSlots}
 use Rattle.kernel_core.specs.Send.{slotted}
-use Rattle.kernel_core.specs.Wanted.{WantsToInsert, WantsToExtract, LeavesSpares}
-use Rattle.kernel_core.proofs.Keeping.{OwesNone, posts_none}
+use Rattle.kernel_core.specs.Wanted.{WantsToInsert, WantsToExtract, Spares}
 
 -- ---- handing a right: want of room for its name
 
@@ -204,26 +203,23 @@ one_freed old new bytes r = record {
   slots = r.slots;
 }
 
--- what a receipt takes is what it gives, as long as a message that is too long stays
-freed_spares : (old : WorldView) (event : Event) (reply : Reply) (new : WorldView) → FreesSlot old reply new → OwesNone event → accepts event reply ≡ 0 → takes_from event reply ≡ given_by reply →
-    LeavesSpares old event (Ok reply) new
-freed_spares old event reply new f owes none given = record {
+freed_spares : (old : WorldView) (event : Event) (reply : Reply) (new : WorldView) → FreesSlot old reply new → accepts event reply ≡ 0 → delivers event reply ≡ given_by reply → Spares old event reply new
+freed_spares old event reply new f none given = record {
   rooms = f.rooms;
-  slots = λ before after now s sh d. inl (let z = posts_none now old s event reply new owes d in let h = f.slots in omega (arith, h, none, given, z));
+  slots = let s = f.slots in omega (arith, s, none, given);
 }
 
-pub named_spares : (old : WorldView) (task name room : ℕ) (large : Bool) (reply : Reply) (new : WorldView) → FreesSlot old reply new →
-    LeavesSpares old (Event.Receive task name room large) (Ok reply) new
-named_spares old task name room large reply new f = freed_spares old (Event.Receive task name room large) reply new f tt refl (gives reply)
+pub named_spares : (old : WorldView) (task name room : ℕ) (large : Bool) (reply : Reply) (new : WorldView) → FreesSlot old reply new → Spares old (Event.Receive task name room large) reply new
+named_spares old task name room large reply new f = freed_spares old (Event.Receive task name room large) reply new f refl (gives reply)
   where
-    gives : (r : Reply) → takes_from (Event.Receive task name room large) r ≡ given_by r
+    gives : (r : Reply) → delivers (Event.Receive task name room large) r ≡ given_by r
     gives (Reply.Message bytes) = refl
     gives r = refl
 
 pub again_spares : (old : WorldView) (task : ℕ) (waited : Waited) (room : ℕ) (large : Bool) (reply : Reply) (new : WorldView) → FreesSlot old reply new →
-    LeavesSpares old (Event.ReceiveAgain task waited room large) (Ok reply) new
-again_spares old task waited room large reply new f = freed_spares old (Event.ReceiveAgain task waited room large) reply new f tt refl (gives reply)
+    Spares old (Event.ReceiveAgain task waited room large) reply new
+again_spares old task waited room large reply new f = freed_spares old (Event.ReceiveAgain task waited room large) reply new f refl (gives reply)
   where
-    gives : (r : Reply) → takes_from (Event.ReceiveAgain task waited room large) r ≡ given_by r
+    gives : (r : Reply) → delivers (Event.ReceiveAgain task waited room large) r ≡ given_by r
     gives (Reply.Message bytes) = refl
     gives r = refl

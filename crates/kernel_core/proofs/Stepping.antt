@@ -8,13 +8,15 @@ use Rattle.mach_types.specs.declared.calls.Event.{Event}
 use Rattle.mach_types.specs.declared.calls.Reply.{Reply}
 use Rattle.mach_types.specs.Tokens.{Request, no_senders, port_destroyed, dead_name}
 use Rattle.mach_model.specs.State.{State, opening}
-use Rattle.mach_model.proofs.Opening.{opening-lawful}
+use Rattle.mach_model.specs.Notices.{Owed}
+use Rattle.mach_model.specs.Settles.{Settles}
+use Rattle.mach_model.proofs.Opening.{opening-lawful, opening-quiet}
 use Rattle.port.specs.Ports.{PortView}
 use Rattle.port_set.specs.declared.SetRecord.{SetRecord}
 use Rattle.request_table.specs.declared.Request.{Request as NameRequest}
 use Rattle.request_table.specs.Requests.{name_key}
 use Rattle.rights.specs.declared.Counts.{Counts}
-use Rattle.copyin_base.specs.Acts.{Acts, Declines}
+use Rattle.copyin_base.specs.Acts.{ShowsMid, Acts, Declines}
 use Rattle.copyin_base.specs.Kept.{Kept}
 use Rattle.copyin_base.specs.Requests.{notify_of, none_requested, rights_kept}
 use Rattle.copyin_base.specs.Shows.{Agrees, Shows}
@@ -25,14 +27,14 @@ use Rattle.copyin_base.proofs.Holders.{holders_none}
 use Rattle.copyin_base.proofs.Idle.{idle_none}
 use Rattle.copyin_base.proofs.Requested.{requested_none}
 use Rattle.copyin_base.proofs.Slots.{slots_none}
-use Rattle.destroy.specs.Stages.{SettlesIn}
 use Rattle.kernel_core.specs.Answers.{Answers}
 
 -- What was done is settled: a step that is done.
-pub acted : (old mid new : WorldView) (event : Event) (reply : Reply) (turns : ℕ) → Acts old event reply mid → SettlesIn mid turns new → Answers old event reply new
-acted old mid new event reply turns a settles = λ now s sh.
+pub acted : (old mid new : WorldView) (event : Event) (reply : Reply) → Acts old event reply mid →
+    ((now : ℕ) (tables : WorldView) (s t : State) (owed : Owed) → ShowsMid now tables mid t owed → (u : State) × Settles now s t owed u × Shows new u) → Answers old event reply new
+acted old mid new event reply a settles = λ now s sh.
     let d = a.acts now s sh in
-    let e = settles now old s d.mid d.owed sh d.shows in
+    let e = settles now old s d.mid d.owed d.shows in
     (e.0, inr (record { unrefused = d.unrefused; mid = d.mid; owed = d.owed; does = d.does; settles = e.1 }), e.2)
 
 -- A refusal is a step that is refused.
@@ -63,7 +65,7 @@ opening_agrees = record {
     receivers = rw (map.get-empty {X = Counts} nat_cmp p) refl;
     senders = rw (map.get-empty {X = Counts} nat_cmp p) refl;
     once_rights = rw (map.get-empty {X = Counts} nat_cmp p) refl;
-    destinations = λ live. rw (map.get-empty {X = Counts} nat_cmp p) refl;
+    destinations = rw (map.get-empty {X = Counts} nat_cmp p) refl;
   };
   total = refl;
   in_sets = record {
@@ -76,7 +78,6 @@ opening_agrees = record {
     kept = λ r kind q. let none = ap (λ (o : Option ℕ). rights_kept opening.live_port o kind q) (nothing r) in omega (arith, none);
     given = λ r q is. absurd (let e : None ≡ Some q = sym (nothing r) ∙ is in cc);
     given_went = tt;
-    ended_went = tt;
   };
 }
   where
@@ -101,6 +102,7 @@ opening_shows = record {
   requested = requested_none;
   idle = idle_none;
   lawful = opening-lawful;
+  quiet = opening-quiet;
 }
 
 pub opening_stands : Stands no_world

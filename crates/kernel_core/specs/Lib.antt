@@ -1,4 +1,5 @@
 pub mod Answers
+pub mod Settle
 pub mod Send
 pub mod Transfer
 pub mod Room

@@ -5,7 +5,6 @@ use Rattle.mach_types.specs.declared.calls.Reply.{Reply}
 use Rattle.mach_types.specs.declared.calls.Waited.{Waited}
 use Rattle.mach_types.specs.Guards.{Guards, NoneHolds}
 use Rattle.mach_model.specs.State.{State}
-use Rattle.mach_model.specs.Death.{IsOrphan}
 use Rattle.mach_model.specs.Receive.{waits_for, Receipt, ReceiptRefuses}
 use Rattle.mach_model.specs.Refusals.{again_guards, call_guards}
 use Rattle.name_space.specs.declared.Entry.{Entry}
@@ -75,7 +74,6 @@ pub record ReceiptOf (old : WorldView) (s : State) (task : ℕ) (waited : Waited
   pub requested : RequestsStand new
   pub notes : NotesSenders old new
   pub none_lost : NoneLost new
-  pub unlost : (p : ℕ) → ¬ (IsOrphan mid p)
 
 -- It is answered so, whether a longer message was to stay or not.
 pub record IsReceipt (old : WorldView) (task : ℕ) (waited : Waited) (room : ℕ) (reply : Reply) (new : WorldView) : Type 0 where

@@ -9,8 +9,7 @@ ghost use Rattle.mach_model.specs.Machine.{Step};
 ghost use Rattle.mach_model.specs.Refusals.{tasks_of};
 ghost use Rattle.mach_laws.specs.Queued.{unused};
 ghost use Rattle.copyin_base.specs.Acts.{AreTasks, HasTasks, Declines};
-ghost use Rattle.rights.specs.Unused.{IsUnusedOfAll};
-ghost use Rattle.copyin_base.specs.Shows.{Shows, SlotsSuffice};
+ghost use Rattle.copyin_base.specs.Shows.{Shows};
 ghost use Rattle.copyin_base.specs.Stands.{Stands};
 ghost use Rattle.kernel_core.specs.Answers.{Answers};
 ghost use Rattle.kernel_core.specs.Bounds.{most_told, IsWithin};
@@ -37,7 +36,6 @@ use std::marker::Model;
 pub struct Kernel {
     alloc: Global,
     world: World,
-    turns: u64,
 }
 
 impl Model for Kernel {
@@ -75,7 +73,6 @@ impl Kernel {
         Kernel {
             alloc,
             world: World::new(alloc),
-            turns: 0,
         }
     }
 
@@ -100,41 +97,31 @@ impl Kernel {
     /// one name that was made first may stay. A message slot is spare for each send-once right that no
     /// queued message goes by, so that what comes by the right has one; slots are made only for an
     /// accepted message and for such rights that are made, where fewer are spare. An accepted message
-    /// uses one, and so does a notice; it is spare again once the message was received or destroyed.
+    /// uses one, which is spare again once the message was received.
     pub fn step(&mut self, event: &Event) -> Reply
         ensures answers { Answers self.old event.now result self.new }
         ensures wanted { Wanted self.old event.now result }
-        ensures spares { Spares self.old self.new }
+        ensures spares { Spares self.old event.now result self.new }
         ensures unused { (s : State) → Shows self.new s → self.new.ledger.unused ≡ unused s }
     {
-        check_slots(&self.world);
         match act(&mut self.world, self.alloc, event) {
             Ok(reply) => {
-                check_slots(&self.world);
-                self.turns = settle(&mut self.world);
+                settle(&mut self.world);
                 check_slots(&self.world);
                 reply
             }
             Err(code) => {
-                self.turns = 0;
                 check_slots(&self.world);
                 Reply::Code(code.number())
             }
         }
     }
-
-    /// In how many turns the last step ended: 0 before the first, and after a refusal. A turn is a port
-    /// judged, a message destroyed, a right of such a message lost, or a request ended. Constant time.
-    pub fn last_turns(&self) -> u64 {
-        self.turns
-    }
 }
 
-/// A message slot is spare for each send-once right that no queued message goes by: before a step, after
-/// the call's own part of it, and after it.
+/// After a step a message slot is spare for each send-once right that no queued message goes by.
 fn check_slots(world: &World)
-    requires { SlotsSuffice world.now }
-    ensures { IsUnusedOfAll world.now.ledger }
+    requires { Stands world.now }
+    ensures { (s : State) → Shows world.now s → world.now.ledger.unused ≡ unused s }
 {
     let enough = world.slots_suffice();
     prove!(enough);

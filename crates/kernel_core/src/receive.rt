@@ -11,7 +11,7 @@ ghost use Rattle.copyin_base.specs.Finds.{FindsReceive};
 ghost use Rattle.copyin_base.specs.Stands.{Stands};
 ghost use Rattle.copyin_base.specs.Worlds.{entry_at, port_at, HasTask};
 ghost use Rattle.kernel_core.specs.Receive.{named_guards, Sources, IsMember, IsAlone, HasMessage, NoneWaits, IsReceipt, StaysFor, waited_at, FreesSlot};
-ghost use Rattle.kernel_core.specs.Wanted.{WantsToTake, WantsMemory, LeavesSpares};
+ghost use Rattle.kernel_core.specs.Wanted.{WantsToTake, WantsMemory, Spares, answer};
 
 use copyin_base::{Code, World};
 use copyout::Refusal;
@@ -55,7 +55,7 @@ pub(crate) fn receive(
     requires stands { Stands world.old }
     ensures serves { Serves world.old (AnyEvent.Receive task name buffer.room buffer.large) result world.new }
     ensures wanted { IfErr result (λ code. code_number code ≡ msg_number msg.ReceiveBodyErrorMemory → WantsMemory world.old (AnyEvent.Receive task name buffer.room buffer.large)) }
-    ensures spares { LeavesSpares world.old (AnyEvent.Receive task name buffer.room buffer.large) result world.new }
+    ensures spares { Spares world.old (AnyEvent.Receive task name buffer.room buffer.large) (answer result) world.new }
 {
     let waited = source(world, task, name)?;
     Ok(take(world, alloc, task, waited, buffer.room)?)
@@ -79,7 +79,7 @@ pub(crate) fn receive_again(
     requires stands { Stands world.old }
     ensures serves { Serves world.old (AnyEvent.ReceiveAgain task waited buffer.room buffer.large) result world.new }
     ensures wanted { IfErr result (λ code. code_number code ≡ msg_number msg.ReceiveBodyErrorMemory → WantsToTake world.old task waited) }
-    ensures spares { LeavesSpares world.old (AnyEvent.ReceiveAgain task waited buffer.room buffer.large) result world.new }
+    ensures spares { Spares world.old (AnyEvent.ReceiveAgain task waited buffer.room buffer.large) (answer result) world.new }
 {
     judge_again(world, task, &waited)?;
     Ok(take(world, alloc, task, waited, buffer.room)?)

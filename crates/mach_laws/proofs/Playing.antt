@@ -36,7 +36,6 @@ use Rattle.mach_model.specs.ReceiveRight.{one_if, TellsStatus}
 use Rattle.mach_model.specs.Refusals.{guards, Refuses}
 use Rattle.mach_model.specs.Machine.{Does, Step}
 use Rattle.mach_model.proofs.Names.{get_own, get_other}
-use Rattle.mach_model.proofs.Quiet.{LosesNone}
 use Rattle.mach_model.proofs.StepQuiet.{IsCalm, quiet_step}
 use Rattle.mach_laws.proofs.Answered.{one_port}
 
@@ -165,12 +164,12 @@ copies_plain {new = new} no_answer null right is_kind =
 pub refused : {now : ℕ} {s : State} {event : Event} {code : ℕ} → IsCalm s → Refuses s event code → Plays now s event (Reply.Code code) s
 refused {code = code} l refuses = (inl (record { code = code; told = refl; refuses = refuses; same = refl }), l)
 
--- An event that no guard refuses does its part, and no right is lost.
-pub plays : {now : ℕ} {old new : State} {event : Event} {reply : Reply} → IsCalm old → LosesNone old event reply → NoneHolds (guards old event) → Does now old event reply new [] → Plays now old event reply new
-plays {now} {old} {new} {event} {reply} l none good does = let s = quiet_step now old event reply new l.lawful l.quiet none good does in (s.0, record { lawful = s.1; quiet = s.2 })
+-- An event that no guard refuses does its part, and nothing is owed.
+pub plays : {now : ℕ} {old new : State} {event : Event} {reply : Reply} → IsCalm old → NoneHolds (guards old event) → Does now old event reply new [] → Plays now old event reply new
+plays {now} {old} {new} {event} {reply} l good does = let s = quiet_step now old event reply new l.lawful l.quiet good does in (s.0, record { lawful = s.1; quiet = s.2 })
 
 pub task_made : {now : ℕ} {s : State} → IsCalm s → s.tasks_made < most_tasks → Plays now s Event.TaskCreate (Reply.Task s.tasks_made) (with_task s)
-task_made {now} {s} l few = plays l tt ((λ dead. dead), ((λ h. omega (arith, h, few)), tt)) (record { task_is = refl; rest = refl }, refl)
+task_made {now} {s} l few = plays l ((λ dead. dead), ((λ h. omega (arith, h, few)), tt)) (record { task_is = refl; rest = refl }, refl)
 
 there : (s : State) (task : ℕ) → s.live_task task ≡ true → ¬ (IsNoTask s task)
 there s task lives h = cc
@@ -180,7 +179,7 @@ module _ {now : ℕ} {s : State} (l : IsCalm s) {task : ℕ} (lives : s.live_tas
   pub allocated : {right name : ℕ} {new : State} → IsFresh (s.naming task) name → map.len (s.naming task) < most_names → length s.ledger + s.ports_made + s.sets_made < most_rights →
       Makes task right name s new → Plays now s (Event.Allocate task right) (Reply.Name name) new
   allocated {right} {name} {new} fresh room few makes =
-      plays l tt (there s task lives, (made makes, (not_full, tt))) (fresh, makes, refl)
+      plays l (there s task lives, (made makes, (not_full, tt))) (fresh, makes, refl)
     where
       made : Makes task right name s new → ¬ (IsNoMaking right)
       made (inl m) h = h.0 m.0
@@ -202,7 +201,7 @@ module _ {now : ℕ} {s : State} (l : IsCalm s) {task : ℕ} (lives : s.live_tas
       length (queue copied m.destination) < copied.limit m.destination → length copied.ledger ≤ most_rights →
       Plays now s (Event.Send task bytes) (Reply.Code 0) (with_entry now m copied)
   sent {bytes} header written m copied good spells is_copied no_receive room few =
-      plays l tt (there s task lives, good) (refl, sends, refl)
+      plays l (there s task lives, good) (refl, sends, refl)
     where
       sends : Sends now task bytes s (with_entry now m copied)
       sends = record {
@@ -223,13 +222,13 @@ module _ {now : ℕ} {s : State} (l : IsCalm s) {task : ℕ} (lives : s.live_tas
   pub received : {name p room : ℕ} {bytes : List ℕ} {new : State} → lookup s task name ≡ Some (Target.port p) → Holds s task receive p → s.sets_of p ≡ [] → Receives task p room bytes s new →
       Plays now s (Event.Receive task name room false) (Reply.Message bytes) new
   received {name} {p} {room} {bytes} {new} found holds alone receives =
-      plays l tt
+      plays l
       (there s task lives, ((λ h. h (inl (p, found, holds))), ((λ h. h.2 (ap s.sets_of (one_port (lookup s task name) h.0 p h.1 found) ∙ alone)), tt)))
       (Waited.Port p, (found, holds), (p, (refl, holds, alone), receives, refl))
 
   pub type_told : {name : ℕ} (target : Target) → lookup s task name ≡ Some target → Plays now s (Event.NameType task name) (Reply.NameType (type_of s task name target)) s
   type_told {name} target found =
-      plays l tt (there s task lives, (used found, tt)) ((target, found, refl), refl, refl)
+      plays l (there s task lives, (used found, tt)) ((target, found, refl), refl, refl)
 
   pub no_type : {name : ℕ} → lookup s task name ≡ None → Plays now s (Event.NameType task name) (Reply.Code 15) s
   no_type none = refused l (inl (inr (there s task lives, inl (none, refl))))
@@ -237,12 +236,12 @@ module _ {now : ℕ} {s : State} (l : IsCalm s) {task : ℕ} (lives : s.live_tas
   pub references_told : {name right : ℕ} (target : Target) → lookup s task name ≡ Some target → right ≤ 4 →
       Plays now s (Event.GetRefs task name right) (Reply.Refs (references s task target right)) s
   references_told {name} {right} target found is_right =
-      plays l tt
+      plays l
       (there s task lives, ((λ h. omega (arith, h, is_right)), (used found, tt))) ((target, found, refl), refl, refl)
 
   pub status_told : {name : ℕ} (p : ℕ) → lookup s task name ≡ Some (Target.port p) → Holds s task receive p → s.sets_of p ≡ [] → Plays now s (Event.ReceiveStatus task name) (Reply.Status (status_of s p)) s
   status_told {name} p found holds alone =
-      plays l tt
+      plays l
       (there s task lives, (used found, ((λ h. h (p, found, holds)), tt))) (tells, refl, refl)
     where
       tells : TellsStatus s task name (status_of s p)
@@ -254,7 +253,7 @@ module _ {now : ℕ} {s : State} (l : IsCalm s) {task : ℕ} (lives : s.live_tas
       held (with_made MakeSend p from poly (in_task task) s) task send p ≤ most_references →
       Plays now s (Event.InsertRight task name from poly 20) (Reply.Code 0) (with_inserted task name from poly p s)
   send_inserted {name} {from} {poly} p from_lives found holds unused above below unheld room few few_references =
-      plays l tt (
+      plays l (
         (λ h. elim h [ inl e ↦ there s task lives e | inr e ↦ cc ]),
         (
           (λ h. elim h [ inl e ↦ elim e [ inl f ↦ omega (arith, f, above) | inr f ↦ omega (arith, f, below) ] | inr e ↦ e (omega arith, omega arith) ]),

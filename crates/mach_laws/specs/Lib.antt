@@ -4,7 +4,6 @@ pub mod Received
 pub mod Delivered
 pub mod Order
 pub mod Queued
-pub mod Counts
 pub mod Headline
 pub mod Notices
 pub mod Looks
@@ -16,5 +15,3 @@ pub mod Gathering
 pub mod Handed
 pub mod Naming
 pub mod Grouping
-pub mod Telling
-pub mod Destroying

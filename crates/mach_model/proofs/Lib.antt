@@ -5,7 +5,6 @@ pub mod Names
 pub mod Spaces
 pub mod SetNames
 pub mod Requests
-pub mod Quiet
 pub mod Settling
 pub mod Receivers
 pub mod Moving
@@ -57,4 +56,3 @@ pub mod TurnsCounted
 pub mod TurnsLogs
 pub mod TurnsMade
 pub mod TurnsBounded
-pub mod StepReceives

@@ -1,8 +1,2 @@
 pub mod Posting
-pub mod Losing
 pub mod SoFar
-pub mod Destroying
-pub mod Ending
-pub mod Requesting
-pub mod Room
-pub mod Putting

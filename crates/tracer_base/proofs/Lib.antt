@@ -7,4 +7,3 @@ pub mod CallLemmas
 pub mod SameWords
 pub mod SameCalls
 pub mod SameReplies
-pub mod NotifyLemmas

@@ -18,9 +18,10 @@ loop-event-preserved c =
     let before = take c.loop-event.event-index events in
     let step = c.step-reply.ensures.answers (length before) inv.0 inv.2 in
     let same : c.step-reply.new.self.ledger.unused ≡ unused step.0 = c.step-reply.ensures.unused step.0 step.2 in
+    let slots = c.step-reply.ensures.spares.slots in
     let more = take_more events c.loop-event.event-index c.event-item.result c.loop-event-test.true in
     let pushed = followed_push before c.loop-event.replies.items inv.0 c.loop-event.kernel.ports.spare c.event-item.result c.step-reply.result step.0 c.step-reply.new.self.ports.spare inv.1
-    step.1 (c.step-reply.ensures.spares.slots inv.0 step.0 inv.2 step.2) in
+    step.1 (omega (arith, slots, same)) in
     let enough = step.2.slots in
     (step.0, rw (more, c.in_ok-push.ensures.items, ← c.event-item.is) pushed, step.2, omega (arith, enough, same))
 

@@ -1,9 +1,0 @@
-use Rattle.std.specs.FinMap as map
-use Rattle.destroy.specs.Stages.{AreTold, Continues}
-use Rattle.destroy.proofs.burials.bury_ports.Given as goal
-
-abbrev pub invariant-loop-port : goal.invariant-loop-port
-invariant-loop-port l = Continues AreTold AreTold l.fn.world l.turns l.world
-
-abbrev pub decreases-loop-port : goal.decreases-loop-port
-decreases-loop-port l = map.len l.world.ports.ports
