@@ -1,15 +1,15 @@
 -- What judging the words of a text says of the plan.
 use Rattle.std.proofs.Common.{◌≡◌, ℕ, ◌+◌, ◌/◌, ◌%◌, ◌^◌, ◌<◌, ◌≤◌, Option, Some, None, IsSome, IfSome, List, [], ◌∷◌, length, refl, sym, ap, subst, ◌∙◌, inl, inr, ◌⊎◌, arith, All}
-use Rattle.std.specs.Prelude.{◌≢◌}
-use Rattle.std.specs.Option.{option_to_list}
+use Rattle.std.specs.Prelude.{◌≢◌, Bool, true, false, if◌then◌else◌, ◌==◌, MatchBool}
+use Rattle.std.specs.Option.{option_to_list, unwrap_or}
 use Rattle.std.proofs.lemmas.Bool.Decides.{eqb_tells, leb_tells}
 use Rattle.std.proofs.lemmas.List.Elements.{All-append, All-map}
 use Rattle.mach_types.specs.declared.codes.MsgReturn.{MsgReturn}
 use Rattle.mach_types.specs.declared.codes.MsgReturn.TheVariants.{SendMsgTooSmall, SendInvalidData, SendInvalidHeader, SendTimedOut, SendNoBuffer}
 use Rattle.mach_types.specs.declared.rights.Disposition.{Disposition}
-use Rattle.mach_types.specs.declared.rights.Disposition.TheVariants.{MoveSend, MoveSendOnce, CopySend, MakeSend, MakeSendOnce}
+use Rattle.mach_types.specs.declared.rights.Disposition.TheVariants.{MoveReceive, MoveSend, MoveSendOnce, CopySend, MakeSend, MakeSendOnce}
 use Rattle.mach_types.specs.Grammar.{Header, Wire, data_item, port_item, WireBody, raw, items, IsWire, IsWireBody, NamesPorts, text}
-use Rattle.mach_types.specs.Numbers.{disposition, kind_sent, msg_number, most_rights}
+use Rattle.mach_types.specs.Numbers.{disposition, kind_sent, msg_number, most_rights, null_word, dead_word}
 use Rattle.mach_types.specs.TextGuards.{TextRefuses, BadHeader, IsSendable, word_at}
 use Rattle.mach_types.specs.Tokens.{receive, send, send_once}
 use Rattle.smallvec.specs.SmallVec.{small_vec_len}
@@ -22,10 +22,11 @@ use Rattle.message_codec.proofs.Shapes.{All-head, All-tail}
 use Rattle.name_space.specs.Names.{Names, SpaceView}
 use Rattle.port.specs.Ports.{IsLive}
 use Rattle.copyin_base.specs.declared.message.Carried.{Carried}
+use Rattle.copyin_base.specs.declared.message.Mark.TheVariants as mark
 use Rattle.copyin.specs.declared.judge.Rights.{Rights}
 use Rattle.copyin.specs.declared.judge.Words.{Words}
 use Rattle.copyin.specs.Goes.{AreGiven, LeadsNowhere, Starts, GoAll, CannotGo, made_by_rights}
-use Rattle.copyin.specs.Judging.{CopiesName, CopiesReply, CopiesBody, BodyIsBad}
+use Rattle.copyin.specs.Judging.{CopiesName, PassesAs, CopiesWord, CopiesReply, CopiesBody, BodyIsBad}
 use Rattle.copyin.specs.Planned.{AreWords}
 use Rattle.copyin.specs.Plans.{reply_words, Judged, Plans, Begins, HasSlot, HasNoSlot, CannotPlan}
 use Rattle.copyin_base.specs.Stands.{AreTied}
@@ -112,6 +113,31 @@ module _ (bytes : List ℕ) (parsed : Parsed) (p : Parses bytes parsed) where
 
   pub local_sendable : parsed.local_kind ≢ 0 → IsSendable parsed.local_kind
   local_sendable some = subst IsSendable local_is (sendable _ (λ n. good (inr (inr (inl ((λ e. some (sym local_is ∙ e)), n))))))
+
+-- a word that is copied in gives its disposition
+word_given : (names : Names) (w : PortWord) (c : Carried) (after : Names) → CopiesWord names w c after → disposition w.disposition ≡ Some c.given
+word_given names w c after = go (w.name == null_word) (w.name == dead_word)
+  where
+    go : (a b : Bool) → MatchBool a (PassesAs w mark.Null names c after) (MatchBool b (PassesAs w mark.Dead names c after) (CopiesName names w c after)) → disposition w.disposition ≡ Some c.given
+    go true b x = x.0
+    go false true x = x.0
+    go false false x = x.is_given
+
+-- the right to answer with is no receive right
+pub reply_sends : (bytes : List ℕ) (parsed : Parsed) → Parses bytes parsed → (first second : Names) (reply : Option Carried) → CopiesReply first (reply_words parsed) reply second →
+    (c : Carried) → reply ≡ Some c → c.given ≢ MoveReceive
+reply_sends bytes parsed p first second None copies c is moves = absurd (let e : None ≡ Some c = is in cc)
+reply_sends bytes parsed p first second (Some d) copies c is moves = by (parsed.local_kind == 0) refl copies
+  where
+    same : d ≡ c
+    same = ap (λ (o : Option Carried). unwrap_or o d) is
+
+    by : (b : Bool) → parsed.local_kind == 0 ≡ b → CopiesReply first (if b then [] else record { disposition = parsed.local_kind; name = parsed.local } ∷ []) (Some d) second → ⊥
+    by true e x = x
+    by false e x =
+        let given = word_given first (record { disposition = parsed.local_kind; name = parsed.local }) d second x in
+        let some : parsed.local_kind ≢ 0 = λ z. (let f : parsed.local_kind == 0 ≡ true = ap (λ (m : ℕ). m == 0) z in cc) in
+        sendable_sends parsed.local_kind d.given (local_sendable bytes parsed p some) given (ap kind_sent (ap (λ (x : Carried). x.given) same ∙ moves))
 
 abbrev IsGiven : PortWord → Type 0
 IsGiven w = IsSome (disposition w.disposition)

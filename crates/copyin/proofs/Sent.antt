@@ -28,6 +28,7 @@ use Rattle.copyin_base.specs.Shows.{AllKept, came_by_once, onces_queued, ShowsPo
 use Rattle.copyin_base.proofs.Counting.{once_queued, queues_same}
 use Rattle.copyin_base.proofs.Tied.{stands_is_tied}
 use Rattle.copyin.specs.Copies.{ledger_queued}
+use Rattle.copyin.proofs.Planning.{reply_sends}
 use Rattle.copyin.proofs.RequestedKept.{commits_requested}
 use Rattle.copyin.proofs.Unused.{once_stays}
 use Rattle.copyin_base.proofs.Agreeing.{live_put, ports_put}
@@ -207,6 +208,7 @@ module _ (w : WorldView) (s : State) (sh : Shows w s) (now task : ℕ) (bytes : 
     given = (third w s sh task bytes parsed text j).given;
     few = few_bytes bytes parsed text;
     id_fits = subst (λ (n : ℕ). n < 2 ^ 32) (sym text.id) text.message.spells.header_fits.id;
+    reply_sent = λ c is. reply_sends bytes parsed text j.first j.second j.reply j.copies_reply c is;
     message_is = refl;
   }
 

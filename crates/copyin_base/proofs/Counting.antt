@@ -39,16 +39,16 @@ module _ (l : LedgerView) (live : ℕ → Bool) (tokens : List Token) (queued : 
   counts_agree l2 live2 tokens2 queued2 p v is lives receives sends onces destinations others q =
       let each = each_put l.counts p (Some v) (λ q o. (is_some o ≡ live2 q) × ((unwrap_or o no_rights).receive ≡ count (is_of receive q) tokens2)
       × ((unwrap_or o no_rights).send ≡ count (is_of send q) tokens2) × ((unwrap_or o no_rights).send_once + (unwrap_or o no_rights).destination ≡ count (is_of send_once q) tokens2)
-      × ((unwrap_or o no_rights).destination ≡ queued2 q))
-      (lives, receives, sends, onces, destinations)
-      (λ q not. let x = a q in let o = others q not in (x.entered ∙ o.0, x.receivers ∙ o.2 receive, x.senders ∙ o.2 send, x.once_rights ∙ o.2 send_once, x.destinations ∙ o.1)) q in
+      × (live2 q ≡ true → (unwrap_or o no_rights).destination ≡ queued2 q))
+      (lives, receives, sends, onces, λ _. destinations)
+      (λ q not. let x = a q in let o = others q not in (x.entered ∙ o.0, x.receivers ∙ o.2 receive, x.senders ∙ o.2 send, x.once_rights ∙ o.2 send_once, λ e. x.destinations (o.0 ∙ e) ∙ o.1)) q in
       let at = ap (λ m. map.get m q) is in
       record {
         entered = ap is_some at ∙ each.0;
         receivers = ap (λ (o : Option Counts). (unwrap_or o no_rights).receive) at ∙ each.1;
         senders = ap (λ (o : Option Counts). (unwrap_or o no_rights).send) at ∙ each.2;
         once_rights = ap (λ (o : Option Counts). (unwrap_or o no_rights).send_once + (unwrap_or o no_rights).destination) at ∙ each.3;
-        destinations = ap (λ (o : Option Counts). (unwrap_or o no_rights).destination) at ∙ each.4;
+        destinations = λ e. ap (λ (o : Option Counts). (unwrap_or o no_rights).destination) at ∙ each.4 e;
       }
 
   -- A right of one kind was made, or one went.
@@ -73,9 +73,9 @@ module _ (l : LedgerView) (live : ℕ → Bool) (tokens : List Token) (queued : 
         onces send_once = let x = (a p).once_rights in let o = one_of send_once p place refl in omega (arith, x, o)
 
         destinations : (k : Kind) → (with_more (right_of k) 1 (counts_of l p)).destination ≡ queued p
-        destinations receive = (a p).destinations
-        destinations send = (a p).destinations
-        destinations send_once = (a p).destinations
+        destinations receive = (a p).destinations lives
+        destinations send = (a p).destinations lives
+        destinations send_once = (a p).destinations lives
 
     pub right_taken : (kind ≡ send_once → ⊥) → (others : List Token) → ((h : Token → ℕ) → weigh h others + h (token kind p place) ≡ weigh h tokens) →
         (q : ℕ) → CountsAgree (taken l p (right_of kind) 1) live others queued q
@@ -103,23 +103,23 @@ module _ (l : LedgerView) (live : ℕ → Bool) (tokens : List Token) (queued : 
         onces send_once not m = absurd (not refl)
 
         destinations : (k : Kind) → (with_fewer (right_of k) 1 (counts_of l p)).destination ≡ queued p
-        destinations receive = (a p).destinations
-        destinations send = (a p).destinations
-        destinations send_once = (a p).destinations
+        destinations receive = (a p).destinations lives
+        destinations send = (a p).destinations lives
+        destinations send_once = (a p).destinations lives
 
   -- A message that goes by a send-once right was queued, or the front one was taken.
   module _ (queued2 : ℕ → ℕ) (p : ℕ) (lives : live p ≡ true) (elsewhere : (q : ℕ) → (q ≡ p → ⊥) → queued q ≡ queued2 q) where
     pub once_queued : 0 < (counts_of l p).send_once → queued2 p ≡ queued p + 1 → (q : ℕ) → CountsAgree (shifted l p) live tokens queued2 q
     once_queued some more = counts_agree (shifted l p) live tokens queued2 p (one_shifted (counts_of l p)) refl (sym lives) (a p).receivers (a p).senders
-        (let x = (a p).once_rights in omega (arith, x, some)) (let x = (a p).destinations in omega (arith, x, more)) (λ q not. (refl, elsewhere q not, λ c. refl))
+        (let x = (a p).once_rights in omega (arith, x, some)) (let x = (a p).destinations lives in omega (arith, x, more)) (λ q not. (refl, elsewhere q not, λ c. refl))
 
     pub once_taken : (place : Place) (others : List Token) → ((h : Token → ℕ) → weigh h others + h (token send_once p place) ≡ weigh h tokens) → queued2 p + 1 ≡ queued p →
         (q : ℕ) → CountsAgree (taken l p right.Destination 1) live others queued2 q
     once_taken place others parts fewer = counts_agree (taken l p right.Destination 1) live others queued2 p (with_fewer right.Destination 1 (counts_of l p)) refl (sym lives)
         (let x = (a p).receivers in let m = parts (λ x. if is_of receive p x then 1 else 0) in omega (arith, x, m))
         (let x = (a p).senders in let m = parts (λ x. if is_of send p x then 1 else 0) in omega (arith, x, m))
-        (let x = (a p).once_rights in let d = (a p).destinations in let m = parts (λ x. if is_of send_once p x then 1 else 0) in let o = one_of send_once p place refl in omega (arith, x, d, m, o, fewer))
-        (let d = (a p).destinations in omega (arith, d, fewer))
+        (let x = (a p).once_rights in let d = (a p).destinations lives in let m = parts (λ x. if is_of send_once p x then 1 else 0) in let o = one_of send_once p place refl in omega (arith, x, d, m, o, fewer))
+        (let d = (a p).destinations lives in omega (arith, d, fewer))
         (λ q not. (refl, elsewhere q not, λ c. let m = parts (λ x. if is_of c q x then 1 else 0) in let z = none_of_port send_once c p q place not in omega (arith, m, z)))
 
   -- There are as many rights as before.
@@ -134,4 +134,4 @@ module _ (l : LedgerView) (live : ℕ → Bool) (tokens : List Token) (queued : 
 
   -- As many queued messages go by send-once rights as before.
   pub queues_same : (queued2 : ℕ → ℕ) → ((q : ℕ) → queued q ≡ queued2 q) → (q : ℕ) → CountsAgree l live tokens queued2 q
-  queues_same queued2 same q = let x = a q in record { entered = x.entered; receivers = x.receivers; senders = x.senders; once_rights = x.once_rights; destinations = x.destinations ∙ same q }
+  queues_same queued2 same q = let x = a q in record { entered = x.entered; receivers = x.receivers; senders = x.senders; once_rights = x.once_rights; destinations = λ e. x.destinations e ∙ same q }

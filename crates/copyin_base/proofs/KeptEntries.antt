@@ -6,7 +6,6 @@ use Rattle.mach_types.specs.Messages.{Entry}
 use Rattle.mach_model.specs.State.{State, queue}
 use Rattle.mach_model.specs.Carried.{lying, message_count}
 use Rattle.mach_model.specs.Lawful.{IsLawful}
-use Rattle.mach_model.specs.NotYet.{IsQuiet}
 use Rattle.copyin_base.specs.Kept.{Kept, Keeps}
 use Rattle.copyin_base.specs.Shows.{AllKept}
 
@@ -26,10 +25,7 @@ kept_of p (x ∷ ms) (e ∷ es) h m (suc k, below, is) =
     let r = kept_of p ms es h.1 m (k, omega (arith, below), is) in
     record { index = suc r.index; entry = r.entry; at = r.at; keeps = r.keeps }
 
--- What a queued message carries for a live port lies at its place; as long as the rules of NotYet stand that is no receive right.
+-- What a queued message carries for a live port lies at its place.
 pub carried_lies : (s : State) → IsLawful s → (p i : ℕ) (e : Entry) → s.live_port p ≡ true → slice_get (queue s p) i ≡ Some e → (kind : Kind) (q : ℕ) → s.live_port q ≡ true →
     lying s kind q (in_message p (s.taken p + i)) ≡ message_count kind q e.message
 carried_lies s l p i e lives at kind q live = l.carried p i e lives at kind q live
-
-pub none_received : (s : State) → IsLawful s → IsQuiet s → (p i : ℕ) (e : Entry) → s.live_port p ≡ true → slice_get (queue s p) i ≡ Some e → (q : ℕ) → s.live_port q ≡ true → message_count receive q e.message ≡ 0
-none_received s l quiet p i e lives at q live = sym (carried_lies s l p i e lives at receive q live) ∙ quiet.none_carried p (s.taken p + i) q

@@ -28,3 +28,4 @@ pub mod Requested
 pub mod Idle
 pub mod Noting
 pub mod KeptEntries
+pub mod Disbanded

@@ -1,5 +1,5 @@
 -- What a notice is kept as keeps what the machine's notice is.
-use Rattle.std.proofs.Common.{ℕ, ◌<◌, ◌^◌, [], ◌∷◌, ◌++◌, refl, arith}
+use Rattle.std.proofs.Common.{◌≡◌, None, Some, ℕ, ◌<◌, ◌^◌, [], ◌∷◌, ◌++◌, refl, arith}
 use Rattle.mach_types.specs.Grammar.{Wire, port_item, IsWire, WireBody, IsWireBody, word}
 use Rattle.message_codec.proofs.Shapes.{All-cons}
 use Rattle.mach_types.specs.Messages.{short}
@@ -26,6 +26,7 @@ keeps_notice p (PortDeleted name) = record {
   is_complex = refl;
   given = refl;
   few = omega arith;
+  reply_sent = λ c e. absurd (let f : None ≡ Some c = e in cc);
   id_fits = omega arith;
   message_is = refl;
 }
@@ -35,6 +36,7 @@ keeps_notice p (PortDestroyed port) = record {
   is_complex = refl;
   given = refl;
   few = omega arith;
+  reply_sent = λ c e. absurd (let f : None ≡ Some c = e in cc);
   id_fits = omega arith;
   message_is = refl;
 }
@@ -44,6 +46,7 @@ keeps_notice p (NoSenders number) = record {
   is_complex = refl;
   given = refl;
   few = omega arith;
+  reply_sent = λ c e. absurd (let f : None ≡ Some c = e in cc);
   id_fits = omega arith;
   message_is = refl;
 }
@@ -53,6 +56,7 @@ keeps_notice p SendOnce = record {
   is_complex = refl;
   given = refl;
   few = omega arith;
+  reply_sent = λ c e. absurd (let f : None ≡ Some c = e in cc);
   id_fits = omega arith;
   message_is = refl;
 }
@@ -62,6 +66,7 @@ keeps_notice p (DeadName name) = record {
   is_complex = refl;
   given = refl;
   few = omega arith;
+  reply_sent = λ c e. absurd (let f : None ≡ Some c = e in cc);
   id_fits = omega arith;
   message_is = refl;
 }

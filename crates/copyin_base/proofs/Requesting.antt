@@ -9,11 +9,11 @@ use Rattle.std.proofs.lemmas.Bool.{eq-eqb, lt-ltb, ltb-true}
 use Rattle.mach_types.specs.Tokens.{Kind, receive, send, send_once, Request, no_senders, port_destroyed, dead_name, in_request, Token}
 use Rattle.mach_model.specs.State.{State, same_request, request_at}
 use Rattle.mach_model.specs.Carried.{lying_among}
-use Rattle.mach_model.specs.NotYet.{NoRequests}
 use Rattle.mach_model.proofs.Names.{removed_own}
+use Rattle.mach_model.proofs.Settling.{request_refl}
 use Rattle.request_table.specs.declared.Request.{Request as NameRequest}
 use Rattle.request_table.specs.Requests.{name_key, key_of}
-use Rattle.copyin_base.specs.Requests.{RequestTablesView, notify_of, rights_kept, was_on, rights_went, AreMade, RequestsAgree, left_by, request_left, requests_after}
+use Rattle.copyin_base.specs.Requests.{RequestTablesView, notify_of, rights_kept, was_on, rights_went, AreMade, AreEnded, RequestsAgree, left_by, request_left, requests_after}
 use Rattle.copyin_base.proofs.Gets.{of_some}
 use Rattle.copyin_base.proofs.Putting.{get_removed}
 
@@ -39,6 +39,24 @@ made_more : (made made2 : ℕ) (went : List NameRequest) → made ≤ made2 → 
 made_more made made2 [] more a = tt
 made_more made made2 (x ∷ went) more a = ((let less = a.0 in omega (arith, less, more)), made_more made made2 went more a.1)
 
+-- requests that stood no more stand no more
+pub ended_same : (stands stands2 : Request → Bool) → ((r : Request) → stands2 r ≡ stands r) → (went : List NameRequest) → AreEnded stands went → AreEnded stands2 went
+ended_same stands stands2 same [] a = tt
+ended_same stands stands2 same (x ∷ went) a = (same (dead_name x.task x.name) ∙ a.0, ended_same stands stands2 same went a.1)
+
+-- ... and nor do they where one more ends
+pub ended_more : (stands : Request → Bool) (this : Request) (went : List NameRequest) → AreEnded stands went → AreEnded (request_at stands this false) went
+ended_more stands this [] a = tt
+ended_more stands this (x ∷ went) a = (less (same_request (dead_name x.task x.name) this) a.0, ended_more stands this went a.1)
+  where
+    less : (b : Bool) → stands (dead_name x.task x.name) ≡ false → (if b then false else stands (dead_name x.task x.name)) ≡ false
+    less true e = refl
+    less false e = e
+
+ended_append : (stands : Request → Bool) (went : List NameRequest) (g : NameRequest) → AreEnded stands went → stands (dead_name g.task g.name) ≡ false → AreEnded stands (went ++ g ∷ [])
+ended_append stands [] g a e = (e, tt)
+ended_append stands (x ∷ went) g a e = (a.0, ended_append stands went g a.1 e)
+
 -- Ports may have been made, and others than those of the requests have gone.
 pub requests_stay : (notify : Request → Option ℕ) (went : List NameRequest) (made made2 : ℕ) (stands stands2 : Request → Bool) (live live2 : ℕ → Bool) (tokens tokens2 : List Token) →
     RequestsAgree notify went made stands live tokens → made ≤ made2 → ((r : Request) → stands2 r ≡ stands r) → ((q : ℕ) → q < made → live2 q ≡ live q) →
@@ -51,6 +69,7 @@ requests_stay notify went made made2 stands stands2 live live2 tokens tokens2 a 
       lying r kind q ∙ a.kept r kind q ∙ sym (λ i. one i + all i);
   given = λ r q is. let less = a.given r q is in omega (arith, less, more);
   given_went = made_more made made2 went more a.given_went;
+  ended_went = ended_same stands stands2 same went a.ended_went;
 }
 
 -- ---- a name goes
@@ -130,6 +149,9 @@ module _ (v : RequestTablesView) (task name : ℕ) (small : name < 2 ^ 32)
       go true = ap (option_map (λ (r : NameRequest). r.notify)) found
       go false = refl
 
+  own_ended : (stands : Request → Bool) (g : NameRequest) → (g.task ≡ task) × (g.name ≡ name) → request_at stands this false (dead_name g.task g.name) ≡ false
+  own_ended stands g at = subst (λ (r : Request). request_at stands this false r ≡ false) (λ i. dead_name (sym at.0 i) (sym at.1 i)) (rw (request_refl this) refl)
+
   was_this : (g : NameRequest) → (g.task ≡ task) × (g.name ≡ name) → (r : Request) → was_on r g ≡ same_request r this
   was_this g at (no_senders p) = refl
   was_this g at (port_destroyed p) = refl
@@ -143,6 +165,7 @@ module _ (v : RequestTablesView) (task name : ℕ) (small : name < 2 ^ 32)
       kept = a.kept;
       given = a.given;
       given_went = a.given_went;
+      ended_went = ended_more stands this v.names.went a.ended_went;
     }
       where
         standing : (r : Request) (b : Bool) → same_request r this ≡ b → (if b then false else stands r) ≡ is_some (notify_of v r)
@@ -153,6 +176,7 @@ module _ (v : RequestTablesView) (task name : ℕ) (small : name < 2 ^ 32)
       kept = λ r kind q. a.kept r kind q ∙ kept r kind q (same_request r this) refl;
       given = λ r q. given r q (same_request r this) refl;
       given_went = made_append made v.names.went g a.given_went (a.given this g.notify (notify_this (Some g) is));
+      ended_went = ended_append (request_at stands this false) v.names.went g (ended_more stands this v.names.went a.ended_went) (own_ended stands g (own g is));
     }
       where
         at : (g.task ≡ task) × (g.name ≡ name)
@@ -195,23 +219,6 @@ module _ (v : RequestTablesView) (task name : ℕ) (small : name < 2 ^ 32)
         RequestsAgree (notify_of (requests_after v task name left)) (requests_after v task name left).names.went made (stands_after stands task name left) live tokens
     requests_left (Some e) = a
     requests_left None = requests_end
-
--- where none stands, none ends
-pub none_ended : (stands : Request → Bool) → NoRequests stands → (ended r : Request) → request_at stands ended false r ≡ stands r
-none_ended stands none ended r = go (same_request r ended)
-  where
-    go : (b : Bool) → (if b then false else stands r) ≡ stands r
-    go true = sym (none r)
-    go false = refl
-
--- ... and none keeps a right
-pub none_kept : (notify : Request → Option ℕ) (made : ℕ) (stands : Request → Bool) (live : ℕ → Bool) (tokens : List Token) → RequestsAgree notify [] made stands live tokens → NoRequests stands →
-    (r : Request) (kind : Kind) (q : ℕ) → lying_among tokens kind q (in_request r) ≡ 0
-none_kept notify made stands live tokens a none r kind q = let k = a.kept r kind q in let z = go (notify r) (sym (a.standing r) ∙ none r) in omega (arith, k, z)
-  where
-    go : (o : Option ℕ) → is_some o ≡ false → rights_kept live o kind q ≡ 0
-    go None e = refl
-    go (Some n) e = absurd (cc)
 
 -- where none is kept, none ends
 pub empty_left : (v : RequestTablesView) → v.names.requests ≡ map.empty → (task name : ℕ) → v ≡ request_left v task name

@@ -106,7 +106,6 @@ room_shows w v s same sh = record {
   requested = room_requested w v same sh.requested;
   idle = room_idle w v same sh.idle;
   lawful = sh.lawful;
-  quiet = sh.quiet;
 }
 
 pub room_refl : (w : WorldView) → SameButRoom w w
@@ -165,5 +164,4 @@ slots_show w s n enough sh = record {
   requested = slots_requested w n sh.requested;
   idle = record { none_lost = record { lost = sh.idle.none_lost.lost; doomed = sh.idle.none_lost.doomed; destroyed = sh.idle.none_lost.destroyed }; noted = sh.idle.noted; went = sh.idle.went };
   lawful = sh.lawful;
-  quiet = sh.quiet;
 }

@@ -118,6 +118,23 @@ sends_taken l p kind n not = sends_more l p (with_fewer kind n (counts_of l p)) 
     go right.SendOnce none = omega arith
     go right.Destination none = omega arith
 
+-- no port has more where some went
+pub sends_fewer : (l : LedgerView) (p : ℕ) (kind : RightKind) (n : ℕ) (q : ℕ) → (counts_of (taken l p kind n) q).send ≤ (counts_of l q).send
+sends_fewer l p kind n q = elim (eqb_tells q p) [
+  | inl h ↦
+      let own = ap (λ (c : Counts). c.send) (counts_own l p (with_fewer kind n (counts_of l p)) (taken l p kind n) refl) in
+      let at : (counts_of (taken l p kind n) q).send ≡ (counts_of (taken l p kind n) p).send = ap (λ (x : ℕ). (counts_of (taken l p kind n) x).send) h.1 in
+      let was : (counts_of l q).send ≡ (counts_of l p).send = ap (λ (x : ℕ). (counts_of l x).send) h.1 in
+      let less = go kind in omega (arith, own, at, was, less)
+  | inr h ↦ (let e = ap (λ (c : Counts). c.send) (counts_other l p (with_fewer kind n (counts_of l p)) (taken l p kind n) refl q h.1) in omega (arith, e))
+]
+  where
+    go : (k : RightKind) → (with_fewer k n (counts_of l p)).send ≤ (counts_of l p).send
+    go right.Receive = omega arith
+    go right.Send = omega arith
+    go right.SendOnce = omega arith
+    go right.Destination = omega arith
+
 -- of another port as many are there
 pub sends_elsewhere : (l : LedgerView) (p : ℕ) (kind : RightKind) (n : ℕ) (q : ℕ) → (q ≡ p → ⊥) → (counts_of (taken l p kind n) q).send ≡ (counts_of l q).send
 sends_elsewhere l p kind n q not = ap (λ (c : Counts). c.send) (counts_other l p (with_fewer kind n (counts_of l p)) (taken l p kind n) refl q not)

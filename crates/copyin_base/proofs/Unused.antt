@@ -83,4 +83,5 @@ once_unused s l ledger task name p c is =
     let some = some_tally (is_once p) (s.naming task) name (Target.once p) is (eq-eqb p p refl) in
     let names = (l.naming task).once_names p in
     let h = held_and_queued s l p (once_lives s l task name p is) task in
-    omega (arith, some, names, h, c.once_rights, c.destinations)
+    let d = c.destinations (once_lives s l task name p is) in
+    omega (arith, some, names, h, c.once_rights, d)

@@ -6,12 +6,12 @@ use Rattle.mach_types.specs.Numbers.{kern_number, msg_number}
 use Rattle.mach_types.specs.Guards.{Guards, FirstIs, NoneHolds}
 use Rattle.mach_model.specs.State.{State}
 use Rattle.mach_model.specs.Notices.{Owed}
-use Rattle.mach_model.specs.Midway.{IsStill}
+use Rattle.mach_model.specs.Midway.{MidLawful}
 use Rattle.mach_model.specs.Refusals.{Refuses, guards, tasks_of}
 use Rattle.mach_model.specs.Machine.{Does}
 use Rattle.copyin_base.specs.declared.code.Code.{Code}
 use Rattle.copyin_base.specs.declared.code.Code.TheVariants.{Kern, Message}
-use Rattle.copyin_base.specs.Changes.{NotesSenders}
+use Rattle.copyin_base.specs.Changes.{NotesSenders, MakesNoSends}
 use Rattle.copyin_base.specs.Posted.{with_posted, IsLeft}
 use Rattle.copyin_base.specs.Worlds.{WorldView, HasTask}
 use Rattle.copyin_base.specs.Shows.{Agrees, HoldersAgree, CarriersAgree, SlotsSuffice, RequestsStand, Shows}
@@ -22,8 +22,8 @@ code_number (Message code) = msg_number code
 
 -- ---- a step's own part
 
--- The tables show the state midway, where this is owed, and tell what the step's end has to do; old are the tables before the step. As long as the
--- rules of NotYet stand nothing is owed.
+-- The tables show the state midway, where this is owed, and tell what the step's end has to do; old are the tables before the step. The notices
+-- that are owed stand in the queues already.
 pub record ShowsMid (now : ℕ) (old w : WorldView) (mid : State) (owed : Owed) : Type 0 where
   pub agrees : Agrees w (with_posted now mid owed)
   pub holders : HoldersAgree w
@@ -31,8 +31,9 @@ pub record ShowsMid (now : ℕ) (old w : WorldView) (mid : State) (owed : Owed) 
   pub slots : SlotsSuffice w
   pub requested : RequestsStand w
   pub notes : NotesSenders old w
+  pub makes : MakesNoSends old w
   pub left : IsLeft w mid
-  pub lawful : IsStill mid owed
+  pub lawful : MidLawful mid owed
 
 -- What was judged in the state allows the event, whose own part is done: the tables show the state midway.
 pub record IsDone (now : ℕ) (old : WorldView) (s : State) (event : Event) (reply : Reply) (new : WorldView) : Type 0 where

@@ -1,5 +1,5 @@
 -- What the verbs of the tables change: what stands under one name, or the attributes of one port. All else stays.
-use Rattle.std.specs.Prelude.{◌≡◌, ◌⊎◌, ℕ, ◌-◌, ◌<◌, List, Option, Some, None, IfSome, length, max, true, Contains}
+use Rattle.std.specs.Prelude.{◌≤◌, ◌≡◌, ◌⊎◌, ℕ, ◌-◌, ◌<◌, List, Option, Some, None, IfSome, length, max, true, Contains}
 use Rattle.std.specs.Option.{option_map}
 use Rattle.std.specs.FinMap as map
 use Rattle.mach_types.specs.Numbers.{most_names}
@@ -111,6 +111,10 @@ pub record NotesSenderless (old : WorldView) (port : ℕ) (new : WorldView) : Ty
   pub notes : IsSenderless old port → Contains noted port
   pub stay : (q : ℕ) → Contains old.ports.noted q → Contains noted q
   pub only : (q : ℕ) → Contains noted q → Contains old.ports.noted q ⊎ (q ≡ port) × IsSenderless old port
+
+-- Where a port was lost, no port has more send rights than before: no call makes send rights and loses a receive right.
+abbrev pub MakesNoSends : (old new : WorldView) → Type 0
+MakesNoSends old new = (lost : ℕ) → Contains new.ports.lost lost → (port : ℕ) → (counts_of new.ledger port).send ≤ (counts_of old.ledger port).send
 
 -- Each port that had send rights, and is senderless now, is noted; each that is noted had send rights.
 pub record NotesSenders (old new : WorldView) : Type 0 where

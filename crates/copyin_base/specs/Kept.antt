@@ -1,7 +1,9 @@
 -- A queued message as it is kept: its bytes as they were sent, where its port words stand, and its rights. A notice is kept as the message that is made of it.
-use Rattle.std.specs.Prelude.{◌≡◌, ℕ, ◌^◌, ◌<◌, ◌≤◌, Bool, true, List, [], ◌∷◌, ◌++◌, length, take, drop, map, replicate, if◌then◌else◌, Option, Some, None, refl}
+use Rattle.std.specs.Prelude.{◌≡◌, ◌≢◌, ℕ, ◌^◌, ◌<◌, ◌≤◌, Bool, true, List, [], ◌∷◌, ◌++◌, length, take, drop, map, replicate, if◌then◌else◌, Option, Some, None, refl}
 use Rattle.std.specs.Coded.{Coded, code_by, coded×, coded_ℕ, coded_bool, coded_list, coded_option}
 use Rattle.std.specs.Option.{option_map, unwrap_or}
+use Rattle.mach_types.specs.declared.rights.Disposition.{Disposition}
+use Rattle.mach_types.specs.declared.rights.Disposition.TheVariants.{MoveReceive}
 use Rattle.mach_types.specs.Numbers.{disposition, disposition_number, kind_sent}
 use Rattle.mach_types.specs.Tokens.{Kind, send, send_once}
 use Rattle.mach_types.specs.Messages.{to_port, null, dead, ReplyRight, absent, present, Item, plain, rights, Body, Message}
@@ -99,6 +101,8 @@ pub record Keeps (port : ℕ) (m : Kept) (message : Message) : Type 0 where
   pub given : map (λ c. disposition_number c.given) m.rights ≡ body_given written
   pub few : length m.bytes ≤ 65536
   pub id_fits : m.id < 2 ^ 32
+  -- the right to answer with is no receive right
+  pub reply_sent : (c : Carried) → m.reply ≡ Some c → c.given ≢ MoveReceive
   pub message_is : message ≡ message_of port m written
 
 -- The message m is what lies there, whether it was sent or is a notice.
@@ -108,3 +112,13 @@ IsMessageOf queued m = m ≡ record queued { told = m.told }
 -- Where a notice lies there, this is its message.
 abbrev pub Makes : (queued : Kept) → Option Kept → Type 0
 Makes queued made = queued.told ≡ true → (m : Kept) × (made ≡ Some m) × IsMessageOf queued m
+
+-- ---- receive rights that it carries
+
+abbrev pub receive_moved : Disposition → Mark → Option ℕ
+receive_moved MoveReceive (mark.Port p) = Some p
+receive_moved given m = None
+
+-- the port whose receive right it is, if it is one
+abbrev pub receive_of : Carried → Option ℕ
+receive_of c = receive_moved c.given c.mark

@@ -60,6 +60,11 @@ abbrev pub AreMade : (made : ℕ) → List NameRequest → Type 0
 AreMade made [] = Unit {0}
 AreMade made (r ∷ went) = (r.notify < made) × AreMade made went
 
+-- No request stands on a name of these.
+abbrev pub AreEnded : (stands : Request → Bool) → List NameRequest → Type 0
+AreEnded stands [] = Unit {0}
+AreEnded stands (r ∷ went) = (stands (dead_name r.task r.name) ≡ false) × AreEnded stands went
+
 -- The requests that stand are those that are kept, each with the right for its notify port, which was made. Those that ended as their names
 -- went still keep theirs.
 pub record RequestsAgree (notify : Request → Option ℕ) (went : List NameRequest) (made : ℕ) (stands : Request → Bool) (live : ℕ → Bool) (tokens : List Token) : Type 0 where
@@ -67,6 +72,7 @@ pub record RequestsAgree (notify : Request → Option ℕ) (went : List NameRequ
   pub kept : (r : Request) (kind : Kind) (q : ℕ) → lying_among tokens kind q (in_request r) ≡ rights_kept live (notify r) kind q + rights_went live went r kind q
   pub given : (r : Request) (q : ℕ) → notify r ≡ Some q → q < made
   pub given_went : AreMade made went
+  pub ended_went : AreEnded stands went
 
 -- ---- a name goes
 

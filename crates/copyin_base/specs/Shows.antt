@@ -10,7 +10,6 @@ use Rattle.mach_model.specs.ReceiveRight.{one_if}
 use Rattle.mach_model.specs.Carried.{lying}
 pub use Rattle.mach_model.specs.Unused.{came_by_once, onces_queued}
 use Rattle.mach_model.specs.Lawful.{IsLawful}
-use Rattle.mach_model.specs.NotYet.{IsQuiet}
 use Rattle.name_space.specs.declared.Entry.{Entry as Named}
 use Rattle.name_space.specs.declared.Entry.TheVariants as named
 use Rattle.name_space.specs.Entry.{port_named, port_of, has_receive, send_references}
@@ -74,13 +73,14 @@ pub record PortAgrees (v : PortView Kept) (p : ℕ) (entries : List Entry) (of_l
 abbrev pub ShowsPort : PortView Kept → State → ℕ → Type 0
 ShowsPort v s p = PortAgrees v p (queue s p) (s.limit p) (s.make_send p) (s.sequence p) (s.sets_of p)
 
--- Each count of rights is that of the ledger. Of the send-once rights, those that queued messages go by are counted apart.
+-- Each count of rights is that of the ledger. Of the send-once rights, those that queued messages go by are counted apart: at a port that
+-- lives, since messages of a dead one were destroyed.
 pub record CountsAgree (ledger : LedgerView) (live : ℕ → Bool) (tokens : List Token) (queued : ℕ → ℕ) (p : ℕ) : Type 0 where
   pub entered : map.contains_key ledger.counts p ≡ live p
   pub receivers : (counts_of ledger p).receive ≡ count (is_of receive p) tokens
   pub senders : (counts_of ledger p).send ≡ count (is_of send p) tokens
   pub once_rights : (counts_of ledger p).send_once + (counts_of ledger p).destination ≡ count (is_of send_once p) tokens
-  pub destinations : (counts_of ledger p).destination ≡ queued p
+  pub destinations : live p ≡ true → (counts_of ledger p).destination ≡ queued p
 
 abbrev pub ShowsCounts : WorldView → State → ℕ → Type 0
 ShowsCounts w s p = CountsAgree w.ledger s.live_port s.ledger (onces_queued s) p
@@ -147,7 +147,7 @@ pub record RequestsStand (w : WorldView) : Type 0 where
 abbrev pub SlotsSuffice : WorldView → Type 0
 SlotsSuffice w = w.ledger.unused ≤ w.ports.spare
 
--- They agree with a state of which all is true that is true of every state that the machine reaches, as long as the rules of NotYet stand.
+-- They agree with a state of which all is true that is true of every state that the machine reaches, and nothing is left for a step's end.
 pub record Shows (w : WorldView) (s : State) : Type 0 where
   pub agrees : Agrees w s
   pub holders : HoldersAgree w
@@ -156,4 +156,3 @@ pub record Shows (w : WorldView) (s : State) : Type 0 where
   pub requested : RequestsStand w
   pub idle : IsIdle w
   pub lawful : IsLawful s
-  pub quiet : IsQuiet s

@@ -39,3 +39,10 @@ LacksSlots w more = w.ports.spare < w.ledger.unused + more
 pub record KeepsSpares (old new : WorldView) : Type 0 where
   pub rooms : (task : ℕ) → room_of new task ≤ max (room_of old task) 1
   pub slots : new.ports.spare ≡ old.ports.spare
+
+-- Room for fresh names grows by one name at most, and a spare slot goes with each send-once right that was unused and is no more: in it lies the
+-- notice for which the right pays.
+pub record UsesSpares (old new : WorldView) : Type 0 where
+  pub rooms : (task : ℕ) → room_of new task ≤ max (room_of old task) 1
+  pub fewer : new.ledger.unused ≤ old.ledger.unused
+  pub slots : new.ports.spare + old.ledger.unused ≡ old.ports.spare + new.ledger.unused

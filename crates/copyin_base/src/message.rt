@@ -1,5 +1,6 @@
 //! A message that was sent, as it lies in a queue.
 ghost use Rattle.std.specs.Prelude.{◌≡◌, [], None, IfOk, IsOk};
+ghost use Rattle.copyin_base.specs.Kept.{receive_of};
 ghost use Rattle.copyin_base.specs.Carrying.{reply_in, spans_in, rights_in};
 
 use mach_types::{Disposition, PortId};
@@ -27,6 +28,18 @@ pub struct Carried {
     pub given: Disposition,
     /// What it is a right for.
     pub mark: Mark,
+}
+
+impl Carried {
+    /// The port whose receive right it is, if it is one.
+    pub fn receive_port(&self) -> Option<PortId>
+        ensures { result ≡ receive_of self.now }
+    {
+        match (self.given, self.mark) {
+            (Disposition::MoveReceive, Mark::Port(port)) => Some(port),
+            _ => None,
+        }
+    }
 }
 
 impl Default for Carried {

@@ -1,11 +1,13 @@
 //! What lies in a queue.
-ghost use Rattle.std.specs.Prelude.{◌≡◌, ℕ, true, length, IfOk, OnErr};
-ghost use Rattle.copyin_base.specs.Kept.{IsMessageOf, Keeps, Makes};
+ghost use Rattle.std.specs.Prelude.{◌≡◌, ℕ, true, length, slice_get, IfOk, OnErr};
+ghost use Rattle.std.specs.Option.{option_and_then};
+ghost use Rattle.copyin_base.specs.Kept.{receive_of, IsMessageOf, Keeps, Makes};
 ghost use Rattle.copyin_base.specs.Queued.{notice_kept, notice_of};
 ghost use Rattle.mach_model.specs.Notices.{notice_message};
 
-use crate::message::Message;
+use crate::message::{Carried, Message};
 use crate::notice::Notice;
+use mach_types::PortId;
 use port::Message as InSlot;
 use std::alloc::{AllocError, Global};
 use std::marker::Model;
@@ -76,6 +78,39 @@ impl Queued {
             Slot::Sent(message) => message.rights().len(),
             Slot::Told(notice) => usize::from(notice.carried().is_some()),
         }
+    }
+
+    /// The right to answer with, if it has one.
+    pub fn reply(&self) -> Option<Carried>
+        ensures { result ≡ self.now.reply }
+    {
+        match &self.slot {
+            Slot::Sent(message) => message.reply(),
+            Slot::Told(_) => None,
+        }
+    }
+
+    /// The right that stands at this place among the rights of its body, if one does.
+    pub fn right_at(&self, place: usize) -> Option<Carried>
+        ensures { result ≡ slice_get self.now.rights place }
+    {
+        match &self.slot {
+            Slot::Sent(message) => message.rights().get(place).copied(),
+            Slot::Told(notice) if place == 0 => notice.carried(),
+            Slot::Told(_) => None,
+        }
+    }
+
+    /// The port whose receive right stands at this place among the rights of its body, if one does.
+    pub fn receive_at(&self, place: usize) -> Option<PortId>
+        ensures { result ≡ option_and_then (λ c. receive_of c) (slice_get self.now.rights place) }
+    {
+        let carried = match &self.slot {
+            Slot::Sent(message) => *message.rights().get(place)?,
+            Slot::Told(notice) if place == 0 => notice.carried()?,
+            Slot::Told(_) => return None,
+        };
+        carried.receive_port()
     }
 
     /// Whether it goes by a send-once right, as a notice does.

@@ -1,9 +1,9 @@
 //! The names of one task, as they are read.
-ghost use Rattle.std.specs.Prelude.{◌≡◌, ◌↔◌, ◌+◌, ◌≤◌, ◌≢◌, ℕ, Bool, false, Some, IfOk, IfSome, IsTrue};
+ghost use Rattle.std.specs.Prelude.{◌≡◌, ◌↔◌, ◌+◌, ◌≤◌, ◌≢◌, ℕ, Bool, false, true, Some, None, IfOk, IfSome, IfNone, IsTrue};
 ghost use Rattle.std.specs.FinMap as map;
 ghost use Rattle.mach_types.specs.Numbers.{most_names};
 ghost use Rattle.name_space.specs.Entry.{port_of};
-ghost use Rattle.name_space.specs.Names.{IsFreshName, port_at};
+ghost use Rattle.name_space.specs.Names.{IsFreshName, IsNextName, port_at};
 ghost use Rattle.copyin_base.specs.Reading.{live_in, read_space, reading};
 
 use crate::queued::Queued;
@@ -113,6 +113,15 @@ impl<'a> TaskNames<'a> {
             return None;
         }
         self.kept.name_of_port(port)
+    }
+
+    /// The least name in use from this one on, if there is one. Constant time, but for four words of each
+    /// page of 256 names, up to 65,535, that was used and has none from there on; above 65,535 logarithmic.
+    pub fn next_name(&self, from: Name) -> Option<Name>
+        ensures none { IfNone result ((name : ℕ) → from ≤ name → map.get self.now.names name ≡ None) }
+        ensures found { IfSome result (λ name. IsNextName self.now.names from name) }
+    {
+        self.kept.next_name(from)
     }
 
     /// The names, rising. Linear in them, with memory for each; an error means that it was refused.

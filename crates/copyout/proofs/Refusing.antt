@@ -119,10 +119,10 @@ module _ (w : WorldView) (s : State) (sh : Shows w s) (task port : ℕ) (is_task
       refused = inr (names_suffice none, refl);
     }
 
-  -- It is too long for the room: it stays.
-  pub receipt_large : (waited : Waited) → TakesFrom s task waited port → (room : ℕ) (large : Bool) (n : ℕ) → n ≡ length m.bytes → min room most_bytes < n →
-      Receipt s task waited room large (Reply.TooLarge n) s []
-  receipt_large waited from room large n is above =
+  -- It is too long for the room, and was asked to stay.
+  pub receipt_large : (waited : Waited) → TakesFrom s task waited port → (room : ℕ) (n : ℕ) → n ≡ length m.bytes → min room most_bytes < n →
+      Receipt s task waited room true (Reply.TooLarge n) s []
+  receipt_large waited from room n is above =
       (port, front.first, from, shown_is_front w s sh.agrees port v there m behind queued, is ∙ sym (kept_length port m message front.keeps), above, (refl, refl))
 
 -- No message waits at the port.

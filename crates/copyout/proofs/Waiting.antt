@@ -69,7 +69,7 @@ module _ (w : WorldView) (s : State) (sh : Shows w s) (p : ℕ) (v : PortView Ke
       let once : came_by_once front.first ≡ true = ap (λ (x : Message). same_kind send_once x.kind) front.keeps.message_is ∙ ap (λ (x : Bool). same_kind send_once (if x then send_once else send)) e in
       let all : onces_queued s p ≡ (if came_by_once front.first then suc zero else zero) + tally came_by_once front.others = ap (tally came_by_once) front.parts in
       let one : (if came_by_once front.first then suc zero else zero) ≡ suc zero = rw once in
-      let c = (sh.agrees.counts p).destinations in rw e (omega (arith, all, one, c))
+      let c = (sh.agrees.counts p).destinations (shown_lives w s sh.agrees p v there m behind queued) in rw e (omega (arith, all, one, c))
   destination false e =
       let live = shown_lives w s sh.agrees p v there m behind queued in
       let l = lies send p live in

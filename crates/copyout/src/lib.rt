@@ -11,5 +11,5 @@ mod room;
 
 pub use give::give_right;
 pub use put::put_right;
-pub use receipt::{Refusal, receive};
+pub use receipt::{Refusal, note_front, receive, take_front};
 pub use room::room_needed;

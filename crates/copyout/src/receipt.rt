@@ -93,8 +93,11 @@ fn consume(world: &mut World, port: PortId, queued: &Queued)
     world.ledger.take(port, kind, 1);
 }
 
-// Takes the port's front message; its number is used, and its destination right is consumed.
-fn take_front(world: &mut World, port: PortId) -> Queued
+/// Takes the port's front message; its number is used, its slot is spare, and its destination right is
+/// consumed.
+///
+/// Takes no memory and cannot fail. Constant time.
+pub fn take_front(world: &mut World, port: PortId) -> Queued
     requires { Waits world.old port }
     ensures { (t : TakesFront world.old port world.new) × (result ≡ t.front) }
 {
@@ -184,8 +187,10 @@ struct Prepared {
     made: Option<Message>,
 }
 
-// Notes the port for the end of the step where the message came by its last send right, which is gone.
-fn note_front(world: &mut World, port: PortId, by_once: bool)
+/// Notes the port for the end of the step where the message came by its last send right, which is gone.
+///
+/// Takes no memory and cannot fail. Constant time.
+pub fn note_front(world: &mut World, port: PortId, by_once: bool)
     ensures { MatchBool by_once (world.new ≡ world.old) (NotesSenderless world.old port world.new) }
 {
     if !by_once {

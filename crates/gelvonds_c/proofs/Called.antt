@@ -8,8 +8,8 @@ use Rattle.gelvonds_c.specs.Held.{Kept}
 use Rattle.gelvonds_c.specs.Calls.{Calls}
 
 pub called : (before after : Kept) (old now new : the_row.Denot) (event : Event) (reply : Reply)
-    → before ≡ Some old → now ≡ old → after ≡ Some new → Answers now event reply new → Calls before event (Some reply) after
+    → before ≡ Some old → now ≡ old → after ≡ Some new → Answers now.tables event reply new.tables → Calls before event (Some reply) after
 called before after old now new event reply e f g a =
     subst (λ (x : Kept). Calls x event (Some reply) after) (sym e)
     (subst (λ (y : Kept). Calls (Some old) event (Some reply) y) (sym g)
-    (subst (λ (n : the_row.Denot). Answers n event reply new) f a))
+    (subst (λ (n : the_row.Denot). Answers n.tables event reply new.tables) f a))

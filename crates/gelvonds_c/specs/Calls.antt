@@ -11,12 +11,13 @@ abbrev pub Calls : (old : Kept) → Event → Option Reply → (new : Kept) → 
 Calls None event reply new = (reply ≡ None) × (new ≡ None)
 Calls (Some old) event None new = ⊥
 Calls (Some old) event (Some reply) None = ⊥
-Calls (Some old) event (Some reply) (Some new) = Answers old event reply new
+Calls (Some old) event (Some reply) (Some new) = Answers old.tables event reply new.tables
 
 -- the number that is answered, or the other one where none is
 abbrev pub number_or : Option Reply → ℕ → ℕ
 number_or (Some (Reply.Task task)) other = task
 number_or (Some (Reply.Name name)) other = name
+number_or (Some (Reply.Previous name)) other = name
 number_or (Some (Reply.Refs refs)) other = refs
 number_or (Some (Reply.NameType type)) other = type
 number_or reply other = other

@@ -53,13 +53,14 @@ pub fn code_of(reply: &Option<Reply>) -> i32 {
     }
 }
 
-/// The number of an answer that is one: a task, a name, a count of references or a type.
+/// The number of an answer that is one: a task, a name (of the right that a request kept before, too), a
+/// count of references or a type.
 fn number_of(reply: &Option<Reply>) -> Option<u32>
     ensures { MatchOption result ((other : ℕ) → number_or reply.now other ≡ other) (λ number. (other : ℕ) → number_or reply.now other ≡ number) }
 {
     match reply {
         Some(Reply::Task(task)) => Some(task.number()),
-        Some(Reply::Name(name)) => Some(name.number()),
+        Some(Reply::Name(name) | Reply::Previous(name)) => Some(name.number()),
         Some(Reply::Refs(number) | Reply::NameType(number)) => Some(*number),
         _ => None,
     }

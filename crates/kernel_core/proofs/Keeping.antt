@@ -1,28 +1,38 @@
 -- What a call keeps, and which code it tells of want of memory by, made of what its parts promise.
-use Rattle.std.proofs.Common.{◌≡◌, ◌≢◌, ℕ, ◌<◌, ◌≤◌, Result, Ok, Err, IfErr, refl, sym, subst, arith, inl, inr}
-use Rattle.std.specs.Prelude.{OnOk, OnErr}
-use Rattle.std.proofs.lemmas.Bool.Decides.{eqb_tells}
+use Rattle.std.proofs.Common.{◌≡◌, ◌≢◌, ℕ, Bool, ◌+◌, ◌<◌, ◌≤◌, List, [], length, Result, Ok, Err, IfErr, sym, ap, subst, ◌∙◌, arith, inl, inr}
+use Rattle.std.specs.Prelude.{max, OnOk, OnErr}
+use Rattle.std.proofs.lemmas.Bool.Decides.{eqb_tells, leb_tells}
 use Rattle.mach_types.specs.declared.calls.Event.{Event}
 use Rattle.mach_types.specs.declared.calls.Reply.{Reply}
-use Rattle.mach_types.specs.declared.codes.KernReturn.TheVariants.{InvalidTask, InvalidArgument, ResourceShortage}
+use Rattle.mach_types.specs.declared.codes.KernReturn.TheVariants.{InvalidTask, ResourceShortage}
 use Rattle.mach_types.specs.Numbers.{kern_number}
+use Rattle.mach_types.specs.Guards.{NoneHolds}
 use Rattle.mach_model.specs.State.{State}
 use Rattle.mach_model.specs.Notices.{Owed}
-use Rattle.mach_model.specs.Machine.{Step, Does}
-use Rattle.mach_model.specs.Refusals.{call_guards}
-use Rattle.mach_laws.specs.Order.{accepts, delivers}
-use Rattle.mach_laws.proofs.Counted.{Step-counted}
+use Rattle.mach_model.specs.Machine.{Does}
+use Rattle.mach_model.specs.Refusals.{guards, call_guards}
+use Rattle.mach_model.proofs.Quiet.{LosesNone}
+use Rattle.mach_model.proofs.StepReceives.{Does-receives}
+use Rattle.mach_laws.specs.Counts.{accepts, MayNeedSlots}
+use Rattle.mach_laws.proofs.Counted.{Does-counted}
+use Rattle.mach_laws.proofs.Onces.{part_needs, request_needs}
 use Rattle.copyin_base.specs.declared.code.Code.{Code}
 use Rattle.copyin_base.specs.declared.code.Code.TheVariants.{Kern}
-use Rattle.copyin_base.specs.Acts.{code_number, Acts, Declines, Serves, IsRefused, HasTasks}
+use Rattle.copyin_base.specs.Acts.{code_number, IsDone, Acts, Declines, Serves, IsRefused, HasTasks}
+use Rattle.copyin_base.specs.Shows.{Shows}
 use Rattle.copyin_base.specs.Stands.{Stands}
-use Rattle.copyin_base.specs.Wanted.{KeepsSpares}
+use Rattle.copyin_base.specs.Wanted.{KeepsSpares, UsesSpares}
 use Rattle.copyin_base.specs.Worlds.{WorldView}
 use Rattle.copyin_base.proofs.Acting.{refused}
+use Rattle.copyin_base.proofs.Listed.{listed_none}
 use Rattle.copyin_base.proofs.Spares.{keeps_refl, keeps_same}
+use Rattle.rights.specs.Unused.{IsUnusedOfAll}
+use Rattle.notifications.specs.declared.request.Asked.{Asked}
+use Rattle.notifications.specs.Wanted.{WantsToRequest, LeavesRequest, LeavesSlots as AskedSlots}
 use Rattle.kernel_core.specs.Send.{UsesSlot}
 use Rattle.kernel_core.specs.Room.{MakesSlots}
-use Rattle.kernel_core.specs.Wanted.{memory_code, WantsMemory, Wanted, Spares, answer, Performs}
+use Rattle.kernel_core.specs.Wanted.{memory_code, WantsMemory, Wanted, UsesSlots, LeavesSlots, LeavesSpares, Performs}
+use Rattle.kernel_core.proofs.Unused.{shown_unused, midway_unused}
 
 -- ---- codes
 
@@ -68,20 +78,50 @@ pub always_wants : (result : Result Reply Code) (P : Code → Type 0) → IfErr 
 always_wants (Ok reply) P = tt
 always_wants (Err code) P = λ is. tt
 
+-- ---- what is owed
+
+-- These calls owe no notice.
+abbrev pub OwesNone : Event → Type 0
+OwesNone (Event.TaskTerminate task) = ⊥
+OwesNone (Event.Deallocate task name) = ⊥
+OwesNone (Event.Destroy task name) = ⊥
+OwesNone (Event.ModRefs task name right delta) = ⊥
+OwesNone (Event.RequestNotification task name variant sync notify number) = ⊥
+OwesNone (Event.Receive task name room large) = ⊥
+OwesNone (Event.ReceiveAgain task waited room large) = ⊥
+OwesNone event = Unit {0}
+
+owes_none : (now : ℕ) (old : State) (event : Event) (reply : Reply) (mid : State) (owed : Owed) → OwesNone event → Does now old event reply mid owed → owed ≡ []
+owes_none now old Event.TaskCreate (Reply.Task task) mid owed none d = d.1
+owes_none now old (Event.TaskTerminate task) reply mid owed none d = absurd none
+owes_none now old (Event.Allocate task right) (Reply.Name name) mid owed none d = d.2
+owes_none now old (Event.AllocateName task right name) (Reply.Name told) mid owed none d = d.2
+owes_none now old (Event.Deallocate task name) reply mid owed none d = absurd none
+owes_none now old (Event.Destroy task name) reply mid owed none d = absurd none
+owes_none now old (Event.ModRefs task name right delta) reply mid owed none d = absurd none
+owes_none now old (Event.GetRefs task name right) (Reply.Refs n) mid owed none d = d.2
+owes_none now old (Event.NameType task name) (Reply.NameType n) mid owed none d = d.2
+owes_none now old (Event.Names task) (Reply.Names entries) mid owed none d = d.2
+owes_none now old (Event.Rename task o n) (Reply.Code code) mid owed none d = d.2
+owes_none now old (Event.ReceiveStatus task name) (Reply.Status status) mid owed none d = d.2
+owes_none now old (Event.SetQlimit task name n) (Reply.Code code) mid owed none d = d.2
+owes_none now old (Event.SetMscount task name n) (Reply.Code code) mid owed none d = d.3
+owes_none now old (Event.SetSeqno task name n) (Reply.Code code) mid owed none d = d.3
+owes_none now old (Event.SetStatus task name) (Reply.Members members) mid owed none d = d.2
+owes_none now old (Event.MoveMember task member after) (Reply.Code code) mid owed none d = d.2
+owes_none now old (Event.InsertRight task name from poly number) (Reply.Code code) mid owed none d = d.2
+owes_none now old (Event.ExtractRight task name number to) (Reply.Right new_name kind) mid owed none d = d.1
+owes_none now old (Event.RequestNotification task name variant sync notify number) reply mid owed none d = absurd none
+owes_none now old (Event.Send task bytes) (Reply.Code code) mid owed none d = d.2
+owes_none now old (Event.Receive task name room large) reply mid owed none d = absurd none
+owes_none now old (Event.ReceiveAgain task waited room large) reply mid owed none d = absurd none
+owes_none now old event reply mid owed none d = absurd d
+
+-- it posts none
+pub posts_none : (now : ℕ) (old : WorldView) (s : State) (event : Event) (reply : Reply) (new : WorldView) → OwesNone event → (d : IsDone now old s event reply new) → length d.owed ≡ 0
+posts_none now old s event reply new none d = ap length (owes_none now s event reply d.mid d.owed none d.does)
+
 -- ---- room and slots
-
-none_delivered : (event : Event) (code : ℕ) → delivers event (Reply.Code code) ≡ 0
-none_delivered (Event.Receive task name room large) code = refl
-none_delivered (Event.ReceiveAgain task waited room large) code = refl
-none_delivered event code = refl
-
--- a refusal accepts no message: it is a step that leaves the state as it is
-none_accepted : (old : WorldView) (event : Event) (code : ℕ) (new : WorldView) → Stands old → Declines old event code new → accepts event (Reply.Code code) ≡ 0
-none_accepted old event code new stands d =
-    let s = stands.state in
-    let step : Step 0 s event (Reply.Code code) s = inl (record { code = code; told = refl; refuses = d.refuses s stands.shown; same = refl }) in
-    let counted = Step-counted 0 s event (Reply.Code code) s (record { lawful = stands.shown.lawful; quiet = stands.shown.quiet }) step in
-    let none = none_delivered event code in omega (arith, counted, none)
 
 at_most_one : (event : Event) (reply : Reply) → accepts event reply ≤ 1
 at_most_one (Event.Send task bytes) (Reply.Code code) = elim (eqb_tells code 0) [
@@ -90,53 +130,110 @@ at_most_one (Event.Send task bytes) (Reply.Code code) = elim (eqb_tells code 0) 
 ]
 at_most_one event reply = omega arith
 
-pub spared : (old : WorldView) (event : Event) (reply : Reply) (new : WorldView) → KeepsSpares old new → accepts event reply ≡ 0 → Spares old event reply new
-spared old event reply new k none = record {
-  rooms = k.rooms;
-  slots = let s = k.slots in omega (arith, s, none);
-}
+-- no port is lost where no right is
+lost_none : (now : ℕ) (old : WorldView) (s : State) (event : Event) (reply : Reply) (new : WorldView) → Shows old s → LosesNone s event reply → IsDone now old s event reply new → new.ports.lost ≡ []
+lost_none now old s event reply new sh none d =
+    let unlost = Does-receives now s event reply d.mid d.owed none d.unrefused d.does sh.lawful in
+    listed_none new.ports.lost (λ p c. unlost p (d.shows.left.lost p c))
+
+-- slots were made, so far
+made_slots : (now : ℕ) (old : WorldView) (s : State) (event : Event) (reply : Reply) (new : WorldView) → Shows old s → OwesNone event → LosesNone s event reply →
+    new.ports.spare + accepts event reply ≤ max old.ports.spare (new.ledger.unused + accepts event reply) → (d : IsDone now old s event reply new) → UsesSlots old event reply (length d.owed) new
+made_slots now old s event reply new sh owes none few d =
+    let z = posts_none now old s event reply new owes d in
+    elim (leb_tells new.ports.spare new.ledger.unused) [
+      | inl h ↦ inr (let a = h.1 in omega (arith, a), lost_none now old s event reply new sh none d)
+      | inr h ↦ inl (let a = h.1 in omega (arith, a, few, z))
+    ]
+
+spared : (old : WorldView) (event : Event) (result : Result Reply Code) (new : WorldView) → KeepsSpares old new → OwesNone event → ((reply : Reply) → accepts event reply ≡ 0) → LeavesSpares old event result new
+spared old event result new k owes none = record { rooms = k.rooms; slots = kept result }
+  where
+    kept : (r : Result Reply Code) → LeavesSlots old event r new
+    kept (Ok reply) = λ before after now s sh d. inl (let s' = k.slots in let a = none reply in let z = posts_none now old s event reply new owes d in omega (arith, s', a, z))
+    kept (Err code) = let s' = k.slots in omega (arith, s')
+
+-- a right that was lost, and may have paid for a notice
+used_spares : (old : WorldView) (event : Event) (result : Result Reply Code) (new : WorldView) → UsesSpares old new → ¬ (MayNeedSlots event) → LeavesSpares old event result new
+used_spares old event result new u few = record { rooms = u.rooms; slots = used result }
+  where
+    used : (r : Result Reply Code) → LeavesSlots old event r new
+    used (Ok reply) = λ before after now s sh d. inl (
+        let part = part_needs now s event reply d.mid d.owed sh.lawful d.unrefused d.does few in
+        let counted = Does-counted now s event reply d.mid d.owed sh.lawful d.unrefused d.does in
+        let was = shown_unused old s sh before in
+        let is = midway_unused now old new d.mid d.owed d.shows after in
+        let spare = u.slots in omega (arith, part, counted, was, is, spare))
+    used (Err code) = let spare = u.slots in let less = u.fewer in omega (arith, spare, less)
+
+-- a refusal that leaves the tables
+pub refused_spares : (old : WorldView) (event : Event) (code : Code) (new : WorldView) → KeepsSpares old new → LeavesSpares old event (Err code) new
+refused_spares old event code new k = record { rooms = k.rooms; slots = let s' = k.slots in omega (arith, s') }
 
 -- a right that was handed on
-pub handed_spares : (old : WorldView) (event : Event) (reply : Reply) (new : WorldView) → MakesSlots old new → accepts event reply ≡ 0 → Spares old event reply new
-handed_spares old event reply new k none = record {
-  rooms = k.rooms;
-  slots = let s = k.slots in omega (arith, s, none);
-}
+pub handed_spares : (old : WorldView) (event : Event) (result : Result Reply Code) (new : WorldView) → MakesSlots old new → ((reply : Reply) → accepts event reply ≡ 0) →
+    ((s : State) (reply : Reply) → LosesNone s event reply) → OwesNone event → LeavesSpares old event result new
+handed_spares old event result new k none loses owes = record { rooms = k.rooms; slots = kept result }
+  where
+    kept : (r : Result Reply Code) → LeavesSlots old event r new
+    kept (Ok reply) = λ before after now s sh d. made_slots now old s event reply new sh owes (loses s reply) (let m = k.slots in let a = none reply in omega (arith, m, a)) d
+    kept (Err code) = k.slots
 
-pub sent_spares : (old : WorldView) (event : Event) (result : Result Reply Code) (new : WorldView) → Stands old → Serves old event result new →
-    OnOk result (UsesSlot old new) → OnErr result (new ≡ old) → Spares old event (answer result) new
-sent_spares old event (Ok reply) new stands serves uses same = record {
+pub sent_spares : (old : WorldView) (task : ℕ) (bytes : List ℕ) (result : Result Reply Code) (new : WorldView) →
+    OnOk result (UsesSlot old new) → OnErr result (new ≡ old) → LeavesSpares old (Event.Send task bytes) result new
+sent_spares old task bytes (Ok reply) new uses same = record {
   rooms = λ task. let e = uses.rooms task in omega (arith, e);
-  slots = let u = uses.slots in let one = at_most_one event reply in omega (arith, u, one);
+  slots = λ before after now s sh d. made_slots now old s (Event.Send task bytes) reply new sh tt tt (let u = uses.slots in let one = at_most_one (Event.Send task bytes) reply in omega (arith, u, one)) d;
 }
-sent_spares old event (Err code) new stands serves uses same =
-    spared old event (Reply.Code (code_number code)) new (keeps_same old new same) (none_accepted old event (code_number code) new stands serves)
+sent_spares old task bytes (Err code) new uses same = refused_spares old (Event.Send task bytes) code new (keeps_same old new same)
+
+-- the call that asks so
+abbrev pub asks : (task name : ℕ) → Asked → Event
+asks task name a = Event.RequestNotification task name a.variant a.sync a.notify a.disposition
 
 -- ---- a call
 
 -- a call that accepts no message
 pub carried : (old : WorldView) (event : Event) (result : Result Reply Code) (new : WorldView) → Serves old event result new →
-    IfErr result (λ code. code_number code ≡ memory_code event → WantsMemory old event) → KeepsSpares old new → ((reply : Reply) → accepts event reply ≡ 0) → Performs old event result new
-carried old event result new serves wanted keeps none = record { serves = serves; wanted = wanted; spares = spared old event (answer result) new keeps (none (answer result)) }
+    IfErr result (λ code. code_number code ≡ memory_code event → WantsMemory old event) → KeepsSpares old new → OwesNone event → ((reply : Reply) → accepts event reply ≡ 0) → Performs old event result new
+carried old event result new serves wanted keeps owes none = record { serves = serves; wanted = wanted; spares = spared old event result new keeps owes none }
+
+-- a call that loses a right
+pub lost : (old : WorldView) (event : Event) (result : Result Reply Code) (new : WorldView) → Serves old event result new →
+    IfErr result (λ code. code_number code ≡ memory_code event → WantsMemory old event) → UsesSpares old new → ¬ (MayNeedSlots event) → Performs old event result new
+lost old event result new serves wanted uses few = record { serves = serves; wanted = wanted; spares = used_spares old event result new uses few }
 
 -- a call that hands a right on
 pub handed_on : (old : WorldView) (event : Event) (result : Result Reply Code) (new : WorldView) → Serves old event result new →
-    IfErr result (λ code. code_number code ≡ memory_code event → WantsMemory old event) → MakesSlots old new → ((reply : Reply) → accepts event reply ≡ 0) → Performs old event result new
-handed_on old event result new serves wanted keeps none = record { serves = serves; wanted = wanted; spares = handed_spares old event (answer result) new keeps (none (answer result)) }
+    IfErr result (λ code. code_number code ≡ memory_code event → WantsMemory old event) → MakesSlots old new → ((reply : Reply) → accepts event reply ≡ 0) →
+    ((s : State) (reply : Reply) → LosesNone s event reply) → OwesNone event → Performs old event result new
+handed_on old event result new serves wanted keeps none loses owes = record { serves = serves; wanted = wanted; spares = handed_spares old event result new keeps none loses owes }
 
--- a call that isn't served yet: its first guard always holds, and isn't want of memory
-pub unserved : (w : WorldView) (event : Event) → IsRefused w (λ s. call_guards s event) (kern_number InvalidArgument) → HasTasks w event → memory_code event ≡ kern_number ResourceShortage →
-    ((reply : Reply) → accepts event reply ≡ 0) → Performs w event (Err (Kern InvalidArgument)) w
-unserved w event why tasks memory none = record {
-  serves = refused w event tasks (kern_number InvalidArgument) why;
-  wanted = λ is. absurd (omega (arith, is, memory));
-  spares = spared w event (Reply.Code (kern_number InvalidArgument)) w (keeps_refl w) (none (Reply.Code (kern_number InvalidArgument)));
-}
+-- a request for a notice
+asked_slots : (old : WorldView) (task name : ℕ) (a : Asked) (reply : Reply) (new : WorldView) (now : ℕ) (s : State) → Shows old s → IsUnusedOfAll old.ledger → IsUnusedOfAll new.ledger →
+    AskedSlots old a (Ok reply) new → (d : IsDone now old s (asks task name a) reply new) → UsesSlots old (asks task name a) reply (length d.owed) new
+asked_slots old task name a (Reply.Previous previous) new now s sh before after slots d = elim slots.0 [
+  | inl few ↦ inl (
+      let part = request_needs now s task name a.variant a.sync a.notify a.disposition previous d.mid d.owed sh.lawful d.unrefused d.does in
+      let counted = Does-counted now s (asks task name a) (Reply.Previous previous) d.mid d.owed sh.lawful d.unrefused d.does in
+      let was = shown_unused old s sh before in
+      let is = midway_unused now old new d.mid d.owed d.shows after in omega (arith, part, counted, was, is, few))
+  | inr few ↦ inr (few, slots.1 ∙ sh.idle.none_lost.lost)
+]
+asked_slots old task name a reply new now s sh before after slots d = absurd d.does
+
+asked_spares : (old : WorldView) (task name : ℕ) (a : Asked) (result : Result Reply Code) (new : WorldView) → LeavesRequest old a result new → LeavesSpares old (asks task name a) result new
+asked_spares old task name a (Ok reply) new l = record { rooms = l.rooms; slots = λ before after now s sh d. asked_slots old task name a reply new now s sh before after l.slots d }
+asked_spares old task name a (Err code) new l = record { rooms = l.rooms; slots = l.slots }
+
+pub asked : (old : WorldView) (task name : ℕ) (a : Asked) (result : Result Reply Code) (new : WorldView) → Serves old (asks task name a) result new →
+    IfErr result (λ code. code_number code ≡ kern_number ResourceShortage → WantsToRequest old task name a) → LeavesRequest old a result new → Performs old (asks task name a) result new
+asked old task name a result new serves wanted leaves = record { serves = serves; wanted = wanted; spares = asked_spares old task name a result new leaves }
 
 -- one of the tasks isn't there
-pub no_task : (w : WorldView) (event : Event) → Stands w → Declines w event (kern_number InvalidTask) w → Performs w event (Err (Kern InvalidTask)) w
-no_task w event stands declines = record {
+pub no_task : (w : WorldView) (event : Event) → Declines w event (kern_number InvalidTask) w → Performs w event (Err (Kern InvalidTask)) w
+no_task w event declines = record {
   serves = declines;
   wanted = λ is. absurd ((code_apart event).1 (sym is));
-  spares = spared w event (Reply.Code (kern_number InvalidTask)) w (keeps_refl w) (none_accepted w event (kern_number InvalidTask) w stands declines);
+  spares = refused_spares w event (Kern InvalidTask) w (keeps_refl w);
 }

@@ -4,8 +4,9 @@ mod Receiving
 mod Sending
 mod Wanting
 mod Unused
+mod Ending
+mod Freed
 mod Stepping
-mod Settling
 mod Keeping
 mod Sparing
 mod Left

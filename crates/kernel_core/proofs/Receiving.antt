@@ -8,14 +8,18 @@ use Rattle.mach_types.specs.declared.calls.Reply.{Reply}
 use Rattle.mach_types.specs.declared.calls.Waited.{Waited}
 use Rattle.mach_types.specs.declared.codes.MsgReturn.TheVariants.{ReceiveInvalidName, ReceiveInSet, ReceivePortDied, ReceivePortChanged, ReceiveBodyErrorNames, ReceiveBodyErrorMemory}
 use Rattle.mach_types.specs.Guards.{NoneHolds}
+use Rattle.mach_types.specs.Messages.{Entry as LogEntry}
 use Rattle.mach_types.specs.Numbers.{msg_number, most_bytes}
 use Rattle.mach_types.specs.Tokens.{receive}
 use Rattle.mach_model.specs.State.{State, Target, lookup, held, Holds}
 use Rattle.mach_model.specs.ReceiveRight.{NamesReceive}
 use Rattle.mach_model.specs.Sets.{IsSet}
 use Rattle.mach_model.specs.Machine.{Does}
+use Rattle.mach_model.specs.ReceivedMeans.{message_length}
 use Rattle.mach_model.specs.Receive.{TakesFrom, IsEmptyFor, Receipt}
 use Rattle.mach_model.specs.Refusals.{again_guards, call_guards}
+use Rattle.mach_model.proofs.ReceiveLawful.{Receives-removes}
+use Rattle.mach_model.proofs.StepLawful.{TakesFrom-live}
 use Rattle.name_space.specs.declared.Entry.{Entry}
 use Rattle.name_space.specs.declared.Entry.TheVariants as entry
 use Rattle.name_space.specs.Entry.{port_named, has_receive, receive_named, set_named}
@@ -29,7 +33,7 @@ use Rattle.copyin_base.specs.Kept.{Kept}
 use Rattle.copyin_base.specs.Shows.{target_of, Shows}
 use Rattle.copyin_base.specs.Stands.{Stands}
 use Rattle.copyin_base.specs.Worlds.{WorldView, entry_at, port_at, HasTask}
-use Rattle.copyin_base.proofs.Acting.{Does-so, refused, refused_later, done}
+use Rattle.copyin_base.proofs.Acting.{Leaves-so, refused, refused_later, none_left, makes_none, done_leaving}
 use Rattle.copyin_base.proofs.Told.{port_of, receive_has, unused, found, names_port, holds_receive, names_receive, not_receive, receive_lives, port_there, among_tasks}
 use Rattle.copyin_base.proofs.Gets.{seen}
 use Rattle.copyin_base.proofs.Roomier.{room_made, room_entry, room_shows}
@@ -38,9 +42,13 @@ use Rattle.copyout.specs.Ready.{HasFront, Waits, carried_by}
 use Rattle.copyout.specs.Giving.{LackNames}
 use Rattle.copyout.specs.Takes.{TakesMessage, NotesFront}
 use Rattle.copyout.proofs.FrontNoted.{notes_roomier}
-use Rattle.copyout.proofs.Fronts.{shown_empty}
+use Rattle.copyout.proofs.Fronts.{shown_empty, shown_front, shown_is_front}
 use Rattle.copyout.proofs.MessageTaken.{message_received}
-use Rattle.copyout.proofs.Refusing.{refuses_names, refuses_memory, receipt_large}
+use Rattle.copyout.proofs.Refusing.{refuses_names, refuses_memory, receipt_large, kept_length}
+use Rattle.notifications.specs.Destroying.{DestroysMessage, CanDestroy}
+use Rattle.notifications.proofs.FrontDestroyed.{can_destroy}
+use Rattle.notifications.proofs.FrontEnded.{message_destroyed}
+use Rattle.kernel_core.proofs.Freed.{destroyed_sends, front_same}
 use Rattle.kernel_core.specs.Receive.{named_guards, Sources, IsMember, IsAlone, IsOf, IsFrom, HasMessage, NoneWaits, ReceiptOf, IsReceipt, StaysFor}
 use Rattle.kernel_core_base.proofs.Holding.{in_one, one_in, none_in, some_in, held_lives, one_true}
 use Rattle.kernel_core.proofs.Judged.{not_not}
@@ -264,6 +272,13 @@ message_waits w stands port waited h = go h.from.v.queue refl
     go [] e = absurd (let some = h.some in let l : length h.from.v.queue ≡ 0 = ap (λ (x : List Kept). length x) e in omega (arith, some, l))
     go (m ∷ ms) e = waits w stands.state stands.shown port h.from.v h.from.there m ms e
 
+pub message_destroyable : (w : WorldView) → Stands w → (port : ℕ) (waited : Waited) → HasMessage w waited port → CanDestroy w port
+message_destroyable w stands port waited h = go h.from.v.queue refl
+  where
+    go : (ms : List Kept) → h.from.v.queue ≡ ms → CanDestroy w port
+    go [] e = absurd (let some = h.some in let l : length h.from.v.queue ≡ 0 = ap (λ (x : List Kept). length x) e in omega (arith, some, l))
+    go (m ∷ ms) e = can_destroy w stands.state stands.shown port h.from.v h.from.there m ms e
+
 module _ (w : WorldView) (task : ℕ) (below : HasTask w task) (waited : Waited) (good : IsAllowed w (λ s. again_guards s task waited)) (room : ℕ) where
   live : (s : State) → Shows w s → s.live_task task ≡ true
   live s sh = go (s.live_task task) refl
@@ -276,9 +291,10 @@ module _ (w : WorldView) (task : ℕ) (below : HasTask w task) (waited : Waited)
   from s sh port f = takes_from w s sh task waited (good.allowed s sh) port f
 
   -- a receipt that leaves the tables
-  as_before : (large : Bool) (s : State) → Shows w s → (reply : Reply) → Receipt s task waited room large reply s [] → ReceiptOf w s task waited room large reply w
-  as_before large s sh reply receipt = record {
+  as_before : (now : ℕ) (large : Bool) (s : State) → Shows w s → (reply : Reply) → Receipt s task waited room large reply s [] → ReceiptOf now w s task waited room large reply w
+  as_before now large s sh reply receipt = record {
     mid = s;
+    owed = [];
     receipt = receipt;
     agrees = sh.agrees;
     holders = sh.holders;
@@ -286,23 +302,25 @@ module _ (w : WorldView) (task : ℕ) (below : HasTask w task) (waited : Waited)
     slots = sh.slots;
     requested = sh.requested;
     notes = senders_same w sh.idle.noted;
-    none_lost = sh.idle.none_lost;
+    makes = makes_none w w sh.idle.none_lost;
+    left = none_left w s sh.idle.none_lost (λ p o. let one = sh.lawful.one_receive p o.0 in let none = o.1 in omega (arith, one, none));
   }
 
-  pub receipt_empty : NoneWaits w waited → IsReceipt w task waited room (Reply.Empty waited) w
-  receipt_empty none = record { receipt = λ large s sh. as_before large s sh (Reply.Empty waited) (refl, empty_for w s sh task waited none, refl, refl) }
+  pub receipt_empty : (large : Bool) → NoneWaits w waited → IsReceipt w task waited room large (Reply.Empty waited) w
+  receipt_empty large none = record { receipt = λ now s sh. as_before now large s sh (Reply.Empty waited) (refl, empty_for w s sh task waited none, refl, refl) }
 
   module _ (port : ℕ) (f : IsFrom w waited port) where
     pub receipt_message : (name : ℕ) → FindsReceive w task name port → (bytes : List ℕ) (number : ℕ) (start taken new : WorldView) → MakesRoom w task number start →
         (t : TakesMessage start task port name bytes taken) → length t.takes.front.bytes ≤ min room most_bytes → NotesFront taken port t.takes.front new →
-        IsReceipt w task waited room (Reply.Message bytes) new
-    receipt_message name finds bytes number start taken new mr t fits notes = record {
-      receipt = λ large s sh.
+        (large : Bool) → IsReceipt w task waited room large (Reply.Message bytes) new
+    receipt_message name finds bytes number start taken new mr t fits notes large = record {
+      receipt = λ now s sh.
           let same : SameButRoom w start = room_made w start task number mr in
           let at : entry_at start task name ≡ Some finds.entry = room_entry w start same task name ∙ finds.found in
           let x = message_received start s (room_shows w start s same sh) task port name bytes taken t finds.entry at (receive_has finds.entry port finds.named).0 room fits new notes in
           record {
             mid = x.t;
+            owed = [];
             receipt = (port, from s sh port f, x.receives, refl);
             agrees = x.agrees;
             holders = x.holders;
@@ -310,16 +328,48 @@ module _ (w : WorldView) (task : ℕ) (below : HasTask w task) (waited : Waited)
             slots = x.slots;
             requested = x.requested;
             notes = notes_roomier w start new same x.notes;
-            none_lost = x.none_lost;
+            makes = makes_none w new x.none_lost;
+            left = none_left new x.t x.none_lost (λ p o.
+                let lives = TakesFrom-live s sh.lawful task waited port (from s sh port f) in
+                let one = (Receives-removes task port room bytes s x.t sh.lawful lives (live s sh) x.receives).keeps.one_receive p o.0 in
+                let none = o.1 in omega (arith, one, none));
           };
     }
 
     module _ (m : Kept) (h : HasFront w port m) where
-      pub receipt_too_large : (n : ℕ) → n ≡ length m.bytes → min room most_bytes < length m.bytes → IsReceipt w task waited room (Reply.TooLarge n) w
+      pub receipt_too_large : (n : ℕ) → n ≡ length m.bytes → min room most_bytes < length m.bytes → IsReceipt w task waited room true (Reply.TooLarge n) w
       receipt_too_large n is above = record {
-        receipt = λ large s sh. as_before large s sh (Reply.TooLarge n)
-            (receipt_large w s sh task port (live s sh) h.v h.there m h.behind h.queue waited (from s sh port f) room large n is (omega (arith, is, above)));
+        receipt = λ now s sh. as_before now true s sh (Reply.TooLarge n)
+            (receipt_large w s sh task port (live s sh) h.v h.there m h.behind h.queue waited (from s sh port f) room n is (omega (arith, is, above)));
       }
+
+      -- ... or is destroyed
+      pub receipt_lost : (n : ℕ) → n ≡ length m.bytes → min room most_bytes < length m.bytes → (new : WorldView) → DestroysMessage w port new → IsReceipt w task waited room false (Reply.TooLarge n) new
+      receipt_lost n is above new d = record {
+        receipt = λ now s sh.
+            let x = message_destroyed w s sh now port new d in
+            let front = shown_front w s sh.agrees port h.v h.there m h.behind h.queue in
+            let same : front.first ≡ x.e = front_same s port front.first x.e (shown_is_front w s sh.agrees port h.v h.there m h.behind h.queue) x.front in
+            let long : message_length x.e.message ≡ length m.bytes = ap (λ (e : LogEntry). message_length e.message) (sym same) ∙ kept_length port m front.first.message front.keeps in
+            record {
+              mid = x.mid;
+              owed = x.owed;
+              receipt = (port, x.e, from s sh port f, x.front, is ∙ sym long, omega (arith, is, above), x.destroys);
+              agrees = x.agrees;
+              holders = x.holders;
+              carriers = x.carriers;
+              slots = x.slots;
+              requested = x.requested;
+              notes = x.notes;
+              makes = λ lost c q. destroyed_sends now w s sh port new x q;
+              left = x.left;
+            };
+      }
+
+      pub large_ended : (large : Bool) (n : ℕ) → n ≡ length m.bytes → min room most_bytes < length m.bytes → (new : WorldView) → MatchBool large (new ≡ w) (DestroysMessage w port new) →
+          IsReceipt w task waited room large (Reply.TooLarge n) new
+      large_ended true n is above new same = subst (IsReceipt w task waited room true (Reply.TooLarge n)) (sym same) (receipt_too_large n is above)
+      large_ended false n is above new d = receipt_lost n is above new d
 
       pub stays_for_names : length m.bytes ≤ min room most_bytes → LackNames w task (carried_by m) → StaysFor w task waited room (msg_number ReceiveBodyErrorNames)
       stays_for_names fits lack = record { refuses = λ s sh. refuses_names w s sh task port (live s sh) h.v h.there m h.behind h.queue waited (from s sh port f) room fits lack }
@@ -331,19 +381,19 @@ module _ (w : WorldView) (task : ℕ) (below : HasTask w task) (waited : Waited)
 
 -- a call whose own part is this receipt
 does_receipt : {task room : ℕ} {waited : Waited} {large : Bool} (w : WorldView) (event : Event) (reply : Reply) (new : WorldView) (now : ℕ) (s : State) →
-    (y : ReceiptOf w s task waited room large reply new) → Does now s event reply y.mid [] → Does-so w event reply new now s
+    (y : ReceiptOf now w s task waited room large reply new) → Does now s event reply y.mid y.owed → Leaves-so w event reply new now s
 does_receipt w event reply new now s y does = record {
   mid = y.mid;
-  owed = [];
+  owed = y.owed;
   does = does;
-  none_owed = refl;
   agrees = y.agrees;
   holders = y.holders;
   carriers = y.carriers;
   slots = y.slots;
   requested = y.requested;
   notes = y.notes;
-  none_lost = y.none_lost;
+  makes = y.makes;
+  left = y.left;
 }
 
 module _ (w : WorldView) (task room : ℕ) (large : Bool) (below : HasTask w task) where
@@ -358,9 +408,9 @@ module _ (w : WorldView) (task room : ℕ) (large : Bool) (below : HasTask w tas
       pub named_stays : (code : ℕ) → StaysFor w task waited room code → Declines w (Event.Receive task name room large) code w
       named_stays code r = refused_later w (Event.Receive task name room large) below code good (λ s sh. (waited, x.waits s sh, r.refuses s sh))
 
-      pub named_received : (reply : Reply) (new : WorldView) → IsReceipt w task waited room reply new → Acts w (Event.Receive task name room large) reply new
-      named_received reply new r = done w (Event.Receive task name room large) reply new below good (λ now s sh.
-          let y = r.receipt large s sh in does_receipt w (Event.Receive task name room large) reply new now s y (waited, x.waits s sh, y.receipt))
+      pub named_received : (reply : Reply) (new : WorldView) → IsReceipt w task waited room large reply new → Acts w (Event.Receive task name room large) reply new
+      named_received reply new r = done_leaving w (Event.Receive task name room large) reply new below good (λ now s sh.
+          let y = r.receipt now s sh in does_receipt w (Event.Receive task name room large) reply new now s y (waited, x.waits s sh, y.receipt))
 
   module _ (waited : Waited) where
     pub again_declined : (code : ℕ) → IsRefused w (λ s. again_guards s task waited) code → Declines w (Event.ReceiveAgain task waited room large) code w
@@ -370,6 +420,6 @@ module _ (w : WorldView) (task room : ℕ) (large : Bool) (below : HasTask w tas
       pub again_stays : (code : ℕ) → StaysFor w task waited room code → Declines w (Event.ReceiveAgain task waited room large) code w
       again_stays code r = refused_later w (Event.ReceiveAgain task waited room large) below code record { allowed = λ s sh. good.allowed s sh } (λ s sh. r.refuses s sh)
 
-      pub again_received : (reply : Reply) (new : WorldView) → IsReceipt w task waited room reply new → Acts w (Event.ReceiveAgain task waited room large) reply new
-      again_received reply new r = done w (Event.ReceiveAgain task waited room large) reply new below record { allowed = λ s sh. good.allowed s sh } (λ now s sh.
-          let y = r.receipt large s sh in does_receipt w (Event.ReceiveAgain task waited room large) reply new now s y y.receipt)
+      pub again_received : (reply : Reply) (new : WorldView) → IsReceipt w task waited room large reply new → Acts w (Event.ReceiveAgain task waited room large) reply new
+      again_received reply new r = done_leaving w (Event.ReceiveAgain task waited room large) reply new below record { allowed = λ s sh. good.allowed s sh } (λ now s sh.
+          let y = r.receipt now s sh in does_receipt w (Event.ReceiveAgain task waited room large) reply new now s y y.receipt)

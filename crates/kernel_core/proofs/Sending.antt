@@ -148,6 +148,7 @@ module _ (w : WorldView) (task : ℕ) (below : HasTask w task) (bytes : List ℕ
         mid = sent_state start s sh2 now task bytes d.parsed d.text j;
         owed = [];
         does = (refl, sends start s sh2 now task bytes d.parsed d.text j d.plans.slot d.plans.few, refl);
+        loses_none = tt;
         none_owed = refl;
         agrees = sent_agrees start s sh2 now task bytes d.parsed d.text j new d.commits;
         holders = commits_holders start task d.parsed d.text.written j bytes new d.commits sh2.holders;

@@ -1,5 +1,5 @@
 -- Where the calls that hand, send and receive rights want memory, and what they keep for names and messages to come.
-use Rattle.std.proofs.Common.{◌≡◌, ◌≢◌, ℕ, ◌<◌, ◌≤◌, ◌+◌, ◌⊎◌, Option, Some, None, refl, sym, ap, subst, ◌∙◌, arith, inl, inr, true, false, Bool}
+use Rattle.std.proofs.Common.{◌≡◌, ◌≢◌, ℕ, ◌<◌, ◌≤◌, ◌+◌, ◌⊎◌, List, [], length, Option, Some, None, Ok, refl, sym, ap, subst, ◌∙◌, arith, inl, inr, true, false, Bool}
 use Rattle.std.specs.Prelude.{if◌then◌else◌, max, MatchBool}
 use Rattle.std.specs.FinMap as map
 use Rattle.mach_types.specs.declared.calls.Event.{Event}
@@ -13,7 +13,17 @@ use Rattle.mach_types.specs.Guards.{FirstIs}
 use Rattle.mach_types.specs.Numbers.{kern_number, msg_number}
 use Rattle.mach_types.specs.Tokens.{Kind}
 use Rattle.mach_model.specs.Refusals.{again_guards}
-use Rattle.mach_laws.specs.Order.{accepts, delivers}
+use Rattle.mach_model.specs.State.{State}
+use Rattle.mach_model.specs.Notices.{Owed}
+use Rattle.mach_model.specs.Machine.{Does}
+use Rattle.mach_model.specs.Receive.{Receipt}
+use Rattle.mach_model.specs.Lawful.{IsLawful}
+use Rattle.mach_model.specs.Midway.{MidLawful}
+use Rattle.mach_model.proofs.StepLawful.{TakesFrom-live}
+use Rattle.mach_laws.specs.Queued.{queued, unused}
+use Rattle.mach_laws.specs.Counts.{accepts, takes_from}
+use Rattle.mach_laws.proofs.Counted.{Does-counted}
+use Rattle.mach_laws.proofs.Onces.{destroyed_needs}
 use Rattle.name_space.specs.declared.Entry.{Entry}
 use Rattle.port.specs.Ports.{PortView, PortsView}
 use Rattle.copyin_base.specs.declared.message.Mark.{Mark}
@@ -38,11 +48,14 @@ use Rattle.copyout.proofs.Spared.{put_keeps, given_keeps}
 use Rattle.copyout.proofs.Slots.{put_unused, mark_unused}
 use Rattle.kernel_core.specs.declared.transfer.Handed.{Handed}
 use Rattle.kernel_core.specs.declared.transfer.TaskName.{TaskName}
-use Rattle.kernel_core.specs.Receive.{named_guards, given_by, FreesSlot}
+use Rattle.notifications.specs.Destroying.{DestroysMessage}
+use Rattle.kernel_core.specs.Receive.{named_guards, taken_by, FreesSlot}
 use Rattle.kernel_core.specs.Transfer.{under_guards, out_guards, names_needed, MayInsert, MayExtract}
 use Rattle.kernel_core.specs.Room.{slots_needed, IsRoomier, MakesSlots}
 use Rattle.kernel_core.specs.Send.{slotted}
-use Rattle.kernel_core.specs.Wanted.{WantsToInsert, WantsToExtract, Spares}
+use Rattle.kernel_core.specs.Wanted.{WantsToInsert, WantsToExtract, LeavesSpares}
+use Rattle.kernel_core.proofs.Freed.{destroyed_frees}
+use Rattle.kernel_core.proofs.Unused.{shown_unused, midway_unused}
 
 -- ---- handing a right: want of room for its name
 
@@ -191,35 +204,76 @@ not_short_again w task waited code stands r e = go waited (r.refused stands.stat
     go (Waited.Set s) (inr (not, inr h)) = h.1
 
 -- nothing was taken
-pub none_freed : (w : WorldView) (n : ℕ) → FreesSlot w (Reply.TooLarge n) w
-none_freed w n = record { rooms = λ task. omega arith; slots = omega arith }
+pub none_freed : (w : WorldView) (n : ℕ) → FreesSlot w true (Reply.TooLarge n) w
+none_freed w n = record { rooms = λ task. omega arith; slots = omega arith; uses = omega arith }
 
-pub empty_freed : (w : WorldView) (waited : Waited) → FreesSlot w (Reply.Empty waited) w
-empty_freed w waited = record { rooms = λ task. omega arith; slots = omega arith }
+pub empty_freed : (w : WorldView) (large : Bool) (waited : Waited) → FreesSlot w large (Reply.Empty waited) w
+empty_freed w large waited = record { rooms = λ task. omega arith; slots = omega arith; uses = omega arith }
 
-pub one_freed : (old new : WorldView) (bytes : _) → ReturnsSlot old new → FreesSlot old (Reply.Message bytes) new
-one_freed old new bytes r = record {
+pub one_freed : (old new : WorldView) (large : Bool) (bytes : _) → ReturnsSlot old new → new.ledger.unused ≡ old.ledger.unused → FreesSlot old large (Reply.Message bytes) new
+one_freed old new large bytes r unused = record {
   rooms = λ task. let h = r.rooms task in omega (arith, h);
-  slots = r.slots;
+  slots = let s = r.slots in omega (arith, s);
+  uses = let s = r.slots in omega (arith, s, unused);
 }
 
-freed_spares : (old : WorldView) (event : Event) (reply : Reply) (new : WorldView) → FreesSlot old reply new → accepts event reply ≡ 0 → delivers event reply ≡ given_by reply → Spares old event reply new
-freed_spares old event reply new f none given = record {
+-- a message was destroyed
+lost_freed : (old new : WorldView) (port n : ℕ) → SlotsSuffice old → DestroysMessage old port new → FreesSlot old false (Reply.TooLarge n) new
+lost_freed old new port n enough d = let f = destroyed_frees old new port enough d in record {
+  rooms = λ task. let same = f.rooms task in omega (arith, same);
+  slots = f.slots;
+  uses = f.uses;
+}
+
+pub large_freed : (old new : WorldView) (large : Bool) (port n : ℕ) → SlotsSuffice old → MatchBool large (new ≡ old) (DestroysMessage old port new) → FreesSlot old large (Reply.TooLarge n) new
+large_freed old new true port n enough same = subst (λ (x : WorldView). FreesSlot old true (Reply.TooLarge n) x) (sym same) (none_freed old n)
+large_freed old new false port n enough d = lost_freed old new port n enough d
+
+-- what a receipt takes is spare again, but for what it owes
+module _ (old new : WorldView) (s mid : State) (owed : Owed) (l : IsLawful s) (m : MidLawful mid owed) (was : old.ledger.unused ≡ unused s) (is : new.ledger.unused ≡ unused mid) (task room : ℕ) (waited : Waited) where
+  owes_none : (large : Bool) (reply : Reply) → FreesSlot old large reply new → owed ≡ [] → new.ports.spare + length owed ≤ old.ports.spare + taken_by large reply
+  owes_none large reply f none = let spare = f.slots in let zero : length owed ≡ 0 = ap length none in omega (arith, spare, zero)
+
+  receipt_slots : (large : Bool) (reply : Reply) → FreesSlot old large reply new → queued mid + taken_by large reply ≡ queued s → Receipt s task waited room large reply mid owed →
+      new.ports.spare + length owed ≤ old.ports.spare + taken_by large reply
+  receipt_slots large (Reply.Message bytes) f counted x = owes_none large (Reply.Message bytes) f x.3
+  receipt_slots large (Reply.Empty told) f counted x = owes_none large (Reply.Empty told) f x.3
+  receipt_slots true (Reply.TooLarge n) f counted x = owes_none true (Reply.TooLarge n) f x.6.1
+  receipt_slots false (Reply.TooLarge n) f counted x =
+      let needs = destroyed_needs s mid owed x.0 x.1 l m (TakesFrom-live s l task waited x.0 x.2) x.6 in
+      let uses = f.uses in omega (arith, needs, uses, counted, was, is)
+  receipt_slots large reply f counted x = absurd x
+
+freed_spares : (old : WorldView) (event : Event) (large : Bool) (reply : Reply) (new : WorldView) (task room : ℕ) → FreesSlot old large reply new →
+    accepts event reply ≡ 0 → takes_from event reply ≡ taken_by large reply →
+    ((now : ℕ) (s mid : State) (owed : Owed) → Does now s event reply mid owed → (waited : Waited) × Receipt s task waited room large reply mid owed) → LeavesSpares old event (Ok reply) new
+freed_spares old event large reply new task room f none taken does = record {
   rooms = f.rooms;
-  slots = let s = f.slots in omega (arith, s, none, given);
+  slots = λ before after now s sh d. inl (
+      let counted = Does-counted now s event reply d.mid d.owed sh.lawful d.unrefused d.does in
+      let was = shown_unused old s sh before in
+      let is = midway_unused now old new d.mid d.owed d.shows after in
+      let x = does now s d.mid d.owed d.does in
+      let spare = receipt_slots old new s d.mid d.owed sh.lawful d.shows.lawful was is task room x.0 large reply f (omega (arith, counted, none, taken)) x.1 in
+      omega (arith, spare, none, taken));
 }
 
-pub named_spares : (old : WorldView) (task name room : ℕ) (large : Bool) (reply : Reply) (new : WorldView) → FreesSlot old reply new → Spares old (Event.Receive task name room large) reply new
-named_spares old task name room large reply new f = freed_spares old (Event.Receive task name room large) reply new f refl (gives reply)
+pub named_spares : (old : WorldView) (task name room : ℕ) (large : Bool) (reply : Reply) (new : WorldView) → FreesSlot old large reply new →
+    LeavesSpares old (Event.Receive task name room large) (Ok reply) new
+named_spares old task name room large reply new f =
+    freed_spares old (Event.Receive task name room large) large reply new task room f refl (takes reply) (λ now s mid owed d. (d.0, d.2))
   where
-    gives : (r : Reply) → delivers (Event.Receive task name room large) r ≡ given_by r
-    gives (Reply.Message bytes) = refl
-    gives r = refl
+    takes : (r : Reply) → takes_from (Event.Receive task name room large) r ≡ taken_by large r
+    takes (Reply.Message bytes) = refl
+    takes (Reply.TooLarge n) = refl
+    takes r = refl
 
-pub again_spares : (old : WorldView) (task : ℕ) (waited : Waited) (room : ℕ) (large : Bool) (reply : Reply) (new : WorldView) → FreesSlot old reply new →
-    Spares old (Event.ReceiveAgain task waited room large) reply new
-again_spares old task waited room large reply new f = freed_spares old (Event.ReceiveAgain task waited room large) reply new f refl (gives reply)
+pub again_spares : (old : WorldView) (task : ℕ) (waited : Waited) (room : ℕ) (large : Bool) (reply : Reply) (new : WorldView) → FreesSlot old large reply new →
+    LeavesSpares old (Event.ReceiveAgain task waited room large) (Ok reply) new
+again_spares old task waited room large reply new f =
+    freed_spares old (Event.ReceiveAgain task waited room large) large reply new task room f refl (takes reply) (λ now s mid owed d. (waited, d))
   where
-    gives : (r : Reply) → delivers (Event.ReceiveAgain task waited room large) r ≡ given_by r
-    gives (Reply.Message bytes) = refl
-    gives r = refl
+    takes : (r : Reply) → takes_from (Event.ReceiveAgain task waited room large) r ≡ taken_by large r
+    takes (Reply.Message bytes) = refl
+    takes (Reply.TooLarge n) = refl
+    takes r = refl

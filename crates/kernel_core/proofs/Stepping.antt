@@ -8,15 +8,13 @@ use Rattle.mach_types.specs.declared.calls.Event.{Event}
 use Rattle.mach_types.specs.declared.calls.Reply.{Reply}
 use Rattle.mach_types.specs.Tokens.{Request, no_senders, port_destroyed, dead_name}
 use Rattle.mach_model.specs.State.{State, opening}
-use Rattle.mach_model.specs.Notices.{Owed}
-use Rattle.mach_model.specs.Settles.{Settles}
-use Rattle.mach_model.proofs.Opening.{opening-lawful, opening-quiet}
+use Rattle.mach_model.proofs.Opening.{opening-lawful}
 use Rattle.port.specs.Ports.{PortView}
 use Rattle.port_set.specs.declared.SetRecord.{SetRecord}
 use Rattle.request_table.specs.declared.Request.{Request as NameRequest}
 use Rattle.request_table.specs.Requests.{name_key}
 use Rattle.rights.specs.declared.Counts.{Counts}
-use Rattle.copyin_base.specs.Acts.{ShowsMid, Acts, Declines}
+use Rattle.copyin_base.specs.Acts.{Acts, Declines}
 use Rattle.copyin_base.specs.Kept.{Kept}
 use Rattle.copyin_base.specs.Requests.{notify_of, none_requested, rights_kept}
 use Rattle.copyin_base.specs.Shows.{Agrees, Shows}
@@ -27,15 +25,32 @@ use Rattle.copyin_base.proofs.Holders.{holders_none}
 use Rattle.copyin_base.proofs.Idle.{idle_none}
 use Rattle.copyin_base.proofs.Requested.{requested_none}
 use Rattle.copyin_base.proofs.Slots.{slots_none}
+use Rattle.destroy.specs.Stages.{SettlesIn}
 use Rattle.kernel_core.specs.Answers.{Answers}
+use Rattle.kernel_core.specs.Kernels.{TakesTurns}
 
 -- What was done is settled: a step that is done.
-pub acted : (old mid new : WorldView) (event : Event) (reply : Reply) → Acts old event reply mid →
-    ((now : ℕ) (tables : WorldView) (s t : State) (owed : Owed) → ShowsMid now tables mid t owed → (u : State) × Settles now s t owed u × Shows new u) → Answers old event reply new
-acted old mid new event reply a settles = λ now s sh.
+pub acted : (old mid new : WorldView) (event : Event) (reply : Reply) (turns : ℕ) → Acts old event reply mid → SettlesIn mid turns new → Answers old event reply new
+acted old mid new event reply turns a settles = λ now s sh.
     let d = a.acts now s sh in
-    let e = settles now old s d.mid d.owed d.shows in
+    let e = settles now old s d.mid d.owed sh d.shows in
     (e.0, inr (record { unrefused = d.unrefused; mid = d.mid; owed = d.owed; does = d.does; settles = e.1 }), e.2)
+
+-- It ends in the turns that settling took.
+pub acted_turns : (old mid new : WorldView) (event : Event) (reply : Reply) (turns : ℕ) → Acts old event reply mid → SettlesIn mid turns new → TakesTurns old event reply new turns
+acted_turns old mid new event reply turns a settles = λ now s sh.
+    let d = a.acts now s sh in
+    let e = settles now old s d.mid d.owed sh d.shows in (
+      e.0,
+      e.2,
+      inr (
+        record { unrefused = d.unrefused; mid = d.mid; owed = d.owed; does = d.does; settles = e.1 },
+        record { ending = e.3.ending; reached = e.3.reached; done = e.3.done; number = e.3.number; bounded = e.3.bounded },
+      ),
+    )
+
+pub declined_turns : (old new : WorldView) (event : Event) (code turns : ℕ) → turns ≡ 0 → Declines old event code new → TakesTurns old event (Reply.Code code) new turns
+declined_turns old new event code turns none d = λ now s sh. (s, d.shows s sh, inl (record { code = code; told = refl; refuses = d.refuses s sh; same = refl }, none))
 
 -- A refusal is a step that is refused.
 pub declined : (old new : WorldView) (event : Event) (code : ℕ) → Declines old event code new → Answers old event (Reply.Code code) new
@@ -65,7 +80,7 @@ opening_agrees = record {
     receivers = rw (map.get-empty {X = Counts} nat_cmp p) refl;
     senders = rw (map.get-empty {X = Counts} nat_cmp p) refl;
     once_rights = rw (map.get-empty {X = Counts} nat_cmp p) refl;
-    destinations = rw (map.get-empty {X = Counts} nat_cmp p) refl;
+    destinations = λ live. rw (map.get-empty {X = Counts} nat_cmp p) refl;
   };
   total = refl;
   in_sets = record {
@@ -78,6 +93,7 @@ opening_agrees = record {
     kept = λ r kind q. let none = ap (λ (o : Option ℕ). rights_kept opening.live_port o kind q) (nothing r) in omega (arith, none);
     given = λ r q is. absurd (let e : None ≡ Some q = sym (nothing r) ∙ is in cc);
     given_went = tt;
+    ended_went = tt;
   };
 }
   where
@@ -102,7 +118,6 @@ opening_shows = record {
   requested = requested_none;
   idle = idle_none;
   lawful = opening-lawful;
-  quiet = opening-quiet;
 }
 
 pub opening_stands : Stands no_world

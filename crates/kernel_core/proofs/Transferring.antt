@@ -31,6 +31,7 @@ use Rattle.copyin_base.specs.Shows.{target_of, Agrees, SlotsSuffice, Shows}
 use Rattle.copyin_base.specs.Stands.{Stands}
 use Rattle.copyin_base.specs.Worlds.{WorldView, space_at, HasTask}
 use Rattle.copyin_base.specs.declared.message.Mark.TheVariants as mark
+use Rattle.mach_model.proofs.Quiet.{LosesNone}
 use Rattle.copyin_base.proofs.Acting.{Does-so, refused_later, done}
 use Rattle.copyin_base.proofs.Roomier.{room_made, place_kept, room_refl, room_entry, room_shows, slots_show}
 use Rattle.copyin_base.proofs.SendersNoted.{senders_same, senders_kept, keeps_senders_trans}
@@ -230,12 +231,13 @@ module _ (w : WorldView) (task number : ℕ) (g : Going) (goes : CanGo w number 
           (senders_kept ready ready new (senders_same ready shows_ready.idle.noted) (keeps_senders_trans ready mid new left.senders stay.senders)))
 
       -- the call does so, where what comes is sound, and its slots suffice
-      does_so : (event : Event) (reply : Reply) (new : WorldView) (now : ℕ) (t : State) → Does now s event reply t [] → Agrees new t → StaySound mid new → SlotsSuffice new →
+      does_so : (event : Event) (reply : Reply) (new : WorldView) (now : ℕ) (t : State) → Does now s event reply t [] → LosesNone s event reply → Agrees new t → StaySound mid new → SlotsSuffice new →
           Does-so w event reply new now s
-      does_so event reply new now t does agrees stay slots = record {
+      does_so event reply new now t does loses agrees stay slots = record {
         mid = t;
         owed = [];
         does = does;
+        loses_none = loses;
         none_owed = refl;
         agrees = agrees;
         holders = stay.sound.holders;
@@ -307,7 +309,7 @@ module _ (w : WorldView) (task number : ℕ) (g : Going) (goes : CanGo w number 
             }
 
         pub inserts_so : (now : ℕ) → Does-so w (Event.InsertRight task name g.from g.name number) (Reply.Code 0) new now s
-        inserts_so now = does_so (Event.InsertRight task name g.from g.name number) (Reply.Code 0) new now inserted (refl, inserts, refl) insert_agrees insert_sound insert_slots
+        inserts_so now = does_so (Event.InsertRight task name g.from g.name number) (Reply.Code 0) new now inserted (refl, inserts, refl) tt insert_agrees insert_sound insert_slots
 
       -- ---- under a name that the kernel chooses
 
@@ -391,7 +393,7 @@ module _ (w : WorldView) (task number : ℕ) (g : Going) (goes : CanGo w number 
             }
 
         pub extracts_so : (now : ℕ) → Does-so w (Event.ExtractRight g.from g.name number task) (Reply.Right new_name (kind_number kind)) new now s
-        extracts_so now = does_so (Event.ExtractRight g.from g.name number task) (Reply.Right new_name (kind_number kind)) new now given.t (extracts, refl) given.agrees extract_sound extract_slots
+        extracts_so now = does_so (Event.ExtractRight g.from g.name number task) (Reply.Right new_name (kind_number kind)) new now given.t (extracts, refl) tt given.agrees extract_sound extract_slots
 
 -- ---- what was judged, by where it stands
 

@@ -1,5 +1,5 @@
 pub mod Answers
-pub mod Settle
+pub mod Kernels
 pub mod Send
 pub mod Transfer
 pub mod Room

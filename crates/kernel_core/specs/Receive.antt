@@ -1,20 +1,22 @@
 -- What receiving takes from, and what it does to the tables.
-use Rattle.std.specs.Prelude.{◌≡◌, ◌≢◌, ℕ, ◌+◌, ◌<◌, ◌≤◌, Bool, [], length, max, Option, Some, None, false}
+use Rattle.std.specs.Prelude.{◌≡◌, ◌≢◌, ℕ, ◌+◌, ◌<◌, ◌≤◌, Bool, [], length, max, Option, Some, None, false, if◌then◌else◌}
 use Rattle.mach_types.specs.declared.calls.Event.{Event}
 use Rattle.mach_types.specs.declared.calls.Reply.{Reply}
 use Rattle.mach_types.specs.declared.calls.Waited.{Waited}
 use Rattle.mach_types.specs.Guards.{Guards, NoneHolds}
 use Rattle.mach_model.specs.State.{State}
+use Rattle.mach_model.specs.Notices.{Owed}
 use Rattle.mach_model.specs.Receive.{waits_for, Receipt, ReceiptRefuses}
 use Rattle.mach_model.specs.Refusals.{again_guards, call_guards}
 use Rattle.name_space.specs.declared.Entry.{Entry}
 use Rattle.name_space.specs.declared.Entry.TheVariants as entry
 use Rattle.port.specs.Ports.{PortView}
-use Rattle.copyin_base.specs.Changes.{NotesSenders}
+use Rattle.copyin_base.specs.Changes.{NotesSenders, MakesNoSends}
 use Rattle.copyin_base.specs.Kept.{Kept}
+use Rattle.copyin_base.specs.Posted.{with_posted, IsLeft}
 use Rattle.copyin_base.specs.Shows.{Agrees, HoldersAgree, CarriersAgree, SlotsSuffice, RequestsStand, Shows}
 use Rattle.copyin_base.specs.Wanted.{room_of}
-use Rattle.copyin_base.specs.Worlds.{WorldView, NoneLost, port_at}
+use Rattle.copyin_base.specs.Worlds.{WorldView, port_at}
 
 -- ---- where from, in each state that the tables show
 
@@ -62,32 +64,38 @@ NoneWaits w waited = (p : ℕ) (v : PortView Kept) → port_at w p ≡ Some v �
 
 -- ---- what becomes of it, in each state that the tables show
 
--- A receipt of the machine, after which the tables agree with its state, each port knows who holds its receive right, slots suffice, each
--- request stands on what is there, a port that lost its last send right is noted, and none lost its receive right; old are the tables before.
-pub record ReceiptOf (old : WorldView) (s : State) (task : ℕ) (waited : Waited) (room : ℕ) (large : Bool) (reply : Reply) (new : WorldView) : Type 0 where
+-- A receipt of the machine, after which the tables agree with its state, where what it owes was posted, each port knows who holds its receive
+-- right, slots suffice, each request stands on what is there, a port that lost its last send right is noted, one that lost its receive right is
+-- left to the step's end, and then no port has more send rights; old are the tables before.
+pub record ReceiptOf (now : ℕ) (old : WorldView) (s : State) (task : ℕ) (waited : Waited) (room : ℕ) (large : Bool) (reply : Reply) (new : WorldView) : Type 0 where
   pub mid : State
-  pub receipt : Receipt s task waited room large reply mid []
-  pub agrees : Agrees new mid
+  pub owed : Owed
+  pub receipt : Receipt s task waited room large reply mid owed
+  pub agrees : Agrees new (with_posted now mid owed)
   pub holders : HoldersAgree new
   pub carriers : CarriersAgree new
   pub slots : SlotsSuffice new
   pub requested : RequestsStand new
   pub notes : NotesSenders old new
-  pub none_lost : NoneLost new
+  pub makes : MakesNoSends old new
+  pub left : IsLeft new mid
 
--- It is answered so, whether a longer message was to stay or not.
-pub record IsReceipt (old : WorldView) (task : ℕ) (waited : Waited) (room : ℕ) (reply : Reply) (new : WorldView) : Type 0 where
-  pub receipt : (large : Bool) (s : State) → Shows old s → ReceiptOf old s task waited room large reply new
+-- It is answered so.
+pub record IsReceipt (old : WorldView) (task : ℕ) (waited : Waited) (room : ℕ) (large : Bool) (reply : Reply) (new : WorldView) : Type 0 where
+  pub receipt : (now : ℕ) (s : State) → Shows old s → ReceiptOf now old s task waited room large reply new
 
--- how many messages the answer gives
-abbrev pub given_by : Reply → ℕ
-given_by (Reply.Message bytes) = 1
-given_by reply = 0
+-- how many messages such an answer takes from a queue
+abbrev pub taken_by : (large : Bool) → Reply → ℕ
+taken_by large (Reply.Message bytes) = 1
+taken_by large (Reply.TooLarge n) = if large then 0 else 1
+taken_by large reply = 0
 
--- Room for names grows by one at most, from none, and the slot of a message that is given is spare again.
-pub record FreesSlot (old : WorldView) (reply : Reply) (new : WorldView) : Type 0 where
+-- Room for names grows by one at most, from none. The slot of a message that is taken is spare again, and a spare slot goes with each send-once right
+-- that was unused and is no more: in it lies the notice for which the right pays.
+pub record FreesSlot (old : WorldView) (large : Bool) (reply : Reply) (new : WorldView) : Type 0 where
   pub rooms : (task : ℕ) → room_of new task ≤ max (room_of old task) 1
-  pub slots : new.ports.spare ≡ old.ports.spare + given_by reply
+  pub slots : new.ports.spare ≤ old.ports.spare + taken_by large reply
+  pub uses : new.ports.spare + old.ledger.unused ≤ old.ports.spare + new.ledger.unused + taken_by large reply
 
 -- A message stays, for want of names or of memory.
 pub record StaysFor (w : WorldView) (task : ℕ) (waited : Waited) (room code : ℕ) : Type 0 where

@@ -1,5 +1,5 @@
 -- Where a step may want memory, and what it keeps for names and messages to come.
-use Rattle.std.specs.Prelude.{◌≡◌, ℕ, ◌+◌, ◌≤◌, ◌⊎◌, max, Some, None, Result, Ok, Err, IfErr}
+use Rattle.std.specs.Prelude.{◌≡◌, ℕ, ◌+◌, ◌≤◌, ◌⊎◌, max, [], length, Some, None, Result, Ok, Err, IfErr}
 use Rattle.std.specs.Option.{option_and_then}
 use Rattle.mach_types.specs.declared.calls.Event.{Event}
 use Rattle.mach_types.specs.declared.calls.Reply.{Reply}
@@ -8,13 +8,18 @@ use Rattle.mach_types.specs.declared.codes.KernReturn.TheVariants.{ResourceShort
 use Rattle.mach_types.specs.declared.codes.MsgReturn.TheVariants.{SendNoBuffer, ReceiveBodyErrorMemory}
 use Rattle.mach_types.specs.declared.rights.Disposition.TheVariants.{MakeSendOnce}
 use Rattle.mach_types.specs.Numbers.{kern_number, msg_number}
-use Rattle.mach_laws.specs.Order.{accepts, delivers}
+use Rattle.mach_model.specs.State.{State}
+use Rattle.mach_laws.specs.Counts.{accepts, takes_from}
+use Rattle.mach_laws.specs.Queued.{MakesAsNeeded}
+use Rattle.rights.specs.Unused.{IsUnusedOfAll}
 use Rattle.copyin_base.specs.declared.code.Code.{Code}
-use Rattle.copyin_base.specs.Acts.{code_number, Serves}
+use Rattle.copyin_base.specs.Acts.{code_number, IsDone, Serves}
+use Rattle.copyin_base.specs.Shows.{Shows}
 use Rattle.copyin_base.specs.Wanted.{room_of, LacksRoom, LacksPlace, LacksSlots}
 use Rattle.copyin_base.specs.Worlds.{WorldView, entry_at}
 use Rattle.copyin.specs.Wanted.{WantsToSend}
 use Rattle.copyout.specs.Wanted.{WantsToReceive}
+use Rattle.notifications.specs.Wanted.{WantsToRequest}
 use Rattle.kernel_core_base.specs.Wanted.{MayLackMemory}
 use Rattle.kernel_core.specs.declared.transfer.Handed.{Handed}
 use Rattle.kernel_core.specs.declared.transfer.TaskName.{TaskName}
@@ -56,6 +61,8 @@ WantsMemory w (Event.ExtractRight task name number to) = WantsToExtract w (recor
 WantsMemory w (Event.Send task bytes) = WantsToSend w task bytes
 WantsMemory w (Event.Receive task name room large) = (waited : Waited) × (option_and_then waited_at (entry_at w task name) ≡ Some waited) × WantsToTake w task waited
 WantsMemory w (Event.ReceiveAgain task waited room large) = WantsToTake w task waited
+WantsMemory w (Event.RequestNotification task name variant sync notify number) =
+    WantsToRequest w task name (record { variant = variant; sync = sync; notify = notify; disposition = number })
 WantsMemory w event = MayLackMemory w event
 
 -- Want of memory is told only where it may be wanted.
@@ -64,21 +71,35 @@ pub record Wanted (old : WorldView) (event : Event) (reply : Reply) : Type 0 whe
 
 -- ---- room for names and messages
 
--- A task's room for names grows by one at most, from none. A message that is accepted uses a slot, which is spare again where the message
--- is given. Slots are made only where fewer are spare than one for a message that is accepted, and one for each send-once right that no
--- queued message goes by then.
-pub record Spares (old : WorldView) (event : Event) (reply : Reply) (new : WorldView) : Type 0 where
+-- A task's room for names grows by one at most, from none. Slots are made only as messages that are queued after the step, and send-once rights
+-- that none of them goes by, need one each: a slot is used by each message that is accepted and each notice that is sent, and is spare again where
+-- a message is given or destroyed.
+pub record Spares (old new : WorldView) : Type 0 where
   pub rooms : (task : ℕ) → room_of new task ≤ max (room_of old task) 1
-  pub slots : new.ports.spare + accepts event reply ≤ max (old.ports.spare + delivers event reply) (new.ledger.unused + accepts event reply)
+  pub slots : (s t : State) → Shows old s → Shows new t → MakesAsNeeded old.ports.spare new.ports.spare s t
 
 -- ---- what a call promises, before the end of its step
 
-abbrev pub answer : Result Reply Code → Reply
-answer (Ok reply) = reply
-answer (Err code) = Reply.Code (code_number code)
+-- Each message that it accepts and each notice that it posts takes a spare slot, and each message that it takes from a queue leaves one. It makes
+-- more only where it lost no port, and no more than there are send-once rights then that no queued message goes by.
+abbrev pub UsesSlots : WorldView → Event → Reply → (posted : ℕ) → WorldView → Type 0
+UsesSlots old event reply posted new =
+    (new.ports.spare + posted + accepts event reply ≤ old.ports.spare + takes_from event reply)
+    ⊎ (new.ports.spare ≤ new.ledger.unused) × (new.ports.lost ≡ [])
+
+-- It posts the notices that it owes, and none where it is refused. Each ledger's number of unused send-once rights is the sum over all ports.
+abbrev pub LeavesSlots : WorldView → Event → Result Reply Code → WorldView → Type 0
+LeavesSlots old event (Ok reply) new = IsUnusedOfAll old.ledger → IsUnusedOfAll new.ledger →
+    (now : ℕ) (s : State) → Shows old s → (done : IsDone now old s event reply new) → UsesSlots old event reply (length done.owed) new
+LeavesSlots old event (Err code) new = new.ports.spare ≤ max old.ports.spare new.ledger.unused
+
+-- What it leaves for what is to come.
+pub record LeavesSpares (old : WorldView) (event : Event) (result : Result Reply Code) (new : WorldView) : Type 0 where
+  pub rooms : (task : ℕ) → room_of new task ≤ max (room_of old task) 1
+  pub slots : LeavesSlots old event result new
 
 -- The call's part of a step is done or refused as the machine says, and wants and leaves no more than that.
 pub record Performs (old : WorldView) (event : Event) (result : Result Reply Code) (new : WorldView) : Type 0 where
   pub serves : Serves old event result new
   pub wanted : IfErr result (λ code. code_number code ≡ memory_code event → WantsMemory old event)
-  pub spares : Spares old event (answer result) new
+  pub spares : LeavesSpares old event result new

@@ -9,23 +9,27 @@ ghost use Rattle.mach_model.specs.Machine.{Step};
 ghost use Rattle.mach_model.specs.Refusals.{tasks_of};
 ghost use Rattle.mach_laws.specs.Queued.{unused};
 ghost use Rattle.copyin_base.specs.Acts.{AreTasks, HasTasks, Declines};
-ghost use Rattle.copyin_base.specs.Shows.{Shows};
+ghost use Rattle.rights.specs.Unused.{IsUnusedOfAll};
+ghost use Rattle.copyin_base.specs.Shows.{Shows, SlotsSuffice};
 ghost use Rattle.copyin_base.specs.Stands.{Stands};
 ghost use Rattle.kernel_core.specs.Answers.{Answers};
 ghost use Rattle.kernel_core.specs.Bounds.{most_told, IsWithin};
+ghost use Rattle.kernel_core.specs.Kernels.{TakesTurns};
 ghost use Rattle.kernel_core.specs.Wanted.{Wanted, Spares, Performs};
 
 use crate::bound;
 use crate::receive::{Buffer, receive, receive_again};
 use crate::send::send;
-use crate::settle::settle;
 use crate::transfer::{TaskName, extract, insert};
 use copyin_base::{Code, World};
+use destroy::settle;
 use kernel_core_base::{
     allocate, allocate_name, create_task, deallocate, destroy, get_refs, list_names, mod_refs,
     move_member, name_type, receive_status, rename, set_mscount, set_qlimit, set_seqno, set_status,
+    terminate_task,
 };
 use mach_types::{Event, KernReturn, Reply, TaskId};
+use notifications::{Asked, request_notification};
 use std::alloc::Global;
 use std::marker::Model;
 
@@ -36,6 +40,7 @@ use std::marker::Model;
 pub struct Kernel {
     alloc: Global,
     world: World,
+    turns: u64,
 }
 
 impl Model for Kernel {
@@ -52,14 +57,15 @@ impl Model for Kernel {
     ghost use Rattle.copyin_base.specs.Kept.{kept_code};
     ghost use Rattle.copyin_base.specs.Requests.{request_tables_code};
     ghost use Rattle.copyin_base.specs.contracts.message.Carried as carried;
-    ghost use Rattle.copyin_base.specs.Worlds.{WorldView, world_code};
+    ghost use Rattle.copyin_base.specs.Worlds.{world_code};
     ghost use Rattle.copyin_base.specs.Stands.{Stands};
+    ghost use Rattle.kernel_core.specs.Kernels.{KernelView, kernel_code};
 
-    ghost Value = { WorldView };
+    ghost Value = { KernelView };
 
-    ghost coded = { world_code (space_code entry.the_row.coded) (ports_code (kept_code carried.the_row.coded) attributes.the_row.coded) (ledger_code counts.the_row.coded) (sets_code set_record.the_row.coded) (request_tables_code request.the_row.coded port_id.the_row.coded) };
+    ghost coded = { kernel_code (world_code (space_code entry.the_row.coded) (ports_code (kept_code carried.the_row.coded) attributes.the_row.coded) (ledger_code counts.the_row.coded) (sets_code set_record.the_row.coded) (request_tables_code request.the_row.coded port_id.the_row.coded)) };
 
-    ghost view = { λ k. k.world };
+    ghost view = { λ k. record { tables = k.world; turns = k.turns } };
 
     ghost invariant = { λ k. Stands k.world };
 }
@@ -67,12 +73,14 @@ impl Model for Kernel {
 impl Kernel {
     /// A kernel in which nothing was made yet. Takes no memory.
     pub fn new(alloc: Global) -> Kernel
-        ensures shows { Shows result opening }
-        ensures none { result.ports.spare ≡ 0 }
+        ensures shows { Shows result.tables opening }
+        ensures none { result.tables.ports.spare ≡ 0 }
+        ensures turns { result.turns ≡ 0 }
     {
         Kernel {
             alloc,
             world: World::new(alloc),
+            turns: 0,
         }
     }
 
@@ -83,9 +91,9 @@ impl Kernel {
     /// the call's step is longer: room for a copy of it can be made before the step. Takes no memory.
     /// Constant time.
     pub fn reply_bound(&self, event: &Event) -> usize
-        ensures most { result ≡ most_told self.now event.now }
+        ensures most { result ≡ most_told self.now.tables event.now }
         ensures few { result ≤ most_bytes }
-        ensures within { (now : ℕ) (s t : State) (reply : AnyReply) → Shows self.now s → Step now s event.now reply t → IsWithin event.now result reply }
+        ensures within { (now : ℕ) (s t : State) (reply : AnyReply) → Shows self.now.tables s → Step now s event.now reply t → IsWithin event.now result reply }
     {
         bound::most_told(&self.world, event)
     }
@@ -97,31 +105,44 @@ impl Kernel {
     /// one name that was made first may stay. A message slot is spare for each send-once right that no
     /// queued message goes by, so that what comes by the right has one; slots are made only for an
     /// accepted message and for such rights that are made, where fewer are spare. An accepted message
-    /// uses one, which is spare again once the message was received.
+    /// uses one, and so does a notice; it is spare again once the message was received or destroyed.
     pub fn step(&mut self, event: &Event) -> Reply
-        ensures answers { Answers self.old event.now result self.new }
-        ensures wanted { Wanted self.old event.now result }
-        ensures spares { Spares self.old event.now result self.new }
-        ensures unused { (s : State) → Shows self.new s → self.new.ledger.unused ≡ unused s }
+        ensures answers { Answers self.old.tables event.now result self.new.tables }
+        ensures turns { TakesTurns self.old.tables event.now result self.new.tables self.new.turns }
+        ensures wanted { Wanted self.old.tables event.now result }
+        ensures spares { Spares self.old.tables self.new.tables }
+        ensures unused { (s : State) → Shows self.new.tables s → self.new.tables.ledger.unused ≡ unused s }
     {
+        check_slots(&self.world);
         match act(&mut self.world, self.alloc, event) {
             Ok(reply) => {
-                settle(&mut self.world);
+                check_slots(&self.world);
+                self.turns = settle(&mut self.world);
                 check_slots(&self.world);
                 reply
             }
             Err(code) => {
+                self.turns = 0;
                 check_slots(&self.world);
                 Reply::Code(code.number())
             }
         }
     }
+
+    /// In how many turns the last step ended: 0 before the first, and after a refusal. A turn is a port
+    /// judged, a message destroyed, a right of such a message lost, or a request ended. Constant time.
+    pub fn last_turns(&self) -> u64
+        ensures { result ≡ self.now.turns }
+    {
+        self.turns
+    }
 }
 
-/// After a step a message slot is spare for each send-once right that no queued message goes by.
+/// A message slot is spare for each send-once right that no queued message goes by: before a step, after
+/// the call's own part of it, and after it.
 fn check_slots(world: &World)
-    requires { Stands world.now }
-    ensures { (s : State) → Shows world.now s → world.now.ledger.unused ≡ unused s }
+    requires { SlotsSuffice world.now }
+    ensures { IsUnusedOfAll world.now.ledger }
 {
     let enough = world.slots_suffice();
     prove!(enough);
@@ -201,8 +222,7 @@ fn serve(world: &mut World, alloc: Global, event: &Event) -> Result<Reply, Code>
 {
     match event {
         Event::TaskCreate => create_task(world, alloc),
-        // Not done yet, as the machine says for now.
-        Event::TaskTerminate(_) => Err(Code::Kern(KernReturn::InvalidArgument)),
+        Event::TaskTerminate(task) => terminate_task(world, *task),
         Event::Allocate(task, right) => allocate(world, *task, *right),
         Event::AllocateName(task, right, name) => allocate_name(world, *task, *right, *name),
         Event::Deallocate(task, name) => deallocate(world, *task, *name),
@@ -226,8 +246,15 @@ fn serve(world: &mut World, alloc: Global, event: &Event) -> Result<Reply, Code>
         Event::ExtractRight(task, name, number, to) => {
             extract(world, &TaskName::new(*task, *name), *number, *to)
         }
-        // Not done yet either.
-        Event::RequestNotification(..) => Err(Code::Kern(KernReturn::InvalidArgument)),
+        Event::RequestNotification(task, name, variant, sync, notify, disposition) => {
+            let asked = Asked {
+                variant: *variant,
+                sync: *sync,
+                notify: *notify,
+                disposition: *disposition,
+            };
+            request_notification(world, *task, *name, &asked)
+        }
         Event::Send(task, bytes) => send(world, alloc, *task, bytes),
         Event::Receive(task, name, room, large) => {
             receive(world, alloc, *task, *name, Buffer::new(*room, *large))

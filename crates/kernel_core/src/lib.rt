@@ -12,7 +12,6 @@ mod kernel;
 mod receive;
 mod runs;
 mod send;
-mod settle;
 mod transfer;
 
 pub use kernel::Kernel;

@@ -11,11 +11,13 @@ ghost use Rattle.copyin_base.specs.Finds.{FindsReceive};
 ghost use Rattle.copyin_base.specs.Stands.{Stands};
 ghost use Rattle.copyin_base.specs.Worlds.{entry_at, port_at, HasTask};
 ghost use Rattle.kernel_core.specs.Receive.{named_guards, Sources, IsMember, IsAlone, HasMessage, NoneWaits, IsReceipt, StaysFor, waited_at, FreesSlot};
-ghost use Rattle.kernel_core.specs.Wanted.{WantsToTake, WantsMemory, Spares, answer};
+ghost use Rattle.kernel_core.specs.Wanted.{WantsToTake, WantsMemory, LeavesSpares};
+ghost use Rattle.notifications.specs.Destroying.{CanDestroy, DestroysMessage};
 
 use copyin_base::{Code, World};
 use copyout::Refusal;
 use mach_types::{MsgReturn, Name, PortId, Reply, SetId, TaskId, Waited};
+use notifications::lose_message;
 use port_set::ready_member;
 use std::alloc::Global;
 
@@ -24,7 +26,7 @@ use std::alloc::Global;
 pub(crate) struct Buffer {
     /// The most bytes that there is room for.
     pub(crate) room: u32,
-    /// Whether a longer message is to stay (`MACH_RCV_LARGE`). It stays anyhow.
+    /// Whether a longer message is to stay (`MACH_RCV_LARGE`), and isn't destroyed.
     pub(crate) large: bool,
 }
 
@@ -39,8 +41,8 @@ impl Buffer {
 
 /// `Receive` (IPC Interface, `mach_msg` with `MACH_RCV_MSG`): a message from the port whose receive
 /// right is under the name, or from any member of the port set under it that has one. A message that
-/// is longer than the room stays, whether that was asked for or not. The task lives. A refusal leaves
-/// all as it was.
+/// is longer than the room stays if that was asked for, and is destroyed otherwise. The task lives. A
+/// refusal leaves all as it was.
 ///
 /// Errors, of which the first is answered: `MACH_RCV_INVALID_NAME` for a name without a receive right
 /// or a set; `MACH_RCV_IN_SET` for a port that is in a set; then as [`take`].
@@ -55,10 +57,10 @@ pub(crate) fn receive(
     requires stands { Stands world.old }
     ensures serves { Serves world.old (AnyEvent.Receive task name buffer.room buffer.large) result world.new }
     ensures wanted { IfErr result (λ code. code_number code ≡ msg_number msg.ReceiveBodyErrorMemory → WantsMemory world.old (AnyEvent.Receive task name buffer.room buffer.large)) }
-    ensures spares { Spares world.old (AnyEvent.Receive task name buffer.room buffer.large) (answer result) world.new }
+    ensures spares { LeavesSpares world.old (AnyEvent.Receive task name buffer.room buffer.large) result world.new }
 {
     let waited = source(world, task, name)?;
-    Ok(take(world, alloc, task, waited, buffer.room)?)
+    Ok(take(world, alloc, task, waited, buffer)?)
 }
 
 /// `ReceiveAgain` (IPC Interface, `mach_msg` with `MACH_RCV_MSG`, as it goes on once it has waited): a
@@ -79,10 +81,10 @@ pub(crate) fn receive_again(
     requires stands { Stands world.old }
     ensures serves { Serves world.old (AnyEvent.ReceiveAgain task waited buffer.room buffer.large) result world.new }
     ensures wanted { IfErr result (λ code. code_number code ≡ msg_number msg.ReceiveBodyErrorMemory → WantsToTake world.old task waited) }
-    ensures spares { Spares world.old (AnyEvent.ReceiveAgain task waited buffer.room buffer.large) (answer result) world.new }
+    ensures spares { LeavesSpares world.old (AnyEvent.ReceiveAgain task waited buffer.room buffer.large) result world.new }
 {
     judge_again(world, task, &waited)?;
-    Ok(take(world, alloc, task, waited, buffer.room)?)
+    Ok(take(world, alloc, task, waited, buffer)?)
 }
 
 // ---- where from
@@ -176,7 +178,7 @@ fn has_receive(world: &World, task: TaskId, port: PortId) -> bool
 // ---- a receipt
 
 /// Receives from what the task may take from: a message; that there is none, or that it is longer than
-/// the room, when it stays. A refusal leaves all as it was.
+/// the room, when it stays or is destroyed. A refusal leaves all as it was.
 ///
 /// `MACH_RCV_BODY_ERROR` with `MACH_MSG_IPC_SPACE` where the task's names don't suffice for the
 /// message's rights, or with `MACH_MSG_IPC_KERNEL` where memory was refused. Linear in the message.
@@ -185,25 +187,38 @@ fn take(
     alloc: Global,
     task: TaskId,
     waited: Waited,
-    room: u32,
+    buffer: Buffer,
 ) -> Result<Reply, MsgReturn>
     requires there { HasTask world.old task }
     requires stands { Stands world.old }
     requires may { IsAllowed world.old (λ s. again_guards s task waited) }
-    ensures ok { IfOk result (λ reply. IsReceipt world.old task waited room reply world.new) }
-    ensures err { IfErr result (λ code. (world.new ≡ world.old) × StaysFor world.old task waited room (msg_number code)) }
+    ensures ok { IfOk result (λ reply. IsReceipt world.old task waited buffer.room buffer.large reply world.new) }
+    ensures err { IfErr result (λ code. (world.new ≡ world.old) × StaysFor world.old task waited buffer.room (msg_number code)) }
     ensures wanted { IfErr result (λ code. msg_number code ≡ msg_number msg.ReceiveBodyErrorMemory → WantsToTake world.old task waited) }
-    ensures spares { IfOk result (λ reply. FreesSlot world.old reply world.new) }
+    ensures spares { IfOk result (λ reply. FreesSlot world.old buffer.large reply world.new) }
 {
     let Some(port) = ready(world, &waited) else {
         return Ok(Reply::Empty(waited));
     };
     let name = name_of(world, task, port);
-    match copyout::receive(world, alloc, task, port, name, room) {
+    match copyout::receive(world, alloc, task, port, name, buffer.room) {
         Ok(bytes) => Ok(Reply::Message(bytes)),
-        Err(Refusal::TooLarge(length)) => Ok(Reply::TooLarge(length)),
+        Err(Refusal::TooLarge(length)) => {
+            lose_or_keep(world, port, buffer.large);
+            Ok(Reply::TooLarge(length))
+        }
         Err(Refusal::Names) => Err(MsgReturn::ReceiveBodyErrorNames),
         Err(Refusal::Memory) => Err(MsgReturn::ReceiveBodyErrorMemory),
+    }
+}
+
+/// A message that is too long is destroyed, unless it was asked that it stay.
+fn lose_or_keep(world: &mut World, port: PortId, large: bool)
+    requires { CanDestroy world.old port }
+    ensures { MatchBool large (world.new ≡ world.old) (DestroysMessage world.old port world.new) }
+{
+    if !large {
+        lose_message(world, port);
     }
 }
 

@@ -20,9 +20,9 @@ use std::alloc::{AllocError, Global};
 /// An error means that memory for the list of answers was refused. Where a step is refused memory,
 /// that is its answer, and the run goes on.
 pub fn run(alloc: Global, events: Vec<Event>) -> Result<(Kernel, Vec<Reply>), AllocError>
-    ensures { IfOk result (λ done. (s : State) × Run events.items done.1.items s × Shows done.0 s
-        × (h : Headline events.items done.1.items s) × SlotsWithin done.0.ports.spare h.stages s
-        × (unused s ≤ done.0.ports.spare)) }
+    ensures { IfOk result (λ done. (s : State) × Run events.items done.1.items s × Shows done.0.tables s
+        × (h : Headline events.items done.1.items s) × SlotsWithin done.0.tables.ports.spare h.stages s
+        × (unused s ≤ done.0.tables.ports.spare)) }
 {
     let mut kernel = Kernel::new(alloc);
     let mut replies = Vec::new(alloc);

@@ -11,6 +11,7 @@ use Rattle.mach_model.specs.Names.{Makes, IsNoMaking, IsFull, with_set}
 use Rattle.mach_model.specs.Machine.{Does}
 use Rattle.mach_model.specs.Refusals.{call_guards}
 use Rattle.mach_model.specs.Lawful.{IsLawful}
+use Rattle.mach_model.proofs.Quiet.{LosesNone}
 use Rattle.name_space.specs.declared.Entry.{Entry}
 use Rattle.name_space.specs.declared.Entry.TheVariants as entry
 use Rattle.name_space.specs.Entry.{port_named}
@@ -221,12 +222,13 @@ module _ (w w1 v : WorldView) (same : SameButRoom w w1) (task number name : ℕ)
 
   -- it is made once room was
   makes_so : (event : Event) (now : ℕ) (s : State) → Shows w s → entry_at w1 task name ≡ None → Adds w1 task r name v → Does now s event (Reply.Name name) (with_right r s task name) [] →
-      Does-so w event (Reply.Name name) v now s
-  makes_so event now s sh unused adds does =
+      LosesNone s event (Reply.Name name) → Does-so w event (Reply.Name name) v now s
+  makes_so event now s sh unused adds does none =
       let here = room_shows w w1 s same sh in record {
         mid = with_right r s task name;
         owed = [];
         does = does;
+        loses_none = none;
         none_owed = refl;
         agrees = made_agrees w1 v s here.agrees here.lawful task name unused r adds;
         holders = made_holders w1 v s here.agrees here.lawful task name unused r adds here.holders;
@@ -242,9 +244,9 @@ module _ (w w1 v : WorldView) (same : SameButRoom w w1) (task number name : ℕ)
       Acts w (Event.Allocate task number) (Reply.Name name) v
   allocate_done good space there f adds = done w (Event.Allocate task number) (Reply.Name name) v below good
       (λ now s sh. makes_so (Event.Allocate task number) now s sh (ap (λ (o : Option SpaceView). entry_in o name) there ∙ f.unused) adds
-      (fresh w1 s (room_agrees w w1 s same sh.agrees) task space there name f, makes_number s, refl))
+      (fresh w1 s (room_agrees w w1 s same sh.agrees) task space there name f, makes_number s, refl) tt)
 
   pub allocate_name_done : IsAllowed w (λ s. call_guards s (Event.AllocateName task number name)) → entry_at w task name ≡ None → Adds w1 task r name v →
       Acts w (Event.AllocateName task number name) (Reply.Name name) v
   allocate_name_done good unused adds = done w (Event.AllocateName task number name) (Reply.Name name) v below good
-      (λ now s sh. makes_so (Event.AllocateName task number name) now s sh (room_entry w w1 same task name ∙ unused) adds (refl, makes_number s, refl))
+      (λ now s sh. makes_so (Event.AllocateName task number name) now s sh (room_entry w w1 same task name ∙ unused) adds (refl, makes_number s, refl) tt)

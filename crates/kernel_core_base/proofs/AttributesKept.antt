@@ -4,6 +4,7 @@ use Rattle.mach_types.specs.declared.calls.Event.{Event}
 use Rattle.mach_types.specs.declared.calls.Reply.{Reply}
 use Rattle.mach_model.specs.State.{State}
 use Rattle.mach_model.specs.Machine.{Does}
+use Rattle.mach_model.proofs.Quiet.{LosesNone}
 use Rattle.port.specs.declared.Attributes.{Attributes}
 use Rattle.port.specs.Holding.{KeepsHolder}
 use Rattle.port.specs.Ports.{PortView}
@@ -24,12 +25,13 @@ module _ (w : WorldView) (p : ℕ) (x : Attributes) (has : HasAttributes w p x) 
   pub keeps_holder : KeepsHolder w.ports p y
   keeps_holder v there = same ∙ ap (λ (a : Attributes). a.holder) (sym has.are) ∙ ap (λ (u : PortView Kept). u.attributes.holder) (same_found (port_at w p) has.v v has.there there)
 
-  pub sets_so : (new : WorldView) → SetsAttributes w p y new → (event : Event) (now : ℕ) (s mid : State) → Shows w s → Does now s event (Reply.Code 0) mid [] → Agrees new mid →
+  pub sets_so : (new : WorldView) → SetsAttributes w p y new → (event : Event) (now : ℕ) (s mid : State) → Shows w s → Does now s event (Reply.Code 0) mid [] → LosesNone s event (Reply.Code 0) → Agrees new mid →
       Does-so w event (Reply.Code 0) new now s
-  sets_so new set event now s mid sh does agrees = record {
+  sets_so new set event now s mid sh does none agrees = record {
     mid = mid;
     owed = [];
     does = does;
+    loses_none = none;
     none_owed = refl;
     agrees = agrees;
     holders = holders_kept w new sh.holders p x y has set same;

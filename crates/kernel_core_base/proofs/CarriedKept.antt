@@ -29,15 +29,16 @@ use Rattle.copyin_base.proofs.Idle.{none_lost_same, none_lost_disbanded}
 use Rattle.copyin_base.proofs.Requested.{requested_left, requested_removed, requested_ports}
 use Rattle.copyin_base.proofs.SendersNoted.{KeepsSends, counts_own, counts_other, sends_made, sends_elsewhere, keeps_senders, keeps_senders_same, senders_same, senders_kept, senders_fallen, noted_carriers, noted_requested, noted_none_lost}
 use Rattle.kernel_core_base.specs.declared.references.Due.{Due}
-use Rattle.kernel_core_base.specs.declared.references.Due.TheVariants.{Nothing, References, Disbanding}
+use Rattle.kernel_core_base.specs.declared.references.Due.TheVariants.{Nothing, References, Disbanding, LosingOnce, Killing}
 use Rattle.kernel_core_base.specs.References.{left_with, recounted, recounted_at, NotesLost, CountsReferences, RemovesSet, Carries}
 use Rattle.kernel_core_base.proofs.FewerNoted.{fewer_keeps}
+use Rattle.kernel_core_base.proofs.PlainDues.{IsPlain}
 use Rattle.kernel_core_base.proofs.ReferencesPut.{left_alike}
 
 -- ---- the counts of send rights
 
 -- where none goes
-none_taken : (l : LedgerView) (p k : ℕ) → k ≡ 0 → KeepsSends l (taken l p right.Send k)
+pub none_taken : (l : LedgerView) (p k : ℕ) → k ≡ 0 → KeepsSends l (taken l p right.Send k)
 none_taken l p k zero q none = elim (eqb_tells q p) [
   | inl h ↦
       let own = ap (λ (c : Counts). c.send) (counts_own l p (with_fewer right.Send k (counts_of l p)) (taken l p right.Send k) refl) in
@@ -62,7 +63,7 @@ fewer_elsewhere l p n m less q not = go (nat_lt n m) refl
     go true e = absurd (let h = ltb-true m n less in let g = ltb-true n m e in omega (arith, h, g))
     go false e = sends_elsewhere l p right.Send (n - m) q not
 
-same_senders : (v : RequestTablesView) (task name : ℕ) (left : Option Entry) → (requests_after v task name left).no_senders ≡ v.no_senders
+pub same_senders : (v : RequestTablesView) (task name : ℕ) (left : Option Entry) → (requests_after v task name left).no_senders ≡ v.no_senders
 same_senders v task name None = refl
 same_senders v task name (Some e) = refl
 
@@ -102,23 +103,29 @@ module _ (w v : WorldView) (task name : ℕ) where
       requested_ports mid v (requested_removed w mid requested task name puts) (disbanded_live w.ports v.ports set r.disbanded)
       (ap (λ (y : WorldView). y.requests) r.rest) (ap (λ (y : WorldView). y.spaces) r.rest)
 
-  pub carried_carriers : (due : Due) → Carries w task name due v → CarriersAgree w → CarriersAgree v
-  carried_carriers Nothing same a = subst CarriersAgree (sym same) a
-  carried_carriers (References e m) r a = fewer_keeps CarriersAgree r.counted v e m r.notes (λ p n. noted_carriers r.counted v p n)
+  pub carried_carriers : (due : Due) → IsPlain due → Carries w task name due v → CarriersAgree w → CarriersAgree v
+  carried_carriers Nothing plain same a = subst CarriersAgree (sym same) a
+  carried_carriers (References e m) plain r a = fewer_keeps CarriersAgree r.counted v e m r.notes (λ p n. noted_carriers r.counted v p n)
       (carriers_same w r.counted a (ap (λ (y : WorldView). y.ports.made) r.counts.rest) (ap (λ (y : WorldView). y.ports.ports) r.counts.rest))
-  carried_carriers (Disbanding set) r a = carriers_disbanded w v a set r.disbanded
+  carried_carriers (Disbanding set) plain r a = carriers_disbanded w v a set r.disbanded
+  carried_carriers (LosingOnce p) plain r a = absurd plain
+  carried_carriers (Killing loss) plain r a = absurd plain
 
-  pub carried_none_lost : (due : Due) → Carries w task name due v → NoneLost w → NoneLost v
-  carried_none_lost Nothing same n = subst NoneLost (sym same) n
-  carried_none_lost (References e m) r n = fewer_keeps NoneLost r.counted v e m r.notes (λ p x. noted_none_lost r.counted v p x)
+  pub carried_none_lost : (due : Due) → IsPlain due → Carries w task name due v → NoneLost w → NoneLost v
+  carried_none_lost Nothing plain same n = subst NoneLost (sym same) n
+  carried_none_lost (References e m) plain r n = fewer_keeps NoneLost r.counted v e m r.notes (λ p x. noted_none_lost r.counted v p x)
       (none_lost_same w r.counted n (ap (λ (y : WorldView). y.ports) r.counts.rest))
-  carried_none_lost (Disbanding set) r n = none_lost_disbanded w v n set r.disbanded
+  carried_none_lost (Disbanding set) plain r n = none_lost_disbanded w v n set r.disbanded
+  carried_none_lost (LosingOnce p) plain r n = absurd plain
+  carried_none_lost (Killing loss) plain r n = absurd plain
 
 module _ (w v : WorldView) (task name : ℕ) where
-  pub carried_requested : (due : Due) → Carries w task name due v → RequestsStand w → RequestsStand v
-  carried_requested Nothing same a = subst RequestsStand (sym same) a
-  carried_requested (References e m) r a = fewer_keeps RequestsStand r.counted v e m r.notes (λ p n. noted_requested r.counted v p n) (counted_requested w r.counted task name e m r.counts a)
-  carried_requested (Disbanding set) r a = removed_requested w v task name set r a
+  pub carried_requested : (due : Due) → IsPlain due → Carries w task name due v → RequestsStand w → RequestsStand v
+  carried_requested Nothing plain same a = subst RequestsStand (sym same) a
+  carried_requested (References e m) plain r a = fewer_keeps RequestsStand r.counted v e m r.notes (λ p n. noted_requested r.counted v p n) (counted_requested w r.counted task name e m r.counts a)
+  carried_requested (Disbanding set) plain r a = removed_requested w v task name set r a
+  carried_requested (LosingOnce p) plain r a = absurd plain
+  carried_requested (Killing loss) plain r a = absurd plain
 
   module _ (s : State) (sh : Shows w s) where
     abbrev start : NotesSenders w w
@@ -158,8 +165,10 @@ module _ (w : WorldView) (s : State) (sh : Shows w s) (task name : ℕ) (e : Ent
       ledger = ap (λ (y : WorldView). y.ledger) r.rest ∙ ap (λ (o : Option ℕ). recounted_at w.ledger o (send_references e) m) is
 
 module _ (w v : WorldView) (s : State) (sh : Shows w s) (task name : ℕ) where
-  pub carried_notes : (due : Due) → Carries w task name due v → NotesSenders w v
-  carried_notes Nothing same = subst (NotesSenders w) (sym same) (senders_same w sh.idle.noted)
-  carried_notes (References e m) r = notes_lost w s sh task name e m r.counted v r.counts (port_named e) refl (nat_lt m (send_references e)) refl r.notes
-  carried_notes (Disbanding set) r = senders_kept w w v (senders_same w sh.idle.noted)
+  pub carried_notes : (due : Due) → IsPlain due → Carries w task name due v → NotesSenders w v
+  carried_notes Nothing plain same = subst (NotesSenders w) (sym same) (senders_same w sh.idle.noted)
+  carried_notes (References e m) plain r = notes_lost w s sh task name e m r.counted v r.counts (port_named e) refl (nat_lt m (send_references e)) refl r.notes
+  carried_notes (Disbanding set) plain r = senders_kept w w v (senders_same w sh.idle.noted)
       (keeps_senders_same w v sh.requested (ap (λ (y : WorldView). y.requests.no_senders) r.rest) (ap (λ (y : WorldView). y.ledger) r.rest) r.disbanded.noted)
+  carried_notes (LosingOnce p) plain r = absurd plain
+  carried_notes (Killing loss) plain r = absurd plain

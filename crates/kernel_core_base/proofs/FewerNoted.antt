@@ -7,7 +7,7 @@ use Rattle.copyin_base.specs.Changes.{NotesSenderless}
 use Rattle.copyin_base.specs.Worlds.{WorldView}
 use Rattle.kernel_core_base.specs.References.{NotesLost, NotesFewer}
 
-lost_keeps : (P : WorldView → Type 0) (old new : WorldView) (o : Option ℕ) (went : Bool) → NotesLost old o went new → ((p : ℕ) → NotesSenderless old p new → P old → P new) → P old → P new
+pub lost_keeps : (P : WorldView → Type 0) (old new : WorldView) (o : Option ℕ) (went : Bool) → NotesLost old o went new → ((p : ℕ) → NotesSenderless old p new → P old → P new) → P old → P new
 lost_keeps P old new (Some p) true n f h = f p n h
 lost_keeps P old new (Some p) false n f h = subst P (sym n) h
 lost_keeps P old new None went n f h = subst P (sym n) h

@@ -11,9 +11,10 @@ use Rattle.copyin_base.proofs.Gets.{same_found}
 use Rattle.copyin_base.proofs.Holders.{IsReceive, receives_at, none_receives, left_receives, removed_receives, KeepHolders, same_holders, disbanded_holders, holders_left}
 use Rattle.copyin_base.proofs.SendersNoted.{noted_holders}
 use Rattle.kernel_core_base.specs.declared.references.Due.{Due}
-use Rattle.kernel_core_base.specs.declared.references.Due.TheVariants.{Nothing, References, Disbanding}
+use Rattle.kernel_core_base.specs.declared.references.Due.TheVariants.{Nothing, References, Disbanding, LosingOnce, Killing}
 use Rattle.kernel_core_base.specs.References.{left_with, CountsReferences, RemovesSet, Carries}
 use Rattle.kernel_core_base.proofs.FewerNoted.{fewer_keeps}
+use Rattle.kernel_core_base.proofs.PlainDues.{IsPlain}
 
 -- ---- what is left has the receive right only if the entry had it
 
@@ -56,7 +57,9 @@ module _ (w v : WorldView) (h : HoldersAgree w) (task name : ℕ) where
       (removed_receives r.space.names name) (disbanded_holders w.ports v.ports set r.disbanded)
 
 module _ (w v : WorldView) (h : HoldersAgree w) (task name : ℕ) where
-  pub carried_holders : (due : Due) → Carries w task name due v → HoldersAgree v
-  carried_holders Nothing same = subst HoldersAgree (sym same) h
-  carried_holders (References e m) r = fewer_keeps HoldersAgree r.counted v e m r.notes (λ p n. noted_holders r.counted v p n) (counted_holders w r.counted h task name e m r.counts)
-  carried_holders (Disbanding set) r = set_holders w v h task name set r
+  pub carried_holders : (due : Due) → IsPlain due → Carries w task name due v → HoldersAgree v
+  carried_holders Nothing plain same = subst HoldersAgree (sym same) h
+  carried_holders (References e m) plain r = fewer_keeps HoldersAgree r.counted v e m r.notes (λ p n. noted_holders r.counted v p n) (counted_holders w r.counted h task name e m r.counts)
+  carried_holders (Disbanding set) plain r = set_holders w v h task name set r
+  carried_holders (LosingOnce p) plain r = absurd plain
+  carried_holders (Killing loss) plain r = absurd plain

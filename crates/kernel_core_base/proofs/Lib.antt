@@ -6,6 +6,7 @@ pub mod Allocated
 pub mod Entered
 pub mod RightAdded
 pub mod Memory
+pub mod PlainDues
 pub mod Spares
 pub mod Wanted
 pub mod Listed
@@ -29,8 +30,14 @@ pub mod FewerNoted
 pub mod HoldersKept
 pub mod SlotsKept
 pub mod ReferencesPut
+pub mod ReceivePut
 pub mod CarriedKept
+pub mod OnceLost
+pub mod ReceiveTaken
+pub mod ReceiveLost
+pub mod SparesUsed
 pub mod ReferencesLost
 pub mod ReferencesTold
 pub mod ReferencesJudged
 pub mod ReferencesModified
+pub mod TaskEnded

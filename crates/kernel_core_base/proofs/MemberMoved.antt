@@ -131,7 +131,7 @@ pub moved : (w : WorldView) (task member after p : ℕ) (set : Option ℕ) → H
     (b : Attributes) → HasAttributes w p b → (new : WorldView) → SetsAttributes w p (record b { set = set }) new → Acts w (Event.MoveMember task member after) (Reply.Code 0) new
 moved w task member after p set below m b h new r = done w (Event.MoveMember task member after) (Reply.Code 0) new below m.allowed
     (λ now s sh. sets_so w p b h (record b { set = set }) refl new r (Event.MoveMember task member after) now s (record s { sets_of = at s.sets_of p (option_to_list set) }) sh
-    (refl, joins s sh.agrees set m.goes, refl) (set_agrees w s sh.agrees p b h set new r))
+    (refl, joins s sh.agrees set m.goes, refl) tt (set_agrees w s sh.agrees p b h set new r))
   where
     joins : (s : State) → Agrees w s → (set : Option ℕ) → GoesTo w task after set → JoinsSet task member after s (record s { sets_of = at s.sets_of p (option_to_list set) })
     joins s a (Some set) goes = (p, (finds_port w task member p m.finds s a), inr (set, found w s a task after (entry.Set set) goes, refl))

@@ -174,4 +174,4 @@ module _ (w : WorldView) (task name set : ℕ) (is : entry_at w task name ≡ So
   pub set_told : HasTask w task → (space : SpaceView) → space_at w task ≡ Some space →
       Acts w (Event.SetStatus task name) (Reply.Members (members_in w set space.names)) w
   set_told below space there = done w (Event.SetStatus task name) (Reply.Members (members_in w set space.names)) w below set_allowed
-      (λ now s sh. looked w (Event.SetStatus task name) (Reply.Members (members_in w set space.names)) now s sh (members_told w s sh task name set space there is, refl, refl))
+      (λ now s sh. looked w (Event.SetStatus task name) (Reply.Members (members_in w set space.names)) now s sh tt (members_told w s sh task name set space there is, refl, refl))

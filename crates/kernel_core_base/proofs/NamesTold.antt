@@ -68,7 +68,7 @@ type_whole w s sh task name e is =
 
 pub type_told : (w : WorldView) (task name : ℕ) (e : Entry) → HasTask w task → entry_at w task name ≡ Some e → Acts w (Event.NameType task name) (Reply.NameType (type_of_entry w.requests task name e)) w
 type_told w task name e below is = done w (Event.NameType task name) (Reply.NameType (type_of_entry w.requests task name e)) w below record { allowed = λ s sh. (used w s sh.agrees task name e is, tt) }
-    (λ now s sh. looked w (Event.NameType task name) (Reply.NameType (type_of_entry w.requests task name e)) now s sh ((target_of e, found w s sh.agrees task name e is, type_whole w s sh task name e is), refl, refl))
+    (λ now s sh. looked w (Event.NameType task name) (Reply.NameType (type_of_entry w.requests task name e)) now s sh tt ((target_of e, found w s sh.agrees task name e is, type_whole w s sh task name e is), refl, refl))
 
 -- the tables list what the machine does
 listed : (w : WorldView) (s : State) → Shows w s → (task : ℕ) (space : SpaceView) → space_at w task ≡ Some space → types_of w.requests task space.names ≡ names_of s task
@@ -77,4 +77,4 @@ listed w s sh task space there = types_listed w.requests task space.names (s.nam
 
 pub names_listed : (w : WorldView) (task : ℕ) (space : SpaceView) → HasTask w task → space_at w task ≡ Some space → Acts w (Event.Names task) (Reply.Names (types_of w.requests task space.names)) w
 names_listed w task space below there = done w (Event.Names task) (Reply.Names (types_of w.requests task space.names)) w below record { allowed = λ s sh. tt }
-    (λ now s sh. looked w (Event.Names task) (Reply.Names (types_of w.requests task space.names)) now s sh (listed w s sh task space there, refl, refl))
+    (λ now s sh. looked w (Event.Names task) (Reply.Names (types_of w.requests task space.names)) now s sh tt (listed w s sh task space there, refl, refl))

@@ -97,7 +97,7 @@ has_port w task name p stands f =
 pub status_told : (w : WorldView) (task name p : ℕ) (status : Status) → HasTask w task → FindsReceive w task name p → TellsPort w p status →
     Acts w (Event.ReceiveStatus task name) (Reply.Status status) w
 status_told w task name p status below f t = done w (Event.ReceiveStatus task name) (Reply.Status status) w below (receive_allowed w task name p f)
-    (λ now s sh. looked w (Event.ReceiveStatus task name) (Reply.Status status) now s sh (subst (TellsStatus s task name) (sym t.is) (tells w s sh task name p f t.v t.there), refl, refl))
+    (λ now s sh. looked w (Event.ReceiveStatus task name) (Reply.Status status) now s sh tt (subst (TellsStatus s task name) (sym t.is) (tells w s sh task name p f t.v t.there), refl, refl))
 
 -- ---- numbers that are set
 
@@ -113,14 +113,14 @@ module _ (w : WorldView) (task name p : ℕ) (below : HasTask w task) (f : Finds
   limit_set few r = done w (Event.SetQlimit task name n) (Reply.Code 0) new below
       (record { allowed = λ s sh. ((λ many. omega (arith, few, many)), (receive_allowed w task name p f).allowed s sh) })
       (λ now s sh. let a = sh.agrees in sets_so w p b h (record b { limit = n }) refl new r (Event.SetQlimit task name n) now s (record s { limit = at s.limit p n }) sh
-      (refl, (p, finds_port w task name p f s a, finds_held w task name p f s a, refl), refl) (limit_agrees w s a p b h n new r))
+      (refl, (p, finds_port w task name p f s a, finds_held w task name p f s a, refl), refl) tt (limit_agrees w s a p b h n new r))
 
   pub make_send_set : n < 2 ^ 32 → SetsAttributes w p (record b { make_send = n }) new → Acts w (Event.SetMscount task name n) (Reply.Code 0) new
   make_send_set fits r = done w (Event.SetMscount task name n) (Reply.Code 0) new below (receive_allowed w task name p f)
       (λ now s sh. let a = sh.agrees in sets_so w p b h (record b { make_send = n }) refl new r (Event.SetMscount task name n) now s (record s { make_send = at s.make_send p n }) sh
-      (refl, fits, (p, finds_port w task name p f s a, finds_held w task name p f s a, refl), refl) (make_send_agrees w s a p b h n new r))
+      (refl, fits, (p, finds_port w task name p f s a, finds_held w task name p f s a, refl), refl) tt (make_send_agrees w s a p b h n new r))
 
   pub sequence_set : n < 2 ^ 32 → SetsAttributes w p (record b { sequence = n }) new → Acts w (Event.SetSeqno task name n) (Reply.Code 0) new
   sequence_set fits r = done w (Event.SetSeqno task name n) (Reply.Code 0) new below (receive_allowed w task name p f)
       (λ now s sh. let a = sh.agrees in sets_so w p b h (record b { sequence = n }) refl new r (Event.SetSeqno task name n) now s (record s { sequence = at s.sequence p n }) sh
-      (refl, fits, (p, finds_port w task name p f s a, finds_held w task name p f s a, refl), refl) (sequence_agrees w s a p b h n new r))
+      (refl, fits, (p, finds_port w task name p f s a, finds_held w task name p f s a, refl), refl) tt (sequence_agrees w s a p b h n new r))

@@ -11,11 +11,10 @@ use Rattle.mach_types.specs.Numbers.{right_number, kern_number, most_rights}
 use Rattle.mach_types.specs.Guards.{Guards, FirstIs, NoneHolds}
 use Rattle.mach_model.specs.State.{State}
 use Rattle.mach_model.specs.References.{IsCounted, IsUncounted, references_at, IsBelowZero, IsAbove, added_rights}
-use Rattle.mach_model.specs.NotYet.{IsNotYetRemoving}
 use Rattle.mach_model.specs.Refusals.{call_guards, modify_guards}
 use Rattle.name_space.specs.declared.Entry.{Entry}
 use Rattle.name_space.specs.declared.Entry.TheVariants as entry_of
-use Rattle.name_space.specs.Entry.{references_in, set_named}
+use Rattle.name_space.specs.Entry.{references_in, port_named, port_of, set_named}
 use Rattle.copyin_base.specs.Acts.{IsRefused, IsAllowed}
 use Rattle.copyin_base.specs.Worlds.{WorldView, entry_at}
 use Rattle.copyin_base.specs.Shows.{Agrees}
@@ -23,8 +22,8 @@ use Rattle.copyin_base.proofs.Told.{used}
 use Rattle.kernel_core_base.specs.declared.references.Change.{Change}
 use Rattle.kernel_core_base.specs.declared.references.Change.TheVariants.{More, Fewer}
 use Rattle.kernel_core_base.specs.declared.references.Due.{Due}
-use Rattle.kernel_core_base.specs.declared.references.Due.TheVariants.{Nothing, Disbanding}
-use Rattle.kernel_core_base.specs.References.{IsChange, more_in, IsTooFew, IsTooMany, CanSum, CannotSum, changed_whole, CanChange, CannotChange, FindsRight}
+use Rattle.kernel_core_base.specs.declared.references.Due.TheVariants.{Nothing, Disbanding, LosingOnce, Killing}
+use Rattle.kernel_core_base.specs.References.{IsChange, more_in, IsTooFew, IsTooMany, CanSum, CannotSum, changed_whole, receive_loss, CanChange, CannotChange, FindsRight}
 use Rattle.kernel_core_base.proofs.ReferencesTold.{few_numbers, no_right, references_are}
 
 -- ---- sums
@@ -109,14 +108,13 @@ later_guards s task name number delta =
     ∷ (IsCounted number × IsBelowZero (references_at s task name number) delta ⊎ IsUncounted number × (delta ≢ pos 0) × (delta ≢ negsuc 0), kern_number InvalidValue)
     ∷ (IsCounted number × IsAbove (references_at s task name number) delta, kern_number UrefsOverflow)
     ∷ ((number ≡ 0) × (most_rights < length s.ledger + added_rights delta), kern_number NoSpace)
-    ∷ (IsNotYetRemoving number delta, kern_number InvalidRight)
     ∷ []
 
 -- what is to be known of a right's number for none to hold
 record IsFine (s : State) (number n : ℕ) (delta : ℤ) : Type 0 where
   pub few : ¬ (4 < number)
   pub not_below : IsCounted number → ¬ (IsBelowZero n delta)
-  pub whole : IsUncounted number → (delta ≡ pos 0) ⊎ ((delta ≡ negsuc 0) × (number ≡ 3))
+  pub whole : IsUncounted number → (delta ≡ pos 0) ⊎ (delta ≡ negsuc 0)
   pub not_above : IsCounted number → ¬ (IsAbove n delta)
   pub room : number ≡ 0 → length s.ledger + added_rights delta ≤ most_rights
 
@@ -160,7 +158,7 @@ module _ (w : WorldView) (s : State) (a : Agrees w s) (task name : ℕ) (delta :
     room = λ e. absurd (omega (arith, e));
   }
 
-  fine_whole : (number n : ℕ) → ¬ (4 < number) → IsUncounted number → (delta ≡ pos 0) ⊎ ((delta ≡ negsuc 0) × (number ≡ 3)) → IsFine s number n delta
+  fine_whole : (number n : ℕ) → ¬ (4 < number) → IsUncounted number → (delta ≡ pos 0) ⊎ (delta ≡ negsuc 0) → IsFine s number n delta
   fine_whole number n few u which = record {
     few = few;
     not_below = λ c. absurd (not_counted number u c);
@@ -174,44 +172,30 @@ module _ (w : WorldView) (s : State) (a : Agrees w s) (task name : ℕ) (delta :
   fine right.DeadName e change due is can = fine_dead (references_in right.DeadName e) can.0 change is can.2
   fine right.PortSet e change due is can = fine_whole 3 (references_in right.PortSet e) (few_numbers right.PortSet) (inr (inr refl)) (elim (whole_due change (Ok (Disbanding can.0)) due delta is can.2) [
     | inl h ↦ inl h.0
-    | inr h ↦ inr (h.0, refl)
+    | inr h ↦ inr h.0
   ])
-  fine right.Receive e change due is can = fine_whole 1 (references_in right.Receive e) (few_numbers right.Receive) (inl refl) (elim (whole_due change (Err InvalidRight) due delta is can) [
+  fine right.Receive e change due is can = fine_whole 1 (references_in right.Receive e) (few_numbers right.Receive) (inl refl) (elim (whole_due change (Ok (Killing (receive_loss e can.0))) due delta is can.2) [
     | inl h ↦ inl h.0
-    | inr h ↦ absurd (not_ok due InvalidRight h.1)
+    | inr h ↦ inr h.0
   ])
-  fine right.SendOnce e change due is can = fine_whole 2 (references_in right.SendOnce e) (few_numbers right.SendOnce) (inr (inl refl)) (elim (whole_due change (Err InvalidRight) due delta is can) [
+  fine right.SendOnce e change due is can = fine_whole 2 (references_in right.SendOnce e) (few_numbers right.SendOnce) (inr (inl refl)) (elim (whole_due change (Ok (LosingOnce can.0)) due delta is can.2) [
     | inl h ↦ inl h.0
-    | inr h ↦ absurd (not_ok due InvalidRight h.1)
+    | inr h ↦ inr h.0
   ])
 
   none_holds : (number n : ℕ) (e : Entry) → entry_at w task name ≡ Some e → references_at s task name number ≡ n → 0 < n → IsFine s number n delta → NoneHolds (modify_guards s task name number delta)
   none_holds number n e is refs some f =
-      (f.few, (used w s a task name e is, ((λ z. omega (arith, refs, some, z)), (wrong, ((λ h. f.not_above h.0 (subst (λ (x : ℕ). IsAbove x delta) refs h.1)), (crowded, (removes, tt)))))))
+      (f.few, (used w s a task name e is, ((λ z. omega (arith, refs, some, z)), (wrong, ((λ h. f.not_above h.0 (subst (λ (x : ℕ). IsAbove x delta) refs h.1)), (crowded, tt))))))
     where
       wrong : (IsCounted number × IsBelowZero (references_at s task name number) delta) ⊎ (IsUncounted number × (delta ≢ pos 0) × (delta ≢ negsuc 0)) → ⊥
       wrong (inl h) = f.not_below h.0 (subst (λ (x : ℕ). IsBelowZero x delta) refs h.1)
       wrong (inr h) = elim (f.whole h.0) [
         | inl z ↦ h.1 z
-        | inr z ↦ h.2 z.0
+        | inr z ↦ h.2 z
       ]
 
       crowded : (number ≡ 0) × (most_rights < length s.ledger + added_rights delta) → ⊥
       crowded h = let r = f.room h.0 in let m = h.1 in omega (arith, r, m)
-
-      one_or_two : (number ≡ 1) ⊎ (number ≡ 2) → IsUncounted number
-      one_or_two (inl e) = inl e
-      one_or_two (inr e) = inr (inl e)
-
-      not_three : (number ≡ 1) ⊎ (number ≡ 2) → number ≡ 3 → ⊥
-      not_three (inl e) g = omega (arith, e, g)
-      not_three (inr e) g = omega (arith, e, g)
-
-      removes : ((number ≡ 1) ⊎ (number ≡ 2)) × (delta ≡ negsuc 0) → ⊥
-      removes h = elim (f.whole (one_or_two h.0)) [
-        | inl z ↦ not_both 0 0 (sym z ∙ h.1)
-        | inr z ↦ not_three h.0 z.1
-      ]
 
   -- ---- refused
 
@@ -249,16 +233,6 @@ module _ (w : WorldView) (s : State) (a : Agrees w s) (task name : ℕ) (delta :
       FirstIs (later_guards s task name number delta) (kern_number code)
   wrong_fails number n code refs some u not_0 not_1 code_is = inr ((λ z. omega (arith, refs, some, z)), inl (inr (u, not_0, not_1), ap kern_number code_is))
 
-  -- where it would go
-  going_fails : (number n : ℕ) (code : KernReturn) → references_at s task name number ≡ n → 0 < n → (number ≡ 1) ⊎ (number ≡ 2) → IsUncounted number → delta ≡ negsuc 0 → code ≡ InvalidRight →
-      FirstIs (later_guards s task name number delta) (kern_number code)
-  going_fails number n code refs some which u is code_is =
-      inr ((λ z. omega (arith, refs, some, z)), inr (fits, inr ((λ h. not_counted number u h.0), inr ((λ h. not_send number u h.0), inl ((which, is), ap kern_number code_is)))))
-    where
-      fits : (IsCounted number × IsBelowZero (references_at s task name number) delta) ⊎ (IsUncounted number × (delta ≢ pos 0) × (delta ≢ negsuc 0)) → ⊥
-      fits (inl x) = not_counted number u x.0
-      fits (inr x) = x.2 is
-
   whole_fails : (number n : ℕ) (change : Change) (whole : Result Due KernReturn) (code : KernReturn) → references_at s task name number ≡ n → 0 < n → IsUncounted number → IsChange change delta →
       changed_whole change whole ≡ Err code → (delta ≡ negsuc 0 → Err code ≡ whole → FirstIs (later_guards s task name number delta) (kern_number code)) → FirstIs (later_guards s task name number delta) (kern_number code)
   whole_fails number n change whole code refs some u is e going = elim (whole_cases change whole (Err code) delta is e) [
@@ -277,6 +251,22 @@ module _ (w : WorldView) (s : State) (a : Agrees w s) (task name : ℕ) (delta :
   no_set (entry_of.SendOnce p) none some = omega (arith, some)
   no_set (entry_of.DeadName n) none some = omega (arith, some)
 
+  no_receive : (e : Entry) → port_named e ≡ None → 0 < references_in right.Receive e → ⊥
+  no_receive (entry_of.Receive p) none some = absurd (cc)
+  no_receive (entry_of.ReceiveAndSend p n) none some = absurd (cc)
+  no_receive (entry_of.Set set) none some = omega (arith, some)
+  no_receive (entry_of.Send p n) none some = omega (arith, some)
+  no_receive (entry_of.SendOnce p) none some = omega (arith, some)
+  no_receive (entry_of.DeadName n) none some = omega (arith, some)
+
+  no_once : (e : Entry) → port_of e ≡ None → 0 < references_in right.SendOnce e → ⊥
+  no_once (entry_of.SendOnce p) none some = absurd (cc)
+  no_once (entry_of.Receive p) none some = omega (arith, some)
+  no_once (entry_of.ReceiveAndSend p n) none some = omega (arith, some)
+  no_once (entry_of.Set set) none some = omega (arith, some)
+  no_once (entry_of.Send p n) none some = omega (arith, some)
+  no_once (entry_of.DeadName n) none some = omega (arith, some)
+
   later_fails : (r : Right) (e : Entry) (change : Change) (code : KernReturn) → references_at s task name (right_number r) ≡ references_in r e → 0 < references_in r e → IsChange change delta →
       CannotChange w.ledger.total r e change code → FirstIs (later_guards s task name (right_number r) delta) (kern_number code)
   later_fails right.Send e change code refs some is (inl h) = sum_fails 0 (references_in right.Send e) change code refs some (inl refl) is h
@@ -285,10 +275,12 @@ module _ (w : WorldView) (s : State) (a : Agrees w s) (task name : ℕ) (delta :
   later_fails right.PortSet e change code refs some is (inl h) = absurd (no_set e h some)
   later_fails right.PortSet e change code refs some is (inr h) = whole_fails 3 (references_in right.PortSet e) change (Ok (Disbanding h.0)) code refs some (inr (inr refl)) is h.1
       (λ gone f. absurd (not_ok (Disbanding h.0) code (sym f)))
-  later_fails right.Receive e change code refs some is h = whole_fails 1 (references_in right.Receive e) change (Err InvalidRight) code refs some (inl refl) is h
-      (λ gone f. going_fails 1 (references_in right.Receive e) code refs some (inl refl) (inl refl) gone (the_code code InvalidRight f))
-  later_fails right.SendOnce e change code refs some is h = whole_fails 2 (references_in right.SendOnce e) change (Err InvalidRight) code refs some (inr (inl refl)) is h
-      (λ gone f. going_fails 2 (references_in right.SendOnce e) code refs some (inr refl) (inr (inl refl)) gone (the_code code InvalidRight f))
+  later_fails right.Receive e change code refs some is (inl h) = absurd (no_receive e h some)
+  later_fails right.Receive e change code refs some is (inr h) = whole_fails 1 (references_in right.Receive e) change (Ok (Killing (receive_loss e h.0))) code refs some (inl refl) is h.1
+      (λ gone f. absurd (not_ok (Killing (receive_loss e h.0)) code (sym f)))
+  later_fails right.SendOnce e change code refs some is (inl h) = absurd (no_once e h some)
+  later_fails right.SendOnce e change code refs some is (inr h) = whole_fails 2 (references_in right.SendOnce e) change (Ok (LosingOnce h.0)) code refs some (inr (inl refl)) is h.1
+      (λ gone f. absurd (not_ok (LosingOnce h.0) code (sym f)))
 
 module _ (w : WorldView) (task name number : ℕ) (delta : ℤ) where
   pub not_a_right : ((r : Right) → right_number r ≢ number) → IsRefused w (λ s. call_guards s (Event.ModRefs task name number delta)) (kern_number InvalidValue)

@@ -26,12 +26,12 @@ use Rattle.copyin_base.proofs.Told.{found, port_entered}
 use Rattle.kernel_core_base.specs.References.{left_with, recounted_at, CanCount, CanSet, CountsReferences, RemovesSet}
 
 -- the space in which an entry stands
-record At (w : WorldView) (task name : ℕ) (e : Entry) : Type 0 where
+pub record At (w : WorldView) (task name : ℕ) (e : Entry) : Type 0 where
   pub space : SpaceView
   pub there : space_at w task ≡ Some space
   pub found : map.get space.names name ≡ Some e
 
-at : (w : WorldView) (task name : ℕ) (e : Entry) → entry_at w task name ≡ Some e → At w task name e
+pub at : (w : WorldView) (task name : ℕ) (e : Entry) → entry_at w task name ≡ Some e → At w task name e
 at w task name e is = elim (seen (space_at w task)) [
   | inl h ↦ record { space = h.0; there = h.1; found = sym (ap (λ (o : Option SpaceView). entry_in o name) h.1) ∙ is }
   | inr h ↦ absurd (no_entry e (sym (ap (λ (o : Option SpaceView). entry_in o name) h) ∙ is))
@@ -40,7 +40,7 @@ at w task name e is = elim (seen (space_at w task)) [
     no_entry : (e : Entry) → None ≡ Some e → ⊥
     no_entry e f = cc
 
-can_put : (w : WorldView) (task name : ℕ) (e : Entry) (left : Option Entry) → entry_at w task name ≡ Some e →
+pub can_put : (w : WorldView) (task name : ℕ) (e : Entry) (left : Option Entry) → entry_at w task name ≡ Some e →
     ((x : Entry) → left ≡ Some x → (port_named x ≡ port_named e) × IsForLive w x) → CanPutLeft w task name left
 can_put w task name e left is same = let x = at w task name e is in record {
   space = x.space;
@@ -112,8 +112,8 @@ references_set old mid x task name m e left ledger can puts left_is view counts 
 
 -- ---- a set
 
-pub can_put_none : (w : WorldView) (task name set : ℕ) → entry_at w task name ≡ Some (entry_of.Set set) → CanPutLeft w task name None
-can_put_none w task name set is = can_put w task name (entry_of.Set set) None is (λ x e. absurd (let f : None ≡ Some x = e in cc))
+pub can_put_none : (w : WorldView) (task name : ℕ) (e : Entry) → entry_at w task name ≡ Some e → CanPutLeft w task name None
+can_put_none w task name e is = can_put w task name e None is (λ x f. absurd (let g : None ≡ Some x = f in cc))
 
 pub set_removed : (old mid x : WorldView) (task name set : ℕ) (ports : PortsView Kept) (sets : SetsView) → entry_at old task name ≡ Some (entry_of.Set set) → PutsLeft old task name None mid → x ≡ mid →
     sets ≡ removed x.sets set → IsDisbanded x.ports ports set → RemovesSet old task name set (record x { ports = ports; sets = sets })

@@ -101,10 +101,10 @@ module _ (w : WorldView) (s : State) (sh : Shows w s) (task name : ℕ) (space :
         go : (b : Bool) → nat_lt (held s task send p) m ≡ b → (q : ℕ) →
             CountsAgree (if b then made w.ledger p right.Send (m - held s task send p) else taken w.ledger p right.Send (held s task send p - m)) s.live_port ledger (onces_queued s) q
         go true e = counts_agree w.ledger s.live_port s.ledger (onces_queued s) sh.agrees.counts (made w.ledger p right.Send (m - held s task send p)) s.live_port ledger (onces_queued s) p
-            (with_more right.Send (m - held s task send p) (counts_of w.ledger p)) refl (sym live) receives (let below = ltb-true (held s task send p) m e in let k = sends in omega (arith, below, k)) onces (sh.agrees.counts p).destinations others
+            (with_more right.Send (m - held s task send p) (counts_of w.ledger p)) refl (sym live) receives (let below = ltb-true (held s task send p) m e in let k = sends in omega (arith, below, k)) onces ((sh.agrees.counts p).destinations live) others
         go false e = counts_agree w.ledger s.live_port s.ledger (onces_queued s) sh.agrees.counts (taken w.ledger p right.Send (held s task send p - m)) s.live_port ledger (onces_queued s) p
             (with_fewer right.Send (held s task send p - m) (counts_of w.ledger p)) refl (sym live) receives
-            (let above = ltb-false (held s task send p) m e in let k = sends in let le = held_le_of task send p s.ledger in let c = (sh.agrees.counts p).senders in omega (arith, above, k, le, c)) onces (sh.agrees.counts p).destinations others
+            (let above = ltb-false (held s task send p) m e in let k = sends in let le = held_le_of task send p s.ledger in let c = (sh.agrees.counts p).senders in omega (arith, above, k, le, c)) onces ((sh.agrees.counts p).destinations live) others
 
     total : (recounted w.ledger p (held s task send p) m).total ≡ length ledger
     total =

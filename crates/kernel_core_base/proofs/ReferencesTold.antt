@@ -85,7 +85,7 @@ module _ (w : WorldView) (task name number : ℕ) (below : HasTask w task) where
   pub refs_told : (r : Right) (e : Entry) → right_number r ≡ number → entry_at w task name ≡ Some e → Acts w (Event.GetRefs task name number) (Reply.Refs (references_in r e)) w
   refs_told r e is there = done w (Event.GetRefs task name number) (Reply.Refs (references_in r e)) w below
       (record { allowed = λ s sh. (subst (λ (k : ℕ). ¬ (4 < k)) is (few_numbers r), (used w s sh.agrees task name e there, tt)) })
-      (λ now s sh. looked w (Event.GetRefs task name number) (Reply.Refs (references_in r e)) now s sh (
+      (λ now s sh. looked w (Event.GetRefs task name number) (Reply.Refs (references_in r e)) now s sh tt (
         (
           target_of e,
           found w s sh.agrees task name e there,

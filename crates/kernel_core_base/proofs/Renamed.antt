@@ -160,6 +160,7 @@ module _ (w w1 : WorldView) (task from to : ℕ) (small : to < 2 ^ 32) (e : Entr
         mid = after s;
         owed = [];
         does = (refl, renames s here, refl);
+        loses_none = tt;
         none_owed = refl;
         agrees = agrees s here v named;
         holders = holders v named here.holders;

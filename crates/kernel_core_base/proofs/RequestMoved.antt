@@ -19,7 +19,7 @@ use Rattle.port.specs.Ports.{PortsView, IsLive}
 use Rattle.request_table.specs.declared.Request.{Request as NameRequest}
 use Rattle.request_table.specs.Requests.{name_key, key_of}
 use Rattle.copyin_base.specs.Kept.{Kept}
-use Rattle.copyin_base.specs.Requests.{RequestTablesView, notify_of, rights_kept, rights_went, AreMade, RequestsAgree}
+use Rattle.copyin_base.specs.Requests.{RequestTablesView, notify_of, rights_kept, rights_went, AreMade, AreEnded, RequestsAgree}
 use Rattle.copyin_base.specs.Shows.{IsOnName, RequestsStand}
 use Rattle.copyin_base.specs.Worlds.{WorldView, space_in, space_at, entry_in, entry_at}
 use Rattle.copyin_base.proofs.Gets.{same_found}
@@ -211,6 +211,7 @@ module _ (v : RequestTablesView) (task o n : ℕ) (small_from : o < 2 ^ 32) (sma
       kept = λ r kind q. kept r kind q (same_request r from) (same_request r to) refl refl;
       given = λ r q. given r q (same_request r from) (same_request r to) refl refl;
       given_went = subst (λ (xs : List NameRequest). AreMade made xs) (sym (went_in (map.get v.names.requests key_from))) a.given_went;
+      ended_went = subst (λ (xs : List NameRequest). AreEnded stands2 xs) (sym (went_in (map.get v.names.requests key_from) ∙ waits)) tt;
     }
 
 -- where none stands, none goes along

@@ -12,13 +12,14 @@ use Rattle.copyin_base.proofs.Slots.{slots_same, slots_kept}
 use Rattle.kernel_core_base.specs.declared.names.NewRight.{NewRight}
 use Rattle.kernel_core_base.specs.declared.names.NewRight.TheVariants as new_right
 use Rattle.kernel_core_base.specs.declared.references.Due.{Due}
-use Rattle.kernel_core_base.specs.declared.references.Due.TheVariants.{Nothing, References, Disbanding}
+use Rattle.kernel_core_base.specs.declared.references.Due.TheVariants.{Nothing, References, Disbanding, LosingOnce, Killing}
 use Rattle.kernel_core_base.specs.Names.{Adds}
 use Rattle.kernel_core_base.specs.References.{recounted_at, CountsReferences, Carries}
 use Rattle.kernel_core_base.proofs.FewerNoted.{fewer_keeps}
+use Rattle.kernel_core_base.proofs.PlainDues.{IsPlain}
 
 -- send rights are counted apart
-unused_recounted : (l : LedgerView) (o : Option ℕ) (n m : ℕ) → (recounted_at l o n m).unused ≡ l.unused
+pub unused_recounted : (l : LedgerView) (o : Option ℕ) (n m : ℕ) → (recounted_at l o n m).unused ≡ l.unused
 unused_recounted l None n m = refl
 unused_recounted l (Some p) n m = go (nat_lt n m)
   where
@@ -34,10 +35,12 @@ counted_slots w v enough task name e m r =
     omega (arith, enough, unused, same, spare)
 
 module _ (w v : WorldView) (enough : SlotsSuffice w) (task name : ℕ) where
-  pub carried_slots : (due : Due) → Carries w task name due v → SlotsSuffice v
-  carried_slots Nothing same = slots_same w v enough same
-  carried_slots (References e m) r = fewer_keeps SlotsSuffice r.counted v e m r.notes (λ p n. noted_slots r.counted v p n) (counted_slots w r.counted enough task name e m r.counts)
-  carried_slots (Disbanding set) r = slots_kept w v enough (ap (λ (x : WorldView). x.ledger.unused) r.rest) r.disbanded.spare
+  pub carried_slots : (due : Due) → IsPlain due → Carries w task name due v → SlotsSuffice v
+  carried_slots Nothing plain same = slots_same w v enough same
+  carried_slots (References e m) plain r = fewer_keeps SlotsSuffice r.counted v e m r.notes (λ p n. noted_slots r.counted v p n) (counted_slots w r.counted enough task name e m r.counts)
+  carried_slots (Disbanding set) plain r = slots_kept w v enough (ap (λ (x : WorldView). x.ledger.unused) r.rest) r.disbanded.spare
+  carried_slots (LosingOnce p) plain r = absurd plain
+  carried_slots (Killing loss) plain r = absurd plain
 
   pub made_slots : (r : NewRight) → Adds w task r name v → SlotsSuffice v
   made_slots new_right.Port adds =

@@ -108,6 +108,7 @@ task_created w task new few is made = rw (is, made) (done w Event.TaskCreate (Re
       mid = with_task w s sh.agrees;
       owed = [];
       does = (creates w s sh.agrees, refl);
+      loses_none = tt;
       none_owed = refl;
       agrees = task_agrees w s sh.agrees;
       holders = task_holders w sh.holders;

@@ -1,25 +1,33 @@
 -- Taking rights from under a name, and changing how many references are under it, in the tables.
-use Rattle.std.specs.Prelude.{◌≡◌, ℕ, ℤ, pos, negsuc, ◌+◌, ◌-◌, ◌<◌, ◌≤◌, ◌⊎◌, Bool, true, false, Option, Some, None, slice_set, Result, Ok, Err, if◌then◌else◌, ◌==◌, nat_lt}
+use Rattle.std.specs.Prelude.{◌≡◌, ℕ, ℤ, pos, negsuc, ◌+◌, ◌-◌, ◌<◌, ◌≤◌, ◌⊎◌, ◌++◌, ◌∷◌, [], Bool, true, false, Option, Some, None, slice_set, Result, Ok, Err, if◌then◌else◌, ◌==◌, nat_lt}
 use Rattle.std.specs.FinMap as map
 use Rattle.mach_types.specs.declared.codes.KernReturn.{KernReturn}
-use Rattle.mach_types.specs.declared.codes.KernReturn.TheVariants.{NoSpace, InvalidRight, InvalidValue, UrefsOverflow}
+use Rattle.mach_types.specs.declared.codes.KernReturn.TheVariants.{NoSpace, InvalidValue, UrefsOverflow}
 use Rattle.mach_types.specs.declared.rights.Right.{Right}
 use Rattle.mach_types.specs.declared.rights.Right.TheVariants as right
 use Rattle.mach_types.specs.Numbers.{right_number, most_references, most_rights}
 use Rattle.name_space.specs.declared.Entry.{Entry}
 use Rattle.name_space.specs.declared.Entry.TheVariants as entry
-use Rattle.name_space.specs.Entry.{port_named, send_references, set_named, references_in}
+use Rattle.name_space.specs.Entry.{port_named, port_of, receive_named, send_references, set_named, references_in}
 use Rattle.name_space.specs.Names.{SpaceView}
+use Rattle.port.specs.declared.Holder.TheVariants.{Nobody}
+use Rattle.port.specs.Holding.{held}
+use Rattle.port.specs.Ports.{PortView, with_port}
 use Rattle.port_set.specs.Sets.{removed, IsDisbanded}
 use Rattle.rights.specs.declared.RightKind.TheVariants as kind
 use Rattle.rights.specs.Ledger.{LedgerView, IsEntered, counts_of, made, taken}
-use Rattle.copyin_base.specs.Changes.{NotesSenderless}
+use Rattle.copyin_base.specs.declared.notice.Notice.TheVariants as notice
+use Rattle.copyin_base.specs.Changes.{PutsLeft, NotesSenderless}
+use Rattle.copyin_base.specs.Kept.{Kept}
 use Rattle.copyin_base.specs.Requests.{request_left, requests_after}
-use Rattle.copyin_base.specs.Worlds.{WorldView, entry_at, put, space_at}
+use Rattle.copyin_base.specs.Shows.{SlotsSuffice}
+use Rattle.copyin_base.specs.Worlds.{WorldView, entry_at, put, space_at, port_at}
+use Rattle.notifications.specs.Posting.{Posts}
 use Rattle.kernel_core_base.specs.declared.references.Change.{Change}
 use Rattle.kernel_core_base.specs.declared.references.Change.TheVariants.{More, Fewer}
 use Rattle.kernel_core_base.specs.declared.references.Due.{Due}
-use Rattle.kernel_core_base.specs.declared.references.Due.TheVariants.{Nothing, References, Disbanding}
+use Rattle.kernel_core_base.specs.declared.references.Due.TheVariants.{Nothing, References, Disbanding, LosingOnce, Killing}
+use Rattle.kernel_core_base.specs.declared.references.Loss.{Loss}
 
 -- ---- so many references under a name
 
@@ -90,17 +98,65 @@ pub record RemovesSet (old : WorldView) (task name set : ℕ) (new : WorldView) 
     requests = request_left old.requests task name;
   }
 
+-- The name of a send-once right goes, and a request on it ends; the port is told that the right, one of those that are unused, was lost.
+pub record LosesOnce (old : WorldView) (task name port : ℕ) (new : WorldView) : Type 0 where
+  pub found : entry_at old task name ≡ Some (entry.SendOnce port)
+  pub named : WorldView
+  pub puts : PutsLeft old task name None named
+  pub posts : Posts named port notice.SendOnce new
+  pub slots : SlotsSuffice new
+  pub counted : 0 < named.ledger.unused
+
+-- ---- a receive right
+
+-- what is left under a name that loses its port's receive right
+abbrev pub sends_left : Loss → Option Entry
+sends_left l = if nat_lt 0 l.left then Some (entry.Send l.port l.left) else None
+
+-- The port's receive right stands under the name with so many send references, of which not more are left.
+pub record CanKill (w : WorldView) (task name : ℕ) (l : Loss) : Type 0 where
+  pub e : Entry
+  pub found : entry_at w task name ≡ Some e
+  pub receive : receive_named e ≡ Some l.port
+  pub sends : send_references e ≡ l.held
+  pub fewer : l.left ≤ l.held
+  pub few : l.left ≤ most_references
+
+-- Nobody holds the receive right now, and the port is one of those that were lost; so many send references are left under the name.
+pub record TakesReceive (old : WorldView) (task name : ℕ) (l : Loss) (new : WorldView) : Type 0 where
+  pub space : SpaceView
+  pub there : space_at old task ≡ Some space
+  pub v : PortView Kept
+  pub port_there : port_at old l.port ≡ Some v
+  pub rest : new ≡ record old {
+    spaces = slice_set old.spaces task (Some (record space { names = put space.names name (sends_left l) }));
+    ports = record (with_port old.ports l.port (held v Nobody)) { lost = old.ports.lost ++ l.port ∷ [] };
+    ledger = taken (taken old.ledger l.port kind.Receive 1) l.port kind.Send (l.held - l.left);
+    requests = requests_after old.requests task name (sends_left l);
+  }
+
+-- So it is, and the port is noted that lost its last send right.
+pub record LosesReceive (old : WorldView) (task name : ℕ) (l : Loss) (new : WorldView) : Type 0 where
+  pub can : CanKill old task name l
+  pub killed : WorldView
+  pub takes : TakesReceive old task name l killed
+  pub notes : NotesLost killed (Some l.port) (nat_lt l.left l.held) new
+
 -- ---- what is due
 
 abbrev pub CanCarry : WorldView → (task name : ℕ) → Due → Type 0
 CanCarry w task name Nothing = Unit {0}
 CanCarry w task name (References e m) = CanSet w task name e m
 CanCarry w task name (Disbanding set) = entry_at w task name ≡ Some (entry.Set set)
+CanCarry w task name (LosingOnce p) = entry_at w task name ≡ Some (entry.SendOnce p)
+CanCarry w task name (Killing l) = CanKill w task name l
 
 abbrev pub Carries : WorldView → (task name : ℕ) → Due → WorldView → Type 0
 Carries old task name Nothing new = new ≡ old
 Carries old task name (References e m) new = SetsReferences old task name e m new
 Carries old task name (Disbanding set) new = RemovesSet old task name set new
+Carries old task name (LosingOnce p) new = LosesOnce old task name p new
+Carries old task name (Killing l) new = LosesReceive old task name l new
 
 -- ---- Deallocate and Destroy: by what stands under the name
 
@@ -108,13 +164,20 @@ abbrev pub deallocated : Entry → Option Due
 deallocated (entry.Send p n) = Some (References (entry.Send p n) (n - 1))
 deallocated (entry.ReceiveAndSend p n) = Some (References (entry.ReceiveAndSend p n) (n - 1))
 deallocated (entry.DeadName n) = Some (References (entry.DeadName n) (n - 1))
+deallocated (entry.SendOnce p) = Some (LosingOnce p)
 deallocated e = None
 
-abbrev pub destroyed : Entry → Option Due
-destroyed (entry.Send p n) = Some (References (entry.Send p n) 0)
-destroyed (entry.DeadName n) = Some (References (entry.DeadName n) 0)
-destroyed (entry.Set set) = Some (Disbanding set)
-destroyed e = None
+-- all is lost
+abbrev pub whole_loss : (port held : ℕ) → Loss
+whole_loss p n = record { port = p; held = n; left = 0 }
+
+abbrev pub destroyed : Entry → Due
+destroyed (entry.Send p n) = References (entry.Send p n) 0
+destroyed (entry.DeadName n) = References (entry.DeadName n) 0
+destroyed (entry.Set set) = Disbanding set
+destroyed (entry.SendOnce p) = LosingOnce p
+destroyed (entry.Receive p) = Killing (whole_loss p 0)
+destroyed (entry.ReceiveAndSend p n) = Killing (whole_loss p n)
 
 -- ---- ModRefs: by a number
 
@@ -146,13 +209,18 @@ abbrev pub changed_whole : Change → Result Due KernReturn → Result Due KernR
 changed_whole (More k) whole = if k == 0 then Ok Nothing else Err InvalidValue
 changed_whole (Fewer k) whole = if k == 1 then whole else Err InvalidValue
 
+-- the send references stay
+abbrev pub receive_loss : Entry → (port : ℕ) → Loss
+receive_loss e p = record { port = p; held = send_references e; left = send_references e }
+
 -- The references of the right of the entry may change so, with so many rights in all.
 abbrev pub CanChange : (total : ℕ) → Right → Entry → Change → Due → Type 0
 CanChange total right.Send e change due =
     (m : ℕ) × (due ≡ References e m) × CanSum (references_in right.Send e) change m × (total + more_in change ≤ most_rights)
 CanChange total right.DeadName e change due = (m : ℕ) × (due ≡ References e m) × CanSum (references_in right.DeadName e) change m
 CanChange total right.PortSet e change due = (set : ℕ) × (set_named e ≡ Some set) × (changed_whole change (Ok (Disbanding set)) ≡ Ok due)
-CanChange total r e change due = changed_whole change (Err InvalidRight) ≡ Ok due
+CanChange total right.SendOnce e change due = (p : ℕ) × (port_of e ≡ Some p) × (changed_whole change (Ok (LosingOnce p)) ≡ Ok due)
+CanChange total right.Receive e change due = (p : ℕ) × (port_named e ≡ Some p) × (changed_whole change (Ok (Killing (receive_loss e p))) ≡ Ok due)
 
 abbrev pub CannotChange : (total : ℕ) → Right → Entry → Change → KernReturn → Type 0
 CannotChange total right.Send e change code =
@@ -160,7 +228,8 @@ CannotChange total right.Send e change code =
     ⊎ ((m : ℕ) × CanSum (references_in right.Send e) change m × (most_rights < total + more_in change) × (code ≡ NoSpace))
 CannotChange total right.DeadName e change code = CannotSum (references_in right.DeadName e) change code
 CannotChange total right.PortSet e change code = (set_named e ≡ None) ⊎ ((set : ℕ) × (changed_whole change (Ok (Disbanding set)) ≡ Err code))
-CannotChange total r e change code = changed_whole change (Err InvalidRight) ≡ Err code
+CannotChange total right.SendOnce e change code = (port_of e ≡ None) ⊎ ((p : ℕ) × (changed_whole change (Ok (LosingOnce p)) ≡ Err code))
+CannotChange total right.Receive e change code = (port_named e ≡ None) ⊎ ((p : ℕ) × (changed_whole change (Ok (Killing (receive_loss e p))) ≡ Err code))
 
 -- What stands under the name has the right of this number.
 pub record FindsRight (w : WorldView) (task name number : ℕ) (r : Right) (e : Entry) : Type 0 where

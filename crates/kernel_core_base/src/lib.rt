@@ -16,4 +16,4 @@ pub use names::{allocate, allocate_name, list_names, name_type, rename};
 pub use receive_right::{receive_status, set_mscount, set_qlimit, set_seqno};
 pub use references::{deallocate, destroy, get_refs, mod_refs};
 pub use sets::{move_member, set_status};
-pub use tasks::create_task;
+pub use tasks::{create_task, terminate_task};

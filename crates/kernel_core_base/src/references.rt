@@ -9,14 +9,15 @@ ghost use Rattle.name_space.specs.Entry.{port_named, send_references};
 ghost use Rattle.port_set.specs.Sets.{removed, IsDisbanded};
 ghost use Rattle.copyin_base.specs.Acts.{IsRefused, Serves};
 ghost use Rattle.copyin_base.specs.Stands.{Stands};
-ghost use Rattle.copyin_base.specs.Wanted.{KeepsSpares};
+ghost use Rattle.copyin_base.specs.Wanted.{UsesSpares};
 ghost use Rattle.copyin_base.specs.Worlds.{entry_at, HasTask};
-ghost use Rattle.kernel_core_base.specs.References.{left_with, recounted_at, CanCount, CanSet, NotesFewer, CountsReferences, SetsReferences, RemovesSet, CanCarry, Carries, deallocated, destroyed, IsChange, more_in, CanSum, CannotSum, changed_whole, FindsRight, CanChange, CannotChange};
+ghost use Rattle.kernel_core_base.specs.References.{whole_loss, left_with, recounted_at, CanCount, CanSet, NotesLost, NotesFewer, CountsReferences, SetsReferences, RemovesSet, LosesOnce, sends_left, CanKill, TakesReceive, LosesReceive, CanCarry, Carries, deallocated, destroyed, IsChange, more_in, CanSum, CannotSum, changed_whole, FindsRight, CanChange, CannotChange};
 
 use copyin_base::{Code, Queued, World};
 use mach_types::limits::{MOST_REFERENCES, MOST_RIGHTS};
-use mach_types::{KernReturn, Name, Reply, Right, SetId, TaskId};
+use mach_types::{KernReturn, Name, PortId, Reply, Right, SetId, TaskId};
 use name_space::Entry;
+use notifications::{kill_port, lose_once};
 use port::Ports;
 use port_set::{Sets, disband};
 use rights::{Ledger, RightKind};
@@ -38,6 +39,20 @@ enum Due {
     References(Entry, u32),
     // The set under the name goes.
     Disbanding(SetId),
+    // The send-once right for the port goes, and the name with it.
+    LosingOnce(PortId),
+    // The receive right goes, and send references with it.
+    Killing(Loss),
+}
+
+// How a name loses its port's receive right.
+#[derive(Clone, Copy)]
+struct Loss {
+    port: PortId,
+    // So many send references were under the name,
+    held: u32,
+    // and so many of them are left.
+    left: u32,
 }
 
 // ---- what is done
@@ -126,6 +141,59 @@ fn remove_set(world: &mut World, task: TaskId, name: Name, set: SetId)
     drop_set(&mut world.sets, &mut world.ports, set);
 }
 
+// Takes the name of a send-once right away, and its port is told that the right was lost.
+fn lose_name_once(world: &mut World, task: TaskId, name: Name, port: PortId)
+    requires stands { Stands world.old }
+    requires can { entry_at world.old task name ≡ Some (AnyEntry.SendOnce port) }
+    ensures { LosesOnce world.old task name port world.new }
+{
+    world.put_left(task, name, None);
+    lose_once(world, port);
+}
+
+// What is left under a name that loses its port's receive right.
+fn left_sending(loss: Loss) -> Option<Entry>
+    requires { loss.left ≤ most_references }
+    ensures { result ≡ sends_left loss }
+{
+    UserRefs::new(loss.left).map(|rest| Entry::Send(loss.port, rest))
+}
+
+// Takes the receive right from under a name, with the send references that go.
+fn take_receive(world: &mut World, task: TaskId, name: Name, loss: Loss)
+    requires stands { Stands world.old }
+    requires can { CanKill world.old task name loss }
+    ensures { TakesReceive world.old task name loss world.new }
+{
+    let port = loss.port;
+    let gone = loss.held - loss.left;
+    let left = left_sending(loss);
+    kill_port(world, port);
+    world.put_left(task, name, left);
+    world.ledger.take(port, RightKind::Send, gone);
+}
+
+// Notes a port that has no send rights left, where some of them went.
+fn note_lost(world: &mut World, port: PortId, went: bool)
+    ensures { NotesLost world.old (Some port) went world.new }
+{
+    if went {
+        world.note_senderless(port);
+    }
+}
+
+// The port under a name loses its receive right; it is noted if it lost its last send right too.
+fn lose_receive(world: &mut World, task: TaskId, name: Name, loss: Loss)
+    requires stands { Stands world.old }
+    requires can { CanKill world.old task name loss }
+    ensures { LosesReceive world.old task name loss world.new }
+{
+    let port = loss.port;
+    let fewer = loss.left < loss.held;
+    take_receive(world, task, name, loss);
+    note_lost(world, port, fewer);
+}
+
 fn carry_out(world: &mut World, task: TaskId, name: Name, due: Due)
     requires stands { Stands world.old }
     requires can { CanCarry world.old task name due }
@@ -137,6 +205,8 @@ fn carry_out(world: &mut World, task: TaskId, name: Name, due: Due)
             set_references(world, task, name, entry, references)
         }
         Due::Disbanding(set) => remove_set(world, task, name, set),
+        Due::LosingOnce(port) => lose_name_once(world, task, name, port),
+        Due::Killing(loss) => lose_receive(world, task, name, loss),
     }
 }
 
@@ -160,7 +230,7 @@ pub fn get_refs(world: &World, task: TaskId, name: Name, right: u32) -> Result<R
 
 // ---- Deallocate and Destroy
 
-// One reference less; none where it isn't a reference that would go.
+// One reference less, or the send-once right goes; none where there is neither.
 fn deallocate_entry(entry: &Entry) -> Option<Due>
     ensures { result ≡ deallocated entry.now }
 {
@@ -168,34 +238,50 @@ fn deallocate_entry(entry: &Entry) -> Option<Due>
         Entry::Send(_, references)
         | Entry::ReceiveAndSend(_, references)
         | Entry::DeadName(references) => Some(Due::References(*entry, references.count() - 1)),
-        // No send-once right can be lost yet.
-        Entry::Receive(_) | Entry::SendOnce(_) | Entry::Set(_) => None,
+        Entry::SendOnce(port) => Some(Due::LosingOnce(*port)),
+        Entry::Receive(_) | Entry::Set(_) => None,
     }
 }
 
-// All goes; none where a receive or send-once right would, which can't be lost yet.
-fn destroy_entry(entry: &Entry) -> Option<Due>
+// All goes.
+fn destroy_entry(entry: &Entry) -> Due
     ensures { result ≡ destroyed entry.now }
 {
     match entry {
-        Entry::Send(_, _) | Entry::DeadName(_) => Some(Due::References(*entry, 0)),
-        Entry::Set(set) => Some(Due::Disbanding(*set)),
-        Entry::Receive(_) | Entry::ReceiveAndSend(_, _) | Entry::SendOnce(_) => None,
+        Entry::Send(_, _) | Entry::DeadName(_) => Due::References(*entry, 0),
+        Entry::Set(set) => Due::Disbanding(*set),
+        Entry::SendOnce(port) => Due::LosingOnce(*port),
+        Entry::Receive(port) => Due::Killing(whole_loss(*port, 0)),
+        Entry::ReceiveAndSend(port, references) => {
+            Due::Killing(whole_loss(*port, references.count()))
+        }
+    }
+}
+
+// Of so many send references none is left.
+fn whole_loss(port: PortId, held: u32) -> Loss
+    ensures { result ≡ whole_loss port held }
+{
+    Loss {
+        port,
+        held,
+        left: 0,
     }
 }
 
 /// `Deallocate` (Port Manipulation Interface, `mach_port_deallocate`): one send reference, or one
-/// reference of a dead name, goes from under the name; with the last right or reference the name goes.
-/// Under a name with a receive right and send references one of these goes. The task lives.
+/// reference of a dead name, goes from under the name, or its send-once right, whose port is told that
+/// it was lost; with the last right or reference the name goes. Under a name with a receive right and
+/// send references one of these goes. The task lives.
 ///
 /// `KERN_INVALID_NAME` for a name that isn't in use; `KERN_INVALID_RIGHT` for a receive right
-/// alone, a set, and, as long as none can be lost, a send-once right. A refusal changes nothing.
-/// Takes no memory. Constant time, and logarithmic for a name above 65,535.
+/// alone and a set. A refusal changes nothing. Takes no memory. Constant time, and logarithmic for a
+/// name above 65,535.
 pub fn deallocate(world: &mut World, task: TaskId, name: Name) -> Result<Reply, Code>
     requires there { HasTask world.old task }
     requires stands { Stands world.old }
     ensures serves { Serves world.old (Event.Deallocate task name) result world.new }
-    ensures spares { KeepsSpares world.old world.new }
+    ensures spares { UsesSpares world.old world.new }
 {
     let entry = world.find(task, name)?;
     let Some(due) = deallocate_entry(&entry) else {
@@ -206,22 +292,20 @@ pub fn deallocate(world: &mut World, task: TaskId, name: Name) -> Result<Reply, 
 }
 
 /// `Destroy` (Port Manipulation Interface, `mach_port_destroy`): all that is under the name goes, and
-/// the name with it. With a set's name the set goes, and its members are in none. The task lives.
+/// the name with it. A port that loses its receive right dies, or is sent away, as the step ends; the
+/// port of a send-once right is told that it was lost. With a set's name the set goes, and its members
+/// are in none. The task lives.
 ///
-/// `KERN_INVALID_NAME` for a name that isn't in use; `KERN_INVALID_RIGHT`, as long as none can be
-/// lost, for a name with a receive or send-once right. A refusal changes nothing. Takes no memory.
+/// `KERN_INVALID_NAME` for a name that isn't in use. A refusal changes nothing. Takes no memory.
 /// Constant time, and logarithmic for a name above 65,535; for a set linear in its members.
 pub fn destroy(world: &mut World, task: TaskId, name: Name) -> Result<Reply, Code>
     requires there { HasTask world.old task }
     requires stands { Stands world.old }
     ensures serves { Serves world.old (Event.Destroy task name) result world.new }
-    ensures spares { KeepsSpares world.old world.new }
+    ensures spares { UsesSpares world.old world.new }
 {
     let entry = world.find(task, name)?;
-    let Some(due) = destroy_entry(&entry) else {
-        return Err(Code::Kern(KernReturn::InvalidRight));
-    };
-    carry_out(world, task, name, due);
+    carry_out(world, task, name, destroy_entry(&entry));
     Ok(Reply::Code(0))
 }
 
@@ -308,6 +392,29 @@ fn judge_set(ledger: &Ledger, entry: Entry, change: Change) -> Result<Due, KernR
     judge_whole(change, Ok(Due::Disbanding(set)))
 }
 
+fn judge_once(ledger: &Ledger, entry: Entry, change: Change) -> Result<Due, KernReturn>
+    ensures ok { IfOk result (λ due. CanChange ledger.now.total right.SendOnce entry change due) }
+    ensures err { IfErr result (λ code. CannotChange ledger.now.total right.SendOnce entry change code) }
+{
+    let port = entry.right_port().ok_or(KernReturn::InvalidRight)?;
+    judge_whole(change, Ok(Due::LosingOnce(port)))
+}
+
+// The send references stay.
+fn judge_receive(ledger: &Ledger, entry: Entry, change: Change) -> Result<Due, KernReturn>
+    ensures ok { IfOk result (λ due. CanChange ledger.now.total right.Receive entry change due) }
+    ensures err { IfErr result (λ code. CannotChange ledger.now.total right.Receive entry change code) }
+{
+    let port = entry.port().ok_or(KernReturn::InvalidRight)?;
+    let held = entry.send_references();
+    let loss = Loss {
+        port,
+        held,
+        left: held,
+    };
+    judge_whole(change, Ok(Due::Killing(loss)))
+}
+
 // What is due where the references of a right that the entry has change so.
 fn judge_change(
     ledger: &Ledger,
@@ -322,8 +429,8 @@ fn judge_change(
         Right::Send => judge_sends(ledger, entry, change),
         Right::DeadName => judge_dead(ledger, entry, change),
         Right::PortSet => judge_set(ledger, entry, change),
-        // No receive or send-once right can be lost yet.
-        Right::Receive | Right::SendOnce => judge_whole(change, Err(KernReturn::InvalidRight)),
+        Right::SendOnce => judge_once(ledger, entry, change),
+        Right::Receive => judge_receive(ledger, entry, change),
     }
 }
 
@@ -350,17 +457,16 @@ fn find_right(
 /// `ModRefs` (Port Manipulation Interface, `mach_port_mod_refs`): the references of the right of number
 /// `right`, 0 to 4, under the name change by `delta`. Send references that come are new send rights.
 /// With the last right or reference the name goes. Of a right without references `delta` is 0, which
-/// changes nothing, or -1: the right goes. With a set's the set goes, and its members are in none. The
-/// task lives.
+/// changes nothing, or -1: the right goes. A port that loses its receive right dies, or is sent away,
+/// as the step ends; the port of a send-once right is told that it was lost; with a set's right the set
+/// goes, and its members are in none. The task lives.
 ///
 /// Errors, of which the first is answered: `KERN_INVALID_VALUE` for a number above 4;
 /// `KERN_INVALID_NAME` for a name that isn't in use; `KERN_INVALID_RIGHT` where it lacks the right;
 /// `KERN_INVALID_VALUE` where there would be fewer than no references, or for a `delta` that a
 /// right without references can't have; `KERN_UREFS_OVERFLOW` above 65,535 references;
-/// `KERN_NO_SPACE` above 4,294,967,295 rights; and, as long as none can be lost,
-/// `KERN_INVALID_RIGHT` where a receive or send-once right would go. A refusal changes nothing.
-/// Takes no memory. Constant time, and logarithmic for a name above 65,535; where a set goes, linear
-/// in its members.
+/// `KERN_NO_SPACE` above 4,294,967,295 rights. A refusal changes nothing. Takes no memory. Constant
+/// time, and logarithmic for a name above 65,535; where a set goes, linear in its members.
 pub fn mod_refs(
     world: &mut World,
     task: TaskId,
@@ -371,7 +477,7 @@ pub fn mod_refs(
     requires there { HasTask world.old task }
     requires stands { Stands world.old }
     ensures serves { Serves world.old (Event.ModRefs task name right delta) result world.new }
-    ensures spares { KeepsSpares world.old world.new }
+    ensures spares { UsesSpares world.old world.new }
 {
     let (right, entry) = find_right(world, task, name, right)?;
     let due = judge_change(&world.ledger, right, entry, change_of(delta))?;

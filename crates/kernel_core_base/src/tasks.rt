@@ -1,16 +1,18 @@
-//! Making tasks.
+//! Making and ending tasks.
 ghost use Rattle.std.specs.Prelude.{◌≡◌, ◌++◌, ◌∷◌, [], OnOk, IfErr};
 ghost use Rattle.mach_types.specs.declared.calls.Event.{Event};
 ghost use Rattle.mach_types.specs.declared.codes.KernReturn.TheVariants as kern;
 ghost use Rattle.copyin_base.specs.Acts.{Serves};
 ghost use Rattle.copyin_base.specs.Stands.{Stands};
-ghost use Rattle.copyin_base.specs.Wanted.{KeepsSpares};
+ghost use Rattle.copyin_base.specs.Wanted.{KeepsSpares, UsesSpares};
+ghost use Rattle.copyin_base.specs.Worlds.{HasTask};
 ghost use Rattle.kernel_core_base.specs.Tasks.{no_names};
 
 use copyin_base::{Code, World};
 use mach_types::limits::MOST_TASKS;
 use mach_types::{KernReturn, Reply, TaskId};
 use name_space::Space;
+use notifications::end_task;
 use std::alloc::Global;
 
 /// `TaskCreate` (Task Interface, `task_create`): a task with no names, whose number is that of the
@@ -40,4 +42,21 @@ fn push_task(world: &mut World, alloc: Global) -> Result<(), KernReturn>
         Ok(()) => Ok(()),
         Err(_) => Err(KernReturn::ResourceShortage),
     }
+}
+
+/// `TaskTerminate` (Task Interface, `task_terminate`): the task, which lives, ends, and all that its
+/// names hold is lost: requests on them end, its sets go, the ports of its send-once rights are told,
+/// and ports whose receive rights it had die or are sent away at the end of the step.
+///
+/// Takes no memory and cannot fail. Linear in its names and in the members of its sets, but for a
+/// logarithm for each name above 65,535, and for four words of each page of 256 names up to there that
+/// was used.
+pub fn terminate_task(world: &mut World, task: TaskId) -> Result<Reply, Code>
+    requires there { HasTask world.old task }
+    requires stands { Stands world.old }
+    ensures serves { Serves world.old (Event.TaskTerminate task) result world.new }
+    ensures spares { UsesSpares world.old world.new }
+{
+    end_task(world, task);
+    Ok(Reply::Code(0))
 }

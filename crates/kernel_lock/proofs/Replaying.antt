@@ -6,10 +6,10 @@ use Rattle.mach_types.specs.declared.calls.Reply.{Reply}
 use Rattle.mach_model.specs.State.{State, opening}
 use Rattle.mach_model.specs.Machine.{Step, Run}
 use Rattle.mach_model.proofs.Runs.{RunFrom-push}
-use Rattle.copyin_base.specs.Worlds.{WorldView}
 use Rattle.copyin_base.specs.Shows.{Shows}
 use Rattle.kernel_core.specs.Answers.{Answers}
 use Rattle.kernel_core.specs.Bounds.{IsWithin}
+use Rattle.kernel_core.specs.Kernels.{KernelView}
 use Rattle.kernel_lock.specs.declared.entry.Entry.{Entry}
 use Rattle.kernel_lock.specs.History.{events_of, replies_of, LeadsTo, Legal, entry}
 use Rattle.kernel_lock.specs.Replays.{Replays}
@@ -26,7 +26,7 @@ leads_push log s t e run step =
     (λ i. (sym (map-append (λ (x : Entry). x.event) log (e ∷ [])) i, sym (map-append (λ (x : Entry). x.reply) log (e ∷ [])) i))
     (RunFrom-push 0 opening (events_of log) (replies_of log) s e.event e.reply t run step)
 
-pub replays_push : (log : List Entry) (old new : WorldView) (e : Entry) → Replays log old → Answers old e.event e.reply new → Replays (log ++ e ∷ []) new
+pub replays_push : (log : List Entry) (old new : KernelView) (e : Entry) → Replays log old → Answers old.tables e.event e.reply new.tables → Replays (log ++ e ∷ []) new
 replays_push log old new e r answers =
     let a = answers (next log) r.state r.shown in record {
       state = a.0;
@@ -34,25 +34,25 @@ replays_push log old new e r answers =
       shown = a.2;
     }
 
-pub legal_of : (log : List Entry) (world : WorldView) → Replays log world → Legal log
-legal_of log world r = record { state = r.state; leads = r.leads }
+pub legal_of : (log : List Entry) (kernel : KernelView) → Replays log kernel → Legal log
+legal_of log kernel r = record { state = r.state; leads = r.leads }
 
 -- the step is stored with a copy of its reply
-pub stores : (log : List Entry) (old new : WorldView) (caller : ℕ) (event : Event) (reply copy : Reply) → Replays log old → Answers old event reply new → copy ≡ reply → Replays (log ++ entry caller event copy ∷ []) new
-stores log old new caller event reply copy r answers same = replays_push log old new (entry caller event copy) r (subst (λ (x : Reply). Answers old event x new) (sym same) answers)
+pub stores : (log : List Entry) (old new : KernelView) (caller : ℕ) (event : Event) (reply copy : Reply) → Replays log old → Answers old.tables event reply new.tables → copy ≡ reply → Replays (log ++ entry caller event copy ∷ []) new
+stores log old new caller event reply copy r answers same = replays_push log old new (entry caller event copy) r (subst (λ (x : Reply). Answers old.tables event x new.tables) (sym same) answers)
 
-pub stores_legal : (log seen : List Entry) (old new : WorldView) (caller : ℕ) (event : Event) (reply copy : Reply) → Replays log old → Answers old event reply new → copy ≡ reply → seen ≡ log → Legal (seen ++ entry caller event copy ∷ [])
+pub stores_legal : (log seen : List Entry) (old new : KernelView) (caller : ℕ) (event : Event) (reply copy : Reply) → Replays log old → Answers old.tables event reply new.tables → copy ≡ reply → seen ≡ log → Legal (seen ++ entry caller event copy ∷ [])
 stores_legal log seen old new caller event reply copy r answers same is =
     subst (λ (l : List Entry). Legal (l ++ entry caller event copy ∷ [])) (sym is) (legal_of _ new (stores log old new caller event reply copy r answers same))
 
 -- what is so of each reply to the event, by the states that the kernel shows, is so of its step's
-pub is_within : (log : List Entry) (old new : WorldView) (event : Event) (most : ℕ) (reply : Reply) → Replays log old → Answers old event reply new
-    → ((now : ℕ) (s t : State) (reply : Reply) → Shows old s → Step now s event reply t → IsWithin event most reply) → IsWithin event most reply
+pub is_within : (log : List Entry) (old new : KernelView) (event : Event) (most : ℕ) (reply : Reply) → Replays log old → Answers old.tables event reply new.tables
+    → ((now : ℕ) (s t : State) (reply : Reply) → Shows old.tables s → Step now s event reply t → IsWithin event most reply) → IsWithin event most reply
 is_within log old new event most reply r answers within =
     let a = answers (next log) r.state r.shown in
     within (next log) r.state a.0 reply r.shown a.1
 
-pub is_answered : (log : List Entry) (old new : WorldView) (event : Event) (reply : Reply) → Replays log old → Answers old event reply new → reply ≢ Reply.NoRecord
+pub is_answered : (log : List Entry) (old new : KernelView) (event : Event) (reply : Reply) → Replays log old → Answers old.tables event reply new.tables → reply ≢ Reply.NoRecord
 is_answered log old new event reply r answers =
     let a = answers (next log) r.state r.shown in
     answered (next log) r.state event reply a.0 a.1

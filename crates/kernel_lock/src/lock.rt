@@ -46,7 +46,7 @@ impl Model for Pass {
 ///
 /// The type keeps that the history's events and replies are a run of the machine to a state that this
 /// kernel shows, and that each count is that of the caller's entries. To contracts it is its board, the
-/// history, and the kernel's tables.
+/// history, and the kernel's tables and turns.
 #[derive(Drop)]
 pub struct LockedKernel {
     alloc: Global,
@@ -80,7 +80,7 @@ impl LockedKernel {
         requires { seat.me ≡ (desk_view [] 0, []) }
         ensures tied { result.table ≡ seat.table_id }
         ensures empty { result.log ≡ [] }
-        ensures opening { Shows result.kernel opening }
+        ensures opening { Shows result.kernel.tables opening }
     {
         LockedKernel {
             alloc,

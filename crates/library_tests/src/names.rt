@@ -110,6 +110,11 @@ fn are_names(space: &Space, alloc: Global, wanted: &[Name]) -> bool {
     }
 }
 
+fn next_name(space: &Space, from: u32) -> Option<u32> {
+    let name = space.next_name(Name::new(from))?;
+    Some(name.number())
+}
+
 /// Whether names of every size come, into room that was made.
 fn names_come(space: &mut Space) -> bool {
     space.is_empty()
@@ -120,6 +125,15 @@ fn names_come(space: &mut Space) -> bool {
         && put(space, 3, Entry::Set(SetId::new(0)))
         && !put(space, 0, Entry::Set(SetId::new(0)))
         && space.room() == 0
+}
+
+/// Whether each name is found from the one before it on.
+fn names_follow(space: &Space) -> bool {
+    next_name(space, 0) == Some(1)
+        && next_name(space, 1) == Some(1)
+        && next_name(space, 2) == Some(3)
+        && next_name(space, 4) == Some(0xffff_fffe)
+        && next_name(space, 0xffff_ffff).is_none()
 }
 
 /// Whether the greatest name goes, and none that isn't there.
@@ -134,7 +148,7 @@ fn names_go(space: &mut Space) -> bool {
 
 fn come_and_go(space: &mut Space, alloc: Global) -> bool {
     let wanted = [Name::new(1), Name::new(3), Name::new(0xffff_fffe)];
-    names_come(space) && are_names(space, alloc, &wanted) && names_go(space)
+    names_come(space) && are_names(space, alloc, &wanted) && names_follow(space) && names_go(space)
 }
 
 #[test]
@@ -157,7 +171,7 @@ fn is_found(space: &mut Space) -> bool {
 fn is_found_renamed(space: &mut Space) -> bool {
     rename(space, 9, 4)
         && name_of(space, 7) == Some(4)
-        && space.any_name() == Some(Name::new(4))
+        && next_name(space, 0) == Some(4)
         && type_of(space, 9).is_none()
         && kill(space, 4)
         && name_of(space, 7).is_none()

@@ -109,6 +109,11 @@ impl Bench {
         }
     }
 
+    /// In how many turns the last call's step ended.
+    pub fn last_turns(&self) -> u64 {
+        self.kernel.last_turns()
+    }
+
     /// Makes the cycle so many times.
     pub fn run(&mut self, times: u32) -> Result<(), Stop> {
         measured(&mut self.kernel, self.cycle.as_slice(), times)

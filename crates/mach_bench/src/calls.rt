@@ -27,6 +27,9 @@ pub const PORT_SET: u32 = 3;
 /// The number of a dead name.
 pub const DEAD_NAME: u32 = 4;
 
+/// The variant of a dead-name request.
+const DEAD_NAME_REQUEST: u32 = 72;
+
 /// The number of the disposition move send once.
 pub const MOVE_SEND_ONCE: u32 = 18;
 
@@ -51,7 +54,7 @@ pub struct Round {
     pub random: u32,
 }
 
-/// A name in a call.
+/// A name in a call, or a task.
 #[derive(Clone, Copy)]
 pub enum Label {
     /// The same in each round.
@@ -63,7 +66,7 @@ pub enum Label {
 }
 
 impl Label {
-    /// The name in this round.
+    /// The number in this round.
     pub fn number(self, round: Round) -> u32 {
         match self {
             Label::Same(name) => name,
@@ -76,6 +79,11 @@ impl Label {
     fn name(self, round: Round) -> Name {
         Name::new(self.number(round))
     }
+
+    /// The same, as a task.
+    fn task(self, round: Round) -> TaskId {
+        TaskId::new(self.number(round))
+    }
 }
 
 /// A call, as numbers: of `HOME` where it names no task.
@@ -83,8 +91,10 @@ impl Label {
 pub enum Call {
     /// Makes a task.
     Task,
+    /// Ends the task.
+    End(u32),
     /// The task makes a right of this number, under a fresh name.
-    Make(u32, u32),
+    Make(Label, u32),
     /// The task makes a right of this number, under this name.
     MakeNamed(u32, u32, Label),
     /// Gives up one reference under the name.
@@ -94,7 +104,9 @@ pub enum Call {
     /// Changes the send references under the name.
     Change(u32, i32),
     /// The task gets, under the name, a send right made from what another has under a name.
-    Give(u32, Label, u32, Label),
+    Give(Label, Label, u32, Label),
+    /// The task asks, by its port under 1, to be told when the port under 2 dies.
+    Ask(Label),
     /// Takes a send right, made from what `PEER` has under the name.
     Extract(u32),
     /// Asks for the type of the name.
@@ -121,7 +133,7 @@ impl Call {
                 let bytes = message.bytes(alloc, round)?;
                 Ok(Event::Send(TaskId::new(task), bytes))
             }
-            Call::Make(task, right) => Ok(Event::Allocate(TaskId::new(task), right)),
+            Call::Make(task, right) => Ok(Event::Allocate(task.task(round), right)),
             Call::MakeNamed(task, right, label) => {
                 Ok(Event::AllocateName(TaskId::new(task), right, label.name(round)))
             }
@@ -135,13 +147,15 @@ impl Call {
     /// The same, where it makes no right, sends and receives nothing.
     fn event_of_home(self, home: TaskId, round: Round) -> Event {
         match self {
+            Call::End(task) => Event::TaskTerminate(TaskId::new(task)),
             Call::GiveUp(label) => Event::Deallocate(home, label.name(round)),
             Call::Destroy(name) => Event::Destroy(home, Name::new(name)),
             Call::Change(name, delta) => Event::ModRefs(home, Name::new(name), 0, delta),
             Call::Give(task, label, from, poly) => give(
-                (TaskId::new(task), label.name(round)),
+                (task.task(round), label.name(round)),
                 (TaskId::new(from), poly.name(round)),
             ),
+            Call::Ask(task) => ask(task.task(round)),
             Call::Extract(name) => {
                 Event::ExtractRight(TaskId::new(PEER), Name::new(name), MAKE_SEND, home)
             }
@@ -159,4 +173,16 @@ impl Call {
 /// The call that gives a task, under a name, a send right made from what another has under a name.
 fn give(to: (TaskId, Name), from: (TaskId, Name)) -> Event {
     Event::InsertRight(to.0, to.1, from.0, from.1, MAKE_SEND)
+}
+
+/// The call by which a task asks, by its port under 1, to be told when the port under 2 dies.
+fn ask(task: TaskId) -> Event {
+    Event::RequestNotification(
+        task,
+        Name::new(2),
+        DEAD_NAME_REQUEST,
+        0,
+        Name::new(1),
+        MAKE_SEND_ONCE,
+    )
 }

@@ -33,6 +33,15 @@ pub enum Cycles {
     Timed(u32),
 }
 
+/// What came of cycles.
+#[derive(Clone, Copy)]
+struct Made {
+    /// How long they took, 0 where they aren't timed.
+    took: Duration,
+    /// In how many turns the last step of the last ended.
+    turns: u64,
+}
+
 /// What is to be run.
 #[derive(Clone, Copy)]
 pub struct Run {
@@ -177,23 +186,25 @@ fn check_worlds<R: Clock + AllocGlobal, W: Write>(rt: &R, out: &mut W) -> Result
     Ok(())
 }
 
-/// Makes one cycle, and prints how many operations it is.
+/// Makes one cycle, and prints how many operations it is, and the turns of its last step.
 fn check_one<R: Clock + AllocGlobal, W: Write>(rt: &R, run: Run, out: &mut W) -> Result<(), Fault> {
-    make(rt, run, Cycles::Once)?;
-    let operations = run.workload.operations;
-    written(writeln!(out, "{run}: {operations} operations"))
+    let made = make(rt, run, Cycles::Once)?;
+    let (operations, turns) = (run.workload.operations, made.turns);
+    written(writeln!(
+        out,
+        "{run}: {operations} operations, the last step in {turns} turns"
+    ))
 }
 
-/// Makes the cycles, and prints how many operations they were, and the time of each.
+/// Makes the cycles, and prints how many operations they were, the time of each, and the turns of the last step.
 fn measure<R: Clock + AllocGlobal, W: Write>(
     rt: &R,
     run: Run,
     times: u32,
     out: &mut W,
 ) -> Result<(), Fault> {
-    let took = make(rt, run, Cycles::Timed(times))?;
-    let operations = operations_of(run, times);
-    tell(run, operations, nanoseconds_each(took, operations), out)
+    let made = make(rt, run, Cycles::Timed(times))?;
+    tell(run, operations_of(run, times), made, out)
 }
 
 /// How many operations so many cycles are.
@@ -201,9 +212,13 @@ fn operations_of(run: Run, times: u32) -> u64 {
     u64::from(run.workload.operations).saturating_mul(u64::from(times))
 }
 
-/// Prints how many operations were made, and the time of each.
-fn tell<W: Write>(run: Run, operations: u64, each: u128, out: &mut W) -> Result<(), Fault> {
-    written(writeln!(out, "{run}: {operations} operations, {each} ns each"))
+/// Prints how many operations were made, the time of each, and the turns of the last step.
+fn tell<W: Write>(run: Run, operations: u64, made: Made, out: &mut W) -> Result<(), Fault> {
+    let (each, turns) = (nanoseconds_each(made.took, operations), made.turns);
+    written(writeln!(
+        out,
+        "{run}: {operations} operations, {each} ns each, the last step in {turns} turns"
+    ))
 }
 
 /// The nanoseconds that each operation took, 0 where there is none.
@@ -213,10 +228,10 @@ fn nanoseconds_each(took: Duration, operations: u64) -> u128 {
         .unwrap_or(0)
 }
 
-/// Makes the cycles on a new kernel, and answers how long they took, 0 where they aren't timed.
+/// Makes the cycles on a new kernel, and answers what came of them.
 ///
 /// It does nothing else: each statement of a function that owns a kernel is dear to prove.
-fn make<R: Clock + AllocGlobal>(rt: &R, run: Run, cycles: Cycles) -> Result<Duration, Fault> {
+fn make<R: Clock + AllocGlobal>(rt: &R, run: Run, cycles: Cycles) -> Result<Made, Fault> {
     let mut bench = Bench::new(rt.alloc());
     make_on(rt, &mut bench, run, cycles)
 }
@@ -227,12 +242,16 @@ fn make_on<C: Clock>(
     bench: &mut Bench,
     run: Run,
     cycles: Cycles,
-) -> Result<Duration, Fault> {
+) -> Result<Made, Fault> {
     done(prepare(bench, run), run)?;
-    match cycles {
-        Cycles::Once => untimed(bench, run),
-        Cycles::Timed(times) => timed(clock, bench, run, times),
-    }
+    let took = match cycles {
+        Cycles::Once => untimed(bench, run)?,
+        Cycles::Timed(times) => timed(clock, bench, run, times)?,
+    };
+    Ok(Made {
+        took,
+        turns: bench.last_turns(),
+    })
 }
 
 /// Makes the world and what the workload needs.

@@ -4,7 +4,7 @@ use crate::bench::{Group, Step};
 use crate::calls::Label::{Any, Rising, Same};
 use crate::calls::{
     COMPLEX, COPY_SEND, Call, DEAD_NAME, FULL, HOME, MAKE_SEND, MAKE_SEND_ONCE, MOVE_SEND_ONCE,
-    PEER, PORT_SET, RECEIVE, SET,
+    OTHER, PEER, PORT_SET, RECEIVE, SET,
 };
 use crate::messages::{Body, Message};
 
@@ -35,12 +35,20 @@ const LOOK_UPS: u32 = 1_000;
 const MADE: u32 = 10_000;
 /// How many send rights are deallocated in a row.
 const GIVEN_UP: u32 = 60_000;
+/// How many rights a task has that ends, or in how many tasks a port is named that dies.
+const MANY: u32 = 60_000;
+/// Half of them: the cost of one is to be the same.
+const HALF: u32 = 30_000;
+/// How many tasks name a port that dies, or are told of it, where they are few.
+const FEW: u32 = 1_000;
+/// The first task that a workload makes in the small world, where there are three before.
+const FIRST_TASK: u32 = 3;
 /// `HOME` makes its port.
 const SERVICE_MADE: Step = Make(Call::MakeNamed(HOME, RECEIVE, Same(SERVICE)));
 /// `PEER` makes a port under 1.
 const PEER_MADE: Step = Make(Call::MakeNamed(PEER, RECEIVE, Same(1)));
 /// `HOME` gets a send right to it, under 2.
-const PEER_KNOWN: Step = Make(Call::Give(HOME, Same(2), PEER, Same(1)));
+const PEER_KNOWN: Step = Make(Call::Give(Same(HOME), Same(2), PEER, Same(1)));
 /// `HOME` receives at its port.
 const RECEIVED: Step = Add(Call::Receive(HOME, SERVICE));
 /// `HOME`'s port is in the set.
@@ -119,7 +127,7 @@ const TWO_TASKS: Group = Group {
     rounds: 1,
     steps: &[
         SERVICE_MADE,
-        Make(Call::Give(PEER, Same(TO_SERVICE), HOME, Same(SERVICE))),
+        Make(Call::Give(Same(PEER), Same(TO_SERVICE), HOME, Same(SERVICE))),
         PEER_MADE,
     ],
 };
@@ -129,14 +137,58 @@ const PORTS_KNOWN: Group = Group {
     rounds: 63,
     steps: &[
         Make(Call::MakeNamed(PEER, RECEIVE, Rising(2))),
-        Make(Call::Give(HOME, Rising(3), PEER, Rising(2))),
+        Make(Call::Give(Same(HOME), Rising(3), PEER, Rising(2))),
     ],
 };
 
 /// Dead names until `HOME`, which has one name, has no name left.
 const FILLED: Group = Group {
     rounds: FULL - 1,
-    steps: &[Make(Call::Make(HOME, DEAD_NAME))],
+    steps: &[Make(Call::Make(Same(HOME), DEAD_NAME))],
+};
+
+/// `HOME`'s port.
+const SERVICE_ALONE: Group = Group {
+    rounds: 1,
+    steps: &[SERVICE_MADE],
+};
+
+/// A receive right that `OTHER` makes.
+const RECEIVE_RIGHT: &[Step] = &[Make(Call::Make(Same(OTHER), RECEIVE))];
+
+/// A send right of `OTHER`'s, for a port of `PEER`'s.
+const SEND_RIGHT: &[Step] = &[
+    Make(Call::MakeNamed(PEER, RECEIVE, Rising(1))),
+    Make(Call::Give(Same(OTHER), Rising(1), PEER, Rising(1))),
+];
+
+/// A dead name that `OTHER` makes.
+const DEAD: &[Step] = &[Make(Call::Make(Same(OTHER), DEAD_NAME))];
+
+/// A task with a send right for `HOME`'s port.
+const NAMING: &[Step] = &[
+    Make(Call::Task),
+    Make(Call::Give(Rising(FIRST_TASK), Same(2), HOME, Same(SERVICE))),
+];
+
+/// The same with a port of its own, by which it asks to be told of the port's death.
+const NAMING_AND_ASKING: &[Step] = &[
+    Make(Call::Task),
+    Make(Call::Make(Rising(FIRST_TASK), RECEIVE)),
+    Make(Call::Give(Rising(FIRST_TASK), Same(2), HOME, Same(SERVICE))),
+    Make(Call::Ask(Rising(FIRST_TASK))),
+];
+
+/// `OTHER` ends. A kernel takes one such cycle.
+const OTHER_ENDS: Group = Group {
+    rounds: 1,
+    steps: &[Add(Call::End(OTHER))],
+};
+
+/// `HOME`'s port dies. A kernel takes one such cycle.
+const SERVICE_DIES: Group = Group {
+    rounds: 1,
+    steps: &[Add(Call::Destroy(SERVICE))],
 };
 
 /// 24 bytes sent and received, by one task.
@@ -149,7 +201,7 @@ pub const SEND_RECEIVE: Workload = Workload {
     }],
 };
 
-const WORKLOADS: [Workload; 23] = [
+const WORKLOADS: [Workload; 34] = [
     SEND_RECEIVE,
     // A message with one send right, from another task, to one that has the port named.
     Workload {
@@ -293,7 +345,7 @@ const WORKLOADS: [Workload; 23] = [
         operations: MADE,
         groups: &[Group {
             rounds: MADE,
-            steps: &[Add(Call::Make(HOME, RECEIVE))],
+            steps: &[Add(Call::Make(Same(HOME), RECEIVE))],
         }],
     },
     // A dead name made, under the fresh name 1, and deallocated.
@@ -302,7 +354,10 @@ const WORKLOADS: [Workload; 23] = [
         operations: 1,
         groups: &[Group {
             rounds: 1,
-            steps: &[Add(Call::Make(HOME, DEAD_NAME)), Add(Call::GiveUp(Same(1)))],
+            steps: &[
+                Add(Call::Make(Same(HOME), DEAD_NAME)),
+                Add(Call::GiveUp(Same(1))),
+            ],
         }],
     },
     // A port set made, under the fresh name 1, and destroyed.
@@ -311,7 +366,7 @@ const WORKLOADS: [Workload; 23] = [
         operations: 1,
         groups: &[Group {
             rounds: 1,
-            steps: &[Add(Call::Make(HOME, PORT_SET)), Add(Call::Destroy(1))],
+            steps: &[Add(Call::Make(Same(HOME), PORT_SET)), Add(Call::Destroy(1))],
         }],
     },
     // A send right to a port of `PEER`'s, inserted under 1 and deallocated.
@@ -322,7 +377,7 @@ const WORKLOADS: [Workload; 23] = [
             rounds: 1,
             steps: &[
                 PEER_MADE,
-                Add(Call::Give(HOME, Same(1), PEER, Same(1))),
+                Add(Call::Give(Same(HOME), Same(1), PEER, Same(1))),
                 Add(Call::GiveUp(Same(1))),
             ],
         }],
@@ -344,7 +399,7 @@ const WORKLOADS: [Workload; 23] = [
             rounds: 1,
             steps: &[
                 PEER_MADE,
-                Make(Call::Give(HOME, Same(1), PEER, Same(1))),
+                Make(Call::Give(Same(HOME), Same(1), PEER, Same(1))),
                 Add(Call::Change(1, 1)),
                 Add(Call::Change(1, -1)),
             ],
@@ -372,7 +427,7 @@ const WORKLOADS: [Workload; 23] = [
                 rounds: 1,
                 steps: &[
                     Add(Call::GiveUp(Same(MIDDLE))),
-                    Add(Call::Make(HOME, DEAD_NAME)),
+                    Add(Call::Make(Same(HOME), DEAD_NAME)),
                 ],
             },
         ],
@@ -385,7 +440,7 @@ const WORKLOADS: [Workload; 23] = [
             rounds: GIVEN_UP,
             steps: &[
                 Make(Call::MakeNamed(PEER, RECEIVE, Rising(1))),
-                Make(Call::Give(HOME, Rising(1_001), PEER, Rising(1))),
+                Make(Call::Give(Same(HOME), Rising(1_001), PEER, Rising(1))),
                 Add(Call::GiveUp(Rising(1_001))),
             ],
         }],
@@ -433,6 +488,139 @@ const WORKLOADS: [Workload; 23] = [
             rounds: 1,
             steps: &[Add(Call::Names)],
         }],
+    },
+    // A port made, under the fresh name 1, and destroyed.
+    Workload {
+        name: "port-made",
+        operations: 1,
+        groups: &[Group {
+            rounds: 1,
+            steps: &[Add(Call::Make(Same(HOME), RECEIVE)), Add(Call::Destroy(1))],
+        }],
+    },
+    // A task ends that has 60,000 receive rights.
+    Workload {
+        name: "end-receive-60000",
+        operations: MANY,
+        groups: &[
+            Group {
+                rounds: MANY,
+                steps: RECEIVE_RIGHT,
+            },
+            OTHER_ENDS,
+        ],
+    },
+    // A task ends that has 30,000 receive rights.
+    Workload {
+        name: "end-receive-30000",
+        operations: HALF,
+        groups: &[
+            Group {
+                rounds: HALF,
+                steps: RECEIVE_RIGHT,
+            },
+            OTHER_ENDS,
+        ],
+    },
+    // A task ends that has 60,000 send rights, each for a port of another task.
+    Workload {
+        name: "end-send-60000",
+        operations: MANY,
+        groups: &[
+            Group {
+                rounds: MANY,
+                steps: SEND_RIGHT,
+            },
+            OTHER_ENDS,
+        ],
+    },
+    // A task ends that has 30,000 send rights, each for a port of another task.
+    Workload {
+        name: "end-send-30000",
+        operations: HALF,
+        groups: &[
+            Group {
+                rounds: HALF,
+                steps: SEND_RIGHT,
+            },
+            OTHER_ENDS,
+        ],
+    },
+    // A task ends that has 60,000 dead names.
+    Workload {
+        name: "end-dead-60000",
+        operations: MANY,
+        groups: &[
+            Group {
+                rounds: MANY,
+                steps: DEAD,
+            },
+            OTHER_ENDS,
+        ],
+    },
+    // A task ends that has 30,000 dead names.
+    Workload {
+        name: "end-dead-30000",
+        operations: HALF,
+        groups: &[
+            Group {
+                rounds: HALF,
+                steps: DEAD,
+            },
+            OTHER_ENDS,
+        ],
+    },
+    // A port dies that 1,000 tasks have a send right for.
+    Workload {
+        name: "death-named-1000",
+        operations: 1,
+        groups: &[
+            SERVICE_ALONE,
+            Group {
+                rounds: FEW,
+                steps: NAMING,
+            },
+            SERVICE_DIES,
+        ],
+    },
+    // A port dies that 30,000 tasks have a send right for.
+    Workload {
+        name: "death-named-30000",
+        operations: 1,
+        groups: &[
+            SERVICE_ALONE,
+            Group {
+                rounds: HALF,
+                steps: NAMING,
+            },
+            SERVICE_DIES,
+        ],
+    },
+    // A port dies that 60,000 tasks have a send right for.
+    Workload {
+        name: "death-named-60000",
+        operations: 1,
+        groups: &[
+            SERVICE_ALONE,
+            Group {
+                rounds: MANY,
+                steps: NAMING,
+            },
+            SERVICE_DIES,
+        ],
+    },
+    // A port dies that 1,000 tasks have a send right for, each of which has asked to be told.
+    Workload {
+        name: "death-asked-1000",
+        operations: FEW,
+        groups: &[
+            SERVICE_ALONE,
+            Group {
+                rounds: FEW,
+                steps: NAMING_AND_ASKING,
+            },
+            SERVICE_DIES,
+        ],
     },
 ];
 

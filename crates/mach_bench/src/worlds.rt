@@ -54,7 +54,7 @@ const PORTS_MADE: Group = Group {
 /// 60,000 ports of another task.
 const PORTS_OF_OTHER: Group = Group {
     rounds: MANY,
-    steps: &[Make(Call::Make(OTHER, RECEIVE))],
+    steps: &[Make(Call::Make(Same(OTHER), RECEIVE))],
 };
 
 /// Nothing.

@@ -1,20 +1,35 @@
--- A step queues one message where it accepts a send, takes one where it gives a message, and leaves the queues else.
-use Rattle.std.proofs.Common.{◌≡◌, ℕ, zero, suc, ◌+◌, ◌≤◌, ◌<◌, [], ◌∷◌, refl, sym, ap, subst, ◌∙◌, arith, inl, inr, length, length-append}
-use Rattle.std.specs.Prelude.{◌≢◌}
+-- How many messages are queued: a step's own part queues one where it accepts a send, and takes one where it gives or destroys one; its end
+-- queues the notices that are told, and destroys what lies at ports that die.
+use Rattle.std.proofs.Common.{◌≡◌, ℕ, zero, suc, ◌+◌, ◌≤◌, ◌<◌, List, [], ◌∷◌, ◌++◌, refl, sym, ap, subst, ◌∙◌, arith, true, false, Bool, inl, inr, length, length-append}
+use Rattle.std.specs.Prelude.{◌≢◌, if◌then◌else◌, ◌==◌, All}
 use Rattle.std.proofs.lemmas.Bool.Decides.{eqb_tells, leb_tells}
+use Rattle.std.proofs.lemmas.Bool.{eq-eqb, ne_eqb}
 use Rattle.std.proofs.lemmas.List.{length-drop}
+use Rattle.std.proofs.lemmas.List.Elements.{All-head, All-tail}
 use Rattle.mach_types.specs.declared.calls.Event.{Event}
 use Rattle.mach_types.specs.declared.calls.Reply.{Reply}
+use Rattle.mach_types.specs.Guards.{NoneHolds}
 use Rattle.mach_model.specs.State.{State, queue}
+use Rattle.mach_model.specs.Notices.{Owed, Posted}
+use Rattle.mach_model.specs.Settles.{Settles}
 use Rattle.mach_model.specs.Send.{entry}
-use Rattle.mach_model.specs.Machine.{Step}
-use Rattle.mach_model.proofs.StepQuiet.{IsCalm, Step-calm}
-use Rattle.mach_laws.specs.Queued.{sum_below, queued, accepts, delivers}
-use Rattle.mach_laws.proofs.Steps.{Passes, Step-passes, Step-accepts, Step-delivers}
+use Rattle.mach_model.specs.Refusals.{guards}
+use Rattle.mach_model.specs.Machine.{Does, Done}
+use Rattle.mach_model.specs.Lawful.{tally, LawfulLogs, IsLawful}
+use Rattle.mach_model.specs.Midway.{MidLawful}
+use Rattle.mach_model.proofs.At.{at_own, at_other}
+use Rattle.mach_model.proofs.SettledParts.{IsDue, due_all, live_mid}
+use Rattle.mach_model.proofs.SettledReceives.{owed_brings}
+use Rattle.mach_model.proofs.SettledLogs.{log_length}
+use Rattle.mach_model.proofs.StepLawful.{Does-mid}
+use Rattle.mach_laws.specs.Queued.{sum_below, waiting, queued}
+use Rattle.mach_laws.specs.Counts.{accepts, takes_from, destroyed}
+use Rattle.mach_laws.proofs.Untouched.{Untouched}
+use Rattle.mach_laws.proofs.Steps.{IsAccepted, IsTaken, Effect, Does-effect}
 
 -- ---- sums
 
-sum_same : (f g : ℕ → ℕ) (n : ℕ) → ((p : ℕ) → p < n → g p ≡ f p) → sum_below g n ≡ sum_below f n
+pub sum_same : (f g : ℕ → ℕ) (n : ℕ) → ((p : ℕ) → p < n → g p ≡ f p) → sum_below g n ≡ sum_below f n
 sum_same f g zero same = refl
 sum_same f g (suc n) same =
     let less = sum_same f g n (λ p within. same p (omega (arith, within))) in
@@ -22,7 +37,7 @@ sum_same f g (suc n) same =
     omega (arith, less, last)
 
 -- one value is one greater
-sum_one : (f g : ℕ → ℕ) (p n : ℕ) → p < n → g p ≡ f p + 1 → ((q : ℕ) → q ≢ p → g q ≡ f q) → sum_below g n ≡ sum_below f n + 1
+pub sum_one : (f g : ℕ → ℕ) (p n : ℕ) → p < n → g p ≡ f p + 1 → ((q : ℕ) → q ≢ p → g q ≡ f q) → sum_below g n ≡ sum_below f n + 1
 sum_one f g p zero within one same = absurd (omega (arith, within))
 sum_one f g p (suc n) within one same = elim (eqb_tells n p) [
   | inl h ↦
@@ -36,7 +51,7 @@ sum_one f g p (suc n) within one same = elim (eqb_tells n p) [
 ]
 
 -- values of 0 add nothing
-sum_more : (f : ℕ → ℕ) (m k : ℕ) → ((p : ℕ) → m ≤ p → f p ≡ 0) → sum_below f (m + k) ≡ sum_below f m
+pub sum_more : (f : ℕ → ℕ) (m k : ℕ) → ((p : ℕ) → m ≤ p → f p ≡ 0) → sum_below f (m + k) ≡ sum_below f m
 sum_more f m zero none = ap (sum_below f) (omega arith)
 sum_more f m (suc k) none =
     let e : m + suc k ≡ suc (m + k) = omega arith in
@@ -44,114 +59,192 @@ sum_more f m (suc k) none =
     let last = none (m + k) (omega arith) in
     ap (sum_below f) e ∙ omega (arith, less, last)
 
+-- two sums of the same
+pub sum_both : (f g h i : ℕ → ℕ) (n : ℕ) → ((p : ℕ) → p < n → f p + g p ≡ h p + i p) → sum_below f n + sum_below g n ≡ sum_below h n + sum_below i n
+sum_both f g h i zero same = refl
+sum_both f g h i (suc n) same =
+    let less = sum_both f g h i n (λ p within. same p (omega (arith, within))) in
+    let last = same n (omega arith) in
+    omega (arith, less, last)
+
 -- ---- queues
 
--- how many messages lie at a port
-abbrev waiting : State → ℕ → ℕ
-waiting s p = length (queue s p)
+if_zero : (b : Bool) (n : ℕ) → n ≡ 0 → (if b then n else 0) ≡ 0
+if_zero true n e = e
+if_zero false n e = refl
 
-module _ (s : State) (l : IsCalm s) where
-  queue_long : (p : ℕ) → waiting s p + s.taken p ≡ length (s.log p)
+waiting_live : (s : State) (p : ℕ) → s.live_port p ≡ true → waiting s p ≡ length (queue s p)
+waiting_live s p live = rw live refl
+
+module _ (s : State) (l : LawfulLogs s.ports_made s.log s.taken) where
+  pub queue_long : (p : ℕ) → length (queue s p) + s.taken p ≡ length (s.log p)
   queue_long p =
       let w = l.within p in
       let d = length-drop (s.taken p) (s.log p) in
       omega (arith, w, d)
 
   -- nothing lies at ports that were not made
-  unmade_queue : (p : ℕ) → s.ports_made ≤ p → waiting s p ≡ 0
-  unmade_queue p unmade =
+  pub unmade_waiting : (p : ℕ) → s.ports_made ≤ p → waiting s p ≡ 0
+  unmade_waiting p unmade =
       let z : length (s.log p) ≡ 0 = ap length (l.unmade_log p unmade) in
       let q = queue_long p in
-      omega (arith, z, q)
-
-  has_place : (p : ℕ) → 0 < length (s.log p) → p < s.ports_made
-  has_place p some = elim (leb_tells s.ports_made p) [
-    | inl h ↦
-        let z : length (s.log p) ≡ 0 = ap length (l.unmade_log p h.1) in
-        absurd (omega (arith, z, some))
-    | inr h ↦ omega (arith, h.1)
-  ]
+      if_zero (s.live_port p) (length (queue s p)) (omega (arith, z, q))
 
   queued_more : (k : ℕ) → sum_below (waiting s) (s.ports_made + k) ≡ queued s
-  queued_more k = sum_more (waiting s) s.ports_made k unmade_queue
+  queued_more k = sum_more (waiting s) s.ports_made k unmade_waiting
 
--- ---- a step
+-- ---- a step's own part
 
--- what it counts where it accepts none, or gives none
-none_accepted : (now : ℕ) (old : State) (event : Event) (reply : Reply) (new : State) → IsCalm old → Step now old event reply new → ((p : ℕ) → new.log p ≡ old.log p) → accepts event reply ≡ 0
-none_accepted now old (Event.Send task bytes) (Reply.Code code) new l step log = elim (eqb_tells code 0) [
-  | inl h ↦
-      let a = Step-accepts now old task bytes new l (subst (λ (n : ℕ). Step now old (Event.Send task bytes) (Reply.Code n) new) h.1 step) in
-      let m = ap length (sym (log a.m.destination) ∙ a.appended) in
-      let n = length-append (old.log a.m.destination) (entry now a.m ∷ []) in
-      let o = ap length (log a.m.destination) in
-      absurd (omega (arith, m, n, o))
-  | inr h ↦ rw h.0 refl
-]
-none_accepted now old event reply new l step log = refl
-
-none_delivered : (now : ℕ) (old : State) (event : Event) (reply : Reply) (new : State) → IsCalm old → Step now old event reply new → ((p : ℕ) → new.taken p ≡ old.taken p) → delivers event reply ≡ 0
-none_delivered now old event (Reply.Message bytes) new l step taken =
-    let d = Step-delivers now old event bytes new l step in
-    let same = taken d.port in
-    let more = d.taken in
-    absurd (omega (arith, same, more))
-none_delivered now old event reply new l step taken = refl
-
-module _ (now : ℕ) (old : State) (event : Event) (reply : Reply) (new : State) (l : IsCalm old) (step : Step now old event reply new) where
-  after : IsCalm new
-  after = Step-calm now old event reply new step l
-
+module _ (now : ℕ) (old : State) (event : Event) (reply : Reply) (mid : State) (owed : Owed) (l : IsLawful old) (m : MidLawful mid owed) where
   -- both sums go to one bound
   abbrev bound : ℕ
-  bound = old.ports_made + new.ports_made
+  bound = old.ports_made + mid.ports_made
 
   queued_old : sum_below (waiting old) bound ≡ queued old
-  queued_old = queued_more old l new.ports_made
+  queued_old = queued_more old l.logs mid.ports_made
 
-  queued_new : sum_below (waiting new) bound ≡ queued new
-  queued_new = ap (sum_below (waiting new)) (omega arith) ∙ queued_more new after old.ports_made
+  queued_mid : sum_below (waiting mid) bound ≡ queued mid
+  queued_mid = ap (sum_below (waiting mid)) (omega arith) ∙ queued_more mid m.logs old.ports_made
 
-  same_waiting : (p : ℕ) → new.log p ≡ old.log p → new.taken p ≡ old.taken p → waiting new p ≡ waiting old p
-  same_waiting p log taken =
-      let a = queue_long old l p in
-      let b = queue_long new after p in
+  same_queue : (p : ℕ) → mid.log p ≡ old.log p → mid.taken p ≡ old.taken p → mid.live_port p ≡ old.live_port p → waiting mid p ≡ waiting old p
+  same_queue p log taken live =
+      let a = queue_long old l.logs p in
+      let b = queue_long mid m.logs p in
       let c = ap length log in
-      omega (arith, a, b, c, taken)
+      let same : length (queue mid p) ≡ length (queue old p) = omega (arith, a, b, c, taken) in
+      ap (λ (n : ℕ). if mid.live_port p then n else 0) same ∙ ap (λ (b : Bool). if b then length (queue old p) else 0) live
 
-  counted : Passes now old event reply new → queued new + delivers event reply ≡ queued old + accepts event reply
-  counted (inl u) =
-      let same = sum_same (waiting old) (waiting new) bound (λ p within. same_waiting p (u.log p) (u.taken p)) in
-      let a = none_accepted now old event reply new l step u.log in
-      let d = none_delivered now old event reply new l step u.taken in
-      omega (arith, same, a, d, queued_old, queued_new)
-  counted (inr (inl x)) =
-      let d = x.accepts.m.destination in
-      let longer : length (new.log d) ≡ length (old.log d) + 1 = ap length x.accepts.appended ∙ length-append (old.log d) (entry now x.accepts.m ∷ []) in
-      let place = has_place new after d (omega (arith, longer)) in
-      let a = queue_long old l d in
-      let b = queue_long new after d in
+  left : Untouched old mid → queued mid ≡ queued old
+  left u =
+      let same = sum_same (waiting old) (waiting mid) bound (λ p within. at_port p) in
+      omega (arith, same, queued_old, queued_mid)
+    where
+      -- a port that was not made has no messages, whether it was made meanwhile or not
+      unmade : (p : ℕ) → old.ports_made ≤ p → waiting mid p ≡ waiting old p
+      unmade p above =
+          let z : length (mid.log p) ≡ 0 = ap length (u.log p ∙ l.unmade_log p above) in
+          let q = queue_long mid m.logs p in
+          if_zero (mid.live_port p) (length (queue mid p)) (omega (arith, z, q)) ∙ sym (unmade_waiting old l.logs p above)
+
+      at_port : (p : ℕ) → waiting mid p ≡ waiting old p
+      at_port p = elim (leb_tells old.ports_made p) [
+        | inl h ↦ unmade p h.1
+        | inr h ↦ same_queue p (u.log p) (u.taken p) (u.live p (omega (arith, h.1)))
+      ]
+
+  accepted : IsAccepted old event reply mid → queued mid ≡ queued old + 1
+  accepted x =
+      let d = x.m.destination in
+      let longer : length (mid.log d) ≡ length (old.log d) + 1 =
+      ap length (x.log d ∙ at_own old.log d (old.log d ++ entry x.origin x.m ∷ [])) ∙ length-append (old.log d) (entry x.origin x.m ∷ []) in
+      let place = l.made_port d x.lives in
+      let a = queue_long old l.logs d in
+      let b = queue_long mid m.logs d in
       let c = x.taken d in
-      let one : waiting new d ≡ waiting old d + 1 = omega (arith, longer, a, b, c) in
-      let more = sum_one (waiting old) (waiting new) d bound (omega (arith, place)) one (λ q not. same_waiting q (x.accepts.others q not) (x.taken q)) in
-      let sent = ap (λ (e : Event). accepts e reply) x.is_event ∙ ap (accepts (Event.Send x.task x.bytes)) x.is_reply in
-      let gone = none_delivered now old event reply new l step x.taken in
-      omega (arith, more, sent, gone, queued_old, queued_new)
-  counted (inr (inr x)) =
-      let d = x.delivers.port in
-      let a = queue_long old l d in
-      let b = queue_long new after d in
-      let c = x.delivers.taken in
-      let e = ap length (x.log d) in
-      let w = after.within d in
-      let place = has_place old l d (omega (arith, a, b, c, e, w)) in
-      let one : waiting old d ≡ waiting new d + 1 = omega (arith, a, b, c, e) in
-      let less = sum_one (waiting new) (waiting old) d bound (omega (arith, place)) one (λ q not. sym (same_waiting q (x.log q) (x.delivers.others q not))) in
-      let given = ap (delivers event) x.is_reply in
-      let none = none_accepted now old event reply new l step x.log in
-      omega (arith, less, given, none, queued_old, queued_new)
+      let e = waiting_live old d x.lives in
+      let f = waiting_live mid d (ap (λ (live : ℕ → Bool). live d) x.live ∙ x.lives) in
+      let one : waiting mid d ≡ waiting old d + 1 = omega (arith, longer, a, b, c, e, f) in
+      let more = sum_one (waiting old) (waiting mid) d bound (omega (arith, place)) one
+      (λ q not. same_queue q (x.log q ∙ at_other old.log d (old.log d ++ entry x.origin x.m ∷ []) q not) (x.taken q) (ap (λ (live : ℕ → Bool). live q) x.live)) in
+      omega (arith, more, queued_old, queued_mid)
 
--- What a step does to the number of queued messages.
-pub Step-counted : (now : ℕ) (old : State) (event : Event) (reply : Reply) (new : State) → IsCalm old → Step now old event reply new →
-    queued new + delivers event reply ≡ queued old + accepts event reply
-Step-counted now old event reply new l step = counted now old event reply new l step (Step-passes now old event reply new l step)
+  taken : IsTaken old event reply mid → queued mid + 1 ≡ queued old
+  taken x =
+      let d = x.takes.port in
+      let place = l.made_port d x.lives in
+      let a = queue_long old l.logs d in
+      let b = queue_long mid m.logs d in
+      let c = x.takes.taken in
+      let log = ap length (x.log d) in
+      let w = m.within d in
+      let e = waiting_live old d x.lives in
+      let f = waiting_live mid d (ap (λ (live : ℕ → Bool). live d) x.live ∙ x.lives) in
+      let one : waiting old d ≡ waiting mid d + 1 = omega (arith, a, b, c, log, w, e, f) in
+      let less = sum_one (waiting mid) (waiting old) d bound (omega (arith, place)) one
+      (λ q not. sym (same_queue q (x.log q) (x.takes.others q not) (ap (λ (live : ℕ → Bool). live q) x.live))) in
+      omega (arith, less, queued_old, queued_mid)
+
+  counted : Effect old event reply mid → queued mid + takes_from event reply ≡ queued old + accepts event reply
+  counted (inl u) = let a = left u.0 in let b = u.1 in let c = u.2 in omega (arith, a, b, c)
+  counted (inr (inl x)) =
+      let a = accepted x in
+      let b = ap (λ (e : Event). accepts e reply) x.is_event ∙ ap (accepts (Event.Send x.task x.bytes)) x.is_reply in
+      let c = ap (λ (e : Event). takes_from e reply) x.is_event in
+      omega (arith, a, b, c)
+  counted (inr (inr x)) = let a = taken x in let b = x.one in let c = x.none in omega (arith, a, b, c)
+
+-- What a step's own part does to the number of queued messages.
+pub Does-counted : (now : ℕ) (old : State) (event : Event) (reply : Reply) (mid : State) (owed : Owed) → IsLawful old → NoneHolds (guards old event) → Does now old event reply mid owed →
+    queued mid + takes_from event reply ≡ queued old + accepts event reply
+Does-counted now old event reply mid owed l good does =
+    counted now old event reply mid owed l (Does-mid now old event reply mid owed good does l) (Does-effect now old event reply mid owed l good does)
+
+-- ---- a step's end
+
+abbrev at_port : ℕ → List Posted → ℕ
+at_port p xs = tally (λ (x : Posted). p == x.port) xs
+
+-- each notice stands at one port
+sum_posted : (n : ℕ) (xs : List Posted) → All (λ (x : Posted). x.port < n) xs → sum_below (λ p. at_port p xs) n ≡ length xs
+sum_posted n [] all = none n
+  where
+    none : (n : ℕ) → sum_below (λ p. at_port p []) n ≡ 0
+    none zero = refl
+    none (suc n) = let h = none n in omega (arith, h)
+sum_posted n (x ∷ xs) all =
+    let rest = sum_posted n xs (All-tail (λ (x : Posted). x.port < n) x xs all) in
+    let more = sum_one (λ p. at_port p xs) (λ p. at_port p (x ∷ xs)) x.port n (All-head (λ (x : Posted). x.port < n) x xs all) (rw (eq-eqb x.port x.port refl) (omega arith))
+    (λ q not. rw (ne_eqb q x.port not) (omega arith)) in
+    omega (arith, rest, more)
+
+none_dead : (live : ℕ → Bool) (p : ℕ) (xs : List Posted) → live p ≡ false → All (λ (x : Posted). IsDue live x.port x.notice) xs → at_port p xs ≡ 0
+none_dead live p [] dead all = refl
+none_dead live p (x ∷ xs) dead all =
+    let rest = none_dead live p xs dead (All-tail (λ (x : Posted). IsDue live x.port x.notice) x xs all) in
+    let due = (All-head (λ (x : Posted). IsDue live x.port x.notice) x xs all).lives in
+    rw (ne_eqb p x.port (λ e. let f = ap live e in cc)) (omega (arith, rest))
+
+module _ (now : ℕ) (old mid : State) (owed : Owed) (new : State) (l : MidLawful mid owed) (s : Settles now old mid owed new) where
+  dues : All (λ (x : Posted). IsDue new.live_port x.port x.notice) s.notices.posted
+  dues = due_all now old mid owed new s (owed_brings mid owed l.are_owed)
+
+  same_made : new.ports_made ≡ mid.ports_made
+  same_made = ap (λ (x : State). x.ports_made) s.rest
+
+  longer : (p : ℕ) → length (queue new p) ≡ length (queue mid p) + at_port p s.notices.posted
+  longer p =
+      let a = log_length now old mid owed new l s p in
+      let b = length-drop (new.taken p) (new.log p) in
+      let c = length-drop (mid.taken p) (mid.log p) in
+      let d : new.taken p ≡ mid.taken p = ap (λ (x : State). x.taken p) s.rest in
+      let w = l.within p in
+      omega (arith, a, b, c, d, w)
+
+  at_one : (p : ℕ) (b : Bool) → new.live_port p ≡ b → waiting new p + (if new.live_port p then 0 else waiting mid p) ≡ waiting mid p + at_port p s.notices.posted
+  at_one p true live =
+      let a = waiting_live new p live in
+      let b = waiting_live mid p (live_mid now old mid owed new s p live) in
+      let c = longer p in
+      let d : (if new.live_port p then 0 else waiting mid p) ≡ 0 = rw live refl in
+      omega (arith, a, b, c, d)
+  at_one p false dead =
+      let a : waiting new p ≡ 0 = rw dead refl in
+      let b = none_dead new.live_port p s.notices.posted dead dues in
+      let d : (if new.live_port p then 0 else waiting mid p) ≡ waiting mid p = rw dead refl in
+      omega (arith, a, b, d)
+
+  -- What a step's end does to it.
+  pub Settles-counted : queued new + destroyed mid new ≡ queued mid + length s.notices.posted
+  Settles-counted =
+      let sums = sum_both (waiting new) (λ p. if new.live_port p then 0 else waiting mid p) (waiting mid) (λ p. at_port p s.notices.posted) mid.ports_made (λ p within. at_one p (new.live_port p) refl) in
+      let told = sum_posted mid.ports_made s.notices.posted (λ k d below. l.made_port _ (live_mid now old mid owed new s _ (dues k d below).lives)) in
+      let here : queued new ≡ sum_below (waiting new) mid.ports_made = ap (sum_below (waiting new)) same_made in
+      omega (arith, sums, told, here)
+
+-- What a step that isn't refused does to it.
+pub Done-counted : (now : ℕ) (old : State) (event : Event) (reply : Reply) (new : State) → IsLawful old → (d : Done now old event reply new) →
+    queued new + takes_from event reply + destroyed d.mid new ≡ queued old + accepts event reply + length d.settles.notices.posted
+Done-counted now old event reply new l d =
+    let a = Does-counted now old event reply d.mid d.owed l d.unrefused d.does in
+    let b = Settles-counted now old d.mid d.owed new (Does-mid now old event reply d.mid d.owed d.unrefused d.does l) d.settles in
+    omega (arith, a, b)

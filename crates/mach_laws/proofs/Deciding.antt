@@ -40,6 +40,7 @@ use Rattle.mach_laws.proofs.Giving.{SameNames, HasOneName, one_fresh, named_for,
 use Rattle.mach_laws.proofs.Spelled.{one_header, one_refusal}
 use Rattle.mach_laws.proofs.Measured.{text_long, received_long}
 use Rattle.mach_laws.proofs.Rising.{one_rising}
+use Rattle.mach_laws.proofs.Requested.{request_alike, previous_alike}
 use Rattle.mach_laws.proofs.Excluding.{text_taken, one_entry, no_front, names_taken, by_set, memory_only, refused_not_done}
 
 -- ---- two refusals
@@ -60,7 +61,8 @@ later_alike s (Event.InsertRight task name from poly number) code other good not
     hand_alike from (in_task task) number poly s (λ p kind copied. inserted_guards copied task name p kind) (λ x y r p kind. inserted_same x y r task name p kind) code other a b (λ e. not (inl e)) (λ e. nor (inl e))
 later_alike s (Event.ExtractRight task name number to) code other good not nor a b =
     hand_alike task (in_task to) number name s (λ p kind copied. extracted_guards copied to p kind) (λ x y r p kind. extracted_same x y r to p kind) code other a b (λ e. not (inl e)) (λ e. nor (inl e))
-later_alike s (Event.RequestNotification task name variant sync notify number) code other good not nor a b = absurd (good.1.0 tt)
+later_alike s (Event.RequestNotification task name variant sync notify number) code other good not nor a b =
+    request_alike s task name variant sync notify number good.1 code other (λ e. not (inl e)) (λ e. nor (inl e)) a b
 later_alike s (Event.Send task bytes) code other good not nor a b = send_alike s task bytes code other good.1 not nor a b
 later_alike s (Event.Receive task name room large) code other good not nor a b = receipt_alike s task a.0 room code not a.2 ∙ sym (receipt_alike s task b.0 room other nor b.2)
 later_alike s (Event.ReceiveAgain task waited room large) code other good not nor a b = receipt_alike s task waited room code not a ∙ sym (receipt_alike s task waited room other nor b)
@@ -246,7 +248,9 @@ done_alike now s (Event.InsertRight task name from poly number) (Reply.Code c) b
 done_alike now s (Event.ExtractRight task name number to) (Reply.Right n k) (Reply.Right m j) mid other owed owes l one g d e =
     let w = extracts_alike s task name number to n m k j mid other l d.0 e.0 in ap (λ (x : ℕ). Reply.Right x k) w.0 ∙ ap (Reply.Right m) w.1
 done_alike now s (Event.ExtractRight task name number to) (Reply.Right n k) b mid other owed owes l one g d e = absurd e
-done_alike now s (Event.RequestNotification task name variant sync notify number) a b mid other owed owes l one g d e = absurd (g.1.0 tt)
+done_alike now s (Event.RequestNotification task name variant sync notify number) (Reply.Previous n) (Reply.Previous m) mid other owed owes l one g d e =
+    ap Reply.Previous (previous_alike s task name variant sync notify number g.1 n m mid other owed owes d e)
+done_alike now s (Event.RequestNotification task name variant sync notify number) (Reply.Previous n) b mid other owed owes l one g d e = absurd e
 done_alike now s (Event.Send task bytes) (Reply.Code c) (Reply.Code k) mid other owed owes l one g d e = code_alike c k d.0 e.0
 done_alike now s (Event.Send task bytes) (Reply.Code c) b mid other owed owes l one g d e = absurd e
 done_alike now s (Event.Receive task name room large) a b mid other owed owes l one g (Waited.Port p, waits, d) (waited, is, e) =

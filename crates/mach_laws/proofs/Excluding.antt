@@ -29,6 +29,7 @@ use Rattle.mach_laws.specs.Judging.{IsMemoryCode, IsBySet}
 use Rattle.mach_laws.proofs.Answered.{one_waited}
 use Rattle.mach_laws.proofs.Refusing.{itself, none_is_first, inserted_same, extracted_same, rights_taken, hand_taken}
 use Rattle.mach_laws.proofs.Giving.{SameNames, rights_lack}
+use Rattle.mach_laws.proofs.Requested.{request_taken}
 use Rattle.mach_laws.proofs.Spelled.{one_message}
 
 -- ---- sends
@@ -117,7 +118,9 @@ later_taken now s (Event.ExtractRight task name number to) code (Reply.Right new
     hand_taken task (in_task to) number name s (λ p kind copied. extracted_guards copied to p kind) (λ x y r p kind. extracted_same x y r to p kind)
     d.0.p d.0.copied code d.0.copy d.0.unrefused h (λ e. not (inl e))
 later_taken now s (Event.ExtractRight task name number to) code reply mid owed l not other good h d = d
-later_taken now s (Event.RequestNotification task name variant sync notify number) code reply mid owed l not other good h d = good.1.0 tt
+later_taken now s (Event.RequestNotification task name variant sync notify number) code (Reply.Previous previous) mid owed l not other good h d =
+    request_taken s task name variant sync notify number good.1 code previous mid owed (λ e. not (inl e)) h d
+later_taken now s (Event.RequestNotification task name variant sync notify number) code reply mid owed l not other good h d = d
 later_taken now s (Event.Send task bytes) code (Reply.Code zero) mid owed l not other good h d = send_taken now s task bytes code mid good.1 not h d.1
 later_taken now s (Event.Send task bytes) code reply mid owed l not other good h d = d
 later_taken now s (Event.Receive task name room large) code reply mid owed l not other good h d =

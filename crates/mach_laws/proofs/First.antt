@@ -42,13 +42,13 @@ greeting = plain_message send 0 7 []
 abbrev pub sent_header : Header
 sent_header = record { remote_kind = 20; local_kind = 0; size = 24; remote = 1; local = 0; sequence = 0; id = 7 }
 
-abbrev s3_copied : State
+abbrev pub s3_copied : State
 s3_copied = with_made MakeSend 0 0 1 (in_message 0 0) s2
 
-abbrev s3 : State
+abbrev pub s3 : State
 s3 = with_entry 2 greeting s3_copied
 
-third : Plays 2 s2 (Event.Send 0 sent_text) (Reply.Code 0) s3
+pub third : Plays 2 s2 (Event.Send 0 sent_text) (Reply.Code 0) s3
 third =
     sent second.1 refl sent_header (WireBody.raw []) greeting s3_copied (good_text sent_text (omega arith) refl (omega arith) (grind arith))
     (spelled refl (omega arith) (omega arith) refl) (copies_plain refl refl (makes 0 MakeSend refl port_named (omega arith) refl refl) refl) (λ p. omega arith) (omega arith) (omega arith)

@@ -24,7 +24,7 @@ b2 = with_task s1
 abbrev pub b3 : State
 b3 = with_receive 0 1 b2
 
-abbrev b4 : State
+abbrev pub b4 : State
 b4 = with_receive 1 1 b3
 
 pub second : Plays 1 s1 Event.TaskCreate (Reply.Task 1) b2
@@ -33,7 +33,7 @@ second = task_made first.1 (omega arith)
 pub third : Plays 2 b2 (Event.Allocate 0 1) (Reply.Name 1) b3
 third = port_allocated second.1 refl fresh_one (grind (gets, rules)) (omega arith)
 
-fourth : Plays 3 b3 (Event.Allocate 1 1) (Reply.Name 1) b4
+pub fourth : Plays 3 b3 (Event.Allocate 1 1) (Reply.Name 1) b4
 fourth = port_allocated third.1 refl fresh_one (grind (gets, rules)) (omega arith)
 
 -- ---- each inserts a send right into the other

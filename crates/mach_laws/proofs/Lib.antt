@@ -3,7 +3,14 @@ mod Meanings
 mod Receiving
 mod Apart
 mod Untouched
+mod Ended
+mod OneMeaning
 mod Steps
+pub mod Counted
+pub mod Needed
+pub mod Slots
+pub mod Onces
+mod Senders
 mod Looking
 mod Walking
 mod Told
@@ -11,6 +18,17 @@ mod Ordered
 pub mod Promised
 mod Playing
 mod First
+mod Telling
+mod ToldAtOnce
+mod Destroyed
+mod Across
+mod Standing
+mod Dying
+mod ToldOfDeath
+mod Unanswered
+mod Senderless
+mod Deleted
+mod SentAway
 mod Answered
 mod Answering
 mod Gathering
@@ -22,9 +40,9 @@ mod Reordered
 pub mod Refusing
 mod Giving
 pub mod Spelled
+mod Requested
 mod Excluding
 mod Measured
 mod Rising
 mod Deciding
-pub mod Counted
 pub mod Followed

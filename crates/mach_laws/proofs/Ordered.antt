@@ -1,26 +1,37 @@
--- A port's messages are received in the order in which they were accepted, each once.
-use Rattle.std.proofs.Common.{◌≡◌, ℕ, zero, suc, ◌+◌, ◌-◌, ◌≤◌, List, [], ◌∷◌, ◌++◌, Some, refl, sym, ap, subst, ◌∙◌, arith, inl, inr, length, take, drop, append_assoc}
-use Rattle.std.specs.Prelude.{slice_get}
+-- A port's messages are taken in the order in which they came, each once.
+use Rattle.std.proofs.Common.{◌≡◌, ℕ, zero, suc, ◌+◌, ◌≤◌, List, [], ◌∷◌, ◌++◌, Some, refl, sym, ap, subst, ◌∙◌, arith, true, false, Bool, ◌⊎◌, inl, inr, length, take, append_assoc}
+use Rattle.std.specs.Prelude.{slice_get, option_to_list, drop}
 use Rattle.std.proofs.lemmas.Bool.Decides.{eqb_tells}
-use Rattle.std.proofs.lemmas.List.{append-nil, take-append-le, take-append-drop, drop_all, drop_at}
+use Rattle.std.proofs.lemmas.Bool.{eq-eqb, ne_eqb}
+use Rattle.std.proofs.lemmas.List.{append-nil, take-append-le, take-append-drop}
+use Rattle.std.proofs.lemmas.Option.{slice_get_within}
 use Rattle.mach_types.specs.declared.calls.Event.{Event}
-use Rattle.mach_types.specs.Messages.{Entry}
+use Rattle.mach_types.specs.declared.calls.Reply.{Reply}
+use Rattle.mach_types.specs.Messages.{Message, Entry}
 use Rattle.mach_model.specs.State.{State, opening, queue}
+use Rattle.mach_model.specs.SentMeans.{SentMeans}
 use Rattle.mach_model.specs.Send.{entry}
 use Rattle.mach_model.specs.Machine.{Step}
-use Rattle.mach_model.proofs.At.{slice_get_drop}
-use Rattle.mach_model.proofs.StepQuiet.{IsCalm, Step-calm, opening-calm}
+use Rattle.mach_model.specs.Lawful.{IsLawful}
+use Rattle.mach_model.proofs.Opening.{opening-lawful}
+use Rattle.mach_model.proofs.StepLawful.{Step-lawful}
 use Rattle.mach_laws.specs.Paths.{Stage, PathFrom, Path}
-use Rattle.mach_laws.specs.Order.{accepts, delivers, accepted_by, received_by, accepted, received, InOrder}
-use Rattle.mach_laws.proofs.Steps.{Passes, Step-passes}
+use Rattle.mach_laws.specs.Notices.{Tells}
+use Rattle.mach_laws.specs.Order.{new_entries, IsSentBy, Comes, came, front_entry, unless_large, if_taken, went, InOrder}
+use Rattle.mach_laws.proofs.Walking.{stage_lawful}
+use Rattle.mach_laws.proofs.OneMeaning.{one_destination, same_send}
+use Rattle.mach_laws.proofs.Steps.{AcceptsBy, IsNoSend, stage_tells, TakesBy, Step-logs, Step-taken}
 
-take_none : (n : ℕ) → ◌≡◌ {A = List Entry} (take n []) []
-take_none zero = refl
-take_none (suc n) = refl
+either_way : (b : Bool) → unless_large b [] ≡ []
+either_way true = refl
+either_way false = refl
 
-take_first : {A : Type 0} (xs : List A) (y : A) → slice_get xs 0 ≡ Some y → take 1 xs ≡ y ∷ []
-take_first [] y is = absurd (cc)
-take_first (x ∷ xs) y is = let same : x ≡ y = cc in ap (λ z. z ∷ []) same
+none_taken : (event : Event) (reply : Reply) → if_taken event reply [] ≡ []
+none_taken (Event.Receive task name room large) (Reply.Message bytes) = refl
+none_taken (Event.Receive task name room large) (Reply.TooLarge n) = either_way large
+none_taken (Event.ReceiveAgain task waited room large) (Reply.Message bytes) = refl
+none_taken (Event.ReceiveAgain task waited room large) (Reply.TooLarge n) = either_way large
+none_taken event reply = refl
 
 take_one : {A : Type 0} (n : ℕ) (xs : List A) (y : A) → slice_get xs n ≡ Some y → take (n + 1) xs ≡ take n xs ++ y ∷ []
 take_one n [] y is = absurd (cc)
@@ -29,109 +40,124 @@ take_one (suc n) (x ∷ xs) y is =
     let e : suc n + 1 ≡ suc (n + 1) = omega arith in
     ap (λ m. take m (x ∷ xs)) e ∙ ap (λ ys. x ∷ ys) (take_one n xs y is)
 
--- ---- what one stage accepts
+-- ---- what one stage brings
 
-same_accepted : (x : Stage) (p : ℕ) → x.after.log p ≡ x.before.log p → x.after.log p ≡ x.before.log p ++ accepted_by p x
-same_accepted x p same =
-    let none : drop (length (x.before.log p)) (x.after.log p) ≡ [] = drop_all (length (x.before.log p)) (x.after.log p) (let e = ap length same in omega (arith, e)) in
-    same ∙ sym (append-nil (x.before.log p)) ∙ ap (λ (xs : List Entry). x.before.log p ++ xs) (sym (ap (take (accepts x.event x.reply)) none ∙ take_none (accepts x.event x.reply)))
+drop_front : {A : Type 0} (xs ys : List A) → drop (length xs) (xs ++ ys) ≡ ys
+drop_front [] ys = refl
+drop_front (x ∷ xs) ys = drop_front xs ys
 
-stage_accepts : (now : ℕ) (x : Stage) (p : ℕ) → IsCalm x.before → Step now x.before x.event x.reply x.after → x.after.log p ≡ x.before.log p ++ accepted_by p x
-stage_accepts now x p l step = go (Step-passes now x.before x.event x.reply x.after l step)
+brings : (now p : ℕ) (x : Stage) (sent : List Entry) → ((m : Message) → ¬ (IsSentBy x p m)) × (sent ≡ []) ⊎ ((m : Message) × IsSentBy x p m × (sent ≡ entry now m ∷ [])) →
+    Tells now x.before x.event x.reply x.after p (x.before.log p ++ sent) → Comes now p x
+brings now p x sent is t = record {
+  sent = sent;
+  is_sent = is;
+  tells = t;
+  are_new = ap (drop (length (x.before.log p))) (t.log ∙ append_assoc (x.before.log p) sent t.told) ∙ drop_front (x.before.log p) (sent ++ t.told);
+}
+
+only_told : (now p : ℕ) (x : Stage) → ((m : Message) → ¬ (IsSentBy x p m)) → Tells now x.before x.event x.reply x.after p (x.before.log p) → Comes now p x
+only_told now p x not t = brings now p x [] (inl (not, refl)) (subst (Tells now x.before x.event x.reply x.after p) (sym (append-nil (x.before.log p))) t)
+
+pub stage_comes : (now : ℕ) (x : Stage) (p : ℕ) → IsLawful x.before → Step now x.before x.event x.reply x.after → Comes now p x
+stage_comes now x p l step = go (Step-logs now x.before x.event x.reply x.after l step)
   where
-    go : Passes now x.before x.event x.reply x.after → x.after.log p ≡ x.before.log p ++ accepted_by p x
-    go (inl u) = same_accepted x p (u.log p)
-    go (inr (inr d)) = same_accepted x p (d.log p)
-    go (inr (inl a)) = elim (eqb_tells p a.accepts.m.destination) [
-      | inl h ↦
-          let new = entry now a.accepts.m ∷ [] in
-          let log : x.after.log p ≡ x.before.log p ++ new = subst (λ (q : ℕ). x.after.log q ≡ x.before.log q ++ new) (sym h.1) a.accepts.appended in
-          let added : drop (length (x.before.log p)) (x.after.log p) ≡ new = ap (drop (length (x.before.log p))) log ∙ drop_at (x.before.log p) new (length (x.before.log p)) refl in
-          let one : accepts x.event x.reply ≡ 1 = ap (λ (e : Event). accepts e x.reply) a.is_event ∙ ap (accepts (Event.Send a.task a.bytes)) a.is_reply in
-          log ∙ ap (λ (xs : List Entry). x.before.log p ++ xs) (sym (ap (take (accepts x.event x.reply)) added ∙ ap (λ (n : ℕ). take n new) one))
-      | inr h ↦ same_accepted x p (a.accepts.others p h.1)
+    sent_here : (a : AcceptsBy now x.before x.event x.reply x.after) → Comes now a.accepts.m.destination x
+    sent_here a = brings now a.accepts.m.destination x (entry now a.accepts.m ∷ [])
+        (inr (a.accepts.m, record { sender = a.task; sent = a.bytes; event = a.is_event; reply = a.is_reply; meant = a.accepts.means; here = refl }, refl))
+        (stage_tells now x a a.accepts.m.destination _ a.accepts.appended)
+
+    -- to another port nothing was sent
+    elsewhere : (a : AcceptsBy now x.before x.event x.reply x.after) → (p ≡ a.accepts.m.destination → ⊥) → (m : Message) → ¬ (IsSentBy x p m)
+    elsewhere a not m s =
+        let same = same_send s.sender a.task s.sent a.bytes (sym s.event ∙ a.is_event) in
+        let meant = subst (λ (bytes : List ℕ). SentMeans (x.before.naming a.task) bytes m) same.1 (subst (λ (t : ℕ). SentMeans (x.before.naming t) s.sent m) same.0 s.meant) in
+        not (sym s.here ∙ one_destination (x.before.naming a.task) a.bytes m a.accepts.m meant a.accepts.means)
+
+    go : ((p : ℕ) → Tells now x.before x.event x.reply x.after p (x.before.log p)) × IsNoSend x.event x.reply ⊎ AcceptsBy now x.before x.event x.reply x.after → Comes now p x
+    go (inl t) = only_told now p x (λ m s. t.1 s.sender s.sent s.event s.reply) (t.0 p)
+    go (inr a) = elim (eqb_tells p a.accepts.m.destination) [
+      | inl h ↦ subst (λ (q : ℕ). Comes now q x) (sym h.1) (sent_here a)
+      | inr h ↦ only_told now p x (elsewhere a h.1) (stage_tells now x a p _ (a.accepts.others p h.1))
     ]
+
+-- logs only grow
+stage_grows : (now : ℕ) (x : Stage) (p : ℕ) → Comes now p x → x.after.log p ≡ x.before.log p ++ new_entries p x
+stage_grows now x p c = c.tells.log ∙ append_assoc (x.before.log p) c.sent c.tells.told ∙ ap (λ (xs : List Entry). x.before.log p ++ xs) (sym c.are_new)
 
 -- ---- what one stage takes
 
--- so many entries from the front of the port's queue, if the stage delivers them
-abbrev front_gone : Stage → ℕ → ℕ → List Entry
-front_gone x p n = take (delivers x.event x.reply) (take n (queue x.before p))
+same_taken : (x : Stage) (p : ℕ) → x.after.taken p ≡ x.before.taken p → if_taken x.event x.reply (front_entry p x) ≡ []
+same_taken x p same =
+    let none : front_entry p x ≡ [] = rw (eq-eqb (x.after.taken p) (x.before.taken p) same) in
+    ap (if_taken x.event x.reply) none ∙ none_taken x.event x.reply
 
-stage_takes : (now : ℕ) (x : Stage) (p : ℕ) → IsCalm x.before → Step now x.before x.event x.reply x.after →
-    take (x.after.taken p) (x.before.log p) ≡ take (x.before.taken p) (x.before.log p) ++ received_by p x
-stage_takes now x p l step = go (Step-passes now x.before x.event x.reply x.after l step)
+-- The stage takes what was there before it, and in order.
+record Taking (x : Stage) (p : ℕ) : Type 0 where
+  within : x.after.taken p ≤ length (x.before.log p)
+  takes : take (x.after.taken p) (x.before.log p) ≡ take (x.before.taken p) (x.before.log p) ++ if_taken x.event x.reply (front_entry p x)
+
+stage_takes : (now : ℕ) (x : Stage) (p : ℕ) → IsLawful x.before → Step now x.before x.event x.reply x.after → Taking x p
+stage_takes now x p l step = go (Step-taken now x.before x.event x.reply x.after l step)
   where
-    none : x.after.taken p ≡ x.before.taken p → take (x.after.taken p) (x.before.log p) ≡ take (x.before.taken p) (x.before.log p) ++ received_by p x
-    none same =
-        let zero_gone : x.after.taken p - x.before.taken p ≡ 0 = omega (arith, same) in
-        ap (λ (n : ℕ). take n (x.before.log p)) same ∙ sym (append-nil (take (x.before.taken p) (x.before.log p)))
-        ∙ ap (λ (xs : List Entry). take (x.before.taken p) (x.before.log p) ++ xs) (sym (ap (front_gone x p) zero_gone ∙ take_none (delivers x.event x.reply)))
+    none : x.after.taken p ≡ x.before.taken p → Taking x p
+    none same = record {
+      within = let w = l.within p in omega (arith, w, same);
+      takes = ap (λ (n : ℕ). take n (x.before.log p)) same ∙ sym (append-nil (take (x.before.taken p) (x.before.log p)))
+          ∙ ap (λ (xs : List Entry). take (x.before.taken p) (x.before.log p) ++ xs) (sym (same_taken x p same));
+    }
 
-    go : Passes now x.before x.event x.reply x.after → take (x.after.taken p) (x.before.log p) ≡ take (x.before.taken p) (x.before.log p) ++ received_by p x
-    go (inl u) = none (u.taken p)
-    go (inr (inl a)) = none (a.taken p)
-    go (inr (inr d)) = elim (eqb_tells p d.delivers.port) [
-      | inl h ↦
-          let taken : x.after.taken p ≡ x.before.taken p + 1 = subst (λ (q : ℕ). x.after.taken q ≡ x.before.taken q + 1) (sym h.1) d.delivers.taken in
-          let front : slice_get (x.before.log p) (x.before.taken p) ≡ Some d.delivers.e =
-          subst (λ (q : ℕ). slice_get (x.before.log q) (x.before.taken q) ≡ Some d.delivers.e) (sym h.1) d.delivers.front in
-          let one_gone : x.after.taken p - x.before.taken p ≡ 1 = omega (arith, taken) in
-          let first : take 1 (queue x.before p) ≡ d.delivers.e ∷ [] =
-          take_first (queue x.before p) d.delivers.e (slice_get_drop (x.before.taken p) (x.before.log p) 0 ∙ ap (slice_get (x.before.log p)) (omega arith) ∙ front) in
-          let one : delivers x.event x.reply ≡ 1 = ap (delivers x.event) d.is_reply in
-          ap (λ (n : ℕ). take n (x.before.log p)) taken ∙ take_one (x.before.taken p) (x.before.log p) d.delivers.e front
-          ∙ ap (λ (xs : List Entry). take (x.before.taken p) (x.before.log p) ++ xs) (sym (ap (front_gone x p) one_gone ∙ ap (take (delivers x.event x.reply)) first ∙ ap (λ (n : ℕ). take n (d.delivers.e ∷ [])) one))
-      | inr h ↦ none (d.delivers.others p h.1)
+    front : (d : TakesBy x.before x.event x.reply x.after) → Taking x d.port
+    front d =
+        let taken = d.taken in
+        let below = slice_get_within (x.before.log d.port) (x.before.taken d.port) d.e d.front in
+        let one : front_entry d.port x ≡ d.e ∷ [] = rw (ne_eqb (x.after.taken d.port) (x.before.taken d.port) (λ e. omega (arith, e, taken))) (ap option_to_list d.front) in
+        record {
+          within = omega (arith, taken, below);
+          takes = ap (λ (n : ℕ). take n (x.before.log d.port)) taken ∙ take_one (x.before.taken d.port) (x.before.log d.port) d.e d.front
+              ∙ ap (λ (xs : List Entry). take (x.before.taken d.port) (x.before.log d.port) ++ xs) (sym (d.counts (front_entry d.port x) ∙ one));
+        }
+
+    go : ((p : ℕ) → x.after.taken p ≡ x.before.taken p) ⊎ TakesBy x.before x.event x.reply x.after → Taking x p
+    go (inl same) = none (same p)
+    go (inr d) = elim (eqb_tells p d.port) [
+      | inl h ↦ subst (Taking x) (sym h.1) (front d)
+      | inr h ↦ none (d.others p h.1)
     ]
 
 -- ---- over all stages
 
-path_accepts : (now : ℕ) (old : State) (path : List Stage) (new : State) (p : ℕ) → IsCalm old → PathFrom now old path new → new.log p ≡ old.log p ++ accepted p path
-path_accepts now old [] new p l path = ap (λ (s : State). s.log p) path ∙ sym (append-nil (old.log p))
-path_accepts now old (x ∷ xs) new p l path =
-    let before : IsCalm x.before = subst IsCalm (sym path.0) l in
-    let one = stage_accepts now x p before path.1 in
-    let more = path_accepts (now + 1) x.after xs new p (Step-calm now x.before x.event x.reply x.after path.1 before) path.2 in
-    let all : new.log p ≡ x.before.log p ++ (accepted_by p x ++ accepted p xs) =
-    more ∙ ap (λ (ys : List Entry). ys ++ accepted p xs) one ∙ append_assoc (x.before.log p) (accepted_by p x) (accepted p xs) in
-    subst (λ (s : State). new.log p ≡ s.log p ++ (accepted_by p x ++ accepted p xs)) path.0 all
+path_comes : (now : ℕ) (old : State) (path : List Stage) (new : State) (p : ℕ) → IsLawful old → PathFrom now old path new → new.log p ≡ old.log p ++ came p path
+path_comes now old [] new p l path = ap (λ (s : State). s.log p) path ∙ sym (append-nil (old.log p))
+path_comes now old (x ∷ xs) new p l path =
+    let before : IsLawful x.before = subst IsLawful (sym path.0) l in
+    let one = stage_grows now x p (stage_comes now x p before path.1) in
+    let more = path_comes (now + 1) x.after xs new p (Step-lawful now x.before x.event x.reply x.after path.1 before) path.2 in
+    let all : new.log p ≡ x.before.log p ++ (new_entries p x ++ came p xs) =
+    more ∙ ap (λ (ys : List Entry). ys ++ came p xs) one ∙ append_assoc (x.before.log p) (new_entries p x) (came p xs) in
+    subst (λ (s : State). new.log p ≡ s.log p ++ (new_entries p x ++ came p xs)) path.0 all
 
--- a longer log begins with the same entries
-take_kept : (now : ℕ) (x : Stage) (p : ℕ) → IsCalm x.before → Step now x.before x.event x.reply x.after →
-    (n : ℕ) → n ≤ length (x.before.log p) → take n (x.after.log p) ≡ take n (x.before.log p)
-take_kept now x p l step n within =
-    ap (take n) (stage_accepts now x p l step) ∙ take-append-le n (x.before.log p) (accepted_by p x) within
-
-path_takes : (now : ℕ) (old : State) (path : List Stage) (new : State) (p : ℕ) → IsCalm old → PathFrom now old path new →
-    take (new.taken p) (new.log p) ≡ take (old.taken p) (old.log p) ++ received p path
+path_takes : (now : ℕ) (old : State) (path : List Stage) (new : State) (p : ℕ) → IsLawful old → PathFrom now old path new →
+    take (new.taken p) (new.log p) ≡ take (old.taken p) (old.log p) ++ went p path
 path_takes now old [] new p l path = ap (λ (s : State). take (s.taken p) (s.log p)) path ∙ sym (append-nil (take (old.taken p) (old.log p)))
 path_takes now old (x ∷ xs) new p l path =
-    let before : IsCalm x.before = subst IsCalm (sym path.0) l in
-    let after = Step-calm now x.before x.event x.reply x.after path.1 before in
+    let before : IsLawful x.before = subst IsLawful (sym path.0) l in
+    let after = Step-lawful now x.before x.event x.reply x.after path.1 before in
     let one = stage_takes now x p before path.1 in
     let more = path_takes (now + 1) x.after xs new p after path.2 in
-    let kept : take (x.after.taken p) (x.after.log p) ≡ take (x.after.taken p) (x.before.log p) = taken_kept x now before path.1 in
-    let all : take (new.taken p) (new.log p) ≡ take (x.before.taken p) (x.before.log p) ++ (received_by p x ++ received p xs) =
-    more ∙ ap (λ (ys : List Entry). ys ++ received p xs) (kept ∙ one) ∙ append_assoc (take (x.before.taken p) (x.before.log p)) (received_by p x) (received p xs) in
-    subst (λ (s : State). take (new.taken p) (new.log p) ≡ take (s.taken p) (s.log p) ++ (received_by p x ++ received p xs)) path.0 all
-  where
-    -- a stage takes no entry that it accepts itself
-    taken_kept : (x : Stage) (now : ℕ) → IsCalm x.before → Step now x.before x.event x.reply x.after →
-        take (x.after.taken p) (x.after.log p) ≡ take (x.after.taken p) (x.before.log p)
-    taken_kept x now l step = go (Step-passes now x.before x.event x.reply x.after l step)
-      where
-        go : Passes now x.before x.event x.reply x.after → take (x.after.taken p) (x.after.log p) ≡ take (x.after.taken p) (x.before.log p)
-        go (inl u) = ap (take (x.after.taken p)) (u.log p)
-        go (inr (inl a)) = let w = l.within p in let e = a.taken p in take_kept now x p l step (x.after.taken p) (omega (arith, w, e))
-        go (inr (inr d)) = ap (take (x.after.taken p)) (d.log p)
+    -- a stage takes no entry that it brings itself
+    let kept : take (x.after.taken p) (x.after.log p) ≡ take (x.after.taken p) (x.before.log p) =
+    ap (take (x.after.taken p)) (stage_grows now x p (stage_comes now x p before path.1)) ∙ take-append-le (x.after.taken p) (x.before.log p) (new_entries p x) one.within in
+    let all : take (new.taken p) (new.log p) ≡ take (x.before.taken p) (x.before.log p) ++ (if_taken x.event x.reply (front_entry p x) ++ went p xs) =
+    more ∙ ap (λ (ys : List Entry). ys ++ went p xs) (kept ∙ one.takes) ∙ append_assoc (take (x.before.taken p) (x.before.log p)) (if_taken x.event x.reply (front_entry p x)) (went p xs) in
+    subst (λ (s : State). take (new.taken p) (new.log p) ≡ take (s.taken p) (s.log p) ++ (if_taken x.event x.reply (front_entry p x) ++ went p xs)) path.0 all
 
 pub path_ordered : (path : List Stage) (s : State) → Path path s → (p : ℕ) → InOrder p path s
 path_ordered path s is p =
-    let log : accepted p path ≡ s.log p = sym (path_accepts 0 opening path s p opening-calm is) in
-    let taken : received p path ≡ take (s.taken p) (s.log p) = sym (path_takes 0 opening path s p opening-calm is) in
+    let log : came p path ≡ s.log p = sym (path_comes 0 opening path s p opening-lawful is) in
+    let taken : went p path ≡ take (s.taken p) (s.log p) = sym (path_takes 0 opening path s p opening-lawful is) in
     record {
       log = log;
+      each = λ k x at. (let h = stage_lawful path s is k x at in stage_comes k x p h.0 h.1);
       taken = taken;
       whole = ap (λ (xs : List Entry). xs ++ queue s p) taken ∙ take-append-drop (s.taken p) (s.log p) ∙ sym log;
     }

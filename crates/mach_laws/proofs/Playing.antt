@@ -12,7 +12,7 @@ use Rattle.mach_types.specs.declared.calls.Reply.{Reply}
 use Rattle.mach_types.specs.declared.calls.Status.{Status}
 use Rattle.mach_types.specs.declared.calls.Waited.{Waited}
 use Rattle.mach_types.specs.declared.rights.Disposition.{Disposition}
-use Rattle.mach_types.specs.declared.rights.Disposition.TheVariants.{MakeSend}
+use Rattle.mach_types.specs.declared.rights.Disposition.TheVariants.{MakeSend, MakeSendOnce}
 use Rattle.mach_types.specs.Numbers.{disposition, kind_sent, kind_number, null_word, dead_word, most_tasks, most_names, most_references, most_rights, most_bytes}
 use Rattle.mach_types.specs.Tokens.{Kind, receive, send, send_once, no_senders, port_destroyed, Place, in_task, in_message, Token, token, Moves, weigh, count, is_of}
 use Rattle.mach_types.specs.Messages.{short, to_port, absent, Body, Message, Entry}
@@ -28,7 +28,7 @@ use Rattle.mach_model.specs.SentMeans.{target_mark}
 use Rattle.mach_model.specs.CopyOut.{GiveWord}
 use Rattle.mach_model.specs.ReceivedMeans.{IsReceived}
 use Rattle.mach_model.specs.Carried.{lying}
-use Rattle.mach_model.specs.Transfer.{Inserts}
+use Rattle.mach_model.specs.Transfer.{Inserts, pegged, Extracts}
 use Rattle.mach_model.specs.Send.{place_at, entry, Copied, Sends}
 use Rattle.mach_model.specs.Receive.{IsFront, with_taken, Receives}
 use Rattle.mach_model.specs.References.{references}
@@ -36,6 +36,7 @@ use Rattle.mach_model.specs.ReceiveRight.{one_if, TellsStatus}
 use Rattle.mach_model.specs.Refusals.{guards, Refuses}
 use Rattle.mach_model.specs.Machine.{Does, Step}
 use Rattle.mach_model.proofs.Names.{get_own, get_other}
+use Rattle.mach_model.proofs.Quiet.{LosesNone}
 use Rattle.mach_model.proofs.StepQuiet.{IsCalm, quiet_step}
 use Rattle.mach_laws.proofs.Answered.{one_port}
 
@@ -67,6 +68,10 @@ without_front p ledger s = record (with_taken p s) { ledger = ledger }
 -- a send right for the port, put into the task under a new name
 abbrev pub with_inserted : (task name from poly port : ℕ) → State → State
 with_inserted task name from poly p s = with_name task name (Target.port p) (with_made MakeSend p from poly (in_task task) s)
+
+-- a send-once right for the task's port, come out with another task under a fresh name
+abbrev pub with_extracted : (task name to new_name port : ℕ) → State → State
+with_extracted task name to new_name p s = with_name to new_name (Target.once p) (with_made MakeSendOnce p task name (in_task to) s)
 
 -- what is told of a port that is in no set
 abbrev pub status_of : State → ℕ → Status
@@ -104,7 +109,13 @@ spelled is_text kinds words body = record {
   body_fits = body;
 }
 
--- an item of two port words
+-- an item of one port word, and of two
+pub one_word : (number a : ℕ) → NamesPorts number → a < 2 ^ 32 → All IsWire (port_item short number (a ∷ []) ∷ [])
+one_word number a ports fits = All-cons IsWire (port_item short number (a ∷ [])) [] ((omega (arith, ports.1), omega arith, omega arith), ports, words) (λ k d below. absurd (omega (arith, below)))
+  where
+    words : All (λ w. w < 2 ^ 32) (a ∷ [])
+    words = All-cons (λ w. w < 2 ^ 32) a [] (omega (arith, fits)) (λ k d below. absurd (omega (arith, below)))
+
 pub two_words : (number a b : ℕ) → NamesPorts number → a + b < 2 ^ 32 → All IsWire (port_item short number (a ∷ b ∷ []) ∷ [])
 two_words number a b ports fits = All-cons IsWire (port_item short number (a ∷ b ∷ [])) [] ((omega (arith, ports.1), omega arith, omega arith), ports, words) (λ k d below. absurd (omega (arith, below)))
   where
@@ -164,12 +175,12 @@ copies_plain {new = new} no_answer null right is_kind =
 pub refused : {now : ℕ} {s : State} {event : Event} {code : ℕ} → IsCalm s → Refuses s event code → Plays now s event (Reply.Code code) s
 refused {code = code} l refuses = (inl (record { code = code; told = refl; refuses = refuses; same = refl }), l)
 
--- An event that no guard refuses does its part, and nothing is owed.
-pub plays : {now : ℕ} {old new : State} {event : Event} {reply : Reply} → IsCalm old → NoneHolds (guards old event) → Does now old event reply new [] → Plays now old event reply new
-plays {now} {old} {new} {event} {reply} l good does = let s = quiet_step now old event reply new l.lawful l.quiet good does in (s.0, record { lawful = s.1; quiet = s.2 })
+-- An event that no guard refuses does its part, and no right is lost.
+pub plays : {now : ℕ} {old new : State} {event : Event} {reply : Reply} → IsCalm old → LosesNone old event reply → NoneHolds (guards old event) → Does now old event reply new [] → Plays now old event reply new
+plays {now} {old} {new} {event} {reply} l none good does = let s = quiet_step now old event reply new l.lawful l.quiet none good does in (s.0, record { lawful = s.1; quiet = s.2 })
 
 pub task_made : {now : ℕ} {s : State} → IsCalm s → s.tasks_made < most_tasks → Plays now s Event.TaskCreate (Reply.Task s.tasks_made) (with_task s)
-task_made {now} {s} l few = plays l ((λ dead. dead), ((λ h. omega (arith, h, few)), tt)) (record { task_is = refl; rest = refl }, refl)
+task_made {now} {s} l few = plays l tt ((λ dead. dead), ((λ h. omega (arith, h, few)), tt)) (record { task_is = refl; rest = refl }, refl)
 
 there : (s : State) (task : ℕ) → s.live_task task ≡ true → ¬ (IsNoTask s task)
 there s task lives h = cc
@@ -179,7 +190,7 @@ module _ {now : ℕ} {s : State} (l : IsCalm s) {task : ℕ} (lives : s.live_tas
   pub allocated : {right name : ℕ} {new : State} → IsFresh (s.naming task) name → map.len (s.naming task) < most_names → length s.ledger + s.ports_made + s.sets_made < most_rights →
       Makes task right name s new → Plays now s (Event.Allocate task right) (Reply.Name name) new
   allocated {right} {name} {new} fresh room few makes =
-      plays l (there s task lives, (made makes, (not_full, tt))) (fresh, makes, refl)
+      plays l tt (there s task lives, (made makes, (not_full, tt))) (fresh, makes, refl)
     where
       made : Makes task right name s new → ¬ (IsNoMaking right)
       made (inl m) h = h.0 m.0
@@ -201,7 +212,7 @@ module _ {now : ℕ} {s : State} (l : IsCalm s) {task : ℕ} (lives : s.live_tas
       length (queue copied m.destination) < copied.limit m.destination → length copied.ledger ≤ most_rights →
       Plays now s (Event.Send task bytes) (Reply.Code 0) (with_entry now m copied)
   sent {bytes} header written m copied good spells is_copied no_receive room few =
-      plays l (there s task lives, good) (refl, sends, refl)
+      plays l tt (there s task lives, good) (refl, sends, refl)
     where
       sends : Sends now task bytes s (with_entry now m copied)
       sends = record {
@@ -222,13 +233,13 @@ module _ {now : ℕ} {s : State} (l : IsCalm s) {task : ℕ} (lives : s.live_tas
   pub received : {name p room : ℕ} {bytes : List ℕ} {new : State} → lookup s task name ≡ Some (Target.port p) → Holds s task receive p → s.sets_of p ≡ [] → Receives task p room bytes s new →
       Plays now s (Event.Receive task name room false) (Reply.Message bytes) new
   received {name} {p} {room} {bytes} {new} found holds alone receives =
-      plays l
+      plays l tt
       (there s task lives, ((λ h. h (inl (p, found, holds))), ((λ h. h.2 (ap s.sets_of (one_port (lookup s task name) h.0 p h.1 found) ∙ alone)), tt)))
       (Waited.Port p, (found, holds), (p, (refl, holds, alone), receives, refl))
 
   pub type_told : {name : ℕ} (target : Target) → lookup s task name ≡ Some target → Plays now s (Event.NameType task name) (Reply.NameType (type_of s task name target)) s
   type_told {name} target found =
-      plays l (there s task lives, (used found, tt)) ((target, found, refl), refl, refl)
+      plays l tt (there s task lives, (used found, tt)) ((target, found, refl), refl, refl)
 
   pub no_type : {name : ℕ} → lookup s task name ≡ None → Plays now s (Event.NameType task name) (Reply.Code 15) s
   no_type none = refused l (inl (inr (there s task lives, inl (none, refl))))
@@ -236,12 +247,12 @@ module _ {now : ℕ} {s : State} (l : IsCalm s) {task : ℕ} (lives : s.live_tas
   pub references_told : {name right : ℕ} (target : Target) → lookup s task name ≡ Some target → right ≤ 4 →
       Plays now s (Event.GetRefs task name right) (Reply.Refs (references s task target right)) s
   references_told {name} {right} target found is_right =
-      plays l
+      plays l tt
       (there s task lives, ((λ h. omega (arith, h, is_right)), (used found, tt))) ((target, found, refl), refl, refl)
 
   pub status_told : {name : ℕ} (p : ℕ) → lookup s task name ≡ Some (Target.port p) → Holds s task receive p → s.sets_of p ≡ [] → Plays now s (Event.ReceiveStatus task name) (Reply.Status (status_of s p)) s
   status_told {name} p found holds alone =
-      plays l
+      plays l tt
       (there s task lives, (used found, ((λ h. h (p, found, holds)), tt))) (tells, refl, refl)
     where
       tells : TellsStatus s task name (status_of s p)
@@ -253,7 +264,7 @@ module _ {now : ℕ} {s : State} (l : IsCalm s) {task : ℕ} (lives : s.live_tas
       held (with_made MakeSend p from poly (in_task task) s) task send p ≤ most_references →
       Plays now s (Event.InsertRight task name from poly 20) (Reply.Code 0) (with_inserted task name from poly p s)
   send_inserted {name} {from} {poly} p from_lives found holds unused above below unheld room few few_references =
-      plays l (
+      plays l tt (
         (λ h. elim h [ inl e ↦ there s task lives e | inr e ↦ cc ]),
         (
           (λ h. elim h [ inl e ↦ elim e [ inl f ↦ omega (arith, f, above) | inr f ↦ omega (arith, f, below) ] | inr e ↦ e (omega arith, omega arith) ]),
@@ -281,6 +292,33 @@ module _ {now : ℕ} {s : State} (l : IsCalm s) {task : ℕ} (lives : s.live_tas
           ((λ h. h.0 unused), ((λ h. omega (arith, h, few_references)), ((λ h. elim h [ inl e ↦ omega (arith, e.0, room) | inr e ↦ omega (arith, e, few) ]), tt))),
         );
         named = inr (unused, refl);
+      }
+
+  -- A send-once right is made for the task's port, and comes out with a task under a fresh name.
+  pub once_extracted : {name to new_name : ℕ} (p : ℕ) → s.live_task to ≡ true → lookup s task name ≡ Some (Target.port p) → Holds s task receive p → IsFresh (s.naming to) new_name →
+      map.len (s.naming to) < most_names → length s.ledger < most_rights → pegged to p (with_made MakeSendOnce p task name (in_task to) s) ≡ [] →
+      Plays now s (Event.ExtractRight task name 21 to) (Reply.Right new_name 18) (with_extracted task name to new_name p s)
+  once_extracted {name} {to} {new_name} p to_lives found holds fresh room few none =
+      plays l tt (
+        (λ h. elim h [ inl e ↦ there s task lives e | inr e ↦ cc ]),
+        (
+          (λ h. h (omega arith, omega arith)),
+          (used found, ((λ h. elim h [ inl e ↦ e (MakeSendOnce, Target.port p, refl, found, holds) | inr e ↦ let f = found in let g = e.1 in cc ]), tt)),
+        ),
+      )
+      (extracts, refl)
+    where
+      extracts : Extracts task name 21 to new_name 18 s (with_extracted task name to new_name p s)
+      extracts = record {
+        p = p;
+        copied = with_made MakeSendOnce p task name (in_task to) s;
+        copy = makes p MakeSendOnce refl found holds refl refl;
+        unrefused = ((λ h. elim h [ inl e ↦ omega (arith, e.0, room) | inr e ↦ omega (arith, e, few) ]), tt);
+        kind_is = refl;
+        named_state = with_extracted task name to new_name p s;
+        named = record { room = room; fresh = fresh; rest = refl };
+        rest = refl;
+        tokens = λ h. (let e = ap (weigh h) none in omega (arith, e));
       }
 
 -- A receipt of the port's front message: what is under which names afterwards, and so the bytes.

@@ -5,7 +5,9 @@ use Rattle.mach_types.specs.declared.calls.Event.{Event}
 use Rattle.mach_types.specs.declared.calls.Reply.{Reply}
 use Rattle.mach_model.specs.State.{State, opening}
 use Rattle.mach_model.specs.Machine.{Step, RunFrom}
-use Rattle.mach_model.proofs.StepQuiet.{IsCalm, Run-calm, Step-calm, opening-calm}
+use Rattle.mach_model.specs.Lawful.{IsLawful}
+use Rattle.mach_model.proofs.Opening.{opening-lawful}
+use Rattle.mach_model.proofs.StepLawful.{Step-lawful, Run-lawful}
 use Rattle.mach_laws.specs.Paths.{Stage, PathFrom, Path}
 
 -- ---- runs and paths
@@ -44,8 +46,8 @@ path_push now old [] s event reply t path step = (path, subst (λ (n : ℕ). Ste
 path_push now old (x ∷ xs) s event reply t path step =
     (path.0, path.1, path_push (now + 1) x.after xs s event reply t path.2 (subst (λ (n : ℕ). Step n s event reply t) (omega arith) step))
 
-pub path_lawful : (path : List Stage) (s : State) → Path path s → IsCalm s
-path_lawful path s is = Run-calm (list_map (λ (x : Stage). x.event) path) (list_map (λ (x : Stage). x.reply) path) s (path_runs 0 opening path s is)
+pub path_lawful : (path : List Stage) (s : State) → Path path s → IsLawful s
+path_lawful path s is = Run-lawful (list_map (λ (x : Stage). x.event) path) (list_map (λ (x : Stage). x.reply) path) s (path_runs 0 opening path s is)
 
 -- ---- what holds of each state
 
@@ -89,5 +91,5 @@ module _ (full : List Stage) (P : ℕ → State → Type 0)
   at_end s path holds = subst (λ (n : ℕ). P n s) (omega arith) (walk 0 opening full s (λ j. ap (slice_get full) (omega arith)) path holds).1
 
 -- each state that a run passes is lawful
-pub stage_lawful : (path : List Stage) (s : State) → Path path s → (k : ℕ) (x : Stage) → slice_get path k ≡ Some x → IsCalm x.before × Step k x.before x.event x.reply x.after
-stage_lawful path s is = at_stages path (λ n t. IsCalm t) (λ now x at step l. Step-calm now x.before x.event x.reply x.after step l) s is opening-calm
+pub stage_lawful : (path : List Stage) (s : State) → Path path s → (k : ℕ) (x : Stage) → slice_get path k ≡ Some x → IsLawful x.before × Step k x.before x.event x.reply x.after
+stage_lawful path s is = at_stages path (λ n t. IsLawful t) (λ now x at step l. Step-lawful now x.before x.event x.reply x.after step l) s is opening-lawful

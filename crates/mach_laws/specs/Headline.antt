@@ -5,7 +5,7 @@ use Rattle.mach_types.specs.declared.calls.Reply.{Reply}
 use Rattle.mach_types.specs.Tokens.{receive, count, is_of}
 use Rattle.mach_model.specs.State.{State}
 use Rattle.mach_laws.specs.Paths.{Stage, Path}
-use Rattle.mach_laws.specs.Received.{WasSent}
+use Rattle.mach_laws.specs.Received.{WasSentOrTold}
 use Rattle.mach_laws.specs.Order.{InOrder}
 
 pub record Headline (events : List Event) (replies : List Reply) (s : State) : Type 0 where
@@ -14,10 +14,10 @@ pub record Headline (events : List Event) (replies : List Reply) (s : State) : T
   pub path : Path stages s
   pub events_are : map (λ x. x.event) stages ≡ events
   pub replies_are : map (λ x. x.reply) stages ≡ replies
-  -- each message that a stage gives is one that an earlier stage accepted, and means what it meant then, where rights for ports that
-  -- are dead by now are dead; the stage takes it, from the front of its port, and takes no other
-  pub meant : (k : ℕ) (bytes : List ℕ) (x : Stage) → slice_get stages k ≡ Some x → x.reply ≡ Reply.Message bytes → WasSent stages k bytes x
-  -- of each port, what was received from it, and then what is queued, is what was accepted for it, in the same order
+  -- each message that a stage gives is one that an earlier stage accepted, and means what it meant then, or a notice that was due in an
+  -- earlier stage, where rights for ports that are dead by now are dead; the stage takes it, from the front of its port, and no other
+  pub meant : (k : ℕ) (bytes : List ℕ) (x : Stage) → slice_get stages k ≡ Some x → x.reply ≡ Reply.Message bytes → WasSentOrTold stages k bytes x
+  -- of each port, what was taken from it, and then what is queued, is what came to it, in the same order
   pub order : (p : ℕ) → InOrder p stages s
   -- each port that lives has one receive right, over all tasks and all messages
   pub one_receive : (p : ℕ) → s.live_port p ≡ true → count (is_of receive p) s.ledger ≡ 1

@@ -4,6 +4,7 @@ pub mod Received
 pub mod Delivered
 pub mod Order
 pub mod Queued
+pub mod Counts
 pub mod Headline
 pub mod Notices
 pub mod Looks
@@ -15,3 +16,10 @@ pub mod Gathering
 pub mod Handed
 pub mod Naming
 pub mod Grouping
+pub mod Telling
+pub mod Destroying
+pub mod Dying
+pub mod Unanswered
+pub mod Senderless
+pub mod Deleting
+pub mod SendingAway

@@ -1,15 +1,17 @@
--- What it means that a message is received, and that it is one that was sent (IPC Interface, `mach_msg` with MACH_RCV_MSG).
-use Rattle.std.specs.Prelude.{◌≡◌, ◌≢◌, ℕ, ◌+◌, ◌<◌, List, length, slice_get, Some}
+-- What it means that a message is received, and that it is one that was sent or a notice (IPC Interface, `mach_msg` with MACH_RCV_MSG).
+use Rattle.std.specs.Prelude.{◌≡◌, ◌≢◌, ℕ, ◌+◌, ◌<◌, ◌⊎◌, List, length, slice_get, Some}
 use Rattle.mach_types.specs.declared.calls.Event.{Event}
 use Rattle.mach_types.specs.declared.calls.Reply.{Reply}
 use Rattle.mach_types.specs.declared.calls.Waited.{Waited}
-use Rattle.mach_types.specs.Messages.{Message, asof}
+use Rattle.mach_types.specs.Messages.{Message, Entry, asof}
 use Rattle.mach_model.specs.State.{State}
 use Rattle.mach_model.specs.SentMeans.{SentMeans}
 use Rattle.mach_model.specs.ReceivedMeans.{ReceivedMeans}
 use Rattle.mach_model.specs.Send.{entry}
 use Rattle.mach_model.specs.Receive.{waits_for, TakesFrom, IsFront}
+use Rattle.mach_model.specs.Notices.{notice_message}
 use Rattle.mach_laws.specs.Paths.{Stage}
+use Rattle.mach_laws.specs.Notices.{IsToldBy}
 
 -- The event asks for a message for the task, and may take one from the port: a receive by what its name stands for, or a later try by
 -- what it waited for.
@@ -43,3 +45,27 @@ pub record WasSent (path : List Stage) (k : ℕ) (bytes : List ℕ) (receiving :
   -- that stage takes it, and no other
   pub taken : receiving.after.taken m.destination ≡ receiving.before.taken m.destination + 1
   pub others : (p : ℕ) → p ≢ m.destination → receiving.after.taken p ≡ receiving.before.taken p
+
+-- The bytes that stage number k gives to the task that asks are a notice that an earlier stage made: they mean it through the
+-- receiver's names, where a right for a port that is dead by then is dead.
+pub record WasTold (path : List Stage) (k : ℕ) (bytes : List ℕ) (receiving : Stage) : Type 0 where
+  -- the earlier stage, whose notice it is, at the place from which the receipt takes it
+  pub origin : ℕ
+  pub earlier : origin < k
+  pub telling : Stage
+  pub is_stage : slice_get path origin ≡ Some telling
+  pub port : ℕ
+  pub e : Entry
+  pub told : IsToldBy origin telling.before telling.event telling.reply telling.after port (receiving.before.taken port) e
+  pub front : IsFront receiving.before port e
+  -- what is received
+  pub receiver : ℕ
+  pub means : ReceivedMeans receiver receiving.before receiving.after bytes (asof receiving.after.live_port (notice_message port told.notice))
+  pub asks : AsksFrom receiving.before receiving.event receiver port
+  -- that stage takes it, and no other
+  pub taken : receiving.after.taken port ≡ receiving.before.taken port + 1
+  pub others : (p : ℕ) → p ≢ port → receiving.after.taken p ≡ receiving.before.taken p
+
+-- What is received was sent, or is a notice.
+abbrev pub WasSentOrTold : List Stage → (k : ℕ) → (bytes : List ℕ) → Stage → Type 0
+WasSentOrTold path k bytes receiving = WasSent path k bytes receiving ⊎ WasTold path k bytes receiving

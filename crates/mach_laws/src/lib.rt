@@ -5,13 +5,13 @@
 //! `specs/` here need believe nothing else.
 #![tactic(auto)]
 
-ghost use Rattle.std.specs.Prelude.{◌≡◌, ◌≢◌, ◌↔◌, ◌+◌, ◌≤◌, ℕ, Bool, true, false, List, [], Some, length, map, slice_get};
+ghost use Rattle.std.specs.Prelude.{◌≡◌, ◌≢◌, ◌↔◌, ◌+◌, ◌&&◌, ◌≤◌, ℕ, Bool, true, false, List, [], Some, length, map, slice_get};
 ghost use Rattle.mach_types.specs.declared.calls.Event.{Event};
 ghost use Rattle.mach_types.specs.declared.calls.Reply.{Reply};
 ghost use Rattle.mach_types.specs.declared.calls.Waited.{Waited};
 ghost use Rattle.mach_types.specs.declared.codes.MsgReturn.TheVariants.{ReceiveBodyErrorNames};
 ghost use Rattle.mach_types.specs.Numbers.{msg_number};
-ghost use Rattle.mach_types.specs.Tokens.{count, is_of, send_once, receive as receive_kind};
+ghost use Rattle.mach_types.specs.Tokens.{count, is_of, send, send_once, receive as receive_kind};
 ghost use Rattle.mach_types.specs.Grammar.{Header, WireBody, Spells};
 ghost use Rattle.mach_types.specs.Guards.{NoneHolds};
 ghost use Rattle.mach_types.specs.Messages.{Entry};
@@ -27,13 +27,14 @@ ghost use Rattle.mach_model.specs.Refusals.{Refuses, guards};
 ghost use Rattle.mach_model.specs.Machine.{Does, Done, Step, Run};
 ghost use Rattle.mach_model.specs.Lawful.{IsLawful};
 ghost use Rattle.mach_model.specs.Midway.{MidLawful};
-ghost use Rattle.mach_model.specs.Turns.{Ending, IsReached, IsDone, IsBounded, listed};
+ghost use Rattle.mach_model.specs.Turns.{Ending, IsReached, IsDone, IsBounded, is_lost, listed};
 ghost use Rattle.mach_laws.specs.Paths.{Stage, Path};
 ghost use Rattle.mach_laws.specs.Sent.{Accepts};
-ghost use Rattle.mach_laws.specs.Received.{AsksFrom, WasSent};
-ghost use Rattle.mach_laws.specs.Delivered.{Delivers};
+ghost use Rattle.mach_laws.specs.Received.{AsksFrom, WasSentOrTold};
+ghost use Rattle.mach_laws.specs.Delivered.{Delivers, Destroys};
 ghost use Rattle.mach_laws.specs.Order.{InOrder};
-ghost use Rattle.mach_laws.specs.Queued.{queued, accepts, delivers};
+ghost use Rattle.mach_laws.specs.Queued.{queued, unused, MakesSlots, SlotsWithin};
+ghost use Rattle.mach_laws.specs.Counts.{accepts, takes_from, destroyed, once_rights, queued_by_send, MayNeedSlots};
 ghost use Rattle.mach_laws.specs.Headline.{Headline};
 ghost use Rattle.mach_laws.specs.Notices.{TellsAll};
 ghost use Rattle.mach_laws.specs.Looks.{IsLook, IsUnchanged};
@@ -45,11 +46,18 @@ ghost use Rattle.mach_laws.specs.Gathering.{gathering_events, gathering_replies}
 ghost use Rattle.mach_laws.specs.Grouping.{grouping_events, grouping_replies};
 ghost use Rattle.mach_laws.specs.Handed.{handing_events, handing_replies};
 ghost use Rattle.mach_laws.specs.Naming.{naming_events, naming_replies};
+ghost use Rattle.mach_laws.specs.Telling.{telling_events, telling_replies};
+ghost use Rattle.mach_laws.specs.Destroying.{destroying_events, destroying_replies};
+ghost use Rattle.mach_laws.specs.Dying.{dying_events, dying_replies};
+ghost use Rattle.mach_laws.specs.Unanswered.{unanswered_events, unanswered_replies};
+ghost use Rattle.mach_laws.specs.Senderless.{senderless_events, senderless_replies};
+ghost use Rattle.mach_laws.specs.Deleting.{deleting_events, deleting_replies};
+ghost use Rattle.mach_laws.specs.SendingAway.{sending_away_events, sending_away_replies};
 
 /// What a run promises, in one statement: its stages are steps of the machine; each message that is received was
-/// sent before, means what it meant then, where rights for ports that are dead by now are dead, and is the one
-/// that its stage takes from the front of its port; each port's messages are received in the order in which they
-/// were accepted; and each live port has exactly one receive right.
+/// sent before, or is a notice that was due before, means what it meant then, where rights for ports that are dead by
+/// now are dead, and is the one that its stage takes from the front of its port; each port's messages are taken in the
+/// order in which they came; and each live port has exactly one receive right.
 pub fn headline()
     ensures { (events : List Event) (replies : List Reply) (s : State) → Run events replies s → Headline events replies s }
 {}
@@ -63,13 +71,6 @@ pub fn every_run_is_lawful()
 pub fn one_receive_right()
     ensures { (events : List Event) (replies : List Reply) (s : State) → Run events replies s →
         (p : ℕ) → s.live_port p ≡ true → count (is_of receive_kind p) s.ledger ≡ 1 }
-{}
-
-/// After every run a port that lives goes on living, whatever the next event: no port can die yet.
-pub fn live_ports_stay()
-    ensures { (events : List Event) (replies : List Reply) (s : State) → Run events replies s →
-        (event : Event) (reply : Reply) (new : State) → Step (length events) s event reply new →
-        (p : ℕ) → s.live_port p ≡ true → new.live_port p ≡ true }
 {}
 
 /// After every run each live port is grounded: following from it to the port whose queue carries its receive right,
@@ -115,6 +116,14 @@ pub fn no_answer_is_lost()
         count (is_of send_once p) new.ledger ≡ count (is_of send_once p) done.mid.ledger + count (is_of send_once p) (tokens_of done.owed) }
 {}
 
+/// After every run the end of a step makes no send right of a port that lives, and the only ones that it takes away are
+/// those that lay in messages of ports that are dead now.
+pub fn no_sender_appears()
+    ensures { (events : List Event) (replies : List Reply) (s : State) → Run events replies s →
+        (event : Event) (reply : Reply) (new : State) → (done : Done (length events) s event reply new) → (p : ℕ) → new.live_port p ≡ true →
+        count (is_of send p) done.mid.ledger ≡ count (is_of send p) new.ledger + count (λ x. is_of send p x && is_lost new x) done.mid.ledger }
+{}
+
 /// In a step no more ports die than there were rights, live ports and messages together before it.
 pub fn deaths_are_work()
     ensures { (now : ℕ) (old new : State) (event : Event) (reply : Reply) → Step now old event reply new → deaths old new ≤ work_in old }
@@ -136,10 +145,9 @@ pub fn every_step_can_end()
         (new : State) × Step (length events) s event reply new }
 {}
 
-/// What no call does yet can be done after every run: a task ends, a message that is too long for its receiver is
-/// destroyed, a request is made or taken away. What is true midway then is enough for the end of a step: there is
-/// one, and each is lawful.
-pub fn parts_to_come()
+/// After every run, where a task ends, a message that is too long for its receiver is destroyed, or a request is made
+/// or taken away: what is true midway is enough for the end of a step. There is one, and each is lawful.
+pub fn parts_can_end()
     ensures task { (events : List Event) (replies : List Reply) (s : State) → Run events replies s →
         (task : ℕ) (mid : State) (owed : Owed) → EndsTask task s mid owed → MidLawful mid owed }
     ensures message { (events : List Event) (replies : List Reply) (s : State) → Run events replies s →
@@ -176,28 +184,57 @@ pub fn runs_are_paths()
     ensures run { (path : List Stage) (s : State) → Path path s → Run (map (λ x. x.event) path) (map (λ x. x.reply) path) s }
 {}
 
-/// In every run each message that is received is one that was sent: what the sender's bytes meant
-/// through the sender's names before the send, the received bytes mean through the receiver's names
-/// after the receive, where rights for ports that are dead by then are dead. It is in front of its port before
-/// the receive, which takes it and no other.
-pub fn received_means_what_was_sent()
+/// In every run each message that is received is one that was sent, or a notice that was due in an earlier step:
+/// what the sender's bytes meant through the sender's names before the send, or the notice, the received bytes mean
+/// through the receiver's names after the receive, where rights for ports that are dead by then are dead. It is in
+/// front of its port before the receive, which takes it and no other.
+pub fn received_means_what_was_sent_or_told()
     ensures { (path : List Stage) (s : State) → Path path s →
         (k : ℕ) (bytes : List ℕ) (x : Stage) → slice_get path k ≡ Some x → x.reply ≡ Reply.Message bytes →
-        WasSent path k bytes x }
+        WasSentOrTold path k bytes x }
 {}
 
-/// In every run, of each port: what was received from it, and then what is queued, is what was accepted
-/// for it, each message once and in the same order.
+/// In every run, of each port: what was received from it or destroyed as too long, and then what is queued, is what
+/// was accepted for it or told to it, each message once and in the same order.
 pub fn order()
     ensures { (path : List Stage) (s : State) → Path path s → (p : ℕ) → InOrder p path s }
 {}
 
-/// After every run the next step queues one message if it accepts a send, takes one if it is answered with a
-/// message, and otherwise leaves as many queued as there were. The bound on a kernel's slots comes from this.
+/// After every run the next step's own part queues one message if it accepts a send, and takes one if it gives one or
+/// destroys one as too long. A step's end queues each notice that it tells, and destroys what lies at the ports that
+/// die.
 pub fn queued_messages()
+    ensures part { (events : List Event) (replies : List Reply) (s : State) → Run events replies s →
+        (event : Event) → NoneHolds (guards s event) → (reply : Reply) (mid : State) (owed : Owed) → Does (length events) s event reply mid owed →
+        queued mid + takes_from event reply ≡ queued s + accepts event reply }
+    ensures ending { (now : ℕ) (old mid : State) (owed : Owed) (new : State) → MidLawful mid owed → (x : Settles now old mid owed new) →
+        queued new + destroyed mid new ≡ queued mid + length x.notices.posted }
+{}
+
+/// After every run the queued messages and the send-once rights that none of them goes by are together as many as
+/// there are send-once rights and queued messages that came by send rights. They are no more at the end of a step
+/// than its own part left, with the rights that it owes a notice: a notice is queued by the right that it takes the
+/// place of, so no message slot is made where ports die.
+pub fn slots_that_are_needed()
+    ensures needed { (events : List Event) (replies : List Reply) (s : State) → Run events replies s →
+        queued s + unused s ≡ once_rights s + queued_by_send s }
+    ensures midway { (mid : State) (owed : Owed) → MidLawful mid owed → queued mid + unused mid ≡ once_rights mid + queued_by_send mid }
+    ensures ending { (now : ℕ) (old mid : State) (owed : Owed) (new : State) → MidLawful mid owed → Settles now old mid owed new →
+        queued new + unused new ≤ queued mid + unused mid + length owed }
+{}
+
+/// After every run no call but a send, the two that hand a right to another task and the request for a notice needs
+/// more slots than were needed before it, whatever dies and whatever is told in its step.
+pub fn few_calls_need_slots()
     ensures { (events : List Event) (replies : List Reply) (s : State) → Run events replies s →
-        (event : Event) (reply : Reply) (new : State) → Step (length events) s event reply new →
-        queued new + delivers event reply ≡ queued s + accepts event reply }
+        (event : Event) (reply : Reply) (new : State) → Step (length events) s event reply new → ¬ (MayNeedSlots event) →
+        queued new + unused new ≤ queued s + unused s }
+{}
+
+/// In every run a kernel that makes message slots only as a step's end needs them, one for each queued message and
+/// one for each send-once right that none of them goes by, has never more slots than were needed at once.
+pub fn slots_are_bounded()
+    ensures { (path : List Stage) (s : State) → Path path s → (spares : List ℕ) (last : ℕ) → MakesSlots 0 path spares last → SlotsWithin last path s }
 {}
 
 /// A call that is answered with another code than 0 changes nothing.
@@ -210,6 +247,13 @@ pub fn refusals_change_nothing()
 pub fn looks_change_nothing()
     ensures { (events : List Event) (replies : List Reply) (s : State) → Run events replies s →
         (event : Event) (reply : Reply) (new : State) → Step (length events) s event reply new → IsLook event reply → IsUnchanged s new }
+{}
+
+/// A receive that is answered that a message is too long, and that didn't ask that it stay, destroys that one message,
+/// the one in front of a port that it asked for, and no other.
+pub fn too_long_is_destroyed()
+    ensures { (now : ℕ) (old : State) (event : Event) (n : ℕ) (new : State) → Step now old event (Reply.TooLarge n) new →
+        ¬ (IsLook event (Reply.TooLarge n)) → Destroys event n old new }
 {}
 
 /// After every run a refusal and a success exclude each other: what refuses an event, but for want of memory,
@@ -280,4 +324,46 @@ pub fn renamed_dead_name()
 /// set is gone a later try by it is told so, and the port is in none.
 pub fn grouped_port()
     ensures { (s : State) × Run grouping_events grouping_replies s }
+{}
+
+/// They speak of notices: a send-once right that is lost unused tells so, a request about a port that has no senders
+/// already is told at once, and so is one about a name that is dead already, which gets a reference more.
+pub fn told_at_once()
+    ensures { (s : State) × Run telling_events telling_replies s }
+{}
+
+/// They speak of messages that are too long: one stays where the receiver asks for that, and else is destroyed, after
+/// which there is none.
+pub fn destroyed_message()
+    ensures { (s : State) × Run destroying_events destroying_replies s }
+{}
+
+/// They speak of ports that die: whoever asked to be told of a name of one is told that it died, and the name is a dead
+/// name, with one reference more.
+pub fn told_of_death()
+    ensures { (s : State) × Run dying_events dying_replies s }
+{}
+
+/// They speak of messages at ports that die: one carries a right to answer by, and whoever waits for the answer is told
+/// that the right goes unused.
+pub fn message_of_dead_port()
+    ensures { (s : State) × Run unanswered_events unanswered_replies s }
+{}
+
+/// Another carries the last send right of a port that lives: whoever asked to be told is told that this one has no
+/// senders, once the right is lost and not while it lies in the queue.
+pub fn told_of_no_senders()
+    ensures { (s : State) × Run senderless_events senderless_replies s }
+{}
+
+/// They speak of tasks that end: whoever asked to be told of a name of one is told once, that the name is deleted, and
+/// not that it died, though its port dies with the task.
+pub fn deleted_name()
+    ensures { (s : State) × Run deleting_events deleting_replies s }
+{}
+
+/// A port of a task that ends lives where that was asked for: its receive right comes in a notice, while the task's
+/// other port dies.
+pub fn port_sent_away()
+    ensures { (s : State) × Run sending_away_events sending_away_replies s }
 {}

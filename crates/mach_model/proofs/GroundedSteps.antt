@@ -27,7 +27,6 @@ use Rattle.mach_model.specs.Requests.{GivesBack, Keeps, Requests}
 use Rattle.mach_model.specs.Send.{place_at, Sends}
 use Rattle.mach_model.specs.ReceivedMeans.{received_words}
 use Rattle.mach_model.specs.Receive.{Takes, Receives, DestroysFront, Receipt}
-use Rattle.mach_model.specs.NotYet.{stays_large}
 use Rattle.mach_model.specs.Machine.{Does, Step, RunFrom, Run}
 use Rattle.mach_model.specs.Lawful.{IsLawful}
 use Rattle.mach_model.specs.Midway.{MidLawful}
@@ -220,7 +219,7 @@ module _ (own : Place) where
   receipt_fewer : (old : State) (task : ℕ) (waited : Waited) (room : ℕ) (large : Bool) (reply : Reply) (mid : State) (owed : Owed) → Receipt old task waited room large reply mid owed → Fewer own old mid
   receipt_fewer old task waited room large (Reply.Message bytes) mid owed x = receives_fewer task x.0 room bytes old mid x.2
   receipt_fewer old task waited room large (Reply.Empty told) mid owed x = same_fewer own old mid x.2
-  receipt_fewer old task waited room large (Reply.TooLarge n) mid owed x = pick (stays_large large) _ _ _ (λ (h : (mid ≡ old) × (owed ≡ [])). same_fewer own old mid h.0) (front_fewer x.0 x.1 old mid owed) x.6
+  receipt_fewer old task waited room large (Reply.TooLarge n) mid owed x = pick large _ _ _ (λ (h : (mid ≡ old) × (owed ≡ [])). same_fewer own old mid h.0) (front_fewer x.0 x.1 old mid owed) x.6
   receipt_fewer old task waited room large reply mid owed x = absurd x
 
 inserts_fewer : (task name from poly number : ℕ) (old mid : State) → Inserts task name from poly number old mid → Fewer (in_task task) old mid

@@ -5,6 +5,7 @@ pub mod Names
 pub mod Spaces
 pub mod SetNames
 pub mod Requests
+pub mod Quiet
 pub mod Settling
 pub mod Receivers
 pub mod Moving
@@ -56,3 +57,4 @@ pub mod TurnsCounted
 pub mod TurnsLogs
 pub mod TurnsMade
 pub mod TurnsBounded
+pub mod StepReceives

@@ -5,7 +5,7 @@ use Rattle.std.specs.FinMap.{get-empty, len-empty}
 use Rattle.std.specs.Ordering.{nat_cmp}
 use Rattle.mach_model.specs.State.{Target, opening, lookup}
 use Rattle.mach_model.specs.Lawful.{IsLawful}
-use Rattle.mach_model.specs.NotYet.{IsQuiet}
+use Rattle.mach_model.proofs.Quiet.{IsQuiet}
 use Rattle.mach_model.proofs.Names.{no_values}
 
 unused : (task name : ℕ) → lookup opening task name ≡ None

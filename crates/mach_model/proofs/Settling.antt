@@ -13,8 +13,8 @@ use Rattle.mach_model.specs.Notices.{Notice, port_deleted, port_sent, no_more_se
 use Rattle.mach_model.specs.Settles.{PlaceStays, StaysWith, PaysFor, GoesFrom, settled_target, BecameDead, Ends, tokens_of, due_notices, Settles}
 use Rattle.mach_model.specs.Carried.{lying}
 use Rattle.mach_model.specs.Lawful.{IsLawful, LawfulPorts, is_once}
-use Rattle.mach_model.specs.Midway.{MidLawful, IsStill}
-use Rattle.mach_model.specs.NotYet.{IsQuiet}
+use Rattle.mach_model.specs.Midway.{MidLawful}
+use Rattle.mach_model.proofs.Quiet.{IsQuiet, IsStill}
 use Rattle.mach_model.proofs.Weigh.{length-weigh, weigh-append, left_of, count_some, lying_le_of, held_le_of, pos_or_zero}
 use Rattle.mach_model.proofs.Names.{alike, some_tally}
 use Rattle.mach_model.proofs.Spaces.{same_naming}
@@ -99,7 +99,7 @@ once_lives s l task name p is =
 
 -- ---- a lawful state may stay
 
-same_target : (mid new : State) (task name : ℕ) (o : Option Target) →
+pub same_target : (mid new : State) (task name : ℕ) (o : Option Target) →
     ((p : ℕ) → o ≡ Some (Target.port p) → new.live_port p ≡ true) → ((p : ℕ) → o ≡ Some (Target.once p) → new.live_port p ≡ true) →
     o ≡ option_map (settled_target mid new task name) o
 same_target mid new task name None f g = refl
@@ -108,7 +108,7 @@ same_target mid new task name (Some (Target.once p)) f g = rw (g p refl)
 same_target mid new task name (Some (Target.dead n)) f g = refl
 same_target mid new task name (Some (Target.set s)) f g = refl
 
-kept_set : (b : Bool) (o : List ℕ) → (b ≡ false → o ≡ []) → o ≡ (if b then o else [])
+pub kept_set : (b : Bool) (o : List ℕ) → (b ≡ false → o ≡ []) → o ≡ (if b then o else [])
 kept_set true o f = refl
 kept_set false o f = f refl
 
@@ -117,7 +117,7 @@ abbrev pub KeepsSenders : (old mid : State) → Type 0
 KeepsSenders old mid = (p : ℕ) → mid.stands (no_senders p) ≡ true → 0 < senders old p → 0 < senders mid p
 
 -- So no request ends.
-nothing_ends : (old mid new : State) → IsLawful mid → KeepsSenders old mid → ((p : ℕ) → new.live_port p ≡ mid.live_port p) → ((p : ℕ) → senders new p ≡ senders mid p) →
+pub nothing_ends : (old mid new : State) → IsLawful mid → KeepsSenders old mid → ((p : ℕ) → new.live_port p ≡ mid.live_port p) → ((p : ℕ) → senders new p ≡ senders mid p) →
     (r : Request) → mid.stands r ≡ true → ¬ (Ends old mid new r)
 nothing_ends old mid new l keeps live same (no_senders p) is (inl dead) = let a = l.stands_on (no_senders p) is in let b = live p in cc
 nothing_ends old mid new l keeps live same (no_senders p) is (inr h) = let a = keeps p is h.0 in let b = same p in let c = h.1 in omega (arith, a, b, c)

@@ -17,7 +17,6 @@ use Rattle.mach_model.specs.Notices.{Owed}
 use Rattle.mach_model.specs.Machine.{Does, Step, RunFrom, Run}
 use Rattle.mach_model.specs.Lawful.{IsLawful}
 use Rattle.mach_model.specs.Midway.{MidLawful}
-use Rattle.mach_model.specs.NotYet.{stays_large}
 use Rattle.mach_model.proofs.Weigh.{held_le_of}
 use Rattle.mach_model.proofs.Settling.{lives}
 use Rattle.mach_model.proofs.Midway.{mid_lawful, unowed}
@@ -81,7 +80,7 @@ told old mid owed l same none = unowed mid owed none (subst (λ (x : State). Mid
 
 -- a message that was too long
 too_large : (task room n : ℕ) (waited : Waited) (large : Bool) (old mid : State) (owed : Owed) → IsLawful old → Receipt old task waited room large (Reply.TooLarge n) mid owed → MidLawful mid owed
-too_large task room n waited large old mid owed l (p, e, from, front, is, over, what) = go (stays_large large) what
+too_large task room n waited large old mid owed l (p, e, from, front, is, over, what) = go large what
   where
     go : (b : Bool) → MatchBool b ((mid ≡ old) × (owed ≡ [])) (DestroysFront p e old mid owed) → MidLawful mid owed
     go true h = told old mid owed l h.0 h.1
@@ -115,7 +114,7 @@ Does-mid now old (Event.InsertRight task name from poly number) (Reply.Code code
 Does-mid now old (Event.ExtractRight task name number to) (Reply.Right new_name kind) mid owed g d l = unowed mid owed d.1
     (Extracts-mid task name number to new_name kind old mid l (not_false (old.live_task to) (λ e. g.0 (inr e))) d.0)
 Does-mid now old (Event.RequestNotification task name variant sync notify number) (Reply.Previous previous) mid owed g d l =
-    Requests-mid task name variant sync notify number previous old mid owed l (not_false (old.live_task task) g.0) g.1.1 d
+    Requests-mid task name variant sync notify number previous old mid owed l (not_false (old.live_task task) g.0) g.1 d
 Does-mid now old (Event.Send task bytes) (Reply.Code code) mid owed g d l = unowed mid owed d.2 (Sends-mid now task bytes old mid g.1 l d.1)
 Does-mid now old (Event.Receive task name room large) (Reply.Message bytes) mid owed g d l = unowed mid owed d.2.3
     (Receives-mid task d.2.0 room bytes old mid l (TakesFrom-live old l task d.0 d.2.0 d.2.1) (not_false (old.live_task task) g.0) d.2.2)

@@ -1,6 +1,6 @@
--- As long as the rules of NotYet stand, a step's own part in a quiet state loses nothing and leaves a quiet one, and so does the step.
+-- By an answer by which no right is lost a step's own part leaves a quiet state quiet, and so does the step.
 use Rattle.std.proofs.Common.{◌≡◌, ℕ, zero, suc, ◌+◌, ◌-◌, ◌<◌, ◌≤◌, List, [], ◌∷◌, Some, refl, sym, ap, subst, ◌∙◌, arith, true, false, Bool, inl, inr, length, get_or}
-use Rattle.std.specs.Prelude.{ℤ, if◌then◌else◌, ◌==◌, ◌&&◌, ◌||◌, nat_lt, All}
+use Rattle.std.specs.Prelude.{ℤ, if◌then◌else◌, ◌==◌, ◌&&◌, ◌||◌, nat_lt, All, MatchBool}
 use Rattle.std.proofs.lemmas.Bool.{and_right, or_cases, eq-eqb, ne_eqb, false_from_ne_true, cases_Bool}
 use Rattle.std.proofs.lemmas.Bool.Decides.{eqb_tells}
 use Rattle.mach_types.specs.declared.calls.Event.{Event}
@@ -17,17 +17,16 @@ use Rattle.mach_model.specs.ReceiveRight.{NamesReceive}
 use Rattle.mach_model.specs.References.{is_either, LosesAll, Deallocates, Destroys, RemovesRight, Modifies}
 use Rattle.mach_model.specs.Sets.{JoinsSet}
 use Rattle.mach_model.specs.Send.{Sends}
-use Rattle.mach_model.specs.Receive.{Receives}
+use Rattle.mach_model.specs.Receive.{Receives, DestroysFront}
 use Rattle.mach_model.specs.Refusals.{guards}
 use Rattle.mach_model.specs.Notices.{Owed}
-use Rattle.mach_model.specs.Settles.{Settles}
-use Rattle.mach_model.specs.Machine.{Does, Done, Step, RunFrom, Run}
+use Rattle.mach_model.specs.Machine.{Does, Step}
 use Rattle.mach_model.specs.Lawful.{IsLawful}
-use Rattle.mach_model.specs.Midway.{MidLawful, IsStill}
-use Rattle.mach_model.specs.NotYet.{NoRequests, IsQuiet, NamesOnce, IsNotYetDestroying, IsNotYetRemoving}
+use Rattle.mach_model.specs.Midway.{MidLawful}
+use Rattle.mach_model.proofs.Quiet.{NoRequests, IsQuiet, IsStill, NamesOnce, LosesWhole, Removes, LosesNone}
 use Rattle.mach_model.proofs.Weigh.{both_test, count_none, count_some, pos_or_zero, lying_le_of}
 use Rattle.mach_model.proofs.At.{at_other, elsewhere}
-use Rattle.mach_model.proofs.Settling.{is_at, own_test, mid_settles, settles_quietly, IsReordered, IsReordered-quiet}
+use Rattle.mach_model.proofs.Settling.{is_at, own_test, mid_settles}
 use Rattle.mach_model.proofs.Midway.{calm_lawful}
 use Rattle.mach_model.proofs.Moving.{Apart, apart-trans}
 use Rattle.mach_model.proofs.Opening.{opening-lawful, opening-quiet}
@@ -36,7 +35,7 @@ use Rattle.mach_model.proofs.HandLawful.{is_it, Hands, hands_shape, Inserts-hand
 use Rattle.mach_model.proofs.SendLawful.{Sends-adds}
 use Rattle.mach_model.proofs.ReceiveLawful.{Receives-removes, Receives-mid}
 use Rattle.mach_model.proofs.LosingLawful.{AreSends, no_sends, same_sends}
-use Rattle.mach_model.proofs.StepLawful.{not_false, TakesFrom-live, Does-mid, Step-lawful, Run-lawful}
+use Rattle.mach_model.proofs.StepLawful.{not_false, TakesFrom-live, Does-mid}
 
 -- ---- what keeps a state quiet
 
@@ -61,12 +60,12 @@ if_false true c e = refl
 if_false false c e = e
 
 -- a request on a name that goes
-without_stands : (task name : ℕ) (stands : Request → Bool) → NoRequests stands → NoRequests (request_at stands (dead_name task name) false)
+pub without_stands : (task name : ℕ) (stands : Request → Bool) → NoRequests stands → NoRequests (request_at stands (dead_name task name) false)
 without_stands task name stands none r = if_false (same_request r (dead_name task name)) (stands r) (none r)
 
 module _ (old : State) (l : IsLawful old) (quiet : IsQuiet old) where
   -- the same rights
-  same_rights : (mid : State) → Moves old.ledger mid.ledger [] [] → mid.live_port ≡ old.live_port → NoRequests mid.stands → Quietly old mid
+  pub same_rights : (mid : State) → Moves old.ledger mid.ledger [] [] → mid.live_port ≡ old.live_port → NoRequests mid.stands → Quietly old mid
   same_rights mid moves live stands = record {
     live = λ p e. sym (ap (λ (f : ℕ → Bool). f p) live) ∙ e;
     receives = λ p. same (is_of receive p);
@@ -204,13 +203,13 @@ module _ (old : State) (l : IsLawful old) (quiet : IsQuiet old) where
   unnamed : (task name : ℕ) (mid c : State) → mid ≡ c → c.ledger ≡ old.ledger → c.live_port ≡ old.live_port → c.stands ≡ request_at old.stands (dead_name task name) false → Quietly old mid
   unnamed task name mid c rest ledger live stands = as_it_was mid c rest ledger live (λ r. ap (λ (f : Request → Bool). f r) stands ∙ without_stands task name old.stands quiet.none_stands r)
 
-  destroys : (task name : ℕ) (mid : State) (owed : Owed) → ¬ (IsNotYetDestroying old task name) → Destroys task name old mid owed → (owed ≡ []) × Quietly old mid
+  destroys : (task name : ℕ) (mid : State) (owed : Owed) → ¬ (LosesWhole old task name) → Destroys task name old mid owed → (owed ≡ []) × Quietly old mid
   destroys task name mid owed not (Target.port p, is, d) = (d.2, port_destroyed task name p mid is (λ e. not (inl e)) d.0 d.1)
   destroys task name mid owed not (Target.once p, is, d) = absurd (not (inr (p, is)))
   destroys task name mid owed not (Target.dead n, is, d) = (d.1, unnamed task name mid _ d.0 refl refl refl)
   destroys task name mid owed not (Target.set set, is, d) = (d.1, unnamed task name mid _ d.0 refl refl refl)
 
-  modifies : (task name right : ℕ) (delta : ℤ) (mid : State) (owed : Owed) → ¬ (IsNotYetRemoving right delta) → Modifies task name right delta old mid owed → (owed ≡ []) × Quietly old mid
+  modifies : (task name right : ℕ) (delta : ℤ) (mid : State) (owed : Owed) → ¬ (Removes right delta) → Modifies task name right delta old mid owed → (owed ≡ []) × Quietly old mid
   modifies task name right delta mid owed not (inl (p, m, is_send, is, adds, d, none)) =
       (none, name_changes task name p (nat_lt 0 m || nat_lt 0 (held old task receive p)) mid _ _ d.tokens (same_sends task p (held old task send p - m)) (same_sends task p (m - held old task send p)) d.rest)
   modifies task name right delta mid owed not (inr (inl (n, m, is_dead, is, adds, rest, none))) = (none, go (nat_lt 0 m) rest)
@@ -325,9 +324,9 @@ Receives-still task port room bytes old mid l quiet live is_task r =
 -- ---- a step's own part
 
 -- What an event that isn't refused leaves of a quiet state is as lawful as it was, and nothing is owed.
-pub Does-still : (now : ℕ) (old : State) (event : Event) (reply : Reply) (mid : State) (owed : Owed) → NoneHolds (guards old event) → Does now old event reply mid owed → IsLawful old → IsQuiet old →
-    IsStill mid owed
-Does-still now old event reply mid owed g d l quiet = go event reply g d (Does-mid now old event reply mid owed g d l)
+pub Does-still : (now : ℕ) (old : State) (event : Event) (reply : Reply) (mid : State) (owed : Owed) → LosesNone old event reply → NoneHolds (guards old event) → Does now old event reply mid owed →
+    IsLawful old → IsQuiet old → IsStill mid owed
+Does-still now old event reply mid owed none g d l quiet = go event reply none g d (Does-mid now old event reply mid owed g d l)
   where
     quietly : owed ≡ [] → Quietly old mid → MidLawful mid owed → IsStill mid owed
     quietly none q m = still old mid owed l quiet none m q
@@ -350,68 +349,53 @@ Does-still now old event reply mid owed g d l quiet = go event reply g d (Does-m
     joins task member after (p, is, inl h) none = quietly none (as_it_was old l quiet mid _ h.1 refl refl quiet.none_stands)
     joins task member after (p, is, inr h) none = quietly none (as_it_was old l quiet mid _ h.2 refl refl quiet.none_stands)
 
-    go : (event : Event) (reply : Reply) → NoneHolds (guards old event) → Does now old event reply mid owed → MidLawful mid owed → IsStill mid owed
-    go Event.TaskCreate (Reply.Task task) g d m = quietly d.1 (as_it_was old l quiet mid _ d.0.rest refl refl quiet.none_stands) m
-    go (Event.TaskTerminate task) reply g d m = absurd (g.1.0 tt)
-    go (Event.Allocate task right) (Reply.Name name) g d m = makes task right name d.2 d.1 m
-    go (Event.AllocateName task right name) (Reply.Name told) g d m = makes task right name d.2 d.1 m
-    go (Event.Deallocate task name) (Reply.Code code) g d m = both (deallocates old l quiet task name mid owed g.1.1.1.0 d.1) m
-    go (Event.Destroy task name) (Reply.Code code) g d m = both (destroys old l quiet task name mid owed g.1.1.0 d.1) m
-    go (Event.ModRefs task name right delta) (Reply.Code code) g d m = both (modifies old l quiet task name right delta mid owed g.1.1.1.1.1.1.1.0 d.1) m
-    go (Event.GetRefs task name right) (Reply.Refs n) g d m = same d.1 d.2 m
-    go (Event.NameType task name) (Reply.NameType n) g d m = same d.1 d.2 m
-    go (Event.Names task) (Reply.Names entries) g d m = same d.1 d.2 m
-    go (Event.Rename task o n) (Reply.Code code) g d m = quietly d.2 (renames old l quiet task o n mid d.1) m
-    go (Event.ReceiveStatus task name) (Reply.Status status) g d m = same d.1 d.2 m
-    go (Event.SetQlimit task name n) (Reply.Code code) g d m = quietly d.2 (as_it_was old l quiet mid _ d.1.3 refl refl quiet.none_stands) m
-    go (Event.SetMscount task name n) (Reply.Code code) g d m = quietly d.3 (as_it_was old l quiet mid _ d.2.3 refl refl quiet.none_stands) m
-    go (Event.SetSeqno task name n) (Reply.Code code) g d m = quietly d.3 (as_it_was old l quiet mid _ d.2.3 refl refl quiet.none_stands) m
-    go (Event.SetStatus task name) (Reply.Members members) g d m = same d.1 d.2 m
-    go (Event.MoveMember task member after) (Reply.Code code) g d m = joins task member after d.1 d.2 m
-    go (Event.InsertRight task name from poly number) (Reply.Code code) g d m = quietly d.2
+    kept_large : (Q : Type 0) (large : Bool) → large ≡ true → MatchBool large ((mid ≡ old) × (owed ≡ [])) Q → (mid ≡ old) × (owed ≡ [])
+    kept_large Q true e h = h
+    kept_large Q false e h = absurd (cc)
+
+    go : (event : Event) (reply : Reply) → LosesNone old event reply → NoneHolds (guards old event) → Does now old event reply mid owed → MidLawful mid owed → IsStill mid owed
+    go Event.TaskCreate (Reply.Task task) n g d m = quietly d.1 (as_it_was old l quiet mid _ d.0.rest refl refl quiet.none_stands) m
+    go (Event.TaskTerminate task) reply n g d m = absurd n
+    go (Event.Allocate task right) (Reply.Name name) n g d m = makes task right name d.2 d.1 m
+    go (Event.AllocateName task right name) (Reply.Name told) n g d m = makes task right name d.2 d.1 m
+    go (Event.Deallocate task name) (Reply.Code code) n g d m = both (deallocates old l quiet task name mid owed n d.1) m
+    go (Event.Destroy task name) (Reply.Code code) n g d m = both (destroys old l quiet task name mid owed n d.1) m
+    go (Event.ModRefs task name right delta) (Reply.Code code) n g d m = both (modifies old l quiet task name right delta mid owed n d.1) m
+    go (Event.GetRefs task name right) (Reply.Refs k) n g d m = same d.1 d.2 m
+    go (Event.NameType task name) (Reply.NameType k) n g d m = same d.1 d.2 m
+    go (Event.Names task) (Reply.Names entries) n g d m = same d.1 d.2 m
+    go (Event.Rename task o k) (Reply.Code code) n g d m = quietly d.2 (renames old l quiet task o k mid d.1) m
+    go (Event.ReceiveStatus task name) (Reply.Status status) n g d m = same d.1 d.2 m
+    go (Event.SetQlimit task name k) (Reply.Code code) n g d m = quietly d.2 (as_it_was old l quiet mid _ d.1.3 refl refl quiet.none_stands) m
+    go (Event.SetMscount task name k) (Reply.Code code) n g d m = quietly d.3 (as_it_was old l quiet mid _ d.2.3 refl refl quiet.none_stands) m
+    go (Event.SetSeqno task name k) (Reply.Code code) n g d m = quietly d.3 (as_it_was old l quiet mid _ d.2.3 refl refl quiet.none_stands) m
+    go (Event.SetStatus task name) (Reply.Members members) n g d m = same d.1 d.2 m
+    go (Event.MoveMember task member after) (Reply.Code code) n g d m = joins task member after d.1 d.2 m
+    go (Event.InsertRight task name from poly number) (Reply.Code code) n g d m = quietly d.2
         (hands old l quiet mid _ _ (Inserts-hands task name from poly number old mid l (not_false (old.live_task task) (λ e. g.0 (inl e))) (λ e. g.1.0 (inl e)) d.1) (unowed_mid d.2 m)) m
-    go (Event.ExtractRight task name number to) (Reply.Right new_name kind) g d m = quietly d.1
+    go (Event.ExtractRight task name number to) (Reply.Right new_name kind) n g d m = quietly d.1
         (hands old l quiet mid _ _ (Extracts-hands task name number to new_name kind old mid l (not_false (old.live_task to) (λ e. g.0 (inr e))) d.0) (unowed_mid d.1 m)) m
-    go (Event.RequestNotification task name variant sync notify number) reply g d m = absurd (g.1.0 tt)
-    go (Event.Send task bytes) (Reply.Code code) g d m = quietly d.2 (sends old l quiet now task bytes mid g.1 d.1 (unowed_mid d.2 m)) m
-    go (Event.Receive task name room large) (Reply.Message bytes) g d m = quietly d.2.3
+    go (Event.RequestNotification task name variant sync notify number) reply n g d m = absurd n
+    go (Event.Send task bytes) (Reply.Code code) n g d m = quietly d.2 (sends old l quiet now task bytes mid g.1 d.1 (unowed_mid d.2 m)) m
+    go (Event.Receive task name room large) (Reply.Message bytes) n g d m = quietly d.2.3
         (receives old l quiet task d.2.0 room bytes mid (TakesFrom-live old l task d.0 d.2.0 d.2.1) (not_false (old.live_task task) g.0) d.2.2 (unowed_mid d.2.3 m)) m
-    go (Event.Receive task name room large) (Reply.Empty told) g d m = same d.2.2 d.2.3 m
-    go (Event.Receive task name room large) (Reply.TooLarge n) g d m = same d.2.6.0 d.2.6.1 m
-    go (Event.Receive task name room large) reply g d m = absurd d.2
-    go (Event.ReceiveAgain task waited room large) (Reply.Message bytes) g d m = quietly d.3
+    go (Event.Receive task name room large) (Reply.Empty told) n g d m = same d.2.2 d.2.3 m
+    go (Event.Receive task name room large) (Reply.TooLarge k) n g d m = let h = kept_large (DestroysFront d.2.0 d.2.1 old mid owed) large n d.2.6 in same h.0 h.1 m
+    go (Event.Receive task name room large) reply n g d m = absurd d.2
+    go (Event.ReceiveAgain task waited room large) (Reply.Message bytes) n g d m = quietly d.3
         (receives old l quiet task d.0 room bytes mid (TakesFrom-live old l task waited d.0 d.1) (not_false (old.live_task task) g.0) d.2 (unowed_mid d.3 m)) m
-    go (Event.ReceiveAgain task waited room large) (Reply.Empty told) g d m = same d.2 d.3 m
-    go (Event.ReceiveAgain task waited room large) (Reply.TooLarge n) g d m = same d.6.0 d.6.1 m
-    go event reply g d m = absurd d
+    go (Event.ReceiveAgain task waited room large) (Reply.Empty told) n g d m = same d.2 d.3 m
+    go (Event.ReceiveAgain task waited room large) (Reply.TooLarge k) n g d m = let h = kept_large (DestroysFront d.0 d.1 old mid owed) large n d.6 in same h.0 h.1 m
+    go event reply n g d m = absurd d
 
 -- ---- steps and runs
 
--- a step that is not refused ends with the state after its own part, but for the order of the tokens
-pub Done-mid : (now : ℕ) (old : State) (event : Event) (reply : Reply) (new : State) → IsLawful old → IsQuiet old → (d : Done now old event reply new) → IsStill d.mid d.owed × IsReordered d.mid new
-Done-mid now old event reply new l quiet d =
-    let m = Does-still now old event reply d.mid d.owed d.unrefused d.does l quiet in
-    (m, settles_quietly now old d.mid new m.lawful m.quiet (subst (λ (owed : Owed). Settles now old d.mid owed new) m.none_owed d.settles))
-
-pub Step-quiet : (now : ℕ) (old : State) (event : Event) (reply : Reply) (new : State) → Step now old event reply new → IsLawful old → IsQuiet old → IsQuiet new
-Step-quiet now old event reply new (inl r) l quiet = subst IsQuiet (sym r.same) quiet
-Step-quiet now old event reply new (inr d) l quiet = let m = Done-mid now old event reply new l quiet d in IsReordered-quiet d.mid new m.0.lawful m.1 m.0.quiet
-
--- What an event may do in a quiet state makes a step, with no more to settle.
-pub quiet_step : (now : ℕ) (old : State) (event : Event) (reply : Reply) (mid : State) → IsLawful old → IsQuiet old → NoneHolds (guards old event) → Does now old event reply mid [] →
+-- What an event may do in a quiet state, by an answer by which no right is lost, makes a step, with no more to settle.
+pub quiet_step : (now : ℕ) (old : State) (event : Event) (reply : Reply) (mid : State) → IsLawful old → IsQuiet old → LosesNone old event reply → NoneHolds (guards old event) → Does now old event reply mid [] →
     Step now old event reply mid × IsLawful mid × IsQuiet mid
-quiet_step now old event reply mid l quiet good does =
-    let m = Does-still now old event reply mid [] good does l quiet in
+quiet_step now old event reply mid l quiet none good does =
+    let m = Does-still now old event reply mid [] none good does l quiet in
     (inr (record { unrefused = good; mid = mid; owed = []; does = does; settles = mid_settles now old mid [] m }), m.lawful, m.quiet)
-
-pub RunFrom-quiet : (now : ℕ) (old : State) (events : List Event) (replies : List Reply) (new : State) → RunFrom now old events replies new → IsLawful old → IsQuiet old → IsQuiet new
-RunFrom-quiet now old [] [] new r l quiet = subst IsQuiet (sym r) quiet
-RunFrom-quiet now old (e ∷ es) (x ∷ xs) new r l quiet = RunFrom-quiet (now + 1) r.0 es xs new r.2 (Step-lawful now old e x r.0 r.1 l) (Step-quiet now old e x r.0 r.1 l quiet)
-RunFrom-quiet now old [] (x ∷ xs) new r l quiet = absurd r
-RunFrom-quiet now old (e ∷ es) [] new r l quiet = absurd r
-
-pub Run-quiet : (events : List Event) (replies : List Reply) (s : State) → Run events replies s → IsQuiet s
-Run-quiet events replies s r = RunFrom-quiet 0 opening events replies s r opening-lawful opening-quiet
 
 -- ---- both
 
@@ -422,9 +406,3 @@ pub record IsCalm (s : State) : Type 0 where
 
 pub opening-calm : IsCalm opening
 opening-calm = record { lawful = opening-lawful; quiet = opening-quiet }
-
-pub Step-calm : (now : ℕ) (old : State) (event : Event) (reply : Reply) (new : State) → Step now old event reply new → IsCalm old → IsCalm new
-Step-calm now old event reply new step c = record { lawful = Step-lawful now old event reply new step c.lawful; quiet = Step-quiet now old event reply new step c.lawful c.quiet }
-
-pub Run-calm : (events : List Event) (replies : List Reply) (s : State) → Run events replies s → IsCalm s
-Run-calm events replies s r = record { lawful = Run-lawful events replies s r; quiet = Run-quiet events replies s r }

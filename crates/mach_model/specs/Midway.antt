@@ -8,8 +8,7 @@ use Rattle.mach_model.specs.State.{State, held, Holds}
 use Rattle.mach_model.specs.Death.{IsOrphan}
 use Rattle.mach_model.specs.Carried.{lying_among}
 use Rattle.mach_model.specs.Notices.{Notice, carried_by, Owed}
-use Rattle.mach_model.specs.Lawful.{LawfulTasks, LawfulNames, LawfulPorts, LawfulNumbers, LawfulSets, LawfulMembership, LawfulLogs, LawfulMessages, LawfulRequests, LawfulGround, IsLawful}
-use Rattle.mach_model.specs.NotYet.{IsQuiet}
+use Rattle.mach_model.specs.Lawful.{LawfulTasks, LawfulNames, LawfulPorts, LawfulNumbers, LawfulSets, LawfulMembership, LawfulLogs, LawfulMessages, LawfulRequests, LawfulGround}
 
 abbrev pub IsOnName : Request → Type 0
 IsOnName (dead_name task name) = Unit {0}
@@ -63,11 +62,3 @@ pub record MidLawful (s : State) (owed : Owed) : Type 0 where
   pub open standing use *
   pub ground : LawfulGround s.live_port s.naming s.stands
   pub open ground use *
-
--- ---- as long as the rules of NotYet stand
-
--- A step's own part loses nothing: it leaves what is true at a step's end, and nothing is owed.
-pub record IsStill (s : State) (owed : Owed) : Type 0 where
-  pub lawful : IsLawful s
-  pub quiet : IsQuiet s
-  pub none_owed : owed ≡ []

@@ -14,7 +14,6 @@ use Rattle.mach_model.specs.CopyOut.{GiveWord, MessageLacks}
 use Rattle.mach_model.specs.ReceivedMeans.{message_length, IsReceived, received_words}
 use Rattle.mach_model.specs.Notices.{Owed}
 use Rattle.mach_model.specs.References.{LosesAll, unused}
-use Rattle.mach_model.specs.NotYet.{stays_large}
 
 -- ---- where from
 
@@ -81,7 +80,7 @@ Receipt old task waited room large (Reply.Empty told) mid owed = (told ≡ waite
 Receipt old task waited room large (Reply.TooLarge n) mid owed =
     (p : ℕ) × (e : Entry) × TakesFrom old task waited p × IsFront old p e
     × (n ≡ message_length e.message) × (min room most_bytes < n)
-    × MatchBool (stays_large large) ((mid ≡ old) × (owed ≡ [])) (DestroysFront p e old mid owed)
+    × MatchBool large ((mid ≡ old) × (owed ≡ [])) (DestroysFront p e old mid owed)
 Receipt old task waited room large reply mid owed = ⊥
 
 -- ---- refusals where a port that it may take from has a message that fits: names are judged before memory

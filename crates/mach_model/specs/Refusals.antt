@@ -2,7 +2,7 @@
 use Rattle.std.specs.Prelude.{◌≡◌, ◌≢◌, ℕ, false, ℤ, pos, negsuc, ◌+◌, ◌<◌, ◌≤◌, ◌⊎◌, List, [], ◌∷◌, length, Option, Some, None}
 use Rattle.mach_types.specs.declared.calls.Event.{Event}
 use Rattle.mach_types.specs.declared.calls.Waited.{Waited}
-use Rattle.mach_types.specs.declared.codes.KernReturn.TheVariants.{NoSpace, InvalidArgument, ResourceShortage, NameExists, InvalidName, InvalidTask, InvalidRight, InvalidValue, UrefsOverflow, InvalidCapability, NotInSet}
+use Rattle.mach_types.specs.declared.codes.KernReturn.TheVariants.{NoSpace, ResourceShortage, NameExists, InvalidName, InvalidTask, InvalidRight, InvalidValue, UrefsOverflow, InvalidCapability, NotInSet}
 use Rattle.mach_types.specs.declared.codes.MsgReturn.TheVariants.{ReceiveInvalidName, ReceiveInSet, ReceivePortDied, ReceivePortChanged}
 use Rattle.mach_types.specs.Numbers.{null_word, dead_word, kern_number, msg_number, most_tasks, most_rights, greatest_limit}
 use Rattle.mach_types.specs.Tokens.{receive, in_task}
@@ -18,7 +18,6 @@ use Rattle.mach_model.specs.Sets.{IsSet}
 use Rattle.mach_model.specs.Receive.{waits_for, ReceiptRefuses}
 use Rattle.mach_model.specs.Requests.{notify_guards, RequestRefuses}
 use Rattle.mach_model.specs.References.{HasReference, IsCounted, IsUncounted, references_at, IsBelowZero, IsAbove, added_rights}
-use Rattle.mach_model.specs.NotYet.{IsNotYetServed, IsNotYetDeallocating, IsNotYetDestroying, IsNotYetRemoving}
 
 abbrev pub IsUnused : State → (task name : ℕ) → Type 0
 IsUnused s task name = lookup s task name ≡ None
@@ -110,7 +109,6 @@ modify_guards s task name right delta =
     ∷ (IsCounted right × IsBelowZero (references_at s task name right) delta ⊎ IsUncounted right × (delta ≢ pos 0) × (delta ≢ negsuc 0), kern_number InvalidValue)
     ∷ (IsCounted right × IsAbove (references_at s task name right) delta, kern_number UrefsOverflow)
     ∷ ((right ≡ 0) × (most_rights < length s.ledger + added_rights delta), kern_number NoSpace)
-    ∷ (IsNotYetRemoving right delta, kern_number InvalidRight)
     ∷ []
 
 abbrev pub insert_guards : State → (task name from poly number : ℕ) → Guards
@@ -130,7 +128,7 @@ extract_guards s task name number to =
 
 abbrev pub call_guards : State → Event → Guards
 call_guards s Event.TaskCreate = (most_tasks ≤ s.tasks_made, kern_number NoSpace) ∷ []
-call_guards s (Event.TaskTerminate task) = (IsNotYetServed, kern_number InvalidArgument) ∷ []
+call_guards s (Event.TaskTerminate task) = []
 call_guards s (Event.Allocate task right) =
     (IsNoMaking right, kern_number InvalidValue)
     ∷ (IsFull s task right, kern_number NoSpace)
@@ -143,11 +141,9 @@ call_guards s (Event.AllocateName task right name) =
 call_guards s (Event.Deallocate task name) =
     (IsUnused s task name, kern_number InvalidName)
     ∷ (¬ (HasReference s task (lookup s task name)), kern_number InvalidRight)
-    ∷ (IsNotYetDeallocating s task name, kern_number InvalidRight)
     ∷ []
 call_guards s (Event.Destroy task name) =
     (IsUnused s task name, kern_number InvalidName)
-    ∷ (IsNotYetDestroying s task name, kern_number InvalidRight)
     ∷ []
 call_guards s (Event.ModRefs task name right delta) = modify_guards s task name right delta
 call_guards s (Event.GetRefs task name right) = (4 < right, kern_number InvalidValue) ∷ used_guards s task name
@@ -166,8 +162,7 @@ call_guards s (Event.SetStatus task name) = set_guards s task name
 call_guards s (Event.MoveMember task member after) = move_guards s task member after
 call_guards s (Event.InsertRight task name from poly number) = insert_guards s task name from poly number
 call_guards s (Event.ExtractRight task name number to) = extract_guards s task name number to
-call_guards s (Event.RequestNotification task name variant sync notify number) =
-    (IsNotYetServed, kern_number InvalidArgument) ∷ notify_guards s task name variant sync notify number
+call_guards s (Event.RequestNotification task name variant sync notify number) = notify_guards s task name variant sync notify number
 call_guards s (Event.Send task bytes) = header_guards bytes
 call_guards s (Event.Receive task name room large) =
     (¬ (NamesReceive s task name ⊎ IsSet (lookup s task name)), msg_number ReceiveInvalidName)

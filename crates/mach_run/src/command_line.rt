@@ -6,6 +6,7 @@ use std::alloc::{AllocError, Global};
 const CALLS: &str = "\
     A script has one call a line: its word, and its arguments, each after one space.\n  \
     task                          makes a task; T, FROM and TO are tasks, from 0\n  \
+    end T                         ends the task, with all its names\n  \
     alloc T RIGHT                 RIGHT 0: send, 1: receive, 2: send-once, 3: port set, 4: dead name\n  \
     allocname T RIGHT NAME\n  \
     dealloc T NAME\n  \
@@ -23,6 +24,9 @@ const CALLS: &str = "\
     seqno T NAME N\n  \
     move T MEMBER SET             SET 0: into none\n  \
     members T NAME\n  \
+    notify T NAME VARIANT SYNC NOTIFY DISP\n  \
+                                  VARIANT 69: port destroyed, 70: no senders, 72: dead name;\n  \
+                                  DISP 18 or 21; NOTIFY 0 takes the request away\n  \
     send T BYTES                  the message in hexadecimal, - for no bytes\n  \
     recv T NAME ROOM LARGE        LARGE 1: a longer message stays; else 0\n  \
     again T p PORT ROOM LARGE\n  \

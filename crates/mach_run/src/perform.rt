@@ -126,7 +126,7 @@ fn answer_all<W: Write>(alloc: Global, events: &[Event], out: &mut W) -> io::Res
 
 /// Makes the calls in turn on this kernel, in which nothing was made yet, and writes their replies, one a line.
 fn answer_each<W: Write>(kernel: &mut Kernel, events: &[Event], out: &mut W) -> io::Result<()>
-    requires { Shows kernel.old opening }
+    requires { Shows kernel.old.tables opening }
     ensures { OnOk result ((text : List ℕ) × AreReplies events.now text × Appends (W.contents out.old) (W.contents out.new) text) }
 {
     for event in events {

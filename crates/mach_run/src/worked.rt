@@ -294,7 +294,7 @@ const MANY_RIGHTS: (&str, &str) = (
     send 0 131500805000000002000000010000000000000\
     00a000000142002100100000001000000122001100300000008080510414243444500000013200310\
     0400000000000000ffffffff1120011002000000\n\
-    recv 1 1 79 0\n\
+    recv 1 1 79 1\n\
     recv 1 1 80 0\n\
     names 1\n\
     refs 1 3 0\n\
@@ -378,7 +378,7 @@ fn are(alloc: Global, replies: &[Reply], lines: &str) -> bool {
 }
 
 /// Whether the script gives these replies, by `perform` and by a whole run.
-fn gives(alloc: Global, script: &str, replies: &str) -> bool {
+pub(crate) fn gives(alloc: Global, script: &str, replies: &str) -> bool {
     writes(alloc, script, replies, "") && run_gives(alloc, script, replies)
 }
 
@@ -418,7 +418,7 @@ fn joined(alloc: Global, texts: &[&str]) -> Option<String> {
 }
 
 /// Whether the script, in parts, gives the replies, in parts too.
-fn parts_give(alloc: Global, script: &[&str], replies: &[&str]) -> bool {
+pub(crate) fn parts_give(alloc: Global, script: &[&str], replies: &[&str]) -> bool {
     match (joined(alloc, script), joined(alloc, replies)) {
         (Some(script), Some(replies)) => gives(alloc, script.as_str(), replies.as_str()),
         _ => false,

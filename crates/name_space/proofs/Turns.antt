@@ -6,7 +6,7 @@ use Rattle.std.proofs.lemmas.List.{append-nil, append_assoc}
 use Rattle.std.specs.declared.cmp.Ordering.{Ordering}
 use Rattle.std.specs.declared.cmp.Ordering.TheVariants.{Less, Equal, Greater}
 use Rattle.std.specs.Ordering.{nat_cmp, is_lt, MatchOrdering}
-use Rattle.std.specs.Cmp.{nat_cmp_total, unsigned_tied}
+use Rattle.std.specs.Cmp.{unsigned_tied}
 use Rattle.std.specs.FinMap as map
 use Rattle.std.specs.FinMap.Entries.{find, is_sorted, below_all}
 use Rattle.name_space_base.specs.Pages.{IsNextUsed}
@@ -122,16 +122,6 @@ none_left m items (e ∷ rest) so_far none = absurd (omega arith)
 pub remains_all : (m : Names) (items : List ℕ) (turns start : ℕ) → Remains m items turns start → map.len m ≤ turns → items ≡ map.keys m
 remains_all m items turns start x all = none_left m items x.left x.so_far (let counted = x.counted in omega arith)
 
--- ---- no name at all
-
 pub if_none : (r : Option ℕ) {P : Type 0} → P → IfNone r P
 if_none None p = p
 if_none (Some x) p = tt
-
-pub no_names : (m : Names) (r : Option ℕ) → ((n : ℕ) → 1 ≤ n → map.get m n ≡ None) → map.get m 0 ≡ None → IfNone r (map.len m ≡ 0)
-no_names m r none null =
-    let empty : m ≡ map.empty = map.same_map nat_cmp_total map.nat_cmp-IsAntisymmetric _ _ (λ q. elim (equal_or_not q 0) [
-      | inl a ↦ ap (map.get m) a ∙ null ∙ sym (map.get-empty nat_cmp q)
-      | inr d ↦ none q (omega (arith, d)) ∙ sym (map.get-empty nat_cmp q)
-    ]) in
-    if_none r (ap (λ (a : Names). map.len a) empty ∙ map.len-empty nat_cmp Entry)

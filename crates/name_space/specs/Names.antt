@@ -41,6 +41,12 @@ pub record IsFreshName {X : Type 0} (names : map.FinMap nat_cmp X) (name : ℕ) 
   pub not_null : 0 < name
   pub least : (n : ℕ) → 0 < n → n < name → map.contains_key names n ≡ true
 
+-- the least name in use from this one on
+pub record IsNextName {X : Type 0} (names : map.FinMap nat_cmp X) (start name : ℕ) : Type 0 where
+  pub from : start ≤ name
+  pub used : map.contains_key names name ≡ true
+  pub least : (n : ℕ) → start ≤ n → n < name → map.get names n ≡ None
+
 -- A name that isn't in use can be put in without memory: the fresh one, in room, or the one for which a place is kept.
 abbrev pub HasPlace : SpaceView → (name : ℕ) → Type 0
 HasPlace v name = (IsFreshName v.names name × (0 < v.room)) ⊎ (v.kept ≡ Some name)

@@ -227,7 +227,7 @@ fn reserve_moved(table: &Table, ports: &mut Ports) -> Result<(), AllocError>
 
 impl Space {
     ghost use Rattle.name_space.specs.declared.Entry.{Entry as AnyEntry};
-    ghost use Rattle.name_space.specs.Names.{IsUsable, IsFreshName, HasPlace, HasNoOther, MayWantPlace, port_at};
+    ghost use Rattle.name_space.specs.Names.{IsUsable, IsFreshName, IsNextName, HasPlace, HasNoOther, MayWantPlace, port_at};
 
     /// A space without names. Allocates nothing; constant time.
     pub fn new(alloc: Global) -> Space
@@ -436,13 +436,14 @@ impl Space {
         Ok(names)
     }
 
-    /// A name in use, if there is one: so all names can be taken out in turn. Constant time, but for
-    /// four words of each page of 256 names, up to 65,535, that was used and has none.
-    pub fn any_name(&self) -> Option<Name>
-        ensures none { IfNone result (map.len self.now.names ≡ 0) }
-        ensures found { IfSome result (λ name. map.contains_key self.now.names name ≡ true) }
+    /// The least name in use from this one on, if there is one: so all names can be taken out in turn.
+    /// Constant time, but for four words of each page of 256 names, up to 65,535, that was used and has
+    /// none from there on; above 65,535 logarithmic in the number of names there.
+    pub fn next_name(&self, from: Name) -> Option<Name>
+        ensures none { IfNone result ((name : ℕ) → from ≤ name → map.get self.now.names name ≡ None) }
+        ensures found { IfSome result (λ name. IsNextName self.now.names from name) }
     {
-        let name = self.table.next(1)?;
+        let name = self.table.next(from.number())?;
         Some(Name::new(name))
     }
 }

@@ -1,10 +1,9 @@
 -- Tables that agree with a state still do when a notice is posted, where the state has it in the log and a right of its port pays.
-use Rattle.std.proofs.Common.{◌≡◌, ℕ, zero, suc, ◌+◌, ◌<◌, ◌≤◌, Bool, true, false, List, [], ◌∷◌, ◌++◌, Some, refl, sym, ap, subst, ◌∙◌, arith, inl, inr, length, drop}
-use Rattle.std.specs.Prelude.{is_some, if◌then◌else◌, filter, ◌==◌, ◌&&◌}
+use Rattle.std.proofs.Common.{◌≡◌, ℕ, ◌+◌, ◌<◌, ◌≤◌, Bool, true, false, List, [], ◌∷◌, ◌++◌, Some, refl, sym, ap, subst, ◌∙◌, arith, length, drop}
+use Rattle.std.specs.Prelude.{is_some, if◌then◌else◌, filter, ◌&&◌}
 use Rattle.std.specs.Option.{unwrap_or}
-use Rattle.std.specs.FinMap as map
 use Rattle.std.proofs.lemmas.List.{drop-append-le}
-use Rattle.mach_types.specs.Tokens.{Kind, receive, send, send_once, Request, Place, in_message, in_request, Token, token, Moves, weigh, count, is_of, is_held}
+use Rattle.mach_types.specs.Tokens.{Kind, receive, send, send_once, Request, in_message, in_request, Token, token, Moves, weigh, count, is_of, is_held}
 use Rattle.mach_types.specs.Messages.{Entry}
 use Rattle.mach_model.specs.State.{State, at, queue}
 use Rattle.mach_model.specs.Death.{same_place}
@@ -16,15 +15,14 @@ use Rattle.mach_model.proofs.At.{at_own, at_other}
 use Rattle.mach_model.proofs.SettledReceives.{tally-append}
 use Rattle.mach_model.proofs.Weigh.{length-weigh}
 use Rattle.port.specs.Ports.{PortView}
-use Rattle.rights.specs.declared.Counts.{Counts}
 use Rattle.rights.specs.Counts.{no_rights, one_shifted}
-use Rattle.rights.specs.Ledger.{LedgerView, counts_of, shifted}
+use Rattle.rights.specs.Ledger.{counts_of, shifted}
 use Rattle.copyin_base.specs.declared.notice.Notice.{Notice}
 use Rattle.copyin_base.specs.Kept.{Kept, Keeps}
 use Rattle.copyin_base.specs.Queued.{notice_kept, notice_of}
 use Rattle.copyin_base.specs.Requests.{notify_of, RequestsAgree}
 use Rattle.copyin_base.specs.Worlds.{WorldView, port_at}
-use Rattle.copyin_base.specs.Shows.{AllKept, ShowsPort, CountsAgree}
+use Rattle.copyin_base.specs.Shows.{AllKept, ShowsPort}
 use Rattle.copyin_base.proofs.Agreeing.{live_put, ports_put}
 use Rattle.copyin_base.proofs.Counting.{once_queued, counts_same}
 use Rattle.copyin_base.proofs.Notices.{keeps_notice}
@@ -35,7 +33,7 @@ use Rattle.notifications.proofs.Written.{with_message}
 
 -- ---- a queue with one message more
 
-all_kept_append : (p : ℕ) (ms : List Kept) (es : List Entry) (m : Kept) (e : Entry) → AllKept p ms es → Keeps p m e.message → AllKept p (ms ++ m ∷ []) (es ++ e ∷ [])
+pub all_kept_append : (p : ℕ) (ms : List Kept) (es : List Entry) (m : Kept) (e : Entry) → AllKept p ms es → Keeps p m e.message → AllKept p (ms ++ m ∷ []) (es ++ e ∷ [])
 all_kept_append p [] [] m e h k = (k, tt)
 all_kept_append p (x ∷ ms) (y ∷ es) m e h k = (h.0, all_kept_append p ms es m e h.1 k)
 all_kept_append p [] (y ∷ es) m e h k = absurd h

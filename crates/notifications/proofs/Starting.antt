@@ -1,30 +1,19 @@
 -- As the end of a step starts, with nothing posted, the tables show the state after the step's own part.
-use Rattle.std.proofs.Common.{◌≡◌, ℕ, zero, suc, ◌+◌, ◌<◌, ◌≤◌, Bool, true, false, List, [], ◌∷◌, ◌++◌, Option, Some, None, refl, sym, ap, subst, ◌∙◌, arith, inl, inr}
-use Rattle.std.specs.Prelude.{if◌then◌else◌, filter, ◌==◌, ◌&&◌, not, Contains, is_some, option_map}
+use Rattle.std.proofs.Common.{◌≡◌, ℕ, Bool, true, false, [], Option, Some, None, refl, sym, ◌∙◌, arith, inl, inr}
+use Rattle.std.specs.Prelude.{if◌then◌else◌, ◌&&◌, not, Contains, option_map}
 use Rattle.std.proofs.lemmas.List.{append-nil}
 use Rattle.std.proofs.lemmas.Bool.{eq-eqb}
-use Rattle.std.proofs.lemmas.Bool.Decides.{eqb_tells}
-use Rattle.mach_types.specs.Tokens.{Kind, receive, send, send_once, Request, no_senders, port_destroyed, dead_name, Place, in_request, Token, weigh, count, is_of}
-use Rattle.mach_model.specs.State.{State, Target, lookup, held}
-use Rattle.mach_model.specs.Death.{same_place}
-use Rattle.mach_model.specs.Carried.{lying_among}
+use Rattle.mach_types.specs.Tokens.{receive, send, send_once, Request, no_senders, port_destroyed, dead_name, count, is_of}
+use Rattle.mach_model.specs.State.{State, Target, lookup}
 use Rattle.mach_model.specs.Lawful.{is_once}
 use Rattle.mach_model.specs.Midway.{MidLawful}
 use Rattle.mach_model.specs.Settles.{settled_target}
 use Rattle.mach_model.specs.Turns.{Ending, lives_after, became_dead, has_ended}
-use Rattle.mach_model.specs.Unused.{onces_queued}
 use Rattle.mach_model.proofs.Names.{some_tally}
 use Rattle.mach_model.proofs.Settling.{lives}
-use Rattle.mach_model.proofs.SettledParts.{and_false}
 use Rattle.mach_model.proofs.TurnsMade.{start}
 use Rattle.mach_model.proofs.Weigh.{held_le_of, pos_or_zero}
-use Rattle.rights.specs.Ledger.{counts_of}
-use Rattle.copyin_base.specs.Kept.{Kept}
-use Rattle.copyin_base.specs.Requests.{notify_of, rights_kept, RequestsAgree}
-use Rattle.copyin_base.specs.Worlds.{WorldView}
-use Rattle.copyin_base.specs.Shows.{Agrees, SlotsSuffice}
-use Rattle.copyin_base.proofs.Counting.{queues_same}
-use Rattle.notifications.specs.SoFar.{IsSoFar, AgreesOf, HoldersTell, AreEntries, AwaitLoss, Tied}
+use Rattle.notifications.specs.SoFar.{IsSoFar}
 
 module _ (now : ℕ) (mid : State) (l : MidLawful mid []) where
   abbrev first : Ending

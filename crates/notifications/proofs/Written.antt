@@ -1,5 +1,5 @@
 -- What posting a notice writes of the tables: a port's queue and its counts alone.
-use Rattle.std.proofs.Common.{◌≡◌, ℕ, ◌<◌, ◌≤◌, ◌-◌, ◌++◌, [], ◌∷◌, List, Option, Some, refl, sym, ap, subst, ◌∙◌, arith}
+use Rattle.std.proofs.Common.{◌≡◌, ℕ, ◌<◌, ◌-◌, ◌++◌, [], ◌∷◌, List, Option, Some, refl, sym, ap, subst, ◌∙◌, arith}
 use Rattle.std.specs.FinMap as map
 use Rattle.name_space.specs.Names.{SpaceView}
 use Rattle.port.specs.Ports.{PortView, PortsView, with_port}
@@ -9,7 +9,6 @@ use Rattle.rights.specs.Unused.{IsUnusedOfAll}
 use Rattle.rights.proofs.Unused.{once_among}
 use Rattle.copyin_base.specs.declared.notice.Notice.{Notice}
 use Rattle.copyin_base.specs.Kept.{Kept}
-use Rattle.copyin_base.specs.Queued.{notice_kept}
 use Rattle.copyin_base.specs.Reading.{AreGiven}
 use Rattle.copyin_base.specs.Requests.{RequestTablesView}
 use Rattle.copyin_base.specs.Shows.{SlotsSuffice}

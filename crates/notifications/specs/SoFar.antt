@@ -1,6 +1,6 @@
 -- The tables while a step ends, between two turns of `Turns` (this project's own). They show a state in which the ports that were buried
 -- have died, what was destroyed has left the queues, and what was posted stands in the logs.
-use Rattle.std.specs.Prelude.{◌≡◌, ℕ, ◌+◌, ◌<◌, ◌≤◌, ◌⊎◌, ◌↔◌, Bool, true, false, List, [], ◌∷◌, ◌++◌, map, filter, length, reverse, slice_get, Option, Some, is_some, if◌then◌else◌, ◌==◌, All, Contains}
+use Rattle.std.specs.Prelude.{◌≡◌, ℕ, ◌+◌, ◌<◌, ◌≤◌, ◌⊎◌, ◌↔◌, Bool, true, false, List, [], ◌∷◌, ◌++◌, map, filter, length, reverse, slice_get, Some, is_some, if◌then◌else◌, ◌==◌, All, Contains}
 use Rattle.mach_types.specs.Tokens.{receive, Request, in_task, in_message, Token, weigh, count, is_of}
 use Rattle.mach_types.specs.Messages.{Entry}
 use Rattle.mach_model.specs.State.{State, at}

@@ -1,14 +1,26 @@
-//! Notices are posted.
+//! Notices are posted, and rights are lost.
 //!
-//! [`post`] puts a notice into its port's queue. `specs/SoFar` says what the tables are while a step ends,
-//! between two of the turns of `mach_model`.
+//! [`post`] puts a notice into its port's queue; [`kill_port`] and [`lose_once`] lose a right that stood
+//! somewhere, [`lose_message`] a message with all that it carries, and [`end_task`] all that a task has.
+//! `specs/SoFar` says what the tables are while a step ends, between two of the turns of `mach_model`.
 #![tactic(auto)]
 
 ghost use Rattle.copyin_base.specs.Shows.{SlotsSuffice};
 ghost use Rattle.notifications.specs.Posting.{CanPost, Posts};
 
+mod request;
+
 use copyin_base::{Notice, Queued, World};
 use mach_types::PortId;
+pub use request::{Asked, request_notification};
+
+mod destroyed;
+mod ending;
+mod lost;
+
+pub use destroyed::lose_message;
+pub use ending::end_task;
+pub use lost::{kill_port, lose_once};
 
 /// Puts the notice at the end of the port's queue, in a spare slot. A send-once right for the port, which
 /// no queued message went by, pays for it: it is now one that a queued message goes by.

@@ -76,7 +76,7 @@ is_plain-call_word (ReceiveAgain _ _ _ _) = refl
 
 pub plain-call_arguments : (event : Event) → Fits event → All IsWord (call_arguments event)
 plain-call_arguments TaskCreate fits = none
-plain-call_arguments (TaskTerminate task) fits = absurd fits
+plain-call_arguments (TaskTerminate task) fits = one task fits
 plain-call_arguments (Allocate task right) fits = two task right fits.0 fits.1
 plain-call_arguments (AllocateName task right name) fits = three task right name fits.0 fits.1 fits.2
 plain-call_arguments (Deallocate task name) fits = two task name fits.0 fits.1
@@ -95,7 +95,9 @@ plain-call_arguments (SetMscount task name count) fits = three task name count f
 plain-call_arguments (SetSeqno task name sequence) fits = three task name sequence fits.0 fits.1 fits.2
 plain-call_arguments (InsertRight task name from poly disposition) fits = number task (decimal name ∷ decimal from ∷ decimal poly ∷ decimal disposition ∷ []) fits.0 (four name from poly disposition fits.1 fits.2 fits.3 fits.4)
 plain-call_arguments (ExtractRight task name disposition to) fits = four task name disposition to fits.0 fits.1 fits.2 fits.3
-plain-call_arguments (RequestNotification task name variant sync notify disposition) fits = absurd fits
+plain-call_arguments (RequestNotification task name variant sync notify disposition) fits =
+    number task (decimal name ∷ decimal variant ∷ decimal sync ∷ decimal notify ∷ decimal disposition ∷ []) fits.0
+    (number name (decimal variant ∷ decimal sync ∷ decimal notify ∷ decimal disposition ∷ []) fits.1 (four variant sync notify disposition fits.2 fits.3 fits.4 fits.5))
 plain-call_arguments (MoveMember task member set) fits = three task member set fits.0 fits.1 fits.2
 plain-call_arguments (SetStatus task name) fits = two task name fits.0 fits.1
 plain-call_arguments (Send task bytes) fits = number task (bytes_text bytes ∷ []) fits.0 (before (bytes_text bytes) [] (IsWord-bytes_text bytes fits.1) none)

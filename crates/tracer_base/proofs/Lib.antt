@@ -7,3 +7,4 @@ pub mod CallLemmas
 pub mod SameWords
 pub mod SameCalls
 pub mod SameReplies
+pub mod NotifyLemmas

@@ -43,7 +43,9 @@ name_call_of word a others =
     (case_of word (codes "refs") (GetRefs (number_at a 0) (number_at a 1) (number_at a 2))
     (case_of word (codes "type") (NameType (number_at a 0) (number_at a 1))
     (case_of word (codes "names") (Names (number_at a 0))
-    (case_of word (codes "rename") (Rename (number_at a 0) (number_at a 1) (number_at a 2)) others))))))
+    (case_of word (codes "end") (TaskTerminate (number_at a 0))
+    (case_of word (codes "notify") (RequestNotification (number_at a 0) (number_at a 1) (number_at a 2) (number_at a 3) (number_at a 4) (number_at a 5))
+    (case_of word (codes "rename") (Rename (number_at a 0) (number_at a 1) (number_at a 2)) others))))))))
 
 abbrev port_call_of : List ℕ → List (List ℕ) → Event → Event
 port_call_of word a others =
@@ -60,7 +62,7 @@ event_of word arguments = right_call_of word arguments (name_call_of word argume
 
 event_of-words : (event : Event) (behind : List (List ℕ)) → Fits event → event_of (call_word event) (call_arguments event ++ behind) ≡ event
 event_of-words TaskCreate behind fits = refl
-event_of-words (TaskTerminate task) behind fits = absurd fits
+event_of-words (TaskTerminate task) behind fits = one TaskTerminate task fits
 event_of-words (Allocate task right) behind fits = two Allocate task right fits.0 fits.1
 event_of-words (AllocateName task right name) behind fits = three AllocateName task right name fits.0 fits.1 fits.2
 event_of-words (Deallocate task name) behind fits = two Deallocate task name fits.0 fits.1
@@ -81,7 +83,9 @@ event_of-words (InsertRight task name from poly disposition) behind fits =
 event_of-words (ExtractRight task name disposition to) behind fits =
     two (λ t n. ExtractRight t n (number_of (decimal disposition)) (number_of (decimal to))) task name fits.0 fits.1
     ∙ two (ExtractRight task name) disposition to fits.2 fits.3
-event_of-words (RequestNotification task name variant sync notify disposition) behind fits = absurd fits
+event_of-words (RequestNotification task name variant sync notify disposition) behind fits =
+    three (λ t n v. RequestNotification t n v (number_of (decimal sync)) (number_of (decimal notify)) (number_of (decimal disposition))) task name variant fits.0 fits.1 fits.2
+    ∙ three (RequestNotification task name variant) sync notify disposition fits.3 fits.4 fits.5
 event_of-words (MoveMember task member set) behind fits = three MoveMember task member set fits.0 fits.1 fits.2
 event_of-words (SetStatus task name) behind fits = two SetStatus task name fits.0 fits.1
 event_of-words (Send task bytes) behind fits = one (λ t. Send t (bytes_of (bytes_text bytes))) task fits.0 ∙ ap (Send task) (bytes_of-text bytes fits.1)

@@ -66,10 +66,10 @@ call_words event = call_word event ∷ call_arguments event
 abbrev pub call_text : Event → List ℕ
 call_text event = line (call_words event)
 
--- its numbers fit 32 bits, a delta with its sign and an identity 64, and its bytes are bytes; no line has yet a call that ends a task or asks for a notice
+-- its numbers fit 32 bits, a delta with its sign and an identity 64, and its bytes are bytes
 abbrev pub Fits : Event → Type 0
 Fits TaskCreate = ⊤
-Fits (TaskTerminate task) = ⊥
+Fits (TaskTerminate task) = task < 2 ^ 32
 Fits (Allocate task right) = (task < 2 ^ 32) × (right < 2 ^ 32)
 Fits (AllocateName task right name) = (task < 2 ^ 32) × (right < 2 ^ 32) × (name < 2 ^ 32)
 Fits (Deallocate task name) = (task < 2 ^ 32) × (name < 2 ^ 32)
@@ -85,7 +85,8 @@ Fits (SetMscount task name count) = (task < 2 ^ 32) × (name < 2 ^ 32) × (count
 Fits (SetSeqno task name sequence) = (task < 2 ^ 32) × (name < 2 ^ 32) × (sequence < 2 ^ 32)
 Fits (InsertRight task name from poly disposition) = (task < 2 ^ 32) × (name < 2 ^ 32) × (from < 2 ^ 32) × (poly < 2 ^ 32) × (disposition < 2 ^ 32)
 Fits (ExtractRight task name disposition to) = (task < 2 ^ 32) × (name < 2 ^ 32) × (disposition < 2 ^ 32) × (to < 2 ^ 32)
-Fits (RequestNotification task name variant sync notify disposition) = ⊥
+Fits (RequestNotification task name variant sync notify disposition) =
+    (task < 2 ^ 32) × (name < 2 ^ 32) × (variant < 2 ^ 32) × (sync < 2 ^ 32) × (notify < 2 ^ 32) × (disposition < 2 ^ 32)
 Fits (MoveMember task member set) = (task < 2 ^ 32) × (member < 2 ^ 32) × (set < 2 ^ 32)
 Fits (SetStatus task name) = (task < 2 ^ 32) × (name < 2 ^ 32)
 Fits (Send task bytes) = (task < 2 ^ 32) × All (λ byte. byte < 256) bytes

@@ -20,4 +20,6 @@ pub record IsNoNameWord (word : List ℕ) : Type 0 where
   pub refs : codes "refs" ≡ word → ⊥
   pub type_of : codes "type" ≡ word → ⊥
   pub names : codes "names" ≡ word → ⊥
+  pub ending : codes "end" ≡ word → ⊥
+  pub notify : codes "notify" ≡ word → ⊥
   pub rename : codes "rename" ≡ word → ⊥

@@ -94,6 +94,8 @@ fn read_name_call(keyword: &str, words: &mut Words<'_>) -> Result<Event, TextFau
             Ok(Event::NameType(task, name))
         }
         "names" => read_names(words),
+        "end" => read_end(words),
+        "notify" => read_notify(words),
         "rename" => {
             let (task, old, new) = words.task_and_names()?;
             Ok(Event::Rename(task, old, new))
@@ -185,6 +187,33 @@ fn read_names(words: &mut Words<'_>) -> Result<Event, TextFault>
         → IsRead result words.new behind }
 {
     Ok(Event::Names(words.task()?))
+}
+
+/// The arguments of `end`: a task.
+fn read_end(words: &mut Words<'_>) -> Result<Event, TextFault>
+    ensures word { IfOk result (λ event. call_word event ≡ codes "end") }
+    ensures arguments { IfOk result (λ event. call_arguments event ++ words.new ≡ words.old) }
+    ensures fits { IfOk result Fits }
+    ensures read { (task : ℕ) (behind : List (List ℕ)) → task < 2 ^ 32 → decimal task ∷ behind ≡ words.old
+        → IsRead result words.new behind }
+{
+    Ok(Event::TaskTerminate(words.task()?))
+}
+
+/// The arguments of `notify`: a task, a name, the number of a notice, a number that says when it is sent at
+/// once, the name of the right that pays, and the number of a disposition.
+fn read_notify(words: &mut Words<'_>) -> Result<Event, TextFault>
+    ensures word { IfOk result (λ event. call_word event ≡ codes "notify") }
+    ensures arguments { IfOk result (λ event. call_arguments event ++ words.new ≡ words.old) }
+    ensures fits { IfOk result Fits }
+    ensures read { (task name variant sync notify disposition : ℕ) (behind : List (List ℕ)) → task < 2 ^ 32 → name < 2 ^ 32 → variant < 2 ^ 32 → sync < 2 ^ 32 → notify < 2 ^ 32 → disposition < 2 ^ 32
+        → decimal task ∷ decimal name ∷ decimal variant ∷ decimal sync ∷ decimal notify ∷ decimal disposition ∷ behind ≡ words.old
+        → IsRead result words.new behind }
+{
+    let (task, name, variant) = words.task_name_and_number()?;
+    let sync = words.number()?;
+    let notify = words.name()?;
+    Ok(Event::RequestNotification(task, name, variant, sync, notify, words.number()?))
 }
 
 /// The arguments of `insert`: a task, the name that it is to have for the right, the task that has

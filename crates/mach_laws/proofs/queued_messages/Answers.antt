@@ -1,7 +1,10 @@
 use Rattle.std.proofs.Common.{length}
-use Rattle.mach_model.proofs.StepQuiet.{Run-calm}
-use Rattle.mach_laws.proofs.Counted.{Step-counted}
+use Rattle.mach_model.proofs.StepLawful.{Run-lawful}
+use Rattle.mach_laws.proofs.Counted.{Does-counted, Settles-counted}
 use Rattle.mach_laws.proofs.queued_messages.Goals as goal
 
-pub returns : goal.returns
-returns c = λ events replies s run event reply new step. Step-counted (length events) s event reply new (Run-calm events replies s run) step
+pub returns-clause-part : goal.returns-clause-part
+returns-clause-part c = λ events replies s run event good reply mid owed does. Does-counted (length events) s event reply mid owed (Run-lawful events replies s run) good does
+
+pub returns-clause-ending : goal.returns-clause-ending
+returns-clause-ending c = λ now old mid owed new l x. Settles-counted now old mid owed new l x

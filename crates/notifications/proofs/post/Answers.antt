@@ -1,4 +1,4 @@
-use Rattle.std.proofs.Common.{◌≡◌, ◌<◌, Some, sym, ap, subst, ◌∙◌}
+use Rattle.std.proofs.Common.{◌≡◌, ◌<◌, Some, sym, subst}
 use Rattle.std.specs.FinMap as map
 use Rattle.rights.specs.Ledger.{counts_of}
 use Rattle.copyin_base.specs.Kept.{Kept}

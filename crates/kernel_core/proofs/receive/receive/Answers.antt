@@ -1,7 +1,7 @@
 use Rattle.std.proofs.Common.{refl}
 use Rattle.std.proofs.lemmas.Result.{err_from_is_err_and}
 use Rattle.copyin_base.proofs.Spares.{keeps_same}
-use Rattle.kernel_core.proofs.Keeping.{spared}
+use Rattle.kernel_core.proofs.Keeping.{refused_spares}
 use Rattle.kernel_core.proofs.Receiving.{named_declined, named_stays, named_received}
 use Rattle.kernel_core.proofs.Sparing.{not_short_named, named_spares}
 use Rattle.kernel_core.proofs.receive.receive.Goals as goal
@@ -25,7 +25,7 @@ returns-in_err-waited-clause-wanted c =
 pub returns-in_err-waited-clause-spares : goal.returns-in_err-waited-clause-spares
 returns-in_err-waited-clause-spares c =
     let p = err_from_is_err_and c.from_residual.result c.from_residual.ensures.1 in
-    rw (p.1, p.2) (spared _ _ _ _ (keeps_same c.args.world.now c.args.world.now refl) refl)
+    rw (p.1, p.2) (refused_spares _ _ _ _ (keeps_same c.args.world.now c.args.world.now refl))
 
 pub returns-in_err-take-clause-serves : goal.returns-in_err-take-clause-serves
 returns-in_err-take-clause-serves c =
@@ -41,4 +41,4 @@ returns-in_err-take-clause-wanted c =
 pub returns-in_err-take-clause-spares : goal.returns-in_err-take-clause-spares
 returns-in_err-take-clause-spares c =
     let p = err_from_is_err_and c.from_residual-in_err-take.result c.from_residual-in_err-take.ensures.1 in
-    rw (p.1, p.2) (spared _ _ _ _ (keeps_same c.args.world.now c.take.new.world c.in_err-take.ensures.err.0) refl)
+    rw (p.1, p.2) (refused_spares _ _ _ _ (keeps_same c.args.world.now c.take.new.world c.in_err-take.ensures.err.0))

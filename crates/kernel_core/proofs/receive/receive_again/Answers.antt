@@ -1,7 +1,7 @@
 use Rattle.std.proofs.Common.{refl}
 use Rattle.std.proofs.lemmas.Result.{err_from_is_err_and}
 use Rattle.copyin_base.proofs.Spares.{keeps_same}
-use Rattle.kernel_core.proofs.Keeping.{spared}
+use Rattle.kernel_core.proofs.Keeping.{refused_spares}
 use Rattle.kernel_core.proofs.Receiving.{again_received}
 use Rattle.kernel_core.proofs.Sparing.{not_short_again, again_spares}
 use Rattle.kernel_core.proofs.receive.receive_again.Goals as goal
@@ -14,7 +14,7 @@ returns-in_err-judge_again-clause-wanted c =
 pub returns-in_err-judge_again-clause-spares : goal.returns-in_err-judge_again-clause-spares
 returns-in_err-judge_again-clause-spares c =
     let p = err_from_is_err_and c.from_residual.result c.from_residual.ensures.1 in
-    rw (p.1, p.2) (spared _ _ _ _ (keeps_same c.args.world.now c.args.world.now refl) refl)
+    rw (p.1, p.2) (refused_spares _ _ _ _ (keeps_same c.args.world.now c.args.world.now refl))
 
 pub returns-clause-serves : goal.returns-clause-serves
 returns-clause-serves c = again_received c.args.world.now c.args.task c.args.buffer.room c.args.buffer.large c.requires.there c.args.waited c.in_ok-judge_again.ensures.ok c.in_ok-take.field-0 c.take.new.world c.in_ok-take.ensures.ok
@@ -30,4 +30,4 @@ returns-in_err-take-clause-wanted c =
 pub returns-in_err-take-clause-spares : goal.returns-in_err-take-clause-spares
 returns-in_err-take-clause-spares c =
     let p = err_from_is_err_and c.from_residual-in_err-take.result c.from_residual-in_err-take.ensures.1 in
-    rw (p.1, p.2) (spared _ _ _ _ (keeps_same c.args.world.now c.take.new.world c.in_err-take.ensures.err.0) refl)
+    rw (p.1, p.2) (refused_spares _ _ _ _ (keeps_same c.args.world.now c.take.new.world c.in_err-take.ensures.err.0))

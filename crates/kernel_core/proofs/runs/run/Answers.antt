@@ -9,7 +9,7 @@ use Rattle.mach_laws.proofs.Followed.{Followed, followed_start, followed_push, f
 use Rattle.kernel_core.proofs.runs.run.Goals as goal
 
 pub loop-event-init : goal.loop-event-init
-loop-event-init c = (opening, subst (λ (xs : List Reply). Followed [] xs opening c.new-kernel.result.ports.spare) (sym c.new-replies.ensures.items) (rw c.new-kernel.ensures.none followed_start), c.new-kernel.ensures.shows, omega arith)
+loop-event-init c = (opening, subst (λ (xs : List Reply). Followed [] xs opening c.new-kernel.result.tables.ports.spare) (sym c.new-replies.ensures.items) (rw c.new-kernel.ensures.none followed_start), c.new-kernel.ensures.shows, omega arith)
 
 pub loop-event-preserved : goal.loop-event-preserved
 loop-event-preserved c =
@@ -17,18 +17,17 @@ loop-event-preserved c =
     let events = c.deref-event-items.result.now in
     let before = take c.loop-event.event-index events in
     let step = c.step-reply.ensures.answers (length before) inv.0 inv.2 in
-    let same : c.step-reply.new.self.ledger.unused ≡ unused step.0 = c.step-reply.ensures.unused step.0 step.2 in
-    let slots = c.step-reply.ensures.spares.slots in
+    let same : c.step-reply.new.self.tables.ledger.unused ≡ unused step.0 = c.step-reply.ensures.unused step.0 step.2 in
     let more = take_more events c.loop-event.event-index c.event-item.result c.loop-event-test.true in
-    let pushed = followed_push before c.loop-event.replies.items inv.0 c.loop-event.kernel.ports.spare c.event-item.result c.step-reply.result step.0 c.step-reply.new.self.ports.spare inv.1
-    step.1 (omega (arith, slots, same)) in
+    let pushed = followed_push before c.loop-event.replies.items inv.0 c.loop-event.kernel.tables.ports.spare c.event-item.result c.step-reply.result step.0 c.step-reply.new.self.tables.ports.spare inv.1
+    step.1 (c.step-reply.ensures.spares.slots inv.0 step.0 inv.2 step.2) in
     let enough = step.2.slots in
     (step.0, rw (more, c.in_ok-push.ensures.items, ← c.event-item.is) pushed, step.2, omega (arith, enough, same))
 
 pub returns : goal.returns
 returns c =
     let inv = c.loop-event.invariant in
-    let spare = c.loop-event.kernel.ports.spare in
+    let spare = c.loop-event.kernel.tables.ports.spare in
     let events : c.deref-event-items.result.now ≡ c.args.events.items = c.deref-event-items.ensures.value in
     let whole = take_all c.loop-event.event-index c.deref-event-items.result.now c.loop-event-test.false ∙ events in
     let so_far = subst (λ (xs : List Event). Followed xs c.loop-event.replies.items inv.0 spare) whole inv.1 in

@@ -7,4 +7,4 @@ use Rattle.kernel_core.proofs.runs.run.Given as goal
 
 -- the replies so far are those of a run over the events so far, and slots suffice
 abbrev pub invariant-loop-event : goal.invariant-loop-event
-invariant-loop-event l = (s : State) × Followed (take l.event-index l.event-items) l.replies.items s l.kernel.ports.spare × Shows l.kernel s × (unused s ≤ l.kernel.ports.spare)
+invariant-loop-event l = (s : State) × Followed (take l.event-index l.event-items) l.replies.items s l.kernel.tables.ports.spare × Shows l.kernel.tables s × (unused s ≤ l.kernel.tables.ports.spare)

@@ -6,7 +6,7 @@ use Rattle.copyin_base.proofs.Exiting.{exits}
 use Rattle.kernel_core_base.specs.References.{IsChange, CanChange, CannotChange}
 use Rattle.kernel_core_base.proofs.ReferencesJudged.{modify_refused}
 use Rattle.kernel_core_base.proofs.ReferencesModified.{can_modify, modifies}
-use Rattle.kernel_core_base.proofs.Spares.{carried_keeps}
+use Rattle.kernel_core_base.proofs.SparesUsed.{carried_uses}
 use Rattle.kernel_core_base.proofs.references.mod_refs.Goals as goal
 
 pub returns-in_err-right-clause-serves : goal.returns-in_err-right-clause-serves
@@ -35,4 +35,4 @@ returns-clause-serves c =
     c.requires.there c.in_ok-right.ensures.ok by can c.carry_out.ensures
 
 pub returns-clause-spares : goal.returns-clause-spares
-returns-clause-spares c = carried_keeps c.args.world.now c.carry_out.new.world c.args.task c.args.name c.in_ok-due.due c.carry_out.ensures
+returns-clause-spares c = carried_uses c.args.world.now c.carry_out.new.world c.args.task c.args.name c.in_ok-due.due c.requires.stands.shown.slots c.carry_out.ensures

@@ -1,4 +1,5 @@
 use Rattle.std.proofs.Common.{refl, sym, ap, subst}
+use Rattle.name_space.specs.declared.Entry.TheVariants.{Set}
 use Rattle.copyin_base.specs.Worlds.{WorldView}
 use Rattle.copyin_base.proofs.Reading.{same_given}
 use Rattle.copyin_base.proofs.Written.{disbanded_ports, ports_written}
@@ -7,7 +8,7 @@ use Rattle.kernel_core_base.proofs.ReferencesPut.{can_put_none, set_removed}
 use Rattle.kernel_core_base.proofs.references.remove_set.Goals as goal
 
 pub put_left-requires : goal.put_left-requires
-put_left-requires c = can_put_none c.args.world.now c.args.task c.args.name c.args.set c.requires
+put_left-requires c = can_put_none c.args.world.now c.args.task c.args.name (Set c.args.set) c.requires
 
 pub invariant_of-world : goal.invariant_of-world
 invariant_of-world c =

@@ -10,5 +10,5 @@ use Rattle.mach_run.proofs.perform.answer_each.Given as goal
 -- what is written so far is the replies of a run over the events so far, to a state that the kernel shows
 abbrev pub invariant-loop-event : goal.invariant-loop-event
 invariant-loop-event g l =
-    (replies : List Reply) × (s : State) × RunFrom 0 opening (take l.event-index l.events) replies s × Shows l.kernel s
+    (replies : List Reply) × (s : State) × RunFrom 0 opening (take l.event-index l.events) replies s × Shows l.kernel.tables s
     × Appends (g.W.Write.contents l.fn.out) (g.W.Write.contents l.out) (flat_map reply_line replies)

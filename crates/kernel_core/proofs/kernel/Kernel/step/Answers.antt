@@ -1,32 +1,57 @@
-use Rattle.std.proofs.Common.{sym, subst}
+use Rattle.std.proofs.Common.{◌≡◌, refl, sym, ap, subst}
 use Rattle.copyin_base.specs.Worlds.{WorldView}
 use Rattle.copyin_base.specs.Shows.{Shows}
+use Rattle.kernel_core.specs.Kernels.{KernelView, TakesTurns}
 use Rattle.kernel_core.specs.Wanted.{Wanted, Spares}
+use Rattle.kernel_core.proofs.Ending.{acted_spares, declined_spares, is_midway}
 use Rattle.kernel_core.proofs.Keeping.{done_wanted}
-use Rattle.kernel_core.proofs.Settling.{cleared_spares}
-use Rattle.kernel_core.proofs.Stepping.{acted, declined, still_stands}
+use Rattle.kernel_core.proofs.Stepping.{acted, acted_turns, declined, declined_turns, still_stands}
+use Rattle.kernel_core.proofs.Unused.{shown_unused}
 use Rattle.kernel_core.proofs.kernel.Kernel.step.Goals as goal
 
-pub check_slots-requires : goal.check_slots-requires
-check_slots-requires c = still_stands _ _ _ _ c.self.invariant (acted _ _ _ _ _ c.in-Ok.ensures.serves c.settle.ensures.settles)
-
-pub check_slots-requires-in-Err : goal.check_slots-requires-in-Err
-check_slots-requires-in-Err c = still_stands _ _ _ _ c.self.invariant (declined _ _ _ _ c.in-Err.ensures.serves)
+pub settle-self-inside-requires : goal.settle-self-inside-requires
+settle-self-inside-requires c = is_midway _ _ _ _ c.self.invariant c.in-Ok.ensures.serves
 
 pub invariant_of-self : goal.invariant_of-self
-invariant_of-self c = still_stands _ _ _ _ c.self.invariant (acted _ _ _ _ _ c.in-Ok.ensures.serves c.settle.ensures.settles)
+invariant_of-self c = still_stands _ _ _ _ c.self.invariant (acted _ _ _ _ _ _ c.in-Ok.ensures.serves c.settle-self-inside.ensures.settles)
 
 pub invariant_of-self-in-Err : goal.invariant_of-self-in-Err
 invariant_of-self-in-Err c = still_stands _ _ _ _ c.self.invariant (declined _ _ _ _ c.in-Err.ensures.serves)
 
 pub returns-in-Ok-clause-answers : goal.returns-in-Ok-clause-answers
-returns-in-Ok-clause-answers c = λ now s sh. acted _ _ _ _ _ c.in-Ok.ensures.serves c.settle.ensures.settles now s (subst (λ (w : WorldView). Shows w s) (sym c.self.view_is) sh)
+returns-in-Ok-clause-answers c =
+    let same : c.self.inside.world ≡ c.args.self.now.tables = ap (λ (k : KernelView). k.tables) c.self.view_is in
+    λ now s sh. acted _ _ _ _ _ _ c.in-Ok.ensures.serves c.settle-self-inside.ensures.settles now s (subst (λ (w : WorldView). Shows w s) (sym same) sh)
 
 pub returns-in-Err-clause-answers : goal.returns-in-Err-clause-answers
-returns-in-Err-clause-answers c = λ now s sh. rw c.number.ensures (declined _ _ _ _ c.in-Err.ensures.serves now s (subst (λ (w : WorldView). Shows w s) (sym c.self.view_is) sh))
+returns-in-Err-clause-answers c =
+    let same : c.self.inside.world ≡ c.args.self.now.tables = ap (λ (k : KernelView). k.tables) c.self.view_is in
+    λ now s sh. rw c.number.ensures (declined _ _ _ _ c.in-Err.ensures.serves now s (subst (λ (w : WorldView). Shows w s) (sym same) sh))
+
+pub returns-in-Ok-clause-turns : goal.returns-in-Ok-clause-turns
+returns-in-Ok-clause-turns c =
+    subst (λ (w : WorldView). TakesTurns w c.args.event.now c.in-Ok.reply c.settle-self-inside.new.world c.settle-self-inside.result) (ap (λ (k : KernelView). k.tables) c.self.view_is)
+    (acted_turns _ _ _ _ _ _ c.in-Ok.ensures.serves c.settle-self-inside.ensures.settles)
+
+pub returns-in-Err-clause-turns : goal.returns-in-Err-clause-turns
+returns-in-Err-clause-turns c =
+    let same : c.self.inside.world ≡ c.args.self.now.tables = ap (λ (k : KernelView). k.tables) c.self.view_is in
+    λ now s sh. rw c.number.ensures (declined_turns _ _ _ _ 0 refl c.in-Err.ensures.serves now s (subst (λ (w : WorldView). Shows w s) (sym same) sh))
 
 pub returns-in-Ok-clause-wanted : goal.returns-in-Ok-clause-wanted
-returns-in-Ok-clause-wanted c = subst (λ (w : WorldView). Wanted w c.args.event.now c.in-Ok.reply) c.self.view_is (done_wanted _ _ _ _ c.self.invariant c.in-Ok.ensures.serves)
+returns-in-Ok-clause-wanted c = subst (λ (w : WorldView). Wanted w c.args.event.now c.in-Ok.reply) (ap (λ (k : KernelView). k.tables) c.self.view_is) (done_wanted _ _ _ _ c.self.invariant c.in-Ok.ensures.serves)
 
 pub returns-in-Ok-clause-spares : goal.returns-in-Ok-clause-spares
-returns-in-Ok-clause-spares c = subst (λ (w : WorldView). Spares w c.args.event.now c.in-Ok.reply c.settle.new.world) c.self.view_is (cleared_spares _ _ _ _ _ c.settle.ensures.clears c.in-Ok.ensures.spares)
+returns-in-Ok-clause-spares c =
+    subst (λ (w : WorldView). Spares w c.settle-self-inside.new.world) (ap (λ (k : KernelView). k.tables) c.self.view_is)
+    (acted_spares _ _ _ _ _ _ c.self.invariant c.in-Ok.ensures.serves c.settle-self-inside.ensures.settles c.settle-self-inside.ensures.rooms c.in-Ok.ensures.spares c.check_slots.ensures c.check_slots-in-Ok.ensures c.check_slots-in-Ok-2.ensures)
+
+pub returns-in-Err-clause-spares : goal.returns-in-Err-clause-spares
+returns-in-Err-clause-spares c =
+    subst (λ (w : WorldView). Spares w c.act.new.world) (ap (λ (k : KernelView). k.tables) c.self.view_is) (declined_spares _ _ _ _ c.in-Err.ensures.serves c.in-Err.ensures.spares c.check_slots-in-Err.ensures)
+
+pub returns-in-Ok-clause-unused : goal.returns-in-Ok-clause-unused
+returns-in-Ok-clause-unused c = λ s sh. shown_unused _ s sh c.check_slots-in-Ok-2.ensures
+
+pub returns-in-Err-clause-unused : goal.returns-in-Err-clause-unused
+returns-in-Err-clause-unused c = λ s sh. shown_unused _ s sh c.check_slots-in-Err.ensures

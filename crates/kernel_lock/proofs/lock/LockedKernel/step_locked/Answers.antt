@@ -11,7 +11,7 @@ use Rattle.kernel_lock.proofs.lock.LockedKernel.step_locked.Goals as goal
 pub copy-requires-clause-room : goal.copy-requires-clause-room
 copy-requires-clause-room c =
     let k = c.self.inside in
-    c.in-Ok.ensures.room _ (is_within k.history.items k.kernel _ _ _ _ c.self.invariant.0 c.step-reply.ensures.answers c.reply_bound.ensures.within)
+    c.in-Ok.ensures.room _ (is_within k.history.items k.kernel c.step-reply.new.self _ _ _ c.self.invariant.0 c.step-reply.ensures.answers c.reply_bound.ensures.within)
 
 pub publish-requires-clause-legal : goal.publish-requires-clause-legal
 publish-requires-clause-legal c =

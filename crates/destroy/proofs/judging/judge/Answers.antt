@@ -1,0 +1,15 @@
+use Rattle.std.proofs.Common.{◌<◌, refl, sym, ap, subst, ◌∙◌}
+use Rattle.copyin_base.specs.Worlds.{WorldView}
+use Rattle.destroy.specs.Judging.{remaining}
+use Rattle.destroy.proofs.JudgeDone.{dooms_fewer, dooms_continues}
+use Rattle.destroy.proofs.judging.judge.Goals as goal
+
+pub returns-in-None-clause-continues : goal.returns-in-None-clause-continues
+returns-in-None-clause-continues c = dooms_continues c.args.world.now c.args.port c.requires.lost c.in-None.ensures.none c.doom.new.world c.doom.ensures c.destroy_queue.result c.destroy_queue.new.world
+    c.destroy_queue.ensures.empties c.destroy_queue.ensures.emptied _ refl
+
+pub returns-in-None-clause-fewer : goal.returns-in-None-clause-fewer
+returns-in-None-clause-fewer c = subst (λ n. n < remaining c.args.world.now) (sym c.destroy_queue.ensures.remains) (dooms_fewer c.args.world.now c.args.port c.requires.lost c.in-None.ensures.none c.doom.new.world c.doom.ensures c.requires.at)
+
+pub returns-in-None-clause-spaces : goal.returns-in-None-clause-spaces
+returns-in-None-clause-spaces c = c.destroy_queue.ensures.spaces ∙ ap (λ (w : WorldView). w.spaces) c.doom.ensures.rest

@@ -1,0 +1,26 @@
+-- A right that a request kept pays for a notice, where its port lives.
+use Rattle.std.specs.Prelude.{◌≡◌, ◌≢◌, ℕ, ◌∷◌, Some}
+use Rattle.port.specs.declared.Holder.TheVariants as holder
+use Rattle.port.specs.Ports.{PortView}
+use Rattle.request_table.specs.declared.Request.{Request}
+use Rattle.request_table.specs.Requests.{without_first_went}
+use Rattle.copyin_base.specs.declared.notice.Notice.{Notice}
+use Rattle.copyin_base.specs.Kept.{Kept}
+use Rattle.copyin_base.specs.Worlds.{WorldView, port_at}
+use Rattle.notifications.specs.Posting.{Posts}
+
+-- The port is there, and isn't doomed.
+pub record LivesIn (w : WorldView) (port : ℕ) : Type 0 where
+  pub v : PortView Kept
+  pub there : port_at w port ≡ Some v
+  pub undoomed : v.attributes.holder ≢ holder.Doomed
+
+-- The notice is posted where the port lives; else all stays.
+pub record Pays (old : WorldView) (port : ℕ) (notice : Notice) (new : WorldView) : Type 0 where
+  pub posts : LivesIn old port → Posts old port notice new
+  pub stays : ¬ (LivesIn old port) → new ≡ old
+
+-- This request is no longer among those whose names went, of which it was the first.
+pub record TakesWent (old : WorldView) (r : Request) (new : WorldView) : Type 0 where
+  pub went : old.requests.names.went ≡ r ∷ new.requests.names.went
+  pub rest : new ≡ record old { requests = record old.requests { names = without_first_went old.requests.names } }

@@ -1,0 +1,123 @@
+//! Doomed ports are buried.
+ghost use Rattle.std.specs.Prelude.{◌≡◌, ◌<◌};
+ghost use Rattle.std.specs.FinMap as map;
+ghost use Rattle.mach_types.specs.Tokens.{no_senders, port_destroyed};
+ghost use Rattle.name_space.specs.declared.Entry.TheVariants.{DeadName};
+ghost use Rattle.destroy.specs.Burying.{dead_count, IsAny, IsNone, IsOnName, IsBurying, IsDueOn, IsNextToBury, EndsRequests};
+ghost use Rattle.destroy.specs.Stages.{AreTold, AreBuried, IsAt, Continues, KeepsRooms};
+
+use crate::paying::pay;
+use copyin_base::{Notice, World};
+use mach_types::PortId;
+use name_space::Entry;
+use request_table::Request;
+use user_refs::UserRefs;
+
+/// Each doomed port leaves with all rights for it; its requests end, and those on its names. Answers how
+/// many requests.
+pub(crate) fn bury_ports(world: &mut World) -> u64
+    requires { IsAt AreTold world.old }
+    ensures continues { Continues AreTold AreBuried world.old result world.new }
+    ensures rooms { KeepsRooms world.old world.new }
+{
+    let mut turns: u64 = 0;
+    while let Some(port) = world.ports.first_doomed() {
+        turns = turns.wrapping_add(bury(world, port));
+    }
+    turns
+}
+
+// A doomed port leaves.
+fn bury(world: &mut World, port: PortId) -> u64
+    requires { IsNextToBury port world.old }
+    ensures turns { Continues AreTold AreTold world.old result world.new }
+    ensures fewer { map.len world.new.ports.ports < map.len world.old.ports.ports }
+    ensures rooms { KeepsRooms world.old world.new }
+{
+    let turns = end_requests(world, port);
+    world.ports.remove(port);
+    world.ledger.leave(port);
+    turns
+}
+
+// The requests of a doomed port end, and those on its names.
+fn end_requests(world: &mut World, port: PortId) -> u64
+    requires { IsBurying port world.old }
+    ensures { EndsRequests port IsAny world.old result world.new }
+{
+    end_no_senders(world, port)
+        .wrapping_add(end_port_destroyed(world, port))
+        .wrapping_add(end_names(world, port))
+}
+
+// The right that a dead port's request kept is lost unused.
+fn end_no_senders(world: &mut World, port: PortId) -> u64
+    requires { IsBurying port world.old }
+    ensures { EndsRequests port (λ r. r ≡ no_senders port) world.old result world.new }
+{
+    // So it is seen that a slot is spare.
+    let _ = world.ledger.unused();
+    let Some(notify) = world.requests.no_senders.remove(port.number()) else {
+        return 0;
+    };
+    pay(world, notify, Notice::SendOnce);
+    1
+}
+
+fn end_port_destroyed(world: &mut World, port: PortId) -> u64
+    requires { IsBurying port world.old }
+    ensures { EndsRequests port (λ r. r ≡ port_destroyed port) world.old result world.new }
+{
+    // So it is seen that a slot is spare.
+    let _ = world.ledger.unused();
+    let Some(notify) = world.requests.port_destroyed.remove(port.number()) else {
+        return 0;
+    };
+    pay(world, notify, Notice::SendOnce);
+    1
+}
+
+fn end_names(world: &mut World, port: PortId) -> u64
+    requires { IsBurying port world.old }
+    ensures { EndsRequests port IsOnName world.old result world.new }
+{
+    let mut turns: u64 = 0;
+    while let Some(request) = world.requests.names.first_of(port) {
+        end_name(world, port, request);
+        turns = turns.wrapping_add(1);
+    }
+    turns
+}
+
+// The name of a dead port is dead at once, with a reference more, and its task is told.
+fn end_name(world: &mut World, port: PortId, request: Request)
+    requires { IsDueOn port request world.old }
+    ensures ends { EndsRequests port IsNone world.old 1 world.new }
+    ensures fewer { map.len world.new.requests.names.requests < map.len world.old.requests.names.requests }
+{
+    let Request {
+        task,
+        name,
+        notify,
+        ..
+    } = request;
+    // So it is seen that a slot is spare.
+    let _ = world.ledger.unused();
+    world.requests.names.remove(task, name);
+    let entry = world.lookup(task, name);
+    if let Some(entry) = entry {
+        world.put_left(task, name, Some(dead_name(entry.send_references())));
+    }
+    pay(world, notify, Notice::DeadName(name));
+}
+
+// The dead name that is left of a name with so many send rights, with the reference that a request adds.
+fn dead_name(references: u32) -> Entry
+    ensures { result ≡ DeadName (dead_count references) }
+{
+    let more = references.max(1).min(65_534) + 1;
+    match UserRefs::new(more) {
+        Some(references) => Entry::DeadName(references),
+        None => unreachable!(),
+    }
+}

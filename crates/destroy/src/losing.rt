@@ -1,0 +1,135 @@
+//! The rights of messages that were destroyed are lost.
+ghost use Rattle.std.specs.Prelude.{◌≡◌, ◌<◌, [], slice_get, IfSome, IfNone};
+ghost use Rattle.std.specs.Option.{option_to_list};
+ghost use Rattle.rights.specs.Ledger.{IsEntered, counts_of};
+ghost use Rattle.copyin_base.specs.declared.notice.Notice.TheVariants as notice;
+ghost use Rattle.copyin_base.specs.Changes.{NotesSenderless};
+ghost use Rattle.notifications.specs.Posting.{CanPost, Posts};
+ghost use Rattle.destroy.specs.Losing.{CanLose, CanLoseOf, IsLosing, LosesOf, LosesRight, LosesTo, carried_in, without_first, without_send};
+ghost use Rattle.destroy.specs.Stages.{AreLost, Continues, IsAt, IsJudged};
+ghost use Rattle.mach_types.specs.Numbers.{kind_sent};
+
+use crate::paying::lives;
+use copyin_base::{Carried, Mark, Notice, Queued, Slot, World};
+use mach_types::{Disposition, PortId, Right};
+use notifications::post;
+use rights::RightKind;
+
+/// The rights of each message that was destroyed are lost, but for those for ports that don't live.
+/// Answers how many.
+pub(crate) fn lose_messages(world: &mut World) -> u64
+    requires { IsAt IsJudged world.old }
+    ensures continues { Continues IsJudged AreLost world.old result world.new }
+    ensures spaces { world.new.spaces ≡ world.old.spaces }
+{
+    let mut turns: u64 = 0;
+    while let Some(queued) = take_destroyed(world) {
+        turns = turns.wrapping_add(lose_rights(world, &queued));
+    }
+    turns
+}
+
+// Takes the message that was destroyed first of those whose rights aren't lost.
+fn take_destroyed(world: &mut World) -> Option<Queued>
+    ensures first { result ≡ slice_get world.old.ports.destroyed 0 }
+    ensures taken { IfSome result (λ m. world.new ≡ without_first world.old) }
+    ensures none { IfNone result (world.new ≡ world.old) }
+{
+    world.ports.take_destroyed()
+}
+
+// The rights that the message carries are lost, but for those for ports that don't live.
+fn lose_rights(world: &mut World, queued: &Queued) -> u64
+    requires { IsLosing (carried_in queued.now) world.old }
+    ensures loses { LosesTo (carried_in queued.now) [] world.old result world.new }
+    ensures spaces { world.new.spaces ≡ world.old.spaces }
+{
+    let Slot::Sent(message) = &queued.slot else {
+        return 0;
+    };
+    let replied = lose_reply(world, message.reply());
+    replied.wrapping_add(lose_body(world, message.rights()))
+}
+
+fn lose_reply(world: &mut World, reply: Option<Carried>) -> u64
+    requires { IsLosing (option_to_list reply) world.old }
+    ensures loses { LosesTo (option_to_list reply) [] world.old result world.new }
+    ensures spaces { world.new.spaces ≡ world.old.spaces }
+{
+    match reply {
+        Some(carried) => lose_right(world, &carried),
+        None => 0,
+    }
+}
+
+fn lose_body(world: &mut World, rights: &[Carried]) -> u64
+    requires { IsLosing rights.now world.old }
+    ensures loses { LosesTo rights.now [] world.old result world.new }
+    ensures spaces { world.new.spaces ≡ world.old.spaces }
+{
+    let mut turns: u64 = 0;
+    for carried in rights {
+        turns = turns.wrapping_add(lose_right(world, carried));
+    }
+    turns
+}
+
+// A right for a port that lives is lost. A receive right is lost as its message is destroyed.
+fn lose_right(world: &mut World, carried: &Carried) -> u64
+    requires { CanLose world.old carried.now }
+    ensures { LosesRight world.old carried.now result world.new }
+{
+    match &carried.mark {
+        Mark::Null => 0,
+        Mark::Dead => 0,
+        Mark::Port(port) => {
+            if lives(world, *port) {
+                lose_for(world, *port, carried.given)
+            } else {
+                0
+            }
+        }
+    }
+}
+
+fn lose_for(world: &mut World, port: PortId, given: Disposition) -> u64
+    requires { CanLoseOf (kind_sent given) port world.old }
+    ensures { LosesOf (kind_sent given) port world.old result world.new }
+{
+    match given.kind() {
+        Right::Send => {
+            lose_send(world, port);
+            1
+        }
+        Right::SendOnce => {
+            lose_once(world, port);
+            1
+        }
+        Right::Receive | Right::PortSet | Right::DeadName => 0,
+    }
+}
+
+// A send right for the port is lost.
+//
+// Takes no memory. Constant time.
+fn lose_send(world: &mut World, port: PortId)
+    requires entered { IsEntered world.old.ledger port }
+    requires some { 0 < (counts_of world.old.ledger port).send }
+    ensures { NotesSenderless (without_send world.old port) port world.new }
+{
+    world.ledger.take(port, RightKind::Send, 1);
+    world.note_senderless(port);
+}
+
+// A send-once right for the port is lost unused: its port is told.
+//
+// Takes no memory. Constant time.
+fn lose_once(world: &mut World, port: PortId)
+    requires { CanPost world.old port }
+    ensures spare { 0 < world.old.ports.spare }
+    ensures posts { Posts world.old port notice.SendOnce world.new }
+{
+    // So it is seen that a slot is spare.
+    let _ = world.ledger.unused();
+    post(world, port, Notice::SendOnce);
+}

@@ -1,0 +1,68 @@
+//! Ports that lost their last send rights are told.
+ghost use Rattle.std.specs.Prelude.{◌≡◌, ◌↔◌, ◌<◌, slice_get, IsTrue, IfSome, IfNone};
+ghost use Rattle.std.specs.FinMap as map;
+ghost use Rattle.rights.specs.Ledger.{counts_of};
+ghost use Rattle.destroy.specs.Stages.{AreLost, AreTold, IsAt, Continues};
+ghost use Rattle.destroy.specs.Telling.{CanTell, TellsOf, taken_out, without_no_senders};
+
+use crate::paying::{lives, pay};
+use copyin_base::{Notice, World};
+use mach_types::PortId;
+
+/// Tells each port that was noted, lives, and still has no senders, where that was asked for. Answers how
+/// many.
+pub(crate) fn tell_senderless(world: &mut World) -> u64
+    requires { IsAt AreLost world.old }
+    ensures continues { Continues AreLost AreTold world.old result world.new }
+    ensures spaces { world.new.spaces ≡ world.old.spaces }
+{
+    let mut turns: u64 = 0;
+    while let Some(port) = take_noted(world) {
+        turns = turns.wrapping_add(tell_no_senders(world, port));
+    }
+    turns
+}
+
+// Takes the port that was noted first of those noted.
+fn take_noted(world: &mut World) -> Option<PortId>
+    ensures first { result ≡ slice_get world.old.ports.noted 0 }
+    ensures taken { IfSome result (λ port. world.new ≡ taken_out world.old port) }
+    ensures none { IfNone result (world.new ≡ world.old) }
+{
+    world.ports.take_noted()
+}
+
+// Tells of a port that lives that it has no senders, where that was asked for.
+fn tell_no_senders(world: &mut World, port: PortId) -> u64
+    requires { CanTell world.old port }
+    ensures { TellsOf world.old port result world.new }
+{
+    if !lives(world, port) || has_senders(world, port) {
+        return 0;
+    }
+    let made = world.attributes(port).make_send;
+    let Some(notify) = end_no_senders(world, port) else {
+        return 0;
+    };
+    // So it is seen that a slot is spare.
+    let _ = world.ledger.unused();
+    pay(world, notify, Notice::NoSenders(made));
+    1
+}
+
+// The port's request to be told of no senders ends, if it stands. Answers its notify port.
+fn end_no_senders(world: &mut World, port: PortId) -> Option<PortId>
+    ensures notify { result ≡ map.get world.old.requests.no_senders.map port }
+    ensures ended { world.new ≡ without_no_senders world.old port }
+{
+    world.requests.no_senders.remove(port.number())
+}
+
+fn has_senders(world: &World, port: PortId) -> bool
+    ensures { IsTrue result ↔ (0 < (counts_of world.now.ledger port).send) }
+{
+    match world.ledger.counts(port) {
+        Some(counts) => counts.send > 0,
+        None => false,
+    }
+}

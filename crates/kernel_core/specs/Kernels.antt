@@ -1,0 +1,33 @@
+-- A kernel as contracts see it, and the turns in which a step ends.
+use Rattle.std.specs.Prelude.{◌≡◌, ℕ, ◌%◌, ◌^◌, ◌⊎◌, refl}
+use Rattle.std.specs.Coded.{Coded, code_by, coded×, coded_ℕ}
+use Rattle.mach_types.specs.declared.calls.Event.{Event}
+use Rattle.mach_types.specs.declared.calls.Reply.{Reply}
+use Rattle.mach_model.specs.State.{State}
+use Rattle.mach_model.specs.Machine.{Refused, Done}
+use Rattle.mach_model.specs.Notices.{Owed}
+use Rattle.mach_model.specs.Turns.{Ending, IsReached, IsDone, IsBounded, listed}
+use Rattle.copyin_base.specs.Shows.{Shows}
+use Rattle.copyin_base.specs.Worlds.{WorldView}
+
+pub record KernelView : Type 0 where
+  pub tables : WorldView
+  -- in how many turns the last step ended
+  pub turns : ℕ
+
+abbrev pub kernel_code : Coded WorldView → Coded KernelView
+kernel_code world = code_by (WorldView × ℕ) (coded× world coded_ℕ) (λ k. (k.tables, k.turns)) (λ x. record { tables = x.0; turns = x.1 }) (λ _. refl)
+
+-- The machine's turns from the state midway to the new one are as many as this, and no more than what there was to do.
+pub record EndsInTurns (old mid : State) (owed : Owed) (new : State) (turns : ℕ) : Type 0 where
+  pub ending : Ending
+  pub reached : IsReached old mid owed ending
+  pub done : IsDone old mid ending
+  -- counted in 64 bits
+  pub number : ending.turns % 2 ^ 64 ≡ turns % 2 ^ 64
+  pub bounded : IsBounded mid new (listed ending.saved) ending
+
+-- A step that is refused ends in no turn; one that is done ends in so many.
+abbrev pub TakesTurns : (old : WorldView) → Event → Reply → (new : WorldView) → (turns : ℕ) → Type 0
+TakesTurns old event reply new turns = (now : ℕ) (s : State) → Shows old s →
+    (t : State) × Shows new t × (Refused s event reply t × (turns ≡ 0) ⊎ ((d : Done now s event reply t) × EndsInTurns s d.mid d.owed t turns))

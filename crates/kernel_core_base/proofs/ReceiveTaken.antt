@@ -1,0 +1,239 @@
+-- A receive right is taken from its name, with some of its send references or all: the tables and the machine alike.
+use Rattle.std.proofs.Common.{◌≡◌, ℕ, ◌-◌, List, [], ◌∷◌, ◌++◌, Option, Some, None, refl, sym, ap, subst, ◌∙◌, arith, Bool, true, false, inr, length}
+use Rattle.std.specs.Prelude.{is_some, if◌then◌else◌, ◌==◌, ◌&&◌, nat_lt, replicate, slice_set}
+use Rattle.std.specs.Option.{option_map}
+use Rattle.std.specs.FinMap as map
+use Rattle.std.proofs.lemmas.Bool.{ltb-true, ne_eqb}
+use Rattle.mach_types.specs.Tokens.{Kind, receive, send, send_once, Request, dead_name, in_task, in_request, Token, token, Moves, weigh, count, is_of, is_held}
+use Rattle.mach_model.specs.State.{State, Target, Names, lookup, held, at, request_at, without_name}
+use Rattle.mach_model.specs.Death.{same_place, IsOrphan}
+use Rattle.mach_model.specs.ReceiveRight.{one_if}
+use Rattle.mach_model.specs.CopyIn.{name_kept}
+use Rattle.mach_model.proofs.At.{at_own, at_other}
+use Rattle.mach_model.proofs.CopyingIn.{other_port, own_right}
+use Rattle.mach_model.proofs.Settling.{named_lives}
+use Rattle.mach_model.proofs.Weigh.{length-weigh, both_test}
+use Rattle.name_space.specs.declared.Entry.{Entry}
+use Rattle.name_space.specs.declared.Entry.TheVariants as entry_of
+use Rattle.name_space.specs.Entry.{port_named, has_receive, send_references}
+use Rattle.name_space.specs.Names.{SpaceView}
+use Rattle.port.specs.declared.Holder.TheVariants.{Nobody}
+use Rattle.port.specs.Holding.{held as held_port}
+use Rattle.port.specs.Ports.{PortView, PortsView, with_port}
+use Rattle.rights.specs.Counts.{with_fewer}
+use Rattle.rights.specs.Ledger.{LedgerView, taken, counts_of}
+use Rattle.rights.specs.declared.RightKind.TheVariants as right
+use Rattle.copyin_base.specs.Kept.{Kept}
+use Rattle.copyin_base.specs.Requests.{requests_after}
+use Rattle.copyin_base.specs.Shows.{target_of, HasCount, onces_queued, CountsAgree, Agrees, Shows}
+use Rattle.copyin_base.specs.Worlds.{WorldView, put, space_at, entry_in, port_at}
+use Rattle.copyin_base.proofs.Agreeing.{ports_put}
+use Rattle.copyin_base.proofs.Changing.{named_no_set, target_named, changed_agrees}
+use Rattle.copyin_base.proofs.Counting.{one_of, none_of_port, counts_agree, right_taken}
+use Rattle.copyin_base.proofs.Gets.{of_some, same_found}
+use Rattle.copyin_base.proofs.Putting.{each_put, put_same}
+use Rattle.copyin_base.proofs.Requesting.{stands_after}
+use Rattle.copyin_base.proofs.Taking.{Without, take_held}
+use Rattle.copyin_base.proofs.Told.{receive_has, found}
+use Rattle.kernel_core_base.specs.declared.references.Loss.{Loss}
+use Rattle.kernel_core_base.specs.References.{CanKill, TakesReceive}
+use Rattle.kernel_core_base.proofs.TokensMoved.{weigh_alike, weigh_unlike, WithoutMany, take_many}
+
+-- What the machine does: the receive right goes with so many send rights, and the name with the last.
+pub record TakesSo (task name : ℕ) (l : Loss) (s t : State) : Type 0 where
+  pub tokens : Moves s.ledger t.ledger (token receive l.port (in_task task) ∷ replicate (l.held - l.left) (token send l.port (in_task task))) []
+  pub rest : t ≡ record (name_kept (nat_lt 0 l.left) task name s) { ledger = t.ledger }
+
+module _ (w : WorldView) (task name : ℕ) (l : Loss) (can : CanKill w task name l) (s : State) (sh : Shows w s) where
+  named : port_named can.e ≡ Some l.port
+  named = (receive_has can.e l.port can.receive).0
+
+  target : lookup s task name ≡ Some (Target.port l.port)
+  target = found w s sh.agrees task name can.e can.found ∙ ap Some (target_named can.e l.port named)
+
+  pub kill_held : (held s task receive l.port ≡ 1) × (held s task send l.port ≡ l.held)
+  kill_held =
+      let h = sh.agrees.references task name can.e l.port can.found named in
+      (h.0 ∙ ap one_if (receive_has can.e l.port can.receive).1, h.1 ∙ can.sends)
+
+  pub kill_lives : s.live_port l.port ≡ true
+  kill_lives = named_lives s sh.lawful task name l.port target
+
+  -- ---- the rights
+
+  abbrev right_gone : Token
+  right_gone = token receive l.port (in_task task)
+
+  abbrev send_gone : Token
+  send_gone = token send l.port (in_task task)
+
+  pub first : Without right_gone s.ledger
+  first = take_held task receive l.port s.ledger (let h = kill_held.0 in omega (arith, h))
+
+  pub others : WithoutMany send_gone (l.held - l.left) first.others
+  others = take_many task send l.port (l.held - l.left) first.others refl
+      (let m = first.parts (λ x. if is_held task send l.port x then 1 else 0) in let h = kill_held.1 in omega (arith, m, h))
+
+  abbrev pub rights_left : List Token
+  rights_left = others.others
+
+  pub rights_moved : Moves s.ledger rights_left (right_gone ∷ replicate (l.held - l.left) send_gone) []
+  rights_moved h = let a = first.parts h in let b = others.parts h in omega (arith, a, b)
+
+  same_weight : (h : Token → ℕ) → h right_gone ≡ 0 → h send_gone ≡ 0 → weigh h rights_left ≡ weigh h s.ledger
+  same_weight h z y = let g = weigh_unlike h (l.held - l.left) send_gone y in let e = rights_moved h in omega (arith, g, e, z)
+
+  -- of another port, or with another task
+  port_weight : (c : Kind) (q : ℕ) → (q ≡ l.port → ⊥) → count (is_of c q) rights_left ≡ count (is_of c q) s.ledger
+  port_weight c q not = same_weight (λ x. if is_of c q x then 1 else 0) (none_of_port receive c l.port q (in_task task) not) (none_of_port send c l.port q (in_task task) not)
+
+  task_weight : (u : ℕ) → (u ≡ task → ⊥) → (c : Kind) (q : ℕ) → count (is_held u c q) rights_left ≡ count (is_held u c q) s.ledger
+  task_weight u not c q = same_weight (λ x. if is_held u c q x then 1 else 0)
+      (both_test (is_of c q right_gone) (task == u) (inr (ne_eqb task u (λ e. not (sym e))))) (both_test (is_of c q send_gone) (task == u) (inr (ne_eqb task u (λ e. not (sym e)))))
+
+  pub sends_weight : count (is_held task send l.port) rights_left ≡ l.left
+  sends_weight =
+      let e = rights_moved (λ x. if is_held task send l.port x then 1 else 0) in
+      let g = weigh_alike (λ x. if is_held task send l.port x then 1 else 0) (l.held - l.left) send_gone (own_right task send l.port refl) in
+      let h = kill_held.1 in
+      let few = can.fewer in omega (arith, e, g, h, few)
+
+  pub receives_weight : count (is_held task receive l.port) rights_left ≡ 0
+  receives_weight =
+      let e = rights_moved (λ x. if is_held task receive l.port x then 1 else 0) in
+      let g = weigh_unlike (λ x. if is_held task receive l.port x then 1 else 0) (l.held - l.left) send_gone refl in
+      let o = own_right task receive l.port refl in
+      let h = kill_held.0 in omega (arith, e, g, o, h)
+
+  -- ---- the port is an orphan, and no other is
+
+  pub orphaned : (t : State) → t.live_port ≡ s.live_port → t.ledger ≡ rights_left → IsOrphan t l.port
+  orphaned t live ledger = (
+    ap (λ (f : ℕ → Bool). f l.port) live ∙ kill_lives,
+    ap (count (is_of receive l.port)) ledger
+        ∙ (let e = rights_moved (λ x. if is_of receive l.port x then 1 else 0) in
+        let g = weigh_unlike (λ x. if is_of receive l.port x then 1 else 0) (l.held - l.left) send_gone refl in
+        let o = one_of receive l.port (in_task task) refl in
+        let one = sh.lawful.one_receive l.port kill_lives in omega (arith, e, g, o, one)),
+  )
+
+  pub others_kept : (t : State) → t.live_port ≡ s.live_port → t.ledger ≡ rights_left → (q : ℕ) → (q ≡ l.port → ⊥) → ¬ (IsOrphan t q)
+  others_kept t live ledger q not o =
+      let one = sh.lawful.one_receive q (sym (ap (λ (f : ℕ → Bool). f q) live) ∙ o.0) in
+      let none = sym (ap (count (is_of receive q)) ledger) ∙ o.1 in
+      let same = port_weight receive q not in omega (arith, one, none, same)
+
+  -- ---- the counts
+
+  abbrev without_receive : LedgerView
+  without_receive = taken w.ledger l.port right.Receive 1
+
+  abbrev pub counts_left : LedgerView
+  counts_left = taken without_receive l.port right.Send (l.held - l.left)
+
+  first_counted : (q : ℕ) → CountsAgree without_receive s.live_port first.others (onces_queued s) q
+  first_counted = right_taken w.ledger s.live_port s.ledger (onces_queued s) sh.agrees.counts receive l.port (in_task task) kill_lives (λ e. let f : receive ≡ send_once = e in cc) first.others first.parts
+
+  counted : (q : ℕ) → CountsAgree counts_left s.live_port rights_left (onces_queued s) q
+  counted = counts_agree without_receive s.live_port first.others (onces_queued s) first_counted counts_left s.live_port rights_left (onces_queued s) l.port
+      (with_fewer right.Send (l.held - l.left) (counts_of without_receive l.port)) refl (sym kill_lives)
+      ((first_counted l.port).receivers ∙ sym (unlike (λ x. if is_of receive l.port x then 1 else 0) refl))
+      (let c = (first_counted l.port).senders in
+      let g = weigh_alike (λ x. if is_of send l.port x then 1 else 0) (l.held - l.left) send_gone (one_of send l.port (in_task task) refl) in
+      let e = others.parts (λ x. if is_of send l.port x then 1 else 0) in omega (arith, c, g, e))
+      ((first_counted l.port).once_rights ∙ sym (unlike (λ x. if is_of send_once l.port x then 1 else 0) refl))
+      ((first_counted l.port).destinations kill_lives)
+      (λ q not. (refl, refl, λ c. sym (unlike (λ x. if is_of c q x then 1 else 0) (none_of_port send c l.port q (in_task task) not))))
+    where
+      unlike : (h : Token → ℕ) → h send_gone ≡ 0 → weigh h rights_left ≡ weigh h first.others
+      unlike h z = let g = weigh_unlike h (l.held - l.left) send_gone z in let e = others.parts h in omega (arith, g, e)
+
+  total : counts_left.total ≡ length rights_left
+  total =
+      let t = sh.agrees.total in
+      let m = rights_moved (λ x. 1) in
+      let g = weigh_alike (λ x. 1) (l.held - l.left) send_gone refl in
+      let y = length-weigh s.ledger in
+      let z = length-weigh rights_left in omega (arith, t, m, g, y, z)
+
+  -- ---- all together
+
+  module _ (space : SpaceView) (there : space_at w task ≡ Some space) (v : PortView Kept) (port_there : port_at w l.port ≡ Some v) where
+    abbrev ports_left : PortsView Kept
+    ports_left = record (with_port w.ports l.port (held_port v Nobody)) { lost = w.ports.lost ++ l.port ∷ [] }
+
+    abbrev tables : Option Entry → WorldView
+    tables left = record w {
+      spaces = slice_set w.spaces task (Some (record space { names = put space.names name left }));
+      ports = ports_left;
+      ledger = counts_left;
+      requests = requests_after w.requests task name left;
+    }
+
+    in_space : map.get space.names name ≡ Some can.e
+    in_space = sym (ap (λ (o : Option SpaceView). entry_in o name) there) ∙ can.found
+
+    -- this is left
+    abbrev IsRest : Entry → Type 0
+    IsRest e = HasCount e × (port_named e ≡ Some l.port) × (has_receive e ≡ false) × (send_references e ≡ l.left)
+
+    agree : (left : Option Entry) (names : ℕ → Names) (stands : Request → Bool) → ((r : Request) → stands r ≡ stands_after s.stands task name left r) → names task ≡ put (s.naming task) name (option_map target_of left) →
+        ((u : ℕ) → (u ≡ task → ⊥) → names u ≡ s.naming u) → ((e : Entry) → left ≡ Some e → IsRest e) → Agrees (tables left) (record s { naming = names; stands = stands; ledger = rights_left })
+    agree left names stands same own elsewhere is = changed_agrees w s sh.agrees task name (sh.lawful.naming task) space there can.e in_space left space.room ports_left counts_left
+        (record s { naming = names; stands = stands; ledger = rights_left }) own sh.requested record {
+          rest = refl;
+          naming_others = elsewhere;
+          held_others = task_weight;
+          own_references = λ e q is_e en.
+              let x = is e is_e in
+              let q_is : l.port ≡ q = same_found (port_named e) l.port q x.1 en in
+              subst (λ (y : ℕ). (count (is_held task receive y) rights_left ≡ one_if (has_receive e)) × (count (is_held task send y) rights_left ≡ send_references e)) q_is
+              (receives_weight ∙ sym (ap one_if x.2), sends_weight ∙ sym x.3);
+          other_references = λ q not.
+              let far : q ≡ l.port → ⊥ = (λ e. not (named ∙ ap Some (sym e))) in (
+                same_weight (λ x. if is_held task receive q x then 1 else 0) (other_port task task receive receive q l.port far) (other_port task task receive send q l.port far),
+                same_weight (λ x. if is_held task send q x then 1 else 0) (other_port task task send receive q l.port far) (other_port task task send send q l.port far),
+              );
+          own_count = λ e is_e. (is e is_e).0;
+          made = refl;
+          live = each_put w.ports.ports l.port (Some (held_port v Nobody)) (λ q o. is_some o ≡ is_some (port_at w q)) (sym (ap is_some port_there)) (λ q not. refl);
+          ports = ports_put w.ports.ports l.port (held_port v Nobody) (record s { naming = names; stands = stands; ledger = rights_left })
+              (let b = sh.agrees.ports l.port v port_there in record { waiting = b.waiting; limit = b.limit; make_send = b.make_send; sequence = b.sequence; sets = b.sets })
+              (λ q x not at. sh.agrees.ports q x at);
+          counts = counted;
+          total = total;
+          stands = same;
+          requests = λ r c q. same_weight (λ x. if is_of c q x && same_place (in_request r) x.place then 1 else 0)
+              (both_test (is_of c q right_gone) false (inr refl)) (both_test (is_of c q send_gone) false (inr refl));
+          no_set = named_no_set can.e l.port named;
+        }
+
+    abbrev pub Becomes : WorldView → Type 0
+    Becomes x = (t : State) × TakesSo task name l s t × Agrees x t × (t.live_port ≡ s.live_port) × (t.ledger ≡ rights_left)
+
+    kept : nat_lt 0 l.left ≡ true → Becomes (tables (Some (entry_of.Send l.port l.left)))
+    kept b = (
+      record s { ledger = rights_left },
+      record { tokens = rights_moved; rest = ap (λ (y : Bool). record (name_kept y task name s) { ledger = rights_left }) (sym b) },
+      agree (Some (entry_of.Send l.port l.left)) s.naming s.stands (λ r. refl) (sym (put_same (s.naming task) name (Target.port l.port) target)) (λ u not. refl)
+          (of_some (entry_of.Send l.port l.left) IsRest (ltb-true 0 l.left b, refl, refl, refl)),
+      refl,
+      refl,
+    )
+
+    gone : nat_lt 0 l.left ≡ false → Becomes (tables None)
+    gone b = (
+      record (without_name task name s) { ledger = rights_left },
+      record { tokens = rights_moved; rest = ap (λ (y : Bool). record (name_kept y task name s) { ledger = rights_left }) (sym b) },
+      agree None (at s.naming task (map.remove (s.naming task) name)) (request_at s.stands (dead_name task name) false) (λ r. refl) (at_own s.naming task (map.remove (s.naming task) name))
+          (at_other s.naming task (map.remove (s.naming task) name)) (λ e is. let f : None ≡ Some e = is in absurd (cc)),
+      refl,
+      refl,
+    )
+
+  pub becomes : (v : WorldView) (r : TakesReceive w task name l v) → Becomes r.space r.there r.v r.port_there v
+  becomes v r = subst (λ (x : WorldView). Becomes r.space r.there r.v r.port_there x) (sym r.rest) (go (nat_lt 0 l.left) refl)
+    where
+      go : (b : Bool) → nat_lt 0 l.left ≡ b → Becomes r.space r.there r.v r.port_there (tables r.space r.there r.v r.port_there (if b then Some (entry_of.Send l.port l.left) else None))
+      go true b = kept r.space r.there r.v r.port_there b
+      go false b = gone r.space r.there r.v r.port_there b

@@ -1,0 +1,250 @@
+-- How many slots are needed: as many as there are send-once rights, and queued messages that came by send rights. A step's end needs no more.
+use Rattle.std.proofs.Common.{◌≡◌, ℕ, zero, suc, ◌+◌, ◌≤◌, ◌<◌, List, [], ◌∷◌, ◌++◌, Some, refl, sym, ap, subst, ◌∙◌, arith, true, false, Bool, inl, inr, length, length-append}
+use Rattle.std.specs.Prelude.{if◌then◌else◌, ◌==◌, ◌&&◌, not, All, filter, drop, slice_get}
+use Rattle.std.proofs.lemmas.Bool.Decides.{leb_tells}
+use Rattle.std.proofs.lemmas.Bool.{eq-eqb, ne_eqb}
+use Rattle.std.proofs.lemmas.List.{length-map, drop-append-le}
+use Rattle.std.proofs.lemmas.List.Elements.{All-head, All-tail}
+use Rattle.mach_types.specs.Tokens.{Kind, send_once, in_message, Token, token, count, is_of, same_kind}
+use Rattle.mach_types.specs.Messages.{Entry, Message, to_port}
+use Rattle.mach_model.specs.State.{State, queue}
+use Rattle.mach_model.specs.Death.{same_place}
+use Rattle.mach_model.specs.Carried.{lying_among, mark_count, message_count}
+use Rattle.mach_model.specs.Notices.{Notice, port_deleted, port_sent, no_more_senders, right_unused, name_died, Owed, Posted, posted_tokens, all_posted_tokens, carried_by}
+use Rattle.mach_model.specs.Settles.{PaysFor, tokens_of, Settles}
+use Rattle.mach_model.specs.Lawful.{tally, LawfulPorts, LawfulLogs, LawfulMessages}
+use Rattle.mach_model.specs.Midway.{MidLawful}
+use Rattle.mach_model.specs.Unused.{came_by_once, unused_at}
+use Rattle.mach_model.proofs.At.{slice_get_drop}
+use Rattle.mach_model.proofs.Weigh.{weigh-append, both_test}
+use Rattle.mach_model.proofs.TurnsMade.{without, without_weigh}
+use Rattle.mach_model.proofs.SettledParts.{parts, made_of, live_mid}
+use Rattle.mach_model.proofs.SettledLogs.{added_is}
+use Rattle.mach_model.proofs.SettledLawful.{settled_lawful}
+use Rattle.mach_laws.specs.Queued.{sum_below, waiting, queued, unused}
+use Rattle.mach_laws.specs.Counts.{once_rights, by_send_at, queued_by_send}
+use Rattle.mach_laws.proofs.Counted.{sum_same, sum_one, sum_both}
+
+-- ---- each queued message that goes by a send-once right has it at its own entry
+
+-- the rights that lie at these entries, one by one
+abbrev AreApart : (p k : ℕ) → List Entry → List Token → Type 0
+AreApart p k es tokens = (i : ℕ) (e : Entry) → slice_get es i ≡ Some e → came_by_once e ≡ true → 0 < lying_among tokens send_once p (in_message p (k + i))
+
+later : (p k : ℕ) (e : Entry) (es : List Entry) (tokens : List Token) → AreApart p k (e ∷ es) tokens → AreApart p (suc k) es tokens
+later p k e es tokens apart i x is once =
+    subst (λ (n : ℕ). 0 < lying_among tokens send_once p (in_message p n)) (omega arith) (apart (suc i) x is once)
+
+-- a right at one entry isn't at a later one
+elsewhere : (p k i : ℕ) → (if is_of send_once p (token send_once p (in_message p k)) && same_place (in_message p (suc k + i)) (in_message p k) then suc zero else zero) ≡ zero
+elsewhere p k i = both_test (is_of send_once p (token send_once p (in_message p k))) (same_place (in_message p (suc k + i)) (in_message p k)) (inr (not_it (p == p)))
+  where
+    not_it : (b : Bool) → (b && (suc k + i == k)) ≡ false
+    not_it true = ne_eqb (suc k + i) k (λ e. omega (arith, e))
+    not_it false = refl
+
+once_apart : (p k : ℕ) (es : List Entry) (tokens : List Token) → AreApart p k es tokens → tally came_by_once es ≤ count (is_of send_once p) tokens
+once_apart p k [] tokens apart = omega arith
+once_apart p k (e ∷ es) tokens apart = go (came_by_once e) refl (λ others so. once_apart p (suc k) es others so)
+  where
+    go : (b : Bool) → came_by_once e ≡ b → ((others : List Token) → AreApart p (suc k) es others → tally came_by_once es ≤ count (is_of send_once p) others) →
+        (if came_by_once e then 1 else 0) + tally came_by_once es ≤ count (is_of send_once p) tokens
+    go false is more = let z : (if came_by_once e then suc zero else zero) ≡ zero = rw is in let h = more tokens (later p k e es tokens apart) in omega (arith, z, h)
+    go true is more =
+        let here : 0 < lying_among tokens send_once p (in_message p k) = subst (λ (n : ℕ). 0 < lying_among tokens send_once p (in_message p n)) (omega arith) (apart 0 e refl is) in
+        let right : Token = token send_once p (in_message p k) in
+        let others : List Token = without right tokens in
+        let rest : AreApart p (suc k) es others = λ i x at once.
+        let was = later p k e es tokens apart i x at once in
+        let m = without_weigh right tokens here (λ y. if is_of send_once p y && same_place (in_message p (suc k + i)) y.place then 1 else 0) in
+        let none = elsewhere p k i in omega (arith, was, m, none) in
+        let h = more others rest in
+        let all = without_weigh right tokens here (λ y. if is_of send_once p y then 1 else 0) in
+        let one : (if is_of send_once p right then suc zero else zero) ≡ suc zero = rw (eq-eqb p p refl) refl in
+        let this : (if came_by_once e then suc zero else zero) ≡ suc zero = rw is in
+        omega (arith, h, all, one, this)
+
+-- ---- sums over ports
+
+pub tally_both : {A : Type 0} (test : A → Bool) (xs : List A) → length xs ≡ tally test xs + tally (λ x. not (test x)) xs
+tally_both test [] = refl
+tally_both {A} test (x ∷ xs) = go (test x) (tally_both test xs)
+  where
+    go : (b : Bool) → length xs ≡ tally test xs + tally (λ (x : A). not (test x)) xs →
+        suc (length xs) ≡ (if b then 1 else 0) + tally test xs + ((if not b then 1 else 0) + tally (λ (x : A). not (test x)) xs)
+    go true e = omega (arith, e)
+    go false e = omega (arith, e)
+
+-- each send-once right is for one port
+once_summed : (n : ℕ) (xs : List Token) → ((p : ℕ) → n ≤ p → count (is_of send_once p) xs ≡ 0) → sum_below (λ p. count (is_of send_once p) xs) n ≡ count (λ x. same_kind send_once x.kind) xs
+once_summed n [] none = zeros n
+  where
+    zeros : (n : ℕ) → sum_below (λ p. count (is_of send_once p) []) n ≡ 0
+    zeros zero = refl
+    zeros (suc n) = let h = zeros n in omega (arith, h)
+once_summed n (x ∷ xs) none = go (same_kind send_once x.kind) refl (once_summed n xs (λ p above. let h = none p above in omega (arith, h)))
+  where
+    go : (b : Bool) → same_kind send_once x.kind ≡ b → sum_below (λ p. count (is_of send_once p) xs) n ≡ count (λ x. same_kind send_once x.kind) xs →
+        sum_below (λ p. count (is_of send_once p) (x ∷ xs)) n ≡ (if same_kind send_once x.kind then 1 else 0) + count (λ x. same_kind send_once x.kind) xs
+    go false is rest =
+        let same = sum_same (λ p. count (is_of send_once p) xs) (λ p. count (is_of send_once p) (x ∷ xs)) n (λ p within. rw is (omega arith)) in
+        let z : (if same_kind send_once x.kind then suc zero else zero) ≡ zero = rw is in
+        omega (arith, same, rest, z)
+    go true is rest =
+        let own : (if is_of send_once x.port x then suc zero else zero) ≡ suc zero = rw (is, eq-eqb x.port x.port refl) refl in
+        let within : x.port < n = below own in
+        let more = sum_one (λ p. count (is_of send_once p) xs) (λ p. count (is_of send_once p) (x ∷ xs)) x.port n within (omega (arith, own))
+        (λ q not. let f : (if is_of send_once q x then suc zero else zero) ≡ zero = rw (is, ne_eqb x.port q (λ e. not (sym e))) refl in omega (arith, f)) in
+        let o : (if same_kind send_once x.kind then suc zero else zero) ≡ suc zero = rw is in
+        omega (arith, more, rest, o)
+      where
+        below : (if is_of send_once x.port x then suc zero else zero) ≡ suc zero → x.port < n
+        below own = elim (leb_tells n x.port) [
+          | inl h ↦ absurd (let z = none x.port h.1 in omega (arith, z, own))
+          | inr h ↦ omega (arith, h.1)
+        ]
+
+-- ---- in a state
+
+module _ (s : State) (ports : LawfulPorts s.live_port s.ports_made s.ledger) (logs : LawfulLogs s.ports_made s.log s.taken)
+    (messages : LawfulMessages s.live_port s.log s.taken s.ledger) where
+  by_its_kind : (p : ℕ) (message : Message) → message.destination ≡ p → same_kind send_once message.kind ≡ true → 0 < message_count send_once p message
+  by_its_kind p message to once =
+      let one : mark_count send_once p message.kind (to_port message.destination) ≡ 1 = rw (once, eq-eqb message.destination p to) refl in
+      omega (arith, one)
+
+  are_apart : (p : ℕ) → s.live_port p ≡ true → AreApart p (s.taken p) (queue s p) s.ledger
+  are_apart p lives i e is once =
+      let c = messages.carried p i e lives is send_once p lives in
+      let to = (logs.sent_here p (s.taken p + i) e (sym (slice_get_drop (s.taken p) (s.log p) i) ∙ is)).0 in
+      let some = by_its_kind p e.message to once in
+      omega (arith, c, some)
+
+  at_port : (p : ℕ) (b : Bool) → s.live_port p ≡ b → waiting s p + unused_at s p ≡ count (is_of send_once p) s.ledger + by_send_at s p
+  at_port p true lives =
+      let few = once_apart p (s.taken p) (queue s p) s.ledger (are_apart p lives) in
+      let all = tally_both came_by_once (queue s p) in
+      let a : waiting s p ≡ length (queue s p) = rw lives refl in
+      let b : by_send_at s p ≡ tally (λ e. not (came_by_once e)) (queue s p) = rw lives refl in
+      omega (arith, few, all, a, b)
+  at_port p false dead =
+      let none = ports.no_rights p dead send_once in
+      let a : waiting s p ≡ 0 = rw dead refl in
+      let b : by_send_at s p ≡ 0 = rw dead refl in
+      omega (arith, none, a, b)
+
+  unmade : (p : ℕ) → s.ports_made ≤ p → count (is_of send_once p) s.ledger ≡ 0
+  unmade p above = go (s.live_port p) refl
+    where
+      go : (b : Bool) → s.live_port p ≡ b → count (is_of send_once p) s.ledger ≡ 0
+      go true lives = absurd (let h = ports.made_port p lives in omega (arith, h, above))
+      go false dead = ports.no_rights p dead send_once
+
+  pub needed : queued s + unused s ≡ once_rights s + queued_by_send s
+  needed =
+      let sums = sum_both (waiting s) (unused_at s) (λ p. count (is_of send_once p) s.ledger) (by_send_at s) s.ports_made (λ p within. at_port p (s.live_port p) refl) in
+      let onces = once_summed s.ports_made s.ledger unmade in
+      omega (arith, sums, onces)
+
+-- ---- a step's end
+
+abbrev pub is_once_right : Token → Bool
+is_once_right x = same_kind send_once x.kind
+
+-- each notice goes by one send-once right, and brings no other
+pub posted_onces : (xs : List Posted) → count is_once_right (all_posted_tokens xs) ≡ length xs
+posted_onces [] = refl
+posted_onces (x ∷ xs) =
+    let a = weigh-append (λ y. if is_once_right y then 1 else 0) (posted_tokens x) (all_posted_tokens xs) in
+    let rest = posted_onces xs in
+    let b = brought x.notice in omega (arith, a, rest, b)
+  where
+    brought : (n : Notice) → count is_once_right (carried_by n (in_message x.port x.entry)) ≡ 0
+    brought (port_deleted n) = refl
+    brought (port_sent q) = refl
+    brought (no_more_senders n) = refl
+    brought right_unused = refl
+    brought (name_died n) = refl
+
+paid_onces : (mid new : State) (xs : Owed) → All (λ x. PaysFor mid new x.0 x.1) xs → count is_once_right (tokens_of xs) ≡ length xs
+paid_onces mid new [] all = refl
+paid_onces mid new (x ∷ xs) all =
+    let pays = All-head (λ (x : Token × Notice). PaysFor mid new x.0 x.1) x xs all in
+    let e : is_once_right x.0 ≡ true = ap (λ (k : Kind). same_kind send_once k) pays.0 in
+    let rest = paid_onces mid new xs (All-tail (λ (x : Token × Notice). PaysFor mid new x.0 x.1) x xs all) in
+    let one : (if is_once_right x.0 then suc zero else zero) ≡ suc zero = rw e in
+    omega (arith, rest, one)
+
+filter_fewer : {A : Type 0} (test : A → Bool) (xs : List A) → length (filter test xs) ≤ length xs
+filter_fewer test [] = omega arith
+filter_fewer {A} test (x ∷ xs) = go (test x) (filter_fewer test xs)
+  where
+    go : (b : Bool) → length (filter test xs) ≤ length xs → length (if b then x ∷ filter test xs else filter test xs) ≤ suc (length xs)
+    go true e = omega (arith, e)
+    go false e = omega (arith, e)
+
+behind : {A : Type 0} (xs ys : List A) (i : ℕ) → slice_get (xs ++ ys) (length xs + i) ≡ slice_get ys i
+behind [] ys i = ap (slice_get ys) (omega arith)
+behind (x ∷ xs) ys i =
+    let e : suc (length xs) + i ≡ suc (length xs + i) = omega arith in
+    ap (slice_get (x ∷ xs ++ ys)) e ∙ behind xs ys i
+
+pub tally_append : {A : Type 0} (test : A → Bool) (xs ys : List A) → tally test (xs ++ ys) ≡ tally test xs + tally test ys
+tally_append test [] ys = omega arith
+tally_append test (x ∷ xs) ys = let h = tally_append test xs ys in omega (arith, h)
+
+none_by_send : (xs : List Entry) → ((i : ℕ) (e : Entry) → slice_get xs i ≡ Some e → came_by_once e ≡ true) → tally (λ e. not (came_by_once e)) xs ≡ 0
+none_by_send [] all = refl
+none_by_send (x ∷ xs) all =
+    let rest = none_by_send xs (λ i e is. all (suc i) e is) in
+    let z : (if not (came_by_once x) then suc zero else zero) ≡ zero = rw (all 0 x refl) refl in
+    omega (arith, rest, z)
+
+pub sum_fewer : (f g : ℕ → ℕ) (n : ℕ) → ((p : ℕ) → p < n → g p ≤ f p) → sum_below g n ≤ sum_below f n
+sum_fewer f g zero fewer = omega arith
+sum_fewer f g (suc n) fewer =
+    let less = sum_fewer f g n (λ p within. fewer p (omega (arith, within))) in
+    let last = fewer n (omega arith) in
+    omega (arith, less, last)
+
+module _ (now : ℕ) (old mid : State) (owed : Owed) (new : State) (l : MidLawful mid owed) (s : Settles now old mid owed new) where
+  fewer_onces : once_rights new ≤ once_rights mid + length owed
+  fewer_onces =
+      let made = made_of now old mid owed new s is_once_right in
+      let staying = parts now old mid owed new s is_once_right in
+      let posts = posted_onces s.notices.posted in
+      let pays = paid_onces mid new s.rights.paying s.rights.pay in
+      let due = sym (length-map s.notices.posted (λ (x : Posted). (x.port, x.notice))) ∙ ap length s.notices.due
+      ∙ length-map (s.rights.paying ++ filter (λ x. new.live_port x.0.port) owed) (λ (x : Token × Notice). (x.0.port, x.1))
+      ∙ length-append s.rights.paying (filter (λ x. new.live_port x.0.port) owed) in
+      let few = filter_fewer (λ (x : Token × Notice). new.live_port x.0.port) owed in
+      omega (arith, made, staying, posts, pays, due, few)
+
+  same_by_send : (p : ℕ) (b : Bool) → new.live_port p ≡ b → by_send_at new p ≤ by_send_at mid p
+  same_by_send p false dead = let a : by_send_at new p ≡ 0 = rw dead refl in omega (arith, a)
+  same_by_send p true lives =
+      let h = s.notices.logs p in
+      let is : queue new p ≡ queue mid p ++ h.0 =
+      ap (λ (x : State). drop (x.taken p) (new.log p)) s.rest ∙ ap (drop (mid.taken p)) h.1 ∙ drop-append-le (mid.taken p) (mid.log p) h.0 (l.within p) in
+      let a : by_send_at new p ≡ tally (λ e. not (came_by_once e)) (queue new p) = rw lives refl in
+      let b : by_send_at mid p ≡ tally (λ e. not (came_by_once e)) (queue mid p) = rw (live_mid now old mid owed new s p lives) refl in
+      let c = ap (tally (λ e. not (came_by_once e))) is ∙ tally_append (λ e. not (came_by_once e)) (queue mid p) h.0 in
+      let z = none_by_send h.0 (λ i e at. came i e (ap (λ (xs : List Entry). slice_get xs (length (mid.log p) + i)) h.1 ∙ behind (mid.log p) h.0 i ∙ at)) in
+      omega (arith, a, b, c, z)
+    where
+      came : (i : ℕ) (e : Entry) → slice_get (new.log p) (length (mid.log p) + i) ≡ Some e → came_by_once e ≡ true
+      came i e at = ap (λ (m : Message). same_kind send_once m.kind) (added_is now old mid owed new l s p (length (mid.log p) + i) e (omega arith) at).message
+
+  fewer_by_send : queued_by_send new ≤ queued_by_send mid
+  fewer_by_send =
+      let same = sum_fewer (by_send_at mid) (by_send_at new) mid.ports_made (λ p within. same_by_send p (new.live_port p) refl) in
+      let here : queued_by_send new ≡ sum_below (by_send_at new) mid.ports_made = ap (λ (x : State). sum_below (by_send_at new) x.ports_made) s.rest in
+      omega (arith, same, here)
+
+  -- What a step's end needs.
+  pub ending_needs : queued new + unused new ≤ queued mid + unused mid + length owed
+  ending_needs =
+      let after = settled_lawful now old mid owed new l s in
+      let a = needed new after.ports after.logs after.messages in
+      let b = needed mid l.ports l.logs l.messages in
+      omega (arith, fewer_onces, fewer_by_send, a, b)

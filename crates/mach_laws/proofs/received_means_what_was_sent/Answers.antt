@@ -1,5 +1,0 @@
-use Rattle.mach_laws.proofs.Told.{path_told}
-use Rattle.mach_laws.proofs.received_means_what_was_sent.Goals as goal
-
-pub returns : goal.returns
-returns c = path_told

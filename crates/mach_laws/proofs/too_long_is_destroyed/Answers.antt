@@ -1,0 +1,5 @@
+use Rattle.mach_laws.proofs.Looking.{Step-destroys}
+use Rattle.mach_laws.proofs.too_long_is_destroyed.Goals as goal
+
+pub returns : goal.returns
+returns c = Step-destroys

@@ -1,0 +1,97 @@
+//! A message is destroyed in a step's own part.
+ghost use Rattle.std.specs.Prelude.{◌≤◌};
+ghost use Rattle.std.specs.Option.{option_to_list};
+ghost use Rattle.mach_types.specs.Numbers.{kind_sent};
+ghost use Rattle.copyin_base.specs.declared.message.Mark.TheVariants as mark;
+ghost use Rattle.copyin_base.specs.Changes.{NotesSenderless};
+ghost use Rattle.rights.specs.declared.RightKind.TheVariants as right;
+ghost use Rattle.rights.specs.Ledger.{IsEntered, counts_of, taken};
+ghost use Rattle.notifications.specs.Destroying.{LosesRight, LosesMark, LosesAll, DestroysMessage, CanLoseRight, CanLoseMark, CanLoseAll, CanDestroy};
+
+use crate::lost::{kill_port, lose_once};
+use copyin_base::{Carried, Mark, Queued, World};
+use copyout::{note_front, take_front};
+use mach_types::{Disposition, PortId, Right};
+use rights::RightKind;
+
+// A send right for the port is lost, and the port is noted if it was the last.
+fn lose_send(world: &mut World, port: PortId)
+    requires entered { IsEntered world.old.ledger port }
+    requires some { 1 ≤ (counts_of world.old.ledger port).send }
+    ensures { NotesSenderless (record world.old { ledger = taken world.old.ledger port right.Send 1 }) port world.new }
+{
+    world.ledger.take(port, RightKind::Send, 1);
+    world.note_senderless(port);
+}
+
+// A right of this kind for a port that is there is lost.
+fn lose_kind(world: &mut World, given: Disposition, port: PortId)
+    requires { CanLoseRight world.old (kind_sent given) port }
+    ensures { LosesRight world.old (kind_sent given) port world.new }
+{
+    match given.kind() {
+        Right::Receive => kill_port(world, port),
+        Right::Send => lose_send(world, port),
+        Right::SendOnce => lose_once(world, port),
+        Right::PortSet | Right::DeadName => unreachable!(),
+    }
+}
+
+// A right for the port is lost, where that is there.
+fn lose_for(world: &mut World, given: Disposition, port: PortId)
+    requires { CanLoseMark world.old (kind_sent given) (mark.Port port) }
+    ensures { LosesMark world.old (kind_sent given) (mark.Port port) world.new }
+{
+    if world.ports.contains(port) {
+        lose_kind(world, given, port);
+    }
+}
+
+// A right that a message carried is lost.
+fn lose_right(world: &mut World, carried: &Carried)
+    requires { CanLoseMark world.old (kind_sent carried.now.given) carried.now.mark }
+    ensures { LosesMark world.old (kind_sent carried.now.given) carried.now.mark world.new }
+{
+    match carried.mark {
+        Mark::Port(port) => lose_for(world, carried.given, port),
+        Mark::Null | Mark::Dead => {}
+    }
+}
+
+// The right to answer with is lost, if there is one.
+fn lose_reply(world: &mut World, reply: Option<Carried>)
+    requires { CanLoseAll world.old (option_to_list reply) }
+    ensures { LosesAll world.old (option_to_list reply) world.new }
+{
+    if let Some(carried) = reply {
+        lose_right(world, &carried);
+    }
+}
+
+// The rights of the message's body are lost. Linear in them.
+fn lose_body(world: &mut World, queued: &Queued)
+    requires { CanLoseAll world.old queued.now.rights }
+    ensures { LosesAll world.old queued.now.rights world.new }
+{
+    for place in 0..queued.count_rights() {
+        match queued.right_at(place) {
+            Some(carried) => lose_right(world, &carried),
+            None => {}
+        }
+    }
+}
+
+/// The port's front message is destroyed: its number is used, the right by which it came is used up, and
+/// what else it carries is lost: a port whose receive right it carries is lost, and a send-once right tells
+/// its port.
+///
+/// Takes no memory and cannot fail. Linear in the rights that it carries.
+pub fn lose_message(world: &mut World, port: PortId)
+    requires { CanDestroy world.old port }
+    ensures { DestroysMessage world.old port world.new }
+{
+    let queued = take_front(world, port);
+    note_front(world, port, queued.by_once());
+    lose_reply(world, queued.reply());
+    lose_body(world, &queued);
+}
