@@ -6,6 +6,8 @@
 
 mod command_line;
 #[cfg(test)]
+mod deaths;
+#[cfg(test)]
 mod dispositions;
 mod perform;
 mod reading;

@@ -298,6 +298,8 @@ fn refuses_other_words(rt: HostRuntime) {
 #[test]
 fn the_help_lists_the_calls(rt: HostRuntime) {
     assert!(rt; is_refused(rt.alloc(), "mach_run run --help", "\n  task "));
+    let notify = "\n  notify T NAME VARIANT SYNC NOTIFY DISP\n";
+    assert!(rt; is_refused(rt.alloc(), "mach_run run --help", notify));
     let last = "\n  again T s SET ROOM LARGE\n";
     assert!(rt; is_refused(rt.alloc(), "mach_run run --help", last));
 }
