@@ -123,6 +123,16 @@ typedef struct gelvonds_waited {
 #define MACH_PORT_TYPE_SEND_ONCE 0x00040000u
 #define MACH_PORT_TYPE_PORT_SET 0x00080000u
 #define MACH_PORT_TYPE_DEAD_NAME 0x00100000u
+#define MACH_PORT_TYPE_DNREQUEST 0x80000000u /* a dead-name request stands on the name */
+#endif
+
+/* The ids of notices; those of 69, 70 and 72 are also the variants of requests. */
+#ifndef MACH_NOTIFY_PORT_DELETED
+#define MACH_NOTIFY_PORT_DELETED 65
+#define MACH_NOTIFY_PORT_DESTROYED 69
+#define MACH_NOTIFY_NO_SENDERS 70
+#define MACH_NOTIFY_SEND_ONCE 71
+#define MACH_NOTIFY_DEAD_NAME 72
 #endif
 
 /* How a right is taken from a name (mach_msg_type_name_t). */
@@ -150,6 +160,10 @@ void gelvonds_free(gelvonds *kernel);
  * KERN_NO_SPACE: 65,536 tasks were made; KERN_RESOURCE_SHORTAGE: memory. */
 gelvonds_code gelvonds_task_create(gelvonds *kernel, gelvonds_task *child);
 
+/* task_terminate: ends the task, with all its names: its ports die, or are sent away with a notice, and its
+ * other rights are lost. Its number isn't used again. Takes no memory, and has no code of its own. */
+gelvonds_code gelvonds_task_terminate(gelvonds *kernel, gelvonds_task task);
+
 /* ---- names: Port Manipulation Interface ---- */
 
 /* mach_port_allocate: makes a port, of which the task has the receive right (MACH_PORT_RIGHT_RECEIVE), an
@@ -161,18 +175,18 @@ gelvonds_code gelvonds_port_allocate(gelvonds *kernel, gelvonds_task task, uint3
  * KERN_NAME_EXISTS: in use; KERN_NO_SPACE: a limit; KERN_RESOURCE_SHORTAGE: memory. */
 gelvonds_code gelvonds_port_allocate_name(gelvonds *kernel, gelvonds_task task, uint32_t right, gelvonds_name name);
 
-/* mach_port_deallocate: takes one send reference, one reference of a dead name or a send-once right.
- * KERN_INVALID_NAME: nothing there; KERN_INVALID_RIGHT: none of these, or a right that can't go yet. */
+/* mach_port_deallocate: takes one send reference, one reference of a dead name or a send-once right, whose port
+ * is told. KERN_INVALID_NAME: nothing there; KERN_INVALID_RIGHT: a receive right alone, or a set. */
 gelvonds_code gelvonds_port_deallocate(gelvonds *kernel, gelvonds_task task, gelvonds_name name);
 
-/* mach_port_destroy: takes all that is under the name.
- * KERN_INVALID_NAME: nothing there; KERN_INVALID_RIGHT: a right that can't go yet. */
+/* mach_port_destroy: takes all that is under the name. A port that loses its receive right dies, or is sent
+ * away with a notice. KERN_INVALID_NAME: nothing there. */
 gelvonds_code gelvonds_port_destroy(gelvonds *kernel, gelvonds_task task, gelvonds_name name);
 
 /* mach_port_mod_refs: changes the references of the right by so many. KERN_INVALID_VALUE: no right, fewer than
  * 0 references, or another change than 0 or -1 of a right without references; KERN_INVALID_NAME: nothing there;
- * KERN_INVALID_RIGHT: no such right there, or one that can't go yet; KERN_UREFS_OVERFLOW: more than 65,535
- * references; KERN_NO_SPACE: a limit of rights. */
+ * KERN_INVALID_RIGHT: no such right there; KERN_UREFS_OVERFLOW: more than 65,535 references; KERN_NO_SPACE: a
+ * limit of rights. A port that loses its receive right so dies, or is sent away with a notice. */
 gelvonds_code gelvonds_port_mod_refs(gelvonds *kernel, gelvonds_task task, gelvonds_name name, uint32_t right, int32_t delta);
 
 /* mach_port_get_refs: how many references of the right are there.
@@ -238,6 +252,26 @@ gelvonds_code gelvonds_port_insert_right(gelvonds *kernel, gelvonds_task task, g
 gelvonds_code gelvonds_port_extract_right(gelvonds *kernel, gelvonds_task task, gelvonds_name name, uint32_t disposition,
                                           gelvonds_task to, gelvonds_name *poly, uint32_t *kind);
 
+/* ---- notices: Port Manipulation Interface; docs/FORMATS.md has their bytes ---- */
+
+/* mach_port_request_notification: asks for a notice about the name, of a variant MACH_NOTIFY_..:
+ *   PORT_DESTROYED  its port is sent in the notice where its receive right goes in another way than by moving;
+ *   NO_SENDERS      its port's last send right goes; at once where there is none and the make-send count is at
+ *                   least sync;
+ *   DEAD_NAME       its port dies, and the name becomes dead, with one reference more; of a name that is dead
+ *                   already at once where sync isn't 0. Where the name goes first, PORT_DELETED comes.
+ * The notice goes by the send-once right that notify gives by MACH_MSG_TYPE_MOVE_SEND_ONCE or
+ * .._MAKE_SEND_ONCE; where notify is 0 the request is taken away. *previous is the name of the right that was
+ * kept for it before: 0 for none, 0xffffffff where its port is dead.
+ * KERN_INVALID_VALUE: another variant or disposition, or PORT_DESTROYED with a sync;
+ * KERN_INVALID_CAPABILITY: notify gives no right; KERN_INVALID_NAME: nothing under the name;
+ * KERN_INVALID_RIGHT: no receive right, or (DEAD_NAME) a set; KERN_INVALID_ARGUMENT: a dead name, and sync or
+ * notify is 0; KERN_UREFS_OVERFLOW: a dead name of 65,535 references; KERN_NO_SPACE: a limit of names or
+ * rights; KERN_RESOURCE_SHORTAGE: memory. */
+gelvonds_code gelvonds_port_request_notification(gelvonds *kernel, gelvonds_task task, gelvonds_name name,
+                                                 uint32_t variant, uint32_t sync, gelvonds_name notify,
+                                                 uint32_t disposition, gelvonds_name *previous);
+
 /* ---- messages: IPC Interface; docs/FORMATS.md has their bytes ---- */
 
 /* mach_msg with MACH_SEND_MSG, that doesn't wait: the message joins the end of its destination's queue, or a
@@ -248,7 +282,7 @@ gelvonds_code gelvonds_send(gelvonds *kernel, gelvonds_task task, const uint8_t 
 
 /* mach_msg with MACH_RCV_MSG, that doesn't wait: the front message of the port, or of any member of the set,
  * under the name, into the buffer; *length is its length. large: MACH_RCV_LARGE, whether a message
- * longer than the room is to stay.
+ * longer than the room is to stay; else it is destroyed, and its rights are lost.
  * MACH_RCV_TOO_LARGE: it is longer; *length is told. MACH_RCV_TIMED_OUT: there is none; *waited is told.
  * MACH_RCV_INVALID_NAME, MACH_RCV_IN_SET: no receive right and no set, or a port that is in a set.
  * MACH_RCV_BODY_ERROR | MACH_MSG_IPC_SPACE, .. | MACH_MSG_IPC_KERNEL: names or memory; the message stays. */

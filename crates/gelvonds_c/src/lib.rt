@@ -12,6 +12,7 @@ mod codes;
 mod handle;
 mod messages;
 mod names;
+mod notices;
 mod parts;
 mod receive_right;
 mod sets;

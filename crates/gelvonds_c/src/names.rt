@@ -1,5 +1,5 @@
 //! Calls of tasks, names and references.
-ghost use Rattle.mach_types.specs.declared.calls.Event.TheVariants.{TaskCreate, Allocate, AllocateName, Deallocate, Destroy, ModRefs, GetRefs, NameType, Names, Rename};
+ghost use Rattle.mach_types.specs.declared.calls.Event.TheVariants.{TaskCreate, TaskTerminate, Allocate, AllocateName, Deallocate, Destroy, ModRefs, GetRefs, NameType, Names, Rename};
 ghost use Rattle.gelvonds_c.specs.Calls.{Asks, Tells};
 
 use crate::call::{call, code, code_of, number};
@@ -14,6 +14,15 @@ pub extern "C" fn gelvonds_task_create(alloc: Global, handle: &mut Handle, child
     ensures { Tells handle.old.kernel TaskCreate handle.new.kernel child.old child.new }
 {
     number(alloc, handle, &Event::TaskCreate, child)
+}
+
+/// `task_terminate`.
+#[unsafe(no_mangle)]
+pub extern "C" fn gelvonds_task_terminate(alloc: Global, handle: &mut Handle, task: u32) -> i32
+    ensures { Asks handle.old.kernel (TaskTerminate task) handle.new.kernel }
+{
+    let event = Event::TaskTerminate(TaskId::new(task));
+    code(alloc, handle, &event)
 }
 
 /// `mach_port_allocate`.
