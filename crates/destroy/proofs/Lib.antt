@@ -19,6 +19,7 @@ pub mod EndState
 pub mod EndDone
 pub mod EndEmptied
 pub mod EndSettles
+pub mod EndIdle
 pub mod LosePaid
 pub mod BurNames
 pub mod BurKept

@@ -1,4 +1,10 @@
 //! The end of a step.
+ghost use Rattle.std.specs.Prelude.{◌≡◌, ◌↔◌, ℕ, IsTrue, slice_get};
+ghost use Rattle.std.specs.List.{Contains};
+ghost use Rattle.port.specs.declared.Holder.TheVariants as Holder;
+ghost use Rattle.port.specs.Holding.{IsHeldBy};
+ghost use Rattle.port.specs.Idle.{IsIdle as AreIdle};
+ghost use Rattle.copyin_base.specs.Worlds.{IsIdle};
 ghost use Rattle.destroy.specs.Stages.{IsMidway, KeepsRooms, SettlesIn};
 
 use crate::burials::bury_ports;
@@ -7,6 +13,7 @@ use crate::losing::lose_messages;
 use crate::paying::pay_for_names;
 use crate::telling::tell_senderless;
 use copyin_base::World;
+use request_table::Request;
 
 /// Ends a step: ports that lost their receive rights are sent away or die with all that is queued, rights
 /// that were lost are told of, and so are ports without senders. Answers in how many turns.
@@ -15,6 +22,44 @@ use copyin_base::World;
 /// task keeps its room for names. Takes no memory and cannot fail. Linear in the turns and the rights that
 /// messages carry; constant where nothing was left to do.
 pub fn settle(world: &mut World) -> u64
+    requires { IsMidway world.old }
+    ensures settles { SettlesIn world.old result world.new }
+    ensures rooms { KeepsRooms world.old world.new }
+{
+    if is_idle(world) {
+        return 0;
+    }
+    settle_parts(world)
+}
+
+// Whether a step's own part left nothing to do; the lists of ports tell whom nobody holds.
+fn is_idle(world: &World) -> bool
+    ensures idle { IsTrue result ↔ IsIdle world.now }
+    ensures lost { (port : ℕ) → Contains world.now.ports.lost port ↔ IsHeldBy world.now.ports port Holder.Nobody }
+    ensures doomed { (port : ℕ) → Contains world.now.ports.doomed port ↔ IsHeldBy world.now.ports port Holder.Doomed }
+{
+    are_ports_idle(world) && first_went(world).is_none()
+}
+
+// Whether no port and no destroyed message waits for the end of the step.
+fn are_ports_idle(world: &World) -> bool
+    ensures idle { IsTrue result ↔ AreIdle world.now.ports }
+    ensures lost { (port : ℕ) → Contains world.now.ports.lost port ↔ IsHeldBy world.now.ports port Holder.Nobody }
+    ensures doomed { (port : ℕ) → Contains world.now.ports.doomed port ↔ IsHeldBy world.now.ports port Holder.Doomed }
+{
+    world.ports.is_idle()
+}
+
+// The first of the requests whose names went.
+fn first_went(world: &World) -> Option<Request>
+    ensures { result ≡ slice_get world.now.requests.names.went 0 }
+{
+    world.requests.names.first_went()
+}
+
+// Ends a step, part by part.
+#[inline(never)]
+fn settle_parts(world: &mut World) -> u64
     requires { IsMidway world.old }
     ensures settles { SettlesIn world.old result world.new }
     ensures rooms { KeepsRooms world.old world.new }

@@ -6,3 +6,4 @@ pub mod Changed
 pub mod Listed
 pub mod Held
 pub mod Kept
+pub mod Empty

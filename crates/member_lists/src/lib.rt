@@ -5,7 +5,7 @@
 //! memory but by [`Lists::reserve`].
 #![tactic(auto)]
 
-ghost use Rattle.std.specs.Prelude.{◌≡◌, ℕ, ◌+◌, ◌<◌, ◌^◌, ◌++◌, ◌∷◌, [], max, true, length, Some, None, IfOk, OnOk, OnErr, slice_get};
+ghost use Rattle.std.specs.Prelude.{◌≡◌, ◌↔◌, ℕ, ◌+◌, ◌<◌, ◌^◌, ◌++◌, ◌∷◌, [], max, IsTrue, true, length, Some, None, IfOk, OnOk, OnErr, slice_get};
 ghost use Rattle.std.specs.List.{Contains};
 ghost use Rattle.std.specs.Option.{option_or};
 ghost use Rattle.std.specs.FinMap as map;
@@ -228,6 +228,13 @@ impl Lists {
             self.links.resize(items, Link::blank())?;
         }
         Ok(())
+    }
+
+    /// Whether no list has an item. Constant time.
+    pub fn is_empty(&self) -> bool
+        ensures { IsTrue result ↔ ((list : ℕ) → list_of self.now list ≡ []) }
+    {
+        self.ends.len() == 0
     }
 
     /// Puts an item that is in no list at the end of this one. Constant time.

@@ -7,3 +7,4 @@ pub mod Readied
 pub mod Turned
 pub mod InTurn
 pub mod Waiting
+pub mod Idle

@@ -16,6 +16,7 @@ ghost use Rattle.port.specs.declared.Record.{Record as AnyRecord};
 ghost use Rattle.port.specs.Ready.{StandsIn, IsMoved, out_of, at_end};
 ghost use Rattle.port.specs.Turns.{turns_of, same_set};
 ghost use Rattle.port.specs.Holding.{held_by};
+ghost use Rattle.port.specs.Idle.{IsIdle};
 ghost use Rattle.port.specs.Ports.{one_made, one_received};
 ghost use Rattle.port.specs.Records.{ready_set, member_set, ids_at};
 
@@ -605,6 +606,16 @@ impl<M: Message> Ports<M> {
         leave(&mut self.noted, key, Some(NOTED));
         note_at(&mut self.records, key, false);
         Some(self.records[key].id)
+    }
+
+    /// Whether no port is left that was lost, doomed or noted, and no message that was destroyed. Constant
+    /// time.
+    pub fn is_idle(&self) -> bool
+        ensures idle { IsTrue result ↔ IsIdle self.now }
+        ensures lost { (port : ℕ) → Contains self.now.lost port ↔ IsHeldBy self.now port Holder.Nobody }
+        ensures doomed { (port : ℕ) → Contains self.now.doomed port ↔ IsHeldBy self.now port Holder.Doomed }
+    {
+        self.waiting.is_empty() && self.noted.is_empty() && self.destroyed.is_empty()
     }
 
     /// Counts a send right made from the port's receive right, modulo 2^32; where the port is gone,
