@@ -6,7 +6,7 @@ use Rattle.mach_types.specs.Numbers.{disposition, disposition_number, kind_sent}
 use Rattle.mach_types.specs.Tokens.{Kind, in_message}
 use Rattle.mach_types.specs.Messages.{Mark as MachineMark}
 use Rattle.mach_types.specs.Grammar.{Wire, data_item, port_item, WireBody, IsWire, IsWireBody}
-use Rattle.mach_types.specs.Bodies.{wire_words, item_rights, AllZip, SameItem, Through}
+use Rattle.mach_types.specs.Bodies.{wire_words, item_rights, body_rights, AllZip, SameItem, Through}
 use Rattle.mach_types.specs.Bodies.{body_words as machine_words}
 use Rattle.mach_model.specs.State.{State}
 use Rattle.mach_model.specs.SentMeans.{IsSent}
@@ -56,13 +56,13 @@ part w s o k task names [] [] left at b =
 part w s o k task names [] (c ∷ cs) left at b = absurd b
 part w s o k task names (v ∷ ws) [] left at b = absurd b
 part w s o k task names (v ∷ ws) (c ∷ cs) left at b =
-    let x = stepped w s o k task names v c b.0 at b.1.0 in
+    let x = stepped w s o k task names v c b.0 at b.1 in
     let y = part x.w2 x.t o k task b.0 ws cs left x.along b.2 in
     record {
       w2 = y.w2;
       t = y.t;
       along = y.along;
-      copy = (x.t, (x.copy, b.1.1), y.copy);
+      copy = (x.t, x.copy, y.copy);
       changes = (x.w2, x.changes, y.changes);
       rest = shape-trans s x.t y.t x.rest y.rest;
       given = ap (λ (n : ℕ). n ∷ numbers cs) (number_of v.disposition c.given x.given) ∙ ap (λ (ns : List ℕ). v.disposition ∷ ns) y.given;
@@ -135,6 +135,11 @@ same_items (port_item f n words ∷ xs) cs are e =
     let x = front n words cs (items_given xs) e in
     let d = given_ports n (All-head IsWire (port_item f n words) xs are).1 in
     ((refl, (d.0, d.1, kind_given n d.0 d.1), x.many), same_items xs (drop (length words) cs) (All-tail IsWire (port_item f n words) xs are) x.later)
+
+pub whole_rights : (written : WireBody) (cs : List Carried) → numbers cs ≡ body_given written → body_rights (body_of written cs) ≡ rights_of cs
+whole_rights (WireBody.raw bytes) [] e = refl
+whole_rights (WireBody.raw bytes) (c ∷ cs) e = absurd (let f : disposition_number c.given ∷ numbers cs ≡ [] = e in cc)
+whole_rights (WireBody.items xs) cs e = sym (items_rights xs cs e)
 
 -- ---- the whole body
 

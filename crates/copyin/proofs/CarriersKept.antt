@@ -1,11 +1,11 @@
--- Copying in queues no receive right, so queues hold those that they held.
-use Rattle.std.proofs.Common.{◌≡◌, ℕ, ◌∷◌, ◌++◌, Bool, true, false, List, [], Option, Some, None, refl, sym, ap, subst, ◌∙◌, arith, inl, inr}
-use Rattle.std.specs.Prelude.{Contains, ◌==◌, MatchBool}
+-- Copying in queues no receive right, so queues hold those that they held. A message that is sent brings those that it carries.
+use Rattle.std.proofs.Common.{◌≡◌, ℕ, ◌+◌, ◌<◌, ◌≤◌, ◌∷◌, ◌++◌, true, List, [], Option, Some, None, refl, sym, ap, subst, ◌∙◌, arith, inl, inr}
+use Rattle.std.specs.Prelude.{Contains}
 use Rattle.std.specs.FinMap as map
-use Rattle.std.proofs.lemmas.Bool.{eqb-false}
-use Rattle.std.proofs.lemmas.List.Elements.{Contains-append_cases}
+use Rattle.std.proofs.lemmas.Bool.Decides.{eqb_tells}
+use Rattle.std.proofs.lemmas.List.Elements.{Contains-append_cases, Contains-append_right}
 use Rattle.mach_types.specs.Grammar.{WireBody}
-use Rattle.mach_types.specs.Numbers.{null_word, dead_word}
+use Rattle.mach_types.specs.Numbers.{null_word, dead_word, most_rights}
 use Rattle.mach_types.specs.declared.rights.Disposition.{Disposition}
 use Rattle.mach_types.specs.declared.rights.Disposition.TheVariants.{MoveReceive, MoveSend, MoveSendOnce, CopySend, MakeSend, MakeSendOnce}
 use Rattle.message_codec.specs.declared.text.Parsed.{Parsed}
@@ -14,7 +14,7 @@ use Rattle.message_codec.specs.Words.{body_words}
 use Rattle.name_space.specs.declared.Entry.{Entry}
 use Rattle.name_space.specs.declared.Entry.TheVariants as entry
 use Rattle.name_space.specs.Entry.{port_named, has_receive}
-use Rattle.name_space.specs.Names.{Names, SpaceView}
+use Rattle.name_space.specs.Names.{SpaceView}
 use Rattle.port.specs.declared.Holder.TheVariants as by
 use Rattle.port.specs.Ports.{PortView, PortsView, IsLive}
 use Rattle.copyin_base.specs.declared.message.Carried.{Carried}
@@ -22,20 +22,23 @@ use Rattle.copyin_base.specs.declared.message.Mark.{Mark}
 use Rattle.copyin_base.specs.declared.message.Mark.TheVariants as mark
 use Rattle.copyin_base.specs.Kept.{Kept}
 use Rattle.copyin_base.specs.Shows.{HoldersAgree, CarriersAgree}
+use Rattle.copyin_base.specs.Stands.{AreTied}
 use Rattle.copyin_base.specs.Worlds.{WorldView, entry_in, entry_at, port_at}
 use Rattle.copyin_base.proofs.Carriers.{KeepQueues, IsCarried, same_queues, put_queue, carriers_stay, carriers_queued}
 use Rattle.copyin_base.proofs.Gets.{same_found}
 use Rattle.copyin_base.proofs.Holders.{KeepHolders}
-use Rattle.copyin_base.proofs.Listed.{none_listed, listed_one}
+use Rattle.copyin_base.proofs.Listed.{none_listed, listed_one, listed_later}
 use Rattle.copyin_base.proofs.Told.{port_got}
 use Rattle.copyin.specs.declared.copies.Copied.{Copied}
 use Rattle.copyin.specs.Copies.{attributes_copied, copied_from, ports_copied, port_copied, CopiesRight}
-use Rattle.copyin.specs.Judging.{CopiesBody, CopiesWord, CopiesName, PassesAs, IsLeft}
-use Rattle.copyin.specs.Plans.{destination_word, reply_words, option_list, message_for, Judged, Commits}
-use Rattle.copyin.proofs.HoldersKept.{copied_ports}
+use Rattle.copyin.specs.Planned.{CanGo}
+use Rattle.copyin.specs.Plans.{destination_word, reply_words, option_list, message_for, Judged, made_in, ChangesWord, ChangesWords, Commits}
+use Rattle.copyin.proofs.Committing.{judged_go, mark_lives, words_live, null_no_port, dead_no_port, same_options}
+use Rattle.copyin.proofs.Going.{go_on}
+use Rattle.copyin.proofs.Holding.{receive_right, held_made, held_carriers, all_held}
+use Rattle.copyin.proofs.HoldersKept.{copied_ports, word_holders}
 use Rattle.copyin.proofs.Keeping.{else_copied}
-use Rattle.copyin.proofs.Numbering.{number_of}
-use Rattle.copyin.proofs.Walking.{IsKept, over_words}
+use Rattle.copyin.proofs.Walking.{IsKept, over_word, over_words}
 
 -- ---- ports
 
@@ -116,38 +119,78 @@ copied_uncarried old new task name p c held a lives q carried =
 
 -- ---- what a message carries
 
-null_no_port : (p : ℕ) → mark.Null ≡ mark.Port p → ⊥
-null_no_port p e = cc
-
-dead_no_port : (p : ℕ) → mark.Dead ≡ mark.Port p → ⊥
-dead_no_port p e = cc
-
--- a word of the body brings no receive right of a port
-word_brings_none : (names : Names) (w : PortWord) (c : Carried) (after : Names) → CopiesWord names w c after → ¬ (IsLeft w) → (p : ℕ) → c.given ≡ MoveReceive → c.mark ≡ mark.Port p → ⊥
-word_brings_none names w c after copies taken p given to = go (w.name == null_word) (w.name == dead_word) refl refl copies
-  where
-    go : (a b : Bool) → w.name == null_word ≡ a → w.name == dead_word ≡ b →
-        MatchBool a (PassesAs w mark.Null names c after) (MatchBool b (PassesAs w mark.Dead names c after) (CopiesName names w c after)) → ⊥
-    go true b x y h = null_no_port p (sym h.1 ∙ to)
-    go false true x y h = dead_no_port p (sym h.1 ∙ to)
-    go false false x y h = taken (sym (number_of w.disposition MoveReceive (h.is_given ∙ ap Some given)), eqb-false w.name null_word x, eqb-false w.name dead_word y)
-
-none_brought : (names : Names) (ws : List PortWord) (cs : List Carried) (after : Names) → CopiesBody names ws cs after → (p : ℕ) → Contains cs (record { given = MoveReceive; mark = mark.Port p }) → ⊥
-none_brought names [] [] after copies p among = none_listed [] refl _ among
-none_brought names [] (c ∷ cs) after copies p among = absurd copies
-none_brought names (w ∷ ws) [] after copies p among = absurd copies
-none_brought names (w ∷ ws) (c ∷ cs) after copies p among = elim (Contains-append_cases (c ∷ []) cs _ among) [
-  | inl h ↦
-      let same = listed_one c _ h in
-      word_brings_none names w c copies.0 copies.1.0 copies.1.1 p (ap (λ (x : Carried). x.given) (sym same)) (ap (λ (x : Carried). x.mark) (sym same))
-  | inr h ↦ none_brought copies.0 ws cs after copies.2 p h
+word_uncarried : (old new : WorldView) (task : ℕ) (w : PortWord) (ws : List PortWord) (c : Carried) (cs : List Carried) → CanGo old task (w ∷ ws) (c ∷ cs) → ChangesWord old task w c new →
+    HoldersAgree old → CarriersAgree old → (p : ℕ) → c ≡ receive_right p → (q : ℕ) → IsCarried new q p → ⊥
+word_uncarried old new task w ws c cs go changes held a p is q carried = elim (eqb_tells w.name null_word) [
+  | inl n ↦ null_no_port p (sym (rw n.0 at go.copies.1).1 ∙ to)
+  | inr n ↦ elim (eqb_tells w.name dead_word) [
+    | inl d ↦ dead_no_port p (sym (rw (n.0, d.0) at go.copies.1).1 ∙ to)
+    | inr d ↦
+        let r : CopiesRight old task c.given w.name c.mark new = rw (n.0, d.0) at changes in
+        copied_uncarried old new task w.name p (subst (λ (x : Carried). CopiesRight old task x.given w.name x.mark new) is r) held a (mark_lives old task w ws c cs go p to) q carried
+  ]
 ]
+  where
+    to : c.mark ≡ mark.Port p
+    to = ap (λ (x : Carried). x.mark) is
 
--- a message that was sent
-pub commits_carriers : (old : WorldView) (task : ℕ) (parsed : Parsed) (written : WireBody) (j : Judged old task parsed written) (bytes : List ℕ) (new : WorldView) →
-    Commits old task parsed written j bytes new → CarriersAgree old → CarriersAgree new
-commits_carriers old task parsed written j bytes new c a =
-    let before = over_words CarryStill carriers_kept (destination_word parsed ∷ reply_words parsed ++ body_words written) (j.destination ∷ option_list j.reply ++ j.rights) old c.mid task c.changes a in
-    carriers_queued c.mid new before j.port c.v (record c.v { queue = c.v.queue ++ message_for bytes j ∷ [] }) (message_for bytes j) c.there
-    (ap (λ (w : WorldView). w.ports.made) c.rest) (ap (λ (w : WorldView). w.ports.ports) c.rest) refl refl
-    (λ q carries. absurd (none_brought j.second (body_words written) j.rights j.last j.copies_body q carries))
+abbrev QueuesStill : WorldView → WorldView → Type 0
+QueuesStill old new = KeepQueues old.ports.ports new.ports.ports
+
+queues_kept : IsKept QueuesStill
+queues_kept = record {
+  same = λ w. same_queues w.ports.ports;
+  right = λ old new task d name one c. subst (λ (x : WorldView). KeepQueues old.ports.ports x.ports.ports) (sym c.rest) (copied_queues d c.copied.mark old.ports);
+  both = λ old mid new a b q v m there queued. let i = b q v m there queued in a q i.v m i.there i.queued;
+}
+
+carried_before : (old new : WorldView) (q p : ℕ) → QueuesStill old new → IsCarried new q p → IsCarried old q p
+carried_before old new q p kept c = let i = kept q c.u c.message c.there c.queued in record { u = i.v; there = i.there; message = c.message; queued = i.queued; carries = c.carries }
+
+-- Once the rights went, no queue has one of them that is a receive right.
+words_uncarried : (ws : List PortWord) (cs : List Carried) (old new : WorldView) (task : ℕ) → CanGo old task ws cs → ChangesWords old task ws cs new →
+    HoldersAgree old → CarriersAgree old → (p : ℕ) → Contains cs (receive_right p) → (q : ℕ) → IsCarried new q p → ⊥
+words_uncarried [] [] old new task go changes held a p among q carried = absurd (none_listed [] refl (receive_right p) among)
+words_uncarried [] (c ∷ cs) old new task go changes held a p among q carried = absurd changes
+words_uncarried (w ∷ ws) [] old new task go changes held a p among q carried = absurd changes
+words_uncarried (w ∷ ws) (c ∷ cs) old new task go changes held a p among q carried =
+    let mid = changes.0 in
+    elim (Contains-append_cases (c ∷ []) cs (receive_right p) among) [
+      | inl own ↦ word_uncarried old mid task w ws c cs go changes.1 held a p (sym (listed_one c (receive_right p) own)) q
+          (carried_before mid new q p (over_words QueuesStill queues_kept ws cs mid new task changes.2) carried)
+      | inr later ↦ words_uncarried ws cs mid new task (go_on old mid task w ws c cs go changes.1) changes.2 (word_holders old mid task w c changes.1 held)
+          (over_word CarryStill carriers_kept old mid task w c changes.1 a) p later q carried
+    ]
+
+module _ (old : WorldView) (task : ℕ) (parsed : Parsed) (written : WireBody) (j : Judged old task parsed written) (bytes : List ℕ) (new : WorldView)
+    (c : Commits old task parsed written j bytes new) (tied : AreTied j.space.names old.ports old.ledger) (few : old.ledger.total + made_in j ≤ most_rights)
+    (held : HoldersAgree old) (a : CarriersAgree old) (made : (p : ℕ) → IsLive c.mid.ports p → p < c.mid.ports.made) where
+  abbrev words : List PortWord
+  words = destination_word parsed ∷ reply_words parsed ++ body_words written
+
+  abbrev rights : List Carried
+  rights = j.destination ∷ option_list j.reply ++ j.rights
+
+  goes : CanGo old task words rights
+  goes = subst (λ (cs : List Carried). CanGo old task words (j.destination ∷ cs ++ j.rights)) (same_options j.reply) (judged_go old task parsed written j tied few)
+
+  among_all : (x : Carried) → Contains j.rights x → Contains rights x
+  among_all x among = listed_later j.destination (option_list j.reply ++ j.rights) x (Contains-append_right (option_list j.reply) j.rights x among)
+
+  free : (p : ℕ) → Contains j.rights (receive_right p) → (q : ℕ) → IsCarried c.mid q p → ⊥
+  free p among = words_uncarried words rights old c.mid task goes c.changes held a p (among_all (receive_right p) among)
+
+  before : CarriersAgree c.held
+  before = held_carriers j.port j.rights c.mid c.held c.holds free (over_words CarryStill carriers_kept words rights old c.mid task c.changes a)
+
+  made_before : (p : ℕ) → Contains j.rights (receive_right p) → p < c.held.ports.made
+  made_before p among =
+      let was = made p (words_live old c.mid task words rights goes c.changes (receive_right p) (among_all (receive_right p) among) p refl) in
+      let same = held_made j.port j.rights c.mid c.held c.holds in
+      omega (arith, was, same)
+
+  -- a message that was sent
+  pub commits_carriers : CarriersAgree new
+  commits_carriers = carriers_queued c.held new before j.port c.v (record c.v { queue = c.v.queue ++ message_for bytes j ∷ [] }) (message_for bytes j) c.there
+      (ap (λ (w : WorldView). w.ports.made) c.rest) (ap (λ (w : WorldView). w.ports.ports) c.rest) refl refl
+      (λ p carries. (made_before p carries, all_held j.port j.rights c.mid c.held c.holds p carries))

@@ -1,8 +1,9 @@
 -- A plan that is carried out.
-use Rattle.std.proofs.Common.{◌≡◌, ℕ, ◌+◌, ◌-◌, ◌<◌, ◌≤◌, true, false, Option, Some, None, List, [], ◌∷◌, ◌++◌, suc, length, refl, sym, ap, subst, ◌∙◌, inl, inr, arith}
-use Rattle.std.specs.Prelude.{is_some}
+use Rattle.std.proofs.Common.{◌≡◌, ℕ, ◌+◌, ◌-◌, ◌<◌, ◌≤◌, true, false, Option, Some, None, List, [], ◌∷◌, ◌++◌, suc, length, get_or, refl, sym, ap, subst, ◌∙◌, inl, inr, arith}
+use Rattle.std.specs.Prelude.{is_some, Contains}
 use Rattle.std.specs.Option.{option_to_list}
 use Rattle.std.proofs.lemmas.Bool.Decides.{eqb_tells}
+use Rattle.std.proofs.lemmas.List.Elements.{All-contains_itself, Contains-append_cases}
 use Rattle.std.specs.FinMap as map
 use Rattle.mach_types.specs.Grammar.{WireBody}
 use Rattle.mach_types.specs.Numbers.{null_word, dead_word, most_rights}
@@ -10,32 +11,31 @@ use Rattle.mach_model.proofs.Walks.{Through-append}
 use Rattle.message_codec.specs.declared.text.Parsed.{Parsed}
 use Rattle.message_codec.specs.declared.words.PortWord.{PortWord}
 use Rattle.message_codec.specs.Words.{body_words}
-use Rattle.name_space.specs.Names.{Names}
+use Rattle.name_space.specs.Names.{Names, SpaceView}
 use Rattle.port.specs.Ports.{PortView, PortsView, IsLive, with_port}
 use Rattle.rights.specs.Ledger.{counts_of}
 use Rattle.copyin.specs.declared.judge.Plan.{Plan}
 use Rattle.copyin_base.specs.declared.message.Carried.{Carried}
-use Rattle.copyin.specs.Judging.{CopiesWord, CopiesReply, CopiesBody, made_by_reply, made_by_all}
+use Rattle.copyin_base.specs.declared.message.Mark.TheVariants as mark
+use Rattle.copyin.specs.Judging.{CopiesWord, CopiesReply, made_by_reply, made_by_all}
 use Rattle.copyin_base.specs.Kept.{Kept}
-use Rattle.copyin.specs.Planned.{CanGo, CopiesAll, IsPlan}
+use Rattle.copyin.specs.Loops.{HoldsRights}
+use Rattle.copyin.specs.Planned.{CanGo, CopiesAll, CanHoldAll, IsPlan}
 use Rattle.copyin.specs.Plans.{destination_word, reply_words, Judged, ChangesWord, ChangesWords, Commits, option_list, made_in}
 use Rattle.copyin_base.specs.Stands.{AreTied, IsTied}
 use Rattle.copyin_base.specs.Wanted.{room_in, room_of}
-use Rattle.copyin_base.specs.Worlds.{WorldView, port_at, put}
+use Rattle.copyin_base.specs.Worlds.{WorldView, NoneLost, space_in, port_at, put}
 use Rattle.copyin.specs.Copies.{ports_copied, ledger_queued, CopiesRight}
+use Rattle.copyin_base.proofs.Listed.{none_listed, listed_one}
 use Rattle.copyin_base.proofs.Spaces.{each-space-set}
 use Rattle.copyin.proofs.Going.{go_on}
-use Rattle.copyin.proofs.Judging.{goes_by_name}
+use Rattle.copyin.proofs.Judging.{by_name, goes_by_name}
+use Rattle.copyin.proofs.Holding.{receive_is, held_spaces, held_spare}
 use Rattle.copyin.proofs.Keeping.{keeps, live_copied, spare_copied}
+use Rattle.copyin.proofs.SendersKept.{words_none_lost}
 use Rattle.copyin.proofs.Unused.{once_stays}
 
 -- ---- the rights of a plan, in one list
-
-body_all : (names : Names) (ws : List PortWord) (cs : List Carried) (after : Names) → CopiesBody names ws cs after → CopiesAll names ws cs after
-body_all names [] [] after so = so
-body_all names [] (c ∷ cs) after so = absurd so
-body_all names (w ∷ ws) [] after so = absurd so
-body_all names (w ∷ ws) (c ∷ cs) after so = (so.0, so.1.0, body_all so.0 ws cs after so.2)
 
 reply_all : (names : Names) (ws : List PortWord) (reply : Option Carried) (after : Names) → CopiesReply names ws reply after → CopiesAll names ws (option_to_list reply) after
 reply_all names [] None after so = so
@@ -45,7 +45,7 @@ reply_all names (w ∷ []) (Some c) after so = (after, so, refl)
 reply_all names (w ∷ v ∷ ws) None after so = absurd so
 reply_all names (w ∷ v ∷ ws) (Some c) after so = absurd so
 
-all_length : (a b : Names) (ws : List PortWord) (cs : List Carried) → CopiesAll a ws cs b → length ws ≡ length cs
+pub all_length : (a b : Names) (ws : List PortWord) (cs : List Carried) → CopiesAll a ws cs b → length ws ≡ length cs
 all_length a b [] [] x = refl
 all_length a b [] (c ∷ cs) x = absurd x
 all_length a b (w ∷ ws) [] x = absurd x
@@ -77,8 +77,21 @@ module _ (w : WorldView) (task : ℕ) (parsed : Parsed) (written : WireBody) (j 
     first_word,
     Through-append CopiesWord j.first j.second j.last (reply_words parsed) (body_words written) (option_to_list j.reply) j.rights
         (reply_all j.first (reply_words parsed) j.reply j.second j.copies_reply)
-        (body_all j.second (body_words written) j.rights j.last j.copies_body),
+        j.copies_body,
   )
+
+  pub judged_go : w.ledger.total + made_in j ≤ most_rights → CanGo w task (destination_word parsed ∷ (reply_words parsed ++ body_words written)) (j.destination ∷ (option_to_list j.reply ++ j.rights))
+  judged_go few = record {
+    space = j.space;
+    there = j.there;
+    last = j.last;
+    copies = judged_all;
+    few =
+        let a = made_append (option_to_list j.reply) j.rights in
+        let b = made_option j.reply in
+        omega (arith, few, a, b);
+    tied = tied;
+  }
 
 module _ (w : WorldView) (task : ℕ) (parsed : Parsed) (written : WireBody) (bytes : List ℕ) (plan : Plan) (p : IsPlan w task parsed written bytes plan) (is_tied : IsTied w task) where
   tied : AreTied p.plans.judged.space.names w.ports w.ledger
@@ -90,23 +103,8 @@ module _ (w : WorldView) (task : ℕ) (parsed : Parsed) (written : WireBody) (by
   rights_are : plan.message.rights ≡ p.plans.judged.rights
   rights_are = ap (λ (m : Kept). m.rights) p.message
 
-  judged_go : CanGo w task (destination_word parsed ∷ (reply_words parsed ++ body_words written))
-      (p.plans.judged.destination ∷ (option_to_list p.plans.judged.reply ++ p.plans.judged.rights))
-  judged_go = record {
-    space = p.plans.judged.space;
-    there = p.plans.judged.there;
-    last = p.plans.judged.last;
-    copies = judged_all w task parsed written p.plans.judged tied;
-    few =
-        let few : w.ledger.total + made_in p.plans.judged ≤ most_rights = p.plans.few in
-        let a = made_append (option_to_list p.plans.judged.reply) p.plans.judged.rights in
-        let b = made_option p.plans.judged.reply in
-        omega (arith, few, a, b);
-    tied = tied;
-  }
-
   pub plan_goes : CanGo w task (plan.words.destination ∷ (option_to_list plan.words.reply ++ plan.words.body.items)) (plan.destination ∷ (option_to_list plan.message.reply ++ plan.message.rights))
-  plan_goes = rw (p.words.destination, p.words.reply, p.words.body, p.destination, reply_is, rights_are) judged_go
+  plan_goes = rw (p.words.destination, p.words.reply, p.words.body, p.destination, reply_is, rights_are) (judged_go w task parsed written p.plans.judged tied p.plans.few)
 
   pub plan_pairs : length (option_to_list plan.words.reply) ≡ length (option_to_list plan.message.reply)
   plan_pairs = rw (p.words.reply, reply_is)
@@ -197,6 +195,39 @@ stay_words old new task (w ∷ ws) (c ∷ cs) ch =
     let b = stay_words ch.0 new task ws cs ch.2 in
     record { live = λ p h. b.live p (a.live p h); spare = b.spare ∙ a.spare; rooms = λ u. b.rooms u ∙ a.rooms u }
 
+-- ---- ports of rights that went
+
+pub null_no_port : (p : ℕ) → mark.Null ≡ mark.Port p → ⊥
+null_no_port p e = cc
+
+pub dead_no_port : (p : ℕ) → mark.Dead ≡ mark.Port p → ⊥
+dead_no_port p e = cc
+
+-- Each is there.
+pub mark_lives : (w : WorldView) (task : ℕ) (word : PortWord) (words : List PortWord) (c : Carried) (cs : List Carried) → CanGo w task (word ∷ words) (c ∷ cs) → (p : ℕ) → c.mark ≡ mark.Port p →
+    IsLive w.ports p
+mark_lives w task word words c cs go p to = elim (eqb_tells word.name null_word) [
+  | inl n ↦ absurd (null_no_port p (sym (rw n.0 at go.copies.1).1 ∙ to))
+  | inr n ↦ elim (eqb_tells word.name dead_word) [
+    | inl d ↦ absurd (dead_no_port p (sym (rw (n.0, d.0) at go.copies.1).1 ∙ to))
+    | inr d ↦
+        let x = by_name go.space.names word c go.copies.0 n.1 d.1 go.copies.1 in
+        go.tied.live word.name x.entry p x.found ((keeps c.given x.entry x.copied x.is).mark p (sym x.mark ∙ to))
+  ]
+]
+
+pub words_live : (old new : WorldView) (task : ℕ) (ws : List PortWord) (cs : List Carried) → CanGo old task ws cs → ChangesWords old task ws cs new → (c : Carried) → Contains cs c → (p : ℕ) → c.mark ≡ mark.Port p →
+    IsLive new.ports p
+words_live old new task [] [] go ch c among p to = absurd (none_listed [] refl c among)
+words_live old new task [] (d ∷ cs) go ch c among p to = absurd ch
+words_live old new task (w ∷ ws) [] go ch c among p to = absurd ch
+words_live old new task (w ∷ ws) (d ∷ cs) go ch c among p to = elim (Contains-append_cases (d ∷ []) cs c among) [
+  | inl own ↦
+      let same = listed_one d c own in
+      (stay_words old new task (w ∷ ws) (d ∷ cs) ch).live p (mark_lives old task w ws d cs go p (ap (λ (x : Carried). x.mark) (sym same) ∙ to))
+  | inr later ↦ words_live ch.0 new task ws cs (go_on old ch.0 task w ws d cs go ch.1) ch.2 c later p to
+]
+
 -- ---- the whole
 
 -- The destination's right went, then the reply's, then the body's.
@@ -207,6 +238,17 @@ pub record Carries (old : WorldView) (task : ℕ) (plan : Plan) (mid : WorldView
   pub reply : ChangesWords one task (option_to_list plan.words.reply) (option_to_list plan.message.reply) two
   pub body : ChangesWords two task plan.words.body.items plan.message.rights mid
 
+abbrev pub carries_by : (old one two mid : WorldView) (plan : Plan) (reply : Option Carried) (words : List PortWord) (rights : List Carried) →
+    reply ≡ plan.message.reply → words ≡ plan.words.body.items → rights ≡ plan.message.rights → ChangesWord old plan.task plan.words.destination plan.destination one →
+    ChangesWords one plan.task (option_to_list plan.words.reply) (option_to_list reply) two → ChangesWords two plan.task words rights mid → Carries old plan.task plan mid
+carries_by old one two mid plan reply words rights same words_are rights_are a b d = record {
+  one = one;
+  destination = a;
+  two = two;
+  reply = subst (λ (o : Option Carried). ChangesWords one plan.task (option_to_list plan.words.reply) (option_to_list o) two) same b;
+  body = subst (λ (ws : List PortWord). ChangesWords two plan.task ws plan.message.rights mid) words_are (subst (λ (cs : List Carried). ChangesWords two plan.task words cs mid) rights_are d);
+}
+
 stay_all : (old mid : WorldView) (task : ℕ) (plan : Plan) → Carries old task plan mid → PortsStay old mid
 stay_all old mid task plan ca =
     let a = stay_word old ca.one task plan.words.destination plan.destination ca.destination in
@@ -216,6 +258,18 @@ stay_all old mid task plan ca =
 
 pub carries_live : (old mid : WorldView) (task : ℕ) (plan : Plan) (p : ℕ) → Carries old task plan mid → IsLive old.ports p → IsLive mid.ports p
 carries_live old mid task plan p ca h = (stay_all old mid task plan ca).live p h
+
+pub carries_none_lost : (old mid : WorldView) (task : ℕ) (plan : Plan) → Carries old task plan mid → NoneLost old → NoneLost mid
+carries_none_lost old mid task plan ca none =
+    words_none_lost plan.words.body.items plan.message.rights ca.two mid task ca.body
+    (words_none_lost (option_to_list plan.words.reply) (option_to_list plan.message.reply) ca.one ca.two task ca.reply
+    (words_none_lost (plan.words.destination ∷ []) (plan.destination ∷ []) old ca.one task (ca.one, ca.destination, refl) none))
+
+-- each port is there whose receive right is among the body's
+pub carries_can_hold : (old mid : WorldView) (task : ℕ) (plan : Plan) (ca : Carries old task plan mid) → CanGo ca.two task plan.words.body.items plan.message.rights → CanHoldAll mid plan.message.rights
+carries_can_hold old mid task plan ca go = λ k d below p is.
+    let c = get_or plan.message.rights k d in
+    words_live ca.two mid task plan.words.body.items plan.message.rights go ca.body c (All-contains_itself plan.message.rights k d below) p (ap (λ (x : Carried). x.mark) (receive_is c p is))
 
 pub carries_spare : (old mid : WorldView) (task : ℕ) (plan : Plan) → Carries old task plan mid → mid.ports.spare ≡ old.ports.spare
 carries_spare old mid task plan ca = (stay_all old mid task plan ca).spare
@@ -231,27 +285,30 @@ some_of (Some x) h = (x, refl)
 abbrev with_queued : PortsView Kept → ℕ → PortView Kept → Kept → (spare : ℕ) → PortsView Kept
 with_queued ports p v m spare = record (with_port ports p (record v { queue = v.queue ++ m ∷ [] })) { spare = spare }
 
-pub commits : (old mid : WorldView) (task : ℕ) (parsed : Parsed) (written : WireBody) (bytes : List ℕ) (plan : Plan) (p : IsPlan old task parsed written bytes plan) (new : WorldView) → Carries old task plan mid
-    → IsLive mid.ports plan.port
-    → ((v : PortView Kept) → port_at mid plan.port ≡ Some v → new ≡ record mid { ports = with_queued mid.ports plan.port v plan.message (mid.ports.spare - 1); ledger = ledger_queued plan.message.by_once plan.port mid.ledger })
+pub commits : (old mid held : WorldView) (task : ℕ) (parsed : Parsed) (written : WireBody) (bytes : List ℕ) (plan : Plan) (p : IsPlan old task parsed written bytes plan) (new : WorldView) → Carries old task plan mid
+    → HoldsRights mid plan.port plan.message.rights held → IsLive held.ports plan.port
+    → ((v : PortView Kept) → port_at held plan.port ≡ Some v → new ≡ record held { ports = with_queued held.ports plan.port v plan.message (held.ports.spare - 1); ledger = ledger_queued plan.message.by_once plan.port held.ledger })
     → Commits old task parsed written p.plans.judged bytes new
-commits old mid task parsed written bytes plan p new ca live queued =
-    let found = some_of (port_at mid plan.port) live in
+commits old mid held task parsed written bytes plan p new ca holds live queued =
+    let found = some_of (port_at held plan.port) live in
     let v : PortView Kept = found.0 in
     let all = Through-append (λ old w c new. ChangesWord old task w c new) ca.one ca.two mid (option_to_list plan.words.reply) plan.words.body.items (option_to_list plan.message.reply) plan.message.rights ca.reply ca.body in
     let whole : ChangesWords old task (plan.words.destination ∷ (option_to_list plan.words.reply ++ plan.words.body.items)) (plan.destination ∷ (option_to_list plan.message.reply ++ plan.message.rights)) mid =
     (ca.one, ca.destination, all) in
-    let less : mid.ports.spare - 1 ≡ old.ports.spare - 1 = ap (λ (n : ℕ). n - 1) (carries_spare old mid task plan ca) in
+    let less : held.ports.spare - 1 ≡ old.ports.spare - 1 =
+    ap (λ (n : ℕ). n - 1) (held_spare plan.port plan.message.rights mid held holds ∙ carries_spare old mid task plan ca) in
     let reply : option_to_list plan.message.reply ≡ option_list p.plans.judged.reply = ap (λ (m : Kept). option_to_list m.reply) p.message ∙ same_options p.plans.judged.reply in
     let rights : plan.message.rights ≡ p.plans.judged.rights = ap (λ (m : Kept). m.rights) p.message in
     record {
       mid = mid;
       changes = rw (p.words.destination, p.words.reply, p.words.body, p.destination, reply, rights) at whole;
+      held = held;
+      holds = rw (p.port, rights) at holds;
       v = v;
-      there = ap (λ (q : ℕ). port_at mid q) (sym p.port) ∙ found.1;
-      rest = queued v found.1 ∙ (λ i. record mid {
-        ports = with_queued mid.ports (p.port i) v (p.message i) (less i);
-        ledger = ledger_queued (p.message i).by_once (p.port i) mid.ledger;
+      there = ap (λ (q : ℕ). port_at held q) (sym p.port) ∙ found.1;
+      rest = queued v found.1 ∙ (λ i. record held {
+        ports = with_queued held.ports (p.port i) v (p.message i) (less i);
+        ledger = ledger_queued (p.message i).by_once (p.port i) held.ledger;
       });
     }
 
@@ -260,4 +317,5 @@ pub commits_rooms : (old : WorldView) (task : ℕ) (parsed : Parsed) (written : 
     Commits old task parsed written j bytes new → (u : ℕ) → room_of new u ≡ room_of old u
 commits_rooms old task parsed written j bytes new c u =
     ap (λ (x : WorldView). room_of x u) c.rest
+    ∙ ap (λ (xs : List (Option SpaceView)). room_in (space_in xs u)) (held_spaces j.port j.rights c.mid c.held c.holds)
     ∙ (stay_words old c.mid task (destination_word parsed ∷ reply_words parsed ++ body_words written) (j.destination ∷ option_list j.reply ++ j.rights) c.changes).rooms u

@@ -1,6 +1,7 @@
--- Copying in leaves each port's holder as it was, and no name gets a receive right by it.
+-- Copying in leaves each port's holder as it was, and no name gets a receive right by it. Of the receive rights that a message carries its
+-- queue is the holder.
 use Rattle.std.proofs.Common.{◌≡◌, ℕ, ◌-◌, ◌++◌, Bool, true, false, List, [], ◌∷◌, Option, Some, None, IfSome, refl, sym, ap, subst, ◌∙◌}
-use Rattle.std.specs.Prelude.{nat_lt, MatchBool, if◌then◌else◌, ◌==◌}
+use Rattle.std.specs.Prelude.{nat_lt, MatchBool, if◌then◌else◌, ◌==◌, Contains}
 use Rattle.std.specs.FinMap as map
 use Rattle.mach_types.specs.Numbers.{null_word, dead_word}
 use Rattle.mach_types.specs.Grammar.{WireBody}
@@ -22,9 +23,10 @@ use Rattle.copyin_base.specs.Kept.{Kept}
 use Rattle.copyin_base.specs.Worlds.{WorldView, put}
 use Rattle.copyin_base.specs.Shows.{HoldersAgree}
 use Rattle.copyin_base.proofs.Gets.{same_found}
-use Rattle.copyin_base.proofs.Holders.{IsReceive, receives_at, none_receives, left_receives, KeepHolders, same_holders, put_holders, holders_left, holders_ports}
+use Rattle.copyin_base.proofs.Holders.{IsReceive, ReceivesAt, receives_at, none_receives, left_receives, KeepHolders, same_holders, put_holders, holders_left, holders_ports}
 use Rattle.copyin.specs.Copies.{attributes_copied, copied_from, ports_copied, port_copied, CopiesRight}
 use Rattle.copyin.specs.Plans.{destination_word, reply_words, option_list, Judged, ChangesWord, ChangesWords, Commits}
+use Rattle.copyin.proofs.Holding.{receive_right, held_holders}
 use Rattle.copyin.proofs.Keeping.{keeps, if_either}
 
 -- ---- what is left
@@ -134,7 +136,7 @@ either : (b : Bool) (X Y P : Type 0) → MatchBool b X Y → (X → P) → (Y �
 either true X Y P m f g = f m
 either false X Y P m f g = g m
 
-word_holders : (old new : WorldView) (task : ℕ) (w : PortWord) (c : Carried) → ChangesWord old task w c new → HoldersAgree old → HoldersAgree new
+pub word_holders : (old new : WorldView) (task : ℕ) (w : PortWord) (c : Carried) → ChangesWord old task w c new → HoldersAgree old → HoldersAgree new
 word_holders old new task w c changes a =
     let stays : new ≡ old → HoldersAgree new = λ same. subst HoldersAgree (sym same) a in
     either (w.name == null_word) _ _ (HoldersAgree new) changes stays
@@ -146,10 +148,10 @@ words_holders (w ∷ ws) (c ∷ cs) old new task h a = words_holders ws cs h.0 n
 words_holders [] (c ∷ cs) old new task h a = absurd h
 words_holders (w ∷ ws) [] old new task h a = absurd h
 
--- a message that was sent
+-- a message that was sent, where no name has the receive rights any more that it carries
 pub commits_holders : (old : WorldView) (task : ℕ) (parsed : Parsed) (written : WireBody) (j : Judged old task parsed written) (bytes : List ℕ) (new : WorldView) →
-    Commits old task parsed written j bytes new → HoldersAgree old → HoldersAgree new
-commits_holders old task parsed written j bytes new c a =
+    (c : Commits old task parsed written j bytes new) → ((p : ℕ) → Contains j.rights (receive_right p) → (u : ℕ) → ReceivesAt c.mid u p → ⊥) → HoldersAgree old → HoldersAgree new
+commits_holders old task parsed written j bytes new c gone a =
     let before = words_holders (destination_word parsed ∷ reply_words parsed ++ body_words written) (j.destination ∷ option_list j.reply ++ j.rights) old c.mid task c.changes a in
-    holders_ports c.mid new before (ap (λ (w : WorldView). w.spaces) c.rest)
-    (subst (λ (w : WorldView). KeepHolders c.mid.ports.ports w.ports.ports) (sym c.rest) (put_holders c.mid.ports.ports j.port c.v _ c.there refl))
+    holders_ports c.held new (held_holders j.port j.rights c.mid c.held c.holds gone before) (ap (λ (w : WorldView). w.spaces) c.rest)
+    (subst (λ (w : WorldView). KeepHolders c.held.ports.ports w.ports.ports) (sym c.rest) (put_holders c.held.ports.ports j.port c.v _ c.there refl))

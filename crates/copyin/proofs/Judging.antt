@@ -18,7 +18,7 @@ use Rattle.copyin_base.specs.declared.message.Mark.{Mark}
 use Rattle.copyin_base.specs.declared.message.Mark.TheVariants as mark
 use Rattle.copyin.specs.Copies.{copied_from}
 use Rattle.copyin.specs.Goes.{LeadsNowhere}
-use Rattle.copyin.specs.Judging.{CopiesName, CopiesWord, CopiesCarried, CopiesReply, CopiesBody, IsBad, IsLeft, BodyIsBad}
+use Rattle.copyin.specs.Judging.{CopiesName, CopiesWord, CopiesReply, CopiesBody, IsBad, BodyIsBad}
 use Rattle.copyin.specs.Overlays.{Overlays}
 
 same_value : {X : Type 0} (o : Option X) (x y : X) → o ≡ Some x → o ≡ Some y → x ≡ y
@@ -65,26 +65,26 @@ pub judged-none : (old : Touched) (names : Names) → IsJudged old old names [] 
 judged-none old names = record { so = λ now o. (now, refl, o) }
 
 pub judged-more : (old mid new : Touched) (names : Names) (words : List PortWord) (i : ℕ) (w : PortWord) (cs : List Carried) (c : Carried) → i < length words
-    → w ≡ get_or words i w → IsJudged old mid names (take i words) cs → ¬ (IsLeft w)
+    → w ≡ get_or words i w → IsJudged old mid names (take i words) cs
     → ((now : Names) → Overlays mid names now → (after : Names) × CopiesWord now w c after × Overlays new names after)
     → IsJudged old new names (take (i + 1) words) (cs ++ c ∷ [])
-judged-more old mid new names words i w cs c h is j not goes = record {
+judged-more old mid new names words i w cs c h is j goes = record {
   so = λ now o.
       let a = j.so now o in
       let b = goes a.0 a.2 in
       let more : take (i + 1) words ≡ take i words ++ w ∷ [] = take_more words i w h ∙ ap (λ (x : PortWord). take i words ++ x ∷ []) (sym is) in
-      (b.0, subst (λ (ws : List PortWord). CopiesBody now ws (cs ++ c ∷ []) b.0) (sym more) (Through-append CopiesCarried now a.0 b.0 (take i words) (w ∷ []) cs (c ∷ []) a.1 (b.0, (b.1, not), refl)), b.2);
+      (b.0, subst (λ (ws : List PortWord). CopiesBody now ws (cs ++ c ∷ []) b.0) (sym more) (Through-append CopiesWord now a.0 b.0 (take i words) (w ∷ []) cs (c ∷ []) a.1 (b.0, b.1, refl)), b.2);
 }
 
 pub judged-bad : (old mid : Touched) (names : Names) (words : List PortWord) (i : ℕ) (w : PortWord) (cs : List Carried) → i < length words
     → w ≡ get_or words i w → IsJudged old mid names (take i words) cs
-    → ((now : Names) → Overlays mid names now → IsBad now w ⊎ IsLeft w)
+    → ((now : Names) → Overlays mid names now → IsBad now w)
     → (now : Names) → Overlays old names now → BodyIsBad now words
 judged-bad old mid names words i w cs h is j bad now o =
     let a = j.so now o in
     let rest : drop i words ≡ w ∷ drop (i + 1) words = drop_more words i w h ∙ ap (λ (x : PortWord). x ∷ drop (i + 1) words) (sym is) in
     let whole : take i words ++ w ∷ drop (i + 1) words ≡ words = ap (λ (ws : List PortWord). take i words ++ ws) (sym rest) ∙ take-append-drop i words in
-    subst (λ (ws : List PortWord). BodyIsBad now ws) whole (OneFails-after (λ names w. IsBad names w ⊎ IsLeft w) (λ names w after. (c : Carried) × CopiesWord names w c after) CopiesCarried (λ m v d n goes. (d, goes.0))
+    subst (λ (ws : List PortWord). BodyIsBad now ws) whole (OneFails-after IsBad (λ names w after. (c : Carried) × CopiesWord names w c after) CopiesWord (λ m v d n goes. (d, goes))
     now a.0 (take i words) (w ∷ drop (i + 1) words) cs a.1 (inl (bad a.0 a.2)))
 
 -- ---- words that are no names, and names

@@ -1,5 +1,7 @@
 pub mod Keeping
 pub mod Walking
+pub mod Holding
+pub mod LoopFound
 pub mod RequestedKept
 pub mod PortCopied
 pub mod CopiedIn
@@ -11,6 +13,8 @@ pub mod Bodies
 pub mod Texts
 pub mod Unused
 pub mod Planned
+mod Moved
+mod Looping
 pub mod Sent
 pub mod Refused
 pub mod RefusedWords

@@ -1,15 +1,15 @@
 -- What judging the words of a text says of the plan.
-use Rattle.std.proofs.Common.{◌≡◌, ℕ, ◌+◌, ◌/◌, ◌%◌, ◌^◌, ◌<◌, ◌≤◌, Option, Some, None, IsSome, IfSome, List, [], ◌∷◌, length, refl, sym, ap, subst, ◌∙◌, inl, inr, ◌⊎◌, arith, All}
+use Rattle.std.proofs.Common.{◌≡◌, ℕ, ◌/◌, ◌%◌, ◌^◌, ◌<◌, Option, Some, None, IsSome, IfSome, List, [], ◌∷◌, length, refl, sym, ap, subst, ◌∙◌, inl, inr, ◌⊎◌, arith, All}
 use Rattle.std.specs.Prelude.{◌≢◌, Bool, true, false, if◌then◌else◌, ◌==◌, MatchBool}
 use Rattle.std.specs.Option.{option_to_list, unwrap_or}
 use Rattle.std.proofs.lemmas.Bool.Decides.{eqb_tells, leb_tells}
 use Rattle.std.proofs.lemmas.List.Elements.{All-append, All-map}
 use Rattle.mach_types.specs.declared.codes.MsgReturn.{MsgReturn}
-use Rattle.mach_types.specs.declared.codes.MsgReturn.TheVariants.{SendMsgTooSmall, SendInvalidData, SendInvalidHeader, SendTimedOut, SendNoBuffer}
+use Rattle.mach_types.specs.declared.codes.MsgReturn.TheVariants.{SendMsgTooSmall, SendInvalidData, SendInvalidHeader, SendNoBuffer}
 use Rattle.mach_types.specs.declared.rights.Disposition.{Disposition}
 use Rattle.mach_types.specs.declared.rights.Disposition.TheVariants.{MoveReceive, MoveSend, MoveSendOnce, CopySend, MakeSend, MakeSendOnce}
 use Rattle.mach_types.specs.Grammar.{Header, Wire, data_item, port_item, WireBody, raw, items, IsWire, IsWireBody, NamesPorts, text}
-use Rattle.mach_types.specs.Numbers.{disposition, kind_sent, msg_number, most_rights, null_word, dead_word}
+use Rattle.mach_types.specs.Numbers.{disposition, kind_sent, msg_number, null_word, dead_word}
 use Rattle.mach_types.specs.TextGuards.{TextRefuses, BadHeader, IsSendable, word_at}
 use Rattle.mach_types.specs.Tokens.{receive, send, send_once}
 use Rattle.smallvec.specs.SmallVec.{small_vec_len}
@@ -25,12 +25,13 @@ use Rattle.copyin_base.specs.declared.message.Carried.{Carried}
 use Rattle.copyin_base.specs.declared.message.Mark.TheVariants as mark
 use Rattle.copyin.specs.declared.judge.Rights.{Rights}
 use Rattle.copyin.specs.declared.judge.Words.{Words}
-use Rattle.copyin.specs.Goes.{AreGiven, LeadsNowhere, Starts, GoAll, CannotGo, made_by_rights}
+use Rattle.copyin.specs.Goes.{AreGiven, LeadsNowhere, Starts, GoAll, CannotGo, MayGo, MayNotGo}
 use Rattle.copyin.specs.Judging.{CopiesName, PassesAs, CopiesWord, CopiesReply, CopiesBody, BodyIsBad}
 use Rattle.copyin.specs.Planned.{AreWords}
-use Rattle.copyin.specs.Plans.{reply_words, Judged, Plans, Begins, HasSlot, HasNoSlot, CannotPlan}
+use Rattle.copyin.specs.Plans.{reply_words, Judged, Plans, Begins, CannotPlan}
 use Rattle.copyin_base.specs.Stands.{AreTied}
 use Rattle.copyin_base.specs.Worlds.{WorldView, space_at}
+use Rattle.copyin.proofs.Committing.{all_length}
 use Rattle.copyin.proofs.Keeping.{keeps}
 
 -- ---- the words of a text have dispositions
@@ -226,18 +227,22 @@ module _ (w : WorldView) (task : ℕ) (parsed : Parsed) (written : WireBody) (sp
       copies_body = subst (λ (ws : List PortWord). CopiesBody g.others.second ws carried g.others.last) a.body g.others.body;
     }
 
-    pub cannot_admit : (cs : List Carried) → cs ≡ carried → (code : MsgReturn) → HasNoSlot w rights.port rights.destination × (code ≡ SendTimedOut)
-        ⊎ HasSlot w rights.port rights.destination × (most_rights < w.ledger.total + made_by_rights rights cs) × (code ≡ SendNoBuffer) → CannotPlan w task parsed written (msg_number code)
-    cannot_admit cs same code (inl h) = inr (inr (inr (inl (judged_of, inl (h.0, ap msg_number h.1)))))
-    cannot_admit cs same code (inr h) =
-        inr (inr (inr (inl (judged_of, inr (h.0, subst (λ (xs : List Carried). most_rights < w.ledger.total + made_by_rights rights xs) same h.1, ap msg_number h.2)))))
+    pub cannot_admit : (cs : List Carried) → cs ≡ carried → (code : MsgReturn) → MayNotGo w rights cs code → CannotPlan w task parsed written (msg_number code)
+    cannot_admit cs same code h = refused (subst (λ (xs : List Carried). MayNotGo w rights xs code) same h)
+      where
+        as_many : length (body_words written) ≡ length carried
+        as_many = sym (ap length a.body) ∙ all_length g.others.second g.others.last words.body.items carried g.others.body
 
-    abbrev pub admitted : (cs : List Carried) → cs ≡ carried → HasSlot w rights.port rights.destination × (w.ledger.total + made_by_rights rights cs ≤ most_rights) → Plans w task parsed written
-    admitted cs same may = record {
-      judged = judged_of;
-      slot = may.0;
-      few = subst (λ (xs : List Carried). w.ledger.total + made_by_rights rights xs ≤ most_rights) same may.1;
-    }
+        refused : MayNotGo w rights carried code → CannotPlan w task parsed written (msg_number code)
+        refused (inl l) = inr (inr (inr (inl (judged_of, inl (l.0, ap msg_number l.1)))))
+        refused (inr (inl l)) = inr (inr (inr (inr (inr (let n = as_many in let many = l.0 in omega (arith, many, n)), ap msg_number l.1))))
+        refused (inr (inr (inl l))) = inr (inr (inr (inl (judged_of, inr (inl (l.0, l.1, ap msg_number l.2))))))
+        refused (inr (inr (inr l))) = inr (inr (inr (inl (judged_of, inr (inr (l.0, l.1, l.2, ap msg_number l.3))))))
+
+    abbrev pub admitted : (cs : List Carried) → cs ≡ carried → MayGo w rights cs → Plans w task parsed written
+    admitted cs same h =
+        let may : MayGo w rights carried = subst (MayGo w rights) same h in
+        record { judged = judged_of; no_loop = may.0; slot = may.1; few = may.2 }
 
     pub port_lives : AreTied space.names w.ports w.ledger → IsLive w.ports rights.port
     port_lives tied =

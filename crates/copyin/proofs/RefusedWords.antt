@@ -33,7 +33,7 @@ use Rattle.copyin.proofs.Bodies.{pairs, body_pairs}
 use Rattle.copyin.proofs.Texts.{no_answer}
 use Rattle.copyin.proofs.Planned.{Replied, replied, third, copied}
 use Rattle.copyin.proofs.Planned.{message as planned_message}
-use Rattle.copyin.proofs.Sent.{refused_full, refused_many}
+use Rattle.copyin.proofs.Sent.{refused_loop, refused_full, refused_many}
 use Rattle.copyin.proofs.Refused.{legal_copies}
 
 module _ (w : WorldView) (s : State) (o k task : ℕ) (names : Names) (at : Along w s o k task names) where
@@ -45,8 +45,7 @@ module _ (w : WorldView) (s : State) (o k task : ℕ) (names : Names) (at : Alon
 pub bad_words : (w : WorldView) (s : State) (o k task : ℕ) (names : Names) (ws : List PortWord) → Along w s o k task names → BodyIsBad names ws →
     OneFails (IsRefused task) (λ old v new. (m : MachineMark) × CopyWord task (in_message o k) v.0 v.1 old m new) s (pairs ws)
 bad_words w s o k task names [] at bad = bad
-bad_words w s o k task names (v ∷ ws) at (inl (inl bad)) = inl (inl (bad_word w s o k task names at v bad))
-bad_words w s o k task names (v ∷ ws) at (inl (inr left)) = inl (inr left)
+bad_words w s o k task names (v ∷ ws) at (inl bad) = inl (bad_word w s o k task names at v bad)
 bad_words w s o k task names (v ∷ ws) at (inr (mid, (c, word), rest)) =
     let x = stepped w s o k task names v c mid at word in
     inr (x.t, (mark_of c.mark, x.copy), bad_words x.w2 x.t o k task mid ws x.along rest)
@@ -172,6 +171,9 @@ module _ (w : WorldView) (s : State) (sh : Shows w s) (task : ℕ) (bytes : List
   cannot code (inr (inl (h, is))) = let b = h.begins in inr (inr (inl (bad_reply b.space b.there b.port b.destination b.to_port h.first b.copies h.word h.is h.bad, is)))
   cannot code (inr (inr (inl (h, is)))) =
       let b = h.begins in inr (inr (inr (inl (bad_rights b.space b.there b.port b.destination b.to_port h.first b.copies h.reply h.second h.copies h.bad, is))))
-  cannot code (inr (inr (inr (inl (j, inl h))))) = inr (inr (inr (inr (subst (WholeRefuses s task text.header text.written) (sym h.1) (whole_refused j _ (refused_full w s sh 0 task bytes parsed text j h.0))))))
-  cannot code (inr (inr (inr (inl (j, inr h))))) = inr (inr (inr (inr (subst (WholeRefuses s task text.header text.written) (sym h.2) (whole_refused j _ (refused_many w s sh 0 task bytes parsed text j h.0 h.1))))))
+  cannot code (inr (inr (inr (inl (j, inl h))))) = inr (inr (inr (inr (subst (WholeRefuses s task text.header text.written) (sym h.1) (whole_refused j _ (refused_loop w s sh 0 task bytes parsed text j h.0))))))
+  cannot code (inr (inr (inr (inl (j, inr (inl h)))))) =
+      inr (inr (inr (inr (subst (WholeRefuses s task text.header text.written) (sym h.2) (whole_refused j _ (refused_full w s sh 0 task bytes parsed text j h.0 h.1))))))
+  cannot code (inr (inr (inr (inl (j, inr (inr h)))))) =
+      inr (inr (inr (inr (subst (WholeRefuses s task text.header text.written) (sym h.3) (whole_refused j _ (refused_many w s sh 0 task bytes parsed text j h.0 h.1 h.2))))))
   cannot code (inr (inr (inr (inr h)))) = inl h

@@ -16,6 +16,7 @@ use Rattle.copyin_base.proofs.Gets.{same_found}
 use Rattle.copyin_base.proofs.Requested.{requested_left, requested_ports}
 use Rattle.copyin.specs.Copies.{CopiesRight}
 use Rattle.copyin.specs.Plans.{destination_word, reply_words, option_list, Judged, Commits}
+use Rattle.copyin.proofs.Holding.{held_requested}
 use Rattle.copyin.proofs.Keeping.{keeps, live_copied, still}
 use Rattle.copyin.proofs.Walking.{IsKept, over_words}
 
@@ -57,7 +58,7 @@ module _ (old : WorldView) (task : ℕ) (parsed : Parsed) (written : WireBody) (
 
   -- a message that was sent
   pub commits_requested : RequestsStand old → RequestsStand new
-  commits_requested r = requested_ports c.mid new (went_requested r)
-      (λ p lives. subst (λ (x : WorldView). IsLive x.ports p) (sym c.rest) (still c.mid.ports.ports j.port p _ lives))
+  commits_requested r = requested_ports c.held new (held_requested j.port j.rights c.mid c.held c.holds (went_requested r))
+      (λ p lives. subst (λ (x : WorldView). IsLive x.ports p) (sym c.rest) (still c.held.ports.ports j.port p _ lives))
       (ap (λ (x : WorldView). x.requests) c.rest)
       (ap (λ (x : WorldView). x.spaces) c.rest)

@@ -6,11 +6,13 @@ use Rattle.mach_types.specs.Tokens.{send_once, same_kind}
 use Rattle.mach_types.specs.declared.rights.Disposition.{Disposition}
 use Rattle.mach_types.specs.declared.rights.Disposition.TheVariants.{MoveReceive, MoveSend, MoveSendOnce, CopySend, MakeSend, MakeSendOnce}
 use Rattle.message_codec.specs.declared.text.Parsed.{Parsed}
+use Rattle.message_codec.specs.declared.words.PortWord.{PortWord}
 use Rattle.message_codec.specs.Words.{body_words}
 use Rattle.name_space.specs.declared.Entry.{Entry}
 use Rattle.port.specs.Ports.{PortsView}
 use Rattle.rights.specs.Ledger.{LedgerView}
 use Rattle.rights.specs.declared.RightKind.TheVariants as right
+use Rattle.copyin_base.specs.declared.message.Carried.{Carried}
 use Rattle.copyin_base.specs.declared.message.Mark.{Mark}
 use Rattle.copyin_base.specs.declared.message.Mark.TheVariants as mark
 use Rattle.copyin_base.specs.Changes.{NotesSenders}
@@ -21,7 +23,8 @@ use Rattle.copyin_base.specs.Worlds.{WorldView, NoneLost}
 use Rattle.copyin_base.proofs.Idle.{none_lost_by}
 use Rattle.copyin_base.proofs.SendersNoted.{KeepsSends, sends_made, sends_shifted, KeepsSenders, keeps_senders, keeps_senders_refl, keeps_senders_trans, senders_same, senders_kept}
 use Rattle.copyin.specs.Copies.{ports_copied, ledger_copied, ledger_queued, CopiesRight}
-use Rattle.copyin.specs.Plans.{destination_word, reply_words, option_list, Judged, Commits}
+use Rattle.copyin.specs.Plans.{destination_word, reply_words, option_list, Judged, ChangesWords, Commits}
+use Rattle.copyin.proofs.Holding.{held_ledger, held_requests, held_noted, held_none_lost}
 use Rattle.copyin.proofs.Keeping.{else_copied}
 use Rattle.copyin.proofs.RequestedKept.{copied_requested}
 use Rattle.copyin.proofs.Walking.{IsKept, over_words}
@@ -99,6 +102,9 @@ none_lost_stays = record {
   both = λ old mid new a b none. b (a none);
 }
 
+pub words_none_lost : (ws : List PortWord) (cs : List Carried) (old new : WorldView) (task : ℕ) → ChangesWords old task ws cs new → NoneLost old → NoneLost new
+words_none_lost = over_words LoseStill none_lost_stays
+
 -- ---- a message that was sent
 
 module _ (old : WorldView) (task : ℕ) (parsed : Parsed) (written : WireBody) (j : Judged old task parsed written) (bytes : List ℕ) (new : WorldView)
@@ -106,10 +112,14 @@ module _ (old : WorldView) (task : ℕ) (parsed : Parsed) (written : WireBody) (
   pub commits_keep_senders : RequestsStand old → KeepsSenders old new
   commits_keep_senders requested =
       let went = over_words SendStill senders_stay (destination_word parsed ∷ reply_words parsed ++ body_words written) (j.destination ∷ option_list j.reply ++ j.rights) old c.mid task c.changes requested in
+      let ledger = held_ledger j.port j.rights c.mid c.held c.holds in
       keeps_senders_trans old c.mid new went.keeps
-      (keeps_senders c.mid new went.requested (ap (λ (w : WorldView). w.requests.no_senders) c.rest)
-      (subst (λ (w : WorldView). KeepsSends c.mid.ledger w.ledger) (sym c.rest) (sends_queued (same_kind (kind_sent j.destination.given) send_once) j.port c.mid.ledger))
-      (ap (λ (w : WorldView). w.ports.noted) c.rest))
+      (keeps_senders c.mid new went.requested
+      (ap (λ (w : WorldView). w.requests.no_senders) c.rest ∙ ap (λ (x : RequestTablesView). x.no_senders) (held_requests j.port j.rights c.mid c.held c.holds))
+      (subst (λ (w : WorldView). KeepsSends c.mid.ledger w.ledger) (sym c.rest)
+      (subst (λ (l : LedgerView). KeepsSends c.mid.ledger (ledger_queued (same_kind (kind_sent j.destination.given) send_once) j.port l)) (sym ledger)
+      (sends_queued (same_kind (kind_sent j.destination.given) send_once) j.port c.mid.ledger)))
+      (ap (λ (w : WorldView). w.ports.noted) c.rest ∙ held_noted j.port j.rights c.mid c.held c.holds))
 
   -- where nothing was noted, nothing is to be
   pub commits_senders : RequestsStand old → old.ports.noted ≡ [] → NotesSenders old new
@@ -117,5 +127,5 @@ module _ (old : WorldView) (task : ℕ) (parsed : Parsed) (written : WireBody) (
 
   pub commits_none_lost : NoneLost old → NoneLost new
   commits_none_lost none =
-      let went = over_words LoseStill none_lost_stays (destination_word parsed ∷ reply_words parsed ++ body_words written) (j.destination ∷ option_list j.reply ++ j.rights) old c.mid task c.changes none in
-      none_lost_by c.mid new went (ap (λ (w : WorldView). w.ports.lost) c.rest) (ap (λ (w : WorldView). w.ports.doomed) c.rest) (ap (λ (w : WorldView). w.ports.destroyed) c.rest)
+      let went = words_none_lost (destination_word parsed ∷ reply_words parsed ++ body_words written) (j.destination ∷ option_list j.reply ++ j.rights) old c.mid task c.changes none in
+      none_lost_by c.held new (held_none_lost j.port j.rights c.mid c.held c.holds went) (ap (λ (w : WorldView). w.ports.lost) c.rest) (ap (λ (w : WorldView). w.ports.doomed) c.rest) (ap (λ (w : WorldView). w.ports.destroyed) c.rest)

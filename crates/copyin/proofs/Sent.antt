@@ -1,21 +1,23 @@
 -- A message that is sent: the machine's step, and tables that agree with the state after it.
 use Rattle.std.proofs.Common.{◌≡◌, ℕ, zero, suc, ◌+◌, ◌-◌, ◌<◌, ◌≤◌, Bool, true, false, List, [], ◌∷◌, ◌++◌, Some, refl, sym, ap, subst, ◌∙◌, arith, inl, inr, length, drop}
-use Rattle.std.specs.Prelude.{◌^◌, is_some, if◌then◌else◌}
+use Rattle.std.specs.Prelude.{◌^◌, ◌↔◌, is_some, if◌then◌else◌, Contains}
 use Rattle.std.proofs.lemmas.Bool.Decides.{eqb_tells}
 use Rattle.std.proofs.lemmas.List.{drop-append-le}
 use Rattle.mach_types.specs.Numbers.{most_rights, msg_number, kind_sent}
-use Rattle.mach_types.specs.declared.codes.MsgReturn.TheVariants.{SendTimedOut, SendNoBuffer}
-use Rattle.mach_types.specs.Tokens.{send, send_once, same_kind}
+use Rattle.mach_types.specs.declared.codes.MsgReturn.TheVariants.{SendTimedOut, SendInvalidRight, SendNoBuffer}
+use Rattle.mach_types.specs.Tokens.{receive, send, send_once, same_kind, count, is_of}
 use Rattle.mach_types.specs.Messages.{Message, Entry}
 use Rattle.mach_types.specs.Guards.{FirstIs, NoneHolds}
 use Rattle.mach_model.specs.State.{State, at, queue}
 use Rattle.mach_model.specs.Send.{Sends, ClosesLoop, sent_guards, place_at}
 use Rattle.mach_model.specs.Send.{entry as logged}
+use Rattle.mach_model.specs.Carried.{lying, message_count}
+use Rattle.mach_model.specs.Death.{LiesAt}
 use Rattle.mach_model.specs.Lawful.{tally}
 use Rattle.mach_model.proofs.At.{at_own, at_other}
 use Rattle.mach_model.proofs.SettledReceives.{tally-append}
-use Rattle.mach_model.proofs.Moving.{shape}
-use Rattle.mach_model.proofs.Carrying.{never_loops}
+use Rattle.mach_model.proofs.CopyingWords.{Adds, Copied-adds}
+use Rattle.mach_model.proofs.Moving.{IsMoving, moving, shape}
 use Rattle.message_codec.specs.declared.text.Parsed.{Parsed}
 use Rattle.message_codec.specs.Parses.{Parses}
 use Rattle.message_codec.specs.Words.{body_words}
@@ -23,11 +25,18 @@ use Rattle.message_codec.proofs.Spelling.{laid_out-parsed}
 use Rattle.port.specs.Ports.{PortView, with_port}
 use Rattle.copyin_base.specs.Kept.{Kept, Keeps}
 use Rattle.copyin_base.specs.Worlds.{WorldView, port_at}
-use Rattle.rights.specs.Ledger.{counts_of}
-use Rattle.copyin_base.specs.Shows.{AllKept, came_by_once, onces_queued, ShowsPort, CountsAgree, Agrees, RequestsStand, Shows}
+use Rattle.rights.specs.Ledger.{LedgerView, counts_of}
+use Rattle.copyin_base.specs.Shows.{AllKept, came_by_once, onces_queued, ShowsPort, CountsAgree, Agrees, HoldersAgree, CarriersAgree, RequestsStand, Shows}
 use Rattle.copyin_base.proofs.Counting.{once_queued, queues_same}
-use Rattle.copyin_base.proofs.Tied.{stands_is_tied}
+use Rattle.copyin_base.proofs.Holders.{ReceivesAt, unheld, unheld_lying}
+use Rattle.copyin_base.proofs.Tied.{stands_tied, stands_is_tied}
 use Rattle.copyin.specs.Copies.{ledger_queued}
+use Rattle.copyin.specs.Loops.{MakesLoop}
+use Rattle.copyin.proofs.CarriersKept.{commits_carriers}
+use Rattle.copyin.proofs.Holding.{receive_right, held_ledger, held_agrees}
+use Rattle.copyin.proofs.HoldersKept.{commits_holders}
+use Rattle.copyin.proofs.Looping.{closes, closed}
+use Rattle.copyin.proofs.Moved.{kept_carries, carries_counted}
 use Rattle.copyin.proofs.Planning.{reply_sends}
 use Rattle.copyin.proofs.RequestedKept.{commits_requested}
 use Rattle.copyin.proofs.Unused.{once_stays}
@@ -35,7 +44,7 @@ use Rattle.copyin_base.proofs.Agreeing.{live_put, ports_put}
 use Rattle.copyin.specs.Plans.{destination_word, reply_words, option_list, Judged, made_in, message_for, HasSlot, HasNoSlot, Commits}
 use Rattle.copyin.proofs.Stepping.{words_once}
 use Rattle.copyin.proofs.Texts.{few_bytes}
-use Rattle.copyin.proofs.Planned.{message, third, none_receives, kind_is, copied, shape_is, total_is, all_changes}
+use Rattle.copyin.proofs.Planned.{message, third, kind_is, copied, shape_is, total_is, all_changes}
 
 -- ---- as many messages are kept as the queue has
 
@@ -143,8 +152,36 @@ module _ (w : WorldView) (s : State) (sh : Shows w s) (now task : ℕ) (bytes : 
   shaped : copied_state ≡ shape s copied_state
   shaped = shape_is w s sh task bytes parsed text j
 
-  no_loop : ¬ (ClosesLoop copied_state j.port (place_at s j.port))
-  no_loop = never_loops task text.header text.written s m copied_state sh.lawful (none_receives w s sh task bytes parsed text j) (copied w s sh task bytes parsed text j)
+  keeps : Keeps j.port (message_for bytes j) m
+  keeps = record {
+    written = text.written;
+    laid_out = laid_out-parsed bytes parsed text;
+    is_complex = text.is_complex;
+    given = (third w s sh task bytes parsed text j).given;
+    few = few_bytes bytes parsed text;
+    id_fits = subst (λ (n : ℕ). n < 2 ^ 32) (sym text.id) text.message.spells.header_fits.id;
+    reply_sent = λ c is. reply_sends bytes parsed text j.first j.second j.reply j.copies_reply c is;
+    message_is = refl;
+  }
+
+  adds : Adds s copied_state j.port (length (s.log j.port)) (λ c q. message_count c q m)
+  adds = Copied-adds task text.header text.written s m copied_state (moving s j.port (length (s.log j.port)) sh.lawful) (copied w s sh task bytes parsed text j)
+
+  -- the receive rights that lie at its place are those that it carries
+  at_place : (p : ℕ) → LiesAt copied_state receive p (place_at s j.port) ↔ Contains j.rights (receive_right p)
+  at_place p = (
+    (λ lies. kept_carries j.port (message_for bytes j) m keeps p (let n = adds.lies receive p in let none = empty in omega (arith, lies, n, none))),
+    (λ among. let some = carries_counted j.port (message_for bytes j) m keeps p among in let n = adds.lies receive p in omega (arith, some, n)),
+  )
+    where
+      empty : lying s receive p (place_at s j.port) ≡ 0
+      empty = sh.lawful.no_entry j.port (length (s.log j.port)) (omega arith) receive p
+
+  loop : MakesLoop w.ports j.port j.rights → ClosesLoop copied_state j.port (place_at s j.port)
+  loop = closes w s sh copied_state j.port j.rights adds.apart at_place
+
+  no_loop : ¬ (MakesLoop w.ports j.port j.rights) → ¬ (ClosesLoop copied_state j.port (place_at s j.port))
+  no_loop none c = none (closed w s sh copied_state j.port j.rights adds.apart at_place c)
 
   -- the port that it goes to, and its queue
   queue_same : queue copied_state j.port ≡ queue s j.port
@@ -176,40 +213,32 @@ module _ (w : WorldView) (s : State) (sh : Shows w s) (now task : ℕ) (bytes : 
   rights_are : length copied_state.ledger ≡ w.ledger.total + made_in j
   rights_are = let t = (third w s sh task bytes parsed text j).along.agrees.total in let n = total_is w s sh task bytes parsed text j in omega (arith, t, n)
 
-  pub unrefused : HasSlot w j.port j.destination → w.ledger.total + made_in j ≤ most_rights → NoneHolds (sent_guards m (place_at s j.port) copied_state)
-  unrefused slot few = (no_loop, (not_full slot, ((λ many. let r = rights_are in omega (arith, many, r, few)), tt)))
+  pub unrefused : ¬ (MakesLoop w.ports j.port j.rights) → HasSlot w j.port j.destination → w.ledger.total + made_in j ≤ most_rights → NoneHolds (sent_guards m (place_at s j.port) copied_state)
+  unrefused none slot few = (no_loop none, (not_full slot, ((λ many. let r = rights_are in omega (arith, many, r, few)), tt)))
 
-  pub refused_full : HasNoSlot w j.port j.destination → FirstIs (sent_guards m (place_at s j.port) copied_state) (msg_number SendTimedOut)
-  refused_full h = inr (no_loop, inl (is_full h, refl))
+  pub refused_loop : MakesLoop w.ports j.port j.rights → FirstIs (sent_guards m (place_at s j.port) copied_state) (msg_number SendInvalidRight)
+  refused_loop l = inl (loop l, refl)
 
-  pub refused_many : HasSlot w j.port j.destination → most_rights < w.ledger.total + made_in j → FirstIs (sent_guards m (place_at s j.port) copied_state) (msg_number SendNoBuffer)
-  refused_many slot many = inr (no_loop, inr (not_full slot, inl (let r = rights_are in omega (arith, many, r), refl)))
+  pub refused_full : ¬ (MakesLoop w.ports j.port j.rights) → HasNoSlot w j.port j.destination → FirstIs (sent_guards m (place_at s j.port) copied_state) (msg_number SendTimedOut)
+  refused_full none h = inr (no_loop none, inl (is_full h, refl))
+
+  pub refused_many : ¬ (MakesLoop w.ports j.port j.rights) → HasSlot w j.port j.destination → most_rights < w.ledger.total + made_in j →
+      FirstIs (sent_guards m (place_at s j.port) copied_state) (msg_number SendNoBuffer)
+  refused_many none slot many = inr (no_loop none, inr (not_full slot, inl (let r = rights_are in omega (arith, many, r), refl)))
 
   abbrev pub sent_state : State
   sent_state = record copied_state { log = at copied_state.log j.port (copied_state.log j.port ++ logged now m ∷ []) }
 
-  pub sends : HasSlot w j.port j.destination → w.ledger.total + made_in j ≤ most_rights → Sends now task bytes s sent_state
-  sends slot few = record {
+  pub sends : ¬ (MakesLoop w.ports j.port j.rights) → HasSlot w j.port j.destination → w.ledger.total + made_in j ≤ most_rights → Sends now task bytes s sent_state
+  sends none slot few = record {
     header = text.header;
     written = text.written;
     spells = text.message.spells;
     m = m;
     copied_state = copied_state;
     copied = copied w s sh task bytes parsed text j;
-    unrefused = unrefused slot few;
+    unrefused = unrefused none slot few;
     rest = refl;
-  }
-
-  keeps : Keeps j.port (message_for bytes j) m
-  keeps = record {
-    written = text.written;
-    laid_out = laid_out-parsed bytes parsed text;
-    is_complex = text.is_complex;
-    given = (third w s sh task bytes parsed text j).given;
-    few = few_bytes bytes parsed text;
-    id_fits = subst (λ (n : ℕ). n < 2 ^ 32) (sym text.id) text.message.spells.header_fits.id;
-    reply_sent = λ c is. reply_sends bytes parsed text j.first j.second j.reply j.copies_reply c is;
-    message_is = refl;
   }
 
   -- where it goes by a send-once right, its port has one that no queued message goes by
@@ -220,19 +249,49 @@ module _ (w : WorldView) (s : State) (sh : Shows w s) (now task : ℕ) (bytes : 
       once_stays w task (stands_is_tied w task record { state = s; shown = sh }) j.space j.there (destination_word parsed) j.destination d.entry d.found once j.port j.to_port
       changes.0 (third w s sh task bytes parsed text j).w2 changes.1 (reply_words parsed ++ body_words text.written) (option_list j.reply ++ j.rights) changes.2
 
-  pub sent_agrees : (new : WorldView) → Commits w task parsed text.written j bytes new → Agrees new sent_state
-  sent_agrees new c =
-      let x = third w s sh task bytes parsed text j in
-      let mid_is : c.mid ≡ x.w2 = words_once w task (destination_word parsed ∷ reply_words parsed ++ body_words text.written) (j.destination ∷ option_list j.reply ++ j.rights) c.mid x.w2 c.changes (all_changes w s sh task bytes parsed text j) in
-      let there : port_at x.w2 j.port ≡ Some c.v = ap (λ (y : WorldView). port_at y j.port) (sym mid_is) ∙ c.there in
-      let within : copied_state.taken j.port ≤ length (copied_state.log j.port) =
-      subst (λ (y : State). y.taken j.port ≤ length (y.log j.port)) (sym shaped) (sh.lawful.within j.port) in
-      subst (λ (y : WorldView). Agrees y sent_state)
-      (ap (λ (y : WorldView). record y {
-        ports = record (with_port y.ports j.port (record c.v { queue = c.v.queue ++ message_for bytes j ∷ [] })) { spare = w.ports.spare - 1 };
-        ledger = ledger_queued (same_kind (kind_sent j.destination.given) send_once) j.port y.ledger;
-      }) (sym mid_is) ∙ sym c.rest)
-      (appended_agrees x.w2 copied_state x.along.agrees j.port c.v there (message_for bytes j) now m keeps within (w.ports.spare - 1) is_unused)
+  module _ (new : WorldView) (c : Commits w task parsed text.written j bytes new) where
+    abbrev went : WorldView
+    went = (third w s sh task bytes parsed text j).w2
 
-  pub sent_requested : (new : WorldView) → Commits w task parsed text.written j bytes new → RequestsStand new
-  sent_requested new c = commits_requested w task parsed text.written j bytes new c sh.requested
+    mid_is : c.mid ≡ went
+    mid_is = words_once w task (destination_word parsed ∷ reply_words parsed ++ body_words text.written) (j.destination ∷ option_list j.reply ++ j.rights) c.mid went c.changes
+        (all_changes w s sh task bytes parsed text j)
+
+    mid_agrees : Agrees c.mid copied_state
+    mid_agrees = subst (λ (y : WorldView). Agrees y copied_state) (sym mid_is) (third w s sh task bytes parsed text j).along.agrees
+
+    once_there : same_kind (kind_sent j.destination.given) send_once ≡ true → 0 < (counts_of c.held.ledger j.port).send_once
+    once_there once = subst (λ (l : LedgerView). 0 < (counts_of l j.port).send_once) (sym (held_ledger j.port j.rights c.mid c.held c.holds))
+        (subst (λ (y : WorldView). 0 < (counts_of y.ledger j.port).send_once) (sym mid_is) (is_unused once))
+
+    pub sent_agrees : Agrees new sent_state
+    sent_agrees =
+        let within : copied_state.taken j.port ≤ length (copied_state.log j.port) =
+        subst (λ (y : State). y.taken j.port ≤ length (y.log j.port)) (sym shaped) (sh.lawful.within j.port) in
+        subst (λ (y : WorldView). Agrees y sent_state) (sym c.rest)
+        (appended_agrees c.held copied_state (held_agrees j.port j.rights c.mid c.held c.holds copied_state mid_agrees) j.port c.v c.there (message_for bytes j) now m keeps within (w.ports.spare - 1) once_there)
+
+    pub sent_requested : RequestsStand new
+    sent_requested = commits_requested w task parsed text.written j bytes new c sh.requested
+
+    -- a receive right that it carries lies in it, so no task has it ...
+    most_one : (p : ℕ) → count (is_of receive p) copied_state.ledger ≤ 1
+    most_one p = go (copied_state.live_port p) refl
+      where
+        moving_state : IsMoving copied_state j.port (length (s.log j.port))
+        moving_state = (third w s sh task bytes parsed text j).along.moving
+
+        go : (b : Bool) → copied_state.live_port p ≡ b → count (is_of receive p) copied_state.ledger ≤ 1
+        go true is = let one = moving_state.one_receive p is in omega (arith, one)
+        go false is = let none = moving_state.no_rights p is receive in omega (arith, none)
+
+    gone : (p : ℕ) → Contains j.rights (receive_right p) → (u : ℕ) → ReceivesAt c.mid u p → ⊥
+    gone p among u = unheld c.mid copied_state mid_agrees u p (unheld_lying copied_state u p j.port (length (s.log j.port)) (most_one p) ((at_place p).1 among))
+
+    pub sent_holders : HoldersAgree new
+    sent_holders = commits_holders w task parsed text.written j bytes new c gone sh.holders
+
+    -- ... and no other queue
+    pub sent_carriers : w.ledger.total + made_in j ≤ most_rights → CarriersAgree new
+    sent_carriers few = commits_carriers w task parsed text.written j bytes new c (stands_tied w task j.space record { state = s; shown = sh } j.there) few sh.holders sh.carriers
+        (λ p lives. let less = (third w s sh task bytes parsed text j).along.moving.made_port p (sym (mid_agrees.live_port p) ∙ lives) in let same = mid_agrees.ports_made in omega (arith, less, same))

@@ -29,6 +29,7 @@ use Rattle.copyin.specs.Planned.{CopiesAll}
 use Rattle.copyin.specs.Plans.{destination_word, reply_words, Judged, ChangesWord, ChangesWords, Commits, option_list}
 use Rattle.copyin.specs.Slots.{once_made_by_mark, once_made_by, once_made_by_reply, once_made_by_all, own_slot, slots_for}
 use Rattle.copyin.proofs.Committing.{judged_all, same_options}
+use Rattle.copyin.proofs.Holding.{held_ledger}
 use Rattle.copyin.proofs.Keeping.{spare_copied}
 
 -- As many slots are spare as before, and so many send-once rights more are unused.
@@ -142,7 +143,9 @@ module _ (old : WorldView) (task : ℕ) (parsed : Parsed) (written : WireBody) (
       (same_options j.reply) (judged_all old task parsed written j tied)) c.changes in
       let all = made.unused in
       let less : new.ledger.unused ≡ c.mid.ledger.unused - (if same_kind (kind_sent j.destination.given) send_once then 1 else 0) =
-      ap (λ (w : WorldView). w.ledger.unused) c.rest ∙ queued_less (same_kind (kind_sent j.destination.given) send_once) j.port c.mid.ledger in
+      ap (λ (w : WorldView). w.ledger.unused) c.rest
+      ∙ ap (λ (l : LedgerView). (ledger_queued (same_kind (kind_sent j.destination.given) send_once) j.port l).unused) (held_ledger j.port j.rights c.mid c.held c.holds)
+      ∙ queued_less (same_kind (kind_sent j.destination.given) send_once) j.port c.mid.ledger in
       let parts = once_append (option_list j.reply) j.rights in
       let reply = once_option j.reply in
       let balance = own_balance j.destination.given j.destination.mark j.port j.to_port in

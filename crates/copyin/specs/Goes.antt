@@ -1,12 +1,13 @@
 -- How the words of a message are judged in a task's names. No public clause cites this module.
-use Rattle.std.specs.Prelude.{◌≡◌, ℕ, ◌+◌, ◌⊎◌, false, List, [], ◌∷◌, Option, None, IsSome, IfSome, All}
+use Rattle.std.specs.Prelude.{◌≡◌, ℕ, ◌+◌, ◌<◌, ◌≤◌, ◌⊎◌, false, List, [], ◌∷◌, length, Option, None, IsSome, IfSome, All}
 use Rattle.std.specs.Option.{option_to_list}
-use Rattle.mach_types.specs.Numbers.{disposition, kind_sent}
+use Rattle.mach_types.specs.Numbers.{disposition, kind_sent, most_rights}
 use Rattle.mach_types.specs.declared.codes.MsgReturn.{MsgReturn}
-use Rattle.mach_types.specs.declared.codes.MsgReturn.TheVariants.{SendInvalidDest, SendInvalidReply, SendInvalidRight}
+use Rattle.mach_types.specs.declared.codes.MsgReturn.TheVariants.{SendInvalidDest, SendTimedOut, SendInvalidReply, SendInvalidRight, SendNoBuffer}
 use Rattle.mach_types.specs.Tokens.{send_once, same_kind}
 use Rattle.message_codec.specs.declared.text.Parsed.{Parsed}
 use Rattle.message_codec.specs.declared.words.PortWord.{PortWord}
+use Rattle.message_codec.specs.Words.{inline_words}
 use Rattle.name_space.specs.Names.{Names}
 use Rattle.copyin.specs.declared.judge.Destination.{Destination}
 use Rattle.copyin.specs.declared.judge.Rights.{Rights}
@@ -14,8 +15,10 @@ use Rattle.copyin.specs.declared.judge.Words.{Words}
 use Rattle.copyin_base.specs.declared.message.Carried.{Carried}
 use Rattle.copyin_base.specs.declared.message.Mark.TheVariants as mark
 use Rattle.copyin_base.specs.Kept.{Kept}
-use Rattle.copyin_base.specs.Worlds.{put}
+use Rattle.copyin_base.specs.Worlds.{WorldView, put}
 use Rattle.copyin.specs.Judging.{CopiesName, CopiesReply, CopiesBody, IsBad, BodyIsBad, made_by, made_by_reply, made_by_all}
+use Rattle.copyin.specs.Loops.{MakesLoop}
+use Rattle.copyin.specs.Plans.{HasSlot, HasNoSlot}
 
 -- Each word has a disposition.
 pub record AreGiven (words : Words) : Type 0 where
@@ -76,6 +79,18 @@ CannotGo names words code =
 
 abbrev pub made_by_rights : Rights → List Carried → ℕ
 made_by_rights rights carried = made_by rights.destination + made_by_reply rights.reply + made_by_all carried
+
+-- All rights go, and the message with them: it closes no loop, there is a slot for it, and there may be as many rights as it makes.
+abbrev pub MayGo : WorldView → Rights → List Carried → Type 0
+MayGo w rights carried =
+    ¬ (MakesLoop w.ports rights.port carried) × HasSlot w rights.port rights.destination × (w.ledger.total + made_by_rights rights carried ≤ most_rights)
+
+abbrev pub MayNotGo : WorldView → Rights → List Carried → MsgReturn → Type 0
+MayNotGo w rights carried code =
+    MakesLoop w.ports rights.port carried × (code ≡ SendInvalidRight)
+    ⊎ (inline_words < length carried) × (code ≡ SendNoBuffer)
+    ⊎ ¬ (MakesLoop w.ports rights.port carried) × HasNoSlot w rights.port rights.destination × (code ≡ SendTimedOut)
+    ⊎ ¬ (MakesLoop w.ports rights.port carried) × HasSlot w rights.port rights.destination × (most_rights < w.ledger.total + made_by_rights rights carried) × (code ≡ SendNoBuffer)
 
 -- the message that is queued of this text, with these rights
 abbrev pub message_with : Parsed → (bytes : List ℕ) → Rights → List Carried → Kept

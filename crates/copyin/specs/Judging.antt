@@ -1,10 +1,10 @@
 -- The rights of a text judged word by word, each in the names that the one before left.
-use Rattle.std.specs.Prelude.{◌≡◌, ◌≢◌, ℕ, ◌+◌, ◌⊎◌, List, [], ◌∷◌, Option, Some, None, ◌==◌, MatchBool}
+use Rattle.std.specs.Prelude.{◌≡◌, ◌≢◌, ℕ, ◌+◌, List, [], ◌∷◌, Option, Some, None, ◌==◌, MatchBool}
 use Rattle.std.specs.FinMap as map
 use Rattle.mach_types.specs.declared.rights.Disposition.{Disposition}
-use Rattle.mach_types.specs.declared.rights.Disposition.TheVariants.{MoveReceive, CopySend, MakeSend, MakeSendOnce}
+use Rattle.mach_types.specs.declared.rights.Disposition.TheVariants.{CopySend, MakeSend, MakeSendOnce}
 use Rattle.mach_types.specs.Bodies.{Through, OneFails}
-use Rattle.mach_types.specs.Numbers.{disposition, disposition_number, null_word, dead_word}
+use Rattle.mach_types.specs.Numbers.{disposition, null_word, dead_word}
 use Rattle.message_codec.specs.declared.words.PortWord.{PortWord}
 use Rattle.name_space.specs.declared.Entry.{Entry}
 use Rattle.name_space.specs.Names.{Names}
@@ -35,15 +35,8 @@ CopiesWord names w c after =
     (MatchBool (w.name == dead_word) (PassesAs w mark.Dead names c after)
     (CopiesName names w c after))
 
--- a word of the body that isn't taken yet
-abbrev pub IsLeft : PortWord → Type 0
-IsLeft w = (w.disposition ≡ disposition_number MoveReceive) × (w.name ≢ null_word) × (w.name ≢ dead_word)
-
-abbrev pub CopiesCarried : Names → PortWord → Carried → Names → Type 0
-CopiesCarried names w c after = CopiesWord names w c after × ¬ (IsLeft w)
-
 abbrev pub CopiesBody : Names → List PortWord → List Carried → Names → Type 0
-CopiesBody = Through CopiesCarried
+CopiesBody = Through CopiesWord
 
 abbrev pub CopiesReply : Names → List PortWord → Option Carried → Names → Type 0
 CopiesReply names [] None after = after ≡ names
@@ -56,7 +49,7 @@ IsBad names w = (w.name ≢ null_word) × (w.name ≢ dead_word) × ((c : Carrie
 
 -- A word of the body is bad, once those before it were copied in.
 abbrev pub BodyIsBad : Names → List PortWord → Type 0
-BodyIsBad = OneFails (λ names w. IsBad names w ⊎ IsLeft w) (λ names w after. (c : Carried) × CopiesWord names w c after)
+BodyIsBad = OneFails IsBad (λ names w after. (c : Carried) × CopiesWord names w c after)
 
 -- how many rights are made by a right that is copied in
 abbrev pub made_by_mark : Disposition → Mark → ℕ

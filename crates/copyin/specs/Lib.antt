@@ -1,6 +1,7 @@
 pub mod Copies
 pub mod Judging
 pub mod Slots
+pub mod Loops
 pub mod Plans
 pub mod Overlays
 pub mod Goes

@@ -1,5 +1,5 @@
 -- What a plan holds.
-use Rattle.std.specs.Prelude.{◌≡◌, ℕ, ◌+◌, ◌≤◌, List, Some}
+use Rattle.std.specs.Prelude.{◌≡◌, ℕ, ◌+◌, ◌≤◌, List, Some, All}
 use Rattle.std.specs.Option.{option_to_list}
 use Rattle.std.specs.FinMap as map
 use Rattle.mach_types.specs.Bodies.{Through}
@@ -11,6 +11,7 @@ use Rattle.message_codec.specs.Words.{body_words}
 use Rattle.name_space.specs.declared.Entry.{Entry}
 use Rattle.rights.specs.Ledger.{IsEntered}
 use Rattle.name_space.specs.Names.{Names, SpaceView}
+use Rattle.port.specs.Ports.{IsLive}
 use Rattle.copyin.specs.declared.judge.Plan.{Plan}
 use Rattle.copyin.specs.declared.judge.Words.{Words}
 use Rattle.copyin_base.specs.declared.message.Carried.{Carried}
@@ -19,6 +20,7 @@ use Rattle.copyin.specs.declared.copies.Copied.{Copied}
 use Rattle.copyin.specs.Copies.{copied_from}
 use Rattle.copyin.specs.Judging.{CopiesWord, made_by, made_by_all}
 use Rattle.copyin.specs.Plans.{destination_word, reply_words, Plans, message_for}
+use Rattle.copyin_base.specs.Kept.{receive_of}
 use Rattle.copyin_base.specs.Stands.{AreTied}
 use Rattle.copyin_base.specs.Worlds.{WorldView, space_at}
 
@@ -51,6 +53,10 @@ pub record CanGo (w : WorldView) (task : ℕ) (ws : List PortWord) (cs : List Ca
   pub copies : CopiesAll space.names ws cs last
   pub few : w.ledger.total + made_by_all cs ≤ most_rights
   pub tied : AreTied space.names w.ports w.ledger
+
+-- Each port is there whose receive right is among these.
+abbrev pub CanHoldAll : WorldView → List Carried → Type 0
+CanHoldAll w cs = All (λ c. (port : ℕ) → receive_of c ≡ Some port → IsLive w.ports port) cs
 
 -- The right can be copied in from what stands under the name.
 pub record CanCopy (w : WorldView) (task name : ℕ) (c : Carried) : Type 0 where

@@ -15,6 +15,7 @@ use Rattle.copyin_base.specs.declared.message.Mark.TheVariants as mark
 use Rattle.copyin_base.specs.Kept.{Kept}
 use Rattle.copyin_base.specs.Worlds.{WorldView, port_at, space_at}
 use Rattle.copyin.specs.Copies.{CopiesRight, ledger_queued}
+use Rattle.copyin.specs.Loops.{MakesLoop, HoldsRights}
 use Rattle.copyin.specs.Judging.{CopiesName, CopiesReply, CopiesBody, IsBad, BodyIsBad, made_by, made_by_reply, made_by_all}
 
 abbrev pub destination_word : Parsed → PortWord
@@ -62,9 +63,10 @@ message_for {w} {task} {parsed} bytes j = record {
   told = false;
 }
 
--- The message may be sent so.
+-- The message may be sent so: it closes no loop, there is a slot for it, and there may be as many rights as it makes.
 pub record Plans (w : WorldView) (task : ℕ) (parsed : Parsed) (written : WireBody) : Type 0 where
   pub judged : Judged w task parsed written
+  pub no_loop : ¬ (MakesLoop w.ports judged.port judged.rights)
   pub slot : HasSlot w judged.port judged.destination
   pub few : w.ledger.total + made_in judged ≤ most_rights
 
@@ -104,12 +106,13 @@ pub record BadBody (w : WorldView) (task : ℕ) (parsed : Parsed) (written : Wir
   pub copies : CopiesReply first (reply_words parsed) reply second
   pub bad : BodyIsBad second (body_words written)
 
--- All rights can go, but the queue is full, or there would be too many rights.
-abbrev pub IsTooMuch : WorldView → (task : ℕ) → Parsed → WireBody → (code : ℕ) → Type 0
-IsTooMuch w task parsed written code =
+-- All rights can go, but the message would close a loop; or not, but the queue is full; or not, but there would be too many rights.
+abbrev pub IsRefusedWhole : WorldView → (task : ℕ) → Parsed → WireBody → (code : ℕ) → Type 0
+IsRefusedWhole w task parsed written code =
     (j : Judged w task parsed written)
-    × (HasNoSlot w j.port j.destination × (code ≡ msg_number SendTimedOut)
-    ⊎ HasSlot w j.port j.destination × (most_rights < w.ledger.total + made_in j) × (code ≡ msg_number SendNoBuffer))
+    × (MakesLoop w.ports j.port j.rights × (code ≡ msg_number SendInvalidRight)
+    ⊎ ¬ (MakesLoop w.ports j.port j.rights) × HasNoSlot w j.port j.destination × (code ≡ msg_number SendTimedOut)
+    ⊎ ¬ (MakesLoop w.ports j.port j.rights) × HasSlot w j.port j.destination × (most_rights < w.ledger.total + made_in j) × (code ≡ msg_number SendNoBuffer))
 
 -- It is refused with this code.
 abbrev pub CannotPlan : WorldView → (task : ℕ) → Parsed → WireBody → (code : ℕ) → Type 0
@@ -117,7 +120,7 @@ CannotPlan w task parsed written code =
     BadDestination w task parsed × (code ≡ msg_number SendInvalidDest)
     ⊎ BadReply w task parsed × (code ≡ msg_number SendInvalidReply)
     ⊎ BadBody w task parsed written × (code ≡ msg_number SendInvalidRight)
-    ⊎ IsTooMuch w task parsed written code
+    ⊎ IsRefusedWhole w task parsed written code
     ⊎ MayWantMemory w task parsed written × (code ≡ msg_number SendNoBuffer)
 
 -- ---- what is done
@@ -136,13 +139,15 @@ abbrev pub option_list : Option Carried → List Carried
 option_list None = []
 option_list (Some c) = c ∷ []
 
--- The rights go, and the message stands at the end of its port's queue, in a slot that was spare.
+-- The rights go; the port's queue holds those that are receive rights; and the message stands at its end, in a slot that was spare.
 pub record Commits (old : WorldView) (task : ℕ) (parsed : Parsed) (written : WireBody) (j : Judged old task parsed written) (bytes : List ℕ) (new : WorldView) : Type 0 where
   pub mid : WorldView
   pub changes : ChangesWords old task (destination_word parsed ∷ reply_words parsed ++ body_words written) (j.destination ∷ option_list j.reply ++ j.rights) mid
+  pub held : WorldView
+  pub holds : HoldsRights mid j.port j.rights held
   pub v : PortView Kept
-  pub there : port_at mid j.port ≡ Some v
-  pub rest : new ≡ record mid {
-    ports = record (with_port mid.ports j.port (record v { queue = v.queue ++ message_for bytes j ∷ [] })) { spare = old.ports.spare - 1 };
-    ledger = ledger_queued (same_kind (kind_sent j.destination.given) send_once) j.port mid.ledger;
+  pub there : port_at held j.port ≡ Some v
+  pub rest : new ≡ record held {
+    ports = record (with_port held.ports j.port (record v { queue = v.queue ++ message_for bytes j ∷ [] })) { spare = old.ports.spare - 1 };
+    ledger = ledger_queued (same_kind (kind_sent j.destination.given) send_once) j.port held.ledger;
   }

@@ -9,12 +9,13 @@ ghost use Rattle.port.specs.Ports.{PortView, IsLive, with_port};
 ghost use Rattle.rights.specs.Ledger.{IsEntered, counts_of};
 ghost use Rattle.copyin_base.specs.declared.message.Mark.TheVariants as mark_of;
 ghost use Rattle.copyin.specs.Judging.{made_by, made_by_mark};
-ghost use Rattle.copyin.specs.Planned.{IsPlan, CanGo, CanCopy};
+ghost use Rattle.copyin.specs.Loops.{HoldsRight, HoldsRights};
+ghost use Rattle.copyin.specs.Planned.{IsPlan, CanGo, CanCopy, CanHoldAll};
 ghost use Rattle.copyin.specs.Plans.{ChangesWord, ChangesWords, Commits};
 ghost use Rattle.copyin_base.specs.Changes.{IsForLive, PutsLeft};
-ghost use Rattle.copyin_base.specs.Kept.{Kept};
+ghost use Rattle.copyin_base.specs.Kept.{Kept, receive_of};
 ghost use Rattle.copyin_base.specs.Stands.{IsTied};
-ghost use Rattle.copyin_base.specs.Worlds.{entry_at, port_at};
+ghost use Rattle.copyin_base.specs.Worlds.{NoneLost, entry_at, port_at};
 ghost use Rattle.copyin.specs.Copies.{ports_copied, ledger_copied, ledger_queued, CopiesRight};
 
 use crate::copies::copy_right;
@@ -23,11 +24,11 @@ use copyin_base::{Carried, Mark, Message, Queued, World};
 use mach_types::{Disposition, Name, PortId, TaskId};
 use message_codec::PortWord;
 use name_space::Entry;
-use port::{Attributes, Ports};
+use port::{Attributes, Holder, Ports};
 use rights::{Ledger, RightKind};
 
 // The receive right goes from its port, whose counts start again and which is in no set. Its holder is
-// set where it is given.
+// set where it is given, or where a message that carries it is queued.
 fn leave_port(ports: &mut Ports<Queued>, port: PortId)
     ensures { ports.new ≡ ports_copied disposition_of.MoveReceive (mark_of.Port port) ports.old }
 {
@@ -195,13 +196,36 @@ fn copy_reply(world: &mut World, task: TaskId, word: Option<PortWord>, reply: Op
     }
 }
 
+// The queue holds the receive right now, if it is one.
+fn hold_right(world: &mut World, queue: PortId, carried: &Carried)
+    requires live { (port : ℕ) → receive_of carried.now ≡ Some port → IsLive world.old.ports port }
+    requires none_lost { NoneLost world.old }
+    ensures { HoldsRight world.old queue carried.now world.new }
+{
+    if let Some(port) = carried.receive_port() {
+        world.set_holder(port, Holder::QueueOf(queue));
+    }
+}
+
+// The queue holds each receive right among these now.
+fn hold_rights(world: &mut World, queue: PortId, rights: &[Carried])
+    requires live { CanHoldAll world.old rights.now }
+    requires none_lost { NoneLost world.old }
+    ensures { HoldsRights world.old queue rights.now world.new }
+{
+    for carried in rights {
+        hold_right(world, queue, carried);
+    }
+}
+
 /// Sends a message by its plan: its rights go from the sender, and it joins the end of its port's
-/// queue, in a spare slot. Takes no memory. Constant time for each right, and logarithmic for a
-/// name above 65,535.
+/// queue, in a spare slot; the queue holds the receive rights that it carries. Takes no memory. Constant
+/// time for each right, and logarithmic for a name above 65,535.
 pub fn commit(world: &mut World, plan: Plan)
     requires planned { (task : ℕ) × (parsed : AnyParsed) × (written : WireBody) × (bytes : List ℕ) × IsPlan world.old task parsed written bytes plan }
     requires spare { 0 < world.old.ports.spare }
     requires tied { IsTied world.old plan.task }
+    requires none_lost { NoneLost world.old }
     ensures { (task : ℕ) (parsed : AnyParsed) (written : WireBody) (bytes : List ℕ) (p : IsPlan world.old task parsed written bytes plan)
         → Commits world.old task parsed written p.plans.judged bytes world.new }
 {
@@ -215,5 +239,6 @@ pub fn commit(world: &mut World, plan: Plan)
     copy_word(world, task, words.destination, destination);
     copy_reply(world, task, words.reply, message.reply());
     copy_words(world, task, words.body.as_slice(), message.rights());
+    hold_rights(world, port, message.rights());
     queue_message(world, port, message);
 }

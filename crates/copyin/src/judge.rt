@@ -15,15 +15,17 @@ ghost use Rattle.message_codec.specs.Words.{body_words, inline_words};
 ghost use Rattle.name_space.specs.Names.{Names};
 ghost use Rattle.copyin_base.specs.declared.message.Carried.{Carried as AnyCarried};
 ghost use Rattle.copyin_base.specs.declared.message.Mark.TheVariants as mark_of;
-ghost use Rattle.copyin.specs.Judging.{CopiesName, CopiesWord, CopiesReply, CopiesBody, IsBad, IsLeft, BodyIsBad, made_by, made_by_all};
+ghost use Rattle.copyin.specs.Judging.{CopiesName, CopiesWord, CopiesReply, CopiesBody, IsBad, BodyIsBad, made_by, made_by_all};
 ghost use Rattle.copyin.specs.Overlays.{IsFull, Overlays};
-ghost use Rattle.copyin.specs.Goes.{AreGiven, RepliesBadly, LeadsNowhere, StartsAt, OthersGo, OthersCannot, GoAll, CannotGo, IsLone, made_by_rights, message_with};
+ghost use Rattle.copyin.specs.Loops.{MakesLoop};
+ghost use Rattle.copyin.specs.Goes.{AreGiven, RepliesBadly, LeadsNowhere, StartsAt, OthersGo, OthersCannot, GoAll, CannotGo, MayGo, MayNotGo, IsLone, made_by_rights, message_with};
 ghost use Rattle.copyin.specs.Planned.{AreWords, IsPlan};
 ghost use Rattle.copyin.specs.Plans.{CannotPlan, HasSlot, HasNoSlot, reply_words};
 ghost use Rattle.copyin_base.specs.Stands.{IsTied};
 ghost use Rattle.copyin_base.specs.Worlds.{put, HasTask};
 
 use crate::copies::copy_right;
+use crate::loops::makes_loop;
 use crate::touched::Touched;
 use copyin_base::{Carried, CarriedRights, Mark, Message, TaskNames, World};
 use mach_types::limits::MOST_RIGHTS;
@@ -142,32 +144,6 @@ fn judge_word(
     }
 }
 
-// Whether the word would take a receive right.
-fn takes_receive(word: &PortWord) -> bool
-    ensures { MatchBool result (IsLeft word.now) (¬ (IsLeft word.now)) }
-{
-    word.disposition == Disposition::MoveReceive.number() && word.name.is_usable()
-}
-
-// Judges a word of the body: no receive right goes in a message yet.
-fn judge_body_word(
-    space: &TaskNames<'_>,
-    touched: &mut Touched,
-    word: &PortWord,
-) -> Result<Carried, MsgReturn>
-    requires { IsSome (disposition word.now.disposition) }
-    ensures ok { IfOk result (λ c. ¬ (IsLeft word.now) × ((now : Names) → Overlays touched.old space.now.names now
-        → (after : Names) × CopiesWord now word.now c after × Overlays touched.new space.now.names after)) }
-    ensures err { IfErr result (λ code. (code ≡ SendNoBuffer) × IsFull touched.old
-        ⊎ (code ≡ SendInvalidRight) × ((now : Names) → Overlays touched.old space.now.names now → IsBad now word.now ⊎ IsLeft word.now)) }
-    ensures few { array_vec_len touched.new.few ≤ array_vec_len touched.old.few + 1 }
-{
-    if takes_receive(word) {
-        return Err(MsgReturn::SendInvalidRight);
-    }
-    judge_word(space, touched, *word, MsgReturn::SendInvalidRight)
-}
-
 // Adds a right to those that go.
 fn keep(
     rights: &mut SmallVec<Carried, INLINE_WORDS>,
@@ -192,14 +168,14 @@ fn judge_next(
 ) -> Result<(), MsgReturn>
     requires inline { inline_words ≤ rights.old.capacity }
     requires given { IsSome (disposition word.now.disposition) }
-    ensures ok { OnOk result ((c : AnyCarried) × (rights.new.items ≡ rights.old.items ++ c ∷ []) × ¬ (IsLeft word.now)
+    ensures ok { OnOk result ((c : AnyCarried) × (rights.new.items ≡ rights.old.items ++ c ∷ [])
         × ((now : Names) → Overlays touched.old space.now.names now → (after : Names) × CopiesWord now word.now c after × Overlays touched.new space.now.names after)) }
     ensures err { IfErr result (λ code. (code ≡ SendNoBuffer) × (IsFull touched.old ⊎ (inline_words ≤ small_vec_len rights.old))
-        ⊎ (code ≡ SendInvalidRight) × ((now : Names) → Overlays touched.old space.now.names now → IsBad now word.now ⊎ IsLeft word.now)) }
+        ⊎ (code ≡ SendInvalidRight) × ((now : Names) → Overlays touched.old space.now.names now → IsBad now word.now)) }
     ensures few { array_vec_len touched.new.few ≤ array_vec_len touched.old.few + 1 }
     ensures capacity { inline_words ≤ rights.new.capacity }
 {
-    let Carried { given, mark } = judge_body_word(space, touched, word)?;
+    let Carried { given, mark } = judge_word(space, touched, *word, MsgReturn::SendInvalidRight)?;
     match keep(rights, given, mark) {
         Ok(()) => Ok(()),
         Err(_) => Err(MsgReturn::SendNoBuffer),
@@ -427,14 +403,26 @@ fn has_room(world: &World, rights: &Rights, body: &[Carried]) -> bool
     world.ledger.total() as u64 + made <= MOST_RIGHTS as u64
 }
 
-// Judges the queue, and the limit of rights.
-fn admit(world: &World, rights: &Rights, body: &[Carried]) -> Result<(), MsgReturn>
+// Judges whether the message closes a loop.
+fn judge_loop(world: &World, alloc: Global, port: PortId, body: &[Carried]) -> Result<(), MsgReturn>
+    ensures ok { OnOk result (¬ (MakesLoop world.now.ports port body.now)) }
+    ensures err { IfErr result (λ code. MakesLoop world.now.ports port body.now × (code ≡ SendInvalidRight) ⊎ (inline_words < length body.now) × (code ≡ SendNoBuffer)) }
+{
+    match makes_loop(&world.ports, alloc, port, body) {
+        Ok(false) => Ok(()),
+        Ok(true) => Err(MsgReturn::SendInvalidRight),
+        Err(_) => Err(MsgReturn::SendNoBuffer),
+    }
+}
+
+// Judges whether the message closes a loop, then the queue, and then the limit of rights.
+fn admit(world: &World, alloc: Global, rights: &Rights, body: &[Carried]) -> Result<(), MsgReturn>
     requires live { IsLive world.now.ports rights.now.port }
     requires sends { kind_sent rights.now.destination.given ≢ receive }
-    ensures ok { IfOk result (λ _. HasSlot world.now rights.now.port rights.now.destination × (world.now.ledger.total + made_by_rights rights.now body.now ≤ most_rights)) }
-    ensures err { IfErr result (λ code. HasNoSlot world.now rights.now.port rights.now.destination × (code ≡ SendTimedOut)
-        ⊎ HasSlot world.now rights.now.port rights.now.destination × (most_rights < world.now.ledger.total + made_by_rights rights.now body.now) × (code ≡ SendNoBuffer)) }
+    ensures ok { IfOk result (λ _. MayGo world.now rights.now body.now) }
+    ensures err { IfErr result (λ code. MayNotGo world.now rights.now body.now code) }
 {
+    judge_loop(world, alloc, rights.port, body)?;
     if !has_slot(world, rights.port, rights.destination) {
         return Err(MsgReturn::SendTimedOut);
     }
@@ -534,14 +522,16 @@ fn lone_message(
 /// # Errors
 /// - [`MsgReturn::SendInvalidDest`]: the destination is no right for a port by its disposition.
 /// - [`MsgReturn::SendInvalidReply`]: the right to answer with can't go by its disposition.
-/// - [`MsgReturn::SendInvalidRight`]: a right of the body can't go by its disposition, or is a receive
-///   right, which no message takes yet.
+/// - [`MsgReturn::SendInvalidRight`]: a right of the body can't go by its disposition; or all can, and the
+///   message would close a loop: it carries the receive right of its destination, or of a port in whose
+///   queue, by however many messages, the destination's own receive right lies.
 /// - [`MsgReturn::SendTimedOut`]: the queue is at its limit, and the message goes by a send right.
 /// - [`MsgReturn::SendNoBuffer`]: there would be more than 4,294,967,295 rights; or memory was refused,
 ///   where the message could be sent or its body has more than [`INLINE_WORDS`] port words.
 ///
-/// Linear in the bytes, and for each word logarithmic in the names that the words so far have taken
-/// rights from, and for a name above 65,535.
+/// Linear in the bytes and, where receive rights go, in the way that [`circularity::closes_loop`] follows;
+/// for each word logarithmic in the names that the words so far have taken rights from, and for a name
+/// above 65,535.
 ///
 /// [`commit`]: crate::commit
 pub fn check(
@@ -560,7 +550,7 @@ pub fn check(
     let words = read_words(alloc, parsed, bytes)?;
     if is_lone(&words, parsed) {
         let rights = judge_lone(&world.space(task), &words)?;
-        admit(world, &rights, &[])?;
+        admit(world, alloc, &rights, &[])?;
         let message = lone_message(alloc, parsed, bytes, &rights)?;
         return Ok(Plan {
             task,
@@ -572,7 +562,7 @@ pub fn check(
     }
     let mut body = SmallVec::new(alloc);
     let rights = judge_all(alloc, &world.space(task), &words, &mut body)?;
-    admit(world, &rights, body.as_slice())?;
+    admit(world, alloc, &rights, body.as_slice())?;
     let message = message_of(alloc, parsed, bytes, &rights, body.as_slice())?;
     Ok(Plan {
         task,

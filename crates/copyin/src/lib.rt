@@ -6,6 +6,7 @@
 mod carry_out;
 mod copies;
 mod judge;
+mod loops;
 mod slots;
 mod touched;
 

@@ -17,7 +17,7 @@ use Rattle.copyin_base.specs.Acts.{Acts, Declines}
 use Rattle.copyin_base.specs.Changes.{with_slots, NotesSenders}
 use Rattle.copyin_base.specs.Shows.{SlotsSuffice, Shows}
 use Rattle.copyin_base.specs.Stands.{Stands, AreTied, IsTied}
-use Rattle.copyin_base.specs.Worlds.{WorldView, HasTask}
+use Rattle.copyin_base.specs.Worlds.{WorldView, HasTask, NoneLost}
 use Rattle.copyin_base.proofs.Acting.{refused, refused_later, done}
 use Rattle.copyin_base.proofs.Roomier.{slots_show}
 use Rattle.copyin_base.proofs.Tied.{stands_tied, stands_is_tied}
@@ -26,15 +26,14 @@ use Rattle.copyin.specs.Planned.{IsPlan}
 use Rattle.copyin.specs.Plans.{Judged, CannotPlan, Commits}
 use Rattle.copyin.proofs.Texts.{good_header, none_first}
 use Rattle.copyin.proofs.RefusedWords.{cannot}
-use Rattle.copyin.proofs.Sent.{sent_state, sends, sent_agrees}
-use Rattle.copyin.proofs.CarriersKept.{commits_carriers}
+use Rattle.copyin.proofs.Sent.{sent_state, sends, sent_agrees, sent_holders, sent_carriers}
+use Rattle.copyin.proofs.LoopFound.{loop_on}
 use Rattle.copyin.proofs.Committing.{commits_rooms}
 use Rattle.copyin.proofs.RequestedKept.{commits_requested}
 use Rattle.copyin.proofs.SendersKept.{commits_senders, commits_none_lost}
 use Rattle.copyin.proofs.SlotsKept.{slot_there, commits_unused, commits_spare}
 use Rattle.copyin.specs.Slots.{slots_for}
 use Rattle.rights.specs.Unused.{IsUnusedOfAll}
-use Rattle.copyin.proofs.HoldersKept.{commits_holders}
 use Rattle.kernel_core.specs.Send.{slotted, SendsText, UsesSlot}
 
 -- ---- spare slots are of no account to a plan, nor to what is noted
@@ -62,7 +61,12 @@ module _ (w : WorldView) (n : ℕ) (task : ℕ) (parsed : Parsed) (written : Wir
 
   abbrev plan_at : (bytes : List ℕ) (plan : Plan) → IsPlan w task parsed written bytes plan → IsPlan (with_slots w n) task parsed written bytes plan
   plan_at bytes plan p = record {
-    plans = record { judged = judged_at p.plans.judged; slot = p.plans.slot; few = p.plans.few };
+    plans = record {
+      judged = judged_at p.plans.judged;
+      no_loop = λ l. p.plans.no_loop (loop_on (with_slots w n).ports w.ports refl p.plans.judged.port p.plans.judged.rights l);
+      slot = p.plans.slot;
+      few = p.plans.few;
+    };
     task_is = p.task_is;
     words = p.words;
     destination = p.destination;
@@ -79,6 +83,9 @@ still_tied w w2 n task e t = subst (λ (x : WorldView). IsTied x task) (sym e) r
   tied = λ space there. let a = t.tied space there in record { live = a.live; entered = a.entered; not_null = a.not_null; not_dead = a.not_dead };
   unused = t.unused;
 }
+
+pub still_none_lost : (w w2 : WorldView) (n : ℕ) → w2 ≡ with_slots w n → NoneLost w → NoneLost w2
+still_none_lost w w2 n e none = subst NoneLost (sym e) record { lost = none.lost; doomed = none.doomed; destroyed = none.destroyed }
 
 -- what the plan wants
 wants_slots : (w : WorldView) (task : ℕ) (parsed : Parsed) (written : WireBody) (bytes : List ℕ) (plan : Plan) (p : IsPlan w task parsed written bytes plan) →
@@ -147,12 +154,12 @@ module _ (w : WorldView) (task : ℕ) (below : HasTask w task) (bytes : List ℕ
       record {
         mid = sent_state start s sh2 now task bytes d.parsed d.text j;
         owed = [];
-        does = (refl, sends start s sh2 now task bytes d.parsed d.text j d.plans.slot d.plans.few, refl);
+        does = (refl, sends start s sh2 now task bytes d.parsed d.text j d.plans.no_loop d.plans.slot d.plans.few, refl);
         loses_none = tt;
         none_owed = refl;
         agrees = sent_agrees start s sh2 now task bytes d.parsed d.text j new d.commits;
-        holders = commits_holders start task d.parsed d.text.written j bytes new d.commits sh2.holders;
-        carriers = commits_carriers start task d.parsed d.text.written j bytes new d.commits sh2.carriers;
+        holders = sent_holders start s sh2 now task bytes d.parsed d.text j new d.commits;
+        carriers = sent_carriers start s sh2 now task bytes d.parsed d.text j new d.commits d.plans.few;
         slots = sent_slots s sh new d;
         requested = commits_requested start task d.parsed d.text.written j bytes new d.commits sh2.requested;
         notes = notes_slots w (max w.ports.spare (w.ledger.unused + d.more)) new (commits_senders start task d.parsed d.text.written j bytes new d.commits sh2.requested sh2.idle.noted);

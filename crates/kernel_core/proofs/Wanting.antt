@@ -60,7 +60,7 @@ module _ (w : WorldView) (task : ℕ) (bytes : List ℕ) where
     taken plans s sh code r =
         let j = plans.judged in
         rights_taken task text.header text.written s (message w s sh task bytes parsed text j) (third w s sh task bytes parsed text j).t code
-        (copied w s sh task bytes parsed text j) (unrefused w s sh 0 task bytes parsed text j plans.slot plans.few) r
+        (copied w s sh task bytes parsed text j) (unrefused w s sh 0 task bytes parsed text j plans.no_loop plans.slot plans.few) r
 
     pub plans_wants : Plans w task parsed text.written → WantsToSend w task bytes
     plans_wants plans = record { unrefused = λ s sh header written spells words items code r. absurd (taken plans s sh code (of_text s header written code spells r)) }

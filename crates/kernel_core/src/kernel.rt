@@ -106,6 +106,7 @@ impl Kernel {
     /// queued message goes by, so that what comes by the right has one; slots are made only for an
     /// accepted message and for such rights that are made, where fewer are spare. An accepted message
     /// uses one, and so does a notice; it is spare again once the message was received or destroyed.
+    #[inline(always)]
     pub fn step(&mut self, event: &Event) -> Reply
         ensures answers { Answers self.old.tables event.now result self.new.tables }
         ensures turns { TakesTurns self.old.tables event.now result self.new.tables self.new.turns }

@@ -15,6 +15,8 @@ mod holders;
 #[cfg(test)]
 mod lists;
 #[cfg(test)]
+mod loops;
+#[cfg(test)]
 mod maps;
 #[cfg(test)]
 mod messages;

@@ -24,7 +24,7 @@ asked : (large : Bool) → NoneHolds (guards s3 (Event.Receive 0 1 8 large))
 asked large = ((λ h. cc), ((λ h. h (inl (0, named, omega arith))), ((λ h. h.2 (ap s3.sets_of (one_port (lookup s3 0 1) h.0 0 h.1 named))), tt)))
 
 fourth : Plays 3 s3 (Event.Receive 0 1 8 true) (Reply.TooLarge 24) s3
-fourth = plays third.1 refl (asked true) (Waited.Port 0, (named, omega arith), (0, entry 2 greeting, (refl, omega arith, refl), refl, refl, omega arith, (refl, refl)))
+fourth = plays third.1 tt refl (asked true) (Waited.Port 0, (named, omega arith), (0, entry 2 greeting, (refl, omega arith, refl), refl, refl, omega arith, (refl, refl)))
 
 abbrev d5 : State
 d5 = without_front 0 s2.ledger s3
@@ -51,7 +51,7 @@ none_left p t = elim (eqb_tells p 0) [ inl h ↦ rw h.0 refl | inr h ↦ rw h.0 
 
 sixth : Plays 5 d5 (Event.Receive 0 1 24 false) (Reply.Empty (Waited.Port 0)) d5
 sixth =
-    plays fifth.1 tt ((λ h. cc), ((λ h. h (inl (0, named_still, omega arith))), ((λ h. h.2 (ap d5.sets_of (one_port (lookup d5 0 1) h.0 0 h.1 named_still))), tt)))
+    plays fifth.1 tt tt ((λ h. cc), ((λ h. h (inl (0, named_still, omega arith))), ((λ h. h.2 (ap d5.sets_of (one_port (lookup d5 0 1) h.0 0 h.1 named_still))), tt)))
     (Waited.Port 0, (named_still, omega arith), (refl, none_left, refl, refl))
 
 pub destroying_run : (s : State) × Run destroying_events destroying_replies s

@@ -85,8 +85,8 @@ shares = record {
     ((refl, (MakeSend, refl, refl), refl), tt),
     (
       c2,
-      (makes 0 MakeSend refl zero_one (omega arith) refl refl, (λ h. omega (arith, h.0))),
-      (c3, (makes 0 MakeSend refl zero_one (omega arith) refl refl, (λ h. omega (arith, h.0))), refl),
+      makes 0 MakeSend refl zero_one (omega arith) refl refl,
+      (c3, makes 0 MakeSend refl zero_one (omega arith) refl refl, refl),
     ),
   );
 }

@@ -58,7 +58,7 @@ fourth_guards = (
 )
 
 fourth : Plays 3 g3 (Event.MoveMember 0 1 2) (Reply.Code 0) g4
-fourth = plays third.1 tt fourth_guards (refl, (0, one_named, inr (0, set_named, refl)), refl)
+fourth = plays third.1 tt tt fourth_guards (refl, (0, one_named, inr (0, set_named, refl)), refl)
 
 -- no other name is a port's
 named_one : (n p : ℕ) → lookup g4 0 n ≡ Some (Target.port p) → 1 ≡ n
@@ -86,7 +86,7 @@ members = record {
 }
 
 fifth : Plays 4 g4 (Event.SetStatus 0 2) (Reply.Members (1 ∷ [])) g4
-fifth = plays fourth.1 tt ((λ h. cc), (used set_named, ((λ h. h is_set), tt))) (members, refl, refl)
+fifth = plays fourth.1 tt tt ((λ h. cc), (used set_named, ((λ h. h is_set), tt))) (members, refl, refl)
 
 -- ---- by the port there is none
 
@@ -122,14 +122,14 @@ takes =
 
 ninth : Plays 8 g5 (Event.Receive 0 2 24 false) (Reply.Message received_text) g6
 ninth =
-    plays eighth.1 tt ((λ h. cc), ((λ h. h (inr is_set)), ((λ h. no_port h.0 h.1), tt)))
+    plays eighth.1 tt tt ((λ h. cc), ((λ h. h (inr is_set)), ((λ h. no_port h.0 h.1), tt)))
     (Waited.Set 0, set_named, (0, (refl, (0, omega arith, refl)), takes, refl))
 
 none_left : (p : ℕ) → TakesFrom g6 0 (Waited.Set 0) p → queue g6 p ≡ []
 none_left p t = elim (eqb_tells p 0) [ inl h ↦ rw h.0 refl | inr h ↦ rw h.0 refl ]
 
 tenth : Plays 9 g6 (Event.ReceiveAgain 0 (Waited.Set 0) 24 false) (Reply.Empty (Waited.Set 0)) g6
-tenth = plays ninth.1 tt ((λ h. cc), ((λ h. cc), ((λ h. h refl), tt))) (refl, none_left, refl, refl)
+tenth = plays ninth.1 tt tt ((λ h. cc), ((λ h. cc), ((λ h. h refl), tt))) (refl, none_left, refl, refl)
 
 -- ---- the set goes
 
@@ -138,7 +138,7 @@ g7 = without_set 0 (without_name 0 2 g6)
 
 eleventh : Plays 10 g6 (Event.Destroy 0 2) (Reply.Code 0) g7
 eleventh =
-    plays tenth.1 (λ h. elim h [ inl g ↦ no_port g.0 g.1 | inr g ↦ no_once g.0 g.1 ]) ((λ h. cc), (used set_named, tt))
+    plays tenth.1 tt (λ h. elim h [ inl g ↦ no_port g.0 g.1 | inr g ↦ no_once g.0 g.1 ]) ((λ h. cc), (used set_named, tt))
     (refl, (Target.set 0, set_named, (refl, refl)))
 
 twelfth : Plays 11 g7 (Event.ReceiveAgain 0 (Waited.Set 0) 24 false) (Reply.Code 0x10004009) g7

@@ -62,7 +62,7 @@ fifth_extracts = record {
 }
 
 fifth : Plays 4 h4 (Event.ExtractRight 0 1 16 1) (Reply.Right 1 16) h5
-fifth = plays fourth.1 tt fifth_guards (fifth_extracts, refl)
+fifth = plays fourth.1 tt tt fifth_guards (fifth_extracts, refl)
 
 sixth : Plays 5 h5 (Event.NameType 1 1) (Reply.NameType 0x00030000) h5
 sixth = type_told fifth.1 refl (Target.port 0) to_found

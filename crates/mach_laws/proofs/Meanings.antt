@@ -127,8 +127,8 @@ Carried-means : (task : ℕ) (place : Place) (names : Names) (ws : List (ℕ × 
     AllZip (λ (w : ℕ × ℕ) (r : Kind × Mark). WordMeans names w.0 w.1 r.0 r.1) ws rs
 Carried-means task place names [] old [] new reads are h = tt
 Carried-means task place names (w ∷ ws) old (r ∷ rs) new reads are h = (
-  record { given = are.0.0; is_given = are.0.1; kind_is = are.0.2; mark_is = CopyWord-means task place w.0 w.1 are.0.0 names old r.1 h.0 are.0.1 reads h.1.0 },
-  Carried-means task place names ws h.0 rs new (Reads-trans names _ _ reads (CopyWord-reads task place w.0 w.1 old r.1 h.0 h.1.0)) are.1 h.2,
+  record { given = are.0.0; is_given = are.0.1; kind_is = are.0.2; mark_is = CopyWord-means task place w.0 w.1 are.0.0 names old r.1 h.0 are.0.1 reads h.1 },
+  Carried-means task place names ws h.0 rs new (Reads-trans names _ _ reads (CopyWord-reads task place w.0 w.1 old r.1 h.0 h.1)) are.1 h.2,
 )
 Carried-means task place names [] old (r ∷ rs) new reads are h = absurd h
 Carried-means task place names (w ∷ ws) old [] new reads are h = absurd h

@@ -1,6 +1,6 @@
 -- The steps that the example runs are made of, a lemma for each kind: what a lawful state must have that the event may be answered
 -- so, and the state that it leads to, which is lawful again.
-use Rattle.std.proofs.Common.{◌≡◌, ℕ, suc, ◌+◌, ◌%◌, ◌^◌, ◌<◌, ◌≤◌, List, [], ◌∷◌, ◌++◌, Option, Some, None, refl, ap, ◌∙◌, inl, inr, arith, true, false, length}
+use Rattle.std.proofs.Common.{◌≡◌, ℕ, suc, ◌+◌, ◌%◌, ◌^◌, ◌<◌, ◌≤◌, List, [], ◌∷◌, ◌++◌, Option, Some, None, refl, sym, ap, subst, ◌∙◌, inl, inr, arith, true, false, length}
 use Rattle.std.specs.Prelude.{min, nat_lt, is_some, All}
 use Rattle.std.specs.FinMap as map
 use Rattle.std.specs.FinMap.{get-empty}
@@ -27,7 +27,7 @@ use Rattle.mach_model.specs.CopyIn.{IsLegal, taken_by, changed_by, CopyRight}
 use Rattle.mach_model.specs.SentMeans.{target_mark}
 use Rattle.mach_model.specs.CopyOut.{GiveWord}
 use Rattle.mach_model.specs.ReceivedMeans.{IsReceived}
-use Rattle.mach_model.specs.Carried.{lying}
+use Rattle.mach_model.specs.Carried.{lying, message_count}
 use Rattle.mach_model.specs.Transfer.{Inserts, pegged, Extracts}
 use Rattle.mach_model.specs.Send.{place_at, entry, Copied, Sends}
 use Rattle.mach_model.specs.Receive.{IsFront, with_taken, Receives}
@@ -35,9 +35,11 @@ use Rattle.mach_model.specs.References.{references}
 use Rattle.mach_model.specs.ReceiveRight.{one_if, TellsStatus}
 use Rattle.mach_model.specs.Refusals.{guards, Refuses}
 use Rattle.mach_model.specs.Machine.{Does, Step}
+use Rattle.mach_model.proofs.CopyingWords.{Adds, Copied-adds}
+use Rattle.mach_model.proofs.Moving.{moving}
 use Rattle.mach_model.proofs.Names.{get_own, get_other}
 use Rattle.mach_model.proofs.Quiet.{LosesNone}
-use Rattle.mach_model.proofs.StepQuiet.{IsCalm, quiet_step}
+use Rattle.mach_model.proofs.StepQuiet.{IsCalm, BringsNone, quiet_step}
 use Rattle.mach_laws.proofs.Answered.{one_port}
 
 -- the event may be answered so, and the new state is lawful
@@ -176,11 +178,11 @@ pub refused : {now : ℕ} {s : State} {event : Event} {code : ℕ} → IsCalm s 
 refused {code = code} l refuses = (inl (record { code = code; told = refl; refuses = refuses; same = refl }), l)
 
 -- An event that no guard refuses does its part, and no right is lost.
-pub plays : {now : ℕ} {old new : State} {event : Event} {reply : Reply} → IsCalm old → LosesNone old event reply → NoneHolds (guards old event) → Does now old event reply new [] → Plays now old event reply new
-plays {now} {old} {new} {event} {reply} l none good does = let s = quiet_step now old event reply new l.lawful l.quiet none good does in (s.0, record { lawful = s.1; quiet = s.2 })
+pub plays : {now : ℕ} {old new : State} {event : Event} {reply : Reply} → IsCalm old → BringsNone old event new → LosesNone old event reply → NoneHolds (guards old event) → Does now old event reply new [] → Plays now old event reply new
+plays {now} {old} {new} {event} {reply} l brings none good does = let s = quiet_step now old event reply new l.lawful l.quiet brings none good does in (s.0, record { lawful = s.1; quiet = s.2 })
 
 pub task_made : {now : ℕ} {s : State} → IsCalm s → s.tasks_made < most_tasks → Plays now s Event.TaskCreate (Reply.Task s.tasks_made) (with_task s)
-task_made {now} {s} l few = plays l tt ((λ dead. dead), ((λ h. omega (arith, h, few)), tt)) (record { task_is = refl; rest = refl }, refl)
+task_made {now} {s} l few = plays l tt tt ((λ dead. dead), ((λ h. omega (arith, h, few)), tt)) (record { task_is = refl; rest = refl }, refl)
 
 there : (s : State) (task : ℕ) → s.live_task task ≡ true → ¬ (IsNoTask s task)
 there s task lives h = cc
@@ -190,7 +192,7 @@ module _ {now : ℕ} {s : State} (l : IsCalm s) {task : ℕ} (lives : s.live_tas
   pub allocated : {right name : ℕ} {new : State} → IsFresh (s.naming task) name → map.len (s.naming task) < most_names → length s.ledger + s.ports_made + s.sets_made < most_rights →
       Makes task right name s new → Plays now s (Event.Allocate task right) (Reply.Name name) new
   allocated {right} {name} {new} fresh room few makes =
-      plays l tt (there s task lives, (made makes, (not_full, tt))) (fresh, makes, refl)
+      plays l tt tt (there s task lives, (made makes, (not_full, tt))) (fresh, makes, refl)
     where
       made : Makes task right name s new → ¬ (IsNoMaking right)
       made (inl m) h = h.0 m.0
@@ -212,8 +214,20 @@ module _ {now : ℕ} {s : State} (l : IsCalm s) {task : ℕ} (lives : s.live_tas
       length (queue copied m.destination) < copied.limit m.destination → length copied.ledger ≤ most_rights →
       Plays now s (Event.Send task bytes) (Reply.Code 0) (with_entry now m copied)
   sent {bytes} header written m copied good spells is_copied no_receive room few =
-      plays l tt (there s task lives, good) (refl, sends, refl)
+      plays l none tt (there s task lives, good) (refl, sends, refl)
     where
+      m_end : ℕ
+      m_end = length (s.log m.destination)
+
+      adds : Adds s copied m.destination m_end (λ c q. message_count c q m)
+      adds = Copied-adds task header written s m copied (moving s m.destination m_end l.lawful) is_copied
+
+      none : (p q : ℕ) → lying copied receive q (in_message p (length (s.log p))) ≡ 0
+      none p q = let z = l.no_entry p (length (s.log p)) (omega arith) receive q in elim (eqb_tells p m.destination) [
+        | inl e ↦ subst (λ (x : ℕ). lying copied receive q (in_message x (length (s.log x))) ≡ 0) (sym e.1) (let y = l.no_entry m.destination m_end (omega arith) receive q in let n = no_receive q in omega (arith, y, n))
+        | inr e ↦ let a = adds.apart.elsewhere receive q p (length (s.log p)) (λ same end. e.1 same) in omega (arith, z, a)
+      ]
+
       sends : Sends now task bytes s (with_entry now m copied)
       sends = record {
         header = header;
@@ -233,13 +247,13 @@ module _ {now : ℕ} {s : State} (l : IsCalm s) {task : ℕ} (lives : s.live_tas
   pub received : {name p room : ℕ} {bytes : List ℕ} {new : State} → lookup s task name ≡ Some (Target.port p) → Holds s task receive p → s.sets_of p ≡ [] → Receives task p room bytes s new →
       Plays now s (Event.Receive task name room false) (Reply.Message bytes) new
   received {name} {p} {room} {bytes} {new} found holds alone receives =
-      plays l tt
+      plays l tt tt
       (there s task lives, ((λ h. h (inl (p, found, holds))), ((λ h. h.2 (ap s.sets_of (one_port (lookup s task name) h.0 p h.1 found) ∙ alone)), tt)))
       (Waited.Port p, (found, holds), (p, (refl, holds, alone), receives, refl))
 
   pub type_told : {name : ℕ} (target : Target) → lookup s task name ≡ Some target → Plays now s (Event.NameType task name) (Reply.NameType (type_of s task name target)) s
   type_told {name} target found =
-      plays l tt (there s task lives, (used found, tt)) ((target, found, refl), refl, refl)
+      plays l tt tt (there s task lives, (used found, tt)) ((target, found, refl), refl, refl)
 
   pub no_type : {name : ℕ} → lookup s task name ≡ None → Plays now s (Event.NameType task name) (Reply.Code 15) s
   no_type none = refused l (inl (inr (there s task lives, inl (none, refl))))
@@ -247,12 +261,12 @@ module _ {now : ℕ} {s : State} (l : IsCalm s) {task : ℕ} (lives : s.live_tas
   pub references_told : {name right : ℕ} (target : Target) → lookup s task name ≡ Some target → right ≤ 4 →
       Plays now s (Event.GetRefs task name right) (Reply.Refs (references s task target right)) s
   references_told {name} {right} target found is_right =
-      plays l tt
+      plays l tt tt
       (there s task lives, ((λ h. omega (arith, h, is_right)), (used found, tt))) ((target, found, refl), refl, refl)
 
   pub status_told : {name : ℕ} (p : ℕ) → lookup s task name ≡ Some (Target.port p) → Holds s task receive p → s.sets_of p ≡ [] → Plays now s (Event.ReceiveStatus task name) (Reply.Status (status_of s p)) s
   status_told {name} p found holds alone =
-      plays l tt
+      plays l tt tt
       (there s task lives, (used found, ((λ h. h (p, found, holds)), tt))) (tells, refl, refl)
     where
       tells : TellsStatus s task name (status_of s p)
@@ -264,7 +278,7 @@ module _ {now : ℕ} {s : State} (l : IsCalm s) {task : ℕ} (lives : s.live_tas
       held (with_made MakeSend p from poly (in_task task) s) task send p ≤ most_references →
       Plays now s (Event.InsertRight task name from poly 20) (Reply.Code 0) (with_inserted task name from poly p s)
   send_inserted {name} {from} {poly} p from_lives found holds unused above below unheld room few few_references =
-      plays l tt (
+      plays l tt tt (
         (λ h. elim h [ inl e ↦ there s task lives e | inr e ↦ cc ]),
         (
           (λ h. elim h [ inl e ↦ elim e [ inl f ↦ omega (arith, f, above) | inr f ↦ omega (arith, f, below) ] | inr e ↦ e (omega arith, omega arith) ]),
@@ -299,7 +313,7 @@ module _ {now : ℕ} {s : State} (l : IsCalm s) {task : ℕ} (lives : s.live_tas
       map.len (s.naming to) < most_names → length s.ledger < most_rights → pegged to p (with_made MakeSendOnce p task name (in_task to) s) ≡ [] →
       Plays now s (Event.ExtractRight task name 21 to) (Reply.Right new_name 18) (with_extracted task name to new_name p s)
   once_extracted {name} {to} {new_name} p to_lives found holds fresh room few none =
-      plays l tt (
+      plays l tt tt (
         (λ h. elim h [ inl e ↦ there s task lives e | inr e ↦ cc ]),
         (
           (λ h. h (omega arith, omega arith)),

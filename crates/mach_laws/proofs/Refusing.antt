@@ -129,10 +129,9 @@ words_taken : (task : ℕ) (place : Place) (ws : List (ℕ × ℕ)) (s t t' : St
     OneFails (IsRefused task) (λ old w new. (mark : Mark) × CopyWord task place w.0 w.1 old mark new) s ws → Through (CopyCarried task place) t ws rs t' → ⊥
 words_taken task place [] s t t' rs r h c = h
 words_taken task place (w ∷ ws) s t t' [] r h c = c
-words_taken task place (w ∷ ws) s t t' (m ∷ ms) r (inl (inl bad)) c = word_taken task w.0 w.1 place s t c.0 m.1 r bad c.1.0
-words_taken task place (w ∷ ws) s t t' (m ∷ ms) r (inl (inr yet)) c = c.1.1 yet
+words_taken task place (w ∷ ws) s t t' (m ∷ ms) r (inl bad) c = word_taken task w.0 w.1 place s t c.0 m.1 r bad c.1
 words_taken task place (w ∷ ws) s t t' (m ∷ ms) r (inr (mid, (mark, copies), refuse)) c =
-    words_taken task place ws mid c.0 t' ms (word_alike task w.0 w.1 place s t mid c.0 mark m.1 r copies c.1.0).1 refuse c.2
+    words_taken task place ws mid c.0 t' ms (word_alike task w.0 w.1 place s t mid c.0 mark m.1 r copies c.1).1 refuse c.2
 
 reply_taken : (task number word : ℕ) (place : Place) (s t t' : State) (reply : ReplyRight) → IsReordered s t → number ≢ 0 → IsBadWord s task number word → CopyReply task place number word t reply t' → ⊥
 reply_taken task number word place s t t' absent r some bad c = some c.0

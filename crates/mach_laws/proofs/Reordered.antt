@@ -160,7 +160,7 @@ carried_alike : (task : ℕ) (place : Place) (ws : List (ℕ × ℕ)) (s t s' t'
     Through (CopyCarried task place) s ws rs s' → Through (CopyCarried task place) t ws qs t' → (qs ≡ rs) × IsReordered s' t'
 carried_alike task place [] s t s' t' [] [] r x y a b = (refl, same_after s t s' t' r a b)
 carried_alike task place (w ∷ ws) s t s' t' (m ∷ ms) (n ∷ ns) r x y a b =
-    let here = word_alike task w.0 w.1 place s t a.0 b.0 m.1 n.1 r a.1.0 b.1.0 in
+    let here = word_alike task w.0 w.1 place s t a.0 b.0 m.1 n.1 r a.1 b.1 in
     let rest = carried_alike task place ws a.0 b.0 s' t' ms ns here.1 x.1 y.1 a.2 b.2 in
     let kind : n.0 ≡ m.0 = same_sent w.0 n.0 m.0 y.0 x.0 in
     (ap (λ (z : Kind). pair z n.1 ∷ ns) kind ∙ ap (λ (z : Mark). pair m.0 z ∷ ns) here.0 ∙ ap (λ (zs : List (Kind × Mark)). m ∷ zs) rest.0, rest.1)

@@ -76,7 +76,7 @@ words_add : (task o k : ℕ) (ws : List (ℕ × ℕ)) (old : State) (rs : List (
     Through (CopyCarried task (in_message o k)) old ws rs new → Adds old new o k (λ c q. rights_count c q rs)
 words_add task o k [] old [] new l are h = adds_none old new o k _ l h (λ c q. refl)
 words_add task o k (w ∷ ws) old (r ∷ rs) new l are h =
-    let a = CopyWord-adds task o k w.0 w.1 r.0 old r.1 h.0 l are.0 h.1.0 in
+    let a = CopyWord-adds task o k w.0 w.1 r.0 old r.1 h.0 l are.0 h.1 in
     let b = words_add task o k ws h.0 rs new a.keeps are.1 h.2 in
     adds_both old h.0 new o k _ _ _ a b (λ c q. refl)
 words_add task o k [] old (r ∷ rs) new l are h = absurd h

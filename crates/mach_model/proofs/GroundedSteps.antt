@@ -112,7 +112,7 @@ reply_fewer task own number word old (present kind mark) new h = word_fewer task
 
 words_fewer : (task : ℕ) (own : Place) (ws : List (ℕ × ℕ)) (old : State) (rs : List (Kind × Mark)) (new : State) → Through (CopyCarried task own) old ws rs new → Fewer own old new
 words_fewer task own [] old [] new h = same_fewer own old new h
-words_fewer task own (w ∷ ws) old (r ∷ rs) new h = fewer_trans own old h.0 new (word_fewer task own w.0 w.1 old r.1 h.0 h.1.0) (words_fewer task own ws h.0 rs new h.2)
+words_fewer task own (w ∷ ws) old (r ∷ rs) new h = fewer_trans own old h.0 new (word_fewer task own w.0 w.1 old r.1 h.0 h.1) (words_fewer task own ws h.0 rs new h.2)
 words_fewer task own [] old (r ∷ rs) new h = absurd h
 words_fewer task own (w ∷ ws) old [] new h = absurd h
 

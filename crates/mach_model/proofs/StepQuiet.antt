@@ -30,7 +30,6 @@ use Rattle.mach_model.proofs.Settling.{is_at, own_test, mid_settles}
 use Rattle.mach_model.proofs.Midway.{calm_lawful}
 use Rattle.mach_model.proofs.Moving.{Apart, apart-trans}
 use Rattle.mach_model.proofs.Opening.{opening-lawful, opening-quiet}
-use Rattle.mach_model.proofs.Carrying.{carries_none}
 use Rattle.mach_model.proofs.HandLawful.{is_it, Hands, hands_shape, Inserts-hands, Extracts-hands}
 use Rattle.mach_model.proofs.SendLawful.{Sends-adds}
 use Rattle.mach_model.proofs.ReceiveLawful.{Receives-removes, Receives-mid}
@@ -46,6 +45,11 @@ pub record Quietly (old mid : State) : Type 0 where
   pub carried : (p k q : ℕ) → lying mid receive q (in_message p k) ≡ 0
   pub kept : (kind : Kind) (q : ℕ) (r : Request) → lying mid kind q (in_request r) ≤ lying old kind q (in_request r)
   pub none_stands : NoRequests mid.stands
+
+-- No message that a task sends brings a receive right to the end of a log.
+abbrev pub BringsNone : (old : State) → Event → (mid : State) → Type 0
+BringsNone old (Event.Send task bytes) mid = (p q : ℕ) → lying mid receive q (in_message p (length (old.log p))) ≡ 0
+BringsNone old event mid = Unit {0}
 
 pub still : (old mid : State) (owed : Owed) → IsLawful old → IsQuiet old → owed ≡ [] → MidLawful mid owed → Quietly old mid → IsStill mid owed
 still old mid owed l quiet none m q = record {
@@ -272,8 +276,8 @@ module _ (old : State) (l : IsLawful old) (quiet : IsQuiet old) where
       (ap (λ (x : State). x.live_port) (hands_shape old mid 0 (length (old.log 0)) kind p h)) h.removes.keeps.one_receive (λ q e. m.no_rights q e receive)
       (λ q. m.no_entry 0 (length (old.log 0)) (let e = ap (λ (x : State). length (x.log 0)) (hands_shape old mid 0 (length (old.log 0)) kind p h) in omega (arith, e)) receive q)
 
-  sends : (now task : ℕ) (bytes : List ℕ) (mid : State) → NoneHolds (header_guards bytes) → Sends now task bytes old mid → MidLawful mid [] → Quietly old mid
-  sends now task bytes mid good s m =
+  sends : (now task : ℕ) (bytes : List ℕ) (mid : State) → BringsNone old (Event.Send task bytes) mid → Sends now task bytes old mid → MidLawful mid [] → Quietly old mid
+  sends now task bytes mid none s m =
       let o = s.m.destination in
       let k = length (old.log o) in
       let a = Sends-adds now task bytes old mid l s in
@@ -284,10 +288,7 @@ module _ (old : State) (l : IsLawful old) (quiet : IsQuiet old) where
         stood = λ r is. a.apart.stood r (sym (ap (λ (x : State). x.stands r) s.rest) ∙ is);
       }) live
       (λ p e. ap (λ (x : State). count (is_of receive p) x.ledger) s.rest ∙ a.keeps.one_receive p (sym (ap (λ (x : State). x.live_port p) s.rest) ∙ e)) (λ p e. m.no_rights p e receive)
-      (λ q. let e = ap (λ (x : State). lying x receive q (in_message o k)) s.rest in
-      let f = a.lies receive q in
-      let z = l.no_entry o k (omega arith) receive q in
-      let n = carries_none now task bytes old mid good s q in omega (arith, e, f, z, n))
+      (λ q. none o q)
 
   receives : (task port room : ℕ) (bytes : List ℕ) (mid : State) → old.live_port port ≡ true → old.live_task task ≡ true → Receives task port room bytes old mid → MidLawful mid [] → Quietly old mid
   receives task port room bytes mid live is_task r m =
@@ -324,9 +325,9 @@ Receives-still task port room bytes old mid l quiet live is_task r =
 -- ---- a step's own part
 
 -- What an event that isn't refused leaves of a quiet state is as lawful as it was, and nothing is owed.
-pub Does-still : (now : ℕ) (old : State) (event : Event) (reply : Reply) (mid : State) (owed : Owed) → LosesNone old event reply → NoneHolds (guards old event) → Does now old event reply mid owed →
+pub Does-still : (now : ℕ) (old : State) (event : Event) (reply : Reply) (mid : State) (owed : Owed) → BringsNone old event mid → LosesNone old event reply → NoneHolds (guards old event) → Does now old event reply mid owed →
     IsLawful old → IsQuiet old → IsStill mid owed
-Does-still now old event reply mid owed none g d l quiet = go event reply none g d (Does-mid now old event reply mid owed g d l)
+Does-still now old event reply mid owed brings none g d l quiet = go event reply brings none g d (Does-mid now old event reply mid owed g d l)
   where
     quietly : owed ≡ [] → Quietly old mid → MidLawful mid owed → IsStill mid owed
     quietly none q m = still old mid owed l quiet none m q
@@ -353,48 +354,48 @@ Does-still now old event reply mid owed none g d l quiet = go event reply none g
     kept_large Q true e h = h
     kept_large Q false e h = absurd (cc)
 
-    go : (event : Event) (reply : Reply) → LosesNone old event reply → NoneHolds (guards old event) → Does now old event reply mid owed → MidLawful mid owed → IsStill mid owed
-    go Event.TaskCreate (Reply.Task task) n g d m = quietly d.1 (as_it_was old l quiet mid _ d.0.rest refl refl quiet.none_stands) m
-    go (Event.TaskTerminate task) reply n g d m = absurd n
-    go (Event.Allocate task right) (Reply.Name name) n g d m = makes task right name d.2 d.1 m
-    go (Event.AllocateName task right name) (Reply.Name told) n g d m = makes task right name d.2 d.1 m
-    go (Event.Deallocate task name) (Reply.Code code) n g d m = both (deallocates old l quiet task name mid owed n d.1) m
-    go (Event.Destroy task name) (Reply.Code code) n g d m = both (destroys old l quiet task name mid owed n d.1) m
-    go (Event.ModRefs task name right delta) (Reply.Code code) n g d m = both (modifies old l quiet task name right delta mid owed n d.1) m
-    go (Event.GetRefs task name right) (Reply.Refs k) n g d m = same d.1 d.2 m
-    go (Event.NameType task name) (Reply.NameType k) n g d m = same d.1 d.2 m
-    go (Event.Names task) (Reply.Names entries) n g d m = same d.1 d.2 m
-    go (Event.Rename task o k) (Reply.Code code) n g d m = quietly d.2 (renames old l quiet task o k mid d.1) m
-    go (Event.ReceiveStatus task name) (Reply.Status status) n g d m = same d.1 d.2 m
-    go (Event.SetQlimit task name k) (Reply.Code code) n g d m = quietly d.2 (as_it_was old l quiet mid _ d.1.3 refl refl quiet.none_stands) m
-    go (Event.SetMscount task name k) (Reply.Code code) n g d m = quietly d.3 (as_it_was old l quiet mid _ d.2.3 refl refl quiet.none_stands) m
-    go (Event.SetSeqno task name k) (Reply.Code code) n g d m = quietly d.3 (as_it_was old l quiet mid _ d.2.3 refl refl quiet.none_stands) m
-    go (Event.SetStatus task name) (Reply.Members members) n g d m = same d.1 d.2 m
-    go (Event.MoveMember task member after) (Reply.Code code) n g d m = joins task member after d.1 d.2 m
-    go (Event.InsertRight task name from poly number) (Reply.Code code) n g d m = quietly d.2
+    go : (event : Event) (reply : Reply) → BringsNone old event mid → LosesNone old event reply → NoneHolds (guards old event) → Does now old event reply mid owed → MidLawful mid owed → IsStill mid owed
+    go Event.TaskCreate (Reply.Task task) b n g d m = quietly d.1 (as_it_was old l quiet mid _ d.0.rest refl refl quiet.none_stands) m
+    go (Event.TaskTerminate task) reply b n g d m = absurd n
+    go (Event.Allocate task right) (Reply.Name name) b n g d m = makes task right name d.2 d.1 m
+    go (Event.AllocateName task right name) (Reply.Name told) b n g d m = makes task right name d.2 d.1 m
+    go (Event.Deallocate task name) (Reply.Code code) b n g d m = both (deallocates old l quiet task name mid owed n d.1) m
+    go (Event.Destroy task name) (Reply.Code code) b n g d m = both (destroys old l quiet task name mid owed n d.1) m
+    go (Event.ModRefs task name right delta) (Reply.Code code) b n g d m = both (modifies old l quiet task name right delta mid owed n d.1) m
+    go (Event.GetRefs task name right) (Reply.Refs k) b n g d m = same d.1 d.2 m
+    go (Event.NameType task name) (Reply.NameType k) b n g d m = same d.1 d.2 m
+    go (Event.Names task) (Reply.Names entries) b n g d m = same d.1 d.2 m
+    go (Event.Rename task o k) (Reply.Code code) b n g d m = quietly d.2 (renames old l quiet task o k mid d.1) m
+    go (Event.ReceiveStatus task name) (Reply.Status status) b n g d m = same d.1 d.2 m
+    go (Event.SetQlimit task name k) (Reply.Code code) b n g d m = quietly d.2 (as_it_was old l quiet mid _ d.1.3 refl refl quiet.none_stands) m
+    go (Event.SetMscount task name k) (Reply.Code code) b n g d m = quietly d.3 (as_it_was old l quiet mid _ d.2.3 refl refl quiet.none_stands) m
+    go (Event.SetSeqno task name k) (Reply.Code code) b n g d m = quietly d.3 (as_it_was old l quiet mid _ d.2.3 refl refl quiet.none_stands) m
+    go (Event.SetStatus task name) (Reply.Members members) b n g d m = same d.1 d.2 m
+    go (Event.MoveMember task member after) (Reply.Code code) b n g d m = joins task member after d.1 d.2 m
+    go (Event.InsertRight task name from poly number) (Reply.Code code) b n g d m = quietly d.2
         (hands old l quiet mid _ _ (Inserts-hands task name from poly number old mid l (not_false (old.live_task task) (λ e. g.0 (inl e))) (λ e. g.1.0 (inl e)) d.1) (unowed_mid d.2 m)) m
-    go (Event.ExtractRight task name number to) (Reply.Right new_name kind) n g d m = quietly d.1
+    go (Event.ExtractRight task name number to) (Reply.Right new_name kind) b n g d m = quietly d.1
         (hands old l quiet mid _ _ (Extracts-hands task name number to new_name kind old mid l (not_false (old.live_task to) (λ e. g.0 (inr e))) d.0) (unowed_mid d.1 m)) m
-    go (Event.RequestNotification task name variant sync notify number) reply n g d m = absurd n
-    go (Event.Send task bytes) (Reply.Code code) n g d m = quietly d.2 (sends old l quiet now task bytes mid g.1 d.1 (unowed_mid d.2 m)) m
-    go (Event.Receive task name room large) (Reply.Message bytes) n g d m = quietly d.2.3
+    go (Event.RequestNotification task name variant sync notify number) reply b n g d m = absurd n
+    go (Event.Send task bytes) (Reply.Code code) b n g d m = quietly d.2 (sends old l quiet now task bytes mid b d.1 (unowed_mid d.2 m)) m
+    go (Event.Receive task name room large) (Reply.Message bytes) b n g d m = quietly d.2.3
         (receives old l quiet task d.2.0 room bytes mid (TakesFrom-live old l task d.0 d.2.0 d.2.1) (not_false (old.live_task task) g.0) d.2.2 (unowed_mid d.2.3 m)) m
-    go (Event.Receive task name room large) (Reply.Empty told) n g d m = same d.2.2 d.2.3 m
-    go (Event.Receive task name room large) (Reply.TooLarge k) n g d m = let h = kept_large (DestroysFront d.2.0 d.2.1 old mid owed) large n d.2.6 in same h.0 h.1 m
-    go (Event.Receive task name room large) reply n g d m = absurd d.2
-    go (Event.ReceiveAgain task waited room large) (Reply.Message bytes) n g d m = quietly d.3
+    go (Event.Receive task name room large) (Reply.Empty told) b n g d m = same d.2.2 d.2.3 m
+    go (Event.Receive task name room large) (Reply.TooLarge k) b n g d m = let h = kept_large (DestroysFront d.2.0 d.2.1 old mid owed) large n d.2.6 in same h.0 h.1 m
+    go (Event.Receive task name room large) reply b n g d m = absurd d.2
+    go (Event.ReceiveAgain task waited room large) (Reply.Message bytes) b n g d m = quietly d.3
         (receives old l quiet task d.0 room bytes mid (TakesFrom-live old l task waited d.0 d.1) (not_false (old.live_task task) g.0) d.2 (unowed_mid d.3 m)) m
-    go (Event.ReceiveAgain task waited room large) (Reply.Empty told) n g d m = same d.2 d.3 m
-    go (Event.ReceiveAgain task waited room large) (Reply.TooLarge k) n g d m = let h = kept_large (DestroysFront d.0 d.1 old mid owed) large n d.6 in same h.0 h.1 m
-    go event reply n g d m = absurd d
+    go (Event.ReceiveAgain task waited room large) (Reply.Empty told) b n g d m = same d.2 d.3 m
+    go (Event.ReceiveAgain task waited room large) (Reply.TooLarge k) b n g d m = let h = kept_large (DestroysFront d.0 d.1 old mid owed) large n d.6 in same h.0 h.1 m
+    go event reply b n g d m = absurd d
 
 -- ---- steps and runs
 
 -- What an event may do in a quiet state, by an answer by which no right is lost, makes a step, with no more to settle.
-pub quiet_step : (now : ℕ) (old : State) (event : Event) (reply : Reply) (mid : State) → IsLawful old → IsQuiet old → LosesNone old event reply → NoneHolds (guards old event) → Does now old event reply mid [] →
+pub quiet_step : (now : ℕ) (old : State) (event : Event) (reply : Reply) (mid : State) → IsLawful old → IsQuiet old → BringsNone old event mid → LosesNone old event reply → NoneHolds (guards old event) → Does now old event reply mid [] →
     Step now old event reply mid × IsLawful mid × IsQuiet mid
-quiet_step now old event reply mid l quiet none good does =
-    let m = Does-still now old event reply mid [] none good does l quiet in
+quiet_step now old event reply mid l quiet brings none good does =
+    let m = Does-still now old event reply mid [] brings none good does l quiet in
     (inr (record { unrefused = good; mid = mid; owed = []; does = does; settles = mid_settles now old mid [] m }), m.lawful, m.quiet)
 
 -- ---- both

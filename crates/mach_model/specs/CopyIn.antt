@@ -9,7 +9,6 @@ use Rattle.mach_model.specs.State.{State, Target, lookup, held, Holds, at, witho
 use Rattle.mach_types.specs.Grammar.{WireBody}
 use Rattle.mach_types.specs.Bodies.{body_words, body_rights, SameBody, Through}
 use Rattle.mach_model.specs.SentMeans.{IsSent, target_mark}
-use Rattle.mach_model.specs.NotYet.{IsNotYetCarried}
 
 -- The task holds what the disposition needs. A dead name may be sent on, but no right made from it.
 abbrev pub IsLegal : State → (task : ℕ) → Disposition → Target → Type 0
@@ -83,7 +82,7 @@ CopyReply task place number word old (present kind mark) new = IsSent number kin
 
 -- a word of the body, and the right that it becomes
 abbrev pub CopyCarried : (task : ℕ) → Place → State → ℕ × ℕ → Kind × Mark → State → Type 0
-CopyCarried task place old w r new = CopyWord task place w.0 w.1 old r.1 new × ¬ (IsNotYetCarried w.0 w.1)
+CopyCarried task place old w r new = CopyWord task place w.0 w.1 old r.1 new
 
 abbrev pub CopyBody : (task : ℕ) → Place → WireBody → State → Body → State → Type 0
 CopyBody task place written old body new = SameBody IsSent written body × Through (CopyCarried task place) old (body_words written) (body_rights body) new

@@ -1,7 +1,6 @@
 pub mod State
 pub mod SentMeans
 pub mod ReceivedMeans
-pub mod NotYet
 pub mod CopyIn
 pub mod CopyOut
 pub mod Death

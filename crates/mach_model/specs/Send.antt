@@ -13,7 +13,6 @@ use Rattle.mach_types.specs.TextGuards.{word_at, is_bit, ItemsRefuse}
 use Rattle.mach_model.specs.State.{State, Target, lookup, at, queue}
 use Rattle.mach_model.specs.CopyIn.{IsLegal, CopyRight, CopyWord, CopyReply, CopyBody}
 use Rattle.mach_model.specs.Death.{LiesAt, Reaches}
-use Rattle.mach_model.specs.NotYet.{IsNotYetCarried}
 
 -- where the rights of a message to this port will lie: at its next entry
 abbrev pub place_at : State → (port : ℕ) → Place
@@ -71,7 +70,7 @@ IsBadWord s task number word = (word ≢ null_word) × (word ≢ dead_word) × �
 
 -- a word of the body that is refused where it stands
 abbrev pub IsRefused : (task : ℕ) → State → ℕ × ℕ → Type 0
-IsRefused task s w = IsBadWord s task w.0 w.1 ⊎ IsNotYetCarried w.0 w.1
+IsRefused task s w = IsBadWord s task w.0 w.1
 
 -- The destination's right can't be copied in, or is for a dead port.
 abbrev pub DestinationRefuses : State → (task : ℕ) → Header → Type 0

@@ -52,8 +52,8 @@ const PLACES: [Place; 5] = [
 ];
 
 // A name as a number and as a word of a message; then what the dispositions 16 to 21 are answered there, by places.
-const TABLE: &str = "1 01000000 HDDD.. HRRR.. BBBB.. .KKK.. rKKKso\n\
-    2 02000000 H.D... H.R... B.B... ..K... rsKsso\n\
+const TABLE: &str = "1 01000000 HDDD.. HRRR.. .BBB.. .KKK.. rKKKso\n\
+    2 02000000 H.D... H.R... ..B... ..K... rsKsso\n\
     3 03000000 H.D.DD H.R.RR B.B.BB K.K.KK KsKsKK\n\
     4 04000000 HD.DDD HR.RRR BB.BBB KK.KKK KKoKKK\n\
     5 05000000 HDDDDD H...RR B...BB KCCCKK KKKKKK\n\

@@ -29,7 +29,7 @@ loop-word-preserved c =
     record {
       judged = subst (λ (cs : List Carried). IsJudged c.args.touched.now new names (take next words) cs) (sym k.1)
           (judged-more c.args.touched.now c.loop-word.touched new names words c.loop-word.word-index c.word-item.result c.loop-word.rights.items k.0
-          c.loop-word-test.true c.word-item.is c.loop-word.invariant.judged k.2 k.3);
+          c.loop-word-test.true c.word-item.is c.loop-word.invariant.judged k.2);
       few = omega (arith, c.judge_next.ensures.few, c.loop-word.invariant.few);
       so_far = ap length k.1 ∙ length-append c.loop-word.rights.items (k.0 ∷ []) ∙ ap (λ (n : ℕ). n + 1) c.loop-word.invariant.so_far;
       inline = c.judge_next.ensures.capacity;

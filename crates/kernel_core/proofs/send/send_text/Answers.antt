@@ -1,6 +1,6 @@
 use Rattle.mach_types.specs.Numbers.{msg_number}
 use Rattle.copyin_base.proofs.Tied.{stands_is_tied}
-use Rattle.kernel_core.proofs.Sending.{text_declined, plan_declined, no_memory, still_plan, still_tied, sends_text, has_slot}
+use Rattle.kernel_core.proofs.Sending.{text_declined, plan_declined, no_memory, still_plan, still_tied, still_none_lost, sends_text, has_slot}
 use Rattle.kernel_core.proofs.Wanting.{parse_wants, check_wants, plans_wants}
 use Rattle.kernel_core.proofs.send.send_text.Goals as goal
 
@@ -50,6 +50,9 @@ commit-requires-clause-spare c =
 pub commit-requires-clause-tied : goal.commit-requires-clause-tied
 commit-requires-clause-tied c =
     still_tied c.args.world.now c.reserve_slots.new.self _ c.in-Ok-check.plan.task c.in-Ok-reserve_slots.ensures.ok (stands_is_tied c.args.world.now c.in-Ok-check.plan.task c.requires.stands)
+
+pub commit-requires-clause-none_lost : goal.commit-requires-clause-none_lost
+commit-requires-clause-none_lost c = still_none_lost c.args.world.now c.reserve_slots.new.self _ c.in-Ok-reserve_slots.ensures.ok c.requires.stands.shown.idle.none_lost
 
 pub returns-clause-ok : goal.returns-clause-ok
 returns-clause-ok c =

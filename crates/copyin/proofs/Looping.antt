@@ -1,0 +1,181 @@
+-- A message that would close a loop, in the tables and in the machine: the way from its destination is the same before and after its rights
+-- are copied in, until it comes to a port whose receive right it carries.
+use Rattle.std.proofs.Common.{◌≡◌, ℕ, suc, zero, ◌+◌, ◌-◌, ◌<◌, ◌≤◌, Bool, true, false, List, [], ◌∷◌, Some, None, refl, sym, ap, subst, ◌∙◌, ◌⊎◌, inl, inr, arith, length}
+use Rattle.std.specs.Prelude.{◌↔◌, if◌then◌else◌, ◌&&◌, Contains, slice_get, is_some, option_map}
+use Rattle.std.proofs.lemmas.Bool.{true_from_ne_false}
+use Rattle.std.proofs.lemmas.Bool.Decides.{eqb_tells}
+use Rattle.circularity.specs.Chains.{Leads}
+use Rattle.mach_types.specs.Tokens.{receive, Place, in_task, in_message, in_request, is_of, is_held, is_in_task}
+use Rattle.mach_types.specs.Messages.{Entry}
+use Rattle.mach_model.specs.State.{State, Target, lookup, queue, held}
+use Rattle.mach_model.specs.Death.{same_place, LiesAt, CarriedAt, Reaches}
+use Rattle.mach_model.specs.Carried.{lying}
+use Rattle.mach_model.specs.ReceiveRight.{one_if}
+use Rattle.mach_model.specs.Send.{ClosesLoop, place_at}
+use Rattle.mach_model.proofs.At.{slice_get_drop}
+use Rattle.mach_model.proofs.Grounding.{Where, with_task, nowhere, queued, where_is, unmade}
+use Rattle.mach_model.proofs.Midway.{mid_lawful}
+use Rattle.mach_model.proofs.Moving.{Apart}
+use Rattle.mach_model.proofs.SettledDetermined.{weigh-same}
+use Rattle.mach_model.proofs.SettledParts.{eq_symm}
+use Rattle.name_space.specs.declared.Entry.{Entry as Named}
+use Rattle.name_space.specs.Entry.{has_receive}
+use Rattle.port.specs.declared.Holder.TheVariants as holder
+use Rattle.port.specs.Holding.{IsHeldBy}
+use Rattle.port.specs.Ports.{PortView, PortsView}
+use Rattle.copyin_base.specs.declared.message.Carried.{Carried}
+use Rattle.copyin_base.specs.Kept.{Kept, Keeps}
+use Rattle.copyin_base.specs.Shows.{AllKept, target_of, Shows}
+use Rattle.copyin_base.specs.Worlds.{WorldView, port_at, entry_at}
+use Rattle.copyin_base.proofs.Gets.{seen, same_found}
+use Rattle.copyin_base.proofs.Told.{port_of, port_got}
+use Rattle.copyin.specs.Loops.{MakesLoop}
+use Rattle.copyin.proofs.Holding.{receive_right}
+use Rattle.copyin.proofs.Moved.{kept_carries}
+
+-- the message that is kept of an entry
+kept_at : (p : ℕ) (ms : List Kept) (es : List Entry) (i : ℕ) (e : Entry) → AllKept p ms es → slice_get es i ≡ Some e → (m : Kept) × (Contains ms m) × Keeps p m e.message
+kept_at p [] [] i e all at = absurd (let f : None ≡ Some e = at in cc)
+kept_at p (m ∷ ms) [] i e all at = absurd all
+kept_at p [] (x ∷ es) i e all at = absurd all
+kept_at p (m ∷ ms) (x ∷ es) zero e all at = (m, (zero, omega arith, refl), subst (λ (y : Entry). Keeps p m y.message) (same_found (Some x) x e refl at) all.0)
+kept_at p (m ∷ ms) (x ∷ es) (suc i) e all at = let r = kept_at p ms es i e all.1 at in (r.0, (let c = r.1 in let below = c.1 in (suc c.0, omega (arith, below), c.2)), r.2)
+
+some_at : {A : Type 0} (xs : List A) (k : ℕ) → k < length xs → (x : A) × (slice_get xs k ≡ Some x)
+some_at [] k below = absurd (omega (arith, below))
+some_at (x ∷ xs) zero below = (x, refl)
+some_at (x ∷ xs) (suc k) below = some_at xs k (omega (arith, below))
+
+-- ---- the holder of a port is where its receive right lies
+
+module _ (w : WorldView) (s : State) (sh : Shows w s) (p : ℕ) (v : PortView Kept) (there_is : port_at w p ≡ Some v) where
+  lives : s.live_port p ≡ true
+  lives = sym (sh.agrees.live_port p) ∙ ap is_some there_is
+
+  task_has : (t : ℕ) → LiesAt s receive p (in_task t) → 0 < held s t receive p
+  task_has t lies =
+      let a = weigh-same (λ x. if is_of receive p x && same_place (in_task t) x.place then 1 else 0) (λ x. if is_held t receive p x then 1 else 0) (λ x. same (is_of receive p x) x.place) s.ledger in
+      omega (arith, a, lies)
+    where
+      same : (b : Bool) (place : Place) → (if b && same_place (in_task t) place then suc zero else zero) ≡ (if b && is_in_task t place then suc zero else zero)
+      same b (in_task u) = ap (λ (c : Bool). if b && c then suc zero else zero) (eq_symm u t)
+      same b (in_message q k) = refl
+      same b (in_request r) = refl
+
+  by_task : (t : ℕ) → LiesAt s receive p (in_task t) → v.attributes.holder ≡ holder.Task t
+  by_task t lies =
+      let some = task_has t lies in
+      let named = (sh.lawful.naming t).is_named p (omega (arith, some)) in
+      go named.0 named.1 some (seen (entry_at w t named.0))
+    where
+      go : (name : ℕ) → lookup s t name ≡ Some (Target.port p) → 0 < held s t receive p → ((e : Named) × (entry_at w t name ≡ Some e)) ⊎ (entry_at w t name ≡ None) → v.attributes.holder ≡ holder.Task t
+      go name at some (inr none) = absurd (let a : lookup s t name ≡ None = sh.agrees.naming t name ∙ ap (option_map target_of) none in let b : None ≡ Some (Target.port p) = sym a ∙ at in cc)
+      go name at some (inl (e, is)) =
+          let target : target_of e ≡ Target.port p = same_found (lookup s t name) (target_of e) (Target.port p) (sh.agrees.naming t name ∙ ap (option_map target_of) is) at in
+          let named = port_of e p target in
+          let has = (sh.agrees.references t name e p is named).0 in
+          sh.holders.held t name e p is named (received (has_receive e) (omega (arith, has, some))) v there_is
+        where
+          received : (b : Bool) → 0 < one_if b → b ≡ true
+          received true h = refl
+          received false h = absurd (omega (arith, h))
+
+  by_queue : (q k : ℕ) → LiesAt s receive p (in_message q k) → v.attributes.holder ≡ holder.QueueOf q
+  by_queue q k lies = go (port_got (port_at w q) (sh.agrees.live_port q ∙ live)) (some_at (s.log q) k within)
+    where
+      live : s.live_port q ≡ true
+      live = true_from_ne_false (s.live_port q) (λ dead. let z = sh.lawful.gone q k (inr dead) receive p in omega (arith, z, lies))
+
+      waits : s.taken q ≤ k
+      waits = at_least (λ less. let z = sh.lawful.gone q k (inl less) receive p in omega (arith, z, lies))
+        where
+          at_least : ¬ (k < s.taken q) → s.taken q ≤ k
+          at_least not = omega (arith, not)
+
+      within : k < length (s.log q)
+      within = below (λ more. let z = sh.lawful.no_entry q k more receive p in omega (arith, z, lies))
+        where
+          below : ¬ (length (s.log q) ≤ k) → k < length (s.log q)
+          below not = omega (arith, not)
+
+      place_is : s.taken q + (k - s.taken q) ≡ k
+      place_is = let a = waits in omega (arith, a)
+
+      go : (u : PortView Kept) × (port_at w q ≡ Some u) → (e : Entry) × (slice_get (s.log q) k ≡ Some e) → v.attributes.holder ≡ holder.QueueOf q
+      go (u, at) (e, is) =
+          let in_queue : slice_get (queue s q) (k - s.taken q) ≡ Some e = slice_get_drop (s.taken q) (s.log q) (k - s.taken q) ∙ ap (slice_get (s.log q)) place_is ∙ is in
+          let counted = sh.lawful.carried q (k - s.taken q) e live in_queue receive p lives in
+          let lying_there : 0 < lying s receive p (in_message q (s.taken q + (k - s.taken q))) = subst (λ (n : ℕ). 0 < lying s receive p (in_message q n)) (sym place_is) lies in
+          let m = kept_at q u.queue (queue s q) (k - s.taken q) e (sh.agrees.ports q u at).waiting in_queue in
+          sh.carriers.carried q u m.0 p at m.1 (kept_carries q m.0 e.message m.2 p (omega (arith, counted, lying_there))) v there_is
+
+  -- a port that a queue holds lies there
+  lies_queued : (q : ℕ) → v.attributes.holder ≡ holder.QueueOf q → (k : ℕ) × LiesAt s receive p (in_message q k)
+  lies_queued q is = go (where_is s [] p (mid_lawful s sh.lawful) lives)
+    where
+      go : Where s p → (k : ℕ) × LiesAt s receive p (in_message q k)
+      go (with_task t lies) = absurd (let e : holder.Task t ≡ holder.QueueOf q = sym (by_task t lies) ∙ is in cc)
+      go (nowhere orphan) = absurd (let one = sh.lawful.one_receive p lives in let none = orphan.1 in omega (arith, one, none))
+      go (queued r k lies) =
+          let e : holder.QueueOf r ≡ holder.QueueOf q = sym (by_queue r k lies) ∙ is in
+          let same : r ≡ q = cc in
+          (k, subst (λ (x : ℕ). LiesAt s receive p (in_message x k)) same lies)
+
+-- ---- one step more
+
+leads_more : (v : PortsView Kept) (a b c : ℕ) → Leads v a b → IsHeldBy v b (holder.QueueOf c) → Leads v a c
+leads_more v a b c (Leads.here p) held = Leads.there p c c held (Leads.here c)
+leads_more v a b c (Leads.there p q last by rest) held = Leads.there p q c by (leads_more v q last c rest held)
+
+reaches_more : (s : State) (a b c : ℕ) → Reaches s a b → CarriedAt s b c → Reaches s a c
+reaches_more s a b c (Reaches.here p) d = Reaches.there p c c d (Reaches.here c)
+reaches_more s a b c (Reaches.there p q last e rest) d = Reaches.there p q c e (reaches_more s q last c rest d)
+
+-- ---- the two ways
+
+-- t is the state in which the rights of a message to o were copied in, among them just these receive rights, which lie at its place.
+module _ (w : WorldView) (s : State) (sh : Shows w s) (t : State) (o : ℕ) (rights : List Carried) (apart : Apart s t o (length (s.log o)))
+    (own : (p : ℕ) → LiesAt t receive p (place_at s o) ↔ Contains rights (receive_right p)) where
+  queue_holds : (p q k : ℕ) → LiesAt s receive p (in_message q k) → IsHeldBy w.ports p (holder.QueueOf q)
+  queue_holds p q k lies =
+      let live = true_from_ne_false (s.live_port p) (λ dead. unmade s p q k sh.lawful dead lies) in
+      let x = port_got (port_at w p) (sh.agrees.live_port p ∙ live) in
+      record { view = x.0; there = x.1; holder_is = by_queue w s sh p x.0 x.1 q k lies }
+
+  -- A port that the way of the machine comes to has its receive right in the message, or in the queue that the tables tell.
+  next : (p q k : ℕ) → LiesAt t receive p (in_message q k) → Leads w.ports o p → (IsHeldBy w.ports p (holder.QueueOf q) → MakesLoop w.ports o rights) → MakesLoop w.ports o rights
+  next p q k at lead go_on = elim (eqb_tells q o) [
+    | inl same ↦ elim (eqb_tells k (length (s.log o))) [
+      | inl end ↦ record { port = p; moved = (own p).0 (subst (λ (x : ℕ). LiesAt t receive p (in_message x (length (s.log o)))) same.1 (subst (λ (x : ℕ). LiesAt t receive p (in_message q x)) end.1 at)); leads = lead }
+      | inr not ↦ elsewhere (λ e f. not.1 f)
+    ]
+    | inr not ↦ elsewhere (λ e f. not.1 e)
+  ]
+    where
+      elsewhere : (q ≡ o → k ≡ length (s.log o) → ⊥) → MakesLoop w.ports o rights
+      elsewhere far = let same = apart.elsewhere receive p q k far in go_on (queue_holds p q k (omega (arith, same, at)))
+
+  follow : (a b : ℕ) → Reaches t a b → Leads w.ports o a → LiesAt t receive b (place_at s o) → MakesLoop w.ports o rights
+  follow a b (Reaches.here p) lead lies = record { port = p; moved = (own p).0 lies; leads = lead }
+  follow a b (Reaches.there p q last (k, at) rest) lead lies = next p q k at lead (λ held. follow q last rest (leads_more w.ports o p q lead held) lies)
+
+  -- The way of the tables is one of the machine.
+  still_lies : (p q : ℕ) → IsHeldBy w.ports p (holder.QueueOf q) → CarriedAt t p q
+  still_lies p q held =
+      let x = lies_queued w s sh p held.view held.there q held.holder_is in
+      let was = x.1 in
+      let same = apart.elsewhere receive p q x.0 (λ e f. at_end x.0 e f was) in
+      (x.0, omega (arith, same, was))
+    where
+      at_end : (k : ℕ) → q ≡ o → k ≡ length (s.log o) → LiesAt s receive p (in_message q k) → ⊥
+      at_end k e f lies = let none = sh.lawful.no_entry q k (let g : length (s.log q) ≡ length (s.log o) = ap (λ (x : ℕ). length (s.log x)) e in omega (arith, f, g)) receive p in omega (arith, none, lies)
+
+  go_along : (a b : ℕ) → Leads w.ports a b → Reaches t o a → Contains rights (receive_right b) → ClosesLoop t o (place_at s o)
+  go_along a b (Leads.here p) reach moved = (p, (own p).1 moved, reach)
+  go_along a b (Leads.there p q last held rest) reach moved = go_along q last rest (reaches_more t o p q reach (still_lies p q held)) moved
+
+  pub closed : ClosesLoop t o (place_at s o) → MakesLoop w.ports o rights
+  closed c = follow o c.0 c.2 (Leads.here o) c.1
+
+  pub closes : MakesLoop w.ports o rights → ClosesLoop t o (place_at s o)
+  closes l = go_along o l.port l.leads (Reaches.here o) l.moved
