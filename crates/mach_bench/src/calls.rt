@@ -30,6 +30,9 @@ pub const DEAD_NAME: u32 = 4;
 /// The variant of a dead-name request.
 const DEAD_NAME_REQUEST: u32 = 72;
 
+/// The number of the disposition move receive.
+pub const MOVE_RECEIVE: u32 = 16;
+
 /// The number of the disposition move send once.
 pub const MOVE_SEND_ONCE: u32 = 18;
 

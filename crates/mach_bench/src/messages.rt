@@ -1,5 +1,5 @@
 //! The messages of workloads and worlds.
-use crate::calls::{Label, MAKE_SEND, Round};
+use crate::calls::{Label, MAKE_SEND, MOVE_RECEIVE, Round};
 use mach_types::Bytes;
 use std::alloc::{AllocError, Global};
 
@@ -9,6 +9,8 @@ const HEADER: u32 = 6;
 const ONE_RIGHT: u32 = 0x1001_2000 | MAKE_SEND;
 /// The word before an item of 64.
 const MANY_RIGHTS: u32 = 0x1040_2000 | MAKE_SEND;
+/// The word before an item of one receive right.
+const RECEIVE_RIGHT: u32 = 0x1001_2000 | MOVE_RECEIVE;
 
 /// What stands behind the header of a message.
 #[derive(Clone, Copy)]
@@ -19,6 +21,8 @@ pub enum Body {
     Items(u32),
     /// 64 rights from under 1 on, in one item.
     Together,
+    /// The receive right under the name.
+    Moved(Label),
 }
 
 impl Body {
@@ -28,17 +32,20 @@ impl Body {
             Body::Zeros(length) => length,
             Body::Items(count) => count.wrapping_mul(2),
             Body::Together => 65,
+            Body::Moved(_) => 2,
         }
     }
 
-    /// The word of this number, from 0.
-    fn word(self, index: u32) -> u32 {
+    /// The word of this number, from 0, in this round.
+    fn word(self, index: u32, round: Round) -> u32 {
         match self {
             Body::Zeros(_) => 0,
             Body::Items(_) if index % 2 == 0 => ONE_RIGHT,
             Body::Items(_) => index / 2 + 1,
             Body::Together if index == 0 => MANY_RIGHTS,
             Body::Together => index,
+            Body::Moved(_) if index == 0 => RECEIVE_RIGHT,
+            Body::Moved(label) => label.number(round),
         }
     }
 }
@@ -73,7 +80,7 @@ impl Message {
             2 => self.to.number(round),
             3 => self.reply,
             1 | 4 | 5 => 0,
-            _ => self.body.word(index.wrapping_sub(HEADER)),
+            _ => self.body.word(index.wrapping_sub(HEADER), round),
         }
     }
 }

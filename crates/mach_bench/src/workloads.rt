@@ -39,6 +39,12 @@ const GIVEN_UP: u32 = 60_000;
 const MANY: u32 = 60_000;
 /// Half of them: the cost of one is to be the same.
 const HALF: u32 = 30_000;
+/// How many ports there are in a chain, each with the one before it in its queue.
+const CHAIN: u32 = 10_000;
+/// Twice as many: the cost of one is to be the same.
+const LONG_CHAIN: u32 = 20_000;
+/// `HOME`'s name of the first port of a chain.
+const FIRST_LINK: u32 = 1_001;
 /// How many tasks name a port that dies, or are told of it, where they are few.
 const FEW: u32 = 1_000;
 /// The first task that a workload makes in the small world, where there are three before.
@@ -122,6 +128,30 @@ const ANSWER: Message = Message {
     body: Body::Zeros(0),
 };
 
+/// The receive right of the port under 2, which comes under the fresh name 2 again.
+const CARRYING: Message = Message {
+    bits: COMPLEX | MAKE_SEND,
+    to: Same(SERVICE),
+    reply: 0,
+    body: Body::Moved(Same(2)),
+};
+
+/// The receive right of a port of a chain, to the next one.
+const LINKING: Message = Message {
+    bits: COMPLEX | MAKE_SEND,
+    to: Rising(FIRST_LINK + 1),
+    reply: 0,
+    body: Body::Moved(Rising(FIRST_LINK)),
+};
+
+/// The receive right of `HOME`'s port, to the first port of a chain, by `HOME`'s send right to it.
+const TO_CHAIN: Message = Message {
+    bits: COMPLEX | COPY_SEND,
+    to: Same(FIRST_LINK),
+    reply: 0,
+    body: Body::Moved(Same(SERVICE)),
+};
+
 /// `HOME`'s port, to which `PEER` has a send right, and a port of `PEER`'s.
 const TWO_TASKS: Group = Group {
     rounds: 1,
@@ -179,6 +209,18 @@ const NAMING_AND_ASKING: &[Step] = &[
     Make(Call::Ask(Rising(FIRST_TASK))),
 ];
 
+/// The first port of a chain.
+const CHAIN_BEGUN: Group = Group {
+    rounds: 1,
+    steps: &[Make(Call::MakeNamed(HOME, RECEIVE, Same(FIRST_LINK)))],
+};
+
+/// The next port of a chain, in whose queue the one before it lies then.
+const LINK: &[Step] = &[
+    Make(Call::MakeNamed(HOME, RECEIVE, Rising(FIRST_LINK + 1))),
+    Make(Call::Send(HOME, LINKING)),
+];
+
 /// `OTHER` ends. A kernel takes one such cycle.
 const OTHER_ENDS: Group = Group {
     rounds: 1,
@@ -201,7 +243,7 @@ pub const SEND_RECEIVE: Workload = Workload {
     }],
 };
 
-const WORKLOADS: [Workload; 34] = [
+const WORKLOADS: [Workload; 38] = [
     SEND_RECEIVE,
     // A message with one send right, from another task, to one that has the port named.
     Workload {
@@ -489,6 +531,44 @@ const WORKLOADS: [Workload; 34] = [
             steps: &[Add(Call::Names)],
         }],
     },
+    // A receive right sent and received by one task.
+    Workload {
+        name: "carry",
+        operations: 1,
+        groups: &[Group {
+            rounds: 1,
+            steps: &[
+                SERVICE_MADE,
+                Make(Call::MakeNamed(HOME, RECEIVE, Same(2))),
+                Add(Call::Send(HOME, CARRYING)),
+                RECEIVED,
+            ],
+        }],
+    },
+    // A receive right sent to the first port of a chain of 10,000, of which each but the last lies in the queue of the
+    // next. A kernel takes one cycle.
+    Workload {
+        name: "chain-send-10000",
+        operations: 1,
+        groups: &[
+            SERVICE_ALONE,
+            Group {
+                rounds: 1,
+                steps: &[
+                    Make(Call::MakeNamed(HOME, RECEIVE, Same(FIRST_LINK))),
+                    Make(Call::Give(Same(HOME), Same(FIRST_LINK), HOME, Same(FIRST_LINK))),
+                ],
+            },
+            Group {
+                rounds: CHAIN - 1,
+                steps: LINK,
+            },
+            Group {
+                rounds: 1,
+                steps: &[Add(Call::Send(HOME, TO_CHAIN))],
+            },
+        ],
+    },
     // A port made, under the fresh name 1, and destroyed.
     Workload {
         name: "port-made",
@@ -620,6 +700,38 @@ const WORKLOADS: [Workload; 34] = [
                 steps: NAMING_AND_ASKING,
             },
             SERVICE_DIES,
+        ],
+    },
+    // A chain of 10,000 ports dies, of which each but the last lies in the queue of the next.
+    Workload {
+        name: "chain-10000",
+        operations: CHAIN,
+        groups: &[
+            CHAIN_BEGUN,
+            Group {
+                rounds: CHAIN - 1,
+                steps: LINK,
+            },
+            Group {
+                rounds: 1,
+                steps: &[Add(Call::Destroy(FIRST_LINK + CHAIN - 1))],
+            },
+        ],
+    },
+    // A chain of 20,000 ports dies.
+    Workload {
+        name: "chain-20000",
+        operations: LONG_CHAIN,
+        groups: &[
+            CHAIN_BEGUN,
+            Group {
+                rounds: LONG_CHAIN - 1,
+                steps: LINK,
+            },
+            Group {
+                rounds: 1,
+                steps: &[Add(Call::Destroy(FIRST_LINK + LONG_CHAIN - 1))],
+            },
         ],
     },
 ];

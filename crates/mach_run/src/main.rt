@@ -4,6 +4,8 @@
 //! writers.
 #![tactic(auto)]
 
+#[cfg(test)]
+mod carried;
 mod command_line;
 #[cfg(test)]
 mod deaths;
