@@ -1,3 +1,0 @@
-pub mod LineLemmas
-pub mod OutputLemmas
-pub mod ScriptLemmas
