@@ -220,6 +220,18 @@ impl Lists {
         ensures ok { OnOk result (self.new ≡ record self.old { items = max self.old.items items }) }
         ensures err { OnErr result (self.new ≡ self.old) }
     {
+        if items <= self.links.len() {
+            return Ok(());
+        }
+        self.grow(items)
+    }
+
+    // Makes room where there is too little: apart, as most calls find enough.
+    #[inline(never)]
+    fn grow(&mut self, items: usize) -> Result<(), AllocError>
+        ensures ok { OnOk result (self.new ≡ record self.old { items = max self.old.items items }) }
+        ensures err { OnErr result (self.new ≡ self.old) }
+    {
         if items > MOST_ITEMS {
             return Err(AllocError);
         }

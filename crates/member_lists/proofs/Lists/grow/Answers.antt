@@ -1,7 +1,7 @@
 use Rattle.std.proofs.Common.{arith}
 use Rattle.member_lists.proofs.Changed.{links_grown}
 use Rattle.member_lists.proofs.Kept.{grown, lists_more}
-use Rattle.member_lists.proofs.Lists.reserve.Goals as goal
+use Rattle.member_lists.proofs.Lists.grow.Goals as goal
 
 pub invariant_of-self-in-Continue-branch-2 : goal.invariant_of-self-in-Continue-branch-2
 invariant_of-self-in-Continue-branch-2 c = grown c.self.inside.links.items c.self.inside.ends c.self.invariant c.args.self.now c.self.view_is c.resize.new.self.items c.reserve.new.self c.args.items c.in_ok-reserve.ensures.ok
