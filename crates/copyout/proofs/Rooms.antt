@@ -1,9 +1,9 @@
 -- Room made for names, the front message once it was, and the room that is left.
-use Rattle.std.proofs.Common.{◌≡◌, ◌≢◌, ℕ, ◌+◌, ◌-◌, ◌<◌, ◌≤◌, List, [], ◌∷◌, Option, Some, None, zero, suc, refl, sym, ap, subst, ◌∙◌, arith, true, false, Bool, inl, inr, length}
-use Rattle.std.specs.Prelude.{slice_set, is_some, max, MatchBool, if◌then◌else◌, ◌==◌}
+use Rattle.std.proofs.Common.{◌≡◌, ◌≢◌, ℕ, ◌+◌, ◌-◌, ◌<◌, ◌≤◌, List, [], ◌∷◌, Option, Some, None, zero, suc, refl, sym, ap, subst, ◌∙◌, arith, true, false, Bool, inl, inr, length, Result, Ok, Err, IfOk, IfErr}
+use Rattle.std.specs.Prelude.{slice_set, is_some, is_ok, max, min, MatchBool, if◌then◌else◌, ◌==◌}
 use Rattle.std.specs.Option.{unwrap_or}
 use Rattle.std.specs.FinMap as map
-use Rattle.mach_types.specs.Numbers.{kind_sent, most_names}
+use Rattle.mach_types.specs.Numbers.{kind_sent, most_bytes, most_names}
 use Rattle.mach_types.specs.Tokens.{Kind}
 use Rattle.name_space.specs.Names.{Names, SpaceView}
 use Rattle.name_space.proofs.Keys.{put_here, put_other, equal_or_not}
@@ -27,7 +27,9 @@ use Rattle.copyin_base.proofs.Told.{space_there}
 use Rattle.copyout.specs.Giving.{LackNames, free_names, free_room, GivesPort, GivesMark, GivesAll}
 use Rattle.copyout.specs.Room.{Needs}
 use Rattle.copyout.specs.Takes.{TakesFront, TakesMessage, destination_right}
-use Rattle.copyout.specs.Ready.{CanGive, Waits, HasFront, MayReceive, ReadyFor, carried_by, sends_for}
+use Rattle.copyout.specs.Ready.{CanGive, Waits, HasFront, MayHave, MayReceive, ReadyFor, IsRefusedBy, carried_by, sends_for}
+use Rattle.copyout.specs.declared.receipt.Refusal.{Refusal}
+use Rattle.copyout.specs.declared.receipt.Refusal.TheVariants as refused
 use Rattle.copyout.specs.Wanted.{WantsToReceive, ReturnsSlot}
 use Rattle.copyout.proofs.After.{entered-put, sends-taken}
 use Rattle.copyout.proofs.Counted.{too_few, enough, left_then, starts}
@@ -193,6 +195,35 @@ module _ (w : WorldView) (task : ℕ) (m : Kept) (space : SpaceView) (needed : �
 
   pub names_lack : map.len space.names ≤ most_names → free_names space < needed → LackNames w task (carried_by m)
   names_lack most many = too_few free_names names_are_free w.ports space.names task [] (carried_by m) w _ _ needed (starts free_names w.ports w task space there (λ p. refl)) needs (omega (arith, most)) many
+
+-- a message that may have so many names is refused for want of memory alone
+pub may_enough : (w : WorldView) (task : ℕ) (m : Kept) (room needed : ℕ) → MayHave w task m room needed → IsRefusedBy w task m room refused.Memory
+may_enough w task m room needed may = (may.fits, names_enough w task m may.space needed may.there may.needs may.names)
+
+-- the message in front is one
+same_front_as : (w : WorldView) (port : ℕ) (m now : Kept) → HasFront w port m → HasFront w port now → m ≡ now
+same_front_as w port m now f g =
+    let v : f.v ≡ g.v = same_found (port_at w port) f.v g.v f.there g.there in
+    same_head g.v.queue m now f.behind g.behind (ap (λ (v : PortView Kept). v.queue) (sym v) ∙ f.queue) g.queue
+
+pub one_front : (w : WorldView) (port : ℕ) (m now : Kept) → HasFront w port m → HasFront w port now → length m.bytes ≤ most_bytes → length now.bytes ≤ most_bytes
+one_front w port m now f g few = subst (λ (k : Kept). length k.bytes ≤ most_bytes) (same_front_as w port m now f g) few
+
+-- what is told of the front message, by what was judged
+pub told_receivable : (w : WorldView) (task port : ℕ) (m now : Kept) → HasFront w port m → HasFront w port now → (room : ℕ) (judged : Result ℕ Refusal) (b : Bool) →
+    IfOk judged (λ needed. MayHave w task now room needed) → IfErr judged (λ refusal. IsRefusedBy w task now room refusal × (refusal ≢ refused.Memory)) → b ≡ is_ok judged →
+    MatchBool b (IsRefusedBy w task m room refused.Memory) (¬ (IsRefusedBy w task m room refused.Memory))
+told_receivable w task port m now f g room judged b ok err is =
+    subst (λ (k : Kept). MatchBool b (IsRefusedBy w task k room refused.Memory) (¬ (IsRefusedBy w task k room refused.Memory))) (sym (same_front_as w port m now f g)) (go judged b ok err is)
+  where
+    go : (judged : Result ℕ Refusal) (b : Bool) → IfOk judged (λ needed. MayHave w task now room needed) → IfErr judged (λ refusal. IsRefusedBy w task now room refusal × (refusal ≢ refused.Memory)) →
+        b ≡ is_ok judged → MatchBool b (IsRefusedBy w task now room refused.Memory) (¬ (IsRefusedBy w task now room refused.Memory))
+    go (Ok needed) true may err is = may_enough w task now room needed may
+    go (Ok needed) false may err is = absurd (cc)
+    go (Err refusal) true ok err is = absurd (cc)
+    go (Err (refused.TooLarge n)) false ok err is = λ h. let less = err.0.1 in let fits = h.0 in omega (arith, less, fits)
+    go (Err refused.Names) false ok err is = λ h. h.1 err.0.1
+    go (Err refused.Memory) false ok err is = λ h. err.1 refl
 
 -- ---- where memory is wanted
 

@@ -104,15 +104,20 @@ pub record Waits (w : WorldView) (port : ℕ) : Type 0 where
       sends_for (carried_by front) p + (if front.by_once then 0 else if port == p then 1 else 0) ≤ (counts_of w.ledger p).send
   pub none_lost : NoneLost w
 
--- The front message may be received: it fits, and its rights need so many names, which the task may have.
+-- The message may be received: it fits, and its rights need so many names, which the task may have.
+pub record MayHave (w : WorldView) (task : ℕ) (m : Kept) (room needed : ℕ) : Type 0 where
+  pub fits : length m.bytes ≤ min room most_bytes
+  pub space : SpaceView
+  pub there : space_at w task ≡ Some space
+  pub needs : Needs w.ports space.names [] (carried_by m) needed
+  pub names : needed ≤ free_names space
+
+-- So it is with the front message.
 pub record MayReceive (w : WorldView) (task port room needed : ℕ) : Type 0 where
   pub front : Kept
   pub waits : HasFront w port front
-  pub fits : length front.bytes ≤ min room most_bytes
-  pub space : SpaceView
-  pub there : space_at w task ≡ Some space
-  pub needs : Needs w.ports space.names [] (carried_by front) needed
-  pub names : needed ≤ free_names space
+  pub may : MayHave w task front room needed
+  pub open may use *
 
 -- It can be taken: there is room for the names that its rights need, and for the words of its body.
 pub record ReadyFor (w : WorldView) (task port capacity : ℕ) : Type 0 where

@@ -1,7 +1,8 @@
 //! Copying rights out: what a receiver gets of a queued message.
 //!
-//! [`receive`] judges and takes a port's front message, [`room_needed`] counts the names that its
-//! rights need, [`give_right`] gives one right, and [`put_right`] gives it a name that the caller chose.
+//! [`receive`] judges and takes a port's front message, [`is_receivable`] judges it but for memory,
+//! [`room_needed`] counts the names that its rights need, [`give_right`] gives one right, and
+//! [`put_right`] gives it a name that the caller chose.
 #![tactic(auto)]
 
 mod give;
@@ -11,5 +12,5 @@ mod room;
 
 pub use give::give_right;
 pub use put::put_right;
-pub use receipt::{Refusal, note_front, receive, take_front};
+pub use receipt::{Refusal, is_receivable, note_front, receive, take_front};
 pub use room::room_needed;

@@ -18,7 +18,7 @@ ghost use Rattle.copyin_base.specs.Worlds.{WorldView, port_at, HasTask};
 ghost use Rattle.std.specs.Option.{option_to_list};
 ghost use Rattle.copyout.specs.Giving.{GivesAll};
 ghost use Rattle.copyout.specs.Takes.{TakesFront, TakesMessage, NotesFront, destination_right, reply_number, reply_word};
-ghost use Rattle.copyout.specs.Ready.{CanGive, Waits, HasFront, MayReceive, ReadyFor, Delivers, IsRefusedBy, carried_by};
+ghost use Rattle.copyout.specs.Ready.{CanGive, Waits, HasFront, MayHave, MayReceive, ReadyFor, Delivers, IsRefusedBy, carried_by};
 ghost use Rattle.copyout.specs.Prepared.{IsPrepared};
 ghost use Rattle.copyout.specs.Wanted.{WantsToPrepare, WantsToReceive, ReturnsSlot};
 ghost use Rattle.copyout.specs.declared.receipt.Refusal.TheVariants as refused;
@@ -258,6 +258,24 @@ fn prepare(alloc: Global, queued: &Queued) -> Result<Prepared, AllocError>
     Ok(Prepared { names, made })
 }
 
+// How many names the rights of a message need; or why it isn't received, but for want of memory.
+fn judge_names(world: &World, task: TaskId, queued: &Queued, room: u32) -> Result<usize, Refusal>
+    requires there { HasTask world.now task }
+    requires few { length queued.now.bytes ≤ most_bytes }
+    ensures ok { IfOk result (λ needed. MayHave world.now task queued.now room needed) }
+    ensures err { IfErr result (λ refusal. IsRefusedBy world.now task queued.now room refusal × (refusal ≢ refused.Memory)) }
+{
+    if is_too_large(queued, room) {
+        return Err(Refusal::TooLarge(queued.len() as u32));
+    }
+    let space = world.space(task);
+    let needed = room_needed(world, &space, queued);
+    if needed > MOST_NAMES - space.len() {
+        return Err(Refusal::Names);
+    }
+    Ok(needed)
+}
+
 // How many names the rights of the front message need, and what memory is taken for before it is taken;
 // or why it isn't received.
 fn judge(
@@ -274,18 +292,23 @@ fn judge(
     ensures wanted { IfErr result (λ refusal. refusal ≡ refused.Memory → WantsToReceive world.now task port) }
 {
     let queued = front(world, port);
-    if is_too_large(queued, room) {
-        return Err(Refusal::TooLarge(queued.len() as u32));
-    }
-    let space = world.space(task);
-    let needed = room_needed(world, &space, queued);
-    if needed > MOST_NAMES - space.len() {
-        return Err(Refusal::Names);
-    }
+    let needed = judge_names(world, task, queued, room)?;
     match prepare(alloc, queued) {
         Ok(prepared) => Ok((needed, prepared)),
         Err(_) => Err(Refusal::Memory),
     }
+}
+
+/// Whether only want of memory could refuse to give the port's front message to the task: it isn't too
+/// large, and the task's names suffice for its rights.
+///
+/// Takes no memory. The time is that of [`room_needed`].
+pub fn is_receivable(world: &World, task: TaskId, port: PortId, room: u32) -> bool
+    requires there { HasTask world.now task }
+    requires waits { Waits world.now port }
+    ensures { (m : Kept) → HasFront world.now port m → MatchBool result (IsRefusedBy world.now task m room refused.Memory) (¬ (IsRefusedBy world.now task m room refused.Memory)) }
+{
+    judge_names(world, task, front(world, port), room).is_ok()
 }
 
 // Makes room for so many fresh names of the task. Most messages need none.

@@ -16,3 +16,5 @@ mod Going
 mod Transferring
 mod Listed
 mod Bounding
+mod Lacking
+mod Staying

@@ -237,7 +237,7 @@ module _ (w : WorldView) (s : State) (sh : Shows w s) (task : ℕ) where
     subst (λ (xs : List ℕ). Contains xs set) (sh.agrees.ports port from.v from.there).sets (one_in from.v.attributes.set set from.is_of),
   )
 
-  from_held : (waited : Waited) (port : ℕ) → TakesFrom s task waited port → Holds s task receive port
+  pub from_held : (waited : Waited) (port : ℕ) → TakesFrom s task waited port → Holds s task receive port
   from_held (Waited.Port q) port from = from.1
   from_held (Waited.Set set) port from =
       let m = sh.lawful.members port set from.1 in
@@ -246,7 +246,7 @@ module _ (w : WorldView) (s : State) (sh : Shows w s) (task : ℕ) where
       same_task : (t u : ℕ) → Some t ≡ Some u → t ≡ u
       same_task t u e = cc
 
-  from_of : (waited : Waited) (port : ℕ) → TakesFrom s task waited port → (v : PortView Kept) → port_at w port ≡ Some v → IsOf waited port v
+  pub from_of : (waited : Waited) (port : ℕ) → TakesFrom s task waited port → (v : PortView Kept) → port_at w port ≡ Some v → IsOf waited port v
   from_of (Waited.Port q) port from v there = from.0
   from_of (Waited.Set set) port from v there = in_one v.attributes.set set (subst (λ (xs : List ℕ). Contains xs set) (sym (sh.agrees.ports port v there).sets) from.1)
 
@@ -280,7 +280,7 @@ message_destroyable w stands port waited h = go h.from.v.queue refl
     go (m ∷ ms) e = can_destroy w stands.state stands.shown port h.from.v h.from.there m ms e
 
 module _ (w : WorldView) (task : ℕ) (below : HasTask w task) (waited : Waited) (good : IsAllowed w (λ s. again_guards s task waited)) (room : ℕ) where
-  live : (s : State) → Shows w s → s.live_task task ≡ true
+  pub live : (s : State) → Shows w s → s.live_task task ≡ true
   live s sh = go (s.live_task task) refl
     where
       go : (b : Bool) → s.live_task task ≡ b → s.live_task task ≡ true

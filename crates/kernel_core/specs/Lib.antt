@@ -5,4 +5,5 @@ pub mod Transfer
 pub mod Room
 pub mod Receive
 pub mod Wanted
+pub mod MemoryCodes
 pub mod Bounds

@@ -1,5 +1,5 @@
 //! A kernel, and its steps.
-ghost use Rattle.std.specs.Prelude.{◌≡◌, ◌≤◌, ℕ, ◌++◌, IfOk, IfErr, MatchBool};
+ghost use Rattle.std.specs.Prelude.{◌≡◌, ◌≤◌, ℕ, ◌++◌, IfOk, IfErr, OnErr, MatchBool};
 ghost use Rattle.std.specs.Option.{option_to_list};
 ghost use Rattle.mach_types.specs.declared.codes.KernReturn.TheVariants as kern;
 ghost use Rattle.mach_types.specs.Numbers.{kern_number, most_bytes};
@@ -7,6 +7,7 @@ ghost use Rattle.mach_types.specs.declared.calls.Reply.{Reply as AnyReply};
 ghost use Rattle.mach_model.specs.State.{State, opening};
 ghost use Rattle.mach_model.specs.Machine.{Step};
 ghost use Rattle.mach_model.specs.Refusals.{tasks_of};
+ghost use Rattle.mach_laws.specs.Judging.{IsBySet};
 ghost use Rattle.mach_laws.specs.Queued.{unused};
 ghost use Rattle.copyin_base.specs.Acts.{AreTasks, HasTasks, Declines};
 ghost use Rattle.rights.specs.Unused.{IsUnusedOfAll};
@@ -15,9 +16,11 @@ ghost use Rattle.copyin_base.specs.Stands.{Stands};
 ghost use Rattle.kernel_core.specs.Answers.{Answers};
 ghost use Rattle.kernel_core.specs.Bounds.{most_told, IsWithin};
 ghost use Rattle.kernel_core.specs.Kernels.{TakesTurns};
+ghost use Rattle.kernel_core.specs.MemoryCodes.{TellsMemoryCode};
 ghost use Rattle.kernel_core.specs.Wanted.{Wanted, Spares, Performs};
 
 use crate::bound;
+use crate::memory::tell_memory_code;
 use crate::receive::{Buffer, receive, receive_again};
 use crate::send::send;
 use crate::transfer::{TaskName, extract, insert};
@@ -30,7 +33,7 @@ use kernel_core_base::{
 };
 use mach_types::{Event, KernReturn, Reply, TaskId};
 use notifications::{Asked, request_notification};
-use std::alloc::Global;
+use std::alloc::{AllocError, Global};
 use std::marker::Model;
 
 /// Tasks, their names, ports and queued messages.
@@ -130,6 +133,28 @@ impl Kernel {
         }
     }
 
+    /// The code by which want of memory may refuse the call now; `None` where it never may.
+    ///
+    /// A step of the call may be refused with this code, and changes nothing then: at the calls that may
+    /// take memory, where nothing else refuses them. A send may be once its bytes are a message, whatever
+    /// its rights are; a receipt where a message that it may take fits, and the task's names suffice for
+    /// its rights: of a set's members, where that is so of any. So whoever has a history can tell whether
+    /// such a refusal in it is one that the machine allows. Nothing changes.
+    ///
+    /// An error means that memory was refused: for the list of a set's members, where the call receives
+    /// by a set. Constant time, and logarithmic for a name above 65,535; but linear in a message that is
+    /// sent, in the rights of one that may be received, and in the members of a set.
+    pub fn memory_code(&self, event: &Event) -> Result<Option<u32>, AllocError>
+        ensures ok { IfOk result (λ code. TellsMemoryCode self.now.tables event.now code) }
+        ensures err { OnErr result ((s : State) → Shows self.now.tables s → IsBySet s event.now) }
+    {
+        if has_tasks(&self.world, event) {
+            tell_memory_code(&self.world, self.alloc, event)
+        } else {
+            Ok(None)
+        }
+    }
+
     /// In how many turns the last step ended: 0 before the first, and after a refusal. A turn is a port
     /// judged, a message destroyed, a right of such a message lost, or a request ended. Constant time.
     pub fn last_turns(&self) -> u64
@@ -165,12 +190,19 @@ fn check_tasks(world: &World, event: &Event) -> Result<(), KernReturn>
     ensures ok { IfOk result (λ _. HasTasks world.now event.now) }
     ensures err { IfErr result (λ code. (code ≡ kern.InvalidTask) × Declines world.now event.now (kern_number code) world.now) }
 {
-    let (task, other) = tasks_of(event);
-    if lives(world, task) && lives(world, other) {
+    if has_tasks(world, event) {
         Ok(())
     } else {
         Err(KernReturn::InvalidTask)
     }
+}
+
+/// Whether the tasks that the call names live. Constant time.
+fn has_tasks(world: &World, event: &Event) -> bool
+    ensures { MatchBool result (HasTasks world.now event.now) (¬ (HasTasks world.now event.now)) }
+{
+    let (task, other) = tasks_of(event);
+    lives(world, task) && lives(world, other)
 }
 
 /// Whether the task lives, if there is one.

@@ -91,7 +91,7 @@ pub(crate) fn receive_again(
 
 /// What a receive by the name takes from: a port that is in no set, whose receive right is under it, or
 /// a port set.
-fn source(world: &World, task: TaskId, name: Name) -> Result<Waited, MsgReturn>
+pub(crate) fn source(world: &World, task: TaskId, name: Name) -> Result<Waited, MsgReturn>
     requires { Stands world.now }
     ensures ok { IfOk result (λ waited. Sources world.now task name waited) }
     ensures found { IfOk result (λ waited. option_and_then waited_at (entry_at world.now task name) ≡ Some waited) }
@@ -113,7 +113,7 @@ fn source(world: &World, task: TaskId, name: Name) -> Result<Waited, MsgReturn>
 }
 
 /// Whether the task may still take from what it waited for.
-fn judge_again(world: &World, task: TaskId, waited: &Waited) -> Result<(), MsgReturn>
+pub(crate) fn judge_again(world: &World, task: TaskId, waited: &Waited) -> Result<(), MsgReturn>
     requires { HasTask world.now task }
     ensures ok { IfOk result (λ _. IsAllowed world.now (λ s. again_guards s task waited.now)) }
     ensures err { IfErr result (λ code. IsRefused world.now (λ s. again_guards s task waited.now) (msg_number code)) }

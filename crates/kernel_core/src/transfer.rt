@@ -167,7 +167,7 @@ fn keep_place(world: &mut World, to: &TaskName, handed: &Handed) -> Result<(), K
 
 /// How a right may be handed on.
 #[derive(Clone, Copy)]
-struct Handed {
+pub(crate) struct Handed {
     /// By which disposition it goes.
     given: Disposition,
     /// What it is a right for.
@@ -211,7 +211,7 @@ struct Going {
 }
 
 /// The right that may be inserted so: by which disposition, and for which port.
-fn judge_insert(
+pub(crate) fn judge_insert(
     world: &World,
     to: &TaskName,
     from: &TaskName,
@@ -230,7 +230,7 @@ fn judge_insert(
 }
 
 /// The right that may be extracted so: by which disposition, and for which port.
-fn judge_extract(
+pub(crate) fn judge_extract(
     world: &World,
     from: &TaskName,
     number: u32,

@@ -165,7 +165,7 @@ module _ (w : WorldView) (task name set : ℕ) (is : entry_at w task name ≡ So
   pub is_set_target : (s : State) → Agrees w s → ¬ ¬ (IsSet (lookup s task name))
   is_set_target s a not = not (subst (λ (o : Option Target). IsSet o) (sym (found w s a task name (entry.Set set) is)) tt)
 
-  set_allowed : IsAllowed w (λ s. set_guards s task name)
+  pub set_allowed : IsAllowed w (λ s. set_guards s task name)
   set_allowed = record { allowed = λ s sh. (used w s sh.agrees task name (entry.Set set) is, (is_set_target s sh.agrees, tt)) }
 
   pub set_no_memory : HasTask w task → Declines w (Event.SetStatus task name) (kern_number ResourceShortage) w

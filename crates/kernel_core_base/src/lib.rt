@@ -12,8 +12,11 @@ mod references;
 mod sets;
 mod tasks;
 
-pub use names::{allocate, allocate_name, list_names, name_type, rename};
+pub use names::{
+    allocate, allocate_name, check_allocate, check_allocate_name, check_rename, list_names,
+    name_type, rename,
+};
 pub use receive_right::{receive_status, set_mscount, set_qlimit, set_seqno};
 pub use references::{deallocate, destroy, get_refs, mod_refs};
-pub use sets::{move_member, set_status};
-pub use tasks::{create_task, terminate_task};
+pub use sets::{check_set_status, move_member, set_status};
+pub use tasks::{check_create_task, create_task, terminate_task};

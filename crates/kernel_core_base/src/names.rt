@@ -86,6 +86,33 @@ pub fn allocate_name(world: &mut World, task: TaskId, right: u32, name: Name) ->
     Ok(Reply::Name(name))
 }
 
+/// Whether the right may be made under a fresh name, where there is memory: as [`allocate`] refuses it,
+/// but for want of memory. The task lives. Constant time.
+pub fn check_allocate(world: &World, task: TaskId, right: u32) -> Result<(), KernReturn>
+    requires { HasTask world.now task }
+    ensures ok { OnOk result (IsAllowed world.now (λ s. call_guards s (Event.Allocate task right))) }
+    ensures err { IfErr result (λ code. IsRefused world.now (λ s. call_guards s (Event.Allocate task right)) (kern_number code)) }
+{
+    judge_allocate(world, task, right)?;
+    Ok(())
+}
+
+/// Whether the right may be made under the name, where there is memory: as [`allocate_name`] refuses it,
+/// but for want of memory. The task lives. Constant time, and logarithmic for a name above 65,535.
+pub fn check_allocate_name(
+    world: &World,
+    task: TaskId,
+    right: u32,
+    name: Name,
+) -> Result<(), KernReturn>
+    requires { HasTask world.now task }
+    ensures ok { OnOk result (IsAllowed world.now (λ s. call_guards s (Event.AllocateName task right name))) }
+    ensures err { IfErr result (λ code. IsRefused world.now (λ s. call_guards s (Event.AllocateName task right name)) (kern_number code)) }
+{
+    judge_allocate_name(world, task, right, name)?;
+    Ok(())
+}
+
 // What is to be made under a fresh name, or why it isn't.
 fn judge_allocate(world: &World, task: TaskId, right: u32) -> Result<NewRight, KernReturn>
     requires { HasTask world.now task }
@@ -320,6 +347,17 @@ pub fn rename(world: &mut World, task: TaskId, from: Name, to: Name) -> Result<R
     move_request(&mut world.requests, task, from, to);
     name_set(world, entry, to);
     Ok(Reply::Code(0))
+}
+
+/// Whether the name may be changed so, where there is memory: as [`rename`] refuses it, but for want of
+/// memory. The task lives. Constant time, and logarithmic for a name above 65,535.
+pub fn check_rename(world: &World, task: TaskId, from: Name, to: Name) -> Result<(), KernReturn>
+    requires { HasTask world.now task }
+    ensures ok { OnOk result (IsAllowed world.now (λ s. call_guards s (Event.Rename task from to))) }
+    ensures err { IfErr result (λ code. IsRefused world.now (λ s. call_guards s (Event.Rename task from to)) (kern_number code)) }
+{
+    judge_rename(world, task, from, to)?;
+    Ok(())
 }
 
 // What is to be renamed, or why it isn't.

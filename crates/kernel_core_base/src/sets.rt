@@ -5,8 +5,8 @@ ghost use Rattle.std.specs.FinMap as map;
 ghost use Rattle.std.specs.Ordering.{nat_cmp};
 ghost use Rattle.mach_types.specs.declared.calls.Event.{Event};
 ghost use Rattle.mach_types.specs.Numbers.{kern_number};
-ghost use Rattle.mach_model.specs.Refusals.{move_guards};
-ghost use Rattle.copyin_base.specs.Acts.{IsRefused, Serves};
+ghost use Rattle.mach_model.specs.Refusals.{call_guards, move_guards};
+ghost use Rattle.copyin_base.specs.Acts.{IsAllowed, IsRefused, Serves};
 ghost use Rattle.copyin_base.specs.Stands.{Stands};
 ghost use Rattle.copyin_base.specs.Wanted.{KeepsSpares};
 ghost use Rattle.name_space.specs.Names.{port_at};
@@ -35,6 +35,17 @@ pub fn set_status(world: &World, alloc: Global, task: TaskId, name: Name) -> Res
         Ok(members) => Ok(Reply::Members(NameList::from_vec(members))),
         Err(_) => Err(Code::Kern(KernReturn::ResourceShortage)),
     }
+}
+
+/// Whether the members of the set may be told, where there is memory: as [`set_status`] refuses it, but
+/// for want of memory. The task lives. Constant time, and logarithmic for a name above 65,535.
+pub fn check_set_status(world: &World, task: TaskId, name: Name) -> Result<(), KernReturn>
+    requires { HasTask world.now task }
+    ensures ok { OnOk result (IsAllowed world.now (λ s. call_guards s (Event.SetStatus task name))) }
+    ensures err { IfErr result (λ code. IsRefused world.now (λ s. call_guards s (Event.SetStatus task name)) (kern_number code)) }
+{
+    world.find_set(task, name)?;
+    Ok(())
 }
 
 // The members' names among those of a task, rising.

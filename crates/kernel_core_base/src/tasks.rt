@@ -2,7 +2,9 @@
 ghost use Rattle.std.specs.Prelude.{◌≡◌, ◌++◌, ◌∷◌, [], OnOk, IfErr};
 ghost use Rattle.mach_types.specs.declared.calls.Event.{Event};
 ghost use Rattle.mach_types.specs.declared.codes.KernReturn.TheVariants as kern;
-ghost use Rattle.copyin_base.specs.Acts.{Serves};
+ghost use Rattle.mach_types.specs.Numbers.{kern_number};
+ghost use Rattle.mach_model.specs.Refusals.{call_guards};
+ghost use Rattle.copyin_base.specs.Acts.{Serves, IsRefused, IsAllowed};
 ghost use Rattle.copyin_base.specs.Stands.{Stands};
 ghost use Rattle.copyin_base.specs.Wanted.{KeepsSpares, UsesSpares};
 ghost use Rattle.copyin_base.specs.Worlds.{HasTask};
@@ -31,6 +33,18 @@ pub fn create_task(world: &mut World, alloc: Global) -> Result<Reply, Code>
     }
     push_task(world, alloc)?;
     Ok(Reply::Task(TaskId::new(number as u32)))
+}
+
+/// Whether a task may be made, where there is memory: as [`create_task`] refuses it, but for want of
+/// memory. Constant time.
+pub fn check_create_task(world: &World) -> Result<(), KernReturn>
+    ensures ok { OnOk result (IsAllowed world.now (λ s. call_guards s Event.TaskCreate)) }
+    ensures err { IfErr result (λ code. IsRefused world.now (λ s. call_guards s Event.TaskCreate) (kern_number code)) }
+{
+    if world.spaces.len() >= MOST_TASKS {
+        return Err(KernReturn::NoSpace);
+    }
+    Ok(())
 }
 
 // One task more, with no names.

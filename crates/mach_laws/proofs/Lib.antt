@@ -29,7 +29,7 @@ mod Unanswered
 mod Senderless
 mod Deleted
 mod SentAway
-mod Answered
+pub mod Answered
 mod Answering
 mod Gathering
 mod Handed
@@ -40,8 +40,8 @@ mod Reordered
 pub mod Refusing
 mod Giving
 pub mod Spelled
-mod Requested
-mod Excluding
+pub mod Requested
+pub mod Excluding
 mod Measured
 mod Rising
 mod Deciding

@@ -271,3 +271,11 @@ module _ (task : ℕ) (place : Place) (number name : ℕ) (s : State) (judge : (
   hand_alike code another (p, mid, d, is, c, inl first) (q, end, f, is_f, e, inr short) not other = absurd (other short.1)
   hand_alike code another (p, mid, d, is, c, inl first) (q, end, f, is_f, e, inl second) not other =
       sym (one_first _ _ another code (judged_same p q mid end f is_f c e) second (subst (λ (x : Disposition). FirstIs (judge p (kind_sent x) mid) code) (one_disposition number c.given d c.is_given is) first))
+
+  -- a right that is refused, not for want of memory, isn't refused for want of memory
+  pub hand_short : (code : ℕ) → CopyRefuses task place number name s judge code → code ≢ kern_number ResourceShortage → CopyRefuses task place number name s judge (kern_number ResourceShortage) → ⊥
+  hand_short code (p, mid, d, is, c, inr short) not b = not short.1
+  hand_short code (p, mid, d, is, c, inl first) not (q, end, f, is_f, e, inl second) =
+      not (sym (one_first _ _ (kern_number ResourceShortage) code (judged_same p q mid end f is_f c e) second (subst (λ (x : Disposition). FirstIs (judge p (kind_sent x) mid) code) (one_disposition number c.given d c.is_given is) first)))
+  hand_short code (p, mid, d, is, c, inl first) not (q, end, f, is_f, e, inr short) =
+      hand_taken q end code e (subst (λ (x : Disposition). NoneHolds (judge q (kind_sent x) end)) (one_disposition number e.given f e.is_given is_f) short.0) (p, mid, d, is, c, inl first) not

@@ -193,6 +193,17 @@ module _ (s : State) (task name variant sync notify number : ℕ) (good : NoneHo
       one_first (noted_guards s x task name variant sync notify) (noted_guards s y task name variant sync notify) code other
       (noted_same s task name variant sync notify x y (all_alike task notify number s x y by_those (refused_copies x how) (refused_copies y way))) first second
 
+  -- what is refused, not for want of memory, isn't refused for want of memory
+  pub request_short : (code : ℕ) → RequestRefuses s task name variant sync notify number code → code ≢ kern_number ResourceShortage →
+      RequestRefuses s task name variant sync notify number (kern_number ResourceShortage) → ⊥
+  request_short code (x, how, inr short) not b = not short.1
+  request_short code (x, how, inl first) not (y, way, h) =
+      let same = noted_same s task name variant sync notify x y (all_alike task notify number s x y by_those (refused_copies x how) (refused_copies y way)) in
+      elim h [
+        | inl second ↦ not (one_first (noted_guards s x task name variant sync notify) (noted_guards s y task name variant sync notify) code (kern_number ResourceShortage) same first second)
+        | inr short ↦ none_is_first (noted_guards s x task name variant sync notify) (noted_guards s y task name variant sync notify) code same first short.0
+      ]
+
   -- ---- what comes back
 
   one_request : (copied : State) (a b : Request) → RequestOn copied task name variant a → RequestOn copied task name variant b → a ≡ b

@@ -146,10 +146,15 @@ module _ (w : WorldView) (task name : ℕ) (asked : Asked) (below : HasTask w ta
                 refl,
               ))
 
+-- where it may be carried out, only want of memory refuses it
+pub short_may : (w : WorldView) (task name : ℕ) (asked : Asked) (paying : Option Paying) (subject : Subject) (previous : Option ℕ) → HasTask w task → MayRequest w task name asked paying subject previous →
+    Declines w (event_of task name asked) (kern_number ResourceShortage) w
+short_may w task name asked paying subject previous below may = short w task name asked below may.good paying may.pays may.variant may.number subject may.is_on previous may.stood may.space
+
 -- where memory is lacking, only room was made
 pub short_of : (w : WorldView) (task name : ℕ) (asked : Asked) (paying : Option Paying) (subject : Subject) (previous : Option ℕ) → HasTask w task → MayRequest w task name asked paying subject previous →
     (new : WorldView) → SameButRooms w new → Declines w (event_of task name asked) (kern_number ResourceShortage) new
 short_of w task name asked paying subject previous below may new rooms = record {
-  refuses = (short w task name asked below may.good paying may.pays may.variant may.number subject may.is_on previous may.stood may.space).refuses;
+  refuses = (short_may w task name asked paying subject previous below may).refuses;
   shows = λ s sh. rooms_show w new s rooms sh;
 }

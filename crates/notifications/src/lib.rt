@@ -12,7 +12,7 @@ mod request;
 
 use copyin_base::{Notice, Queued, World};
 use mach_types::PortId;
-pub use request::{Asked, request_notification};
+pub use request::{Asked, check_request, request_notification};
 
 mod destroyed;
 mod ending;

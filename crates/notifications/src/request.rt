@@ -7,7 +7,7 @@ ghost use Rattle.mach_types.specs.Tokens.{send_once};
 ghost use Rattle.name_space.specs.declared.Entry.TheVariants as AnyEntry;
 ghost use Rattle.notifications.specs.declared.request.Variant.TheVariants as AnyVariant;
 ghost use Rattle.mach_types.specs.declared.calls.Event.TheVariants as AnyEvent;
-ghost use Rattle.copyin_base.specs.Acts.{IsRefused, Serves, code_number};
+ghost use Rattle.copyin_base.specs.Acts.{Declines, IsRefused, Serves, code_number};
 ghost use Rattle.copyin_base.specs.Changes.{with_slots};
 ghost use Rattle.copyin_base.specs.Stands.{Stands};
 ghost use Rattle.copyin_base.specs.Wanted.{LacksRoomFor, LacksSlots, KeepsSpares};
@@ -23,7 +23,7 @@ ghost use Rattle.copyout.specs.Ready.{CanGive};
 ghost use Rattle.notifications.specs.Posting.{CanPost};
 ghost use Rattle.notifications.specs.Wanted.{WantsToRequest, LeavesRequest, MakesSlotsFor};
 ghost use Rattle.notifications.specs.Putting.{port_taken, taken_away, mark_for, IsNotKept, with_kept, IsTold, TellsDead, CanPut, Puts, without, CanEnd, Ends, CanRenew, Renews, CanCarryOut, CarriesOut};
-ghost use Rattle.notifications.specs.Requesting.{IsMisasked, variant_number, CanPay, GoesNot, capability_guards, Pays, entry_left, names_left, IsSubject, subject_guards, previous_in, ComesOut, is_made_by, rights_then, LacksSpace};
+ghost use Rattle.notifications.specs.Requesting.{IsMisasked, variant_number, CanPay, GoesNot, capability_guards, Pays, entry_left, names_left, IsSubject, subject_guards, previous_in, ComesOut, is_made_by, rights_then, LacksSpace, MayRequest};
 
 use crate::post;
 use copyin::{copy_name, copy_right};
@@ -88,6 +88,17 @@ enum Subject {
     Dead(UserRefs),
 }
 
+/// A request that may be carried out, where there is memory.
+#[derive(Clone, Copy)]
+struct Judged {
+    /// The right that pays, if one is given.
+    paying: Option<Paying>,
+    /// What it is on.
+    subject: Subject,
+    /// The notify port of the request that stands there, if one does.
+    previous: Option<PortId>,
+}
+
 // ---- the call
 
 /// Asks for a notice, or takes such a request away (Port Manipulation Interface,
@@ -121,31 +132,73 @@ pub fn request_notification(
     ensures wanted { IfErr result (λ code. code_number code ≡ kern_number kern.ResourceShortage → WantsToRequest world.old task name asked.now) }
     ensures spares { LeavesRequest world.old asked.now result world.new }
 {
+    let judged = match judge(world, task, name, asked) {
+        Ok(judged) => judged,
+        Err(code) => return Err(Code::Kern(code)),
+    };
+    reserve(
+        world,
+        task,
+        &judged.subject,
+        &judged.paying,
+        &judged.previous,
+    )?;
+    let given = carry_out(world, task, name, asked.sync, &judged);
+    Ok(Reply::Previous(given))
+}
+
+/// Whether the request may be carried out, where there is memory: as [`request_notification`] refuses it,
+/// but for want of memory. The task lives. Constant time, and logarithmic for a name above 65,535.
+pub fn check_request(
+    world: &World,
+    task: TaskId,
+    name: Name,
+    asked: &Asked,
+) -> Result<(), KernReturn>
+    requires there { HasTask world.now task }
+    requires stands { Stands world.now }
+    ensures ok { OnOk result (Declines world.now (AnyEvent.RequestNotification task name asked.now.variant asked.now.sync asked.now.notify asked.now.disposition) (kern_number kern.ResourceShortage) world.now) }
+    ensures err { IfErr result (λ code. Declines world.now (AnyEvent.RequestNotification task name asked.now.variant asked.now.sync asked.now.notify asked.now.disposition) (kern_number code) world.now) }
+    ensures early { IfErr result (λ code. kern_number code ≢ kern_number kern.ResourceShortage) }
+{
+    match judge(world, task, name, asked) {
+        Ok(_) => Ok(()),
+        Err(code) => Err(code),
+    }
+}
+
+/// What is judged of the request, in the order of its refusals, before memory is wanted.
+fn judge(world: &World, task: TaskId, name: Name, asked: &Asked) -> Result<Judged, KernReturn>
+    requires there { HasTask world.now task }
+    requires stands { Stands world.now }
+    ensures ok { IfOk result (λ judged. MayRequest world.now task name asked.now judged.paying judged.subject judged.previous) }
+    ensures err { IfErr result (λ code. Declines world.now (AnyEvent.RequestNotification task name asked.now.variant asked.now.sync asked.now.notify asked.now.disposition) (kern_number code) world.now) }
+    ensures early { IfErr result (λ code. kern_number code ≢ kern_number kern.ResourceShortage) }
+{
     let variant = variant_of(asked)?;
     let paying = judge_paying(world, task, asked)?;
     let entry = entry_then(world, task, &paying, name);
     let subject = judge_subject(entry, variant, asked)?;
     let previous = previous_of(world, task, name, &subject);
     judge_space(world, task, &paying, &previous)?;
-    reserve(world, task, &subject, &paying, &previous)?;
-    let given = carry_out(world, task, name, asked.sync, &paying, &subject, &previous);
-    Ok(Reply::Previous(given))
+    Ok(Judged {
+        paying,
+        subject,
+        previous,
+    })
 }
 
 /// Carries the request out: renews it where a right pays, and else takes it away. Answers the name that
 /// the right of the one that stood there comes out under.
-fn carry_out(
-    world: &mut World,
-    task: TaskId,
-    name: Name,
-    sync: u32,
-    paying: &Option<Paying>,
-    subject: &Subject,
-    previous: &Option<PortId>,
-) -> Name
-    requires { CanCarryOut world.old task name paying.now subject.now previous.now }
-    ensures { CarriesOut world.old task name sync paying.now subject.now previous.now result world.new }
+fn carry_out(world: &mut World, task: TaskId, name: Name, sync: u32, judged: &Judged) -> Name
+    requires { CanCarryOut world.old task name judged.now.paying judged.now.subject judged.now.previous }
+    ensures { CarriesOut world.old task name sync judged.now.paying judged.now.subject judged.now.previous result world.new }
 {
+    let Judged {
+        paying,
+        subject,
+        previous,
+    } = judged;
     match paying {
         Some(paying) => renew(world, task, name, sync, paying, subject, *previous),
         None => end(world, task, name, subject, *previous),
