@@ -21,7 +21,7 @@ use Rattle.copyin_base.proofs.Holders.{none_receives, put_holders_left}
 use Rattle.copyin_base.proofs.Requested.{requested_removed}
 use Rattle.copyin_base.proofs.Requesting.{stands_after}
 use Rattle.copyin_base.proofs.SendersNoted.{keeps_senders_same, senders_kept}
-use Rattle.notifications.specs.Ending.{Part, with_part, ShowsPart}
+use Rattle.notifications.proofs.Removing.{Part, with_part, ShowsPart}
 use Rattle.notifications.proofs.Owing.{posted_is}
 use Rattle.notifications.proofs.Parts.{shown, shown_is, lawful_naming, looked_up}
 use Rattle.notifications.proofs.RightsGone.{stood_left, fewer_left}

@@ -29,14 +29,14 @@ use Rattle.request_table.specs.Requests.{name_key}
 use Rattle.copyin_base.specs.Kept.{Kept}
 use Rattle.copyin_base.specs.Requests.{notify_of}
 use Rattle.copyin_base.specs.Shows.{target_of, HasCount, Agrees, HoldersAgree, Shows}
-use Rattle.copyin_base.specs.Stands.{Stands}
-use Rattle.copyin_base.specs.Worlds.{WorldView, HasTask, space_in, entry_in, entry_at, port_at}
+use Rattle.copyin_base.specs.Worlds.{WorldView, space_in, entry_in, entry_at, port_at}
 use Rattle.copyin_base.proofs.Carriers.{carriers_same}
 use Rattle.copyin_base.proofs.Gets.{length-set}
 use Rattle.copyin_base.proofs.Requested.{KeepsRight, keeps_same, requested_kept}
 use Rattle.copyin_base.proofs.Requesting.{same_key}
 use Rattle.copyin_base.proofs.SendersNoted.{keeps_senders_same, senders_kept}
-use Rattle.notifications.specs.Ending.{Part, with_part, ShowsPart, EndsFrom, HasNoNames, HasEnded, Ends}
+use Rattle.notifications.specs.Ending.{HasEnded, Ends}
+use Rattle.notifications.proofs.Removing.{Part, with_part, ShowsPart, EndsFrom, HasNoNames}
 use Rattle.notifications.proofs.Closing.{each-closed}
 use Rattle.notifications.proofs.Owing.{logs_with, rights_with, posted_is}
 use Rattle.notifications.proofs.Parts.{shown, shown_is, looked_up}
@@ -250,9 +250,3 @@ module _ (now : ℕ) (start : WorldView) (task : ℕ) (s : State) (sh : Shows st
 
 pub closed_ends : (start : WorldView) (task : ℕ) (w v : WorldView) → EndsFrom start task w → HasNoNames w task → v ≡ record w { spaces = slice_set w.spaces task None } → Ends start task v
 closed_ends start task w v ends none is = subst (Ends start task) (sym is) (record { ends = λ now s sh. has_ended now start task s sh w (ends.shows now s sh) none })
-
--- the task lives until its space is closed
-pub still_lives : (start : WorldView) (task : ℕ) (w : WorldView) → Stands start → HasTask start task → EndsFrom start task w → HasTask w task
-still_lives start task w stands there ends =
-    let sp = ends.shows 0 stands.state stands.shown in
-    (subst (Agrees w) (shown_is 0 stands.state task sp.part) sp.agrees).live_task task ∙ sym (stands.shown.agrees.live_task task) ∙ there

@@ -18,6 +18,9 @@ pub mod UnusedLost
 pub mod DeadLost
 pub mod SetLost
 pub mod EntryLost
+pub mod Removing
+pub mod InPlace
+pub mod GoneOver
 pub mod PartStarts
 pub mod Ended
 pub mod SparesLeft

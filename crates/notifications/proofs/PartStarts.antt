@@ -13,7 +13,7 @@ use Rattle.copyin_base.specs.Worlds.{WorldView}
 use Rattle.copyin_base.proofs.Listed.{none_listed}
 use Rattle.copyin_base.proofs.SendersNoted.{senders_same}
 use Rattle.copyin_base.proofs.Unused.{held_and_queued}
-use Rattle.notifications.specs.Ending.{Part, with_part, ShowsPart, EndsFrom}
+use Rattle.notifications.proofs.Removing.{Part, with_part, ShowsPart, EndsFrom}
 
 all_stay : (xs : List ℕ) → filter (λ k. not false) xs ≡ xs
 all_stay [] = refl

@@ -19,7 +19,7 @@ use Rattle.copyin_base.specs.Posted.{with_posted}
 use Rattle.copyin_base.specs.Shows.{CountsAgree}
 use Rattle.copyin_base.proofs.Counting.{one_of, none_of_port, right_of, counts_agree}
 use Rattle.copyin_base.proofs.Taking.{take_held}
-use Rattle.notifications.specs.Ending.{Part, with_part, IsPart}
+use Rattle.notifications.proofs.Removing.{Part, with_part, IsPart}
 use Rattle.notifications.proofs.Owing.{logs_with, rights_with, posted_is, Spares, spared}
 
 -- ---- so many equal rights

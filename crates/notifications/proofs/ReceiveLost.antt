@@ -36,7 +36,7 @@ use Rattle.copyin_base.proofs.Listed.{listed_one}
 use Rattle.copyin_base.proofs.Reading.{same_put}
 use Rattle.copyin_base.proofs.Requested.{requested_removed, requested_put}
 use Rattle.copyin_base.proofs.SendersNoted.{keeps_senders, sends_taken, senders_kept}
-use Rattle.notifications.specs.Ending.{Part, with_part, ShowsPart, LosesReceive}
+use Rattle.notifications.proofs.Removing.{Part, with_part, ShowsPart, ReceiveGoes}
 use Rattle.notifications.proofs.Parts.{shown, shown_is, held_shown, looked_up, part_lives}
 use Rattle.notifications.proofs.RightsGone.{kept_then, kept_unlike, kept_alike, none_held, part_then, is_part_then, tables_then, posted_then}
 use Rattle.notifications.proofs.SendsLost.{taken_counts}
@@ -63,7 +63,7 @@ not_task : (task q : ℕ) → by.Task task ≡ by.QueueOf q → ⊥
 not_task task q e = cc
 
 module _ (now : ℕ) (start : WorldView) (task : ℕ) (s : State) (sh : Shows start s) (w : WorldView) (sp : ShowsPart now start task s w)
-    (name p : ℕ) (found : entry_at w task name ≡ Some (entry_of.Receive p)) (v : WorldView) (r : LosesReceive w task name p v) where
+    (name p : ℕ) (found : entry_at w task name ≡ Some (entry_of.Receive p)) (v : WorldView) (r : ReceiveGoes w task name p v) where
   abbrev x : Part
   x = sp.part
 

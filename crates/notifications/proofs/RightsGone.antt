@@ -34,7 +34,7 @@ use Rattle.copyin_base.proofs.Counting.{right_of}
 use Rattle.copyin_base.proofs.Gets.{same_found}
 use Rattle.copyin_base.proofs.Putting.{each_put}
 use Rattle.copyin_base.proofs.Requesting.{stands_after}
-use Rattle.notifications.specs.Ending.{Part, with_part, IsPart}
+use Rattle.notifications.proofs.Removing.{Part, with_part, IsPart}
 use Rattle.notifications.proofs.Owing.{logs_with, rights_with, rights_weigh, posted_is, spared, unused_append, unused_none}
 use Rattle.notifications.proofs.Parts.{spares_held, Takes, take_many, weigh_alike, weigh_unlike, many_taken, shown, lawful_naming, looked_up, part_lives}
 

@@ -35,7 +35,7 @@ use Rattle.copyin_base.proofs.Putting.{put_same}
 use Rattle.copyin_base.proofs.Reading.{named_port}
 use Rattle.copyin_base.proofs.Requested.{requested_left, requested_ports}
 use Rattle.copyin_base.proofs.SendersNoted.{noted_agrees, noted_holders, noted_carriers, noted_slots, noted_requested, counts_own, counts_other, senders_fallen, sends_elsewhere}
-use Rattle.notifications.specs.Ending.{Part, with_part, ShowsPart, LosesSends}
+use Rattle.notifications.proofs.Removing.{Part, with_part, ShowsPart, SendsGo}
 use Rattle.notifications.proofs.Parts.{shown, shown_is, held_shown, looked_up}
 use Rattle.notifications.proofs.RightsGone.{kept_then, kept_unlike, none_held, names_then, part_then, is_part_then, tables_then, posted_then}
 
@@ -108,7 +108,7 @@ module _ (now : ℕ) (start : WorldView) (task : ℕ) (s : State) (sh : Shows st
   module _ (lawful : LawfulNames (names_then now s task x sh.lawful sp.is_part send send_not_once p name left) (λ kind q. count (is_held task kind q) kept))
       (here : (target : Target) → option_map target_of left ≡ Some target → map.get (s.naming task) name ≡ Some target)
       (own_left : (e : Entry) → left ≡ Some e → HasCount e × (port_named e ≡ Some p) × (count (is_held task receive p) kept ≡ one_if (has_receive e)) × (count (is_held task send p) kept ≡ send_references e))
-      (fewer : (q : ℕ) → IsReceive left q → IsReceive (entry_at w task name) q) (v : WorldView) (r : LosesSends w task name p n left v) where
+      (fewer : (q : ℕ) → IsReceive left q → IsReceive (entry_at w task name) q) (v : WorldView) (r : SendsGo w task name p n left v) where
     abbrev fallen : WorldView
     fallen = record r.named { ledger = taken r.named.ledger p right.Send n }
 
@@ -206,7 +206,7 @@ module _ (now : ℕ) (start : WorldView) (task : ℕ) (s : State) (sh : Shows st
   same_once : rights kept_now send_once p ≡ rights sp.part.kept send_once p
   same_once = kept_unlike now s task sp.part sh.lawful sp.is_part send send_not_once p (λ y. if is_held task send_once p y then 1 else 0) refl
 
-  pub send_lost : (v : WorldView) → entry_at w task name ≡ Some (entry_of.Send p n) → LosesSends w task name p n None v → ShowsPart now start task s v
+  pub send_lost : (v : WorldView) → entry_at w task name ≡ Some (entry_of.Send p n) → SendsGo w task name p n None v → ShowsPart now start task s v
   send_lost v found r = sends_lost now start task s sh w sp name p n (entry_of.Send p n) found refl refl some None lawful
       (λ t e. absurd (no_target t e)) (λ e is_e. absurd (no_entry e is_e)) (λ q i. absurd (none_receives q i)) v r
     where
@@ -219,7 +219,7 @@ module _ (now : ℕ) (start : WorldView) (task : ℕ) (s : State) (sh : Shows st
           (let y = receives_held now start task s sh w sp name p n (entry_of.Send p n) found refl refl some None in
           let z = sends_held now start task s sh w sp name p n (entry_of.Send p n) found refl refl some None in omega (arith, y, z))
 
-  pub both_lost : (v : WorldView) → entry_at w task name ≡ Some (entry_of.ReceiveAndSend p n) → LosesSends w task name p n (Some (entry_of.Receive p)) v → ShowsPart now start task s v
+  pub both_lost : (v : WorldView) → entry_at w task name ≡ Some (entry_of.ReceiveAndSend p n) → SendsGo w task name p n (Some (entry_of.Receive p)) v → ShowsPart now start task s v
   both_lost v found r = sends_lost now start task s sh w sp name p n (entry_of.ReceiveAndSend p n) found refl refl some (Some (entry_of.Receive p)) lawful
       (λ t e. sp.is_part.fewer name t (target ∙ e))
       (of_some (entry_of.Receive p) (λ e. HasCount e × (port_named e ≡ Some p) × (count (is_held task receive p) kept_now ≡ one_if (has_receive e)) × (count (is_held task send p) kept_now ≡ send_references e)) (tt, refl, receives, sends))

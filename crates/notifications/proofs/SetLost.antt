@@ -33,7 +33,7 @@ use Rattle.copyin_base.proofs.Requested.{requested_removed, requested_ports}
 use Rattle.copyin_base.proofs.Requesting.{same_key, stands_after, requests_left}
 use Rattle.copyin_base.proofs.SendersNoted.{keeps_senders_same, senders_kept}
 use Rattle.copyin_base.proofs.Written.{disbanded_ports}
-use Rattle.notifications.specs.Ending.{Part, with_part, ShowsPart, LosesSet}
+use Rattle.notifications.proofs.Removing.{Part, with_part, ShowsPart, SetGoes}
 use Rattle.notifications.proofs.Owing.{posted_is}
 use Rattle.notifications.proofs.Parts.{shown, shown_is, looked_up}
 use Rattle.notifications.proofs.RightsGone.{stood_left, fewer_left}
@@ -60,7 +60,7 @@ filter_twice f g (x ∷ xs) = go (f x) (g x) refl refl (filter_twice f g xs)
     go false false e d ih = rw e (ap (λ (ys : List ℕ). x ∷ ys) ih)
 
 module _ (now : ℕ) (start : WorldView) (task : ℕ) (s : State) (sh : Shows start s) (w : WorldView) (sp : ShowsPart now start task s w)
-    (name set : ℕ) (found : entry_at w task name ≡ Some (entry_of.Set set)) (v : WorldView) (r : LosesSet w task name set v) where
+    (name set : ℕ) (found : entry_at w task name ≡ Some (entry_of.Set set)) (v : WorldView) (r : SetGoes w task name set v) where
   abbrev x : Part
   x = sp.part
 

@@ -8,7 +8,7 @@ use Rattle.copyin_base.specs.Stands.{Stands}
 use Rattle.copyin_base.specs.Wanted.{room_in, room_of, KeepsSpares, UsesSpares}
 use Rattle.copyin_base.specs.Worlds.{WorldView, space_in}
 use Rattle.copyin_base.proofs.Spares.{keeps_refl, keeps_names, keeps_trans, left_keeps}
-use Rattle.notifications.specs.Ending.{LosesSends, LosesReceive, LosesUnused, LosesSet, LosesEntry, LosesName, EndsFrom}
+use Rattle.notifications.proofs.Removing.{SendsGo, ReceiveGoes, OnceGoes, SetGoes, EntryGoes, NameGoes, EndsFrom}
 use Rattle.notifications.proofs.Closing.{each-closed}
 
 uses_kept : (old new : WorldView) → KeepsSpares old new → new.ledger.unused ≡ old.ledger.unused → UsesSpares old new
@@ -24,19 +24,19 @@ uses_trans a b c x y = record {
   slots = let g = x.slots in let h = y.slots in omega (arith, g, h);
 }
 
-sends_use : (w v : WorldView) (task name p n : ℕ) (left : Option Entry) → LosesSends w task name p n left v → UsesSpares w v
+sends_use : (w v : WorldView) (task name p n : ℕ) (left : Option Entry) → SendsGo w task name p n left v → UsesSpares w v
 sends_use w v task name p n left r = uses_kept w v
     (keeps_trans w r.named v (left_keeps w r.named task name left r.puts) (keeps_names r.named v (ap (λ (x : WorldView). x.spaces) r.notes.rest) (ap (λ (x : WorldView). x.ports.spare) r.notes.rest)))
     (let a : v.ledger.unused ≡ r.named.ledger.unused - 0 = ap (λ (x : WorldView). x.ledger.unused) r.notes.rest in
     let b : r.named.ledger.unused ≡ w.ledger.unused = ap (λ (x : WorldView). x.ledger.unused) r.puts.rest in omega (arith, a, b))
 
-receive_uses : (w v : WorldView) (task name p : ℕ) → LosesReceive w task name p v → UsesSpares w v
+receive_uses : (w v : WorldView) (task name p : ℕ) → ReceiveGoes w task name p v → UsesSpares w v
 receive_uses w v task name p r = uses_kept w v
     (keeps_trans w r.named v (left_keeps w r.named task name None r.puts) (keeps_names r.named v (ap (λ (x : WorldView). x.spaces) r.loses.rest) (ap (λ (x : WorldView). x.ports.spare) r.loses.rest)))
     (let a : v.ledger.unused ≡ r.named.ledger.unused - 0 = ap (λ (x : WorldView). x.ledger.unused) r.loses.rest in
     let b : r.named.ledger.unused ≡ w.ledger.unused = ap (λ (x : WorldView). x.ledger.unused) r.puts.rest in omega (arith, a, b))
 
-once_uses : (w v : WorldView) (task name p : ℕ) → SlotsSuffice w → LosesUnused w task name p v → UsesSpares w v
+once_uses : (w v : WorldView) (task name p : ℕ) → SlotsSuffice w → OnceGoes w task name p v → UsesSpares w v
 once_uses w v task name p enough r =
     let k = left_keeps w r.named task name None r.puts in
     let left : v.ledger.unused ≡ r.named.ledger.unused - 1 = ap (λ (x : WorldView). x.ledger.unused) r.posts.rest in
@@ -50,12 +50,12 @@ once_uses w v task name p enough r =
       slots = omega (arith, left, now, unused, spare, some, enough);
     }
 
-set_uses : (w v : WorldView) (task name set : ℕ) → LosesSet w task name set v → UsesSpares w v
+set_uses : (w v : WorldView) (task name set : ℕ) → SetGoes w task name set v → UsesSpares w v
 set_uses w v task name set r = uses_kept w v
     (keeps_trans w r.named v (left_keeps w r.named task name None r.puts) (keeps_names r.named v (ap (λ (x : WorldView). x.spaces) r.rest) r.disbanded.spare))
     (ap (λ (x : WorldView). x.ledger.unused) r.rest ∙ ap (λ (x : WorldView). x.ledger.unused) r.puts.rest)
 
-entry_uses : (w v : WorldView) (task name : ℕ) (e : Entry) → SlotsSuffice w → LosesEntry w task name e v → UsesSpares w v
+entry_uses : (w v : WorldView) (task name : ℕ) (e : Entry) → SlotsSuffice w → EntryGoes w task name e v → UsesSpares w v
 entry_uses w v task name (entry.Receive p) enough r = receive_uses w v task name p r
 entry_uses w v task name (entry.Send p n) enough r = sends_use w v task name p n None r
 entry_uses w v task name (entry.ReceiveAndSend p n) enough r = uses_trans w r.0 v (sends_use w r.0 task name p n (Some (entry.Receive p)) r.1) (receive_uses r.0 v task name p r.2)
@@ -63,7 +63,7 @@ entry_uses w v task name (entry.SendOnce p) enough r = once_uses w v task name p
 entry_uses w v task name (entry.DeadName n) enough r = uses_kept w v (left_keeps w v task name None r) (ap (λ (x : WorldView). x.ledger.unused) r.rest)
 entry_uses w v task name (entry.Set set) enough r = set_uses w v task name set r
 
-pub name_uses : (start w v : WorldView) (task name : ℕ) → Stands start → EndsFrom start task w → UsesSpares start w → LosesName w task name v → UsesSpares start v
+pub name_uses : (start w v : WorldView) (task name : ℕ) → Stands start → EndsFrom start task w → UsesSpares start w → NameGoes w task name v → UsesSpares start v
 name_uses start w v task name stands ends uses r =
     uses_trans start w v uses (entry_uses w v task name r.entry (ends.shows 0 stands.state stands.shown).slots r.loses)
 

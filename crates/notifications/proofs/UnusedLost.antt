@@ -39,7 +39,7 @@ use Rattle.copyin_base.proofs.Requested.{requested_removed, requested_put}
 use Rattle.copyin_base.proofs.Requesting.{stands_after}
 use Rattle.copyin_base.proofs.SendersNoted.{keeps_senders, sends_shifted, senders_kept, counts_own, counts_other}
 use Rattle.copyin_base.proofs.Taking.{Without, take_held}
-use Rattle.notifications.specs.Ending.{Part, with_part, IsPart, ShowsPart, LosesUnused}
+use Rattle.notifications.proofs.Removing.{Part, with_part, IsPart, ShowsPart, OnceGoes}
 use Rattle.notifications.proofs.Owing.{brought, logs_longer, log_with, logs_with, logs_more, rights_with, rights_more, rights_weigh, posted_is, unused_append}
 use Rattle.notifications.proofs.Posted.{posted_whole}
 use Rattle.notifications.proofs.Parts.{shown, shown_is, lawful_naming, looked_up}
@@ -58,7 +58,7 @@ once_no_set : (p q : ℕ) → Target.once p ≡ Target.set q → ⊥
 once_no_set p q e = cc
 
 module _ (now : ℕ) (start : WorldView) (task : ℕ) (s : State) (sh : Shows start s) (w : WorldView) (sp : ShowsPart now start task s w)
-    (name p : ℕ) (found : entry_at w task name ≡ Some (entry_of.SendOnce p)) (v : WorldView) (r : LosesUnused w task name p v) where
+    (name p : ℕ) (found : entry_at w task name ≡ Some (entry_of.SendOnce p)) (v : WorldView) (r : OnceGoes w task name p v) where
   abbrev x : Part
   x = sp.part
 

@@ -1,144 +1,72 @@
--- A task ends, one name after the other: what each name that goes changes in the tables, and what they are between two names.
-use Rattle.std.specs.Prelude.{◌≡◌, ℕ, ◌<◌, ◌≤◌, ◌⊎◌, Bool, true, false, List, [], filter, not, All, Option, Some, None, is_some, if◌then◌else◌}
+-- A task ends: what is lost of each of its names, which stay where they are until all of them go at once.
+use Rattle.std.specs.Prelude.{◌≡◌, ℕ, ◌<◌, ◌≤◌, Some, None}
 use Rattle.std.specs.FinMap as map
-use Rattle.mach_types.specs.Tokens.{send_once, Request, Token, Moves, count, is_held, is_in_task}
-use Rattle.mach_model.specs.State.{State, Target, Names, at}
-use Rattle.mach_model.specs.Lawful.{LawfulNames}
+use Rattle.mach_model.specs.State.{State}
 use Rattle.mach_model.specs.Notices.{Owed}
-use Rattle.mach_model.specs.References.{unused}
-use Rattle.mach_model.specs.Tasks.{ends_with, EndsTask}
+use Rattle.mach_model.specs.Tasks.{EndsTask}
 use Rattle.name_space.specs.declared.Entry.{Entry}
 use Rattle.name_space.specs.declared.Entry.TheVariants as entry
-use Rattle.name_space.specs.Names.{SpaceView}
+use Rattle.name_space.specs.Names.{Names}
 use Rattle.port_set.specs.Sets.{removed, IsDisbanded}
 use Rattle.rights.specs.declared.RightKind.TheVariants as kind
-use Rattle.rights.specs.Ledger.{counts_of, taken}
+use Rattle.rights.specs.Ledger.{IsEntered, counts_of, taken}
 use Rattle.copyin_base.specs.declared.notice.Notice.TheVariants as notice
-use Rattle.copyin_base.specs.Changes.{PutsLeft, NotesSenderless, NotesSenders}
+use Rattle.copyin_base.specs.Changes.{NotesSenderless, NotesSenders}
 use Rattle.copyin_base.specs.Posted.{with_posted, IsLeft}
+use Rattle.copyin_base.specs.Requests.{request_left}
 use Rattle.copyin_base.specs.Shows.{Agrees, HoldersAgree, CarriersAgree, SlotsSuffice, RequestsStand, Shows}
-use Rattle.copyin_base.specs.Stands.{Stands}
-use Rattle.copyin_base.specs.Worlds.{WorldView, entry_at}
-use Rattle.notifications.specs.Losing.{LosesPort}
-use Rattle.notifications.specs.Posting.{Posts}
+use Rattle.copyin_base.specs.Worlds.{WorldView}
+use Rattle.notifications.specs.Losing.{CanLose, LosesPort}
+use Rattle.notifications.specs.Posting.{CanPost, Posts}
 
--- ---- a name goes
+-- ---- a name
 
--- So many send rights go, the last of the name; this is left under it, and the port is noted if it has no send rights now.
-pub record LosesSends (old : WorldView) (task name port references : ℕ) (left : Option Entry) (new : WorldView) : Type 0 where
-  pub named : WorldView
-  pub puts : PutsLeft old task name left named
-  pub notes : NotesSenderless (record named { ledger = taken named.ledger port kind.Send references }) port new
+-- The least name from this one on, and what is kept there.
+pub record IsNextEntry (names : Names) (start name : ℕ) (entry : Entry) : Type 0 where
+  pub from : start ≤ name
+  pub found : map.get names name ≡ Some entry
+  pub least : (n : ℕ) → start ≤ n → n < name → map.get names n ≡ None
 
--- The name goes with a receive right alone.
-pub record LosesReceive (old : WorldView) (task name port : ℕ) (new : WorldView) : Type 0 where
-  pub named : WorldView
-  pub puts : PutsLeft old task name None named
-  pub loses : LosesPort named port new
+-- ---- what stands there is lost
 
--- The name goes with a send-once right, whose port is told.
-pub record LosesUnused (old : WorldView) (task name port : ℕ) (new : WorldView) : Type 0 where
-  pub named : WorldView
-  pub puts : PutsLeft old task name None named
-  pub posts : Posts named port notice.SendOnce new
+-- So many send rights go, and the port is noted if it has none now.
+abbrev pub LosesSends : WorldView → (port references : ℕ) → WorldView → Type 0
+LosesSends old p n new = NotesSenderless (record old { ledger = taken old.ledger p kind.Send n }) p new
+
+-- A send-once right goes that no queued message went by, and its port is told.
+pub record LosesOnce (old : WorldView) (port : ℕ) (new : WorldView) : Type 0 where
+  pub posts : Posts old port notice.SendOnce new
   pub slots : SlotsSuffice new
-  pub counted : 0 < named.ledger.unused
+  pub counted : 0 < old.ledger.unused
 
--- The name goes with a set, whose members are in none now.
-pub record LosesSet (old : WorldView) (task name set : ℕ) (new : WorldView) : Type 0 where
-  pub named : WorldView
-  pub puts : PutsLeft old task name None named
-  pub disbanded : IsDisbanded named.ports new.ports set
-  pub rest : new ≡ record named { ports = new.ports; sets = removed named.sets set }
+-- A set goes, and its members are in none now.
+pub record DropsSet (old : WorldView) (set : ℕ) (new : WorldView) : Type 0 where
+  pub disbanded : IsDisbanded old.ports new.ports set
+  pub rest : new ≡ record old { ports = new.ports; sets = removed old.sets set }
 
--- The name goes with what stood there.
-abbrev pub LosesEntry : WorldView → (task name : ℕ) → Entry → WorldView → Type 0
-LosesEntry old task name (entry.Receive p) new = LosesReceive old task name p new
-LosesEntry old task name (entry.Send p n) new = LosesSends old task name p n None new
-LosesEntry old task name (entry.ReceiveAndSend p n) new =
-    (mid : WorldView) × LosesSends old task name p n (Some (entry.Receive p)) mid × LosesReceive mid task name p new
-LosesEntry old task name (entry.SendOnce p) new = LosesUnused old task name p new
-LosesEntry old task name (entry.DeadName n) new = PutsLeft old task name None new
-LosesEntry old task name (entry.Set set) new = LosesSet old task name set new
+-- What the entry stands for is lost, the send rights first.
+abbrev pub LosesEntry : WorldView → Entry → WorldView → Type 0
+LosesEntry old (entry.Receive p) new = LosesPort old p new
+LosesEntry old (entry.Send p n) new = LosesSends old p n new
+LosesEntry old (entry.ReceiveAndSend p n) new = (mid : WorldView) × LosesSends old p n mid × LosesPort mid p new
+LosesEntry old (entry.SendOnce p) new = LosesOnce old p new
+LosesEntry old (entry.DeadName n) new = new ≡ old
+LosesEntry old (entry.Set set) new = DropsSet old set new
 
-pub record LosesName (old : WorldView) (task name : ℕ) (new : WorldView) : Type 0 where
-  pub entry : Entry
-  pub found : entry_at old task name ≡ Some entry
-  pub loses : LosesEntry old task name entry new
+-- The request on the name ends, if there is one, and what stands there is lost.
+abbrev pub LosesName : WorldView → (task name : ℕ) → Entry → WorldView → Type 0
+LosesName old task name e new = LosesEntry (record old { requests = request_left old.requests task name }) e new
 
--- ---- between two names
-
--- what is left of a task: its names, the requests that stand, and the rights; and what is gone of it
-pub record Part : Type 0 where
-  pub names : Names
-  pub stands : Request → Bool
-  pub disbanded : ℕ → Bool
-  pub gone : List Token
-  pub kept : List Token
-
-abbrev pub with_part : State → (task : ℕ) → Part → State
-with_part s task x = record s {
-  naming = at s.naming task x.names;
-  stands = x.stands;
-  set_owner = λ set. if x.disbanded set then None else s.set_owner set;
-  sets_of = λ p. filter (λ set. not (x.disbanded set)) (s.sets_of p);
-  ledger = x.kept;
-}
-
--- Names went, each with its rights, its set and the request on it.
-pub record IsPart (s : State) (task : ℕ) (x : Part) : Type 0 where
-  pub fewer : (name : ℕ) (target : Target) → map.get x.names name ≡ Some target → map.get (s.naming task) name ≡ Some target
-  pub named : LawfulNames x.names (λ kind p. count (is_held task kind p) x.kept)
-  pub stood : (r : Request) → (x.stands r ≡ s.stands r) ⊎ (x.stands r ≡ false) × (ends_with task r ≡ true)
-  pub owned : (set : ℕ) → x.disbanded set ≡ true → s.set_owner set ≡ Some task
-  pub moves : Moves s.ledger x.kept x.gone []
-  pub own : All (λ y. is_in_task task y.place ≡ true) x.gone
-
--- The tables show the state before but for such a part, with the notices that are owed; start are the tables before.
-pub record ShowsPart (now : ℕ) (start : WorldView) (task : ℕ) (s : State) (w : WorldView) : Type 0 where
-  pub part : Part
-  pub is_part : IsPart s task part
-  pub agrees : Agrees w (with_posted now (with_part s task part) (unused part.gone))
-  pub holders : HoldersAgree w
-  pub carriers : CarriersAgree w
-  pub slots : SlotsSuffice w
-  pub requested : RequestsStand w
-  pub notes : NotesSenders start w
-  pub left : IsLeft w (with_part s task part)
-  -- no more send rights than before are counted, and each send-once right of the task is one that no queued message goes by
-  pub sends : (p : ℕ) → (counts_of w.ledger p).send ≤ (counts_of start.ledger p).send
-  pub onces : (p : ℕ) → count (is_held task send_once p) part.kept ≤ (counts_of w.ledger p).send_once
-
-pub record EndsFrom (start : WorldView) (task : ℕ) (w : WorldView) : Type 0 where
-  pub shows : (now : ℕ) (s : State) → Shows start s → ShowsPart now start task s w
-
--- The task is ending, in tables that showed a state before.
-pub record IsEnding (w : WorldView) (task : ℕ) : Type 0 where
-  pub start : WorldView
-  pub stands : Stands start
-  pub ends : EndsFrom start task w
-
-pub record IsEndingAt (w : WorldView) (task name : ℕ) (e : Entry) : Type 0 where
-  pub ending : IsEnding w task
-  pub found : entry_at w task name ≡ Some e
-
--- what stands under the name loses so many send references, all that it has, and this is left
-abbrev pub SendsAt : WorldView → (task name port references : ℕ) → (left : Option Entry) → Type 0
-SendsAt w task name p n None = IsEndingAt w task name (entry.Send p n)
-SendsAt w task name p n (Some e) = IsEndingAt w task name (entry.ReceiveAndSend p n) × (e ≡ entry.Receive p)
+-- The rights that the entry stands for are counted, and a slot is spare for the notice.
+abbrev pub CanLoseEntry : WorldView → Entry → Type 0
+CanLoseEntry w (entry.Receive p) = CanLose w p
+CanLoseEntry w (entry.Send p n) = IsEntered w.ledger p × (n ≤ (counts_of w.ledger p).send)
+CanLoseEntry w (entry.ReceiveAndSend p n) = IsEntered w.ledger p × (n ≤ (counts_of w.ledger p).send) × CanLose w p
+CanLoseEntry w (entry.SendOnce p) = CanPost w p
+CanLoseEntry w (entry.DeadName n) = Unit {0}
+CanLoseEntry w (entry.Set set) = Unit {0}
 
 -- ---- the whole
-
-abbrev pub IsNamed : WorldView → (task name : ℕ) → Type 0
-IsNamed w task name = is_some (entry_at w task name) ≡ true
-
-abbrev pub HasNoNames : WorldView → (task : ℕ) → Type 0
-HasNoNames w task = (name : ℕ) → entry_at w task name ≡ None
-
--- how many names the task has
-abbrev pub names_in : Option SpaceView → ℕ
-names_in (Some space) = map.len space.names
-names_in None = 0
 
 -- The task is gone with all that it had; the notices that are owed stand in the queues.
 pub record HasEnded (now : ℕ) (old : WorldView) (task : ℕ) (s : State) (new : WorldView) : Type 0 where

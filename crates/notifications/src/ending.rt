@@ -1,16 +1,19 @@
 //! The end of a task.
-ghost use Rattle.std.specs.Prelude.{◌≡◌, ◌<◌, ◌≤◌, ℕ, Some, None, IfSome, IfNone, slice_set};
-ghost use Rattle.name_space.specs.declared.Entry.TheVariants as AnyEntry;
+ghost use Rattle.std.specs.Prelude.{◌≡◌, ◌≢◌, ◌+◌, ◌<◌, ◌≤◌, ◌^◌, ℕ, Some, None, IfSome, IfNone, slice_set};
+ghost use Rattle.std.specs.FinMap as map;
+ghost use Rattle.mach_types.specs.Numbers.{dead_word};
+ghost use Rattle.rights.specs.Ledger.{IsEntered, counts_of};
 ghost use Rattle.port_set.specs.Sets.{removed, IsDisbanded};
+ghost use Rattle.copyin_base.specs.Reading.{live_in, read_space, reading};
 ghost use Rattle.copyin_base.specs.Stands.{Stands};
 ghost use Rattle.copyin_base.specs.Wanted.{UsesSpares};
-ghost use Rattle.copyin_base.specs.Worlds.{HasTask, entry_at};
-ghost use Rattle.notifications.specs.Ending.{Ends, IsEnding, IsEndingAt, IsNamed, LosesEntry, LosesName, LosesReceive, LosesSends, LosesSet, LosesUnused, SendsAt};
+ghost use Rattle.copyin_base.specs.Worlds.{HasTask, space_at};
+ghost use Rattle.notifications.specs.Ending.{CanLoseEntry, DropsSet, Ends, IsNextEntry, LosesEntry, LosesName, LosesSends};
 
 use crate::lost::{kill_port, lose_once};
 use copyin_base::{Queued, World};
 use mach_types::{Name, PortId, SetId, TaskId};
-use name_space::Entry;
+use name_space::{Entry, PortName, Space};
 use port::Ports;
 use port_set::{Sets, disband};
 use rights::RightKind;
@@ -27,99 +30,95 @@ pub fn end_task(world: &mut World, task: TaskId)
     ensures ends { Ends world.old task world.new }
     ensures spares { UsesSpares world.old world.new }
 {
-    // A name that went leaves none below it, so the next one is looked for from there.
+    // The names are gone over where they are, and go all at once.
+    let space = take_space(world, task);
     let mut from = Name::null();
-    while let Some(name) = next_name(world, task, from) {
-        lose_name(world, task, name);
-        from = name;
+    while let Some(named) = next_entry(&space, from) {
+        lose_name(world, task, &named);
+        from = after(named.name);
     }
-    close_space(world, task);
 }
 
-// The task's least name from this one on, if it has one.
-fn next_name(world: &World, task: TaskId, from: Name) -> Option<Name>
-    requires { HasTask world.now task }
-    ensures found { IfSome result (λ name. IsNamed world.now task name) }
-    ensures least { IfSome result (λ name. (n : ℕ) → from ≤ n → n < name → entry_at world.now task n ≡ None) }
-    ensures none { IfNone result ((name : ℕ) → from ≤ name → entry_at world.now task name ≡ None) }
-{
-    world.space(task).next_name(from)
-}
-
-// The task's names, of which none is left, are gone.
-fn close_space(world: &mut World, task: TaskId)
+// Takes the task's names out of the tables, as they are kept.
+fn take_space(world: &mut World, task: TaskId) -> Space
     requires { HasTask world.old task }
-    ensures { world.new ≡ record world.old { spaces = slice_set world.old.spaces task None } }
+    ensures kept { space_at world.old task ≡ Some (read_space (live_in world.old.ports) result) }
+    ensures taken { world.new ≡ record world.old { spaces = slice_set world.old.spaces task None } }
 {
-    world.spaces[task.number() as usize] = None;
+    match world.spaces[task.number() as usize].take() {
+        Some(space) => space,
+        None => unreachable!(),
+    }
 }
 
-// The name goes, with what stands there.
-fn lose_name(world: &mut World, task: TaskId, name: Name)
-    requires ending { IsEnding world.old task }
-    requires named { IsNamed world.old task name }
-    ensures { LosesName world.old task name world.new }
+// The least name from this one on with what is kept there, if there is one. Mostly it is this one.
+fn next_entry(space: &Space, from: Name) -> Option<PortName>
+    ensures found { IfSome result (λ named. IsNextEntry space.now.names from named.name named.entry) }
+    ensures none { IfNone result ((name : ℕ) → from ≤ name → map.get space.now.names name ≡ None) }
 {
-    let Some(entry) = world.lookup(task, name) else {
-        unreachable!()
-    };
-    lose_entry(world, task, name, entry);
+    if let Some(entry) = space.lookup(from) {
+        return Some(PortName { name: from, entry });
+    }
+    let name = space.next_name(from)?;
+    let entry = space.lookup(name)?;
+    Some(PortName { name, entry })
 }
 
-// The name goes, and what stands there is lost: send references first, so that a receive right is alone.
-fn lose_entry(world: &mut World, task: TaskId, name: Name, entry: Entry)
-    requires { IsEndingAt world.old task name entry }
-    ensures { LosesEntry world.old task name entry world.new }
+// The name behind this one.
+fn after(name: Name) -> Name
+    requires { name ≢ dead_word }
+    ensures value { result ≡ name + 1 }
+    ensures small { result < 2 ^ 32 }
+{
+    Name::new(name.number() + 1)
+}
+
+// The request on the name ends, and what stands there is lost.
+fn lose_name(world: &mut World, task: TaskId, named: &PortName)
+    requires { CanLoseEntry world.old (reading (live_in world.old.ports) named.now.entry) }
+    ensures { LosesName world.old task named.now.name (reading (live_in world.old.ports) named.now.entry) world.new }
+{
+    world.requests.leave(task, named.name);
+    lose_kept(world, named.entry);
+}
+
+// What is kept under a name is lost: nothing, where its port is gone.
+fn lose_kept(world: &mut World, kept: Entry)
+    requires { CanLoseEntry world.old (reading (live_in world.old.ports) kept) }
+    ensures { LosesEntry world.old (reading (live_in world.old.ports) kept) world.new }
+{
+    match kept.right_port() {
+        Some(port) if !world.ports.contains(port) => {}
+        _ => lose_entry(world, kept),
+    }
+}
+
+// What stands under a name is lost: send references first, so that a receive right is alone.
+fn lose_entry(world: &mut World, entry: Entry)
+    requires { CanLoseEntry world.old entry }
+    ensures { LosesEntry world.old entry world.new }
 {
     match entry {
-        Entry::Receive(port) => lose_receive(world, task, name, port),
-        Entry::Send(port, references) => {
-            lose_sends(world, task, name, port, references.count(), None)
-        }
+        Entry::Receive(port) => kill_port(world, port),
+        Entry::Send(port, references) => lose_sends(world, port, references.count()),
         Entry::ReceiveAndSend(port, references) => {
-            let left = Some(Entry::Receive(port));
-            lose_sends(world, task, name, port, references.count(), left);
-            lose_receive(world, task, name, port);
+            lose_sends(world, port, references.count());
+            kill_port(world, port);
         }
-        Entry::SendOnce(port) => lose_unused(world, task, name, port),
-        Entry::DeadName(_) => world.put_left(task, name, None),
-        Entry::Set(set) => lose_set(world, task, name, set),
+        Entry::SendOnce(port) => lose_once(world, port),
+        Entry::DeadName(_) => {}
+        Entry::Set(set) => lose_set(world, set),
     }
 }
 
-// The send references under the name go; this is left there.
-fn lose_sends(
-    world: &mut World,
-    task: TaskId,
-    name: Name,
-    port: PortId,
-    references: u32,
-    left: Option<Entry>,
-)
-    requires { SendsAt world.old task name port references left }
-    ensures { LosesSends world.old task name port references left world.new }
+// So many send rights for the port are lost, and it is noted if they were the last.
+fn lose_sends(world: &mut World, port: PortId, references: u32)
+    requires entered { IsEntered world.old.ledger port }
+    requires some { references ≤ (counts_of world.old.ledger port).send }
+    ensures { LosesSends world.old port references world.new }
 {
-    world.put_left(task, name, left);
     world.ledger.take(port, RightKind::Send, references);
     world.note_senderless(port);
-}
-
-// The name goes with the receive right that stands there alone.
-fn lose_receive(world: &mut World, task: TaskId, name: Name, port: PortId)
-    requires { IsEndingAt world.old task name (AnyEntry.Receive port) }
-    ensures { LosesReceive world.old task name port world.new }
-{
-    world.put_left(task, name, None);
-    kill_port(world, port);
-}
-
-// The name of a send-once right goes, which is lost unused.
-fn lose_unused(world: &mut World, task: TaskId, name: Name, port: PortId)
-    requires { IsEndingAt world.old task name (AnyEntry.SendOnce port) }
-    ensures { LosesUnused world.old task name port world.new }
-{
-    world.put_left(task, name, None);
-    lose_once(world, port);
 }
 
 // A set goes, and its members are in none.
@@ -131,11 +130,9 @@ fn drop_set(sets: &mut Sets, ports: &mut Ports<Queued>, set: SetId)
     disband(ports, set);
 }
 
-// The name of a set goes, and the set.
-fn lose_set(world: &mut World, task: TaskId, name: Name, set: SetId)
-    requires { entry_at world.old task name ≡ Some (AnyEntry.Set set) }
-    ensures { LosesSet world.old task name set world.new }
+// A set is lost.
+fn lose_set(world: &mut World, set: SetId)
+    ensures { DropsSet world.old set world.new }
 {
-    world.put_left(task, name, None);
     drop_set(&mut world.sets, &mut world.ports, set);
 }

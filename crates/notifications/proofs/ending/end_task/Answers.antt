@@ -1,34 +1,28 @@
-use Rattle.notifications.proofs.Ended.{closed_ends, still_lives}
-use Rattle.notifications.proofs.EntryLost.{ends_more, name_less, none_at_all, none_below_first, none_below_next}
-use Rattle.notifications.proofs.PartStarts.{ends_first}
-use Rattle.notifications.proofs.SparesLeft.{uses_refl, name_uses, closed_uses}
+use Rattle.notifications.proofs.Ended.{closed_ends}
+use Rattle.notifications.proofs.GoneOver.{none_over, can_lose_next, not_dead, one_more, less_to_come, all_gone, closed_bare}
+use Rattle.notifications.proofs.SparesLeft.{closed_uses}
 use Rattle.notifications.proofs.ending.end_task.Goals as goal
 
-pub loop-name-init : goal.loop-name-init
-loop-name-init c = (ends_first c.args.world.now c.args.task, uses_refl c.args.world.now, none_below_first c.args.world.now c.args.task c.null-from.result c.null-from.ensures)
+pub loop-named-init : goal.loop-named-init
+loop-named-init c = none_over c.args.world.now c.args.task c.null-from.result c.take_space-space.new.world c.null-from.ensures c.take_space-space.ensures.taken
 
-pub next_name-requires : goal.next_name-requires
-next_name-requires c = still_lives c.args.world.now c.args.task c.loop-name.world c.requires.stands c.requires.there c.loop-name.invariant.0
+pub lose_name-requires : goal.lose_name-requires
+lose_name-requires c = can_lose_next c.args.world.now c.args.task c.loop-named.from c.loop-named.world c.loop-named.invariant c.take_space-space.result c.take_space-space.ensures.kept c.requires.stands c.in-Some.named.name c.in-Some.named.entry c.in-Some.ensures.found
 
-pub loop-name-smaller : goal.loop-name-smaller
-loop-name-smaller c = name_less c.loop-name.world c.args.task c.in-Some.name c.lose_name.new.world c.lose_name.ensures
+pub after-from-requires : goal.after-from-requires
+after-from-requires c = not_dead c.args.world.now c.args.task c.loop-named.from c.loop-named.world c.loop-named.invariant c.take_space-space.result c.take_space-space.ensures.kept c.requires.stands c.in-Some.named.name c.in-Some.named.entry c.in-Some.ensures.found
 
-pub loop-name-preserved : goal.loop-name-preserved
-loop-name-preserved c = (
-  ends_more c.args.world.now c.args.task c.loop-name.world c.in-Some.name c.lose_name.new.world c.lose_name.ensures c.loop-name.invariant.0,
-  name_uses c.args.world.now c.loop-name.world c.lose_name.new.world c.args.task c.in-Some.name c.requires.stands c.loop-name.invariant.0 c.loop-name.invariant.1 c.lose_name.ensures,
-  none_below_next c.loop-name.world c.args.task c.loop-name.from c.in-Some.name c.lose_name.new.world c.lose_name.ensures c.loop-name.invariant.2 c.in-Some.ensures.least,
-)
+pub loop-named-smaller : goal.loop-named-smaller
+loop-named-smaller c = less_to_come c.args.world.now c.args.task c.loop-named.from c.loop-named.world c.loop-named.invariant c.take_space-space.result c.take_space-space.ensures.kept c.requires.stands c.in-Some.named.name c.in-Some.named.entry c.in-Some.ensures.found c.after-from.result c.after-from.ensures.value c.after-from.ensures.small
 
-pub lose_name-requires-clause-ending : goal.lose_name-requires-clause-ending
-lose_name-requires-clause-ending c = record { start = c.args.world.now; stands = c.requires.stands; ends = c.loop-name.invariant.0 }
-
-pub close_space-requires : goal.close_space-requires
-close_space-requires c = still_lives c.args.world.now c.args.task c.loop-name.world c.requires.stands c.requires.there c.loop-name.invariant.0
+pub loop-named-preserved : goal.loop-named-preserved
+loop-named-preserved c = one_more c.args.world.now c.args.task c.loop-named.from c.loop-named.world c.loop-named.invariant c.take_space-space.result c.take_space-space.ensures.kept c.requires.stands c.in-Some.named.name c.in-Some.named.entry c.in-Some.ensures.found c.lose_name.new.world c.lose_name.ensures c.after-from.result c.after-from.ensures.value
 
 pub returns-clause-ends : goal.returns-clause-ends
-returns-clause-ends c = closed_ends c.args.world.now c.args.task c.loop-name.world c.close_space.new.world c.loop-name.invariant.0
-    (none_at_all c.loop-name.world c.args.task c.loop-name.from c.loop-name.invariant.2 c.in_default.ensures.none) c.close_space.ensures
+returns-clause-ends c = closed_ends c.args.world.now c.args.task c.loop-named.invariant.bare c.loop-named.world c.loop-named.invariant.ends
+    (all_gone c.args.world.now c.args.task c.loop-named.from c.loop-named.world c.loop-named.invariant c.take_space-space.result c.take_space-space.ensures.kept c.in_default.ensures.none)
+    (closed_bare c.args.world.now c.args.task c.loop-named.from c.loop-named.world c.loop-named.invariant c.take_space-space.result c.take_space-space.ensures.kept)
 
 pub returns-clause-spares : goal.returns-clause-spares
-returns-clause-spares c = closed_uses c.args.world.now c.loop-name.world c.close_space.new.world c.args.task c.loop-name.invariant.1 c.close_space.ensures
+returns-clause-spares c = closed_uses c.args.world.now c.loop-named.invariant.bare c.loop-named.world c.args.task c.loop-named.invariant.uses
+    (closed_bare c.args.world.now c.args.task c.loop-named.from c.loop-named.world c.loop-named.invariant c.take_space-space.result c.take_space-space.ensures.kept)

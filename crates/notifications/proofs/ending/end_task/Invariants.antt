@@ -1,12 +1,10 @@
-use Rattle.copyin_base.specs.Wanted.{UsesSpares}
-use Rattle.copyin_base.specs.Worlds.{space_at}
-use Rattle.notifications.specs.Ending.{EndsFrom, names_in}
-use Rattle.notifications.proofs.EntryLost.{HasNoneBelow}
+use Rattle.std.specs.Prelude.{◌-◌, ◌^◌}
+use Rattle.notifications.proofs.GoneOver.{IsGoneOver}
 use Rattle.notifications.proofs.ending.end_task.Given as goal
 
--- what is left of the task is shown, only slots for what it lost were used, and the names below are gone
-abbrev pub invariant-loop-name : goal.invariant-loop-name
-invariant-loop-name l = EndsFrom l.initial.world l.task l.world × UsesSpares l.initial.world l.world × HasNoneBelow l.world l.task l.from
+-- what the names below stood for is lost, and only slots for that were used
+abbrev pub invariant-loop-named : goal.invariant-loop-named
+invariant-loop-named l = IsGoneOver l.fn.world l.task l.from l.world
 
-abbrev pub decreases-loop-name : goal.decreases-loop-name
-decreases-loop-name l = names_in (space_at l.world l.task)
+abbrev pub decreases-loop-named : goal.decreases-loop-named
+decreases-loop-named l = 2 ^ 32 - l.from
