@@ -29,7 +29,8 @@ plain-entry e fits =
 pub words-entry : (e : Entry) → FitsLine e → words (entry_text e) ≡ entry_words e
 words-entry e fits = words-line (decimal e.caller) (call_words e.event ++ codes "->" ∷ reply_words e.reply) (plain-entry e fits)
 
-Lacks-entry_text : (e : Entry) → FitsLine e → Lacks 10 (entry_text e)
+-- no line feed stands in it
+pub Lacks-entry_text : (e : Entry) → FitsLine e → Lacks 10 (entry_text e)
 Lacks-entry_text e fits = Lacks-line 10 (entry_words e) (omega arith) (plain-entry e fits)
 
 -- where an entry's line begins a text, the text's first line is the entry's text

@@ -1,2 +1,3 @@
 pub mod Histories
 pub mod Levels
+pub mod Checks

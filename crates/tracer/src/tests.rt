@@ -158,3 +158,20 @@ fn what_is_refused_matters(rt: HostRuntime) {
     assert!(rt; has_level(rt.alloc(), "0 recv 0 1 24 0 -> toolarge 32\n", Level::Warn));
     assert!(rt; has_level(rt.alloc(), "0 recv 0 1 24 0 -> message 00\n", Level::Info));
 }
+
+/// How many entries the history has, where it is legal.
+fn checked(alloc: Global, text: &str) -> Result<usize, CheckFault> {
+    match read_history(alloc, text.as_bytes()) {
+        Ok(history) => Ok(check(alloc, &history)?.len()),
+        Err(_) => Err(CheckFault::Memory),
+    }
+}
+
+#[test]
+fn legal_histories_are_told_from_others(rt: HostRuntime) {
+    let alloc = rt.alloc();
+    assert!(rt; checked(alloc, FIRST) == Ok(4));
+    assert!(rt; checked(alloc, "mach-history 1\n") == Ok(0));
+    let other_name = "mach-history 1\n0 task -> task 0\n0 alloc 0 1 -> name 2\n";
+    assert!(rt; checked(alloc, other_name) == Err(CheckFault::NotConfirmed(2)));
+}

@@ -1,0 +1,75 @@
+-- Entries that are confirmed one after another.
+use Rattle.std.proofs.Common.{◌≡◌, ℕ, ◌+◌, ◌<◌, List, [], ◌∷◌, ◌++◌, All, flat_map, inl, refl, sym, ap, ◌∙◌, subst, arith, append_assoc, length, take, drop, get_or}
+use Rattle.std.proofs.lemmas.List.{take_more, take-append-drop, length-take-le}
+use Rattle.mach_types.specs.declared.calls.Event.{Event}
+use Rattle.mach_types.specs.declared.calls.Reply.{Reply}
+use Rattle.mach_model.specs.State.{opening}
+use Rattle.copyin_base.specs.Shows.{Shows}
+use Rattle.kernel_core.specs.Answers.{Answers}
+use Rattle.kernel_core.specs.Kernels.{KernelView}
+use Rattle.kernel_lock.specs.declared.entry.Entry.{Entry}
+use Rattle.kernel_lock.specs.History.{Legal}
+use Rattle.kernel_lock.specs.Replays.{Replays}
+use Rattle.kernel_lock.proofs.Replaying.{replays_push}
+use Rattle.tracer.specs.Checks.{IsRefusal, IsUnconfirmed}
+use Rattle.tracer.specs.Histories.{entry_line, history_text, FitsLine, IsFirstBadLine, HasBadEntry}
+use Rattle.tracer.proofs.EntryLemmas.{next_line, behind}
+
+-- a refusal is answered, and the state stays
+pub refusal-answers : (kernel : KernelView) (event : Event) (reply : Reply) → IsRefusal kernel event reply → Answers kernel.tables event reply kernel.tables
+refusal-answers kernel event reply r = λ now s shown. (s, inl (record { code = r.code; told = r.told; refuses = r.refuses s shown; same = refl }), shown)
+
+-- a new kernel shows what no entry leads to
+pub replays-none : (kernel : KernelView) → Shows kernel.tables opening → Replays [] kernel
+replays-none kernel shown = record { state = opening; leads = refl; shown = shown }
+
+-- one more entry was confirmed, of those up to a place
+pub replays-at : (entries : List Entry) (i : ℕ) (e : Entry) (old new : KernelView) → i < length entries → get_or entries i e ≡ e → Replays (take i entries) old → Answers old.tables e.event e.reply new.tables
+    → Replays (take (i + 1) entries) new
+replays-at entries i e old new low here so_far step =
+    let more : take (i + 1) entries ≡ take i entries ++ e ∷ [] = take_more entries i e low ∙ ap (λ (x : Entry). take i entries ++ x ∷ []) here in
+    subst (λ (log : List Entry). Replays log new) (sym more) (replays_push (take i entries) old new e so_far step)
+
+pub legal-of : (log : List Entry) (kernel : KernelView) → Replays log kernel → Legal log
+legal-of log kernel r = record { state = r.state; leads = r.leads }
+
+-- the entry at a place isn't confirmed
+pub unconfirmed-at : (entries : List Entry) (i n : ℕ) (e : Entry) (kernel : KernelView) → i < length entries → get_or entries i e ≡ e → i + 1 ≡ n → Replays (take i entries) kernel → IsUnconfirmed entries n
+unconfirmed-at entries i n e kernel low here number so_far =
+    let more : take (i + 1) entries ≡ take i entries ++ e ∷ [] = take_more entries i e low ∙ ap (λ (x : Entry). take i entries ++ x ∷ []) here in
+    let long : length (take i entries) ≡ i = length-take-le i entries (omega (arith, low)) in
+    record {
+      before = take i entries;
+      entry = e;
+      behind = drop (i + 1) entries;
+      parts = sym (append_assoc (take i entries) (e ∷ []) (drop (i + 1) entries)) ∙ ap (λ (l : List Entry). l ++ drop (i + 1) entries) (sym more) ∙ take-append-drop (i + 1) entries;
+      number = omega (arith, long, number);
+      legal = legal-of (take i entries) kernel so_far;
+    }
+
+-- the last entry isn't confirmed
+pub unconfirmed-last : (before : List Entry) (e : Entry) (n : ℕ) → length before + 1 ≡ n → Legal before → IsUnconfirmed (before ++ e ∷ []) n
+unconfirmed-last before e n number legal = record { before = before; entry = e; behind = []; parts = refl; number = number; legal = legal }
+
+-- there is one entry more behind one that isn't confirmed
+pub unconfirmed-more : (entries : List Entry) (e : Entry) (n : ℕ) → IsUnconfirmed entries n → IsUnconfirmed (entries ++ e ∷ []) n
+unconfirmed-more entries e n u = record {
+  before = u.before;
+  entry = u.entry;
+  behind = u.behind ++ e ∷ [];
+  parts = sym (append_assoc u.before (u.entry ∷ u.behind) (e ∷ [])) ∙ ap (λ (l : List Entry). l ++ e ∷ []) u.parts;
+  number = u.number;
+  legal = u.legal;
+}
+
+some_left : (rest : List ℕ) → rest ≡ [] → 0 < length rest → ⊥
+some_left rest none some = let long = ap length none in absurd (omega (arith, long, some))
+
+-- the text of a history has no bad line
+no-bad-entry : (entries : List Entry) (text : List ℕ) (n : ℕ) → All FitsLine entries → history_text entries ≡ text → HasBadEntry text n → ⊥
+no-bad-entry entries text n fit same bad =
+    next_line bad.entries entries bad.rest bad.fit fit (behind _ _ (bad.parts ∙ sym same)) (λ none. some_left bad.rest none bad.some) bad.bad
+
+pub no-bad-line : (entries : List Entry) (text : List ℕ) (n : ℕ) → All FitsLine entries → history_text entries ≡ text → IsFirstBadLine text n → ⊥
+no-bad-line entries text n fit same (IsFirstBadLine.no_heading first none) = none (flat_map entry_line entries) same
+no-bad-line entries text n fit same (IsFirstBadLine.no_entry bad) = no-bad-entry entries text n fit same bad

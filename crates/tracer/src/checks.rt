@@ -1,0 +1,173 @@
+//! Histories that are checked again: each call is made anew, on a kernel of the checker's own.
+ghost use Rattle.std.specs.Prelude.{◌≡◌, ℕ, true, IfOk, Ok, Err, length};
+ghost use Rattle.kernel_core.specs.Answers.{Answers};
+ghost use Rattle.kernel_lock.specs.History.{Legal};
+ghost use Rattle.tracer.specs.declared.checks.CheckFault.TheVariants.{Memory};
+ghost use Rattle.tracer.specs.Checks.{IsRefusal, IsUnconfirmed};
+
+use crate::histories::History;
+use kernel_core::Kernel;
+use kernel_lock::Entry;
+use mach_types::{Event, NameTypes, Reply, Status, Waited};
+use std::alloc::{AllocError, Global};
+use std::marker::Model;
+use thiserror::Error;
+
+/// Why a history was not found legal.
+#[derive(Clone, Copy, Debug, PartialEq, Eq, Error)]
+pub enum CheckFault {
+    /// The entry of this number, from 1, is the first that isn't confirmed.
+    #[error("not confirmed at {0}")]
+    NotConfirmed(u64),
+    /// Memory was refused to the checker. That is no verdict.
+    #[error("out of memory")]
+    Memory,
+}
+
+impl From<AllocError> for CheckFault {
+    ghost from_gives = { λ _ fault. fault ≡ Memory };
+
+    fn from(_error: AllocError) -> CheckFault {
+        CheckFault::Memory
+    }
+}
+
+/// A history that the machine admits: its calls and replies are a run.
+///
+/// To contracts it is the list of its entries.
+#[derive(Debug, Drop)]
+pub struct LegalHistory<'a> {
+    history: &'a History,
+}
+
+impl<'a> Model for LegalHistory<'a> {
+    ghost use Rattle.std.specs.Prelude.{List};
+    ghost use Rattle.kernel_lock.specs.declared.entry.Entry.{Entry as AnyEntry};
+    ghost use Rattle.kernel_lock.specs.History.{Legal};
+
+    ghost Value = { List AnyEntry };
+
+    ghost view = { λ legal. legal.history.now };
+
+    ghost invariant = { λ legal. Legal legal.history.now };
+}
+
+impl<'a> LegalHistory<'a> {
+    /// How many entries it has.
+    pub fn len(&self) -> usize
+        ensures count { result ≡ length self.now }
+        ensures legal { Legal self.now }
+    {
+        self.history.len()
+    }
+}
+
+/// That the history is legal; the history itself is as it was.
+///
+/// Its calls are made anew on a kernel of the checker's own, one after another ([`confirm`]). `NotConfirmed`
+/// comes at the first that this kernel doesn't answer as its entry says, and `Memory` where memory is refused.
+/// Where the machine leaves a choice open, as to which ready member of a set a message is taken from, the
+/// kernel makes its own: a legal history in which another was made may be told as not confirmed. Time is
+/// that of the calls; memory that of the kernel, and of one reply.
+pub fn check<'a>(alloc: Global, history: &'a History) -> Result<LegalHistory<'a>, CheckFault>
+    ensures same { IfOk result (λ legal. legal ≡ history.now) }
+    ensures legal { IfOk result Legal }
+    ensures not { (n : ℕ) → result ≡ Err (CheckFault.NotConfirmed n) → IsUnconfirmed history.now n }
+{
+    let mut kernel = Kernel::new(alloc);
+    let mut number = 0;
+    for entry in history.entries() {
+        number += 1;
+        if !confirm(&mut kernel, entry)? {
+            return Err(CheckFault::NotConfirmed(number));
+        }
+    }
+    Ok(LegalHistory { history })
+}
+
+/// Whether the machine may answer the entry's call now as the entry says; the kernel then shows what the
+/// call leads to.
+///
+/// It is so where the call was refused for want of memory and the machine allows that, which changes nothing;
+/// and where the kernel makes the call and answers the same. Else the kernel is of no further use to the
+/// history. An error comes where memory is refused. Time is that of the call.
+pub fn confirm(kernel: &mut Kernel, entry: &Entry) -> Result<bool, AllocError>
+    ensures { result ≡ Ok true → Answers kernel.old.tables entry.now.event entry.now.reply kernel.new.tables }
+{
+    if tells_want_of_memory(kernel, &entry.event, &entry.reply)? {
+        return Ok(true);
+    }
+    let reply = kernel.step(&entry.event);
+    if are_same(&reply, &entry.reply) {
+        return Ok(true);
+    }
+    if tells_want_of_memory(kernel, &entry.event, &reply)? {
+        return Err(AllocError);
+    }
+    Ok(false)
+}
+
+/// Whether the reply is the code by which want of memory may refuse the call now.
+fn tells_want_of_memory(kernel: &Kernel, event: &Event, reply: &Reply) -> Result<bool, AllocError>
+    ensures { result ≡ Ok true → IsRefusal kernel.now event.now reply.now }
+{
+    match reply {
+        Reply::Code(code) if *code != 0 => Ok(kernel.memory_code(event)? == Some(*code)),
+        _ => Ok(false),
+    }
+}
+
+/// Whether the two replies are the same.
+fn are_same(one: &Reply, other: &Reply) -> bool
+    ensures { result ≡ true → one.now ≡ other.now }
+{
+    match (one, other) {
+        (Reply::Code(a), Reply::Code(b)) => a == b,
+        (Reply::Task(a), Reply::Task(b)) => a.number() == b.number(),
+        (Reply::Name(a), Reply::Name(b)) => a.number() == b.number(),
+        (Reply::Refs(a), Reply::Refs(b)) => a == b,
+        (Reply::NameType(a), Reply::NameType(b)) => a == b,
+        (Reply::Names(a), Reply::Names(b)) => are_same_names(a, b),
+        (Reply::Status(a), Reply::Status(b)) => are_same_status(a, b),
+        (Reply::Members(a), Reply::Members(b)) => a == b,
+        (Reply::Right(a, kind), Reply::Right(b, its)) => a.number() == b.number() && kind == its,
+        (Reply::Previous(a), Reply::Previous(b)) => a.number() == b.number(),
+        (Reply::Message(a), Reply::Message(b)) => a == b,
+        (Reply::Empty(a), Reply::Empty(b)) => are_same_waited(a, b),
+        (Reply::TooLarge(a), Reply::TooLarge(b)) => a == b,
+        _ => false,
+    }
+}
+
+/// Whether the two are the same names with the same types.
+fn are_same_names(one: &NameTypes, other: &NameTypes) -> bool
+    ensures { result ≡ true → one.now ≡ other.now }
+{
+    one == other
+}
+
+/// Whether the two are the same status.
+fn are_same_status(one: &Status, other: &Status) -> bool
+    ensures { result ≡ true → one.now ≡ other.now }
+{
+    one.set.number() == other.set.number()
+        && one.sequence == other.sequence
+        && one.make_send == other.make_send
+        && one.limit == other.limit
+        && one.queued == other.queued
+        && one.send_once == other.send_once
+        && one.has_send == other.has_send
+        && one.port_destroyed == other.port_destroyed
+        && one.no_senders == other.no_senders
+}
+
+/// Whether the two waited for the same.
+fn are_same_waited(one: &Waited, other: &Waited) -> bool
+    ensures { result ≡ true → one.now ≡ other.now }
+{
+    match (one, other) {
+        (Waited::Port(a), Waited::Port(b)) => a.number() == b.number(),
+        (Waited::Set(a), Waited::Set(b)) => a.number() == b.number(),
+        _ => false,
+    }
+}
