@@ -7,9 +7,12 @@
 #include <stdlib.h>
 
 static long asked;
+static int told;
 
 static int refused(void) {
     const char *at = getenv("REFUSE_AT");
+    if (told)
+        return 0;
     asked++;
     if (at == NULL || atol(at) != asked)
         return 0;
@@ -34,10 +37,18 @@ void *aligned_alloc(size_t align, size_t size) {
 
 __attribute__((destructor)) static void tell(void) {
     const char *name = getenv("REFUSE_COUNT");
-    long total = asked;
+    told = 1;
     FILE *file = name == NULL ? NULL : fopen(name, "w");
     if (file == NULL)
         return;
-    fprintf(file, "%ld\n", total);
+    fprintf(file, "%ld\n", asked);
     fclose(file);
+}
+
+// A program that can start threads ends by this call, and no destructor runs.
+void _exit(int status) {
+    void (*next)(int) = (void (*)(int))dlsym(RTLD_NEXT, "_exit");
+    tell();
+    next(status);
+    __builtin_unreachable();
 }

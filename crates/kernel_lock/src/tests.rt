@@ -1,26 +1,39 @@
 use super::*;
-use mach_types::{Event, Name, Reply, TaskId};
+use mach_types::{Bytes, Event, Name, Reply, TaskId};
 use std::test::*;
 
+/// A message with no body to the port under 1, by a send right that is made, with the id 7.
+const MESSAGE: [u8; 24] = [
+    0x14, 0, 0, 0, 0x18, 0, 0, 0, 1, 0, 0, 0, 0, 0, 0, 0, 0, 0, 0, 0, 7, 0, 0, 0,
+];
+
+/// A port is made, and a message sent to it and received.
 #[test]
 fn reads_back(rt: HostRuntime) -> Result<(), Fail> {
     let shared = Shared::new(rt.alloc())?;
     let mut pass = shared.pass(&rt)?;
     let mut watch = shared.watch(&rt);
+    let task = TaskId::new(0);
     assert_eq!(rt; shared.board().events(&mut watch), 0);
     shared.call(&rt, &mut pass, Event::TaskCreate);
     pass.tell(shared.board(), &mut watch);
     assert_eq!(rt; shared.board().events(&mut watch), 1);
-    shared.call(&rt, &mut pass, Event::Allocate(TaskId::new(0), 1));
+    shared.call(&rt, &mut pass, Event::Allocate(task, 1));
     pass.tell(shared.board(), &mut watch);
     assert_eq!(rt; shared.board().events(&mut watch), 2);
-    let reply = shared.call(&rt, &mut pass, Event::Names(TaskId::new(0)));
+    let bytes = Bytes::from_vec(Vec::from_slice(rt.alloc(), &MESSAGE)?);
+    shared.call(&rt, &mut pass, Event::Send(task, bytes));
     pass.tell(shared.board(), &mut watch);
     assert_eq!(rt; shared.board().events(&mut watch), 3);
+    let receive = Event::Receive(task, Name::new(1), 24, false);
+    let reply = shared.call(&rt, &mut pass, receive);
+    pass.tell(shared.board(), &mut watch);
+    assert_eq!(rt; shared.board().events(&mut watch), 4);
     let held = shared.lock(&rt);
-    assert_eq!(rt; held.entries().len(), 3);
-    assert!(rt; held.entries()[2].reply == reply);
-    assert!(rt; held.entries()[2].fits());
+    assert_eq!(rt; held.entries().len(), 4);
+    assert!(rt; matches!(reply, Reply::Message(_)));
+    assert!(rt; held.entries()[3].reply == reply);
+    assert!(rt; held.entries()[3].fits());
     Ok(())
 }
 

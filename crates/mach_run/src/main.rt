@@ -1,31 +1,17 @@
-//! The program `mach_run`: runs scripts of calls of Mach 3 port IPC, and prints the replies.
+//! The program `mach_run`: runs scripts of calls of Mach 3 port IPC, and prints the replies or the history.
 //!
-//! `main` reads the words and opens the file; all else is done by [`perform`], over any reader and
-//! writers.
+//! `main` reads the words and opens the file; all else is done by [`perform`] of `mach_run_base`, over any
+//! reader and writers.
 #![tactic(auto)]
 
-#[cfg(test)]
-mod carried;
-mod command_line;
-#[cfg(test)]
-mod deaths;
-#[cfg(test)]
-mod dispositions;
-mod perform;
-mod reading;
-#[cfg(test)]
-mod tests;
-#[cfg(test)]
-mod worked;
-
 use clap::error::ErrorKind;
-use command_line::{Request, read_words};
-use perform::{Fault, Job, perform, report};
-use std::alloc::Global;
+use mach_run_base::{Fault, Job, Request, perform, read_words, report};
 use std::fs::File;
 use std::io::{BufWriter, Read, Write};
 use std::process::ExitCode;
 use std::rt::{Env, Files};
+use std::sync::Wait;
+use std::thread::Threads;
 use std::{env, io};
 
 /// The status where the command line has no such words.
@@ -41,7 +27,7 @@ fn main(rt: HostRuntime) -> ExitCode {
 /// Does what the words of the command line ask for, and answers the status.
 ///
 /// Words that do not name a job are told of on `err`, with the program's usage: status 2.
-fn answer<R: Env + Files + Input + AllocGlobal, W: Write + Drop, E: Write>(
+fn answer<R: Env + Files + Input + AllocGlobal + Threads + Wait + Sync, W: Write + Drop, E: Write>(
     rt: &R,
     out: W,
     err: &mut E,
@@ -53,7 +39,7 @@ fn answer<R: Env + Files + Input + AllocGlobal, W: Write + Drop, E: Write>(
 }
 
 /// The same, of these words.
-fn answer_words<R: Files + Input + AllocGlobal, W: Write + Drop, E: Write>(
+fn answer_words<R: Files + Input + AllocGlobal + Threads + Wait + Sync, W: Write + Drop, E: Write>(
     rt: &R,
     words: &[String],
     out: W,
@@ -89,32 +75,33 @@ fn words_of<R: Env + AllocGlobal>(rt: &R) -> io::Result<Vec<String>> {
 }
 
 /// Opens what the request names, standard input where it names no file, and does its job.
-fn open<R: Files + Input + AllocGlobal, W: Write + Drop, E: Write>(
+fn open<R: Files + Input + AllocGlobal + Threads + Wait + Sync, W: Write + Drop, E: Write>(
     rt: &R,
     request: &Request<'_>,
     out: W,
     err: &mut E,
 ) -> u8 {
     let Some(name) = request.file else {
-        return start(rt.alloc(), request.job, "-", &mut rt.reader(), out, err);
+        return start(rt, request.job, "-", &mut rt.reader(), out, err);
     };
     match File::open(rt, name) {
-        Ok(mut file) => start(rt.alloc(), request.job, name, &mut file, out, err),
+        Ok(mut file) => start(rt, request.job, name, &mut file, out, err),
         Err(_) => report(Fault::CannotRead(name), err),
     }
 }
 
 /// Does the job, with `out` behind a buffer.
-fn start<R: Read, W: Write + Drop, E: Write>(
-    alloc: Global,
+fn start<H: AllocGlobal + Threads + Wait + Sync, R: Read, W: Write + Drop, E: Write>(
+    rt: &H,
     job: Job,
     name: &str,
     file: &mut R,
     out: W,
     err: &mut E,
 ) -> u8 {
+    let alloc = rt.alloc();
     match BufWriter::with_capacity(alloc, WRITTEN_AT_ONCE, out) {
-        Ok(mut out) => perform(alloc, job, name, file, &mut out, err),
+        Ok(mut out) => perform(rt, alloc, job, name, file, &mut out, err),
         Err(_) => report(Fault::OutOfMemory, err),
     }
 }

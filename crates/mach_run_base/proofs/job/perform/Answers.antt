@@ -1,0 +1,14 @@
+use Rattle.std.proofs.Common.{rules}
+use Rattle.mach_run_base.proofs.job.perform.Goals as goal
+
+pub returns-in-Ok-clause-bad : goal.returns-in-Ok-clause-bad
+returns-in-Ok-clause-bad g c =
+    λ bytes n known bad.
+    let refused = c.start.ensures.bad bytes n known bad in
+    absurd (search (rules, refused))
+
+pub returns-in-Err-clause-bad : goal.returns-in-Err-clause-bad
+returns-in-Err-clause-bad g c =
+    λ bytes n known bad.
+    let refused = c.start.ensures.bad bytes n known bad in
+    (search rules, refused.1)

@@ -1,0 +1,8 @@
+use Rattle.std.proofs.Common.{take, flat_map}
+use Rattle.std.specs.Io.KnownBytes.{Appends}
+use Rattle.mach_run_base.specs.Output.{answer_line}
+use Rattle.mach_run_base.proofs.running.write_answers.Given as goal
+
+-- the answers before this one are written
+abbrev pub invariant-loop-answer : goal.invariant-loop-answer
+invariant-loop-answer g l = Appends (g.W.Write.contents l.fn.out) (g.W.Write.contents l.out) (flat_map answer_line (take l.answer-index l.answers))

@@ -1,0 +1,151 @@
+//! The jobs of the program, over any reader and writers.
+ghost use Rattle.std.specs.Prelude.{◌≡◌, ◌≤◌, ℕ, List, Some, IsErr, OnOk};
+ghost use Rattle.std.specs.Io.KnownBytes.{Appends, Keeps};
+ghost use Rattle.mach_run_base.specs.Jobs.{IsDone, IsMade, IsHistory, history_shown, head_shown, entry_shown};
+ghost use Rattle.mach_run_base.specs.Scripts.{IsFirstBadLine};
+
+use crate::fault::{Fault, report};
+use crate::reading::read_script;
+use crate::running::run_script;
+use crate::script::Script;
+use kernel_lock::{Entry, Shared};
+use log::LevelFilter;
+use std::alloc::Global;
+use std::io;
+use std::io::{Read, Write};
+use std::sync::Wait;
+use std::thread::Threads;
+use tracer::{level, line};
+
+/// What the program can do.
+#[derive(Clone, Copy, Debug, PartialEq, Eq)]
+pub enum Job {
+    /// Runs a script, and prints how each of its calls was answered.
+    Run,
+    /// Runs a script, and prints its history.
+    Trace {
+        /// Whether only those entries are printed whose call was refused or found nothing.
+        warn: bool,
+    },
+}
+
+/// Does the job on the file of this name, and answers the program's status: 0 where it is done, 1
+/// where a fault stopped it.
+///
+/// What the job makes goes to `out`. A fault is told of on `err`, in one line: `cannot read NAME`
+/// where `file` can't be read, `line N: bad call` for the first line of a script that is none,
+/// `out of memory` where memory is refused, `cannot start thread` where a thread is, and `cannot write` where
+/// `out` refuses what is written.
+///
+/// The whole file is read before anything runs, and after a fault of the first two kinds nothing
+/// was written to `out`; so ends each script that has a bad line. Time grows with the
+/// length of the file and the cost of its calls. May wait, where the script has message calls that wait or blocks.
+pub fn perform<S: Threads + Wait + Sync, R: Read, W: Write, E: Write>(
+    rt: &S,
+    alloc: Global,
+    job: Job,
+    name: &str,
+    file: &mut R,
+    out: &mut W,
+    err: &mut E,
+) -> u8
+    ensures status { result ≤ 1 }
+    ensures done { result ≡ 0 → (text : List ℕ) × IsDone job (R.remaining file.old) text × Appends (W.contents out.old) (W.contents out.new) text }
+    ensures bad { (bytes : List ℕ) (n : ℕ) → R.remaining file.old ≡ Some bytes → IsFirstBadLine bytes n
+        → (result ≡ 1) × Keeps (W.contents out.old) (W.contents out.new) }
+{
+    match start(rt, alloc, job, name, file, out) {
+        Ok(()) => 0,
+        Err(fault) => report(fault, err),
+    }
+}
+
+/// Reads a script, and does the job on it. Faults are as for [`perform`].
+fn start<'a, S: Threads + Wait + Sync, R: Read, W: Write>(
+    rt: &S,
+    alloc: Global,
+    job: Job,
+    name: &'a str,
+    file: &mut R,
+    out: &mut W,
+) -> Result<(), Fault<'a>>
+    ensures done { OnOk result ((text : List ℕ) × IsDone job (R.remaining file.old) text × Appends (W.contents out.old) (W.contents out.new) text) }
+    ensures bad { (bytes : List ℕ) (n : ℕ) → R.remaining file.old ≡ Some bytes → IsFirstBadLine bytes n
+        → IsErr result × Keeps (W.contents out.old) (W.contents out.new) }
+{
+    let script = read_script(alloc, name, file)?;
+    let shared = Shared::new(alloc)?;
+    make(rt, alloc, &shared, job, script, out)?;
+    out.flush()?;
+    Ok(())
+}
+
+/// Does the job on the script. Faults are those of [`perform`] that come after the file was read.
+fn make<S: Threads + Wait + Sync, W: Write>(
+    rt: &S,
+    alloc: Global,
+    shared: &Shared,
+    job: Job,
+    script: Script,
+    out: &mut W,
+) -> Result<(), Fault<'static>>
+    ensures { OnOk result ((text : List ℕ) × IsMade job script text × Appends (W.contents out.old) (W.contents out.new) text) }
+{
+    match job {
+        Job::Run => run_script(rt, alloc, shared, script, out),
+        Job::Trace { warn } => trace_script(rt, alloc, shared, script, warn, out),
+    }
+}
+
+/// Runs the script without a word, and then writes the history.
+fn trace_script<S: Threads + Wait + Sync, W: Write>(
+    rt: &S,
+    alloc: Global,
+    shared: &Shared,
+    script: Script,
+    warn: bool,
+    out: &mut W,
+) -> Result<(), Fault<'static>>
+    ensures { OnOk result ((text : List ℕ) × IsHistory warn text × Appends (W.contents out.old) (W.contents out.new) text) }
+{
+    run_script(rt, alloc, shared, script, &mut io::sink())?;
+    write_history(shared.lock(rt).entries(), warn, out)?;
+    Ok(())
+}
+
+/// Writes a history, entries that are no warnings too unless `warn` is set, and then without its first line.
+fn write_history<W: Write>(entries: &[Entry], warn: bool, out: &mut W) -> io::Result<()>
+    ensures { OnOk result (Appends (W.contents out.old) (W.contents out.new) (history_shown warn entries.now)) }
+{
+    write_head(warn, out)?;
+    for entry in entries {
+        write_entry(entry, warn, out)?;
+    }
+    Ok(())
+}
+
+/// Writes the first line of a history, but not of its warnings alone.
+fn write_head<W: Write>(warn: bool, out: &mut W) -> io::Result<()>
+    ensures { OnOk result (Appends (W.contents out.old) (W.contents out.new) (head_shown warn)) }
+{
+    if warn {
+        return Ok(());
+    }
+    out.write_all(b"mach-history 1\n")
+}
+
+/// Writes an entry, or nothing where warnings alone are to be written and it is none.
+fn write_entry<W: Write>(entry: &Entry, warn: bool, out: &mut W) -> io::Result<()>
+    ensures { OnOk result (Appends (W.contents out.old) (W.contents out.new) (entry_shown warn entry.now)) }
+{
+    let least = if warn {
+        LevelFilter::Warn
+    } else {
+        LevelFilter::Info
+    };
+    if least.allows(level(entry)) {
+        line(entry, out)
+    } else {
+        Ok(())
+    }
+}

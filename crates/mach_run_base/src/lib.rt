@@ -1,0 +1,20 @@
+//! What the program `mach_run` does, over any reader and writers: its command line, and its jobs.
+//!
+//! A script is read line by line ([`Script`]) and run on one shared kernel: the main thread makes the calls
+//! ahead of the first block, and each block makes its own in a thread. Message calls wait by the gates of a
+//! [`Hall`].
+#![tactic(auto)]
+
+mod command_line;
+mod fault;
+mod gate;
+mod job;
+mod reading;
+mod running;
+mod script;
+
+pub use command_line::{Request, read_words};
+pub use fault::{Fault, report};
+pub use gate::{BlockGate, Hall};
+pub use job::{Job, perform};
+pub use script::{Script, ThreadCalls};

@@ -1,0 +1,15 @@
+//! Tests of the program: what it prints of scripts, what its words are, and how its blocks wait.
+//!
+//! They stand in a crate of their own, so that the crate that they test is proved once.
+#![tactic(auto)]
+
+#[cfg(test)]
+mod dispositions;
+#[cfg(test)]
+mod memory_codes;
+#[cfg(test)]
+mod tests;
+#[cfg(test)]
+mod threads;
+#[cfg(test)]
+mod waiters;
