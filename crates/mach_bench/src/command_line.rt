@@ -1,8 +1,9 @@
 //! The words of the command line.
 use crate::perform::{Job, Run};
-use crate::workloads::{Workload, all_workloads};
-use crate::worlds::{World, all_worlds};
+use crate::soak::Soak;
+use mach_bench_base::{Workload, World, all_workloads, all_worlds};
 use std::io::Write;
+use std::time::Duration;
 
 /// How the program is called.
 pub const USAGE: &str = "Workloads of Mach 3 port IPC, to measure
@@ -10,11 +11,14 @@ pub const USAGE: &str = "Workloads of Mach 3 port IPC, to measure
 Usage: mach_bench list
        mach_bench check
        mach_bench run NAME [--world W] [--times N]
+       mach_bench soak THREADS CALLS SECONDS SEED
        mach_bench help
 
 list   prints the workloads and the worlds
 check  makes each workload once, and the first in each world
 run    makes the cycle of one workload N times (1) in one world (small), by the clock
+soak   makes calls drawn by the seed in so many threads (1 to 64) on one kernel, until
+       there are so many or it took so long; then replays their history
 ";
 
 /// Why words ask for nothing that can be done.
@@ -56,6 +60,7 @@ pub fn read_words<'a>(words: &'a [String]) -> Result<Job, Refusal<'a>> {
     match words {
         [_, job] => read_job(job.as_str()),
         [_, job, rest @ ..] if job.as_str() == "run" => read_run(rest),
+        [_, job, rest @ ..] if job.as_str() == "soak" => read_soak(rest).ok_or(Refusal::NoJob),
         _ => Err(Refusal::NoJob),
     }
 }
@@ -68,6 +73,28 @@ fn read_job<'a>(job: &str) -> Result<Job, Refusal<'a>> {
         "help" | "--help" | "-h" => Ok(Job::Help),
         _ => Err(Refusal::NoJob),
     }
+}
+
+/// The number that the word is.
+fn number(word: &String) -> Option<u32> {
+    word.as_str().parse::<u32>().ok()
+}
+
+/// Reads what stands after `soak`: how many threads, 1 to 64, calls and seconds, and the seed.
+fn read_soak(words: &[String]) -> Option<Job> {
+    let [threads, entries, seconds, seed] = words else {
+        return None;
+    };
+    let threads = number(threads)?;
+    if threads == 0 || threads > 64 {
+        return None;
+    }
+    Some(Job::Soak(Soak {
+        threads,
+        entries: number(entries)?,
+        time: Duration::from_secs(u64::from(number(seconds)?)),
+        seed: u64::from(number(seed)?),
+    }))
 }
 
 /// Which value the next word is, of the words after `run`.

@@ -1,21 +1,19 @@
-//! The program `mach_bench`: named workloads of Mach 3 port IPC in named worlds, to measure.
-//!
-//! Instructions are counted in `bench`'s `measured` alone; `docs/PERFORMANCE.md` has the command.
+//! The program `mach_bench`: named workloads of Mach 3 port IPC in named worlds, to measure; and calls that
+//! several threads make on one kernel, drawn at random.
 #![tactic(auto)]
 
-mod bench;
-mod calls;
 mod command_line;
-mod messages;
+mod draw;
 mod perform;
-mod workloads;
-mod worlds;
+mod soak;
 
 use command_line::{Refusal, read_words};
 use perform::{Fault, perform, report};
 use std::io::Write;
 use std::process::ExitCode;
 use std::rt::{Clock, Env};
+use std::sync::Wait;
+use std::thread::Threads;
 use std::{env, io};
 
 fn main(rt: HostRuntime) -> ExitCode {
@@ -26,7 +24,7 @@ fn main(rt: HostRuntime) -> ExitCode {
 /// Does what the words of the command line ask for, and answers the status.
 ///
 /// Words that name no job are answered by the program's usage on `err`: status 2.
-fn answer<R: Env + Clock + AllocGlobal, W: Write, E: Write>(
+fn answer<R: Env + Clock + AllocGlobal + Threads + Wait + Sync, W: Write, E: Write>(
     rt: &R,
     out: &mut W,
     err: &mut E,
@@ -38,7 +36,7 @@ fn answer<R: Env + Clock + AllocGlobal, W: Write, E: Write>(
 }
 
 /// The same, of these words.
-fn answer_words<R: Clock + AllocGlobal, W: Write, E: Write>(
+fn answer_words<R: Clock + AllocGlobal + Threads + Wait + Sync, W: Write, E: Write>(
     rt: &R,
     words: &[String],
     out: &mut W,

@@ -1,13 +1,17 @@
 //! The jobs of the program, over any clock and writers.
 ghost use Rattle.std.specs.Prelude.{◌≤◌, ◌≡◌};
 
-use crate::bench::{Bench, Stop};
 use crate::command_line::USAGE;
-use crate::workloads::{SEND_RECEIVE, Workload, all_workloads};
-use crate::worlds::{OPENING, SMALL, World, all_worlds};
-use std::alloc::Global;
+use crate::soak::{Soak, Soaked, make_soak};
+use mach_bench_base::{
+    Bench, OPENING, SEND_RECEIVE, SMALL, Stop, Workload, World, all_workloads, all_worlds,
+};
+use mach_msg_threads::RunFault;
+use std::alloc::{AllocError, AllocFailed};
 use std::io::Write;
 use std::rt::Clock;
+use std::sync::Wait;
+use std::thread::Threads;
 use std::time::{Duration, Instant};
 use std::{fmt, io};
 
@@ -22,6 +26,8 @@ pub enum Job {
     Check,
     /// Makes one workload in one world, so many times, by the clock.
     Run(Run, u32),
+    /// Makes calls of several threads on one kernel, and replays their history.
+    Soak(Soak),
 }
 
 /// How many cycles are made.
@@ -68,6 +74,31 @@ pub enum Fault {
     CannotWrite,
     /// Memory was refused.
     OutOfMemory,
+    /// A thread was refused.
+    NoThread,
+    /// The replay answers the entry of this number, from 1, otherwise than the history says.
+    OtherReply(usize),
+}
+
+impl From<AllocError> for Fault {
+    fn from(_: AllocError) -> Fault {
+        Fault::OutOfMemory
+    }
+}
+
+impl<T: Drop> From<AllocFailed<T>> for Fault {
+    fn from(_: AllocFailed<T>) -> Fault {
+        Fault::OutOfMemory
+    }
+}
+
+impl From<RunFault> for Fault {
+    fn from(fault: RunFault) -> Fault {
+        match fault {
+            RunFault::Memory => Fault::OutOfMemory,
+            RunFault::Thread => Fault::NoThread,
+        }
+    }
 }
 
 impl fmt::Display for Fault {
@@ -79,6 +110,8 @@ impl fmt::Display for Fault {
             Fault::NoClock => f.write_str("cannot read the clock"),
             Fault::CannotWrite => f.write_str("cannot write"),
             Fault::OutOfMemory => f.write_str("out of memory"),
+            Fault::NoThread => f.write_str("cannot start thread"),
+            Fault::OtherReply(number) => write!(f, "entry {number} is replayed otherwise"),
         }
     }
 }
@@ -87,7 +120,7 @@ impl fmt::Display for Fault {
 ///
 /// What the job tells goes to `out`, and a fault in one line to `err`. A call that is refused though it
 /// should be done is a fault: what comes after it is not made.
-pub fn perform<R: Clock + AllocGlobal, W: Write, E: Write>(
+pub fn perform<R: Clock + AllocGlobal + Threads + Wait + Sync, W: Write, E: Write>(
     rt: &R,
     job: Job,
     out: &mut W,
@@ -112,7 +145,7 @@ pub fn report<E: Write>(fault: Fault, err: &mut E) -> u8
 }
 
 /// Does the job, and flushes what it told.
-fn do_and_flush<R: Clock + AllocGlobal, W: Write>(
+fn do_and_flush<R: Clock + AllocGlobal + Threads + Wait + Sync, W: Write>(
     rt: &R,
     job: Job,
     out: &mut W,
@@ -121,12 +154,17 @@ fn do_and_flush<R: Clock + AllocGlobal, W: Write>(
     written(out.flush())
 }
 
-fn do_job<R: Clock + AllocGlobal, W: Write>(rt: &R, job: Job, out: &mut W) -> Result<(), Fault> {
+fn do_job<R: Clock + AllocGlobal + Threads + Wait + Sync, W: Write>(
+    rt: &R,
+    job: Job,
+    out: &mut W,
+) -> Result<(), Fault> {
     match job {
         Job::Help => written(out.write_all(USAGE.as_bytes())),
         Job::List => list(out),
         Job::Check => check(rt, out),
         Job::Run(run, times) => measure(rt, run, times, out),
+        Job::Soak(limits) => tell_soaked(make_soak(rt, limits)?, out),
     }
 }
 
@@ -218,6 +256,19 @@ fn tell<W: Write>(run: Run, operations: u64, made: Made, out: &mut W) -> Result<
     written(writeln!(
         out,
         "{run}: {operations} operations, {each} ns each, the last step in {turns} turns"
+    ))
+}
+
+/// Prints how many calls were made, how many a second, and that their history is replayed to the same replies.
+fn tell_soaked<W: Write>(soaked: Soaked, out: &mut W) -> Result<(), Fault> {
+    let (entries, refused, took) = (soaked.entries, soaked.refused, soaked.took.as_millis());
+    let (replay, each) = (
+        soaked.replay.as_millis(),
+        nanoseconds_each(soaked.took, entries as u64),
+    );
+    written(writeln!(
+        out,
+        "{entries} calls, {refused} of them refused, in {took} ms, {each} ns each, replayed to the same replies in {replay} ms"
     ))
 }
 

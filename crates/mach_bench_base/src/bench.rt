@@ -140,7 +140,7 @@ fn make_calls(kernel: &mut Kernel, events: &[Event]) -> Result<(), Stop> {
 }
 
 /// Whether the call was refused, or found no message.
-fn is_refused(reply: &Reply) -> bool {
+pub fn is_refused(reply: &Reply) -> bool {
     match reply {
         Reply::Code(code) => *code != 0,
         Reply::Empty(_) | Reply::TooLarge(_) | Reply::NoRecord => true,
