@@ -1,10 +1,10 @@
 //! One call by a handle, and the answers that are a code or a number.
 ghost use Rattle.std.specs.Prelude.{◌≡◌, ℕ, MatchOption};
-ghost use Rattle.gelvonds_c.specs.Calls.{Calls, Asks, Tells, number_or};
+ghost use Rattle.gelvonds_c.specs.Calls.{Calls, Asks, Tells, number_or, code_for, signed};
 
 use crate::codes::{NO_ANSWER, NO_KERNEL, SUCCESS};
 use crate::handle::Handle;
-use mach_types::{Event, Reply};
+use mach_types::{Event, MsgReturn, Reply};
 use std::alloc::Global;
 
 /// Makes the call by the kernel that the handle holds, and answers it; `None` where it holds none.
@@ -25,30 +25,32 @@ pub fn call(alloc: Global, handle: &mut Handle, event: &Event) -> Option<Reply>
 
 /// Makes a call that answers a code.
 pub fn code(alloc: Global, handle: &mut Handle, event: &Event) -> i32
-    ensures { Asks handle.old.kernel event.now handle.new.kernel }
+    ensures { Asks handle.old.kernel event.now result handle.new.kernel }
 {
     code_of(&call(alloc, handle, event))
 }
 
-/// Makes a call that answers a number, and writes that, or answers why not.
+/// Makes a call that answers a number, and writes that, where it isn't refused.
 pub fn number(alloc: Global, handle: &mut Handle, event: &Event, out: &mut u32) -> i32
-    ensures { Tells handle.old.kernel event.now handle.new.kernel out.old out.new }
+    ensures { Tells handle.old.kernel event.now result handle.new.kernel out.old out.new }
 {
     let reply = call(alloc, handle, event);
-    match number_of(&reply) {
-        Some(number) => {
-            *out = number;
-            SUCCESS
-        }
-        None => code_of(&reply),
+    if let Some(number) = number_of(&reply) {
+        *out = number;
     }
+    code_of(&reply)
 }
 
-/// The code of an answer that is one.
-pub fn code_of(reply: &Option<Reply>) -> i32 {
+/// The code of an answer: of a refusal, of a receive that got no message, or that of success.
+pub fn code_of(reply: &Option<Reply>) -> i32
+    ensures { result ≡ signed (code_for reply.now) }
+{
     match reply {
         Some(Reply::Code(code)) => code.cast_signed(),
-        Some(_) => NO_ANSWER,
+        Some(Reply::Empty(_)) => MsgReturn::ReceiveTimedOut.number().cast_signed(),
+        Some(Reply::TooLarge(_)) => MsgReturn::ReceiveTooLarge.number().cast_signed(),
+        Some(Reply::NoRecord) => NO_ANSWER,
+        Some(_) => SUCCESS,
         None => NO_KERNEL,
     }
 }

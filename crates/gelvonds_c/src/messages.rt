@@ -1,8 +1,10 @@
 //! Calls that send and receive.
-ghost use Rattle.std.specs.Prelude.{◌≡◌, ◌⊎◌, IfSome, length, min};
+ghost use Rattle.std.specs.Prelude.{◌≡◌, ◌⊎◌, MatchOption, length, min, if◌then◌else◌, nat_lt};
 ghost use Rattle.mach_types.specs.declared.calls.Event.TheVariants.{Send, Receive, ReceiveAgain};
 ghost use Rattle.mach_types.specs.declared.calls.Waited.{Waited};
-ghost use Rattle.gelvonds_c.specs.Calls.{Asks, IsWaited};
+ghost use Rattle.mach_types.specs.declared.codes.MsgReturn.TheVariants.{SendNoBuffer};
+ghost use Rattle.mach_types.specs.Numbers.{msg_number};
+ghost use Rattle.gelvonds_c.specs.Calls.{Asks, Fills, IsWaited, IsNoKind, bytes_in, code_for, no_answer, no_waited, signed};
 
 use crate::call::{call, code, code_of};
 use crate::codes::{NO_ANSWER, NO_WAITED, SUCCESS};
@@ -27,7 +29,7 @@ pub struct WaitedFor {
 /// `mach_msg` with `MACH_SEND_MSG`, that doesn't wait.
 #[unsafe(no_mangle)]
 pub extern "C" fn gelvonds_send(alloc: Global, handle: &mut Handle, task: u32, bytes: &[u8]) -> i32
-    ensures { Asks handle.old.kernel (Send task bytes.now) handle.new.kernel ⊎ handle.new.kernel ≡ handle.old.kernel }
+    ensures { Asks handle.old.kernel (Send task bytes.now) result handle.new.kernel ⊎ (result ≡ signed (msg_number SendNoBuffer)) × (handle.new.kernel ≡ handle.old.kernel) }
 {
     match Vec::from_slice(alloc, bytes) {
         Ok(copy) => {
@@ -50,7 +52,7 @@ pub extern "C" fn gelvonds_receive(
     count: &mut usize,
     waited: &mut WaitedFor,
 ) -> i32
-    ensures { Asks handle.old.kernel (Receive task name (min (length buffer.old) 4294967295) large) handle.new.kernel }
+    ensures { Fills handle.old.kernel (Receive task name (min (length buffer.old) 4294967295) large) bytes_in (length buffer.old) no_answer result handle.new.kernel }
 {
     let room = room_of(buffer.len());
     let event = Event::Receive(TaskId::new(task), Name::new(name), room, large);
@@ -68,7 +70,7 @@ pub extern "C" fn gelvonds_receive_again(
     count: &mut usize,
     waited: &mut WaitedFor,
 ) -> i32
-    ensures { ((w : Waited) × IsWaited waited.old.kind waited.old.identity w × Asks handle.old.kernel (ReceiveAgain task w (min (length buffer.old) 4294967295) large) handle.new.kernel) ⊎ handle.new.kernel ≡ handle.old.kernel }
+    ensures { ((w : Waited) × IsWaited waited.old.kind waited.old.identity w × Fills handle.old.kernel (ReceiveAgain task w (min (length buffer.old) 4294967295) large) bytes_in (length buffer.old) no_answer result handle.new.kernel) ⊎ IsNoKind waited.old.kind × (result ≡ signed no_waited) × (handle.new.kernel ≡ handle.old.kernel) }
 {
     let Some(before) = waited_before(waited) else {
         return NO_WAITED;
@@ -87,7 +89,7 @@ fn room_of(places: usize) -> u32
 
 /// What was waited for, where its kind is one.
 fn waited_before(waited: &WaitedFor) -> Option<Waited>
-    ensures { IfSome result (λ w. IsWaited waited.now.kind waited.now.identity w) }
+    ensures { MatchOption result (IsNoKind waited.now.kind) (λ w. IsWaited waited.now.kind waited.now.identity w) }
 {
     match waited.kind {
         PORT => Some(Waited::Port(PortId::new(waited.identity))),
@@ -116,23 +118,27 @@ fn received(
     buffer: &mut [u8],
     count: &mut usize,
     waited: &mut WaitedFor,
-) -> i32 {
+) -> i32
+    ensures { result ≡ signed (if nat_lt (length buffer.old) (bytes_in reply.now) then no_answer else code_for reply.now) }
+{
     match reply {
         Some(Reply::Message(bytes)) => put_bytes(bytes.as_slice(), buffer, count),
         Some(Reply::Empty(found)) => {
             *waited = waited_for(found);
-            MsgReturn::ReceiveTimedOut.number().cast_signed()
+            code_of(reply)
         }
         Some(Reply::TooLarge(needed)) => {
             *count = *needed as usize;
-            MsgReturn::ReceiveTooLarge.number().cast_signed()
+            code_of(reply)
         }
         _ => code_of(reply),
     }
 }
 
 /// Writes a message, which the kernel gives only where there is room.
-fn put_bytes(bytes: &[u8], buffer: &mut [u8], count: &mut usize) -> i32 {
+fn put_bytes(bytes: &[u8], buffer: &mut [u8], count: &mut usize) -> i32
+    ensures { result ≡ signed (if nat_lt (length buffer.old) (length bytes.now) then no_answer else 0) }
+{
     *count = bytes.len();
     if bytes.len() > buffer.len() {
         return NO_ANSWER;

@@ -1,6 +1,7 @@
 //! Calls of tasks, names and references.
+ghost use Rattle.std.specs.Prelude.{◌≡◌, length, min, if◌then◌else◌, nat_lt};
 ghost use Rattle.mach_types.specs.declared.calls.Event.TheVariants.{TaskCreate, TaskTerminate, Allocate, AllocateName, Deallocate, Destroy, ModRefs, GetRefs, NameType, Names, Rename};
-ghost use Rattle.gelvonds_c.specs.Calls.{Asks, Tells};
+ghost use Rattle.gelvonds_c.specs.Calls.{Asks, Tells, Fills, names_in, signed, too_short};
 
 use crate::call::{call, code, code_of, number};
 use crate::codes::{SUCCESS, TOO_SHORT};
@@ -11,7 +12,7 @@ use std::alloc::Global;
 /// `task_create`.
 #[unsafe(no_mangle)]
 pub extern "C" fn gelvonds_task_create(alloc: Global, handle: &mut Handle, child: &mut u32) -> i32
-    ensures { Tells handle.old.kernel TaskCreate handle.new.kernel child.old child.new }
+    ensures { Tells handle.old.kernel TaskCreate result handle.new.kernel child.old child.new }
 {
     number(alloc, handle, &Event::TaskCreate, child)
 }
@@ -19,7 +20,7 @@ pub extern "C" fn gelvonds_task_create(alloc: Global, handle: &mut Handle, child
 /// `task_terminate`.
 #[unsafe(no_mangle)]
 pub extern "C" fn gelvonds_task_terminate(alloc: Global, handle: &mut Handle, task: u32) -> i32
-    ensures { Asks handle.old.kernel (TaskTerminate task) handle.new.kernel }
+    ensures { Asks handle.old.kernel (TaskTerminate task) result handle.new.kernel }
 {
     let event = Event::TaskTerminate(TaskId::new(task));
     code(alloc, handle, &event)
@@ -34,7 +35,7 @@ pub extern "C" fn gelvonds_port_allocate(
     right: u32,
     name: &mut u32,
 ) -> i32
-    ensures { Tells handle.old.kernel (Allocate task right) handle.new.kernel name.old name.new }
+    ensures { Tells handle.old.kernel (Allocate task right) result handle.new.kernel name.old name.new }
 {
     let event = Event::Allocate(TaskId::new(task), right);
     number(alloc, handle, &event, name)
@@ -49,7 +50,7 @@ pub extern "C" fn gelvonds_port_allocate_name(
     right: u32,
     name: u32,
 ) -> i32
-    ensures { Asks handle.old.kernel (AllocateName task right name) handle.new.kernel }
+    ensures { Asks handle.old.kernel (AllocateName task right name) result handle.new.kernel }
 {
     let event = Event::AllocateName(TaskId::new(task), right, Name::new(name));
     let mut given = 0;
@@ -64,7 +65,7 @@ pub extern "C" fn gelvonds_port_deallocate(
     task: u32,
     name: u32,
 ) -> i32
-    ensures { Asks handle.old.kernel (Deallocate task name) handle.new.kernel }
+    ensures { Asks handle.old.kernel (Deallocate task name) result handle.new.kernel }
 {
     let event = Event::Deallocate(TaskId::new(task), Name::new(name));
     code(alloc, handle, &event)
@@ -78,7 +79,7 @@ pub extern "C" fn gelvonds_port_destroy(
     task: u32,
     name: u32,
 ) -> i32
-    ensures { Asks handle.old.kernel (Destroy task name) handle.new.kernel }
+    ensures { Asks handle.old.kernel (Destroy task name) result handle.new.kernel }
 {
     let event = Event::Destroy(TaskId::new(task), Name::new(name));
     code(alloc, handle, &event)
@@ -94,7 +95,7 @@ pub extern "C" fn gelvonds_port_mod_refs(
     right: u32,
     delta: i32,
 ) -> i32
-    ensures { Asks handle.old.kernel (ModRefs task name right delta) handle.new.kernel }
+    ensures { Asks handle.old.kernel (ModRefs task name right delta) result handle.new.kernel }
 {
     let event = Event::ModRefs(TaskId::new(task), Name::new(name), right, delta);
     code(alloc, handle, &event)
@@ -110,7 +111,7 @@ pub extern "C" fn gelvonds_port_get_refs(
     right: u32,
     refs: &mut u32,
 ) -> i32
-    ensures { Tells handle.old.kernel (GetRefs task name right) handle.new.kernel refs.old refs.new }
+    ensures { Tells handle.old.kernel (GetRefs task name right) result handle.new.kernel refs.old refs.new }
 {
     let event = Event::GetRefs(TaskId::new(task), Name::new(name), right);
     number(alloc, handle, &event, refs)
@@ -125,7 +126,7 @@ pub extern "C" fn gelvonds_port_type(
     name: u32,
     port_type: &mut u32,
 ) -> i32
-    ensures { Tells handle.old.kernel (NameType task name) handle.new.kernel port_type.old port_type.new }
+    ensures { Tells handle.old.kernel (NameType task name) result handle.new.kernel port_type.old port_type.new }
 {
     let event = Event::NameType(TaskId::new(task), Name::new(name));
     number(alloc, handle, &event, port_type)
@@ -140,7 +141,7 @@ pub extern "C" fn gelvonds_port_rename(
     old_name: u32,
     new_name: u32,
 ) -> i32
-    ensures { Asks handle.old.kernel (Rename task old_name new_name) handle.new.kernel }
+    ensures { Asks handle.old.kernel (Rename task old_name new_name) result handle.new.kernel }
 {
     let event = Event::Rename(TaskId::new(task), Name::new(old_name), Name::new(new_name));
     code(alloc, handle, &event)
@@ -156,7 +157,7 @@ pub extern "C" fn gelvonds_port_names(
     types: &mut [u32],
     count: &mut usize,
 ) -> i32
-    ensures { Asks handle.old.kernel (Names task) handle.new.kernel }
+    ensures { Fills handle.old.kernel (Names task) names_in (min (length names.old) (length types.old)) too_short result handle.new.kernel }
 {
     let reply = call(alloc, handle, &Event::Names(TaskId::new(task)));
     match &reply {
@@ -166,12 +167,9 @@ pub extern "C" fn gelvonds_port_names(
 }
 
 /// Writes the names and their types where there is room for all, and tells how many they are.
-fn put_names(
-    found: &[(Name, u32)],
-    names: &mut [u32],
-    types: &mut [u32],
-    count: &mut usize,
-) -> i32 {
+fn put_names(found: &[(Name, u32)], names: &mut [u32], types: &mut [u32], count: &mut usize) -> i32
+    ensures { result ≡ signed (if nat_lt (min (length names.old) (length types.old)) (length found.now) then too_short else 0) }
+{
     *count = found.len();
     if found.len() > names.len() || found.len() > types.len() {
         return TOO_SHORT;

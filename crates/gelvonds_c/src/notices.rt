@@ -20,7 +20,7 @@ pub extern "C" fn gelvonds_port_request_notification(
     disposition: u32,
     previous: &mut u32,
 ) -> i32
-    ensures { Tells handle.old.kernel (RequestNotification task name variant sync notify disposition) handle.new.kernel previous.old previous.new }
+    ensures { Tells handle.old.kernel (RequestNotification task name variant sync notify disposition) result handle.new.kernel previous.old previous.new }
 {
     let event = Event::RequestNotification(
         TaskId::new(task),

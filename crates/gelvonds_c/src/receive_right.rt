@@ -3,7 +3,6 @@ ghost use Rattle.mach_types.specs.declared.calls.Event.TheVariants.{ReceiveStatu
 ghost use Rattle.gelvonds_c.specs.Calls.{Asks};
 
 use crate::call::{call, code, code_of};
-use crate::codes::SUCCESS;
 use crate::handle::Handle;
 use mach_types::{Event, Name, Reply, Status, TaskId};
 use std::alloc::Global;
@@ -41,17 +40,14 @@ pub extern "C" fn gelvonds_port_get_receive_status(
     name: u32,
     status: &mut PortStatus,
 ) -> i32
-    ensures { Asks handle.old.kernel (ReceiveStatus task name) handle.new.kernel }
+    ensures { Asks handle.old.kernel (ReceiveStatus task name) result handle.new.kernel }
 {
     let event = Event::ReceiveStatus(TaskId::new(task), Name::new(name));
     let reply = call(alloc, handle, &event);
-    match &reply {
-        Some(Reply::Status(found)) => {
-            *status = port_status(found);
-            SUCCESS
-        }
-        _ => code_of(&reply),
+    if let Some(Reply::Status(found)) = &reply {
+        *status = port_status(found);
     }
+    code_of(&reply)
 }
 
 /// The status, for C.
@@ -78,7 +74,7 @@ pub extern "C" fn gelvonds_port_set_qlimit(
     name: u32,
     limit: u32,
 ) -> i32
-    ensures { Asks handle.old.kernel (SetQlimit task name limit) handle.new.kernel }
+    ensures { Asks handle.old.kernel (SetQlimit task name limit) result handle.new.kernel }
 {
     let event = Event::SetQlimit(TaskId::new(task), Name::new(name), limit);
     code(alloc, handle, &event)
@@ -93,7 +89,7 @@ pub extern "C" fn gelvonds_port_set_mscount(
     name: u32,
     count: u32,
 ) -> i32
-    ensures { Asks handle.old.kernel (SetMscount task name count) handle.new.kernel }
+    ensures { Asks handle.old.kernel (SetMscount task name count) result handle.new.kernel }
 {
     let event = Event::SetMscount(TaskId::new(task), Name::new(name), count);
     code(alloc, handle, &event)
@@ -108,7 +104,7 @@ pub extern "C" fn gelvonds_port_set_seqno(
     name: u32,
     number: u32,
 ) -> i32
-    ensures { Asks handle.old.kernel (SetSeqno task name number) handle.new.kernel }
+    ensures { Asks handle.old.kernel (SetSeqno task name number) result handle.new.kernel }
 {
     let event = Event::SetSeqno(TaskId::new(task), Name::new(name), number);
     code(alloc, handle, &event)

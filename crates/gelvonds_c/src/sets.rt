@@ -1,6 +1,7 @@
 //! Calls of port sets.
+ghost use Rattle.std.specs.Prelude.{◌≡◌, length, if◌then◌else◌, nat_lt};
 ghost use Rattle.mach_types.specs.declared.calls.Event.TheVariants.{MoveMember, SetStatus};
-ghost use Rattle.gelvonds_c.specs.Calls.{Asks};
+ghost use Rattle.gelvonds_c.specs.Calls.{Asks, Fills, members_in, signed, too_short};
 
 use crate::call::{call, code, code_of};
 use crate::codes::{SUCCESS, TOO_SHORT};
@@ -17,7 +18,7 @@ pub extern "C" fn gelvonds_port_move_member(
     member: u32,
     after: u32,
 ) -> i32
-    ensures { Asks handle.old.kernel (MoveMember task member after) handle.new.kernel }
+    ensures { Asks handle.old.kernel (MoveMember task member after) result handle.new.kernel }
 {
     let event = Event::MoveMember(TaskId::new(task), Name::new(member), Name::new(after));
     code(alloc, handle, &event)
@@ -33,7 +34,7 @@ pub extern "C" fn gelvonds_port_get_set_status(
     members: &mut [u32],
     count: &mut usize,
 ) -> i32
-    ensures { Asks handle.old.kernel (SetStatus task name) handle.new.kernel }
+    ensures { Fills handle.old.kernel (SetStatus task name) members_in (length members.old) too_short result handle.new.kernel }
 {
     let event = Event::SetStatus(TaskId::new(task), Name::new(name));
     let reply = call(alloc, handle, &event);
@@ -44,7 +45,9 @@ pub extern "C" fn gelvonds_port_get_set_status(
 }
 
 /// Writes the names where there is room for all, and tells how many they are.
-fn put_members(found: &[Name], members: &mut [u32], count: &mut usize) -> i32 {
+fn put_members(found: &[Name], members: &mut [u32], count: &mut usize) -> i32
+    ensures { result ≡ signed (if nat_lt (length members.old) (length found.now) then too_short else 0) }
+{
     *count = found.len();
     if found.len() > members.len() {
         return TOO_SHORT;

@@ -3,7 +3,6 @@ ghost use Rattle.mach_types.specs.declared.calls.Event.TheVariants.{InsertRight,
 ghost use Rattle.gelvonds_c.specs.Calls.{Asks};
 
 use crate::call::{call, code, code_of};
-use crate::codes::SUCCESS;
 use crate::handle::Handle;
 use mach_types::{Event, Name, Reply, TaskId};
 use std::alloc::Global;
@@ -19,7 +18,7 @@ pub extern "C" fn gelvonds_port_insert_right(
     poly: u32,
     disposition: u32,
 ) -> i32
-    ensures { Asks handle.old.kernel (InsertRight task name from poly disposition) handle.new.kernel }
+    ensures { Asks handle.old.kernel (InsertRight task name from poly disposition) result handle.new.kernel }
 {
     let event = Event::InsertRight(
         TaskId::new(task),
@@ -43,7 +42,7 @@ pub extern "C" fn gelvonds_port_extract_right(
     poly: &mut u32,
     kind: &mut u32,
 ) -> i32
-    ensures { Asks handle.old.kernel (ExtractRight task name disposition to) handle.new.kernel }
+    ensures { Asks handle.old.kernel (ExtractRight task name disposition to) result handle.new.kernel }
 {
     let event = Event::ExtractRight(
         TaskId::new(task),
@@ -52,12 +51,9 @@ pub extern "C" fn gelvonds_port_extract_right(
         TaskId::new(to),
     );
     let reply = call(alloc, handle, &event);
-    match &reply {
-        Some(Reply::Right(given, number)) => {
-            *poly = given.number();
-            *kind = u32::from(*number);
-            SUCCESS
-        }
-        _ => code_of(&reply),
+    if let Some(Reply::Right(given, number)) = &reply {
+        *poly = given.number();
+        *kind = u32::from(*number);
     }
+    code_of(&reply)
 }

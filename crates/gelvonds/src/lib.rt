@@ -1,0 +1,53 @@
+//! Mach 3 port IPC for a program that builds on it: a kernel, its calls, and messages.
+//!
+//! [`Kernel`] is one kernel: tasks, their names, ports and queued messages. It has a method for each call
+//! of a task, in Mach's order of arguments. A message is made of its fields by [`messages::write_message`]
+//! and read by [`messages::read_received`]:
+//!
+//! ```text
+//! let mut kernel = Kernel::new(alloc);
+//! let (server, client) = (kernel.create_task()?, kernel.create_task()?);
+//! let service = kernel.allocate(server, Right::Receive)?;
+//! let made = PortRight { disposition: Disposition::MakeSend, name: service };
+//! kernel.insert_right(client, Name::new(1), server, made)?;
+//! let destination = PortRight { disposition: Disposition::CopySend, name: Name::new(1) };
+//! let header = SendHeader { destination, reply: None, id: 7 };
+//! let bytes = write_message(alloc, &header, &SendBody::Raw(b"ping"))?;
+//! kernel.send(client, Bytes::from_vec(bytes))?;
+//! let receipt = kernel.receive(server, service, 4096, false)?;
+//! ```
+//!
+//! The crate `embedding` of this repository is that program, whole, and `docs/EMBEDDING.md` goes over it.
+//!
+//! # What is promised
+//! Each method makes one step of the machine of `mach_model`, on the event of its arguments, and its result
+//! is the reply of that step: `specs/Results` says which reply each `Ok` and each `Err` stands for, and
+//! `specs/Steps` what a step promises. An `Err` is a code by which the machine refuses the call, never that
+//! of success, and leaves the state. No reply of another kind can come. [`run`] makes a list of calls, of
+//! which all is true that `mach_laws`' `Headline` says.
+//!
+//! # Threads
+//! Nothing here but [`threads`] takes a lock or waits, and a kernel may be moved from thread to thread. For
+//! one kernel that many threads use, with its history and message calls that wait, take [`threads`].
+//!
+//! # Memory
+//! A kernel takes memory from the global allocator as its tables grow, and gives it back when it is let go.
+//! Names, ports and messages that are gone leave their places for later ones. Want of memory is an ordinary
+//! answer, by the code that the call has for it; no call aborts. The calls that take none say so.
+#![tactic(auto)]
+
+mod kernel;
+pub mod messages;
+mod notification;
+mod results;
+pub mod threads;
+
+pub use copyin_base::Code;
+pub use kernel::{Kernel, run};
+pub use mach_types::{
+    Bytes, Disposition, Event, KernReturn, MsgReturn, Name, NameList, NameTypes, PortId, Reply,
+    Right, SetId, Status, TaskId, Waited, limits,
+};
+pub use message_codec::PortRight;
+pub use notification::{Notification, NotificationRequest};
+pub use results::{ExtractedRight, Receipt, SendError};
