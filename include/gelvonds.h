@@ -135,14 +135,22 @@ typedef struct gelvonds_waited {
 #define MACH_NOTIFY_DEAD_NAME 72
 #endif
 
-/* How a right is taken from a name (mach_msg_type_name_t). */
+/* How a right is taken from a name (mach_msg_type_name_t). The first three are also the kind of a right that
+ * was received. */
 #ifndef MACH_MSG_TYPE_MOVE_RECEIVE
-#define MACH_MSG_TYPE_MOVE_RECEIVE 16u
-#define MACH_MSG_TYPE_MOVE_SEND 17u
-#define MACH_MSG_TYPE_MOVE_SEND_ONCE 18u
-#define MACH_MSG_TYPE_COPY_SEND 19u
-#define MACH_MSG_TYPE_MAKE_SEND 20u
-#define MACH_MSG_TYPE_MAKE_SEND_ONCE 21u
+#define MACH_MSG_TYPE_MOVE_RECEIVE 16u   /* the receive right goes */
+#define MACH_MSG_TYPE_MOVE_SEND 17u      /* one reference of a send right goes */
+#define MACH_MSG_TYPE_MOVE_SEND_ONCE 18u /* the send-once right goes, and its name */
+#define MACH_MSG_TYPE_COPY_SEND 19u      /* a send right stays, and another is given */
+#define MACH_MSG_TYPE_MAKE_SEND 20u      /* a send right, made of the receive right under the name */
+#define MACH_MSG_TYPE_MAKE_SEND_ONCE 21u /* a send-once right, made of the receive right under the name */
+#endif
+
+/* The first word of a message's header: the dispositions of its destination and of the reply's right, and the bit
+ * that says that the body is a list of items. */
+#ifndef MACH_MSGH_BITS
+#define MACH_MSGH_BITS(remote, local) ((remote) | ((local) << 8))
+#define MACH_MSGH_BITS_COMPLEX 0x80000000u
 #endif
 
 /* ---- the kernel ---- */
@@ -167,7 +175,8 @@ gelvonds_code gelvonds_task_terminate(gelvonds *kernel, gelvonds_task task);
 /* ---- names: Port Manipulation Interface ---- */
 
 /* mach_port_allocate: makes a port, of which the task has the receive right (MACH_PORT_RIGHT_RECEIVE), an
- * empty set (.._PORT_SET) or a dead name (.._DEAD_NAME), under a fresh name.
+ * empty set (.._PORT_SET) or a dead name (.._DEAD_NAME), under a fresh name: the least, from 1, that the task
+ * doesn't use.
  * KERN_INVALID_VALUE: another right; KERN_NO_SPACE: a limit; KERN_RESOURCE_SHORTAGE: memory. */
 gelvonds_code gelvonds_port_allocate(gelvonds *kernel, gelvonds_task task, uint32_t right, gelvonds_name *name);
 
@@ -252,7 +261,9 @@ gelvonds_code gelvonds_port_insert_right(gelvonds *kernel, gelvonds_task task, g
 gelvonds_code gelvonds_port_extract_right(gelvonds *kernel, gelvonds_task task, gelvonds_name name, uint32_t disposition,
                                           gelvonds_task to, gelvonds_name *poly, uint32_t *kind);
 
-/* ---- notices: Port Manipulation Interface; docs/FORMATS.md has their bytes ---- */
+/* ---- notices: Port Manipulation Interface; docs/FORMATS.md has their bytes ----
+ * A notice is received as any message: one of 24 bytes with the id MACH_NOTIFY_SEND_ONCE, or of 32 bytes, at whose
+ * offset 28 stands the name that died or was deleted, that of the receive right, or the make-send count. */
 
 /* mach_port_request_notification: asks for a notice about the name, of a variant MACH_NOTIFY_..:
  *   PORT_DESTROYED  its port is sent in the notice where its receive right goes in another way than by moving;
@@ -272,12 +283,27 @@ gelvonds_code gelvonds_port_request_notification(gelvonds *kernel, gelvonds_task
                                                  uint32_t variant, uint32_t sync, gelvonds_name notify,
                                                  uint32_t disposition, gelvonds_name *previous);
 
-/* ---- messages: IPC Interface; docs/FORMATS.md has their bytes ---- */
+/* ---- messages: IPC Interface; docs/FORMATS.md has their bytes ----
+ * Six words, of which the lowest byte comes first on every machine, and a body of a multiple of 4 bytes:
+ *       as it is sent                                as it is received
+ *    0  MACH_MSGH_BITS(the destination's             MACH_MSGH_BITS(kind of the right to answer with, kind of
+ *       disposition, the reply's or 0)               the right that it was sent to)
+ *    4  not looked at                                its length
+ *    8  the sender's name of the destination         the receiver's name of the right to answer with; 0 for none,
+ *                                                    MACH_PORT_DEAD where its port has died
+ *   12  its name of the reply's right, or 0          its name of the port that it came to
+ *   16  not looked at                                its number at that port
+ *   20  the id                                       as sent
+ *   24  the body                                     as sent, but for names in items
+ * The body is raw bytes, or, with MACH_MSGH_BITS_COMPLEX in the first word, a list of items, in which rights go. To
+ * answer: the low 8 bits of the first word received are the disposition, the word at 8 is the destination. */
 
 /* mach_msg with MACH_SEND_MSG, that doesn't wait: the message joins the end of its destination's queue, or a
- * MACH_SEND_.. code comes: MSG_TOO_SMALL, INVALID_DATA (more than 65,536 bytes), INVALID_HEADER, INVALID_TYPE,
- * INVALID_DEST, INVALID_REPLY, INVALID_RIGHT, TIMED_OUT (the queue is full), NO_BUFFER (memory). The bytes are
- * copied. */
+ * MACH_SEND_.. code comes: MSG_TOO_SMALL (fewer than 24 bytes, no multiple of 4, or an item past the end),
+ * INVALID_DATA (more than 65,536 bytes), INVALID_HEADER (the first word, or a reply without a disposition),
+ * INVALID_TYPE (an item), INVALID_DEST, INVALID_REPLY, INVALID_RIGHT (the name of the destination, of the reply, or
+ * one in the body, lacks what its disposition needs; or a loop of ports in one another's queues), TIMED_OUT (the
+ * queue is full), NO_BUFFER (memory). The bytes are copied. */
 gelvonds_code gelvonds_send(gelvonds *kernel, gelvonds_task task, const uint8_t *bytes, size_t length);
 
 /* mach_msg with MACH_RCV_MSG, that doesn't wait: the front message of the port, or of any member of the set,
