@@ -18,4 +18,3 @@ mod Listed
 mod Bounding
 mod Lacking
 mod Staying
-mod Chosen

@@ -7,4 +7,3 @@ pub mod Receive
 pub mod Wanted
 pub mod MemoryCodes
 pub mod Bounds
-pub mod Choices

@@ -9,7 +9,6 @@
 #![tactic(auto)]
 
 mod bound;
-mod choice;
 mod kernel;
 mod memory;
 mod receive;

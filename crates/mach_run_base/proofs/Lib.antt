@@ -1,4 +1,3 @@
-pub mod HistoryLemmas
 pub mod LineLemmas
 pub mod OutputLemmas
 pub mod ScriptLemmas

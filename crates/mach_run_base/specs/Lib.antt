@@ -1,4 +1,3 @@
 pub mod Jobs
 pub mod Output
 pub mod Scripts
-pub mod Verdicts

@@ -4,8 +4,6 @@
 #![tactic(auto)]
 
 #[cfg(test)]
-mod checking;
-#[cfg(test)]
 mod dispositions;
 #[cfg(test)]
 mod memory_codes;
