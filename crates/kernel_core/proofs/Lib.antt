@@ -18,3 +18,4 @@ mod Listed
 mod Bounding
 mod Lacking
 mod Staying
+mod Chosen

@@ -7,3 +7,4 @@ pub mod Receive
 pub mod Wanted
 pub mod MemoryCodes
 pub mod Bounds
+pub mod Choices

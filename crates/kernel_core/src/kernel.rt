@@ -15,15 +15,16 @@ ghost use Rattle.copyin_base.specs.Shows.{Shows, SlotsSuffice};
 ghost use Rattle.copyin_base.specs.Stands.{Stands};
 ghost use Rattle.kernel_core.specs.Answers.{Answers};
 ghost use Rattle.kernel_core.specs.Bounds.{most_told, IsWithin};
+ghost use Rattle.kernel_core.specs.Choices.{SameButTurns};
 ghost use Rattle.kernel_core.specs.Kernels.{TakesTurns};
 ghost use Rattle.kernel_core.specs.MemoryCodes.{TellsMemoryCode};
 ghost use Rattle.kernel_core.specs.Wanted.{Wanted, Spares, Performs};
 
-use crate::bound;
 use crate::memory::tell_memory_code;
 use crate::receive::{Buffer, receive, receive_again};
 use crate::send::send;
 use crate::transfer::{TaskName, extract, insert};
+use crate::{bound, choice};
 use copyin_base::{Code, World};
 use destroy::settle;
 use kernel_core_base::{
@@ -31,7 +32,7 @@ use kernel_core_base::{
     move_member, name_type, receive_status, rename, set_mscount, set_qlimit, set_seqno, set_status,
     terminate_task,
 };
-use mach_types::{Event, KernReturn, Reply, TaskId};
+use mach_types::{Event, KernReturn, Name, Reply, TaskId};
 use notifications::{Asked, request_notification};
 use std::alloc::{AllocError, Global};
 use std::marker::Model;
@@ -153,6 +154,20 @@ impl Kernel {
         } else {
             Ok(None)
         }
+    }
+
+    /// Where the call receives by a set, gives the turn there to the member that its task has under this
+    /// name, if that has a message: a receipt by the set takes from it next.
+    ///
+    /// From which member a receipt takes is a choice that the machine leaves open, so each state that the
+    /// kernel showed it shows still. Nothing changes where the call doesn't receive by a set, or has no such
+    /// member. Takes no memory. Linear in the members that have messages and whose turn came before.
+    pub fn give_turn(&mut self, event: &Event, member: Name)
+        ensures same { SameButTurns self.old.tables self.new.tables }
+        ensures shows { (s : State) → Shows self.old.tables s → Shows self.new.tables s }
+        ensures turns { self.new.turns ≡ self.old.turns }
+    {
+        choice::give_turn(&mut self.world, event, member);
     }
 
     /// In how many turns the last step ended: 0 before the first, and after a refusal. A turn is a port

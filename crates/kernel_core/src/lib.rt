@@ -9,6 +9,7 @@
 #![tactic(auto)]
 
 mod bound;
+mod choice;
 mod kernel;
 mod memory;
 mod receive;

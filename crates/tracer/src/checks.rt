@@ -1,5 +1,7 @@
 //! Histories that are checked again: each call is made anew, on a kernel of the checker's own.
 ghost use Rattle.std.specs.Prelude.{◌≡◌, ℕ, true, IfOk, Ok, Err, length};
+ghost use Rattle.mach_model.specs.State.{State};
+ghost use Rattle.copyin_base.specs.Shows.{Shows};
 ghost use Rattle.kernel_core.specs.Answers.{Answers};
 ghost use Rattle.kernel_lock.specs.History.{Legal};
 ghost use Rattle.tracer.specs.declared.checks.CheckFault.TheVariants.{Memory};
@@ -8,7 +10,7 @@ ghost use Rattle.tracer.specs.Checks.{IsRefusal, IsUnconfirmed};
 use crate::histories::History;
 use kernel_core::Kernel;
 use kernel_lock::Entry;
-use mach_types::{Event, NameTypes, Reply, Status, Waited};
+use mach_types::{Event, Name, NameTypes, Reply, Status, Waited};
 use std::alloc::{AllocError, Global};
 use std::marker::Model;
 use thiserror::Error;
@@ -66,9 +68,10 @@ impl<'a> LegalHistory<'a> {
 ///
 /// Its calls are made anew on a kernel of the checker's own, one after another ([`confirm`]). `NotConfirmed`
 /// comes at the first that this kernel doesn't answer as its entry says, and `Memory` where memory is refused.
-/// Where the machine leaves a choice open, as to which ready member of a set a message is taken from, the
-/// kernel makes its own: a legal history in which another was made may be told as not confirmed. Time is
-/// that of the calls; memory that of the kernel, and of one reply.
+/// Which ready member of a set a message was taken from is followed. Where the machine leaves another choice
+/// open, the kernel makes its own: which member's message is told as too long, or stays since the task's names don't
+/// suffice for its rights, and in which order the notices of one step are queued. A legal history in which another
+/// was made may be told as not confirmed. Time is that of the calls; memory that of the kernel, and of one reply.
 pub fn check<'a>(alloc: Global, history: &'a History) -> Result<LegalHistory<'a>, CheckFault>
     ensures same { IfOk result (λ legal. legal ≡ history.now) }
     ensures legal { IfOk result Legal }
@@ -89,14 +92,16 @@ pub fn check<'a>(alloc: Global, history: &'a History) -> Result<LegalHistory<'a>
 /// call leads to.
 ///
 /// It is so where the call was refused for want of memory and the machine allows that, which changes nothing;
-/// and where the kernel makes the call and answers the same. Else the kernel is of no further use to the
-/// history. An error comes where memory is refused. Time is that of the call.
+/// and where the kernel makes the call and answers the same. Of a set's members it takes the message from the
+/// one that the message names as its receiver, whose turn that needn't have been. Else the kernel is of no further
+/// use to the history. An error comes where memory is refused. Time is that of the call, and of giving the turn.
 pub fn confirm(kernel: &mut Kernel, entry: &Entry) -> Result<bool, AllocError>
     ensures { result ≡ Ok true → Answers kernel.old.tables entry.now.event entry.now.reply kernel.new.tables }
 {
     if tells_want_of_memory(kernel, &entry.event, &entry.reply)? {
         return Ok(true);
     }
+    follow(kernel, entry);
     let reply = kernel.step(&entry.event);
     if are_same(&reply, &entry.reply) {
         return Ok(true);
@@ -105,6 +110,25 @@ pub fn confirm(kernel: &mut Kernel, entry: &Entry) -> Result<bool, AllocError>
         return Err(AllocError);
     }
     Ok(false)
+}
+
+/// Where the entry's message was received by a set, gives the turn there to the member that it names.
+fn follow(kernel: &mut Kernel, entry: &Entry)
+    ensures { (s : State) → Shows kernel.old.tables s → Shows kernel.new.tables s }
+{
+    if let Some(member) = receiver(&entry.reply) {
+        kernel.give_turn(&entry.event, member);
+    }
+}
+
+/// The name of the port that a message was received by.
+fn receiver(reply: &Reply) -> Option<Name> {
+    let Reply::Message(bytes) = reply else {
+        return None;
+    };
+    let word = bytes.as_slice().get(12..16)?;
+    let word = <[u8; 4]>::try_from(word).ok()?;
+    Some(Name::new(u32::from_le_bytes(word)))
 }
 
 /// Whether the reply is the code by which want of memory may refuse the call now.

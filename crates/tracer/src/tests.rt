@@ -175,3 +175,36 @@ fn legal_histories_are_told_from_others(rt: HostRuntime) {
     let other_name = "mach-history 1\n0 task -> task 0\n0 alloc 0 1 -> name 2\n";
     assert!(rt; checked(alloc, other_name) == Err(CheckFault::NotConfirmed(2)));
 }
+
+// Two members of a set have messages, and the receipts take from the one to which a message came last, by the set's
+// name or by what was waited for, and then from the other.
+const CHOSEN: &str = "\
+    mach-history 1\n\
+    0 task -> task 0\n\
+    0 alloc 0 1 -> name 1\n\
+    0 alloc 0 1 -> name 2\n\
+    0 alloc 0 3 -> name 3\n\
+    0 move 0 1 3 -> code 00000000\n\
+    0 move 0 2 3 -> code 00000000\n\
+    0 send 0 140000001800000001000000000000000000000007000000 -> code 00000000\n\
+    0 send 0 140000001800000001000000000000000000000008000000 -> code 00000000\n\
+    0 send 0 140000001800000002000000000000000000000009000000 -> code 00000000\n\
+    0 send 0 14000000180000000200000000000000000000000a000000 -> code 00000000\n\
+    0 recv 0 3 24 0 -> message 001100001800000000000000020000000000000009000000\n\
+    0 again 0 s 0 24 0 -> message 00110000180000000000000002000000010000000a000000\n";
+
+/// How many entries the history has with one more by which a message of this id is received, where it is legal.
+fn checked_with(alloc: Global, id: u8) -> Result<usize, CheckFault> {
+    let text = format!(in alloc;
+        "{CHOSEN}0 recv 0 3 24 0 -> message 0011000018000000000000000100000000000000{id:02x}000000\n"
+    )?;
+    checked(alloc, text.as_str())
+}
+
+#[test]
+fn any_ready_member_may_be_taken_from(rt: HostRuntime) {
+    let alloc = rt.alloc();
+    assert!(rt; checked(alloc, CHOSEN) == Ok(12));
+    assert!(rt; checked_with(alloc, 7) == Ok(13));
+    assert!(rt; checked_with(alloc, 8) == Err(CheckFault::NotConfirmed(13)));
+}

@@ -10,5 +10,5 @@ returns-then-branch c =
 
 pub returns-then-are_same : goal.returns-then-are_same
 returns-then-are_same c =
-    λ _.
-    subst (λ (r : Reply). Answers c.args.kernel.now.tables c.args.entry.now.event r c.step-reply.new.self.tables) (c.are_same.ensures c.if-are_same.true) c.step-reply.ensures.answers
+    λ _ now s shown.
+    subst (λ (r : Reply). Answers c.follow.new.kernel.tables c.args.entry.now.event r c.step-reply.new.self.tables) (c.are_same.ensures c.if-are_same.true) c.step-reply.ensures.answers now s (c.follow.ensures s shown)
