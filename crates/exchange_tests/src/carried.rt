@@ -1,5 +1,5 @@
 //! Receive rights in messages: scripts in which ports are carried by queues, by `perform` and by whole runs.
-use crate::worked::gives;
+use crate::worked::{gives, is_traced_legally};
 use std::sync::Wait;
 use std::thread::Threads;
 
@@ -471,9 +471,9 @@ const LONG_AND_NULL: (&str, &str) = (
     type 00020000\n",
 );
 
-/// Whether the first text, a script, gives the second, its replies.
+/// Whether the first text, a script, gives the second, its replies, and its history is legal.
 fn is_answered<R: AllocGlobal + Threads + Wait + Sync>(rt: &R, exchange: (&str, &str)) -> bool {
-    gives(rt, exchange.0, exchange.1)
+    gives(rt, exchange.0, exchange.1) && is_traced_legally(rt, exchange.0)
 }
 
 #[test]

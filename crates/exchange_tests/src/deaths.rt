@@ -1,5 +1,5 @@
 //! Death and notices: scripts in which ports die, tasks end and rights are lost, by `perform` and by whole runs.
-use crate::worked::{gives, parts_give};
+use crate::worked::{gives, is_traced_legally, parts_give};
 use kernel_core::run;
 use mach_types::Event;
 use std::alloc::Global;
@@ -228,9 +228,9 @@ const READ_LATE: (&str, &str) = (
     name 4294967294\n",
 );
 
-/// Whether the first text, a script, gives the second, its replies.
+/// Whether the first text, a script, gives the second, its replies, and its history is legal.
 fn is_answered<R: AllocGlobal + Threads + Wait + Sync>(rt: &R, exchange: (&str, &str)) -> bool {
-    gives(rt, exchange.0, exchange.1)
+    gives(rt, exchange.0, exchange.1) && is_traced_legally(rt, exchange.0)
 }
 
 #[test]

@@ -379,13 +379,39 @@ fn are(alloc: Global, replies: &[Reply], lines: &str) -> bool {
     page.as_slice() == lines.as_bytes()
 }
 
+/// What the program prints, with status 0 and no word of a fault, where it does the job on the text; else `None`.
+fn printed<R: AllocGlobal + Threads + Wait + Sync>(
+    rt: &R,
+    job: Job,
+    mut text: &[u8],
+) -> Option<Vec<u8>> {
+    let alloc = rt.alloc();
+    let (mut out, mut err) = (Vec::new(alloc), Vec::new(alloc));
+    let status = perform(rt, alloc, job, "it", &mut text, &mut out, &mut err);
+    if status == 0 && err.is_empty() {
+        Some(out)
+    } else {
+        None
+    }
+}
+
 /// Whether the program prints these replies to the script, and nothing else.
 fn prints<R: AllocGlobal + Threads + Wait + Sync>(rt: &R, script: &str, replies: &str) -> bool {
-    let alloc = rt.alloc();
-    let mut source = script.as_bytes();
-    let (mut out, mut err) = (Vec::new(alloc), Vec::new(alloc));
-    let status = perform(rt, alloc, Job::Run, "it", &mut source, &mut out, &mut err);
-    status == 0 && err.is_empty() && out.as_slice() == replies.as_bytes()
+    match printed(rt, Job::Run, script.as_bytes()) {
+        Some(out) => out.as_slice() == replies.as_bytes(),
+        None => false,
+    }
+}
+
+/// Whether the history that `trace` prints of the script is legal.
+pub(crate) fn is_traced_legally<R: AllocGlobal + Threads + Wait + Sync>(
+    rt: &R,
+    script: &str,
+) -> bool {
+    match printed(rt, Job::Trace { warn: false }, script.as_bytes()) {
+        Some(history) => printed(rt, Job::Check, history.as_slice()).is_some(),
+        None => false,
+    }
 }
 
 /// Whether the script gives these replies, by `perform` and by a whole run.
@@ -405,10 +431,10 @@ fn run_gives(alloc: Global, script: &str, replies: &str) -> bool {
     }
 }
 
-/// The first exchange that is not answered so on a new kernel.
+/// The first exchange that is not answered so on a new kernel, or whose history isn't legal.
 fn wrong_exchange<R: AllocGlobal + Threads + Wait + Sync>(rt: &R) -> Option<&'static str> {
     for (script, replies) in exchanges() {
-        if !gives(rt, script, replies) {
+        if !gives(rt, script, replies) || !is_traced_legally(rt, script) {
             return Some(script);
         }
     }

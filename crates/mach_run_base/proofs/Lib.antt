@@ -1,3 +1,4 @@
+pub mod HistoryLemmas
 pub mod LineLemmas
 pub mod OutputLemmas
 pub mod ScriptLemmas

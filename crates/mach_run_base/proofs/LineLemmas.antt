@@ -1,5 +1,5 @@
 -- Scripts read line by line.
-use Rattle.std.proofs.Common.{◌≡◌, ℕ, ◌<◌, ◌≤◌, ◌+◌, length-append, ◌==◌, if◌then◌else◌, List, [], ◌∷◌, ◌++◌, All, Option, Some, None, IfSome, length, flat_map, sym, ap, ◌∙◌, arith, append_assoc, append-nil, subst, take}
+use Rattle.std.proofs.Common.{◌≡◌, ℕ, ◌<◌, ◌≤◌, ◌+◌, length-append, ◌==◌, if◌then◌else◌, List, [], ◌∷◌, ◌++◌, Option, Some, None, IfSome, length, flat_map, sym, ap, ◌∙◌, arith, append_assoc, append-nil, subst, take}
 use Rattle.std.proofs.BufReadLemmas.{take_through-append, take_through_nonempty, Consumes_shown}
 use Rattle.std.proofs.Math.Seq.{take-append-add}
 use Rattle.std.proofs.KnownBytes.{Consumes-trans, prepend_known-nil}

@@ -1,5 +1,5 @@
 -- Scripts that get one more line.
-use Rattle.std.proofs.Common.{◌≡◌, ℕ, ◌==◌, List, [], ◌∷◌, ◌++◌, All, true, false, refl, sym, ap, ◌∙◌, subst, map, flat_map, append_assoc, append-nil, ◌||◌, inl, inr, codes, decimal, length, arith, ◌<◌, Option, Some, IfSome, Result, Ok, Err, OnOk}
+use Rattle.std.proofs.Common.{◌≡◌, ℕ, ◌==◌, List, [], ◌∷◌, ◌++◌, All, true, false, refl, sym, ap, ◌∙◌, subst, map, flat_map, append_assoc, append-nil, inl, inr, codes, decimal, length, arith, Option, Some, IfSome, Result, Ok, Err, OnOk}
 use Rattle.std.specs.List.{IsDistinct, AllByRecursion, list_any}
 use Rattle.std.proofs.lemmas.Bool.{or_parts, ne_eqb, eqb-false}
 use Rattle.std.proofs.lemmas.Bool.Decides.{eqb_tells}
@@ -15,7 +15,7 @@ use Rattle.tracer_base.specs.Blocks.{FitsSaid, said_text, said_line}
 use Rattle.tracer_base.specs.Words.{Lacks, line}
 use Rattle.tracer_base.proofs.BlockLemmas.{said_word, said_arguments, said_parts, said_split, plain-said, is_thread, same_number}
 use Rattle.tracer_base.proofs.WordLemmas.{Lacks-line, same_parts}
-use Rattle.mach_run_base.specs.Scripts.{begun, has_number, said_call, said_block, said_script, IsScript, IsFirstBadLine}
+use Rattle.mach_run_base.specs.Scripts.{begun, has_number, said_call, said_block, IsScript, IsFirstBadLine}
 
 abbrev pub lines_of : List Event → List Call → List ThreadCalls → List ScriptLine
 lines_of opening main blocks = map ScriptLine.Call opening ++ map said_call main ++ flat_map said_block blocks

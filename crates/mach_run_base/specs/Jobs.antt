@@ -5,12 +5,16 @@ use Rattle.log.specs.declared.level.LevelFilter.{LevelFilter}
 use Rattle.kernel_lock.specs.declared.entry.Entry.{Entry}
 use Rattle.kernel_lock.specs.History.{Legal}
 use Rattle.tracer.specs.Histories.{heading, entry_line}
+use Rattle.tracer.specs.Histories as of_history
 use Rattle.tracer.specs.Levels.{level_of}
 use Rattle.tracer_base.specs.Blocks.{said_line}
+use Rattle.mach_run_base.specs.declared.checking.Verdict.{Verdict}
 use Rattle.mach_run_base.specs.declared.job.Job.{Job}
+use Rattle.mach_run_base.specs.declared.job.Shown.{Shown}
 use Rattle.mach_run_base.specs.declared.script.Script.{Script}
 use Rattle.mach_run_base.specs.Output.{IsAnswered}
-use Rattle.mach_run_base.specs.Scripts.{IsScript, said_script}
+use Rattle.mach_run_base.specs.Scripts.{IsScript, IsFirstBadLine, said_script}
+use Rattle.mach_run_base.specs.Verdicts.{IsLegalText, verdict_line}
 
 -- the levels that are shown: warnings alone, or all
 abbrev pub least_shown : (warn : Bool) → LevelFilter
@@ -34,14 +38,32 @@ pub record IsHistory (warn : Bool) (text : List ℕ) : Type 0 where
   pub legal : Legal entries
   pub shown : history_shown warn entries ≡ text
 
--- The text is what the job makes of the script.
-abbrev pub IsMade : Job → Script → (text : List ℕ) → Type 0
-IsMade Job.Run script text = IsAnswered script text
-IsMade (Job.Trace warn) script text = IsHistory warn text
+-- The text is what is shown of the script.
+abbrev pub IsMade : Shown → Script → (text : List ℕ) → Type 0
+IsMade Shown.Replies script text = IsAnswered script text
+IsMade (Shown.History warn) script text = IsHistory warn text
 
--- The text is what the job makes of the script that these bytes spell, where they are known; of some script, where they aren't.
-pub record IsDone (job : Job) (bytes : Option (List ℕ)) (text : List ℕ) : Type 0 where
+-- The text is what is shown of the script that these bytes spell, where they are known; of some script, where they aren't.
+pub record IsMadeOf (shown : Shown) (bytes : Option (List ℕ)) (text : List ℕ) : Type 0 where
   pub script : Script
   pub good : IsScript (said_script script)
   pub spelled : IfSome bytes (λ whole. flat_map said_line (said_script script) ≡ whole)
-  pub made : IsMade job script text
+  pub made : IsMade shown script text
+
+-- The text tells that the history that the bytes spell is legal, and of how many entries it is.
+pub record IsChecked (bytes : Option (List ℕ)) (text : List ℕ) : Type 0 where
+  pub count : ℕ
+  pub legal : IsLegalText bytes count
+  pub line : verdict_line (Verdict.Legal count) ≡ text
+
+-- The text is what the job makes of these bytes.
+abbrev pub IsDone : Job → (bytes : Option (List ℕ)) → (text : List ℕ) → Type 0
+IsDone Job.Run bytes text = IsMadeOf Shown.Replies bytes text
+IsDone (Job.Trace warn) bytes text = IsMadeOf (Shown.History warn) bytes text
+IsDone Job.Check bytes text = IsChecked bytes text
+
+-- Line n, from 1, of the bytes is the first bad one of what the job reads.
+abbrev pub IsBad : Job → (bytes : List ℕ) → (n : ℕ) → Type 0
+IsBad Job.Run bytes n = IsFirstBadLine bytes n
+IsBad (Job.Trace warn) bytes n = IsFirstBadLine bytes n
+IsBad Job.Check bytes n = of_history.IsFirstBadLine bytes n

@@ -1,3 +1,4 @@
 pub mod Jobs
 pub mod Output
 pub mod Scripts
+pub mod Verdicts

@@ -64,6 +64,7 @@ fn job_named(matches: &ArgMatches<'_>) -> Job {
         Some(("trace", of_subcommand)) => Job::Trace {
             warn: of_subcommand.get_str("LEVEL") == Some("warn"),
         },
+        Some(("check", _)) => Job::Check,
         _ => Job::Run,
     }
 }
@@ -109,13 +110,22 @@ fn trace_command<'a>(alloc: Global) -> Result<Command<'a>, AllocError> {
         .arg(script_argument(alloc))
 }
 
+/// The subcommand that judges a history.
+fn check_command<'a>(alloc: Global) -> Result<Command<'a>, AllocError> {
+    Command::new(alloc, "check")
+        .about("Tells whether the machine admits a history")
+        .arg(Arg::new(alloc, "FILE").help("The history; standard input where there is none"))
+}
+
 /// The program's subcommands.
 fn program<'a>(alloc: Global) -> Result<Command<'a>, AllocError> {
     let run = run_command(alloc)?;
     let trace = trace_command(alloc)?;
+    let check = check_command(alloc)?;
     Command::new(alloc, "mach_run")
         .about("Mach 3 port IPC in user space")
         .subcommand_required(true)
         .subcommand(run)?
-        .subcommand(trace)
+        .subcommand(trace)?
+        .subcommand(check)
 }

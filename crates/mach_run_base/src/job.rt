@@ -1,9 +1,10 @@
 //! The jobs of the program, over any reader and writers.
-ghost use Rattle.std.specs.Prelude.{◌≡◌, ◌≤◌, ℕ, List, Some, IsErr, OnOk};
+ghost use Rattle.std.specs.Prelude.{◌≡◌, ◌≢◌, ◌≤◌, ℕ, List, Some, Ok, IfOk, IsErr, OnOk};
 ghost use Rattle.std.specs.Io.KnownBytes.{Appends, Keeps};
-ghost use Rattle.mach_run_base.specs.Jobs.{IsDone, IsMade, IsHistory, history_shown, head_shown, entry_shown};
+ghost use Rattle.mach_run_base.specs.Jobs.{IsBad, IsDone, IsMade, IsMadeOf, IsHistory, history_shown, head_shown, entry_shown};
 ghost use Rattle.mach_run_base.specs.Scripts.{IsFirstBadLine};
 
+use crate::checking::check_file;
 use crate::fault::{Fault, report};
 use crate::reading::read_script;
 use crate::running::run_script;
@@ -27,18 +28,34 @@ pub enum Job {
         /// Whether only those entries are printed whose call was refused or found nothing.
         warn: bool,
     },
+    /// Judges a history, and prints the verdict.
+    Check,
+}
+
+/// What is shown of a script that was run.
+#[derive(Clone, Copy, Debug, PartialEq, Eq)]
+pub(crate) enum Shown {
+    /// How each of its calls was answered.
+    Replies,
+    /// Its history.
+    History {
+        /// Whether only those entries are shown whose call was refused or found nothing.
+        warn: bool,
+    },
 }
 
 /// Does the job on the file of this name, and answers the program's status: 0 where it is done, 1
-/// where a fault stopped it.
+/// where a fault stopped it or the history that it checks isn't legal.
 ///
 /// What the job makes goes to `out`. A fault is told of on `err`, in one line: `cannot read NAME`
 /// where `file` can't be read, `line N: bad call` for the first line of a script that is none,
 /// `out of memory` where memory is refused, `cannot start thread` where a thread is, and `cannot write` where
 /// `out` refuses what is written.
 ///
-/// The whole file is read before anything runs, and after a fault of the first two kinds nothing
-/// was written to `out`; so ends each script that has a bad line. Time grows with the
+/// A whole script is read before anything runs, and after a fault of the first two kinds nothing
+/// was written to `out`; so ends each script that has a bad line. A history is read entry by entry, and judged
+/// as [`tracer::read_history`] and then [`tracer::check`] would judge the whole: `out` gets the line `legal N`
+/// for one of N entries, or `bad line N`, or, where it has no bad line, `not confirmed at N`. Time grows with the
 /// length of the file and the cost of its calls. May wait, where the script has message calls that wait or blocks.
 pub fn perform<S: Threads + Wait + Sync, R: Read, W: Write, E: Write>(
     rt: &S,
@@ -51,16 +68,16 @@ pub fn perform<S: Threads + Wait + Sync, R: Read, W: Write, E: Write>(
 ) -> u8
     ensures status { result ≤ 1 }
     ensures done { result ≡ 0 → (text : List ℕ) × IsDone job (R.remaining file.old) text × Appends (W.contents out.old) (W.contents out.new) text }
-    ensures bad { (bytes : List ℕ) (n : ℕ) → R.remaining file.old ≡ Some bytes → IsFirstBadLine bytes n
-        → (result ≡ 1) × Keeps (W.contents out.old) (W.contents out.new) }
+    ensures bad { (bytes : List ℕ) (n : ℕ) → R.remaining file.old ≡ Some bytes → IsBad job bytes n
+        → (result ≡ 1) × (job ≢ Job.Check → Keeps (W.contents out.old) (W.contents out.new)) }
 {
     match start(rt, alloc, job, name, file, out) {
-        Ok(()) => 0,
+        Ok(status) => status,
         Err(fault) => report(fault, err),
     }
 }
 
-/// Reads a script, and does the job on it. Faults are as for [`perform`].
+/// Does the job, and answers the status. Faults are as for [`perform`].
 fn start<'a, S: Threads + Wait + Sync, R: Read, W: Write>(
     rt: &S,
     alloc: Global,
@@ -68,32 +85,55 @@ fn start<'a, S: Threads + Wait + Sync, R: Read, W: Write>(
     name: &'a str,
     file: &mut R,
     out: &mut W,
-) -> Result<(), Fault<'a>>
-    ensures done { OnOk result ((text : List ℕ) × IsDone job (R.remaining file.old) text × Appends (W.contents out.old) (W.contents out.new) text) }
+) -> Result<u8, Fault<'a>>
+    ensures status { IfOk result (λ status. status ≤ 1) }
+    ensures done { result ≡ Ok 0 → (text : List ℕ) × IsDone job (R.remaining file.old) text × Appends (W.contents out.old) (W.contents out.new) text }
+    ensures bad { (bytes : List ℕ) (n : ℕ) → R.remaining file.old ≡ Some bytes → IsBad job bytes n
+        → (result ≢ Ok 0) × (job ≢ Job.Check → Keeps (W.contents out.old) (W.contents out.new)) }
+{
+    match job {
+        Job::Run => run_file(rt, alloc, Shown::Replies, name, file, out),
+        Job::Trace { warn } => run_file(rt, alloc, Shown::History { warn }, name, file, out),
+        Job::Check => check_file(alloc, name, file, out),
+    }
+}
+
+/// Reads a script, runs it and writes what is to be shown of it; the status is 0. Faults are as for [`perform`].
+fn run_file<'a, S: Threads + Wait + Sync, R: Read, W: Write>(
+    rt: &S,
+    alloc: Global,
+    shown: Shown,
+    name: &'a str,
+    file: &mut R,
+    out: &mut W,
+) -> Result<u8, Fault<'a>>
+    ensures status { IfOk result (λ status. status ≡ 0) }
+    ensures done { OnOk result ((text : List ℕ) × IsMadeOf shown (R.remaining file.old) text × Appends (W.contents out.old) (W.contents out.new) text) }
     ensures bad { (bytes : List ℕ) (n : ℕ) → R.remaining file.old ≡ Some bytes → IsFirstBadLine bytes n
         → IsErr result × Keeps (W.contents out.old) (W.contents out.new) }
 {
     let script = read_script(alloc, name, file)?;
     let shared = Shared::new(alloc)?;
-    make(rt, alloc, &shared, job, script, out)?;
+    make(rt, alloc, &shared, shown, script, out)?;
     out.flush()?;
-    Ok(())
+    Ok(0)
 }
 
-/// Does the job on the script. Faults are those of [`perform`] that come after the file was read.
+/// Runs the script, and writes what is to be shown of it. Faults are those of [`perform`] that come after the
+/// file was read.
 fn make<S: Threads + Wait + Sync, W: Write>(
     rt: &S,
     alloc: Global,
     shared: &Shared,
-    job: Job,
+    shown: Shown,
     script: Script,
     out: &mut W,
 ) -> Result<(), Fault<'static>>
-    ensures { OnOk result ((text : List ℕ) × IsMade job script text × Appends (W.contents out.old) (W.contents out.new) text) }
+    ensures { OnOk result ((text : List ℕ) × IsMade shown script text × Appends (W.contents out.old) (W.contents out.new) text) }
 {
-    match job {
-        Job::Run => run_script(rt, alloc, shared, script, out),
-        Job::Trace { warn } => trace_script(rt, alloc, shared, script, warn, out),
+    match shown {
+        Shown::Replies => run_script(rt, alloc, shared, script, out),
+        Shown::History { warn } => trace_script(rt, alloc, shared, script, warn, out),
     }
 }
 

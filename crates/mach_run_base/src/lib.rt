@@ -2,9 +2,10 @@
 //!
 //! A script is read line by line ([`Script`]) and run on one shared kernel: the main thread makes the calls
 //! ahead of the first block, and each block makes its own in a thread. Message calls wait by the gates of a
-//! [`Hall`].
+//! [`Hall`]. A history is judged as it is read, entry by entry.
 #![tactic(auto)]
 
+mod checking;
 mod command_line;
 mod fault;
 mod gate;

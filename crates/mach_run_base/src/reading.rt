@@ -1,4 +1,4 @@
-//! Scripts read line by line, so that their text takes no memory.
+//! Files read line by line; scripts so, that their text takes no memory.
 ghost use Rattle.std.specs.Prelude.{◌≡◌, ◌<◌, ℕ, true, false, Ok, IfOk, IfSome, OnOk, Err, flat_map, length};
 ghost use Rattle.std.specs.Io.BufRead.{take_through};
 ghost use Rattle.std.specs.Io.KnownBytes.{Consumes, IsAtEnd, Keeps};
@@ -13,8 +13,8 @@ use std::io;
 use std::io::{BufRead, BufReader, ErrorKind, Read};
 use tracer_base::{TextFault, split_once};
 
-/// How many bytes of a script are read at once.
-const READ_AT_ONCE: usize = 131_072;
+/// How many bytes of a script or a history are read at once.
+pub(crate) const READ_AT_ONCE: usize = 131_072;
 
 /// The script that the file, which has this name, holds from here on.
 ///
@@ -61,7 +61,7 @@ fn read_lines<'a, B: BufRead>(
 }
 
 /// Reads the next line into `line`, with its line feed, and answers its length: 0 at the end.
-fn next_line<'a, B: BufRead>(
+pub(crate) fn next_line<'a, B: BufRead>(
     name: &'a str,
     reader: &mut B,
     line: &mut Vec<u8>,
@@ -137,14 +137,24 @@ fn read_line<'a, B: BufRead>(
 fn bad_line<'a, B: BufRead>(name: &'a str, number: u64, reader: &mut B) -> Fault<'a>
     ensures { (n : ℕ) → result ≡ BadCall n → n ≡ number }
 {
+    match skip_rest(name, reader) {
+        Ok(()) => Fault::BadCall(number),
+        Err(fault) => fault,
+    }
+}
+
+/// Reads what is left, for the faults of the file alone.
+pub(crate) fn skip_rest<'a, B: BufRead>(name: &'a str, reader: &mut B) -> Result<(), Fault<'a>>
+    ensures { (n : ℕ) → result ≡ Err (BadCall n) → ⊥ }
+{
     for _ in 0..u64::MAX {
         match reader.skip_until(b'\n') {
-            Ok(0) => return Fault::BadCall(number),
+            Ok(0) => return Ok(()),
             Ok(_) => {}
-            Err(error) => return fault_of(name, error),
+            Err(error) => return Err(fault_of(name, error)),
         }
     }
-    Fault::CannotRead(name)
+    Err(Fault::CannotRead(name))
 }
 
 /// What a fault of the file of this name is told as.

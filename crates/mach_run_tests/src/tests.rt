@@ -124,6 +124,57 @@ pub(crate) fn traces<R: AllocGlobal + Threads + Wait + Sync>(
     done(rt, Job::Trace { warn }, source_of(script), page).is(history, "")
 }
 
+/// Whether `check` of the history writes just this verdict, and the status is 0 where it is legal, else 1.
+pub(crate) fn checks<R: AllocGlobal + Threads + Wait + Sync>(
+    rt: &R,
+    history: &str,
+    verdict: &str,
+) -> bool {
+    checks_bytes(rt, history.as_bytes(), verdict)
+}
+
+/// The same of bytes.
+pub(crate) fn checks_bytes<R: AllocGlobal + Threads + Wait + Sync>(
+    rt: &R,
+    text: &[u8],
+    verdict: &str,
+) -> bool {
+    let source = Source { text, fault: None };
+    let outcome = done(rt, Job::Check, source, Page::new(rt.alloc(), usize::MAX));
+    outcome.status == u8::from(!verdict.starts_with("legal "))
+        && outcome.out.bytes.as_slice() == verdict.as_bytes()
+        && outcome.err.bytes.is_empty()
+}
+
+/// Whether `check` tells this of a fault of the reader behind the text, and nothing else.
+pub(crate) fn is_check_fault_told<R: AllocGlobal + Threads + Wait + Sync>(
+    rt: &R,
+    text: &str,
+    kind: io::ErrorKind,
+    told: &str,
+) -> bool {
+    let source = Source {
+        text: text.as_bytes(),
+        fault: Some(kind),
+    };
+    done(rt, Job::Check, source, Page::new(rt.alloc(), usize::MAX)).is("", told)
+}
+
+/// Whether the history that `trace` prints of the script is legal.
+pub(crate) fn is_traced_legally<R: AllocGlobal + Threads + Wait + Sync>(
+    rt: &R,
+    script: &str,
+) -> bool {
+    let page = Page::new(rt.alloc(), usize::MAX);
+    let traced = done(rt, Job::Trace { warn: false }, source_of(script), page);
+    let source = Source {
+        text: traced.out.bytes.as_slice(),
+        fault: None,
+    };
+    let checked = done(rt, Job::Check, source, Page::new(rt.alloc(), usize::MAX));
+    traced.status == 0 && checked.status == 0
+}
+
 /// Whether `run` of the script writes just this on standard output and standard error.
 pub(crate) fn writes<R: AllocGlobal + Threads + Wait + Sync>(
     rt: &R,
@@ -290,10 +341,12 @@ fn reads_the_words(rt: HostRuntime) {
     assert!(rt; line_names(alloc, "mach_run trace --level warn", warnings, None));
     assert!(rt; line_names(alloc, "mach_run trace --level=warn f", warnings, Some("f")));
     assert!(rt; line_names(alloc, "mach_run trace f --level warn", warnings, Some("f")));
+    assert!(rt; line_names(alloc, "mach_run check", Job::Check, None));
+    assert!(rt; line_names(alloc, "mach_run check f", Job::Check, Some("f")));
 }
 
 // Words that name no job, or ask for the help.
-const OTHER_WORDS: [&str; 15] = [
+const OTHER_WORDS: [&str; 18] = [
     "mach_run",
     "mach_run --help",
     "mach_run -h",
@@ -302,7 +355,10 @@ const OTHER_WORDS: [&str; 15] = [
     "mach_run trace --level warn --level warn",
     "mach_run trace a b",
     "mach_run trace --help",
-    "mach_run check",
+    "mach_run check --help",
+    "mach_run check a b",
+    "mach_run check --level warn",
+    "mach_run check --profile 1",
     "mach_run runs",
     "mach_run run a b",
     "mach_run run --level warn",

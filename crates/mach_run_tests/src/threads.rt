@@ -1,5 +1,5 @@
 //! Blocks of scripts, the gates by which they wait, and the histories that scripts leave.
-use crate::tests::{Page, run_on, source_of, traces, writes};
+use crate::tests::{Page, is_traced_legally, run_on, source_of, traces, writes};
 use mach_msg_threads::Gate;
 use mach_run_base::{BlockGate, Hall};
 use std::sync::Wait;
@@ -106,6 +106,19 @@ fn blocks_are_answered(rt: HostRuntime) {
     assert!(rt; writes(&rt, FULL_QUEUE.0, FULL_QUEUE.1, ""));
     assert!(rt; writes(&rt, OPTIONS.0, OPTIONS.1, ""));
     assert!(rt; writes(&rt, TOLD_OF_DEATH.0, TOLD_OF_DEATH.1, ""));
+}
+
+#[test]
+fn histories_of_blocks_are_legal(rt: HostRuntime) {
+    for script in [
+        TWO_BLOCKS.0,
+        NO_MESSAGE.0,
+        FULL_QUEUE.0,
+        OPTIONS.0,
+        TOLD_OF_DEATH.0,
+    ] {
+        assert!(rt; is_traced_legally(&rt, script), "{script}");
+    }
 }
 
 /// Where another block destroys the port from which one receives, that finds no such name, or learns that the

@@ -1,29 +1,50 @@
-use Rattle.std.proofs.Common.{rules}
-use Rattle.tracer_base.proofs.ReplyLemmas.{appends-kept}
-use Rattle.mach_run_base.specs.Jobs.{IsDone}
-use Rattle.mach_run_base.specs.Scripts.{said_script}
-use Rattle.mach_run_base.proofs.ScriptLemmas.{read-whole}
+use Rattle.std.proofs.Common.{subst, sym}
+use Rattle.mach_run_base.specs.declared.job.Job.{Job}
+use Rattle.mach_run_base.specs.Jobs.{IsBad, IsDone}
+use Rattle.mach_run_base.proofs.HistoryLemmas.{checked-status, checked-done, checked-bad, made-status, made-done, refused-not-done}
 use Rattle.mach_run_base.proofs.job.start.Goals as goal
 
-pub returns-in_err-shared-clause-bad : goal.returns-in_err-shared-clause-bad
-returns-in_err-shared-clause-bad g c = λ bytes n known bad. absurd (read-whole bytes n _ (said_script c.in_ok-script.script) known c.in_ok-script.ensures.ok bad)
+pub returns-in-Run-clause-status : goal.returns-in-Run-clause-status
+returns-in-Run-clause-status g c = made-status _ c.run_file.ensures.status
 
-pub returns-in_err-make-clause-bad : goal.returns-in_err-make-clause-bad
-returns-in_err-make-clause-bad g c = λ bytes n known bad. absurd (read-whole bytes n _ (said_script c.in_ok-script.script) known c.in_ok-script.ensures.ok bad)
+pub returns-in-Run-clause-done : goal.returns-in-Run-clause-done
+returns-in-Run-clause-done g c =
+    λ is.
+    let done = made-done c.run_file.result c.run_file.ensures.done is in
+    (done.0, subst (λ (job : Job). IsDone job (g.R.Read.remaining c.args.file.now) done.0) (sym c.in-Run.is) done.1, done.2)
 
-pub returns-in_err-flush-clause-bad : goal.returns-in_err-flush-clause-bad
-returns-in_err-flush-clause-bad g c = λ bytes n known bad. absurd (read-whole bytes n _ (said_script c.in_ok-script.script) known c.in_ok-script.ensures.ok bad)
+pub returns-in-Run-clause-bad : goal.returns-in-Run-clause-bad
+returns-in-Run-clause-bad g c =
+    λ bytes n known bad.
+    let refused = c.run_file.ensures.bad bytes n known (subst (λ (job : Job). IsBad job bytes n) c.in-Run.is bad) in
+    (refused-not-done c.run_file.result refused.0, λ _. refused.1)
 
-pub returns-clause-bad : goal.returns-clause-bad
-returns-clause-bad g c = λ bytes n known bad. absurd (read-whole bytes n _ (said_script c.in_ok-script.script) known c.in_ok-script.ensures.ok bad)
+pub returns-in-Trace-clause-status : goal.returns-in-Trace-clause-status
+returns-in-Trace-clause-status g c = made-status _ c.run_file-in-Trace.ensures.status
 
-pub returns-clause-done : goal.returns-clause-done
-returns-clause-done g c =
-    let made = c.in_ok-make.ensures in
-    let done : IsDone c.args.job (g.R.Read.remaining c.args.file.now) made.0 = record {
-      script = c.in_ok-script.script;
-      good = c.in_ok-script.ensures.ok.0;
-      spelled = c.in_ok-script.ensures.ok.1;
-      made = made.1;
-    } in
-    (made.0, done, appends-kept _ _ _ made.0 made.2 c.in_ok-flush.ensures.bytes)
+pub returns-in-Trace-clause-done : goal.returns-in-Trace-clause-done
+returns-in-Trace-clause-done g c =
+    λ is.
+    let done = made-done c.run_file-in-Trace.result c.run_file-in-Trace.ensures.done is in
+    (done.0, subst (λ (job : Job). IsDone job (g.R.Read.remaining c.args.file.now) done.0) (sym c.in-Trace.is) done.1, done.2)
+
+pub returns-in-Trace-clause-bad : goal.returns-in-Trace-clause-bad
+returns-in-Trace-clause-bad g c =
+    λ bytes n known bad.
+    let refused = c.run_file-in-Trace.ensures.bad bytes n known (subst (λ (job : Job). IsBad job bytes n) c.in-Trace.is bad) in
+    (refused-not-done c.run_file-in-Trace.result refused.0, λ _. refused.1)
+
+pub returns-in-Check-clause-status : goal.returns-in-Check-clause-status
+returns-in-Check-clause-status g c = checked-status c.check_file.result _ _ _ c.check_file.ensures
+
+pub returns-in-Check-clause-done : goal.returns-in-Check-clause-done
+returns-in-Check-clause-done g c =
+    λ is.
+    let done = checked-done c.check_file.result _ _ _ c.check_file.ensures is in
+    (done.0, subst (λ (job : Job). IsDone job (g.R.Read.remaining c.args.file.now) done.0) (sym c.in-Check.is) done.1, done.2)
+
+pub returns-in-Check-clause-bad : goal.returns-in-Check-clause-bad
+returns-in-Check-clause-bad g c =
+    λ bytes n known bad.
+    let line = subst (λ (job : Job). IsBad job bytes n) c.in-Check.is bad in
+    (checked-bad c.check_file.result _ _ _ bytes n c.check_file.ensures known line, λ other. absurd (other c.in-Check.is))

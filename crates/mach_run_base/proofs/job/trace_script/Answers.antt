@@ -1,4 +1,4 @@
-use Rattle.std.proofs.Common.{refl, sym, ap, subst}
+use Rattle.std.proofs.Common.{refl, sym, subst}
 use Rattle.kernel_lock.specs.History.{Legal}
 use Rattle.mach_run_base.specs.Jobs.{IsHistory, history_shown}
 use Rattle.mach_run_base.proofs.job.trace_script.Goals as goal

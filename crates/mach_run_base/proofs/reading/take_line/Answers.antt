@@ -1,5 +1,5 @@
 -- What the reader shows up to its first line feed is the line, and is consumed.
-use Rattle.std.proofs.Common.{◌≡◌, ℕ, List, [], ◌∷◌, ◌++◌, IfSome, refl, sym, ap, subst, ◌∙◌, ◌+◌, length}
+use Rattle.std.proofs.Common.{◌≡◌, ℕ, List, [], ◌∷◌, ◌++◌, IfSome, refl, sym, ap, subst, ◌∙◌}
 use Rattle.std.specs.Io.BufRead.{FillKeeps, take_through}
 use Rattle.std.specs.Io.KnownBytes.{Consumes}
 use Rattle.mach_run_base.proofs.LineLemmas.{line-consumed, line-shown}

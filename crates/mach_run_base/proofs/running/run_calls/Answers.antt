@@ -1,4 +1,4 @@
-use Rattle.std.proofs.Common.{◌≡◌, [], ◌++◌}
+use Rattle.std.proofs.Common.{[], ◌++◌}
 use Rattle.tracer_base.proofs.ReplyLemmas.{appends-more, appends-none}
 use Rattle.mach_run_base.specs.Output.{answer_line}
 use Rattle.mach_run_base.proofs.OutputLemmas.{answers-none, answers-more}

@@ -1,4 +1,4 @@
-use Rattle.std.proofs.Common.{◌≡◌, ◌∙◌, [], sym, ◌++◌}
+use Rattle.std.proofs.Common.{◌∙◌, [], sym, ◌++◌}
 use Rattle.tracer_base.specs.Replies.{reply_line}
 use Rattle.tracer_base.proofs.ReplyLemmas.{appends-more, appends-none}
 use Rattle.mach_run_base.proofs.OutputLemmas.{replies-none, replies-more}
