@@ -1,7 +1,7 @@
 //! A kernel that is made ready for a workload, and the calls to measure.
 use crate::calls::{Call, Round};
 use kernel_core::Kernel;
-use mach_types::{Event, Reply};
+use mach_types::{Bytes, Event, Reply};
 use std::alloc::{AllocError, Global};
 
 /// What stops a measurement.
@@ -21,13 +21,19 @@ impl From<AllocError> for Stop {
     }
 }
 
-/// What is done with a call.
+/// How many bytes a message has room for where the cycle's calls are copied.
+const ROOM: usize = 24;
+
+/// What is done with a call, or with all of the cycle.
 #[derive(Clone, Copy)]
 pub enum Step {
     /// It is made at once, to make the kernel ready.
     Make(Call),
     /// It is put at the end of the cycle.
     Add(Call),
+    /// The cycle is made as by a caller that has bytes: a message is sent from a copy, and copied out where it
+    /// is received.
+    CopyCalls,
 }
 
 /// Steps that are made in rounds.
@@ -46,6 +52,7 @@ pub struct Bench {
     kernel: Kernel,
     made: usize,
     cycle: Vec<Event>,
+    copied: bool,
 }
 
 impl Bench {
@@ -56,6 +63,7 @@ impl Bench {
             kernel: Kernel::new(alloc),
             made: 0,
             cycle: Vec::new(alloc),
+            copied: false,
         }
     }
 
@@ -89,6 +97,10 @@ impl Bench {
         match step {
             Step::Make(call) => self.make(&call.event(self.alloc, round)?),
             Step::Add(call) => self.add(call.event(self.alloc, round)?),
+            Step::CopyCalls => {
+                self.copied = true;
+                Ok(())
+            }
         }
     }
 
@@ -116,7 +128,12 @@ impl Bench {
 
     /// Makes the cycle so many times.
     pub fn run(&mut self, times: u32) -> Result<(), Stop> {
-        measured(&mut self.kernel, self.cycle.as_slice(), times)
+        let events = self.cycle.as_slice();
+        if self.copied {
+            measured_copied(self.alloc, &mut self.kernel, events, times)
+        } else {
+            measured(&mut self.kernel, events, times)
+        }
     }
 }
 
@@ -137,6 +154,71 @@ fn make_calls(kernel: &mut Kernel, events: &[Event]) -> Result<(), Stop> {
         }
     }
     Ok(())
+}
+
+/// Makes the calls so many times as a caller that has bytes: instructions are counted here then.
+#[inline(never)]
+fn measured_copied(
+    alloc: Global,
+    kernel: &mut Kernel,
+    events: &[Event],
+    times: u32,
+) -> Result<(), Stop> {
+    let mut room = [0; ROOM];
+    for _ in 0..times {
+        make_copied_calls(alloc, kernel, events, &mut room)?;
+    }
+    Ok(())
+}
+
+/// Makes the calls in turn, up to the first that is refused or whose message is too long for the room.
+fn make_copied_calls(
+    alloc: Global,
+    kernel: &mut Kernel,
+    events: &[Event],
+    room: &mut [u8],
+) -> Result<(), Stop> {
+    for (index, event) in events.iter().enumerate() {
+        if !is_made_copied(alloc, kernel, event, room)? {
+            return Err(Stop::Cycle(index.saturating_add(1)));
+        }
+    }
+    Ok(())
+}
+
+/// Makes a call; a message is sent from a copy, and one that is received is copied into the room. Whether it
+/// was done, and fits there.
+fn is_made_copied(
+    alloc: Global,
+    kernel: &mut Kernel,
+    event: &Event,
+    room: &mut [u8],
+) -> Result<bool, AllocError> {
+    match event {
+        Event::Send(task, bytes) => {
+            let copy = Vec::from_slice(alloc, bytes.as_slice())?;
+            let event = Event::Send(*task, Bytes::from_vec(copy));
+            Ok(!is_refused(&kernel.step(&event)))
+        }
+        _ => Ok(is_copied_out(&kernel.step(event), room)),
+    }
+}
+
+/// Copies a message into the room; whether it fits, and the call was done.
+fn is_copied_out(reply: &Reply, room: &mut [u8]) -> bool {
+    match reply {
+        Reply::Message(bytes) => is_put(bytes.as_slice(), room),
+        _ => !is_refused(reply),
+    }
+}
+
+/// Copies the bytes to the front of the room; whether they fit.
+fn is_put(bytes: &[u8], room: &mut [u8]) -> bool {
+    if bytes.len() > room.len() {
+        return false;
+    }
+    room[..bytes.len()].copy_from_slice(bytes);
+    true
 }
 
 /// Whether the call was refused, or found no message.

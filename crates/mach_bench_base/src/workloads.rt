@@ -1,5 +1,5 @@
 //! What is measured: each workload by its name, with its calls.
-use crate::bench::Step::{Add, Make};
+use crate::bench::Step::{Add, CopyCalls, Make};
 use crate::bench::{Group, Step};
 use crate::calls::Label::{Any, Rising, Same};
 use crate::calls::{
@@ -243,8 +243,22 @@ pub const SEND_RECEIVE: Workload = Workload {
     }],
 };
 
-const WORKLOADS: [Workload; 38] = [
+const WORKLOADS: [Workload; 39] = [
     SEND_RECEIVE,
+    // The same by a caller that has bytes: its events are made of them, and what it receives is copied out.
+    Workload {
+        name: "send-receive-copied",
+        operations: 1,
+        groups: &[Group {
+            rounds: 1,
+            steps: &[
+                SERVICE_MADE,
+                CopyCalls,
+                Add(Call::Send(HOME, SHORT)),
+                RECEIVED,
+            ],
+        }],
+    },
     // A message with one send right, from another task, to one that has the port named.
     Workload {
         name: "right-named",
