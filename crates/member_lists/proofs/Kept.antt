@@ -7,7 +7,7 @@ use Rattle.number_map.specs.Maps.{MapView}
 use Rattle.member_lists.specs.declared.Link.{Link}
 use Rattle.member_lists.specs.declared.Ends.{Ends}
 use Rattle.member_lists.specs.Lists.{ListsView, list_of, with_list, without, IsApart}
-use Rattle.member_lists.specs.Chains.{ends_at, items_from, lists_of, pick, IsBehindSet, IsBeforeSet, IsKept}
+use Rattle.member_lists.specs.Chains.{blank_ends, ends_at, items_from, lists_of, pick, IsBehindSet, IsBeforeSet, IsKept}
 use Rattle.member_lists.proofs.Sound.{IsShown, shown, same_gets}
 use Rattle.member_lists.proofs.Values.{get-with_values}
 use Rattle.member_lists.proofs.Changed.{last_fits, len_more, first_pushed, sound_pushed, view_pushed, item_in_range, item_stands, before_fits, behind_fits, len_left, blank_left, sound_left, view_left, lists_grown}
@@ -81,6 +81,11 @@ module _ (links : List Link) (ends : MapView Ends) (k : IsKept links ends) (v : 
 
       pub leaves_behind_fits : (x : ℕ) → link.behind ≡ Some x → x < length links
       leaves_behind_fits = behind_fits links chains k.sound v sh l item inside link there
+
+      module _ (mid mores : List Link) (ahead : IsBehindSet links mid link.before link.behind) (rear : IsBeforeSet mid mores link.behind link.before)
+          (e : Ends) (e_is : e ≡ chains l) (f : Ends) (first : f.first ≡ pick link.before link.behind e.first) (last : f.last ≡ pick link.behind link.before e.last) where
+        pub leaves_blank : f.first ≡ None → f ≡ blank_ends
+        leaves_blank = blank_left links chains k.sound v sh l item inside link there mid mores ahead rear e e_is f first last
 
       module _ (mid mores : List Link) (ahead : IsBehindSet links mid link.before link.behind) (rear : IsBeforeSet mid mores link.behind link.before)
           (e : Ends) (e_is : e ≡ chains l) (f : Ends) (first : f.first ≡ pick link.before link.behind e.first) (last : f.last ≡ pick link.behind link.before e.last)

@@ -7,3 +7,4 @@ pub mod Listed
 pub mod Held
 pub mod Kept
 pub mod Empty
+pub mod Fields

@@ -1,15 +1,16 @@
 //! Lists of numbered items, each item in at most one: it joins at the end, and leaves from any place.
 //!
-//! Items are linked both ways through a vector of links, and the ends of each list that has items stand
-//! in a map by its number. There is room in the map for as many lists as items, so that no list takes
-//! memory but by [`Lists::reserve`].
+//! Items are linked both ways through a vector of links. The ends of the lists 0 and 1 stand in fields,
+//! and those of each other list that has items in a map by its number. There is room in the map for as
+//! many lists as items, so that no list takes memory but by [`Lists::reserve`].
 #![tactic(auto)]
 
-ghost use Rattle.std.specs.Prelude.{◌≡◌, ◌↔◌, ℕ, ◌+◌, ◌<◌, ◌^◌, ◌++◌, ◌∷◌, [], max, IsTrue, true, length, Some, None, IfOk, OnOk, OnErr, slice_get};
+ghost use Rattle.std.specs.Prelude.{◌≡◌, ◌↔◌, ℕ, ◌+◌, ◌<◌, ◌^◌, ◌++◌, ◌∷◌, [], max, eqb, IsTrue, IsSome, true, length, Some, None, IfOk, OnOk, OnErr, slice_get};
 ghost use Rattle.std.specs.List.{Contains};
 ghost use Rattle.std.specs.Option.{option_or};
 ghost use Rattle.std.specs.FinMap as map;
 ghost use Rattle.member_lists.specs.Chains.{IsBehindSet, IsBeforeSet, pick, ends_at, blank_ends, blank_link};
+ghost use Rattle.member_lists.specs.Fields.{taken};
 
 use number_map::NumberMap;
 use std::alloc::{AllocError, Global};
@@ -109,6 +110,116 @@ impl Ends {
             last: Place::none(),
         }
     }
+
+    // How many lists with items these are the ends of: one, or none.
+    fn lists(self) -> usize
+        ensures { result ≡ taken self.first }
+    {
+        match self.first.item() {
+            Some(_) => 1,
+            None => 0,
+        }
+    }
+}
+
+// The ends of the lists that have items. Those of the lists 0 and 1 stand in fields: where few lists are
+// kept they have these numbers, and one that gets an item or loses its last one takes and frees no key.
+#[derive(Drop)]
+struct ListEnds {
+    of_zero: Ends,
+    of_one: Ends,
+    others: NumberMap<Ends>,
+}
+
+impl Model for ListEnds {
+    ghost use Rattle.number_map.specs.Maps.{MapView, map_code};
+    ghost use Rattle.member_lists.specs.declared.Ends.{Ends};
+    ghost use Rattle.member_lists.specs.contracts.Ends as ends;
+
+    ghost Value = { MapView Ends };
+
+    ghost coded = { map_code ends.the_row.coded };
+
+    ghost use Rattle.member_lists.specs.Fields.{all_ends, room_beside, AreEnds};
+
+    ghost view = { λ a. record { map = all_ends a.others.map a.of_zero a.of_one; room = room_beside a.others.room a.of_zero a.of_one } };
+
+    ghost invariant = { λ a. AreEnds a.others a.of_zero a.of_one };
+}
+
+impl ListEnds {
+    fn new(alloc: Global) -> ListEnds
+        ensures { result ≡ record { map = map.empty; room = 0 } }
+    {
+        ListEnds {
+            of_zero: Ends::blank(),
+            of_one: Ends::blank(),
+            others: NumberMap::new(alloc),
+        }
+    }
+
+    // Makes room for so many more lists.
+    fn reserve(&mut self, lists: usize) -> Result<(), AllocError>
+        requires { lists < 2 ^ 32 }
+        ensures ok { OnOk result (self.new ≡ record self.old { room = max self.old.room lists }) }
+        ensures err { OnErr result (self.new ≡ self.old) }
+    {
+        let in_fields = self.of_zero.lists() + self.of_one.lists();
+        self.others.reserve(lists + in_fields)
+    }
+
+    // Whether no list has an item.
+    fn is_empty(&self) -> bool
+        ensures { result ≡ eqb (map.len self.now.map) 0 }
+    {
+        self.of_zero.lists() == 0 && self.of_one.lists() == 0 && self.others.len() == 0
+    }
+
+    // Those of a list, blank where it has no items.
+    fn of(&self, list: u64) -> Ends
+        ensures { result ≡ ends_at self.now.map list }
+    {
+        match list {
+            0 => self.of_zero,
+            1 => self.of_one,
+            _ => self.others.get(list).unwrap_or(Ends::blank()),
+        }
+    }
+
+    // Puts these ends in place of a list's, or in, where it had none.
+    fn hold(&mut self, list: u64, now: Ends)
+        requires filled { IsSome now.first }
+        requires room { map.get self.old.map list ≡ None → 0 < self.old.room }
+        ensures map { self.new.map ≡ map.insert self.old.map list now }
+        ensures total { map.len self.new.map + self.new.room ≡ map.len self.old.map + self.old.room }
+    {
+        match list {
+            0 => self.of_zero = now,
+            1 => self.of_one = now,
+            _ => match self.others.locate(list) {
+                Some(held) => self.others.set_near(held.place, list, now),
+                None => self.others.insert(list, now),
+            },
+        }
+    }
+
+    // Puts these ends in place of a list's, or takes its ends out, where it has no item left.
+    fn leave(&mut self, list: u64, now: Ends)
+        requires there { map.contains_key self.old.map list ≡ true }
+        requires blank { now.first ≡ None → now ≡ blank_ends }
+        ensures none { now.first ≡ None → self.new.map ≡ map.remove self.old.map list }
+        ensures some { (x : ℕ) → now.first ≡ Some x → self.new.map ≡ map.insert self.old.map list now }
+        ensures total { map.len self.new.map + self.new.room ≡ map.len self.old.map + self.old.room }
+    {
+        match list {
+            0 => self.of_zero = now,
+            1 => self.of_one = now,
+            _ => match now.first.item() {
+                Some(_) => self.others.set(list, now),
+                None => self.others.release(list),
+            },
+        }
+    }
 }
 
 /// Lists of items that are in at most one of them. Without room for items nothing is allocated; each
@@ -117,7 +228,7 @@ impl Ends {
 #[derive(Drop)]
 pub struct Lists {
     links: Vec<Link>,
-    ends: NumberMap<Ends>,
+    ends: ListEnds,
 }
 
 impl Model for Lists {
@@ -165,38 +276,6 @@ fn end_without(beside: Place, other: Place, end: Place) -> Place
     }
 }
 
-// The ends of a list.
-fn ends_of(ends: &NumberMap<Ends>, list: u64) -> Ends
-    ensures { result ≡ ends_at ends.now.map list }
-{
-    ends.get(list).unwrap_or(Ends::blank())
-}
-
-// Puts these ends in place of a list's, or in, where it had none.
-fn hold_ends(ends: &mut NumberMap<Ends>, list: u64, now: Ends)
-    requires { map.get ends.old.map list ≡ None → 0 < ends.old.room }
-    ensures map { ends.new.map ≡ map.insert ends.old.map list now }
-    ensures total { map.len ends.new.map + ends.new.room ≡ map.len ends.old.map + ends.old.room }
-{
-    match ends.get(list) {
-        Some(_) => ends.set(list, now),
-        None => ends.insert(list, now),
-    }
-}
-
-// Puts these ends in place of a list's, or takes its ends out, where it has no item left.
-fn leave_ends(ends: &mut NumberMap<Ends>, list: u64, now: Ends)
-    requires { map.contains_key ends.old.map list ≡ true }
-    ensures none { now.first ≡ None → ends.new.map ≡ map.remove ends.old.map list }
-    ensures some { (x : ℕ) → now.first ≡ Some x → ends.new.map ≡ map.insert ends.old.map list now }
-    ensures total { map.len ends.new.map + ends.new.room ≡ map.len ends.old.map + ends.old.room }
-{
-    match now.first.item() {
-        Some(_) => ends.set(list, now),
-        None => ends.release(list),
-    }
-}
-
 impl Lists {
     ghost use Rattle.member_lists.specs.Lists.{list_of, with_list, without, IsApart};
 
@@ -206,7 +285,7 @@ impl Lists {
     {
         Lists {
             links: Vec::new(alloc),
-            ends: NumberMap::new(alloc),
+            ends: ListEnds::new(alloc),
         }
     }
 
@@ -246,7 +325,7 @@ impl Lists {
     pub fn is_empty(&self) -> bool
         ensures { IsTrue result ↔ ((list : ℕ) → list_of self.now list ≡ []) }
     {
-        self.ends.len() == 0
+        self.ends.is_empty()
     }
 
     /// Puts an item that is in no list at the end of this one. Constant time.
@@ -255,7 +334,7 @@ impl Lists {
         requires apart { IsApart self.old item }
         ensures { self.new ≡ with_list self.old list (list_of self.old list ++ item ∷ []) }
     {
-        let Ends { first, last } = ends_of(&self.ends, list);
+        let Ends { first, last } = self.ends.of(list);
         let place = Place::of(item);
         self.links[item] = Link {
             before: last,
@@ -266,7 +345,7 @@ impl Lists {
             first: first.or(place),
             last: place,
         };
-        hold_ends(&mut self.ends, list, now);
+        self.ends.hold(list, now);
     }
 
     /// Takes an item out of its list; the order of the others stays. Constant time.
@@ -274,7 +353,7 @@ impl Lists {
         requires { Contains (list_of self.old list) item }
         ensures { self.new ≡ with_list self.old list (without item (list_of self.old list)) }
     {
-        let Ends { first, last } = ends_of(&self.ends, list);
+        let Ends { first, last } = self.ends.of(list);
         let Link { before, behind } = self.links[item];
         set_behind(&mut self.links, before, behind);
         set_before(&mut self.links, behind, before);
@@ -282,14 +361,14 @@ impl Lists {
             first: end_without(before, behind, first),
             last: end_without(behind, before, last),
         };
-        leave_ends(&mut self.ends, list, now);
+        self.ends.leave(list, now);
     }
 
     /// The first item of a list. Constant time.
     pub fn first(&self, list: u64) -> Option<usize>
         ensures { result ≡ slice_get (list_of self.now list) 0 }
     {
-        ends_of(&self.ends, list).first.item()
+        self.ends.of(list).first.item()
     }
 
     /// The item behind this one of a list. Constant time.

@@ -4,13 +4,13 @@ use Rattle.member_lists.proofs.Kept.{joins_last_fits, kept_pushed, lists_pushed}
 use Rattle.member_lists.proofs.Lists.push.Goals as goal
 
 pub set_behind-requires : goal.set_behind-requires
-set_behind-requires c = joins_last_fits c.self.inside.links.items c.self.inside.ends c.self.invariant c.args.self.now c.self.view_is c.args.list c.args.item c.requires.room c.requires.apart c.ends_of-first.result c.ends_of-first.ensures _
+set_behind-requires c = joins_last_fits c.self.inside.links.items c.self.inside.ends c.self.invariant c.args.self.now c.self.view_is c.args.list c.args.item c.requires.room c.requires.apart c.of-first.result c.of-first.ensures _
 
-pub hold_ends-requires : goal.hold_ends-requires
-hold_ends-requires c none = room_for c.self.inside.links.items c.self.inside.ends c.self.invariant c.args.self.now (shown c.self.inside.links.items c.self.inside.ends c.self.invariant c.args.self.now c.self.view_is) c.args.list c.args.item c.requires.room c.requires.apart
+pub hold-requires-clause-room : goal.hold-requires-clause-room
+hold-requires-clause-room c none = room_for c.self.inside.links.items c.self.inside.ends c.self.invariant c.args.self.now (shown c.self.inside.links.items c.self.inside.ends c.self.invariant c.args.self.now c.self.view_is) c.args.list c.args.item c.requires.room c.requires.apart
 
 pub invariant_of-self : goal.invariant_of-self
-invariant_of-self c = kept_pushed c.self.inside.links.items c.self.inside.ends c.self.invariant c.args.self.now c.self.view_is c.args.list c.args.item c.requires.room c.requires.apart c.ends_of-first.result c.ends_of-first.ensures c.set_behind.new.links.items c.hold_ends.new.ends c.of-place.result c.none.result c.of-place.ensures c.none.ensures c.set_behind.ensures c.or.result c.or.ensures c.hold_ends.ensures.map c.hold_ends.ensures.total
+invariant_of-self c = kept_pushed c.self.inside.links.items c.self.inside.ends c.self.invariant c.args.self.now c.self.view_is c.args.list c.args.item c.requires.room c.requires.apart c.of-first.result c.of-first.ensures c.set_behind.new.links.items c.hold.new.self c.of-place.result c.none.result c.of-place.ensures c.none.ensures c.set_behind.ensures c.or.result c.or.ensures c.hold.ensures.map c.hold.ensures.total
 
 pub returns : goal.returns
-returns c = lists_pushed c.self.inside.links.items c.self.inside.ends c.self.invariant c.args.self.now c.self.view_is c.args.list c.args.item c.requires.room c.requires.apart c.ends_of-first.result c.ends_of-first.ensures c.set_behind.new.links.items c.hold_ends.new.ends c.of-place.result c.none.result c.of-place.ensures c.none.ensures c.set_behind.ensures c.or.result c.or.ensures c.hold_ends.ensures.map c.hold_ends.ensures.total
+returns c = lists_pushed c.self.inside.links.items c.self.inside.ends c.self.invariant c.args.self.now c.self.view_is c.args.list c.args.item c.requires.room c.requires.apart c.of-first.result c.of-first.ensures c.set_behind.new.links.items c.hold.new.self c.of-place.result c.none.result c.of-place.ensures c.none.ensures c.set_behind.ensures c.or.result c.or.ensures c.hold.ensures.map c.hold.ensures.total
