@@ -5,7 +5,7 @@ ghost use Rattle.slab.specs.Slab.{get, with_value, HasRoomFor};
 ghost use Rattle.port.specs.declared.Record.{Record as AnyRecord};
 ghost use Rattle.port.specs.Holding.{held_by};
 ghost use Rattle.port.specs.Ports.{one_made, one_received};
-ghost use Rattle.port.specs.Records.{ready_set, member_set, waiting_list, noting_list, ids_at};
+ghost use Rattle.port.specs.Records.{ready_set, member_set, waiting_list, waits_in, noting_list, ids_at};
 
 use crate::slots::{move_first, pop, push};
 use crate::{Attributes, Holder, Message, Record};
@@ -107,12 +107,22 @@ pub(crate) fn set_at<M: Message>(records: &mut Slab<Record<M>>, key: usize, attr
     records[key].kept.set_attributes(attributes);
 }
 
-// Says who holds the receive right of the port under the key now.
-pub(crate) fn hold_at<M: Message>(records: &mut Slab<Record<M>>, key: usize, holder: Holder)
+// Says who holds the receive right of the port under the key now. Answers the list that the port waited in
+// until then, if nobody held it, and that in which it waits now, if nobody does.
+pub(crate) fn hold_at<M: Message>(
+    records: &mut Slab<Record<M>>,
+    key: usize,
+    holder: Holder,
+) -> (Option<u64>, Option<u64>)
     requires { IsSome (get records.old key) }
-    ensures { (r : AnyRecord M) → get records.old key ≡ Some r → records.new ≡ with_value records.old key (record r { kept = record r.kept { attributes = held_by r.kept.attributes holder } }) }
+    ensures after { (r : AnyRecord M) → get records.old key ≡ Some r → records.new ≡ with_value records.old key (record r { kept = record r.kept { attributes = held_by r.kept.attributes holder } }) }
+    ensures was { (r : AnyRecord M) → get records.old key ≡ Some r → result.0 ≡ waiting_list r }
+    ensures now { result.1 ≡ waits_in holder }
 {
-    records[key].kept.set_holder(holder);
+    let kept = &mut records[key].kept;
+    let was = kept.waiting_list();
+    kept.set_holder(holder);
+    (was, kept.waiting_list())
 }
 
 // Says whether the port under the key is noted now.
@@ -141,20 +151,7 @@ pub(crate) fn member_at<M: Message>(records: &Slab<Record<M>>, key: usize) -> Op
     requires { IsSome (get records.now key) }
     ensures { (r : AnyRecord M) → get records.now key ≡ Some r → result ≡ member_set r }
 {
-    let set = records[key].kept.set()?;
-    Some(set.number())
-}
-
-// The list that the port under the key waits in, if nobody holds it.
-pub(crate) fn waiting_at<M: Message>(records: &Slab<Record<M>>, key: usize) -> Option<u64>
-    requires { IsSome (get records.now key) }
-    ensures { (r : AnyRecord M) → get records.now key ≡ Some r → result ≡ waiting_list r }
-{
-    match records[key].kept.holder() {
-        Holder::Nobody => Some(LOST),
-        Holder::Doomed => Some(DOOMED),
-        _ => None,
-    }
+    records[key].kept.member_list()
 }
 
 // The list of the noted ports, if the port under the key is noted.
@@ -162,11 +159,7 @@ pub(crate) fn noted_at<M: Message>(records: &Slab<Record<M>>, key: usize) -> Opt
     requires { IsSome (get records.now key) }
     ensures { (r : AnyRecord M) → get records.now key ≡ Some r → result ≡ noting_list r }
 {
-    if records[key].kept.is_noted {
-        Some(NOTED)
-    } else {
-        None
-    }
+    records[key].kept.noting_list()
 }
 
 // The identities of the ports under the keys.

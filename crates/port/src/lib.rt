@@ -26,7 +26,7 @@ mod slots;
 
 use by_key::{
     DOOMED, LOST, NOTED, count_at, destroy_at, hold_at, ids_of, member_at, narrow, note_at,
-    noted_at, pop_at, push_at, ready_at, reserve_record, set_at, take_at, waiting_at,
+    noted_at, pop_at, push_at, ready_at, reserve_record, set_at, take_at,
 };
 use mach_types::limits::FIRST_LIMIT;
 use mach_types::{PortId, SetId, TaskId};
@@ -157,6 +157,8 @@ impl Model for Kept {
 }
 
 impl Kept {
+    ghost use Rattle.port.specs.Records.{waits_in, noted_list};
+
     // Of a port that isn't noted.
     fn new(attributes: Attributes) -> Kept
         ensures { result ≡ record { attributes = attributes; is_noted = false } }
@@ -209,6 +211,33 @@ impl Kept {
             HolderKind::Nobody => Holder::Nobody,
             HolderKind::Doomed => Holder::Doomed,
         }
+    }
+
+    // The number of the port's set.
+    fn member_list(&self) -> Option<u64>
+        ensures { result ≡ self.now.attributes.set }
+    {
+        let set = self.set()?;
+        Some(set.number())
+    }
+
+    // The list that the port waits in, if nobody holds it.
+    fn waiting_list(&self) -> Option<u64>
+        ensures { result ≡ waits_in self.now.attributes.holder }
+    {
+        match self.holder_kind {
+            HolderKind::Task => None,
+            HolderKind::Queue => None,
+            HolderKind::Nobody => Some(LOST),
+            HolderKind::Doomed => Some(DOOMED),
+        }
+    }
+
+    // The list of the noted ports, if the port is noted.
+    fn noting_list(&self) -> Option<u64>
+        ensures { result ≡ cond self.now.is_noted (Some noted_list) None }
+    {
+        if self.is_noted { Some(NOTED) } else { None }
     }
 
     fn limit(&self) -> u32
@@ -407,10 +436,11 @@ impl<M: Message> Ports<M> {
         let id = PortId::new(number);
         reserve_record(&mut self.records)?;
         self.by_id.reserve(1)?;
-        self.ready.reserve(self.records.capacity())?;
-        self.members.reserve(self.records.capacity())?;
-        self.waiting.reserve(self.records.capacity())?;
-        self.noted.reserve(self.records.capacity())?;
+        let keys = self.records.capacity();
+        self.ready.reserve(keys)?;
+        self.members.reserve(keys)?;
+        self.waiting.reserve(keys)?;
+        self.noted.reserve(keys)?;
         let key = self.records.insert_reserved(Record {
             id,
             queue: LinkedList::new(*self.spare.allocator()),
@@ -430,13 +460,13 @@ impl<M: Message> Ports<M> {
         match self.by_id.remove(port.number()) {
             Some(key) => {
                 let key = key as usize;
-                let set = member_at(&self.records, key);
+                let record = self.records.remove(key);
+                let set = record.kept.member_list();
                 leave(&mut self.members, key, set);
-                let list = waiting_at(&self.records, key);
+                let list = record.kept.waiting_list();
                 leave(&mut self.waiting, key, list);
-                let list = noted_at(&self.records, key);
+                let list = record.kept.noting_list();
                 leave(&mut self.noted, key, list);
-                self.records.remove(key);
             }
             None => {}
         }
@@ -514,9 +544,7 @@ impl<M: Message> Ports<M> {
         ensures doomed { (p : PortView M) → map.get self.old.ports port ≡ Some p → p.attributes.holder ≢ Holder.Doomed → without port self.old.doomed ≡ self.old.doomed }
     {
         let key = key_of(&self.by_id, port).unwrap();
-        let was = waiting_at(&self.records, key);
-        hold_at(&mut self.records, key, holder);
-        let now = waiting_at(&self.records, key);
+        let (was, now) = hold_at(&mut self.records, key, holder);
         rejoin(&mut self.waiting, key, was, now);
     }
 

@@ -1,6 +1,5 @@
 use Rattle.std.proofs.Common.{◌≡◌, ◌≢◌, ◌+◌, ◌<◌, ◌^◌, ℕ, Bool, false, cond, Option, Some, None, refl, ap, sym, ◌∙◌, List, [], length, max, subst, arith}
 use Rattle.std.specs.FinMap as map
-use Rattle.std.specs.Ordering.{nat_cmp}
 use Rattle.member_lists.specs.Lists.{ListsView}
 use Rattle.number_map.specs.Maps.{MapView}
 use Rattle.slab.specs.Slab.{Slab, get}
@@ -43,21 +42,21 @@ invariant_of-self-2 g c =
           c.insert_reserved-key.result a vacant c.insert_reserved-key.ensures.updates.changed others (c.new-id.ensures ∙ sym number) (ap length c.new.ensures) put
           (made_more c.checked_add-self-inside.result c.unwrap-number.result c.checked_add-self-inside.ensures few ∙ ap (λ n. n + 1) (sym number)) (next_in_range c.checked_add-self-inside.result c.unwrap-number.result c.checked_add-self-inside.ensures);
       readied = subst (λ w. IsReadied (get c.insert_reserved-key.new.self) w) (sym c.in_ok-reserve-2.ensures.ok)
-          (listed-came ready_set (get c.self.inside.records) (get c.insert_reserved-key.new.self) c.self.inside.ready c.self.invariant.readied c.insert_reserved-key.result a (max c.self.inside.ready.items c.capacity.result) vacant
+          (listed-came ready_set (get c.self.inside.records) (get c.insert_reserved-key.new.self) c.self.inside.ready c.self.invariant.readied c.insert_reserved-key.result a (max c.self.inside.ready.items c.capacity-keys.result) vacant
           (record { changed = c.insert_reserved-key.ensures.updates.changed; others = others }) (ready_none a.queue a.kept.attributes.set (ap length c.new.ensures))
-          (omega (arith, c.insert_reserved-key.ensures.key_in_range, c.insert_reserved-key.ensures.capacity, c.capacity.ensures.value)) (omega arith));
+          (omega (arith, c.insert_reserved-key.ensures.key_in_range, c.insert_reserved-key.ensures.capacity, c.capacity-keys.ensures.value)) (omega arith));
       membered = subst (λ w. IsMembered (get c.insert_reserved-key.new.self) w) (sym c.in_ok-reserve-3.ensures.ok)
-          (listed-came member_set (get c.self.inside.records) (get c.insert_reserved-key.new.self) c.self.inside.members c.self.invariant.membered c.insert_reserved-key.result a (max c.self.inside.members.items c.capacity-2.result) vacant
+          (listed-came member_set (get c.self.inside.records) (get c.insert_reserved-key.new.self) c.self.inside.members c.self.invariant.membered c.insert_reserved-key.result a (max c.self.inside.members.items c.capacity-keys.result) vacant
           (record { changed = c.insert_reserved-key.ensures.updates.changed; others = others }) (ap (λ (b : KeptView). b.attributes.set) kept_is)
-          (omega (arith, c.insert_reserved-key.ensures.key_in_range, c.insert_reserved-key.ensures.capacity, c.capacity-2.ensures.value)) (omega arith));
+          (omega (arith, c.insert_reserved-key.ensures.key_in_range, c.insert_reserved-key.ensures.capacity, c.capacity-keys.ensures.value)) (omega arith));
       awaited = subst (λ w. IsAwaited (get c.insert_reserved-key.new.self) w) (sym c.in_ok-reserve-4.ensures.ok)
-          (listed-came waiting_list (get c.self.inside.records) (get c.insert_reserved-key.new.self) c.self.inside.waiting c.self.invariant.awaited c.insert_reserved-key.result a (max c.self.inside.waiting.items c.capacity-3.result) vacant
+          (listed-came waiting_list (get c.self.inside.records) (get c.insert_reserved-key.new.self) c.self.inside.waiting c.self.invariant.awaited c.insert_reserved-key.result a (max c.self.inside.waiting.items c.capacity-keys.result) vacant
           (record { changed = c.insert_reserved-key.ensures.updates.changed; others = others }) (ap (λ (b : KeptView). waits_in b.attributes.holder) kept_is)
-          (omega (arith, c.insert_reserved-key.ensures.key_in_range, c.insert_reserved-key.ensures.capacity, c.capacity-3.ensures.value)) (omega arith));
+          (omega (arith, c.insert_reserved-key.ensures.key_in_range, c.insert_reserved-key.ensures.capacity, c.capacity-keys.ensures.value)) (omega arith));
       are_noted = subst (λ w. IsNoted (get c.insert_reserved-key.new.self) w) (sym c.in_ok-reserve-5.ensures.ok)
-          (listed-came noting_list (get c.self.inside.records) (get c.insert_reserved-key.new.self) c.self.inside.noted c.self.invariant.are_noted c.insert_reserved-key.result a (max c.self.inside.noted.items c.capacity-4.result) vacant
+          (listed-came noting_list (get c.self.inside.records) (get c.insert_reserved-key.new.self) c.self.inside.noted c.self.invariant.are_noted c.insert_reserved-key.result a (max c.self.inside.noted.items c.capacity-keys.result) vacant
           (record { changed = c.insert_reserved-key.ensures.updates.changed; others = others }) (ap (λ (b : KeptView). notes b.is_noted) kept_is)
-          (omega (arith, c.insert_reserved-key.ensures.key_in_range, c.insert_reserved-key.ensures.capacity, c.capacity-4.ensures.value)) (omega arith));
+          (omega (arith, c.insert_reserved-key.ensures.key_in_range, c.insert_reserved-key.ensures.capacity, c.capacity-keys.ensures.value)) (omega arith));
     }
 
 pub returns-clause-ok : goal.returns-clause-ok
@@ -89,7 +88,7 @@ returns-clause-ok g c =
     (turns_at (get c.insert_reserved-key.new.self) c.reserve-2.new.self.lists)
     (ap (λ (w : ListsView). turns_at (get c.insert_reserved-key.new.self) w.lists) c.in_ok-reserve-2.ensures.ok
     ∙ turns-apart (get c.self.inside.records) (get c.insert_reserved-key.new.self) c.self.inside.ready c.insert_reserved-key.result (apart-vacant (get c.self.inside.records) ready_set c.self.inside.ready c.self.invariant.readied c.insert_reserved-key.result vacant) others)
-    (came-same c.self.inside.records c.self.inside.by_id.map c.self.inside.next c.self.inside.spare c.self.inside.destroyed c.self.inside.slots c.self.invariant.sound c.self.inside.waiting c.self.inside.noted c.args.self.now c.self.view_is c.self.invariant.awaited c.self.invariant.are_noted c.insert_reserved-key.new.self c.insert_reserved-key.result vacant others c.reserve-4.new.self c.reserve-5.new.self (max c.self.inside.waiting.items c.capacity-3.result) (max c.self.inside.noted.items c.capacity-4.result) c.in_ok-reserve-4.ensures.ok c.in_ok-reserve-5.ensures.ok)
+    (came-same c.self.inside.records c.self.inside.by_id.map c.self.inside.next c.self.inside.spare c.self.inside.destroyed c.self.inside.slots c.self.invariant.sound c.self.inside.waiting c.self.inside.noted c.args.self.now c.self.view_is c.self.invariant.awaited c.self.invariant.are_noted c.insert_reserved-key.new.self c.insert_reserved-key.result vacant others c.reserve-4.new.self c.reserve-5.new.self (max c.self.inside.waiting.items c.capacity-keys.result) (max c.self.inside.noted.items c.capacity-keys.result) c.in_ok-reserve-4.ensures.ok c.in_ok-reserve-5.ensures.ok)
     ∙ ap (λ l. after l c.new-2.result.attributes) c.new.ensures ∙ ap (λ (b : KeptView). after [] b.attributes) c.new-2.ensures ∙ ap (after []) c.first.ensures
 
 pub invariant_of-self : goal.invariant_of-self
@@ -117,27 +116,27 @@ pub invariant_of-self-in_err-reserve-3 : goal.invariant_of-self-in_err-reserve-3
 invariant_of-self-in_err-reserve-3 g c =
     kept-then c.self.inside.records c.reserve_record.new.records c.self.inside.by_id.map c.reserve.new.self.map c.self.inside.next c.self.inside.spare c.self.inside.destroyed c.self.inside.slots
     c.self.inside.ready c.reserve-2.new.self c.self.inside.members c.reserve-3.new.self c.self.inside.waiting c.self.inside.waiting c.self.inside.noted c.self.inside.noted
-    (max c.self.inside.ready.items c.capacity.result) c.self.inside.members.items c.self.inside.waiting.items c.self.inside.noted.items c.reserve_record.ensures.rest_kept (ap (λ (w : MapView ℕ). w.map) c.in_ok-reserve.ensures.ok)
+    (max c.self.inside.ready.items c.capacity-keys.result) c.self.inside.members.items c.self.inside.waiting.items c.self.inside.noted.items c.reserve_record.ensures.rest_kept (ap (λ (w : MapView ℕ). w.map) c.in_ok-reserve.ensures.ok)
     c.in_ok-reserve-2.ensures.ok c.in_err-reserve-3.ensures.err refl refl (omega arith) (omega arith) (omega arith) (omega arith) c.self.invariant
 
 pub invariant_of-self-in_err-reserve-4 : goal.invariant_of-self-in_err-reserve-4
 invariant_of-self-in_err-reserve-4 g c =
     kept-then c.self.inside.records c.reserve_record.new.records c.self.inside.by_id.map c.reserve.new.self.map c.self.inside.next c.self.inside.spare c.self.inside.destroyed c.self.inside.slots
     c.self.inside.ready c.reserve-2.new.self c.self.inside.members c.reserve-3.new.self c.self.inside.waiting c.reserve-4.new.self c.self.inside.noted c.self.inside.noted
-    (max c.self.inside.ready.items c.capacity.result) (max c.self.inside.members.items c.capacity-2.result) c.self.inside.waiting.items c.self.inside.noted.items c.reserve_record.ensures.rest_kept (ap (λ (w : MapView ℕ). w.map) c.in_ok-reserve.ensures.ok)
+    (max c.self.inside.ready.items c.capacity-keys.result) (max c.self.inside.members.items c.capacity-keys.result) c.self.inside.waiting.items c.self.inside.noted.items c.reserve_record.ensures.rest_kept (ap (λ (w : MapView ℕ). w.map) c.in_ok-reserve.ensures.ok)
     c.in_ok-reserve-2.ensures.ok c.in_ok-reserve-3.ensures.ok c.in_err-reserve-4.ensures.err refl (omega arith) (omega arith) (omega arith) (omega arith) c.self.invariant
 
 pub invariant_of-self-in_err-reserve-5 : goal.invariant_of-self-in_err-reserve-5
 invariant_of-self-in_err-reserve-5 g c =
     kept-then c.self.inside.records c.reserve_record.new.records c.self.inside.by_id.map c.reserve.new.self.map c.self.inside.next c.self.inside.spare c.self.inside.destroyed c.self.inside.slots
     c.self.inside.ready c.reserve-2.new.self c.self.inside.members c.reserve-3.new.self c.self.inside.waiting c.reserve-4.new.self c.self.inside.noted c.reserve-5.new.self
-    (max c.self.inside.ready.items c.capacity.result) (max c.self.inside.members.items c.capacity-2.result) (max c.self.inside.waiting.items c.capacity-3.result) c.self.inside.noted.items c.reserve_record.ensures.rest_kept (ap (λ (w : MapView ℕ). w.map) c.in_ok-reserve.ensures.ok)
+    (max c.self.inside.ready.items c.capacity-keys.result) (max c.self.inside.members.items c.capacity-keys.result) (max c.self.inside.waiting.items c.capacity-keys.result) c.self.inside.noted.items c.reserve_record.ensures.rest_kept (ap (λ (w : MapView ℕ). w.map) c.in_ok-reserve.ensures.ok)
     c.in_ok-reserve-2.ensures.ok c.in_ok-reserve-3.ensures.ok c.in_ok-reserve-4.ensures.ok c.in_err-reserve-5.ensures.err (omega arith) (omega arith) (omega arith) (omega arith) c.self.invariant
 
 pub returns-in_err-reserve-4-clause-err : goal.returns-in_err-reserve-4-clause-err
 returns-in_err-reserve-4-clause-err g c =
     on_err _ _ (view-then c.self.inside.records c.reserve_record.new.records c.self.inside.by_id.map c.reserve.new.self.map c.self.inside.next c.self.inside.spare c.self.inside.destroyed
-    c.self.inside.ready c.reserve-2.new.self (max c.self.inside.ready.items c.capacity.result) c.in_ok-reserve-2.ensures.ok
+    c.self.inside.ready c.reserve-2.new.self (max c.self.inside.ready.items c.capacity-keys.result) c.in_ok-reserve-2.ensures.ok
     c.self.inside.waiting c.reserve-4.new.self c.self.inside.waiting.items c.in_err-reserve-4.ensures.err
     c.self.inside.noted c.self.inside.noted c.self.inside.noted.items refl
     c.reserve_record.ensures.rest_kept (ap (λ (w : MapView ℕ). w.map) c.in_ok-reserve.ensures.ok)
@@ -146,8 +145,8 @@ returns-in_err-reserve-4-clause-err g c =
 pub returns-in_err-reserve-5-clause-err : goal.returns-in_err-reserve-5-clause-err
 returns-in_err-reserve-5-clause-err g c =
     on_err _ _ (view-then c.self.inside.records c.reserve_record.new.records c.self.inside.by_id.map c.reserve.new.self.map c.self.inside.next c.self.inside.spare c.self.inside.destroyed
-    c.self.inside.ready c.reserve-2.new.self (max c.self.inside.ready.items c.capacity.result) c.in_ok-reserve-2.ensures.ok
-    c.self.inside.waiting c.reserve-4.new.self (max c.self.inside.waiting.items c.capacity-3.result) c.in_ok-reserve-4.ensures.ok
+    c.self.inside.ready c.reserve-2.new.self (max c.self.inside.ready.items c.capacity-keys.result) c.in_ok-reserve-2.ensures.ok
+    c.self.inside.waiting c.reserve-4.new.self (max c.self.inside.waiting.items c.capacity-keys.result) c.in_ok-reserve-4.ensures.ok
     c.self.inside.noted c.reserve-5.new.self c.self.inside.noted.items c.in_err-reserve-5.ensures.err
     c.reserve_record.ensures.rest_kept (ap (λ (w : MapView ℕ). w.map) c.in_ok-reserve.ensures.ok)
     ∙ c.self.view_is)

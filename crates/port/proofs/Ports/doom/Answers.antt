@@ -1,13 +1,11 @@
-use Rattle.std.proofs.Common.{◌≡◌, List, ℕ, Some, is_some, ap, sym, ◌∙◌, refl, ◌∷◌, ◌++◌, []}
-use Rattle.std.specs.FinMap as map
+use Rattle.std.proofs.Common.{◌≡◌, List, ℕ, is_some, ap, sym, ◌∙◌, refl, ◌∷◌, ◌++◌, []}
 use Rattle.member_lists.specs.Lists.{without}
 use Rattle.port.specs.declared.Holder.TheVariants as Holder
 use Rattle.port.specs.Holding.{held}
 use Rattle.port.specs.Ports.{PortView, with_port}
-use Rattle.port.specs.Records.{lost_with, doomed_with, with_holder}
 use Rattle.port.proofs.Keys.{same_some}
 use Rattle.port.proofs.Sound.{relisted}
-use Rattle.port.proofs.Waiting.{can_hold, lost_held, doomed_held, not_doomed}
+use Rattle.port.proofs.Waiting.{not_doomed}
 use Rattle.port.proofs.Ports.doom.Goals as goal
 
 pub set_holder-requires : goal.set_holder-requires

@@ -1,13 +1,10 @@
-use Rattle.std.proofs.Common.{◌≡◌, List, ℕ, Some, is_some, ap, sym, ◌∙◌, refl, ◌∷◌, ◌++◌, []}
-use Rattle.std.specs.FinMap as map
+use Rattle.std.proofs.Common.{List, ℕ, ap, ◌∙◌, refl, ◌∷◌, ◌++◌, []}
 use Rattle.member_lists.specs.Lists.{without}
 use Rattle.port.specs.declared.Holder.TheVariants as Holder
 use Rattle.port.specs.Holding.{held}
-use Rattle.port.specs.Ports.{PortView, with_port}
-use Rattle.port.specs.Records.{lost_with, doomed_with, with_holder}
-use Rattle.port.proofs.Keys.{same_some}
+use Rattle.port.specs.Ports.{with_port}
 use Rattle.port.proofs.Sound.{relisted}
-use Rattle.port.proofs.Waiting.{can_hold, lost_held, doomed_held, not_doomed}
+use Rattle.port.proofs.Waiting.{can_hold}
 use Rattle.port.proofs.Ports.lose.Goals as goal
 
 pub returns : goal.returns

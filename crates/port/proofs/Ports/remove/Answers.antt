@@ -16,47 +16,47 @@ use Rattle.port.proofs.Turned.{turns-apart, apart-quiet}
 use Rattle.port.proofs.Grown.{sound-went, view-went, remove-absent}
 use Rattle.port.proofs.Ports.remove.Goals as goal
 
-pub remove-requires-in-Some : goal.remove-requires-in-Some
-remove-requires-in-Some g c =
+pub remove-record-requires : goal.remove-record-requires
+remove-record-requires g c =
     let found : map.get c.self.inside.by_id.map c.args.port ≡ Some c.in-Some.key = sym (c.in-Some.ensures.value ∙ ap (map.get c.self.inside.by_id.map) c.number.ensures) in
     ap is_some (record_at c.self.inside.records c.self.inside.by_id.map c.self.inside.next c.self.inside.spare c.self.inside.destroyed c.self.inside.slots c.self.invariant.sound c.args.self.now c.self.view_is c.args.port c.in-Some.key found).1
 
 pub invariant_of-self : goal.invariant_of-self
 invariant_of-self g c =
     let found : map.get c.self.inside.by_id.map c.args.port ≡ Some c.in-Some.key = sym (c.in-Some.ensures.value ∙ ap (map.get c.self.inside.by_id.map) c.number.ensures) in
-    let quiet : length c.remove-in-Some.result.queue ≡ 0 = (c.requires (port_of c.remove-in-Some.result) (live_port c.self.inside.records c.self.inside.by_id.map c.self.inside.next c.self.inside.spare c.self.inside.destroyed c.self.inside.slots c.self.invariant.sound c.args.self.now c.self.view_is c.args.port c.in-Some.key c.remove-in-Some.result found c.remove-in-Some.ensures.value)) in
+    let quiet : length c.remove-record.result.queue ≡ 0 = (c.requires (port_of c.remove-record.result) (live_port c.self.inside.records c.self.inside.by_id.map c.self.inside.next c.self.inside.spare c.self.inside.destroyed c.self.inside.slots c.self.invariant.sound c.args.self.now c.self.view_is c.args.port c.in-Some.key c.remove-record.result found c.remove-record.ensures.value)) in
     let out : c.remove.new.self.map ≡ map.remove c.self.inside.by_id.map c.args.port =
     ap (λ (w : MapView ℕ). w.map) c.remove.ensures.after ∙ ap (map.remove c.self.inside.by_id.map) c.number.ensures in
     record {
-      sound = sound-went c.self.inside.records c.remove-in-Some.new.self c.self.inside.by_id.map c.remove.new.self.map c.self.inside.next c.self.inside.spare c.self.inside.destroyed c.self.inside.slots c.self.invariant.sound c.args.self.now c.self.view_is
-          c.args.port c.in-Some.key c.remove-in-Some.result found c.remove-in-Some.ensures.value quiet c.remove-in-Some.ensures.updates.changed c.remove-in-Some.ensures.updates.others out;
-      readied = listed-went ready_set (get c.self.inside.records) (get c.remove-in-Some.new.self) c.self.inside.ready c.self.invariant.readied c.in-Some.key c.self.inside.ready
-          (record { changed = c.remove-in-Some.ensures.updates.changed; others = c.remove-in-Some.ensures.updates.others })
-          (moved_none c.self.inside.ready c.in-Some.key None (subst (λ o. StandsIn c.self.inside.ready c.in-Some.key o) (ready_none c.remove-in-Some.result.queue c.remove-in-Some.result.kept.attributes.set quiet)
-          (c.self.invariant.readied.stands c.in-Some.key c.remove-in-Some.result c.remove-in-Some.ensures.value)));
-      membered = listed-went member_set (get c.self.inside.records) (get c.remove-in-Some.new.self) c.self.inside.members c.self.invariant.membered c.in-Some.key c.leave.new.lists
-          (record { changed = c.remove-in-Some.ensures.updates.changed; others = c.remove-in-Some.ensures.updates.others }) c.leave.ensures.moved;
-      awaited = listed-went waiting_list (get c.self.inside.records) (get c.remove-in-Some.new.self) c.self.inside.waiting c.self.invariant.awaited c.in-Some.key c.leave-in-Some.new.lists
-          (record { changed = c.remove-in-Some.ensures.updates.changed; others = c.remove-in-Some.ensures.updates.others }) c.leave-in-Some.ensures.moved;
-      are_noted = listed-went noting_list (get c.self.inside.records) (get c.remove-in-Some.new.self) c.self.inside.noted c.self.invariant.are_noted c.in-Some.key c.leave-in-Some-2.new.lists
-          (record { changed = c.remove-in-Some.ensures.updates.changed; others = c.remove-in-Some.ensures.updates.others }) c.leave-in-Some-2.ensures.moved;
+      sound = sound-went c.self.inside.records c.remove-record.new.self c.self.inside.by_id.map c.remove.new.self.map c.self.inside.next c.self.inside.spare c.self.inside.destroyed c.self.inside.slots c.self.invariant.sound c.args.self.now c.self.view_is
+          c.args.port c.in-Some.key c.remove-record.result found c.remove-record.ensures.value quiet c.remove-record.ensures.updates.changed c.remove-record.ensures.updates.others out;
+      readied = listed-went ready_set (get c.self.inside.records) (get c.remove-record.new.self) c.self.inside.ready c.self.invariant.readied c.in-Some.key c.self.inside.ready
+          (record { changed = c.remove-record.ensures.updates.changed; others = c.remove-record.ensures.updates.others })
+          (moved_none c.self.inside.ready c.in-Some.key None (subst (λ o. StandsIn c.self.inside.ready c.in-Some.key o) (ready_none c.remove-record.result.queue c.remove-record.result.kept.attributes.set quiet)
+          (c.self.invariant.readied.stands c.in-Some.key c.remove-record.result c.remove-record.ensures.value)));
+      membered = listed-went member_set (get c.self.inside.records) (get c.remove-record.new.self) c.self.inside.members c.self.invariant.membered c.in-Some.key c.leave.new.lists
+          (record { changed = c.remove-record.ensures.updates.changed; others = c.remove-record.ensures.updates.others }) c.leave.ensures.moved;
+      awaited = listed-went waiting_list (get c.self.inside.records) (get c.remove-record.new.self) c.self.inside.waiting c.self.invariant.awaited c.in-Some.key c.leave-in-Some.new.lists
+          (record { changed = c.remove-record.ensures.updates.changed; others = c.remove-record.ensures.updates.others }) c.leave-in-Some.ensures.moved;
+      are_noted = listed-went noting_list (get c.self.inside.records) (get c.remove-record.new.self) c.self.inside.noted c.self.invariant.are_noted c.in-Some.key c.leave-in-Some-2.new.lists
+          (record { changed = c.remove-record.ensures.updates.changed; others = c.remove-record.ensures.updates.others }) c.leave-in-Some-2.ensures.moved;
     }
 
 pub returns-in-Some : goal.returns-in-Some
 returns-in-Some g c =
     let found : map.get c.self.inside.by_id.map c.args.port ≡ Some c.in-Some.key = sym (c.in-Some.ensures.value ∙ ap (map.get c.self.inside.by_id.map) c.number.ensures) in
-    let quiet : length c.remove-in-Some.result.queue ≡ 0 = (c.requires (port_of c.remove-in-Some.result) (live_port c.self.inside.records c.self.inside.by_id.map c.self.inside.next c.self.inside.spare c.self.inside.destroyed c.self.inside.slots c.self.invariant.sound c.args.self.now c.self.view_is c.args.port c.in-Some.key c.remove-in-Some.result found c.remove-in-Some.ensures.value)) in
+    let quiet : length c.remove-record.result.queue ≡ 0 = (c.requires (port_of c.remove-record.result) (live_port c.self.inside.records c.self.inside.by_id.map c.self.inside.next c.self.inside.spare c.self.inside.destroyed c.self.inside.slots c.self.invariant.sound c.args.self.now c.self.view_is c.args.port c.in-Some.key c.remove-record.result found c.remove-record.ensures.value)) in
     let out : c.remove.new.self.map ≡ map.remove c.self.inside.by_id.map c.args.port =
     ap (λ (w : MapView ℕ). w.map) c.remove.ensures.after ∙ ap (map.remove c.self.inside.by_id.map) c.number.ensures in
-    view-went c.self.inside.records c.remove-in-Some.new.self c.self.inside.by_id.map c.remove.new.self.map c.self.inside.next c.self.inside.spare c.self.inside.destroyed c.self.inside.slots c.self.invariant.sound c.args.self.now c.self.view_is
-    c.args.port c.in-Some.key c.remove-in-Some.result found c.remove-in-Some.ensures.value quiet c.remove-in-Some.ensures.updates.changed c.remove-in-Some.ensures.updates.others out
-    (turns_at (get c.remove-in-Some.new.self) c.self.inside.ready.lists)
-    (turns-apart (get c.self.inside.records) (get c.remove-in-Some.new.self) c.self.inside.ready c.in-Some.key (apart-quiet (get c.self.inside.records) c.self.inside.ready c.self.invariant.readied c.in-Some.key c.remove-in-Some.result c.remove-in-Some.ensures.value quiet)
-    c.remove-in-Some.ensures.updates.others)
+    view-went c.self.inside.records c.remove-record.new.self c.self.inside.by_id.map c.remove.new.self.map c.self.inside.next c.self.inside.spare c.self.inside.destroyed c.self.inside.slots c.self.invariant.sound c.args.self.now c.self.view_is
+    c.args.port c.in-Some.key c.remove-record.result found c.remove-record.ensures.value quiet c.remove-record.ensures.updates.changed c.remove-record.ensures.updates.others out
+    (turns_at (get c.remove-record.new.self) c.self.inside.ready.lists)
+    (turns-apart (get c.self.inside.records) (get c.remove-record.new.self) c.self.inside.ready c.in-Some.key (apart-quiet (get c.self.inside.records) c.self.inside.ready c.self.invariant.readied c.in-Some.key c.remove-record.result c.remove-record.ensures.value quiet)
+    c.remove-record.ensures.updates.others)
     (went-same c.self.inside.records c.self.inside.by_id.map c.self.inside.next c.self.inside.spare c.self.inside.destroyed c.self.inside.slots c.self.invariant.sound c.self.inside.waiting c.self.inside.noted c.args.self.now c.self.view_is c.self.invariant.awaited c.self.invariant.are_noted
-    c.args.port c.in-Some.key c.remove-in-Some.result found c.remove-in-Some.ensures.value c.remove-in-Some.new.self c.remove-in-Some.ensures.updates.others c.leave-in-Some.new.lists c.leave-in-Some-2.new.lists
-    c.leave-in-Some.ensures.moved (c.leave-in-Some.ensures.left ∙ ap (out_of c.self.inside.waiting c.in-Some.key) (c.waiting_at-list.ensures c.remove-in-Some.result c.remove-in-Some.ensures.value))
-    c.leave-in-Some-2.ensures.moved (c.leave-in-Some-2.ensures.left ∙ ap (out_of c.self.inside.noted c.in-Some.key) (c.noted_at-list.ensures c.remove-in-Some.result c.remove-in-Some.ensures.value)))
+    c.args.port c.in-Some.key c.remove-record.result found c.remove-record.ensures.value c.remove-record.new.self c.remove-record.ensures.updates.others c.leave-in-Some.new.lists c.leave-in-Some-2.new.lists
+    c.leave-in-Some.ensures.moved (c.leave-in-Some.ensures.left ∙ ap (out_of c.self.inside.waiting c.in-Some.key) c.waiting_list-list.ensures)
+    c.leave-in-Some-2.ensures.moved (c.leave-in-Some-2.ensures.left ∙ ap (out_of c.self.inside.noted c.in-Some.key) c.noting_list-list.ensures))
 
 pub returns-in-None : goal.returns-in-None
 returns-in-None g c =
@@ -74,35 +74,14 @@ invariant_of-self-in-None g c =
     let same : c.remove.new.self.map ≡ c.self.inside.by_id.map = ap (λ (w : MapView ℕ). w.map) c.remove.ensures.after ∙ ap (map.remove c.self.inside.by_id.map) c.number.ensures ∙ remove-absent c.self.inside.by_id.map c.args.port none in
     subst (λ (keys : map.FinMap nat_cmp ℕ). IsKept c.self.inside.records keys c.self.inside.next c.self.inside.spare c.self.inside.destroyed c.self.inside.slots c.self.inside.ready c.self.inside.members c.self.inside.waiting c.self.inside.noted) (sym same) c.self.invariant
 
-pub member_at-set-requires : goal.member_at-set-requires
-member_at-set-requires g c =
-    let found : map.get c.self.inside.by_id.map c.args.port ≡ Some c.in-Some.key = sym (c.in-Some.ensures.value ∙ ap (map.get c.self.inside.by_id.map) c.number.ensures) in
-    ap is_some (record_at c.self.inside.records c.self.inside.by_id.map c.self.inside.next c.self.inside.spare c.self.inside.destroyed c.self.inside.slots c.self.invariant.sound c.args.self.now c.self.view_is c.args.port c.in-Some.key found).1
-
 pub leave-requires : goal.leave-requires
 leave-requires g c =
-    let found : map.get c.self.inside.by_id.map c.args.port ≡ Some c.in-Some.key = sym (c.in-Some.ensures.value ∙ ap (map.get c.self.inside.by_id.map) c.number.ensures) in
-    let there = record_at c.self.inside.records c.self.inside.by_id.map c.self.inside.next c.self.inside.spare c.self.inside.destroyed c.self.inside.slots c.self.invariant.sound c.args.self.now c.self.view_is c.args.port c.in-Some.key found in
-    subst (λ o. StandsIn c.self.inside.members c.in-Some.key o) (sym (c.member_at-set.ensures there.0 there.1)) (c.self.invariant.membered.stands c.in-Some.key there.0 there.1)
-
-pub waiting_at-list-requires : goal.waiting_at-list-requires
-waiting_at-list-requires g c =
-    let found : map.get c.self.inside.by_id.map c.args.port ≡ Some c.in-Some.key = sym (c.in-Some.ensures.value ∙ ap (map.get c.self.inside.by_id.map) c.number.ensures) in
-    ap is_some (record_at c.self.inside.records c.self.inside.by_id.map c.self.inside.next c.self.inside.spare c.self.inside.destroyed c.self.inside.slots c.self.invariant.sound c.args.self.now c.self.view_is c.args.port c.in-Some.key found).1
+    subst (λ o. StandsIn c.self.inside.members c.in-Some.key o) (sym (c.member_list-set.ensures)) (c.self.invariant.membered.stands c.in-Some.key c.remove-record.result c.remove-record.ensures.value)
 
 pub leave-requires-in-Some : goal.leave-requires-in-Some
 leave-requires-in-Some g c =
-    let found : map.get c.self.inside.by_id.map c.args.port ≡ Some c.in-Some.key = sym (c.in-Some.ensures.value ∙ ap (map.get c.self.inside.by_id.map) c.number.ensures) in
-    let there = record_at c.self.inside.records c.self.inside.by_id.map c.self.inside.next c.self.inside.spare c.self.inside.destroyed c.self.inside.slots c.self.invariant.sound c.args.self.now c.self.view_is c.args.port c.in-Some.key found in
-    subst (λ o. StandsIn c.self.inside.waiting c.in-Some.key o) (sym (c.waiting_at-list.ensures there.0 there.1)) (c.self.invariant.awaited.stands c.in-Some.key there.0 there.1)
-
-pub noted_at-list-requires : goal.noted_at-list-requires
-noted_at-list-requires g c =
-    let found : map.get c.self.inside.by_id.map c.args.port ≡ Some c.in-Some.key = sym (c.in-Some.ensures.value ∙ ap (map.get c.self.inside.by_id.map) c.number.ensures) in
-    ap is_some (record_at c.self.inside.records c.self.inside.by_id.map c.self.inside.next c.self.inside.spare c.self.inside.destroyed c.self.inside.slots c.self.invariant.sound c.args.self.now c.self.view_is c.args.port c.in-Some.key found).1
+    subst (λ o. StandsIn c.self.inside.waiting c.in-Some.key o) (sym (c.waiting_list-list.ensures)) (c.self.invariant.awaited.stands c.in-Some.key c.remove-record.result c.remove-record.ensures.value)
 
 pub leave-requires-in-Some-2 : goal.leave-requires-in-Some-2
 leave-requires-in-Some-2 g c =
-    let found : map.get c.self.inside.by_id.map c.args.port ≡ Some c.in-Some.key = sym (c.in-Some.ensures.value ∙ ap (map.get c.self.inside.by_id.map) c.number.ensures) in
-    let there = record_at c.self.inside.records c.self.inside.by_id.map c.self.inside.next c.self.inside.spare c.self.inside.destroyed c.self.inside.slots c.self.invariant.sound c.args.self.now c.self.view_is c.args.port c.in-Some.key found in
-    subst (λ o. StandsIn c.self.inside.noted c.in-Some.key o) (sym (c.noted_at-list.ensures there.0 there.1)) (c.self.invariant.are_noted.stands c.in-Some.key there.0 there.1)
+    subst (λ o. StandsIn c.self.inside.noted c.in-Some.key o) (sym (c.noting_list-list.ensures)) (c.self.invariant.are_noted.stands c.in-Some.key c.remove-record.result c.remove-record.ensures.value)

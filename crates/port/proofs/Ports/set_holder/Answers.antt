@@ -9,7 +9,7 @@ use Rattle.port.specs.Records.{ports_of, turns_at, ids_in, made_of, lost_list, d
 use Rattle.port.specs.Ready.{StandsIn, IsMoved, out_of, at_end}
 use Rattle.port.proofs.Readied.{listed-set, listed-stays}
 use Rattle.port.proofs.Records.{port_of}
-use Rattle.port.proofs.Sound.{record_at, live_at, is_port, turns-set, sound-set, view-set}
+use Rattle.port.proofs.Sound.{record_at, live_at, is_port, sound-set, view-set}
 use Rattle.port.proofs.Turned.{turned-same}
 use Rattle.port.proofs.Waiting.{held-same, ids-apart, lost_now, doomed_now, waits_lost, waits_doomed}
 use Rattle.port.proofs.Ports.set_holder.Goals as goal
@@ -19,19 +19,11 @@ unwrap-key-requires g c =
     let there = live_at c.self.inside.records c.self.inside.by_id.map c.self.inside.next c.self.inside.spare c.self.inside.destroyed c.self.inside.slots c.self.invariant.sound c.args.self.now c.self.view_is c.args.port c.requires in
     ap is_some (c.key_of.ensures ∙ there.1)
 
-pub waiting_at-now-requires : goal.waiting_at-now-requires
-waiting_at-now-requires g c =
-    let found : map.get c.self.inside.by_id.map c.args.port ≡ Some c.unwrap-key.result = sym (sym c.unwrap-key.ensures ∙ c.key_of.ensures) in
-    let there = record_at c.self.inside.records c.self.inside.by_id.map c.self.inside.next c.self.inside.spare c.self.inside.destroyed c.self.inside.slots c.self.invariant.sound c.args.self.now c.self.view_is c.args.port c.unwrap-key.result found in
-    let r : Record g.row.M.Denot = there.0 in
-    let a : Record g.row.M.Denot = record { id = r.id; queue = r.queue; kept = record { attributes = held_by r.kept.attributes c.args.holder; is_noted = r.kept.is_noted } } in
-    ap is_some (ap (λ (t : Slab (Record g.row.M.Denot)). get t c.unwrap-key.result) (c.hold_at.ensures r there.1) ∙ (turns-set c.self.inside.records c.unwrap-key.result r a there.1).changed)
-
 pub rejoin-requires-clause-was : goal.rejoin-requires-clause-was
 rejoin-requires-clause-was g c =
     let found : map.get c.self.inside.by_id.map c.args.port ≡ Some c.unwrap-key.result = sym (sym c.unwrap-key.ensures ∙ c.key_of.ensures) in
     let there = record_at c.self.inside.records c.self.inside.by_id.map c.self.inside.next c.self.inside.spare c.self.inside.destroyed c.self.inside.slots c.self.invariant.sound c.args.self.now c.self.view_is c.args.port c.unwrap-key.result found in
-    subst (λ o. StandsIn c.self.inside.waiting c.unwrap-key.result o) (sym (c.waiting_at-was.ensures there.0 there.1)) (c.self.invariant.awaited.stands c.unwrap-key.result there.0 there.1)
+    subst (λ o. StandsIn c.self.inside.waiting c.unwrap-key.result o) (sym (c.hold_at-was.ensures.was there.0 there.1)) (c.self.invariant.awaited.stands c.unwrap-key.result there.0 there.1)
 
 pub invariant_of-self : goal.invariant_of-self
 invariant_of-self g c =
@@ -39,15 +31,14 @@ invariant_of-self g c =
     let there = record_at c.self.inside.records c.self.inside.by_id.map c.self.inside.next c.self.inside.spare c.self.inside.destroyed c.self.inside.slots c.self.invariant.sound c.args.self.now c.self.view_is c.args.port c.unwrap-key.result found in
     let r : Record g.row.M.Denot = there.0 in
     let a : Record g.row.M.Denot = record { id = r.id; queue = r.queue; kept = record { attributes = held_by r.kept.attributes c.args.holder; is_noted = r.kept.is_noted } } in
-    let now : get c.hold_at.new.records c.unwrap-key.result ≡ Some a = ap (λ (t : Slab (Record g.row.M.Denot)). get t c.unwrap-key.result) (c.hold_at.ensures r there.1) ∙ (turns-set c.self.inside.records c.unwrap-key.result r a there.1).changed in
-    let moved : IsMoved c.self.inside.waiting c.rejoin.new.lists c.unwrap-key.result (waiting_list a) = subst (λ o. IsMoved c.self.inside.waiting c.rejoin.new.lists c.unwrap-key.result o) (c.waiting_at-now.ensures a now) c.rejoin.ensures.moved in
+    let moved : IsMoved c.self.inside.waiting c.rejoin.new.lists c.unwrap-key.result (waiting_list a) = subst (λ o. IsMoved c.self.inside.waiting c.rejoin.new.lists c.unwrap-key.result o) (c.hold_at-was.ensures.now) c.rejoin.ensures.moved in
     record {
-      sound = subst (λ (t : Slab (Record g.row.M.Denot)). IsSound t c.self.inside.by_id.map c.self.inside.next c.self.inside.spare c.self.inside.destroyed c.self.inside.slots) (sym (c.hold_at.ensures r there.1))
+      sound = subst (λ (t : Slab (Record g.row.M.Denot)). IsSound t c.self.inside.by_id.map c.self.inside.next c.self.inside.spare c.self.inside.destroyed c.self.inside.slots) (sym (c.hold_at-was.ensures.after r there.1))
           (sound-set c.self.inside.records c.self.inside.by_id.map c.self.inside.next c.self.inside.spare c.self.inside.spare c.self.inside.destroyed c.self.inside.slots c.self.invariant.sound c.args.self.now c.self.view_is c.args.port c.unwrap-key.result r a found there.1 refl refl);
-      readied = subst (λ (t : Slab (Record g.row.M.Denot)). IsReadied (get t) c.self.inside.ready) (sym (c.hold_at.ensures r there.1)) (listed-stays ready_set c.self.inside.records c.self.inside.ready c.unwrap-key.result r a c.self.invariant.readied there.1 refl);
-      membered = subst (λ (t : Slab (Record g.row.M.Denot)). IsMembered (get t) c.self.inside.members) (sym (c.hold_at.ensures r there.1)) (listed-stays member_set c.self.inside.records c.self.inside.members c.unwrap-key.result r a c.self.invariant.membered there.1 refl);
-      awaited = subst (λ (t : Slab (Record g.row.M.Denot)). IsAwaited (get t) c.rejoin.new.lists) (sym (c.hold_at.ensures r there.1)) (listed-set waiting_list c.self.inside.records c.self.inside.waiting c.rejoin.new.lists c.unwrap-key.result r a c.self.invariant.awaited there.1 moved);
-      are_noted = subst (λ (t : Slab (Record g.row.M.Denot)). IsNoted (get t) c.self.inside.noted) (sym (c.hold_at.ensures r there.1)) (listed-stays noting_list c.self.inside.records c.self.inside.noted c.unwrap-key.result r a c.self.invariant.are_noted there.1 refl);
+      readied = subst (λ (t : Slab (Record g.row.M.Denot)). IsReadied (get t) c.self.inside.ready) (sym (c.hold_at-was.ensures.after r there.1)) (listed-stays ready_set c.self.inside.records c.self.inside.ready c.unwrap-key.result r a c.self.invariant.readied there.1 refl);
+      membered = subst (λ (t : Slab (Record g.row.M.Denot)). IsMembered (get t) c.self.inside.members) (sym (c.hold_at-was.ensures.after r there.1)) (listed-stays member_set c.self.inside.records c.self.inside.members c.unwrap-key.result r a c.self.invariant.membered there.1 refl);
+      awaited = subst (λ (t : Slab (Record g.row.M.Denot)). IsAwaited (get t) c.rejoin.new.lists) (sym (c.hold_at-was.ensures.after r there.1)) (listed-set waiting_list c.self.inside.records c.self.inside.waiting c.rejoin.new.lists c.unwrap-key.result r a c.self.invariant.awaited there.1 moved);
+      are_noted = subst (λ (t : Slab (Record g.row.M.Denot)). IsNoted (get t) c.self.inside.noted) (sym (c.hold_at-was.ensures.after r there.1)) (listed-stays noting_list c.self.inside.records c.self.inside.noted c.unwrap-key.result r a c.self.invariant.are_noted there.1 refl);
     }
 
 pub returns-clause-held : goal.returns-clause-held
@@ -56,7 +47,6 @@ returns-clause-held g c p h =
     let there = record_at c.self.inside.records c.self.inside.by_id.map c.self.inside.next c.self.inside.spare c.self.inside.destroyed c.self.inside.slots c.self.invariant.sound c.args.self.now c.self.view_is c.args.port c.unwrap-key.result found in
     let r : Record g.row.M.Denot = there.0 in
     let a : Record g.row.M.Denot = record { id = r.id; queue = r.queue; kept = record { attributes = held_by r.kept.attributes c.args.holder; is_noted = r.kept.is_noted } } in
-    let now : get c.hold_at.new.records c.unwrap-key.result ≡ Some a = ap (λ (t : Slab (Record g.row.M.Denot)). get t c.unwrap-key.result) (c.hold_at.ensures r there.1) ∙ (turns-set c.self.inside.records c.unwrap-key.result r a there.1).changed in
     let is : p ≡ port_of r = is_port c.self.inside.records c.self.inside.by_id.map c.self.inside.next c.self.inside.spare c.self.inside.spare c.self.inside.destroyed c.self.inside.slots c.self.invariant.sound c.args.self.now c.self.view_is c.args.port c.unwrap-key.result r a found there.1 refl refl p h in
     let view : Slab (Record g.row.M.Denot) → PortsView g.row.M.Denot = λ t. record { ports = ports_of (get t) c.self.inside.by_id.map; ready = turns_at (get t) c.self.inside.ready.lists; made = made_of c.self.inside.next; spare = length c.self.inside.spare; destroyed = c.self.inside.destroyed; lost = ids_in (get t) c.rejoin.new.lists lost_list; doomed = ids_in (get t) c.rejoin.new.lists doomed_list; noted = ids_in (get t) c.self.inside.noted noted_list } in
     let after : PortView g.row.M.Denot → ℕ → PortsView g.row.M.Denot = λ q n. record {
@@ -70,12 +60,12 @@ returns-clause-held g c p h =
       noted = c.args.self.now.noted;
     } in
     let was : length c.self.inside.spare ≡ c.args.self.now.spare = ap (λ (b : PortsView g.row.M.Denot). b.spare) c.self.view_is in
-    ap view (c.hold_at.ensures r there.1)
+    ap view (c.hold_at-was.ensures.after r there.1)
     ∙ view-set c.self.inside.records c.self.inside.by_id.map c.self.inside.next c.self.inside.spare c.self.inside.spare c.self.inside.destroyed c.self.inside.slots c.self.invariant.sound c.args.self.now c.self.view_is c.args.port c.unwrap-key.result r a found there.1 refl refl (turns_at (get (with_value c.self.inside.records c.unwrap-key.result a)) c.self.inside.ready.lists)
     (turned-same c.self.inside.records c.self.inside.by_id.map c.self.inside.next c.self.inside.spare c.self.inside.destroyed c.self.inside.slots c.self.invariant.sound c.self.inside.ready c.args.self.now c.self.view_is c.self.invariant.readied c.args.port c.unwrap-key.result r a found there.1 refl refl (omega arith))
     (held-same c.self.inside.records c.self.inside.by_id.map c.self.inside.next c.self.inside.spare c.self.inside.destroyed c.self.inside.slots c.self.invariant.sound c.self.inside.waiting c.self.inside.noted c.args.self.now c.self.view_is c.unwrap-key.result r a there.1 refl c.self.invariant.awaited c.args.port found c.args.holder c.rejoin.new.lists
-    (c.rejoin.ensures.turned ∙ ap (λ o. at_end (out_of c.self.inside.waiting c.unwrap-key.result o) c.unwrap-key.result c.waiting_at-now.result) (c.waiting_at-was.ensures r there.1)
-    ∙ ap (at_end (out_of c.self.inside.waiting c.unwrap-key.result (waiting_list r)) c.unwrap-key.result) (c.waiting_at-now.ensures a now)))
+    (c.rejoin.ensures.turned ∙ ap (λ o. at_end (out_of c.self.inside.waiting c.unwrap-key.result o) c.unwrap-key.result c.hold_at-was.result.1) (c.hold_at-was.ensures.was r there.1)
+    ∙ ap (at_end (out_of c.self.inside.waiting c.unwrap-key.result (waiting_list r)) c.unwrap-key.result) (c.hold_at-was.ensures.now)))
     ∙ ap (λ q. after q (length c.self.inside.spare)) (sym is)
     ∙ ap (after p) was
 

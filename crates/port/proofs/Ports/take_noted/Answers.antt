@@ -1,18 +1,17 @@
-use Rattle.std.proofs.Common.{◌≡◌, ℕ, true, false, Option, Some, None, is_some, ap, sym, subst, ◌∙◌, refl, ◌∷◌, ◌++◌, [], length, slice_get, Contains}
+use Rattle.std.proofs.Common.{◌≡◌, false, Some, is_some, ap, sym, subst, ◌∙◌, refl, length, slice_get, Contains}
 use Rattle.std.proofs.lemmas.Option.{slice_get_within, get_or_from_slice_get}
 use Rattle.std.specs.FinMap as map
 use Rattle.std.specs.Option.{option_map}
 use Rattle.member_lists.specs.Lists.{list_of, without}
-use Rattle.slab.specs.Slab.{Slab, get, with_value}
+use Rattle.slab.specs.Slab.{Slab, get}
 use Rattle.port.specs.declared.Record.{Record}
-use Rattle.port.specs.Ports.{PortView, PortsView}
+use Rattle.port.specs.Ports.{PortsView}
 use Rattle.port.specs.Records.{ports_of, turns_at, id_in, ids_in, made_of, lost_list, doomed_list, noted_list, ready_set, member_set, waiting_list, noting_list, IsReadied, IsMembered, IsAwaited, IsNoted, IsSound}
-use Rattle.port.specs.Ready.{StandsIn, IsMoved, out_of, at_end}
-use Rattle.port.proofs.Keys.{same_some, some_or_none}
+use Rattle.port.specs.Ready.{StandsIn, out_of}
+use Rattle.port.proofs.Keys.{same_some}
 use Rattle.port.proofs.Readied.{listed-set, listed-stays}
-use Rattle.port.proofs.Records.{port_of}
-use Rattle.port.proofs.Sound.{no_true, record_at, live_port, gone_port, turns-set, sound-set}
-use Rattle.port.proofs.Waiting.{view-noted, noted_now, noted_first, noted_live, ids-out, ids-joined, in-listed, listed-in, none_told_by, some_told_by}
+use Rattle.port.proofs.Sound.{turns-set, sound-set}
+use Rattle.port.proofs.Waiting.{view-noted, noted_now, noted_first, noted_live, ids-out}
 use Rattle.port.proofs.Ports.take_noted.Goals as goal
 
 pub leave-requires : goal.leave-requires
