@@ -58,6 +58,10 @@ taken_room : (o : Option ℕ) (e : Ends) (beside room : ℕ) → taken o + besid
 taken_room None e beside room enough more = let h : 0 < room - (0 + beside) = more refl in omega arith
 taken_room (Some x) e beside room enough more = enough
 
+none_if : (o : Option Ends) → is_some o ≡ false → o ≡ None
+none_if None e = refl
+none_if (Some x) e = absurd (let f : true ≡ false = e in cc)
+
 zero_one : ◌≢◌ {A = ℕ} 0 1
 zero_one e = omega arith
 
@@ -242,6 +246,9 @@ module _ (v : MapView Ends) (of_zero of_one : Ends) (k : AreEnds v of_zero of_on
 
     pub far_there : map.contains_key was l ≡ true → map.contains_key v.map l ≡ true
     far_there h = ap is_some (sym (in_was.at_other l no_zero no_one)) ∙ h
+
+    pub far_none : map.contains_key was l ≡ false → map.get v.map l ≡ None
+    far_none h = none_if (map.get v.map l) (ap is_some (sym (in_was.at_other l no_zero no_one)) ∙ h)
 
     pub far_room : (map.get was l ≡ None → 0 < room_beside v.room of_zero of_one) → map.get v.map l ≡ None → 0 < room_beside v.room of_zero of_one
     far_room room none = room (in_was.at_other l no_zero no_one ∙ none)

@@ -181,6 +181,14 @@ ends_held links ends k l x h = case (map.get ends.map l) refl
     case (Some e) at = ap is_some at
     case None at = absurd (no_first (k.sound.chained l) x (sym ((k.sound.chain l).first) ∙ ap (λ o. (unwrap_or o blank_ends).first) at) h)
 
+-- a list has a first item where it stands in the map
+pub first_told : (links : List Link) (ends : MapView Ends) (k : IsKept links ends) (l : ℕ) (e : Ends) → e ≡ ends_at ends.map l → is_some e.first ≡ map.contains_key ends.map l
+first_told links ends k l e is = ap (λ (f : Ends). is_some f.first) is ∙ case (map.get ends.map l) refl
+  where
+    case : (o : Option Ends) → map.get ends.map l ≡ o → is_some (unwrap_or o blank_ends).first ≡ is_some o
+    case (Some f) at = let some = k.filled l f at in ap is_some some.1
+    case None at = refl
+
 -- ---- a list has fewer items
 
 module _ (m m' : Ended) (l : ℕ) (f : Ends) (none : f.first ≡ None → m' ≡ map.remove m l) (some : (x : ℕ) → f.first ≡ Some x → m' ≡ map.insert m l f) (blank : f.first ≡ None → f ≡ blank_ends)

@@ -186,9 +186,10 @@ impl ListEnds {
         }
     }
 
-    // Puts these ends in place of a list's, or in, where it had none.
-    fn hold(&mut self, list: u64, now: Ends)
+    // Puts these ends in place of those of a list that has items, or in, where it has none.
+    fn hold(&mut self, list: u64, has_items: bool, now: Ends)
         requires filled { IsSome now.first }
+        requires held { has_items ≡ map.contains_key self.old.map list }
         requires room { map.get self.old.map list ≡ None → 0 < self.old.room }
         ensures map { self.new.map ≡ map.insert self.old.map list now }
         ensures total { map.len self.new.map + self.new.room ≡ map.len self.old.map + self.old.room }
@@ -196,10 +197,13 @@ impl ListEnds {
         match list {
             0 => self.of_zero = now,
             1 => self.of_one = now,
-            _ => match self.others.locate(list) {
-                Some(held) => self.others.set_near(held.place, list, now),
-                None => self.others.insert(list, now),
-            },
+            _ => {
+                if has_items {
+                    self.others.set(list, now);
+                } else {
+                    self.others.insert(list, now);
+                }
+            }
         }
     }
 
@@ -345,7 +349,7 @@ impl Lists {
             first: first.or(place),
             last: place,
         };
-        self.ends.hold(list, now);
+        self.ends.hold(list, first.item().is_some(), now);
     }
 
     /// Takes an item out of its list; the order of the others stays. Constant time.
