@@ -10,6 +10,7 @@ use std::alloc::Global;
 /// Makes the call by the kernel that the handle holds, and answers it; `None` where it holds none.
 ///
 /// The handle holds the same kernel after it. Takes no memory but what the kernel takes.
+#[inline(always)]
 pub fn call(alloc: Global, handle: &mut Handle, event: &Event) -> Option<Reply>
     ensures { Calls handle.old.kernel event.now result handle.new.kernel }
 {
@@ -24,6 +25,7 @@ pub fn call(alloc: Global, handle: &mut Handle, event: &Event) -> Option<Reply>
 }
 
 /// Makes a call that answers a code.
+#[inline(always)]
 pub fn code(alloc: Global, handle: &mut Handle, event: &Event) -> i32
     ensures { Asks handle.old.kernel event.now result handle.new.kernel }
 {

@@ -113,6 +113,7 @@ fn waited_for(waited: &Waited) -> WaitedFor {
 }
 
 /// Writes what a receive answers, and answers its code.
+#[inline(always)]
 fn received(
     reply: &Option<Reply>,
     buffer: &mut [u8],
