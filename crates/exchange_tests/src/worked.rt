@@ -57,6 +57,27 @@ const ITEM_OF_NO_DATA: (&str, &str) = (
     code 10000008\n",
 );
 
+// Bodies that end within a descriptor or its data, descriptors that none is, a header with a bit that no
+// message has, and a part of a header.
+const NO_MESSAGES: (&str, &str) = (
+    "task\nalloc 0 1\n\
+    send 0 140000800000000001000000000000000000000007000000000000300800ffffffffffff\n\
+    send 0 14000080000000000100000000000000000000000700000000000020\n\
+    send 0 14000080000000000100000000000000000000000700000011080110\n\
+    send 0 14000080000000000100000000000000000000000700000008080050\n\
+    send 0 140000800000000001000000000000000000000007000000000000300001080000000000\n\
+    send 0 140000401800000001000000000000000000000007000000\n\
+    send 0 14000040180000000100000000000000000000000700\n",
+    "task 0\nname 1\n\
+    code 10000008\n\
+    code 10000008\n\
+    code 1000000f\n\
+    code 1000000f\n\
+    code 1000000f\n\
+    code 10000010\n\
+    code 10000008\n",
+);
+
 // Two send rights for one port in a message gather under one name.
 const GATHERED_REFERENCES: (&str, &str) = (
     "task\n\
@@ -333,11 +354,12 @@ const READY_MEMBERS: &str = "task\nalloc 0 1\n\
     recv 0 3 24 0\n";
 
 /// The exchanges that are answered so on a new kernel.
-const EXCHANGES: [(&str, &str); 13] = [
+const EXCHANGES: [(&str, &str); 14] = [
     SMALLEST_MESSAGE,
     SEND_ONCE_RIGHT,
     LONG_DESCRIPTOR,
     ITEM_OF_NO_DATA,
+    NO_MESSAGES,
     GATHERED_REFERENCES,
     MOVED_REPLY,
     QUEUE_LIMIT,

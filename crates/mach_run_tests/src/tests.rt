@@ -204,7 +204,7 @@ const LARGEST: &str =
     "alloc 4294967295 4294967295\nrecv 4294967295 0 4294967295 1\nsend 4294967295 -\n";
 
 // Scripts, and what is written for each to standard output, with status 0, or to standard error, with 1.
-const SCRIPTS: [(&str, &str, &str); 11] = [
+const SCRIPTS: [(&str, &str, &str); 16] = [
     ("", "", ""),
     ("task\ntask\n", "task 0\ntask 1\n", ""),
     (LARGEST, "code 00000010\ncode 00000010\ncode 00000010\n", ""),
@@ -216,6 +216,11 @@ const SCRIPTS: [(&str, &str, &str); 11] = [
         "",
         "line 2: bad call\n",
     ),
+    ("task\nalloc 0 01\n", "", "line 2: bad call\n"),
+    ("task\nalloc 0 4294967296\n", "", "line 2: bad call\n"),
+    ("task\nsend 0 1\n", "", "line 2: bad call\n"),
+    ("task\nsend 0 AB\n", "", "line 2: bad call\n"),
+    ("task\nrecv 0 1 24 2\n", "", "line 2: bad call\n"),
     ("task\nsend 0 0A\nnot this\n", "", "line 2: bad call\n"),
     ("task\nnames 0 1\nnot this\n", "", "line 2: bad call\n"),
     ("task\ntask", "", "line 2: bad call\n"),
