@@ -192,6 +192,7 @@ fn check_slots(world: &World)
 /// Does the call's own part of a step, up to what [`settle`] ends, or refuses it.
 ///
 /// `KERN_INVALID_TASK` where a task that it names doesn't live; then as the call.
+#[inline(always)]
 fn act(world: &mut World, alloc: Global, event: &Event) -> Result<Reply, Code>
     requires { Stands world.old }
     ensures { Performs world.old event.now result world.new }
@@ -263,6 +264,7 @@ fn tasks_of(event: &Event) -> (Option<TaskId>, Option<TaskId>)
 }
 
 /// Makes the call on the tables, where the tasks that it names live.
+#[inline(always)]
 fn serve(world: &mut World, alloc: Global, event: &Event) -> Result<Reply, Code>
     requires there { HasTasks world.old event.now }
     requires stands { Stands world.old }
