@@ -1,5 +1,5 @@
 //! Lists of numbered items.
-use member_lists::Lists;
+use member_lists::{Lists, TwoLists};
 use std::alloc::{AllocError, Global};
 
 /// Whether the items 2 and 0 stand in list 7, and none in another one.
@@ -24,4 +24,19 @@ fn join_and_leave(alloc: Global) -> Result<bool, AllocError> {
 #[test]
 fn items_join_and_leave(rt: HostRuntime) {
     assert!(rt; join_and_leave(rt.alloc()) == Ok(true));
+}
+
+fn join_and_leave_two(alloc: Global) -> Result<bool, AllocError> {
+    let mut lists = TwoLists::new(alloc);
+    let was_empty = lists.is_empty();
+    lists.reserve(4)?;
+    lists.push(1, 2);
+    lists.push(1, 0);
+    lists.remove(1, 0);
+    Ok(was_empty && lists.first(1) == Some(2) && lists.first(0).is_none() && !lists.is_empty())
+}
+
+#[test]
+fn items_join_and_leave_one_of_two(rt: HostRuntime) {
+    assert!(rt; join_and_leave_two(rt.alloc()) == Ok(true));
 }

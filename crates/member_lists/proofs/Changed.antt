@@ -93,11 +93,10 @@ module _ (links mores : List Link) (chains : ℕ → Ends) (so : IsSound links c
           let all : times item (list_of v c) ≡ times item (so.chained c) = ap (times item) (whole links chains so v sh c) in
           absurd (apart c (Contains_from_times item (list_of v c) (omega arith)))
 
-  pub last_fits : (w : Link) → (x : ℕ) → e.last ≡ Some x → x < length (slice_set links item w)
-  last_fits w x h =
+  pub last_fits : (x : ℕ) → e.last ≡ Some x → x < length links
+  last_fits x h =
       let last : last_or None (so.chained l) ≡ Some x = sym ((so.chain l).last) ∙ sym (ap (λ (f : Ends). f.last) e_is) ∙ h in
-      let within = in_range links chains so l x (last_within (so.chained l) x last) in
-      omega (arith, length-set links item w)
+      in_range links chains so l x (last_within (so.chained l) x last)
 
   abbrev mine : Link
   mine = record { before = e.last; behind = None }
@@ -155,9 +154,6 @@ module _ (links mores : List Link) (chains : ℕ → Ends) (so : IsSound links c
 
       pub sound_pushed : IsSound mores after
       sound_pushed = sound_changed links mores chains after so l (xs ++ item ∷ []) frame here alone_more after_other
-
-      pub first_pushed : (x : ℕ) × (f.first ≡ Some x)
-      first_pushed = let some = first_some xs item in (some.0, (joined f first last).first ∙ some.1)
 
       pub view_pushed : (w : ListsView) → IsShown mores after w → w ≡ with_list v l (list_of v l ++ item ∷ [])
       view_pushed w sh' = view_changed links mores chains after v w sh sh' len_more l

@@ -3,7 +3,6 @@ use Rattle.std.proofs.Common.{◌≡◌, ◌↔◌, ℕ, eqb, IsTrue, List, [], 
 use Rattle.std.specs.Prelude.{unwrap_or}
 use Rattle.std.specs.Ordering.{nat_cmp}
 use Rattle.std.specs.FinMap as map
-use Rattle.number_map.specs.Maps.{MapView}
 use Rattle.member_lists.specs.declared.Link.{Link}
 use Rattle.member_lists.specs.declared.Ends.{Ends}
 use Rattle.member_lists.specs.Lists.{ListsView, list_of}
@@ -16,9 +15,9 @@ none_of : (xs : List ℕ) → unwrap_or (some_if xs) [] ≡ [] → some_if xs �
 none_of [] e = refl
 none_of (x ∷ xs) e = cc
 
-module _ (links : List Link) (ends : MapView Ends) (kept : IsKept links ends) (v : ListsView) (view_is : record { lists = lists_of links ends.map; items = length links } ≡ v) (len : ℕ) (len_is : len ≡ map.len ends.map) where
+module _ (links : List Link) (ends : map.FinMap nat_cmp Ends) (kept : IsKept links ends) (v : ListsView) (view_is : record { lists = lists_of links ends; items = length links } ≡ v) (len : ℕ) (len_is : len ≡ map.len ends) where
   many : map.len v.lists ≡ len
-  many = ap (λ (w : ListsView). map.len w.lists) (sym view_is) ∙ len-with_values (items_from links) ends.map ∙ sym len_is
+  many = ap (λ (w : ListsView). map.len w.lists) (sym view_is) ∙ len-with_values (items_from links) ends ∙ sym len_is
 
   nothing : v.lists ≡ map.empty → (list : ℕ) → list_of v list ≡ []
   nothing none list = ap (λ (m : map.FinMap nat_cmp (List ℕ)). unwrap_or (map.get m list) []) none ∙ ap (λ o. unwrap_or o []) (map.get-empty nat_cmp list)
@@ -26,7 +25,7 @@ module _ (links : List Link) (ends : MapView Ends) (kept : IsKept links ends) (v
   all_out : ((list : ℕ) → list_of v list ≡ []) → v.lists ≡ map.empty
   all_out none = same_gets v.lists map.empty (λ l.
       let got = (shown links ends kept v view_is).got l in
-      got ∙ none_of (items_from links (ends_at ends.map l)) (ap (λ o. unwrap_or o []) (sym got) ∙ none l) ∙ sym (map.get-empty nat_cmp l))
+      got ∙ none_of (items_from links (ends_at ends l)) (ap (λ o. unwrap_or o []) (sym got) ∙ none l) ∙ sym (map.get-empty nat_cmp l))
 
   pub empty_told : IsTrue (eqb len 0) ↔ ((list : ℕ) → list_of v list ≡ [])
   empty_told = (

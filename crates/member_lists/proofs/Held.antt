@@ -1,5 +1,5 @@
 -- The ends of the lists that have items, in their map, for which there is always room.
-use Rattle.std.proofs.Common.{◌≡◌, ◌≢◌, inl, inr, ℕ, zero, suc, ◌+◌, ◌-◌, ◌<◌, ◌≤◌, ◌^◌, ◌||◌, Bool, true, false, cond, eqb, List, [], ◌∷◌, length, Option, Some, None, is_some, max, slice_get, refl, sym, ◌∙◌, ap, arith}
+use Rattle.std.proofs.Common.{◌≡◌, ◌≢◌, inl, inr, ℕ, zero, suc, ◌+◌, ◌-◌, ◌<◌, ◌≤◌, ◌^◌, ◌||◌, Bool, true, false, cond, eqb, List, [], ◌∷◌, length, Option, Some, None, is_some, slice_get, refl, sym, ◌∙◌, ap, arith}
 use Rattle.std.specs.Prelude.{unwrap_or}
 use Rattle.std.specs.List.{list_any}
 use Rattle.std.specs.Ordering.{nat_cmp, eq_by_cmp}
@@ -110,37 +110,36 @@ owner_found m x l here (c ∷ cs) any = elim (true_or_false (is_first (ends_at m
       ap (λ b. is_first (ends_at m (cond b c (owner_in m cs x))).first x) f ∙ owner_found m x l here cs rest
 ]
 
-module _ (links : List Link) (ends : MapView Ends) (k : IsKept links ends) where
-  inside : (l x : ℕ) (e : Ends) → map.get ends.map l ≡ Some e → e.first ≡ Some x → 0 < times x (k.sound.chained l)
-  inside l x e at first = first_within (k.sound.chained l) x (sym ((k.sound.chain l).first) ∙ ap (λ (g : Ends). g.first) (ends_there ends.map l e at) ∙ first)
+module _ (links : List Link) (ends : Ended) (k : IsKept links ends) where
+  inside : (l x : ℕ) (e : Ends) → map.get ends l ≡ Some e → e.first ≡ Some x → 0 < times x (k.sound.chained l)
+  inside l x e at first = first_within (k.sound.chained l) x (sym ((k.sound.chain l).first) ∙ ap (λ (g : Ends). g.first) (ends_there ends l e at) ∙ first)
 
   owner_of : ℕ → ℕ
-  owner_of x = owner_in ends.map (map.keys ends.map) x
+  owner_of x = owner_in ends (map.keys ends) x
 
-  owns : (l : ℕ) (e : Ends) → map.get ends.map l ≡ Some e → Owns owner_of (length links) l e
+  owns : (l : ℕ) (e : Ends) → map.get ends l ≡ Some e → Owns owner_of (length links) l e
   unfolding owner_of is_first
   owns l e at =
       let some = k.filled l e at in
       let h = inside l some.0 e at some.1 in
-      let here : is_first (ends_at ends.map l).first some.0 ≡ true = ap (λ (g : Ends). is_first g.first some.0) (ends_there ends.map l e at) ∙ ap (λ o. is_first o some.0) some.1 ∙ eqb_same some.0 some.0 refl in
-      let listed : list_any (eq_by_cmp nat_cmp l) (map.keys ends.map) ≡ true = sym (map.contains_key-keys ends.map l) ∙ ap is_some at in
-      let found = owner_found ends.map some.0 l here (map.keys ends.map) listed in
+      let here : is_first (ends_at ends l).first some.0 ≡ true = ap (λ (g : Ends). is_first g.first some.0) (ends_there ends l e at) ∙ ap (λ o. is_first o some.0) some.1 ∙ eqb_same some.0 some.0 refl in
+      let listed : list_any (eq_by_cmp nat_cmp l) (map.keys ends) ≡ true = sym (map.contains_key-keys ends l) ∙ ap is_some at in
+      let found = owner_found ends some.0 l here (map.keys ends) listed in
       let other = owner_of some.0 in
-      let there = first_within (k.sound.chained other) some.0 (sym ((k.sound.chain other).first) ∙ first_is_some (ends_at ends.map other).first some.0 found) in
+      let there = first_within (k.sound.chained other) some.0 (sym ((k.sound.chain other).first) ∙ first_is_some (ends_at ends other).first some.0 found) in
       record {
         x = some.0;
         first = some.1;
-        low = in_range links (ends_at ends.map) k.sound l some.0 h;
+        low = in_range links (ends_at ends) k.sound l some.0 h;
         own = k.sound.apart other l some.0 there h;
       }
 
-  -- there is room for the list of an item that is in none
-  pub room_for : (v : ListsView) → IsShown links (ends_at ends.map) v → (l item : ℕ) → item < v.items → IsApart v item → 0 < ends.room
-  room_for v sh l item low apart =
+  -- there are fewer lists than items, where an item is in none
+  pub fewer_lists : (v : ListsView) → IsShown links (ends_at ends) v → (l item : ℕ) → item < v.items → IsApart v item → map.len ends < length links
+  fewer_lists v sh l item low apart =
       let items : length links ≡ v.items = sh.items in
-      let fewer = owned_but owner_of (length links) item ends.map (omega arith) owns
-      (λ c e at first. let h = inside c item e at first in let none = alone_at links links (ends_at ends.map) k.sound v sh l item low apart (ends_at ends.map l) refl c in omega arith) in
-      let enough = k.enough in omega arith
+      owned_but owner_of (length links) item ends (omega arith) owns
+      (λ c e at first. let h = inside c item e at first in let none = alone_at links links (ends_at ends) k.sound v sh l item low apart (ends_at ends l) refl c in omega arith)
 
 -- ---- the map's ends once a list has others
 
@@ -174,18 +173,18 @@ no_first [] x none h = omega arith
 no_first (y ∷ xs) x none h = none_some y (sym none)
 
 -- a list that has an item stands in the map
-pub ends_held : (links : List Link) (ends : MapView Ends) (k : IsKept links ends) (l x : ℕ) → 0 < times x (k.sound.chained l) → map.contains_key ends.map l ≡ true
-ends_held links ends k l x h = case (map.get ends.map l) refl
+pub ends_held : (links : List Link) (ends : Ended) (k : IsKept links ends) (l x : ℕ) → 0 < times x (k.sound.chained l) → map.contains_key ends l ≡ true
+ends_held links ends k l x h = case (map.get ends l) refl
   where
-    case : (o : Option Ends) → map.get ends.map l ≡ o → map.contains_key ends.map l ≡ true
+    case : (o : Option Ends) → map.get ends l ≡ o → map.contains_key ends l ≡ true
     case (Some e) at = ap is_some at
     case None at = absurd (no_first (k.sound.chained l) x (sym ((k.sound.chain l).first) ∙ ap (λ o. (unwrap_or o blank_ends).first) at) h)
 
 -- a list has a first item where it stands in the map
-pub first_told : (links : List Link) (ends : MapView Ends) (k : IsKept links ends) (l : ℕ) (e : Ends) → e ≡ ends_at ends.map l → is_some e.first ≡ map.contains_key ends.map l
-first_told links ends k l e is = ap (λ (f : Ends). is_some f.first) is ∙ case (map.get ends.map l) refl
+pub first_told : (links : List Link) (ends : Ended) (k : IsKept links ends) (l : ℕ) (e : Ends) → e ≡ ends_at ends l → is_some e.first ≡ map.contains_key ends l
+first_told links ends k l e is = ap (λ (f : Ends). is_some f.first) is ∙ case (map.get ends l) refl
   where
-    case : (o : Option Ends) → map.get ends.map l ≡ o → is_some (unwrap_or o blank_ends).first ≡ is_some o
+    case : (o : Option Ends) → map.get ends l ≡ o → is_some (unwrap_or o blank_ends).first ≡ is_some o
     case (Some f) at = let some = k.filled l f at in ap is_some some.1
     case None at = refl
 
@@ -226,6 +225,14 @@ some_in m l h = more (map.len m) refl
     more zero e = absurd (no_true (sym (ap is_some (map.get-empty {X = Ends} nat_cmp l)) ∙ ap (λ (k : Ended). map.contains_key k l) (sym (map.empty_of_len m e)) ∙ h))
     more (suc n) e = omega arith
 
+-- a list that isn't in the map has no ends there
+pub none_in : (m : Ended) (l : ℕ) → map.contains_key m l ≡ false → map.get m l ≡ None
+none_in m l h = case (map.get m l) refl
+  where
+    case : (o : Option Ends) → map.get m l ≡ o → map.get m l ≡ None
+    case None at = at
+    case (Some e) at = absurd (no_true (sym h ∙ ap is_some at))
+
 module _ (v w : MapView Ends) (l : ℕ) (f : Ends) where
   pub total_set : map.contains_key v.map l ≡ true → w ≡ record { map = map.insert v.map l f; room = v.room } → map.len w.map + w.room ≡ map.len v.map + v.room
   total_set h e =
@@ -245,21 +252,18 @@ module _ (v w : MapView Ends) (l : ℕ) (f : Ends) where
 
 -- ---- none yet, and room for more
 
-pub kept_none : (links : List Link) (ends : MapView Ends) → links ≡ [] → ends ≡ record { map = map.empty; room = 0 } → IsKept links ends
+pub kept_none : (links : List Link) (ends : Ended) → links ≡ [] → ends ≡ map.empty → IsKept links ends
 kept_none links ends e f =
-    let nothing : (l : ℕ) → map.get ends.map l ≡ None = (λ l. ap (λ (u : MapView Ends). map.get u.map l) f ∙ map.get-empty {X = Ends} nat_cmp l) in
+    let nothing : (l : ℕ) → map.get ends l ≡ None = (λ l. ap (λ (m : Ended). map.get m l) f ∙ map.get-empty {X = Ends} nat_cmp l) in
     record {
-      sound = sound_none links (ends_at ends.map) e (λ c. ap (λ o. unwrap_or o blank_ends) (nothing c));
+      sound = sound_none links (ends_at ends) e (λ c. ap (λ o. unwrap_or o blank_ends) (nothing c));
       filled = λ l g at. absurd (none_some g (sym (nothing l) ∙ at));
-      enough = let n : length links ≡ 0 = ap (λ (ks : List Link). length ks) e in omega arith;
       few = let n : length links ≡ 0 = ap (λ (ks : List Link). length ks) e in omega arith;
     }
 
-pub kept_grown : (links mores : List Link) (ends ends' : MapView Ends) → IsKept links ends → (items : ℕ) → ends' ≡ record { map = ends.map; room = max ends.room items } → length mores ≡ items → items < 2 ^ 32
-    → ((x : ℕ) → x < length links → slice_get mores x ≡ slice_get links x) → IsKept mores ends'
-kept_grown links mores ends ends' k items is len few kept = record {
-  sound = sound_grown links mores (ends_at ends.map) (ends_at ends'.map) k.sound (λ c. ap (λ (u : MapView Ends). ends_at u.map c) is) kept;
-  filled = λ l g at. k.filled l g (ap (λ (u : MapView Ends). map.get u.map l) (sym is) ∙ at);
-  few = omega arith;
-  enough = let r : ends'.room ≡ max ends.room items = ap (λ (u : MapView Ends). u.room) is in omega arith;
+pub kept_grown : (links mores : List Link) (ends ends' : Ended) → IsKept links ends → ends' ≡ ends → length mores < 2 ^ 32 → ((x : ℕ) → x < length links → slice_get mores x ≡ slice_get links x) → IsKept mores ends'
+kept_grown links mores ends ends' k is few kept = record {
+  sound = sound_grown links mores (ends_at ends) (ends_at ends') k.sound (λ c. ap (λ m. ends_at m c) is) kept;
+  filled = λ l g at. k.filled l g (ap (λ m. map.get m l) (sym is) ∙ at);
+  few = few;
 }

@@ -1,25 +1,29 @@
 -- What is kept, and what the lists are then, once an item joined one or left it, or there is room for more.
-use Rattle.std.proofs.Common.{◌≡◌, ◌≢◌, ℕ, ◌+◌, ◌<◌, ◌≤◌, ◌^◌, ◌++◌, ◌∷◌, [], List, Option, Some, None, length, max, slice_get, slice_set, refl, sym, ◌∙◌, ap, subst, arith, Contains, true}
+use Rattle.std.proofs.Common.{◌≡◌, ◌≢◌, ℕ, ◌<◌, ◌≤◌, ◌^◌, ◌++◌, ◌∷◌, [], List, Option, Some, None, length, max, slice_get, refl, sym, ◌∙◌, ap, arith, Contains, true}
 use Rattle.std.specs.Option.{option_or, option_map}
 use Rattle.std.specs.Ordering.{nat_cmp}
 use Rattle.std.specs.FinMap as map
-use Rattle.number_map.specs.Maps.{MapView}
 use Rattle.member_lists.specs.declared.Link.{Link}
 use Rattle.member_lists.specs.declared.Ends.{Ends}
 use Rattle.member_lists.specs.Lists.{ListsView, list_of, with_list, without, IsApart}
-use Rattle.member_lists.specs.Chains.{blank_ends, ends_at, items_from, lists_of, pick, IsBehindSet, IsBeforeSet, IsKept}
+use Rattle.member_lists.specs.Chains.{blank_ends, ends_at, items_from, lists_of, IsLinkedLast, IsUnlinked, IsKept}
+use Rattle.member_lists.proofs.Times.{none_some}
 use Rattle.member_lists.proofs.Sound.{IsShown, shown, same_gets}
 use Rattle.member_lists.proofs.Values.{get-with_values}
-use Rattle.member_lists.proofs.Changed.{last_fits, len_more, first_pushed, sound_pushed, view_pushed, item_in_range, item_stands, before_fits, behind_fits, len_left, blank_left, sound_left, view_left, lists_grown}
+use Rattle.member_lists.proofs.Changed.{last_fits, len_more, sound_pushed, view_pushed, item_in_range, item_stands, before_fits, behind_fits, len_left, blank_left, sound_left, view_left, lists_grown}
 use Rattle.member_lists.proofs.Held.{held_here, held_other, filled_held, ends_held, is_left, IsLeft, kept_grown}
 
--- the lists that these links and ends give
-abbrev pub lists_in : List Link → MapView Ends → ListsView
-lists_in links ends = record { lists = lists_of links ends.map; items = length links }
+some_or : (o : Option ℕ) (item : ℕ) → (x : ℕ) × (option_or o (Some item) ≡ Some x)
+some_or None item = (item, refl)
+some_or (Some x) item = (x, refl)
 
-module _ (links : List Link) (ends : MapView Ends) (k : IsKept links ends) (v : ListsView) (is : lists_in links ends ≡ v) where
+-- the lists that these links and ends give
+abbrev pub lists_in : List Link → map.FinMap nat_cmp Ends → ListsView
+lists_in links ends = record { lists = lists_of links ends; items = length links }
+
+module _ (links : List Link) (ends : map.FinMap nat_cmp Ends) (k : IsKept links ends) (v : ListsView) (is : lists_in links ends ≡ v) where
   abbrev pub chains : ℕ → Ends
-  chains = ends_at ends.map
+  chains = ends_at ends
 
   abbrev pub sh : IsShown links chains v
   sh = shown links ends k v is
@@ -27,44 +31,41 @@ module _ (links : List Link) (ends : MapView Ends) (k : IsKept links ends) (v : 
   -- ---- an item joins
 
   module _ (l item : ℕ) (room : item < v.items) (apart : IsApart v item) (e : Ends) (e_is : e ≡ chains l) where
-    pub joins_last_fits : (w : Link) → (x : ℕ) → e.last ≡ Some x → x < length (slice_set links item w)
+    pub joins_last_fits : (x : ℕ) → e.last ≡ Some x → x < length links
     joins_last_fits = last_fits links links chains k.sound v sh l item room apart e e_is
 
-    module _ (mores : List Link) (ends' : MapView Ends) (place none : Option ℕ) (place_is : place ≡ Some item) (none_is : none ≡ None)
-        (written : IsBehindSet (slice_set links item (record { before = e.last; behind = none })) mores e.last place)
-        (first : Option ℕ) (first_is : first ≡ option_or e.first place)
-        (map_is : ends'.map ≡ map.insert ends.map l (record { first = first; last = place }))
-        (total : map.len ends'.map + ends'.room ≡ map.len ends.map + ends.room) where
-      abbrev f : Ends
-      f = record { first = first; last = place }
+    module _ (mores : List Link) (f : Ends) (joined : IsLinkedLast links mores item e f) where
+      pub joins_some : (x : ℕ) × (f.first ≡ Some x)
+      joins_some = let some = some_or e.first item in (some.0, joined.first ∙ some.1)
 
-      ahead : IsBehindSet (slice_set links item (record { before = e.last; behind = None })) mores e.last (Some item)
-      ahead = subst (λ o. IsBehindSet (slice_set links item (record { before = e.last; behind = o })) mores e.last (Some item)) none_is
-          (subst (λ o. IsBehindSet (slice_set links item (record { before = e.last; behind = none })) mores e.last o) place_is written)
+      pub len_pushed : length mores ≡ length links
+      len_pushed = len_more links mores chains k.sound v sh l item room apart e e_is joined.linked
 
-      first_or_item : first ≡ option_or e.first (Some item)
-      first_or_item = first_is ∙ ap (option_or e.first) place_is
+      pub joins_blank : f.first ≡ None → f ≡ blank_ends
+      joins_blank none = absurd (none_some joins_some.0 (sym none ∙ joins_some.1))
 
-      here : ends_at ends'.map l ≡ f
-      here = ap (λ m. ends_at m l) map_is ∙ held_here ends.map l f
+      module _ (ends' : map.FinMap nat_cmp Ends) (put : (x : ℕ) → f.first ≡ Some x → ends' ≡ map.insert ends l f) where
+        map_is : ends' ≡ map.insert ends l f
+        map_is = put joins_some.0 joins_some.1
 
-      other : (c : ℕ) → c ≢ l → ends_at ends'.map c ≡ chains c
-      other c d = ap (λ m. ends_at m c) map_is ∙ held_other ends.map l f c d
+        here : ends_at ends' l ≡ f
+        here = ap (λ m. ends_at m l) map_is ∙ held_here ends l f
 
-      pub kept_pushed : IsKept mores ends'
-      kept_pushed =
-          let some = first_pushed links mores chains k.sound v sh l item room apart e e_is ahead f first_or_item place_is (ends_at ends'.map) here other in
-          let len = len_more links mores chains k.sound v sh l item room apart e e_is ahead in
-          record {
-            sound = sound_pushed links mores chains k.sound v sh l item room apart e e_is ahead f first_or_item place_is (ends_at ends'.map) here other;
-            filled = λ c g at. filled_held ends.map l f k.filled some.0 some.1 c g (ap (λ m. map.get m c) (sym map_is) ∙ at);
-            enough = let n = k.enough in omega arith;
-            few = let n = k.few in omega arith;
-          }
+        other : (c : ℕ) → c ≢ l → ends_at ends' c ≡ chains c
+        other c d = ap (λ m. ends_at m c) map_is ∙ held_other ends l f c d
 
-      pub lists_pushed : lists_in mores ends' ≡ with_list v l (list_of v l ++ item ∷ [])
-      lists_pushed = view_pushed links mores chains k.sound v sh l item room apart e e_is ahead f first_or_item place_is (ends_at ends'.map) here other
-          (lists_in mores ends') (shown mores ends' kept_pushed (lists_in mores ends') refl)
+        pub kept_pushed : IsKept mores ends'
+        kept_pushed =
+            let len = len_pushed in
+            record {
+              sound = sound_pushed links mores chains k.sound v sh l item room apart e e_is joined.linked f joined.first joined.last (ends_at ends') here other;
+              filled = λ c g at. filled_held ends l f k.filled joins_some.0 joins_some.1 c g (ap (λ m. map.get m c) (sym map_is) ∙ at);
+              few = let n = k.few in omega arith;
+            }
+
+        pub lists_pushed : lists_in mores ends' ≡ with_list v l (list_of v l ++ item ∷ [])
+        lists_pushed = view_pushed links mores chains k.sound v sh l item room apart e e_is joined.linked f joined.first joined.last (ends_at ends') here other
+            (lists_in mores ends') (shown mores ends' kept_pushed (lists_in mores ends') refl)
 
   -- ---- an item leaves
 
@@ -72,7 +73,7 @@ module _ (links : List Link) (ends : MapView Ends) (k : IsKept links ends) (v : 
     pub leaves_in_range : item < length links
     leaves_in_range = item_in_range links chains k.sound v sh l item inside
 
-    pub leaves_ends_held : map.contains_key ends.map l ≡ true
+    pub leaves_ends_held : map.contains_key ends l ≡ true
     leaves_ends_held = ends_held links ends k l item (item_stands links chains k.sound v sh l item inside)
 
     module _ (link : Link) (there : slice_get links item ≡ Some link) where
@@ -82,52 +83,50 @@ module _ (links : List Link) (ends : MapView Ends) (k : IsKept links ends) (v : 
       pub leaves_behind_fits : (x : ℕ) → link.behind ≡ Some x → x < length links
       leaves_behind_fits = behind_fits links chains k.sound v sh l item inside link there
 
-      module _ (mid mores : List Link) (ahead : IsBehindSet links mid link.before link.behind) (rear : IsBeforeSet mid mores link.behind link.before)
-          (e : Ends) (e_is : e ≡ chains l) (f : Ends) (first : f.first ≡ pick link.before link.behind e.first) (last : f.last ≡ pick link.behind link.before e.last) where
-        pub leaves_blank : f.first ≡ None → f ≡ blank_ends
-        leaves_blank = blank_left links chains k.sound v sh l item inside link there mid mores ahead rear e e_is f first last
+    module _ (e : Ends) (e_is : e ≡ chains l) (mores : List Link) (f : Ends) (out : IsUnlinked links mores item e f) where
+      pub len_out : length mores ≡ length links
+      len_out = len_left links chains k.sound v sh l item inside out.link out.there out.between mores out.ahead out.rear
 
-      module _ (mid mores : List Link) (ahead : IsBehindSet links mid link.before link.behind) (rear : IsBeforeSet mid mores link.behind link.before)
-          (e : Ends) (e_is : e ≡ chains l) (f : Ends) (first : f.first ≡ pick link.before link.behind e.first) (last : f.last ≡ pick link.behind link.before e.last)
-          (ends' : MapView Ends) (none : f.first ≡ None → ends'.map ≡ map.remove ends.map l) (some : (x : ℕ) → f.first ≡ Some x → ends'.map ≡ map.insert ends.map l f)
-          (total : map.len ends'.map + ends'.room ≡ map.len ends.map + ends.room) where
-        left : IsLeft ends.map ends'.map l f none some (blank_left links chains k.sound v sh l item inside link there mid mores ahead rear e e_is f first last) k.filled
-        left = is_left ends.map ends'.map l f none some (blank_left links chains k.sound v sh l item inside link there mid mores ahead rear e e_is f first last) k.filled
+      pub leaves_blank : f.first ≡ None → f ≡ blank_ends
+      leaves_blank = blank_left links chains k.sound v sh l item inside out.link out.there out.between mores out.ahead out.rear e e_is f out.first out.last
+
+      module _ (ends' : map.FinMap nat_cmp Ends) (none : f.first ≡ None → ends' ≡ map.remove ends l) (some : (x : ℕ) → f.first ≡ Some x → ends' ≡ map.insert ends l f) where
+        left : IsLeft ends ends' l f none some leaves_blank k.filled
+        left = is_left ends ends' l f none some leaves_blank k.filled
 
         pub kept_left : IsKept mores ends'
         kept_left =
-            let len = len_left links chains k.sound v sh l item inside link there mid mores ahead rear in
+            let len = len_out in
             record {
-              sound = sound_left links chains k.sound v sh l item inside link there mid mores ahead rear e e_is f first last (ends_at ends'.map) left.here left.other;
+              sound = sound_left links chains k.sound v sh l item inside out.link out.there out.between mores out.ahead out.rear e e_is f out.first out.last (ends_at ends') left.here left.other;
               filled = left.still_filled;
-              enough = let n = k.enough in omega arith;
               few = let n = k.few in omega arith;
             }
 
         pub lists_left : lists_in mores ends' ≡ with_list v l (without item (list_of v l))
-        lists_left = view_left links chains k.sound v sh l item inside link there mid mores ahead rear e e_is f first last (ends_at ends'.map) left.here left.other
+        lists_left = view_left links chains k.sound v sh l item inside out.link out.there out.between mores out.ahead out.rear e e_is f out.first out.last (ends_at ends') left.here left.other
             (lists_in mores ends') (shown mores ends' kept_left (lists_in mores ends') refl)
 
   -- ---- room for more items
 
-  module _ (mores : List Link) (ends' : MapView Ends) (items : ℕ) (map_is : ends' ≡ record { map = ends.map; room = max ends.room items })
-      (len : length mores ≡ items) (few : items < 2 ^ 32) (more : length links ≤ items) (kept : (x : ℕ) → x < length links → slice_get mores x ≡ slice_get links x) where
+  module _ (mores : List Link) (ends' : map.FinMap nat_cmp Ends) (items : ℕ) (same : ends' ≡ ends) (len : length mores ≡ items) (few : items < 2 ^ 32) (more : length links ≤ items)
+      (kept : (x : ℕ) → x < length links → slice_get mores x ≡ slice_get links x) where
     pub grown : IsKept mores ends'
-    grown = kept_grown links mores ends ends' k items map_is len few kept
+    grown = kept_grown links mores ends ends' k same (omega arith) kept
 
     pub lists_more : lists_in mores ends' ≡ record v { items = max v.items items }
     lists_more =
         let had = sh.items in
         let count : length mores ≡ max v.items items = omega arith in
         ap (λ (m : map.FinMap nat_cmp (List ℕ)). let w : ListsView = record { lists = m; items = length mores } in w)
-        (lists_grown links mores chains (ends_at ends'.map) k.sound (λ c. ap (λ (u : MapView Ends). ends_at u.map c) map_is) kept v (lists_in mores ends') sh (shown mores ends' grown (lists_in mores ends') refl))
+        (lists_grown links mores chains (ends_at ends') k.sound (λ c. ap (λ m. ends_at m c) same) kept v (lists_in mores ends') sh (shown mores ends' grown (lists_in mores ends') refl))
         ∙ ap (λ n. let w : ListsView = record { lists = v.lists; items = n } in w) count
 
 -- ---- no lists yet
 
-pub lists_none : (links : List Link) (ends : MapView Ends) → links ≡ [] → ends ≡ record { map = map.empty; room = 0 } → lists_in links ends ≡ record { lists = map.empty; items = 0 }
+pub lists_none : (links : List Link) (ends : map.FinMap nat_cmp Ends) → links ≡ [] → ends ≡ map.empty → lists_in links ends ≡ record { lists = map.empty; items = 0 }
 lists_none links ends e f =
     ap (λ (ks : List Link). lists_in ks ends) e
     ∙ ap (λ (m : map.FinMap nat_cmp (List ℕ)). let w : ListsView = record { lists = m; items = 0 } in w)
-    (same_gets (lists_of [] ends.map) map.empty (λ q. get-with_values (items_from []) ends.map q
-    ∙ ap (λ (u : MapView Ends). option_map (items_from []) (map.get u.map q)) f ∙ ap (option_map (items_from [])) (map.get-empty {X = Ends} nat_cmp q) ∙ sym (map.get-empty {X = List ℕ} nat_cmp q)))
+    (same_gets (lists_of [] ends) map.empty (λ q. get-with_values (items_from []) ends q
+    ∙ ap (λ (m : map.FinMap nat_cmp Ends). option_map (items_from []) (map.get m q)) f ∙ ap (option_map (items_from [])) (map.get-empty {X = Ends} nat_cmp q) ∙ sym (map.get-empty {X = List ℕ} nat_cmp q)))

@@ -6,7 +6,6 @@ use Rattle.std.specs.Ordering.{nat_cmp}
 use Rattle.std.specs.Cmp.{nat_cmp_total, unsigned_tied}
 use Rattle.std.specs.FinMap as map
 use Rattle.std.proofs.lemmas.Option.{slice_get_within}
-use Rattle.number_map.specs.Maps.{MapView}
 use Rattle.member_lists.specs.declared.Link.{Link}
 use Rattle.member_lists.specs.declared.Ends.{Ends}
 use Rattle.member_lists.specs.Lists.{ListsView, list_of, with_list}
@@ -71,18 +70,18 @@ pub record IsShown (links : List Link) (chains : ℕ → Ends) (v : ListsView) :
   pub got : (l : ℕ) → map.get v.lists l ≡ some_if (items_from links (chains l))
   pub items : length links ≡ v.items
 
-pub shown : (links : List Link) (ends : MapView Ends) → IsKept links ends → (v : ListsView) → record { lists = lists_of links ends.map; items = length links } ≡ v → IsShown links (ends_at ends.map) v
+pub shown : (links : List Link) (ends : map.FinMap nat_cmp Ends) → IsKept links ends → (v : ListsView) → record { lists = lists_of links ends; items = length links } ≡ v → IsShown links (ends_at ends) v
 shown links ends k v is = record {
-  got = λ l. ap (λ (w : ListsView). map.get w.lists l) (sym is) ∙ get-with_values (items_from links) ends.map l ∙ case l (map.get ends.map l) refl;
+  got = λ l. ap (λ (w : ListsView). map.get w.lists l) (sym is) ∙ get-with_values (items_from links) ends l ∙ case l (map.get ends l) refl;
   items = ap (λ (w : ListsView). w.items) is;
 }
   where
-    case : (l : ℕ) (o : Option Ends) → map.get ends.map l ≡ o → option_map (items_from links) o ≡ some_if (items_from links (unwrap_or o blank_ends))
+    case : (l : ℕ) (o : Option Ends) → map.get ends l ≡ o → option_map (items_from links) o ≡ some_if (items_from links (unwrap_or o blank_ends))
     case l None e = ap some_if (sym (walk_none links (length links)))
     case l (Some g) e =
-        let here : ends_at ends.map l ≡ g = ap (λ o. unwrap_or o blank_ends) e in
+        let here : ends_at ends l ≡ g = ap (λ o. unwrap_or o blank_ends) e in
         let some = k.filled l g e in
-        let all : items_from links g ≡ k.sound.chained l = ap (items_from links) (sym here) ∙ walked links (ends_at ends.map) k.sound l in
+        let all : items_from links g ≡ k.sound.chained l = ap (items_from links) (sym here) ∙ walked links (ends_at ends) k.sound l in
         first_some_if some.0 (items_from links g) (ap (λ xs. first_or xs None) all ∙ sym ((k.sound.chain l).first) ∙ ap (λ (h : Ends). h.first) here ∙ some.1)
 
 module _ (links : List Link) (chains : ℕ → Ends) (so : IsSound links chains) (v : ListsView) (sh : IsShown links chains v) (l : ℕ) where

@@ -1,6 +1,6 @@
 -- How lists are kept: by links between their items, and by the ends of each. No public clause cites this module.
-use Rattle.std.specs.Prelude.{◌≡◌, ◌≢◌, ℕ, zero, suc, ◌+◌, ◌<◌, ◌≤◌, ◌^◌, cond, eqb, List, [], ◌∷◌, length, Option, Some, None, slice_get, unwrap_or}
-use Rattle.std.specs.Option.{option_map_or}
+use Rattle.std.specs.Prelude.{◌≡◌, ◌≢◌, ℕ, zero, suc, ◌+◌, ◌<◌, ◌≤◌, ◌^◌, cond, eqb, List, [], ◌∷◌, length, Option, Some, None, slice_get, slice_set, unwrap_or}
+use Rattle.std.specs.Option.{option_map_or, option_or}
 use Rattle.std.specs.FinMap as finite
 use Rattle.std.specs.Ordering.{nat_cmp}
 use Rattle.number_map.specs.Maps.{MapView}
@@ -32,6 +32,22 @@ pub record IsBeforeSet (old new : List Link) (item before : Option ℕ) : Type 0
 abbrev pub pick : (beside other was : Option ℕ) → Option ℕ
 pick None other was = other
 pick (Some _) other was = was
+
+-- an item that was in no list is linked behind the last one of the list with these ends, which has others then
+pub record IsLinkedLast (old new : List Link) (item : ℕ) (was now : Ends) : Type 0 where
+  pub linked : IsBehindSet (slice_set old item (record { before = was.last; behind = None })) new was.last (Some item)
+  pub first : now.first ≡ option_or was.first (Some item)
+  pub last : now.last ≡ Some item
+
+-- the neighbours of an item of the list with these ends are linked to one another, and the list has others then
+pub record IsUnlinked (old new : List Link) (item : ℕ) (was now : Ends) : Type 0 where
+  pub link : Link
+  pub there : slice_get old item ≡ Some link
+  pub between : List Link
+  pub ahead : IsBehindSet old between link.before link.behind
+  pub rear : IsBeforeSet between new link.behind link.before
+  pub first : now.first ≡ pick link.before link.behind was.first
+  pub last : now.last ≡ pick link.behind link.before was.last
 
 -- ---- lists
 
@@ -94,9 +110,13 @@ pub record IsSound (links : List Link) (ends : ℕ → Ends) : Type 0 where
   pub chain : (c : ℕ) → IsChain links (ends c) (chained c)
   pub apart : (c d x : ℕ) → 0 < times x (chained c) → 0 < times x (chained d) → c ≡ d
 
--- Each list in the map has a first item, there is room in it for as many lists as items, and each place fits.
-pub record IsKept (links : List Link) (ends : MapView Ends) : Type 0 where
-  pub sound : IsSound links (ends_at ends.map)
-  pub filled : (l : ℕ) (e : Ends) → finite.get ends.map l ≡ Some e → (x : ℕ) × (e.first ≡ Some x)
-  pub enough : length links ≤ finite.len ends.map + ends.room
+-- each list in the map has a first item, and each place fits
+pub record IsKept (links : List Link) (ends : finite.FinMap nat_cmp Ends) : Type 0 where
+  pub sound : IsSound links (ends_at ends)
+  pub filled : (l : ℕ) (e : Ends) → finite.get ends l ≡ Some e → (x : ℕ) × (e.first ≡ Some x)
   pub few : length links < 2 ^ 32
+
+-- there is room in the map for as many lists as items
+pub record IsRoomy (links : List Link) (ends : MapView Ends) : Type 0 where
+  pub kept : IsKept links ends.map
+  pub enough : length links ≤ finite.len ends.map + ends.room

@@ -1,15 +1,17 @@
 //! Lists of numbered items, each item in at most one: it joins at the end, and leaves from any place.
 //!
-//! Items are linked both ways through a vector of links. The ends of the lists 0 and 1 stand in fields,
-//! and those of each other list that has items in a map by its number. There is room in the map for as
-//! many lists as items, so that no list takes memory but by [`Lists::reserve`].
+//! Items are linked both ways through a vector of links. The ends of each list that has items stand in a
+//! map by its number, in [`Lists`]. There is room in the map for as many lists as items, so that no list
+//! takes memory but by [`Lists::reserve`]. Where there are two lists at most their ends stand in fields,
+//! in [`TwoLists`], and no map takes memory.
 #![tactic(auto)]
 
-ghost use Rattle.std.specs.Prelude.{◌≡◌, ◌↔◌, ℕ, ◌+◌, ◌<◌, ◌^◌, ◌++◌, ◌∷◌, [], max, eqb, IsTrue, IsSome, true, length, Some, None, IfOk, OnOk, OnErr, slice_get};
+ghost use Rattle.std.specs.Prelude.{◌≡◌, ◌↔◌, ℕ, ◌+◌, ◌<◌, ◌≤◌, ◌^◌, ◌++◌, ◌∷◌, [], max, eqb, IsTrue, true, length, Some, None, IfOk, OnOk, OnErr, slice_get};
 ghost use Rattle.std.specs.List.{Contains};
 ghost use Rattle.std.specs.Option.{option_or};
 ghost use Rattle.std.specs.FinMap as map;
-ghost use Rattle.member_lists.specs.Chains.{IsBehindSet, IsBeforeSet, pick, ends_at, blank_ends, blank_link};
+ghost use Rattle.member_lists.specs.Chains.{IsBehindSet, IsBeforeSet, IsLinkedLast, IsUnlinked, pick, ends_at, blank_ends, blank_link};
+ghost use Rattle.member_lists.specs.declared.Link.{Link as AnyLink};
 ghost use Rattle.member_lists.specs.Fields.{taken};
 
 use number_map::NumberMap;
@@ -111,118 +113,11 @@ impl Ends {
         }
     }
 
-    // How many lists with items these are the ends of: one, or none.
-    fn lists(self) -> usize
-        ensures { result ≡ taken self.first }
+    // Whether these are those of a list without items.
+    fn is_blank(self) -> bool
+        ensures { result ≡ eqb (taken self.first) 0 }
     {
-        match self.first.item() {
-            Some(_) => 1,
-            None => 0,
-        }
-    }
-}
-
-// The ends of the lists that have items. Those of the lists 0 and 1 stand in fields: where few lists are
-// kept they have these numbers, and one that gets an item or loses its last one takes and frees no key.
-#[derive(Drop)]
-struct ListEnds {
-    of_zero: Ends,
-    of_one: Ends,
-    others: NumberMap<Ends>,
-}
-
-impl Model for ListEnds {
-    ghost use Rattle.number_map.specs.Maps.{MapView, map_code};
-    ghost use Rattle.member_lists.specs.declared.Ends.{Ends};
-    ghost use Rattle.member_lists.specs.contracts.Ends as ends;
-
-    ghost Value = { MapView Ends };
-
-    ghost coded = { map_code ends.the_row.coded };
-
-    ghost use Rattle.member_lists.specs.Fields.{all_ends, room_beside, AreEnds};
-
-    ghost view = { λ a. record { map = all_ends a.others.map a.of_zero a.of_one; room = room_beside a.others.room a.of_zero a.of_one } };
-
-    ghost invariant = { λ a. AreEnds a.others a.of_zero a.of_one };
-}
-
-impl ListEnds {
-    fn new(alloc: Global) -> ListEnds
-        ensures { result ≡ record { map = map.empty; room = 0 } }
-    {
-        ListEnds {
-            of_zero: Ends::blank(),
-            of_one: Ends::blank(),
-            others: NumberMap::new(alloc),
-        }
-    }
-
-    // Makes room for so many more lists.
-    fn reserve(&mut self, lists: usize) -> Result<(), AllocError>
-        requires { lists < 2 ^ 32 }
-        ensures ok { OnOk result (self.new ≡ record self.old { room = max self.old.room lists }) }
-        ensures err { OnErr result (self.new ≡ self.old) }
-    {
-        let in_fields = self.of_zero.lists() + self.of_one.lists();
-        self.others.reserve(lists + in_fields)
-    }
-
-    // Whether no list has an item.
-    fn is_empty(&self) -> bool
-        ensures { result ≡ eqb (map.len self.now.map) 0 }
-    {
-        self.of_zero.lists() == 0 && self.of_one.lists() == 0 && self.others.len() == 0
-    }
-
-    // Those of a list, blank where it has no items.
-    fn of(&self, list: u64) -> Ends
-        ensures { result ≡ ends_at self.now.map list }
-    {
-        match list {
-            0 => self.of_zero,
-            1 => self.of_one,
-            _ => self.others.get(list).unwrap_or(Ends::blank()),
-        }
-    }
-
-    // Puts these ends in place of those of a list that has items, or in, where it has none.
-    fn hold(&mut self, list: u64, has_items: bool, now: Ends)
-        requires filled { IsSome now.first }
-        requires held { has_items ≡ map.contains_key self.old.map list }
-        requires room { map.get self.old.map list ≡ None → 0 < self.old.room }
-        ensures map { self.new.map ≡ map.insert self.old.map list now }
-        ensures total { map.len self.new.map + self.new.room ≡ map.len self.old.map + self.old.room }
-    {
-        match list {
-            0 => self.of_zero = now,
-            1 => self.of_one = now,
-            _ => {
-                if has_items {
-                    self.others.set(list, now);
-                } else {
-                    self.others.insert(list, now);
-                }
-            }
-        }
-    }
-
-    // Puts these ends in place of a list's, or takes its ends out, where it has no item left.
-    fn leave(&mut self, list: u64, now: Ends)
-        requires there { map.contains_key self.old.map list ≡ true }
-        requires blank { now.first ≡ None → now ≡ blank_ends }
-        ensures none { now.first ≡ None → self.new.map ≡ map.remove self.old.map list }
-        ensures some { (x : ℕ) → now.first ≡ Some x → self.new.map ≡ map.insert self.old.map list now }
-        ensures total { map.len self.new.map + self.new.room ≡ map.len self.old.map + self.old.room }
-    {
-        match list {
-            0 => self.of_zero = now,
-            1 => self.of_one = now,
-            _ => match now.first.item() {
-                Some(_) => self.others.set(list, now),
-                None => self.others.release(list),
-            },
-        }
+        self.first.item().is_none()
     }
 }
 
@@ -232,7 +127,7 @@ impl ListEnds {
 #[derive(Drop)]
 pub struct Lists {
     links: Vec<Link>,
-    ends: ListEnds,
+    ends: NumberMap<Ends>,
 }
 
 impl Model for Lists {
@@ -243,9 +138,103 @@ impl Model for Lists {
     ghost coded = { lists_code };
 
     ghost use Rattle.std.specs.Prelude.{length};
-    ghost use Rattle.member_lists.specs.Chains.{lists_of, IsKept};
+    ghost use Rattle.member_lists.specs.Chains.{lists_of, IsRoomy};
 
     ghost view = { λ a. record { lists = lists_of a.links.items a.ends.map; items = length a.links.items } };
+
+    ghost invariant = { λ a. IsRoomy a.links.items a.ends };
+}
+
+// The ends of two lists.
+#[derive(Drop)]
+struct TwoEnds {
+    of_zero: Ends,
+    of_one: Ends,
+}
+
+impl Model for TwoEnds {
+    ghost use Rattle.std.specs.Prelude.{ℕ};
+    ghost use Rattle.std.specs.Coded.{coded_ℕ};
+    ghost use Rattle.std.specs.FinMap.{FinMap, code};
+    ghost use Rattle.std.specs.Ordering.{nat_cmp};
+    ghost use Rattle.member_lists.specs.declared.Ends.{Ends};
+    ghost use Rattle.member_lists.specs.contracts.Ends as ends;
+
+    ghost Value = { FinMap nat_cmp Ends };
+
+    ghost coded = { code coded_ℕ ends.the_row.coded };
+
+    ghost use Rattle.member_lists.specs.Fields.{both_ends, AreEnds};
+
+    ghost view = { λ a. both_ends a.of_zero a.of_one };
+
+    ghost invariant = { λ a. AreEnds a.of_zero a.of_one };
+}
+
+impl TwoEnds {
+    // Those of two lists without items.
+    fn blank() -> TwoEnds
+        ensures { result ≡ map.empty }
+    {
+        TwoEnds {
+            of_zero: Ends::blank(),
+            of_one: Ends::blank(),
+        }
+    }
+
+    // Whether neither list has an item.
+    fn is_empty(&self) -> bool
+        ensures { result ≡ eqb (map.len self.now) 0 }
+    {
+        self.of_zero.is_blank() & self.of_one.is_blank()
+    }
+
+    // Those of one of the two.
+    #[inline(always)]
+    fn of(&self, list: u64) -> Ends
+        requires { list < 2 }
+        ensures { result ≡ ends_at self.now list }
+    {
+        match list {
+            0 => self.of_zero,
+            _ => self.of_one,
+        }
+    }
+
+    // Puts these ends in place of those of one of the two.
+    #[inline(always)]
+    fn put(&mut self, list: u64, now: Ends)
+        requires few { list < 2 }
+        requires blank { now.first ≡ None → now ≡ blank_ends }
+        ensures none { now.first ≡ None → self.new ≡ map.remove self.old list }
+        ensures some { (x : ℕ) → now.first ≡ Some x → self.new ≡ map.insert self.old list now }
+    {
+        match list {
+            0 => self.of_zero = now,
+            _ => self.of_one = now,
+        }
+    }
+}
+
+/// Two lists, 0 and 1, of items that are in at most one of them. Without room for items nothing is
+/// allocated; each item takes 8 bytes.
+#[derive(Drop)]
+pub struct TwoLists {
+    links: Vec<Link>,
+    ends: TwoEnds,
+}
+
+impl Model for TwoLists {
+    ghost use Rattle.member_lists.specs.Lists.{ListsView, lists_code};
+
+    ghost Value = { ListsView };
+
+    ghost coded = { lists_code };
+
+    ghost use Rattle.std.specs.Prelude.{length};
+    ghost use Rattle.member_lists.specs.Chains.{lists_of, IsKept};
+
+    ghost view = { λ a. record { lists = lists_of a.links.items a.ends; items = length a.links.items } };
 
     ghost invariant = { λ a. IsKept a.links.items a.ends };
 }
@@ -280,6 +269,77 @@ fn end_without(beside: Place, other: Place, end: Place) -> Place
     }
 }
 
+// Links an item that is in no list behind the last one of a list, and answers the list's ends then.
+#[inline(always)]
+fn link_last(links: &mut Vec<Link>, item: usize, ends: Ends) -> Ends
+    requires few { item + 1 < 2 ^ 32 }
+    requires room { item < length links.old.items }
+    requires last { (x : ℕ) → ends.last ≡ Some x → x < length links.old.items }
+    ensures { IsLinkedLast links.old.items links.new.items item ends result }
+{
+    let place = Place::of(item);
+    links[item] = Link {
+        before: ends.last,
+        behind: Place::none(),
+    };
+    set_behind(links, ends.last, place);
+    Ends {
+        first: ends.first.or(place),
+        last: place,
+    }
+}
+
+// Links the neighbours of an item to one another, and answers the ends of its list without it.
+#[inline(always)]
+fn unlink(links: &mut Vec<Link>, item: usize, ends: Ends) -> Ends
+    requires room { item < length links.old.items }
+    requires before { (link : AnyLink) → slice_get links.old.items item ≡ Some link → (x : ℕ) → link.before ≡ Some x → x < length links.old.items }
+    requires behind { (link : AnyLink) → slice_get links.old.items item ≡ Some link → (x : ℕ) → link.behind ≡ Some x → x < length links.old.items }
+    ensures { IsUnlinked links.old.items links.new.items item ends result }
+{
+    let Link { before, behind } = links[item];
+    set_behind(&mut *links, before, behind);
+    set_before(links, behind, before);
+    Ends {
+        first: end_without(before, behind, ends.first),
+        last: end_without(behind, before, ends.last),
+    }
+}
+
+// The ends of a list, blank where it has no items.
+fn ends_of(ends: &NumberMap<Ends>, list: u64) -> Ends
+    ensures { result ≡ ends_at ends.now.map list }
+{
+    ends.get(list).unwrap_or(Ends::blank())
+}
+
+// Puts these ends in place of those of a list that has items, or in, where it has none.
+fn hold_ends(ends: &mut NumberMap<Ends>, list: u64, has_items: bool, now: Ends)
+    requires held { has_items ≡ map.contains_key ends.old.map list }
+    requires room { map.get ends.old.map list ≡ None → 0 < ends.old.room }
+    ensures map { ends.new.map ≡ map.insert ends.old.map list now }
+    ensures total { map.len ends.new.map + ends.new.room ≡ map.len ends.old.map + ends.old.room }
+{
+    if has_items {
+        ends.set(list, now);
+    } else {
+        ends.insert(list, now);
+    }
+}
+
+// Puts these ends in place of a list's, or takes its ends out, where it has no item left.
+fn leave_ends(ends: &mut NumberMap<Ends>, list: u64, now: Ends)
+    requires { map.contains_key ends.old.map list ≡ true }
+    ensures none { now.first ≡ None → ends.new.map ≡ map.remove ends.old.map list }
+    ensures some { (x : ℕ) → now.first ≡ Some x → ends.new.map ≡ map.insert ends.old.map list now }
+    ensures total { map.len ends.new.map + ends.new.room ≡ map.len ends.old.map + ends.old.room }
+{
+    match now.first.item() {
+        Some(_) => ends.set(list, now),
+        None => ends.release(list),
+    }
+}
+
 impl Lists {
     ghost use Rattle.member_lists.specs.Lists.{list_of, with_list, without, IsApart};
 
@@ -289,7 +349,7 @@ impl Lists {
     {
         Lists {
             links: Vec::new(alloc),
-            ends: ListEnds::new(alloc),
+            ends: NumberMap::new(alloc),
         }
     }
 
@@ -329,7 +389,7 @@ impl Lists {
     pub fn is_empty(&self) -> bool
         ensures { IsTrue result ↔ ((list : ℕ) → list_of self.now list ≡ []) }
     {
-        self.ends.is_empty()
+        self.ends.len() == 0
     }
 
     /// Puts an item that is in no list at the end of this one. Constant time.
@@ -338,18 +398,10 @@ impl Lists {
         requires apart { IsApart self.old item }
         ensures { self.new ≡ with_list self.old list (list_of self.old list ++ item ∷ []) }
     {
-        let Ends { first, last } = self.ends.of(list);
-        let place = Place::of(item);
-        self.links[item] = Link {
-            before: last,
-            behind: Place::none(),
-        };
-        set_behind(&mut self.links, last, place);
-        let now = Ends {
-            first: first.or(place),
-            last: place,
-        };
-        self.ends.hold(list, first.item().is_some(), now);
+        let ends = ends_of(&self.ends, list);
+        let has_items = ends.first.item().is_some();
+        let now = link_last(&mut self.links, item, ends);
+        hold_ends(&mut self.ends, list, has_items, now);
     }
 
     /// Takes an item out of its list; the order of the others stays. Constant time.
@@ -357,22 +409,16 @@ impl Lists {
         requires { Contains (list_of self.old list) item }
         ensures { self.new ≡ with_list self.old list (without item (list_of self.old list)) }
     {
-        let Ends { first, last } = self.ends.of(list);
-        let Link { before, behind } = self.links[item];
-        set_behind(&mut self.links, before, behind);
-        set_before(&mut self.links, behind, before);
-        let now = Ends {
-            first: end_without(before, behind, first),
-            last: end_without(behind, before, last),
-        };
-        self.ends.leave(list, now);
+        let ends = ends_of(&self.ends, list);
+        let now = unlink(&mut self.links, item, ends);
+        leave_ends(&mut self.ends, list, now);
     }
 
     /// The first item of a list. Constant time.
     pub fn first(&self, list: u64) -> Option<usize>
         ensures { result ≡ slice_get (list_of self.now list) 0 }
     {
-        self.ends.of(list).first.item()
+        ends_of(&self.ends, list).first.item()
     }
 
     /// The item behind this one of a list. Constant time.
@@ -396,5 +442,91 @@ impl Lists {
             next = self.after(list, item);
         }
         Ok(items)
+    }
+}
+
+impl TwoLists {
+    ghost use Rattle.member_lists.specs.Lists.{list_of, with_list, without, IsApart};
+
+    /// Both lists empty, and no items. Allocates nothing; constant time.
+    pub fn new(alloc: Global) -> TwoLists
+        ensures { result ≡ record { lists = map.empty; items = 0 } }
+    {
+        TwoLists {
+            links: Vec::new(alloc),
+            ends: TwoEnds::blank(),
+        }
+    }
+
+    /// Makes room for so many items in all: those below this number. Constant time, but where the
+    /// links move to a larger place.
+    ///
+    /// An error means that memory was refused, or that the items are 2^32 or more, whose links would
+    /// take 32 GiB; all is then as before. Nothing else here takes memory.
+    pub fn reserve(&mut self, items: usize) -> Result<(), AllocError>
+        ensures ok { OnOk result (self.new ≡ record self.old { items = max self.old.items items }) }
+        ensures err { OnErr result (self.new ≡ self.old) }
+    {
+        if items <= self.links.len() {
+            return Ok(());
+        }
+        self.grow(items)
+    }
+
+    // Makes room where there is too little: apart, as most calls find enough.
+    #[inline(never)]
+    fn grow(&mut self, items: usize) -> Result<(), AllocError>
+        requires { self.old.items ≤ items }
+        ensures ok { OnOk result (self.new ≡ record self.old { items = max self.old.items items }) }
+        ensures err { OnErr result (self.new ≡ self.old) }
+    {
+        if items > MOST_ITEMS {
+            return Err(AllocError);
+        }
+        let blank = Link::blank();
+        self.links.resize(items, blank)?;
+        Ok(())
+    }
+
+    /// Whether neither list has an item. Constant time.
+    #[inline(always)]
+    pub fn is_empty(&self) -> bool
+        ensures { IsTrue result ↔ ((list : ℕ) → list_of self.now list ≡ []) }
+    {
+        self.ends.is_empty()
+    }
+
+    /// Puts an item that is in neither list at the end of this one. Constant time.
+    #[inline(always)]
+    pub fn push(&mut self, list: u64, item: usize)
+        requires list { list < 2 }
+        requires room { item < self.old.items }
+        requires apart { IsApart self.old item }
+        ensures { self.new ≡ with_list self.old list (list_of self.old list ++ item ∷ []) }
+    {
+        let ends = self.ends.of(list);
+        let now = link_last(&mut self.links, item, ends);
+        self.ends.put(list, now);
+    }
+
+    /// Takes an item out of its list; the order of the others stays. Constant time.
+    #[inline(always)]
+    pub fn remove(&mut self, list: u64, item: usize)
+        requires list { list < 2 }
+        requires there { Contains (list_of self.old list) item }
+        ensures { self.new ≡ with_list self.old list (without item (list_of self.old list)) }
+    {
+        let ends = self.ends.of(list);
+        let now = unlink(&mut self.links, item, ends);
+        self.ends.put(list, now);
+    }
+
+    /// The first item of a list. Constant time.
+    #[inline(always)]
+    pub fn first(&self, list: u64) -> Option<usize>
+        requires { list < 2 }
+        ensures { result ≡ slice_get (list_of self.now list) 0 }
+    {
+        self.ends.of(list).first.item()
     }
 }

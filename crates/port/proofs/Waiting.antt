@@ -289,6 +289,17 @@ module _ {M : Type 0} (s : Slab (Record M)) (keys : Keyed) (next : Option ℕ) (
       (ids_in (get s) waiting lost_list) (ids_in (get s) waiting doomed_list) noted (record { lost_is = stay waiting lost_list; doomed_is = stay waiting doomed_list; noted_is = stay later noted_list ∙ is })
       ∙ ap (λ (b : PortsView M). record b { noted = noted }) view_is
 
+-- a port that nobody holds waits in one of two lists, and a noted one stands in the first
+pub waits_in_two : (h : Holder) (l : ℕ) → waits_in h ≡ Some l → l < 2
+waits_in_two (Task task) l e = absurd (no_some l e)
+waits_in_two (QueueOf q) l e = absurd (no_some l e)
+waits_in_two Nobody l e = let same = same_some lost_list l e in omega arith
+waits_in_two Doomed l e = let same = same_some doomed_list l e in omega arith
+
+pub noted_in_two : (b : Bool) (l : ℕ) → cond b (Some noted_list) None ≡ Some l → l < 2
+noted_in_two true l e = let same = same_some noted_list l e in omega arith
+noted_in_two false l e = absurd (no_some l e)
+
 pub waits_lost : (h : Holder) → waits_in h ≡ Some lost_list → h ≡ Nobody
 waits_lost (Task task) e = absurd (no_some lost_list e)
 waits_lost (QueueOf q) e = absurd (no_some lost_list e)

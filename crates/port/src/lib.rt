@@ -30,8 +30,8 @@ use by_key::{
 };
 use mach_types::limits::FIRST_LIMIT;
 use mach_types::{PortId, SetId, TaskId};
-use member_lists::Lists;
-use moves::{join, leave, rejoin, renew};
+use member_lists::{Lists, TwoLists};
+use moves::{join_two, leave, leave_two, rejoin, rejoin_two, renew};
 use number_map::NumberMap;
 use slab::Slab;
 use slots::{blank_slots, pop};
@@ -304,9 +304,9 @@ pub struct Ports<M: Message> {
     ready: Lists,
     members: Lists,
     // Those without a holder, in the list LOST or DOOMED.
-    waiting: Lists,
+    waiting: TwoLists,
     // Those noted, in the list NOTED.
-    noted: Lists,
+    noted: TwoLists,
     next: Option<u64>,
     spare: LinkedList<M>,
     destroyed: LinkedList<M>,
@@ -366,8 +366,8 @@ impl<M: Message> Ports<M> {
             by_id: NumberMap::new(alloc),
             ready: Lists::new(alloc),
             members: Lists::new(alloc),
-            waiting: Lists::new(alloc),
-            noted: Lists::new(alloc),
+            waiting: TwoLists::new(alloc),
+            noted: TwoLists::new(alloc),
             next: Some(0),
             spare: LinkedList::new(alloc),
             destroyed: LinkedList::new(alloc),
@@ -464,9 +464,9 @@ impl<M: Message> Ports<M> {
                 let set = record.kept.member_list();
                 leave(&mut self.members, key, set);
                 let list = record.kept.waiting_list();
-                leave(&mut self.waiting, key, list);
+                leave_two(&mut self.waiting, key, list);
                 let list = record.kept.noting_list();
-                leave(&mut self.noted, key, list);
+                leave_two(&mut self.noted, key, list);
             }
             None => {}
         }
@@ -545,7 +545,7 @@ impl<M: Message> Ports<M> {
     {
         let key = key_of(&self.by_id, port).unwrap();
         let (was, now) = hold_at(&mut self.records, key, holder);
-        rejoin(&mut self.waiting, key, was, now);
+        rejoin_two(&mut self.waiting, key, was, now);
     }
 
     /// Says that a port's receive right was lost: nobody holds it, and the port is to be judged, as
@@ -618,7 +618,7 @@ impl<M: Message> Ports<M> {
         let was = noted_at(&self.records, key);
         if was.is_none() {
             note_at(&mut self.records, key, true);
-            join(&mut self.noted, key, Some(NOTED));
+            join_two(&mut self.noted, key, Some(NOTED));
         }
     }
 
@@ -631,7 +631,7 @@ impl<M: Message> Ports<M> {
         ensures live { (port : ℕ) → Contains self.old.noted port → IsLive self.old port }
     {
         let key = self.noted.first(NOTED)?;
-        leave(&mut self.noted, key, Some(NOTED));
+        leave_two(&mut self.noted, key, Some(NOTED));
         note_at(&mut self.records, key, false);
         Some(self.records[key].id)
     }

@@ -5,4 +5,4 @@ use Rattle.member_lists.proofs.Sound.{shown}
 use Rattle.member_lists.proofs.Lists.first.Goals as goal
 
 pub returns : goal.returns
-returns c = c.item.ensures ∙ first_is c.self.inside.links.items (ends_at c.self.inside.ends.map) c.self.invariant.sound c.args.self.now (shown c.self.inside.links.items c.self.inside.ends c.self.invariant c.args.self.now c.self.view_is) c.args.list c.of.result c.of.ensures
+returns c = c.item.ensures ∙ first_is c.self.inside.links.items (ends_at c.self.inside.ends.map) c.self.invariant.kept.sound c.args.self.now (shown c.self.inside.links.items c.self.inside.ends.map c.self.invariant.kept c.args.self.now c.self.view_is) c.args.list c.ends_of.result c.ends_of.ensures

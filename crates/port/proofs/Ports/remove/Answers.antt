@@ -7,7 +7,7 @@ use Rattle.port.specs.Ports.{PortView, PortsView}
 use Rattle.port.specs.Records.{ports_of, turns_at, ids_in, made_of, lost_list, doomed_list, noted_list, ready_set, member_set, waiting_list, noting_list, IsKept}
 use Rattle.port.proofs.Records.{port_of}
 use Rattle.port.proofs.Sound.{record_at, live_port, gone_port, relisted}
-use Rattle.port.proofs.Waiting.{gone-same, went-same}
+use Rattle.port.proofs.Waiting.{gone-same, went-same, waits_in_two, noted_in_two}
 use Rattle.port.specs.Ready.{StandsIn, out_of}
 use Rattle.member_lists.specs.Lists.{without}
 use Rattle.port.proofs.Moved.{moved_none}
@@ -36,10 +36,10 @@ invariant_of-self g c =
           (c.self.invariant.readied.stands c.in-Some.key c.remove-record.result c.remove-record.ensures.value)));
       membered = listed-went member_set (get c.self.inside.records) (get c.remove-record.new.self) c.self.inside.members c.self.invariant.membered c.in-Some.key c.leave.new.lists
           (record { changed = c.remove-record.ensures.updates.changed; others = c.remove-record.ensures.updates.others }) c.leave.ensures.moved;
-      awaited = listed-went waiting_list (get c.self.inside.records) (get c.remove-record.new.self) c.self.inside.waiting c.self.invariant.awaited c.in-Some.key c.leave-in-Some.new.lists
-          (record { changed = c.remove-record.ensures.updates.changed; others = c.remove-record.ensures.updates.others }) c.leave-in-Some.ensures.moved;
-      are_noted = listed-went noting_list (get c.self.inside.records) (get c.remove-record.new.self) c.self.inside.noted c.self.invariant.are_noted c.in-Some.key c.leave-in-Some-2.new.lists
-          (record { changed = c.remove-record.ensures.updates.changed; others = c.remove-record.ensures.updates.others }) c.leave-in-Some-2.ensures.moved;
+      awaited = listed-went waiting_list (get c.self.inside.records) (get c.remove-record.new.self) c.self.inside.waiting c.self.invariant.awaited c.in-Some.key c.leave_two.new.lists
+          (record { changed = c.remove-record.ensures.updates.changed; others = c.remove-record.ensures.updates.others }) c.leave_two.ensures.moved;
+      are_noted = listed-went noting_list (get c.self.inside.records) (get c.remove-record.new.self) c.self.inside.noted c.self.invariant.are_noted c.in-Some.key c.leave_two-in-Some.new.lists
+          (record { changed = c.remove-record.ensures.updates.changed; others = c.remove-record.ensures.updates.others }) c.leave_two-in-Some.ensures.moved;
     }
 
 pub returns-in-Some : goal.returns-in-Some
@@ -54,9 +54,9 @@ returns-in-Some g c =
     (turns-apart (get c.self.inside.records) (get c.remove-record.new.self) c.self.inside.ready c.in-Some.key (apart-quiet (get c.self.inside.records) c.self.inside.ready c.self.invariant.readied c.in-Some.key c.remove-record.result c.remove-record.ensures.value quiet)
     c.remove-record.ensures.updates.others)
     (went-same c.self.inside.records c.self.inside.by_id.map c.self.inside.next c.self.inside.spare c.self.inside.destroyed c.self.inside.slots c.self.invariant.sound c.self.inside.waiting c.self.inside.noted c.args.self.now c.self.view_is c.self.invariant.awaited c.self.invariant.are_noted
-    c.args.port c.in-Some.key c.remove-record.result found c.remove-record.ensures.value c.remove-record.new.self c.remove-record.ensures.updates.others c.leave-in-Some.new.lists c.leave-in-Some-2.new.lists
-    c.leave-in-Some.ensures.moved (c.leave-in-Some.ensures.left ∙ ap (out_of c.self.inside.waiting c.in-Some.key) c.waiting_list-list.ensures)
-    c.leave-in-Some-2.ensures.moved (c.leave-in-Some-2.ensures.left ∙ ap (out_of c.self.inside.noted c.in-Some.key) c.noting_list-list.ensures))
+    c.args.port c.in-Some.key c.remove-record.result found c.remove-record.ensures.value c.remove-record.new.self c.remove-record.ensures.updates.others c.leave_two.new.lists c.leave_two-in-Some.new.lists
+    c.leave_two.ensures.moved (c.leave_two.ensures.left ∙ ap (out_of c.self.inside.waiting c.in-Some.key) c.waiting_list-list.ensures)
+    c.leave_two-in-Some.ensures.moved (c.leave_two-in-Some.ensures.left ∙ ap (out_of c.self.inside.noted c.in-Some.key) c.noting_list-list.ensures))
 
 pub returns-in-None : goal.returns-in-None
 returns-in-None g c =
@@ -78,10 +78,16 @@ pub leave-requires : goal.leave-requires
 leave-requires g c =
     subst (λ o. StandsIn c.self.inside.members c.in-Some.key o) (sym (c.member_list-set.ensures)) (c.self.invariant.membered.stands c.in-Some.key c.remove-record.result c.remove-record.ensures.value)
 
-pub leave-requires-in-Some : goal.leave-requires-in-Some
-leave-requires-in-Some g c =
+pub leave_two-requires-clause-was : goal.leave_two-requires-clause-was
+leave_two-requires-clause-was g c =
     subst (λ o. StandsIn c.self.inside.waiting c.in-Some.key o) (sym (c.waiting_list-list.ensures)) (c.self.invariant.awaited.stands c.in-Some.key c.remove-record.result c.remove-record.ensures.value)
 
-pub leave-requires-in-Some-2 : goal.leave-requires-in-Some-2
-leave-requires-in-Some-2 g c =
+pub leave_two-requires-in-Some-clause-was : goal.leave_two-requires-in-Some-clause-was
+leave_two-requires-in-Some-clause-was g c =
     subst (λ o. StandsIn c.self.inside.noted c.in-Some.key o) (sym (c.noting_list-list.ensures)) (c.self.invariant.are_noted.stands c.in-Some.key c.remove-record.result c.remove-record.ensures.value)
+
+pub leave_two-requires-clause-list : goal.leave_two-requires-clause-list
+leave_two-requires-clause-list g c l is = waits_in_two c.remove-record.result.kept.attributes.holder l (sym c.waiting_list-list.ensures ∙ is)
+
+pub leave_two-requires-in-Some-clause-list : goal.leave_two-requires-in-Some-clause-list
+leave_two-requires-in-Some-clause-list g c l is = noted_in_two c.remove-record.result.kept.is_noted l (sym c.noting_list-list.ensures ∙ is)
