@@ -1,6 +1,7 @@
 -- Where nothing is left to do, the step has ended: each part comes to nothing.
-use Rattle.std.proofs.Common.{◌≡◌, ℕ, ◌+◌, Bool, true, false, IsTrue, List, [], ◌∷◌, Option, slice_get, refl, ap, sym, ◌∙◌, arith}
+use Rattle.std.proofs.Common.{◌≡◌, ℕ, ◌+◌, ◌&&◌, Bool, true, false, IsTrue, List, [], ◌∷◌, Option, slice_get, refl, ap, sym, ◌∙◌, arith}
 use Rattle.std.specs.Prelude.{◌↔◌, Contains, is_some, not}
+use Rattle.std.proofs.lemmas.Bool.{and_from, and_parts}
 use Rattle.port.specs.declared.Holder.TheVariants as holder
 use Rattle.port.specs.Holding.{NoneHeldBy}
 use Rattle.port.specs.Idle.{IsIdle as AreIdle}
@@ -32,10 +33,12 @@ module _ (w : WorldView) where
   idle_ports : IsIdle w → AreIdle w.ports
   idle_ports i = record { lost = i.none_lost.lost; doomed = i.none_lost.doomed; noted = i.noted; destroyed = i.none_lost.destroyed }
 
-  pub idle_told : (ports : Bool) → ports ≡ true → (IsTrue ports ↔ AreIdle w.ports) → (first : Option NameRequest) → first ≡ slice_get w.requests.names.went 0 → (none : Bool) → is_some first ≡ not none → IsTrue none ↔ IsIdle w
-  idle_told ports are tells first is none told = (
-    λ h. idle_world (tells.0 are) (none_first w.requests.names.went (ap is_some (sym is) ∙ told ∙ ap not h)),
-    λ i. is_true none (sym told ∙ ap is_some (is ∙ ap (λ rs. slice_get rs 0) i.went)),
+  pub idle_told : (ports : Bool) → (IsTrue ports ↔ AreIdle w.ports) → (first : Option NameRequest) → first ≡ slice_get w.requests.names.went 0 → (none : Bool) → is_some first ≡ not none → IsTrue (ports && none) ↔ IsIdle w
+  idle_told ports tells first is none told = (
+    λ h.
+        let both = and_parts ports none h in
+        idle_world (tells.0 both.0) (none_first w.requests.names.went (ap is_some (sym is) ∙ told ∙ ap not both.1)),
+    λ i. and_from ports none (tells.1 (idle_ports i)) (is_true none (sym told ∙ ap is_some (is ∙ ap (λ rs. slice_get rs 0) i.went))),
   )
 
 -- ---- the step's end

@@ -38,7 +38,7 @@ fn is_idle(world: &World) -> bool
     ensures lost { (port : ℕ) → Contains world.now.ports.lost port ↔ IsHeldBy world.now.ports port Holder.Nobody }
     ensures doomed { (port : ℕ) → Contains world.now.ports.doomed port ↔ IsHeldBy world.now.ports port Holder.Doomed }
 {
-    are_ports_idle(world) && first_went(world).is_none()
+    are_ports_idle(world) & first_went(world).is_none()
 }
 
 // Whether no port and no destroyed message waits for the end of the step.

@@ -1,5 +1,5 @@
 -- The lists of ports that wait and of those noted have no keys just where they have no identities.
-use Rattle.std.proofs.Common.{◌≡◌, ◌⊎◌, inl, inr, ℕ, ◌<◌, Bool, false, true, cond, Option, Some, None, List, [], ◌∷◌, refl, ap, sym, subst, arith, Contains}
+use Rattle.std.proofs.Common.{◌≡◌, ◌⊎◌, eqb, length, inl, inr, ℕ, ◌<◌, Bool, false, true, cond, Option, Some, None, List, [], ◌∷◌, refl, ap, sym, subst, arith, Contains}
 use Rattle.std.specs.Prelude as std
 use Rattle.std.proofs.lemmas.Option.{slice_get_within, get_or_from_slice_get}
 use Rattle.member_lists.specs.Lists.{ListsView, list_of}
@@ -7,6 +7,7 @@ use Rattle.port.specs.declared.Holder.{Holder}
 use Rattle.port.specs.declared.Holder.TheVariants.{Task, QueueOf, Nobody, Doomed}
 use Rattle.port.specs.declared.Record.{Record}
 use Rattle.port.specs.Records.{ids_at, ids_in, waits_in, lost_list, doomed_list, noted_list, IsAwaited, IsNoted}
+use Rattle.member_lists.proofs.Times.{eqb_is}
 use Rattle.port.proofs.Keys.{same_some}
 
 no_keys : (f : ℕ → ℕ) (xs : List ℕ) → std.map f xs ≡ [] → xs ≡ []
@@ -20,6 +21,13 @@ nothing_in (y ∷ xs) x e c = cc
 no_items : (xs : List ℕ) → ((x : ℕ) → Contains xs x → ⊥) → xs ≡ []
 no_items [] h = refl
 no_items (x ∷ xs) h = absurd (h x (0, slice_get_within (x ∷ xs) 0 x refl, get_or_from_slice_get (x ∷ xs) 0 x x refl))
+
+pub none_of : {A : Type 0} (xs : List A) → eqb (length xs) 0 ≡ true → xs ≡ []
+none_of [] e = refl
+none_of (x ∷ xs) e = absurd (let none = eqb_is (length (x ∷ xs)) 0 e in omega arith)
+
+pub no_length : {A : Type 0} (xs : List A) → xs ≡ [] → eqb (length xs) 0 ≡ true
+no_length xs e = ap (λ ys. eqb (length ys) 0) e
 
 which_waits : (h : Holder) (l : ℕ) → waits_in h ≡ Some l → (l ≡ lost_list) ⊎ (l ≡ doomed_list)
 which_waits (Task task) l e = cc

@@ -537,6 +537,7 @@ impl<M: Message> Ports<M> {
 
     // Says who holds a port's receive right now; the port leaves the lost and the doomed ones, and
     // is the last of those where it belongs now.
+    #[inline(always)]
     fn set_holder(&mut self, port: PortId, holder: Holder)
         requires { IsLive self.old port }
         ensures held { (p : PortView M) → map.get self.old.ports port ≡ Some p → self.new ≡ with_holder self.old port p holder }
@@ -643,7 +644,7 @@ impl<M: Message> Ports<M> {
         ensures lost { (port : ℕ) → Contains self.now.lost port ↔ IsHeldBy self.now port Holder.Nobody }
         ensures doomed { (port : ℕ) → Contains self.now.doomed port ↔ IsHeldBy self.now port Holder.Doomed }
     {
-        self.waiting.is_empty() && self.noted.is_empty() && self.destroyed.is_empty()
+        self.waiting.is_empty() & self.noted.is_empty() & self.destroyed.is_empty()
     }
 
     /// Counts a send right made from the port's receive right, modulo 2^32; where the port is gone,

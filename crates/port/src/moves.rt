@@ -6,6 +6,7 @@ ghost use Rattle.port.specs.Turns.{same_set};
 use member_lists::{Lists, TwoLists};
 
 // Takes the port under the key out of the list of this set, if it stands in one.
+#[inline(always)]
 pub(crate) fn leave(lists: &mut Lists, key: usize, was: Option<u64>)
     requires { StandsIn lists.old key was }
     ensures moved { IsMoved lists.old lists.new key None }
@@ -17,6 +18,7 @@ pub(crate) fn leave(lists: &mut Lists, key: usize, was: Option<u64>)
 }
 
 // Puts the port under the key at the end of the list of this set, if it belongs to one.
+#[inline(always)]
 pub(crate) fn join(lists: &mut Lists, key: usize, now: Option<u64>)
     requires room { key < lists.old.items }
     requires apart { StandsIn lists.old key None }
@@ -44,6 +46,7 @@ pub(crate) fn is_same(one: Option<u64>, other: Option<u64>) -> bool
 
 // Takes the port under the key out of the list of one set, and puts it at the end of the list of
 // another or the same.
+#[inline(always)]
 pub(crate) fn rejoin(lists: &mut Lists, key: usize, was: Option<u64>, now: Option<u64>)
     requires room { key < lists.old.items }
     requires was { StandsIn lists.old key was }
@@ -55,6 +58,7 @@ pub(crate) fn rejoin(lists: &mut Lists, key: usize, was: Option<u64>, now: Optio
 }
 
 // Puts the port under the key into the list of another set; it keeps its place in the same.
+#[inline(always)]
 pub(crate) fn renew(lists: &mut Lists, key: usize, was: Option<u64>, now: Option<u64>)
     requires room { key < lists.old.items }
     requires was { StandsIn lists.old key was }

@@ -64,6 +64,15 @@ module _ (m : Counted) (total unused : ℕ) (counted : IsCounted m total unused)
         let rest = sum-remove m port once_of (counts_of l port) (entered there) in
         omega (arith, rest, counted.once_counted, same_unused)
 
+    -- what a port's counts are is within the sums
+    pub counts-within : IsEntered l port → (counts : Counts) → counts ≡ counts_of l port → (all_of counts ≤ total) × (counts.send_once ≤ unused)
+    counts-within there counts is =
+        let all : all_of counts ≡ all_of (counts_of l port) = ap all_of is in
+        let once : counts.send_once ≡ (counts_of l port).send_once = ap (λ (v : Counts). v.send_once) is in
+        let few = counts-le-total there in
+        let few_once = once-le-unused there in
+        (omega (arith, all, few, same_total), omega (arith, once, few_once, same_unused))
+
     -- with no rights more
     no_more : map.get l.counts port ≡ None → (f : Counts → ℕ) → f no_rights ≡ 0 → (n : Counted) → n ≡ map.insert m port no_rights → sum_over f n ≡ sum_over f m
     no_more none f zero n e =

@@ -190,10 +190,9 @@ impl Ledger {
         ensures counts { result ≡ counts_of self.old port }
         ensures after { self.new ≡ left self.old port }
     {
-        let counts = self.held(port).value;
+        let counts = self.ports.remove(port.number()).unwrap();
         self.total -= counts.receive + counts.send + counts.send_once + counts.destination;
         self.unused -= counts.send_once;
-        self.ports.remove(port.number());
         counts
     }
 
