@@ -1,18 +1,17 @@
 //! A kernel, and its steps.
-ghost use Rattle.std.specs.Prelude.{◌≡◌, ◌≤◌, ℕ, ◌++◌, IfOk, IfErr, OnErr, MatchBool};
-ghost use Rattle.std.specs.Option.{option_to_list};
+ghost use Rattle.std.specs.Prelude.{◌≡◌, ◌≤◌, ℕ, IfOk, IfErr, OnErr, MatchBool};
 ghost use Rattle.mach_types.specs.declared.codes.KernReturn.TheVariants as kern;
 ghost use Rattle.mach_types.specs.Numbers.{kern_number, most_bytes};
 ghost use Rattle.mach_types.specs.declared.calls.Reply.{Reply as AnyReply};
 ghost use Rattle.mach_model.specs.State.{State, opening};
 ghost use Rattle.mach_model.specs.Machine.{Step};
-ghost use Rattle.mach_model.specs.Refusals.{tasks_of};
 ghost use Rattle.mach_laws.specs.Judging.{IsBySet};
 ghost use Rattle.mach_laws.specs.Queued.{unused};
-ghost use Rattle.copyin_base.specs.Acts.{AreTasks, HasTasks, Declines};
+ghost use Rattle.copyin_base.specs.Acts.{HasTasks, Declines};
 ghost use Rattle.rights.specs.Unused.{IsUnusedOfAll};
 ghost use Rattle.copyin_base.specs.Shows.{Shows, SlotsSuffice};
 ghost use Rattle.copyin_base.specs.Stands.{Stands};
+ghost use Rattle.copyin_base.specs.Worlds.{HasTask};
 ghost use Rattle.kernel_core.specs.Answers.{Answers};
 ghost use Rattle.kernel_core.specs.Bounds.{most_told, IsWithin};
 ghost use Rattle.kernel_core.specs.Choices.{SameButTurns};
@@ -213,30 +212,14 @@ fn check_tasks(world: &World, event: &Event) -> Result<(), KernReturn>
     }
 }
 
-/// Whether the tasks that the call names live. Constant time.
+/// Whether the tasks that the call names live: none, one, or the two that a right is handed between.
+/// Constant time.
+#[inline(always)]
 fn has_tasks(world: &World, event: &Event) -> bool
     ensures { MatchBool result (HasTasks world.now event.now) (¬ (HasTasks world.now event.now)) }
 {
-    let (task, other) = tasks_of(event);
-    lives(world, task) && lives(world, other)
-}
-
-/// Whether the task lives, if there is one.
-fn lives(world: &World, task: Option<TaskId>) -> bool
-    ensures { MatchBool result (AreTasks world.now (option_to_list task)) (¬ (AreTasks world.now (option_to_list task))) }
-{
-    match task {
-        Some(task) => world.has_task(task),
-        None => true,
-    }
-}
-
-/// The tasks that the call names: none, one, or the two that a right is handed between.
-fn tasks_of(event: &Event) -> (Option<TaskId>, Option<TaskId>)
-    ensures { tasks_of event.now ≡ option_to_list result.0 ++ option_to_list result.1 }
-{
     match event {
-        Event::TaskCreate => (None, None),
+        Event::TaskCreate => true,
         Event::TaskTerminate(task)
         | Event::Allocate(task, _)
         | Event::AllocateName(task, _, _)
@@ -256,11 +239,25 @@ fn tasks_of(event: &Event) -> (Option<TaskId>, Option<TaskId>)
         | Event::RequestNotification(task, _, _, _, _, _)
         | Event::Send(task, _)
         | Event::Receive(task, _, _, _)
-        | Event::ReceiveAgain(task, _, _, _) => (Some(*task), None),
+        | Event::ReceiveAgain(task, _, _, _) => lives(world, *task),
         Event::InsertRight(task, _, other, _, _) | Event::ExtractRight(task, _, _, other) => {
-            (Some(*task), Some(*other))
+            live_both(world, *task, *other)
         }
     }
+}
+
+/// Whether the task lives. Constant time.
+fn lives(world: &World, task: TaskId) -> bool
+    ensures { MatchBool result (HasTask world.now task) (¬ (HasTask world.now task)) }
+{
+    world.has_task(task)
+}
+
+/// Whether both tasks live. Constant time.
+fn live_both(world: &World, task: TaskId, other: TaskId) -> bool
+    ensures { MatchBool result (HasTask world.now task × HasTask world.now other) (¬ (HasTask world.now task × HasTask world.now other)) }
+{
+    world.has_task(task) && world.has_task(other)
 }
 
 /// Makes the call on the tables, where the tasks that it names live.
