@@ -1,5 +1,5 @@
 -- What a receipt frees: the slot of the message that it takes, but for those in which the notices of lost rights lie.
-use Rattle.std.proofs.Common.{◌≡◌, ℕ, ◌+◌, ◌-◌, ◌≤◌, Bool, true, false, List, [], ◌∷◌, ◌++◌, length, Option, Some, refl, sym, ap, subst, ◌∙◌, arith}
+use Rattle.std.proofs.Common.{◌≡◌, ℕ, ◌+◌, ◌-◌, ◌≤◌, Bool, true, false, List, [], ◌∷◌, ◌++◌, Option, Some, refl, sym, ap, subst, ◌∙◌, arith}
 use Rattle.std.specs.Prelude.{is_some, if◌then◌else◌, MatchBool, filter}
 use Rattle.std.specs.Option.{option_to_list}
 use Rattle.std.specs.FinMap as map
@@ -15,7 +15,7 @@ use Rattle.name_space.specs.Names.{SpaceView}
 use Rattle.copyin_base.specs.declared.message.Carried.{Carried}
 use Rattle.copyin_base.specs.declared.message.Mark.{Mark}
 use Rattle.copyin_base.specs.declared.message.Mark.TheVariants as mark
-use Rattle.copyin_base.specs.Changes.{MakesRoom, SameButRoom}
+use Rattle.copyin_base.specs.Changes.{MakesRoom}
 use Rattle.copyin_base.specs.Kept.{Kept}
 use Rattle.copyin_base.specs.Posted.{with_posted}
 use Rattle.copyin_base.specs.Shows.{Shows, SlotsSuffice}

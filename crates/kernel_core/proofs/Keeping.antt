@@ -1,16 +1,14 @@
 -- What a call keeps, and which code it tells of want of memory by, made of what its parts promise.
-use Rattle.std.proofs.Common.{◌≡◌, ◌≢◌, ℕ, Bool, ◌+◌, ◌<◌, ◌≤◌, List, [], length, Result, Ok, Err, IfErr, sym, ap, subst, ◌∙◌, arith, inl, inr}
+use Rattle.std.proofs.Common.{◌≡◌, ◌≢◌, ℕ, ◌+◌, ◌<◌, ◌≤◌, List, [], length, Result, Ok, Err, IfErr, sym, ap, subst, ◌∙◌, arith, inl, inr}
 use Rattle.std.specs.Prelude.{max, OnOk, OnErr}
 use Rattle.std.proofs.lemmas.Bool.Decides.{eqb_tells, leb_tells}
 use Rattle.mach_types.specs.declared.calls.Event.{Event}
 use Rattle.mach_types.specs.declared.calls.Reply.{Reply}
 use Rattle.mach_types.specs.declared.codes.KernReturn.TheVariants.{InvalidTask, ResourceShortage}
 use Rattle.mach_types.specs.Numbers.{kern_number}
-use Rattle.mach_types.specs.Guards.{NoneHolds}
 use Rattle.mach_model.specs.State.{State}
 use Rattle.mach_model.specs.Notices.{Owed}
 use Rattle.mach_model.specs.Machine.{Does}
-use Rattle.mach_model.specs.Refusals.{guards, call_guards}
 use Rattle.mach_model.proofs.Quiet.{LosesNone}
 use Rattle.mach_model.proofs.StepReceives.{Does-receives}
 use Rattle.mach_laws.specs.Counts.{accepts, MayNeedSlots}
@@ -18,12 +16,11 @@ use Rattle.mach_laws.proofs.Counted.{Does-counted}
 use Rattle.mach_laws.proofs.Onces.{part_needs, request_needs}
 use Rattle.copyin_base.specs.declared.code.Code.{Code}
 use Rattle.copyin_base.specs.declared.code.Code.TheVariants.{Kern}
-use Rattle.copyin_base.specs.Acts.{code_number, IsDone, Acts, Declines, Serves, IsRefused, HasTasks}
+use Rattle.copyin_base.specs.Acts.{code_number, IsDone, Acts, Declines, Serves}
 use Rattle.copyin_base.specs.Shows.{Shows}
 use Rattle.copyin_base.specs.Stands.{Stands}
 use Rattle.copyin_base.specs.Wanted.{KeepsSpares, UsesSpares}
 use Rattle.copyin_base.specs.Worlds.{WorldView}
-use Rattle.copyin_base.proofs.Acting.{refused}
 use Rattle.copyin_base.proofs.Listed.{listed_none}
 use Rattle.copyin_base.proofs.Spares.{keeps_refl, keeps_same}
 use Rattle.rights.specs.Unused.{IsUnusedOfAll}

@@ -15,7 +15,7 @@ use Rattle.mach_types.specs.Tokens.{in_task}
 use Rattle.mach_model.specs.State.{State}
 use Rattle.mach_model.specs.Send.{SendRefuses}
 use Rattle.mach_model.specs.Transfer.{inserted_guards, extracted_guards}
-use Rattle.mach_model.specs.Refusals.{Refuses, RefusesLater, IsOneDead, guards, call_guards, tasks_of}
+use Rattle.mach_model.specs.Refusals.{RefusesLater, IsOneDead, guards, call_guards, tasks_of}
 use Rattle.mach_laws.proofs.Refusing.{itself, none_is_first, inserted_same, extracted_same, hand_short}
 use Rattle.mach_laws.proofs.Requested.{request_short}
 use Rattle.message_codec.specs.declared.text.Parsed.{Parsed}

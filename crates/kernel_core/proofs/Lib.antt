@@ -19,3 +19,4 @@ mod Bounding
 mod Lacking
 mod Staying
 mod Chosen
+pub mod Named

@@ -1,5 +1,5 @@
 -- Where the calls that hand, send and receive rights want memory, and what they keep for names and messages to come.
-use Rattle.std.proofs.Common.{◌≡◌, ◌≢◌, ℕ, ◌<◌, ◌≤◌, ◌+◌, ◌⊎◌, List, [], length, Option, Some, None, Ok, refl, sym, ap, subst, ◌∙◌, arith, inl, inr, true, false, Bool}
+use Rattle.std.proofs.Common.{◌≡◌, ◌≢◌, ℕ, ◌<◌, ◌≤◌, ◌+◌, ◌⊎◌, [], length, Option, Some, None, Ok, refl, sym, ap, subst, ◌∙◌, arith, inl, inr, true, false, Bool}
 use Rattle.std.specs.Prelude.{if◌then◌else◌, max, MatchBool}
 use Rattle.std.specs.FinMap as map
 use Rattle.mach_types.specs.declared.calls.Event.{Event}

@@ -1,36 +1,35 @@
 -- Where a receipt may be refused for want of memory: a message that it may take stays for that alone.
-use Rattle.std.proofs.Common.{◌≡◌, ◌≢◌, ℕ, ◌<◌, ◌≤◌, zero, suc, List, [], ◌∷◌, ◌++◌, Option, Some, None, Bool, true, false, refl, sym, ap, subst, ◌∙◌, inl, inr, arith, length}
-use Rattle.std.specs.Prelude.{MatchBool, Contains, min, nat_lt}
+use Rattle.std.proofs.Common.{◌≡◌, ℕ, ◌<◌, zero, suc, List, [], ◌∷◌, ◌++◌, Option, Some, None, Bool, true, false, refl, sym, ap, subst, ◌∙◌, inl, inr, arith, length}
+use Rattle.std.specs.Prelude.{MatchBool, Contains, nat_lt}
 use Rattle.std.specs.FinMap as map
 use Rattle.std.proofs.lemmas.List.Elements.{Contains-push_cases}
 use Rattle.mach_types.specs.declared.calls.Event.{Event}
 use Rattle.mach_types.specs.declared.calls.Waited.{Waited}
 use Rattle.mach_types.specs.declared.codes.MsgReturn.TheVariants.{ReceiveBodyErrorMemory}
-use Rattle.mach_types.specs.Numbers.{msg_number, most_bytes}
+use Rattle.mach_types.specs.Numbers.{msg_number}
 use Rattle.mach_types.specs.Messages.{Entry as LogEntry}
 use Rattle.mach_types.specs.Tokens.{in_message}
-use Rattle.mach_model.specs.State.{State, queue}
+use Rattle.mach_model.specs.State.{State}
 use Rattle.mach_model.specs.CopyOut.{MessageLacks}
 use Rattle.mach_model.specs.Receive.{ReceiptRefuses}
 use Rattle.mach_model.specs.ReceivedMeans.{message_length}
-use Rattle.mach_model.specs.Refusals.{again_guards, call_guards}
+use Rattle.mach_model.specs.Refusals.{again_guards}
 use Rattle.mach_laws.proofs.Answered.{one_waited}
 use Rattle.mach_laws.proofs.Excluding.{one_entry, no_front}
 use Rattle.port.specs.Ports.{PortView, PortsView, IsIn}
-use Rattle.copyin_base.specs.Acts.{HasTasks, IsRefused, IsAllowed}
+use Rattle.copyin_base.specs.Acts.{IsRefused, IsAllowed}
 use Rattle.copyin_base.specs.Kept.{Kept}
 use Rattle.copyin_base.specs.Shows.{Shows}
 use Rattle.copyin_base.specs.Stands.{Stands}
 use Rattle.copyin_base.specs.Worlds.{WorldView, HasTask, port_at}
 use Rattle.copyin_base.proofs.Acting.{tasks_live}
 use Rattle.copyin_base.proofs.Told.{port_there}
-use Rattle.copyout.specs.Giving.{LackNames}
-use Rattle.copyout.specs.Ready.{HasFront, Waits, IsRefusedBy, carried_by}
+use Rattle.copyout.specs.Ready.{HasFront, Waits, IsRefusedBy}
 use Rattle.copyout.specs.declared.receipt.Refusal.TheVariants.{Memory}
 use Rattle.copyout.proofs.Fronts.{shown_empty, shown_front, shown_is_front}
 use Rattle.copyout.proofs.Refusing.{kept_length, names_lack}
 use Rattle.copyout.proofs.Waiting.{waits}
-use Rattle.kernel_core.specs.MemoryCodes.{MayRefuse, NeverRefuses, TellsWant, NeverStays, IsReceivable}
+use Rattle.kernel_core.specs.MemoryCodes.{NeverRefuses, TellsWant, NeverStays, IsReceivable}
 use Rattle.kernel_core.specs.Receive.{named_guards, Sources, StaysFor, IsOf, IsFrom}
 use Rattle.kernel_core.proofs.Lacking.{never_guarded, never_later}
 use Rattle.kernel_core.proofs.Receiving.{sources_good, live, from_held, from_of, stays_for_memory}

@@ -1,5 +1,5 @@
 //! Receiving a message.
-ghost use Rattle.std.specs.Prelude.{◌≡◌, ℕ, ◌<◌, Bool, true, Some, IfOk, IfErr, MatchBool, MatchOption, is_some, length};
+ghost use Rattle.std.specs.Prelude.{◌≡◌, ℕ, ◌<◌, Bool, true, Some, IfOk, IfErr, IfSome, MatchBool, MatchOption, is_some, length};
 ghost use Rattle.std.specs.Option.{option_and_then};
 ghost use Rattle.mach_types.specs.declared.codes.MsgReturn.TheVariants as msg;
 ghost use Rattle.mach_types.specs.declared.calls.Event.{Event as AnyEvent};
@@ -10,7 +10,7 @@ ghost use Rattle.copyin_base.specs.Acts.{code_number, Serves, IsRefused, IsAllow
 ghost use Rattle.copyin_base.specs.Finds.{FindsReceive};
 ghost use Rattle.copyin_base.specs.Stands.{Stands};
 ghost use Rattle.copyin_base.specs.Worlds.{entry_at, port_at, HasTask};
-ghost use Rattle.kernel_core.specs.Receive.{named_guards, Sources, IsMember, IsAlone, HasMessage, NoneWaits, IsReceipt, StaysFor, waited_at, FreesSlot};
+ghost use Rattle.kernel_core.specs.Receive.{named_guards, Sources, IsFrom, IsMember, IsAlone, HasMessage, NoneWaits, IsReceipt, StaysFor, waited_at, FreesSlot};
 ghost use Rattle.kernel_core.specs.Wanted.{WantsToTake, WantsMemory, LeavesSpares};
 ghost use Rattle.notifications.specs.Destroying.{CanDestroy, DestroysMessage};
 
@@ -60,7 +60,8 @@ pub(crate) fn receive(
     ensures spares { LeavesSpares world.old (AnyEvent.Receive task name buffer.room buffer.large) result world.new }
 {
     let waited = source(world, task, name)?;
-    Ok(take(world, alloc, task, waited, buffer)?)
+    let name = known_name(&waited, name);
+    Ok(take(world, alloc, task, Origin { waited, name }, buffer)?)
 }
 
 /// `ReceiveAgain` (IPC Interface, `mach_msg` with `MACH_RCV_MSG`, as it goes on once it has waited): a
@@ -84,10 +85,30 @@ pub(crate) fn receive_again(
     ensures spares { LeavesSpares world.old (AnyEvent.ReceiveAgain task waited buffer.room buffer.large) result world.new }
 {
     judge_again(world, task, &waited)?;
-    Ok(take(world, alloc, task, waited, buffer)?)
+    let name = None;
+    Ok(take(world, alloc, task, Origin { waited, name }, buffer)?)
 }
 
 // ---- where from
+
+/// What a receipt takes from.
+#[derive(Clone, Copy)]
+struct Origin {
+    /// What the task waits for.
+    waited: Waited,
+    /// The task's name for the port, where the call goes by it: it isn't looked up then.
+    name: Option<Name>,
+}
+
+/// The name that stands for this, where it is a port's.
+fn known_name(waited: &Waited, name: Name) -> Option<Name>
+    ensures { IfSome result (λ known. (known ≡ name) × ((port : ℕ) × (waited.now ≡ AnyWaited.Port port))) }
+{
+    match waited {
+        Waited::Port(_) => Some(name),
+        Waited::Set(_) => None,
+    }
+}
 
 /// What a receive by the name takes from: a port that is in no set, whose receive right is under it, or
 /// a port set.
@@ -186,21 +207,22 @@ fn take(
     world: &mut World,
     alloc: Global,
     task: TaskId,
-    waited: Waited,
+    origin: Origin,
     buffer: Buffer,
 ) -> Result<Reply, MsgReturn>
     requires there { HasTask world.old task }
     requires stands { Stands world.old }
-    requires may { IsAllowed world.old (λ s. again_guards s task waited) }
-    ensures ok { IfOk result (λ reply. IsReceipt world.old task waited buffer.room buffer.large reply world.new) }
-    ensures err { IfErr result (λ code. (world.new ≡ world.old) × StaysFor world.old task waited buffer.room (msg_number code)) }
-    ensures wanted { IfErr result (λ code. msg_number code ≡ msg_number msg.ReceiveBodyErrorMemory → WantsToTake world.old task waited) }
+    requires may { IsAllowed world.old (λ s. again_guards s task origin.waited) }
+    requires known { IfSome origin.name (λ name. (port : ℕ) → IsFrom world.old origin.waited port → FindsReceive world.old task name port) }
+    ensures ok { IfOk result (λ reply. IsReceipt world.old task origin.waited buffer.room buffer.large reply world.new) }
+    ensures err { IfErr result (λ code. (world.new ≡ world.old) × StaysFor world.old task origin.waited buffer.room (msg_number code)) }
+    ensures wanted { IfErr result (λ code. msg_number code ≡ msg_number msg.ReceiveBodyErrorMemory → WantsToTake world.old task origin.waited) }
     ensures spares { IfOk result (λ reply. FreesSlot world.old buffer.large reply world.new) }
 {
-    let Some(port) = ready(world, &waited) else {
-        return Ok(Reply::Empty(waited));
+    let Some(port) = ready(world, &origin.waited) else {
+        return Ok(Reply::Empty(origin.waited));
     };
-    let name = name_of(world, task, port);
+    let name = name_of(world, task, port, origin.name);
     match copyout::receive(world, alloc, task, port, name, buffer.room) {
         Ok(bytes) => Ok(Reply::Message(bytes)),
         Err(Refusal::TooLarge(length)) => {
@@ -233,12 +255,16 @@ fn ready(world: &World, waited: &Waited) -> Option<PortId>
     }
 }
 
-/// The task's name for a port whose receive right it has.
-fn name_of(world: &World, task: TaskId, port: PortId) -> Name
+/// The task's name for a port whose receive right it has, which may be known.
+fn name_of(world: &World, task: TaskId, port: PortId, known: Option<Name>) -> Name
     requires there { HasTask world.now task }
     requires has { (name : ℕ) × FindsReceive world.now task name port }
+    requires known { IfSome known (λ name. FindsReceive world.now task name port) }
     ensures { FindsReceive world.now task result port }
 {
+    if let Some(name) = known {
+        return name;
+    }
     match world.space(task).name_of_port(port) {
         Some(name) => name,
         None => unreachable!(),

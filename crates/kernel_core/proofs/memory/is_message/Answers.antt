@@ -1,6 +1,3 @@
-use Rattle.message_codec.specs.declared.text.Parsed.{Parsed}
-use Rattle.message_codec.specs.Parses.{Parses}
-use Rattle.kernel_core.specs.MemoryCodes.{IsMessage}
 use Rattle.kernel_core.proofs.Lacking.{message_ok, message_short, message_not}
 use Rattle.kernel_core.proofs.memory.is_message.Goals as goal
 use Rattle.kernel_core.proofs.memory.is_message.Goals.{in-Ok, in-Err+in-SendNoBuffer, in-Err+in_default}

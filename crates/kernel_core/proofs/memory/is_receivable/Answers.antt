@@ -1,4 +1,4 @@
-use Rattle.std.proofs.Common.{ap, arith, ◌≡◌, ◌<◌}
+use Rattle.std.proofs.Common.{ap, arith}
 use Rattle.copyin_base.specs.Worlds.{WorldView}
 use Rattle.kernel_core.proofs.Staying.{receivable_by, unfronted_by, fronted_by, not_queued}
 use Rattle.kernel_core.proofs.memory.is_receivable.Goals as goal

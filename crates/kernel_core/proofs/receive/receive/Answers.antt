@@ -2,9 +2,14 @@ use Rattle.std.proofs.Common.{refl}
 use Rattle.std.proofs.lemmas.Result.{err_from_is_err_and}
 use Rattle.copyin_base.proofs.Spares.{keeps_same}
 use Rattle.kernel_core.proofs.Keeping.{refused_spares}
+use Rattle.kernel_core.proofs.Named.{known_named}
 use Rattle.kernel_core.proofs.Receiving.{named_declined, named_stays, named_received}
 use Rattle.kernel_core.proofs.Sparing.{not_short_named, named_spares}
 use Rattle.kernel_core.proofs.receive.receive.Goals as goal
+
+pub take-requires-clause-known : goal.take-requires-clause-known
+take-requires-clause-known c =
+    known_named c.args.world.now c.args.task c.args.name c.in_ok-waited.waited c.known_name-name.result c.in_ok-waited.ensures.found c.known_name-name.ensures
 
 pub returns-clause-serves : goal.returns-clause-serves
 returns-clause-serves c = named_received c.args.world.now c.args.task c.args.buffer.room c.args.buffer.large c.requires.there c.args.name c.in_ok-waited.waited c.in_ok-waited.ensures.ok c.in_ok-take.field-0 c.take.new.world c.in_ok-take.ensures.ok
