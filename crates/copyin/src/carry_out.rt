@@ -149,6 +149,7 @@ fn use_right(ledger: &mut Ledger, port: PortId, by_once: bool)
 
 // The message joins the end of its port's queue, in a spare slot, and the right that it goes by is
 // unused no more.
+#[inline(always)]
 fn queue_message(world: &mut World, port: PortId, message: Message)
     requires live { IsLive world.old.ports port }
     requires spare { 0 < world.old.ports.spare }
@@ -174,6 +175,7 @@ fn copy_word(world: &mut World, task: TaskId, word: PortWord, carried: Carried)
 }
 
 // The rights of words go, one after the other.
+#[inline(always)]
 fn copy_words(world: &mut World, task: TaskId, words: &[PortWord], rights: &[Carried])
     requires { CanGo world.old task words.now rights.now }
     ensures { ChangesWords world.old task words.now rights.now world.new }
@@ -187,6 +189,7 @@ fn copy_words(world: &mut World, task: TaskId, words: &[PortWord], rights: &[Car
 }
 
 // The right to answer with goes, if there is one.
+#[inline(always)]
 fn copy_reply(world: &mut World, task: TaskId, word: Option<PortWord>, reply: Option<Carried>)
     requires { CanGo world.old task (option_to_list word) (option_to_list reply) }
     ensures { ChangesWords world.old task (option_to_list word) (option_to_list reply) world.new }
@@ -208,6 +211,7 @@ fn hold_right(world: &mut World, queue: PortId, carried: &Carried)
 }
 
 // The queue holds each receive right among these now.
+#[inline(always)]
 fn hold_rights(world: &mut World, queue: PortId, rights: &[Carried])
     requires live { CanHoldAll world.old rights.now }
     requires none_lost { NoneLost world.old }
@@ -221,6 +225,7 @@ fn hold_rights(world: &mut World, queue: PortId, rights: &[Carried])
 /// Sends a message by its plan: its rights go from the sender, and it joins the end of its port's
 /// queue, in a spare slot; the queue holds the receive rights that it carries. Takes no memory. Constant
 /// time for each right, and logarithmic for a name above 65,535.
+#[inline(always)]
 pub fn commit(world: &mut World, plan: Plan)
     requires planned { (task : ℕ) × (parsed : AnyParsed) × (written : WireBody) × (bytes : List ℕ) × IsPlan world.old task parsed written bytes plan }
     requires spare { 0 < world.old.ports.spare }

@@ -276,10 +276,10 @@ fn judge_destination(space: &TaskNames<'_>, word: PortWord) -> Result<Destinatio
 
 // The rights of a message's header.
 #[derive(Clone, Copy)]
-struct Rights {
-    destination: Carried,
-    port: PortId,
-    reply: Option<Carried>,
+pub(crate) struct Rights {
+    pub(crate) destination: Carried,
+    pub(crate) port: PortId,
+    pub(crate) reply: Option<Carried>,
 }
 
 // Whether the message carries the destination's right alone, as most do.
@@ -290,7 +290,8 @@ fn is_lone(words: &Words, parsed: &Parsed) -> bool
 }
 
 // Judges the word of the destination, where it is the only one.
-fn judge_lone(space: &TaskNames<'_>, words: &Words) -> Result<Rights, MsgReturn>
+#[inline(always)]
+pub(crate) fn judge_lone(space: &TaskNames<'_>, words: &Words) -> Result<Rights, MsgReturn>
     requires given { AreGiven words.now }
     requires lone { IsLone words.now }
     ensures ok { IfOk result (λ rights. GoAll space.now.names words.now rights []) }
@@ -360,6 +361,7 @@ fn judge_others(
 }
 
 // Whether the port's queue takes a message under this destination right.
+#[inline(always)]
 fn has_slot(world: &World, port: PortId, destination: Carried) -> bool
     requires live { IsLive world.now.ports port }
     requires sends { kind_sent destination.given ≢ receive }
@@ -392,6 +394,7 @@ fn count_all_made(rights: &[Carried]) -> u64
 }
 
 // Whether there may be as many rights as the message makes.
+#[inline(always)]
 fn has_room(world: &World, rights: &Rights, body: &[Carried]) -> bool
     ensures { IsTrue result ↔ (world.now.ledger.total + made_by_rights rights.now body.now ≤ most_rights) }
 {
@@ -404,6 +407,7 @@ fn has_room(world: &World, rights: &Rights, body: &[Carried]) -> bool
 }
 
 // Judges whether the message closes a loop.
+#[inline(always)]
 fn judge_loop(world: &World, alloc: Global, port: PortId, body: &[Carried]) -> Result<(), MsgReturn>
     ensures ok { OnOk result (¬ (MakesLoop world.now.ports port body.now)) }
     ensures err { IfErr result (λ code. MakesLoop world.now.ports port body.now × (code ≡ SendInvalidRight) ⊎ (inline_words < length body.now) × (code ≡ SendNoBuffer)) }
@@ -416,7 +420,13 @@ fn judge_loop(world: &World, alloc: Global, port: PortId, body: &[Carried]) -> R
 }
 
 // Judges whether the message closes a loop, then the queue, and then the limit of rights.
-fn admit(world: &World, alloc: Global, rights: &Rights, body: &[Carried]) -> Result<(), MsgReturn>
+#[inline(always)]
+pub(crate) fn admit(
+    world: &World,
+    alloc: Global,
+    rights: &Rights,
+    body: &[Carried],
+) -> Result<(), MsgReturn>
     requires live { IsLive world.now.ports rights.now.port }
     requires sends { kind_sent rights.now.destination.given ≢ receive }
     ensures ok { IfOk result (λ _. MayGo world.now rights.now body.now) }

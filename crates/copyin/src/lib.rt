@@ -1,12 +1,14 @@
 //! Copying rights in: what a message takes from its sender.
 //!
-//! [`check`] judges a message whole and changes nothing; [`commit`] does what was judged, and can't fail.
+//! [`check`] judges a message whole and changes nothing, and so does [`check_plain`] for one that carries the
+//! right of its destination alone; [`commit`] does what was judged, and can't fail.
 #![tactic(auto)]
 
 mod carry_out;
 mod copies;
 mod judge;
 mod loops;
+mod plain;
 mod slots;
 mod touched;
 
@@ -14,3 +16,4 @@ pub use carry_out::{commit, copy_name};
 pub use copies::{Copied, copy_right};
 pub use copyin_base::World;
 pub use judge::{Plan, Words, check};
+pub use plain::check_plain;

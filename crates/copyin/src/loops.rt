@@ -19,6 +19,7 @@ use std::alloc::{AllocError, Global};
 /// Linear in the rights, and in the number of these messages where one is a receive right; each of up to
 /// [`INLINE_WORDS`] receive rights follows them anew. So many rights take no memory; an error means that
 /// for more it was refused.
+#[inline(always)]
 pub(crate) fn makes_loop(
     ports: &Ports<Queued>,
     alloc: Global,

@@ -20,3 +20,4 @@ mod Lacking
 mod Staying
 mod Chosen
 pub mod Named
+pub mod Carrying

@@ -5,12 +5,20 @@ use Rattle.message_codec.specs.Parses.{Parses}
 use Rattle.copyin_base.specs.Changes.{with_slots}
 use Rattle.copyin_base.specs.Wanted.{room_of}
 use Rattle.copyin_base.specs.Worlds.{WorldView}
+use Rattle.copyin.specs.declared.judge.Plan.{Plan}
+use Rattle.copyin.specs.Planned.{IsPlan}
 use Rattle.copyin.specs.Plans.{Plans, Commits}
 use Rattle.copyin.specs.Slots.{slots_for}
 
 -- with slots made where fewer are spare than one for each send-once right that no queued message goes by, and so many more
 abbrev pub slotted : WorldView → (more : ℕ) → WorldView
 slotted w more = with_slots w (max w.ports.spare (w.ledger.unused + more))
+
+-- The plan sends these bytes, as the tables allow.
+pub record PlansText (w : WorldView) (task : ℕ) (bytes : List ℕ) (plan : Plan) : Type 0 where
+  pub parsed : Parsed
+  pub text : Parses bytes parsed
+  pub is_plan : IsPlan w task parsed text.written bytes plan
 
 -- The bytes are a message that may be sent, and it is, once the slots were made that it wants.
 pub record SendsText (old : WorldView) (task : ℕ) (bytes : List ℕ) (new : WorldView) : Type 0 where

@@ -1,18 +1,20 @@
 //! Sending a message.
-ghost use Rattle.std.specs.Prelude.{◌≡◌, ◌<◌, IfOk, IfErr, OnOk, OnErr};
+ghost use Rattle.std.specs.Prelude.{◌≡◌, ℕ, List, IfOk, IfErr, OnOk, OnErr};
 ghost use Rattle.mach_types.specs.declared.calls.Event.{Event as AnyEvent};
 ghost use Rattle.mach_types.specs.declared.codes.MsgReturn.TheVariants.{SendNoBuffer};
 ghost use Rattle.mach_types.specs.Numbers.{msg_number};
 ghost use Rattle.copyin_base.specs.Acts.{Declines, Serves, code_number};
 ghost use Rattle.copyin_base.specs.Stands.{Stands};
 ghost use Rattle.copyin.specs.Wanted.{WantsToSend};
-ghost use Rattle.kernel_core.specs.Send.{SendsText, UsesSlot};
+ghost use Rattle.message_codec.specs.Parses.{Parses};
+ghost use Rattle.message_codec.specs.Plain.{parsed_plain};
+ghost use Rattle.kernel_core.specs.Send.{PlansText, SendsText, UsesSlot};
 ghost use Rattle.copyin_base.specs.Worlds.{HasTask};
 
-use copyin::{check, commit};
+use copyin::{Plan, check, check_plain, commit};
 use copyin_base::{Code, World};
 use mach_types::{Bytes, MsgReturn, Reply, TaskId};
-use message_codec::parse;
+use message_codec::{Plain, parse, parse_plain};
 use std::alloc::Global;
 
 /// `Send` (IPC Interface, `mach_msg` with `MACH_SEND_MSG`). The task lives. A refusal leaves all as it
@@ -50,15 +52,64 @@ fn send_text(world: &mut World, alloc: Global, task: TaskId, bytes: &[u8]) -> Re
     ensures refused { OnErr result (world.new ≡ world.old) }
     ensures wanted { IfErr result (λ code. msg_number code ≡ msg_number SendNoBuffer → WantsToSend world.old task bytes.now) }
 {
+    match parse_plain(bytes) {
+        Some(plain) => send_plain(world, alloc, task, &plain, bytes),
+        None => send_any(world, alloc, task, bytes),
+    }
+}
+
+/// Sends a message that carries the right of its destination alone.
+fn send_plain(
+    world: &mut World,
+    alloc: Global,
+    task: TaskId,
+    plain: &Plain,
+    bytes: &[u8],
+) -> Result<(), MsgReturn>
+    requires there { HasTask world.old task }
+    requires stands { Stands world.old }
+    requires parses { Parses bytes.now (parsed_plain plain.now) }
+    ensures ok { IfOk result (λ _. SendsText world.old task bytes.now world.new) }
+    ensures err { IfErr result (λ code. Declines world.old (AnyEvent.Send task bytes.now) (msg_number code) world.old) }
+    ensures refused { OnErr result (world.new ≡ world.old) }
+    ensures wanted { IfErr result (λ code. msg_number code ≡ msg_number SendNoBuffer → WantsToSend world.old task bytes.now) }
+{
+    match check_plain(world, alloc, task, plain, bytes) {
+        Ok(plan) => carry_out(world, plan),
+        Err(code) => Err(code),
+    }
+}
+
+/// Sends a message, whatever it carries.
+fn send_any(world: &mut World, alloc: Global, task: TaskId, bytes: &[u8]) -> Result<(), MsgReturn>
+    requires there { HasTask world.old task }
+    requires stands { Stands world.old }
+    ensures ok { IfOk result (λ _. SendsText world.old task bytes.now world.new) }
+    ensures err { IfErr result (λ code. Declines world.old (AnyEvent.Send task bytes.now) (msg_number code) world.old) }
+    ensures refused { OnErr result (world.new ≡ world.old) }
+    ensures wanted { IfErr result (λ code. msg_number code ≡ msg_number SendNoBuffer → WantsToSend world.old task bytes.now) }
+{
     // Not by `?`, which would move what was read, and the plan, once more.
     let parsed = match parse(alloc, bytes) {
         Ok(parsed) => parsed,
         Err(code) => return Err(code),
     };
-    let plan = match check(world, alloc, task, &parsed, bytes) {
-        Ok(plan) => plan,
-        Err(code) => return Err(code),
-    };
+    match check(world, alloc, task, &parsed, bytes) {
+        Ok(plan) => carry_out(world, plan),
+        Err(code) => Err(code),
+    }
+}
+
+/// Makes the slots that the plan wants, and sends its message. `MACH_SEND_NO_BUFFER` where memory was
+/// refused for them; all is then as before.
+#[inline(always)]
+fn carry_out(world: &mut World, plan: Plan) -> Result<(), MsgReturn>
+    requires stands { Stands world.old }
+    requires planned { (task : ℕ) × (bytes : List ℕ) × PlansText world.old task bytes plan }
+    ensures ok { IfOk result (λ _. (task : ℕ) (bytes : List ℕ) → PlansText world.old task bytes plan → SendsText world.old task bytes world.new) }
+    ensures err { IfErr result (λ code. code ≡ SendNoBuffer) }
+    ensures refused { OnErr result (world.new ≡ world.old) }
+{
     let Ok(()) = world.reserve_slots(plan.count_slots()) else {
         return Err(MsgReturn::SendNoBuffer);
     };

@@ -41,6 +41,10 @@ first_word n flag fits known is = omega arith
 known_of : (n local : ℕ) → ¬ (BadHeader n local) → n / 2 ^ 16 % 2 ^ 15 ≡ 0
 known_of n local good = elim (cases_eq (n / 2 ^ 16 % 2 ^ 15) 0) [ inl h ↦ h | inr h ↦ absurd (good (inl h)) ]
 
+-- what a judged header says of the local port where there is no right to answer with
+pub local_of : (bytes : List ℕ) → NoneHolds (header_guards bytes) → 0 ≡ word_at bytes 0 / 2 ^ 8 % 2 ^ 8 → 0 ≡ word_at bytes 12
+local_of bytes none alone = elim (cases_eq (word_at bytes 12) 0) [ inl h ↦ sym h | inr h ↦ absurd (none.1.1.0 (inr (inr (inr (sym alone, h))))) ]
+
 -- what a judged header says of the length
 pub long_enough : (bytes : List ℕ) → NoneHolds (header_guards bytes) → 24 ≤ length bytes
 long_enough bytes none = let h : length bytes < 24 → ⊥ = λ few. none.0 (inl few) in omega arith

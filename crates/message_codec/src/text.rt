@@ -1,14 +1,16 @@
 //! Reading a message's text.
-ghost use Rattle.std.specs.Prelude.{◌≡◌, ◌⊎◌, [], IfOk, IfErr, OnOk};
+ghost use Rattle.std.specs.Prelude.{◌≡◌, ◌⊎◌, [], IfOk, IfErr, OnOk, IfSome, IfNone};
 ghost use Rattle.mach_types.specs.declared.codes.MsgReturn.TheVariants.{SendNoBuffer};
 ghost use Rattle.mach_types.specs.Numbers.{msg_number};
 ghost use Rattle.mach_types.specs.Grammar.{Header as AnyHeader, WireBody, Spells};
 ghost use Rattle.mach_types.specs.Guards.{NoneHolds};
 ghost use Rattle.mach_types.specs.TextGuards.{TextRefuses, header_guards};
 ghost use Rattle.message_codec.specs.Parses.{Parses, ReadsBody, IsCrowded};
+ghost use Rattle.message_codec.specs.Plain.{IsPlain, parsed_plain};
+ghost use Rattle.message_codec.specs.declared.text.Parsed.{Parsed as AnyParsed};
 ghost use Rattle.message_codec.specs.Spans.{inline_spans};
 
-use crate::header::{check_header, is_complex, local_kind, remote_kind};
+use crate::header::{HEADER_BYTES, check_header, is_complex, local_kind, remote_kind};
 use crate::items::read_spans;
 use crate::spans::{Span, Spans};
 use mach_types::{MsgReturn, Name};
@@ -34,6 +36,18 @@ pub struct Parsed {
     pub id: u32,
     /// Where the port words of the body stand.
     pub spans: Spans,
+}
+
+/// What the kernel needs of a message that carries the right of its destination alone: it has no right to
+/// answer with, and its body is raw bytes.
+#[derive(Clone, Copy, Debug, PartialEq, Eq)]
+pub struct Plain {
+    /// The disposition of the destination, 17 to 21.
+    pub remote_kind: u8,
+    /// The sender's name of the destination.
+    pub remote: Name,
+    /// The id.
+    pub id: u32,
 }
 
 /// Puts the spans of a body whose header is judged already into a list that has none.
@@ -91,5 +105,29 @@ pub fn parse(alloc: Global, bytes: &[u8]) -> Result<Parsed, MsgReturn>
         id: read_word(bytes, 20),
         is_complex: is_complex(bits),
         spans: Spans::from_small_vec(spans),
+    })
+}
+
+/// What these bytes say, if they are such a message, as most are: just what [`parse`] gives of them, read
+/// without a list of spans. `None` for every other text, and for bytes that are none. Takes no memory.
+/// Constant time.
+pub fn parse_plain(bytes: &[u8]) -> Option<Plain>
+    ensures some { IfSome result (λ plain. Parses bytes.now (parsed_plain plain)) }
+    ensures none { IfNone result ((parsed : AnyParsed) → Parses bytes.now parsed → ¬ (IsPlain parsed)) }
+{
+    if bytes.len() < HEADER_BYTES {
+        return None;
+    }
+    let bits = read_word(bytes, 0);
+    if is_complex(bits) || local_kind(bits) != 0 {
+        return None;
+    }
+    let Ok(()) = check_header(bytes) else {
+        return None;
+    };
+    Some(Plain {
+        remote_kind: remote_kind(bits),
+        remote: Name::new(read_word(bytes, 8)),
+        id: read_word(bytes, 20),
     })
 }
