@@ -1,5 +1,5 @@
 //! Ports that lost their receive rights are sent away, or are doomed with all that is queued.
-ghost use Rattle.std.specs.Prelude.{◌↔◌, ◌≡◌, ◌<◌, ℕ, [], IsTrue, IfSome, IfNone, MatchBool, Some, length, slice_get};
+ghost use Rattle.std.specs.Prelude.{◌↔◌, ◌≡◌, ◌<◌, ℕ, [], IsTrue, false, IfSome, IfNone, MatchBool, Some, length, slice_get};
 ghost use Rattle.std.specs.Option.{option_and_then};
 ghost use Rattle.mach_types.specs.Numbers.{most_rights};
 ghost use Rattle.port.specs.Ports.{NoneQueued, IsLive};
@@ -52,8 +52,8 @@ fn judge(world: &mut World, port: PortId) -> u64
             1
         }
         None => {
-            doom(world, port);
-            destroy_queue(world, port).wrapping_add(1)
+            let has_messages = doom(world, port);
+            destroy_any(world, port, has_messages).wrapping_add(1)
         }
     }
 }
@@ -127,6 +127,22 @@ fn hold_in(world: &mut World, port: PortId, queue: PortId)
     ensures { HoldsPort world.old port queue world.new }
 {
     world.ports.hold(port, Holder::QueueOf(queue));
+}
+
+// The messages of a doomed port are destroyed, where it has some: most have none, and are not looked up
+// again. Answers how many.
+fn destroy_any(world: &mut World, port: PortId, has_messages: bool) -> u64
+    requires { has_messages ≡ false → NoneQueued world.old.ports port }
+    ensures empties { Empties world.old port result world.new }
+    ensures emptied { NoneQueued world.new.ports port }
+    ensures remains { remaining world.new ≡ remaining world.old }
+    ensures spaces { world.new.spaces ≡ world.old.spaces }
+{
+    if has_messages {
+        destroy_queue(world, port)
+    } else {
+        0
+    }
 }
 
 // The messages of a doomed port are destroyed. Answers how many.
@@ -222,12 +238,13 @@ fn is_queued(world: &World, port: PortId) -> bool
     }
 }
 
-// A port that nobody holds is doomed.
-fn doom(world: &mut World, port: PortId)
+// A port that nobody holds is doomed. Answers whether it has messages.
+fn doom(world: &mut World, port: PortId) -> bool
     requires { IsHeldBy world.old.ports port Holder.Nobody }
-    ensures { DoomsPort world.old port world.new }
+    ensures doomed { DoomsPort world.old port world.new }
+    ensures none { result ≡ false → NoneQueued world.new.ports port }
 {
-    world.ports.doom(port);
+    world.ports.doom(port)
 }
 
 // The receive right that a step's own part took comes again; one that a message carried is there still.

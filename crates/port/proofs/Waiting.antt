@@ -1,5 +1,6 @@
 -- The ports that nobody holds, and those that are noted, from the lists of their keys.
-use Rattle.std.proofs.Common.{◌≡◌, ◌≢◌, inl, inr, ℕ, ◌<◌, Bool, false, cond, not, Option, Some, None, is_some, true, List, [], ◌∷◌, ◌++◌, length, slice_get, refl, ap, sym, subst, ◌∙◌, arith, Contains}
+use Rattle.std.proofs.Common.{◌≡◌, ◌≢◌, ◌↔◌, inl, inr, ℕ, ◌<◌, eqb, IsTrue, Bool, false, cond, not, Option, Some, None, is_some, true, List, [], ◌∷◌, ◌++◌, length, slice_get, refl, ap, sym, subst, ◌∙◌, arith, Contains}
+use Rattle.std.proofs.lemmas.Bool.Decides.{eqb_tells}
 use Rattle.std.specs.FinMap as map
 use Rattle.std.specs.Ordering.{nat_cmp}
 use Rattle.std.specs.Option.{option_map}
@@ -288,6 +289,16 @@ module _ {M : Type 0} (s : Slab (Record M)) (keys : Keyed) (next : Option ℕ) (
       ∙ relisted (mk P (turns_at (get s) ready.lists)) (ids_in (get (with_value s key a)) waiting lost_list) (ids_in (get (with_value s key a)) waiting doomed_list) (ids_in (get (with_value s key a)) later noted_list)
       (ids_in (get s) waiting lost_list) (ids_in (get s) waiting doomed_list) noted (record { lost_is = stay waiting lost_list; doomed_is = stay waiting doomed_list; noted_is = stay later noted_list ∙ is })
       ∙ ap (λ (b : PortsView M). record b { noted = noted }) view_is
+
+some_told : (n : ℕ) → IsTrue (not (eqb n 0)) ↔ (0 < n)
+some_told n = elim (eqb_tells n 0) [
+  | inl h ↦ (λ yes. absurd (no_true (sym (ap not h.0) ∙ yes)), λ some. absurd (let none = h.1 in omega arith))
+  | inr h ↦ (λ yes. (let some = h.1 in omega arith), λ some. ap not h.0)
+]
+
+-- a queue has messages just where it is not empty
+pub some_queued : {A : Type 0} (xs ys : List A) → xs ≡ ys → (none : Bool) → none ≡ eqb (length xs) 0 → IsTrue (not none) ↔ (0 < length ys)
+some_queued xs ys same none is = subst (λ b. IsTrue (not b) ↔ (0 < length ys)) (sym (is ∙ ap (λ zs. eqb (length zs) 0) same)) (some_told (length ys))
 
 -- a port that nobody holds waits in one of two lists, and a noted one stands in the first
 pub waits_in_two : (h : Holder) (l : ℕ) → waits_in h ≡ Some l → l < 2

@@ -5,11 +5,11 @@ use Rattle.destroy.proofs.JudgeDone.{dooms_fewer, dooms_continues}
 use Rattle.destroy.proofs.judging.judge.Goals as goal
 
 pub returns-in-None-clause-continues : goal.returns-in-None-clause-continues
-returns-in-None-clause-continues c = dooms_continues c.args.world.now c.args.port c.requires.lost c.in-None.ensures.none c.doom.new.world c.doom.ensures c.destroy_queue.result c.destroy_queue.new.world
-    c.destroy_queue.ensures.empties c.destroy_queue.ensures.emptied _ refl
+returns-in-None-clause-continues c = dooms_continues c.args.world.now c.args.port c.requires.lost c.in-None.ensures.none c.doom-has_messages.new.world c.doom-has_messages.ensures.doomed c.destroy_any.result c.destroy_any.new.world
+    c.destroy_any.ensures.empties c.destroy_any.ensures.emptied _ refl
 
 pub returns-in-None-clause-fewer : goal.returns-in-None-clause-fewer
-returns-in-None-clause-fewer c = subst (λ n. n < remaining c.args.world.now) (sym c.destroy_queue.ensures.remains) (dooms_fewer c.args.world.now c.args.port c.requires.lost c.in-None.ensures.none c.doom.new.world c.doom.ensures c.requires.at)
+returns-in-None-clause-fewer c = subst (λ n. n < remaining c.args.world.now) (sym c.destroy_any.ensures.remains) (dooms_fewer c.args.world.now c.args.port c.requires.lost c.in-None.ensures.none c.doom-has_messages.new.world c.doom-has_messages.ensures.doomed c.requires.at)
 
 pub returns-in-None-clause-spaces : goal.returns-in-None-clause-spaces
-returns-in-None-clause-spaces c = c.destroy_queue.ensures.spaces ∙ ap (λ (w : WorldView). w.spaces) c.doom.ensures.rest
+returns-in-None-clause-spaces c = c.destroy_any.ensures.spaces ∙ ap (λ (w : WorldView). w.spaces) c.doom-has_messages.ensures.doomed.rest

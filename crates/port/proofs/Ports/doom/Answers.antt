@@ -11,8 +11,8 @@ use Rattle.port.proofs.Ports.doom.Goals as goal
 pub set_holder-requires : goal.set_holder-requires
 set_holder-requires g c = ap is_some c.requires.there
 
-pub returns : goal.returns
-returns g c p h =
+pub returns-clause-doomed : goal.returns-clause-doomed
+returns-clause-doomed g c p h =
     let is : p ≡ c.requires.view = same_some p c.requires.view (sym h ∙ c.requires.there) in
     let nobody : p.attributes.holder ≡ Holder.Nobody = ap (λ (q : PortView g.row.M.Denot). q.attributes.holder) is ∙ c.requires.holder_is in
     c.set_holder.ensures.held p h
