@@ -339,7 +339,7 @@ fn judge_all(
 }
 
 // Judges the reply and the body, where this is left under the destination's name.
-#[inline(never)]
+#[inline(always)]
 fn judge_others(
     alloc: Global,
     space: &TaskNames<'_>,

@@ -12,6 +12,7 @@ use name_space::Entry;
 
 impl World {
     // Puts another entry under a name that is in use.
+    #[inline(always)]
     fn replace_entry(&mut self, task: TaskId, name: Name, entry: Entry)
         requires { CanPutLeft self.old task name (Some entry) }
         ensures { PutsLeft self.old task name (Some entry) self.new }
@@ -23,6 +24,7 @@ impl World {
     }
 
     // Takes a name that is in use away, and the request on it.
+    #[inline(always)]
     fn remove_name(&mut self, task: TaskId, name: Name)
         requires { CanPutLeft self.old task name None }
         ensures { PutsLeft self.old task name None self.new }
@@ -38,6 +40,7 @@ impl World {
     /// it ends: its right is kept until the step's end pays with it.
     ///
     /// Takes no memory. Constant time, and logarithmic for a name above 65,535.
+    #[inline(always)]
     pub fn put_left(&mut self, task: TaskId, name: Name, left: Option<Entry>)
         requires { CanPutLeft self.old task name left }
         ensures { PutsLeft self.old task name left self.new }
@@ -52,6 +55,7 @@ impl World {
     /// there is room for one, or the name for which a place is kept.
     ///
     /// Takes no memory. Constant time, and logarithmic for a name above 65,535.
+    #[inline(always)]
     pub fn insert_entry(&mut self, task: TaskId, name: Name, entry: Entry)
         requires { CanInsert self.old task name entry }
         ensures { InsertsEntry self.old task name entry self.new }

@@ -114,6 +114,7 @@ fn count_references(world: &mut World, task: TaskId, name: Name, entry: &Entry, 
 }
 
 // Makes the references of what stands under a name so many. A name of nothing else goes with the last.
+#[inline(always)]
 fn set_references(world: &mut World, task: TaskId, name: Name, entry: Entry, references: u32)
     requires stands { Stands world.old }
     requires can { CanSet world.old task name entry references }
@@ -194,6 +195,7 @@ fn lose_receive(world: &mut World, task: TaskId, name: Name, loss: Loss)
     note_lost(world, port, fewer);
 }
 
+#[inline(always)]
 fn carry_out(world: &mut World, task: TaskId, name: Name, due: Due)
     requires stands { Stands world.old }
     requires can { CanCarry world.old task name due }

@@ -339,6 +339,7 @@ impl Space {
     /// Puts the entry under a name that is not in use, in a place that was made: the fresh name where
     /// there is room for one, or the name for which a place is kept. Takes no memory. Constant time;
     /// above 65,535 logarithmic in the number of names there.
+    #[inline(always)]
     pub fn insert(&mut self, name: Name, entry: Entry)
         requires usable { IsUsable name }
         requires unused { map.get self.old.names name ≡ None }
@@ -388,6 +389,7 @@ impl Space {
 
     /// Takes a name out of use, and answers what stood under it. Room stays as it is, and the place that
     /// is kept for a name. Constant time; above 65,535 logarithmic in the number of names there.
+    #[inline(always)]
     pub fn remove(&mut self, name: Name) -> Option<Entry>
         ensures value { result ≡ map.get self.old.names name }
         ensures after { self.new ≡ record self.old { names = map.remove self.old.names name } }

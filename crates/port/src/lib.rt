@@ -696,6 +696,7 @@ impl<M: Message> Ports<M> {
     }
 
     /// Puts a message at the end of a port's queue, in a spare slot. Takes no memory. Constant time.
+    #[inline(always)]
     pub fn enqueue(&mut self, port: PortId, message: M)
         requires live { IsLive self.old port }
         requires spare { 0 < self.old.spare }
