@@ -1,5 +1,5 @@
 -- The port words that are read are those of the text.
-use Rattle.std.proofs.Common.{◌≡◌, ℕ, zero, suc, ◌+◌, ◌*◌, ◌^◌, ◌<◌, ◌≤◌, List, [], ◌∷◌, ◌++◌, length, take, get_or, refl, sym, ap, subst, ◌∙◌, arith, length-append, append_assoc, All}
+use Rattle.std.proofs.Common.{◌≡◌, ℕ, zero, suc, ◌+◌, ◌*◌, ◌^◌, ◌<◌, List, [], ◌∷◌, ◌++◌, length, take, get_or, refl, sym, ap, subst, ◌∙◌, arith, length-append, append_assoc, All}
 use Rattle.std.proofs.lemmas.List.{take_more, map-append, get_or-append-add, take-append-drop, length-take-le, length-map, append-nil}
 use Rattle.mach_types.specs.Grammar.{word, words_text, Wire, data_item, port_item, wire_text, wires_text, IsWire, WireBody, raw, items, descriptor_text}
 use Rattle.mach_types.specs.TextGuards.{word_at}
@@ -7,7 +7,7 @@ use Rattle.type_descriptor.proofs.ByteWords.{word_at-word}
 use Rattle.message_codec.specs.declared.spans.Span.{Span}
 use Rattle.message_codec.specs.declared.words.PortWord.{PortWord}
 use Rattle.message_codec.specs.Received.{IsLaidOut}
-use Rattle.message_codec.specs.Spans.{is_long, spans_at, words_place, SpansFit}
+use Rattle.message_codec.specs.Spans.{is_long, spans_at, words_place, word_count, SpansFit}
 use Rattle.message_codec.specs.Words.{named, items_words, body_words, StandsAt}
 use Rattle.message_codec.proofs.Fronts.{length-descriptor_text}
 use Rattle.message_codec.proofs.PutSpans.{words_place-is}
@@ -132,13 +132,13 @@ read-all bytes spans words written is laid =
     let t = is.whole (body_words written) (laid_out-say bytes spans written laid) in
     sym (t.2 ∙ ap (λ (os : List PortWord). words ++ os) t.1 ∙ append-nil words)
 
--- The words so far and those of a further span are no more than the text has.
-pub read-less : (bytes : List ℕ) (spans rest : List Span) (s : Span) (words : List PortWord) (written : WireBody) → IsRead bytes spans (s ∷ rest) words → IsLaidOut bytes spans written
-    → length words + s.number ≤ length (body_words written)
-read-less bytes spans rest s words written is laid =
-    let t = is.whole (body_words written) (laid_out-say bytes spans written laid) in
-    let u = t.1 in
-    let all : length (body_words written) ≡ length words + length t.0 = ap length t.2 ∙ length-append words t.0 in
-    let left : length t.0 ≡ length (named s.disposition u.0) + length u.1 = ap length u.4 ∙ length-append (named s.disposition u.0) u.1 in
-    let one : length (named s.disposition u.0) ≡ s.number = length-map {B = PortWord} u.0 (λ w. record { disposition = s.disposition; name = w }) ∙ u.2 in
-    omega arith
+-- as many as the spans say
+say-length : (bytes : List ℕ) (spans : List Span) (words : List PortWord) → SpansSay bytes spans words → length words ≡ word_count spans
+say-length bytes [] words say = ap length say
+say-length bytes (s ∷ ss) words say =
+    let one : length (named s.disposition say.0) ≡ s.number = length-map {B = PortWord} say.0 (λ w. record { disposition = s.disposition; name = w }) ∙ say.2 in
+    let others = say-length bytes ss say.1 say.5 in
+    omega (arith, ap length say.4, length-append (named s.disposition say.0) say.1, one, others)
+
+pub laid_out-count : (bytes : List ℕ) (spans : List Span) (written : WireBody) → IsLaidOut bytes spans written → length (body_words written) ≡ word_count spans
+laid_out-count bytes spans written laid = say-length bytes spans (body_words written) (laid_out-say bytes spans written laid)

@@ -27,7 +27,7 @@ pub struct ReceivedHeader {
     pub local_kind: u8,
     /// The length of the whole message in bytes.
     pub size: u32,
-    /// The name of the right to answer with, or 0.
+    /// The name of the right to answer with: 0 where there is none, `ffffffff` where its port has died.
     pub remote: Name,
     /// The name of the port received from.
     pub local: Name,

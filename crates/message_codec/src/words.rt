@@ -1,9 +1,9 @@
 //! The port words of a message.
 ghost use Rattle.std.specs.Prelude.{◌≡◌, ℕ, ◌+◌, ◌*◌, ◌<◌, ◌≤◌, ◌++◌, List, length, IfOk, OnOk, OnErr};
-ghost use Rattle.smallvec.specs.SmallVec.{small_vec_len};
+ghost use Rattle.smallvec.specs.SmallVec.{small_vec_len, HasRoomFor};
 ghost use Rattle.mach_types.specs.Grammar.{WireBody};
 ghost use Rattle.message_codec.specs.Received.{IsLaidOut};
-ghost use Rattle.message_codec.specs.Spans.{words_place};
+ghost use Rattle.message_codec.specs.Spans.{words_place, word_count};
 ghost use Rattle.message_codec.specs.Words.{body_words, inline_words, named, StandsAt};
 
 use crate::spans::Span;
@@ -34,26 +34,36 @@ impl Default for PortWord {
     }
 }
 
-// Adds the words of one item.
-fn read_words(
-    words: &mut SmallVec<PortWord, INLINE_WORDS>,
-    bytes: &[u8],
-    span: &Span,
-) -> Result<(), AllocError>
-    requires room { words_place span.now + 4 * span.now.number ≤ length bytes.now }
-    requires inline { inline_words ≤ words.old.capacity }
-    ensures ok { OnOk result ((names : List ℕ) → StandsAt bytes.now (words_place span.now) names → length names ≡ span.now.number
-        → words.new.items ≡ words.old.items ++ named span.now.disposition names) }
-    ensures err { OnErr result (inline_words < small_vec_len words.old + span.now.number) }
-    ensures capacity { inline_words ≤ words.new.capacity }
+// How many words the items have. An error means that it is no number of the processor's.
+fn count_words(spans: &[Span]) -> Result<usize, AllocError>
+    ensures ok { IfOk result (λ count. count ≡ word_count spans.now) }
+    ensures err { OnErr result (inline_words < word_count spans.now) }
+{
+    let mut count: usize = 0;
+    for span in spans {
+        let Some(more) = count.checked_add(span.number as usize) else {
+            return Err(AllocError);
+        };
+        count = more;
+    }
+    Ok(count)
+}
+
+// Adds the words of one item, for which there is room.
+fn read_words(words: &mut SmallVec<PortWord, INLINE_WORDS>, bytes: &[u8], span: &Span)
+    requires within { words_place span.now + 4 * span.now.number ≤ length bytes.now }
+    requires room { HasRoomFor words.old span.now.number }
+    ensures words { (names : List ℕ) → StandsAt bytes.now (words_place span.now) names → length names ≡ span.now.number
+        → words.new.items ≡ words.old.items ++ named span.now.disposition names }
+    ensures len { small_vec_len words.new ≡ small_vec_len words.old + span.now.number }
+    ensures capacity { words.new.capacity ≡ words.old.capacity }
 {
     let disposition = span.disposition;
     let start = span.words_at();
     for index in 0..span.number as usize {
         let name = Name::new(read_word(bytes, start + 4 * index));
-        words.push(PortWord { disposition, name })?;
+        words.push_reserved(PortWord { disposition, name });
     }
-    Ok(())
 }
 
 /// The port words of a message's body, from the front, each with the disposition of its item. Linear in
@@ -69,9 +79,9 @@ pub fn port_words(
     ensures ok { IfOk result (λ words. (written : WireBody) → IsLaidOut bytes.now spans.now written → words.items ≡ body_words written) }
     ensures err { OnErr result ((written : WireBody) → IsLaidOut bytes.now spans.now written → inline_words < length (body_words written)) }
 {
-    let mut words = SmallVec::new(alloc);
+    let mut words = SmallVec::with_capacity(alloc, count_words(spans)?)?;
     for span in spans {
-        read_words(&mut words, bytes, span)?;
+        read_words(&mut words, bytes, span);
     }
     Ok(words)
 }
