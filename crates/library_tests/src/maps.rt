@@ -15,10 +15,11 @@ fn set(numbers: &mut NumberMap<u32>, key: u64, value: u32) {
     }
 }
 
-/// Sets a value that is there, as if it lay at this place.
-fn set_near(numbers: &mut NumberMap<u32>, place: usize, key: u64, value: u32) {
+/// Adds one to a value that is there, where it lies.
+fn raise(numbers: &mut NumberMap<u32>, key: u64) {
     if numbers.get(key).is_some() {
-        numbers.set_near(place, key, value);
+        let value = numbers.value_mut(key);
+        *value = value.wrapping_add(1);
     }
 }
 
@@ -28,16 +29,13 @@ fn release(numbers: &mut NumberMap<u32>, key: u64) {
     }
 }
 
-/// Whether a value is found that was set by where it lies, or by a wrong place.
+/// Whether a value is found that was set, and raised twice where it lies, with the others as they were.
 fn is_set(numbers: &mut NumberMap<u32>, key: u64) -> bool {
     set(numbers, key, 8);
-    let Some(held) = numbers.locate(key) else {
-        return false;
-    };
-    set_near(numbers, held.place, key, held.value.wrapping_add(1));
-    let is_set = numbers.get(key) == Some(9);
-    set_near(numbers, held.place.wrapping_add(1), key, 10);
-    is_set && numbers.get(key) == Some(10)
+    raise(numbers, key);
+    raise(numbers, key);
+    raise(numbers, 2);
+    numbers.get(key) == Some(10) && numbers.get(36) == Some(6) && numbers.get(2).is_none()
 }
 
 fn are_found(numbers: &mut NumberMap<u32>) -> bool {

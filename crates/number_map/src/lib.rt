@@ -7,7 +7,7 @@
 #![tactic(auto)]
 
 ghost use Rattle.std.specs.Prelude.{◌≡◌, ◌≢◌, ℕ, suc, ◌+◌, ◌-◌, ◌^◌, ◌<◌, ◌≤◌, List, max, true, length, Some, None, IsOk, OnOk, OnErr};
-ghost use Rattle.std.specs.Option.{option_map};
+ghost use Rattle.std.specs.Borrow.{sem};
 ghost use Rattle.std.specs.FinMap as map;
 ghost use Rattle.std.specs.Vec.{vec_capacity};
 ghost use Rattle.number_map.specs.Kept.{slot as slot_for, head_at, next_at, IsAbove, IsLed, IsIndexed, HasKey, SameEntries, IsTakenOut};
@@ -24,15 +24,6 @@ struct Node<V: Copy> {
     key: u64,
     value: V,
     next: u32,
-}
-
-/// A value, and where it lies until keys are taken out.
-#[derive(Clone, Copy)]
-pub struct Located<V: Copy> {
-    /// A hint for [`NumberMap::set_near`], and nothing else.
-    pub place: usize,
-    /// The value.
-    pub value: V,
 }
 
 /// Values under numbers, and room for so many keys to come. Without room nothing is allocated.
@@ -72,18 +63,6 @@ fn find<V: Copy>(nodes: &[Node<V>], heads: &[u32], key: u64) -> Option<usize>
         link = node.next as usize;
     }
     None
-}
-
-// Where the key lies: at this place, or where it is found.
-fn find_near<V: Copy>(nodes: &[Node<V>], heads: &[u32], place: usize, key: u64) -> Option<usize>
-    requires { IsIndexed nodes.now heads.now }
-    ensures found { (x : ℕ) → result ≡ Some x → HasKey nodes.now key x }
-    ensures missing { result ≡ None → (x : ℕ) → HasKey nodes.now key x → ⊥ }
-{
-    if place < nodes.len() && nodes[place].key == key {
-        return Some(place);
-    }
-    find(nodes, heads, key)
 }
 
 // The link to the lowest node above the place, along a chain from this head, and 0 where there is none.
@@ -224,6 +203,8 @@ impl<V: Copy> Model for NumberMap<V> {
 }
 
 impl<V: Copy> NumberMap<V> {
+    ghost use Rattle.number_map.specs.Lends.{lends_value};
+
     /// No keys, and room for none. Allocates nothing; constant time.
     pub fn new(alloc: Global) -> NumberMap<V>
         ensures { result ≡ record { map = map.empty; room = 0 } }
@@ -255,15 +236,6 @@ impl<V: Copy> NumberMap<V> {
     {
         let place = find(&self.nodes, &self.heads, key)?;
         Some(self.nodes[place].value)
-    }
-
-    /// The value under the key with a hint of where it lies, for [`NumberMap::set_near`]. Constant time.
-    pub fn locate(&self, key: u64) -> Option<Located<V>>
-        ensures { option_map (λ l. l.value) result ≡ map.get self.now.map key }
-    {
-        let place = find(&self.nodes, &self.heads, key)?;
-        let value = self.nodes[place].value;
-        Some(Located { place, value })
     }
 
     /// Makes room for at least so many more keys. Constant time where there is room for them, and
@@ -313,15 +285,14 @@ impl<V: Copy> NumberMap<V> {
         }
     }
 
-    /// Puts another value under a key that is there, which may still lie where it was located. Searches
-    /// for it where it does not. Constant time.
-    pub fn set_near(&mut self, place: usize, key: u64, value: V)
+    /// The value under a key that is there, for writing. Takes no memory; constant time.
+    pub fn value_mut(&mut self, key: u64) -> &mut V
         requires { map.contains_key self.old.map key ≡ true }
-        ensures { self.new ≡ record self.old { map = map.insert self.old.map key value } }
+        ensures* writes_back { sem 𝓛 (lends_value V.row self.entry key result) }
+        ensures value { map.get self.old.map key ≡ Some result.now }
     {
-        if let Some(found) = find_near(&self.nodes, &self.heads, place, key) {
-            self.nodes[found].value = value;
-        }
+        let place = find(&self.nodes, &self.heads, key).unwrap();
+        &mut self.nodes[place].value
     }
 
     /// Takes a key out, if it is there, and answers its value. The room for new keys stays as it was.

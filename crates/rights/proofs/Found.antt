@@ -1,5 +1,5 @@
 -- What the counts of a port are among all.
-use Rattle.std.proofs.Common.{◌≡◌, ℕ, ◌+◌, ◌≤◌, ◌<◌, ◌^◌, true, false, refl, ap, ◌∙◌, Option, Some, None, is_some, arith}
+use Rattle.std.proofs.Common.{◌≡◌, ℕ, ◌+◌, ◌≤◌, ◌<◌, ◌^◌, true, false, refl, ap, sym, ◌∙◌, Option, Some, None, is_some, arith}
 use Rattle.std.specs.Option.{unwrap_or, option_map}
 use Rattle.std.specs.FinMap as map
 use Rattle.std.proofs.lemmas.List.Sums.{sum_by-le-sum_by}
@@ -30,88 +30,71 @@ unused_of-le Send number = omega arith
 unused_of-le SendOnce number = omega arith
 unused_of-le Destination number = omega arith
 
-module _ (m : Counted) (total unused : ℕ) (counted : IsCounted m total unused) (l : LedgerView) (view_is : record { counts = m; total = total; unused = unused } ≡ l) where
-  same_total : total ≡ l.total
-  same_total = ap (λ (v : LedgerView). v.total) view_is
-
-  same_unused : unused ≡ l.unused
-  same_unused = ap (λ (v : LedgerView). v.unused) view_is
-
-  -- a send-once right is a right
-  pub unused-le-total : l.unused ≤ l.total
-  unused-le-total =
+module _ (m : Counted) (total unused : ℕ) (counted : IsCounted m total unused) where
+  -- a send-once right is a right, so that as many more of them fit as of rights
+  pub more-unused : (kind : RightKind) (number : ℕ) → total + number < 2 ^ 32 → unused + unused_of kind number < 2 ^ 32
+  more-unused kind number few =
       let less : sum_over once_of m ≤ sum_over all_of m = sum_by-le-sum_by once_of all_of (map.values m) (λ c. omega arith) in
-      omega (arith, less, counted.all_counted, counted.once_counted, same_total, same_unused)
+      let h = unused_of-le kind number in
+      omega (arith, less, counted.all_counted, counted.once_counted, h, few)
 
-  -- so many more fit, where as many rights do
-  pub more-unused : (kind : RightKind) (number : ℕ) → l.total + number < 2 ^ 32 → unused + unused_of kind number < 2 ^ 32
-  more-unused kind number few = let h = unused_of-le kind number in omega (arith, h, few, unused-le-total, same_unused)
+  -- ---- counts that lie under a number
 
-  module _ (port : ℕ) where
-    pub get_is : map.get m port ≡ map.get l.counts port
-    get_is = ap (λ (v : LedgerView). map.get v.counts port) view_is
+  module _ (number : ℕ) (was : Counts) (at : map.get m number ≡ Some was) where
+    pub lent-within : (all_of was ≤ total) × (was.send_once ≤ unused)
+    lent-within =
+        let all = sum-remove m number all_of was at in
+        let once = sum-remove m number once_of was at in
+        (omega (arith, all, counted.all_counted), omega (arith, once, counted.once_counted))
 
-    pub entered : IsEntered l port → map.get m port ≡ Some (counts_of l port)
-    entered there = get_is ∙ some_unwrapped _ no_rights there
+    -- what the sum is, once others are left there
+    sum-lent : (c : Counts) (f : Counts → ℕ) → sum_over f (map.insert m number c) + f was ≡ sum_over f m + f c
+    sum-lent c f =
+        let more = sum-insert m number f c in
+        let held : unwrap_or (option_map f (map.get m number)) 0 ≡ f was = ap (λ o. unwrap_or (option_map f o) 0) at in
+        omega (arith, more, held)
 
-    pub counts-le-total : IsEntered l port → all_of (counts_of l port) ≤ l.total
-    counts-le-total there =
-        let rest = sum-remove m port all_of (counts_of l port) (entered there) in
-        omega (arith, rest, counted.all_counted, same_total)
-
-    pub once-le-unused : IsEntered l port → (counts_of l port).send_once ≤ l.unused
-    once-le-unused there =
-        let rest = sum-remove m port once_of (counts_of l port) (entered there) in
-        omega (arith, rest, counted.once_counted, same_unused)
-
-    -- what a port's counts are is within the sums
-    pub counts-within : IsEntered l port → (counts : Counts) → counts ≡ counts_of l port → (all_of counts ≤ total) × (counts.send_once ≤ unused)
-    counts-within there counts is =
-        let all : all_of counts ≡ all_of (counts_of l port) = ap all_of is in
-        let once : counts.send_once ≡ (counts_of l port).send_once = ap (λ (v : Counts). v.send_once) is in
-        let few = counts-le-total there in
-        let few_once = once-le-unused there in
-        (omega (arith, all, few, same_total), omega (arith, once, few_once, same_unused))
-
-    -- with no rights more
-    no_more : map.get l.counts port ≡ None → (f : Counts → ℕ) → f no_rights ≡ 0 → (n : Counted) → n ≡ map.insert m port no_rights → sum_over f n ≡ sum_over f m
-    no_more none f zero n e =
-        let more = sum-insert m port f no_rights in
-        let nothing : unwrap_or (option_map f (map.get m port)) 0 ≡ 0 = ap (λ o. unwrap_or (option_map f o) 0) (get_is ∙ none) in
-        let new : sum_over f n ≡ sum_over f (map.insert m port no_rights) = ap (λ (x : Counted). sum_over f x) e in
-        omega (arith, more, nothing, new, zero)
-
-    pub counted-entered : map.get l.counts port ≡ None → (n : Counted) → n ≡ map.insert m port no_rights → IsCounted n total unused
-    counted-entered none n e = record {
-      all_counted = no_more none all_of refl n e ∙ counted.all_counted;
-      once_counted = no_more none once_of refl n e ∙ counted.once_counted;
+    pub counted-lent : (c : Counts) (then then_unused : ℕ) → then + all_of was ≡ total + all_of c → then_unused + was.send_once ≡ unused + c.send_once → IsCounted (map.insert m number c) then then_unused
+    counted-lent c then then_unused balance once = record {
+      all_counted = let s = sum-lent c all_of in omega (arith, s, balance, counted.all_counted);
+      once_counted = let s = sum-lent c once_of in omega (arith, s, once, counted.once_counted);
     }
 
-    -- with other counts of the port
-    with_other : IsEntered l port → (c : Counts) (f : Counts → ℕ) (n : Counted) → n ≡ map.insert m port c → sum_over f n + f (counts_of l port) ≡ sum_over f m + f c
-    with_other there c f n e =
-        let more = sum-insert m port f c in
-        let held : unwrap_or (option_map f (map.get m port)) 0 ≡ f (counts_of l port) = ap (λ o. unwrap_or (option_map f o) 0) (entered there) in
-        let new : sum_over f n ≡ sum_over f (map.insert m port c) = ap (λ (x : Counted). sum_over f x) e in
-        omega (arith, more, held, new)
+module _ (m : Counted) (total unused : ℕ) (counted : IsCounted m total unused) (l : LedgerView) (view_is : record { counts = m; total = total; unused = unused } ≡ l) (port : ℕ) where
+  pub get_is : map.get m port ≡ map.get l.counts port
+  get_is = ap (λ (v : LedgerView). map.get v.counts port) view_is
 
-    pub counted-stored : IsEntered l port → (c : Counts) (then then_unused : ℕ) → then + all_of (counts_of l port) ≡ l.total + all_of c →
-        then_unused + (counts_of l port).send_once ≡ l.unused + c.send_once → (n : Counted) → n ≡ map.insert m port c → IsCounted n then then_unused
-    counted-stored there c then then_unused balance once n e = record {
-      all_counted = let s = with_other there c all_of n e in omega (arith, s, balance, counted.all_counted, same_total);
-      once_counted = let s = with_other there c once_of n e in omega (arith, s, once, counted.once_counted, same_unused);
-    }
+  pub entered : IsEntered l port → map.get m port ≡ Some (counts_of l port)
+  entered there = get_is ∙ some_unwrapped _ no_rights there
 
-    -- without the port
-    with_none : IsEntered l port → (f : Counts → ℕ) (n : Counted) → n ≡ map.remove m port → sum_over f n + f (counts_of l port) ≡ sum_over f m
-    with_none there f n e =
-        let rest = sum-remove m port f (counts_of l port) (entered there) in
-        let new : sum_over f n ≡ sum_over f (map.remove m port) = ap (λ (x : Counted). sum_over f x) e in
-        omega (arith, rest, new)
+  -- what a port's counts are is within the sums
+  pub counts-within : IsEntered l port → (counts : Counts) → counts ≡ counts_of l port → (all_of counts ≤ total) × (counts.send_once ≤ unused)
+  counts-within there counts is = lent-within m total unused counted port counts (entered there ∙ ap (λ (c : Counts). Some c) (sym is))
 
-    pub counted-left : IsEntered l port → (then then_unused : ℕ) → then + all_of (counts_of l port) ≡ total → then_unused + (counts_of l port).send_once ≡ unused →
-        (n : Counted) → n ≡ map.remove m port → IsCounted n then then_unused
-    counted-left there then then_unused balance once n e = record {
-      all_counted = let s = with_none there all_of n e in omega (arith, s, balance, counted.all_counted);
-      once_counted = let s = with_none there once_of n e in omega (arith, s, once, counted.once_counted);
-    }
+  -- with no rights more
+  no_more : map.get l.counts port ≡ None → (f : Counts → ℕ) → f no_rights ≡ 0 → (n : Counted) → n ≡ map.insert m port no_rights → sum_over f n ≡ sum_over f m
+  no_more none f zero n e =
+      let more = sum-insert m port f no_rights in
+      let nothing : unwrap_or (option_map f (map.get m port)) 0 ≡ 0 = ap (λ o. unwrap_or (option_map f o) 0) (get_is ∙ none) in
+      let new : sum_over f n ≡ sum_over f (map.insert m port no_rights) = ap (λ (x : Counted). sum_over f x) e in
+      omega (arith, more, nothing, new, zero)
+
+  pub counted-entered : map.get l.counts port ≡ None → (n : Counted) → n ≡ map.insert m port no_rights → IsCounted n total unused
+  counted-entered none n e = record {
+    all_counted = no_more none all_of refl n e ∙ counted.all_counted;
+    once_counted = no_more none once_of refl n e ∙ counted.once_counted;
+  }
+
+  -- without the port
+  with_none : IsEntered l port → (f : Counts → ℕ) (n : Counted) → n ≡ map.remove m port → sum_over f n + f (counts_of l port) ≡ sum_over f m
+  with_none there f n e =
+      let rest = sum-remove m port f (counts_of l port) (entered there) in
+      let new : sum_over f n ≡ sum_over f (map.remove m port) = ap (λ (x : Counted). sum_over f x) e in
+      omega (arith, rest, new)
+
+  pub counted-left : IsEntered l port → (then then_unused : ℕ) → then + all_of (counts_of l port) ≡ total → then_unused + (counts_of l port).send_once ≡ unused →
+      (n : Counted) → n ≡ map.remove m port → IsCounted n then then_unused
+  counted-left there then then_unused balance once n e = record {
+    all_counted = let s = with_none there all_of n e in omega (arith, s, balance, counted.all_counted);
+    once_counted = let s = with_none there once_of n e in omega (arith, s, once, counted.once_counted);
+  }

@@ -14,7 +14,7 @@ ghost use Rattle.rights.specs.Counts.{unused_of};
 
 use mach_types::limits::MOST_RIGHTS;
 use mach_types::{KernReturn, PortId};
-use number_map::{Located, NumberMap};
+use number_map::NumberMap;
 use std::alloc::{AllocError, Global};
 use std::marker::Model;
 
@@ -72,50 +72,44 @@ impl Counts {
         }
     }
 
-    fn with_more(self, kind: RightKind, number: u32) -> Counts
-        requires { all_of self + number < 2 ^ 32 }
-        ensures value { result ≡ with_more kind number self }
-        ensures all { all_of result ≡ all_of self + number }
-        ensures once { result.send_once ≡ self.send_once + unused_of kind number }
+    fn add(&mut self, kind: RightKind, number: u32)
+        requires { all_of self.old + number < 2 ^ 32 }
+        ensures value { self.new ≡ with_more kind number self.old }
+        ensures all { all_of self.new ≡ all_of self.old + number }
+        ensures once { self.new.send_once ≡ self.old.send_once + unused_of kind number }
     {
-        let mut counts = self;
         match kind {
-            RightKind::Receive => counts.receive += number,
-            RightKind::Send => counts.send += number,
-            RightKind::SendOnce => counts.send_once += number,
-            RightKind::Destination => counts.destination += number,
+            RightKind::Receive => self.receive += number,
+            RightKind::Send => self.send += number,
+            RightKind::SendOnce => self.send_once += number,
+            RightKind::Destination => self.destination += number,
         }
-        counts
     }
 
-    fn with_fewer(self, kind: RightKind, number: u32) -> Counts
-        requires { number ≤ number_of kind self }
-        ensures value { result ≡ with_fewer kind number self }
-        ensures all { all_of result + number ≡ all_of self }
-        ensures once { result.send_once + unused_of kind number ≡ self.send_once }
+    fn subtract(&mut self, kind: RightKind, number: u32)
+        requires { number ≤ number_of kind self.old }
+        ensures value { self.new ≡ with_fewer kind number self.old }
+        ensures all { all_of self.new + number ≡ all_of self.old }
+        ensures once { self.new.send_once + unused_of kind number ≡ self.old.send_once }
     {
-        let mut counts = self;
         match kind {
-            RightKind::Receive => counts.receive -= number,
-            RightKind::Send => counts.send -= number,
-            RightKind::SendOnce => counts.send_once -= number,
-            RightKind::Destination => counts.destination -= number,
+            RightKind::Receive => self.receive -= number,
+            RightKind::Send => self.send -= number,
+            RightKind::SendOnce => self.send_once -= number,
+            RightKind::Destination => self.destination -= number,
         }
-        counts
     }
 
-    // With one more of the send-once rights that queued messages go by, and one fewer of the others.
-    fn shifted(self) -> Counts
-        requires some { 0 < self.send_once }
-        requires fits { all_of self < 2 ^ 32 }
-        ensures value { result ≡ one_shifted self }
-        ensures all { all_of result ≡ all_of self }
-        ensures once { result.send_once + 1 ≡ self.send_once }
+    // One more of the send-once rights that queued messages go by, and one fewer of the others.
+    fn shift(&mut self)
+        requires some { 0 < self.old.send_once }
+        requires fits { all_of self.old < 2 ^ 32 }
+        ensures value { self.new ≡ one_shifted self.old }
+        ensures all { all_of self.new ≡ all_of self.old }
+        ensures once { self.new.send_once + 1 ≡ self.old.send_once }
     {
-        let mut counts = self;
-        counts.send_once -= 1;
-        counts.destination += 1;
-        counts
+        self.send_once -= 1;
+        self.destination += 1;
     }
 }
 
@@ -196,37 +190,6 @@ impl Ledger {
         counts
     }
 
-    // The counts of a port that was entered, and where they lie.
-    fn held(&self, port: PortId) -> Located<Counts>
-        requires { IsEntered self.now port }
-        ensures value { result.value ≡ counts_of self.now port }
-        ensures all { all_of result.value ≤ self.now.total }
-        ensures unused { result.value.send_once ≤ self.now.unused }
-    {
-        self.ports.locate(port.number()).unwrap()
-    }
-
-    // The unused send-once rights with so many more of a kind, which may be theirs.
-    fn with_unused(&self, kind: RightKind, number: u32) -> u32
-        requires { self.now.total + number < 2 ^ 32 }
-        ensures { result ≡ self.now.unused + unused_of kind number }
-    {
-        self.unused + unused_of(kind, number)
-    }
-
-    // Puts these counts in place of a port's, which may lie here, with the sums that they make.
-    fn store(&mut self, port: PortId, counts: Located<Counts>, total: u32, unused: u32)
-        requires entered { IsEntered self.old port }
-        requires all { total + all_of (counts_of self.old port) ≡ self.old.total + all_of counts.value }
-        requires once { unused + (counts_of self.old port).send_once ≡ self.old.unused + counts.value.send_once }
-        ensures { self.new ≡ record { counts = map.insert self.old.counts port counts.value; total = total; unused = unused } }
-    {
-        self.ports
-            .set_near(counts.place, port.number(), counts.value);
-        self.total = total;
-        self.unused = unused;
-    }
-
     /// The counts of a port, if it was entered. Constant time.
     pub fn counts(&self, port: PortId) -> Option<Counts>
         ensures { result ≡ map.get self.now.counts port }
@@ -263,14 +226,9 @@ impl Ledger {
         if number > MOST_RIGHTS - self.total {
             return Err(KernReturn::NoSpace);
         }
-        let held = self.held(port);
-        let counts = Located {
-            place: held.place,
-            value: held.value.with_more(kind, number),
-        };
-        let total = self.total + number;
-        let unused = self.with_unused(kind, number);
-        self.store(port, counts, total, unused);
+        self.ports.value_mut(port.number()).add(kind, number);
+        self.total += number;
+        self.unused += unused_of(kind, number);
         Ok(())
     }
 
@@ -280,14 +238,9 @@ impl Ledger {
         requires there { number ≤ number_of kind (counts_of self.old port) }
         ensures { self.new ≡ taken self.old port kind number }
     {
-        let held = self.held(port);
-        let counts = Located {
-            place: held.place,
-            value: held.value.with_fewer(kind, number),
-        };
-        let total = self.total - number;
-        let unused = self.unused - unused_of(kind, number);
-        self.store(port, counts, total, unused);
+        self.ports.value_mut(port.number()).subtract(kind, number);
+        self.total -= number;
+        self.unused -= unused_of(kind, number);
     }
 
     /// Counts a send-once right of a port as one that a queued message goes by. Constant time.
@@ -296,13 +249,7 @@ impl Ledger {
         requires there { 0 < (counts_of self.old port).send_once }
         ensures { self.new ≡ shifted self.old port }
     {
-        let held = self.held(port);
-        let counts = Located {
-            place: held.place,
-            value: held.value.shifted(),
-        };
-        let total = self.total;
-        let unused = self.unused - 1;
-        self.store(port, counts, total, unused);
+        self.ports.value_mut(port.number()).shift();
+        self.unused -= 1;
     }
 }
