@@ -3,7 +3,7 @@ ghost use Rattle.std.specs.Prelude.{◌≡◌, ◌≢◌, ℕ, ◌<◌, ◌≤�
 ghost use Rattle.std.specs.Option.{option_to_list};
 ghost use Rattle.std.specs.FinMap as map;
 ghost use Rattle.arrayvec.specs.ArrayVec.{array_vec_len};
-ghost use Rattle.smallvec.specs.SmallVec.{small_vec_len};
+ghost use Rattle.smallvec.specs.SmallVec.{small_vec_len, HasRoomFor};
 ghost use Rattle.mach_types.specs.declared.codes.MsgReturn.TheVariants.{SendNoBuffer, SendInvalidDest, SendInvalidReply, SendInvalidRight, SendTimedOut};
 ghost use Rattle.mach_types.specs.Grammar.{WireBody};
 ghost use Rattle.mach_types.specs.Rights.{makes_right};
@@ -144,46 +144,29 @@ fn judge_word(
     }
 }
 
-// Adds a right to those that go.
-fn keep(
-    rights: &mut SmallVec<Carried, INLINE_WORDS>,
-    given: Disposition,
-    mark: Mark,
-) -> Result<(), AllocError>
-    requires inline { inline_words ≤ rights.old.capacity }
-    ensures ok { OnOk result (rights.new.items ≡ rights.old.items ++ record { given = given; mark = mark } ∷ []) }
-    ensures err { OnErr result (inline_words ≤ small_vec_len rights.old) }
-    ensures capacity { inline_words ≤ rights.new.capacity }
-{
-    rights.push(Carried { given, mark })?;
-    Ok(())
-}
-
-// Judges a word of the body, and adds its right to those that go.
+// Judges a word of the body, and adds its right to those that go, where there is room for one.
 fn judge_next(
     space: &TaskNames<'_>,
     touched: &mut Touched,
     rights: &mut SmallVec<Carried, INLINE_WORDS>,
     word: &PortWord,
 ) -> Result<(), MsgReturn>
-    requires inline { inline_words ≤ rights.old.capacity }
+    requires room { HasRoomFor rights.old 1 }
     requires given { IsSome (disposition word.now.disposition) }
     ensures ok { OnOk result ((c : AnyCarried) × (rights.new.items ≡ rights.old.items ++ c ∷ [])
         × ((now : Names) → Overlays touched.old space.now.names now → (after : Names) × CopiesWord now word.now c after × Overlays touched.new space.now.names after)) }
-    ensures err { IfErr result (λ code. (code ≡ SendNoBuffer) × (IsFull touched.old ⊎ (inline_words ≤ small_vec_len rights.old))
+    ensures err { IfErr result (λ code. (code ≡ SendNoBuffer) × IsFull touched.old
         ⊎ (code ≡ SendInvalidRight) × ((now : Names) → Overlays touched.old space.now.names now → IsBad now word.now)) }
     ensures few { array_vec_len touched.new.few ≤ array_vec_len touched.old.few + 1 }
-    ensures capacity { inline_words ≤ rights.new.capacity }
+    ensures capacity { OnOk result (rights.new.capacity ≡ rights.old.capacity) }
 {
     let Carried { given, mark } = judge_word(space, touched, *word, MsgReturn::SendInvalidRight)?;
-    match keep(rights, given, mark) {
-        Ok(()) => Ok(()),
-        Err(_) => Err(MsgReturn::SendNoBuffer),
-    }
+    rights.push_reserved(Carried { given, mark });
+    Ok(())
 }
 
 // Judges the words of the body, each in what the one before left, and puts their rights into a list
-// that has none.
+// that has none. Room for them is made at once.
 fn judge_body(
     space: &TaskNames<'_>,
     touched: &mut Touched,
@@ -199,6 +182,9 @@ fn judge_body(
     ensures err { IfErr result (λ code. (code ≡ SendNoBuffer) × (inline_words < length words.now)
         ⊎ (code ≡ SendInvalidRight) × ((now : Names) → Overlays touched.old space.now.names now → BodyIsBad now words.now)) }
 {
+    let Ok(()) = rights.reserve(words.len()) else {
+        return Err(MsgReturn::SendNoBuffer);
+    };
     for word in words {
         judge_next(space, touched, rights, word)?;
     }

@@ -115,6 +115,7 @@ impl World {
     /// by, and so many more; where there are enough, nothing changes. Linear in the slots that are made.
     ///
     /// An error means that there were too few and memory was refused; all is then as before.
+    #[inline(always)]
     pub fn reserve_slots(&mut self, more: usize) -> Result<(), AllocError>
         ensures ok { OnOk result (self.new ≡ with_slots self.old (max self.old.ports.spare (self.old.ledger.unused + more))) }
         ensures err { OnErr result (self.new ≡ self.old) }

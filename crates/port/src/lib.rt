@@ -392,6 +392,7 @@ impl<M: Message> Ports<M> {
     /// Makes so many more spare slots. Linear in their number.
     ///
     /// An error means that memory was refused; all is then as before.
+    #[inline(never)]
     pub fn reserve_slots(&mut self, additional: usize) -> Result<(), AllocError>
         ensures ok { OnOk result (self.new ≡ record self.old { spare = self.old.spare + additional }) }
         ensures err { OnErr result (self.new ≡ self.old) }

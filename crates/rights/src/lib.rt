@@ -179,6 +179,7 @@ impl Ledger {
     }
 
     /// Removes a port with all its rights, and answers what they were. Constant time.
+    #[inline(always)]
     pub fn leave(&mut self, port: PortId) -> Counts
         requires { IsEntered self.old port }
         ensures counts { result ≡ counts_of self.old port }

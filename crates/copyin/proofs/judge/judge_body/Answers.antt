@@ -1,4 +1,4 @@
-use Rattle.std.proofs.Common.{ℕ, ◌+◌, List, [], ◌∷◌, length, length-append, sym, ap, subst, ◌∙◌, take, inl, inr, arith}
+use Rattle.std.proofs.Common.{ℕ, ◌≡◌, ◌+◌, List, [], ◌∷◌, length, length-append, sym, ap, subst, ◌∙◌, take, inl, inr, arith}
 use Rattle.std.proofs.lemmas.List.{take_all}
 use Rattle.std.proofs.lemmas.Result.{err_from_is_err_and}
 use Rattle.message_codec.specs.declared.words.PortWord.{PortWord}
@@ -8,16 +8,19 @@ use Rattle.copyin.proofs.Judging.{IsJudged, judged-none, judged-more, judged-bad
 use Rattle.copyin.proofs.judge.judge_body.Goals as goal
 
 pub loop-word-init : goal.loop-word-init
-loop-word-init c = record {
-  judged = subst (λ (cs : List Carried). IsJudged c.args.touched.now c.args.touched.now c.args.space.now.names [] cs) (sym c.requires.none)
-      (judged-none c.args.touched.now c.args.space.now.names);
-  few = omega (arith, c.requires.few);
-  so_far = ap length c.requires.none;
-  inline = omega (arith, c.requires.inline);
-}
+loop-word-init c =
+    let none : c.reserve.new.self.items ≡ [] = c.in-Ok.ensures.items ∙ c.requires.none in
+    let room = c.in-Ok.ensures.ok in
+    record {
+      judged = subst (λ (cs : List Carried). IsJudged c.args.touched.now c.args.touched.now c.args.space.now.names [] cs) (sym none)
+          (judged-none c.args.touched.now c.args.space.now.names);
+      few = omega (arith, c.requires.few);
+      so_far = ap length none;
+      room = omega (arith, room);
+    }
 
-pub judge_next-requires-clause-inline : goal.judge_next-requires-clause-inline
-judge_next-requires-clause-inline c = c.loop-word.invariant.inline
+pub judge_next-requires-clause-room : goal.judge_next-requires-clause-room
+judge_next-requires-clause-room c = omega (arith, c.loop-word.invariant.so_far, c.loop-word.invariant.room, c.loop-word-test.true)
 
 pub loop-word-preserved : goal.loop-word-preserved
 loop-word-preserved c =
@@ -32,7 +35,7 @@ loop-word-preserved c =
           c.loop-word-test.true c.word-item.is c.loop-word.invariant.judged k.2);
       few = omega (arith, c.judge_next.ensures.few, c.loop-word.invariant.few);
       so_far = ap length k.1 ∙ length-append c.loop-word.rights.items (k.0 ∷ []) ∙ ap (λ (n : ℕ). n + 1) c.loop-word.invariant.so_far;
-      inline = c.judge_next.ensures.capacity;
+      room = omega (arith, c.in_ok-judge_next.ensures.capacity, c.loop-word.invariant.room);
     }
 
 pub returns-in_err-judge_next-clause-err : goal.returns-in_err-judge_next-clause-err
@@ -41,10 +44,7 @@ returns-in_err-judge_next-clause-err c =
     rw (p.1, p.2) (elim c.in_err-judge_next.ensures.err [
       | inl h ↦ inl (
         h.0,
-        elim h.1 [
-          | inl full ↦ omega (arith, full, c.loop-word.invariant.few, c.loop-word-test.true)
-          | inr full ↦ omega (arith, full, c.loop-word.invariant.so_far, c.loop-word-test.true)
-        ],
+        omega (arith, h.1, c.loop-word.invariant.few, c.loop-word-test.true),
       )
       | inr h ↦ inr (
         h.0,
