@@ -21,6 +21,7 @@ pub mod Adding
 pub mod After
 pub mod Front
 pub mod Delivered
+pub mod PlainTaken
 pub mod Counting
 pub mod Counted
 pub mod Rooms

@@ -1,6 +1,6 @@
 -- Room made for names, the front message once it was, and the room that is left.
 use Rattle.std.proofs.Common.{◌≡◌, ◌≢◌, ℕ, ◌+◌, ◌-◌, ◌<◌, ◌≤◌, List, [], ◌∷◌, Option, Some, None, zero, suc, refl, sym, ap, subst, ◌∙◌, arith, true, false, Bool, inl, inr, length, Result, Ok, Err, IfOk, IfErr}
-use Rattle.std.specs.Prelude.{slice_set, is_some, is_ok, max, min, MatchBool, if◌then◌else◌, ◌==◌}
+use Rattle.std.specs.Prelude.{slice_set, is_some, is_ok, max, MatchBool, if◌then◌else◌, ◌==◌}
 use Rattle.std.specs.Option.{unwrap_or}
 use Rattle.std.specs.FinMap as map
 use Rattle.mach_types.specs.Numbers.{kind_sent, most_bytes, most_names}
@@ -201,7 +201,7 @@ pub may_enough : (w : WorldView) (task : ℕ) (m : Kept) (room needed : ℕ) →
 may_enough w task m room needed may = (may.fits, names_enough w task m may.space needed may.there may.needs may.names)
 
 -- the message in front is one
-same_front_as : (w : WorldView) (port : ℕ) (m now : Kept) → HasFront w port m → HasFront w port now → m ≡ now
+pub same_front_as : (w : WorldView) (port : ℕ) (m now : Kept) → HasFront w port m → HasFront w port now → m ≡ now
 same_front_as w port m now f g =
     let v : f.v ≡ g.v = same_found (port_at w port) f.v g.v f.there g.there in
     same_head g.v.queue m now f.behind g.behind (ap (λ (v : PortView Kept). v.queue) (sym v) ∙ f.queue) g.queue

@@ -6,6 +6,7 @@
 #![tactic(auto)]
 
 mod give;
+mod plain;
 mod put;
 mod receipt;
 mod room;

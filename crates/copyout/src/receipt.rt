@@ -24,6 +24,7 @@ ghost use Rattle.copyout.specs.Wanted.{WantsToPrepare, WantsToReceive, ReturnsSl
 ghost use Rattle.copyout.specs.declared.receipt.Refusal.TheVariants as refused;
 
 use crate::give::{give_right, give_rights};
+use crate::plain::{plain_len, receive_plain};
 use crate::room::room_needed;
 use copyin_base::{Carried, CarriedRights, Message, Queued, World};
 use mach_types::bits::COMPLEX;
@@ -58,8 +59,8 @@ fn reply_number(reply: &Option<Carried>) -> u32
     }
 }
 
-// The first word of a received message.
-fn header_bits(reply: &Option<Carried>, by_once: bool, is_complex: bool) -> u32
+/// The first word of a received message.
+pub(crate) fn header_bits(reply: &Option<Carried>, by_once: bool, is_complex: bool) -> u32
     ensures { result ≡ reply_number reply.now + (if by_once then 18 else 17) * 2 ^ 8 + (if is_complex then 2 ^ 31 else 0) }
 {
     let local = if by_once { 18 } else { 17 };
@@ -97,6 +98,7 @@ fn consume(world: &mut World, port: PortId, queued: &Queued)
 /// consumed.
 ///
 /// Takes no memory and cannot fail. Constant time.
+#[inline(always)]
 pub fn take_front(world: &mut World, port: PortId) -> Queued
     requires { Waits world.old port }
     ensures { (t : TakesFront world.old port world.new) × (result ≡ t.front) }
@@ -127,8 +129,9 @@ fn spans_of(carried: &Option<Box<CarriedRights>>) -> &[Span]
     }
 }
 
-// The bytes as the receiver gets them.
-fn spell(bytes: Vec<u8>, spans: &[Span], header: &Header, names: &[Name]) -> Bytes
+/// The bytes as the receiver gets them.
+#[inline(always)]
+pub(crate) fn spell(bytes: Vec<u8>, spans: &[Span], header: &Header, names: &[Name]) -> Bytes
     requires laid_out { (written : WireBody) × IsLaidOut bytes.items spans.now written }
     requires named { length names.now ≡ word_count spans.now }
     ensures { (written : WireBody) → IsLaidOut bytes.items spans.now written
@@ -324,6 +327,30 @@ fn make_room(world: &mut World, task: TaskId, needed: usize) -> Result<(), KernR
     world.reserve_names(task, needed)
 }
 
+// Receives the port's front message, whatever it carries.
+fn receive_any(
+    world: &mut World,
+    alloc: Global,
+    task: TaskId,
+    port: PortId,
+    local: Name,
+    room: u32,
+) -> Result<Bytes, Refusal>
+    requires there { HasTask world.old task }
+    requires waits { Waits world.old port }
+    ensures ok { IfOk result (λ bytes. (needed : ℕ) × (start : WorldView) × (taken : WorldView) × MakesRoom world.old task needed start × (t : TakesMessage start task port local bytes taken)
+        × (length t.takes.front.bytes ≤ min room most_bytes) × NotesFront taken port t.takes.front world.new) }
+    ensures kept { OnOk result (ReturnsSlot world.old world.new) }
+    ensures err { IfErr result (λ refusal. (world.new ≡ world.old) × (m : Kept) × HasFront world.old port m × IsRefusedBy world.old task m room refusal) }
+    ensures wanted { IfErr result (λ refusal. refusal ≡ refused.Memory → WantsToReceive world.old task port) }
+{
+    let (needed, prepared) = judge(world, alloc, task, port, room)?;
+    match make_room(world, task, needed) {
+        Ok(()) => Ok(take_message(world, task, port, local, prepared)),
+        Err(_) => Err(Refusal::Memory),
+    }
+}
+
 /// Receives the port's front message under the task's name `local` for the port (IPC Interface,
 /// `mach_msg` with `MACH_RCV_MSG`), if there is room for its length, names for its rights and memory,
 /// which is judged in this order: the header is reversed, and the rights have the receiver's names, that
@@ -360,9 +387,9 @@ pub fn receive(
     ensures err { IfErr result (λ refusal. (world.new ≡ world.old) × (m : Kept) × HasFront world.old port m × IsRefusedBy world.old task m room refusal) }
     ensures wanted { IfErr result (λ refusal. refusal ≡ refused.Memory → WantsToReceive world.old task port) }
 {
-    let (needed, prepared) = judge(world, alloc, task, port, room)?;
-    match make_room(world, task, needed) {
-        Ok(()) => Ok(take_message(world, task, port, local, prepared)),
-        Err(_) => Err(Refusal::Memory),
+    // Most messages carry nothing beside their bytes, and go a short way.
+    match plain_len(front(world, port)) {
+        Some(size) => receive_plain(world, port, local, size, room),
+        None => receive_any(world, alloc, task, port, local, room),
     }
 }

@@ -1,5 +1,4 @@
-use Rattle.std.proofs.Common.{sym}
-use Rattle.copyout.proofs.Rooms.{same_front, told_receivable}
+use Rattle.copyout.proofs.Rooms.{told_receivable}
 use Rattle.copyout.proofs.receipt.is_receivable.Goals as goal
 
 pub returns : goal.returns

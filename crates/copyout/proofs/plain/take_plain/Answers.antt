@@ -1,0 +1,27 @@
+use Rattle.std.proofs.Common.{◌≡◌, ◌∙◌, Bool, ap, refl, sym, subst}
+use Rattle.std.specs.Prelude.{MatchBool}
+use Rattle.copyin_base.specs.Changes.{NotesSenderless}
+use Rattle.copyin_base.specs.Kept.{Kept, IsMessageOf}
+use Rattle.copyout.specs.Plain.{IsPlain}
+use Rattle.copyout.proofs.Delivered.{takes_message}
+use Rattle.copyout.proofs.Front.{sequence_is}
+use Rattle.copyout.proofs.Rooms.{same_front_as}
+use Rattle.copyout.proofs.plain.take_plain.Goals as goal
+
+pub into_sent-message-requires : goal.into_sent-message-requires
+into_sent-message-requires c =
+    let t = c.take_front.ensures in
+    let p = c.requires.plain in
+    subst IsPlain (same_front_as c.args.world.now c.args.port p.0 t.0.front p.1 (record { v = t.0.v; there = t.0.there; behind = t.0.behind; queue = t.0.queue }) ∙ sym t.1) p.2
+
+pub returns : goal.returns
+returns c =
+    let t = c.take_front.ensures in
+    let m = c.into_sent-message.result in
+    let mid = c.take_front.new.world in
+    let is : m ≡ t.0.front = c.into_sent-message.ensures ∙ t.1 in
+    λ task. takes_message c.args.world.now mid mid c.note_front.new.world task c.args.port c.args.local c.attributes-sequence.result.sequence m c.spell_plain.result t.0
+    (subst (λ (k : Kept). IsMessageOf k m) is refl)
+    (sequence_is c.args.world.now c.args.port c.attributes-sequence.result c.attributes-sequence.ensures t.0.v t.0.there)
+    (c.spell_plain.ensures mid task)
+    (subst (λ (b : Bool). MatchBool b (c.note_front.new.world ≡ mid) (NotesSenderless mid c.args.port c.note_front.new.world)) (ap (λ (k : Kept). k.by_once) (c.message.view_is ∙ is)) c.note_front.ensures)

@@ -1,0 +1,106 @@
+//! Receiving a message that carries nothing beside its bytes, as most do.
+ghost use Rattle.std.specs.Prelude.{◌≡◌, ℕ, ◌<◌, ◌≤◌, length, min, IfOk, IfErr, IfSome};
+ghost use Rattle.mach_types.specs.Grammar.{WireBody};
+ghost use Rattle.mach_types.specs.Numbers.{most_bytes};
+ghost use Rattle.message_codec.specs.Received.{IsLaidOut};
+ghost use Rattle.copyin_base.specs.Kept.{Kept};
+ghost use Rattle.copyin_base.specs.Worlds.{WorldView};
+ghost use Rattle.copyout.specs.Plain.{IsPlain};
+ghost use Rattle.copyout.specs.Takes.{TakesMessage, NotesFront};
+ghost use Rattle.copyout.specs.Ready.{Waits, HasFront, Delivers};
+ghost use Rattle.copyout.specs.declared.receipt.Refusal.TheVariants as refused;
+
+use crate::receipt::{Refusal, header_bits, note_front, spell, take_front};
+use copyin_base::{Message, Queued, Slot, World};
+use mach_types::{Bytes, Name, PortId};
+use message_codec::Header;
+
+/// How many bytes a message has that was sent and carries nothing beside them. None for any other.
+#[inline(always)]
+pub(crate) fn plain_len(queued: &Queued) -> Option<usize>
+    ensures { IfSome result (λ size. IsPlain queued.now × (size ≡ length queued.now.bytes)) }
+{
+    match &queued.slot {
+        Slot::Sent(
+            Message {
+                bytes,
+                carried: None,
+                ..
+            },
+        ) => Some(bytes.len()),
+        Slot::Sent(_) | Slot::Told(_) => None,
+    }
+}
+
+// The message, which was sent.
+#[inline(always)]
+fn into_sent(queued: Queued) -> Message
+    requires { IsPlain queued }
+    ensures { result ≡ queued }
+{
+    match queued.slot {
+        Slot::Sent(message) => message,
+        Slot::Told(_) => unreachable!(),
+    }
+}
+
+// The bytes of such a message as any task gets them: only its header changes.
+#[inline(always)]
+fn spell_plain(message: Message, local: Name, sequence: u32) -> Bytes
+    requires plain { IsPlain message }
+    requires laid_out { (written : WireBody) × IsLaidOut message.bytes message.spans written }
+    requires few { length message.bytes ≤ most_bytes }
+    ensures { (w : WorldView) (task : ℕ) → Delivers w task message local sequence result w }
+{
+    let Message {
+        bytes,
+        id,
+        is_complex,
+        by_once,
+        ..
+    } = message;
+    let header = Header {
+        bits: header_bits(&None, by_once, is_complex),
+        size: bytes.len() as u32,
+        remote: Name::null(),
+        local,
+        sequence,
+        id,
+    };
+    spell(bytes, &[], &header, &[])
+}
+
+// Takes the port's front message, which is such a one, and notes the port where it came by the last send
+// right. No right is given, so that no memory is taken.
+#[inline(always)]
+fn take_plain(world: &mut World, port: PortId, local: Name) -> Bytes
+    requires waits { Waits world.old port }
+    requires plain { (m : Kept) × HasFront world.old port m × IsPlain m }
+    ensures { (task : ℕ) → (taken : WorldView) × (t : TakesMessage world.old task port local result taken) × NotesFront taken port t.takes.front world.new }
+{
+    let sequence = world.attributes(port).sequence;
+    let message = into_sent(take_front(world, port));
+    note_front(world, port, message.by_once);
+    spell_plain(message, local, sequence)
+}
+
+/// Receives the port's front message, which is such a one and has so many bytes, if there is room for its
+/// length: it needs no names, and no memory.
+pub(crate) fn receive_plain(
+    world: &mut World,
+    port: PortId,
+    local: Name,
+    size: usize,
+    room: u32,
+) -> Result<Bytes, Refusal>
+    requires waits { Waits world.old port }
+    requires plain { (m : Kept) × HasFront world.old port m × IsPlain m × (size ≡ length m.bytes) }
+    ensures ok { IfOk result (λ bytes. (size ≤ min room most_bytes)
+        × ((task : ℕ) → (taken : WorldView) × (t : TakesMessage world.old task port local bytes taken) × NotesFront taken port t.takes.front world.new)) }
+    ensures err { IfErr result (λ refusal. (world.new ≡ world.old) × (refusal ≡ refused.TooLarge size) × (min room most_bytes < size)) }
+{
+    if size > room as usize {
+        return Err(Refusal::TooLarge(size as u32));
+    }
+    Ok(take_plain(world, port, local))
+}
