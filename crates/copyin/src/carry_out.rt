@@ -128,12 +128,21 @@ fn count_copied(world: &mut World, carried: Carried)
 ///
 /// Takes no memory. Constant time, and logarithmic for a name above 65,535. A right that is made
 /// from one that stays looks up no name.
+#[inline(always)]
 pub fn copy_name(world: &mut World, task: TaskId, name: Name, carried: Carried)
     requires { CanCopy world.old task name carried }
     ensures { CopiesRight world.old task carried.given name carried.mark world.new }
 {
+    copy_kept(world, task, name, &carried);
+}
+
+// As [`copy_name`], of a right that stays where it is kept: those of a message aren't copied once more.
+fn copy_kept(world: &mut World, task: TaskId, name: Name, carried: &Carried)
+    requires { CanCopy world.old task name carried.now }
+    ensures { CopiesRight world.old task carried.now.given name carried.now.mark world.new }
+{
     let given = carried.given;
-    let mark = leave_name(world, task, name, carried);
+    let mark = leave_name(world, task, name, *carried);
     count_copied(world, Carried { given, mark });
 }
 
@@ -165,12 +174,12 @@ fn queue_message(world: &mut World, port: PortId, message: Message)
 }
 
 // A word's right goes, if the word is a name.
-fn copy_word(world: &mut World, task: TaskId, word: PortWord, carried: Carried)
-    requires { CanGo world.old task (word ∷ []) (carried ∷ []) }
-    ensures { ChangesWord world.old task word carried world.new }
+fn copy_word(world: &mut World, task: TaskId, word: PortWord, carried: &Carried)
+    requires { CanGo world.old task (word ∷ []) (carried.now ∷ []) }
+    ensures { ChangesWord world.old task word carried.now world.new }
 {
     if word.name.is_usable() {
-        copy_name(world, task, word.name, carried);
+        copy_kept(world, task, word.name, carried);
     }
 }
 
@@ -183,7 +192,7 @@ fn copy_words(world: &mut World, task: TaskId, words: &[PortWord], rights: &[Car
     let mut left = rights;
     for word in words {
         let (carried, rest) = left.split_first().unwrap();
-        copy_word(world, task, *word, *carried);
+        copy_word(world, task, *word, carried);
         left = rest;
     }
 }
@@ -195,7 +204,7 @@ fn copy_reply(world: &mut World, task: TaskId, word: Option<PortWord>, reply: Op
     ensures { ChangesWords world.old task (option_to_list word) (option_to_list reply) world.new }
 {
     if let (Some(word), Some(carried)) = (word, reply) {
-        copy_word(world, task, word, carried);
+        copy_word(world, task, word, &carried);
     }
 }
 
@@ -241,7 +250,7 @@ pub fn commit(world: &mut World, plan: Plan)
         port,
         message,
     } = plan;
-    copy_word(world, task, words.destination, destination);
+    copy_word(world, task, words.destination, &destination);
     copy_reply(world, task, words.reply, message.reply());
     copy_words(world, task, words.body.as_slice(), message.rights());
     hold_rights(world, port, message.rights());
