@@ -1,7 +1,7 @@
 //! Copying rights in: what a message takes from its sender.
 //!
-//! [`check`] judges a message whole and changes nothing, and so does [`check_plain`] for one that carries the
-//! right of its destination alone; [`commit`] does what was judged, and can't fail.
+//! [`check`] judges a message whole and changes nothing, and so does [`check_plain`] for one that has no right
+//! to answer with and a body of raw bytes; [`commit`] does what was judged, and can't fail.
 #![tactic(auto)]
 
 mod carry_out;

@@ -1,4 +1,4 @@
-//! Judging a message that carries the right of its destination alone, as most do.
+//! Judging a message that has no right to answer with and a body of raw bytes, as most do.
 ghost use Rattle.std.specs.Prelude.{◌≡◌, [], None, false, IfOk, IfErr};
 ghost use Rattle.mach_types.specs.declared.codes.MsgReturn.TheVariants.{SendNoBuffer};
 ghost use Rattle.mach_types.specs.Numbers.{msg_number};

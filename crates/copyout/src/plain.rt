@@ -86,6 +86,7 @@ fn take_plain(world: &mut World, port: PortId, local: Name) -> Bytes
 
 /// Receives the port's front message, which is such a one and has so many bytes, if there is room for its
 /// length: it needs no names, and no memory.
+#[inline(always)]
 pub(crate) fn receive_plain(
     world: &mut World,
     port: PortId,

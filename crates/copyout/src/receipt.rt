@@ -328,6 +328,7 @@ fn make_room(world: &mut World, task: TaskId, needed: usize) -> Result<(), KernR
 }
 
 // Receives the port's front message, whatever it carries.
+#[inline(never)]
 fn receive_any(
     world: &mut World,
     alloc: Global,
@@ -371,6 +372,7 @@ fn receive_any(
 /// - [`Refusal::Memory`]: neither, memory was wanted, and it was refused.
 ///
 /// The time grows with the number of rights, but where there are more than 1,000, as [`room_needed`] does.
+#[inline(always)]
 pub fn receive(
     world: &mut World,
     alloc: Global,

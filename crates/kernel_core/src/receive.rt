@@ -203,6 +203,7 @@ fn has_receive(world: &World, task: TaskId, port: PortId) -> bool
 ///
 /// `MACH_RCV_BODY_ERROR` with `MACH_MSG_IPC_SPACE` where the task's names don't suffice for the
 /// message's rights, or with `MACH_MSG_IPC_KERNEL` where memory was refused. Linear in the message.
+#[inline(always)]
 fn take(
     world: &mut World,
     alloc: Global,

@@ -58,7 +58,7 @@ fn send_text(world: &mut World, alloc: Global, task: TaskId, bytes: &[u8]) -> Re
     }
 }
 
-/// Sends a message that carries the right of its destination alone.
+/// Sends a message that has no right to answer with, and a body of raw bytes.
 fn send_plain(
     world: &mut World,
     alloc: Global,

@@ -53,6 +53,7 @@ enum NewRight {
 /// there is room for its name. A refusal leaves all as it was, but that room for one name may have
 /// been made. Constant time, and logarithmic for a name above 65,535, but where tables move to a
 /// larger place.
+#[inline(always)]
 pub fn allocate(world: &mut World, task: TaskId, right: u32) -> Result<Reply, Code>
     requires there { HasTask world.old task }
     requires stands { Stands world.old }

@@ -184,6 +184,7 @@ fn note_lost(world: &mut World, port: PortId, went: bool)
 }
 
 // The port under a name loses its receive right; it is noted if it lost its last send right too.
+#[inline(always)]
 fn lose_receive(world: &mut World, task: TaskId, name: Name, loss: Loss)
     requires stands { Stands world.old }
     requires can { CanKill world.old task name loss }
@@ -279,6 +280,7 @@ fn whole_loss(port: PortId, held: u32) -> Loss
 /// `KERN_INVALID_NAME` for a name that isn't in use; `KERN_INVALID_RIGHT` for a receive right
 /// alone and a set. A refusal changes nothing. Takes no memory. Constant time, and logarithmic for a
 /// name above 65,535.
+#[inline(always)]
 pub fn deallocate(world: &mut World, task: TaskId, name: Name) -> Result<Reply, Code>
     requires there { HasTask world.old task }
     requires stands { Stands world.old }
@@ -300,6 +302,7 @@ pub fn deallocate(world: &mut World, task: TaskId, name: Name) -> Result<Reply, 
 ///
 /// `KERN_INVALID_NAME` for a name that isn't in use. A refusal changes nothing. Takes no memory.
 /// Constant time, and logarithmic for a name above 65,535; for a set linear in its members.
+#[inline(always)]
 pub fn destroy(world: &mut World, task: TaskId, name: Name) -> Result<Reply, Code>
     requires there { HasTask world.old task }
     requires stands { Stands world.old }

@@ -13,6 +13,7 @@ use rights::RightKind;
 /// The port's receive right is lost: the end of the step judges whether it dies, or is sent away.
 ///
 /// Takes no memory and cannot fail. Constant time.
+#[inline(always)]
 pub fn kill_port(world: &mut World, port: PortId)
     requires { CanLose world.old port }
     ensures { LosesPort world.old port world.new }
