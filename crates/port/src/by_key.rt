@@ -146,6 +146,19 @@ pub(crate) fn ready_at<M: Message>(records: &Slab<Record<M>>, key: usize) -> Opt
     Some(set.number())
 }
 
+// The number of the set that the port under the key is ready in once its first message is taken.
+pub(crate) fn ready_behind<M: Message>(records: &Slab<Record<M>>, key: usize) -> Option<u64>
+    requires { IsSome (get records.now key) }
+    ensures { (r : AnyRecord M) (m : M) (rest : List M) → get records.now key ≡ Some r → r.queue ≡ m ∷ rest → result ≡ ready_set (record r { queue = rest }) }
+{
+    let record = &records[key];
+    if record.queue.len() < 2 {
+        return None;
+    }
+    let set = record.kept.set()?;
+    Some(set.number())
+}
+
 // The number of the set that the port under the key is in.
 pub(crate) fn member_at<M: Message>(records: &Slab<Record<M>>, key: usize) -> Option<u64>
     requires { IsSome (get records.now key) }

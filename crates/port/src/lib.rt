@@ -26,7 +26,7 @@ mod slots;
 
 use by_key::{
     DOOMED, LOST, NOTED, count_at, destroy_at, hold_at, ids_of, member_at, narrow, note_at,
-    noted_at, pop_at, push_at, ready_at, reserve_record, set_at, take_at,
+    noted_at, pop_at, push_at, ready_at, ready_behind, reserve_record, set_at, take_at,
 };
 use mach_types::limits::FIRST_LIMIT;
 use mach_types::{PortId, SetId, TaskId};
@@ -744,12 +744,12 @@ impl<M: Message> Ports<M> {
         if self.records[key].queue.is_empty() {
             return None;
         }
-        let blank = M::blank(*self.spare.allocator());
         let was = ready_at(&self.records, key);
-        let message = take_at(&mut self.records, key, &mut self.spare, blank);
-        let now = ready_at(&self.records, key);
+        let now = ready_behind(&self.records, key);
         rejoin(&mut self.ready, key, was, now);
-        Some(message)
+        let blank = M::blank(*self.spare.allocator());
+        // Last, so that the message is moved once less.
+        Some(take_at(&mut self.records, key, &mut self.spare, blank))
     }
 
     /// Moves the message at the front of a port's queue, in its slot, behind the destroyed ones, and

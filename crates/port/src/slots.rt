@@ -51,10 +51,9 @@ pub(crate) fn pop<M: Drop>(queue: &mut LinkedList<M>, spare: &mut LinkedList<M>,
     ensures queue { queue.old ≡ result ∷ queue.new }
     ensures spare { length spare.new ≡ length spare.old + 1 }
 {
-    let message = match queue.front_mut() {
+    move_first(queue, spare);
+    match spare.back_mut() {
         Some(slot) => mem::replace(slot, blank),
         None => unreachable!(),
-    };
-    move_first(queue, spare);
-    message
+    }
 }
