@@ -1,15 +1,11 @@
-//! Tests of the libraries below the kernel.
+//! Tests of the libraries that the tables stand on.
 //!
 //! A crate with tests is proved twice, without them and with them. They stand together here, so that each
 //! library is proved once; they name nothing of it but its public calls.
 #![tactic(auto)]
 
 #[cfg(test)]
-mod codes;
-#[cfg(test)]
 mod counts;
-#[cfg(test)]
-mod descriptors;
 #[cfg(test)]
 mod holders;
 #[cfg(test)]
@@ -18,8 +14,6 @@ mod lists;
 mod loops;
 #[cfg(test)]
 mod maps;
-#[cfg(test)]
-mod messages;
 #[cfg(test)]
 mod names;
 #[cfg(test)]
@@ -32,5 +26,3 @@ mod references;
 mod requests;
 #[cfg(test)]
 mod sets;
-#[cfg(test)]
-mod texts;

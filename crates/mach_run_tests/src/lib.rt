@@ -13,5 +13,3 @@ mod memory_codes;
 mod tests;
 #[cfg(test)]
 mod threads;
-#[cfg(test)]
-mod waiters;

@@ -9,7 +9,7 @@ use std::thread;
 use std::thread::Threads;
 
 /// How often a test looks for what another thread is to do, or not to do.
-pub(crate) const LOOKS: u32 = 10_000_000;
+const LOOKS: u32 = 10_000_000;
 
 // Two blocks, each of which waits for a message that the other sends.
 const TWO_BLOCKS: (&str, &str) = (

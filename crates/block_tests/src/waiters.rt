@@ -1,7 +1,6 @@
 //! Two blocks that wait at once.
 ghost use Rattle.std.specs.Prelude.{◌≡◌, IfOk};
 
-use crate::threads::LOOKS;
 use kernel_lock::Shared;
 use mach_msg_threads::{Answer, Block, Call, Gate, Outcome, run_blocks};
 use mach_types::{Bytes, Event, Name, TaskId};
@@ -11,6 +10,9 @@ use std::sync::atomic::{AtomicBool, Ordering};
 use std::test::*;
 use std::thread;
 use std::thread::Threads;
+
+/// How often a test looks for what another thread is to do.
+const LOOKS: u32 = 10_000_000;
 
 /// In its first pause it sets its flag and looks for the other's, and says yes where it has seen it; later it
 /// says no.

@@ -4,7 +4,7 @@ use Rattle.message_codec.specs.Parses.{Parses}
 use Rattle.message_codec.specs.Received.{IsLaidOut}
 use Rattle.message_codec.specs.declared.spans.Span.{Span}
 use Rattle.message_codec.proofs.Spelling.{laid_out-parsed}
-use Rattle.library_tests.proofs.messages.receive.Goals as goal
+use Rattle.codec_tests.proofs.messages.receive.Goals as goal
 
 pub put_received-requires-clause-laid_out : goal.put_received-requires-clause-laid_out
 put_received-requires-clause-laid_out c =
