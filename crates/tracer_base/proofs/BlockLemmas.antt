@@ -7,7 +7,7 @@ use Rattle.mach_types.specs.declared.calls.Event.TheVariants.{TaskCreate, TaskTe
 use Rattle.tracer_base.specs.declared.blocks.MessageCall.{MessageCall}
 use Rattle.tracer_base.specs.declared.blocks.ScriptLine.{ScriptLine}
 use Rattle.tracer_base.specs.declared.blocks.ScriptLine.TheVariants.{Call, Message, Thread}
-use Rattle.tracer_base.specs.Blocks.{FitsSaid, FitsMessage, FitsThread, message_arguments, said_words, said_text}
+use Rattle.tracer_base.specs.Blocks.{FitsSaid, FitsMessage, message_arguments, said_words, said_text}
 use Rattle.tracer_base.specs.Calls.{call_word, call_arguments}
 use Rattle.tracer_base.specs.Text.{bytes_text}
 use Rattle.tracer_base.specs.Words.{IsWord, line, words}

@@ -1,5 +1,5 @@
 -- The lines of scripts: calls, message calls, and beginnings of blocks; and how message calls are answered.
-use Rattle.std.specs.Prelude.{◌≡◌, ℕ, ◌<◌, ◌≤◌, ◌^◌, ◌+◌, List, [], ◌∷◌, ◌++◌, codes, decimal, All, length, flat_map}
+use Rattle.std.specs.Prelude.{ℕ, ◌<◌, ◌≤◌, ◌^◌, List, [], ◌∷◌, ◌++◌, codes, decimal, All}
 use Rattle.mach_types.specs.Numbers.{most_bytes}
 use Rattle.tracer_base.specs.declared.blocks.MessageCall.{MessageCall}
 use Rattle.tracer_base.specs.declared.blocks.ScriptLine.{ScriptLine}

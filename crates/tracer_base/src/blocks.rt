@@ -3,11 +3,13 @@ ghost use Rattle.std.specs.Prelude.{◌≡◌, ◌<◌, ◌^◌, ℕ, List, [], 
 ghost use Rattle.std.specs.Io.KnownBytes.{Appends};
 ghost use Rattle.tracer_base.specs.declared.blocks.MessageCall.{MessageCall as AnyMessageCall};
 ghost use Rattle.tracer_base.specs.declared.blocks.ScriptLine.{ScriptLine as AnyLine};
+ghost use Rattle.mach_types.specs.declared.calls.Event.{Event as AnyEvent};
+ghost use Rattle.tracer_base.specs.Calls.{Fits, call_word, call_arguments};
 ghost use Rattle.tracer_base.specs.Blocks.{message_arguments, said_words, said_text, thread_line, received_text, outcome_line, FitsMessage, FitsThread, FitsSaid};
 ghost use Rattle.tracer_base.specs.Text.{code_text};
 ghost use Rattle.tracer_base.specs.Words.{line, IsRead};
 
-use crate::calls::read_call;
+use crate::calls;
 use crate::fault::TextFault;
 use crate::hexadecimal::write_bytes;
 use crate::replies::write_code;
@@ -60,8 +62,19 @@ pub fn read_script_line(alloc: Global, text: &[u8]) -> Result<ScriptLine, TextFa
     match words.keyword()? {
         "thread" => read_thread(words),
         "msg" => read_message(alloc, words),
-        _ => Ok(ScriptLine::Call(read_call(alloc, text)?)),
+        keyword => read_other(alloc, keyword, words),
     }
+}
+
+/// The call of this keyword, whose arguments are all words that are left.
+fn read_other(alloc: Global, keyword: &str, mut words: Words<'_>) -> Result<ScriptLine, TextFault>
+    ensures ok { IfOk result (λ said. said_words said ≡ keyword.now ∷ words.entry) }
+    ensures fits { IfOk result FitsSaid }
+    ensures each { (event : AnyEvent) → Fits event → call_word event ≡ keyword.now → call_arguments event ≡ words.entry → IsOkUnless result TextFault.OutOfMemory }
+{
+    let event = calls::read_arguments(alloc, keyword, &mut words)?;
+    words.end()?;
+    Ok(ScriptLine::Call(event))
 }
 
 /// The beginning of the block whose number is the only word left.

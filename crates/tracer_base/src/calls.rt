@@ -45,7 +45,11 @@ pub fn next_call(alloc: Global, words: &mut Words<'_>) -> Result<Event, TextFaul
 }
 
 /// The call of this keyword, with its arguments from `words`. Faults are as for [`read_call`].
-fn read_arguments(alloc: Global, keyword: &str, words: &mut Words<'_>) -> Result<Event, TextFault>
+pub(crate) fn read_arguments(
+    alloc: Global,
+    keyword: &str,
+    words: &mut Words<'_>,
+) -> Result<Event, TextFault>
     ensures word { IfOk result (λ event. call_word event ≡ keyword.now) }
     ensures arguments { IfOk result (λ event. call_arguments event ++ words.new ≡ words.old) }
     ensures fits { IfOk result Fits }

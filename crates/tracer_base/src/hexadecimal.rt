@@ -119,7 +119,7 @@ fn parse_pairs(alloc: Global, text: &[u8]) -> Result<Vec<u8>, TextFault>
     let mut rest = text;
     while !rest.is_empty() {
         let (byte, others) = split_pair(rest).ok_or(TextFault::Bad)?;
-        bytes.push(byte)?;
+        bytes.push_reserved(byte);
         rest = others;
     }
     Ok(bytes)

@@ -1,4 +1,4 @@
-use Rattle.std.proofs.Common.{rules, ◌≡◌, ◌<◌, ◌≤◌, ◌^◌, arith, subst, sym}
+use Rattle.std.proofs.Common.{rules, ◌<◌, ◌≤◌, ◌^◌, arith, subst, sym}
 use Rattle.mach_types.specs.Numbers.{most_bytes}
 use Rattle.tracer_base.proofs.BlockLemmas.{same_room}
 use Rattle.tracer_base.proofs.blocks.read_message.Goals as goal

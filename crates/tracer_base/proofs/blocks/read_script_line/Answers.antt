@@ -1,5 +1,7 @@
-use Rattle.std.proofs.Common.{rules, codes, decimal, ◌≡◌, List, ℕ, [], ◌∷◌, ◌∙◌, sym, ap, subst}
-use Rattle.tracer_base.specs.Blocks.{FitsSaid, FitsThread, FitsMessage, message_arguments}
+use Rattle.std.proofs.Common.{rules, codes, IsOkUnless, ◌≡◌, ◌∷◌, ◌∙◌, sym, ap, subst}
+use Rattle.tracer_base.specs.declared.blocks.ScriptLine.TheVariants.{Call, Message, Thread}
+use Rattle.tracer_base.specs.declared.fault.TextFault.TheVariants.{OutOfMemory}
+use Rattle.tracer_base.specs.Blocks.{FitsSaid}
 use Rattle.tracer_base.specs.Words.{words}
 use Rattle.tracer_base.proofs.BlockLemmas.{said_word, said_arguments, said_split, said_read, is_plain-said_word, is_thread, is_message}
 use Rattle.tracer_base.proofs.WordLemmas.{IsAscii-plain}
@@ -51,3 +53,24 @@ returns-in-msg-clause-each c =
     let named = is_message said word in
     let spelled : said_arguments said ≡ c.keyword.new.self = cc in
     c.read_message.ensures.each named.0 (subst FitsSaid named.1 fits) (ap said_arguments (sym named.1) ∙ spelled)
+
+pub returns-in_default-clause-ok : goal.returns-in_default-clause-ok
+returns-in_default-clause-ok c =
+    let first = c.in_ok-keyword.ensures.ok in
+    let whole = c.of-words.ensures in
+    let split : c.in_ok-keyword.keyword.now ∷ c.keyword.new.self ≡ words c.args.text.now = cc in
+    said_read c.read_other.result _ _ split c.read_other.ensures.ok
+
+pub returns-in_default-clause-each : goal.returns-in_default-clause-each
+returns-in_default-clause-each c =
+    λ said fits same.
+    let first = c.in_ok-keyword.ensures.ok in
+    let whole = c.of-words.ensures in
+    let split = said_split said _ fits same in
+    let word : said_word said ≡ c.in_ok-keyword.keyword.now = cc in
+    let spelled : said_arguments said ≡ c.keyword.new.self = cc in
+    elim said as (λ s. FitsSaid s → said_word s ≡ c.in_ok-keyword.keyword.now → said_arguments s ≡ c.keyword.new.self → IsOkUnless c.read_other.result OutOfMemory) [
+      | Call event ↦ λ fits word spelled. c.read_other.ensures.each event fits word spelled
+      | Message call ↦ λ fits word spelled. absurd (c.in_default.not-msg (sym word))
+      | Thread number ↦ λ fits word spelled. absurd (c.in_default.not-thread (sym word))
+    ] fits word spelled

@@ -1,4 +1,4 @@
-use Rattle.std.proofs.Common.{rules, ◌≡◌, ◌<◌, ◌^◌, arith, subst, sym}
+use Rattle.std.proofs.Common.{rules, ◌<◌, ◌^◌, arith, subst, sym}
 use Rattle.tracer_base.specs.Blocks.{FitsThread}
 use Rattle.tracer_base.proofs.BlockLemmas.{same_number}
 use Rattle.tracer_base.proofs.blocks.read_thread.Goals as goal

@@ -1,4 +1,4 @@
-use Rattle.std.proofs.Common.{sym, ap, subst, ◌∙◌, List, ◌++◌, ◌≡◌, ℕ}
+use Rattle.std.proofs.Common.{sym, ap, subst, ◌∙◌, ◌++◌}
 use Rattle.mach_types.specs.declared.calls.Event.{Event}
 use Rattle.tracer_base.specs.Calls.{Fits, call_arguments}
 use Rattle.tracer_base.proofs.NotifyLemmas.{is_notify}

@@ -1,4 +1,4 @@
-use Rattle.std.proofs.Common.{◌≡◌, ◌++◌, ◌<◌, [], ◌∷◌, rules, sym, ◌∙◌}
+use Rattle.std.proofs.Common.{◌≡◌, ◌++◌, ◌<◌, [], ◌∷◌, length, rules, sym, ap, ◌∙◌, arith}
 use Rattle.std.proofs.lemmas.List.Elements.{All-push}
 use Rattle.tracer_base.specs.Text.{hex_digits}
 use Rattle.tracer_base.proofs.HexLemmas.{reads_more, digits_left, first_byte}
@@ -13,11 +13,17 @@ returns-in_err-byte-clause-each c =
     let found = c.split_pair.ensures.each first.0 first.1 first.2 first.3 in
     absurd (search (rules, found))
 
+pub push_reserved-requires : goal.push_reserved-requires
+push_reserved-requires c =
+    let next : hex_digits (c.in_ok-byte.byte ∷ []) ++ c.in_ok-byte.others.now ≡ c.loop-rest.rest.now = search rules in
+    omega (arith, ap length next, c.loop-rest.invariant.2)
+
 pub loop-rest-preserved : goal.loop-rest-preserved
 loop-rest-preserved c =
     let next : hex_digits (c.in_ok-byte.byte ∷ []) ++ c.in_ok-byte.others.now ≡ c.loop-rest.rest.now = search rules in
     let small : c.in_ok-byte.byte < 256 = search rules in
-    rw c.in_ok-push.ensures.items (
+    rw c.push_reserved.ensures.items (
       reads_more c.loop-rest.bytes.items c.in_ok-byte.byte _ _ _ c.loop-rest.invariant.0 next,
       All-push (λ byte. byte < 256) c.loop-rest.bytes.items c.in_ok-byte.byte c.loop-rest.invariant.1 small,
+      omega (arith, ap length next, c.loop-rest.invariant.2, c.push_reserved.ensures.len, c.push_reserved.ensures.capacity),
     )
