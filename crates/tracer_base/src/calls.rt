@@ -33,8 +33,7 @@ pub fn read_call(alloc: Global, text: &[u8]) -> Result<Event, TextFault>
     Ok(event)
 }
 
-/// The call that the next words say: the call's keyword, and its arguments. Faults and cost are as for
-/// [`read_call`].
+/// The call that the next words say: its keyword and arguments. Faults and cost are as for [`read_call`].
 pub fn next_call(alloc: Global, words: &mut Words<'_>) -> Result<Event, TextFault>
     ensures ok { IfOk result (λ event. call_words event ++ words.new ≡ words.old) }
     ensures fits { IfOk result Fits }

@@ -31,8 +31,7 @@ pub fn read_reply(alloc: Global, text: &[u8]) -> Result<Reply, TextFault>
     Ok(reply)
 }
 
-/// The reply that the next words say: the reply's keyword, and what it answers. Faults and cost are as for
-/// [`read_reply`].
+/// The reply that the next words say: its keyword and answer. Faults and cost are as for [`read_reply`].
 pub fn next_reply(alloc: Global, words: &mut Words<'_>) -> Result<Reply, TextFault>
     ensures ok { IfOk result (λ reply. reply_words reply ++ words.new ≡ words.old) }
     ensures fits { IfOk result FitsReply }

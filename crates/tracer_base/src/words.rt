@@ -111,8 +111,7 @@ impl<'a> Words<'a> {
         parse_u8(self.word()?).ok_or(TextFault::Bad)
     }
 
-    /// The next word as a number of 32 bits with a sign, `-` before a number below 0 and nothing before
-    /// another.
+    /// The next word as a number of 32 bits with a sign: `-` before a number below 0, and no other.
     pub fn delta(&mut self) -> Result<i32, TextFault>
         ensures ok { IfOk result (λ delta. signed_decimal delta ∷ self.new ≡ self.old) }
         ensures fits { IfOk result FitsDelta }
