@@ -1,8 +1,10 @@
-//! Tests of `gelvonds`: its typed calls, and messages that are written, sent, received and read back.
+//! Tests of `gelvonds`: its typed calls, a task with no name left, and messages that are written, sent, received and read back.
 #![tactic(auto)]
 
 #[cfg(test)]
 mod calls;
+#[cfg(test)]
+mod full;
 #[cfg(test)]
 mod parties;
 #[cfg(test)]

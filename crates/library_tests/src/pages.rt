@@ -57,15 +57,17 @@ fn all_are_put(pages: &mut Pages<u32>) -> bool {
             return false;
         }
     }
-    pages.first_free() == 65536 && pages.reserve(1).is_err()
+    pages.first_free() == 65536 && pages.reserve(1).is_ok() && put_first(pages, 7).is_none()
 }
 
+/// Whether the room that was made when all were used is there for the one that gets free.
 fn one_is_free(pages: &mut Pages<u32>) -> bool {
     pages.remove(513) == Some(513)
         && pages.first_free() == 513
         && pages.next_used(513) == Some(514)
         && pages.len() == 65534
-        && pages.reserve(1).is_ok()
+        && put_first(pages, 9) == Some(513)
+        && pages.room() == 0
 }
 
 #[test]

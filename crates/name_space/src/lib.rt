@@ -300,8 +300,8 @@ impl Space {
     /// there is then room for just so many. Constant time where there is room for them, and else linear
     /// in the number of names.
     ///
-    /// An error means that memory was refused, or that fewer names up to 65,535 are unused; the names
-    /// are then as before, and so is the room.
+    /// An error means that memory was refused; the names are then as before, and so is the room. Where
+    /// fewer names up to 65,535 are unused, there is room for those that get free.
     pub fn reserve(&mut self, additional: usize) -> Result<(), AllocError>
         ensures ok { OnOk result (self.new ≡ record self.old { room = max self.old.room additional }) }
         ensures err { OnErr result (self.new ≡ self.old) }

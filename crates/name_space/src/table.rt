@@ -121,12 +121,12 @@ impl Table {
         }
     }
 
-    // Makes room for so many fresh names. An error means that memory was refused, or that fewer names
-    // below 65,536 are unused.
+    // Makes room for so many fresh names. An error means that memory was refused for a page.
     pub(crate) fn reserve(&mut self, additional: usize) -> Result<(), AllocError>
         ensures ok { OnOk result (self.new ≡ record self.old { room = max self.old.room additional }) }
         ensures err { OnErr result (self.new ≡ self.old) }
         ensures had_room { additional ≤ self.old.room → IsOk result }
+        ensures wanted { OnErr result ((name : ℕ) × (name < 65536) × HasNoNeighbour self.old name) }
     {
         if additional <= self.room {
             return Ok(());

@@ -80,7 +80,7 @@ module _ {T : Type 0} (ps : Sheets T) (full : List ℕ) (len front front_free ro
     front_few = s.front_few;
     front_made = λ p h. length-kept ps n (Some v) within p ∙ s.front_made p h;
     front_counted = front-put v positive none;
-    has_room = let h = s.has_room in let k = few-lost in omega arith;
+    has_room = λ few. let h = s.has_room few in let k = few-lost in omega arith;
     counted = ap (λ k. k + 1) s.counted ∙ sym (len-put (values_of ps) n v (get-values ps n ∙ none)) ∙ ap (λ (m : map.FinMap nat_cmp T). map.len m) (sym (values-put ps (with_slot ps n (Some v)) n v (look-kept ps n (Some v) within) (look-written ps n (Some v) within)));
   }
 
@@ -159,7 +159,7 @@ module _ {T : Type 0} (ps : Sheets T) (full : List ℕ) (len front front_free ro
         front_few = s.front_few;
         front_made = λ p h. length-kept ps n None within p ∙ s.front_made p h;
         front_counted = front-out used;
-        has_room = let h = s.has_room in omega arith;
+        has_room = λ few. let h = s.has_room few in omega arith;
         counted = let k : map.len (map.remove (values_of ps) n) + 1 ≡ map.len (values_of ps) = len-out (values_of ps) n (ap is_some (get-values ps n) ∙ used) in let h = s.counted in let j : len - 1 ≡ map.len (map.remove (values_of ps) n) = omega arith in
             j ∙ ap (λ (m : map.FinMap nat_cmp T). map.len m) (sym (values-out ps (with_slot ps n None) n (look-kept ps n None within) (look-written ps n None within)));
       }

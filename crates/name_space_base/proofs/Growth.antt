@@ -18,6 +18,10 @@ pub on-err : {A E P Q : Type 0} (r : Result A E) → (P → Q) → OnErr r P →
 on-err (Ok x) f h = h
 on-err (Err e) f h = f h
 
+pub for-err : {A E P : Type 0} (r : Result A E) → P → OnErr r P
+for-err (Ok x) p = tt
+for-err (Err e) p = p
+
 pub on-none : {A E P : Type 0} (r : Result A E) → (P → IsOk r) → OnErr r (P → ⊥)
 on-none (Ok x) f = tt
 on-none (Err e) f = λ p. false≢true (f p)
@@ -115,11 +119,11 @@ module _ {T : Type 0} (ps : Sheets T) (full : List ℕ) (len front front_free ro
       | inr d ↦ s.front_made q (omega arith)
     ];
     front_counted = let c : front_free ≡ sum_below (free ps) front = s.front_counted in let d : sum_below (free ps) (front + 1) ≡ sum_below (free ps) front + free ps front = sum-more (free ps) front in omega arith;
-    has_room = let h = s.has_room in omega arith;
+    has_room = λ few. let h = s.has_room (omega arith) in omega arith;
     counted = s.counted;
   }
 
-  pub sound-room : (new : ℕ) → new ≤ front_free → IsSound ps full len front front_free new
+  pub sound-room : (new : ℕ) → (front < 256 → new ≤ front_free) → IsSound ps full len front front_free new
   sound-room new h = record {
     few = s.few;
     shaped = s.shaped;

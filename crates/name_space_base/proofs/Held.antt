@@ -166,9 +166,9 @@ module _ {T : Type 0} where
     }
 
     -- where there is room, the least free number lies in the pages in front
-    pub room-made : (n : ℕ) → IsFirstFree (values_of ps) n → 0 < room → n % 256 < length (page_at ps (n / 256))
-    room-made n first some =
-        let enough : room ≤ front_free = s.has_room in
+    in-front : (n : ℕ) → front < 256 → IsFirstFree (values_of ps) n → 0 < room → n % 256 < length (page_at ps (n / 256))
+    in-front n few first some =
+        let enough : room ≤ front_free = s.has_room few in
         let counted : front_free ≡ sum_below (free ps) front = s.front_counted in
         let spare : (q : ℕ) × ((q < front) × (0 < free ps q)) = sum-some (free ps) front (omega arith) in
         let in_front : spare.0 < front = spare.1.0 in
@@ -188,6 +188,13 @@ module _ {T : Type 0} where
         ] in
         let here : length (page_at ps (n / 256)) ≡ 256 = s.front_made (n / 256) (omega arith) in
         omega arith
+
+    -- ... and where all are in front, each number does
+    pub room-made : (n : ℕ) → n < 65536 → IsFirstFree (values_of ps) n → 0 < room → n % 256 < length (page_at ps (n / 256))
+    room-made n small first some = elim (cases_lt front 256) [
+      | inl h ↦ in-front n h first some
+      | inr h ↦ let here : length (page_at ps (n / 256)) ≡ 256 = s.front_made (n / 256) (omega arith) in omega arith
+    ]
 
   -- a search that found nothing before, and nothing in a page up to a place
   pub free-so-far : (ps : Sheets T) (from p place found : ℕ) → ((n : ℕ) → from ≤ n → n < 256 * p + place → look ps n ≡ None) → found ≤ 256
@@ -214,7 +221,7 @@ module _ {T : Type 0} where
     front_few = omega arith;
     front_made = λ p h. absurd (omega arith);
     front_counted = sym (sum-none (free {T = T} []));
-    has_room = omega arith;
+    has_room = λ _. omega arith;
     counted = sym (map.len-empty nat_cmp T) ∙ ap (λ (m : map.FinMap nat_cmp T). map.len m) (sym (values-none [] refl));
   }
 
@@ -233,9 +240,9 @@ module _ {T : Type 0} where
       ]
 
   -- a number that has a place lies in a page that is made
-  pub place-within : (ps : Sheets T) (full : List ℕ) (len front front_free room : ℕ) → IsSound ps full len front front_free room → (n : ℕ) → HasPlace record { values = values_of ps; room = room; made = made_of ps } n → n % 256 < length (page_at ps (n / 256))
-  place-within ps full len front front_free room s n place = elim place [
-    | inl h ↦ room-made ps full len front front_free room s n h.0 h.1
+  pub place-within : (ps : Sheets T) (full : List ℕ) (len front front_free room : ℕ) → IsSound ps full len front front_free room → (n : ℕ) → n < 65536 → HasPlace record { values = values_of ps; room = room; made = made_of ps } n → n % 256 < length (page_at ps (n / 256))
+  place-within ps full len front front_free room s n small place = elim place [
+    | inl h ↦ room-made ps full len front front_free room s n small h.0 h.1
     | inr h ↦ made-within ps full len front front_free room s n h
   ]
 

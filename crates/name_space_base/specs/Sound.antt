@@ -56,7 +56,8 @@ module _ {T : Type 0} where
   free_in_front pages front = sum_below (free pages) front
 
   -- Pages are made or not, and the full ones are marked. The first ones are all made, and there is room
-  -- for as many values as are free in them.
+  -- for as many values as are free in them; where all pages are, each number has its place, and there is
+  -- room for any.
   pub record IsSound (pages : List (List (Option T))) (full : List ℕ) (len front front_free room : ℕ) : Type 0 where
     pub few : length pages ≤ 256
     pub shaped : (page : ℕ) → (length (page_at pages page) ≡ 0) ⊎ (length (page_at pages page) ≡ 256)
@@ -65,7 +66,7 @@ module _ {T : Type 0} where
     pub front_few : front ≤ 256
     pub front_made : (page : ℕ) → page < front → length (page_at pages page) ≡ 256
     pub front_counted : front_free ≡ free_in_front pages front
-    pub has_room : room ≤ front_free
+    pub has_room : front < 256 → room ≤ front_free
     pub counted : len ≡ map.len (values_of pages)
 
   -- one page may be made, and nothing else changes

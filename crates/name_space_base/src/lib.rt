@@ -176,22 +176,21 @@ impl<T: Copy> Pages<T> {
     /// counts: where it is less, there is then room for just so many. Linear in the number of pages
     /// that are made for it.
     ///
-    /// An error means that memory was refused, or that fewer numbers are free; values and room are then
-    /// as before, and pages that were made stay.
+    /// An error means that memory was refused for a page; values and room are then as before, and pages
+    /// that were made stay. Where all pages are made it never comes, though fewer numbers be free: a
+    /// number that gets free then has its place.
     pub fn reserve(&mut self, additional: usize) -> Result<(), AllocError>
         ensures values { self.new.values ≡ self.old.values }
         ensures made { (page : ℕ) → set.contains self.old.made page ≡ true → set.contains self.new.made page ≡ true }
         ensures ok { OnOk result (self.new.room ≡ max self.old.room additional) }
         ensures err { OnErr result (self.new.room ≡ self.old.room) }
         ensures had_room { additional ≤ self.old.room → IsOk result }
+        ensures wanted { OnErr result ((number : ℕ) × (number < 65536) × WantsPage self.old number) }
     {
         if additional <= self.room {
             return Ok(());
         }
-        while self.front_free < additional {
-            if self.front == MOST_PAGES {
-                return Err(AllocError);
-            }
+        while self.front_free < additional && self.front < MOST_PAGES {
             make(&mut self.pages, self.front, self.alloc)?;
             self.front_free += PAGE - self.pages[self.front].len() - usize::from(self.front == 0);
             self.front += 1;

@@ -13,7 +13,7 @@ index_mut-held-requires g c =
     let ps : Sheets g.row.T.Denot = c.self.inside.pages.items in
     let n : ℕ = c.args.number in
     let place : HasPlace record { values = values_of ps; room = c.self.inside.room; made = made_of ps } n = subst (λ (v : PagesView g.row.T.Denot). HasPlace v n) (sym c.self.view_is) c.requires.place in
-    let within : n % 256 < length (page_at ps (n / 256)) = place-within ps c.self.inside.full.words c.self.inside.len c.self.inside.front c.self.inside.front_free c.self.inside.room c.self.invariant n place in
+    let within : n % 256 < length (page_at ps (n / 256)) = place-within ps c.self.inside.full.words c.self.inside.len c.self.inside.front c.self.inside.front_free c.self.inside.room c.self.invariant n c.requires.small place in
     let listed : n / 256 < length ps = in_list ps (n / 256) (omega arith) in
     let long : vec_len c.self.inside.pages ≡ length ps = c.self.inside.pages.ok.0 in
     omega arith
@@ -23,7 +23,7 @@ put-requires-clause-made g c =
     let ps : Sheets g.row.T.Denot = c.self.inside.pages.items in
     let n : ℕ = c.args.number in
     let place : HasPlace record { values = values_of ps; room = c.self.inside.room; made = made_of ps } n = subst (λ (v : PagesView g.row.T.Denot). HasPlace v n) (sym c.self.view_is) c.requires.place in
-    let within : n % 256 < length (page_at ps (n / 256)) = place-within ps c.self.inside.full.words c.self.inside.len c.self.inside.front c.self.inside.front_free c.self.inside.room c.self.invariant n place in
+    let within : n % 256 < length (page_at ps (n / 256)) = place-within ps c.self.inside.full.words c.self.inside.len c.self.inside.front c.self.inside.front_free c.self.inside.room c.self.invariant n c.requires.small place in
     let listed : n / 256 < length ps = in_list ps (n / 256) (omega arith) in
     let held : c.index_mut-held.result.now ≡ page_at ps (n / 256) = held-at ps (n / 256) c.index_mut-held.result.now listed c.index_mut-held.ensures.value in
     subst (λ (l : List (Option g.row.T.Denot)). n % 256 < length l) (sym held) within
@@ -33,7 +33,7 @@ put-requires-clause-free g c =
     let ps : Sheets g.row.T.Denot = c.self.inside.pages.items in
     let n : ℕ = c.args.number in
     let place : HasPlace record { values = values_of ps; room = c.self.inside.room; made = made_of ps } n = subst (λ (v : PagesView g.row.T.Denot). HasPlace v n) (sym c.self.view_is) c.requires.place in
-    let within : n % 256 < length (page_at ps (n / 256)) = place-within ps c.self.inside.full.words c.self.inside.len c.self.inside.front c.self.inside.front_free c.self.inside.room c.self.invariant n place in
+    let within : n % 256 < length (page_at ps (n / 256)) = place-within ps c.self.inside.full.words c.self.inside.len c.self.inside.front c.self.inside.front_free c.self.inside.room c.self.invariant n c.requires.small place in
     let listed : n / 256 < length ps = in_list ps (n / 256) (omega arith) in
     let free : look ps n ≡ None = sym (get-values ps n) ∙ ap (λ (v : PagesView g.row.T.Denot). map.get v.values n) c.self.view_is ∙ c.requires.free in
     let held : c.index_mut-held.result.now ≡ page_at ps (n / 256) = held-at ps (n / 256) c.index_mut-held.result.now listed c.index_mut-held.ensures.value in
@@ -47,7 +47,7 @@ overflow_sub-self g c =
     let ps : Sheets g.row.T.Denot = c.self.inside.pages.items in
     let n : ℕ = c.args.number in
     let place : HasPlace record { values = values_of ps; room = c.self.inside.room; made = made_of ps } n = subst (λ (v : PagesView g.row.T.Denot). HasPlace v n) (sym c.self.view_is) c.requires.place in
-    let within : n % 256 < length (page_at ps (n / 256)) = place-within ps c.self.inside.full.words c.self.inside.len c.self.inside.front c.self.inside.front_free c.self.inside.room c.self.invariant n place in
+    let within : n % 256 < length (page_at ps (n / 256)) = place-within ps c.self.inside.full.words c.self.inside.len c.self.inside.front c.self.inside.front_free c.self.inside.room c.self.invariant n c.requires.small place in
     let listed : n / 256 < length ps = in_list ps (n / 256) (omega arith) in
     let free : look ps n ≡ None = sym (get-values ps n) ∙ ap (λ (v : PagesView g.row.T.Denot). map.get v.values n) c.self.view_is ∙ c.requires.free in
     let lost : c.from-2.result ≡ lost-in (n / 256) c.self.inside.front = c.from-2.ensures ∙ byte-is (ltb (n / 256) c.self.inside.front) in
@@ -60,7 +60,7 @@ overflow_add-self g c =
     let ps : Sheets g.row.T.Denot = c.self.inside.pages.items in
     let n : ℕ = c.args.number in
     let place : HasPlace record { values = values_of ps; room = c.self.inside.room; made = made_of ps } n = subst (λ (v : PagesView g.row.T.Denot). HasPlace v n) (sym c.self.view_is) c.requires.place in
-    let within : n % 256 < length (page_at ps (n / 256)) = place-within ps c.self.inside.full.words c.self.inside.len c.self.inside.front c.self.inside.front_free c.self.inside.room c.self.invariant n place in
+    let within : n % 256 < length (page_at ps (n / 256)) = place-within ps c.self.inside.full.words c.self.inside.len c.self.inside.front c.self.inside.front_free c.self.inside.room c.self.invariant n c.requires.small place in
     let listed : n / 256 < length ps = in_list ps (n / 256) (omega arith) in
     let few : c.self.inside.len ≤ 65536 = few-values ps c.self.inside.full.words c.self.inside.len c.self.inside.front c.self.inside.front_free c.self.inside.room c.self.invariant n within in
     omega arith
@@ -70,7 +70,7 @@ overflow_add-is_full g c =
     let ps : Sheets g.row.T.Denot = c.self.inside.pages.items in
     let n : ℕ = c.args.number in
     let place : HasPlace record { values = values_of ps; room = c.self.inside.room; made = made_of ps } n = subst (λ (v : PagesView g.row.T.Denot). HasPlace v n) (sym c.self.view_is) c.requires.place in
-    let within : n % 256 < length (page_at ps (n / 256)) = place-within ps c.self.inside.full.words c.self.inside.len c.self.inside.front c.self.inside.front_free c.self.inside.room c.self.invariant n place in
+    let within : n % 256 < length (page_at ps (n / 256)) = place-within ps c.self.inside.full.words c.self.inside.len c.self.inside.front c.self.inside.front_free c.self.inside.room c.self.invariant n c.requires.small place in
     let listed : n / 256 < length ps = in_list ps (n / 256) (omega arith) in
     let free : look ps n ≡ None = sym (get-values ps n) ∙ ap (λ (v : PagesView g.row.T.Denot). map.get v.values n) c.self.view_is ∙ c.requires.free in
     let held : c.index_mut-held.result.now ≡ page_at ps (n / 256) = held-at ps (n / 256) c.index_mut-held.result.now listed c.index_mut-held.ensures.value in
@@ -88,7 +88,7 @@ invariant_of-self g c =
     let ps : Sheets g.row.T.Denot = c.self.inside.pages.items in
     let n : ℕ = c.args.number in
     let place : HasPlace record { values = values_of ps; room = c.self.inside.room; made = made_of ps } n = subst (λ (v : PagesView g.row.T.Denot). HasPlace v n) (sym c.self.view_is) c.requires.place in
-    let within : n % 256 < length (page_at ps (n / 256)) = place-within ps c.self.inside.full.words c.self.inside.len c.self.inside.front c.self.inside.front_free c.self.inside.room c.self.invariant n place in
+    let within : n % 256 < length (page_at ps (n / 256)) = place-within ps c.self.inside.full.words c.self.inside.len c.self.inside.front c.self.inside.front_free c.self.inside.room c.self.invariant n c.requires.small place in
     let listed : n / 256 < length ps = in_list ps (n / 256) (omega arith) in
     let free : look ps n ≡ None = sym (get-values ps n) ∙ ap (λ (v : PagesView g.row.T.Denot). map.get v.values n) c.self.view_is ∙ c.requires.free in
     let held : c.index_mut-held.result.now ≡ page_at ps (n / 256) = held-at ps (n / 256) c.index_mut-held.result.now listed c.index_mut-held.ensures.value in
@@ -110,7 +110,7 @@ returns g c =
     let ps : Sheets g.row.T.Denot = c.self.inside.pages.items in
     let n : ℕ = c.args.number in
     let place : HasPlace record { values = values_of ps; room = c.self.inside.room; made = made_of ps } n = subst (λ (v : PagesView g.row.T.Denot). HasPlace v n) (sym c.self.view_is) c.requires.place in
-    let within : n % 256 < length (page_at ps (n / 256)) = place-within ps c.self.inside.full.words c.self.inside.len c.self.inside.front c.self.inside.front_free c.self.inside.room c.self.invariant n place in
+    let within : n % 256 < length (page_at ps (n / 256)) = place-within ps c.self.inside.full.words c.self.inside.len c.self.inside.front c.self.inside.front_free c.self.inside.room c.self.invariant n c.requires.small place in
     let listed : n / 256 < length ps = in_list ps (n / 256) (omega arith) in
     let free : look ps n ≡ None = sym (get-values ps n) ∙ ap (λ (v : PagesView g.row.T.Denot). map.get v.values n) c.self.view_is ∙ c.requires.free in
     let held : c.index_mut-held.result.now ≡ page_at ps (n / 256) = held-at ps (n / 256) c.index_mut-held.result.now listed c.index_mut-held.ensures.value in
