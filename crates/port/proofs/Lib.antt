@@ -6,5 +6,6 @@ pub mod Moved
 pub mod Readied
 pub mod Turned
 pub mod InTurn
+pub mod Joined
 pub mod Waiting
 pub mod Idle

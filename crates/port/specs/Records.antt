@@ -51,6 +51,11 @@ doomed_with (QueueOf q) port doomed = doomed
 doomed_with Nobody port doomed = doomed
 doomed_with Doomed port doomed = doomed ++ port ∷ []
 
+-- the set that a port gets ready in by a message: the one that it is in, if it has none
+abbrev pub readied_if : {M : Type 0} → List M → Option ℕ → Option ℕ
+readied_if [] set = set
+readied_if (m ∷ ms) set = None
+
 module _ {M : Type 0} where
   abbrev pub port_in : Option (Record M) → PortView M
   port_in None = record { queue = []; attributes = first_attributes 0 }
@@ -93,6 +98,10 @@ module _ {M : Type 0} where
 
   abbrev pub ready_set : Record M → Option ℕ
   ready_set r = ready_if r.queue r.kept.attributes.set
+
+  -- the set that a port gets ready in by a message
+  abbrev pub readied_set : Record M → Option ℕ
+  readied_set r = readied_if r.queue r.kept.attributes.set
 
   -- the set that a port is in
   abbrev pub member_set : Record M → Option ℕ

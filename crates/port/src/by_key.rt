@@ -4,12 +4,15 @@ ghost use Rattle.std.specs.List.{Contains};
 ghost use Rattle.slab.specs.Slab.{get, with_value, HasRoomFor};
 ghost use Rattle.port.specs.declared.Record.{Record as AnyRecord};
 ghost use Rattle.port.specs.Holding.{held_by};
+ghost use Rattle.port.specs.Ready.{StandsIn, IsMoved, out_of, at_end};
 ghost use Rattle.port.specs.Ports.{one_made, one_received};
-ghost use Rattle.port.specs.Records.{ready_set, member_set, waiting_list, waits_in, noting_list, ids_at};
+ghost use Rattle.port.specs.Records.{ready_set, readied_set, member_set, waiting_list, waits_in, noting_list, ids_at};
 
+use crate::moves::rejoin;
 use crate::slots::{move_first, pop, push};
 use crate::{Attributes, Holder, Message, Record};
 use mach_types::PortId;
+use member_lists::Lists;
 use slab::Slab;
 use std::alloc::{AllocError, Global};
 use std::collections::LinkedList;
@@ -26,20 +29,58 @@ pub(crate) const DOOMED: u64 = 1;
 // The list of the ports that are noted.
 pub(crate) const NOTED: u64 = 0;
 
-// Queues the message at the port under the key.
+impl<M: Message> Record<M> {
+    // The number of the set that the port is ready in: its set, where it has a message.
+    fn ready_set(&self) -> Option<u64>
+        ensures { result ≡ ready_set self.now }
+    {
+        if self.queue.is_empty() {
+            return None;
+        }
+        self.kept.member_list()
+    }
+
+    // The number of the set that the port gets ready in by a message: its set, where it has none.
+    fn readied_set(&self) -> Option<u64>
+        ensures { result ≡ readied_set self.now }
+    {
+        if !self.queue.is_empty() {
+            return None;
+        }
+        self.kept.member_list()
+    }
+
+    // The number of the set that the port is ready in once its first message is taken.
+    fn ready_behind(&self) -> Option<u64>
+        ensures { (m : M) (rest : List M) → self.now.queue ≡ m ∷ rest → result ≡ ready_set (record self.now { queue = rest }) }
+    {
+        if self.queue.len() < 2 {
+            return None;
+        }
+        self.kept.member_list()
+    }
+}
+
+// Queues the message at the port under the key. Answers the number of the set that the port gets ready in
+// by it, if it does; else the port keeps its place.
+#[inline(always)]
 pub(crate) fn push_at<M: Message>(
     records: &mut Slab<Record<M>>,
     key: usize,
     spare: &mut LinkedList<M>,
     message: M,
-)
+) -> Option<u64>
     requires there { IsSome (get records.old key) }
     requires some { 0 < length spare.old }
     requires fit { (r : AnyRecord M) → get records.old key ≡ Some r → length r.queue + length spare.old < 2 ^ 63 }
     ensures after { (r : AnyRecord M) → get records.old key ≡ Some r → records.new ≡ with_value records.old key (record r { queue = r.queue ++ message ∷ [] }) }
     ensures spare { length spare.new + 1 ≡ length spare.old }
+    ensures readied { (r : AnyRecord M) → get records.old key ≡ Some r → result ≡ readied_set r }
 {
-    push(&mut records[key].queue, spare, message);
+    let record = &mut records[key];
+    let set = record.readied_set();
+    push(&mut record.queue, spare, message);
+    set
 }
 
 // Takes the message at the front of the queue of the port under the key.
@@ -59,20 +100,31 @@ pub(crate) fn pop_at<M: Message>(
 }
 
 // Takes the message at the front of the queue of the port under the key, and raises the sequence number.
+// The port leaves the ready ones of its set, and joins them at the end where it has more.
+#[inline(always)]
 pub(crate) fn take_at<M: Message>(
     records: &mut Slab<Record<M>>,
     key: usize,
+    ready: &mut Lists,
     spare: &mut LinkedList<M>,
-    blank: M,
 ) -> M
     requires there { IsSome (get records.old key) }
     requires some { (r : AnyRecord M) → get records.old key ≡ Some r → 0 < length r.queue }
     requires fit { (r : AnyRecord M) → get records.old key ≡ Some r → length r.queue + length spare.old < 2 ^ 63 }
+    requires room { key < ready.old.items }
+    requires was { (r : AnyRecord M) → get records.old key ≡ Some r → StandsIn ready.old key (ready_set r) }
     ensures after { (r : AnyRecord M) → get records.old key ≡ Some r → (rest : List M) × (r.queue ≡ result ∷ rest) × (records.new ≡ with_value records.old key (record r { queue = rest; kept = record r.kept { attributes = one_received r.kept.attributes } })) }
     ensures spare { length spare.new ≡ length spare.old + 1 }
+    ensures moved { (r : AnyRecord M) (rest : List M) → get records.old key ≡ Some r → r.queue ≡ result ∷ rest → IsMoved ready.old ready.new key (ready_set (record r { queue = rest })) }
+    ensures turned { (r : AnyRecord M) (rest : List M) → get records.old key ≡ Some r → r.queue ≡ result ∷ rest → ready.new ≡ at_end (out_of ready.old key (ready_set r)) key (ready_set (record r { queue = rest })) }
 {
     let record = &mut records[key];
+    let was = record.ready_set();
+    let now = record.ready_behind();
+    rejoin(ready, key, was, now);
     record.kept.count_received();
+    let blank = M::blank(*spare.allocator());
+    // Last, so that the message is moved once less.
     pop(&mut record.queue, spare, blank)
 }
 
@@ -133,30 +185,12 @@ pub(crate) fn note_at<M: Message>(records: &mut Slab<Record<M>>, key: usize, is_
     records[key].kept.set_noted(is_noted);
 }
 
-// The number of the set that the port under the key is ready in: its set, where it has a message.
+// The number of the set that the port under the key is ready in.
 pub(crate) fn ready_at<M: Message>(records: &Slab<Record<M>>, key: usize) -> Option<u64>
     requires { IsSome (get records.now key) }
     ensures { (r : AnyRecord M) → get records.now key ≡ Some r → result ≡ ready_set r }
 {
-    let record = &records[key];
-    if record.queue.is_empty() {
-        return None;
-    }
-    let set = record.kept.set()?;
-    Some(set.number())
-}
-
-// The number of the set that the port under the key is ready in once its first message is taken.
-pub(crate) fn ready_behind<M: Message>(records: &Slab<Record<M>>, key: usize) -> Option<u64>
-    requires { IsSome (get records.now key) }
-    ensures { (r : AnyRecord M) (m : M) (rest : List M) → get records.now key ≡ Some r → r.queue ≡ m ∷ rest → result ≡ ready_set (record r { queue = rest }) }
-{
-    let record = &records[key];
-    if record.queue.len() < 2 {
-        return None;
-    }
-    let set = record.kept.set()?;
-    Some(set.number())
+    records[key].ready_set()
 }
 
 // The number of the set that the port under the key is in.

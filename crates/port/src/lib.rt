@@ -26,12 +26,12 @@ mod slots;
 
 use by_key::{
     DOOMED, LOST, NOTED, count_at, destroy_at, hold_at, ids_of, member_at, narrow, note_at,
-    noted_at, pop_at, push_at, ready_at, ready_behind, reserve_record, set_at, take_at,
+    noted_at, pop_at, push_at, ready_at, reserve_record, set_at, take_at,
 };
 use mach_types::limits::FIRST_LIMIT;
 use mach_types::{PortId, SetId, TaskId};
 use member_lists::{Lists, TwoLists};
-use moves::{join_two, leave, leave_two, rejoin, rejoin_two, renew};
+use moves::{join, join_two, leave, leave_two, rejoin, rejoin_two, renew};
 use number_map::NumberMap;
 use slab::Slab;
 use slots::{blank_slots, pop};
@@ -705,10 +705,8 @@ impl<M: Message> Ports<M> {
             self.new ≡ record (with_port self.old port (record p { queue = p.queue ++ message ∷ [] })) { spare = self.old.spare - 1 } }
     {
         let key = key_of(&self.by_id, port).unwrap();
-        let was = ready_at(&self.records, key);
-        push_at(&mut self.records, key, &mut self.spare, message);
-        let now = ready_at(&self.records, key);
-        renew(&mut self.ready, key, was, now);
+        let set = push_at(&mut self.records, key, &mut self.spare, message);
+        join(&mut self.ready, key, set);
     }
 
     /// Takes the message at the front of a port's queue; its slot is spare again. A port that has more
@@ -744,12 +742,7 @@ impl<M: Message> Ports<M> {
         if self.records[key].queue.is_empty() {
             return None;
         }
-        let was = ready_at(&self.records, key);
-        let now = ready_behind(&self.records, key);
-        rejoin(&mut self.ready, key, was, now);
-        let blank = M::blank(*self.spare.allocator());
-        // Last, so that the message is moved once less.
-        Some(take_at(&mut self.records, key, &mut self.spare, blank))
+        Some(take_at(&mut self.records, key, &mut self.ready, &mut self.spare))
     }
 
     /// Moves the message at the front of a port's queue, in its slot, behind the destroyed ones, and

@@ -1,5 +1,5 @@
 //! How a port leaves and joins the lists that it stands in by its key.
-ghost use Rattle.std.specs.Prelude.{◌≡◌, ◌<◌, ℕ, IsTrue, Some, None, cond};
+ghost use Rattle.std.specs.Prelude.{◌≡◌, ◌<◌, ℕ, IsTrue, Some, None, IsSome, cond};
 ghost use Rattle.port.specs.Ready.{StandsIn, IsMoved, out_of, at_end};
 ghost use Rattle.port.specs.Turns.{same_set};
 
@@ -17,12 +17,12 @@ pub(crate) fn leave(lists: &mut Lists, key: usize, was: Option<u64>)
     }
 }
 
-// Puts the port under the key at the end of the list of this set, if it belongs to one.
+// Puts the port under the key at the end of the list of this set, if it joins one.
 #[inline(always)]
 pub(crate) fn join(lists: &mut Lists, key: usize, now: Option<u64>)
     requires room { key < lists.old.items }
-    requires apart { StandsIn lists.old key None }
-    ensures moved { IsMoved lists.old lists.new key now }
+    requires apart { IsSome now → StandsIn lists.old key None }
+    ensures moved { StandsIn lists.old key None → IsMoved lists.old lists.new key now }
     ensures joined { lists.new ≡ at_end lists.old key now }
 {
     if let Some(set) = now {

@@ -1,0 +1,12 @@
+use Rattle.std.proofs.Common.{◌≡◌, ap, sym, subst, ◌∙◌}
+use Rattle.port.specs.declared.Record.{Record}
+use Rattle.port.specs.Ready.{IsMoved}
+use Rattle.port.specs.Turns.{ready_if}
+use Rattle.port.proofs.Keys.{same_some}
+use Rattle.port.proofs.by_key.take_at.Goals as goal
+
+pub returns-clause-moved : goal.returns-clause-moved
+returns-clause-moved g c r rest h q =
+    let same : c.index_mut-record.result.now ≡ r = same_some c.index_mut-record.result.now r (sym c.index_mut-record.ensures.value ∙ h) in
+    let behind = c.ready_behind-now.ensures c.pop.result rest (ap (λ (a : Record g.row.M.Denot). a.queue) same ∙ q) ∙ ap (λ (a : Record g.row.M.Denot). ready_if rest a.kept.attributes.set) same in
+    subst (λ o. IsMoved c.args.ready.now c.rejoin.new.lists c.args.key o) behind c.rejoin.ensures.moved
