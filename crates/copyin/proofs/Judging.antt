@@ -12,12 +12,13 @@ use Rattle.message_codec.specs.declared.words.PortWord.{PortWord}
 use Rattle.name_space.specs.declared.Entry.{Entry}
 use Rattle.name_space.specs.Names.{Names}
 use Rattle.copyin.specs.declared.copies.Copied.{Copied}
+use Rattle.copyin.specs.declared.judge.Words.{Words}
 use Rattle.copyin.specs.declared.touched.Touched.{Touched}
 use Rattle.copyin_base.specs.declared.message.Carried.{Carried}
 use Rattle.copyin_base.specs.declared.message.Mark.{Mark}
 use Rattle.copyin_base.specs.declared.message.Mark.TheVariants as mark
 use Rattle.copyin.specs.Copies.{copied_from}
-use Rattle.copyin.specs.Goes.{LeadsNowhere}
+use Rattle.copyin.specs.Goes.{LeadsNowhere, OthersGo}
 use Rattle.copyin.specs.Judging.{CopiesName, CopiesWord, CopiesReply, CopiesBody, IsBad, BodyIsBad}
 use Rattle.copyin.specs.Overlays.{Overlays}
 
@@ -120,3 +121,23 @@ none_replies names (Some w) none = absurd (cc)
 pub none_goes : (names : Names) (ws : List PortWord) → ws ≡ [] → CopiesBody names ws [] names
 none_goes names [] none = refl
 none_goes names (w ∷ ws) none = absurd (cc)
+
+-- ---- no word of the body: the reply's is the last
+
+pub answered : (first : Names) (words : Words) (w : PortWord) (c : Carried) (reply : Option Carried) (after : Names) → words.reply ≡ Some w → reply ≡ Some c
+    → CopiesWord first w c after → words.body.items ≡ [] → OthersGo first words reply []
+answered first words w c reply after is goes copies bare = record {
+  second = after;
+  reply = subst (λ (o : Option PortWord). CopiesReply first (option_to_list o) reply after) (sym is)
+      (subst (λ (r : Option Carried). CopiesReply first (w ∷ []) r after) (sym goes) copies);
+  last = after;
+  body = none_goes after words.body.items bare;
+}
+
+pub unanswered : (first : Names) (words : Words) (reply : Option Carried) → words.reply ≡ None → reply ≡ None → words.body.items ≡ [] → OthersGo first words reply []
+unanswered first words reply none goes bare = record {
+  second = first;
+  reply = subst (λ (r : Option Carried). CopiesReply first (option_to_list words.reply) r first) (sym goes) (none_replies first words.reply none);
+  last = first;
+  body = none_goes first words.body.items bare;
+}

@@ -29,4 +29,4 @@ pub mod Going
 pub mod Planning
 pub mod Committing
 pub mod SlotsKept
-pub mod Lone
+pub mod Bare

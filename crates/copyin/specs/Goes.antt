@@ -1,15 +1,19 @@
 -- How the words of a message are judged in a task's names. No public clause cites this module.
-use Rattle.std.specs.Prelude.{◌≡◌, ℕ, ◌+◌, ◌<◌, ◌≤◌, ◌⊎◌, false, List, [], ◌∷◌, length, Option, None, IsSome, IfSome, All}
+use Rattle.std.specs.Prelude.{◌≡◌, ℕ, ◌+◌, ◌<◌, ◌≤◌, ◌⊎◌, false, List, [], ◌∷◌, length, Option, IsSome, IfSome, All}
 use Rattle.std.specs.Option.{option_to_list}
 use Rattle.mach_types.specs.Numbers.{disposition, kind_sent, most_rights}
+use Rattle.mach_types.specs.declared.rights.Disposition.{Disposition}
 use Rattle.mach_types.specs.declared.codes.MsgReturn.{MsgReturn}
 use Rattle.mach_types.specs.declared.codes.MsgReturn.TheVariants.{SendInvalidDest, SendTimedOut, SendInvalidReply, SendInvalidRight, SendNoBuffer}
 use Rattle.mach_types.specs.Tokens.{send_once, same_kind}
+use Rattle.message_codec.specs.declared.spans.Span.{Span}
 use Rattle.message_codec.specs.declared.text.Parsed.{Parsed}
 use Rattle.message_codec.specs.declared.words.PortWord.{PortWord}
+use Rattle.message_codec.specs.Parses.{Parses}
 use Rattle.message_codec.specs.Words.{inline_words}
 use Rattle.name_space.specs.Names.{Names}
 use Rattle.copyin.specs.declared.judge.Destination.{Destination}
+use Rattle.copyin.specs.declared.judge.Head.{Head}
 use Rattle.copyin.specs.declared.judge.Rights.{Rights}
 use Rattle.copyin.specs.declared.judge.Words.{Words}
 use Rattle.copyin_base.specs.declared.message.Carried.{Carried}
@@ -18,7 +22,7 @@ use Rattle.copyin_base.specs.Kept.{Kept}
 use Rattle.copyin_base.specs.Worlds.{WorldView, put}
 use Rattle.copyin.specs.Judging.{CopiesName, CopiesReply, CopiesBody, IsBad, BodyIsBad, made_by, made_by_reply, made_by_all}
 use Rattle.copyin.specs.Loops.{MakesLoop}
-use Rattle.copyin.specs.Plans.{HasSlot, HasNoSlot}
+use Rattle.copyin.specs.Plans.{HasSlot, HasNoSlot, destination_word, reply_words}
 
 -- Each word has a disposition.
 pub record AreGiven (words : Words) : Type 0 where
@@ -26,10 +30,18 @@ pub record AreGiven (words : Words) : Type 0 where
   pub reply : IfSome words.reply (λ w. IsSome (disposition w.disposition))
   pub body : All (λ w. IsSome (disposition w.disposition)) words.body.items
 
--- The destination's is the only word.
-pub record IsLone (words : Words) : Type 0 where
-  pub reply : words.reply ≡ None
-  pub body : words.body.items ≡ []
+-- The text of which this was read says so.
+pub record IsHead (parsed : Parsed) (head : Head) : Type 0 where
+  pub destination : head.destination ≡ destination_word parsed
+  pub reply : option_to_list head.reply ≡ reply_words parsed
+  pub id : head.id ≡ parsed.id
+  pub is_complex : head.is_complex ≡ parsed.is_complex
+
+-- The bytes are a text of this head, in whose body no port words stand.
+pub record IsBare (bytes : List ℕ) (head : Head) (parsed : Parsed) : Type 0 where
+  pub parses : Parses bytes parsed
+  pub says : IsHead parsed head
+  pub spans : parsed.spans ≡ []
 
 abbrev pub RepliesBadly : Names → List PortWord → Type 0
 RepliesBadly names ws = (w : PortWord) × (ws ≡ w ∷ []) × IsBad names w
@@ -92,15 +104,15 @@ MayNotGo w rights carried code =
     ⊎ ¬ (MakesLoop w.ports rights.port carried) × HasNoSlot w rights.port rights.destination × (code ≡ SendTimedOut)
     ⊎ ¬ (MakesLoop w.ports rights.port carried) × HasSlot w rights.port rights.destination × (most_rights < w.ledger.total + made_by_rights rights carried) × (code ≡ SendNoBuffer)
 
--- the message that is queued of this text, with these rights
-abbrev pub message_with : Parsed → (bytes : List ℕ) → Rights → List Carried → Kept
-message_with parsed bytes rights carried = record {
+-- the message that is queued of this text, by this destination right and with these rights
+abbrev pub message_with : Head → (bytes : List ℕ) → Disposition → Option Carried → List Span → List Carried → Kept
+message_with head bytes given reply spans carried = record {
   bytes = bytes;
-  id = parsed.id;
-  is_complex = parsed.is_complex;
-  spans = parsed.spans;
-  by_once = same_kind (kind_sent rights.destination.given) send_once;
-  reply = rights.reply;
+  id = head.id;
+  is_complex = head.is_complex;
+  spans = spans;
+  by_once = same_kind (kind_sent given) send_once;
+  reply = reply;
   rights = carried;
   told = false;
 }

@@ -10,15 +10,17 @@ ghost use Rattle.mach_types.specs.Rights.{makes_right};
 ghost use Rattle.mach_types.specs.Tokens.{receive, send_once, same_kind};
 ghost use Rattle.port.specs.Ports.{IsLive};
 ghost use Rattle.mach_types.specs.Numbers.{disposition, kind_sent, most_rights, msg_number, null_word, dead_word};
+ghost use Rattle.message_codec.specs.declared.text.Parsed.{Parsed as AnyParsed};
 ghost use Rattle.message_codec.specs.Parses.{Parses};
 ghost use Rattle.message_codec.specs.Words.{body_words, inline_words};
 ghost use Rattle.name_space.specs.Names.{Names};
 ghost use Rattle.copyin_base.specs.declared.message.Carried.{Carried as AnyCarried};
 ghost use Rattle.copyin_base.specs.declared.message.Mark.TheVariants as mark_of;
+ghost use Rattle.copyin_base.specs.Carrying.{reply_in, spans_in, rights_in};
 ghost use Rattle.copyin.specs.Judging.{CopiesName, CopiesWord, CopiesReply, CopiesBody, IsBad, BodyIsBad, made_by, made_by_all};
 ghost use Rattle.copyin.specs.Overlays.{IsFull, Overlays};
 ghost use Rattle.copyin.specs.Loops.{MakesLoop};
-ghost use Rattle.copyin.specs.Goes.{AreGiven, RepliesBadly, LeadsNowhere, StartsAt, OthersGo, OthersCannot, GoAll, CannotGo, MayGo, MayNotGo, IsLone, made_by_rights, message_with};
+ghost use Rattle.copyin.specs.Goes.{AreGiven, IsBare, IsHead, RepliesBadly, LeadsNowhere, StartsAt, OthersGo, OthersCannot, GoAll, CannotGo, MayGo, MayNotGo, made_by_rights, message_with};
 ghost use Rattle.copyin.specs.Planned.{AreWords, IsPlan};
 ghost use Rattle.copyin.specs.Plans.{CannotPlan, HasSlot, HasNoSlot, reply_words};
 ghost use Rattle.copyin_base.specs.Stands.{IsTied};
@@ -26,7 +28,7 @@ ghost use Rattle.copyin_base.specs.Worlds.{put, HasTask};
 
 use crate::copies::copy_right;
 use crate::loops::makes_loop;
-use crate::touched::Touched;
+use crate::touched::{Touch, Touched, standing_after};
 use copyin_base::{Carried, CarriedRights, Mark, Message, TaskNames, World};
 use mach_types::limits::MOST_RIGHTS;
 use mach_types::{Disposition, MsgReturn, Name, PortId, TaskId};
@@ -34,6 +36,7 @@ use message_codec::{INLINE_WORDS, Parsed, PortWord, port_words};
 use name_space::Entry;
 use smallvec::SmallVec;
 use std::alloc::{AllocError, Global};
+use std::boxed::Box;
 
 /// The port words of a message.
 #[derive(Drop)]
@@ -223,6 +226,33 @@ fn marked_port(carried: &Carried) -> Option<PortId>
     }
 }
 
+// A right that can go, and what it leaves under its name.
+#[derive(Clone, Copy)]
+struct Going {
+    carried: Carried,
+    left: Option<Entry>,
+}
+
+// The right that goes by the word from what stands under its name, if one can.
+#[inline(always)]
+fn going_from(standing: Option<Entry>, word: PortWord) -> Option<Going>
+    requires { IsSome (disposition word.disposition) }
+    ensures { (names : Names) → map.get names word.name ≡ standing
+        → MatchOption result ((c : AnyCarried) (after : Names) → ¬ (CopiesName names word c after)) (λ g. CopiesName names word g.carried (put names word.name g.left)) }
+{
+    let given = Disposition::from_u8(word.disposition).unwrap();
+    let Some(entry) = standing else {
+        return None;
+    };
+    let Some(copied) = copy_right(given, &entry) else {
+        return None;
+    };
+    let mark = copied.mark;
+    let left = copied.left;
+    let carried = Carried { given, mark };
+    Some(Going { carried, left })
+}
+
 // The destination's right.
 #[derive(Clone, Copy)]
 struct Destination {
@@ -240,16 +270,9 @@ fn judge_destination(space: &TaskNames<'_>, word: PortWord) -> Result<Destinatio
     ensures ok { IfOk result (λ d. StartsAt space.now.names word d) }
     ensures err { IfErr result (λ code. (code ≡ SendInvalidDest) × LeadsNowhere space.now.names word) }
 {
-    let given = Disposition::from_u8(word.disposition).unwrap();
-    let Some(entry) = space.lookup(word.name) else {
+    let Some(Going { carried, left }) = going_from(space.lookup(word.name), word) else {
         return Err(MsgReturn::SendInvalidDest);
     };
-    let Some(copied) = copy_right(given, &entry) else {
-        return Err(MsgReturn::SendInvalidDest);
-    };
-    let mark = copied.mark;
-    let left = copied.left;
-    let carried = Carried { given, mark };
     match marked_port(&carried) {
         Some(port) => Ok(Destination {
             carried,
@@ -262,24 +285,36 @@ fn judge_destination(space: &TaskNames<'_>, word: PortWord) -> Result<Destinatio
 
 // The rights of a message's header.
 #[derive(Clone, Copy)]
-pub(crate) struct Rights {
-    pub(crate) destination: Carried,
-    pub(crate) port: PortId,
-    pub(crate) reply: Option<Carried>,
+struct Rights {
+    destination: Carried,
+    port: PortId,
+    reply: Option<Carried>,
 }
 
-// Whether the message carries the destination's right alone, as most do.
-fn is_lone(words: &Words, parsed: &Parsed) -> bool
-    ensures { IsTrue result ↔ (IsLone words.now × (parsed.now.spans ≡ [])) }
-{
-    words.reply.is_none() && words.body.is_empty() && parsed.spans.as_slice().is_empty()
-}
-
-// Judges the word of the destination, where it is the only one.
+// Judges the word of the right to answer with, where the first word's right left this under its name,
+// and the body has no words: none is judged in what this one leaves.
 #[inline(always)]
-pub(crate) fn judge_lone(space: &TaskNames<'_>, words: &Words) -> Result<Rights, MsgReturn>
+fn judge_answer(space: &TaskNames<'_>, first: Touch, word: PortWord) -> Result<Carried, MsgReturn>
+    requires { IsSome (disposition word.disposition) }
+    ensures ok { IfOk result (λ c. (after : Names) × CopiesWord (put space.now.names first.name first.left) word c after) }
+    ensures err { IfErr result (λ code. (code ≡ SendInvalidReply) × IsBad (put space.now.names first.name first.left) word) }
+{
+    let given = Disposition::from_u8(word.disposition).unwrap();
+    if let Some(mark) = mark_of_word(word.name) {
+        return Ok(Carried { given, mark });
+    }
+    match going_from(standing_after(space, &first, word.name), word) {
+        Some(going) => Ok(going.carried),
+        None => Err(MsgReturn::SendInvalidReply),
+    }
+}
+
+// Judges the words of a message whose body has none. There are two at most, so that no list is kept of
+// what they leave.
+#[inline(always)]
+fn judge_bare(space: &TaskNames<'_>, words: &Words) -> Result<Rights, MsgReturn>
     requires given { AreGiven words.now }
-    requires lone { IsLone words.now }
+    requires bare { words.now.body.items ≡ [] }
     ensures ok { IfOk result (λ rights. GoAll space.now.names words.now rights []) }
     ensures err { IfErr result (λ code. CannotGo space.now.names words.now code) }
 {
@@ -288,12 +323,18 @@ pub(crate) fn judge_lone(space: &TaskNames<'_>, words: &Words) -> Result<Rights,
         port,
         left,
     } = judge_destination(space, words.destination)?;
-    // No word after it is judged in what it leaves.
-    let _ = left;
+    let first = Touch {
+        name: words.destination.name.number(),
+        left,
+    };
+    let reply = match words.reply {
+        Some(word) => Some(judge_answer(space, first, word)?),
+        None => None,
+    };
     Ok(Rights {
         destination: carried,
         port,
-        reply: None,
+        reply,
     })
 }
 
@@ -407,12 +448,7 @@ fn judge_loop(world: &World, alloc: Global, port: PortId, body: &[Carried]) -> R
 
 // Judges whether the message closes a loop, then the queue, and then the limit of rights.
 #[inline(always)]
-pub(crate) fn admit(
-    world: &World,
-    alloc: Global,
-    rights: &Rights,
-    body: &[Carried],
-) -> Result<(), MsgReturn>
+fn admit(world: &World, alloc: Global, rights: &Rights, body: &[Carried]) -> Result<(), MsgReturn>
     requires live { IsLive world.now.ports rights.now.port }
     requires sends { kind_sent rights.now.destination.given ≢ receive }
     ensures ok { IfOk result (λ _. MayGo world.now rights.now body.now) }
@@ -428,6 +464,15 @@ pub(crate) fn admit(
     Ok(())
 }
 
+/// What a message says, beside the words of its body.
+#[derive(Clone, Copy)]
+pub(crate) struct Head {
+    pub(crate) destination: PortWord,
+    pub(crate) reply: Option<PortWord>,
+    pub(crate) id: u32,
+    pub(crate) is_complex: bool,
+}
+
 // The word of the right to answer with, if the header has one.
 fn reply_word(parsed: &Parsed) -> Option<PortWord>
     ensures { option_to_list result ≡ reply_words parsed.now }
@@ -441,6 +486,22 @@ fn reply_word(parsed: &Parsed) -> Option<PortWord>
     })
 }
 
+// What the message of which this was read says, beside the words of its body.
+#[inline(always)]
+fn head_of(parsed: &Parsed) -> Head
+    ensures { IsHead parsed.now result }
+{
+    Head {
+        destination: PortWord {
+            disposition: parsed.remote_kind,
+            name: parsed.remote,
+        },
+        reply: reply_word(parsed),
+        id: parsed.id,
+        is_complex: parsed.is_complex,
+    }
+}
+
 // The words of a message.
 fn read_words(alloc: Global, parsed: &Parsed, bytes: &[u8]) -> Result<Words, MsgReturn>
     requires { Parses bytes.now parsed.now }
@@ -450,65 +511,127 @@ fn read_words(alloc: Global, parsed: &Parsed, bytes: &[u8]) -> Result<Words, Msg
     let Ok(body) = port_words(alloc, bytes, parsed.spans.as_slice()) else {
         return Err(MsgReturn::SendNoBuffer);
     };
+    let head = head_of(parsed);
     Ok(Words {
-        destination: PortWord {
-            disposition: parsed.remote_kind,
-            name: parsed.remote,
-        },
-        reply: reply_word(parsed),
+        destination: head.destination,
+        reply: head.reply,
         body,
     })
 }
 
 // The message that is queued, for which memory is taken.
+#[inline(always)]
 fn message_of(
     alloc: Global,
-    parsed: &Parsed,
+    head: &Head,
     bytes: &[u8],
-    rights: &Rights,
-    body: &[Carried],
+    given: Disposition,
+    carried: Option<Box<CarriedRights>>,
 ) -> Result<Message, MsgReturn>
-    ensures ok { IfOk result (λ message. message ≡ message_with parsed.now bytes.now rights.now body.now) }
+    ensures ok { IfOk result (λ message. message ≡ message_with head.now bytes.now given (reply_in carried) (spans_in carried) (rights_in carried)) }
     ensures err { IfErr result (λ code. code ≡ SendNoBuffer) }
 {
-    let spans = parsed.spans.as_slice();
-    let Ok(carried) = CarriedRights::of(alloc, rights.reply, spans, body) else {
-        return Err(MsgReturn::SendNoBuffer);
-    };
     let Ok(bytes) = Vec::from_slice(alloc, bytes) else {
         return Err(MsgReturn::SendNoBuffer);
     };
     Ok(Message {
         bytes,
-        id: parsed.id,
-        is_complex: parsed.is_complex,
-        by_once: rights.destination.given.is_send_once(),
+        id: head.id,
+        is_complex: head.is_complex,
+        by_once: given.is_send_once(),
         carried,
     })
 }
 
-// The message that is queued where it carries nothing beside its bytes.
-fn lone_message(
+// The right to answer with, as a message keeps it whose body has none: most have none, and need no memory.
+#[inline(always)]
+fn keep_reply(
     alloc: Global,
-    parsed: &Parsed,
-    bytes: &[u8],
-    rights: &Rights,
-) -> Result<Message, MsgReturn>
-    requires spans { parsed.now.spans ≡ [] }
-    requires reply { rights.now.reply ≡ None }
-    ensures ok { IfOk result (λ message. message ≡ message_with parsed.now bytes.now rights.now []) }
+    reply: Option<Carried>,
+) -> Result<Option<Box<CarriedRights>>, MsgReturn>
+    ensures ok { IfOk result (λ carried. (reply_in carried ≡ reply) × (spans_in carried ≡ []) × (rights_in carried ≡ [])) }
     ensures err { IfErr result (λ code. code ≡ SendNoBuffer) }
 {
-    let Ok(bytes) = Vec::from_slice(alloc, bytes) else {
+    if reply.is_none() {
+        return Ok(None);
+    }
+    let carried = CarriedRights {
+        reply,
+        spans: SmallVec::new(alloc),
+        rights: SmallVec::new(alloc),
+    };
+    match Box::new(alloc, carried) {
+        Ok(carried) => Ok(Some(carried)),
+        Err(_) => Err(MsgReturn::SendNoBuffer),
+    }
+}
+
+// The plan by which a message with these rights is sent.
+#[inline(always)]
+fn plan_of(task: TaskId, words: Words, rights: &Rights, message: Message) -> Plan
+    ensures { result ≡ record { task = task; words = words; destination = rights.now.destination; port = rights.now.port; message = message } }
+{
+    Plan {
+        task,
+        words,
+        destination: rights.destination,
+        port: rights.port,
+        message,
+    }
+}
+
+// As [`check`], of a message whose body has no port words: in fewer steps, since it needs no list of them.
+#[inline(always)]
+pub(crate) fn check_bare(
+    world: &World,
+    alloc: Global,
+    task: TaskId,
+    head: &Head,
+    bytes: &[u8],
+) -> Result<Plan, MsgReturn>
+    requires there { HasTask world.now task }
+    requires bare { (parsed : AnyParsed) × IsBare bytes.now head.now parsed }
+    requires tied { IsTied world.now task }
+    ensures ok { IfOk result (λ plan. (parsed : AnyParsed) (bare : IsBare bytes.now head.now parsed) → IsPlan world.now task parsed bare.parses.written bytes.now plan) }
+    ensures err { IfErr result (λ code. (parsed : AnyParsed) (bare : IsBare bytes.now head.now parsed) → CannotPlan world.now task parsed bare.parses.written (msg_number code)) }
+{
+    let words = Words {
+        destination: head.destination,
+        reply: head.reply,
+        body: SmallVec::new(alloc),
+    };
+    let rights = judge_bare(&world.space(task), &words)?;
+    admit(world, alloc, &rights, &[])?;
+    let carried = keep_reply(alloc, rights.reply)?;
+    let message = message_of(alloc, head, bytes, rights.destination.given, carried)?;
+    Ok(plan_of(task, words, &rights, message))
+}
+
+// As [`check`], of any message.
+fn check_any(
+    world: &World,
+    alloc: Global,
+    task: TaskId,
+    parsed: &Parsed,
+    bytes: &[u8],
+) -> Result<Plan, MsgReturn>
+    requires there { HasTask world.now task }
+    requires parses { Parses bytes.now parsed.now }
+    requires tied { IsTied world.now task }
+    ensures ok { IfOk result (λ plan. (p : Parses bytes.now parsed.now) → IsPlan world.now task parsed.now p.written bytes.now plan) }
+    ensures err { IfErr result (λ code. (p : Parses bytes.now parsed.now) → CannotPlan world.now task parsed.now p.written (msg_number code)) }
+{
+    let words = read_words(alloc, parsed, bytes)?;
+    let mut body = SmallVec::new(alloc);
+    let rights = judge_all(alloc, &world.space(task), &words, &mut body)?;
+    admit(world, alloc, &rights, body.as_slice())?;
+    let spans = parsed.spans.as_slice();
+    let Ok(carried) = CarriedRights::of(alloc, rights.reply, spans, body.as_slice()) else {
         return Err(MsgReturn::SendNoBuffer);
     };
-    Ok(Message {
-        bytes,
-        id: parsed.id,
-        is_complex: parsed.is_complex,
-        by_once: rights.destination.given.is_send_once(),
-        carried: None,
-    })
+    let head = head_of(parsed);
+    let message = message_of(alloc, &head, bytes, rights.destination.given, carried)?;
+    Ok(plan_of(task, words, &rights, message))
 }
 
 /// Judges a message of the task, of which this was read, and makes the plan by which [`commit`] sends
@@ -543,28 +666,9 @@ pub fn check(
     ensures ok { IfOk result (λ plan. (p : Parses bytes.now parsed.now) → IsPlan world.now task parsed.now p.written bytes.now plan) }
     ensures err { IfErr result (λ code. (p : Parses bytes.now parsed.now) → CannotPlan world.now task parsed.now p.written (msg_number code)) }
 {
-    let words = read_words(alloc, parsed, bytes)?;
-    if is_lone(&words, parsed) {
-        let rights = judge_lone(&world.space(task), &words)?;
-        admit(world, alloc, &rights, &[])?;
-        let message = lone_message(alloc, parsed, bytes, &rights)?;
-        return Ok(Plan {
-            task,
-            words,
-            destination: rights.destination,
-            port: rights.port,
-            message,
-        });
+    if parsed.spans.as_slice().is_empty() {
+        check_bare(world, alloc, task, &head_of(parsed), bytes)
+    } else {
+        check_any(world, alloc, task, parsed, bytes)
     }
-    let mut body = SmallVec::new(alloc);
-    let rights = judge_all(alloc, &world.space(task), &words, &mut body)?;
-    admit(world, alloc, &rights, body.as_slice())?;
-    let message = message_of(alloc, parsed, bytes, &rights, body.as_slice())?;
-    Ok(Plan {
-        task,
-        words,
-        destination: rights.destination,
-        port: rights.port,
-        message,
-    })
 }

@@ -1,0 +1,68 @@
+-- The text of a message in whose body no port words stand, and what is queued of it.
+use Rattle.std.proofs.Common.{◌≡◌, ℕ, Option, List, [], ◌∷◌, length, refl, sym, ap, ◌∙◌, inl, inr}
+use Rattle.std.specs.Option.{option_to_list}
+use Rattle.std.specs.Prelude.{◌==◌, true, false}
+use Rattle.std.proofs.lemmas.Bool.Decides.{eqb_tells}
+use Rattle.std.proofs.lemmas.List.{nil_from_length}
+use Rattle.mach_types.specs.declared.rights.Disposition.{Disposition}
+use Rattle.mach_types.specs.Grammar.{Wire, data_item, port_item, WireBody, raw, items}
+use Rattle.mach_types.specs.Numbers.{kind_sent}
+use Rattle.mach_types.specs.Tokens.{send_once, same_kind}
+use Rattle.message_codec.specs.declared.spans.Span.{Span}
+use Rattle.message_codec.specs.declared.text.Parsed.{Parsed}
+use Rattle.message_codec.specs.declared.words.PortWord.{PortWord}
+use Rattle.message_codec.specs.Spans.{spans_at, body_spans}
+use Rattle.message_codec.specs.Words.{items_words, body_words}
+use Rattle.copyin.specs.declared.judge.Head.{Head}
+use Rattle.copyin.specs.declared.judge.Words.{Words}
+use Rattle.copyin.specs.Goes.{IsHead, IsBare, message_with}
+use Rattle.copyin.specs.Planned.{AreWords}
+use Rattle.copyin_base.specs.declared.message.Carried.{Carried}
+use Rattle.copyin_base.specs.Kept.{Kept}
+
+pub none_in : {X : Type 0} (xs : List X) → true ≡ (length xs == 0) → xs ≡ []
+none_in xs empty = elim (eqb_tells (length xs) 0) [ inl h ↦ nil_from_length xs h.1 | inr h ↦ absurd (let no : true ≡ false = empty ∙ h.0 in cc) ]
+
+no_items : (xs : List Wire) (at : ℕ) → spans_at at xs ≡ [] → items_words xs ≡ []
+no_items [] at none = refl
+no_items (data_item form name size number bytes padding ∷ xs) at none = no_items xs _ none
+no_items (port_item form disposition words ∷ xs) at none = absurd (cc)
+
+no_words : (written : WireBody) → body_spans written ≡ [] → body_words written ≡ []
+no_words (raw bytes) none = refl
+no_words (items xs) none = no_items xs 24 none
+
+-- the words of a plan for such a message
+pub bare_words : (bytes : List ℕ) (head : Head) (parsed : Parsed) (bare : IsBare bytes head parsed) (words : Words) → words.destination ≡ head.destination → words.reply ≡ head.reply
+    → words.body.items ≡ [] → AreWords parsed bare.parses.written words
+bare_words bytes head parsed bare words to answer none = record {
+  destination = to ∙ bare.says.destination;
+  reply = ap (λ (w : Option PortWord). option_to_list w) answer ∙ bare.says.reply;
+  body = none ∙ sym (no_words bare.parses.written (sym bare.parses.spans ∙ bare.spans));
+}
+
+-- what is queued of a text, by what was read of it
+abbrev pub queued_of : Parsed → (bytes : List ℕ) → Disposition → Option Carried → List Carried → Kept
+queued_of parsed bytes given reply carried = record {
+  bytes = bytes;
+  id = parsed.id;
+  is_complex = parsed.is_complex;
+  spans = parsed.spans;
+  by_once = same_kind (kind_sent given) send_once;
+  reply = reply;
+  rights = carried;
+  told = false;
+}
+
+pub queues : (parsed : Parsed) (head : Head) → IsHead parsed head → (bytes : List ℕ) (given : Disposition) (reply kept : Option Carried) (spans : List Span) (carried rights : List Carried)
+    → kept ≡ reply → spans ≡ parsed.spans → rights ≡ carried → message_with head bytes given kept spans rights ≡ queued_of parsed bytes given reply carried
+queues parsed head is bytes given reply kept spans carried rights replies stand go = λ i. record {
+  bytes = bytes;
+  id = is.id i;
+  is_complex = is.is_complex i;
+  spans = stand i;
+  by_once = same_kind (kind_sent given) send_once;
+  reply = replies i;
+  rights = go i;
+  told = false;
+}
