@@ -246,6 +246,7 @@ fn lose_or_keep(world: &mut World, port: PortId, large: bool)
 }
 
 /// A port that a receipt takes from, and that has a message: of a set's, any.
+#[inline(always)]
 fn ready(world: &World, waited: &Waited) -> Option<PortId>
     ensures { MatchOption result (NoneWaits world.now waited.now) (HasMessage world.now waited.now) }
 {
