@@ -14,6 +14,7 @@ use Rattle.message_codec.specs.declared.words.PortWord.{PortWord}
 use Rattle.message_codec.specs.Spans.{spans_at, body_spans}
 use Rattle.message_codec.specs.Words.{items_words, body_words}
 use Rattle.copyin.specs.declared.judge.Head.{Head}
+use Rattle.copyin.specs.declared.judge.Rights.{Rights}
 use Rattle.copyin.specs.declared.judge.Words.{Words}
 use Rattle.copyin.specs.Goes.{IsHead, IsBare, message_with}
 use Rattle.copyin.specs.Planned.{AreWords}
@@ -54,15 +55,15 @@ queued_of parsed bytes given reply carried = record {
   told = false;
 }
 
-pub queues : (parsed : Parsed) (head : Head) → IsHead parsed head → (bytes : List ℕ) (given : Disposition) (reply kept : Option Carried) (spans : List Span) (carried rights : List Carried)
-    → kept ≡ reply → spans ≡ parsed.spans → rights ≡ carried → message_with head bytes given kept spans rights ≡ queued_of parsed bytes given reply carried
-queues parsed head is bytes given reply kept spans carried rights replies stand go = λ i. record {
+pub queues : (parsed : Parsed) (head : Head) → IsHead parsed head → (bytes : List ℕ) (rights : Rights) (spans : List Span) (carried kept : List Carried)
+    → spans ≡ parsed.spans → kept ≡ carried → message_with head bytes rights spans kept ≡ queued_of parsed bytes rights.destination.given rights.reply carried
+queues parsed head is bytes rights spans carried kept stand go = λ i. record {
   bytes = bytes;
   id = is.id i;
   is_complex = is.is_complex i;
   spans = stand i;
-  by_once = same_kind (kind_sent given) send_once;
-  reply = replies i;
+  by_once = same_kind (kind_sent rights.destination.given) send_once;
+  reply = rights.reply;
   rights = go i;
   told = false;
 }

@@ -104,15 +104,15 @@ MayNotGo w rights carried code =
     ⊎ ¬ (MakesLoop w.ports rights.port carried) × HasNoSlot w rights.port rights.destination × (code ≡ SendTimedOut)
     ⊎ ¬ (MakesLoop w.ports rights.port carried) × HasSlot w rights.port rights.destination × (most_rights < w.ledger.total + made_by_rights rights carried) × (code ≡ SendNoBuffer)
 
--- the message that is queued of this text, by this destination right and with these rights
-abbrev pub message_with : Head → (bytes : List ℕ) → Disposition → Option Carried → List Span → List Carried → Kept
-message_with head bytes given reply spans carried = record {
+-- the message that is queued of this text, with these rights
+abbrev pub message_with : Head → (bytes : List ℕ) → Rights → List Span → List Carried → Kept
+message_with head bytes rights spans carried = record {
   bytes = bytes;
   id = head.id;
   is_complex = head.is_complex;
   spans = spans;
-  by_once = same_kind (kind_sent given) send_once;
-  reply = reply;
+  by_once = same_kind (kind_sent rights.destination.given) send_once;
+  reply = rights.reply;
   rights = carried;
   told = false;
 }

@@ -168,7 +168,7 @@ fn queue_message(world: &mut World, port: PortId, message: Message)
       ledger = ledger_queued message.by_once port world.old.ledger;
     } }
 {
-    let by_once = message.by_once;
+    let by_once = message.by_once();
     world.ports.enqueue(port, Queued::sent(message));
     use_right(&mut world.ledger, port, by_once);
 }

@@ -16,7 +16,7 @@ ghost use Rattle.message_codec.specs.Words.{body_words, inline_words};
 ghost use Rattle.name_space.specs.Names.{Names};
 ghost use Rattle.copyin_base.specs.declared.message.Carried.{Carried as AnyCarried};
 ghost use Rattle.copyin_base.specs.declared.message.Mark.TheVariants as mark_of;
-ghost use Rattle.copyin_base.specs.Carrying.{reply_in, spans_in, rights_in};
+ghost use Rattle.copyin_base.specs.Carrying.{spans_in, rights_in};
 ghost use Rattle.copyin.specs.Judging.{CopiesName, CopiesWord, CopiesReply, CopiesBody, IsBad, BodyIsBad, made_by, made_by_all};
 ghost use Rattle.copyin.specs.Overlays.{IsFull, Overlays};
 ghost use Rattle.copyin.specs.Loops.{MakesLoop};
@@ -29,7 +29,7 @@ ghost use Rattle.copyin_base.specs.Worlds.{put, HasTask};
 use crate::copies::copy_right;
 use crate::loops::makes_loop;
 use crate::touched::{Touch, Touched, standing_after};
-use copyin_base::{Carried, CarriedRights, Mark, Message, TaskNames, World};
+use copyin_base::{Carried, CarriedRights, Envelope, Mark, Message, TaskNames, World};
 use mach_types::limits::MOST_RIGHTS;
 use mach_types::{Disposition, MsgReturn, Name, PortId, TaskId};
 use message_codec::{INLINE_WORDS, Parsed, PortWord, port_words};
@@ -525,45 +525,22 @@ fn message_of(
     alloc: Global,
     head: &Head,
     bytes: &[u8],
-    given: Disposition,
+    rights: &Rights,
     carried: Option<Box<CarriedRights>>,
 ) -> Result<Message, MsgReturn>
-    ensures ok { IfOk result (λ message. message ≡ message_with head.now bytes.now given (reply_in carried) (spans_in carried) (rights_in carried)) }
+    ensures ok { IfOk result (λ message. message ≡ message_with head.now bytes.now rights.now (spans_in carried) (rights_in carried)) }
     ensures err { IfErr result (λ code. code ≡ SendNoBuffer) }
 {
     let Ok(bytes) = Vec::from_slice(alloc, bytes) else {
         return Err(MsgReturn::SendNoBuffer);
     };
+    let by_once = rights.destination.given.is_send_once();
+    let envelope = Envelope::new(head.id, head.is_complex, by_once, rights.reply);
     Ok(Message {
         bytes,
-        id: head.id,
-        is_complex: head.is_complex,
-        by_once: given.is_send_once(),
+        envelope,
         carried,
     })
-}
-
-// The right to answer with, as a message keeps it whose body has none: most have none, and need no memory.
-#[inline(always)]
-fn keep_reply(
-    alloc: Global,
-    reply: Option<Carried>,
-) -> Result<Option<Box<CarriedRights>>, MsgReturn>
-    ensures ok { IfOk result (λ carried. (reply_in carried ≡ reply) × (spans_in carried ≡ []) × (rights_in carried ≡ [])) }
-    ensures err { IfErr result (λ code. code ≡ SendNoBuffer) }
-{
-    if reply.is_none() {
-        return Ok(None);
-    }
-    let carried = CarriedRights {
-        reply,
-        spans: SmallVec::new(alloc),
-        rights: SmallVec::new(alloc),
-    };
-    match Box::new(alloc, carried) {
-        Ok(carried) => Ok(Some(carried)),
-        Err(_) => Err(MsgReturn::SendNoBuffer),
-    }
 }
 
 // The plan by which a message with these rights is sent.
@@ -602,8 +579,7 @@ pub(crate) fn check_bare(
     };
     let rights = judge_bare(&world.space(task), &words)?;
     admit(world, alloc, &rights, &[])?;
-    let carried = keep_reply(alloc, rights.reply)?;
-    let message = message_of(alloc, head, bytes, rights.destination.given, carried)?;
+    let message = message_of(alloc, head, bytes, &rights, None)?;
     Ok(plan_of(task, words, &rights, message))
 }
 
@@ -626,11 +602,11 @@ fn check_any(
     let rights = judge_all(alloc, &world.space(task), &words, &mut body)?;
     admit(world, alloc, &rights, body.as_slice())?;
     let spans = parsed.spans.as_slice();
-    let Ok(carried) = CarriedRights::of(alloc, rights.reply, spans, body.as_slice()) else {
+    let Ok(carried) = CarriedRights::of(alloc, spans, body.as_slice()) else {
         return Err(MsgReturn::SendNoBuffer);
     };
     let head = head_of(parsed);
-    let message = message_of(alloc, &head, bytes, rights.destination.given, carried)?;
+    let message = message_of(alloc, &head, bytes, &rights, carried)?;
     Ok(plan_of(task, words, &rights, message))
 }
 

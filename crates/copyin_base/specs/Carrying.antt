@@ -1,14 +1,9 @@
--- What a message carries beside its bytes, where it carries anything.
+-- What a message's body carries beside its bytes, where it carries anything.
 use Rattle.std.specs.Prelude.{List, [], Option, Some, None}
 use Rattle.std.specs.Global.{Box}
 use Rattle.message_codec.specs.declared.spans.Span.{Span}
 use Rattle.copyin_base.specs.declared.message.Carried.{Carried}
 use Rattle.copyin_base.specs.declared.message.CarriedRights.{CarriedRights}
-
--- the right to answer with
-abbrev pub reply_in : Option (Box CarriedRights) → Option Carried
-reply_in None = None
-reply_in (Some carried) = carried.value.reply
 
 -- where the port words of the body stand
 abbrev pub spans_in : Option (Box CarriedRights) → List Span

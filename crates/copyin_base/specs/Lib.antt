@@ -1,4 +1,5 @@
 pub mod Carrying
+pub mod Envelope
 pub mod Kept
 pub mod Queued
 pub mod Reading

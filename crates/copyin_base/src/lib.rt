@@ -9,6 +9,7 @@
 mod attributes;
 mod code;
 mod entries;
+mod envelope;
 mod find;
 mod message;
 mod notice;
@@ -19,6 +20,7 @@ mod task_names;
 mod world;
 
 pub use code::Code;
+pub use envelope::Envelope;
 pub use message::{Carried, CarriedRights, Mark, Message};
 pub use notice::Notice;
 pub use queued::{Queued, Slot};

@@ -1,8 +1,9 @@
 //! A message that was sent, as it lies in a queue.
-ghost use Rattle.std.specs.Prelude.{◌≡◌, [], None, IfOk, IsOk};
+ghost use Rattle.std.specs.Prelude.{◌≡◌, [], IfOk, IsOk};
 ghost use Rattle.copyin_base.specs.Kept.{receive_of};
-ghost use Rattle.copyin_base.specs.Carrying.{reply_in, spans_in, rights_in};
+ghost use Rattle.copyin_base.specs.Carrying.{spans_in, rights_in};
 
+use crate::envelope::Envelope;
 use mach_types::{Disposition, PortId};
 use message_codec::Span;
 use smallvec::SmallVec;
@@ -55,11 +56,9 @@ impl Default for Carried {
 /// How many rights of a body, and spans of their words, need no allocation of their own.
 const INLINE_RIGHTS: usize = 2;
 
-/// What a message carries beside its bytes: its rights, and where their words stand.
+/// What a message's body carries beside its bytes: its rights, and where their words stand.
 #[derive(Drop)]
 pub struct CarriedRights {
-    /// The right to answer with.
-    pub reply: Option<Carried>,
     /// Where the port words of the body stand.
     pub spans: SmallVec<Span, INLINE_RIGHTS>,
     /// The rights of the body's port words, from the front.
@@ -72,20 +71,17 @@ impl CarriedRights {
     /// An error means that memory was refused.
     pub fn of(
         alloc: Global,
-        reply: Option<Carried>,
         spans: &[Span],
         rights: &[Carried],
     ) -> Result<Option<Box<CarriedRights>>, AllocError>
-        ensures reply { IfOk result (λ carried. reply_in carried ≡ reply) }
         ensures spans { IfOk result (λ carried. spans_in carried ≡ spans.now) }
         ensures rights { IfOk result (λ carried. rights_in carried ≡ rights.now) }
-        ensures none { reply ≡ None → spans.now ≡ [] → rights.now ≡ [] → IsOk result }
+        ensures none { spans.now ≡ [] → rights.now ≡ [] → IsOk result }
     {
-        if reply.is_none() && spans.is_empty() && rights.is_empty() {
+        if spans.is_empty() && rights.is_empty() {
             return Ok(None);
         }
         let carried = CarriedRights {
-            reply,
             spans: SmallVec::from_slice(alloc, spans)?,
             rights: SmallVec::from_slice(alloc, rights)?,
         };
@@ -99,39 +95,40 @@ impl CarriedRights {
 pub struct Message {
     /// All its bytes, 24 to 65,536.
     pub bytes: Vec<u8>,
-    /// Its id.
-    pub id: u32,
-    /// Whether its body is a list of items.
-    pub is_complex: bool,
-    /// Whether it goes by a send-once right, and not by a send right.
-    pub by_once: bool,
-    /// Its rights beside the destination's, and where the words of its body's stand. A message that
-    /// has none of these is small in its queue.
+    /// Its id, what kind of message it is, and its right to answer with.
+    pub envelope: Envelope,
+    /// The rights of its body, and where their words stand. A message that has none of these is small in
+    /// its queue.
     pub carried: Option<Box<CarriedRights>>,
 }
 
 impl Model for Message {
     ghost use Rattle.std.specs.Prelude.{false};
     ghost use Rattle.copyin_base.specs.Kept.{Kept, kept_code};
-    ghost use Rattle.copyin_base.specs.Carrying.{reply_in, spans_in, rights_in};
+    ghost use Rattle.copyin_base.specs.Carrying.{spans_in, rights_in};
     ghost use Rattle.copyin_base.specs.contracts.message.Carried as right;
 
     ghost Value = { Kept };
 
     ghost coded = { kept_code right.the_row.coded };
 
-    ghost view = { λ m. record { bytes = m.bytes.items; id = m.id; is_complex = m.is_complex; spans = spans_in m.carried; by_once = m.by_once; reply = reply_in m.carried; rights = rights_in m.carried; told = false } };
+    ghost view = { λ m. record { bytes = m.bytes.items; id = m.envelope.id; is_complex = m.envelope.is_complex; spans = spans_in m.carried; by_once = m.envelope.by_once; reply = m.envelope.reply; rights = rights_in m.carried; told = false } };
 }
 
 impl Message {
+    /// Whether it goes by a send-once right, and not by a send right.
+    #[inline(always)]
+    pub fn by_once(&self) -> bool
+        ensures { result ≡ self.now.by_once }
+    {
+        self.envelope.by_once()
+    }
+
     /// The right to answer with.
     pub fn reply(&self) -> Option<Carried>
         ensures { result ≡ self.now.reply }
     {
-        match &self.carried {
-            Some(carried) => carried.reply,
-            None => None,
-        }
+        self.envelope.reply()
     }
 
     /// Where the port words of the body stand.

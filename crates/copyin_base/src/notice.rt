@@ -1,10 +1,11 @@
 //! A notice that the kernel sends, and the message that it is.
-ghost use Rattle.std.specs.Prelude.{◌≡◌, ◌++◌, replicate, length, None, IfOk};
+ghost use Rattle.std.specs.Prelude.{◌≡◌, ◌++◌, replicate, length, IfOk};
 ghost use Rattle.mach_model.specs.Notices.{notice_id};
-ghost use Rattle.copyin_base.specs.Carrying.{reply_in, spans_in, rights_in};
+ghost use Rattle.copyin_base.specs.Carrying.{spans_in, rights_in};
 ghost use Rattle.copyin_base.specs.Kept.{IsMessageOf};
 ghost use Rattle.copyin_base.specs.Queued.{notice_of, item_words, item_text, carried_with, spans_for, rights_for, notice_kept};
 
+use crate::envelope::Envelope;
 use crate::message::{Carried, CarriedRights, Mark, Message};
 use mach_types::{Disposition, Name, PortId};
 use message_codec::Span;
@@ -92,9 +93,7 @@ impl Notice {
         let carried = self.carried();
         Ok(Message {
             bytes: item_bytes(alloc, self.words())?,
-            id: self.id(),
-            is_complex: carried.is_some(),
-            by_once: true,
+            envelope: Envelope::new(self.id(), carried.is_some(), true, None),
             carried: carried_rights(alloc, carried)?,
         })
     }
@@ -118,7 +117,6 @@ fn carried_rights(
     alloc: Global,
     carried: Option<Carried>,
 ) -> Result<Option<Box<CarriedRights>>, AllocError>
-    ensures reply { IfOk result (λ kept. reply_in kept ≡ None) }
     ensures spans { IfOk result (λ kept. spans_in kept ≡ spans_for carried) }
     ensures rights { IfOk result (λ kept. rights_in kept ≡ rights_for carried) }
 {
@@ -131,5 +129,5 @@ fn carried_rights(
         disposition: carried.given.number(),
         number: 1,
     };
-    CarriedRights::of(alloc, None, &[span], &[carried])
+    CarriedRights::of(alloc, &[span], &[carried])
 }

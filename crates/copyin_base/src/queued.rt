@@ -118,7 +118,7 @@ impl Queued {
         ensures { result ≡ self.now.by_once }
     {
         match &self.slot {
-            Slot::Sent(message) => message.by_once,
+            Slot::Sent(message) => message.by_once(),
             Slot::Told(_) => true,
         }
     }

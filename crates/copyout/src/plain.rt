@@ -24,10 +24,11 @@ pub(crate) fn plain_len(queued: &Queued) -> Option<usize>
         Slot::Sent(
             Message {
                 bytes,
+                envelope,
                 carried: None,
                 ..
             },
-        ) => Some(bytes.len()),
+        ) if !envelope.has_reply() => Some(bytes.len()),
         Slot::Sent(_) | Slot::Told(_) => None,
     }
 }
@@ -54,18 +55,16 @@ fn spell_plain(message: Message, local: Name, sequence: u32) -> Bytes
 {
     let Message {
         bytes,
-        id,
-        is_complex,
-        by_once,
+        envelope,
         ..
     } = message;
     let header = Header {
-        bits: header_bits(&None, by_once, is_complex),
+        bits: header_bits(&None, envelope.by_once(), envelope.is_complex()),
         size: bytes.len() as u32,
         remote: Name::null(),
         local,
         sequence,
-        id,
+        id: envelope.id(),
     };
     spell(bytes, &[], &header, &[])
 }
@@ -80,7 +79,7 @@ fn take_plain(world: &mut World, port: PortId, local: Name) -> Bytes
 {
     let sequence = world.attributes(port).sequence;
     let message = into_sent(take_front(world, port));
-    note_front(world, port, message.by_once);
+    note_front(world, port, message.by_once());
     spell_plain(message, local, sequence)
 }
 

@@ -165,18 +165,16 @@ fn deliver(
     give_rights(world, task, message.rights(), &mut names);
     let Message {
         bytes,
-        id,
-        is_complex,
-        by_once,
+        envelope,
         carried,
     } = message;
     let header = Header {
-        bits: header_bits(&reply, by_once, is_complex),
+        bits: header_bits(&reply, envelope.by_once(), envelope.is_complex()),
         size: bytes.len() as u32,
         remote,
         local,
         sequence,
-        id,
+        id: envelope.id(),
     };
     spell(bytes, spans_of(&carried), &header, &names)
 }

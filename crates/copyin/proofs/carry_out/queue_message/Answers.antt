@@ -17,8 +17,7 @@ enqueue-requires-clause-spare c = subst (λ (w : WorldView). 0 < w.ports.spare) 
 
 pub use_right-requires : goal.use_right-requires
 use_right-requires c once =
-    let by : c.message.inside.by_once ≡ c.args.message.by_once = ap (λ (m : Kept). m.by_once) c.message.view_is in
-    subst (λ (w : WorldView). 0 < (counts_of w.ledger c.args.port).send_once) (sym c.world.view_is) (c.requires.unused (sym by ∙ once))
+    subst (λ (w : WorldView). 0 < (counts_of w.ledger c.args.port).send_once) (sym c.world.view_is) (c.requires.unused (sym c.by_once-by_once.ensures ∙ once))
 
 pub invariant_of-world : goal.invariant_of-world
 invariant_of-world c =
@@ -32,4 +31,4 @@ returns c = λ v there.
     let i = c.world.inside in
     queued_written c.args.world.now i.spaces.items i.ports i.ledger i.sets i.requests c.world.view_is c.args.port v c.args.message c.enqueue.new.self there
     (subst (λ (m : Kept). map.get i.ports.ports c.args.port ≡ Some v → c.enqueue.new.self ≡ with_message i.ports c.args.port v m) c.sent.ensures (c.enqueue.ensures v)) c.use_right.new.ledger c.args.message.by_once
-    (c.use_right.ensures ∙ ap (λ (m : Kept). ledger_queued m.by_once c.args.port i.ledger) c.message.view_is)
+    (c.use_right.ensures ∙ ap (λ b. ledger_queued b c.args.port i.ledger) c.by_once-by_once.ensures)

@@ -1,7 +1,7 @@
 use Rattle.std.proofs.Common.{refl, ap, ◌∙◌, inl, inr}
 use Rattle.std.proofs.lemmas.Result.{err_from_is_err_and}
 use Rattle.mach_types.specs.Numbers.{msg_number}
-use Rattle.copyin_base.specs.Carrying.{reply_in, spans_in, rights_in}
+use Rattle.copyin_base.specs.Carrying.{spans_in, rights_in}
 use Rattle.copyin.specs.Plans.{Plans}
 use Rattle.copyin.proofs.Bare.{queues}
 use Rattle.copyin.proofs.Planning.{words_given, cannot_judge, cannot_admit, admitted, port_lives, destination_sends, remote_sendable}
@@ -49,7 +49,7 @@ returns-clause-ok c = λ p. rw c.plan_of.ensures (record {
   words = c.in_ok-words.ensures.ok p;
   destination = refl;
   port = refl;
-  message = c.in_ok-message.ensures.ok ∙ queues c.args.parsed.now c.head_of-head.result c.head_of-head.ensures c.args.bytes.now c.in_ok-rights.rights.destination.given c.in_ok-rights.rights.reply
-      (reply_in c.in-Ok.carried) (spans_in c.in-Ok.carried) c.judge_all.new.body.items (rights_in c.in-Ok.carried)
-      c.in-Ok.ensures.reply (c.in-Ok.ensures.spans ∙ c.as_slice-spans.ensures) (c.in-Ok.ensures.rights ∙ c.as_slice-2.ensures);
+  message = c.in_ok-message.ensures.ok ∙ queues c.args.parsed.now c.head_of-head.result c.head_of-head.ensures c.args.bytes.now c.in_ok-rights.rights
+      (spans_in c.in-Ok.carried) c.judge_all.new.body.items (rights_in c.in-Ok.carried)
+      (c.in-Ok.ensures.spans ∙ c.as_slice-spans.ensures) (c.in-Ok.ensures.rights ∙ c.as_slice-2.ensures);
 })

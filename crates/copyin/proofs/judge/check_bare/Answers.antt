@@ -1,7 +1,6 @@
 use Rattle.std.proofs.Common.{[], refl, sym, ap, ◌∙◌, inl, inr}
 use Rattle.std.proofs.lemmas.Result.{err_from_is_err_and}
 use Rattle.mach_types.specs.Numbers.{msg_number}
-use Rattle.copyin_base.specs.Carrying.{reply_in, spans_in, rights_in}
 use Rattle.copyin.specs.declared.judge.Words.{Words}
 use Rattle.copyin.specs.Plans.{Plans}
 use Rattle.copyin.proofs.Bare.{bare_words, queues}
@@ -41,14 +40,6 @@ returns-in_err-admit-clause-err c =
     let e = err_from_is_err_and c.from_residual-in_err-admit.result c.from_residual-in_err-admit.ensures.1 in
     rw (e.1, e.2) (λ parsed bare. cannot_admit c.args.world.now c.args.task parsed bare.parses.written c.space.result words c.space.ensures (bare_words c.args.bytes.now c.args.head.now parsed bare words refl refl c.new.ensures.items) c.in_ok-rights.rights [] c.in_ok-rights.ensures.ok [] refl c.in_err-admit.field-0.0 c.in_err-admit.ensures.err)
 
-pub returns-in_err-carried-clause-err : goal.returns-in_err-carried-clause-err
-returns-in_err-carried-clause-err c =
-    let words : Words = record { destination = c.args.head.now.destination; reply = c.args.head.now.reply; body = c.new.result } in
-    let e = err_from_is_err_and c.from_residual-in_err-carried.result c.from_residual-in_err-carried.ensures.1 in
-    rw (e.1, e.2) (λ parsed bare.
-    let plans : Plans c.args.world.now c.args.task parsed bare.parses.written = admitted c.args.world.now c.args.task parsed bare.parses.written c.space.result words c.space.ensures (bare_words c.args.bytes.now c.args.head.now parsed bare words refl refl c.new.ensures.items) c.in_ok-rights.rights [] c.in_ok-rights.ensures.ok [] refl c.in_ok-admit.ensures.ok in
-    inr (inr (inr (inr (inl plans, ap msg_number c.in_err-carried.ensures.err)))))
-
 pub returns-in_err-message-clause-err : goal.returns-in_err-message-clause-err
 returns-in_err-message-clause-err c =
     let words : Words = record { destination = c.args.head.now.destination; reply = c.args.head.now.reply; body = c.new.result } in
@@ -61,15 +52,11 @@ pub returns-clause-ok : goal.returns-clause-ok
 returns-clause-ok c =
     let words : Words = record { destination = c.args.head.now.destination; reply = c.args.head.now.reply; body = c.new.result } in
     λ parsed bare.
-    let kept = c.in_ok-carried.carried in
-    let k = c.in_ok-carried.ensures.ok in
-    let rights = c.in_ok-rights.rights in
     rw c.plan_of.ensures (record {
       plans = admitted c.args.world.now c.args.task parsed bare.parses.written c.space.result words c.space.ensures (bare_words c.args.bytes.now c.args.head.now parsed bare words refl refl c.new.ensures.items) c.in_ok-rights.rights [] c.in_ok-rights.ensures.ok [] refl c.in_ok-admit.ensures.ok;
       task_is = refl;
       words = bare_words c.args.bytes.now c.args.head.now parsed bare words refl refl c.new.ensures.items;
       destination = refl;
       port = refl;
-      message = c.in_ok-message.ensures.ok
-          ∙ queues parsed c.args.head.now bare.says c.args.bytes.now rights.destination.given rights.reply (reply_in kept) (spans_in kept) [] (rights_in kept) k.0 (k.1 ∙ sym bare.spans) k.2;
+      message = c.in_ok-message.ensures.ok ∙ queues parsed c.args.head.now bare.says c.args.bytes.now c.in_ok-rights.rights [] [] [] (sym bare.spans) refl;
     })

@@ -11,11 +11,13 @@ pub returns : goal.returns
 returns c =
     let m = c.args.message in
     let inside = c.message.inside in
-    let header : Header = record { bits = c.header_bits.result; size = c.len.result; remote = c.null.result; local = c.args.local; sequence = c.args.sequence; id = inside.id } in
+    let header : Header = record { bits = c.header_bits.result; size = c.len.result; remote = c.null.result; local = c.args.local; sequence = c.args.sequence; id = c.id.result } in
     let bytes : m.bytes ≡ inside.bytes.items = ap (λ (x : Kept). x.bytes) (sym c.message.view_is) in
     let size : c.len.result ≡ length inside.bytes.items = let h = c.len.ensures in let ok = inside.bytes.ok in search rules in
+    let by : c.by_once.result ≡ m.by_once = c.by_once.ensures ∙ ap (λ (x : Kept). x.by_once) c.message.view_is in
+    let complex : c.is_complex.result ≡ m.is_complex = c.is_complex.ensures ∙ ap (λ (x : Kept). x.is_complex) c.message.view_is in
     λ w task. delivers_plain w task m c.args.local c.args.sequence c.spell.result header c.requires.plain
-    (c.header_bits.ensures ∙ ap (λ (x : Kept). reply_number None + (if x.by_once then 18 else 17) * 2 ^ 8 + (if x.is_complex then 2 ^ 31 else 0)) c.message.view_is)
+    (c.header_bits.ensures ∙ (λ i. reply_number None + (if by i then 18 else 17) * 2 ^ 8 + (if complex i then 2 ^ 31 else 0)))
     (size ∙ ap length (sym bytes))
-    c.null.ensures refl refl (ap (λ (x : Kept). x.id) c.message.view_is)
+    c.null.ensures refl refl (c.id.ensures ∙ ap (λ (x : Kept). x.id) c.message.view_is)
     (λ written laid. c.spell.ensures written (subst (λ (bs : List ℕ). IsLaidOut bs [] written) bytes laid))

@@ -24,4 +24,4 @@ returns c =
     (subst (λ (k : Kept). IsMessageOf k m) is refl)
     (sequence_is c.args.world.now c.args.port c.attributes-sequence.result c.attributes-sequence.ensures t.0.v t.0.there)
     (c.spell_plain.ensures mid task)
-    (subst (λ (b : Bool). MatchBool b (c.note_front.new.world ≡ mid) (NotesSenderless mid c.args.port c.note_front.new.world)) (ap (λ (k : Kept). k.by_once) (c.message.view_is ∙ is)) c.note_front.ensures)
+    (subst (λ (b : Bool). MatchBool b (c.note_front.new.world ≡ mid) (NotesSenderless mid c.args.port c.note_front.new.world)) (c.by_once.ensures ∙ ap (λ (k : Kept). k.by_once) is) c.note_front.ensures)

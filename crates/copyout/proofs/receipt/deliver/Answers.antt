@@ -51,19 +51,19 @@ returns c =
     let inside = c.message.inside in
     let mid = c.give_reply-remote.new.world in
     let first = c.give_reply-remote.ensures in
-    let header : Header = record { bits = c.header_bits.result; size = c.len.result; remote = c.give_reply-remote.result; local = c.args.local; sequence = c.args.sequence; id = inside.id } in
+    let header : Header = record { bits = c.header_bits.result; size = c.len.result; remote = c.give_reply-remote.result; local = c.args.local; sequence = c.args.sequence; id = c.id.result } in
     let bytes : m.bytes ≡ inside.bytes.items = ap (λ (x : Kept). x.bytes) (sym c.message.view_is) in
     let spans : m.spans ≡ c.spans_of.result.now = ap (λ (x : Kept). x.spans) (sym c.message.view_is) ∙ sym c.spans_of.ensures in
     let size : c.len.result ≡ length inside.bytes.items = let h = c.len.ensures in let ok = inside.bytes.ok in search rules in
+    let by : c.by_once.result ≡ m.by_once = c.by_once.ensures ∙ ap (λ (x : Kept). x.by_once) c.message.view_is in
+    let complex : c.is_complex.result ≡ m.is_complex = c.is_complex.ensures ∙ ap (λ (x : Kept). x.is_complex) c.message.view_is in
     delivers c.args.world.now mid c.give_rights.new.world c.args.task m c.args.local c.args.sequence first.0 c.give_rights.new.names.items c.spell.result header
     (subst (λ (o : Option Carried). GivesAll c.args.world.now c.args.task (option_to_list o) first.0 mid) c.reply-reply.ensures first.1)
     (subst (λ (xs : List Carried). GivesAll mid c.args.task xs c.give_rights.new.names.items c.give_rights.new.world) c.rights.ensures c.give_rights.ensures)
-    (c.header_bits.ensures
-    ∙ ap (λ (o : Option Carried). reply_number o + (if inside.by_once then 18 else 17) * 2 ^ 8 + (if inside.is_complex then 2 ^ 31 else 0)) c.reply-reply.ensures
-    ∙ ap (λ (x : Kept). reply_number m.reply + (if x.by_once then 18 else 17) * 2 ^ 8 + (if x.is_complex then 2 ^ 31 else 0)) c.message.view_is)
+    (c.header_bits.ensures ∙ (λ i. reply_number (c.reply-reply.ensures i) + (if by i then 18 else 17) * 2 ^ 8 + (if complex i then 2 ^ 31 else 0)))
     (size ∙ ap length (sym bytes))
     (first.2 ∙ ap (λ (o : Option Carried). reply_word o first.0) c.reply-reply.ensures)
-    refl refl (ap (λ (x : Kept). x.id) c.message.view_is)
+    refl refl (c.id.ensures ∙ ap (λ (x : Kept). x.id) c.message.view_is)
     (λ written laid.
     c.spell.ensures written (subst (λ (ss : List Span). IsLaidOut inside.bytes.items ss written) spans (subst (λ (bs : List ℕ). IsLaidOut bs m.spans written) bytes laid))
     ∙ ap (λ (ws : List ℕ). header_text header ++ body_text (received_body written ws)) c.deref.ensures)
