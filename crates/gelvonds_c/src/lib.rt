@@ -16,7 +16,7 @@ mod notices;
 mod parts;
 mod receive_right;
 mod sets;
-mod transfer;
+mod transfers;
 
 use crate::codes::{IN_USE, SUCCESS};
 use crate::handle::Handle;

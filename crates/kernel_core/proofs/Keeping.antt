@@ -27,7 +27,7 @@ use Rattle.rights.specs.Unused.{IsUnusedOfAll}
 use Rattle.notifications.specs.declared.request.Asked.{Asked}
 use Rattle.notifications.specs.Wanted.{WantsToRequest, LeavesRequest, LeavesSlots as AskedSlots}
 use Rattle.kernel_core.specs.Send.{UsesSlot}
-use Rattle.kernel_core.specs.Room.{MakesSlots}
+use Rattle.transfer.specs.Room.{MakesSlots}
 use Rattle.kernel_core.specs.Wanted.{memory_code, WantsMemory, Wanted, UsesSlots, LeavesSlots, LeavesSpares, Performs}
 use Rattle.kernel_core.proofs.Unused.{shown_unused, midway_unused}
 

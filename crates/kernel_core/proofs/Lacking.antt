@@ -28,12 +28,12 @@ use Rattle.copyin_base.proofs.Acting.{tasks_live}
 use Rattle.copyin_base.proofs.Told.{past_tasks}
 use Rattle.kernel_core.specs.MemoryCodes.{MayRefuse, NeverRefuses, TellsWant, IsMessage}
 use Rattle.copyin_base.specs.Worlds.{HasTask}
-use Rattle.kernel_core.specs.Transfer.{MayInsert, MayExtract, going_from}
+use Rattle.transfer.specs.Transfer.{MayInsert, MayExtract, going_from}
 use Rattle.kernel_core.specs.Wanted.{memory_code}
-use Rattle.kernel_core.specs.declared.transfer.Handed.{Handed}
-use Rattle.kernel_core.specs.declared.transfer.TaskName.{TaskName}
-use Rattle.kernel_core.proofs.Results.{of_ok, of_err}
-use Rattle.kernel_core.proofs.Transferring.{insert_short, extract_short}
+use Rattle.transfer.specs.declared.judge.Handed.{Handed}
+use Rattle.transfer.specs.declared.judge.TaskName.{TaskName}
+use Rattle.transfer.proofs.Results.{of_ok, of_err}
+use Rattle.transfer.proofs.Transferring.{insert_short, extract_short}
 
 -- ---- no guard that is judged in the state before has the code for want of memory
 

@@ -1,4 +1,3 @@
-mod Results
 mod Ready
 mod Receiving
 mod Sending
@@ -9,11 +8,6 @@ mod Freed
 mod Stepping
 mod Keeping
 mod Sparing
-mod Left
-mod Judged
-mod Readied
-mod Going
-mod Transferring
 mod Listed
 mod Bounding
 mod Lacking

@@ -19,7 +19,7 @@ use Rattle.mach_model.specs.Tasks.{IsNoTask}
 use Rattle.name_space.specs.Names.{SpaceView}
 use Rattle.copyin_base.specs.Shows.{Shows}
 use Rattle.copyin_base.specs.Worlds.{WorldView, space_at}
-use Rattle.kernel_core.specs.Transfer.{names_in}
+use Rattle.transfer.specs.Transfer.{names_in}
 
 -- ---- rising lists
 

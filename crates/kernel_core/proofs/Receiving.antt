@@ -51,7 +51,7 @@ use Rattle.notifications.proofs.FrontEnded.{message_destroyed}
 use Rattle.kernel_core.proofs.Freed.{destroyed_sends, front_same}
 use Rattle.kernel_core.specs.Receive.{named_guards, Sources, IsMember, IsAlone, IsOf, IsFrom, HasMessage, NoneWaits, ReceiptOf, IsReceipt, StaysFor}
 use Rattle.kernel_core_base.proofs.Holding.{in_one, one_in, none_in, some_in, held_lives, one_true}
-use Rattle.kernel_core.proofs.Judged.{not_not}
+use Rattle.transfer.proofs.Judged.{not_not}
 use Rattle.copyout.proofs.Waiting.{waits}
 
 -- ---- what isn't otherwise

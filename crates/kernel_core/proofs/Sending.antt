@@ -14,7 +14,7 @@ use Rattle.mach_model.specs.Send.{SendRefuses}
 use Rattle.message_codec.specs.declared.text.Parsed.{Parsed}
 use Rattle.message_codec.specs.Parses.{Parses, IsCrowded}
 use Rattle.copyin_base.specs.Acts.{Acts, Declines}
-use Rattle.copyin_base.specs.Changes.{with_slots, NotesSenders}
+use Rattle.copyin_base.specs.Changes.{with_slots}
 use Rattle.copyin_base.specs.Shows.{SlotsSuffice, Shows}
 use Rattle.copyin_base.specs.Stands.{Stands, AreTied, IsTied}
 use Rattle.copyin_base.specs.Worlds.{WorldView, HasTask, NoneLost}
@@ -34,12 +34,11 @@ use Rattle.copyin.proofs.SendersKept.{commits_senders, commits_none_lost}
 use Rattle.copyin.proofs.SlotsKept.{slot_there, commits_unused, commits_spare}
 use Rattle.copyin.specs.Slots.{slots_for}
 use Rattle.rights.specs.Unused.{IsUnusedOfAll}
-use Rattle.kernel_core.specs.Send.{slotted, SendsText, UsesSlot}
+use Rattle.transfer.specs.Room.{slotted}
+use Rattle.transfer.proofs.Transferring.{notes_slots}
+use Rattle.kernel_core.specs.Send.{SendsText, UsesSlot}
 
--- ---- spare slots are of no account to a plan, nor to what is noted
-
-pub notes_slots : (w : WorldView) (n : ℕ) (new : WorldView) → NotesSenders (with_slots w n) new → NotesSenders w new
-notes_slots w n new notes = record { noted = notes.noted; had = notes.had }
+-- ---- spare slots are of no account to a plan
 
 module _ (w : WorldView) (n : ℕ) (task : ℕ) (parsed : Parsed) (written : WireBody) where
   abbrev judged_at : Judged w task parsed written → Judged (with_slots w n) task parsed written

@@ -4,7 +4,7 @@ use Rattle.mach_types.specs.declared.calls.Event.{Event}
 use Rattle.mach_types.specs.declared.calls.Reply.{Reply}
 use Rattle.mach_types.specs.Numbers.{most_bytes}
 use Rattle.copyin_base.specs.Worlds.{WorldView, space_at}
-use Rattle.kernel_core.specs.Transfer.{names_in}
+use Rattle.transfer.specs.Transfer.{names_in}
 
 -- ---- what a reply has
 

@@ -2,17 +2,13 @@
 use Rattle.std.specs.Prelude.{◌≡◌, ℕ, ◌+◌, ◌≤◌, List, max}
 use Rattle.message_codec.specs.declared.text.Parsed.{Parsed}
 use Rattle.message_codec.specs.Parses.{Parses}
-use Rattle.copyin_base.specs.Changes.{with_slots}
 use Rattle.copyin_base.specs.Wanted.{room_of}
 use Rattle.copyin_base.specs.Worlds.{WorldView}
 use Rattle.copyin.specs.declared.judge.Plan.{Plan}
 use Rattle.copyin.specs.Planned.{IsPlan}
 use Rattle.copyin.specs.Plans.{Plans, Commits}
 use Rattle.copyin.specs.Slots.{slots_for}
-
--- with slots made where fewer are spare than one for each send-once right that no queued message goes by, and so many more
-abbrev pub slotted : WorldView → (more : ℕ) → WorldView
-slotted w more = with_slots w (max w.ports.spare (w.ledger.unused + more))
+use Rattle.transfer.specs.Room.{slotted}
 
 -- The plan sends these bytes, as the tables allow.
 pub record PlansText (w : WorldView) (task : ℕ) (bytes : List ℕ) (plan : Plan) : Type 0 where

@@ -1,12 +1,11 @@
 -- Where a step may want memory, and what it keeps for names and messages to come.
-use Rattle.std.specs.Prelude.{◌≡◌, ℕ, ◌+◌, ◌≤◌, ◌⊎◌, max, [], length, Some, None, Result, Ok, Err, IfErr}
+use Rattle.std.specs.Prelude.{◌≡◌, ℕ, ◌+◌, ◌≤◌, ◌⊎◌, max, [], length, Some, Result, Ok, Err, IfErr}
 use Rattle.std.specs.Option.{option_and_then}
 use Rattle.mach_types.specs.declared.calls.Event.{Event}
 use Rattle.mach_types.specs.declared.calls.Reply.{Reply}
 use Rattle.mach_types.specs.declared.calls.Waited.{Waited}
 use Rattle.mach_types.specs.declared.codes.KernReturn.TheVariants.{ResourceShortage}
 use Rattle.mach_types.specs.declared.codes.MsgReturn.TheVariants.{SendNoBuffer, ReceiveBodyErrorMemory}
-use Rattle.mach_types.specs.declared.rights.Disposition.TheVariants.{MakeSendOnce}
 use Rattle.mach_types.specs.Numbers.{kern_number, msg_number}
 use Rattle.mach_model.specs.State.{State}
 use Rattle.mach_laws.specs.Counts.{accepts, takes_from}
@@ -15,16 +14,14 @@ use Rattle.rights.specs.Unused.{IsUnusedOfAll}
 use Rattle.copyin_base.specs.declared.code.Code.{Code}
 use Rattle.copyin_base.specs.Acts.{code_number, IsDone, Serves}
 use Rattle.copyin_base.specs.Shows.{Shows}
-use Rattle.copyin_base.specs.Wanted.{room_of, LacksRoom, LacksPlace, LacksSlots}
+use Rattle.copyin_base.specs.Wanted.{room_of}
 use Rattle.copyin_base.specs.Worlds.{WorldView, entry_at}
 use Rattle.copyin.specs.Wanted.{WantsToSend}
 use Rattle.copyout.specs.Wanted.{WantsToReceive}
+use Rattle.transfer.specs.Wanted.{WantsToInsert, WantsToExtract}
 use Rattle.notifications.specs.Wanted.{WantsToRequest}
 use Rattle.kernel_core_base.specs.Wanted.{MayLackMemory}
-use Rattle.kernel_core.specs.declared.transfer.Handed.{Handed}
-use Rattle.kernel_core.specs.declared.transfer.TaskName.{TaskName}
 use Rattle.kernel_core.specs.Receive.{HasMessage, waited_at}
-use Rattle.kernel_core.specs.Transfer.{MayInsert, MayExtract, WantsName, going_from, left_at}
 
 -- ---- want of memory
 
@@ -34,19 +31,6 @@ memory_code (Event.Send task bytes) = msg_number SendNoBuffer
 memory_code (Event.Receive task name room large) = msg_number ReceiveBodyErrorMemory
 memory_code (Event.ReceiveAgain task waited room large) = msg_number ReceiveBodyErrorMemory
 memory_code event = kern_number ResourceShortage
-
--- A right may be inserted so, but for a name for which the task has no place, or, where it is a send-once right that is made, for a slot.
-pub record WantsToInsert (w : WorldView) (to from : TaskName) (number : ℕ) : Type 0 where
-  pub handed : Handed
-  pub may : MayInsert w to from number handed
-  pub lacks : (left_at w to.task (going_from from handed may.left) to.name ≡ None) × LacksPlace w to.task to.name
-      ⊎ (handed.given ≡ MakeSendOnce) × LacksSlots w 1
-
--- A right may be extracted so, but for a name that the task has no room for, or, where it is a send-once right that is made, for a slot.
-pub record WantsToExtract (w : WorldView) (from : TaskName) (number to : ℕ) : Type 0 where
-  pub handed : Handed
-  pub may : MayExtract w from number to handed
-  pub lacks : WantsName w to (going_from from handed may.left) × LacksRoom w to ⊎ (handed.given ≡ MakeSendOnce) × LacksSlots w 1
 
 -- The task may take from a port whose front message may want memory.
 pub record WantsToTake (w : WorldView) (task : ℕ) (waited : Waited) : Type 0 where

@@ -3,7 +3,7 @@ ghost use Rattle.std.specs.Prelude.{◌≡◌, ◌≤◌};
 ghost use Rattle.mach_types.specs.Numbers.{most_bytes, most_names};
 ghost use Rattle.copyin_base.specs.Worlds.{space_at};
 ghost use Rattle.kernel_core.specs.Bounds.{most_told};
-ghost use Rattle.kernel_core.specs.Transfer.{names_in};
+ghost use Rattle.transfer.specs.Transfer.{names_in};
 
 use copyin_base::World;
 use mach_types::limits::MOST_BYTES;

@@ -22,7 +22,6 @@ ghost use Rattle.kernel_core.specs.Wanted.{Wanted, Spares, Performs};
 use crate::memory::tell_memory_code;
 use crate::receive::{Buffer, receive, receive_again};
 use crate::send::send;
-use crate::transfer::{TaskName, extract, insert};
 use crate::{bound, choice};
 use copyin_base::{Code, World};
 use destroy::settle;
@@ -35,6 +34,7 @@ use mach_types::{Event, KernReturn, Name, Reply, TaskId};
 use notifications::{Asked, request_notification};
 use std::alloc::{AllocError, Global};
 use std::marker::Model;
+use transfer::{TaskName, extract, insert};
 
 /// Tasks, their names, ports and queued messages.
 ///

@@ -15,7 +15,6 @@ mod memory;
 mod receive;
 mod runs;
 mod send;
-mod transfer;
 
 pub use kernel::Kernel;
 pub use runs::run;

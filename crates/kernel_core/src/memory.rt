@@ -18,7 +18,6 @@ ghost use Rattle.kernel_core.specs.Receive.{StaysFor};
 ghost use Rattle.kernel_core.specs.Wanted.{memory_code};
 
 use crate::receive::{judge_again, source};
-use crate::transfer::{TaskName, judge_extract, judge_insert};
 use copyin_base::{Code, World};
 use kernel_core_base::{
     check_allocate, check_allocate_name, check_create_task, check_rename, check_set_status,
@@ -27,6 +26,7 @@ use mach_types::{Bytes, Event, KernReturn, MsgReturn, Name, PortId, TaskId, Wait
 use message_codec::parse;
 use notifications::{Asked, check_request};
 use std::alloc::{AllocError, Global};
+use transfer::{TaskName, judge_extract, judge_insert};
 
 /// The code by which want of memory may refuse the call, whose tasks live; `None` where it never may.
 ///

@@ -1,4 +1,4 @@
-use Rattle.kernel_core.proofs.Results.{if_ok}
+use Rattle.transfer.proofs.Results.{if_ok}
 use Rattle.kernel_core.proofs.Staying.{told_named}
 use Rattle.kernel_core.proofs.memory.may_lack_named.Goals as goal
 

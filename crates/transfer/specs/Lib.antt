@@ -1,0 +1,3 @@
+pub mod Transfer
+pub mod Room
+pub mod Wanted
