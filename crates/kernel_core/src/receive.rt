@@ -258,6 +258,7 @@ fn ready(world: &World, waited: &Waited) -> Option<PortId>
 }
 
 /// The task's name for a port whose receive right it has, which may be known.
+#[inline(always)]
 fn name_of(world: &World, task: TaskId, port: PortId, known: Option<Name>) -> Name
     requires there { HasTask world.now task }
     requires has { (name : ℕ) × FindsReceive world.now task name port }
