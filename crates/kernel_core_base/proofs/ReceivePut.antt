@@ -1,5 +1,8 @@
 -- A right is lost by the verbs of the tables, as is due.
 use Rattle.std.proofs.Common.{◌≡◌, ℕ, ◌-◌, ◌<◌, ◌≤◌, Option, Some, None, refl, sym, ap, subst, ◌∙◌, arith, Bool, true, false}
+use Rattle.std.proofs.lemmas.Bool.{false≢true}
+use Rattle.std.specs.FinMap as map
+use Rattle.std.specs.Option.{unwrap_or}
 use Rattle.std.specs.Prelude.{is_some, if◌then◌else◌, nat_lt}
 use Rattle.mach_types.specs.Tokens.{send}
 use Rattle.mach_model.proofs.Settling.{named_lives}
@@ -13,7 +16,7 @@ use Rattle.port.specs.Holding.{CanHold, held}
 use Rattle.port.specs.Ports.{PortView, PortsView, IsLive}
 use Rattle.rights.specs.declared.Counts.{Counts}
 use Rattle.rights.specs.declared.RightKind.TheVariants as right
-use Rattle.rights.specs.Counts.{with_fewer}
+use Rattle.rights.specs.Counts.{no_rights, with_fewer}
 use Rattle.rights.specs.Ledger.{LedgerView, IsEntered, counts_of, taken}
 use Rattle.copyin_base.specs.Changes.{CanPutLeft, PutsLeft}
 use Rattle.copyin_base.specs.Kept.{Kept}
@@ -22,7 +25,7 @@ use Rattle.copyin_base.specs.Requests.{requests_after}
 use Rattle.copyin_base.specs.Worlds.{WorldView, entry_at, space_at, with_space, port_at, put}
 use Rattle.copyin_base.proofs.Changing.{target_named}
 use Rattle.copyin_base.proofs.Gets.{of_some}
-use Rattle.copyin_base.proofs.Putting.{put_own}
+use Rattle.copyin_base.proofs.Putting.{put_own, put_same}
 use Rattle.copyin_base.proofs.SendersNoted.{counts_own}
 use Rattle.copyin_base.proofs.Tied.{stands_is_tied, stands_tied}
 use Rattle.copyin_base.proofs.Told.{receive_has, found, port_got, port_entered}
@@ -103,6 +106,22 @@ module _ (w : WorldView) (stands : Stands w) (task name : ℕ) (l : Loss) (can :
       still_enough = subst (λ (y : LedgerView). l.held - l.left ≤ (counts_of y l.port).send) (sym ledger_is)
           (let own = ap (λ (c : Counts). c.send) (counts_own w.ledger l.port (with_fewer right.Receive 1 (counts_of w.ledger l.port)) (taken w.ledger l.port right.Receive 1) refl) in
           let h = sends in omega (arith, own, h))
+
+some_counts : (o : Option Counts) → is_some o ≡ true → (c : Counts) × (o ≡ Some c)
+some_counts (Some c) e = (c, refl)
+some_counts None e = absurd (false≢true e)
+
+-- where no send rights go the counts stay
+pub none_taken : (ledger : LedgerView) (port gone : ℕ) → IsEntered ledger port → gone ≡ 0 → ledger ≡ taken ledger port right.Send gone
+none_taken ledger port gone entered none =
+    let c = some_counts (map.get ledger.counts port) entered in
+    let sends : c.0.send - 0 ≡ c.0.send = omega arith in
+    let same : with_fewer right.Send 0 c.0 ≡ c.0 = λ i. record { receive = c.0.receive; send = sends i; send_once = c.0.send_once; destination = c.0.destination } in
+    let back : map.insert ledger.counts port (with_fewer right.Send 0 (counts_of ledger port)) ≡ ledger.counts =
+    ap (λ (o : Option Counts). map.insert ledger.counts port (with_fewer right.Send 0 (unwrap_or o no_rights))) c.1 ∙ ap (map.insert ledger.counts port) same ∙ put_same ledger.counts port c.0 c.1 in
+    let total : ledger.total ≡ ledger.total - 0 = omega arith in
+    let unused : ledger.unused ≡ ledger.unused - 0 = omega arith in
+    subst (λ (n : ℕ). ledger ≡ taken ledger port right.Send n) (sym none) (λ i. record { counts = sym back i; total = total i; unused = unused i })
 
 -- it was taken so
 pub receive_taken : (old killed mid x : WorldView) (task name : ℕ) (l : Loss) (left : Option Entry) (ledger : LedgerView) → LosesPort old l.port killed → PutsLeft killed task name left mid → left ≡ sends_left l → x ≡ mid →

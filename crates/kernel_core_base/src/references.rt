@@ -7,6 +7,8 @@ ghost use Rattle.mach_model.specs.Refusals.{call_guards};
 ghost use Rattle.name_space.specs.declared.Entry.TheVariants as AnyEntry;
 ghost use Rattle.name_space.specs.Entry.{port_named, send_references};
 ghost use Rattle.port_set.specs.Sets.{removed, IsDisbanded};
+ghost use Rattle.rights.specs.declared.RightKind.TheVariants as kind;
+ghost use Rattle.rights.specs.Ledger.{IsEntered, counts_of, taken};
 ghost use Rattle.copyin_base.specs.Acts.{IsRefused, Serves};
 ghost use Rattle.copyin_base.specs.Stands.{Stands};
 ghost use Rattle.copyin_base.specs.Wanted.{UsesSpares};
@@ -160,7 +162,20 @@ fn left_sending(loss: Loss) -> Option<Entry>
     UserRefs::new(loss.left).map(|rest| Entry::Send(loss.port, rest))
 }
 
+// Counts so many send rights of a port as gone, where any go: mostly the task has none beside its receive
+// right.
+fn take_sends(ledger: &mut Ledger, port: PortId, gone: u32)
+    requires entered { IsEntered ledger.old port }
+    requires there { gone ≤ (counts_of ledger.old port).send }
+    ensures { ledger.new ≡ taken ledger.old port kind.Send gone }
+{
+    if gone > 0 {
+        ledger.take(port, RightKind::Send, gone);
+    }
+}
+
 // Takes the receive right from under a name, with the send references that go.
+#[inline(always)]
 fn take_receive(world: &mut World, task: TaskId, name: Name, loss: Loss)
     requires stands { Stands world.old }
     requires can { CanKill world.old task name loss }
@@ -171,7 +186,7 @@ fn take_receive(world: &mut World, task: TaskId, name: Name, loss: Loss)
     let left = left_sending(loss);
     kill_port(world, port);
     world.put_left(task, name, left);
-    world.ledger.take(port, RightKind::Send, gone);
+    take_sends(&mut world.ledger, port, gone);
 }
 
 // Notes a port that has no send rights left, where some of them went.
