@@ -1,4 +1,5 @@
-//! Tests of `gelvonds`: its typed calls, a task with no name left, and messages that are written, sent, received and read back.
+//! Tests of `gelvonds`: its typed calls, a task with no name left, and messages that are written, sent,
+//! received and read back.
 #![tactic(auto)]
 
 #[cfg(test)]
