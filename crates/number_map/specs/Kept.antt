@@ -1,11 +1,12 @@
 -- How a map from numbers is kept: its keys in a row, each in the chain of its hash. No public clause cites this module.
-use Rattle.std.specs.Prelude.{◌≡◌, ◌≢◌, ◌⊎◌, ℕ, suc, ◌+◌, ◌-◌, ◌*◌, ◌/◌, ◌%◌, ◌^◌, ◌<◌, ◌≤◌, List, map, length, Option, Some, slice_get, slice_index_or, bit_and}
+use Rattle.std.specs.Prelude.{◌≡◌, ◌≢◌, ◌⊎◌, ℕ, suc, ◌+◌, ◌-◌, ◌*◌, ◌%◌, ◌^◌, ◌<◌, ◌≤◌, List, map, length, Option, Some, slice_get, slice_index_or, bit_and}
 use Rattle.std.specs.Option.{option_map_or}
+use Rattle.std.specs.Int.{w64, rotate_right}
 use Rattle.number_map.specs.declared.Node.{Node}
 
 -- the chain of a key, where there are so many
 unfoldable pub slot : ℕ → ℕ → ℕ
-slot key slots = bit_and (key * 10557935818779966009 % 2 ^ 64 / 2 ^ 32) (slots - 1)
+slot key slots = bit_and (rotate_right w64 (key * 2049577361 % 2 ^ 64) 31) (slots - 1)
 
 -- ---- chains, by functions: the class of each place, the link that lies there, and the link at the head of each class
 

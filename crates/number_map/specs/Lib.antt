@@ -1,3 +1,4 @@
 pub mod Maps
 pub mod Kept
 pub mod Lends
+pub mod Halves

@@ -3,10 +3,11 @@
 //!
 //! The keys lie in a row, each in the chain of its hash, and a chain goes down the row. The hash is
 //! known, so that the keys must not be chosen by one who means harm: here they are identities, which
-//! the kernel gives one by one. A key takes 16 to 24 bytes beside its value, and so does room for one.
+//! the kernel gives one by one. Beside a value of four-byte words a key takes 16 to 20 bytes, or 14 to
+//! 16 where 1,024 keys or more fit, and so does room for one.
 #![tactic(auto)]
 
-ghost use Rattle.std.specs.Prelude.{◌≡◌, ◌≢◌, ℕ, suc, ◌+◌, ◌-◌, ◌^◌, ◌<◌, ◌≤◌, List, max, true, length, Some, None, IsOk, OnOk, OnErr};
+ghost use Rattle.std.specs.Prelude.{◌≡◌, ◌≢◌, ℕ, suc, ◌+◌, ◌-◌, ◌*◌, ◌^◌, ◌<◌, ◌≤◌, List, max, true, length, Some, None, IsOk, OnOk, OnErr};
 ghost use Rattle.std.specs.Borrow.{sem};
 ghost use Rattle.std.specs.FinMap as map;
 ghost use Rattle.std.specs.Vec.{vec_capacity};
@@ -14,17 +15,66 @@ ghost use Rattle.number_map.specs.Kept.{slot as slot_for, head_at, next_at, IsAb
 
 use std::alloc::{AllocError, Global};
 use std::marker::Model;
+use std::mem;
 
 // A link is a place and 1, or 0 where it leads nowhere, so that as many nodes have links.
 const MOST_NODES: usize = 0xFFFF_FFFF;
 
+// Where so many nodes fit, half as many chains do: what the heads take is halved, for half a step more.
+const MANY_NODES: usize = 1024;
+
+// How many numbers half a key can be.
+const HALF: u64 = 1 << 32;
+
+// A key in two halves, so that a node needs no more alignment than its value.
+#[derive(Clone, Copy)]
+struct Key {
+    low: u32,
+    high: u32,
+}
+
+impl Model for Key {
+    ghost use Rattle.std.specs.Prelude.{ℕ, ◌+◌, ◌*◌, ◌/◌, ◌%◌, ◌^◌, ◌<◌};
+    ghost use Rattle.number_map.specs.Halves.{same_halves};
+
+    ghost Value = { ℕ };
+
+    ghost view = { λ a. a.high * 2 ^ 32 + a.low };
+
+    ghost invariant = { λ a. a.low < 2 ^ 32 };
+
+    ghost inverse = { λ n. record { low = n % 2 ^ 32; high = n / 2 ^ 32 } };
+
+    ghost inverse_ok = { λ a h. same_halves (λ low high. record { low = low; high = high }) a.low a.high h };
+}
+
+impl Key {
+    fn of(number: u64) -> Key
+        ensures { result ≡ number }
+    {
+        Key {
+            low: (number % HALF) as u32,
+            high: (number / HALF) as u32,
+        }
+    }
+
+    fn number(self) -> u64
+        ensures { result ≡ self }
+    {
+        u64::from(self.high) * HALF + u64::from(self.low)
+    }
+}
+
 // A key with its value. The next of its chain lies at `next - 1`, below it, if `next` is not 0.
 #[derive(Clone, Copy)]
 struct Node<V: Copy> {
-    key: u64,
+    key: Key,
     value: V,
     next: u32,
 }
+
+// A key, a value of four words and a link, with nothing between.
+const _: () = prove!(mem::size_of::<Node<[u32; 4]>>() == 28);
 
 /// Values under numbers, and room for so many keys to come. Without room nothing is allocated.
 #[derive(Drop)]
@@ -35,14 +85,16 @@ pub struct NumberMap<V: Copy> {
     room: usize,
 }
 
-// The chain of a key. The factor spreads keys that are given one by one, and as well each second of
-// them or each sixteenth: where there are as many keys as chains, half a key stands before another.
+// The chain of a key. The factor spreads keys that are given one by one, each second of them or each
+// sixteenth, and as well keys that differ in their upper halves alone: where there are as many keys as
+// chains, mostly half a key or less stands before another. A factor below 2^31, and a turn in place of
+// a shift, take the fewest instructions.
 fn slot_of(key: u64, slots: usize) -> usize
     requires { 0 < slots }
     ensures value { result ≡ slot_for key slots }
     ensures few { result < slots }
 {
-    (key.wrapping_mul(0x9285_52B0_57C0_BA39) >> 32) as usize & (slots - 1)
+    key.wrapping_mul(0x7A2A_1191).rotate_right(31) as usize & (slots - 1)
 }
 
 // Where the key lies.
@@ -57,7 +109,7 @@ fn find<V: Copy>(nodes: &[Node<V>], heads: &[u32], key: u64) -> Option<usize>
     let mut link = heads[slot_of(key, heads.len())] as usize;
     while link > 0 {
         let node = &nodes[link - 1];
-        if node.key == key {
+        if node.key.number() == key {
             return Some(link - 1);
         }
         link = node.next as usize;
@@ -122,11 +174,17 @@ fn take_out<V: Copy>(nodes: &mut Vec<Node<V>>, heads: &mut Vec<u32>, place: usiz
     let Some(last) = nodes.pop() else {
         return;
     };
-    let slot = slot_of(last.key, heads.len());
+    let slot = slot_of(last.key.number(), heads.len());
     heads[slot] = last.next;
     if place < nodes.len() {
         let Node { key, next, .. } = nodes[place];
-        lead(nodes, heads, slot_of(key, heads.len()), place, next);
+        lead(
+            nodes,
+            heads,
+            slot_of(key.number(), heads.len()),
+            place,
+            next,
+        );
         let next = lead(nodes, heads, slot, place, (place + 1) as u32);
         nodes[place] = Node {
             key: last.key,
@@ -146,7 +204,7 @@ fn link_all<V: Copy>(nodes: &mut [Node<V>], heads: &mut [u32])
     ensures heads { length heads.new ≡ length heads.old }
 {
     for place in 0..nodes.len() {
-        let slot = slot_of(nodes[place].key, heads.len());
+        let slot = slot_of(nodes[place].key.number(), heads.len());
         nodes[place].next = heads[slot];
         heads[slot] = (place + 1) as u32;
     }
@@ -164,7 +222,19 @@ fn make_slots(heads: &mut Vec<u32>, slots: usize) -> Result<(), AllocError>
     Ok(())
 }
 
-// Makes as many chains as nodes fit, or more, where there are fewer, and puts each node in its own.
+// How many chains are enough for so many nodes.
+fn chains_for(capacity: usize) -> usize
+    ensures some { 0 < capacity → 0 < result }
+    ensures enough { capacity ≤ 2 * result + 1 }
+{
+    if capacity < MANY_NODES {
+        return capacity;
+    }
+    capacity / 2
+}
+
+// Makes as many chains as are enough for the nodes that fit, or more, where there are fewer, and puts
+// each node in its own.
 fn widen<V: Copy>(nodes: &mut Vec<Node<V>>, heads: &mut Vec<u32>) -> Result<(), AllocError>
     requires indexed { IsIndexed nodes.old.items heads.old.items }
     requires few { length nodes.old.items < 2 ^ 32 }
@@ -174,13 +244,15 @@ fn widen<V: Copy>(nodes: &mut Vec<Node<V>>, heads: &mut Vec<u32>) -> Result<(), 
     ensures entries { SameEntries nodes.old.items nodes.new.items }
     ensures capacity { vec_capacity nodes.new ≡ vec_capacity nodes.old }
 {
+    // Small maps end here, at the least cost.
     if heads.len() >= nodes.capacity() {
         return Ok(());
     }
-    let slots = nodes
-        .capacity()
-        .checked_next_power_of_two()
-        .ok_or(AllocError)?;
+    let chains = chains_for(nodes.capacity());
+    if heads.len() >= chains {
+        return Ok(());
+    }
+    let slots = chains.checked_next_power_of_two().ok_or(AllocError)?;
     make_slots(heads, slots)?;
     link_all(nodes.as_mut_slice(), heads.as_mut_slice());
     Ok(())
@@ -267,7 +339,7 @@ impl<V: Copy> NumberMap<V> {
     {
         let slot = slot_of(key, self.heads.len());
         self.nodes.push_reserved(Node {
-            key,
+            key: Key::of(key),
             value,
             next: self.heads[slot],
         });

@@ -19,7 +19,7 @@ invariant_of-self g c =
     (lookup_is (entries_of c.self.inside.nodes.items) c.self.inside.room c.args.self.now c.self.view_is c.args.key ∙ c.requires.absent)
     c.slot_of-slot.result (c.slot_of-slot.ensures.value ∙ ap (slot c.args.key) slots) few
     (get_or_read c.self.inside.heads.items _ c.index.result.now few c.index.ensures 0)
-    c.len-2.result (let l = length_pushed c.self.inside.nodes.items n in let p = c.push_reserved.ensures.len in omega (arith, c.len-2.ensures)) c.push_reserved.new.self.items c.push_reserved.ensures.items)
+    c.len-2.result (let l = length_pushed c.self.inside.nodes.items n in let p = c.push_reserved.ensures.len in omega (arith, c.len-2.ensures)) c.push_reserved.new.self.items (rw c.of.ensures at c.push_reserved.ensures.items))
 
 pub returns : goal.returns
 returns g c =
@@ -32,6 +32,6 @@ returns g c =
     (lookup_is (entries_of c.self.inside.nodes.items) c.self.inside.room c.args.self.now c.self.view_is c.args.key ∙ c.requires.absent)
     c.slot_of-slot.result (c.slot_of-slot.ensures.value ∙ ap (slot c.args.key) slots) few
     (get_or_read c.self.inside.heads.items _ c.index.result.now few c.index.ensures 0)
-    c.len-2.result (let l = length_pushed c.self.inside.nodes.items n in let p = c.push_reserved.ensures.len in omega (arith, c.len-2.ensures)) c.push_reserved.new.self.items c.push_reserved.ensures.items
+    c.len-2.result (let l = length_pushed c.self.inside.nodes.items n in let p = c.push_reserved.ensures.len in omega (arith, c.len-2.ensures)) c.push_reserved.new.self.items (rw c.of.ensures at c.push_reserved.ensures.items)
     ∙ ap (λ (m : map.FinMap nat_cmp g.row.V.Denot). map.insert m c.args.key c.args.value) (map_is (entries_of c.self.inside.nodes.items) c.self.inside.room c.args.self.now c.self.view_is))
     (ap (λ k. k - 1) (room_is (entries_of c.self.inside.nodes.items) c.self.inside.room c.args.self.now c.self.view_is))
