@@ -369,6 +369,7 @@ impl<V: Copy> NumberMap<V> {
 
     /// Takes a key out, if it is there, and answers its value. The room for new keys stays as it was.
     /// Constant time.
+    #[inline(always)]
     pub fn remove(&mut self, key: u64) -> Option<V>
         ensures value { result ≡ map.get self.old.map key }
         ensures after { self.new ≡ record self.old { map = map.remove self.old.map key } }
