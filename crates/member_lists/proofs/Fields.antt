@@ -22,7 +22,7 @@ nothing_yet l = map.get-empty {X = Ends} nat_cmp l
 -- ---- one list in a field
 
 -- the ends, where there is a first item
-abbrev some_if : Option ℕ → Ends → Option Ends
+abbrev pub some_if : Option ℕ → Ends → Option Ends
 some_if None e = None
 some_if (Some x) e = Some e
 

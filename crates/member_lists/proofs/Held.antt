@@ -218,36 +218,36 @@ module _ (m m' : Ended) (l : ℕ) (f : Ends) (none : f.first ≡ None → m' ≡
 
 -- ---- how many lists there are, with room for as many more
 
-some_in : (m : Ended) (l : ℕ) → map.contains_key m l ≡ true → 0 < map.len m
-some_in m l h = more (map.len m) refl
+some_in : {X : Type 0} (m : map.FinMap nat_cmp X) (l : ℕ) → map.contains_key m l ≡ true → 0 < map.len m
+some_in {X} m l h = more (map.len m) refl
   where
     more : (n : ℕ) → map.len m ≡ n → 0 < map.len m
-    more zero e = absurd (no_true (sym (ap is_some (map.get-empty {X = Ends} nat_cmp l)) ∙ ap (λ (k : Ended). map.contains_key k l) (sym (map.empty_of_len m e)) ∙ h))
+    more zero e = absurd (no_true (sym (ap is_some (map.get-empty {X = X} nat_cmp l)) ∙ ap (λ (k : map.FinMap nat_cmp X). map.contains_key k l) (sym (map.empty_of_len m e)) ∙ h))
     more (suc n) e = omega arith
 
 -- a list that isn't in the map has no ends there
-pub none_in : (m : Ended) (l : ℕ) → map.contains_key m l ≡ false → map.get m l ≡ None
-none_in m l h = case (map.get m l) refl
+pub none_in : {X : Type 0} (m : map.FinMap nat_cmp X) (l : ℕ) → map.contains_key m l ≡ false → map.get m l ≡ None
+none_in {X} m l h = case (map.get m l) refl
   where
-    case : (o : Option Ends) → map.get m l ≡ o → map.get m l ≡ None
+    case : (o : Option X) → map.get m l ≡ o → map.get m l ≡ None
     case None at = at
     case (Some e) at = absurd (no_true (sym h ∙ ap is_some at))
 
-module _ (v w : MapView Ends) (l : ℕ) (f : Ends) where
+module _ {X : Type 0} (v w : MapView X) (l : ℕ) (f : X) where
   pub total_set : map.contains_key v.map l ≡ true → w ≡ record { map = map.insert v.map l f; room = v.room } → map.len w.map + w.room ≡ map.len v.map + v.room
   total_set h e =
-      let a : map.len w.map ≡ map.len v.map = ap (λ (u : MapView Ends). map.len u.map) e ∙ map.len-insert nat_cmp_total v.map l f ∙ ap (λ b. cond b (map.len v.map) (map.len v.map + 1)) h in
-      let b : w.room ≡ v.room = ap (λ (u : MapView Ends). u.room) e in omega arith
+      let a : map.len w.map ≡ map.len v.map = ap (λ (u : MapView X). map.len u.map) e ∙ map.len-insert nat_cmp_total v.map l f ∙ ap (λ b. cond b (map.len v.map) (map.len v.map + 1)) h in
+      let b : w.room ≡ v.room = ap (λ (u : MapView X). u.room) e in omega arith
 
   pub total_put : map.contains_key v.map l ≡ false → 0 < v.room → w ≡ record { map = map.insert v.map l f; room = v.room - 1 } → map.len w.map + w.room ≡ map.len v.map + v.room
   total_put h some e =
-      let a : map.len w.map ≡ map.len v.map + 1 = ap (λ (u : MapView Ends). map.len u.map) e ∙ map.len-insert nat_cmp_total v.map l f ∙ ap (λ b. cond b (map.len v.map) (map.len v.map + 1)) h in
-      let b : w.room ≡ v.room - 1 = ap (λ (u : MapView Ends). u.room) e in omega arith
+      let a : map.len w.map ≡ map.len v.map + 1 = ap (λ (u : MapView X). map.len u.map) e ∙ map.len-insert nat_cmp_total v.map l f ∙ ap (λ b. cond b (map.len v.map) (map.len v.map + 1)) h in
+      let b : w.room ≡ v.room - 1 = ap (λ (u : MapView X). u.room) e in omega arith
 
   pub total_out : map.contains_key v.map l ≡ true → w ≡ record { map = map.remove v.map l; room = v.room + 1 } → map.len w.map + w.room ≡ map.len v.map + v.room
   total_out h e =
-      let a : map.len w.map ≡ map.len v.map - 1 = ap (λ (u : MapView Ends). map.len u.map) e ∙ map.len-remove nat_cmp_total v.map l ∙ ap (λ b. cond b (map.len v.map - 1) (map.len v.map)) h in
-      let b : w.room ≡ v.room + 1 = ap (λ (u : MapView Ends). u.room) e in
+      let a : map.len w.map ≡ map.len v.map - 1 = ap (λ (u : MapView X). map.len u.map) e ∙ map.len-remove nat_cmp_total v.map l ∙ ap (λ b. cond b (map.len v.map - 1) (map.len v.map)) h in
+      let b : w.room ≡ v.room + 1 = ap (λ (u : MapView X). u.room) e in
       let some = some_in v.map l h in omega arith
 
 -- ---- none yet, and room for more

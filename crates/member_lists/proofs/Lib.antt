@@ -8,3 +8,5 @@ pub mod Held
 pub mod Kept
 pub mod Empty
 pub mod Fields
+pub mod Both
+pub mod Marks

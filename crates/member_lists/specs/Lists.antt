@@ -1,5 +1,5 @@
 -- What contracts see of lists of items: each list that has items, by its number, and how many items there is room for.
-use Rattle.std.specs.Prelude.{ℕ, not, eqb, List, [], ◌∷◌, unwrap_or, refl}
+use Rattle.std.specs.Prelude.{ℕ, not, eqb, max, List, [], ◌∷◌, unwrap_or, refl}
 use Rattle.std.specs.List.{Contains, filter}
 use Rattle.std.specs.Coded.{Coded, code_by, coded×, coded_ℕ, coded_list}
 use Rattle.std.specs.FinMap as map
@@ -32,3 +32,23 @@ with_list v list (x ∷ xs) = record v { lists = map.insert v.lists list (x ∷ 
 -- the items but this one, in their order
 abbrev pub without : ℕ → List ℕ → List ℕ
 without item = filter (λ x. not (eqb x item))
+
+-- ---- lists of items of which some are marked: all lists, and those of the marked items
+
+pub record MarkedView : Type 0 where
+  pub all : ListsView
+  pub marked : ListsView
+
+abbrev pub marked_code : Coded MarkedView
+marked_code = code_by
+    (ListsView × ListsView) (coded× lists_code lists_code)
+    (λ v. (v.all, v.marked))
+    (λ p. record { all = p.0; marked = p.1 })
+    (λ _. refl)
+
+-- there is room for so many items, or for as many as before
+abbrev pub with_room : MarkedView → (items : ℕ) → MarkedView
+with_room v items = record {
+  all = record v.all { items = max v.all.items items };
+  marked = record v.marked { items = max v.marked.items items };
+}

@@ -3,7 +3,8 @@
 //! Items are linked both ways through a vector of links. The ends of each list that has items stand in a
 //! map by its number, in [`Lists`]. There is room in the map for as many lists as items, so that no list
 //! takes memory but by [`Lists::reserve`]. Where there are two lists at most their ends stand in fields,
-//! in [`TwoLists`], and no map takes memory.
+//! in [`TwoLists`], and no map takes memory. In [`MarkedLists`] some items of a list are marked, and the
+//! ends of both stand in one map.
 #![tactic(auto)]
 
 ghost use Rattle.std.specs.Prelude.{◌≡◌, ◌↔◌, ℕ, ◌+◌, ◌<◌, ◌≤◌, ◌^◌, ◌++◌, ◌∷◌, [], max, eqb, IsTrue, true, length, Some, None, IfOk, OnOk, OnErr, slice_get};
@@ -14,17 +15,20 @@ ghost use Rattle.member_lists.specs.Chains.{IsBehindSet, IsBeforeSet, IsLinkedLa
 ghost use Rattle.member_lists.specs.declared.Link.{Link as AnyLink};
 ghost use Rattle.member_lists.specs.Fields.{taken};
 
+mod marked;
+
+pub use marked::MarkedLists;
 use number_map::NumberMap;
 use std::alloc::{AllocError, Global};
 use std::marker::Model;
 use std::mem;
 
 // With more items than this the places of the last would not fit.
-const MOST_ITEMS: usize = (1 << 32) - 1;
+pub(crate) const MOST_ITEMS: usize = (1 << 32) - 1;
 
 // An item's number and 1, or 0 for none.
 #[derive(Clone, Copy, Debug, PartialEq, Eq)]
-struct Place(u32);
+pub(crate) struct Place(u32);
 
 impl Model for Place {
     ghost use Rattle.std.specs.Prelude.{ℕ, Option};
@@ -53,7 +57,7 @@ impl Place {
         Place(item as u32 + 1)
     }
 
-    fn item(self) -> Option<usize>
+    pub(crate) fn item(self) -> Option<usize>
         ensures { result ≡ self }
     {
         match self.0 {
@@ -75,14 +79,14 @@ impl Place {
 
 // Between which two items of its list an item stands.
 #[derive(Clone, Copy, Debug, PartialEq, Eq)]
-struct Link {
+pub(crate) struct Link {
     before: Place,
     behind: Place,
 }
 
 impl Link {
     // An item's that is in no list.
-    fn blank() -> Link
+    pub(crate) fn blank() -> Link
         ensures { result ≡ blank_link }
     {
         Link {
@@ -94,8 +98,8 @@ impl Link {
 
 // The first and the last item of a list.
 #[derive(Clone, Copy, Debug, PartialEq, Eq)]
-struct Ends {
-    first: Place,
+pub(crate) struct Ends {
+    pub(crate) first: Place,
     last: Place,
 }
 
@@ -104,7 +108,7 @@ const _: () = prove!(mem::size_of::<Link>() == 8);
 
 impl Ends {
     // Those of a list without items.
-    fn blank() -> Ends
+    pub(crate) fn blank() -> Ends
         ensures { result ≡ blank_ends }
     {
         Ends {
@@ -271,7 +275,7 @@ fn end_without(beside: Place, other: Place, end: Place) -> Place
 
 // Links an item that is in no list behind the last one of a list, and answers the list's ends then.
 #[inline(always)]
-fn link_last(links: &mut Vec<Link>, item: usize, ends: Ends) -> Ends
+pub(crate) fn link_last(links: &mut Vec<Link>, item: usize, ends: Ends) -> Ends
     requires few { item + 1 < 2 ^ 32 }
     requires room { item < length links.old.items }
     requires last { (x : ℕ) → ends.last ≡ Some x → x < length links.old.items }
@@ -291,7 +295,7 @@ fn link_last(links: &mut Vec<Link>, item: usize, ends: Ends) -> Ends
 
 // Links the neighbours of an item to one another, and answers the ends of its list without it.
 #[inline(always)]
-fn unlink(links: &mut Vec<Link>, item: usize, ends: Ends) -> Ends
+pub(crate) fn unlink(links: &mut Vec<Link>, item: usize, ends: Ends) -> Ends
     requires room { item < length links.old.items }
     requires before { (link : AnyLink) → slice_get links.old.items item ≡ Some link → (x : ℕ) → link.before ≡ Some x → x < length links.old.items }
     requires behind { (link : AnyLink) → slice_get links.old.items item ≡ Some link → (x : ℕ) → link.behind ≡ Some x → x < length links.old.items }

@@ -1,18 +1,20 @@
 //! Records of ports under their keys: what is read of one, and what changes in one.
-ghost use Rattle.std.specs.Prelude.{◌≡◌, ℕ, ◌+◌, ◌<◌, ◌≤◌, ◌^◌, ◌++◌, ◌∷◌, [], List, length, Some, IsSome, IfOk, OnOk};
+ghost use Rattle.std.specs.Prelude.{◌≡◌, ℕ, ◌+◌, ◌<◌, ◌≤◌, ◌^◌, ◌++◌, ◌∷◌, [], List, length, cond, Option, Some, None, IsSome, IfOk, OnOk};
 ghost use Rattle.std.specs.List.{Contains};
+ghost use Rattle.member_lists.specs.Lists.{list_of};
 ghost use Rattle.slab.specs.Slab.{get, with_value, HasRoomFor};
 ghost use Rattle.port.specs.declared.Record.{Record as AnyRecord};
 ghost use Rattle.port.specs.Holding.{held_by};
 ghost use Rattle.port.specs.Ready.{StandsIn, IsMoved, out_of, at_end};
+ghost use Rattle.port.specs.Turns.{ready_if};
 ghost use Rattle.port.specs.Ports.{one_made, one_received};
 ghost use Rattle.port.specs.Records.{ready_set, readied_set, member_set, waiting_list, waits_in, noting_list, ids_at};
 
-use crate::moves::rejoin;
+use crate::moves::reready;
 use crate::slots::{move_first, pop, push};
 use crate::{Attributes, Holder, Message, Record};
 use mach_types::PortId;
-use member_lists::Lists;
+use member_lists::MarkedLists;
 use slab::Slab;
 use std::alloc::{AllocError, Global};
 use std::collections::LinkedList;
@@ -42,7 +44,8 @@ impl<M: Message> Record<M> {
 
     // The number of the set that the port gets ready in by a message: its set, where it has none.
     fn readied_set(&self) -> Option<u64>
-        ensures { result ≡ readied_set self.now }
+        ensures value { result ≡ readied_set self.now }
+        ensures member { (set : ℕ) → result ≡ Some set → self.now.kept.attributes.set ≡ Some set }
     {
         if !self.queue.is_empty() {
             return None;
@@ -52,7 +55,8 @@ impl<M: Message> Record<M> {
 
     // The number of the set that the port is ready in once its first message is taken.
     fn ready_behind(&self) -> Option<u64>
-        ensures { (m : M) (rest : List M) → self.now.queue ≡ m ∷ rest → result ≡ ready_set (record self.now { queue = rest }) }
+        ensures value { (m : M) (rest : List M) → self.now.queue ≡ m ∷ rest → result ≡ ready_set (record self.now { queue = rest }) }
+        ensures member { (set : ℕ) → result ≡ Some set → self.now.kept.attributes.set ≡ Some set }
     {
         if self.queue.len() < 2 {
             return None;
@@ -76,6 +80,7 @@ pub(crate) fn push_at<M: Message>(
     ensures after { (r : AnyRecord M) → get records.old key ≡ Some r → records.new ≡ with_value records.old key (record r { queue = r.queue ++ message ∷ [] }) }
     ensures spare { length spare.new + 1 ≡ length spare.old }
     ensures readied { (r : AnyRecord M) → get records.old key ≡ Some r → result ≡ readied_set r }
+    ensures member { (r : AnyRecord M) (set : ℕ) → get records.old key ≡ Some r → result ≡ Some set → r.kept.attributes.set ≡ Some set }
 {
     let record = &mut records[key];
     let set = record.readied_set();
@@ -105,23 +110,24 @@ pub(crate) fn pop_at<M: Message>(
 pub(crate) fn take_at<M: Message>(
     records: &mut Slab<Record<M>>,
     key: usize,
-    ready: &mut Lists,
+    sets: &mut MarkedLists,
     spare: &mut LinkedList<M>,
 ) -> M
     requires there { IsSome (get records.old key) }
     requires some { (r : AnyRecord M) → get records.old key ≡ Some r → 0 < length r.queue }
     requires fit { (r : AnyRecord M) → get records.old key ≡ Some r → length r.queue + length spare.old < 2 ^ 63 }
-    requires room { key < ready.old.items }
-    requires was { (r : AnyRecord M) → get records.old key ≡ Some r → StandsIn ready.old key (ready_set r) }
+    requires member { (r : AnyRecord M) (set : ℕ) → get records.old key ≡ Some r → r.kept.attributes.set ≡ Some set → Contains (list_of sets.old.all set) key }
+    requires was { (r : AnyRecord M) → get records.old key ≡ Some r → StandsIn sets.old.marked key (ready_set r) }
     ensures after { (r : AnyRecord M) → get records.old key ≡ Some r → (rest : List M) × (r.queue ≡ result ∷ rest) × (records.new ≡ with_value records.old key (record r { queue = rest; kept = record r.kept { attributes = one_received r.kept.attributes } })) }
     ensures spare { length spare.new ≡ length spare.old + 1 }
-    ensures moved { (r : AnyRecord M) (rest : List M) → get records.old key ≡ Some r → r.queue ≡ result ∷ rest → IsMoved ready.old ready.new key (ready_set (record r { queue = rest })) }
-    ensures turned { (r : AnyRecord M) (rest : List M) → get records.old key ≡ Some r → r.queue ≡ result ∷ rest → ready.new ≡ at_end (out_of ready.old key (ready_set r)) key (ready_set (record r { queue = rest })) }
+    ensures moved { (r : AnyRecord M) (rest : List M) → get records.old key ≡ Some r → r.queue ≡ result ∷ rest → IsMoved sets.old.marked sets.new.marked key (ready_set (record r { queue = rest })) }
+    ensures turned { (r : AnyRecord M) (rest : List M) → get records.old key ≡ Some r → r.queue ≡ result ∷ rest → sets.new.marked ≡ at_end (out_of sets.old.marked key (ready_set r)) key (ready_set (record r { queue = rest })) }
+    ensures members { sets.new.all ≡ sets.old.all }
 {
     let record = &mut records[key];
     let was = record.ready_set();
     let now = record.ready_behind();
-    rejoin(ready, key, was, now);
+    reready(sets, key, was, now);
     record.kept.count_received();
     let blank = M::blank(*spare.allocator());
     // Last, so that the message is moved once less.
@@ -191,6 +197,14 @@ pub(crate) fn ready_at<M: Message>(records: &Slab<Record<M>>, key: usize) -> Opt
     ensures { (r : AnyRecord M) → get records.now key ≡ Some r → result ≡ ready_set r }
 {
     records[key].ready_set()
+}
+
+// Whether the port under the key has messages, so that it is ready in the set that it is in.
+pub(crate) fn has_messages<M: Message>(records: &Slab<Record<M>>, key: usize) -> bool
+    requires { IsSome (get records.now key) }
+    ensures { (r : AnyRecord M) → get records.now key ≡ Some r → (set : Option ℕ) → cond result set None ≡ ready_if r.queue set }
+{
+    !records[key].queue.is_empty()
 }
 
 // The number of the set that the port under the key is in.

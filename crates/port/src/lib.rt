@@ -25,13 +25,13 @@ mod moves;
 mod slots;
 
 use by_key::{
-    DOOMED, LOST, NOTED, count_at, destroy_at, hold_at, ids_of, member_at, narrow, note_at,
-    noted_at, pop_at, push_at, ready_at, reserve_record, set_at, take_at,
+    DOOMED, LOST, NOTED, count_at, destroy_at, has_messages, hold_at, ids_of, member_at, narrow,
+    note_at, noted_at, pop_at, push_at, ready_at, reserve_record, set_at, take_at,
 };
 use mach_types::limits::FIRST_LIMIT;
 use mach_types::{PortId, SetId, TaskId};
-use member_lists::{Lists, TwoLists};
-use moves::{join, join_two, leave, leave_two, rejoin, rejoin_two, renew};
+use member_lists::{MarkedLists, TwoLists};
+use moves::{join_two, leave, leave_two, ready, rejoin_two, renew, reready};
 use number_map::NumberMap;
 use slab::Slab;
 use slots::{blank_slots, pop};
@@ -301,8 +301,8 @@ const _: () = prove!(mem::size_of::<Record<u8>>() <= 64);
 pub struct Ports<M: Message> {
     records: Slab<Record<M>>,
     by_id: NumberMap<u32>,
-    ready: Lists,
-    members: Lists,
+    // The members of each set, of which those that have messages are marked.
+    sets: MarkedLists,
     // Those without a holder, in the list LOST or DOOMED.
     waiting: TwoLists,
     // Those noted, in the list NOTED.
@@ -327,7 +327,7 @@ impl<M: Message> Model for Ports<M> {
 
     ghost view = { λ a. record {
       ports = ports_of (get a.records) a.by_id.map;
-      ready = turns_at (get a.records) a.ready.lists;
+      ready = turns_at (get a.records) a.sets.marked.lists;
       made = made_of a.next;
       spare = length a.spare;
       destroyed = a.destroyed;
@@ -336,7 +336,7 @@ impl<M: Message> Model for Ports<M> {
       noted = ids_in (get a.records) a.noted noted_list;
     } };
 
-    ghost invariant = { λ a. IsKept a.records a.by_id.map a.next a.spare a.destroyed a.slots a.ready a.members a.waiting a.noted };
+    ghost invariant = { λ a. IsKept a.records a.by_id.map a.next a.spare a.destroyed a.slots a.sets.marked a.sets.all a.waiting a.noted };
 }
 
 // The key of a port's record, if the port is there.
@@ -364,8 +364,7 @@ impl<M: Message> Ports<M> {
         Ports {
             records: Slab::new(alloc),
             by_id: NumberMap::new(alloc),
-            ready: Lists::new(alloc),
-            members: Lists::new(alloc),
+            sets: MarkedLists::new(alloc),
             waiting: TwoLists::new(alloc),
             noted: TwoLists::new(alloc),
             next: Some(0),
@@ -438,8 +437,7 @@ impl<M: Message> Ports<M> {
         reserve_record(&mut self.records)?;
         self.by_id.reserve(1)?;
         let keys = self.records.capacity();
-        self.ready.reserve(keys)?;
-        self.members.reserve(keys)?;
+        self.sets.reserve(keys)?;
         self.waiting.reserve(keys)?;
         self.noted.reserve(keys)?;
         let key = self.records.insert_reserved(Record {
@@ -463,7 +461,7 @@ impl<M: Message> Ports<M> {
                 let key = key as usize;
                 let record = self.records.remove(key);
                 let set = record.kept.member_list();
-                leave(&mut self.members, key, set);
+                leave(&mut self.sets, key, set);
                 let list = record.kept.waiting_list();
                 leave_two(&mut self.waiting, key, list);
                 let list = record.kept.noting_list();
@@ -496,7 +494,7 @@ impl<M: Message> Ports<M> {
         ensures some { IfSome result (λ port. IsReadyIn self.now set port) }
         ensures none { IfNone result (NoneReadyIn self.now set) }
     {
-        let key = self.ready.first(set.number())?;
+        let key = self.sets.first_marked(set.number())?;
         Some(self.records[key].id)
     }
 
@@ -505,7 +503,7 @@ impl<M: Message> Ports<M> {
         ensures some { IfSome result (λ port. IsIn self.now set port) }
         ensures none { IfNone result (NoneIn self.now set) }
     {
-        let key = self.members.first(set.number())?;
+        let key = self.sets.first(set.number())?;
         Some(self.records[key].id)
     }
 
@@ -516,7 +514,7 @@ impl<M: Message> Ports<M> {
         ensures only { IfOk result (λ ports. (port : ℕ) → Contains ports.items port → IsIn self.now set port) }
         ensures all { IfOk result (λ ports. (port : ℕ) (p : PortView M) → map.get self.now.ports port ≡ Some p → p.attributes.set ≡ Some set → Contains ports.items port) }
     {
-        let keys = self.members.items(set.number(), alloc)?;
+        let keys = self.sets.items(set.number(), alloc)?;
         ids_of(&self.records, &keys, alloc)
     }
 
@@ -527,13 +525,11 @@ impl<M: Message> Ports<M> {
         ensures { (p : PortView M) → map.get self.old.ports port ≡ Some p → self.new ≡ with_port self.old port (record p { attributes = attributes }) }
     {
         let key = key_of(&self.by_id, port).unwrap();
-        let was = ready_at(&self.records, key);
-        let member = member_at(&self.records, key);
+        let was = member_at(&self.records, key);
+        let is_ready = has_messages(&self.records, key);
         set_at(&mut self.records, key, attributes);
-        let now = ready_at(&self.records, key);
-        renew(&mut self.ready, key, was, now);
-        let set = member_at(&self.records, key);
-        renew(&mut self.members, key, member, set);
+        let now = member_at(&self.records, key);
+        renew(&mut self.sets, key, was, now, is_ready);
     }
 
     // Says who holds a port's receive right now; the port leaves the lost and the doomed ones, and
@@ -554,6 +550,7 @@ impl<M: Message> Ports<M> {
 
     /// Says that a port's receive right was lost: nobody holds it, and the port is to be judged, as
     /// the last of those that were lost. Takes no memory. Constant time.
+    #[inline(always)]
     pub fn lose(&mut self, port: PortId)
         requires live { IsLive self.old port }
         requires held { (p : PortView M) → map.get self.old.ports port ≡ Some p → CanHold p.attributes.holder }
@@ -706,7 +703,7 @@ impl<M: Message> Ports<M> {
     {
         let key = key_of(&self.by_id, port).unwrap();
         let set = push_at(&mut self.records, key, &mut self.spare, message);
-        join(&mut self.ready, key, set);
+        ready(&mut self.sets, key, set);
     }
 
     /// Takes the message at the front of a port's queue; its slot is spare again. A port that has more
@@ -725,7 +722,7 @@ impl<M: Message> Ports<M> {
         let was = ready_at(&self.records, key);
         let message = pop_at(&mut self.records, key, &mut self.spare, blank);
         let now = ready_at(&self.records, key);
-        rejoin(&mut self.ready, key, was, now);
+        reready(&mut self.sets, key, was, now);
         Some(message)
     }
 
@@ -742,7 +739,7 @@ impl<M: Message> Ports<M> {
         if self.records[key].queue.is_empty() {
             return None;
         }
-        Some(take_at(&mut self.records, key, &mut self.ready, &mut self.spare))
+        Some(take_at(&mut self.records, key, &mut self.sets, &mut self.spare))
     }
 
     /// Moves the message at the front of a port's queue, in its slot, behind the destroyed ones, and
@@ -760,7 +757,7 @@ impl<M: Message> Ports<M> {
         let was = ready_at(&self.records, key);
         destroy_at(&mut self.records, key, &mut self.destroyed);
         let now = ready_at(&self.records, key);
-        rejoin(&mut self.ready, key, was, now);
+        reready(&mut self.sets, key, was, now);
         true
     }
 

@@ -1,33 +1,77 @@
 //! How a port leaves and joins the lists that it stands in by its key.
-ghost use Rattle.std.specs.Prelude.{◌≡◌, ◌<◌, ℕ, IsTrue, Some, None, IsSome, cond};
+ghost use Rattle.std.specs.Prelude.{◌≡◌, ◌<◌, ℕ, IsTrue, Option, Some, None, IsSome, cond};
+ghost use Rattle.std.specs.List.{Contains};
+ghost use Rattle.member_lists.specs.Lists.{list_of};
 ghost use Rattle.port.specs.Ready.{StandsIn, IsMoved, out_of, at_end};
 ghost use Rattle.port.specs.Turns.{same_set};
 
-use member_lists::{Lists, TwoLists};
+use member_lists::{MarkedLists, TwoLists};
 
-// Takes the port under the key out of the list of this set, if it stands in one.
+// Takes the port under the key out of this set, if it is in one; it isn't ready there.
 #[inline(always)]
-pub(crate) fn leave(lists: &mut Lists, key: usize, was: Option<u64>)
-    requires { StandsIn lists.old key was }
-    ensures moved { IsMoved lists.old lists.new key None }
-    ensures left { lists.new ≡ out_of lists.old key was }
+pub(crate) fn leave(sets: &mut MarkedLists, key: usize, was: Option<u64>)
+    requires was { StandsIn sets.old.all key was }
+    requires unready { StandsIn sets.old.marked key None }
+    ensures moved { IsMoved sets.old.all sets.new.all key None }
+    ensures ready { sets.new.marked ≡ sets.old.marked }
 {
     if let Some(set) = was {
-        lists.remove(set, key);
+        sets.remove(set, key);
     }
 }
 
-// Puts the port under the key at the end of the list of this set, if it joins one.
+// Puts the port under the key into this set, if it joins one.
 #[inline(always)]
-pub(crate) fn join(lists: &mut Lists, key: usize, now: Option<u64>)
-    requires room { key < lists.old.items }
-    requires apart { IsSome now → StandsIn lists.old key None }
-    ensures moved { StandsIn lists.old key None → IsMoved lists.old lists.new key now }
-    ensures joined { lists.new ≡ at_end lists.old key now }
+fn join(sets: &mut MarkedLists, key: usize, now: Option<u64>)
+    requires room { key < sets.old.all.items }
+    requires apart { StandsIn sets.old.all key None }
+    ensures moved { IsMoved sets.old.all sets.new.all key now }
+    ensures ready { sets.new.marked ≡ sets.old.marked }
 {
     if let Some(set) = now {
-        lists.push(set, key);
+        sets.push(set, key);
     }
+}
+
+// Takes the port under the key out of the ready ones of this set, if it is ready in one.
+#[inline(always)]
+fn unready(sets: &mut MarkedLists, key: usize, was: Option<u64>)
+    requires { StandsIn sets.old.marked key was }
+    ensures moved { IsMoved sets.old.marked sets.new.marked key None }
+    ensures left { sets.new.marked ≡ out_of sets.old.marked key was }
+    ensures members { sets.new.all ≡ sets.old.all }
+{
+    if let Some(set) = was {
+        sets.unmark(set, key);
+    }
+}
+
+// Puts the port under the key at the end of the ready ones of this set of its, if it gets ready in one.
+#[inline(always)]
+pub(crate) fn ready(sets: &mut MarkedLists, key: usize, now: Option<u64>)
+    requires member { (set : ℕ) → now ≡ Some set → Contains (list_of sets.old.all set) key }
+    requires apart { IsSome now → StandsIn sets.old.marked key None }
+    ensures moved { StandsIn sets.old.marked key None → IsMoved sets.old.marked sets.new.marked key now }
+    ensures joined { sets.new.marked ≡ at_end sets.old.marked key now }
+    ensures members { sets.new.all ≡ sets.old.all }
+{
+    if let Some(set) = now {
+        sets.mark(set, key);
+    }
+}
+
+// Takes the port under the key out of the ready ones of one set, and puts it at the end of those of
+// another or the same.
+#[inline(always)]
+pub(crate) fn reready(sets: &mut MarkedLists, key: usize, was: Option<u64>, now: Option<u64>)
+    requires member { (set : ℕ) → now ≡ Some set → Contains (list_of sets.old.all set) key }
+    requires was { StandsIn sets.old.marked key was }
+    ensures moved { IsMoved sets.old.marked sets.new.marked key now }
+    ensures turned { sets.new.marked ≡ at_end (out_of sets.old.marked key was) key now }
+    ensures members { sets.new.all ≡ sets.old.all }
+{
+    unready(&mut *sets, key, was);
+    ready(sets, key, now);
 }
 
 // Whether the two are the same number, or none.
@@ -44,29 +88,35 @@ pub(crate) fn is_same(one: Option<u64>, other: Option<u64>) -> bool
     }
 }
 
-// Takes the port under the key out of the list of one set, and puts it at the end of the list of
-// another or the same.
-#[inline(always)]
-pub(crate) fn rejoin(lists: &mut Lists, key: usize, was: Option<u64>, now: Option<u64>)
-    requires room { key < lists.old.items }
-    requires was { StandsIn lists.old key was }
-    ensures moved { IsMoved lists.old lists.new key now }
-    ensures turned { lists.new ≡ at_end (out_of lists.old key was) key now }
+// The set, where a port is ready.
+fn if_ready(is_ready: bool, set: Option<u64>) -> Option<u64>
+    ensures { result ≡ cond is_ready set None }
 {
-    leave(&mut *lists, key, was);
-    join(lists, key, now);
+    if is_ready { set } else { None }
 }
 
-// Puts the port under the key into the list of another set; it keeps its place in the same.
+// Puts the port under the key into another set, and at the end of that one's ready ones, where it is
+// ready; in the same it keeps its place.
 #[inline(always)]
-pub(crate) fn renew(lists: &mut Lists, key: usize, was: Option<u64>, now: Option<u64>)
-    requires room { key < lists.old.items }
-    requires was { StandsIn lists.old key was }
-    ensures moved { IsMoved lists.old lists.new key now }
-    ensures turned { lists.new ≡ cond (same_set was now) lists.old (at_end (out_of lists.old key was) key now) }
+pub(crate) fn renew(
+    sets: &mut MarkedLists,
+    key: usize,
+    was: Option<u64>,
+    now: Option<u64>,
+    is_ready: bool,
+)
+    requires room { key < sets.old.all.items }
+    requires was { StandsIn sets.old.all key was }
+    requires ready { StandsIn sets.old.marked key (cond is_ready was None) }
+    ensures moved { IsMoved sets.old.all sets.new.all key now }
+    ensures readied { IsMoved sets.old.marked sets.new.marked key (cond is_ready now None) }
+    ensures turned { sets.new.marked ≡ cond (same_set (cond is_ready was None) (cond is_ready now None)) sets.old.marked (at_end (out_of sets.old.marked key (cond is_ready was None)) key (cond is_ready now None)) }
 {
     if !is_same(was, now) {
-        rejoin(lists, key, was, now);
+        unready(&mut *sets, key, if_ready(is_ready, was));
+        leave(&mut *sets, key, was);
+        join(&mut *sets, key, now);
+        ready(sets, key, if_ready(is_ready, now));
     }
 }
 

@@ -1,6 +1,6 @@
 use Rattle.std.proofs.Common.{◌≡◌, ◌≢◌, ◌+◌, ◌<◌, ◌^◌, ℕ, Bool, false, cond, Option, Some, None, refl, ap, sym, ◌∙◌, List, [], length, max, subst, arith}
 use Rattle.std.specs.FinMap as map
-use Rattle.member_lists.specs.Lists.{ListsView}
+use Rattle.member_lists.specs.Lists.{MarkedView}
 use Rattle.number_map.specs.Maps.{MapView}
 use Rattle.slab.specs.Slab.{Slab, get}
 use Rattle.port.specs.declared.Attributes.{Attributes}
@@ -41,19 +41,19 @@ invariant_of-self-2 g c =
       sound = sound-came c.self.inside.records c.insert_reserved-key.new.self c.self.inside.by_id.map c.insert.new.self.map c.self.inside.next c.checked_add-self-inside.result c.self.inside.spare c.self.inside.destroyed c.self.inside.slots c.self.invariant.sound c.args.self.now c.self.view_is
           c.insert_reserved-key.result a vacant c.insert_reserved-key.ensures.updates.changed others (c.new-id.ensures ∙ sym number) (ap length c.new.ensures) put
           (made_more c.checked_add-self-inside.result c.unwrap-number.result c.checked_add-self-inside.ensures few ∙ ap (λ n. n + 1) (sym number)) (next_in_range c.checked_add-self-inside.result c.unwrap-number.result c.checked_add-self-inside.ensures);
-      readied = subst (λ w. IsReadied (get c.insert_reserved-key.new.self) w) (sym c.in_ok-reserve-2.ensures.ok)
-          (listed-came ready_set (get c.self.inside.records) (get c.insert_reserved-key.new.self) c.self.inside.ready c.self.invariant.readied c.insert_reserved-key.result a (max c.self.inside.ready.items c.capacity-keys.result) vacant
+      readied = subst (λ w. IsReadied (get c.insert_reserved-key.new.self) w) (sym (ap (λ (v : MarkedView). v.marked) c.in_ok-reserve-2.ensures.ok))
+          (listed-came ready_set (get c.self.inside.records) (get c.insert_reserved-key.new.self) c.self.inside.sets.marked c.self.invariant.readied c.insert_reserved-key.result a (max c.self.inside.sets.marked.items c.capacity-keys.result) vacant
           (record { changed = c.insert_reserved-key.ensures.updates.changed; others = others }) (ready_none a.queue a.kept.attributes.set (ap length c.new.ensures))
           (omega (arith, c.insert_reserved-key.ensures.key_in_range, c.insert_reserved-key.ensures.capacity, c.capacity-keys.ensures.value)) (omega arith));
-      membered = subst (λ w. IsMembered (get c.insert_reserved-key.new.self) w) (sym c.in_ok-reserve-3.ensures.ok)
-          (listed-came member_set (get c.self.inside.records) (get c.insert_reserved-key.new.self) c.self.inside.members c.self.invariant.membered c.insert_reserved-key.result a (max c.self.inside.members.items c.capacity-keys.result) vacant
+      membered = subst (λ w. IsMembered (get c.insert_reserved-key.new.self) w) (sym (ap (λ (v : MarkedView). v.all) c.in_ok-reserve-2.ensures.ok))
+          (listed-came member_set (get c.self.inside.records) (get c.insert_reserved-key.new.self) c.self.inside.sets.all c.self.invariant.membered c.insert_reserved-key.result a (max c.self.inside.sets.all.items c.capacity-keys.result) vacant
           (record { changed = c.insert_reserved-key.ensures.updates.changed; others = others }) (ap (λ (b : KeptView). b.attributes.set) kept_is)
           (omega (arith, c.insert_reserved-key.ensures.key_in_range, c.insert_reserved-key.ensures.capacity, c.capacity-keys.ensures.value)) (omega arith));
-      awaited = subst (λ w. IsAwaited (get c.insert_reserved-key.new.self) w) (sym c.in_ok-reserve-4.ensures.ok)
+      awaited = subst (λ w. IsAwaited (get c.insert_reserved-key.new.self) w) (sym c.in_ok-reserve-3.ensures.ok)
           (listed-came waiting_list (get c.self.inside.records) (get c.insert_reserved-key.new.self) c.self.inside.waiting c.self.invariant.awaited c.insert_reserved-key.result a (max c.self.inside.waiting.items c.capacity-keys.result) vacant
           (record { changed = c.insert_reserved-key.ensures.updates.changed; others = others }) (ap (λ (b : KeptView). waits_in b.attributes.holder) kept_is)
           (omega (arith, c.insert_reserved-key.ensures.key_in_range, c.insert_reserved-key.ensures.capacity, c.capacity-keys.ensures.value)) (omega arith));
-      are_noted = subst (λ w. IsNoted (get c.insert_reserved-key.new.self) w) (sym c.in_ok-reserve-5.ensures.ok)
+      are_noted = subst (λ w. IsNoted (get c.insert_reserved-key.new.self) w) (sym c.in_ok-reserve-4.ensures.ok)
           (listed-came noting_list (get c.self.inside.records) (get c.insert_reserved-key.new.self) c.self.inside.noted c.self.invariant.are_noted c.insert_reserved-key.result a (max c.self.inside.noted.items c.capacity-keys.result) vacant
           (record { changed = c.insert_reserved-key.ensures.updates.changed; others = others }) (ap (λ (b : KeptView). notes b.is_noted) kept_is)
           (omega (arith, c.insert_reserved-key.ensures.key_in_range, c.insert_reserved-key.ensures.capacity, c.capacity-keys.ensures.value)) (omega arith));
@@ -85,68 +85,61 @@ returns-clause-ok g c =
     view-came c.self.inside.records c.insert_reserved-key.new.self c.self.inside.by_id.map c.insert.new.self.map c.self.inside.next c.checked_add-self-inside.result c.self.inside.spare c.self.inside.destroyed c.self.inside.slots c.self.invariant.sound c.args.self.now c.self.view_is
     c.insert_reserved-key.result a vacant c.insert_reserved-key.ensures.updates.changed others (c.new-id.ensures ∙ sym number) (ap length c.new.ensures) put
     (made_more c.checked_add-self-inside.result c.unwrap-number.result c.checked_add-self-inside.ensures few ∙ ap (λ n. n + 1) (sym number)) (next_in_range c.checked_add-self-inside.result c.unwrap-number.result c.checked_add-self-inside.ensures)
-    (turns_at (get c.insert_reserved-key.new.self) c.reserve-2.new.self.lists)
-    (ap (λ (w : ListsView). turns_at (get c.insert_reserved-key.new.self) w.lists) c.in_ok-reserve-2.ensures.ok
-    ∙ turns-apart (get c.self.inside.records) (get c.insert_reserved-key.new.self) c.self.inside.ready c.insert_reserved-key.result (apart-vacant (get c.self.inside.records) ready_set c.self.inside.ready c.self.invariant.readied c.insert_reserved-key.result vacant) others)
-    (came-same c.self.inside.records c.self.inside.by_id.map c.self.inside.next c.self.inside.spare c.self.inside.destroyed c.self.inside.slots c.self.invariant.sound c.self.inside.waiting c.self.inside.noted c.args.self.now c.self.view_is c.self.invariant.awaited c.self.invariant.are_noted c.insert_reserved-key.new.self c.insert_reserved-key.result vacant others c.reserve-4.new.self c.reserve-5.new.self (max c.self.inside.waiting.items c.capacity-keys.result) (max c.self.inside.noted.items c.capacity-keys.result) c.in_ok-reserve-4.ensures.ok c.in_ok-reserve-5.ensures.ok)
+    (turns_at (get c.insert_reserved-key.new.self) c.reserve-2.new.self.marked.lists)
+    (ap (λ (v : MarkedView). turns_at (get c.insert_reserved-key.new.self) v.marked.lists) c.in_ok-reserve-2.ensures.ok
+    ∙ turns-apart (get c.self.inside.records) (get c.insert_reserved-key.new.self) c.self.inside.sets.marked c.insert_reserved-key.result (apart-vacant (get c.self.inside.records) ready_set c.self.inside.sets.marked c.self.invariant.readied c.insert_reserved-key.result vacant) others)
+    (came-same c.self.inside.records c.self.inside.by_id.map c.self.inside.next c.self.inside.spare c.self.inside.destroyed c.self.inside.slots c.self.invariant.sound c.self.inside.waiting c.self.inside.noted c.args.self.now c.self.view_is c.self.invariant.awaited c.self.invariant.are_noted c.insert_reserved-key.new.self c.insert_reserved-key.result vacant others c.reserve-3.new.self c.reserve-4.new.self (max c.self.inside.waiting.items c.capacity-keys.result) (max c.self.inside.noted.items c.capacity-keys.result) c.in_ok-reserve-3.ensures.ok c.in_ok-reserve-4.ensures.ok)
     ∙ ap (λ l. after l c.new-2.result.attributes) c.new.ensures ∙ ap (λ (b : KeptView). after [] b.attributes) c.new-2.ensures ∙ ap (after []) c.first.ensures
 
 pub invariant_of-self : goal.invariant_of-self
 invariant_of-self g c =
     kept-then c.self.inside.records c.reserve_record.new.records c.self.inside.by_id.map c.self.inside.by_id.map c.self.inside.next c.self.inside.spare c.self.inside.destroyed c.self.inside.slots
-    c.self.inside.ready c.self.inside.ready c.self.inside.members c.self.inside.members c.self.inside.waiting c.self.inside.waiting c.self.inside.noted c.self.inside.noted
-    c.self.inside.ready.items c.self.inside.members.items c.self.inside.waiting.items c.self.inside.noted.items c.reserve_record.ensures.rest_kept refl
+    c.self.inside.sets.marked c.self.inside.sets.marked c.self.inside.sets.all c.self.inside.sets.all c.self.inside.waiting c.self.inside.waiting c.self.inside.noted c.self.inside.noted
+    c.self.inside.sets.marked.items c.self.inside.sets.all.items c.self.inside.waiting.items c.self.inside.noted.items c.reserve_record.ensures.rest_kept refl
     refl refl refl refl (omega arith) (omega arith) (omega arith) (omega arith) c.self.invariant
 
 pub invariant_of-self-in_err-reserve : goal.invariant_of-self-in_err-reserve
 invariant_of-self-in_err-reserve g c =
     kept-then c.self.inside.records c.reserve_record.new.records c.self.inside.by_id.map c.reserve.new.self.map c.self.inside.next c.self.inside.spare c.self.inside.destroyed c.self.inside.slots
-    c.self.inside.ready c.self.inside.ready c.self.inside.members c.self.inside.members c.self.inside.waiting c.self.inside.waiting c.self.inside.noted c.self.inside.noted
-    c.self.inside.ready.items c.self.inside.members.items c.self.inside.waiting.items c.self.inside.noted.items c.reserve_record.ensures.rest_kept (ap (λ (w : MapView ℕ). w.map) c.in_err-reserve.ensures.err)
+    c.self.inside.sets.marked c.self.inside.sets.marked c.self.inside.sets.all c.self.inside.sets.all c.self.inside.waiting c.self.inside.waiting c.self.inside.noted c.self.inside.noted
+    c.self.inside.sets.marked.items c.self.inside.sets.all.items c.self.inside.waiting.items c.self.inside.noted.items c.reserve_record.ensures.rest_kept (ap (λ (w : MapView ℕ). w.map) c.in_err-reserve.ensures.err)
     refl refl refl refl (omega arith) (omega arith) (omega arith) (omega arith) c.self.invariant
 
 pub invariant_of-self-in_err-reserve-2 : goal.invariant_of-self-in_err-reserve-2
 invariant_of-self-in_err-reserve-2 g c =
     kept-then c.self.inside.records c.reserve_record.new.records c.self.inside.by_id.map c.reserve.new.self.map c.self.inside.next c.self.inside.spare c.self.inside.destroyed c.self.inside.slots
-    c.self.inside.ready c.reserve-2.new.self c.self.inside.members c.self.inside.members c.self.inside.waiting c.self.inside.waiting c.self.inside.noted c.self.inside.noted
-    c.self.inside.ready.items c.self.inside.members.items c.self.inside.waiting.items c.self.inside.noted.items c.reserve_record.ensures.rest_kept (ap (λ (w : MapView ℕ). w.map) c.in_ok-reserve.ensures.ok)
-    c.in_err-reserve-2.ensures.err refl refl refl (omega arith) (omega arith) (omega arith) (omega arith) c.self.invariant
+    c.self.inside.sets.marked c.reserve-2.new.self.marked c.self.inside.sets.all c.reserve-2.new.self.all c.self.inside.waiting c.self.inside.waiting c.self.inside.noted c.self.inside.noted
+    c.self.inside.sets.marked.items c.self.inside.sets.all.items c.self.inside.waiting.items c.self.inside.noted.items c.reserve_record.ensures.rest_kept (ap (λ (w : MapView ℕ). w.map) c.in_ok-reserve.ensures.ok)
+    (ap (λ (v : MarkedView). v.marked) c.in_err-reserve-2.ensures.err) (ap (λ (v : MarkedView). v.all) c.in_err-reserve-2.ensures.err) refl refl (omega arith) (omega arith) (omega arith) (omega arith) c.self.invariant
 
 pub invariant_of-self-in_err-reserve-3 : goal.invariant_of-self-in_err-reserve-3
 invariant_of-self-in_err-reserve-3 g c =
     kept-then c.self.inside.records c.reserve_record.new.records c.self.inside.by_id.map c.reserve.new.self.map c.self.inside.next c.self.inside.spare c.self.inside.destroyed c.self.inside.slots
-    c.self.inside.ready c.reserve-2.new.self c.self.inside.members c.reserve-3.new.self c.self.inside.waiting c.self.inside.waiting c.self.inside.noted c.self.inside.noted
-    (max c.self.inside.ready.items c.capacity-keys.result) c.self.inside.members.items c.self.inside.waiting.items c.self.inside.noted.items c.reserve_record.ensures.rest_kept (ap (λ (w : MapView ℕ). w.map) c.in_ok-reserve.ensures.ok)
-    c.in_ok-reserve-2.ensures.ok c.in_err-reserve-3.ensures.err refl refl (omega arith) (omega arith) (omega arith) (omega arith) c.self.invariant
+    c.self.inside.sets.marked c.reserve-2.new.self.marked c.self.inside.sets.all c.reserve-2.new.self.all c.self.inside.waiting c.reserve-3.new.self c.self.inside.noted c.self.inside.noted
+    (max c.self.inside.sets.marked.items c.capacity-keys.result) (max c.self.inside.sets.all.items c.capacity-keys.result) c.self.inside.waiting.items c.self.inside.noted.items c.reserve_record.ensures.rest_kept (ap (λ (w : MapView ℕ). w.map) c.in_ok-reserve.ensures.ok)
+    (ap (λ (v : MarkedView). v.marked) c.in_ok-reserve-2.ensures.ok) (ap (λ (v : MarkedView). v.all) c.in_ok-reserve-2.ensures.ok) c.in_err-reserve-3.ensures.err refl (omega arith) (omega arith) (omega arith) (omega arith) c.self.invariant
 
 pub invariant_of-self-in_err-reserve-4 : goal.invariant_of-self-in_err-reserve-4
 invariant_of-self-in_err-reserve-4 g c =
     kept-then c.self.inside.records c.reserve_record.new.records c.self.inside.by_id.map c.reserve.new.self.map c.self.inside.next c.self.inside.spare c.self.inside.destroyed c.self.inside.slots
-    c.self.inside.ready c.reserve-2.new.self c.self.inside.members c.reserve-3.new.self c.self.inside.waiting c.reserve-4.new.self c.self.inside.noted c.self.inside.noted
-    (max c.self.inside.ready.items c.capacity-keys.result) (max c.self.inside.members.items c.capacity-keys.result) c.self.inside.waiting.items c.self.inside.noted.items c.reserve_record.ensures.rest_kept (ap (λ (w : MapView ℕ). w.map) c.in_ok-reserve.ensures.ok)
-    c.in_ok-reserve-2.ensures.ok c.in_ok-reserve-3.ensures.ok c.in_err-reserve-4.ensures.err refl (omega arith) (omega arith) (omega arith) (omega arith) c.self.invariant
+    c.self.inside.sets.marked c.reserve-2.new.self.marked c.self.inside.sets.all c.reserve-2.new.self.all c.self.inside.waiting c.reserve-3.new.self c.self.inside.noted c.reserve-4.new.self
+    (max c.self.inside.sets.marked.items c.capacity-keys.result) (max c.self.inside.sets.all.items c.capacity-keys.result) (max c.self.inside.waiting.items c.capacity-keys.result) c.self.inside.noted.items c.reserve_record.ensures.rest_kept (ap (λ (w : MapView ℕ). w.map) c.in_ok-reserve.ensures.ok)
+    (ap (λ (v : MarkedView). v.marked) c.in_ok-reserve-2.ensures.ok) (ap (λ (v : MarkedView). v.all) c.in_ok-reserve-2.ensures.ok) c.in_ok-reserve-3.ensures.ok c.in_err-reserve-4.ensures.err (omega arith) (omega arith) (omega arith) (omega arith) c.self.invariant
 
-pub invariant_of-self-in_err-reserve-5 : goal.invariant_of-self-in_err-reserve-5
-invariant_of-self-in_err-reserve-5 g c =
-    kept-then c.self.inside.records c.reserve_record.new.records c.self.inside.by_id.map c.reserve.new.self.map c.self.inside.next c.self.inside.spare c.self.inside.destroyed c.self.inside.slots
-    c.self.inside.ready c.reserve-2.new.self c.self.inside.members c.reserve-3.new.self c.self.inside.waiting c.reserve-4.new.self c.self.inside.noted c.reserve-5.new.self
-    (max c.self.inside.ready.items c.capacity-keys.result) (max c.self.inside.members.items c.capacity-keys.result) (max c.self.inside.waiting.items c.capacity-keys.result) c.self.inside.noted.items c.reserve_record.ensures.rest_kept (ap (λ (w : MapView ℕ). w.map) c.in_ok-reserve.ensures.ok)
-    c.in_ok-reserve-2.ensures.ok c.in_ok-reserve-3.ensures.ok c.in_ok-reserve-4.ensures.ok c.in_err-reserve-5.ensures.err (omega arith) (omega arith) (omega arith) (omega arith) c.self.invariant
-
-pub returns-in_err-reserve-4-clause-err : goal.returns-in_err-reserve-4-clause-err
-returns-in_err-reserve-4-clause-err g c =
+pub returns-in_err-reserve-3-clause-err : goal.returns-in_err-reserve-3-clause-err
+returns-in_err-reserve-3-clause-err g c =
     on_err _ _ (view-then c.self.inside.records c.reserve_record.new.records c.self.inside.by_id.map c.reserve.new.self.map c.self.inside.next c.self.inside.spare c.self.inside.destroyed
-    c.self.inside.ready c.reserve-2.new.self (max c.self.inside.ready.items c.capacity-keys.result) c.in_ok-reserve-2.ensures.ok
-    c.self.inside.waiting c.reserve-4.new.self c.self.inside.waiting.items c.in_err-reserve-4.ensures.err
+    c.self.inside.sets.marked c.reserve-2.new.self.marked (max c.self.inside.sets.marked.items c.capacity-keys.result) (ap (λ (v : MarkedView). v.marked) c.in_ok-reserve-2.ensures.ok)
+    c.self.inside.waiting c.reserve-3.new.self c.self.inside.waiting.items c.in_err-reserve-3.ensures.err
     c.self.inside.noted c.self.inside.noted c.self.inside.noted.items refl
     c.reserve_record.ensures.rest_kept (ap (λ (w : MapView ℕ). w.map) c.in_ok-reserve.ensures.ok)
     ∙ c.self.view_is)
 
-pub returns-in_err-reserve-5-clause-err : goal.returns-in_err-reserve-5-clause-err
-returns-in_err-reserve-5-clause-err g c =
+pub returns-in_err-reserve-4-clause-err : goal.returns-in_err-reserve-4-clause-err
+returns-in_err-reserve-4-clause-err g c =
     on_err _ _ (view-then c.self.inside.records c.reserve_record.new.records c.self.inside.by_id.map c.reserve.new.self.map c.self.inside.next c.self.inside.spare c.self.inside.destroyed
-    c.self.inside.ready c.reserve-2.new.self (max c.self.inside.ready.items c.capacity-keys.result) c.in_ok-reserve-2.ensures.ok
-    c.self.inside.waiting c.reserve-4.new.self (max c.self.inside.waiting.items c.capacity-keys.result) c.in_ok-reserve-4.ensures.ok
-    c.self.inside.noted c.reserve-5.new.self c.self.inside.noted.items c.in_err-reserve-5.ensures.err
+    c.self.inside.sets.marked c.reserve-2.new.self.marked (max c.self.inside.sets.marked.items c.capacity-keys.result) (ap (λ (v : MarkedView). v.marked) c.in_ok-reserve-2.ensures.ok)
+    c.self.inside.waiting c.reserve-3.new.self (max c.self.inside.waiting.items c.capacity-keys.result) c.in_ok-reserve-3.ensures.ok
+    c.self.inside.noted c.reserve-4.new.self c.self.inside.noted.items c.in_err-reserve-4.ensures.err
     c.reserve_record.ensures.rest_kept (ap (λ (w : MapView ℕ). w.map) c.in_ok-reserve.ensures.ok)
     ∙ c.self.view_is)

@@ -32,8 +32,8 @@ invariant_of-self g c =
     record {
       sound = subst (λ (t : Slab (Record g.row.M.Denot)). IsSound t c.self.inside.by_id.map c.self.inside.next c.self.inside.spare c.self.inside.destroyed c.self.inside.slots) (sym (c.note_at.ensures r there.1))
           (sound-set c.self.inside.records c.self.inside.by_id.map c.self.inside.next c.self.inside.spare c.self.inside.spare c.self.inside.destroyed c.self.inside.slots c.self.invariant.sound c.args.self.now c.self.view_is c.args.port c.in-Some.key r a found there.1 refl refl);
-      readied = subst (λ (t : Slab (Record g.row.M.Denot)). IsReadied (get t) c.self.inside.ready) (sym (c.note_at.ensures r there.1)) (listed-stays ready_set c.self.inside.records c.self.inside.ready c.in-Some.key r a c.self.invariant.readied there.1 refl);
-      membered = subst (λ (t : Slab (Record g.row.M.Denot)). IsMembered (get t) c.self.inside.members) (sym (c.note_at.ensures r there.1)) (listed-stays member_set c.self.inside.records c.self.inside.members c.in-Some.key r a c.self.invariant.membered there.1 refl);
+      readied = subst (λ (t : Slab (Record g.row.M.Denot)). IsReadied (get t) c.self.inside.sets.marked) (sym (c.note_at.ensures r there.1)) (listed-stays ready_set c.self.inside.records c.self.inside.sets.marked c.in-Some.key r a c.self.invariant.readied there.1 refl);
+      membered = subst (λ (t : Slab (Record g.row.M.Denot)). IsMembered (get t) c.self.inside.sets.all) (sym (c.note_at.ensures r there.1)) (listed-stays member_set c.self.inside.records c.self.inside.sets.all c.in-Some.key r a c.self.invariant.membered there.1 refl);
       awaited = subst (λ (t : Slab (Record g.row.M.Denot)). IsAwaited (get t) c.self.inside.waiting) (sym (c.note_at.ensures r there.1)) (listed-stays waiting_list c.self.inside.records c.self.inside.waiting c.in-Some.key r a c.self.invariant.awaited there.1 refl);
       are_noted = subst (λ (t : Slab (Record g.row.M.Denot)). IsNoted (get t) c.join_two.new.lists) (sym (c.note_at.ensures r there.1)) (listed-set noting_list c.self.inside.records c.self.inside.noted c.join_two.new.lists c.in-Some.key r a c.self.invariant.are_noted there.1 c.join_two.ensures.moved);
     }
@@ -44,9 +44,9 @@ returns-then-is_none-clause-fresh g c live not =
     let there = record_at c.self.inside.records c.self.inside.by_id.map c.self.inside.next c.self.inside.spare c.self.inside.destroyed c.self.inside.slots c.self.invariant.sound c.args.self.now c.self.view_is c.args.port c.in-Some.key found in
     let r : Record g.row.M.Denot = there.0 in
     let a : Record g.row.M.Denot = record { id = r.id; queue = r.queue; kept = record { attributes = r.kept.attributes; is_noted = true } } in
-    let view : Slab (Record g.row.M.Denot) → PortsView g.row.M.Denot = λ t. record { ports = ports_of (get t) c.self.inside.by_id.map; ready = turns_at (get t) c.self.inside.ready.lists; made = made_of c.self.inside.next; spare = length c.self.inside.spare; destroyed = c.self.inside.destroyed; lost = ids_in (get t) c.self.inside.waiting lost_list; doomed = ids_in (get t) c.self.inside.waiting doomed_list; noted = ids_in (get t) c.join_two.new.lists noted_list } in
+    let view : Slab (Record g.row.M.Denot) → PortsView g.row.M.Denot = λ t. record { ports = ports_of (get t) c.self.inside.by_id.map; ready = turns_at (get t) c.self.inside.sets.marked.lists; made = made_of c.self.inside.next; spare = length c.self.inside.spare; destroyed = c.self.inside.destroyed; lost = ids_in (get t) c.self.inside.waiting lost_list; doomed = ids_in (get t) c.self.inside.waiting doomed_list; noted = ids_in (get t) c.join_two.new.lists noted_list } in
     ap view (c.note_at.ensures r there.1)
-    ∙ view-noted c.self.inside.records c.self.inside.by_id.map c.self.inside.next c.self.inside.spare c.self.inside.destroyed c.self.inside.slots c.self.invariant.sound c.self.inside.waiting c.self.inside.noted c.self.inside.ready c.args.self.now c.self.view_is c.args.port c.in-Some.key r a found there.1 refl refl c.join_two.new.lists (c.args.self.now.noted ++ c.args.port ∷ [])
+    ∙ view-noted c.self.inside.records c.self.inside.by_id.map c.self.inside.next c.self.inside.spare c.self.inside.destroyed c.self.inside.slots c.self.invariant.sound c.self.inside.waiting c.self.inside.noted c.self.inside.sets.marked c.args.self.now c.self.view_is c.args.port c.in-Some.key r a found there.1 refl refl c.join_two.new.lists (c.args.self.now.noted ++ c.args.port ∷ [])
     (ap (λ w. ids_in (get c.self.inside.records) w noted_list) c.join_two.ensures.joined
     ∙ ids-joined (get c.self.inside.records) c.self.inside.noted c.in-Some.key c.args.port (ap id_in there.1 ∙ there.2) noted_list
     ∙ ap (λ l. l ++ c.args.port ∷ []) (noted_now c.self.inside.records c.self.inside.by_id.map c.self.inside.next c.self.inside.spare c.self.inside.destroyed c.self.inside.slots c.self.invariant.sound c.self.inside.waiting c.self.inside.noted c.args.self.now c.self.view_is))

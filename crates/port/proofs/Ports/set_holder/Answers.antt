@@ -45,8 +45,8 @@ invariant_of-self g c =
     record {
       sound = subst (λ (t : Slab (Record g.row.M.Denot)). IsSound t c.self.inside.by_id.map c.self.inside.next c.self.inside.spare c.self.inside.destroyed c.self.inside.slots) (sym (c.hold_at-was.ensures.after r there.1))
           (sound-set c.self.inside.records c.self.inside.by_id.map c.self.inside.next c.self.inside.spare c.self.inside.spare c.self.inside.destroyed c.self.inside.slots c.self.invariant.sound c.args.self.now c.self.view_is c.args.port c.unwrap-key.result r a found there.1 refl refl);
-      readied = subst (λ (t : Slab (Record g.row.M.Denot)). IsReadied (get t) c.self.inside.ready) (sym (c.hold_at-was.ensures.after r there.1)) (listed-stays ready_set c.self.inside.records c.self.inside.ready c.unwrap-key.result r a c.self.invariant.readied there.1 refl);
-      membered = subst (λ (t : Slab (Record g.row.M.Denot)). IsMembered (get t) c.self.inside.members) (sym (c.hold_at-was.ensures.after r there.1)) (listed-stays member_set c.self.inside.records c.self.inside.members c.unwrap-key.result r a c.self.invariant.membered there.1 refl);
+      readied = subst (λ (t : Slab (Record g.row.M.Denot)). IsReadied (get t) c.self.inside.sets.marked) (sym (c.hold_at-was.ensures.after r there.1)) (listed-stays ready_set c.self.inside.records c.self.inside.sets.marked c.unwrap-key.result r a c.self.invariant.readied there.1 refl);
+      membered = subst (λ (t : Slab (Record g.row.M.Denot)). IsMembered (get t) c.self.inside.sets.all) (sym (c.hold_at-was.ensures.after r there.1)) (listed-stays member_set c.self.inside.records c.self.inside.sets.all c.unwrap-key.result r a c.self.invariant.membered there.1 refl);
       awaited = subst (λ (t : Slab (Record g.row.M.Denot)). IsAwaited (get t) c.rejoin_two.new.lists) (sym (c.hold_at-was.ensures.after r there.1)) (listed-set waiting_list c.self.inside.records c.self.inside.waiting c.rejoin_two.new.lists c.unwrap-key.result r a c.self.invariant.awaited there.1 moved);
       are_noted = subst (λ (t : Slab (Record g.row.M.Denot)). IsNoted (get t) c.self.inside.noted) (sym (c.hold_at-was.ensures.after r there.1)) (listed-stays noting_list c.self.inside.records c.self.inside.noted c.unwrap-key.result r a c.self.invariant.are_noted there.1 refl);
     }
@@ -58,7 +58,7 @@ returns-clause-held g c p h =
     let r : Record g.row.M.Denot = there.0 in
     let a : Record g.row.M.Denot = record { id = r.id; queue = r.queue; kept = record { attributes = held_by r.kept.attributes c.args.holder; is_noted = r.kept.is_noted } } in
     let is : p ≡ port_of r = is_port c.self.inside.records c.self.inside.by_id.map c.self.inside.next c.self.inside.spare c.self.inside.spare c.self.inside.destroyed c.self.inside.slots c.self.invariant.sound c.args.self.now c.self.view_is c.args.port c.unwrap-key.result r a found there.1 refl refl p h in
-    let view : Slab (Record g.row.M.Denot) → PortsView g.row.M.Denot = λ t. record { ports = ports_of (get t) c.self.inside.by_id.map; ready = turns_at (get t) c.self.inside.ready.lists; made = made_of c.self.inside.next; spare = length c.self.inside.spare; destroyed = c.self.inside.destroyed; lost = ids_in (get t) c.rejoin_two.new.lists lost_list; doomed = ids_in (get t) c.rejoin_two.new.lists doomed_list; noted = ids_in (get t) c.self.inside.noted noted_list } in
+    let view : Slab (Record g.row.M.Denot) → PortsView g.row.M.Denot = λ t. record { ports = ports_of (get t) c.self.inside.by_id.map; ready = turns_at (get t) c.self.inside.sets.marked.lists; made = made_of c.self.inside.next; spare = length c.self.inside.spare; destroyed = c.self.inside.destroyed; lost = ids_in (get t) c.rejoin_two.new.lists lost_list; doomed = ids_in (get t) c.rejoin_two.new.lists doomed_list; noted = ids_in (get t) c.self.inside.noted noted_list } in
     let after : PortView g.row.M.Denot → ℕ → PortsView g.row.M.Denot = λ q n. record {
       ports = map.insert c.args.self.now.ports c.args.port (let b : PortView g.row.M.Denot = record { queue = q.queue; attributes = held_by q.attributes c.args.holder } in b);
       ready = turned c.args.self.now.ready c.args.port (map.get c.args.self.now.ports c.args.port) (let b : PortView g.row.M.Denot = record { queue = q.queue; attributes = held_by q.attributes c.args.holder } in b);
@@ -71,8 +71,8 @@ returns-clause-held g c p h =
     } in
     let was : length c.self.inside.spare ≡ c.args.self.now.spare = ap (λ (b : PortsView g.row.M.Denot). b.spare) c.self.view_is in
     ap view (c.hold_at-was.ensures.after r there.1)
-    ∙ view-set c.self.inside.records c.self.inside.by_id.map c.self.inside.next c.self.inside.spare c.self.inside.spare c.self.inside.destroyed c.self.inside.slots c.self.invariant.sound c.args.self.now c.self.view_is c.args.port c.unwrap-key.result r a found there.1 refl refl (turns_at (get (with_value c.self.inside.records c.unwrap-key.result a)) c.self.inside.ready.lists)
-    (turned-same c.self.inside.records c.self.inside.by_id.map c.self.inside.next c.self.inside.spare c.self.inside.destroyed c.self.inside.slots c.self.invariant.sound c.self.inside.ready c.args.self.now c.self.view_is c.self.invariant.readied c.args.port c.unwrap-key.result r a found there.1 refl refl (omega arith))
+    ∙ view-set c.self.inside.records c.self.inside.by_id.map c.self.inside.next c.self.inside.spare c.self.inside.spare c.self.inside.destroyed c.self.inside.slots c.self.invariant.sound c.args.self.now c.self.view_is c.args.port c.unwrap-key.result r a found there.1 refl refl (turns_at (get (with_value c.self.inside.records c.unwrap-key.result a)) c.self.inside.sets.marked.lists)
+    (turned-same c.self.inside.records c.self.inside.by_id.map c.self.inside.next c.self.inside.spare c.self.inside.destroyed c.self.inside.slots c.self.invariant.sound c.self.inside.sets.marked c.args.self.now c.self.view_is c.self.invariant.readied c.args.port c.unwrap-key.result r a found there.1 refl refl (omega arith))
     (held-same c.self.inside.records c.self.inside.by_id.map c.self.inside.next c.self.inside.spare c.self.inside.destroyed c.self.inside.slots c.self.invariant.sound c.self.inside.waiting c.self.inside.noted c.args.self.now c.self.view_is c.unwrap-key.result r a there.1 refl c.self.invariant.awaited c.args.port found c.args.holder c.rejoin_two.new.lists
     (c.rejoin_two.ensures.turned ∙ ap (λ o. at_end (out_of c.self.inside.waiting c.unwrap-key.result o) c.unwrap-key.result c.hold_at-was.result.1) (c.hold_at-was.ensures.was r there.1)
     ∙ ap (at_end (out_of c.self.inside.waiting c.unwrap-key.result (waiting_list r)) c.unwrap-key.result) (c.hold_at-was.ensures.now)))

@@ -41,12 +41,12 @@ invariant_of-self g c =
     let a : Record g.row.M.Denot = record { id = r.id; queue = popped.0; kept = record { attributes = one_received r.kept.attributes; is_noted = r.kept.is_noted } } in
     let longer : length r.queue ≡ length (c.take_at.result ∷ popped.0) = ap length popped.1 in
     let more = c.take_at.ensures.spare in
-    let moved : IsMoved c.self.inside.ready c.take_at.new.ready c.in_ok-key.key (ready_set a) = c.take_at.ensures.moved r popped.0 there.1 popped.1 in
+    let moved : IsMoved c.self.inside.sets.marked c.take_at.new.sets.marked c.in_ok-key.key (ready_set a) = c.take_at.ensures.moved r popped.0 there.1 popped.1 in
     record {
       sound = subst (λ (t : Slab (Record g.row.M.Denot)). IsSound t c.self.inside.by_id.map c.self.inside.next c.take_at.new.spare c.self.inside.destroyed c.self.inside.slots) (sym popped.2)
           (sound-set c.self.inside.records c.self.inside.by_id.map c.self.inside.next c.self.inside.spare c.take_at.new.spare c.self.inside.destroyed c.self.inside.slots c.self.invariant.sound c.args.self.now c.self.view_is c.args.port c.in_ok-key.key r a found there.1 refl (omega arith));
-      readied = subst (λ (t : Slab (Record g.row.M.Denot)). IsReadied (get t) c.take_at.new.ready) (sym popped.2) (listed-set ready_set c.self.inside.records c.self.inside.ready c.take_at.new.ready c.in_ok-key.key r a c.self.invariant.readied there.1 moved);
-      membered = subst (λ (t : Slab (Record g.row.M.Denot)). IsMembered (get t) c.self.inside.members) (sym popped.2) (listed-stays member_set c.self.inside.records c.self.inside.members c.in_ok-key.key r a c.self.invariant.membered there.1 refl);
+      readied = subst (λ (t : Slab (Record g.row.M.Denot)). IsReadied (get t) c.take_at.new.sets.marked) (sym popped.2) (listed-set ready_set c.self.inside.records c.self.inside.sets.marked c.take_at.new.sets.marked c.in_ok-key.key r a c.self.invariant.readied there.1 moved);
+      membered = subst (λ w. IsMembered (get c.take_at.new.records) w) (sym c.take_at.ensures.members) (subst (λ (t : Slab (Record g.row.M.Denot)). IsMembered (get t) c.self.inside.sets.all) (sym popped.2) (listed-stays member_set c.self.inside.records c.self.inside.sets.all c.in_ok-key.key r a c.self.invariant.membered there.1 refl));
       awaited = subst (λ (t : Slab (Record g.row.M.Denot)). IsAwaited (get t) c.self.inside.waiting) (sym popped.2) (listed-stays waiting_list c.self.inside.records c.self.inside.waiting c.in_ok-key.key r a c.self.invariant.awaited there.1 refl);
       are_noted = subst (λ (t : Slab (Record g.row.M.Denot)). IsNoted (get t) c.self.inside.noted) (sym popped.2) (listed-stays noting_list c.self.inside.records c.self.inside.noted c.in_ok-key.key r a c.self.invariant.are_noted there.1 refl);
     }
@@ -73,7 +73,7 @@ returns-clause-taken g c p h =
     let longer : length r.queue ≡ length (c.take_at.result ∷ popped.0) = ap length popped.1 in
     let more = c.take_at.ensures.spare in
     let is : p ≡ port_of r = is_port c.self.inside.records c.self.inside.by_id.map c.self.inside.next c.self.inside.spare c.take_at.new.spare c.self.inside.destroyed c.self.inside.slots c.self.invariant.sound c.args.self.now c.self.view_is c.args.port c.in_ok-key.key r a found there.1 refl (omega arith) p h in
-    let view : Slab (Record g.row.M.Denot) → PortsView g.row.M.Denot = λ t. record { ports = ports_of (get t) c.self.inside.by_id.map; ready = turns_at (get t) c.take_at.new.ready.lists; made = made_of c.self.inside.next; spare = length c.take_at.new.spare; destroyed = c.self.inside.destroyed; lost = ids_in (get t) c.self.inside.waiting lost_list; doomed = ids_in (get t) c.self.inside.waiting doomed_list; noted = ids_in (get t) c.self.inside.noted noted_list } in
+    let view : Slab (Record g.row.M.Denot) → PortsView g.row.M.Denot = λ t. record { ports = ports_of (get t) c.self.inside.by_id.map; ready = turns_at (get t) c.take_at.new.sets.marked.lists; made = made_of c.self.inside.next; spare = length c.take_at.new.spare; destroyed = c.self.inside.destroyed; lost = ids_in (get t) c.self.inside.waiting lost_list; doomed = ids_in (get t) c.self.inside.waiting doomed_list; noted = ids_in (get t) c.self.inside.noted noted_list } in
     let after : List g.row.M.Denot → Attributes → ℕ → PortsView g.row.M.Denot = λ l b n. record {
       ports = map.insert c.args.self.now.ports c.args.port (let q : PortView g.row.M.Denot = record { queue = l; attributes = b } in q);
       ready = turned c.args.self.now.ready c.args.port (map.get c.args.self.now.ports c.args.port) (let q : PortView g.row.M.Denot = record { queue = l; attributes = b } in q);
@@ -87,9 +87,12 @@ returns-clause-taken g c p h =
     let was : length c.self.inside.spare ≡ c.args.self.now.spare = ap (λ (b : PortsView g.row.M.Denot). b.spare) c.self.view_is in
     let rest : popped.0 ≡ drop 1 p.queue = ap (λ (l : List g.row.M.Denot). drop 1 l) (sym popped.1 ∙ ap (λ (q : PortView g.row.M.Denot). q.queue) (sym is)) in
     ap view popped.2
-    ∙ view-set c.self.inside.records c.self.inside.by_id.map c.self.inside.next c.self.inside.spare c.take_at.new.spare c.self.inside.destroyed c.self.inside.slots c.self.invariant.sound c.args.self.now c.self.view_is c.args.port c.in_ok-key.key r a found there.1 refl (omega arith) (turns_at (get (with_value c.self.inside.records c.in_ok-key.key a)) c.take_at.new.ready.lists)
-    (turned-taken c.self.inside.records c.self.inside.by_id.map c.self.inside.next c.self.inside.spare c.self.inside.destroyed c.self.inside.slots c.self.invariant.sound c.self.inside.ready c.args.self.now c.self.view_is c.self.invariant.readied c.args.port c.in_ok-key.key r a found there.1 refl c.take_at.new.ready (omega arith) (c.take_at.ensures.turned r popped.0 there.1 popped.1))
+    ∙ view-set c.self.inside.records c.self.inside.by_id.map c.self.inside.next c.self.inside.spare c.take_at.new.spare c.self.inside.destroyed c.self.inside.slots c.self.invariant.sound c.args.self.now c.self.view_is c.args.port c.in_ok-key.key r a found there.1 refl (omega arith) (turns_at (get (with_value c.self.inside.records c.in_ok-key.key a)) c.take_at.new.sets.marked.lists)
+    (turned-taken c.self.inside.records c.self.inside.by_id.map c.self.inside.next c.self.inside.spare c.self.inside.destroyed c.self.inside.slots c.self.invariant.sound c.self.inside.sets.marked c.args.self.now c.self.view_is c.self.invariant.readied c.args.port c.in_ok-key.key r a found there.1 refl c.take_at.new.sets.marked (omega arith) (c.take_at.ensures.turned r popped.0 there.1 popped.1))
     (stay-same c.self.inside.records c.self.inside.by_id.map c.self.inside.next c.self.inside.spare c.self.inside.destroyed c.self.inside.slots c.self.invariant.sound c.self.inside.waiting c.self.inside.noted c.args.self.now c.self.view_is c.in_ok-key.key r a there.1 refl)
     ∙ ap (λ l. after l (one_received r.kept.attributes) (length c.take_at.new.spare)) rest
     ∙ ap (λ (q : PortView g.row.M.Denot). after (drop 1 p.queue) (one_received q.attributes) (length c.take_at.new.spare)) (sym is)
     ∙ ap (after (drop 1 p.queue) (one_received p.attributes)) (omega arith)
+
+pub take_at-requires-clause-member : goal.take_at-requires-clause-member
+take_at-requires-clause-member g c r set here is = (c.self.invariant.membered.stands c.in_ok-key.key r here).there set is

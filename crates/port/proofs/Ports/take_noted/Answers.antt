@@ -52,8 +52,8 @@ invariant_of-self g c =
     record {
       sound = subst (λ (t : Slab (Record g.row.M.Denot)). IsSound t c.self.inside.by_id.map c.self.inside.next c.self.inside.spare c.self.inside.destroyed c.self.inside.slots) (sym (c.note_at.ensures r there.1))
           (sound-set c.self.inside.records c.self.inside.by_id.map c.self.inside.next c.self.inside.spare c.self.inside.spare c.self.inside.destroyed c.self.inside.slots c.self.invariant.sound c.args.self.now c.self.view_is r.id c.in_ok-key.key r a found there.1 refl refl);
-      readied = subst (λ (t : Slab (Record g.row.M.Denot)). IsReadied (get t) c.self.inside.ready) (sym (c.note_at.ensures r there.1)) (listed-stays ready_set c.self.inside.records c.self.inside.ready c.in_ok-key.key r a c.self.invariant.readied there.1 refl);
-      membered = subst (λ (t : Slab (Record g.row.M.Denot)). IsMembered (get t) c.self.inside.members) (sym (c.note_at.ensures r there.1)) (listed-stays member_set c.self.inside.records c.self.inside.members c.in_ok-key.key r a c.self.invariant.membered there.1 refl);
+      readied = subst (λ (t : Slab (Record g.row.M.Denot)). IsReadied (get t) c.self.inside.sets.marked) (sym (c.note_at.ensures r there.1)) (listed-stays ready_set c.self.inside.records c.self.inside.sets.marked c.in_ok-key.key r a c.self.invariant.readied there.1 refl);
+      membered = subst (λ (t : Slab (Record g.row.M.Denot)). IsMembered (get t) c.self.inside.sets.all) (sym (c.note_at.ensures r there.1)) (listed-stays member_set c.self.inside.records c.self.inside.sets.all c.in_ok-key.key r a c.self.invariant.membered there.1 refl);
       awaited = subst (λ (t : Slab (Record g.row.M.Denot)). IsAwaited (get t) c.self.inside.waiting) (sym (c.note_at.ensures r there.1)) (listed-stays waiting_list c.self.inside.records c.self.inside.waiting c.in_ok-key.key r a c.self.invariant.awaited there.1 refl);
       are_noted = subst (λ (t : Slab (Record g.row.M.Denot)). IsNoted (get t) c.leave_two.new.lists) (sym (c.note_at.ensures r there.1)) (listed-set noting_list c.self.inside.records c.self.inside.noted c.leave_two.new.lists c.in_ok-key.key r a c.self.invariant.are_noted there.1 c.leave_two.ensures.moved);
     }
@@ -80,9 +80,9 @@ returns-clause-taken g c =
     let found : map.get c.self.inside.by_id.map r.id ≡ Some c.in_ok-key.key = c.self.invariant.sound.indexed.held c.in_ok-key.key r there.1 in
     let now : get c.note_at.new.records c.in_ok-key.key ≡ Some a = ap (λ (t : Slab (Record g.row.M.Denot)). get t c.in_ok-key.key) (c.note_at.ensures r there.1) ∙ (turns-set c.self.inside.records c.in_ok-key.key r a there.1).changed in
     let id : c.index.result.now.id ≡ r.id = ap (λ (b : Record g.row.M.Denot). b.id) (same_some c.index.result.now a (sym c.index.ensures ∙ now)) in
-    let view : Slab (Record g.row.M.Denot) → PortsView g.row.M.Denot = λ t. record { ports = ports_of (get t) c.self.inside.by_id.map; ready = turns_at (get t) c.self.inside.ready.lists; made = made_of c.self.inside.next; spare = length c.self.inside.spare; destroyed = c.self.inside.destroyed; lost = ids_in (get t) c.self.inside.waiting lost_list; doomed = ids_in (get t) c.self.inside.waiting doomed_list; noted = ids_in (get t) c.leave_two.new.lists noted_list } in
+    let view : Slab (Record g.row.M.Denot) → PortsView g.row.M.Denot = λ t. record { ports = ports_of (get t) c.self.inside.by_id.map; ready = turns_at (get t) c.self.inside.sets.marked.lists; made = made_of c.self.inside.next; spare = length c.self.inside.spare; destroyed = c.self.inside.destroyed; lost = ids_in (get t) c.self.inside.waiting lost_list; doomed = ids_in (get t) c.self.inside.waiting doomed_list; noted = ids_in (get t) c.leave_two.new.lists noted_list } in
     ap view (c.note_at.ensures r there.1)
-    ∙ view-noted c.self.inside.records c.self.inside.by_id.map c.self.inside.next c.self.inside.spare c.self.inside.destroyed c.self.inside.slots c.self.invariant.sound c.self.inside.waiting c.self.inside.noted c.self.inside.ready c.args.self.now c.self.view_is r.id c.in_ok-key.key r a found there.1 refl refl c.leave_two.new.lists (without c.index.result.now.id c.args.self.now.noted)
+    ∙ view-noted c.self.inside.records c.self.inside.by_id.map c.self.inside.next c.self.inside.spare c.self.inside.destroyed c.self.inside.slots c.self.invariant.sound c.self.inside.waiting c.self.inside.noted c.self.inside.sets.marked c.args.self.now c.self.view_is r.id c.in_ok-key.key r a found there.1 refl refl c.leave_two.new.lists (without c.index.result.now.id c.args.self.now.noted)
     (ap (λ w. ids_in (get c.self.inside.records) w noted_list) (c.leave_two.ensures.left ∙ ap (out_of c.self.inside.noted c.in_ok-key.key) (sym home))
     ∙ ids-out (get c.self.inside.records) noting_list c.self.inside.noted c.self.invariant.are_noted c.self.inside.by_id.map (made_of c.self.inside.next) c.self.invariant.sound.indexed r.id c.in_ok-key.key r found there.1 noted_list
     ∙ ap (without r.id) (noted_now c.self.inside.records c.self.inside.by_id.map c.self.inside.next c.self.inside.spare c.self.inside.destroyed c.self.inside.slots c.self.invariant.sound c.self.inside.waiting c.self.inside.noted c.args.self.now c.self.view_is)

@@ -8,5 +8,8 @@ use Rattle.port.proofs.by_key.take_at.Goals as goal
 pub returns-clause-moved : goal.returns-clause-moved
 returns-clause-moved g c r rest h q =
     let same : c.index_mut-record.result.now ≡ r = same_some c.index_mut-record.result.now r (sym c.index_mut-record.ensures.value ∙ h) in
-    let behind = c.ready_behind-now.ensures c.pop.result rest (ap (λ (a : Record g.row.M.Denot). a.queue) same ∙ q) ∙ ap (λ (a : Record g.row.M.Denot). ready_if rest a.kept.attributes.set) same in
-    subst (λ o. IsMoved c.args.ready.now c.rejoin.new.lists c.args.key o) behind c.rejoin.ensures.moved
+    let behind = c.ready_behind-now.ensures.value c.pop.result rest (ap (λ (a : Record g.row.M.Denot). a.queue) same ∙ q) ∙ ap (λ (a : Record g.row.M.Denot). ready_if rest a.kept.attributes.set) same in
+    subst (λ o. IsMoved c.args.sets.now.marked c.reready.new.sets.marked c.args.key o) behind c.reready.ensures.moved
+
+pub reready-requires-clause-member : goal.reready-requires-clause-member
+reready-requires-clause-member g c set is = c.requires.member c.index_mut-record.result.now set c.index_mut-record.ensures.value (c.ready_behind-now.ensures.member set is)
