@@ -232,12 +232,9 @@ fn make_port(world: &mut World, task: TaskId) -> Result<PortId, AllocError>
     ensures err { OnErr result (world.new ≡ world.old) }
 {
     let id = world.ports.next_id();
-    world.ledger.enter(id)?;
+    world.ledger.enter(id, RightKind::Receive)?;
     match world.ports.allocate(task) {
-        Ok(port) => {
-            world.ledger.make(port, RightKind::Receive, 1).unwrap();
-            Ok(port)
-        }
+        Ok(port) => Ok(port),
         Err(error) => {
             world.ledger.leave(id);
             Err(error)

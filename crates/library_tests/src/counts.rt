@@ -39,7 +39,7 @@ fn shift(ledger: &mut Ledger, port: PortId) -> bool {
 
 /// Whether all rights that there can be are made, and none beyond.
 fn all_are_made(ledger: &mut Ledger, port: PortId) -> bool {
-    make(ledger, port, RightKind::Receive, 1)
+    has(ledger, port, RightKind::Receive, 1)
         && make(ledger, port, RightKind::SendOnce, 2)
         && !make(ledger, port, RightKind::Send, u32::MAX - 2)
         && make(ledger, port, RightKind::Send, u32::MAX - 3)
@@ -66,8 +66,9 @@ fn all_go(ledger: &mut Ledger, port: PortId) -> bool {
 }
 
 fn are_counted(ledger: &mut Ledger, port: PortId) -> bool {
-    ledger.counts(port).is_none()
-        && ledger.enter(port).is_ok()
+    ledger.total() == 0
+        && ledger.counts(port).is_none()
+        && ledger.enter(port, RightKind::Receive).is_ok()
         && all_are_made(ledger, port)
         && once_rights_go(ledger, port)
         && all_go(ledger, port)

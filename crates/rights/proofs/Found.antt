@@ -1,14 +1,17 @@
 -- What the counts of a port are among all.
-use Rattle.std.proofs.Common.{◌≡◌, ℕ, ◌+◌, ◌≤◌, ◌<◌, ◌^◌, true, false, refl, ap, sym, ◌∙◌, Option, Some, None, is_some, arith}
+use Rattle.std.proofs.Common.{◌≡◌, inl, inr, ℕ, ◌+◌, ◌≤◌, ◌<◌, ◌^◌, Bool, true, false, cond, eqb, refl, ap, sym, subst, ◌∙◌, Option, Some, None, is_some, arith}
 use Rattle.std.specs.Option.{unwrap_or, option_map}
 use Rattle.std.specs.FinMap as map
+use Rattle.std.specs.Ordering.{nat_cmp, eq_by_cmp}
+use Rattle.std.specs.Cmp.{nat_cmp_total, unsigned_tied}
+use Rattle.std.proofs.lemmas.Bool.Decides.{eqb_tells}
 use Rattle.std.proofs.lemmas.List.Sums.{sum_by-le-sum_by}
 use Rattle.rights.specs.declared.Counts.{Counts}
 use Rattle.rights.specs.declared.RightKind.{RightKind}
 use Rattle.rights.specs.declared.RightKind.TheVariants.{Receive, Send, SendOnce, Destination}
-use Rattle.rights.specs.Counts.{no_rights, unused_of, all_of}
+use Rattle.rights.specs.Counts.{no_rights, with_more, unused_of, all_of}
 use Rattle.rights.specs.Counted.{IsCounted}
-use Rattle.rights.specs.Ledger.{LedgerView, IsEntered, counts_of}
+use Rattle.rights.specs.Ledger.{LedgerView, IsEntered, counts_of, made, entered as entered_in}
 use Rattle.rights.proofs.Sums.{Counted, sum_over, sum-empty, sum-insert, sum-remove}
 
 some_unwrapped : {X : Type 0} (o : Option X) (d : X) → is_some o ≡ true → o ≡ Some (unwrap_or o d)
@@ -60,6 +63,25 @@ module _ (m : Counted) (total unused : ℕ) (counted : IsCounted m total unused)
       once_counted = let s = sum-lent c once_of in omega (arith, s, once, counted.once_counted);
     }
 
+-- ---- a port's counts are put in twice
+
+cond_twice : {X : Type 0} (b : Bool) (x y z : X) → cond b x (cond b y z) ≡ cond b x z
+cond_twice true x y z = refl
+cond_twice false x y z = refl
+
+twice : (m : Counted) (k : ℕ) (a b : Counts) → map.insert (map.insert m k a) k b ≡ map.insert m k b
+twice m k a b = map.same_map nat_cmp_total map.nat_cmp-IsAntisymmetric _ _ (λ q.
+    map.get-insert nat_cmp_total (map.insert m k a) k b q
+    ∙ ap (λ o. cond (eq_by_cmp nat_cmp q k) (Some b) o) (map.get-insert nat_cmp_total m k a q)
+    ∙ cond_twice (eq_by_cmp nat_cmp q k) (Some b) (Some a) (map.get m q)
+    ∙ sym (map.get-insert nat_cmp_total m k b q))
+
+put_here : (m : Counted) (k : ℕ) (a : Counts) → map.get (map.insert m k a) k ≡ Some a
+put_here m k a = map.get-insert nat_cmp_total m k a k ∙ ap (λ b. cond b (Some a) (map.get m k)) (unsigned_tied k k ∙ same k)
+  where
+    same : (q : ℕ) → eqb q q ≡ true
+    same q = elim (eqb_tells q q) [ inl h ↦ h.0 | inr h ↦ absurd (h.1 refl) ]
+
 module _ (m : Counted) (total unused : ℕ) (counted : IsCounted m total unused) (l : LedgerView) (view_is : record { counts = m; total = total; unused = unused } ≡ l) (port : ℕ) where
   pub get_is : map.get m port ≡ map.get l.counts port
   get_is = ap (λ (v : LedgerView). map.get v.counts port) view_is
@@ -84,6 +106,22 @@ module _ (m : Counted) (total unused : ℕ) (counted : IsCounted m total unused)
     all_counted = no_more none all_of refl n e ∙ counted.all_counted;
     once_counted = no_more none once_of refl n e ∙ counted.once_counted;
   }
+
+  -- with its first right
+  module _ (none : map.get l.counts port ≡ None) (kind : RightKind) (c : Counts) (n : Counted) (put : n ≡ map.insert m port c) where
+    pub counted-first : (then then_unused : ℕ) → then ≡ total + all_of c → then_unused ≡ unused + c.send_once → IsCounted n then then_unused
+    counted-first then then_unused balance once =
+        let entered = counted-entered none (map.insert m port no_rights) refl in
+        let first = counted-lent (map.insert m port no_rights) total unused entered port no_rights (put_here m port no_rights) c then then_unused (omega (arith, balance)) (omega (arith, once)) in
+        subst (λ (x : Counted). IsCounted x then then_unused) (twice m port no_rights c ∙ sym put) first
+
+    pub first-made : c ≡ with_more kind 1 no_rights → (u : ℕ) → u ≡ unused_of kind 1 → ◌≡◌ {A = LedgerView} (record { counts = n; total = total + 1; unused = unused + u }) (made (entered_in l port) port kind 1)
+    first-made more u u_is =
+        ap (λ (x : Counted). let v : LedgerView = record { counts = x; total = total + 1; unused = unused + u } in v)
+        (put ∙ sym (twice m port no_rights c)
+        ∙ ap (map.insert (map.insert m port no_rights) port) (more ∙ ap (λ o. with_more kind 1 (unwrap_or o no_rights)) (sym (put_here m port no_rights))))
+        ∙ ap (λ w. let v : LedgerView = record { counts = map.insert (map.insert m port no_rights) port (with_more kind 1 (unwrap_or (map.get (map.insert m port no_rights) port) no_rights)); total = total + 1; unused = unused + w } in v) u_is
+        ∙ ap (λ (v : LedgerView). made (entered_in v port) port kind 1) view_is
 
   -- without the port
   with_none : IsEntered l port → (f : Counts → ℕ) (n : Counted) → n ≡ map.remove m port → sum_over f n + f (counts_of l port) ≡ sum_over f m

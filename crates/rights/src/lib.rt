@@ -163,18 +163,23 @@ impl Ledger {
         }
     }
 
-    /// Enters a port, which has no rights yet. Constant time, but where all counts
+    /// Enters a port with its first right, which is of this kind. Constant time, but where all counts
     /// move to a larger place.
     ///
     /// An error means that memory was refused; the ledger is then as before. Nothing else here but
     /// this takes memory.
-    pub fn enter(&mut self, port: PortId) -> Result<(), AllocError>
-        requires { map.get self.old.counts port ≡ None }
-        ensures ok { OnOk result (self.new ≡ entered self.old port) }
+    pub fn enter(&mut self, port: PortId, first: RightKind) -> Result<(), AllocError>
+        requires absent { map.get self.old.counts port ≡ None }
+        requires few { self.old.total < most_rights }
+        ensures ok { OnOk result (self.new ≡ made (entered self.old port) port first 1) }
         ensures err { OnErr result (self.new ≡ self.old) }
     {
         self.ports.reserve(1)?;
-        self.ports.insert(port.number(), Counts::none());
+        let mut counts = Counts::none();
+        counts.add(first, 1);
+        self.ports.insert(port.number(), counts);
+        self.total += 1;
+        self.unused += unused_of(first, 1);
         Ok(())
     }
 

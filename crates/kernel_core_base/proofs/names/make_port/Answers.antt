@@ -1,4 +1,4 @@
-use Rattle.std.proofs.Common.{◌≡◌, ℕ, None, OnOk, sym, ap, subst, ◌∙◌}
+use Rattle.std.proofs.Common.{◌≡◌, ℕ, None, sym, ap, ◌∙◌}
 use Rattle.std.specs.FinMap as map
 use Rattle.port.specs.Ports.{PortsView}
 use Rattle.rights.specs.declared.RightKind.TheVariants as right
@@ -7,21 +7,18 @@ use Rattle.copyin_base.specs.Kept.{Kept}
 use Rattle.copyin_base.specs.Worlds.{WorldView}
 use Rattle.copyin_base.proofs.Written.{tables, made_given, made_written}
 use Rattle.kernel_core_base.specs.Names.{first_port}
-use Rattle.kernel_core_base.proofs.Entered.{entered_there, entered_and_left}
+use Rattle.kernel_core_base.proofs.Entered.{came_there, came_and_left}
 use Rattle.kernel_core_base.proofs.names.make_port.Goals as goal
 
-pub make-requires : goal.make-requires
-make-requires c = entered_there _ _ c.next_id-id.result c.in-Ok.port c.in_ok-enter.ensures.ok (c.in-Ok.ensures.identity ∙ sym c.next_id-id.ensures)
-
 pub leave-requires : goal.leave-requires
-leave-requires c = entered_there _ _ c.next_id-id.result c.next_id-id.result c.in_ok-enter.ensures.ok (λ i. c.next_id-id.result)
+leave-requires c = came_there _ _ c.next_id-id.result c.in_ok-enter.ensures.ok
 
 pub returns-in-Err-clause-err : goal.returns-in-Err-clause-err
 returns-in-Err-clause-err c =
     let none : map.get c.world.inside.ledger.counts c.next_id-id.result ≡ None =
     ap (map.get c.world.inside.ledger.counts) c.next_id-id.ensures ∙ ap (λ (w : WorldView). map.get w.ledger.counts w.ports.made) c.world.view_is ∙ c.requires.unknown in
     let ledger : c.leave.new.self ≡ c.world.inside.ledger =
-    c.leave.ensures.after ∙ ap (λ l. left l c.next_id-id.result) c.in_ok-enter.ensures.ok ∙ entered_and_left c.world.inside.ledger c.next_id-id.result none in
+    c.leave.ensures.after ∙ ap (λ l. left l c.next_id-id.result) c.in_ok-enter.ensures.ok ∙ came_and_left c.world.inside.ledger c.next_id-id.result none in
     ap (λ (x : PortsView Kept). tables c.world.inside.spaces.items x c.leave.new.self c.world.inside.sets c.world.inside.requests) c.in-Err.ensures.err
     ∙ ap (λ (x : LedgerView). tables c.world.inside.spaces.items c.world.inside.ports x c.world.inside.sets c.world.inside.requests) ledger ∙ c.world.view_is
 
@@ -33,11 +30,9 @@ invariant_of-world-in-Ok c =
 pub returns-in-Ok-clause-ok : goal.returns-in-Ok-clause-ok
 returns-in-Ok-clause-ok c =
     let old : WorldView = c.args.world.now in
-    let counted : c.make.new.self ≡ made c.enter.new.self c.in-Ok.port right.Receive 1 = subst (λ r. OnOk r (c.make.new.self ≡ made c.enter.new.self c.in-Ok.port right.Receive 1)) c.unwrap.ensures c.make.ensures.ok in
-    let ledger : c.make.new.self ≡ made (entered old.ledger old.ports.made) old.ports.made right.Receive 1 =
-    counted ∙ ap (λ (l : LedgerView). made l c.in-Ok.port right.Receive 1) c.in_ok-enter.ensures.ok
-    ∙ ap (λ (n : ℕ). made (entered c.world.inside.ledger n) c.in-Ok.port right.Receive 1) c.next_id-id.ensures
-    ∙ ap (λ (n : ℕ). made (entered c.world.inside.ledger c.world.inside.ports.made) n right.Receive 1) c.in-Ok.ensures.identity
+    let ledger : c.enter.new.self ≡ made (entered old.ledger old.ports.made) old.ports.made right.Receive 1 =
+    c.in_ok-enter.ensures.ok
+    ∙ ap (λ (n : ℕ). made (entered c.world.inside.ledger n) n right.Receive 1) c.next_id-id.ensures
     ∙ ap (λ (w : WorldView). made (entered w.ledger w.ports.made) w.ports.made right.Receive 1) c.world.view_is in (
       c.in-Ok.ensures.identity ∙ ap (λ (w : WorldView). w.ports.made) c.world.view_is,
       ap (λ (l : LedgerView). tables c.world.inside.spaces.items c.allocate.new.self l c.world.inside.sets c.world.inside.requests) ledger
