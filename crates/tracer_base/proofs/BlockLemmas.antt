@@ -8,12 +8,12 @@ use Rattle.tracer_base.specs.declared.blocks.MessageCall.{MessageCall}
 use Rattle.tracer_base.specs.declared.blocks.ScriptLine.{ScriptLine}
 use Rattle.tracer_base.specs.declared.blocks.ScriptLine.TheVariants.{Call, Message, Thread}
 use Rattle.tracer_base.specs.Blocks.{FitsSaid, FitsMessage, message_arguments, said_words, said_text}
-use Rattle.tracer_base.specs.Calls.{call_word, call_arguments}
+use Rattle.tracer_base.specs.Calls.{Fits, call_word, call_arguments}
 use Rattle.tracer_base.specs.Text.{bytes_text}
 use Rattle.tracer_base.specs.Words.{IsWord, line, words}
 use Rattle.tracer_base.proofs.CallLemmas.{none, before, number, one, plain-call, is_plain-call_word}
 use Rattle.tracer_base.proofs.HexLemmas.{IsWord-bytes_text}
-use Rattle.tracer_base.proofs.WordLemmas.{is_plain, IsWord-plain, line-words, words-line}
+use Rattle.tracer_base.proofs.WordLemmas.{first_word, is_plain, IsWord-plain, line-words, words-line}
 
 -- the first word of a line, and the others
 abbrev pub said_word : ScriptLine → List ℕ
@@ -144,3 +144,21 @@ pub same_room : (call other : MessageCall) (left found : List (List ℕ)) → ca
 same_room call other left found small small_too read spelled =
     let same : decimal call.room ≡ decimal other.room = cc in
     decimal_injective call.room other.room (omega arith) (omega arith) same
+
+-- a line whose first word begins no block and no message call says a call
+pub call_of : (said : ScriptLine) (word : List ℕ) (left : List (List ℕ)) (text : List ℕ) → FitsSaid said → said_text said ≡ text → word ∷ left ≡ words text → (codes "thread" ≡ word → ⊥) → (codes "msg" ≡ word → ⊥)
+    → (event : Event) × Fits event × (call_word event ≡ word) × (call_arguments event ≡ left)
+call_of (Call event) word left text fits same split no_thread no_message =
+    let parts = first_word (call_word event) word (call_arguments event) left (said_split (Call event) text fits same ∙ sym split) in
+    (event, fits, parts.0, parts.1)
+call_of (Message call) word left text fits same split no_thread no_message =
+    absurd (no_message (first_word (codes "msg") word (message_arguments call) left (said_split (Message call) text fits same ∙ sym split)).0)
+call_of (Thread number) word left text fits same split no_thread no_message =
+    absurd (no_thread (first_word (codes "thread") word (decimal number ∷ []) left (said_split (Thread number) text fits same ∙ sym split)).0)
+
+-- a word with this second letter begins no block and no message call
+pub no_block : (word : List ℕ) → slice_index word 1 ≡ 101 → (codes "thread" ≡ word → ⊥) × (codes "msg" ≡ word → ⊥)
+no_block word second = (
+  λ same. eqb-false 104 101 refl (ap (λ (w : List ℕ). slice_index w 1) same ∙ second),
+  λ same. eqb-false 115 101 refl (ap (λ (w : List ℕ). slice_index w 1) same ∙ second),
+)

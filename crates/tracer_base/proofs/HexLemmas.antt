@@ -3,7 +3,7 @@ use Rattle.std.proofs.Common.{◌≡◌, ℕ, ◌+◌, ◌-◌, ◌*◌, ◌<◌
 use Rattle.std.specs.Int.{w32, to_be_bytes, from_be_bytes}
 use Rattle.std.proofs.lemmas.Bool.Decides.{nat_tests}
 use Rattle.std.proofs.lemmas.List.Elements.{All-nil, All-cons, All-head, All-tail}
-use Rattle.std.proofs.lemmas.List.{nil_from_length, take_more, length-take-le}
+use Rattle.std.proofs.lemmas.List.{nil_from_length, take_more, length-append, length-take-le}
 use Rattle.std.proofs.lemmas.List.FromFn.{get_or-map-range_with_len}
 use Rattle.std.specs.List.{range_with_len}
 use Rattle.tracer_base.specs.declared.hexadecimal.TheConstants.{PAIRS, VALUES}
@@ -37,9 +37,9 @@ low_in_pairs byte small =
     let half : (2 * byte + 1) / 2 ≡ byte = omega arith in
     pair_at (2 * byte + 1) (omega arith) ∙ rw (odd, half) refl
 
--- the value of the digit of this code, 255 where it is no digit's
+-- the value of the digit of this code, 256 where it is no digit's
 abbrev pub digit_value : ℕ → ℕ
-digit_value code = if nat_lt code 48 then 255 else (if nat_lt code 58 then code - 48 else (if nat_lt code 97 then 255 else (if nat_lt code 103 then code - 87 else 255)))
+digit_value code = if nat_lt code 48 then 256 else (if nat_lt code 58 then code - 48 else (if nat_lt code 97 then 256 else (if nat_lt code 103 then code - 87 else 256)))
 
 values_rule : VALUES ≡ map digit_value (range_with_len 0 256)
 values_rule = refl
@@ -53,26 +53,36 @@ digit_value-spelled code value is small = grind (arith, nat_tests)
 pub digit_value-hex_digit : (code value : ℕ) → value < 16 → hex_digit value ≡ code → digit_value code ≡ value
 digit_value-hex_digit code value small is = grind (arith, nat_tests)
 
+pub digit_value-small : (code : ℕ) → digit_value code < 256 → digit_value code < 16
+digit_value-small code small = grind (arith, nat_tests)
+
+pub digit_value-most : (code : ℕ) → digit_value code ≤ 256
+digit_value-most code = grind (arith, nat_tests)
+
 -- one more byte's digits behind those of the bytes before it
-pub digits_more : (bytes : List ℕ) (i byte : ℕ) (so_far now : List ℕ) → i < length bytes → get_or bytes i 0 ≡ byte → so_far ≡ hex_digits (take i bytes)
-    → now ≡ (so_far ++ hex_digit (byte / 16) ∷ []) ++ hex_digit (byte % 16) ∷ [] → now ≡ hex_digits (take (i + 1) bytes)
-digits_more bytes i byte so_far now low here before made =
+pub digits_more : (start bytes : List ℕ) (i byte : ℕ) (so_far now : List ℕ) → i < length bytes → get_or bytes i 0 ≡ byte → so_far ≡ start ++ hex_digits (take i bytes)
+    → now ≡ (so_far ++ hex_digit (byte / 16) ∷ []) ++ hex_digit (byte % 16) ∷ [] → now ≡ start ++ hex_digits (take (i + 1) bytes)
+digits_more start bytes i byte so_far now low here before made =
     let split : hex_digits (take (i + 1) bytes) ≡ hex_digits (take i bytes) ++ hex_digits (get_or bytes i 0 ∷ []) =
     ap hex_digits (take_more bytes i 0 low) ∙ hex_digits-append (take i bytes) (get_or bytes i 0 ∷ []) in
-    let same : so_far ++ hex_digits (byte ∷ []) ≡ hex_digits (take (i + 1) bytes) =
-    ap (λ t. t ++ hex_digits (byte ∷ [])) before ∙ ap (λ n. hex_digits (take i bytes) ++ hex_digits (n ∷ [])) (sym here) ∙ sym split in
-    made ∙ append_assoc so_far (hex_digit (byte / 16) ∷ []) (hex_digit (byte % 16) ∷ []) ∙ same
+    let same : hex_digits (take i bytes) ++ hex_digits (byte ∷ []) ≡ hex_digits (take (i + 1) bytes) =
+    ap (λ n. hex_digits (take i bytes) ++ hex_digits (n ∷ [])) (sym here) ∙ sym split in
+    made ∙ append_assoc so_far (hex_digit (byte / 16) ∷ []) (hex_digit (byte % 16) ∷ [])
+    ∙ ap (λ t. t ++ hex_digits (byte ∷ [])) before
+    ∙ append_assoc start (hex_digits (take i bytes)) (hex_digits (byte ∷ []))
+    ∙ ap (λ t. start ++ t) same
 
 pub length-hex_digits : (bytes : List ℕ) → length (hex_digits bytes) ≡ 2 * length bytes
 length-hex_digits [] = refl
 length-hex_digits (byte ∷ bytes) = let inner = length-hex_digits bytes in omega (arith, inner)
 
--- two digits more than those of the bytes before one of a block fit the block's
-pub digits_fit : (bytes : List ℕ) (i : ℕ) (digits : List ℕ) → i < length bytes → length bytes ≤ 32 → digits ≡ hex_digits (take i bytes) → length digits + 2 ≤ 64
-digits_fit bytes i digits low block before =
-    let count = ap length before ∙ length-hex_digits (take i bytes) in
+-- two digits more than those of the bytes before one of a block fit where the block's fit
+pub digits_fit : (start bytes : List ℕ) (i : ℕ) (digits : List ℕ) → i < length bytes → length start + 2 * length bytes ≤ 73 → digits ≡ start ++ hex_digits (take i bytes) → length digits + 2 ≤ 73
+digits_fit start bytes i digits low block before =
+    let count = ap length before ∙ length-append start (hex_digits (take i bytes)) in
+    let of_digits = length-hex_digits (take i bytes) in
     let taken : length (take i bytes) ≡ i = length-take-le i bytes (omega arith) in
-    omega (arith, count, taken)
+    omega (arith, count, of_digits, taken)
 
 -- one more byte is read
 pub reads_more : (bytes : List ℕ) (byte : ℕ) (rest others text : List ℕ) → hex_digits bytes ++ rest ≡ text → hex_digits (byte ∷ []) ++ others ≡ rest → hex_digits (bytes ++ byte ∷ []) ++ others ≡ text

@@ -1,11 +1,11 @@
 -- The words of replies, and what was written piece by piece.
-use Rattle.std.proofs.Common.{◌≡◌, ℕ, ◌<◌, List, [], ◌∷◌, ◌++◌, Option, Some, None, sym, ◌∙◌, ap, append_assoc, subst, ◌^◌, All, true, refl, arith, decimal, append-nil, Result, Ok, Err, OnOk}
+use Rattle.std.proofs.Common.{codes, length, ◌≡◌, ℕ, ◌<◌, List, [], ◌∷◌, ◌++◌, Option, Some, None, sym, ◌∙◌, ap, append_assoc, subst, ◌^◌, All, true, refl, arith, decimal, append-nil, Result, Ok, Err, OnOk}
 use Rattle.std.specs.Io.KnownBytes.{Appends, Keeps}
 use Rattle.std.proofs.lemmas.List.Elements.{All-append, All-cons, All-map, All-weaker}
 use Rattle.mach_types.specs.declared.calls.Reply.{Reply}
 use Rattle.mach_types.specs.declared.calls.Reply.TheVariants.{Code, Task, Name, Refs, NameType, Names, Status, Members, Right, Previous, Message, Empty, TooLarge, NoRecord}
 use Rattle.mach_types.specs.declared.calls.Status.{Status as PortStatus}
-use Rattle.tracer_base.specs.Replies.{typed_name_text, status_words, reply_word, reply_arguments, FitsTypedName, FitsStatus, FitsReply}
+use Rattle.tracer_base.specs.Replies.{typed_name_text, status_words, reply_word, reply_arguments, reply_line, FitsTypedName, FitsStatus, FitsReply}
 use Rattle.tracer_base.specs.Text.{hex_digits, bytes_text, code_text, waited_words}
 use Rattle.tracer_base.specs.Words.{IsWord}
 use Rattle.tracer_base.proofs.CallLemmas.{none, before, number, one, three, waited}
@@ -99,3 +99,8 @@ plain-reply_arguments NoRecord fits = none
 
 pub plain-reply : (reply : Reply) → FitsReply reply → All IsWord (reply_word reply ∷ reply_arguments reply)
 plain-reply reply fits = before (reply_word reply) (reply_arguments reply) (IsWord-plain (reply_word reply) (is_plain-reply_word reply)) (plain-reply_arguments reply fits)
+
+-- the line of a message that isn't empty
+pub message_line : (bytes : List ℕ) → 0 < length bytes → (codes "message " ++ hex_digits bytes) ++ 10 ∷ [] ≡ reply_line (Message bytes)
+message_line [] some = absurd (omega (arith, some))
+message_line (byte ∷ bytes) some = refl

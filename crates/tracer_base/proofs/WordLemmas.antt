@@ -1,12 +1,14 @@
 -- Lines and their words.
-use Rattle.std.proofs.Common.{◌≡◌, ◌≢◌, ℕ, ◌<◌, ◌^◌, ◌==◌, decimal, Bool, true, false, List, [], ◌∷◌, ◌++◌, All, length, refl, sym, ◌∙◌, ap, subst, arith, nat_lt, ◌&&◌, append-nil, map, flat_map}
-use Rattle.std.specs.List.{list_all}
+use Rattle.std.proofs.Common.{◌≡◌, ◌≢◌, ℕ, ◌-◌, ◌<◌, ◌≤◌, ◌^◌, ◌==◌, decimal, Bool, true, false, List, [], ◌∷◌, ◌++◌, All, length, take, drop, refl, sym, ◌∙◌, ap, subst, arith, nat_lt, ◌&&◌, append-nil, map, flat_map}
+use Rattle.std.specs.List.{list_all, slice_index_or}
+use Rattle.std.proofs.lemmas.List.{take_rest}
 use Rattle.std.specs.Str.{IsAscii}
 use Rattle.std.proofs.lemmas.Str.Ascii.{IsAscii-from_all}
 use Rattle.std.proofs.lemmas.Bool.{ne_eqb, and_parts, ltb-true}
 use Rattle.std.proofs.lemmas.List.Elements.{All-weaker, All-nil, All-cons, All-append, All-head, All-tail}
 use Rattle.std.proofs.lemmas.Grind.{flat_map-append}
 use Rattle.std.proofs.lemmas.List.Splits.{slice_split_none, slice_split_at, length-slice_split, join_with_byte-slice_split}
+use Rattle.std.proofs.lemmas.Fmt.{decimal_digit}
 use Rattle.tracer_base.specs.Replies.{typed_name_text}
 use Rattle.tracer_base.specs.Text.{code_text}
 use Rattle.tracer_base.specs.Words.{line, words, Lacks, IsWord}
@@ -47,6 +49,35 @@ words-line word [] plain = words-one word (Lacks-IsWord 32 word (omega arith) (A
 words-line word (next ∷ others) plain =
     sym (words-more word (line (next ∷ others)) _ (Lacks-IsWord 32 word (omega arith) (All-head IsWord word (next ∷ others) plain)) refl)
     ∙ ap (λ ws. word ∷ ws) (words-line next others (All-tail IsWord word (next ∷ others) plain))
+
+-- a plain word before a space is the first word
+pub word_then : (word rest text : List ℕ) → IsWord word → word ++ 32 ∷ rest ≡ text → word ∷ words rest ≡ words text
+word_then word rest text plain same = words-more word rest text (Lacks-IsWord 32 word (omega arith) plain) same
+
+-- a text whose first bytes are four letters and a space has the letters' word first
+pub four_letters : (a b c d : ℕ) (text : List ℕ) → IsWord (a ∷ b ∷ c ∷ d ∷ []) → 5 ≤ length text → slice_index_or text 0 0 ≡ a → slice_index_or text 1 0 ≡ b → slice_index_or text 2 0 ≡ c → slice_index_or text 3 0 ≡ d
+    → slice_index_or text 4 0 ≡ 32 → (a ∷ b ∷ c ∷ d ∷ []) ∷ words (take (length text - 5) (drop 5 text)) ≡ words text
+four_letters a b c d [] plain some is_a is_b is_c is_d space = absurd (omega (arith, some))
+four_letters a b c d (_ ∷ []) plain some is_a is_b is_c is_d space = absurd (omega (arith, some))
+four_letters a b c d (_ ∷ _ ∷ []) plain some is_a is_b is_c is_d space = absurd (omega (arith, some))
+four_letters a b c d (_ ∷ _ ∷ _ ∷ []) plain some is_a is_b is_c is_d space = absurd (omega (arith, some))
+four_letters a b c d (_ ∷ _ ∷ _ ∷ _ ∷ []) plain some is_a is_b is_c is_d space = absurd (omega (arith, some))
+four_letters a b c d (t ∷ u ∷ v ∷ w ∷ x ∷ rest) plain some is_a is_b is_c is_d space =
+    let tail : take (length (t ∷ u ∷ v ∷ w ∷ x ∷ rest) - 5) rest ≡ rest = take_rest (t ∷ u ∷ v ∷ w ∷ x ∷ rest) 5 in
+    word_then (a ∷ b ∷ c ∷ d ∷ []) (take (length (t ∷ u ∷ v ∷ w ∷ x ∷ rest) - 5) rest) (t ∷ u ∷ v ∷ w ∷ x ∷ rest) plain (cc)
+
+-- a text is its first byte, its second, and what stands behind them
+pub first_two : (text : List ℕ) → 2 ≤ length text → slice_index_or text 0 0 ∷ slice_index_or text 1 0 ∷ take (length text - 2) (drop 2 text) ≡ text
+first_two [] some = absurd (omega (arith, some))
+first_two (a ∷ []) some = absurd (omega (arith, some))
+first_two (a ∷ b ∷ rest) some = ap (λ tail. a ∷ b ∷ tail) (take_rest (a ∷ b ∷ rest) 2)
+
+-- a digit before a space is the first word, that of its number
+pub digit_then : (digit : ℕ) (rest text : List ℕ) → 48 ≤ digit → digit ≤ 57 → digit ∷ 32 ∷ rest ≡ text → decimal (digit - 48) ∷ words rest ≡ words text
+digit_then digit rest text least most same =
+    let number : decimal (digit - 48) ≡ digit ∷ [] = decimal_digit (digit - 48) (omega arith) ∙ ap (λ (byte : ℕ). byte ∷ []) (omega arith) in
+    ap (λ word. word ∷ words rest) number
+    ∙ word_then (digit ∷ []) rest text (All-cons (λ byte. 32 < byte) digit [] (omega arith) (All-nil (λ byte. 32 < byte))) same
 
 -- a text is the line of its words
 pub line-words : (text : List ℕ) → line (words text) ≡ text

@@ -58,6 +58,21 @@ pub fn read_script_line(alloc: Global, text: &[u8]) -> Result<ScriptLine, TextFa
     ensures fits { IfOk result FitsSaid }
     ensures each { (said : AnyLine) → FitsSaid said → said_text said ≡ text.now → IsOkUnless result TextFault.OutOfMemory }
 {
+    // Long scripts are messages above all, so their keywords are looked for at once.
+    match text {
+        [b's', b'e', b'n', b'd', b' ', rest @ ..] => read_other(alloc, "send", Words::of(rest)),
+        [b'r', b'e', b'c', b'v', b' ', rest @ ..] => read_other(alloc, "recv", Words::of(rest)),
+        _ => read_words(alloc, text),
+    }
+}
+
+/// The same, by the line's first word, whichever it is.
+#[inline(never)]
+fn read_words(alloc: Global, text: &[u8]) -> Result<ScriptLine, TextFault>
+    ensures ok { IfOk result (λ said. said_text said ≡ text.now) }
+    ensures fits { IfOk result FitsSaid }
+    ensures each { (said : AnyLine) → FitsSaid said → said_text said ≡ text.now → IsOkUnless result TextFault.OutOfMemory }
+{
     let mut words = Words::of(text);
     match words.keyword()? {
         "thread" => read_thread(words),
@@ -67,6 +82,7 @@ pub fn read_script_line(alloc: Global, text: &[u8]) -> Result<ScriptLine, TextFa
 }
 
 /// The call of this keyword, whose arguments are all words that are left.
+#[inline(always)]
 fn read_other(alloc: Global, keyword: &str, mut words: Words<'_>) -> Result<ScriptLine, TextFault>
     ensures ok { IfOk result (λ said. said_words said ≡ keyword.now ∷ words.entry) }
     ensures fits { IfOk result FitsSaid }

@@ -44,6 +44,7 @@ pub fn next_call(alloc: Global, words: &mut Words<'_>) -> Result<Event, TextFaul
 }
 
 /// The call of this keyword, with its arguments from `words`. Faults are as for [`read_call`].
+#[inline(always)]
 pub(crate) fn read_arguments(
     alloc: Global,
     keyword: &str,
@@ -56,20 +57,20 @@ pub(crate) fn read_arguments(
         → call_arguments event ++ behind ≡ words.old → IsRead result words.new behind }
 {
     match keyword {
-        "task" => Ok(Event::TaskCreate),
-        "alloc" => read_alloc(words),
-        "allocname" => read_allocname(words),
-        "insert" => read_insert(words),
-        "extract" => read_extract(words),
         "send" => read_send(alloc, words),
         "recv" => read_recv(words),
+        "task" => Ok(Event::TaskCreate),
+        "alloc" => Ok(Event::Allocate(words.task()?, words.number()?)),
+        "allocname" => Ok(Event::AllocateName(words.task()?, words.number()?, words.name()?)),
+        "insert" => read_insert(words),
+        "extract" => read_extract(words),
         "again" => read_again(words),
         _ => read_name_call(keyword, words),
     }
 }
 
-/// The call on a task's names of this keyword, or the call on a port or a port set. Faults are as for
-/// [`read_call`].
+/// The call on names, or on a port or a port set, of this keyword. Faults are as for [`read_call`].
+#[inline(never)]
 fn read_name_call(keyword: &str, words: &mut Words<'_>) -> Result<Event, TextFault>
     requires { IsNoRightWord keyword.now }
     ensures word { IfOk result (λ event. call_word event ≡ keyword.now) }
@@ -79,29 +80,20 @@ fn read_name_call(keyword: &str, words: &mut Words<'_>) -> Result<Event, TextFau
         → call_arguments event ++ behind ≡ words.old → IsRead result words.new behind }
 {
     match keyword {
-        "dealloc" => {
-            let (task, name) = words.task_and_name()?;
-            Ok(Event::Deallocate(task, name))
-        }
-        "destroy" => {
-            let (task, name) = words.task_and_name()?;
-            Ok(Event::Destroy(task, name))
-        }
+        "dealloc" => Ok(Event::Deallocate(words.task()?, words.name()?)),
+        "destroy" => Ok(Event::Destroy(words.task()?, words.name()?)),
         "modrefs" => read_modrefs(words),
         "refs" => {
             let (task, name, right) = words.task_name_and_number()?;
             Ok(Event::GetRefs(task, name, right))
         }
-        "type" => {
-            let (task, name) = words.task_and_name()?;
-            Ok(Event::NameType(task, name))
-        }
-        "names" => read_names(words),
-        "end" => read_end(words),
+        "type" => Ok(Event::NameType(words.task()?, words.name()?)),
+        "names" => Ok(Event::Names(words.task()?)),
+        "end" => Ok(Event::TaskTerminate(words.task()?)),
         "notify" => read_notify(words),
         "rename" => {
-            let (task, old, new) = words.task_and_names()?;
-            Ok(Event::Rename(task, old, new))
+            let (task, old) = words.task_and_name()?;
+            Ok(Event::Rename(task, old, words.name()?))
         }
         _ => read_port_call(keyword, words),
     }
@@ -118,10 +110,7 @@ fn read_port_call(keyword: &str, words: &mut Words<'_>) -> Result<Event, TextFau
         → call_arguments event ++ behind ≡ words.old → IsRead result words.new behind }
 {
     match keyword {
-        "status" => {
-            let (task, name) = words.task_and_name()?;
-            Ok(Event::ReceiveStatus(task, name))
-        }
+        "status" => Ok(Event::ReceiveStatus(words.task()?, words.name()?)),
         "qlimit" => {
             let (task, name, limit) = words.task_name_and_number()?;
             Ok(Event::SetQlimit(task, name, limit))
@@ -135,41 +124,15 @@ fn read_port_call(keyword: &str, words: &mut Words<'_>) -> Result<Event, TextFau
             Ok(Event::SetSeqno(task, name, sequence))
         }
         "move" => {
-            let (task, member, set) = words.task_and_names()?;
-            Ok(Event::MoveMember(task, member, set))
+            let (task, member) = words.task_and_name()?;
+            Ok(Event::MoveMember(task, member, words.name()?))
         }
-        "members" => {
-            let (task, name) = words.task_and_name()?;
-            Ok(Event::SetStatus(task, name))
-        }
+        "members" => Ok(Event::SetStatus(words.task()?, words.name()?)),
         _ => Err(TextFault::Bad),
     }
 }
 
-/// The arguments of `alloc`: a task and the number of a right.
-fn read_alloc(words: &mut Words<'_>) -> Result<Event, TextFault>
-    ensures word { IfOk result (λ event. call_word event ≡ codes "alloc") }
-    ensures arguments { IfOk result (λ event. call_arguments event ++ words.new ≡ words.old) }
-    ensures fits { IfOk result Fits }
-    ensures read { (task right : ℕ) (behind : List (List ℕ)) → task < 2 ^ 32 → right < 2 ^ 32 → decimal task ∷ decimal right ∷ behind ≡ words.old
-        → IsRead result words.new behind }
-{
-    Ok(Event::Allocate(words.task()?, words.number()?))
-}
-
-/// The arguments of `allocname`: a task, the number of a right, and a name.
-fn read_allocname(words: &mut Words<'_>) -> Result<Event, TextFault>
-    ensures word { IfOk result (λ event. call_word event ≡ codes "allocname") }
-    ensures arguments { IfOk result (λ event. call_arguments event ++ words.new ≡ words.old) }
-    ensures fits { IfOk result Fits }
-    ensures read { (task right name : ℕ) (behind : List (List ℕ)) → task < 2 ^ 32 → right < 2 ^ 32 → name < 2 ^ 32 → decimal task ∷ decimal right ∷ decimal name ∷ behind ≡ words.old
-        → IsRead result words.new behind }
-{
-    Ok(Event::AllocateName(words.task()?, words.number()?, words.name()?))
-}
-
-/// The arguments of `modrefs`: a task, a name, the number of a right, and how many references more, or less
-/// with `-`.
+/// The arguments of `modrefs`: a task, a name, the number of a right, and how many references more.
 fn read_modrefs(words: &mut Words<'_>) -> Result<Event, TextFault>
     ensures word { IfOk result (λ event. call_word event ≡ codes "modrefs") }
     ensures arguments { IfOk result (λ event. call_arguments event ++ words.new ≡ words.old) }
@@ -179,28 +142,6 @@ fn read_modrefs(words: &mut Words<'_>) -> Result<Event, TextFault>
 {
     let (task, name, right) = words.task_name_and_number()?;
     Ok(Event::ModRefs(task, name, right, words.delta()?))
-}
-
-/// The arguments of `names`: a task.
-fn read_names(words: &mut Words<'_>) -> Result<Event, TextFault>
-    ensures word { IfOk result (λ event. call_word event ≡ codes "names") }
-    ensures arguments { IfOk result (λ event. call_arguments event ++ words.new ≡ words.old) }
-    ensures fits { IfOk result Fits }
-    ensures read { (task : ℕ) (behind : List (List ℕ)) → task < 2 ^ 32 → decimal task ∷ behind ≡ words.old
-        → IsRead result words.new behind }
-{
-    Ok(Event::Names(words.task()?))
-}
-
-/// The arguments of `end`: a task.
-fn read_end(words: &mut Words<'_>) -> Result<Event, TextFault>
-    ensures word { IfOk result (λ event. call_word event ≡ codes "end") }
-    ensures arguments { IfOk result (λ event. call_arguments event ++ words.new ≡ words.old) }
-    ensures fits { IfOk result Fits }
-    ensures read { (task : ℕ) (behind : List (List ℕ)) → task < 2 ^ 32 → decimal task ∷ behind ≡ words.old
-        → IsRead result words.new behind }
-{
-    Ok(Event::TaskTerminate(words.task()?))
 }
 
 /// The arguments of `notify`: a task, a name, the number of a notice, a number that says when it is sent at
@@ -219,8 +160,7 @@ fn read_notify(words: &mut Words<'_>) -> Result<Event, TextFault>
     Ok(Event::RequestNotification(task, name, variant, sync, notify, words.number()?))
 }
 
-/// The arguments of `insert`: a task, the name that it is to have for the right, the task that has
-/// the right, that task's name for it, and the number of a disposition.
+/// The arguments of `insert`: a task, its name to be, a task with the right, its name, a disposition.
 fn read_insert(words: &mut Words<'_>) -> Result<Event, TextFault>
     ensures word { IfOk result (λ event. call_word event ≡ codes "insert") }
     ensures arguments { IfOk result (λ event. call_arguments event ++ words.new ≡ words.old) }
@@ -234,8 +174,7 @@ fn read_insert(words: &mut Words<'_>) -> Result<Event, TextFault>
     Ok(Event::InsertRight(task, name, from, poly, words.number()?))
 }
 
-/// The arguments of `extract`: a task that has a right, its name for it, the number of a disposition,
-/// and the task that is to have the right.
+/// The arguments of `extract`: a task with a right, its name, a disposition, and who is to have it.
 fn read_extract(words: &mut Words<'_>) -> Result<Event, TextFault>
     ensures word { IfOk result (λ event. call_word event ≡ codes "extract") }
     ensures arguments { IfOk result (λ event. call_arguments event ++ words.new ≡ words.old) }
@@ -249,6 +188,7 @@ fn read_extract(words: &mut Words<'_>) -> Result<Event, TextFault>
 }
 
 /// The arguments of `send`: a task and a message's bytes.
+#[inline(always)]
 fn read_send(alloc: Global, words: &mut Words<'_>) -> Result<Event, TextFault>
     ensures word { IfOk result (λ event. call_word event ≡ codes "send") }
     ensures arguments { IfOk result (λ event. call_arguments event ++ words.new ≡ words.old) }
@@ -259,8 +199,8 @@ fn read_send(alloc: Global, words: &mut Words<'_>) -> Result<Event, TextFault>
     Ok(Event::Send(words.task()?, words.bytes(alloc)?))
 }
 
-/// The arguments of `recv`: a task, a name, how many bytes there is room for, and whether a longer
-/// message is to stay.
+/// The arguments of `recv`: a task, a name, the room in bytes, and whether a longer message stays.
+#[inline(always)]
 fn read_recv(words: &mut Words<'_>) -> Result<Event, TextFault>
     ensures word { IfOk result (λ event. call_word event ≡ codes "recv") }
     ensures arguments { IfOk result (λ event. call_arguments event ++ words.new ≡ words.old) }
@@ -272,8 +212,7 @@ fn read_recv(words: &mut Words<'_>) -> Result<Event, TextFault>
     Ok(Event::Receive(task, name, room, words.flag()?))
 }
 
-/// The arguments of `again`: a task, what it waits for, how many bytes there is room for, and whether a
-/// longer message is to stay.
+/// The arguments of `again`: a task, what it waits for, the room, and whether a longer message stays.
 fn read_again(words: &mut Words<'_>) -> Result<Event, TextFault>
     ensures word { IfOk result (λ event. call_word event ≡ codes "again") }
     ensures arguments { IfOk result (λ event. call_arguments event ++ words.new ≡ words.old) }
@@ -296,7 +235,9 @@ pub fn write_call<W: Write>(event: &Event, out: &mut W) -> io::Result<()>
         Event::TaskCreate => write!(out, "task"),
         Event::TaskTerminate(task) => write!(out, "end {}", task.number()),
         Event::Allocate(task, right) => write!(out, "alloc {} {right}", task.number()),
-        Event::AllocateName(task, right, name) => write_allocname(*task, *right, *name, out),
+        Event::AllocateName(task, right, name) => {
+            write!(out, "allocname {} {right} {}", task.number(), name.number())
+        }
         Event::Deallocate(task, name) => write_name("dealloc", *task, *name, out),
         Event::Destroy(task, name) => write_name("destroy", *task, *name, out),
         Event::ModRefs(task, name, right, delta) => {
@@ -306,7 +247,7 @@ pub fn write_call<W: Write>(event: &Event, out: &mut W) -> io::Result<()>
         Event::GetRefs(task, name, right) => write_number("refs", *task, *name, *right, out),
         Event::NameType(task, name) => write_name("type", *task, *name, out),
         Event::Names(task) => write!(out, "names {}", task.number()),
-        Event::Rename(task, old, new) => write_names("rename", *task, *old, *new, out),
+        Event::Rename(task, old, new) => write_number("rename", *task, *old, new.number(), out),
         Event::ReceiveStatus(task, name) => write_name("status", *task, *name, out),
         Event::SetQlimit(task, name, limit) => write_number("qlimit", *task, *name, *limit, out),
         Event::SetMscount(task, name, count) => write_number("mscount", *task, *name, *count, out),
@@ -323,9 +264,12 @@ pub fn write_call<W: Write>(event: &Event, out: &mut W) -> io::Result<()>
             write_number("notify", *task, *name, *variant, out)?;
             write!(out, " {sync} {} {disposition}", notify.number())
         }
-        Event::MoveMember(task, member, set) => write_names("move", *task, *member, *set, out),
+        Event::MoveMember(task, name, set) => write_number("move", *task, *name, set.number(), out),
         Event::SetStatus(task, name) => write_name("members", *task, *name, out),
-        Event::Send(task, bytes) => write_send(*task, bytes.as_slice(), out),
+        Event::Send(task, bytes) => {
+            write!(out, "send {} ", task.number())?;
+            write_bytes(bytes.as_slice(), out)
+        }
         Event::Receive(task, name, room, large) => {
             write_number("recv", *task, *name, *room, out)?;
             write_flag(*large, out)
@@ -355,45 +299,11 @@ fn write_number<W: Write>(
     ensures { OnOk result (Appends (W.contents out.old) (W.contents out.new)
         (line (keyword.now ∷ decimal task ∷ decimal name ∷ decimal number ∷ []))) }
 {
-    write!(
-        out,
-        "{keyword} {} {} {number}",
-        task.number(),
-        name.number()
-    )
+    let (task, name) = (task.number(), name.number());
+    write!(out, "{keyword} {task} {name} {number}")
 }
 
-/// Writes the keyword, a task and two names. Errors are as for [`write_call`].
-fn write_names<W: Write>(
-    keyword: &str,
-    task: TaskId,
-    name: Name,
-    other: Name,
-    out: &mut W,
-) -> io::Result<()>
-    ensures { OnOk result (Appends (W.contents out.old) (W.contents out.new)
-        (line (keyword.now ∷ decimal task ∷ decimal name ∷ decimal other ∷ []))) }
-{
-    write_number(keyword, task, name, other.number(), out)
-}
-
-/// Writes the call that makes a right under this name. Errors are as for [`write_call`].
-fn write_allocname<W: Write>(task: TaskId, right: u32, name: Name, out: &mut W) -> io::Result<()>
-    ensures { OnOk result (Appends (W.contents out.old) (W.contents out.new) (call_text (AnyEvent.AllocateName task right name))) }
-{
-    write!(out, "allocname {} {right} {}", task.number(), name.number())
-}
-
-/// Writes the call that sends these bytes. Errors are as for [`write_call`].
-fn write_send<W: Write>(task: TaskId, bytes: &[u8], out: &mut W) -> io::Result<()>
-    ensures { OnOk result (Appends (W.contents out.old) (W.contents out.new) (call_text (AnyEvent.Send task bytes.now))) }
-{
-    write!(out, "send {} ", task.number())?;
-    write_bytes(bytes, out)
-}
-
-/// Writes `again`, a task, what it waits for, and how many bytes there is room for. Errors are as for
-/// [`write_call`].
+/// Writes `again`, a task, what it waits for, and the room. Errors are as for [`write_call`].
 fn write_again<W: Write>(task: TaskId, waited: &Waited, room: u32, out: &mut W) -> io::Result<()>
     ensures { OnOk result (Appends (W.contents out.old) (W.contents out.new)
         (line (codes "again" ∷ decimal task ∷ (waited_words waited.now ++ decimal room ∷ [])))) }
@@ -408,9 +318,5 @@ fn write_again<W: Write>(task: TaskId, waited: &Waited, room: u32, out: &mut W) 
 fn write_flag<W: Write>(flag: bool, out: &mut W) -> io::Result<()>
     ensures { OnOk result (Appends (W.contents out.old) (W.contents out.new) (32 ∷ flag_text flag)) }
 {
-    if flag {
-        out.write_all(b" 1")
-    } else {
-        out.write_all(b" 0")
-    }
+    out.write_all(if flag { b" 1" } else { b" 0" })
 }

@@ -12,7 +12,10 @@ use std::io;
 use std::io::Write;
 
 /// How many bytes have their digits written at once.
-const BLOCK: usize = 32;
+pub const BLOCK: usize = 32;
+
+/// How many bytes the line of a short message has: its keyword, a block's digits and the line feed.
+pub const LINE: usize = 73;
 
 /// The two digits of each byte, one byte after another.
 const PAIRS: [u8; 512] = *b"\
@@ -25,22 +28,22 @@ const PAIRS: [u8; 512] = *b"\
     c0c1c2c3c4c5c6c7c8c9cacbcccdcecfd0d1d2d3d4d5d6d7d8d9dadbdcdddedf\
     e0e1e2e3e4e5e6e7e8e9eaebecedeeeff0f1f2f3f4f5f6f7f8f9fafbfcfdfeff";
 
-/// The values of the digits, by their codes, and 255 for each code of no digit.
-const VALUES: [u8; 256] = [
-    255, 255, 255, 255, 255, 255, 255, 255, 255, 255, 255, 255, 255, 255, 255, 255, 255, 255, 255,
-    255, 255, 255, 255, 255, 255, 255, 255, 255, 255, 255, 255, 255, 255, 255, 255, 255, 255, 255,
-    255, 255, 255, 255, 255, 255, 255, 255, 255, 255, 0, 1, 2, 3, 4, 5, 6, 7, 8, 9, 255, 255, 255,
-    255, 255, 255, 255, 255, 255, 255, 255, 255, 255, 255, 255, 255, 255, 255, 255, 255, 255, 255,
-    255, 255, 255, 255, 255, 255, 255, 255, 255, 255, 255, 255, 255, 255, 255, 255, 255, 10, 11,
-    12, 13, 14, 15, 255, 255, 255, 255, 255, 255, 255, 255, 255, 255, 255, 255, 255, 255, 255, 255,
-    255, 255, 255, 255, 255, 255, 255, 255, 255, 255, 255, 255, 255, 255, 255, 255, 255, 255, 255,
-    255, 255, 255, 255, 255, 255, 255, 255, 255, 255, 255, 255, 255, 255, 255, 255, 255, 255, 255,
-    255, 255, 255, 255, 255, 255, 255, 255, 255, 255, 255, 255, 255, 255, 255, 255, 255, 255, 255,
-    255, 255, 255, 255, 255, 255, 255, 255, 255, 255, 255, 255, 255, 255, 255, 255, 255, 255, 255,
-    255, 255, 255, 255, 255, 255, 255, 255, 255, 255, 255, 255, 255, 255, 255, 255, 255, 255, 255,
-    255, 255, 255, 255, 255, 255, 255, 255, 255, 255, 255, 255, 255, 255, 255, 255, 255, 255, 255,
-    255, 255, 255, 255, 255, 255, 255, 255, 255, 255, 255, 255, 255, 255, 255, 255, 255, 255, 255,
-    255, 255, 255, 255,
+/// The values of the digits, by their codes, and 256 for each code of no digit.
+const VALUES: [u16; 256] = [
+    256, 256, 256, 256, 256, 256, 256, 256, 256, 256, 256, 256, 256, 256, 256, 256, 256, 256, 256,
+    256, 256, 256, 256, 256, 256, 256, 256, 256, 256, 256, 256, 256, 256, 256, 256, 256, 256, 256,
+    256, 256, 256, 256, 256, 256, 256, 256, 256, 256, 0, 1, 2, 3, 4, 5, 6, 7, 8, 9, 256, 256, 256,
+    256, 256, 256, 256, 256, 256, 256, 256, 256, 256, 256, 256, 256, 256, 256, 256, 256, 256, 256,
+    256, 256, 256, 256, 256, 256, 256, 256, 256, 256, 256, 256, 256, 256, 256, 256, 256, 10, 11,
+    12, 13, 14, 15, 256, 256, 256, 256, 256, 256, 256, 256, 256, 256, 256, 256, 256, 256, 256, 256,
+    256, 256, 256, 256, 256, 256, 256, 256, 256, 256, 256, 256, 256, 256, 256, 256, 256, 256, 256,
+    256, 256, 256, 256, 256, 256, 256, 256, 256, 256, 256, 256, 256, 256, 256, 256, 256, 256, 256,
+    256, 256, 256, 256, 256, 256, 256, 256, 256, 256, 256, 256, 256, 256, 256, 256, 256, 256, 256,
+    256, 256, 256, 256, 256, 256, 256, 256, 256, 256, 256, 256, 256, 256, 256, 256, 256, 256, 256,
+    256, 256, 256, 256, 256, 256, 256, 256, 256, 256, 256, 256, 256, 256, 256, 256, 256, 256, 256,
+    256, 256, 256, 256, 256, 256, 256, 256, 256, 256, 256, 256, 256, 256, 256, 256, 256, 256, 256,
+    256, 256, 256, 256, 256, 256, 256, 256, 256, 256, 256, 256, 256, 256, 256, 256, 256, 256, 256,
+    256, 256, 256, 256,
 ];
 
 /// The first digit of the byte: `0` to `9` and `a` to `f`.
@@ -57,24 +60,25 @@ fn low_digit(byte: u8) -> u8
     PAIRS[2 * usize::from(byte) + 1]
 }
 
-/// The value of a digit, below 16; `None` for what is no digit, capital letters among it.
-fn value_of(digit: u8) -> Option<u8>
-    ensures small { IfSome result (λ value. value < 16) }
-    ensures spelled { IfSome result (λ value. hex_digit value ≡ digit) }
-    ensures each { (value : ℕ) → value < 16 → hex_digit value ≡ digit → result ≡ Some value }
+/// The value of a digit, below 16; 256 for what is no digit, capital letters among it.
+fn value_of(digit: u8) -> u16
+    ensures most { result ≤ 256 }
+    ensures spelled { result < 256 → (result < 16) × (hex_digit result ≡ digit) }
+    ensures each { (value : ℕ) → value < 16 → hex_digit value ≡ digit → result ≡ value }
 {
-    let value = VALUES[usize::from(digit)];
-    if value < 16 { Some(value) } else { None }
+    VALUES[usize::from(digit)]
 }
 
 /// The byte of two digits.
+#[inline(always)]
 fn parse_pair(high: u8, low: u8) -> Option<u8>
     ensures high { IfSome result (λ byte. hex_digit (byte / 16) ≡ high) }
     ensures low { IfSome result (λ byte. hex_digit (byte % 16) ≡ low) }
     ensures each { (byte : ℕ) → byte < 256 → hex_digit (byte / 16) ≡ high → hex_digit (byte % 16) ≡ low
         → result ≡ Some byte }
 {
-    Some(value_of(high)? * 16 + value_of(low)?)
+    let value = value_of(high) * 16 + value_of(low);
+    if value < 256 { Some(value as u8) } else { None }
 }
 
 /// The bytes that the text spells, two digits a byte, `-` for none.
@@ -95,6 +99,7 @@ pub fn parse_bytes(alloc: Global, text: &[u8]) -> Result<Bytes, TextFault>
 }
 
 /// The byte that the first two digits spell, and what stands behind them.
+#[inline(always)]
 fn split_pair(text: &[u8]) -> Option<(u8, &[u8])>
     ensures some { IfSome result (λ pair. hex_digits (pair.0 ∷ []) ++ pair.1.now ≡ text.now) }
     ensures each { (byte : ℕ) (rest : List ℕ) → byte < 256 → hex_digits (byte ∷ []) ++ rest ≡ text.now
@@ -117,12 +122,16 @@ fn parse_pairs(alloc: Global, text: &[u8]) -> Result<Vec<u8>, TextFault>
         return Err(TextFault::OutOfMemory);
     };
     let mut rest = text;
-    while !rest.is_empty() {
+    while rest.len() >= 2 {
         let (byte, others) = split_pair(rest).ok_or(TextFault::Bad)?;
         bytes.push_reserved(byte);
         rest = others;
     }
-    Ok(bytes)
+    if rest.is_empty() {
+        Ok(bytes)
+    } else {
+        Err(TextFault::Bad)
+    }
 }
 
 /// The code whose eight digits the text is; `None` where it is no such digits.
@@ -159,31 +168,41 @@ fn write_pairs<W: Write>(bytes: &[u8], out: &mut W) -> io::Result<()>
 {
     let mut rest = bytes;
     while let Some((block, others)) = rest.split_first_chunk::<BLOCK>() {
-        out.write_all(digits_of(block).as_slice())?;
+        write_block(block, out)?;
         rest = others;
     }
-    out.write_all(digits_of(rest).as_slice())
+    write_block(rest, out)
 }
 
-/// The digits of a block's bytes, two digits a byte.
-fn digits_of(bytes: &[u8]) -> ArrayVec<u8, 64>
+/// Writes a block's bytes, two digits a byte. Errors are as for [`write_bytes`].
+fn write_block<W: Write>(bytes: &[u8], out: &mut W) -> io::Result<()>
     requires { length bytes.now ≤ 32 }
-    ensures { result.items ≡ hex_digits bytes.now }
+    ensures { OnOk result (Appends (W.contents out.old) (W.contents out.new) (hex_digits bytes.now)) }
 {
     let mut digits = ArrayVec::new();
-    for byte in bytes {
-        digits.push(high_digit(*byte));
-        digits.push(low_digit(*byte));
-    }
-    digits
+    push_digits(bytes, &mut digits);
+    out.write_all(digits.as_slice())
 }
 
-/// Writes the eight digits of the four bytes. Errors are as for [`write_bytes`].
-pub fn write_four<W: Write>(bytes: [u8; 4], out: &mut W) -> io::Result<()>
-    ensures { OnOk result (Appends (W.contents out.old) (W.contents out.new) (hex_digits bytes)) }
+/// Puts the digits of a block's bytes at the end of the line, two digits a byte.
+#[inline(always)]
+pub fn push_digits(bytes: &[u8], line: &mut ArrayVec<u8, LINE>)
+    requires { length line.old.items + 2 * length bytes.now ≤ 73 }
+    ensures { line.new.items ≡ line.old.items ++ hex_digits bytes.now }
+{
+    for byte in bytes {
+        line.push(high_digit(*byte));
+        line.push(low_digit(*byte));
+    }
+}
+
+/// The eight digits of the four bytes.
+#[inline(always)]
+pub fn four_digits(bytes: [u8; 4]) -> [u8; 8]
+    ensures { result ≡ hex_digits bytes }
 {
     let [first, second, third, fourth] = bytes;
-    out.write_all(&[
+    [
         high_digit(first),
         low_digit(first),
         high_digit(second),
@@ -192,5 +211,5 @@ pub fn write_four<W: Write>(bytes: [u8; 4], out: &mut W) -> io::Result<()>
         low_digit(third),
         high_digit(fourth),
         low_digit(fourth),
-    ])
+    ]
 }

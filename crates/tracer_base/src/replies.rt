@@ -1,5 +1,5 @@
 //! The text of replies.
-ghost use Rattle.std.specs.Prelude.{◌≡◌, ◌<◌, ◌^◌, List, ℕ, [], ◌∷◌, ◌++◌, All, IfOk, IsOkUnless, OnOk, codes, decimal, flat_map, map};
+ghost use Rattle.std.specs.Prelude.{◌≡◌, ◌<◌, ◌≤◌, ◌^◌, length, IsTrue, ◌↔◌, List, ℕ, [], ◌∷◌, ◌++◌, All, IfOk, IsOkUnless, OnOk, codes, decimal, flat_map, map};
 ghost use Rattle.std.specs.Io.KnownBytes.{Appends};
 ghost use Rattle.mach_types.specs.declared.calls.Reply.{Reply as AnyReply};
 ghost use Rattle.mach_types.specs.declared.calls.Status.{Status as AnyStatus};
@@ -9,8 +9,9 @@ ghost use Rattle.tracer_base.specs.Text.{code_text, waited_words, FitsWaited};
 ghost use Rattle.tracer_base.specs.Words.{IsRead};
 
 use crate::fault::TextFault;
-use crate::hexadecimal::{write_bytes, write_four};
+use crate::hexadecimal::{BLOCK, LINE, four_digits, push_digits, write_bytes};
 use crate::words::Words;
+use arrayvec::ArrayVec;
 use mach_types::{Name, NameList, NameTypes, Reply, Status, Waited};
 use std::alloc::Global;
 use std::io;
@@ -154,6 +155,7 @@ fn three_numbers(words: &mut Words<'_>) -> Result<[u32; 3], TextFault>
 ///
 /// An error is that of `out`; what was written before it stays. Time grows with the length of the
 /// text; no memory is taken.
+#[inline(never)]
 pub fn write_reply<W: Write>(reply: &Reply, out: &mut W) -> io::Result<()>
     ensures { OnOk result (Appends (W.contents out.old) (W.contents out.new) (reply_text reply.now)) }
 {
@@ -168,7 +170,10 @@ pub fn write_reply<W: Write>(reply: &Reply, out: &mut W) -> io::Result<()>
         Reply::Members(members) => write_members(members, out),
         Reply::Right(name, kind) => write!(out, "right {} {kind}", name.number()),
         Reply::Previous(name) => write!(out, "previous {}", name.number()),
-        Reply::Message(bytes) => write_message(bytes.as_slice(), out),
+        Reply::Message(bytes) => {
+            out.write_all(b"message ")?;
+            write_bytes(bytes.as_slice(), out)
+        }
         Reply::Empty(waited) => write_empty(waited, out),
         Reply::TooLarge(length) => write!(out, "toolarge {length}"),
         Reply::NoRecord => write!(out, "norecord"),
@@ -176,11 +181,52 @@ pub fn write_reply<W: Write>(reply: &Reply, out: &mut W) -> io::Result<()>
 }
 
 /// Writes the reply, and a line feed. Errors and cost are as for [`write_reply`].
+#[inline(always)]
 pub fn write_reply_line<W: Write>(reply: &Reply, out: &mut W) -> io::Result<()>
     ensures { OnOk result (Appends (W.contents out.old) (W.contents out.new) (reply_line reply.now)) }
 {
-    write_reply(reply, out)?;
-    out.write_all(b"\n")
+    match reply {
+        Reply::Code(code) => out.write_all(&code_line(*code)),
+        Reply::Message(bytes) if is_short(bytes.as_slice()) => {
+            out.write_all(short_line(bytes.as_slice()).as_slice())
+        }
+        _ => {
+            write_reply(reply, out)?;
+            out.write_all(b"\n")
+        }
+    }
+}
+
+/// The line of a reply that is a code.
+#[inline(always)]
+fn code_line(code: u32) -> [u8; 14]
+    ensures { result ≡ reply_line (AnyReply.Code code) }
+{
+    let [a, b, c, d, e, f, g, h] = four_digits(code.to_be_bytes());
+    [b'c', b'o', b'd', b'e', b' ', a, b, c, d, e, f, g, h, b'\n']
+}
+
+/// Whether these bytes are one block at most, and not none.
+fn is_short(bytes: &[u8]) -> bool
+    ensures { IsTrue result ↔ (0 < length bytes.now) × (length bytes.now ≤ 32) }
+{
+    0 < bytes.len() && bytes.len() <= BLOCK
+}
+
+/// The line of a reply that is a message of one block at most.
+#[inline(always)]
+fn short_line(bytes: &[u8]) -> ArrayVec<u8, LINE>
+    requires some { 0 < length bytes.now }
+    requires short { length bytes.now ≤ 32 }
+    ensures { result.items ≡ reply_line (AnyReply.Message bytes.now) }
+{
+    let mut line = ArrayVec::new();
+    let Ok(()) = line.try_extend_from_slice(b"message ") else {
+        unreachable!()
+    };
+    push_digits(bytes, &mut line);
+    line.push(b'\n');
+    line
 }
 
 /// Writes the text, and then the code as eight digits.
@@ -188,7 +234,7 @@ pub(crate) fn write_code<W: Write>(text: &[u8], code: u32, out: &mut W) -> io::R
     ensures { OnOk result (Appends (W.contents out.old) (W.contents out.new) (text.now ++ code_text code)) }
 {
     out.write_all(text)?;
-    write_four(code.to_be_bytes(), out)
+    out.write_all(&four_digits(code.to_be_bytes()))
 }
 
 /// Writes `names`, and each name with its type.
@@ -238,20 +284,11 @@ fn write_status<W: Write>(status: &Status, out: &mut W) -> io::Result<()>
         port_destroyed,
         no_senders,
     } = *status;
+    write!(out, "status {} {sequence} {make_send}", set.number())?;
     write!(
         out,
-        "status {} {sequence} {make_send} {limit} {queued}",
-        set.number()
-    )?;
-    write!(out, " {send_once} {has_send} {port_destroyed} {no_senders}")
-}
-
-/// Writes `message` and the bytes received.
-fn write_message<W: Write>(bytes: &[u8], out: &mut W) -> io::Result<()>
-    ensures { OnOk result (Appends (W.contents out.old) (W.contents out.new) (reply_text (AnyReply.Message bytes.now))) }
-{
-    out.write_all(b"message ")?;
-    write_bytes(bytes, out)
+        " {limit} {queued} {send_once} {has_send} {port_destroyed} {no_senders}"
+    )
 }
 
 /// Writes `empty`, and what was waited for: `p` and a port, or `s` and a set.

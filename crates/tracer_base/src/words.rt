@@ -17,6 +17,7 @@ use std::alloc::Global;
 use std::marker::Model;
 
 /// What stands before the first place of the byte, and behind it; `None` where the byte is not there.
+#[inline(always)]
 pub fn split_once(text: &[u8], byte: u8) -> Option<(&[u8], &[u8])>
     ensures some { IfSome result (λ parts. parts.0.now ++ byte ∷ parts.1.now ≡ text.now) }
     ensures first { IfSome result (λ parts. Lacks byte parts.0.now) }
@@ -24,6 +25,17 @@ pub fn split_once(text: &[u8], byte: u8) -> Option<(&[u8], &[u8])>
 {
     let end = memchr(byte, text)?;
     Some((&text[..end], &text[end + 1..]))
+}
+
+/// The number of one digit that is the first word, and what stands behind its space.
+#[inline(always)]
+fn split_digit(text: &[u8]) -> Option<(u32, &[u8])>
+    ensures { IfSome result (λ read. (read.0 < 10) × (decimal read.0 ∷ words read.1.now ≡ words text.now)) }
+{
+    match text {
+        [digit @ b'0'..=b'9', b' ', rest @ ..] => Some((u32::from(*digit - b'0'), rest)),
+        _ => None,
+    }
 }
 
 /// The words that are left of a line. They are parted by single spaces, so one may be empty.
@@ -47,6 +59,7 @@ impl<'a> Words<'a> {
     }
 
     /// The next word. `Bad` comes where none is left.
+    #[inline(always)]
     pub fn word(&mut self) -> Result<&'a [u8], TextFault>
         ensures ok { IfOk result (λ word. word.now ∷ self.new ≡ self.old) }
         ensures err { OnErr result (self.old ≡ []) }
@@ -81,6 +94,7 @@ impl<'a> Words<'a> {
     }
 
     /// That no word is left. `Bad` comes where one is.
+    #[inline(always)]
     pub fn end(self) -> Result<(), TextFault>
         ensures { IsOk result ↔ (self.entry ≡ []) }
     {
@@ -92,12 +106,20 @@ impl<'a> Words<'a> {
     }
 
     /// The next word as a decimal number of 32 bits.
+    #[inline(always)]
     pub fn number(&mut self) -> Result<u32, TextFault>
         ensures ok { IfOk result (λ number. decimal number ∷ self.new ≡ self.old) }
         ensures fits { IfOk result (λ number. number < 2 ^ 32) }
         ensures read { (number : ℕ) (behind : List (List ℕ)) → number < 2 ^ 32 → decimal number ∷ behind ≡ self.old
             → IsRead result self.new behind }
     {
+        let Some(line) = self.rest else {
+            return Err(TextFault::Bad);
+        };
+        if let Some((digit, rest)) = split_digit(line) {
+            self.rest = Some(rest);
+            return Ok(digit);
+        }
         parse_u32(self.word()?).ok_or(TextFault::Bad)
     }
 
@@ -122,6 +144,7 @@ impl<'a> Words<'a> {
     }
 
     /// The next word as the number of a task.
+    #[inline(always)]
     pub fn task(&mut self) -> Result<TaskId, TextFault>
         ensures ok { IfOk result (λ task. decimal task ∷ self.new ≡ self.old) }
         ensures fits { IfOk result (λ task. task < 2 ^ 32) }
@@ -132,6 +155,7 @@ impl<'a> Words<'a> {
     }
 
     /// The next word as a name.
+    #[inline(always)]
     pub fn name(&mut self) -> Result<Name, TextFault>
         ensures ok { IfOk result (λ name. decimal name ∷ self.new ≡ self.old) }
         ensures fits { IfOk result (λ name. name < 2 ^ 32) }
@@ -142,6 +166,7 @@ impl<'a> Words<'a> {
     }
 
     /// The next two words as a task and a name of the task's.
+    #[inline(always)]
     pub fn task_and_name(&mut self) -> Result<(TaskId, Name), TextFault>
         ensures ok { IfOk result (λ read. decimal read.0 ∷ decimal read.1 ∷ self.new ≡ self.old) }
         ensures fits { IfOk result (λ read. (read.0 < 2 ^ 32) × (read.1 < 2 ^ 32)) }
@@ -151,18 +176,8 @@ impl<'a> Words<'a> {
         Ok((self.task()?, self.name()?))
     }
 
-    /// The next three words as a task and two names of the task's.
-    pub fn task_and_names(&mut self) -> Result<(TaskId, Name, Name), TextFault>
-        ensures ok { IfOk result (λ read. decimal read.0 ∷ decimal read.1 ∷ decimal read.2 ∷ self.new ≡ self.old) }
-        ensures fits { IfOk result (λ read. (read.0 < 2 ^ 32) × (read.1 < 2 ^ 32) × (read.2 < 2 ^ 32)) }
-        ensures read { (task name other : ℕ) (behind : List (List ℕ)) → task < 2 ^ 32 → name < 2 ^ 32 → other < 2 ^ 32
-            → decimal task ∷ decimal name ∷ decimal other ∷ behind ≡ self.old → IsRead result self.new behind }
-    {
-        let (task, name) = self.task_and_name()?;
-        Ok((task, name, self.name()?))
-    }
-
     /// The next three words as a task, a name of the task's, and a number.
+    #[inline(always)]
     pub fn task_name_and_number(&mut self) -> Result<(TaskId, Name, u32), TextFault>
         ensures ok { IfOk result (λ read. decimal read.0 ∷ decimal read.1 ∷ decimal read.2 ∷ self.new ≡ self.old) }
         ensures fits { IfOk result (λ read. (read.0 < 2 ^ 32) × (read.1 < 2 ^ 32) × (read.2 < 2 ^ 32)) }
@@ -198,6 +213,7 @@ impl<'a> Words<'a> {
     }
 
     /// The next word as a yes, `1`, or a no, `0`.
+    #[inline(always)]
     pub fn flag(&mut self) -> Result<bool, TextFault>
         ensures ok { IfOk result (λ flag. flag_text flag ∷ self.new ≡ self.old) }
         ensures read { (flag : Bool) (behind : List (List ℕ)) → flag_text flag ∷ behind ≡ self.old

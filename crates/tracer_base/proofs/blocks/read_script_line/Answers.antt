@@ -1,76 +1,55 @@
-use Rattle.std.proofs.Common.{rules, codes, IsOkUnless, ◌≡◌, ◌∷◌, ◌∙◌, sym, ap, subst}
-use Rattle.tracer_base.specs.declared.blocks.ScriptLine.TheVariants.{Call, Message, Thread}
-use Rattle.tracer_base.specs.declared.fault.TextFault.TheVariants.{OutOfMemory}
-use Rattle.tracer_base.specs.Blocks.{FitsSaid}
-use Rattle.tracer_base.specs.Words.{words}
-use Rattle.tracer_base.proofs.BlockLemmas.{said_word, said_arguments, said_split, said_read, is_plain-said_word, is_thread, is_message}
-use Rattle.tracer_base.proofs.WordLemmas.{IsAscii-plain}
+use Rattle.std.proofs.Common.{rules, codes, ◌≡◌, ◌∷◌, ◌∙◌, ap, refl}
+use Rattle.std.specs.List.{slice_index_or}
+use Rattle.tracer_base.proofs.BlockLemmas.{said_read, call_of, no_block}
+use Rattle.tracer_base.proofs.WordLemmas.{IsWord-plain, four_letters}
 use Rattle.tracer_base.proofs.blocks.read_script_line.Goals as goal
 
-pub returns-in_err-keyword-clause-each : goal.returns-in_err-keyword-clause-each
-returns-in_err-keyword-clause-each c =
+pub returns-in-115-clause-ok : goal.returns-in-115-clause-ok
+returns-in-115-clause-ok c =
+    let is_0 : slice_index_or c.args.text.now 0 0 ≡ 115 = search rules in
+    let is_1 : slice_index_or c.args.text.now 1 0 ≡ 101 = search rules in
+    let is_2 : slice_index_or c.args.text.now 2 0 ≡ 110 = search rules in
+    let is_3 : slice_index_or c.args.text.now 3 0 ≡ 100 = search rules in
+    let is_4 : slice_index_or c.args.text.now 4 0 ≡ 32 = search rules in
+    let first = four_letters 115 101 110 100 c.args.text.now (IsWord-plain (codes "send") refl) c.in-115.len_at_least is_0 is_1 is_2 is_3 is_4 in
+    let found = ap (λ ws. codes "send" ∷ ws) c.of.ensures ∙ first in
+    said_read c.read_other.result (codes "send" ∷ c.of.result) c.args.text.now found c.read_other.ensures.ok
+
+pub returns-in-115-clause-each : goal.returns-in-115-clause-each
+returns-in-115-clause-each c =
     λ said fits same.
-    let split = said_split said _ fits same ∙ sym c.of-words.ensures in
-    let read = c.keyword.ensures.read (said_word said) (said_arguments said) (IsAscii-plain (said_word said) (is_plain-said_word said)) split in
-    search (rules, read)
+    let is_0 : slice_index_or c.args.text.now 0 0 ≡ 115 = search rules in
+    let is_1 : slice_index_or c.args.text.now 1 0 ≡ 101 = search rules in
+    let is_2 : slice_index_or c.args.text.now 2 0 ≡ 110 = search rules in
+    let is_3 : slice_index_or c.args.text.now 3 0 ≡ 100 = search rules in
+    let is_4 : slice_index_or c.args.text.now 4 0 ≡ 32 = search rules in
+    let first = four_letters 115 101 110 100 c.args.text.now (IsWord-plain (codes "send") refl) c.in-115.len_at_least is_0 is_1 is_2 is_3 is_4 in
+    let found = ap (λ ws. codes "send" ∷ ws) c.of.ensures ∙ first in
+    let no = no_block (codes "send") refl in
+    let call = call_of said (codes "send") c.of.result c.args.text.now fits same found no.0 no.1 in
+    c.read_other.ensures.each call.0 call.1 call.2 call.3
 
-pub returns-in-thread-clause-ok : goal.returns-in-thread-clause-ok
-returns-in-thread-clause-ok c =
-    let is = c.in-thread.is in
-    let first = c.in_ok-keyword.ensures.ok in
-    let whole = c.of-words.ensures in
-    let split : codes "thread" ∷ c.keyword.new.self ≡ words c.args.text.now = cc in
-    said_read c.read_thread.result _ _ split c.read_thread.ensures.ok
+pub returns-in-114-clause-ok : goal.returns-in-114-clause-ok
+returns-in-114-clause-ok c =
+    let is_0 : slice_index_or c.args.text.now 0 0 ≡ 114 = search rules in
+    let is_1 : slice_index_or c.args.text.now 1 0 ≡ 101 = search rules in
+    let is_2 : slice_index_or c.args.text.now 2 0 ≡ 99 = search rules in
+    let is_3 : slice_index_or c.args.text.now 3 0 ≡ 118 = search rules in
+    let is_4 : slice_index_or c.args.text.now 4 0 ≡ 32 = search rules in
+    let first = four_letters 114 101 99 118 c.args.text.now (IsWord-plain (codes "recv") refl) c.in-114.len_at_least is_0 is_1 is_2 is_3 is_4 in
+    let found = ap (λ ws. codes "recv" ∷ ws) c.of-in-114.ensures ∙ first in
+    said_read c.read_other-in-114.result (codes "recv" ∷ c.of-in-114.result) c.args.text.now found c.read_other-in-114.ensures.ok
 
-pub returns-in-thread-clause-each : goal.returns-in-thread-clause-each
-returns-in-thread-clause-each c =
+pub returns-in-114-clause-each : goal.returns-in-114-clause-each
+returns-in-114-clause-each c =
     λ said fits same.
-    let is = c.in-thread.is in
-    let first = c.in_ok-keyword.ensures.ok in
-    let whole = c.of-words.ensures in
-    let split = said_split said _ fits same in
-    let word : said_word said ≡ codes "thread" = cc in
-    let named = is_thread said word in
-    let spelled : said_arguments said ≡ c.keyword.new.self = cc in
-    c.read_thread.ensures.each named.0 (subst FitsSaid named.1 fits) (ap said_arguments (sym named.1) ∙ spelled)
-
-pub returns-in-msg-clause-ok : goal.returns-in-msg-clause-ok
-returns-in-msg-clause-ok c =
-    let is = c.in-msg.is in
-    let first = c.in_ok-keyword.ensures.ok in
-    let whole = c.of-words.ensures in
-    let split : codes "msg" ∷ c.keyword.new.self ≡ words c.args.text.now = cc in
-    said_read c.read_message.result _ _ split c.read_message.ensures.ok
-
-pub returns-in-msg-clause-each : goal.returns-in-msg-clause-each
-returns-in-msg-clause-each c =
-    λ said fits same.
-    let is = c.in-msg.is in
-    let first = c.in_ok-keyword.ensures.ok in
-    let whole = c.of-words.ensures in
-    let split = said_split said _ fits same in
-    let word : said_word said ≡ codes "msg" = cc in
-    let named = is_message said word in
-    let spelled : said_arguments said ≡ c.keyword.new.self = cc in
-    c.read_message.ensures.each named.0 (subst FitsSaid named.1 fits) (ap said_arguments (sym named.1) ∙ spelled)
-
-pub returns-in_default-clause-ok : goal.returns-in_default-clause-ok
-returns-in_default-clause-ok c =
-    let first = c.in_ok-keyword.ensures.ok in
-    let whole = c.of-words.ensures in
-    let split : c.in_ok-keyword.keyword.now ∷ c.keyword.new.self ≡ words c.args.text.now = cc in
-    said_read c.read_other.result _ _ split c.read_other.ensures.ok
-
-pub returns-in_default-clause-each : goal.returns-in_default-clause-each
-returns-in_default-clause-each c =
-    λ said fits same.
-    let first = c.in_ok-keyword.ensures.ok in
-    let whole = c.of-words.ensures in
-    let split = said_split said _ fits same in
-    let word : said_word said ≡ c.in_ok-keyword.keyword.now = cc in
-    let spelled : said_arguments said ≡ c.keyword.new.self = cc in
-    elim said as (λ s. FitsSaid s → said_word s ≡ c.in_ok-keyword.keyword.now → said_arguments s ≡ c.keyword.new.self → IsOkUnless c.read_other.result OutOfMemory) [
-      | Call event ↦ λ fits word spelled. c.read_other.ensures.each event fits word spelled
-      | Message call ↦ λ fits word spelled. absurd (c.in_default.not-msg (sym word))
-      | Thread number ↦ λ fits word spelled. absurd (c.in_default.not-thread (sym word))
-    ] fits word spelled
+    let is_0 : slice_index_or c.args.text.now 0 0 ≡ 114 = search rules in
+    let is_1 : slice_index_or c.args.text.now 1 0 ≡ 101 = search rules in
+    let is_2 : slice_index_or c.args.text.now 2 0 ≡ 99 = search rules in
+    let is_3 : slice_index_or c.args.text.now 3 0 ≡ 118 = search rules in
+    let is_4 : slice_index_or c.args.text.now 4 0 ≡ 32 = search rules in
+    let first = four_letters 114 101 99 118 c.args.text.now (IsWord-plain (codes "recv") refl) c.in-114.len_at_least is_0 is_1 is_2 is_3 is_4 in
+    let found = ap (λ ws. codes "recv" ∷ ws) c.of-in-114.ensures ∙ first in
+    let no = no_block (codes "recv") refl in
+    let call = call_of said (codes "recv") c.of-in-114.result c.args.text.now fits same found no.0 no.1 in
+    c.read_other-in-114.ensures.each call.0 call.1 call.2 call.3

@@ -1,24 +1,23 @@
-use Rattle.std.proofs.Common.{◌<◌, ◌≤◌, get_or, ap, sym, ◌∙◌, Some, arith}
-use Rattle.std.proofs.lemmas.Bool.Decides.{nat_tests}
+use Rattle.std.proofs.Common.{◌≡◌, ◌<◌, get_or, sym, ◌∙◌, arith, subst, refl}
 use Rattle.tracer_base.specs.declared.hexadecimal.TheConstants.{VALUES}
-use Rattle.tracer_base.proofs.HexLemmas.{value_in_values, digit_value-spelled, digit_value-hex_digit}
+use Rattle.tracer_base.proofs.HexLemmas.{digit_value, value_in_values, digit_value-most, digit_value-small, digit_value-spelled, digit_value-hex_digit}
 use Rattle.tracer_base.proofs.hexadecimal.value_of.Goals as goal
 
-pub returns-then-value-lt16-clause-spelled : goal.returns-then-value-lt16-clause-spelled
-returns-then-value-lt16-clause-spelled c =
-    let small : get_or VALUES c.from.result 0 < 16 = grind (arith, nat_tests) in
+pub returns-clause-most : goal.returns-clause-most
+returns-clause-most c =
     let found = value_in_values c.from.result (omega (arith, c.from.ensures)) in
-    digit_value-spelled c.from.result (get_or VALUES c.from.result 0) (sym found) small ∙ c.from.ensures
+    rw found (digit_value-most c.from.result)
 
-pub returns-then-value-lt16-clause-each : goal.returns-then-value-lt16-clause-each
-returns-then-value-lt16-clause-each c =
+pub returns-clause-spelled : goal.returns-clause-spelled
+returns-clause-spelled c =
+    λ below.
+    let found = value_in_values c.from.result (omega (arith, c.from.ensures)) in
+    let some : digit_value c.from.result < 256 = subst (λ n. n < 256) found below in
+    let small = digit_value-small c.from.result some in
+    rw found (small, digit_value-spelled c.from.result (digit_value c.from.result) refl small ∙ c.from.ensures)
+
+pub returns-clause-each : goal.returns-clause-each
+returns-clause-each c =
     λ value small same.
     let found = value_in_values c.from.result (omega (arith, c.from.ensures)) in
-    ap Some (found ∙ digit_value-hex_digit c.from.result value small (same ∙ sym c.from.ensures))
-
-pub returns-else-value-lt16-clause-each : goal.returns-else-value-lt16-clause-each
-returns-else-value-lt16-clause-each c =
-    λ value small same.
-    let big : 16 ≤ get_or VALUES c.from.result 0 = grind (arith, nat_tests) in
-    let found = value_in_values c.from.result (omega (arith, c.from.ensures)) ∙ digit_value-hex_digit c.from.result value small (same ∙ sym c.from.ensures) in
-    absurd (omega (arith, big, small, found))
+    found ∙ digit_value-hex_digit c.from.result value small (same ∙ sym c.from.ensures)
