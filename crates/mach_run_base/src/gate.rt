@@ -158,6 +158,7 @@ impl<'a, R: Wait> Gate for BlockGate<'a, R> {
         unreachable!()
     }
 
+    #[inline(always)]
     fn stepped(&mut self, changed: bool) {
         if changed {
             self.hall.guests.lock(self.rt).change();

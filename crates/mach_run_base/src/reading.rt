@@ -61,6 +61,7 @@ fn read_lines<'a, B: BufRead>(
 }
 
 /// Reads the next line into `line`, with its line feed, and answers its length: 0 at the end.
+#[inline(always)]
 pub(crate) fn next_line<'a, B: BufRead>(
     name: &'a str,
     reader: &mut B,
@@ -83,6 +84,7 @@ pub(crate) fn next_line<'a, B: BufRead>(
 /// whether it has.
 ///
 /// An interrupted read has nothing at hand.
+#[inline(always)]
 fn take_line<B: BufRead>(reader: &mut B, line: &mut Vec<u8>) -> io::Result<bool>
     ensures some { result ≡ Ok true → 0 < length line.new.items }
     ensures taken { result ≡ Ok true → IfSome (B.remaining reader.old) (λ left. line.new.items ≡ take_through 10 left) }
@@ -115,6 +117,7 @@ fn unless_interrupted(error: io::Error) -> io::Result<bool>
 }
 
 /// Reads the next line as [`next_line`] does, with more reads where it takes them.
+#[inline(never)]
 fn read_line<'a, B: BufRead>(
     name: &'a str,
     reader: &mut B,

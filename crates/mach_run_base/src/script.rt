@@ -45,6 +45,7 @@ impl Script {
     ///
     /// `Bad` comes where it is no call, no message call and no beginning of a block, or begins a block whose
     /// number was there; `OutOfMemory` where memory is refused.
+    #[inline(always)]
     pub(crate) fn read_line(&mut self, alloc: Global, line: &[u8]) -> Result<(), TextFault>
         requires { IsScript (said_script self.old) }
         ensures ok { OnOk result ((said : AnyLine) × (said_line said ≡ line.now) × (said_script self.new ≡ said_script self.old ++ said ∷ [])) }
@@ -84,6 +85,7 @@ impl Script {
     }
 
     /// One more call of the last block, or of the main thread where there is no block.
+    #[inline(never)]
     fn add_call(&mut self, call: Call) -> Result<(), TextFault>
         ensures ok { OnOk result (said_script self.new ≡ said_script self.old ++ said_call call ∷ []) }
         ensures memory { result ≡ Err TextFault.Bad → ⊥ }
@@ -98,6 +100,7 @@ impl Script {
     }
 
     /// One more block, as yet without calls. `Bad` comes where its number was there.
+    #[inline(never)]
     fn begin_block(&mut self, alloc: Global, number: u32) -> Result<(), TextFault>
         ensures ok { OnOk result (said_script self.new ≡ said_script self.old ++ AnyLine.Thread number ∷ []) }
         ensures new { OnOk result (has_number self.old.blocks.items number ≡ false) }
