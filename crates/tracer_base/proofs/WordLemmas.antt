@@ -1,5 +1,5 @@
 -- Lines and their words.
-use Rattle.std.proofs.Common.{◌≡◌, ◌≢◌, ℕ, ◌-◌, ◌<◌, ◌≤◌, ◌^◌, ◌==◌, decimal, Bool, true, false, List, [], ◌∷◌, ◌++◌, All, length, take, drop, refl, sym, ◌∙◌, ap, subst, arith, nat_lt, ◌&&◌, append-nil, map, flat_map}
+use Rattle.std.proofs.Common.{◌≡◌, ◌≢◌, ℕ, ◌+◌, ◌*◌, ◌/◌, ◌%◌, ◌-◌, ◌<◌, ◌≤◌, ◌^◌, ◌==◌, decimal, Bool, true, false, List, [], ◌∷◌, ◌++◌, All, length, take, drop, refl, sym, ◌∙◌, ap, subst, arith, nat_lt, ◌&&◌, append-nil, map, flat_map}
 use Rattle.std.specs.List.{list_all, slice_index_or}
 use Rattle.std.proofs.lemmas.List.{take_rest}
 use Rattle.std.specs.Str.{IsAscii}
@@ -8,7 +8,7 @@ use Rattle.std.proofs.lemmas.Bool.{ne_eqb, and_parts, ltb-true}
 use Rattle.std.proofs.lemmas.List.Elements.{All-weaker, All-nil, All-cons, All-append, All-head, All-tail}
 use Rattle.std.proofs.lemmas.Grind.{flat_map-append}
 use Rattle.std.proofs.lemmas.List.Splits.{slice_split_none, slice_split_at, length-slice_split, join_with_byte-slice_split}
-use Rattle.std.proofs.lemmas.Fmt.{decimal_digit}
+use Rattle.std.proofs.lemmas.Fmt.{decimal_digit, decimal_step}
 use Rattle.tracer_base.specs.Replies.{typed_name_text}
 use Rattle.tracer_base.specs.Text.{code_text}
 use Rattle.tracer_base.specs.Words.{line, words, Lacks, IsWord}
@@ -54,6 +54,16 @@ words-line word (next ∷ others) plain =
 pub word_then : (word rest text : List ℕ) → IsWord word → word ++ 32 ∷ rest ≡ text → word ∷ words rest ≡ words text
 word_then word rest text plain same = words-more word rest text (Lacks-IsWord 32 word (omega arith) plain) same
 
+-- the text of a number of two digits
+two_digits : (x y : ℕ) → 1 ≤ x → x < 10 → y < 10 → decimal (x * 10 + y) ≡ (48 + x) ∷ (48 + y) ∷ []
+two_digits x y some small small_y =
+    let tens : (x * 10 + y) / 10 ≡ x = omega arith in
+    let ones : (x * 10 + y) % 10 ≡ y = omega arith in
+    decimal_step (x * 10 + y) (omega arith) (omega arith)
+    ∙ ap (λ n. decimal n ++ (48 + (x * 10 + y) % 10) ∷ []) tens
+    ∙ ap (λ n. decimal x ++ (48 + n) ∷ []) ones
+    ∙ ap (λ text. text ++ (48 + y) ∷ []) (decimal_digit x small)
+
 -- a text whose first bytes are four letters and a space has the letters' word first
 pub four_letters : (a b c d : ℕ) (text : List ℕ) → IsWord (a ∷ b ∷ c ∷ d ∷ []) → 5 ≤ length text → slice_index_or text 0 0 ≡ a → slice_index_or text 1 0 ≡ b → slice_index_or text 2 0 ≡ c → slice_index_or text 3 0 ≡ d
     → slice_index_or text 4 0 ≡ 32 → (a ∷ b ∷ c ∷ d ∷ []) ∷ words (take (length text - 5) (drop 5 text)) ≡ words text
@@ -72,12 +82,28 @@ first_two [] some = absurd (omega (arith, some))
 first_two (a ∷ []) some = absurd (omega (arith, some))
 first_two (a ∷ b ∷ rest) some = ap (λ tail. a ∷ b ∷ tail) (take_rest (a ∷ b ∷ rest) 2)
 
+pub first_three : (text : List ℕ) → 3 ≤ length text → slice_index_or text 0 0 ∷ slice_index_or text 1 0 ∷ slice_index_or text 2 0 ∷ take (length text - 3) (drop 3 text) ≡ text
+first_three [] some = absurd (omega (arith, some))
+first_three (a ∷ []) some = absurd (omega (arith, some))
+first_three (a ∷ b ∷ []) some = absurd (omega (arith, some))
+first_three (a ∷ b ∷ c ∷ rest) some = ap (λ tail. a ∷ b ∷ c ∷ tail) (take_rest (a ∷ b ∷ c ∷ rest) 3)
+
 -- a digit before a space is the first word, that of its number
 pub digit_then : (digit : ℕ) (rest text : List ℕ) → 48 ≤ digit → digit ≤ 57 → digit ∷ 32 ∷ rest ≡ text → decimal (digit - 48) ∷ words rest ≡ words text
 digit_then digit rest text least most same =
     let number : decimal (digit - 48) ≡ digit ∷ [] = decimal_digit (digit - 48) (omega arith) ∙ ap (λ (byte : ℕ). byte ∷ []) (omega arith) in
     ap (λ word. word ∷ words rest) number
     ∙ word_then (digit ∷ []) rest text (All-cons (λ byte. 32 < byte) digit [] (omega arith) (All-nil (λ byte. 32 < byte))) same
+
+-- and so are two, of which the first is no zero
+pub two_digits_then : (a b : ℕ) (rest text : List ℕ) → 49 ≤ a → a ≤ 57 → 48 ≤ b → b ≤ 57 → a ∷ b ∷ 32 ∷ rest ≡ text → decimal ((a - 48) * 10 + (b - 48)) ∷ words rest ≡ words text
+two_digits_then a b rest text least most least_b most_b same =
+    let first : 48 + (a - 48) ≡ a = omega arith in
+    let second : 48 + (b - 48) ≡ b = omega arith in
+    let number : decimal ((a - 48) * 10 + (b - 48)) ≡ a ∷ b ∷ [] =
+    two_digits (a - 48) (b - 48) (omega arith) (omega arith) (omega arith) ∙ ap (λ n. n ∷ (48 + (b - 48)) ∷ []) first ∙ ap (λ n. a ∷ n ∷ []) second in
+    let plain : IsWord (a ∷ b ∷ []) = All-cons (λ byte. 32 < byte) a (b ∷ []) (omega arith) (All-cons (λ byte. 32 < byte) b [] (omega arith) (All-nil (λ byte. 32 < byte))) in
+    ap (λ word. word ∷ words rest) number ∙ word_then (a ∷ b ∷ []) rest text plain same
 
 -- a text is the line of its words
 pub line-words : (text : List ℕ) → line (words text) ≡ text

@@ -12,10 +12,10 @@ use std::io;
 use std::io::Write;
 
 /// How many bytes have their digits written at once.
-pub const BLOCK: usize = 32;
+pub(crate) const BLOCK: usize = 32;
 
 /// How many bytes the line of a short message has: its keyword, a block's digits and the line feed.
-pub const LINE: usize = 73;
+pub(crate) const LINE: usize = 73;
 
 /// The two digits of each byte, one byte after another.
 const PAIRS: [u8; 512] = *b"\
@@ -186,7 +186,7 @@ fn write_block<W: Write>(bytes: &[u8], out: &mut W) -> io::Result<()>
 
 /// Puts the digits of a block's bytes at the end of the line, two digits a byte.
 #[inline(always)]
-pub fn push_digits(bytes: &[u8], line: &mut ArrayVec<u8, LINE>)
+pub(crate) fn push_digits(bytes: &[u8], line: &mut ArrayVec<u8, LINE>)
     requires { length line.old.items + 2 * length bytes.now ≤ 73 }
     ensures { line.new.items ≡ line.old.items ++ hex_digits bytes.now }
 {

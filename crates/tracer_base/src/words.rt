@@ -27,13 +27,16 @@ pub fn split_once(text: &[u8], byte: u8) -> Option<(&[u8], &[u8])>
     Some((&text[..end], &text[end + 1..]))
 }
 
-/// The number of one digit that is the first word, and what stands behind its space.
+/// The number of one digit or two that is the first word, and what stands behind its space.
 #[inline(always)]
-fn split_digit(text: &[u8]) -> Option<(u32, &[u8])>
-    ensures { IfSome result (λ read. (read.0 < 10) × (decimal read.0 ∷ words read.1.now ≡ words text.now)) }
+fn split_small(text: &[u8]) -> Option<(u32, &[u8])>
+    ensures { IfSome result (λ read. (read.0 < 100) × (decimal read.0 ∷ words read.1.now ≡ words text.now)) }
 {
     match text {
         [digit @ b'0'..=b'9', b' ', rest @ ..] => Some((u32::from(*digit - b'0'), rest)),
+        [tens @ b'1'..=b'9', ones @ b'0'..=b'9', b' ', rest @ ..] => {
+            Some((u32::from(*tens - b'0') * 10 + u32::from(*ones - b'0'), rest))
+        }
         _ => None,
     }
 }
@@ -116,9 +119,9 @@ impl<'a> Words<'a> {
         let Some(line) = self.rest else {
             return Err(TextFault::Bad);
         };
-        if let Some((digit, rest)) = split_digit(line) {
+        if let Some((number, rest)) = split_small(line) {
             self.rest = Some(rest);
-            return Ok(digit);
+            return Ok(number);
         }
         parse_u32(self.word()?).ok_or(TextFault::Bad)
     }
