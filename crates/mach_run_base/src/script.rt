@@ -59,6 +59,7 @@ impl Script {
     }
 
     /// The same of a line without its line feed.
+    #[inline(never)]
     fn read_text(&mut self, alloc: Global, text: &[u8]) -> Result<(), TextFault>
         requires { IsScript (said_script self.old) }
         ensures ok { OnOk result ((said : AnyLine) × (said_text said ≡ text.now) × (said_script self.new ≡ said_script self.old ++ said ∷ [])) }
