@@ -22,6 +22,7 @@ pub mod After
 pub mod Front
 pub mod Delivered
 pub mod PlainTaken
+pub mod BareTaken
 pub mod Counting
 pub mod Counted
 pub mod Rooms

@@ -1,6 +1,6 @@
 -- The ports that rights name, marked.
 use Rattle.std.proofs.Common.{◌≡◌, ◌≢◌, ℕ, ◌<◌, ◌%◌, List, [], ◌∷◌, ◌++◌, Option, Some, None, refl, sym, ap, subst, ◌∙◌, true, false, Bool, inl, inr, ◌⊎◌, length, get_or}
-use Rattle.std.specs.Prelude.{slice_get, slice_set, is_some, IfSome, IfNone, MatchBool}
+use Rattle.std.specs.Prelude.{slice_get, slice_set, is_some, IfSome, IfNone}
 use Rattle.std.specs.FinMap as map
 use Rattle.std.proofs.lemmas.Option.{slice_get-get_or}
 use Rattle.std.proofs.lemmas.Nat.{mod_below}
@@ -13,7 +13,7 @@ use Rattle.copyin_base.specs.declared.message.Mark.TheVariants as mark
 use Rattle.copyin_base.proofs.Gets.{get-set_same, get-set_other, length-set}
 use Rattle.copyin_base.specs.Kept.{Kept}
 use Rattle.port.specs.Ports.{PortsView}
-use Rattle.copyout.specs.Room.{names_port, named_by, HasNone, IsNamed, IsMarked, Marks, Owns, Shares}
+use Rattle.copyout.specs.Room.{names_port, named_by, HasNone, IsNamed, IsMarked, Marks, OwnsAlone, Shares, Needs}
 use Rattle.copyout.proofs.After.{kind_cases}
 use Rattle.copyout.proofs.Counting.{named_by-push, or_true, names_own, same_port}
 
@@ -81,11 +81,16 @@ shared_none (Some name) P is h = absurd (let e : true ≡ false = is in cc)
 shared_none None P is h = h
 
 -- With none before it, a right needs a name of its own where its port is there and it shares no name.
-pub needs_first : (ports : PortsView Kept) (names : Names) (c : Carried) (port : ℕ) → c.mark ≡ mark.Port port → (kind_sent c.given ≢ send_once → HasNone names port) →
-    (there : Bool) → there ≡ is_some (map.get ports.ports port) → MatchBool there (Owns ports names [] c) (Shares ports names [] c)
-needs_first ports names c port is none true there =
-    record { port = port; for_port = is; there = sym there; own = elim (kind_cases (kind_sent c.given)) [ inl once ↦ inl once | inr not ↦ inr (none not, refl) ] }
-needs_first ports names c port is none false there = inl (λ p e. subst (λ (q : ℕ). is_some (map.get ports.ports q) ≡ false) (same_port port p (sym is ∙ e)) (sym there))
+module _ (ports : PortsView Kept) (names : Names) (c : Carried) (port : ℕ) where
+  pub owns_alone : c.mark ≡ mark.Port port → (kind_sent c.given ≢ send_once → HasNone names port) → is_some (map.get ports.ports port) ≡ true → OwnsAlone ports names c port
+  owns_alone is none there =
+      record { for_port = is; there = there; own = elim (kind_cases (kind_sent c.given)) [ inl once ↦ inl once | inr not ↦ inr (none not) ] }
+
+  pub shares_gone : c.mark ≡ mark.Port port → is_some (map.get ports.ports port) ≡ false → Shares ports names [] c
+  shares_gone is gone = inl (λ p e. subst (λ (q : ℕ). is_some (map.get ports.ports q) ≡ false) (same_port port p (sym is ∙ e)) gone)
+
+  pub needs_alone : OwnsAlone ports names c port → Needs ports names [] (c ∷ []) 1
+  needs_alone o = inl (record { port = port; for_port = o.for_port; there = o.there; own = elim o.own [ inl once ↦ inl once | inr none ↦ inr (none, refl) ] }, (0, refl, refl))
 
 pub place_there : (marks : List Bool) (port : ℕ) → 0 < length marks → (old : Bool) × (slice_get marks (port % length marks) ≡ Some old)
 place_there marks port some = (get_or marks (port % length marks) false, slice_get-get_or marks (port % length marks) false (mod_below port (length marks) some))

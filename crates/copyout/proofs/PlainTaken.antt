@@ -1,8 +1,8 @@
--- A message that carries nothing beside its bytes: no right is given, and no name is needed.
-use Rattle.std.proofs.Common.{◌≡◌, ℕ, ◌+◌, ◌*◌, ◌^◌, ◌<◌, ◌≤◌, ◌++◌, List, [], Option, None, refl, sym, ap, subst, ◌∙◌, arith, length}
+-- A message whose body carries no rights; and one that carries nothing beside its bytes: no right is given, and no name is needed.
+use Rattle.std.proofs.Common.{◌≡◌, ℕ, ◌+◌, ◌*◌, ◌^◌, ◌<◌, ◌≤◌, ◌++◌, List, [], Option, refl, sym, ap, subst, ◌∙◌, arith, length}
 use Rattle.std.specs.Prelude.{if◌then◌else◌, min}
 use Rattle.std.specs.Option.{option_to_list}
-use Rattle.mach_types.specs.Numbers.{most_bytes, null_word}
+use Rattle.mach_types.specs.Numbers.{most_bytes}
 use Rattle.mach_types.specs.Grammar.{WireBody, body_text}
 use Rattle.message_codec.specs.declared.header.Header.{Header}
 use Rattle.message_codec.specs.declared.spans.Span.{Span}
@@ -27,19 +27,18 @@ use Rattle.copyout.proofs.Rooms.{judged_front, returns_slot, room_for_none}
 carries_none : (m : Kept) → IsPlain m → carried_by m ≡ []
 carries_none m p = ap (λ (o : Option Carried). option_to_list o ++ m.rights) p.no_reply ∙ p.no_rights
 
--- It is delivered where its header is reversed; no right is given.
-pub delivers_plain : (w : WorldView) (task : ℕ) (m : Kept) (local sequence : ℕ) (bytes : List ℕ) (h : Header) → IsPlain m →
-    h.bits ≡ reply_number None + (if m.by_once then 18 else 17) * 2 ^ 8 + (if m.is_complex then 2 ^ 31 else 0) →
-    h.size ≡ length m.bytes → h.remote ≡ null_word → h.local ≡ local → h.sequence ≡ sequence → h.id ≡ m.id →
+-- A message whose body carries no rights is delivered where its right to answer with, if it has one, is given, and its header is reversed.
+pub delivers_bare : (w new : WorldView) (task : ℕ) (m : Kept) (local sequence : ℕ) (words bytes : List ℕ) (h : Header) → m.spans ≡ [] → m.rights ≡ [] →
+    GivesAll w task (option_to_list m.reply) words new →
+    h.bits ≡ reply_number m.reply + (if m.by_once then 18 else 17) * 2 ^ 8 + (if m.is_complex then 2 ^ 31 else 0) →
+    h.size ≡ length m.bytes → h.remote ≡ reply_word m.reply words → h.local ≡ local → h.sequence ≡ sequence → h.id ≡ m.id →
     ((written : WireBody) → IsLaidOut m.bytes [] written → bytes ≡ header_text h ++ body_text (received_body written [])) →
-    Delivers w task m local sequence bytes w
-delivers_plain w task m local sequence bytes h p bits size remote local_is sequence_is id put =
-    delivers w w w task m local sequence [] [] bytes h
-    (subst (λ (o : Option Carried). GivesAll w task (option_to_list o) [] w) (sym p.no_reply) refl)
-    (subst (λ (xs : List Carried). GivesAll w task xs [] w) (sym p.no_rights) refl)
-    (bits ∙ ap (λ (o : Option Carried). reply_number o + (if m.by_once then 18 else 17) * 2 ^ 8 + (if m.is_complex then 2 ^ 31 else 0)) (sym p.no_reply))
-    size (remote ∙ ap (λ (o : Option Carried). reply_word o []) (sym p.no_reply)) local_is sequence_is id
-    (λ written laid. put written (subst (λ (ss : List Span). IsLaidOut m.bytes ss written) p.no_spans laid))
+    Delivers w task m local sequence bytes new
+delivers_bare w new task m local sequence words bytes h no_spans no_rights gives bits size remote local_is sequence_is id put =
+    delivers w new new task m local sequence words [] bytes h gives
+    (subst (λ (xs : List Carried). GivesAll new task xs [] new) (sym no_rights) refl)
+    bits size remote local_is sequence_is id
+    (λ written laid. put written (subst (λ (ss : List Span). IsLaidOut m.bytes ss written) no_spans laid))
 
 module _ (w : WorldView) (task port room local : ℕ) (is_task : HasTask w task) (m : Kept) (f : HasFront w port m) (p : IsPlain m) where
   -- what is told of its receipt, whichever task gets it

@@ -78,10 +78,10 @@ ready_after w w2 task port room capacity needed x m r fit =
 -- ---- what can be given once the front message was taken
 
 -- the ports that are there, and what the task has, are the same
-front_live : (w mid : WorldView) (port : ℕ) (t : TakesFront w port mid) (p : ℕ) → is_some (port_at mid p) ≡ is_some (port_at w p)
+pub front_live : (w mid : WorldView) (port : ℕ) (t : TakesFront w port mid) (p : ℕ) → is_some (port_at mid p) ≡ is_some (port_at w p)
 front_live w mid port t p = ap (λ (x : WorldView). is_some (port_at x p)) t.rest ∙ live_put w.ports.ports port _ (λ q. is_some (port_at w q)) (ap is_some t.there) (λ q. refl) p
 
-front_there : (w mid : WorldView) (task port : ℕ) (t : TakesFront w port mid) (space : SpaceView) → space_at w task ≡ Some space → space_at mid task ≡ Some space
+pub front_there : (w mid : WorldView) (task port : ℕ) (t : TakesFront w port mid) (space : SpaceView) → space_at w task ≡ Some space → space_at mid task ≡ Some space
 front_there w mid task port t space there = ap (λ (x : WorldView). space_at x task) t.rest ∙ there
 
 -- no port is lost

@@ -4,5 +4,6 @@ pub mod Room
 pub mod Ready
 pub mod Prepared
 pub mod Plain
+pub mod Bare
 pub mod Wanted
 pub mod Putting

@@ -44,6 +44,12 @@ pub record Owns (ports : PortsView Kept) (names : Names) (earlier : List Carried
   pub there : IsThere ports port
   pub own : (kind_sent c.given ≡ send_once) ⊎ (HasNone names port × (named_by earlier port ≡ false))
 
+-- With none before it, the right is for this port and needs a name of its own.
+pub record OwnsAlone (ports : PortsView Kept) (names : Names) (c : Carried) (port : ℕ) : Type 0 where
+  pub for_port : c.mark ≡ mark.Port port
+  pub there : IsThere ports port
+  pub own : (kind_sent c.given ≡ send_once) ⊎ HasNone names port
+
 -- It needs none: there is no port, or the port has a name.
 abbrev pub Shares : PortsView Kept → Names → (earlier : List Carried) → Carried → Type 0
 Shares ports names earlier c =

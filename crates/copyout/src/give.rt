@@ -151,8 +151,8 @@ pub(crate) fn put_alone(
     world.insert_entry(task, name, alone(given, port));
 }
 
-// The right comes under a fresh name.
-fn take_name(world: &mut World, task: TaskId, given: Disposition, port: PortId) -> Name
+/// The right comes under a fresh name.
+pub(crate) fn take_name(world: &mut World, task: TaskId, given: Disposition, port: PortId) -> Name
     requires { CanTakeName world.old task (kind_sent given) port }
     ensures { GivesPort world.old task (kind_sent given) port result world.new }
 {

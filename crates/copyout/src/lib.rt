@@ -5,6 +5,7 @@
 //! [`put_right`] gives it a name that the caller chose.
 #![tactic(auto)]
 
+mod bare;
 mod give;
 mod plain;
 mod put;

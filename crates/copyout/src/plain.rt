@@ -1,17 +1,19 @@
 //! Receiving a message that carries nothing beside its bytes, as most do.
-ghost use Rattle.std.specs.Prelude.{◌≡◌, ℕ, ◌<◌, ◌≤◌, length, min, IfOk, IfErr, IfSome};
+ghost use Rattle.std.specs.Prelude.{◌≡◌, ℕ, ◌<◌, ◌≤◌, [], List, false, length, min, IfOk, IfErr, IfSome};
+ghost use Rattle.std.specs.Option.{option_to_list};
 ghost use Rattle.mach_types.specs.Grammar.{WireBody};
 ghost use Rattle.mach_types.specs.Numbers.{most_bytes};
 ghost use Rattle.message_codec.specs.Received.{IsLaidOut};
 ghost use Rattle.copyin_base.specs.Kept.{Kept};
 ghost use Rattle.copyin_base.specs.Worlds.{WorldView};
+ghost use Rattle.copyout.specs.Giving.{GivesAll};
 ghost use Rattle.copyout.specs.Plain.{IsPlain};
-ghost use Rattle.copyout.specs.Takes.{TakesMessage, NotesFront};
+ghost use Rattle.copyout.specs.Takes.{TakesMessage, NotesFront, reply_word};
 ghost use Rattle.copyout.specs.Ready.{Waits, HasFront, Delivers};
 ghost use Rattle.copyout.specs.declared.receipt.Refusal.TheVariants as refused;
 
 use crate::receipt::{Refusal, header_bits, note_front, spell, take_front};
-use copyin_base::{Message, Queued, Slot, World};
+use copyin_base::{Carried, Message, Queued, Slot, World};
 use mach_types::{Bytes, Name, PortId};
 use message_codec::Header;
 
@@ -33,10 +35,10 @@ pub(crate) fn plain_len(queued: &Queued) -> Option<usize>
     }
 }
 
-// The message, which was sent.
+/// The message, which was sent.
 #[inline(always)]
-fn into_sent(queued: Queued) -> Message
-    requires { IsPlain queued }
+pub(crate) fn into_sent(queued: Queued) -> Message
+    requires { queued.told ≡ false }
     ensures { result ≡ queued }
 {
     match queued.slot {
@@ -45,13 +47,22 @@ fn into_sent(queued: Queued) -> Message
     }
 }
 
-// The bytes of such a message as any task gets them: only its header changes.
+/// The bytes of a message that carries no rights of a body as its receiver gets them: only its header
+/// changes. Its right to answer with is this one, if it has one, and comes under the name `remote`.
 #[inline(always)]
-fn spell_plain(message: Message, local: Name, sequence: u32) -> Bytes
-    requires plain { IsPlain message }
+pub(crate) fn spell_bare(
+    message: Message,
+    reply: &Option<Carried>,
+    remote: Name,
+    local: Name,
+    sequence: u32,
+) -> Bytes
+    requires bare { (message.spans ≡ []) × (message.rights ≡ []) }
+    requires answered { reply.now ≡ message.reply }
     requires laid_out { (written : WireBody) × IsLaidOut message.bytes message.spans written }
     requires few { length message.bytes ≤ most_bytes }
-    ensures { (w : WorldView) (task : ℕ) → Delivers w task message local sequence result w }
+    ensures { (w new : WorldView) (task : ℕ) (words : List ℕ) → GivesAll w task (option_to_list message.reply) words new → remote ≡ reply_word message.reply words
+        → Delivers w task message local sequence result new }
 {
     let Message {
         bytes,
@@ -59,9 +70,9 @@ fn spell_plain(message: Message, local: Name, sequence: u32) -> Bytes
         ..
     } = message;
     let header = Header {
-        bits: header_bits(&None, envelope.by_once(), envelope.is_complex()),
+        bits: header_bits(reply, envelope.by_once(), envelope.is_complex()),
         size: bytes.len() as u32,
-        remote: Name::null(),
+        remote,
         local,
         sequence,
         id: envelope.id(),
@@ -80,7 +91,7 @@ fn take_plain(world: &mut World, port: PortId, local: Name) -> Bytes
     let sequence = world.attributes(port).sequence;
     let message = into_sent(take_front(world, port));
     note_front(world, port, message.by_once());
-    spell_plain(message, local, sequence)
+    spell_bare(message, &None, Name::null(), local, sequence)
 }
 
 /// Receives the port's front message, which is such a one and has so many bytes, if there is room for its

@@ -23,6 +23,7 @@ ghost use Rattle.copyout.specs.Prepared.{IsPrepared};
 ghost use Rattle.copyout.specs.Wanted.{WantsToPrepare, WantsToReceive, ReturnsSlot};
 ghost use Rattle.copyout.specs.declared.receipt.Refusal.TheVariants as refused;
 
+use crate::bare::{is_bare, receive_bare};
 use crate::give::{give_right, give_rights};
 use crate::plain::{plain_len, receive_plain};
 use crate::room::room_needed;
@@ -108,8 +109,8 @@ pub fn take_front(world: &mut World, port: PortId) -> Queued
     queued
 }
 
-// Gives the task the right to answer with, if there is one, and answers its name.
-fn give_reply(world: &mut World, task: TaskId, reply: &Option<Carried>) -> Name
+/// Gives the task the right to answer with, if there is one, and answers its name.
+pub(crate) fn give_reply(world: &mut World, task: TaskId, reply: &Option<Carried>) -> Name
     requires { CanGive world.old task (option_to_list reply.now) }
     ensures { (words : List ℕ) × GivesAll world.old task (option_to_list reply.now) words world.new × (result ≡ reply_word reply.now words) }
 {
@@ -231,7 +232,7 @@ fn take_message(
 }
 
 // The port's front message.
-fn front(world: &World, port: PortId) -> &Queued
+pub(crate) fn front(world: &World, port: PortId) -> &Queued
     requires { (m : Kept) × HasFront world.now port m }
     ensures { HasFront world.now port result.now }
 {
@@ -312,8 +313,8 @@ pub fn is_receivable(world: &World, task: TaskId, port: PortId, room: u32) -> bo
     judge_names(world, task, front(world, port), room).is_ok()
 }
 
-// Makes room for so many fresh names of the task. Most messages need none.
-fn make_room(world: &mut World, task: TaskId, needed: usize) -> Result<(), KernReturn>
+/// Makes room for so many fresh names of the task. Most messages need none.
+pub(crate) fn make_room(world: &mut World, task: TaskId, needed: usize) -> Result<(), KernReturn>
     requires { HasTask world.old task }
     ensures ok { OnOk result (MakesRoom world.old task needed world.new) }
     ensures err { OnErr result (world.new ≡ world.old) }
@@ -388,8 +389,10 @@ pub fn receive(
     ensures wanted { IfErr result (λ refusal. refusal ≡ refused.Memory → WantsToReceive world.old task port) }
 {
     // Most messages carry nothing beside their bytes, and go a short way.
-    match plain_len(front(world, port)) {
+    let queued = front(world, port);
+    match plain_len(queued) {
         Some(size) => receive_plain(world, port, local, size, room),
+        None if is_bare(queued) => receive_bare(world, task, port, local, room),
         None => receive_any(world, alloc, task, port, local, room),
     }
 }

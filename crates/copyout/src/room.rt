@@ -1,5 +1,5 @@
 //! How many names of the receiver the rights of a message need.
-ghost use Rattle.std.specs.Prelude.{◌≡◌, ◌≢◌, ℕ, ◌+◌, ◌<◌, ◌≤◌, ◌↔◌, ◌++◌, ◌%◌, [], ◌∷◌, List, Some, None, is_some, true, false, IsTrue, MatchBool, IfSome, IfNone, length, slice_set};
+ghost use Rattle.std.specs.Prelude.{◌≡◌, ◌≢◌, ℕ, ◌+◌, ◌<◌, ◌≤◌, ◌↔◌, ◌++◌, ◌%◌, [], ◌∷◌, List, Some, None, is_some, true, false, IsTrue, MatchBool, MatchOption, IfSome, IfNone, length, slice_set};
 ghost use Rattle.std.specs.FinMap as map;
 ghost use Rattle.mach_types.specs.Numbers.{kind_sent};
 ghost use Rattle.mach_types.specs.Tokens.{send_once};
@@ -9,7 +9,7 @@ ghost use Rattle.copyin_base.specs.declared.message.Mark.TheVariants as mark;
 ghost use Rattle.std.specs.Option.{option_to_list};
 ghost use Rattle.copyin_base.specs.Queued.{notice_kept};
 ghost use Rattle.copyout.specs.Ready.{carried_by};
-ghost use Rattle.copyout.specs.Room.{names_port, named_by, HasNone, Owns, Shares, Needs, IsMarked, Marks};
+ghost use Rattle.copyout.specs.Room.{names_port, named_by, HasNone, Owns, OwnsAlone, Shares, Needs, IsMarked, Marks};
 
 use copyin_base::{Carried, Mark, Message, Notice, Queued, Slot, TaskNames, World};
 use mach_types::{Disposition, Name, PortId};
@@ -229,27 +229,32 @@ fn count_all(
     }
 }
 
-// Whether a right that is the only one needs a name of its own.
-fn needs_lone(world: &World, space: &TaskNames<'_>, carried: &Carried) -> bool
-    ensures { MatchBool result (Owns world.now.ports space.now.names [] carried.now) (Shares world.now.ports space.now.names [] carried.now) }
+/// The port for which a right that is the only one needs a name of its own, if it needs one: it is
+/// compared with none.
+#[inline(always)]
+pub(crate) fn own_port(world: &World, space: &TaskNames<'_>, carried: &Carried) -> Option<PortId>
+    ensures { MatchOption result (Shares world.now.ports space.now.names [] carried.now) (λ port. OwnsAlone world.now.ports space.now.names carried.now port) }
 {
-    let Mark::Port(port) = carried.mark else {
-        return false;
+    let Mark::Port(port) = &carried.mark else {
+        return None;
     };
-    if shared_name(space, carried.given, port).is_some() {
-        return false;
+    if shared_name(space, carried.given, *port).is_some() {
+        return None;
     }
-    has_port(world, port)
+    if has_port(world, *port) {
+        Some(*port)
+    } else {
+        None
+    }
 }
 
-// How many names of its own a right needs that is the only one: 1 or none. It is compared with none.
+// How many names of its own a right needs that is the only one: 1 or none.
 fn lone_names(world: &World, space: &TaskNames<'_>, carried: &Carried) -> usize
     ensures { Needs world.now.ports space.now.names [] (carried.now ∷ []) result }
 {
-    if needs_lone(world, space, carried) {
-        1
-    } else {
-        0
+    match own_port(world, space, carried) {
+        Some(_) => 1,
+        None => 0,
     }
 }
 
