@@ -1,7 +1,8 @@
--- A message that carries the right of its destination alone.
-use Rattle.std.specs.Prelude.{◌≡◌, false, []}
+-- A message that carries the right of its destination alone, or a right to answer with beside it.
+use Rattle.std.specs.Prelude.{◌≡◌, ◌≢◌, false, []}
 use Rattle.message_codec.specs.declared.text.Parsed.{Parsed}
 use Rattle.message_codec.specs.declared.text.Plain.{Plain}
+use Rattle.message_codec.specs.declared.text.Request.{Request}
 
 -- It has no right to answer with, and its body is raw bytes.
 pub record IsPlain (parsed : Parsed) : Type 0 where
@@ -17,5 +18,22 @@ parsed_plain plain = record {
   remote = plain.remote;
   local = 0;
   id = plain.id;
+  spans = [];
+}
+
+-- It has a right to answer with, and its body is raw bytes.
+pub record IsRequest (parsed : Parsed) : Type 0 where
+  pub answered : parsed.local_kind ≢ 0
+  pub is_raw : parsed.is_complex ≡ false
+
+-- what is read of such a text
+abbrev pub parsed_request : Request → Parsed
+parsed_request request = record {
+  remote_kind = request.remote_kind;
+  local_kind = request.local_kind;
+  is_complex = false;
+  remote = request.remote;
+  local = request.local;
+  id = request.id;
   spans = [];
 }

@@ -21,7 +21,7 @@ pub use reader::{
 };
 pub use received::put_received;
 pub use spans::{Span, Spans};
-pub use text::{Parsed, Plain, parse, parse_plain};
+pub use text::{Parsed, Plain, Request, parse, parse_plain, parse_request};
 pub use words::{INLINE_WORDS, PortWord, port_words};
 pub use writer::{PortRight, SendBody, SendHeader, SendItem, WriteError, write_message};
 

@@ -1,12 +1,12 @@
 //! Reading a message's text.
-ghost use Rattle.std.specs.Prelude.{◌≡◌, ◌⊎◌, [], IfOk, IfErr, OnOk, IfSome, IfNone};
+ghost use Rattle.std.specs.Prelude.{◌≡◌, ◌≢◌, ◌⊎◌, [], IfOk, IfErr, OnOk, IfSome, IfNone};
 ghost use Rattle.mach_types.specs.declared.codes.MsgReturn.TheVariants.{SendNoBuffer};
 ghost use Rattle.mach_types.specs.Numbers.{msg_number};
 ghost use Rattle.mach_types.specs.Grammar.{Header as AnyHeader, WireBody, Spells};
 ghost use Rattle.mach_types.specs.Guards.{NoneHolds};
 ghost use Rattle.mach_types.specs.TextGuards.{TextRefuses, header_guards};
 ghost use Rattle.message_codec.specs.Parses.{Parses, ReadsBody, IsCrowded};
-ghost use Rattle.message_codec.specs.Plain.{IsPlain, parsed_plain};
+ghost use Rattle.message_codec.specs.Plain.{IsPlain, IsRequest, parsed_plain, parsed_request};
 ghost use Rattle.message_codec.specs.declared.text.Parsed.{Parsed as AnyParsed};
 ghost use Rattle.message_codec.specs.Spans.{inline_spans};
 
@@ -46,6 +46,22 @@ pub struct Plain {
     pub remote_kind: u8,
     /// The sender's name of the destination.
     pub remote: Name,
+    /// The id.
+    pub id: u32,
+}
+
+/// What the kernel needs of a message that carries a right to answer with beside that of its destination,
+/// and no others: its body is raw bytes.
+#[derive(Clone, Copy, Debug, PartialEq, Eq)]
+pub struct Request {
+    /// The disposition of the destination, 17 to 21.
+    pub remote_kind: u8,
+    /// The disposition of the right to answer with, 17 to 21.
+    pub local_kind: u8,
+    /// The sender's name of the destination.
+    pub remote: Name,
+    /// The sender's name of the right to answer with.
+    pub local: Name,
     /// The id.
     pub id: u32,
 }
@@ -128,6 +144,33 @@ pub fn parse_plain(bytes: &[u8]) -> Option<Plain>
     Some(Plain {
         remote_kind: remote_kind(bits),
         remote: Name::new(read_word(bytes, 8)),
+        id: read_word(bytes, 20),
+    })
+}
+
+/// What these bytes say, if they are a message with a right to answer with and a body of raw bytes: just
+/// what [`parse`] gives of them, read without a list of spans. `None` for every other text, and for bytes
+/// that are none. Takes no memory. Constant time.
+pub fn parse_request(bytes: &[u8]) -> Option<Request>
+    ensures some { IfSome result (λ request. Parses bytes.now (parsed_request request)) }
+    ensures answered { IfSome result (λ request. request.local_kind ≢ 0) }
+    ensures none { IfNone result ((parsed : AnyParsed) → Parses bytes.now parsed → ¬ (IsRequest parsed)) }
+{
+    if bytes.len() < HEADER_BYTES {
+        return None;
+    }
+    let bits = read_word(bytes, 0);
+    if is_complex(bits) || local_kind(bits) == 0 {
+        return None;
+    }
+    let Ok(()) = check_header(bytes) else {
+        return None;
+    };
+    Some(Request {
+        remote_kind: remote_kind(bits),
+        local_kind: local_kind(bits),
+        remote: Name::new(read_word(bytes, 8)),
+        local: Name::new(read_word(bytes, 12)),
         id: read_word(bytes, 20),
     })
 }
