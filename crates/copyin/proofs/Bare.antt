@@ -1,7 +1,7 @@
 -- The text of a message in whose body no port words stand, and what is queued of it.
 use Rattle.std.proofs.Common.{◌≡◌, ℕ, Option, List, [], ◌∷◌, length, refl, sym, ap, ◌∙◌, inl, inr}
 use Rattle.std.specs.Option.{option_to_list}
-use Rattle.std.specs.Prelude.{◌==◌, true, false}
+use Rattle.std.specs.Prelude.{◌==◌, ◌≢◌, true, false}
 use Rattle.std.proofs.lemmas.Bool.Decides.{eqb_tells}
 use Rattle.std.proofs.lemmas.List.{nil_from_length}
 use Rattle.mach_types.specs.declared.rights.Disposition.{Disposition}
@@ -10,7 +10,9 @@ use Rattle.mach_types.specs.Numbers.{kind_sent}
 use Rattle.mach_types.specs.Tokens.{send_once, same_kind}
 use Rattle.message_codec.specs.declared.spans.Span.{Span}
 use Rattle.message_codec.specs.declared.text.Parsed.{Parsed}
+use Rattle.message_codec.specs.declared.text.Request.{Request}
 use Rattle.message_codec.specs.declared.words.PortWord.{PortWord}
+use Rattle.message_codec.specs.Plain.{parsed_request}
 use Rattle.message_codec.specs.Spans.{spans_at, body_spans}
 use Rattle.message_codec.specs.Words.{items_words, body_words}
 use Rattle.copyin.specs.declared.judge.Head.{Head}
@@ -18,8 +20,10 @@ use Rattle.copyin.specs.declared.judge.Rights.{Rights}
 use Rattle.copyin.specs.declared.judge.Words.{Words}
 use Rattle.copyin.specs.Goes.{IsHead, IsBare, message_with}
 use Rattle.copyin.specs.Planned.{AreWords}
+use Rattle.copyin.specs.Plans.{reply_words}
 use Rattle.copyin_base.specs.declared.message.Carried.{Carried}
 use Rattle.copyin_base.specs.Kept.{Kept}
+use Rattle.copyin.proofs.Judging.{not_equal}
 
 pub none_in : {X : Type 0} (xs : List X) → true ≡ (length xs == 0) → xs ≡ []
 none_in xs empty = elim (eqb_tells (length xs) 0) [ inl h ↦ nil_from_length xs h.1 | inr h ↦ absurd (let no : true ≡ false = empty ∙ h.0 in cc) ]
@@ -41,6 +45,11 @@ bare_words bytes head parsed bare words to answer none = record {
   reply = ap (λ (w : Option PortWord). option_to_list w) answer ∙ bare.says.reply;
   body = none ∙ sym (no_words bare.parses.written (sym bare.parses.spans ∙ bare.spans));
 }
+
+-- the word of the right to answer with
+pub answer_words : (request : Request) → request.local_kind ≢ 0
+    → ◌≡◌ {A = List PortWord} (record { disposition = request.local_kind; name = request.local } ∷ []) (reply_words (parsed_request request))
+answer_words request answered = rw (not_equal request.local_kind 0 answered) refl
 
 -- what is queued of a text, by what was read of it
 abbrev pub queued_of : Parsed → (bytes : List ℕ) → Disposition → Option Carried → List Carried → Kept

@@ -95,7 +95,7 @@ pub passes : (names : Names) (w : PortWord) (d : Disposition) (m : Mark) → dis
 passes names w d m given (inl h) = rw h.0 (given, h.1, refl)
 passes names w d m given (inr h) = rw h.0 (given, h.1, refl)
 
-not_equal : (a b : ℕ) → a ≢ b → (a == b) ≡ false
+pub not_equal : (a b : ℕ) → a ≢ b → (a == b) ≡ false
 not_equal a b not = elim (eqb_tells a b) [ inl h ↦ absurd (not h.1) | inr h ↦ h.0 ]
 
 pub goes_by_name : (names : Names) (w : PortWord) (c : Carried) (after : Names) → w.name ≢ null_word → w.name ≢ dead_word → CopiesName names w c after → CopiesWord names w c after

@@ -1,7 +1,7 @@
 //! Copying rights in: what a message takes from its sender.
 //!
-//! [`check`] judges a message whole and changes nothing, and so does [`check_plain`] for one that has no right
-//! to answer with and a body of raw bytes; [`commit`] does what was judged, and can't fail.
+//! [`check`] judges a message whole and changes nothing, and so do [`check_plain`] and [`check_request`] for one
+//! that has a body of raw bytes; [`commit`] does what was judged, and can't fail.
 #![tactic(auto)]
 
 mod carry_out;
@@ -16,4 +16,4 @@ pub use carry_out::{commit, copy_name};
 pub use copies::{Copied, copy_right};
 pub use copyin_base::World;
 pub use judge::{Plan, Words, check};
-pub use plain::check_plain;
+pub use plain::{check_plain, check_request};
