@@ -1,5 +1,6 @@
 -- The lines of scripts, by their first words.
-use Rattle.std.proofs.Common.{codes, decimal, ◌≡◌, ℕ, ◌<◌, ◌^◌, List, [], ◌∷◌, All, true, false, ◌==◌, slice_index, refl, arith, ap, sym, ◌∙◌, ◌++◌, Result, Ok, Err, IfOk}
+use Rattle.std.proofs.Common.{codes, decimal, ◌≡◌, ℕ, ◌<◌, ◌^◌, List, [], ◌∷◌, All, true, false, ◌==◌, slice_index, refl, arith, ap, sym, ◌∙◌, ◌++◌, Result, Ok, Err, IfOk, Bool, subst, append-nil}
+use Rattle.std.specs.Str.{bytes_eq}
 use Rattle.std.proofs.lemmas.Bool.{eqb-false}
 use Rattle.std.proofs.lemmas.Fmt.{decimal_injective}
 use Rattle.mach_types.specs.declared.calls.Event.{Event}
@@ -9,7 +10,7 @@ use Rattle.tracer_base.specs.declared.blocks.ScriptLine.{ScriptLine}
 use Rattle.tracer_base.specs.declared.blocks.ScriptLine.TheVariants.{Call, Message, Thread}
 use Rattle.tracer_base.specs.Blocks.{FitsSaid, FitsMessage, message_arguments, said_words, said_text}
 use Rattle.tracer_base.specs.Calls.{Fits, call_word, call_arguments}
-use Rattle.tracer_base.specs.Text.{bytes_text}
+use Rattle.tracer_base.specs.Text.{bytes_text, flag_text}
 use Rattle.tracer_base.specs.Words.{IsWord, line, words}
 use Rattle.tracer_base.proofs.CallLemmas.{none, before, number, one, plain-call, is_plain-call_word}
 use Rattle.tracer_base.proofs.HexLemmas.{IsWord-bytes_text}
@@ -162,3 +163,40 @@ no_block word second = (
   λ same. eqb-false 104 101 refl (ap (λ (w : List ℕ). slice_index w 1) same ∙ second),
   λ same. eqb-false 115 101 refl (ap (λ (w : List ℕ). slice_index w 1) same ∙ second),
 )
+
+-- a line that says the call alone, whose keyword and arguments are the words of a text, has that text
+pub call_said : {E : Type 0} (read : Result ScriptLine E) (event : Event) (word : List ℕ) (arguments left : List (List ℕ)) (text : List ℕ) → word ∷ arguments ≡ words text → call_word event ≡ word → call_arguments event ++ left ≡ arguments
+    → IfOk read (λ said. (said ≡ Call event) × (left ≡ [])) → IfOk read (λ said. said_text said ≡ text)
+call_said (Ok said) event word arguments left text split named spelled is =
+    let whole : call_arguments event ≡ arguments = sym (append-nil (call_arguments event)) ∙ ap (λ ws. call_arguments event ++ ws) (sym is.1) ∙ spelled in
+    let found : call_word event ∷ call_arguments event ≡ words text = ap (λ w. w ∷ call_arguments event) named ∙ ap (λ ws. word ∷ ws) whole ∙ split in
+    ap said_text is.0 ∙ ap line found ∙ line-words text
+call_said (Err e) event word arguments left text split named spelled is = tt
+
+is_send : (event : Event) → call_word event ≡ codes "send" → (task : ℕ) × (bytes : List ℕ) × (event ≡ Send task bytes)
+is_send (Send task bytes) word = (task, bytes, refl)
+is_send event word = absurd (let f : false ≡ true = ap (λ w. bytes_eq w (codes "send")) word in cc)
+
+is_receive : (event : Event) → call_word event ≡ codes "recv" → (task name room : ℕ) × (large : Bool) × (event ≡ Receive task name room large)
+is_receive (Receive task name room large) word = (task, name, room, large, refl)
+is_receive event word = absurd (let f : false ≡ true = ap (λ w. bytes_eq w (codes "recv")) word in cc)
+
+-- a line whose first word is `send` says which task sends which bytes
+pub send_said : (said : ScriptLine) (arguments : List (List ℕ)) (text : List ℕ) → FitsSaid said → said_text said ≡ text → codes "send" ∷ arguments ≡ words text
+    → (task : ℕ) × (bytes : List ℕ) × (task < 2 ^ 32) × All (λ byte. byte < 256) bytes × (decimal task ∷ bytes_text bytes ∷ [] ≡ arguments)
+send_said said arguments text fits same split =
+    let no = no_block (codes "send") refl in
+    let call = call_of said (codes "send") arguments text fits same split no.0 no.1 in
+    let is = is_send call.0 call.2 in
+    let small = subst Fits is.2 call.1 in
+    (is.0, is.1, small.0, small.1, ap call_arguments (sym is.2) ∙ call.3)
+
+-- and one whose first word is `recv`, which task receives by which name, its room, and whether a longer message stays
+pub receive_said : (said : ScriptLine) (arguments : List (List ℕ)) (text : List ℕ) → FitsSaid said → said_text said ≡ text → codes "recv" ∷ arguments ≡ words text
+    → (task name room : ℕ) × (large : Bool) × (task < 2 ^ 32) × (name < 2 ^ 32) × (room < 2 ^ 32) × (decimal task ∷ decimal name ∷ decimal room ∷ flag_text large ∷ [] ≡ arguments)
+receive_said said arguments text fits same split =
+    let no = no_block (codes "recv") refl in
+    let call = call_of said (codes "recv") arguments text fits same split no.0 no.1 in
+    let is = is_receive call.0 call.2 in
+    let small = subst Fits is.4 call.1 in
+    (is.0, is.1, is.2, is.3, small.0, small.1, small.2, ap call_arguments (sym is.4) ∙ call.3)

@@ -1,5 +1,5 @@
 //! The lines of scripts: calls, message calls, and beginnings of blocks; and how message calls are answered.
-ghost use Rattle.std.specs.Prelude.{◌≡◌, ◌<◌, ◌^◌, ℕ, List, [], ◌∷◌, ◌++◌, All, IfOk, IsOkUnless, IsTrue, ◌↔◌, OnOk, codes, decimal};
+ghost use Rattle.std.specs.Prelude.{◌≡◌, ◌<◌, ◌^◌, ℕ, List, [], ◌∷◌, ◌++◌, All, IfOk, IsOk, IsOkUnless, IsTrue, ◌↔◌, OnOk, codes, decimal};
 ghost use Rattle.std.specs.Io.KnownBytes.{Appends};
 ghost use Rattle.tracer_base.specs.declared.blocks.MessageCall.{MessageCall as AnyMessageCall};
 ghost use Rattle.tracer_base.specs.declared.blocks.ScriptLine.{ScriptLine as AnyLine};
@@ -60,8 +60,14 @@ pub fn read_script_line(alloc: Global, text: &[u8]) -> Result<ScriptLine, TextFa
 {
     // Long scripts are messages above all, so their keywords are looked for at once.
     match text {
-        [b's', b'e', b'n', b'd', b' ', rest @ ..] => read_other(alloc, "send", Words::of(rest)),
-        [b'r', b'e', b'c', b'v', b' ', rest @ ..] => read_other(alloc, "recv", Words::of(rest)),
+        [b's', b'e', b'n', b'd', b' ', rest @ ..] => {
+            let mut words = Words::of(rest);
+            line_of(calls::read_send(alloc, &mut words)?, words)
+        }
+        [b'r', b'e', b'c', b'v', b' ', rest @ ..] => {
+            let mut words = Words::of(rest);
+            line_of(calls::read_recv(&mut words)?, words)
+        }
         _ => read_words(alloc, text),
     }
 }
@@ -77,18 +83,16 @@ fn read_words(alloc: Global, text: &[u8]) -> Result<ScriptLine, TextFault>
     match words.keyword()? {
         "thread" => read_thread(words),
         "msg" => read_message(alloc, words),
-        keyword => read_other(alloc, keyword, words),
+        keyword => line_of(calls::read_arguments(alloc, keyword, &mut words)?, words),
     }
 }
 
-/// The call of this keyword, whose arguments are all words that are left.
+/// The line that says the call alone. `Bad` comes where words are left behind the call's.
 #[inline(always)]
-fn read_other(alloc: Global, keyword: &str, mut words: Words<'_>) -> Result<ScriptLine, TextFault>
-    ensures ok { IfOk result (λ said. said_words said ≡ keyword.now ∷ words.entry) }
-    ensures fits { IfOk result FitsSaid }
-    ensures each { (event : AnyEvent) → Fits event → call_word event ≡ keyword.now → call_arguments event ≡ words.entry → IsOkUnless result TextFault.OutOfMemory }
+fn line_of(event: Event, words: Words<'_>) -> Result<ScriptLine, TextFault>
+    ensures ok { IfOk result (λ said. (said ≡ AnyLine.Call event) × (words.entry ≡ [])) }
+    ensures each { words.entry ≡ [] → IsOk result }
 {
-    let event = calls::read_arguments(alloc, keyword, &mut words)?;
     words.end()?;
     Ok(ScriptLine::Call(event))
 }

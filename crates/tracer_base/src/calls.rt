@@ -44,7 +44,6 @@ pub fn next_call(alloc: Global, words: &mut Words<'_>) -> Result<Event, TextFaul
 }
 
 /// The call of this keyword, with its arguments from `words`. Faults are as for [`read_call`].
-#[inline(always)]
 pub(crate) fn read_arguments(
     alloc: Global,
     keyword: &str,
@@ -70,7 +69,6 @@ pub(crate) fn read_arguments(
 }
 
 /// The call on names, or on a port or a port set, of this keyword. Faults are as for [`read_call`].
-#[inline(never)]
 fn read_name_call(keyword: &str, words: &mut Words<'_>) -> Result<Event, TextFault>
     requires { IsNoRightWord keyword.now }
     ensures word { IfOk result (λ event. call_word event ≡ keyword.now) }
@@ -189,7 +187,7 @@ fn read_extract(words: &mut Words<'_>) -> Result<Event, TextFault>
 
 /// The arguments of `send`: a task and a message's bytes.
 #[inline(always)]
-fn read_send(alloc: Global, words: &mut Words<'_>) -> Result<Event, TextFault>
+pub(crate) fn read_send(alloc: Global, words: &mut Words<'_>) -> Result<Event, TextFault>
     ensures word { IfOk result (λ event. call_word event ≡ codes "send") }
     ensures arguments { IfOk result (λ event. call_arguments event ++ words.new ≡ words.old) }
     ensures fits { IfOk result Fits }
@@ -201,7 +199,7 @@ fn read_send(alloc: Global, words: &mut Words<'_>) -> Result<Event, TextFault>
 
 /// The arguments of `recv`: a task, a name, the room in bytes, and whether a longer message stays.
 #[inline(always)]
-fn read_recv(words: &mut Words<'_>) -> Result<Event, TextFault>
+pub(crate) fn read_recv(words: &mut Words<'_>) -> Result<Event, TextFault>
     ensures word { IfOk result (λ event. call_word event ≡ codes "recv") }
     ensures arguments { IfOk result (λ event. call_arguments event ++ words.new ≡ words.old) }
     ensures fits { IfOk result Fits }

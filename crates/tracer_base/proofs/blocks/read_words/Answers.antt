@@ -1,9 +1,8 @@
-use Rattle.std.proofs.Common.{rules, codes, IsOkUnless, ◌≡◌, ◌∷◌, ◌∙◌, sym, ap, subst}
-use Rattle.tracer_base.specs.declared.blocks.ScriptLine.TheVariants.{Call, Message, Thread}
-use Rattle.tracer_base.specs.declared.fault.TextFault.TheVariants.{OutOfMemory}
+use Rattle.std.proofs.Common.{rules, codes, ◌≡◌, ◌∷◌, ◌∙◌, [], sym, ap, subst, append-nil}
 use Rattle.tracer_base.specs.Blocks.{FitsSaid}
+use Rattle.tracer_base.specs.Calls.{call_arguments}
 use Rattle.tracer_base.specs.Words.{words}
-use Rattle.tracer_base.proofs.BlockLemmas.{said_word, said_arguments, said_split, said_read, is_plain-said_word, is_thread, is_message}
+use Rattle.tracer_base.proofs.BlockLemmas.{said_word, said_arguments, said_split, said_read, is_plain-said_word, is_thread, is_message, call_of, call_said}
 use Rattle.tracer_base.proofs.WordLemmas.{IsAscii-plain}
 use Rattle.tracer_base.proofs.blocks.read_words.Goals as goal
 
@@ -54,23 +53,34 @@ returns-in-msg-clause-each c =
     let spelled : said_arguments said ≡ c.keyword.new.self = cc in
     c.read_message.ensures.each named.0 (subst FitsSaid named.1 fits) (ap said_arguments (sym named.1) ∙ spelled)
 
-pub returns-in_default-clause-ok : goal.returns-in_default-clause-ok
-returns-in_default-clause-ok c =
+pub returns-in_ok-read_arguments-in_default-clause-ok : goal.returns-in_ok-read_arguments-in_default-clause-ok
+returns-in_ok-read_arguments-in_default-clause-ok c =
     let first = c.in_ok-keyword.ensures.ok in
     let whole = c.of-words.ensures in
     let split : c.in_ok-keyword.keyword.now ∷ c.keyword.new.self ≡ words c.args.text.now = cc in
-    said_read c.read_other.result _ _ split c.read_other.ensures.ok
+    let named = c.in_ok-read_arguments-in_default.ensures.word in
+    let spelled = c.in_ok-read_arguments-in_default.ensures.arguments in
+    call_said c.line_of.result c.in_ok-read_arguments-in_default.field-0 c.in_ok-keyword.keyword.now c.keyword.new.self c.read_arguments.new.words c.args.text.now split named spelled c.line_of.ensures.ok
 
-pub returns-in_default-clause-each : goal.returns-in_default-clause-each
-returns-in_default-clause-each c =
+pub returns-in_ok-read_arguments-in_default-clause-each : goal.returns-in_ok-read_arguments-in_default-clause-each
+returns-in_ok-read_arguments-in_default-clause-each c =
     λ said fits same.
     let first = c.in_ok-keyword.ensures.ok in
     let whole = c.of-words.ensures in
-    let split = said_split said _ fits same in
-    let word : said_word said ≡ c.in_ok-keyword.keyword.now = cc in
-    let spelled : said_arguments said ≡ c.keyword.new.self = cc in
-    elim said as (λ s. FitsSaid s → said_word s ≡ c.in_ok-keyword.keyword.now → said_arguments s ≡ c.keyword.new.self → IsOkUnless c.read_other.result OutOfMemory) [
-      | Call event ↦ λ fits word spelled. c.read_other.ensures.each event fits word spelled
-      | Message call ↦ λ fits word spelled. absurd (c.in_default.not-msg (sym word))
-      | Thread number ↦ λ fits word spelled. absurd (c.in_default.not-thread (sym word))
-    ] fits word spelled
+    let split : c.in_ok-keyword.keyword.now ∷ c.keyword.new.self ≡ words c.args.text.now = cc in
+    let call =
+    call_of said c.in_ok-keyword.keyword.now c.keyword.new.self c.args.text.now fits same split (λ is. c.in_default.not-thread (sym is)) (λ is. c.in_default.not-msg (sym is)) in
+    let left = c.in_ok-read_arguments-in_default.ensures.read call.0 [] call.1 call.2 (append-nil (call_arguments call.0) ∙ call.3) in
+    let alone = c.line_of.ensures.each left in
+    search (rules, alone)
+
+pub returns-in_err-read_arguments-in_default-clause-each : goal.returns-in_err-read_arguments-in_default-clause-each
+returns-in_err-read_arguments-in_default-clause-each c =
+    λ said fits same.
+    let first = c.in_ok-keyword.ensures.ok in
+    let whole = c.of-words.ensures in
+    let split : c.in_ok-keyword.keyword.now ∷ c.keyword.new.self ≡ words c.args.text.now = cc in
+    let call =
+    call_of said c.in_ok-keyword.keyword.now c.keyword.new.self c.args.text.now fits same split (λ is. c.in_default.not-thread (sym is)) (λ is. c.in_default.not-msg (sym is)) in
+    let read = c.read_arguments.ensures.read call.0 [] call.1 call.2 (append-nil (call_arguments call.0) ∙ call.3) in
+    search (rules, read)

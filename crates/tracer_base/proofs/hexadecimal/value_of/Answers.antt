@@ -1,5 +1,4 @@
-use Rattle.std.proofs.Common.{◌≡◌, ◌<◌, get_or, sym, ◌∙◌, arith, subst, refl}
-use Rattle.tracer_base.specs.declared.hexadecimal.TheConstants.{VALUES}
+use Rattle.std.proofs.Common.{◌<◌, sym, ◌∙◌, arith, subst, refl}
 use Rattle.tracer_base.proofs.HexLemmas.{digit_value, value_in_values, digit_value-most, digit_value-small, digit_value-spelled, digit_value-hex_digit}
 use Rattle.tracer_base.proofs.hexadecimal.value_of.Goals as goal
 
