@@ -3,8 +3,6 @@ ghost use Rattle.std.specs.Prelude.{◌≡◌, ◌<◌, ◌^◌, ℕ, List, [], 
 ghost use Rattle.std.specs.Io.KnownBytes.{Appends};
 ghost use Rattle.tracer_base.specs.declared.blocks.MessageCall.{MessageCall as AnyMessageCall};
 ghost use Rattle.tracer_base.specs.declared.blocks.ScriptLine.{ScriptLine as AnyLine};
-ghost use Rattle.mach_types.specs.declared.calls.Event.{Event as AnyEvent};
-ghost use Rattle.tracer_base.specs.Calls.{Fits, call_word, call_arguments};
 ghost use Rattle.tracer_base.specs.Blocks.{message_arguments, said_words, said_text, thread_line, received_text, outcome_line, FitsMessage, FitsThread, FitsSaid};
 ghost use Rattle.tracer_base.specs.Text.{code_text};
 ghost use Rattle.tracer_base.specs.Words.{line, IsRead};

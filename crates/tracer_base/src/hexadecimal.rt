@@ -29,7 +29,7 @@ const PAIRS: [u8; 512] = *b"\
     e0e1e2e3e4e5e6e7e8e9eaebecedeeeff0f1f2f3f4f5f6f7f8f9fafbfcfdfeff";
 
 /// The values of the digits, by their codes, and 256 for each code of no digit.
-const VALUES: [u16; 256] = [
+const VALUES: [u32; 256] = [
     256, 256, 256, 256, 256, 256, 256, 256, 256, 256, 256, 256, 256, 256, 256, 256, 256, 256, 256,
     256, 256, 256, 256, 256, 256, 256, 256, 256, 256, 256, 256, 256, 256, 256, 256, 256, 256, 256,
     256, 256, 256, 256, 256, 256, 256, 256, 256, 256, 0, 1, 2, 3, 4, 5, 6, 7, 8, 9, 256, 256, 256,
@@ -61,7 +61,7 @@ fn low_digit(byte: u8) -> u8
 }
 
 /// The value of a digit, below 16; 256 for what is no digit, capital letters among it.
-fn value_of(digit: u8) -> u16
+fn value_of(digit: u8) -> u32
     ensures most { result ≤ 256 }
     ensures spelled { result < 256 → (result < 16) × (hex_digit result ≡ digit) }
     ensures each { (value : ℕ) → value < 16 → hex_digit value ≡ digit → result ≡ value }
