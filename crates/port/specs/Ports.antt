@@ -1,5 +1,5 @@
 -- What contracts see of ports: each live port's queue and attributes, the ready ports of each set in their turns, how many were made, how many slots are spare, the messages that were destroyed, and the ports that the end of a step looks at.
-use Rattle.std.specs.Prelude.{◌≡◌, ◌≢◌, ℕ, ◌+◌, ◌<◌, ◌%◌, ◌^◌, ◌&&◌, ◌++◌, ◌∷◌, Bool, leb, cond, List, [], Option, Some, None, true, length, refl}
+use Rattle.std.specs.Prelude.{◌≡◌, ◌≢◌, ℕ, ◌+◌, ◌<◌, ◌%◌, ◌^◌, ◌&&◌, ◌++◌, ◌∷◌, Bool, leb, cond, List, [], Option, Some, None, true, length, slice_get, refl}
 use Rattle.std.specs.Coded.{Coded, code_by, coded×, coded_ℕ, coded_list}
 use Rattle.std.specs.FinMap as map
 use Rattle.std.specs.Ordering.{nat_cmp}
@@ -104,3 +104,10 @@ module _ {M : Type 0} where
     pub behind : List M
     pub queue : view.queue ≡ first ∷ behind
     pub rest : new ≡ record (with_port old port (record view { queue = behind })) { destroyed = old.destroyed ++ first ∷ [] }
+
+  -- this is the first message of the port's queue, and the sequence number that it is received with
+  pub record IsNumberedFront (v : PortsView M) (port : ℕ) (message : M) (sequence : ℕ) : Type 0 where
+    pub view : PortView M
+    pub there : map.get v.ports port ≡ Some view
+    pub first : slice_get view.queue 0 ≡ Some message
+    pub number : view.attributes.sequence ≡ sequence

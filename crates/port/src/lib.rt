@@ -21,6 +21,7 @@ ghost use Rattle.port.specs.Ports.{one_made, one_received};
 ghost use Rattle.port.specs.Records.{ready_set, member_set, ids_at};
 
 mod by_key;
+mod looks;
 mod moves;
 mod slots;
 
@@ -238,6 +239,19 @@ impl Kept {
         ensures { result ≡ cond self.now.is_noted (Some noted_list) None }
     {
         if self.is_noted { Some(NOTED) } else { None }
+    }
+
+    // Whether the port is in a set.
+    fn is_member(&self) -> bool
+        ensures { result ≡ is_some self.now.attributes.set }
+    {
+        self.is_member
+    }
+
+    fn sequence(&self) -> u32
+        ensures { result ≡ self.now.attributes.sequence }
+    {
+        self.sequence
     }
 
     fn limit(&self) -> u32
