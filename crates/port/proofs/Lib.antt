@@ -9,3 +9,4 @@ pub mod InTurn
 pub mod Joined
 pub mod Waiting
 pub mod Idle
+pub mod Held

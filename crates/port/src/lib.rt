@@ -21,6 +21,7 @@ ghost use Rattle.port.specs.Ports.{one_made, one_received};
 ghost use Rattle.port.specs.Records.{ready_set, member_set, ids_at};
 
 mod by_key;
+mod dying;
 mod looks;
 mod moves;
 mod slots;
@@ -473,12 +474,13 @@ impl<M: Message> Ports<M> {
         match self.by_id.remove(port.number()) {
             Some(key) => {
                 let key = key as usize;
-                let record = self.records.remove(key);
-                let set = record.kept.member_list();
+                let Record { queue, kept, .. } = self.records.remove(key);
+                queue.destroy_empty();
+                let set = kept.member_list();
                 leave(&mut self.sets, key, set);
-                let list = record.kept.waiting_list();
+                let list = kept.waiting_list();
                 leave_two(&mut self.waiting, key, list);
-                let list = record.kept.noting_list();
+                let list = kept.noting_list();
                 leave_two(&mut self.noted, key, list);
             }
             None => {}

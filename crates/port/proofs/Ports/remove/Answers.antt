@@ -16,45 +16,45 @@ use Rattle.port.proofs.Turned.{turns-apart, apart-quiet}
 use Rattle.port.proofs.Grown.{sound-went, view-went, remove-absent}
 use Rattle.port.proofs.Ports.remove.Goals as goal
 
-pub remove-record-requires : goal.remove-record-requires
-remove-record-requires g c =
+pub remove-queue-requires : goal.remove-queue-requires
+remove-queue-requires g c =
     let found : map.get c.self.inside.by_id.map c.args.port ≡ Some c.in-Some.key = sym (c.in-Some.ensures.value ∙ ap (map.get c.self.inside.by_id.map) c.number.ensures) in
     ap is_some (record_at c.self.inside.records c.self.inside.by_id.map c.self.inside.next c.self.inside.spare c.self.inside.destroyed c.self.inside.slots c.self.invariant.sound c.args.self.now c.self.view_is c.args.port c.in-Some.key found).1
 
 pub invariant_of-self : goal.invariant_of-self
 invariant_of-self g c =
     let found : map.get c.self.inside.by_id.map c.args.port ≡ Some c.in-Some.key = sym (c.in-Some.ensures.value ∙ ap (map.get c.self.inside.by_id.map) c.number.ensures) in
-    let quiet : length c.remove-record.result.queue ≡ 0 = (c.requires (port_of c.remove-record.result) (live_port c.self.inside.records c.self.inside.by_id.map c.self.inside.next c.self.inside.spare c.self.inside.destroyed c.self.inside.slots c.self.invariant.sound c.args.self.now c.self.view_is c.args.port c.in-Some.key c.remove-record.result found c.remove-record.ensures.value)) in
+    let quiet : length c.remove-queue.result.queue ≡ 0 = (c.requires (port_of c.remove-queue.result) (live_port c.self.inside.records c.self.inside.by_id.map c.self.inside.next c.self.inside.spare c.self.inside.destroyed c.self.inside.slots c.self.invariant.sound c.args.self.now c.self.view_is c.args.port c.in-Some.key c.remove-queue.result found c.remove-queue.ensures.value)) in
     let out : c.remove.new.self.map ≡ map.remove c.self.inside.by_id.map c.args.port =
     ap (λ (w : MapView ℕ). w.map) c.remove.ensures.after ∙ ap (map.remove c.self.inside.by_id.map) c.number.ensures in
     record {
-      sound = sound-went c.self.inside.records c.remove-record.new.self c.self.inside.by_id.map c.remove.new.self.map c.self.inside.next c.self.inside.spare c.self.inside.destroyed c.self.inside.slots c.self.invariant.sound c.args.self.now c.self.view_is
-          c.args.port c.in-Some.key c.remove-record.result found c.remove-record.ensures.value quiet c.remove-record.ensures.updates.changed c.remove-record.ensures.updates.others out;
-      readied = subst (λ w. IsReadied (get c.remove-record.new.self) w) (sym c.leave.ensures.ready) (listed-went ready_set (get c.self.inside.records) (get c.remove-record.new.self) c.self.inside.sets.marked c.self.invariant.readied c.in-Some.key c.self.inside.sets.marked
-          (record { changed = c.remove-record.ensures.updates.changed; others = c.remove-record.ensures.updates.others })
-          (moved_none c.self.inside.sets.marked c.in-Some.key None (subst (λ o. StandsIn c.self.inside.sets.marked c.in-Some.key o) (ready_none c.remove-record.result.queue c.remove-record.result.kept.attributes.set quiet)
-          (c.self.invariant.readied.stands c.in-Some.key c.remove-record.result c.remove-record.ensures.value))));
-      membered = listed-went member_set (get c.self.inside.records) (get c.remove-record.new.self) c.self.inside.sets.all c.self.invariant.membered c.in-Some.key c.leave.new.sets.all
-          (record { changed = c.remove-record.ensures.updates.changed; others = c.remove-record.ensures.updates.others }) c.leave.ensures.moved;
-      awaited = listed-went waiting_list (get c.self.inside.records) (get c.remove-record.new.self) c.self.inside.waiting c.self.invariant.awaited c.in-Some.key c.leave_two.new.lists
-          (record { changed = c.remove-record.ensures.updates.changed; others = c.remove-record.ensures.updates.others }) c.leave_two.ensures.moved;
-      are_noted = listed-went noting_list (get c.self.inside.records) (get c.remove-record.new.self) c.self.inside.noted c.self.invariant.are_noted c.in-Some.key c.leave_two-in-Some.new.lists
-          (record { changed = c.remove-record.ensures.updates.changed; others = c.remove-record.ensures.updates.others }) c.leave_two-in-Some.ensures.moved;
+      sound = sound-went c.self.inside.records c.remove-queue.new.self c.self.inside.by_id.map c.remove.new.self.map c.self.inside.next c.self.inside.spare c.self.inside.destroyed c.self.inside.slots c.self.invariant.sound c.args.self.now c.self.view_is
+          c.args.port c.in-Some.key c.remove-queue.result found c.remove-queue.ensures.value quiet c.remove-queue.ensures.updates.changed c.remove-queue.ensures.updates.others out;
+      readied = subst (λ w. IsReadied (get c.remove-queue.new.self) w) (sym c.leave.ensures.ready) (listed-went ready_set (get c.self.inside.records) (get c.remove-queue.new.self) c.self.inside.sets.marked c.self.invariant.readied c.in-Some.key c.self.inside.sets.marked
+          (record { changed = c.remove-queue.ensures.updates.changed; others = c.remove-queue.ensures.updates.others })
+          (moved_none c.self.inside.sets.marked c.in-Some.key None (subst (λ o. StandsIn c.self.inside.sets.marked c.in-Some.key o) (ready_none c.remove-queue.result.queue c.remove-queue.result.kept.attributes.set quiet)
+          (c.self.invariant.readied.stands c.in-Some.key c.remove-queue.result c.remove-queue.ensures.value))));
+      membered = listed-went member_set (get c.self.inside.records) (get c.remove-queue.new.self) c.self.inside.sets.all c.self.invariant.membered c.in-Some.key c.leave.new.sets.all
+          (record { changed = c.remove-queue.ensures.updates.changed; others = c.remove-queue.ensures.updates.others }) c.leave.ensures.moved;
+      awaited = listed-went waiting_list (get c.self.inside.records) (get c.remove-queue.new.self) c.self.inside.waiting c.self.invariant.awaited c.in-Some.key c.leave_two.new.lists
+          (record { changed = c.remove-queue.ensures.updates.changed; others = c.remove-queue.ensures.updates.others }) c.leave_two.ensures.moved;
+      are_noted = listed-went noting_list (get c.self.inside.records) (get c.remove-queue.new.self) c.self.inside.noted c.self.invariant.are_noted c.in-Some.key c.leave_two-in-Some.new.lists
+          (record { changed = c.remove-queue.ensures.updates.changed; others = c.remove-queue.ensures.updates.others }) c.leave_two-in-Some.ensures.moved;
     }
 
 pub returns-in-Some : goal.returns-in-Some
 returns-in-Some g c =
     let found : map.get c.self.inside.by_id.map c.args.port ≡ Some c.in-Some.key = sym (c.in-Some.ensures.value ∙ ap (map.get c.self.inside.by_id.map) c.number.ensures) in
-    let quiet : length c.remove-record.result.queue ≡ 0 = (c.requires (port_of c.remove-record.result) (live_port c.self.inside.records c.self.inside.by_id.map c.self.inside.next c.self.inside.spare c.self.inside.destroyed c.self.inside.slots c.self.invariant.sound c.args.self.now c.self.view_is c.args.port c.in-Some.key c.remove-record.result found c.remove-record.ensures.value)) in
+    let quiet : length c.remove-queue.result.queue ≡ 0 = (c.requires (port_of c.remove-queue.result) (live_port c.self.inside.records c.self.inside.by_id.map c.self.inside.next c.self.inside.spare c.self.inside.destroyed c.self.inside.slots c.self.invariant.sound c.args.self.now c.self.view_is c.args.port c.in-Some.key c.remove-queue.result found c.remove-queue.ensures.value)) in
     let out : c.remove.new.self.map ≡ map.remove c.self.inside.by_id.map c.args.port =
     ap (λ (w : MapView ℕ). w.map) c.remove.ensures.after ∙ ap (map.remove c.self.inside.by_id.map) c.number.ensures in
-    view-went c.self.inside.records c.remove-record.new.self c.self.inside.by_id.map c.remove.new.self.map c.self.inside.next c.self.inside.spare c.self.inside.destroyed c.self.inside.slots c.self.invariant.sound c.args.self.now c.self.view_is
-    c.args.port c.in-Some.key c.remove-record.result found c.remove-record.ensures.value quiet c.remove-record.ensures.updates.changed c.remove-record.ensures.updates.others out
-    (turns_at (get c.remove-record.new.self) c.leave.new.sets.marked.lists)
-    (ap (λ (w : ListsView). turns_at (get c.remove-record.new.self) w.lists) c.leave.ensures.ready ∙ turns-apart (get c.self.inside.records) (get c.remove-record.new.self) c.self.inside.sets.marked c.in-Some.key (apart-quiet (get c.self.inside.records) c.self.inside.sets.marked c.self.invariant.readied c.in-Some.key c.remove-record.result c.remove-record.ensures.value quiet)
-    c.remove-record.ensures.updates.others)
+    view-went c.self.inside.records c.remove-queue.new.self c.self.inside.by_id.map c.remove.new.self.map c.self.inside.next c.self.inside.spare c.self.inside.destroyed c.self.inside.slots c.self.invariant.sound c.args.self.now c.self.view_is
+    c.args.port c.in-Some.key c.remove-queue.result found c.remove-queue.ensures.value quiet c.remove-queue.ensures.updates.changed c.remove-queue.ensures.updates.others out
+    (turns_at (get c.remove-queue.new.self) c.leave.new.sets.marked.lists)
+    (ap (λ (w : ListsView). turns_at (get c.remove-queue.new.self) w.lists) c.leave.ensures.ready ∙ turns-apart (get c.self.inside.records) (get c.remove-queue.new.self) c.self.inside.sets.marked c.in-Some.key (apart-quiet (get c.self.inside.records) c.self.inside.sets.marked c.self.invariant.readied c.in-Some.key c.remove-queue.result c.remove-queue.ensures.value quiet)
+    c.remove-queue.ensures.updates.others)
     (went-same c.self.inside.records c.self.inside.by_id.map c.self.inside.next c.self.inside.spare c.self.inside.destroyed c.self.inside.slots c.self.invariant.sound c.self.inside.waiting c.self.inside.noted c.args.self.now c.self.view_is c.self.invariant.awaited c.self.invariant.are_noted
-    c.args.port c.in-Some.key c.remove-record.result found c.remove-record.ensures.value c.remove-record.new.self c.remove-record.ensures.updates.others c.leave_two.new.lists c.leave_two-in-Some.new.lists
+    c.args.port c.in-Some.key c.remove-queue.result found c.remove-queue.ensures.value c.remove-queue.new.self c.remove-queue.ensures.updates.others c.leave_two.new.lists c.leave_two-in-Some.new.lists
     c.leave_two.ensures.moved (c.leave_two.ensures.left ∙ ap (out_of c.self.inside.waiting c.in-Some.key) c.waiting_list-list.ensures)
     c.leave_two-in-Some.ensures.moved (c.leave_two-in-Some.ensures.left ∙ ap (out_of c.self.inside.noted c.in-Some.key) c.noting_list-list.ensures))
 
@@ -76,24 +76,29 @@ invariant_of-self-in-None g c =
 
 pub leave-requires-clause-was : goal.leave-requires-clause-was
 leave-requires-clause-was g c =
-    subst (λ o. StandsIn c.self.inside.sets.all c.in-Some.key o) (sym (c.member_list-set.ensures)) (c.self.invariant.membered.stands c.in-Some.key c.remove-record.result c.remove-record.ensures.value)
+    subst (λ o. StandsIn c.self.inside.sets.all c.in-Some.key o) (sym (c.member_list-set.ensures)) (c.self.invariant.membered.stands c.in-Some.key c.remove-queue.result c.remove-queue.ensures.value)
 
 pub leave_two-requires-clause-was : goal.leave_two-requires-clause-was
 leave_two-requires-clause-was g c =
-    subst (λ o. StandsIn c.self.inside.waiting c.in-Some.key o) (sym (c.waiting_list-list.ensures)) (c.self.invariant.awaited.stands c.in-Some.key c.remove-record.result c.remove-record.ensures.value)
+    subst (λ o. StandsIn c.self.inside.waiting c.in-Some.key o) (sym (c.waiting_list-list.ensures)) (c.self.invariant.awaited.stands c.in-Some.key c.remove-queue.result c.remove-queue.ensures.value)
 
 pub leave_two-requires-in-Some-clause-was : goal.leave_two-requires-in-Some-clause-was
 leave_two-requires-in-Some-clause-was g c =
-    subst (λ o. StandsIn c.self.inside.noted c.in-Some.key o) (sym (c.noting_list-list.ensures)) (c.self.invariant.are_noted.stands c.in-Some.key c.remove-record.result c.remove-record.ensures.value)
+    subst (λ o. StandsIn c.self.inside.noted c.in-Some.key o) (sym (c.noting_list-list.ensures)) (c.self.invariant.are_noted.stands c.in-Some.key c.remove-queue.result c.remove-queue.ensures.value)
 
 pub leave_two-requires-clause-list : goal.leave_two-requires-clause-list
-leave_two-requires-clause-list g c l is = waits_in_two c.remove-record.result.kept.attributes.holder l (sym c.waiting_list-list.ensures ∙ is)
+leave_two-requires-clause-list g c l is = waits_in_two c.remove-queue.result.kept.attributes.holder l (sym c.waiting_list-list.ensures ∙ is)
 
 pub leave_two-requires-in-Some-clause-list : goal.leave_two-requires-in-Some-clause-list
-leave_two-requires-in-Some-clause-list g c l is = noted_in_two c.remove-record.result.kept.is_noted l (sym c.noting_list-list.ensures ∙ is)
+leave_two-requires-in-Some-clause-list g c l is = noted_in_two c.remove-queue.result.kept.is_noted l (sym c.noting_list-list.ensures ∙ is)
 
 pub leave-requires-clause-unready : goal.leave-requires-clause-unready
 leave-requires-clause-unready g c =
     let found : map.get c.self.inside.by_id.map c.args.port ≡ Some c.in-Some.key = sym (c.in-Some.ensures.value ∙ ap (map.get c.self.inside.by_id.map) c.number.ensures) in
-    let quiet : length c.remove-record.result.queue ≡ 0 = (c.requires (port_of c.remove-record.result) (live_port c.self.inside.records c.self.inside.by_id.map c.self.inside.next c.self.inside.spare c.self.inside.destroyed c.self.inside.slots c.self.invariant.sound c.args.self.now c.self.view_is c.args.port c.in-Some.key c.remove-record.result found c.remove-record.ensures.value)) in
-    subst (λ o. StandsIn c.self.inside.sets.marked c.in-Some.key o) (ready_none c.remove-record.result.queue c.remove-record.result.kept.attributes.set quiet) (c.self.invariant.readied.stands c.in-Some.key c.remove-record.result c.remove-record.ensures.value)
+    let quiet : length c.remove-queue.result.queue ≡ 0 = (c.requires (port_of c.remove-queue.result) (live_port c.self.inside.records c.self.inside.by_id.map c.self.inside.next c.self.inside.spare c.self.inside.destroyed c.self.inside.slots c.self.invariant.sound c.args.self.now c.self.view_is c.args.port c.in-Some.key c.remove-queue.result found c.remove-queue.ensures.value)) in
+    subst (λ o. StandsIn c.self.inside.sets.marked c.in-Some.key o) (ready_none c.remove-queue.result.queue c.remove-queue.result.kept.attributes.set quiet) (c.self.invariant.readied.stands c.in-Some.key c.remove-queue.result c.remove-queue.ensures.value)
+
+pub destroy_empty-requires : goal.destroy_empty-requires
+destroy_empty-requires g c =
+    let found : map.get c.self.inside.by_id.map c.args.port ≡ Some c.in-Some.key = sym (c.in-Some.ensures.value ∙ ap (map.get c.self.inside.by_id.map) c.number.ensures) in
+    c.requires (port_of c.remove-queue.result) (live_port c.self.inside.records c.self.inside.by_id.map c.self.inside.next c.self.inside.spare c.self.inside.destroyed c.self.inside.slots c.self.invariant.sound c.args.self.now c.self.view_is c.args.port c.in-Some.key c.remove-queue.result found c.remove-queue.ensures.value)

@@ -1,0 +1,48 @@
+//! How ports that lost their receive rights die, with one look-up each or none.
+ghost use Rattle.std.specs.Prelude.{◌≡◌, ◌↔◌, ℕ, ◌<◌, ◌++◌, ◌∷◌, [], length, IsTrue, true, false, Some, None, slice_get};
+ghost use Rattle.std.specs.FinMap as map;
+
+use crate::by_key::{DOOMED, LOST, hold_at};
+use crate::moves::rejoin_two;
+use crate::{Holder, Message, Ports, key_of};
+use mach_types::PortId;
+
+impl<M: Message> Ports<M> {
+    ghost use Rattle.member_lists.specs.Lists.{without};
+    ghost use Rattle.port.specs.Holding.{CanHold, held};
+    ghost use Rattle.port.specs.Ports.{PortView, with_port};
+    ghost use Rattle.port.specs.declared.Holder.TheVariants as Holder;
+
+    /// Says that a port's receive right was lost, as [`Ports::lose`] does, where the port is there, and
+    /// answers whether it is. Where it is gone, nothing changes. Takes no memory. Constant time.
+    #[inline(always)]
+    pub fn lose_if_there(&mut self, port: PortId) -> bool
+        requires { (p : PortView M) → map.get self.old.ports port ≡ Some p → CanHold p.attributes.holder }
+        ensures there { (p : PortView M) → map.get self.old.ports port ≡ Some p →
+            self.new ≡ record (with_port self.old port (held p Holder.Nobody)) { lost = self.old.lost ++ port ∷ [] } }
+        ensures gone { map.get self.old.ports port ≡ None → self.new ≡ self.old }
+        ensures told { result ≡ map.contains_key self.old.ports port }
+    {
+        let Some(key) = key_of(&self.by_id, port) else {
+            return false;
+        };
+        let (was, now) = hold_at(&mut self.records, key, Holder::Nobody);
+        rejoin_two(&mut self.waiting, key, was, now);
+        true
+    }
+
+    /// Dooms the port that was lost first, as [`Ports::doom`] does. Answers whether it has messages.
+    /// Takes no memory. Constant time.
+    #[inline(always)]
+    pub fn doom_first(&mut self) -> bool
+        requires { 0 < length self.old.lost }
+        ensures doomed { (port : ℕ) (p : PortView M) → slice_get self.old.lost 0 ≡ Some port → map.get self.old.ports port ≡ Some p →
+            self.new ≡ record (with_port self.old port (held p Holder.Doomed)) { lost = without port self.old.lost; doomed = self.old.doomed ++ port ∷ [] } }
+        ensures queued { (port : ℕ) (p : PortView M) → slice_get self.old.lost 0 ≡ Some port → map.get self.old.ports port ≡ Some p → (IsTrue result ↔ (0 < length p.queue)) }
+    {
+        let key = self.waiting.first(LOST).unwrap();
+        hold_at(&mut self.records, key, Holder::Doomed);
+        rejoin_two(&mut self.waiting, key, Some(LOST), Some(DOOMED));
+        !self.records[key].queue.is_empty()
+    }
+}
