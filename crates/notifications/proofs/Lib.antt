@@ -1,5 +1,6 @@
 pub mod Written
 pub mod Losing
+pub mod KeptLost
 pub mod Agreeing
 pub mod Posted
 pub mod Starting

@@ -2,6 +2,7 @@
 ghost use Rattle.std.specs.Prelude.{◌≡◌, ◌≢◌, ◌+◌, ◌<◌, ◌≤◌, ◌^◌, ℕ, Some, None, IfSome, IfNone, slice_set};
 ghost use Rattle.std.specs.FinMap as map;
 ghost use Rattle.mach_types.specs.Numbers.{dead_word};
+ghost use Rattle.name_space.specs.declared.Entry.TheVariants.{Receive};
 ghost use Rattle.rights.specs.Ledger.{IsEntered, counts_of};
 ghost use Rattle.port_set.specs.Sets.{removed, IsDisbanded};
 ghost use Rattle.copyin_base.specs.Reading.{live_in, read_space, reading};
@@ -84,6 +85,27 @@ fn lose_name(world: &mut World, task: TaskId, named: &PortName)
 
 // What is kept under a name is lost: nothing, where its port is gone.
 fn lose_kept(world: &mut World, kept: Entry)
+    requires { CanLoseEntry world.old (reading (live_in world.old.ports) kept) }
+    ensures { LosesEntry world.old (reading (live_in world.old.ports) kept) world.new }
+{
+    match kept {
+        Entry::Receive(port) => lose_receive(world, port),
+        _ => lose_other(world, kept),
+    }
+}
+
+// A receive right is lost, where its port is there: one look-up finds the port and tells.
+fn lose_receive(world: &mut World, port: PortId)
+    requires { CanLoseEntry world.old (reading (live_in world.old.ports) (Receive port)) }
+    ensures { LosesEntry world.old (reading (live_in world.old.ports) (Receive port)) world.new }
+{
+    if world.ports.lose_if_there(port) {
+        world.ledger.take(port, RightKind::Receive, 1);
+    }
+}
+
+// What else is kept under a name is lost: nothing, where its port is gone.
+fn lose_other(world: &mut World, kept: Entry)
     requires { CanLoseEntry world.old (reading (live_in world.old.ports) kept) }
     ensures { LosesEntry world.old (reading (live_in world.old.ports) kept) world.new }
 {
