@@ -32,15 +32,17 @@ pub(crate) fn judge_ports(world: &mut World) -> u64
 
 // The port that is to be judged first.
 fn first_lost(world: &World) -> Option<PortId>
+    ensures first { result ≡ slice_get world.now.ports.lost 0 }
     ensures some { IfSome result (λ port. IsHeldBy world.now.ports port Holder.Nobody) }
     ensures none { IfNone result (NoneHeldBy world.now.ports Holder.Nobody × (world.now.ports.lost ≡ [])) }
 {
     world.ports.first_lost()
 }
 
-// A port that lost its receive right is sent away, or is doomed and its messages are destroyed.
+// The port that lost its receive right first is sent away, or is doomed and its messages are destroyed.
 fn judge(world: &mut World, port: PortId) -> u64
     requires at { IsAt IsStarted world.old }
+    requires first { slice_get world.old.ports.lost 0 ≡ Some port }
     requires lost { IsHeldBy world.old.ports port Holder.Nobody }
     ensures continues { Continues IsStarted IsStarted world.old result world.new }
     ensures fewer { remaining world.new < remaining world.old }
@@ -238,13 +240,14 @@ fn is_queued(world: &World, port: PortId) -> bool
     }
 }
 
-// A port that nobody holds is doomed. Answers whether it has messages.
+// The port that was lost first is doomed. Answers whether it has messages.
 fn doom(world: &mut World, port: PortId) -> bool
-    requires { IsHeldBy world.old.ports port Holder.Nobody }
+    requires first { slice_get world.old.ports.lost 0 ≡ Some port }
+    requires lost { IsHeldBy world.old.ports port Holder.Nobody }
     ensures doomed { DoomsPort world.old port world.new }
     ensures none { result ≡ false → NoneQueued world.new.ports port }
 {
-    world.ports.doom(port)
+    world.ports.doom_first()
 }
 
 // The receive right that a step's own part took comes again; one that a message carried is there still.
