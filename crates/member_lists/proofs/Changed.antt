@@ -321,6 +321,17 @@ module _ (links : List Link) (chains : ℕ → Ends) (so : IsSound links chains)
   pub first_is : (e : Ends) → e ≡ chains l → e.first ≡ slice_get (list_of v l) 0
   first_is e is = ap (λ (f : Ends). f.first) is ∙ (so.chain l).first ∙ first_got (so.chained l) ∙ ap (λ ys. slice_get ys 0) (sym is_whole)
 
+  -- nothing stands before the first
+  pub first_before : (item : ℕ) → slice_get (list_of v l) 0 ≡ Some item → (link : Link) → slice_get links item ≡ Some link → link.before ≡ None
+  first_before item at link there = by_first (so.chained l) ((so.chain l).linked) (ap (λ ys. slice_get ys 0) (sym is_whole) ∙ at)
+    where
+      by_first : (ys : List ℕ) → IsLinked links None ys None → slice_get ys 0 ≡ Some item → link.before ≡ None
+      by_first [] linked e = absurd (none_some item e)
+      by_first (y ∷ ys) linked e =
+          let same : y ≡ item = same_some y item e in
+          let own : linked.0.link ≡ link = same_some linked.0.link link (sym linked.0.there ∙ ap (slice_get links) same ∙ there) in
+          sym (ap (λ (k : Link). k.before) own) ∙ linked.0.before_is
+
   module _ (item i : ℕ) (at : slice_get (list_of v l) i ≡ Some item) where
     rest : IsRest links (λ x. true) item i (so.chained l)
     rest = rest_at links (λ x. true) item i None (so.chained l) ((so.chain l).linked) (ap (λ ys. slice_get ys i) (all_kept (so.chained l) ∙ sym is_whole) ∙ at)

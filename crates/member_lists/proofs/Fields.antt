@@ -5,7 +5,8 @@ use Rattle.std.specs.Ordering.{nat_cmp}
 use Rattle.std.specs.Cmp.{nat_cmp_total}
 use Rattle.std.specs.FinMap as map
 use Rattle.member_lists.specs.declared.Ends.{Ends}
-use Rattle.member_lists.specs.Chains.{ends_at, blank_ends}
+use Rattle.std.specs.Option.{option_or}
+use Rattle.member_lists.specs.Chains.{ends_at, blank_ends, left_by, joined_by}
 use Rattle.member_lists.specs.Fields.{taken, put_if, both_ends, AreEnds}
 use Rattle.member_lists.proofs.Times.{equal_or_not}
 use Rattle.member_lists.proofs.Sound.{put_here, put_other, out_here, out_other, same_gets}
@@ -148,3 +149,66 @@ module _ (of_zero of_one now : Ends) where
 
 pub said : (v w : Ended) (l k : ℕ) → v ≡ w → l ≡ k → (P : Ended → ℕ → Type 0) → P v k → P w l
 said v w l k is same P h = rw (← is, same) h
+
+-- ---- an item leaves or joins one of them
+
+joined_some : (o : Option ℕ) (item : ℕ) → (x : ℕ) × (option_or o (Some item) ≡ Some x)
+joined_some None item = (item, refl)
+joined_some (Some x) item = (x, refl)
+
+no_first : (o : Option ℕ) (x : ℕ) → o ≡ Some x → o ≡ None → ⊥
+no_first o x some none = let e : Some x ≡ None = sym some ∙ none in cc
+
+module _ (of_zero of_one : Ends) (k : AreEnds of_zero of_one) where
+  abbrev ended : Ended
+  ended = both_ends of_zero of_one
+
+  module _ (item : ℕ) (now : Ends) where
+    pub zero_joined : now ≡ joined_by item of_zero → both_ends now of_one ≡ map.insert ended 0 (joined_by item (ends_at ended 0))
+    zero_joined is =
+        let some = joined_some of_zero.first item in
+        ap (λ (e : Ends). both_ends e of_one) is ∙ zero_put of_zero of_one (joined_by item of_zero) some.0 some.1 ∙ ap (λ (e : Ends). map.insert ended 0 (joined_by item e)) (zero_is of_zero of_one k)
+
+    pub one_joined : now ≡ joined_by item of_one → both_ends of_zero now ≡ map.insert ended 1 (joined_by item (ends_at ended 1))
+    one_joined is =
+        let some = joined_some of_one.first item in
+        ap (λ (e : Ends). both_ends of_zero e) is ∙ one_put of_zero of_one (joined_by item of_one) some.0 some.1 ∙ ap (λ (e : Ends). map.insert ended 1 (joined_by item e)) (one_is of_zero of_one k)
+
+    pub zero_joined_are : now ≡ joined_by item of_zero → AreEnds now of_one
+    zero_joined_are is = let some = joined_some of_zero.first item in record {
+      blank_zero = λ none. absurd (no_first now.first some.0 (ap (λ (e : Ends). e.first) is ∙ some.1) none);
+      blank_one = k.blank_one;
+    }
+
+    pub one_joined_are : now ≡ joined_by item of_one → AreEnds of_zero now
+    one_joined_are is = let some = joined_some of_one.first item in record {
+      blank_zero = k.blank_zero;
+      blank_one = λ none. absurd (no_first now.first some.0 (ap (λ (e : Ends). e.first) is ∙ some.1) none);
+    }
+
+  module _ (before behind : Option ℕ) (now : Ends) where
+    module _ (is : now ≡ left_by before behind of_zero) where
+      zero_left : now ≡ left_by before behind (ends_at ended 0)
+      zero_left = is ∙ ap (left_by before behind) (zero_is of_zero of_one k)
+
+      pub zero_left_out : (left_by before behind (ends_at ended 0)).first ≡ None → both_ends now of_one ≡ map.remove ended 0
+      zero_left_out none = zero_out of_zero of_one now (ap (λ (e : Ends). e.first) zero_left ∙ none)
+
+      pub zero_left_put : (x : ℕ) → (left_by before behind (ends_at ended 0)).first ≡ Some x → both_ends now of_one ≡ map.insert ended 0 (left_by before behind (ends_at ended 0))
+      zero_left_put x some = zero_put of_zero of_one now x (ap (λ (e : Ends). e.first) zero_left ∙ some) ∙ ap (map.insert ended 0) zero_left
+
+      pub zero_left_are : ((left_by before behind (ends_at ended 0)).first ≡ None → left_by before behind (ends_at ended 0) ≡ blank_ends) → AreEnds now of_one
+      zero_left_are blank = record { blank_zero = λ none. zero_left ∙ blank (sym (ap (λ (e : Ends). e.first) zero_left) ∙ none); blank_one = k.blank_one }
+
+    module _ (is : now ≡ left_by before behind of_one) where
+      one_left : now ≡ left_by before behind (ends_at ended 1)
+      one_left = is ∙ ap (left_by before behind) (one_is of_zero of_one k)
+
+      pub one_left_out : (left_by before behind (ends_at ended 1)).first ≡ None → both_ends of_zero now ≡ map.remove ended 1
+      one_left_out none = one_out of_zero of_one now (ap (λ (e : Ends). e.first) one_left ∙ none)
+
+      pub one_left_put : (x : ℕ) → (left_by before behind (ends_at ended 1)).first ≡ Some x → both_ends of_zero now ≡ map.insert ended 1 (left_by before behind (ends_at ended 1))
+      one_left_put x some = one_put of_zero of_one now x (ap (λ (e : Ends). e.first) one_left ∙ some) ∙ ap (map.insert ended 1) one_left
+
+      pub one_left_are : ((left_by before behind (ends_at ended 1)).first ≡ None → left_by before behind (ends_at ended 1) ≡ blank_ends) → AreEnds of_zero now
+      one_left_are blank = record { blank_zero = k.blank_zero; blank_one = λ none. one_left ∙ blank (sym (ap (λ (e : Ends). e.first) one_left) ∙ none) }

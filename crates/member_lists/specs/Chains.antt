@@ -49,6 +49,14 @@ pub record IsUnlinked (old new : List Link) (item : ℕ) (was now : Ends) : Type
   pub first : now.first ≡ pick link.before link.behind was.first
   pub last : now.last ≡ pick link.behind link.before was.last
 
+-- the ends of a list once an item left it that stood between these two
+abbrev pub left_by : (before behind : Option ℕ) → Ends → Ends
+left_by before behind was = record { first = pick before behind was.first; last = pick behind before was.last }
+
+-- the ends of a list once the item joined it at its end
+abbrev pub joined_by : (item : ℕ) → Ends → Ends
+joined_by item was = record { first = option_or was.first (Some item); last = Some item }
+
 -- ---- lists
 
 -- at most so many items, from this one on

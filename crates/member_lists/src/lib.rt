@@ -7,11 +7,11 @@
 //! ends of both stand in one map.
 #![tactic(auto)]
 
-ghost use Rattle.std.specs.Prelude.{◌≡◌, ◌↔◌, ℕ, ◌+◌, ◌<◌, ◌≤◌, ◌^◌, ◌++◌, ◌∷◌, [], max, eqb, IsTrue, true, length, Some, None, IfOk, OnOk, OnErr, slice_get};
+ghost use Rattle.std.specs.Prelude.{◌≡◌, ◌↔◌, ℕ, ◌+◌, ◌<◌, ◌≤◌, ◌^◌, ◌++◌, ◌∷◌, [], max, eqb, IsTrue, true, length, Some, None, IfOk, OnOk, OnErr, slice_get, slice_set};
 ghost use Rattle.std.specs.List.{Contains};
 ghost use Rattle.std.specs.Option.{option_or};
 ghost use Rattle.std.specs.FinMap as map;
-ghost use Rattle.member_lists.specs.Chains.{IsBehindSet, IsBeforeSet, IsLinkedLast, IsUnlinked, pick, ends_at, blank_ends, blank_link};
+ghost use Rattle.member_lists.specs.Chains.{IsBehindSet, IsBeforeSet, IsLinkedLast, IsUnlinked, pick, left_by, joined_by, ends_at, blank_ends, blank_link};
 ghost use Rattle.member_lists.specs.declared.Link.{Link as AnyLink};
 ghost use Rattle.member_lists.specs.Fields.{taken};
 
@@ -123,6 +123,30 @@ impl Ends {
     {
         self.first.item().is_none()
     }
+
+    // An item leaves the list that stood between these two.
+    #[inline(always)]
+    fn leave(&mut self, before: Place, behind: Place)
+        ensures { self.new ≡ left_by before behind self.old }
+    {
+        if before.item().is_none() {
+            self.first = behind;
+        }
+        if behind.item().is_none() {
+            self.last = before;
+        }
+    }
+
+    // An item joins the list at its end.
+    #[inline(always)]
+    fn join(&mut self, item: usize)
+        requires { item + 1 < 2 ^ 32 }
+        ensures { self.new ≡ joined_by item self.old }
+    {
+        let place = Place::of(item);
+        self.first = self.first.or(place);
+        self.last = place;
+    }
 }
 
 /// Lists of items that are in at most one of them. Without room for items nothing is allocated; each
@@ -205,17 +229,42 @@ impl TwoEnds {
         }
     }
 
-    // Puts these ends in place of those of one of the two.
+    // The last item of one of the two.
     #[inline(always)]
-    fn put(&mut self, list: u64, now: Ends)
-        requires few { list < 2 }
-        requires blank { now.first ≡ None → now ≡ blank_ends }
-        ensures none { now.first ≡ None → self.new ≡ map.remove self.old list }
-        ensures some { (x : ℕ) → now.first ≡ Some x → self.new ≡ map.insert self.old list now }
+    fn last(&self, list: u64) -> Place
+        requires { list < 2 }
+        ensures { result ≡ (ends_at self.now list).last }
     {
         match list {
-            0 => self.of_zero = now,
-            _ => self.of_one = now,
+            0 => self.of_zero.last,
+            _ => self.of_one.last,
+        }
+    }
+
+    // An item leaves one of the two lists, where it stood between these two.
+    #[inline(always)]
+    fn leave(&mut self, list: u64, before: Place, behind: Place)
+        requires few { list < 2 }
+        requires blank { (left_by before behind (ends_at self.old list)).first ≡ None → left_by before behind (ends_at self.old list) ≡ blank_ends }
+        ensures none { (left_by before behind (ends_at self.old list)).first ≡ None → self.new ≡ map.remove self.old list }
+        ensures some { (x : ℕ) → (left_by before behind (ends_at self.old list)).first ≡ Some x → self.new ≡ map.insert self.old list (left_by before behind (ends_at self.old list)) }
+    {
+        match list {
+            0 => self.of_zero.leave(before, behind),
+            _ => self.of_one.leave(before, behind),
+        }
+    }
+
+    // An item joins one of the two lists at its end.
+    #[inline(always)]
+    fn join(&mut self, list: u64, item: usize)
+        requires few { list < 2 }
+        requires fits { item + 1 < 2 ^ 32 }
+        ensures { self.new ≡ map.insert self.old list (joined_by item (ends_at self.old list)) }
+    {
+        match list {
+            0 => self.of_zero.join(item),
+            _ => self.of_one.join(item),
         }
     }
 }
@@ -263,6 +312,15 @@ fn set_before(links: &mut Vec<Link>, item: Place, before: Place)
     }
 }
 
+// The link of an item.
+#[inline(always)]
+fn link_of(links: &Vec<Link>, item: usize) -> Link
+    requires { item < length links.now.items }
+    ensures { slice_get links.now.items item ≡ Some result }
+{
+    links[item]
+}
+
 // The end of a list that an item leaves: the item's other neighbour, where it had none on this side.
 fn end_without(beside: Place, other: Place, end: Place) -> Place
     ensures { result ≡ pick beside other end }
@@ -273,6 +331,21 @@ fn end_without(beside: Place, other: Place, end: Place) -> Place
     }
 }
 
+// Links an item that is in no list behind the last one of a list, if that has one.
+#[inline(always)]
+fn link_behind(links: &mut Vec<Link>, item: usize, last: Place)
+    requires few { item + 1 < 2 ^ 32 }
+    requires room { item < length links.old.items }
+    requires last { (x : ℕ) → last ≡ Some x → x < length links.old.items }
+    ensures { IsBehindSet (slice_set links.old.items item (record { before = last; behind = None })) links.new.items last (Some item) }
+{
+    links[item] = Link {
+        before: last,
+        behind: Place::none(),
+    };
+    set_behind(links, last, Place::of(item));
+}
+
 // Links an item that is in no list behind the last one of a list, and answers the list's ends then.
 #[inline(always)]
 pub(crate) fn link_last(links: &mut Vec<Link>, item: usize, ends: Ends) -> Ends
@@ -281,12 +354,8 @@ pub(crate) fn link_last(links: &mut Vec<Link>, item: usize, ends: Ends) -> Ends
     requires last { (x : ℕ) → ends.last ≡ Some x → x < length links.old.items }
     ensures { IsLinkedLast links.old.items links.new.items item ends result }
 {
+    link_behind(links, item, ends.last);
     let place = Place::of(item);
-    links[item] = Link {
-        before: ends.last,
-        behind: Place::none(),
-    };
-    set_behind(links, ends.last, place);
     Ends {
         first: ends.first.or(place),
         last: place,
@@ -508,9 +577,9 @@ impl TwoLists {
         requires apart { IsApart self.old item }
         ensures { self.new ≡ with_list self.old list (list_of self.old list ++ item ∷ []) }
     {
-        let ends = self.ends.of(list);
-        let now = link_last(&mut self.links, item, ends);
-        self.ends.put(list, now);
+        let last = self.ends.last(list);
+        link_behind(&mut self.links, item, last);
+        self.ends.join(list, item);
     }
 
     /// Takes an item out of its list; the order of the others stays. Constant time.
@@ -520,9 +589,23 @@ impl TwoLists {
         requires there { Contains (list_of self.old list) item }
         ensures { self.new ≡ with_list self.old list (without item (list_of self.old list)) }
     {
-        let ends = self.ends.of(list);
-        let now = unlink(&mut self.links, item, ends);
-        self.ends.put(list, now);
+        let Link { before, behind } = link_of(&self.links, item);
+        set_behind(&mut self.links, before, behind);
+        set_before(&mut self.links, behind, before);
+        self.ends.leave(list, before, behind);
+    }
+
+    /// Takes the first item out of its list, as [`TwoLists::remove`] does. Constant time.
+    #[inline(always)]
+    pub fn remove_first(&mut self, list: u64, item: usize)
+        requires list { list < 2 }
+        requires first { slice_get (list_of self.old list) 0 ≡ Some item }
+        ensures { self.new ≡ with_list self.old list (without item (list_of self.old list)) }
+    {
+        let behind = link_of(&self.links, item).behind;
+        let none = Place::none();
+        set_before(&mut self.links, behind, none);
+        self.ends.leave(list, none, behind);
     }
 
     /// The first item of a list. Constant time.
