@@ -3,7 +3,7 @@ ghost use Rattle.std.specs.Prelude.{◌≡◌, ◌↔◌, ℕ, ◌<◌, ◌++◌
 ghost use Rattle.std.specs.FinMap as map;
 
 use crate::by_key::{DOOMED, LOST, hold_at};
-use crate::moves::rejoin_two;
+use crate::moves::{rejoin_first, rejoin_two};
 use crate::{Holder, Message, Ports, key_of};
 use mach_types::PortId;
 
@@ -42,7 +42,7 @@ impl<M: Message> Ports<M> {
     {
         let key = self.waiting.first(LOST).unwrap();
         hold_at(&mut self.records, key, Holder::Doomed);
-        rejoin_two(&mut self.waiting, key, Some(LOST), Some(DOOMED));
+        rejoin_first(&mut self.waiting, key, LOST, DOOMED);
         !self.records[key].queue.is_empty()
     }
 }

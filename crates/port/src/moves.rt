@@ -1,5 +1,5 @@
 //! How a port leaves and joins the lists that it stands in by its key.
-ghost use Rattle.std.specs.Prelude.{◌≡◌, ◌<◌, ℕ, IsTrue, Option, Some, None, IsSome, cond};
+ghost use Rattle.std.specs.Prelude.{◌≡◌, ◌<◌, ℕ, IsTrue, Option, Some, None, IsSome, cond, slice_get};
 ghost use Rattle.std.specs.List.{Contains};
 ghost use Rattle.member_lists.specs.Lists.{list_of};
 ghost use Rattle.port.specs.Ready.{StandsIn, IsMoved, out_of, at_end};
@@ -159,4 +159,32 @@ pub(crate) fn rejoin_two(lists: &mut TwoLists, key: usize, was: Option<u64>, now
 {
     leave_two(&mut *lists, key, was);
     join_two(lists, key, now);
+}
+
+// Takes the port under the key, the first of one of two lists, out of it.
+#[inline(always)]
+fn leave_first(lists: &mut TwoLists, key: usize, was: u64)
+    requires list { was < 2 }
+    requires first { slice_get (list_of lists.old was) 0 ≡ Some key }
+    requires was { StandsIn lists.old key (Some was) }
+    ensures moved { IsMoved lists.old lists.new key None }
+    ensures left { lists.new ≡ out_of lists.old key (Some was) }
+{
+    lists.remove_first(was, key);
+}
+
+// Takes the port under the key, the first of one of two lists, out of it, and puts it at the end of the other
+// or the same.
+#[inline(always)]
+pub(crate) fn rejoin_first(lists: &mut TwoLists, key: usize, was: u64, now: u64)
+    requires left { was < 2 }
+    requires joined { now < 2 }
+    requires room { key < lists.old.items }
+    requires first { slice_get (list_of lists.old was) 0 ≡ Some key }
+    requires was { StandsIn lists.old key (Some was) }
+    ensures moved { IsMoved lists.old lists.new key (Some now) }
+    ensures turned { lists.new ≡ at_end (out_of lists.old key (Some was)) key (Some now) }
+{
+    leave_first(&mut *lists, key, was);
+    join_two(lists, key, Some(now));
 }

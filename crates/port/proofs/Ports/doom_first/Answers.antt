@@ -22,16 +22,16 @@ hold_at-requires g c =
     let there = first_record c.self.inside.records c.self.inside.waiting c.self.invariant.awaited c.unwrap-key.result e in
     ap is_some there.1
 
-pub rejoin_two-requires-clause-room : goal.rejoin_two-requires-clause-room
-rejoin_two-requires-clause-room g c =
+pub rejoin_first-requires-clause-room : goal.rejoin_first-requires-clause-room
+rejoin_first-requires-clause-room g c =
     let e : slice_get (list_of c.self.inside.waiting lost_list) 0 ≡ Some c.unwrap-key.result = sym c.first.ensures ∙ c.unwrap-key.ensures in
     let there = first_record c.self.inside.records c.self.inside.waiting c.self.invariant.awaited c.unwrap-key.result e in
     let r : Record g.row.M.Denot = there.0 in
     let here : get c.self.inside.records c.unwrap-key.result ≡ Some r = there.1 in
     c.self.invariant.awaited.room c.unwrap-key.result r here
 
-pub rejoin_two-requires-clause-was : goal.rejoin_two-requires-clause-was
-rejoin_two-requires-clause-was g c =
+pub rejoin_first-requires-clause-was : goal.rejoin_first-requires-clause-was
+rejoin_first-requires-clause-was g c =
     let e : slice_get (list_of c.self.inside.waiting lost_list) 0 ≡ Some c.unwrap-key.result = sym c.first.ensures ∙ c.unwrap-key.ensures in
     let there = first_record c.self.inside.records c.self.inside.waiting c.self.invariant.awaited c.unwrap-key.result e in
     let r : Record g.row.M.Denot = there.0 in
@@ -57,9 +57,9 @@ invariant_of-self g c =
     let here : get c.self.inside.records c.unwrap-key.result ≡ Some r = there.1 in
     let home : waiting_list r ≡ Some lost_list = first_home c.self.inside.records c.self.inside.waiting c.self.invariant.awaited c.unwrap-key.result e in
     let own : map.get c.self.inside.by_id.map r.id ≡ Some c.unwrap-key.result = c.self.invariant.sound.indexed.held c.unwrap-key.result r here in
-    let joined : c.rejoin_two.new.lists ≡ at_end (out_of c.self.inside.waiting c.unwrap-key.result (waiting_list r)) c.unwrap-key.result (Some doomed_list) =
-    c.rejoin_two.ensures.turned ∙ ap (λ o. at_end (out_of c.self.inside.waiting c.unwrap-key.result o) c.unwrap-key.result (Some doomed_list)) (sym home) in
-    kept-held c.self.inside.records c.self.inside.by_id.map c.self.inside.next c.self.inside.spare c.self.inside.destroyed c.self.inside.slots c.self.inside.sets.marked c.self.inside.sets.all c.self.inside.waiting c.self.inside.noted c.self.invariant c.args.self.now c.self.view_is r.id c.unwrap-key.result r own here holder.Doomed c.hold_at.new.records (c.hold_at.ensures.after r here) c.rejoin_two.new.lists c.rejoin_two.ensures.moved joined
+    let joined : c.rejoin_first.new.lists ≡ at_end (out_of c.self.inside.waiting c.unwrap-key.result (waiting_list r)) c.unwrap-key.result (Some doomed_list) =
+    c.rejoin_first.ensures.turned ∙ ap (λ o. at_end (out_of c.self.inside.waiting c.unwrap-key.result o) c.unwrap-key.result (Some doomed_list)) (sym home) in
+    kept-held c.self.inside.records c.self.inside.by_id.map c.self.inside.next c.self.inside.spare c.self.inside.destroyed c.self.inside.slots c.self.inside.sets.marked c.self.inside.sets.all c.self.inside.waiting c.self.inside.noted c.self.invariant c.args.self.now c.self.view_is r.id c.unwrap-key.result r own here holder.Doomed c.hold_at.new.records (c.hold_at.ensures.after r here) c.rejoin_first.new.lists c.rejoin_first.ensures.moved joined
 
 pub returns-clause-doomed : goal.returns-clause-doomed
 returns-clause-doomed g c port p first h =
@@ -69,13 +69,13 @@ returns-clause-doomed g c port p first h =
     let here : get c.self.inside.records c.unwrap-key.result ≡ Some r = there.1 in
     let home : waiting_list r ≡ Some lost_list = first_home c.self.inside.records c.self.inside.waiting c.self.invariant.awaited c.unwrap-key.result e in
     let own : map.get c.self.inside.by_id.map r.id ≡ Some c.unwrap-key.result = c.self.invariant.sound.indexed.held c.unwrap-key.result r here in
-    let joined : c.rejoin_two.new.lists ≡ at_end (out_of c.self.inside.waiting c.unwrap-key.result (waiting_list r)) c.unwrap-key.result (Some doomed_list) =
-    c.rejoin_two.ensures.turned ∙ ap (λ o. at_end (out_of c.self.inside.waiting c.unwrap-key.result o) c.unwrap-key.result (Some doomed_list)) (sym home) in
+    let joined : c.rejoin_first.new.lists ≡ at_end (out_of c.self.inside.waiting c.unwrap-key.result (waiting_list r)) c.unwrap-key.result (Some doomed_list) =
+    c.rejoin_first.ensures.turned ∙ ap (λ o. at_end (out_of c.self.inside.waiting c.unwrap-key.result o) c.unwrap-key.result (Some doomed_list)) (sym home) in
     let told = first_told c.self.inside.records c.self.inside.by_id.map c.self.inside.next c.self.inside.spare c.self.inside.destroyed c.self.inside.slots c.self.invariant.sound c.self.inside.waiting c.self.inside.noted c.args.self.now c.self.view_is c.self.invariant.awaited holder.Nobody lost_list refl waits_lost c.args.self.now.lost (lost_now c.self.inside.records c.self.inside.by_id.map c.self.inside.next c.self.inside.spare c.self.inside.destroyed c.self.inside.slots c.self.invariant.sound c.self.inside.waiting c.self.inside.noted c.args.self.now c.self.view_is) in
     let its : r.id ≡ port = same_some r.id port (sym (told ∙ ap (option_map (λ k. id_in (get c.self.inside.records k))) e ∙ ap (λ o. Some (id_in o)) here) ∙ first) in
     let found : map.get c.self.inside.by_id.map port ≡ Some c.unwrap-key.result = ap (map.get c.self.inside.by_id.map) (sym its) ∙ own in
     let nobody : r.kept.attributes.holder ≡ holder.Nobody = waits_lost r.kept.attributes.holder home in
-    view-held c.self.inside.records c.self.inside.by_id.map c.self.inside.next c.self.inside.spare c.self.inside.destroyed c.self.inside.slots c.self.inside.sets.marked c.self.inside.sets.all c.self.inside.waiting c.self.inside.noted c.self.invariant c.args.self.now c.self.view_is port c.unwrap-key.result r found here holder.Doomed c.hold_at.new.records (c.hold_at.ensures.after r here) c.rejoin_two.new.lists c.rejoin_two.ensures.moved joined p h
+    view-held c.self.inside.records c.self.inside.by_id.map c.self.inside.next c.self.inside.spare c.self.inside.destroyed c.self.inside.slots c.self.inside.sets.marked c.self.inside.sets.all c.self.inside.waiting c.self.inside.noted c.self.invariant c.args.self.now c.self.view_is port c.unwrap-key.result r found here holder.Doomed c.hold_at.new.records (c.hold_at.ensures.after r here) c.rejoin_first.new.lists c.rejoin_first.ensures.moved joined p h
     ∙ relisted (with_port c.args.self.now port (held p holder.Doomed)) (without port c.args.self.now.lost) (without port c.args.self.now.doomed ++ port ∷ []) c.args.self.now.noted
     (without port c.args.self.now.lost) (c.args.self.now.doomed ++ port ∷ []) c.args.self.now.noted (record {
       lost_is = refl;
