@@ -162,6 +162,7 @@ fn lead<V: Copy>(
 }
 
 // Takes a node out of the row; the last one comes in its place.
+#[inline(always)]
 fn take_out<V: Copy>(nodes: &mut Vec<Node<V>>, heads: &mut Vec<u32>, place: usize)
     requires place { place < length nodes.old.items }
     requires indexed { IsIndexed nodes.old.items heads.old.items }
