@@ -242,7 +242,6 @@ impl Kept {
         if self.is_noted { Some(NOTED) } else { None }
     }
 
-    // Whether the port is in a set.
     fn is_member(&self) -> bool
         ensures { result ≡ is_some self.now.attributes.set }
     {
