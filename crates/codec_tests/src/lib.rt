@@ -12,3 +12,5 @@ mod descriptors;
 mod messages;
 #[cfg(test)]
 mod texts;
+#[cfg(test)]
+mod written;

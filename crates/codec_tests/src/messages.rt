@@ -1,6 +1,6 @@
 //! Messages read, and made those that a receiver gets.
 use mach_types::{MsgReturn, Name};
-use message_codec::{Header, Parsed, Span, Spans, parse, put_received};
+use message_codec::{Header, Lone, Parsed, PortWord, Span, Spans, parse, parse_lone, put_received};
 use smallvec::SmallVec;
 use std::alloc::{AllocError, Global};
 
@@ -194,6 +194,57 @@ fn spans_of_many(alloc: Global) -> Option<usize> {
 fn finds_port_words(rt: HostRuntime) {
     assert!(rt; has_spans(rt.alloc(), &SENT, &SPANS) && has_spans(rt.alloc(), &PLAIN, &[]));
     assert!(rt; no_spans(rt.alloc()) && spans_of_many(rt.alloc()) == Some(9));
+}
+
+// A message of one port word and nothing else.
+const LONE: [u8; 32] = [
+    0x14, 0, 0, 0x80, 0x20, 0, 0, 0, 1, 0, 0, 0, 0, 0, 0, 0, 0, 0, 0, 0, 7, 0, 0, 0, 0x11, 0x20, 1,
+    0x10, 9, 0, 0, 0,
+];
+
+// Where another byte makes it another message, or none: another destination, one to answer with, raw bytes,
+// a name where there is none to answer with; and another descriptor.
+const NOT_LONE: [(usize, u8); 8] = [
+    (0, 0x16),
+    (1, 0x12),
+    (3, 0),
+    (12, 2),
+    (24, 0x0f),
+    (25, 8),
+    (26, 0),
+    (27, 0x30),
+];
+
+fn is_lone_with(at: usize, byte: u8) -> bool {
+    let mut bytes = LONE;
+    if let Some(place) = bytes.get_mut(at) {
+        *place = byte;
+    }
+    parse_lone(&bytes).is_some()
+}
+
+#[test]
+fn reads_a_lone_port_word(rt: HostRuntime) {
+    let lone = Lone {
+        remote_kind: 20,
+        remote: Name::new(1),
+        id: 7,
+        word: PortWord {
+            disposition: 17,
+            name: Name::new(9),
+        },
+    };
+    assert!(rt; parse_lone(&LONE) == Some(lone));
+    assert!(rt; has_spans(rt.alloc(), &LONE, &[Span::lone(17)]));
+}
+
+#[test]
+fn reads_no_other_as_a_lone_port_word(rt: HostRuntime) {
+    for (at, byte) in &NOT_LONE {
+        assert!(rt; !is_lone_with(*at, *byte), "at {at}");
+    }
+    assert!(rt; is_lone_with(24, 16) && is_lone_with(24, 21) && !is_lone_with(24, 22));
+    assert!(rt; parse_lone(&LONE[..28]).is_none() && parse_lone(&SENT).is_none());
 }
 
 // The message as its receiver gets it.

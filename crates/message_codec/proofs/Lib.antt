@@ -9,3 +9,4 @@ pub mod Spelling
 pub mod ReadWords
 pub mod FieldTexts
 pub mod ReceivedTexts
+pub mod OneWord

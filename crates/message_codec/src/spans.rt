@@ -1,6 +1,7 @@
 //! Where the port words of a message stand.
 ghost use Rattle.std.specs.Prelude.{◌≡◌};
 
+use crate::header::HEADER_BYTES;
 use smallvec::SmallVec;
 use std::marker::Model;
 
@@ -21,7 +22,20 @@ pub struct Span {
 }
 
 impl Span {
+    ghost use Rattle.message_codec.specs.Plain.{lone_span};
     ghost use Rattle.message_codec.specs.Spans.{kind_place, words_place};
+
+    /// The span of the port word of a body that is one word in the short form and nothing else.
+    pub fn lone(disposition: u8) -> Span
+        ensures { result ≡ lone_span disposition }
+    {
+        Span {
+            at: HEADER_BYTES as u32,
+            long: false,
+            disposition,
+            number: 1,
+        }
+    }
 
     /// The offset of the byte that says the disposition.
     pub(crate) fn kind_at(&self) -> usize

@@ -1,18 +1,20 @@
 //! Reading a message's text.
-ghost use Rattle.std.specs.Prelude.{◌≡◌, ◌≢◌, ◌⊎◌, [], IfOk, IfErr, OnOk, IfSome, IfNone};
+ghost use Rattle.std.specs.Prelude.{◌≡◌, ◌≢◌, ℕ, ◌+◌, ◌*◌, ◌^◌, ◌⊎◌, [], ◌∷◌, IfOk, IfErr, OnOk, IfSome, IfNone};
 ghost use Rattle.mach_types.specs.declared.codes.MsgReturn.TheVariants.{SendNoBuffer};
 ghost use Rattle.mach_types.specs.Numbers.{msg_number};
-ghost use Rattle.mach_types.specs.Grammar.{Header as AnyHeader, WireBody, Spells};
+ghost use Rattle.mach_types.specs.Grammar.{Header as AnyHeader, WireBody, Spells, NamesPorts};
 ghost use Rattle.mach_types.specs.Guards.{NoneHolds};
 ghost use Rattle.mach_types.specs.TextGuards.{TextRefuses, header_guards};
 ghost use Rattle.message_codec.specs.Parses.{Parses, ReadsBody, IsCrowded};
-ghost use Rattle.message_codec.specs.Plain.{IsPlain, IsRequest, parsed_plain, parsed_request};
+ghost use Rattle.message_codec.specs.Plain.{IsPlain, IsRequest, IsLone, parsed_plain, parsed_request, parsed_lone};
 ghost use Rattle.message_codec.specs.declared.text.Parsed.{Parsed as AnyParsed};
 ghost use Rattle.message_codec.specs.Spans.{inline_spans};
+ghost use Rattle.message_codec.specs.Words.{body_words};
 
 use crate::header::{HEADER_BYTES, check_header, is_complex, local_kind, remote_kind};
 use crate::items::read_spans;
 use crate::spans::{Span, Spans};
+use crate::words::PortWord;
 use mach_types::{MsgReturn, Name};
 use smallvec::SmallVec;
 use std::alloc::Global;
@@ -65,6 +67,26 @@ pub struct Request {
     /// The id.
     pub id: u32,
 }
+
+/// What the kernel needs of a message whose body is one right and nothing else: one item of one port word,
+/// whose descriptor is in the short form. It has no right to answer with.
+#[derive(Clone, Copy, Debug, PartialEq, Eq)]
+pub struct Lone {
+    /// The disposition of the destination, 17 to 21.
+    pub remote_kind: u8,
+    /// The sender's name of the destination.
+    pub remote: Name,
+    /// The id.
+    pub id: u32,
+    /// The word of the right: its disposition, 16 to 21, and the sender's name of it.
+    pub word: PortWord,
+}
+
+/// How many bytes such a message has: the header, a descriptor and a port word.
+const LONE_BYTES: usize = HEADER_BYTES + 8;
+
+/// The upper 24 bits of its descriptor: one datum of 32 bits, in the message itself.
+const LONE_DESCRIPTOR: u32 = 0x10_0120;
 
 /// Puts the spans of a body whose header is judged already into a list that has none.
 fn read_body(spans: &mut SmallVec<Span, 8>, bytes: &[u8]) -> Result<(), MsgReturn>
@@ -172,5 +194,50 @@ pub fn parse_request(bytes: &[u8]) -> Option<Request>
         remote: Name::new(read_word(bytes, 8)),
         local: Name::new(read_word(bytes, 12)),
         id: read_word(bytes, 20),
+    })
+}
+
+/// The disposition that the descriptor of one port word in the short form says, if its word is one.
+fn lone_disposition(first: u32) -> Option<u8>
+    ensures some { IfSome result (λ d. NamesPorts d × (first ≡ d + 32 * 2 ^ 8 + 1 * 2 ^ 16 + 2 ^ 28)) }
+    ensures none { IfNone result ((d : ℕ) → NamesPorts d → first ≢ d + 32 * 2 ^ 8 + 1 * 2 ^ 16 + 2 ^ 28) }
+{
+    let disposition = (first % 0x100) as u8;
+    if first / 0x100 != LONE_DESCRIPTOR || !(16..=21).contains(&disposition) {
+        return None;
+    }
+    Some(disposition)
+}
+
+/// What these bytes say, if they are a message whose body is one port word in the short form, and have no
+/// right to answer with: just what [`parse`] gives of them, and the word, read without a list of spans.
+/// `None` for every other text, and for bytes that are none. Takes no memory. Constant time.
+#[inline(always)]
+pub fn parse_lone(bytes: &[u8]) -> Option<Lone>
+    ensures some { IfSome result (λ lone. Parses bytes.now (parsed_lone lone)) }
+
+    // The one port word of the body is this one.
+    ensures word { IfSome result (λ lone. (p : Parses bytes.now (parsed_lone lone)) → body_words p.written ≡ lone.word ∷ []) }
+    ensures none { IfNone result ((parsed : AnyParsed) → Parses bytes.now parsed → ¬ (IsLone bytes.now parsed)) }
+{
+    if bytes.len() != LONE_BYTES {
+        return None;
+    }
+    let bits = read_word(bytes, 0);
+    if !is_complex(bits) || local_kind(bits) != 0 {
+        return None;
+    }
+    let Ok(()) = check_header(bytes) else {
+        return None;
+    };
+    let Some(disposition) = lone_disposition(read_word(bytes, HEADER_BYTES)) else {
+        return None;
+    };
+    let name = Name::new(read_word(bytes, HEADER_BYTES + 4));
+    Some(Lone {
+        remote_kind: remote_kind(bits),
+        remote: Name::new(read_word(bytes, 8)),
+        id: read_word(bytes, 20),
+        word: PortWord { disposition, name },
     })
 }

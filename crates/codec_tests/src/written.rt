@@ -1,6 +1,9 @@
 //! Messages made from their fields, and read into them.
-use super::*;
 use mach_types::{Disposition, MsgReturn, Name};
+use message_codec::{
+    PortRight, Received, ReceivedBody, ReceivedHeader, ReceivedItem, ReceivedItems, SendBody,
+    SendHeader, SendItem, WriteError, parse, read_received, write_message,
+};
 use std::alloc::Global;
 
 /// To the port under 1, by a send right that is made, with this reply and the id 7.
