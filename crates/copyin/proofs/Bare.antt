@@ -1,5 +1,5 @@
 -- The text of a message in whose body no port words stand, and what is queued of it.
-use Rattle.std.proofs.Common.{◌≡◌, ℕ, Option, List, [], ◌∷◌, length, refl, sym, ap, ◌∙◌, inl, inr}
+use Rattle.std.proofs.Common.{◌≡◌, ℕ, Option, Some, None, List, [], ◌∷◌, length, refl, sym, subst, ap, ◌∙◌, inl, inr}
 use Rattle.std.specs.Option.{option_to_list}
 use Rattle.std.specs.Prelude.{◌==◌, ◌≢◌, true, false}
 use Rattle.std.proofs.lemmas.Bool.Decides.{eqb_tells}
@@ -9,10 +9,12 @@ use Rattle.mach_types.specs.Grammar.{Wire, data_item, port_item, WireBody, raw, 
 use Rattle.mach_types.specs.Numbers.{kind_sent}
 use Rattle.mach_types.specs.Tokens.{send_once, same_kind}
 use Rattle.message_codec.specs.declared.spans.Span.{Span}
+use Rattle.message_codec.specs.declared.text.Lone.{Lone}
 use Rattle.message_codec.specs.declared.text.Parsed.{Parsed}
 use Rattle.message_codec.specs.declared.text.Request.{Request}
 use Rattle.message_codec.specs.declared.words.PortWord.{PortWord}
-use Rattle.message_codec.specs.Plain.{parsed_request}
+use Rattle.message_codec.specs.Parses.{Parses}
+use Rattle.message_codec.specs.Plain.{parsed_request, parsed_lone, lone_span}
 use Rattle.message_codec.specs.Spans.{spans_at, body_spans}
 use Rattle.message_codec.specs.Words.{items_words, body_words}
 use Rattle.copyin.specs.declared.judge.Head.{Head}
@@ -20,10 +22,14 @@ use Rattle.copyin.specs.declared.judge.Rights.{Rights}
 use Rattle.copyin.specs.declared.judge.Words.{Words}
 use Rattle.copyin.specs.Goes.{IsHead, IsBare, message_with}
 use Rattle.copyin.specs.Planned.{AreWords}
-use Rattle.copyin.specs.Plans.{reply_words}
+use Rattle.copyin.specs.Judging.{CopiesBody}
+use Rattle.copyin.specs.Plans.{destination_word, reply_words}
 use Rattle.copyin_base.specs.declared.message.Carried.{Carried}
+use Rattle.copyin_base.specs.Carrying.{spans_for}
 use Rattle.copyin_base.specs.Kept.{Kept}
-use Rattle.copyin.proofs.Judging.{not_equal}
+use Rattle.name_space.specs.Names.{Names}
+use Rattle.copyin.proofs.Judging.{not_equal, word_given}
+use Rattle.copyin.proofs.Numbering.{number_of}
 
 pub none_in : {X : Type 0} (xs : List X) → true ≡ (length xs == 0) → xs ≡ []
 none_in xs empty = elim (eqb_tells (length xs) 0) [ inl h ↦ nil_from_length xs h.1 | inr h ↦ absurd (let no : true ≡ false = empty ∙ h.0 in cc) ]
@@ -75,4 +81,31 @@ queues parsed head is bytes rights spans carried kept stand go = λ i. record {
   reply = rights.reply;
   rights = go i;
   told = false;
+}
+
+-- ---- a body of one word
+
+-- the words of a plan for a text with such a body
+pub one_words : (bytes : List ℕ) (lone : Lone) (p : Parses bytes (parsed_lone lone)) → body_words p.written ≡ lone.word ∷ [] → (words : Words)
+    → words.destination ≡ destination_word (parsed_lone lone) → words.reply ≡ None → words.body.items ≡ lone.word ∷ [] → AreWords (parsed_lone lone) p.written words
+one_words bytes lone p is words to answer one = record {
+  destination = to;
+  reply = ap (λ (w : Option PortWord). option_to_list w) answer;
+  body = one ∙ sym is;
+}
+
+-- where its word stands, by what was judged of it
+pub one_span : (second : Names) (ws : List PortWord) (w : PortWord) (c : Carried) (last : Names) → ws ≡ w ∷ [] → CopiesBody second ws (c ∷ []) last
+    → spans_for (Some c) ≡ lone_span w.disposition ∷ []
+one_span second ws w c last is goes =
+    let body : CopiesBody second (w ∷ []) (c ∷ []) last = subst (λ (xs : List PortWord). CopiesBody second xs (c ∷ []) last) is goes in
+    ap (λ (n : ℕ). lone_span n ∷ []) (number_of w.disposition c.given (word_given second w c body.0 body.1))
+
+pub one_head : (lone : Lone) (head : Head) → head ≡ record { destination = record { disposition = lone.remote_kind; name = lone.remote }; reply = None; id = lone.id; is_complex = true }
+    → IsHead (parsed_lone lone) head
+one_head lone head is = record {
+  destination = ap (λ (h : Head). h.destination) is;
+  reply = ap (λ (h : Head). option_to_list h.reply) is;
+  id = ap (λ (h : Head). h.id) is;
+  is_complex = ap (λ (h : Head). h.is_complex) is;
 }

@@ -18,7 +18,7 @@ use Rattle.copyin_base.specs.declared.message.Carried.{Carried}
 use Rattle.copyin_base.specs.declared.message.Mark.{Mark}
 use Rattle.copyin_base.specs.declared.message.Mark.TheVariants as mark
 use Rattle.copyin.specs.Copies.{copied_from}
-use Rattle.copyin.specs.Goes.{LeadsNowhere, OthersGo}
+use Rattle.copyin.specs.Goes.{HasOne, LeadsNowhere, OthersGo}
 use Rattle.copyin.specs.Judging.{CopiesName, CopiesWord, CopiesReply, CopiesBody, IsBad, BodyIsBad}
 use Rattle.copyin.specs.Overlays.{Overlays}
 
@@ -141,3 +141,25 @@ unanswered first words reply none goes bare = record {
   last = first;
   body = none_goes first words.body.items bare;
 }
+
+-- ---- one word of the body, and no right to answer with
+
+pub lone_goes : (first : Names) (words : Words) (w : PortWord) (c : Carried) (after : Names) → HasOne words w → CopiesWord first w c after → OthersGo first words None (c ∷ [])
+lone_goes first words w c after has copies = record {
+  second = first;
+  reply = none_replies first words.reply has.unanswered;
+  last = after;
+  body = subst (λ (ws : List PortWord). CopiesBody first ws (c ∷ []) after) (sym has.one) (after, copies, refl);
+}
+
+pub lone_bad : (first : Names) (words : Words) (w : PortWord) → HasOne words w → IsBad first w → BodyIsBad first words.body.items
+lone_bad first words w has bad = subst (λ (ws : List PortWord). BodyIsBad first ws) (sym has.one) (inl bad)
+
+pub word_given : (names : Names) (w : PortWord) (c : Carried) (after : Names) → CopiesWord names w c after → disposition w.disposition ≡ Some c.given
+word_given names w c after copies = elim (eqb_tells w.name null_word) [
+  | inl h ↦ let as_null = rw h.0 at copies in as_null.0
+  | inr h ↦ elim (eqb_tells w.name dead_word) [
+    | inl k ↦ let as_dead = rw (h.0, k.0) at copies in as_dead.0
+    | inr k ↦ let as_name : CopiesName names w c after = rw (h.0, k.0) at copies in as_name.is_given
+  ]
+]

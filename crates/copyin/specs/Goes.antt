@@ -1,5 +1,5 @@
 -- How the words of a message are judged in a task's names. No public clause cites this module.
-use Rattle.std.specs.Prelude.{◌≡◌, ℕ, ◌+◌, ◌<◌, ◌≤◌, ◌⊎◌, false, List, [], ◌∷◌, length, Option, IsSome, IfSome, All}
+use Rattle.std.specs.Prelude.{◌≡◌, ℕ, ◌+◌, ◌<◌, ◌≤◌, ◌⊎◌, false, List, [], ◌∷◌, length, Option, None, IsSome, IfSome, All}
 use Rattle.std.specs.Option.{option_to_list}
 use Rattle.mach_types.specs.Numbers.{disposition, kind_sent, most_rights}
 use Rattle.mach_types.specs.declared.rights.Disposition.{Disposition}
@@ -42,6 +42,11 @@ pub record IsBare (bytes : List ℕ) (head : Head) (parsed : Parsed) : Type 0 wh
   pub parses : Parses bytes parsed
   pub says : IsHead parsed head
   pub spans : parsed.spans ≡ []
+
+-- No right to answer with is among the words, and this word alone is the body's.
+pub record HasOne (words : Words) (word : PortWord) : Type 0 where
+  pub unanswered : words.reply ≡ None
+  pub one : words.body.items ≡ word ∷ []
 
 abbrev pub RepliesBadly : Names → List PortWord → Type 0
 RepliesBadly names ws = (w : PortWord) × (ws ≡ w ∷ []) × IsBad names w

@@ -252,7 +252,8 @@ pub fn commit(world: &mut World, plan: Plan)
     } = plan;
     copy_word(world, task, words.destination, &destination);
     copy_reply(world, task, words.reply, message.reply());
-    copy_words(world, task, words.body.as_slice(), message.rights());
-    hold_rights(world, port, message.rights());
+    let rights = message.rights();
+    copy_words(world, task, words.body.as_slice(), rights.as_slice());
+    hold_rights(world, port, rights.as_slice());
     queue_message(world, port, message);
 }

@@ -253,19 +253,22 @@ fn going_from(standing: Option<Entry>, word: PortWord) -> Option<Going>
     Some(Going { carried, left })
 }
 
-// The destination's right.
+/// The destination's right.
 #[derive(Clone, Copy)]
-struct Destination {
-    carried: Carried,
-    // The port for which it is.
-    port: PortId,
-    // What it leaves under its name.
-    left: Option<Entry>,
+pub(crate) struct Destination {
+    pub(crate) carried: Carried,
+    /// The port for which it is.
+    pub(crate) port: PortId,
+    /// What it leaves under its name.
+    pub(crate) left: Option<Entry>,
 }
 
-// Judges the word of the destination: only a right for a port will do.
+/// Judges the word of the destination: only a right for a port will do.
 #[inline(always)]
-fn judge_destination(space: &TaskNames<'_>, word: PortWord) -> Result<Destination, MsgReturn>
+pub(crate) fn judge_destination(
+    space: &TaskNames<'_>,
+    word: PortWord,
+) -> Result<Destination, MsgReturn>
     requires { IsSome (disposition word.disposition) }
     ensures ok { IfOk result (λ d. StartsAt space.now.names word d) }
     ensures err { IfErr result (λ code. (code ≡ SendInvalidDest) × LeadsNowhere space.now.names word) }
@@ -283,21 +286,26 @@ fn judge_destination(space: &TaskNames<'_>, word: PortWord) -> Result<Destinatio
     }
 }
 
-// The rights of a message's header.
+/// The rights of a message's header.
 #[derive(Clone, Copy)]
-struct Rights {
-    destination: Carried,
-    port: PortId,
-    reply: Option<Carried>,
+pub(crate) struct Rights {
+    pub(crate) destination: Carried,
+    pub(crate) port: PortId,
+    pub(crate) reply: Option<Carried>,
 }
 
-// Judges the word of the right to answer with, where the first word's right left this under its name,
-// and the body has no words: none is judged in what this one leaves.
+/// Judges the second word of a message and the last, where the first word's right left this under its name:
+/// that of the right to answer with, or the body's. It is refused with this code.
 #[inline(always)]
-fn judge_answer(space: &TaskNames<'_>, first: Touch, word: PortWord) -> Result<Carried, MsgReturn>
+pub(crate) fn judge_second(
+    space: &TaskNames<'_>,
+    first: Touch,
+    word: PortWord,
+    refusal: MsgReturn,
+) -> Result<Carried, MsgReturn>
     requires { IsSome (disposition word.disposition) }
     ensures ok { IfOk result (λ c. (after : Names) × CopiesWord (put space.now.names first.name first.left) word c after) }
-    ensures err { IfErr result (λ code. (code ≡ SendInvalidReply) × IsBad (put space.now.names first.name first.left) word) }
+    ensures err { IfErr result (λ code. (code ≡ refusal) × IsBad (put space.now.names first.name first.left) word) }
 {
     let given = Disposition::from_u8(word.disposition).unwrap();
     if let Some(mark) = mark_of_word(word.name) {
@@ -305,7 +313,7 @@ fn judge_answer(space: &TaskNames<'_>, first: Touch, word: PortWord) -> Result<C
     }
     match going_from(standing_after(space, &first, word.name), word) {
         Some(going) => Ok(going.carried),
-        None => Err(MsgReturn::SendInvalidReply),
+        None => Err(refusal),
     }
 }
 
@@ -328,7 +336,7 @@ fn judge_bare(space: &TaskNames<'_>, words: &Words) -> Result<Rights, MsgReturn>
         left,
     };
     let reply = match words.reply {
-        Some(word) => Some(judge_answer(space, first, word)?),
+        Some(word) => Some(judge_second(space, first, word, MsgReturn::SendInvalidReply)?),
         None => None,
     };
     Ok(Rights {
@@ -446,9 +454,14 @@ fn judge_loop(world: &World, alloc: Global, port: PortId, body: &[Carried]) -> R
     }
 }
 
-// Judges whether the message closes a loop, then the queue, and then the limit of rights.
+/// Judges whether the message closes a loop, then the queue, and then the limit of rights.
 #[inline(always)]
-fn admit(world: &World, alloc: Global, rights: &Rights, body: &[Carried]) -> Result<(), MsgReturn>
+pub(crate) fn admit(
+    world: &World,
+    alloc: Global,
+    rights: &Rights,
+    body: &[Carried],
+) -> Result<(), MsgReturn>
     requires live { IsLive world.now.ports rights.now.port }
     requires sends { kind_sent rights.now.destination.given ≢ receive }
     ensures ok { IfOk result (λ _. MayGo world.now rights.now body.now) }
@@ -543,9 +556,9 @@ fn message_of(
     })
 }
 
-// The plan by which a message with these rights is sent.
+/// The plan by which a message with these rights is sent.
 #[inline(always)]
-fn plan_of(task: TaskId, words: Words, rights: &Rights, message: Message) -> Plan
+pub(crate) fn plan_of(task: TaskId, words: Words, rights: &Rights, message: Message) -> Plan
     ensures { result ≡ record { task = task; words = words; destination = rights.now.destination; port = rights.now.port; message = message } }
 {
     Plan {

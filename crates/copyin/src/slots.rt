@@ -63,6 +63,6 @@ impl Plan {
     {
         count_own(self.destination.given)
             + count_reply_once(self.message.reply())
-            + count_all_once(self.message.rights())
+            + count_all_once(self.message.rights().as_slice())
     }
 }

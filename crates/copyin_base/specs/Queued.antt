@@ -1,17 +1,16 @@
 -- What lies in a queue: a message that was sent, or a notice, kept as the message that is made of it.
 use Rattle.std.specs.Prelude.{ℕ, Bool, true, false, List, [], ◌∷◌, ◌++◌, replicate, Option, Some, None}
 use Rattle.mach_types.specs.declared.rights.Disposition.TheVariants.{MoveReceive}
-use Rattle.mach_types.specs.Numbers.{disposition_number}
 use Rattle.mach_types.specs.Grammar.{word}
 use Rattle.mach_model.specs.Notices.{port_deleted, port_sent, no_more_senders, right_unused, name_died, notice_id}
 use Rattle.mach_model.specs.Notices.{Notice as MachineNotice}
-use Rattle.message_codec.specs.declared.spans.Span.{Span}
 use Rattle.copyin_base.specs.declared.message.Carried.{Carried}
 use Rattle.copyin_base.specs.declared.message.Mark.TheVariants as mark
 use Rattle.copyin_base.specs.declared.notice.Notice.{Notice}
 use Rattle.copyin_base.specs.declared.notice.Notice.TheVariants.{PortDeleted, PortDestroyed, NoSenders, SendOnce, DeadName}
 use Rattle.copyin_base.specs.declared.queued.Slot.{Slot}
 use Rattle.copyin_base.specs.declared.queued.Slot.TheVariants.{Sent, Told}
+use Rattle.copyin_base.specs.Carrying.{spans_for, rights_for}
 use Rattle.copyin_base.specs.Kept.{Kept}
 
 -- the machine's notice
@@ -38,14 +37,6 @@ item_text None = []
 abbrev pub carried_with : Notice → Option Carried
 carried_with (PortDestroyed port) = Some (record { given = MoveReceive; mark = mark.Port port })
 carried_with notice = None
-
-abbrev pub spans_for : Option Carried → List Span
-spans_for (Some c) = record { at = 24; long = false; disposition = disposition_number c.given; number = 1 } ∷ []
-spans_for None = []
-
-abbrev pub rights_for : Option Carried → List Carried
-rights_for (Some c) = c ∷ []
-rights_for None = []
 
 abbrev pub is_carrying : Option Carried → Bool
 is_carrying (Some c) = true

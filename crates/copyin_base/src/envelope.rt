@@ -1,32 +1,37 @@
-//! What is known of a message beside its bytes and the rights of its body.
-ghost use Rattle.std.specs.Prelude.{◌≡◌, ◌≢◌, ◌↔◌, IsTrue, None};
-ghost use Rattle.copyin_base.specs.Envelope.{reply_held};
+//! What is known of a message beside its bytes and a list of rights.
+ghost use Rattle.std.specs.Prelude.{◌≡◌, Some, true, false};
+ghost use Rattle.copyin_base.specs.Envelope.{is_in_body, right_held};
 
 use crate::message::{Carried, Mark};
 use mach_types::{Disposition, PortId};
 use std::marker::Model;
 use std::mem;
 
-// What stands in the place of the right to answer with.
+// What stands in the place of the one right that may lie here, and whether it is the right to answer with
+// or the body's.
 #[derive(Clone, Copy, Debug, PartialEq, Eq)]
-enum ReplyKind {
-    // The message has none.
+enum HeldKind {
+    // None lies here.
     Absent,
-    Null,
-    Port,
-    Dead,
+    ReplyNull,
+    ReplyPort,
+    ReplyDead,
+    BodyNull,
+    BodyPort,
+    BodyDead,
 }
 
-/// A message's id, what kind of message it is, and its right to answer with, in 16 bytes.
+/// A message's id, what kind of message it is, and one right, in 16 bytes: its right to answer with, or the
+/// only right of a body that is one item of one port word, in the short form, and nothing else.
 #[derive(Drop)]
 pub struct Envelope {
     id: u32,
     is_complex: bool,
     by_once: bool,
-    // The right to answer with: as an optional `Carried` it would take 32 bytes.
-    reply_kind: ReplyKind,
-    reply_given: Disposition,
-    reply_port: PortId,
+    // The right: as an optional `Carried` it would take 32 bytes.
+    kind: HeldKind,
+    given: Disposition,
+    port: PortId,
 }
 
 // It is moved with its message, into a queue and out of it.
@@ -34,27 +39,42 @@ const _: () = prove!(mem::size_of::<Envelope>() == 16);
 
 impl Model for Envelope {
     ghost use Rattle.copyin_base.specs.contracts.message.Carried as right;
-    ghost use Rattle.copyin_base.specs.Envelope.{EnvelopeView, envelope_code, reply_held};
+    ghost use Rattle.copyin_base.specs.Envelope.{EnvelopeView, envelope_code, is_in_body, right_held};
 
     ghost Value = { EnvelopeView };
 
     ghost coded = { envelope_code right.the_row.coded };
 
-    ghost view = { λ e. record { id = e.id; is_complex = e.is_complex; by_once = e.by_once; reply = reply_held e.reply_kind e.reply_given e.reply_port } };
+    ghost view = { λ e. record { id = e.id; is_complex = e.is_complex; by_once = e.by_once; in_body = is_in_body e.kind; right = right_held e.kind e.given e.port } };
 }
 
 // How a right to answer with is kept, if there is one.
 #[inline(always)]
-fn parts_of(reply: Option<Carried>) -> (ReplyKind, Disposition, PortId)
-    ensures { reply_held result.0 result.1 result.2 ≡ reply }
+fn reply_parts(reply: Option<Carried>) -> (HeldKind, Disposition, PortId)
+    ensures place { is_in_body result.0 ≡ false }
+    ensures right { right_held result.0 result.1 result.2 ≡ reply }
 {
     let Some(Carried { given, mark }) = reply else {
-        return (ReplyKind::Absent, Disposition::MoveSend, PortId::new(0));
+        return (HeldKind::Absent, Disposition::MoveSend, PortId::new(0));
     };
     match mark {
-        Mark::Null => (ReplyKind::Null, given, PortId::new(0)),
-        Mark::Port(port) => (ReplyKind::Port, given, port),
-        Mark::Dead => (ReplyKind::Dead, given, PortId::new(0)),
+        Mark::Null => (HeldKind::ReplyNull, given, PortId::new(0)),
+        Mark::Port(port) => (HeldKind::ReplyPort, given, port),
+        Mark::Dead => (HeldKind::ReplyDead, given, PortId::new(0)),
+    }
+}
+
+// How the only right of a body is kept.
+#[inline(always)]
+fn lone_parts(carried: Carried) -> (HeldKind, Disposition, PortId)
+    ensures place { is_in_body result.0 ≡ true }
+    ensures right { right_held result.0 result.1 result.2 ≡ Some carried }
+{
+    let Carried { given, mark } = carried;
+    match mark {
+        Mark::Null => (HeldKind::BodyNull, given, PortId::new(0)),
+        Mark::Port(port) => (HeldKind::BodyPort, given, port),
+        Mark::Dead => (HeldKind::BodyDead, given, PortId::new(0)),
     }
 }
 
@@ -63,16 +83,34 @@ impl Envelope {
     /// of items; `by_once`: whether it goes by a send-once right, and not by a send right. Constant time.
     #[inline(always)]
     pub fn new(id: u32, is_complex: bool, by_once: bool, reply: Option<Carried>) -> Envelope
-        ensures { result ≡ record { id = id; is_complex = is_complex; by_once = by_once; reply = reply } }
+        ensures { result ≡ record { id = id; is_complex = is_complex; by_once = by_once; in_body = false; right = reply } }
     {
-        let (reply_kind, reply_given, reply_port) = parts_of(reply);
+        let (kind, given, port) = reply_parts(reply);
         Envelope {
             id,
             is_complex,
             by_once,
-            reply_kind,
-            reply_given,
-            reply_port,
+            kind,
+            given,
+            port,
+        }
+    }
+
+    /// Of a message with this id that has no right to answer with, and whose body is one item of this right
+    /// alone, in the short form. `by_once`: whether it goes by a send-once right, and not by a send right.
+    /// Constant time.
+    #[inline(always)]
+    pub fn of_lone(id: u32, by_once: bool, carried: Carried) -> Envelope
+        ensures { result ≡ record { id = id; is_complex = true; by_once = by_once; in_body = true; right = Some carried } }
+    {
+        let (kind, given, port) = lone_parts(carried);
+        Envelope {
+            id,
+            is_complex: true,
+            by_once,
+            kind,
+            given,
+            port,
         }
     }
 
@@ -100,27 +138,31 @@ impl Envelope {
         self.by_once
     }
 
-    /// Whether there is a right to answer with. Constant time.
+    /// Whether the right that lies here is the body's, and not one to answer with. Constant time.
     #[inline(always)]
-    pub fn has_reply(&self) -> bool
-        ensures { IsTrue result ↔ (self.now.reply ≢ None) }
+    pub fn is_in_body(&self) -> bool
+        ensures { result ≡ self.now.in_body }
     {
-        !matches!(self.reply_kind, ReplyKind::Absent)
+        match self.kind {
+            HeldKind::BodyNull | HeldKind::BodyPort | HeldKind::BodyDead => true,
+            HeldKind::Absent | HeldKind::ReplyNull | HeldKind::ReplyPort | HeldKind::ReplyDead =>
+                false,
+        }
     }
 
-    /// The right to answer with, if there is one. Constant time.
+    /// The right that lies here, if one does: that to answer with, or the body's. Constant time.
     #[inline(always)]
-    pub fn reply(&self) -> Option<Carried>
-        ensures { result ≡ self.now.reply }
+    pub fn right(&self) -> Option<Carried>
+        ensures { result ≡ self.now.right }
     {
-        let mark = match self.reply_kind {
-            ReplyKind::Absent => return None,
-            ReplyKind::Null => Mark::Null,
-            ReplyKind::Port => Mark::Port(self.reply_port),
-            ReplyKind::Dead => Mark::Dead,
+        let mark = match self.kind {
+            HeldKind::Absent => return None,
+            HeldKind::ReplyNull | HeldKind::BodyNull => Mark::Null,
+            HeldKind::ReplyPort | HeldKind::BodyPort => Mark::Port(self.port),
+            HeldKind::ReplyDead | HeldKind::BodyDead => Mark::Dead,
         };
         Some(Carried {
-            given: self.reply_given,
+            given: self.given,
             mark,
         })
     }

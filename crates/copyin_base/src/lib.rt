@@ -21,7 +21,7 @@ mod world;
 
 pub use code::Code;
 pub use envelope::Envelope;
-pub use message::{Carried, CarriedRights, Mark, Message};
+pub use message::{BodyRights, Carried, CarriedRights, Mark, Message};
 pub use notice::Notice;
 pub use queued::{Queued, Slot};
 pub use requests::RequestTables;

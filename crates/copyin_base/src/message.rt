@@ -1,7 +1,7 @@
 //! A message that was sent, as it lies in a queue.
 ghost use Rattle.std.specs.Prelude.{◌≡◌, [], IfOk, IsOk};
 ghost use Rattle.copyin_base.specs.Kept.{receive_of};
-ghost use Rattle.copyin_base.specs.Carrying.{spans_in, rights_in};
+ghost use Rattle.copyin_base.specs.Carrying.{spans_in, rights_in, rights_of};
 
 use crate::envelope::Envelope;
 use mach_types::{Disposition, PortId};
@@ -56,7 +56,8 @@ impl Default for Carried {
 /// How many rights of a body, and spans of their words, need no allocation of their own.
 const INLINE_RIGHTS: usize = 2;
 
-/// What a message's body carries beside its bytes: its rights, and where their words stand.
+/// What a message's body carries beside its bytes, but for a right that lies in its envelope: its rights, and
+/// where their words stand.
 #[derive(Drop)]
 pub struct CarriedRights {
     /// Where the port words of the body stand.
@@ -90,29 +91,60 @@ impl CarriedRights {
     }
 }
 
+/// The rights of a message's body, from the front.
+#[derive(Clone, Copy)]
+pub enum BodyRights<'a> {
+    /// One that lies in its envelope.
+    Lone([Carried; 1]),
+    /// Those of a list, which may have none.
+    Listed(&'a [Carried]),
+}
+
+impl BodyRights<'_> {
+    /// The rights, to read.
+    #[inline(always)]
+    pub fn as_slice(&self) -> &[Carried]
+        ensures { result.now ≡ rights_of self.now }
+    {
+        match self {
+            BodyRights::Lone(one) => one,
+            BodyRights::Listed(rights) => rights,
+        }
+    }
+}
+
 /// A message: its bytes as they were sent, and what it carries beside them.
 #[derive(Drop)]
 pub struct Message {
     /// All its bytes, 24 to 65,536.
     pub bytes: Vec<u8>,
-    /// Its id, what kind of message it is, and its right to answer with.
+    /// Its id, what kind of message it is, and one right: that to answer with, or the only one of its body.
     pub envelope: Envelope,
-    /// The rights of its body, and where their words stand. A message that has none of these is small in
-    /// its queue.
+    /// The rights of its body, and where their words stand, where none of the body's lies in the envelope. A
+    /// message that has none of these is small in its queue.
     pub carried: Option<Box<CarriedRights>>,
 }
 
 impl Model for Message {
     ghost use Rattle.std.specs.Prelude.{false};
     ghost use Rattle.copyin_base.specs.Kept.{Kept, kept_code};
-    ghost use Rattle.copyin_base.specs.Carrying.{spans_in, rights_in};
+    ghost use Rattle.copyin_base.specs.Carrying.{reply_held, spans_held, rights_held};
     ghost use Rattle.copyin_base.specs.contracts.message.Carried as right;
 
     ghost Value = { Kept };
 
     ghost coded = { kept_code right.the_row.coded };
 
-    ghost view = { λ m. record { bytes = m.bytes.items; id = m.envelope.id; is_complex = m.envelope.is_complex; spans = spans_in m.carried; by_once = m.envelope.by_once; reply = m.envelope.reply; rights = rights_in m.carried; told = false } };
+    ghost view = { λ m. record {
+      bytes = m.bytes.items;
+      id = m.envelope.id;
+      is_complex = m.envelope.is_complex;
+      spans = spans_held m.envelope.in_body m.envelope.right m.carried;
+      by_once = m.envelope.by_once;
+      reply = reply_held m.envelope.in_body m.envelope.right;
+      rights = rights_held m.envelope.in_body m.envelope.right m.carried;
+      told = false;
+    } };
 }
 
 impl Message {
@@ -125,29 +157,31 @@ impl Message {
     }
 
     /// The right to answer with.
+    #[inline(always)]
     pub fn reply(&self) -> Option<Carried>
         ensures { result ≡ self.now.reply }
     {
-        self.envelope.reply()
-    }
-
-    /// Where the port words of the body stand.
-    pub fn spans(&self) -> &[Span]
-        ensures { result.now ≡ self.now.spans }
-    {
-        match &self.carried {
-            Some(carried) => carried.spans.as_slice(),
-            None => &[],
+        if self.envelope.is_in_body() {
+            None
+        } else {
+            self.envelope.right()
         }
     }
 
     /// The rights of the body's port words, from the front.
-    pub fn rights(&self) -> &[Carried]
-        ensures { result.now ≡ self.now.rights }
+    #[inline(always)]
+    pub fn rights(&self) -> BodyRights<'_>
+        ensures { rights_of result ≡ self.now.rights }
     {
+        if self.envelope.is_in_body() {
+            return match self.envelope.right() {
+                Some(carried) => BodyRights::Lone([carried]),
+                None => BodyRights::Listed(&[]),
+            };
+        }
         match &self.carried {
-            Some(carried) => carried.rights.as_slice(),
-            None => &[],
+            Some(carried) => BodyRights::Listed(carried.rights.as_slice()),
+            None => BodyRights::Listed(&[]),
         }
     }
 }

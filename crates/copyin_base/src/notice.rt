@@ -1,16 +1,13 @@
 //! A notice that the kernel sends, and the message that it is.
-ghost use Rattle.std.specs.Prelude.{◌≡◌, ◌++◌, replicate, length, IfOk};
+ghost use Rattle.std.specs.Prelude.{◌≡◌, ◌++◌, true, replicate, length, IfOk};
 ghost use Rattle.mach_model.specs.Notices.{notice_id};
-ghost use Rattle.copyin_base.specs.Carrying.{spans_in, rights_in};
 ghost use Rattle.copyin_base.specs.Kept.{IsMessageOf};
-ghost use Rattle.copyin_base.specs.Queued.{notice_of, item_words, item_text, carried_with, spans_for, rights_for, notice_kept};
+ghost use Rattle.copyin_base.specs.Queued.{notice_of, item_words, item_text, carried_with, notice_kept, is_carrying};
 
 use crate::envelope::Envelope;
-use crate::message::{Carried, CarriedRights, Mark, Message};
+use crate::message::{Carried, Mark, Message};
 use mach_types::{Disposition, Name, PortId};
-use message_codec::Span;
 use std::alloc::{AllocError, Global};
-use std::boxed::Box;
 use type_descriptor::write_word;
 
 // The descriptors of an item of one name, one receive right, and one number, in the short form.
@@ -74,6 +71,16 @@ impl Notice {
         }
     }
 
+    // What is known of the message beside its bytes.
+    fn envelope(&self) -> Envelope
+        ensures { result ≡ record { id = notice_id (notice_of self.now); is_complex = is_carrying (carried_with self.now); by_once = true; in_body = is_carrying (carried_with self.now); right = carried_with self.now } }
+    {
+        match self.carried() {
+            Some(carried) => Envelope::of_lone(self.id(), true, carried),
+            None => Envelope::new(self.id(), false, true, None),
+        }
+    }
+
     /// How many bytes it has.
     pub fn len(&self) -> usize
         ensures { result ≡ length (notice_kept self.now).bytes }
@@ -90,11 +97,10 @@ impl Notice {
     pub fn message(&self, alloc: Global) -> Result<Message, AllocError>
         ensures { IfOk result (λ message. IsMessageOf (notice_kept self.now) message) }
     {
-        let carried = self.carried();
         Ok(Message {
             bytes: item_bytes(alloc, self.words())?,
-            envelope: Envelope::new(self.id(), carried.is_some(), true, None),
-            carried: carried_rights(alloc, carried)?,
+            envelope: self.envelope(),
+            carried: None,
         })
     }
 }
@@ -110,24 +116,4 @@ fn item_bytes(alloc: Global, words: Option<(u32, u32)>) -> Result<Vec<u8>, Alloc
     write_word(&mut bytes, 24, descriptor);
     write_word(&mut bytes, 28, word);
     Vec::from_slice(alloc, &bytes)
-}
-
-// The right, whose word stands behind the header and a descriptor.
-fn carried_rights(
-    alloc: Global,
-    carried: Option<Carried>,
-) -> Result<Option<Box<CarriedRights>>, AllocError>
-    ensures spans { IfOk result (λ kept. spans_in kept ≡ spans_for carried) }
-    ensures rights { IfOk result (λ kept. rights_in kept ≡ rights_for carried) }
-{
-    let Some(carried) = carried else {
-        return Ok(None);
-    };
-    let span = Span {
-        at: 24,
-        long: false,
-        disposition: carried.given.number(),
-        number: 1,
-    };
-    CarriedRights::of(alloc, &[span], &[carried])
 }

@@ -75,7 +75,7 @@ impl Queued {
         ensures { result ≡ length self.now.rights }
     {
         match &self.slot {
-            Slot::Sent(message) => message.rights().len(),
+            Slot::Sent(message) => message.rights().as_slice().len(),
             Slot::Told(notice) => usize::from(notice.carried().is_some()),
         }
     }
@@ -95,7 +95,7 @@ impl Queued {
         ensures { result ≡ slice_get self.now.rights place }
     {
         match &self.slot {
-            Slot::Sent(message) => message.rights().get(place).copied(),
+            Slot::Sent(message) => message.rights().as_slice().get(place).copied(),
             Slot::Told(notice) if place == 0 => notice.carried(),
             Slot::Told(_) => None,
         }
@@ -106,7 +106,7 @@ impl Queued {
         ensures { result ≡ option_and_then (λ c. receive_of c) (slice_get self.now.rights place) }
     {
         let carried = match &self.slot {
-            Slot::Sent(message) => *message.rights().get(place)?,
+            Slot::Sent(message) => *message.rights().as_slice().get(place)?,
             Slot::Told(notice) if place == 0 => notice.carried()?,
             Slot::Told(_) => return None,
         };

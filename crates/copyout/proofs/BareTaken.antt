@@ -1,10 +1,17 @@
--- A message whose body carries no rights: the name that its right to answer with comes under.
-use Rattle.std.proofs.Common.{◌≡◌, ◌≢◌, ℕ, ◌++◌, List, [], ◌∷◌, Bool, Option, Some, None, refl, sym, ap, subst, ◌∙◌, inl, inr}
-use Rattle.std.specs.Prelude.{MatchBool, MatchOption, max, is_some}
+-- A message that carries one right at most beside that of its destination: the name that the right comes under.
+use Rattle.std.proofs.Common.{◌≡◌, ◌≢◌, ℕ, ◌+◌, ◌*◌, ◌^◌, ◌++◌, List, [], ◌∷◌, Bool, true, false, Option, Some, None, refl, sym, ap, subst, ◌∙◌, inl, inr, length}
+use Rattle.std.specs.Prelude.{MatchBool, MatchOption, if◌then◌else◌, max, is_some}
 use Rattle.std.specs.Option.{option_to_list}
-use Rattle.mach_types.specs.Numbers.{kind_sent, dead_word}
+use Rattle.mach_types.specs.Grammar.{WireBody, body_text}
+use Rattle.mach_types.specs.Numbers.{kind_sent, dead_word, null_word, disposition_number}
+use Rattle.message_codec.specs.declared.header.Header.{Header}
+use Rattle.message_codec.specs.declared.spans.Span.{Span}
+use Rattle.message_codec.specs.Received.{IsLaidOut, header_text, received_body}
+use Rattle.message_codec.specs.Plain.{lone_span}
 use Rattle.name_space.specs.Names.{Names, SpaceView, port_at}
+use Rattle.name_space.proofs.Keys.{some_or_none}
 use Rattle.port.specs.Ports.{PortsView}
+use Rattle.copyin_base.specs.Carrying.{reply_held, rights_held, rights_for, spans_held, spans_for}
 use Rattle.copyin_base.specs.declared.message.Carried.{Carried}
 use Rattle.copyin_base.specs.declared.message.Mark.{Mark}
 use Rattle.copyin_base.specs.declared.message.Mark.TheVariants as mark
@@ -14,25 +21,79 @@ use Rattle.copyin_base.specs.Worlds.{WorldView, space_at}
 use Rattle.copyin_base.specs.Worlds.{port_at as table_at}
 use Rattle.copyin_base.proofs.Gets.{same_found}
 use Rattle.copyin_base.proofs.Spaces.{space-set_same}
-use Rattle.copyout.specs.Bare.{OwnsFor, TellsOwn, own_names}
+use Rattle.copyout.specs.declared.bare.Bare.{Bare}
+use Rattle.copyout.specs.Bare.{IsBare, OwnsFor, TellsOwn, lone_right, own_names}
 use Rattle.copyout.specs.Giving.{GivesAll, GivesMark, GivesPort}
-use Rattle.copyout.specs.Ready.{CanGive, CanTakeName, carried_by}
+use Rattle.copyout.specs.Ready.{CanGive, CanTakeName, Delivers, IsNumbered, carried_by}
 use Rattle.copyout.specs.Room.{Needs, OwnsAlone, Shares}
-use Rattle.copyout.specs.Takes.{TakesFront, reply_word}
+use Rattle.copyout.specs.Takes.{TakesFront, reply_number, reply_word}
 use Rattle.copyout.proofs.After.{can_give_port, can_take}
+use Rattle.copyout.proofs.Delivered.{delivers}
 use Rattle.copyout.proofs.Marking.{needs_alone}
 use Rattle.copyout.proofs.Rooms.{front_live, front_there}
 
--- what is carried is the right to answer with, if there is one
-pub carries_reply : (m : Kept) → m.rights ≡ [] → carried_by m ≡ option_to_list m.reply
-carries_reply m none = ap (λ (cs : List Carried). option_to_list m.reply ++ cs) none ∙ alone m.reply
+-- what is carried is the right, if there is one
+pub carries_right : (m : Kept) (b : Bare) → IsBare m b → carried_by m ≡ option_to_list b.right
+carries_right m b is =
+    ap (λ (o : Option Carried). option_to_list o ++ m.rights) is.reply
+    ∙ ap (λ (cs : List Carried). option_to_list (reply_held b.in_body b.right) ++ cs) is.rights ∙ held b.in_body b.right
   where
-    alone : (o : Option Carried) → option_to_list o ++ [] ≡ option_to_list o
-    alone None = refl
-    alone (Some c) = refl
+    held : (in_body : Bool) (right : Option Carried) → option_to_list (reply_held in_body right) ++ rights_held in_body right None ≡ option_to_list right
+    held true None = refl
+    held true (Some c) = refl
+    held false None = refl
+    held false (Some c) = refl
 
-pub bare_needs : (ports : PortsView Kept) (names : Names) (m : Kept) (n : ℕ) → m.rights ≡ [] → Needs ports names [] (option_to_list m.reply) n → Needs ports names [] (carried_by m) n
-bare_needs ports names m n none = subst (λ (cs : List Carried). Needs ports names [] cs n) (sym (carries_reply m none))
+pub bare_needs : (ports : PortsView Kept) (names : Names) (m : Kept) (b : Bare) (n : ℕ) → IsBare m b → Needs ports names [] (option_to_list b.right) n → Needs ports names [] (carried_by m) n
+bare_needs ports names m b n is = subst (λ (cs : List Carried). Needs ports names [] cs n) (sym (carries_right m b is))
+
+-- With a right to answer with, or with none, the body has none.
+pub answers_only : (m : Kept) (b : Bare) → IsBare m b → lone_right b ≡ None → (b.right ≡ m.reply) × (m.spans ≡ []) × (m.rights ≡ [])
+answers_only m b is none =
+    let h = held b.in_body b.right none in (sym h.0 ∙ sym is.reply, is.spans ∙ h.1, is.rights ∙ h.2)
+  where
+    held : (in_body : Bool) (right : Option Carried) → (if in_body then right else None) ≡ None →
+        (reply_held in_body right ≡ right) × (spans_held in_body right None ≡ []) × (rights_held in_body right None ≡ [])
+    held true None e = (refl, refl, refl)
+    held true (Some c) e = absurd (some_or_none c (Some c) refl e)
+    held false right e = (refl, refl, refl)
+
+-- The right is the body's only one.
+pub lone_only : (m : Kept) (b : Bare) (c : Carried) → IsBare m b → lone_right b ≡ Some c →
+    (b.right ≡ Some c) × (m.reply ≡ None) × (m.spans ≡ lone_span (disposition_number c.given) ∷ []) × (m.rights ≡ c ∷ [])
+lone_only m b c is one =
+    let h = held b.in_body b.right one in (h.0, is.reply ∙ h.1, is.spans ∙ h.2, is.rights ∙ h.3)
+  where
+    held : (in_body : Bool) (right : Option Carried) → (if in_body then right else None) ≡ Some c →
+        (right ≡ Some c) × (reply_held in_body right ≡ None) × (spans_held in_body right None ≡ lone_span (disposition_number c.given) ∷ []) × (rights_held in_body right None ≡ c ∷ [])
+    held true right e = (e, refl, ap spans_for e, ap rights_for e)
+    held false right e = absurd (some_or_none c None e refl)
+
+-- A right that is given alone has one word, which is its name.
+pub gives_one : (w new : WorldView) (task : ℕ) (right : Option Carried) (c : Carried) → right ≡ Some c → (words : List ℕ) (name : ℕ) →
+    GivesAll w task (option_to_list right) words new → name ≡ reply_word right words → GivesAll w task (c ∷ []) (name ∷ []) new
+gives_one w new task right c is words name gives named =
+    only words (subst (λ (o : Option Carried). GivesAll w task (option_to_list o) words new) is gives) (named ∙ ap (λ (o : Option Carried). reply_word o words) is)
+  where
+    only : (ws : List ℕ) → GivesAll w task (c ∷ []) ws new → name ≡ reply_word (Some c) ws → GivesAll w task (c ∷ []) (name ∷ []) new
+    only [] g e = absurd g
+    only (word ∷ []) g e = subst (λ (n : ℕ). GivesAll w task (c ∷ []) (n ∷ []) new) (sym e) g
+    only (word ∷ other ∷ ws) g e = absurd g.2
+
+-- A message whose body is one word is delivered where its right is given, and its header is reversed: there is no right to answer with.
+pub delivers_lone : (w new : WorldView) (task : ℕ) (m : Kept) (c : Carried) (local sequence name : ℕ) (bytes : List ℕ) (h : Header) → m.reply ≡ None →
+    m.spans ≡ lone_span (disposition_number c.given) ∷ [] → m.rights ≡ c ∷ [] → GivesAll w task (c ∷ []) (name ∷ []) new →
+    h.bits ≡ 0 + (if m.by_once then 18 else 17) * 2 ^ 8 + (if m.is_complex then 2 ^ 31 else 0) →
+    h.size ≡ length m.bytes → h.remote ≡ null_word → h.local ≡ local → h.sequence ≡ sequence → h.id ≡ m.id →
+    ((written : WireBody) → IsLaidOut m.bytes (lone_span (disposition_number c.given) ∷ []) written → bytes ≡ header_text h ++ body_text (received_body written (name ∷ []))) →
+    Delivers w task m local sequence bytes new
+delivers_lone w new task m c local sequence name bytes h no_reply spans rights gives bits size remote local_is sequence_is id put =
+    delivers w w new task m local sequence [] (name ∷ []) bytes h
+    (subst (λ (o : Option Carried). GivesAll w task (option_to_list o) [] w) (sym no_reply) refl)
+    (subst (λ (xs : List Carried). GivesAll w task xs (name ∷ []) new) (sym rights) gives)
+    (bits ∙ ap (λ (o : Option Carried). reply_number o + (if m.by_once then 18 else 17) * 2 ^ 8 + (if m.is_complex then 2 ^ 31 else 0)) (sym no_reply))
+    size (remote ∙ ap (λ (o : Option Carried). reply_word o []) (sym no_reply)) local_is sequence_is id
+    (λ written laid. put written (subst (λ (ss : List Span). IsLaidOut m.bytes ss written) spans laid))
 
 -- ---- what is judged
 
@@ -80,6 +141,9 @@ roomier_own w new task needed reply own r =
       ap (λ (y : WorldView). space_at y task) r.rest ∙ space-set_same w.spaces task after r.space r.there,
       ap (λ (x : SpaceView). x.names) (same_found (space_at w task) r.space s r.there is),
     )) reply own
+
+pub roomier_number : (w new : WorldView) (task needed port sequence : ℕ) → MakesRoom w task needed new → IsNumbered w port sequence → IsNumbered new port sequence
+roomier_number w new task needed port sequence r is = λ v there. is v (ap (λ (y : WorldView). table_at y port) (sym r.rest) ∙ there)
 
 -- the message was taken
 pub taken_own : (w mid : WorldView) (task port : ℕ) (reply : Option Carried) (own : Option ℕ) → TakesFront w port mid → TellsOwn w task reply own → TellsOwn mid task reply own

@@ -87,6 +87,10 @@ pub record HasFront (w : WorldView) (port : ℕ) (m : Kept) : Type 0 where
   pub behind : List Kept
   pub queue : v.queue ≡ m ∷ behind
 
+-- The port, if it is there, gives its front message this sequence number.
+abbrev pub IsNumbered : WorldView → (port sequence : ℕ) → Type 0
+IsNumbered w port sequence = (v : PortView Kept) → port_at w port ≡ Some v → v.attributes.sequence ≡ sequence
+
 -- A message waits at the port: its bytes are laid out with a right for each port word, and its rights are in the ledger. No port was lost.
 pub record Waits (w : WorldView) (port : ℕ) : Type 0 where
   pub v : PortView Kept

@@ -9,7 +9,7 @@ ghost use Rattle.copyin_base.specs.Worlds.{WorldView};
 ghost use Rattle.copyout.specs.Giving.{GivesAll};
 ghost use Rattle.copyout.specs.Plain.{IsPlain};
 ghost use Rattle.copyout.specs.Takes.{TakesMessage, NotesFront, reply_word};
-ghost use Rattle.copyout.specs.Ready.{Waits, HasFront, Delivers};
+ghost use Rattle.copyout.specs.Ready.{Waits, HasFront, IsNumbered, Delivers};
 ghost use Rattle.copyout.specs.declared.receipt.Refusal.TheVariants as refused;
 
 use crate::receipt::{Refusal, header_bits, note_front, spell, take_front};
@@ -17,10 +17,19 @@ use copyin_base::{Carried, Message, Queued, Slot, World};
 use mach_types::{Bytes, Name, PortId};
 use message_codec::Header;
 
-/// How many bytes a message has that was sent and carries nothing beside them. None for any other.
+/// What is known of a message that was sent and carries nothing beside its bytes.
+#[derive(Clone, Copy)]
+pub(crate) struct Plain {
+    /// How many bytes it has.
+    pub(crate) size: usize,
+    /// The sequence number that it is received with.
+    pub(crate) sequence: u32,
+}
+
+/// What is known of the message, if it is such a one; it is received with this sequence number.
 #[inline(always)]
-pub(crate) fn plain_len(queued: &Queued) -> Option<usize>
-    ensures { IfSome result (λ size. IsPlain queued.now × (size ≡ length queued.now.bytes)) }
+pub(crate) fn plain_of(queued: &Queued, sequence: u32) -> Option<Plain>
+    ensures { IfSome result (λ plain. IsPlain queued.now × (plain.size ≡ length queued.now.bytes) × (plain.sequence ≡ sequence)) }
 {
     match &queued.slot {
         Slot::Sent(
@@ -28,9 +37,11 @@ pub(crate) fn plain_len(queued: &Queued) -> Option<usize>
                 bytes,
                 envelope,
                 carried: None,
-                ..
             },
-        ) if !envelope.has_reply() => Some(bytes.len()),
+        ) if envelope.right().is_none() => Some(Plain {
+            size: bytes.len(),
+            sequence,
+        }),
         Slot::Sent(_) | Slot::Told(_) => None,
     }
 }
@@ -83,35 +94,37 @@ pub(crate) fn spell_bare(
 // Takes the port's front message, which is such a one, and notes the port where it came by the last send
 // right. No right is given, so that no memory is taken.
 #[inline(always)]
-fn take_plain(world: &mut World, port: PortId, local: Name) -> Bytes
+fn take_plain(world: &mut World, port: PortId, local: Name, sequence: u32) -> Bytes
     requires waits { Waits world.old port }
     requires plain { (m : Kept) × HasFront world.old port m × IsPlain m }
+    requires numbered { IsNumbered world.old port sequence }
     ensures { (task : ℕ) → (taken : WorldView) × (t : TakesMessage world.old task port local result taken) × NotesFront taken port t.takes.front world.new }
 {
-    let sequence = world.attributes(port).sequence;
     let message = into_sent(take_front(world, port));
     note_front(world, port, message.by_once());
     spell_bare(message, &None, Name::null(), local, sequence)
 }
 
-/// Receives the port's front message, which is such a one and has so many bytes, if there is room for its
-/// length: it needs no names, and no memory.
+/// Receives the port's front message, of which this is known, if there is room for its length: it needs no
+/// names, and no memory.
 #[inline(always)]
 pub(crate) fn receive_plain(
     world: &mut World,
     port: PortId,
     local: Name,
-    size: usize,
+    plain: &Plain,
     room: u32,
 ) -> Result<Bytes, Refusal>
     requires waits { Waits world.old port }
-    requires plain { (m : Kept) × HasFront world.old port m × IsPlain m × (size ≡ length m.bytes) }
-    ensures ok { IfOk result (λ bytes. (size ≤ min room most_bytes)
+    requires plain { (m : Kept) × HasFront world.old port m × IsPlain m × (plain.now.size ≡ length m.bytes) }
+    requires numbered { IsNumbered world.old port plain.now.sequence }
+    ensures ok { IfOk result (λ bytes. (plain.now.size ≤ min room most_bytes)
         × ((task : ℕ) → (taken : WorldView) × (t : TakesMessage world.old task port local bytes taken) × NotesFront taken port t.takes.front world.new)) }
-    ensures err { IfErr result (λ refusal. (world.new ≡ world.old) × (refusal ≡ refused.TooLarge size) × (min room most_bytes < size)) }
+    ensures err { IfErr result (λ refusal. (world.new ≡ world.old) × (refusal ≡ refused.TooLarge plain.now.size) × (min room most_bytes < plain.now.size)) }
 {
+    let size = plain.size;
     if size > room as usize {
         return Err(Refusal::TooLarge(size as u32));
     }
-    Ok(take_plain(world, port, local))
+    Ok(take_plain(world, port, local, plain.sequence))
 }

@@ -10,7 +10,7 @@ ghost use Rattle.port.specs.Ports.{with_port};
 ghost use Rattle.rights.specs.declared.RightKind.TheVariants as right;
 ghost use Rattle.rights.specs.Ledger.{IsEntered, counts_of, taken};
 ghost use Rattle.rights.specs.Counts.{number_of};
-ghost use Rattle.copyin_base.specs.Carrying.{spans_in};
+ghost use Rattle.copyin_base.specs.Carrying.{spans_in, spans_held};
 ghost use Rattle.copyin_base.specs.Changes.{MakesRoom, NotesSenderless};
 ghost use Rattle.copyin_base.specs.Kept.{Kept, Makes};
 ghost use Rattle.copyin_base.specs.Wanted.{LacksRoomFor};
@@ -18,16 +18,16 @@ ghost use Rattle.copyin_base.specs.Worlds.{WorldView, port_at, HasTask};
 ghost use Rattle.std.specs.Option.{option_to_list};
 ghost use Rattle.copyout.specs.Giving.{GivesAll};
 ghost use Rattle.copyout.specs.Takes.{TakesFront, TakesMessage, NotesFront, destination_right, reply_number, reply_word};
-ghost use Rattle.copyout.specs.Ready.{CanGive, Waits, HasFront, MayHave, MayReceive, ReadyFor, Delivers, IsRefusedBy, carried_by};
+ghost use Rattle.copyout.specs.Ready.{CanGive, Waits, HasFront, MayHave, MayReceive, ReadyFor, Delivers, IsNumbered, IsRefusedBy, carried_by};
 ghost use Rattle.copyout.specs.Prepared.{IsPrepared};
 ghost use Rattle.copyout.specs.Wanted.{WantsToPrepare, WantsToReceive, ReturnsSlot};
 ghost use Rattle.copyout.specs.declared.receipt.Refusal.TheVariants as refused;
 
-use crate::bare::{is_bare, receive_bare};
+use crate::bare::{bare_of, receive_bare};
 use crate::give::{give_right, give_rights};
-use crate::plain::{plain_len, receive_plain};
+use crate::plain::{plain_of, receive_plain};
 use crate::room::room_needed;
-use copyin_base::{Carried, CarriedRights, Message, Queued, World};
+use copyin_base::{Carried, CarriedRights, Envelope, Message, Queued, World};
 use mach_types::bits::COMPLEX;
 use mach_types::limits::{MOST_BYTES, MOST_NAMES};
 use mach_types::{Bytes, KernReturn, Name, PortId, TaskId};
@@ -120,7 +120,7 @@ pub(crate) fn give_reply(world: &mut World, task: TaskId, reply: &Option<Carried
     }
 }
 
-// Where the port words of a message stand that carries this.
+// Where the port words of a body stand that has these rights in a list.
 fn spans_of(carried: &Option<Box<CarriedRights>>) -> &[Span]
     ensures { result.now ≡ spans_in carried.now }
 {
@@ -143,6 +143,28 @@ pub(crate) fn spell(bytes: Vec<u8>, spans: &[Span], header: &Header, names: &[Na
     Bytes::from_vec(bytes)
 }
 
+// The bytes of a message as the receiver gets them, where one of its body's rights may lie in its envelope.
+fn spell_body(
+    bytes: Vec<u8>,
+    envelope: &Envelope,
+    carried: &Option<Box<CarriedRights>>,
+    header: &Header,
+    names: &[Name],
+) -> Bytes
+    requires laid_out { (written : WireBody) × IsLaidOut bytes.items (spans_held envelope.now.in_body envelope.now.right carried.now) written }
+    requires named { length names.now ≡ word_count (spans_held envelope.now.in_body envelope.now.right carried.now) }
+    ensures { (written : WireBody) → IsLaidOut bytes.items (spans_held envelope.now.in_body envelope.now.right carried.now) written
+        → result ≡ header_text header.now ++ body_text (received_body written names.now) }
+{
+    if !envelope.is_in_body() {
+        return spell(bytes, spans_of(carried), header, names);
+    }
+    match envelope.right() {
+        Some(right) => spell(bytes, &[Span::lone(right.given.number())], header, names),
+        None => spell(bytes, &[], header, names),
+    }
+}
+
 // Gives the task the rights of a message that was taken, and makes its bytes what the receiver gets.
 fn deliver(
     world: &mut World,
@@ -163,7 +185,7 @@ fn deliver(
     let mut names = names;
     let reply = message.reply();
     let remote = give_reply(world, task, &reply);
-    give_rights(world, task, message.rights(), &mut names);
+    give_rights(world, task, message.rights().as_slice(), &mut names);
     let Message {
         bytes,
         envelope,
@@ -177,7 +199,7 @@ fn deliver(
         sequence,
         id: envelope.id(),
     };
-    spell(bytes, spans_of(&carried), &header, &names)
+    spell_body(bytes, &envelope, &carried, &header, &names)
 }
 
 // What memory is taken for before the message is.
@@ -187,6 +209,8 @@ struct Prepared {
     names: SmallVec<Name, 8>,
     // The message of a notice.
     made: Option<Message>,
+    // The sequence number that the message is received with, which takes none.
+    sequence: u32,
 }
 
 /// Notes the port for the end of the step where the message came by its last send right, which is gone.
@@ -213,10 +237,14 @@ fn take_message(
     requires ready { ReadyFor world.old task port prepared.names.capacity }
     requires none { prepared.names.items ≡ [] }
     requires made { (m : Kept) → HasFront world.old port m → Makes m prepared.made }
+    requires numbered { IsNumbered world.old port prepared.sequence }
     ensures { (taken : WorldView) × (t : TakesMessage world.old task port local result taken) × NotesFront taken port t.takes.front world.new }
 {
-    let Prepared { names, made } = prepared;
-    let sequence = world.attributes(port).sequence;
+    let Prepared {
+        names,
+        made,
+        sequence,
+    } = prepared;
     let queued = take_front(world, port);
     let by_once = queued.by_once();
     let bytes = deliver(
@@ -231,13 +259,14 @@ fn take_message(
     bytes
 }
 
-// The port's front message.
-pub(crate) fn front(world: &World, port: PortId) -> &Queued
+// The port's front message, and the sequence number that it is received with.
+fn front(world: &World, port: PortId) -> (&Queued, u32)
     requires { (m : Kept) × HasFront world.now port m }
-    ensures { HasFront world.now port result.now }
+    ensures front { HasFront world.now port result.0.now }
+    ensures numbered { IsNumbered world.now port result.1 }
 {
-    match world.ports.front(port) {
-        Some(queued) => queued,
+    match world.ports.numbered_front(port) {
+        Some(front) => front,
         None => unreachable!(),
     }
 }
@@ -249,15 +278,20 @@ fn is_too_large(queued: &Queued, room: u32) -> bool
     queued.len() > MOST_BYTES.min(room as usize)
 }
 
-// Room for a name for each right of the body, in place for up to 8; and the message of a notice.
-fn prepare(alloc: Global, queued: &Queued) -> Result<Prepared, AllocError>
-    ensures ok { IfOk result (λ prepared. IsPrepared queued.now prepared) }
+// Room for a name for each right of the body, in place for up to 8; and the message of a notice. It is
+// received with this sequence number.
+fn prepare(alloc: Global, queued: &Queued, sequence: u32) -> Result<Prepared, AllocError>
+    ensures ok { IfOk result (λ prepared. IsPrepared queued.now prepared × (prepared.sequence ≡ sequence)) }
     ensures wanted { OnErr result (WantsToPrepare queued.now) }
 {
     let mut names = SmallVec::new(alloc);
     names.reserve(queued.count_rights())?;
     let made = queued.make(alloc)?;
-    Ok(Prepared { names, made })
+    Ok(Prepared {
+        names,
+        made,
+        sequence,
+    })
 }
 
 // How many names the rights of a message need; or why it isn't received, but for want of memory.
@@ -289,13 +323,13 @@ fn judge(
 ) -> Result<(usize, Prepared), Refusal>
     requires there { HasTask world.now task }
     requires waits { (m : Kept) × HasFront world.now port m × (length m.bytes ≤ most_bytes) }
-    ensures ok { IfOk result (λ r. (may : MayReceive world.now task port room r.0) × IsPrepared may.front r.1) }
+    ensures ok { IfOk result (λ r. (may : MayReceive world.now task port room r.0) × IsPrepared may.front r.1 × IsNumbered world.now port r.1.sequence) }
     ensures err { IfErr result (λ refusal. (m : Kept) × HasFront world.now port m × IsRefusedBy world.now task m room refusal) }
     ensures wanted { IfErr result (λ refusal. refusal ≡ refused.Memory → WantsToReceive world.now task port) }
 {
-    let queued = front(world, port);
+    let (queued, sequence) = front(world, port);
     let needed = judge_names(world, task, queued, room)?;
-    match prepare(alloc, queued) {
+    match prepare(alloc, queued, sequence) {
         Ok(prepared) => Ok((needed, prepared)),
         Err(_) => Err(Refusal::Memory),
     }
@@ -310,7 +344,8 @@ pub fn is_receivable(world: &World, task: TaskId, port: PortId, room: u32) -> bo
     requires waits { Waits world.now port }
     ensures { (m : Kept) → HasFront world.now port m → MatchBool result (IsRefusedBy world.now task m room refused.Memory) (¬ (IsRefusedBy world.now task m room refused.Memory)) }
 {
-    judge_names(world, task, front(world, port), room).is_ok()
+    let (queued, _) = front(world, port);
+    judge_names(world, task, queued, room).is_ok()
 }
 
 /// Makes room for so many fresh names of the task. Most messages need none.
@@ -388,11 +423,13 @@ pub fn receive(
     ensures err { IfErr result (λ refusal. (world.new ≡ world.old) × (m : Kept) × HasFront world.old port m × IsRefusedBy world.old task m room refusal) }
     ensures wanted { IfErr result (λ refusal. refusal ≡ refused.Memory → WantsToReceive world.old task port) }
 {
-    // Most messages carry nothing beside their bytes, and go a short way.
-    let queued = front(world, port);
-    match plain_len(queued) {
-        Some(size) => receive_plain(world, port, local, size, room),
-        None if is_bare(queued) => receive_bare(world, task, port, local, room),
+    // Most messages carry nothing beside their bytes, or one right, and go a short way.
+    let (queued, sequence) = front(world, port);
+    if let Some(plain) = plain_of(queued, sequence) {
+        return receive_plain(world, port, local, &plain, room);
+    }
+    match bare_of(queued, sequence) {
+        Some(bare) => receive_bare(world, task, port, local, &bare, room),
         None => receive_any(world, alloc, task, port, local, room),
     }
 }

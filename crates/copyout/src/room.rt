@@ -263,6 +263,7 @@ fn room_of_sent(world: &World, space: &TaskNames<'_>, message: &Message) -> usiz
     ensures { Needs world.now.ports space.now.names [] (carried_by message.now) result }
 {
     let rights = message.rights();
+    let rights = rights.as_slice();
     match (&message.reply(), rights.len()) {
         (None, 0) => 0,
         (None, 1) => lone_names(world, space, &rights[0]),

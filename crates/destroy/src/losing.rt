@@ -48,7 +48,7 @@ fn lose_rights(world: &mut World, queued: &Queued) -> u64
         return 0;
     };
     let replied = lose_reply(world, message.reply());
-    replied.wrapping_add(lose_body(world, message.rights()))
+    replied.wrapping_add(lose_body(world, message.rights().as_slice()))
 }
 
 fn lose_reply(world: &mut World, reply: Option<Carried>) -> u64

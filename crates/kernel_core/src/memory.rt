@@ -17,7 +17,7 @@ ghost use Rattle.kernel_core.specs.MemoryCodes.{TellsMemoryCode, TellsWant, IsMe
 ghost use Rattle.kernel_core.specs.Receive.{StaysFor};
 ghost use Rattle.kernel_core.specs.Wanted.{memory_code};
 
-use crate::receive::{judge_again, source};
+use crate::receive::{find_source, judge_again};
 use copyin_base::{Code, World};
 use kernel_core_base::{
     check_allocate, check_allocate_name, check_create_task, check_rename, check_set_status,
@@ -147,8 +147,8 @@ fn may_lack_named(
     ensures ok { IfOk result (λ may. (large : Bool) → TellsWant world.now (AnyEvent.Receive task name room large) may) }
     ensures err { OnErr result ((s : State) → Shows world.now s → IsSet (lookup s task name)) }
 {
-    match source(world, task, name) {
-        Ok(waited) => may_stay(world, alloc, task, &waited, room),
+    match find_source(world, task, name) {
+        Ok(source) => may_stay(world, alloc, task, &source.waited, room),
         Err(_) => Ok(false),
     }
 }

@@ -59,9 +59,14 @@ pub(crate) fn receive(
     ensures wanted { IfErr result (λ code. code_number code ≡ msg_number msg.ReceiveBodyErrorMemory → WantsMemory world.old (AnyEvent.Receive task name buffer.room buffer.large)) }
     ensures spares { LeavesSpares world.old (AnyEvent.Receive task name buffer.room buffer.large) result world.new }
 {
-    let waited = source(world, task, name)?;
+    let Source { waited, ready } = find_source(world, task, name)?;
     let name = known_name(&waited, name);
-    Ok(take(world, alloc, task, Origin { waited, name }, buffer)?)
+    let origin = Origin {
+        waited,
+        name,
+        ready,
+    };
+    Ok(take(world, alloc, task, origin, buffer)?)
 }
 
 /// `ReceiveAgain` (IPC Interface, `mach_msg` with `MACH_RCV_MSG`, as it goes on once it has waited): a
@@ -85,8 +90,14 @@ pub(crate) fn receive_again(
     ensures spares { LeavesSpares world.old (AnyEvent.ReceiveAgain task waited buffer.room buffer.large) result world.new }
 {
     judge_again(world, task, &waited)?;
+    let ready = ready(world, &waited);
     let name = None;
-    Ok(take(world, alloc, task, Origin { waited, name }, buffer)?)
+    let origin = Origin {
+        waited,
+        name,
+        ready,
+    };
+    Ok(take(world, alloc, task, origin, buffer)?)
 }
 
 // ---- where from
@@ -98,6 +109,17 @@ struct Origin {
     waited: Waited,
     /// The task's name for the port, where the call goes by it: it isn't looked up then.
     name: Option<Name>,
+    /// A port that it takes from, and that has a message, if one has.
+    ready: Option<PortId>,
+}
+
+/// What a name stands for that a task may receive by.
+#[derive(Clone, Copy)]
+pub(crate) struct Source {
+    /// What the task waits for.
+    pub(crate) waited: Waited,
+    /// A port that it takes from, and that has a message, if one has.
+    pub(crate) ready: Option<PortId>,
 }
 
 /// The name that stands for this, where it is a port's.
@@ -112,25 +134,49 @@ fn known_name(waited: &Waited, name: Name) -> Option<Name>
 
 /// What a receive by the name takes from: a port that is in no set, whose receive right is under it, or
 /// a port set.
-pub(crate) fn source(world: &World, task: TaskId, name: Name) -> Result<Waited, MsgReturn>
+pub(crate) fn find_source(world: &World, task: TaskId, name: Name) -> Result<Source, MsgReturn>
     requires { Stands world.now }
-    ensures ok { IfOk result (λ waited. Sources world.now task name waited) }
-    ensures found { IfOk result (λ waited. option_and_then waited_at (entry_at world.now task name) ≡ Some waited) }
+    ensures ok { IfOk result (λ source. Sources world.now task name source.waited) }
+    ensures found { IfOk result (λ source. option_and_then waited_at (entry_at world.now task name) ≡ Some source.waited) }
+    ensures ready { IfOk result (λ source. MatchOption source.ready (NoneWaits world.now source.waited) (HasMessage world.now source.waited)) }
     ensures err { IfErr result (λ code. IsRefused world.now (λ s. named_guards s task name) (msg_number code)) }
 {
     let Some(entry) = world.lookup(task, name) else {
         return Err(MsgReturn::ReceiveInvalidName);
     };
     if let Some(set) = entry.set() {
-        return Ok(Waited::Set(set));
+        let waited = Waited::Set(set);
+        let ready = ready(world, &waited);
+        return Ok(Source { waited, ready });
     }
     let Some(port) = entry.receive_port() else {
         return Err(MsgReturn::ReceiveInvalidName);
     };
-    if is_member(world, port) {
+    port_source(world, port)
+}
+
+/// The port as what a receive takes from, if it is in no set. One look-up tells that, and whether it has a
+/// message.
+#[inline(always)]
+fn port_source(world: &World, port: PortId) -> Result<Source, MsgReturn>
+    requires { is_some (port_at world.now port) ≡ true }
+    ensures ok { IfOk result (λ source. (source.waited ≡ AnyWaited.Port port) × IsAlone world.now port × MatchOption source.ready (NoneWaits world.now (AnyWaited.Port port)) (HasMessage world.now (AnyWaited.Port port))) }
+    ensures err { IfErr result (λ code. (code ≡ msg.ReceiveInSet) × IsMember world.now port) }
+{
+    let Some(standing) = world.ports.standing(port) else {
+        unreachable!()
+    };
+    if standing.is_member {
         return Err(MsgReturn::ReceiveInSet);
     }
-    Ok(Waited::Port(port))
+    Ok(Source {
+        waited: Waited::Port(port),
+        ready: if standing.queued > 0 {
+            Some(port)
+        } else {
+            None
+        },
+    })
 }
 
 /// Whether the task may still take from what it waited for.
@@ -215,12 +261,13 @@ fn take(
     requires stands { Stands world.old }
     requires may { IsAllowed world.old (λ s. again_guards s task origin.waited) }
     requires known { IfSome origin.name (λ name. (port : ℕ) → IsFrom world.old origin.waited port → FindsReceive world.old task name port) }
+    requires ready { MatchOption origin.ready (NoneWaits world.old origin.waited) (HasMessage world.old origin.waited) }
     ensures ok { IfOk result (λ reply. IsReceipt world.old task origin.waited buffer.room buffer.large reply world.new) }
     ensures err { IfErr result (λ code. (world.new ≡ world.old) × StaysFor world.old task origin.waited buffer.room (msg_number code)) }
     ensures wanted { IfErr result (λ code. msg_number code ≡ msg_number msg.ReceiveBodyErrorMemory → WantsToTake world.old task origin.waited) }
     ensures spares { IfOk result (λ reply. FreesSlot world.old buffer.large reply world.new) }
 {
-    let Some(port) = ready(world, &origin.waited) else {
+    let Some(port) = origin.ready else {
         return Ok(Reply::Empty(origin.waited));
     };
     let name = name_of(world, task, port, origin.name);

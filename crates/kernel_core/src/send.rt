@@ -1,5 +1,5 @@
 //! Sending a message.
-ghost use Rattle.std.specs.Prelude.{◌≡◌, ◌≢◌, ℕ, List, IfOk, IfErr, OnOk, OnErr};
+ghost use Rattle.std.specs.Prelude.{◌≡◌, ◌≢◌, ℕ, [], ◌∷◌, List, IfOk, IfErr, OnOk, OnErr};
 ghost use Rattle.mach_types.specs.declared.calls.Event.{Event as AnyEvent};
 ghost use Rattle.mach_types.specs.declared.codes.MsgReturn.TheVariants.{SendNoBuffer};
 ghost use Rattle.mach_types.specs.Numbers.{msg_number};
@@ -7,14 +7,15 @@ ghost use Rattle.copyin_base.specs.Acts.{Declines, Serves, code_number};
 ghost use Rattle.copyin_base.specs.Stands.{Stands};
 ghost use Rattle.copyin.specs.Wanted.{WantsToSend};
 ghost use Rattle.message_codec.specs.Parses.{Parses};
-ghost use Rattle.message_codec.specs.Plain.{parsed_plain, parsed_request};
+ghost use Rattle.message_codec.specs.Plain.{parsed_lone, parsed_plain, parsed_request};
+ghost use Rattle.message_codec.specs.Words.{body_words};
 ghost use Rattle.kernel_core.specs.Send.{PlansText, SendsText, UsesSlot};
 ghost use Rattle.copyin_base.specs.Worlds.{HasTask};
 
-use copyin::{Plan, check, check_plain, check_request, commit};
+use copyin::{Plan, check, check_lone, check_plain, check_request, commit};
 use copyin_base::{Code, World};
 use mach_types::{Bytes, MsgReturn, Reply, TaskId};
-use message_codec::{Plain, Request, parse, parse_plain, parse_request};
+use message_codec::{Lone, Plain, Request, parse, parse_lone, parse_plain, parse_request};
 use std::alloc::Global;
 
 /// `Send` (IPC Interface, `mach_msg` with `MACH_SEND_MSG`). The task lives. A refusal leaves all as it
@@ -96,7 +97,7 @@ fn send_carrying(
 {
     match parse_request(bytes) {
         Some(request) => send_request(world, alloc, task, &request, bytes),
-        None => send_any(world, alloc, task, bytes),
+        None => send_items(world, alloc, task, bytes),
     }
 }
 
@@ -118,6 +119,45 @@ fn send_request(
     ensures wanted { IfErr result (λ code. msg_number code ≡ msg_number SendNoBuffer → WantsToSend world.old task bytes.now) }
 {
     match check_request(world, alloc, task, request, bytes) {
+        Ok(plan) => carry_out(world, plan),
+        Err(code) => Err(code),
+    }
+}
+
+/// Sends what is neither of these: a message whose body is a list of items, of which many have one right and
+/// nothing else.
+fn send_items(world: &mut World, alloc: Global, task: TaskId, bytes: &[u8]) -> Result<(), MsgReturn>
+    requires there { HasTask world.old task }
+    requires stands { Stands world.old }
+    ensures ok { IfOk result (λ _. SendsText world.old task bytes.now world.new) }
+    ensures err { IfErr result (λ code. Declines world.old (AnyEvent.Send task bytes.now) (msg_number code) world.old) }
+    ensures refused { OnErr result (world.new ≡ world.old) }
+    ensures wanted { IfErr result (λ code. msg_number code ≡ msg_number SendNoBuffer → WantsToSend world.old task bytes.now) }
+{
+    match parse_lone(bytes) {
+        Some(lone) => send_lone(world, alloc, task, &lone, bytes),
+        None => send_any(world, alloc, task, bytes),
+    }
+}
+
+/// Sends a message whose body is one right and nothing else.
+fn send_lone(
+    world: &mut World,
+    alloc: Global,
+    task: TaskId,
+    lone: &Lone,
+    bytes: &[u8],
+) -> Result<(), MsgReturn>
+    requires there { HasTask world.old task }
+    requires stands { Stands world.old }
+    requires parses { Parses bytes.now (parsed_lone lone.now) }
+    requires word { (p : Parses bytes.now (parsed_lone lone.now)) → body_words p.written ≡ lone.now.word ∷ [] }
+    ensures ok { IfOk result (λ _. SendsText world.old task bytes.now world.new) }
+    ensures err { IfErr result (λ code. Declines world.old (AnyEvent.Send task bytes.now) (msg_number code) world.old) }
+    ensures refused { OnErr result (world.new ≡ world.old) }
+    ensures wanted { IfErr result (λ code. msg_number code ≡ msg_number SendNoBuffer → WantsToSend world.old task bytes.now) }
+{
+    match check_lone(world, alloc, task, lone, bytes) {
         Ok(plan) => carry_out(world, plan),
         Err(code) => Err(code),
     }

@@ -41,10 +41,11 @@ fn lose(ports: &mut Ports<Empty>, port: u64) -> bool {
         return false;
     };
     match attributes.holder {
-        Holder::Task(_) | Holder::QueueOf(_) => {
+        Holder::Task(_) => {
             ports.lose(port);
             true
         }
+        Holder::QueueOf(_) => ports.lose_if_there(port),
         Holder::Nobody | Holder::Doomed => false,
     }
 }

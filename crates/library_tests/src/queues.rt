@@ -96,16 +96,32 @@ fn are_posted(ports: &mut Ports<Note>) -> bool {
         && ports.queued(PortId::new(1)) == 0
 }
 
+/// Whether the port has so many notes and is in no set, and this note is the first, with this number.
+fn is_first(ports: &Ports<Note>, port: u64, queued: usize, says: u32, number: u32) -> bool {
+    let port = PortId::new(port);
+    let Some(standing) = ports.standing(port) else {
+        return false;
+    };
+    let Some((note, sequence)) = ports.numbered_front(port) else {
+        return false;
+    };
+    !standing.is_member && standing.queued == queued && note.0 == says && sequence == number
+}
+
 /// Whether the notes come out in the order that they came in, and their slots are used again.
 fn are_taken(ports: &mut Ports<Note>) -> bool {
     ports.front(PortId::new(0)).is_some_and(|note| note.0 == 7)
+        && is_first(ports, 0, 2, 7, 0)
         && dequeue(ports, 0) == Some(7)
         && ports.spare() == 1
         && post(ports, 1, 9)
         && dequeue(ports, 0) == Some(8)
         && dequeue(ports, 0).is_none()
+        && is_first(ports, 1, 1, 9, 0)
         && take(ports, 1) == Some(9)
         && take(ports, 1).is_none()
+        && ports.numbered_front(PortId::new(1)).is_none()
+        && ports.standing(PortId::new(2)).is_none()
 }
 
 fn is_counted(ports: &mut Ports<Note>) -> bool {

@@ -30,6 +30,7 @@ use by_key::{
     DOOMED, LOST, NOTED, count_at, destroy_at, has_messages, hold_at, ids_of, member_at, narrow,
     note_at, noted_at, pop_at, push_at, ready_at, reserve_record, set_at, take_at,
 };
+pub use looks::Standing;
 use mach_types::limits::FIRST_LIMIT;
 use mach_types::{PortId, SetId, TaskId};
 use member_lists::{MarkedLists, TwoLists};

@@ -1,9 +1,18 @@
 //! What one look-up of a port tells in one.
-ghost use Rattle.std.specs.Prelude.{◌≡◌, Some, None, is_some, false, IfSome, IfNone};
+ghost use Rattle.std.specs.Prelude.{◌≡◌, Some, None, is_some, length, IfSome, IfNone};
 ghost use Rattle.std.specs.FinMap as map;
 
 use crate::{Message, Ports, key_of};
 use mach_types::PortId;
+
+/// What a receipt asks of a port first.
+#[derive(Clone, Copy, Debug, PartialEq, Eq)]
+pub struct Standing {
+    /// Whether it is in a set.
+    pub is_member: bool,
+    /// How many messages it has.
+    pub queued: usize,
+}
 
 impl<M: Message> Ports<M> {
     ghost use Rattle.port.specs.Ports.{PortView, NoneQueued, IsNumberedFront};
@@ -21,15 +30,17 @@ impl<M: Message> Ports<M> {
         Some((message, record.kept.sequence()))
     }
 
-    /// Whether the port is there and in a set. Constant time.
+    /// Whether a port is in a set, and how many messages it has, if it is there. Constant time.
     #[inline(always)]
-    pub fn is_member(&self, port: PortId) -> bool
-        ensures live { (p : PortView M) → map.get self.now.ports port ≡ Some p → result ≡ is_some p.attributes.set }
-        ensures gone { map.get self.now.ports port ≡ None → result ≡ false }
+    pub fn standing(&self, port: PortId) -> Option<Standing>
+        ensures some { IfSome result (λ s. (p : PortView M) → map.get self.now.ports port ≡ Some p → (s.is_member ≡ is_some p.attributes.set) × (s.queued ≡ length p.queue)) }
+        ensures none { IfNone result (map.get self.now.ports port ≡ None) }
     {
-        match key_of(&self.by_id, port) {
-            Some(key) => self.records[key].kept.is_member(),
-            None => false,
-        }
+        let key = key_of(&self.by_id, port)?;
+        let record = &self.records[key];
+        Some(Standing {
+            is_member: record.kept.is_member(),
+            queued: record.queue.len(),
+        })
     }
 }

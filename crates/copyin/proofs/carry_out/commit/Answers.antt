@@ -1,4 +1,4 @@
-use Rattle.std.proofs.Common.{◌≡◌, ℕ, ◌<◌, ◌++◌, List, Option, sym, subst, arith}
+use Rattle.std.proofs.Common.{◌≡◌, ℕ, ◌<◌, ◌++◌, List, Option, sym, subst, arith, ◌∙◌}
 use Rattle.std.specs.Option.{option_to_list}
 use Rattle.message_codec.specs.declared.words.PortWord.{PortWord}
 use Rattle.rights.specs.Ledger.{LedgerView, counts_of}
@@ -48,8 +48,8 @@ copy_words-requires c =
     let went : ChangesWords one plan.task words rights two = subst (λ (o : Option Carried). ChangesWords one plan.task words (option_to_list o) two) same c.copy_reply.ensures in
     let last = rest_goes one two plan.task words plan.words.body.items rights plan.message.rights go went in
     let words_are : plan.words.body.items ≡ c.as_slice.result.now = sym c.as_slice.ensures in
-    let rights_are : plan.message.rights ≡ c.rights.result.now = sym c.rights.ensures in
-    subst (λ (ws : List PortWord). CanGo two plan.task ws c.rights.result.now) words_are (subst (λ (cs : List Carried). CanGo two plan.task plan.words.body.items cs) rights_are last)
+    let rights_are : plan.message.rights ≡ c.as_slice-2.result.now = sym (c.as_slice-2.ensures ∙ c.rights-rights.ensures) in
+    subst (λ (ws : List PortWord). CanGo two plan.task ws c.as_slice-2.result.now) words_are (subst (λ (cs : List Carried). CanGo two plan.task plan.words.body.items cs) rights_are last)
 
 pub hold_rights-requires-clause-live : goal.hold_rights-requires-clause-live
 hold_rights-requires-clause-live c =
@@ -62,16 +62,16 @@ hold_rights-requires-clause-live c =
     let rights = option_to_list plan.message.reply in
     let go = go_on c.args.world.now one plan.task plan.words.destination (words ++ plan.words.body.items) plan.destination (rights ++ plan.message.rights)
     (plan_goes c.args.world.now plan.task q.1 q.2 q.3 plan own c.requires.tied) c.copy_word.ensures in
-    let ca = carries_by c.args.world.now one two c.copy_words.new.world plan c.reply.result c.as_slice.result.now c.rights.result.now c.reply.ensures c.as_slice.ensures c.rights.ensures
+    let ca = carries_by c.args.world.now one two c.copy_words.new.world plan c.reply.result c.as_slice.result.now c.as_slice-2.result.now c.reply.ensures c.as_slice.ensures (c.as_slice-2.ensures ∙ c.rights-rights.ensures)
     c.copy_word.ensures c.copy_reply.ensures c.copy_words.ensures in
     let last = rest_goes one two plan.task words plan.words.body.items rights plan.message.rights go ca.reply in
-    subst (CanHoldAll c.copy_words.new.world) (sym c.rights-2.ensures) (carries_can_hold c.args.world.now c.copy_words.new.world plan.task plan ca last)
+    subst (CanHoldAll c.copy_words.new.world) (sym (c.as_slice-3.ensures ∙ c.rights-rights.ensures)) (carries_can_hold c.args.world.now c.copy_words.new.world plan.task plan ca last)
 
 pub hold_rights-requires-clause-none_lost : goal.hold_rights-requires-clause-none_lost
 hold_rights-requires-clause-none_lost c =
     let plan = c.args.plan in
-    let ca = carries_by c.args.world.now c.copy_word.new.world c.copy_reply.new.world c.copy_words.new.world plan c.reply.result c.as_slice.result.now c.rights.result.now c.reply.ensures c.as_slice.ensures
-    c.rights.ensures c.copy_word.ensures c.copy_reply.ensures c.copy_words.ensures in
+    let ca = carries_by c.args.world.now c.copy_word.new.world c.copy_reply.new.world c.copy_words.new.world plan c.reply.result c.as_slice.result.now c.as_slice-2.result.now c.reply.ensures c.as_slice.ensures
+    (c.as_slice-2.ensures ∙ c.rights-rights.ensures) c.copy_word.ensures c.copy_reply.ensures c.copy_words.ensures in
     carries_none_lost c.args.world.now c.copy_words.new.world plan.task plan ca c.requires.none_lost
 
 pub queue_message-requires-clause-live : goal.queue_message-requires-clause-live
@@ -80,18 +80,18 @@ queue_message-requires-clause-live c =
     let own = own_task c.args.world.now q.0 q.1 q.2 q.3 c.args.plan q.4 in
     let plan = c.args.plan in
     let mid = c.copy_words.new.world in
-    let ca = carries_by c.args.world.now c.copy_word.new.world c.copy_reply.new.world mid plan c.reply.result c.as_slice.result.now c.rights.result.now c.reply.ensures c.as_slice.ensures c.rights.ensures
+    let ca = carries_by c.args.world.now c.copy_word.new.world c.copy_reply.new.world mid plan c.reply.result c.as_slice.result.now c.as_slice-2.result.now c.reply.ensures c.as_slice.ensures (c.as_slice-2.ensures ∙ c.rights-rights.ensures)
     c.copy_word.ensures c.copy_reply.ensures c.copy_words.ensures in
-    held_lives plan.port c.rights-2.result.now mid c.hold_rights.new.world c.hold_rights.ensures plan.port
+    held_lives plan.port c.as_slice-3.result.now mid c.hold_rights.new.world c.hold_rights.ensures plan.port
     (carries_live c.args.world.now mid plan.task plan plan.port ca (plan_lives c.args.world.now plan.task q.1 q.2 q.3 plan own c.requires.tied))
 
 pub queue_message-requires-clause-spare : goal.queue_message-requires-clause-spare
 queue_message-requires-clause-spare c =
     let plan = c.args.plan in
     let mid = c.copy_words.new.world in
-    let ca = carries_by c.args.world.now c.copy_word.new.world c.copy_reply.new.world mid plan c.reply.result c.as_slice.result.now c.rights.result.now c.reply.ensures c.as_slice.ensures c.rights.ensures
+    let ca = carries_by c.args.world.now c.copy_word.new.world c.copy_reply.new.world mid plan c.reply.result c.as_slice.result.now c.as_slice-2.result.now c.reply.ensures c.as_slice.ensures (c.as_slice-2.ensures ∙ c.rights-rights.ensures)
     c.copy_word.ensures c.copy_reply.ensures c.copy_words.ensures in
-    let same = held_spare plan.port c.rights-2.result.now mid c.hold_rights.new.world c.hold_rights.ensures in
+    let same = held_spare plan.port c.as_slice-3.result.now mid c.hold_rights.new.world c.hold_rights.ensures in
     let same_spare = carries_spare c.args.world.now mid plan.task plan ca in
     let some = c.requires.spare in
     omega (arith, same, same_spare, some)
@@ -102,9 +102,9 @@ queue_message-requires-clause-unused c once =
     let own = own_task c.args.world.now q.0 q.1 q.2 q.3 c.args.plan q.4 in
     let plan = c.args.plan in
     let mid = c.copy_words.new.world in
-    let ca = carries_by c.args.world.now c.copy_word.new.world c.copy_reply.new.world mid plan c.reply.result c.as_slice.result.now c.rights.result.now c.reply.ensures c.as_slice.ensures c.rights.ensures
+    let ca = carries_by c.args.world.now c.copy_word.new.world c.copy_reply.new.world mid plan c.reply.result c.as_slice.result.now c.as_slice-2.result.now c.reply.ensures c.as_slice.ensures (c.as_slice-2.ensures ∙ c.rights-rights.ensures)
     c.copy_word.ensures c.copy_reply.ensures c.copy_words.ensures in
-    subst (λ (l : LedgerView). 0 < (counts_of l plan.port).send_once) (sym (held_ledger plan.port c.rights-2.result.now mid c.hold_rights.new.world c.hold_rights.ensures))
+    subst (λ (l : LedgerView). 0 < (counts_of l plan.port).send_once) (sym (held_ledger plan.port c.as_slice-3.result.now mid c.hold_rights.new.world c.hold_rights.ensures))
     (plan_unused c.args.world.now plan.task q.1 q.2 q.3 plan own c.requires.tied ca.one ca.two mid ca.destination ca.reply ca.body once)
 
 pub returns : goal.returns
@@ -114,9 +114,9 @@ returns c =
     let plan = c.args.plan in
     let mid = c.copy_words.new.world in
     let held = c.hold_rights.new.world in
-    let ca = carries_by c.args.world.now c.copy_word.new.world c.copy_reply.new.world mid plan c.reply.result c.as_slice.result.now c.rights.result.now c.reply.ensures c.as_slice.ensures c.rights.ensures
+    let ca = carries_by c.args.world.now c.copy_word.new.world c.copy_reply.new.world mid plan c.reply.result c.as_slice.result.now c.as_slice-2.result.now c.reply.ensures c.as_slice.ensures (c.as_slice-2.ensures ∙ c.rights-rights.ensures)
     c.copy_word.ensures c.copy_reply.ensures c.copy_words.ensures in
-    let holds : HoldsRights mid plan.port plan.message.rights held = subst (λ (cs : List Carried). HoldsRights mid plan.port cs held) c.rights-2.ensures c.hold_rights.ensures in
+    let holds : HoldsRights mid plan.port plan.message.rights held = subst (λ (cs : List Carried). HoldsRights mid plan.port cs held) (c.as_slice-3.ensures ∙ c.rights-rights.ensures) c.hold_rights.ensures in
     let old_live = plan_lives c.args.world.now plan.task q.1 q.2 q.3 plan own c.requires.tied in
     let live = held_lives plan.port plan.message.rights mid held holds plan.port (carries_live c.args.world.now mid plan.task plan plan.port ca old_live) in
     λ task parsed written bytes p. commits c.args.world.now mid held task parsed written bytes plan p c.queue_message.new.world (subst (λ (t : ℕ). Carries c.args.world.now t plan mid) p.task_is ca) holds live

@@ -8,7 +8,6 @@ use Rattle.copyout.specs.Giving.{GivesAll}
 use Rattle.copyout.specs.Plain.{IsPlain}
 use Rattle.copyout.specs.Takes.{reply_word}
 use Rattle.copyout.proofs.Delivered.{takes_message}
-use Rattle.copyout.proofs.Front.{sequence_is}
 use Rattle.copyout.proofs.Rooms.{same_front_as}
 use Rattle.copyout.proofs.plain.take_plain.Goals as goal
 
@@ -29,9 +28,9 @@ returns c =
     let p = c.requires.plain in
     let plain : IsPlain m =
     subst IsPlain (same_front_as c.args.world.now c.args.port p.0 t.0.front p.1 (record { v = t.0.v; there = t.0.there; behind = t.0.behind; queue = t.0.queue }) ∙ sym is) p.2 in
-    λ task. takes_message c.args.world.now mid mid c.note_front.new.world task c.args.port c.args.local c.attributes-sequence.result.sequence m c.spell_bare.result t.0
+    λ task. takes_message c.args.world.now mid mid c.note_front.new.world task c.args.port c.args.local c.args.sequence m c.spell_bare.result t.0
     (subst (λ (k : Kept). IsMessageOf k m) is refl)
-    (sequence_is c.args.world.now c.args.port c.attributes-sequence.result c.attributes-sequence.ensures t.0.v t.0.there)
+    (sym (c.requires.numbered t.0.v t.0.there))
     (c.spell_bare.ensures mid mid task [] (subst (λ (o : Option Carried). GivesAll mid task (option_to_list o) [] mid) (sym plain.no_reply) refl)
     (c.null.ensures ∙ ap (λ (o : Option Carried). reply_word o []) (sym plain.no_reply)))
     (subst (λ (b : Bool). MatchBool b (c.note_front.new.world ≡ mid) (NotesSenderless mid c.args.port c.note_front.new.world)) (c.by_once.ensures ∙ ap (λ (k : Kept). k.by_once) is) c.note_front.ensures)

@@ -5,7 +5,6 @@ use Rattle.copyin_base.specs.Kept.{Kept, IsMessageOf, Makes}
 use Rattle.copyout.specs.Ready.{CanGive, carried_by}
 use Rattle.copyout.proofs.Rooms.{can_deliver}
 use Rattle.copyout.proofs.Delivered.{takes_message}
-use Rattle.copyout.proofs.Front.{sequence_is}
 use Rattle.copyout.proofs.receipt.take_message.Goals as goal
 
 pub into_message-requires : goal.into_message-requires
@@ -25,6 +24,6 @@ returns c =
     let t = c.take_front-queued.ensures in
     let is : IsMessageOf t.0.front c.into_message.result = subst (λ (k : Kept). IsMessageOf k c.into_message.result) t.1 c.into_message.ensures in
     let once = c.by_once-by_once.ensures ∙ ap (λ (k : Kept). k.by_once) t.1 in
-    takes_message c.args.world.now c.take_front-queued.new.world c.deliver-bytes.new.world c.note_front.new.world c.args.task c.args.port c.args.local c.attributes-sequence.result.sequence
-    c.into_message.result c.deliver-bytes.result t.0 is (sequence_is c.args.world.now c.args.port c.attributes-sequence.result c.attributes-sequence.ensures t.0.v t.0.there) c.deliver-bytes.ensures
+    takes_message c.args.world.now c.take_front-queued.new.world c.deliver-bytes.new.world c.note_front.new.world c.args.task c.args.port c.args.local c.args.prepared.sequence
+    c.into_message.result c.deliver-bytes.result t.0 is (sym (c.requires.numbered t.0.v t.0.there)) c.deliver-bytes.ensures
     (subst (λ (b : Bool). MatchBool b (c.note_front.new.world ≡ c.deliver-bytes.new.world) (NotesSenderless c.deliver-bytes.new.world c.args.port c.note_front.new.world)) once c.note_front.ensures)

@@ -21,7 +21,7 @@ lose_reply-replied-requires c =
 pub lose_body-requires : goal.lose_body-requires
 lose_body-requires c =
     let is : c.args.queued.now ≡ c.in-Sent.message = sym c.queued.view_is ∙ ap kept_in c.in-Sent.is in
-    subst (λ (cs : List Carried). IsLosing cs c.lose_reply-replied.new.world) (sym c.rights.ensures)
+    subst (λ (cs : List Carried). IsLosing cs c.lose_reply-replied.new.world) (sym (c.as_slice.ensures ∙ c.rights.ensures))
     (losing_back (option_to_list c.in-Sent.message.reply) c.in-Sent.message.rights c.args.world.now c.lose_reply-replied.result c.lose_reply-replied.new.world
     (subst (λ (k : Kept). IsLosing (carried_in k) c.args.world.now) is c.requires)
     (subst (λ (o : Option Carried). LosesTo (option_to_list o) [] c.args.world.now c.lose_reply-replied.result c.lose_reply-replied.new.world) c.reply.ensures c.lose_reply-replied.ensures.loses))
@@ -32,7 +32,7 @@ returns-clause-loses c =
     subst (λ (k : Kept). LosesTo (carried_in k) [] c.args.world.now ((c.lose_reply-replied.result + c.lose_body.result) % 2 ^ 64) c.lose_body.new.world) (sym is)
     (loses_both (option_to_list c.in-Sent.message.reply) c.in-Sent.message.rights c.args.world.now c.lose_reply-replied.result c.lose_reply-replied.new.world c.lose_body.result c.lose_body.new.world
     (subst (λ (o : Option Carried). LosesTo (option_to_list o) [] c.args.world.now c.lose_reply-replied.result c.lose_reply-replied.new.world) c.reply.ensures c.lose_reply-replied.ensures.loses)
-    (subst (λ (cs : List Carried). LosesTo cs [] c.lose_reply-replied.new.world c.lose_body.result c.lose_body.new.world) c.rights.ensures c.lose_body.ensures.loses))
+    (subst (λ (cs : List Carried). LosesTo cs [] c.lose_reply-replied.new.world c.lose_body.result c.lose_body.new.world) (c.as_slice.ensures ∙ c.rights.ensures) c.lose_body.ensures.loses))
 
 pub returns-clause-spaces : goal.returns-clause-spaces
 returns-clause-spaces c = c.lose_body.ensures.spaces ∙ c.lose_reply-replied.ensures.spaces

@@ -9,10 +9,10 @@ use Rattle.kernel_core.proofs.receive.receive.Goals as goal
 
 pub take-requires-clause-known : goal.take-requires-clause-known
 take-requires-clause-known c =
-    known_named c.args.world.now c.args.task c.args.name c.in_ok-waited.waited c.known_name-name.result c.in_ok-waited.ensures.found c.known_name-name.ensures
+    known_named c.args.world.now c.args.task c.args.name c.in_ok-waited.field-0.waited c.known_name-name.result c.in_ok-waited.ensures.found c.known_name-name.ensures
 
 pub returns-clause-serves : goal.returns-clause-serves
-returns-clause-serves c = named_received c.args.world.now c.args.task c.args.buffer.room c.args.buffer.large c.requires.there c.args.name c.in_ok-waited.waited c.in_ok-waited.ensures.ok c.in_ok-take.field-0 c.take.new.world c.in_ok-take.ensures.ok
+returns-clause-serves c = named_received c.args.world.now c.args.task c.args.buffer.room c.args.buffer.large c.requires.there c.args.name c.in_ok-waited.field-0.waited c.in_ok-waited.ensures.ok c.in_ok-take.field-0 c.take.new.world c.in_ok-take.ensures.ok
 
 pub returns-clause-spares : goal.returns-clause-spares
 returns-clause-spares c = named_spares c.args.world.now c.args.task c.args.name c.args.buffer.room c.args.buffer.large c.in_ok-take.field-0 c.take.new.world c.in_ok-take.ensures.spares
@@ -36,12 +36,12 @@ pub returns-in_err-take-clause-serves : goal.returns-in_err-take-clause-serves
 returns-in_err-take-clause-serves c =
     let p = err_from_is_err_and c.from_residual-in_err-take.result c.from_residual-in_err-take.ensures.1 in
     let stays = c.in_err-take.ensures.err in
-    rw (p.1, p.2, stays.0) (named_stays c.args.world.now c.args.task c.args.buffer.room c.args.buffer.large c.requires.there c.args.name c.in_ok-waited.waited c.in_ok-waited.ensures.ok _ stays.1)
+    rw (p.1, p.2, stays.0) (named_stays c.args.world.now c.args.task c.args.buffer.room c.args.buffer.large c.requires.there c.args.name c.in_ok-waited.field-0.waited c.in_ok-waited.ensures.ok _ stays.1)
 
 pub returns-in_err-take-clause-wanted : goal.returns-in_err-take-clause-wanted
 returns-in_err-take-clause-wanted c =
     let p = err_from_is_err_and c.from_residual-in_err-take.result c.from_residual-in_err-take.ensures.1 in
-    rw (p.1, p.2) (λ e. (c.in_ok-waited.waited, c.in_ok-waited.ensures.found, c.in_err-take.ensures.wanted e))
+    rw (p.1, p.2) (λ e. (c.in_ok-waited.field-0.waited, c.in_ok-waited.ensures.found, c.in_err-take.ensures.wanted e))
 
 pub returns-in_err-take-clause-spares : goal.returns-in_err-take-clause-spares
 returns-in_err-take-clause-spares c =

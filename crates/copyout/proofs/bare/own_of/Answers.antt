@@ -4,7 +4,7 @@ use Rattle.copyin_base.specs.declared.message.Carried.{Carried}
 use Rattle.copyout.specs.Bare.{own_names}
 use Rattle.copyout.specs.Room.{Needs}
 use Rattle.copyout.proofs.BareTaken.{one_needs, own_of}
-use Rattle.copyout.proofs.bare.own_of_reply.Goals as goal
+use Rattle.copyout.proofs.bare.own_of.Goals as goal
 
 pub returns-in-Some-clause-needs : goal.returns-in-Some-clause-needs
 returns-in-Some-clause-needs c =
@@ -12,4 +12,4 @@ returns-in-Some-clause-needs c =
     (one_needs c.args.world.now.ports c.args.space.now.names c.in-Some.carried c.own_port.result c.own_port.ensures)
 
 pub returns-in-Some-clause-own : goal.returns-in-Some-clause-own
-returns-in-Some-clause-own c = own_of c.args.world.now.ports c.args.space.now.names c.in-Some.carried c.args.reply.now c.in-Some.is c.own_port.result c.own_port.ensures
+returns-in-Some-clause-own c = own_of c.args.world.now.ports c.args.space.now.names c.in-Some.carried c.args.right.now c.in-Some.is c.own_port.result c.own_port.ensures

@@ -1,7 +1,7 @@
 use Rattle.std.proofs.Common.{refl, sym}
 use Rattle.copyin_base.specs.Worlds.{put}
 use Rattle.copyin.proofs.Judging.{passes, goes_by_name}
-use Rattle.copyin.proofs.judge.judge_answer.Goals as goal
+use Rattle.copyin.proofs.judge.judge_second.Goals as goal
 
 pub returns-in-Some-clause-ok : goal.returns-in-Some-clause-ok
 returns-in-Some-clause-ok c =

@@ -1,0 +1,33 @@
+use Rattle.std.proofs.Common.{◌∙◌, ap, sym, subst, Option}
+use Rattle.std.specs.Option.{option_to_list}
+use Rattle.copyin_base.specs.declared.message.Carried.{Carried}
+use Rattle.copyout.specs.Giving.{GivesAll}
+use Rattle.copyout.specs.Takes.{reply_word}
+use Rattle.copyout.proofs.BareTaken.{answers_only, lone_only, gives_one}
+use Rattle.copyout.proofs.bare.spell_only.Goals as goal
+
+pub spell_lone-requires-clause-alone : goal.spell_lone-requires-clause-alone
+spell_lone-requires-clause-alone c = let h = lone_only c.args.message c.args.bare.now c.in-Some.carried c.requires.bare (sym c.lone_right.ensures ∙ c.in-Some.is) in h.1
+
+pub spell_lone-requires-clause-spans : goal.spell_lone-requires-clause-spans
+spell_lone-requires-clause-spans c = let h = lone_only c.args.message c.args.bare.now c.in-Some.carried c.requires.bare (sym c.lone_right.ensures ∙ c.in-Some.is) in h.2
+
+pub spell_lone-requires-clause-rights : goal.spell_lone-requires-clause-rights
+spell_lone-requires-clause-rights c = let h = lone_only c.args.message c.args.bare.now c.in-Some.carried c.requires.bare (sym c.lone_right.ensures ∙ c.in-Some.is) in h.3
+
+pub spell_bare-requires-clause-bare : goal.spell_bare-requires-clause-bare
+spell_bare-requires-clause-bare c = let h = answers_only c.args.message c.args.bare.now c.requires.bare (sym c.lone_right.ensures ∙ c.in-None.is) in (h.1, h.2)
+
+pub spell_bare-requires-clause-answered : goal.spell_bare-requires-clause-answered
+spell_bare-requires-clause-answered c = let h = answers_only c.args.message c.args.bare.now c.requires.bare (sym c.lone_right.ensures ∙ c.in-None.is) in h.0
+
+pub returns-in-Some : goal.returns-in-Some
+returns-in-Some c =
+    let h = lone_only c.args.message c.args.bare.now c.in-Some.carried c.requires.bare (sym c.lone_right.ensures ∙ c.in-Some.is) in
+    λ w new task words gives is. c.spell_lone.ensures w new task (gives_one w new task c.args.bare.now.right c.in-Some.carried h.0 words c.args.name gives is)
+
+pub returns-in-None : goal.returns-in-None
+returns-in-None c =
+    let h = answers_only c.args.message c.args.bare.now c.requires.bare (sym c.lone_right.ensures ∙ c.in-None.is) in
+    λ w new task words gives is. c.spell_bare.ensures w new task words (subst (λ (o : Option Carried). GivesAll w task (option_to_list o) words new) h.0 gives)
+    (is ∙ ap (λ (o : Option Carried). reply_word o words) h.0)
