@@ -1,6 +1,6 @@
 -- The two requests of a doomed port itself end.
 use Rattle.std.proofs.Common.{◌≡◌, ℕ, zero, suc, ◌+◌, ◌%◌, ◌^◌, List, [], ◌∷◌, ◌++◌, Option, Some, None, refl, sym, ap, subst, ◌∙◌, arith, true, false, Bool, ◌⊎◌, inl, inr, length}
-use Rattle.std.specs.Prelude.{Contains, ◌==◌, ◌&&◌, ◌||◌, not, is_some, option_map}
+use Rattle.std.specs.Prelude.{Contains, ◌==◌, ◌&&◌, ◌||◌, not, is_some, option_map, nat_lt, if◌then◌else◌}
 use Rattle.std.specs.FinMap as map
 use Rattle.std.specs.Ordering.{nat_cmp}
 use Rattle.std.proofs.lemmas.Bool.{eq-eqb}
@@ -14,6 +14,8 @@ use Rattle.mach_model.proofs.Names.{removed_own}
 use Rattle.copyin_base.specs.declared.notice.Notice.TheVariants.{SendOnce}
 use Rattle.copyin_base.specs.Queued.{notice_kept}
 use Rattle.copyin_base.specs.Requests.{RequestTablesView, notify_of}
+use Rattle.request_table.specs.Requests.{name_key}
+use Rattle.request_table.specs.declared.Request.{Request as NameRequest}
 use Rattle.copyin_base.specs.Shows.{CarriesReceive}
 use Rattle.copyin_base.specs.Kept.{Kept}
 use Rattle.port.specs.Ports.{PortView}
@@ -24,7 +26,7 @@ use Rattle.copyin_base.specs.Worlds.{WorldView, port_at}
 use Rattle.copyin_base.proofs.Putting.{get_removed, len_put}
 use Rattle.notifications.specs.Posting.{CanPost}
 use Rattle.rights.specs.Unused.{IsUnusedOfAll}
-use Rattle.destroy.specs.Burying.{is_among, partway, SameSpare, IsPartway, Around, Burying, EndsRequests}
+use Rattle.destroy.specs.Burying.{is_among, partway, AsksNone, SameSpare, IsAny, IsPartway, Around, Burying, EndsRequests}
 use Rattle.destroy.specs.Paying.{LivesIn, Pays}
 use Rattle.destroy.specs.Stages.{IsCount}
 use Rattle.destroy.proofs.BurBegin.{gone_ended}
@@ -250,3 +252,18 @@ none_ended port these w v same gone = record {
   ports = ap (λ (x : WorldView). map.len x.ports.ports) same;
   rooms = same_rooms w v (ap (λ (x : WorldView). x.spaces) same);
 }
+
+-- where no request stands, none of the port's does
+pub unasked_of : (v : RequestTablesView) → v.names.requests ≡ map.empty → v.no_senders.map ≡ map.empty → v.port_destroyed.map ≡ map.empty → (r : Request) → notify_of v r ≡ None
+unasked_of v names senders destroyed (no_senders p) = ap (λ (m : map.FinMap nat_cmp ℕ). map.get m p) senders ∙ map.get-empty nat_cmp p
+unasked_of v names senders destroyed (port_destroyed p) = ap (λ (m : map.FinMap nat_cmp ℕ). map.get m p) destroyed ∙ map.get-empty nat_cmp p
+unasked_of v names senders destroyed (dead_name task name) =
+    let none : map.get v.names.requests (name_key task name) ≡ None = ap (λ (m : map.FinMap nat_cmp NameRequest). map.get m (name_key task name)) names ∙ map.get-empty nat_cmp (name_key task name) in
+    rw none (by (nat_lt name (2 ^ 32)))
+  where
+    by : (b : Bool) → ◌≡◌ {A = Option ℕ} (if b then None else None) None
+    by true = refl
+    by false = refl
+
+pub unasked_ended : (port : ℕ) (w : WorldView) → AsksNone w → EndsRequests port IsAny w 0 w
+unasked_ended port w none = none_ended port IsAny w w refl (λ r is. unasked_of w.requests none.names none.no_senders none.port_destroyed r)

@@ -115,6 +115,12 @@ pub record Burying (now : ℕ) (tables : WorldView) (old mid : State) (owed : Ow
 
 -- ---- what the parts of a burial promise
 
+-- No request stands.
+pub record AsksNone (w : WorldView) : Type 0 where
+  pub names : w.requests.names.requests ≡ map.empty
+  pub no_senders : w.requests.no_senders.map ≡ map.empty
+  pub port_destroyed : w.requests.port_destroyed.map ≡ map.empty
+
 -- The tables are so while the port is buried.
 pub record IsBurying (port : ℕ) (w : WorldView) : Type 0 where
   pub now : ℕ

@@ -1,9 +1,9 @@
 //! Doomed ports are buried.
-ghost use Rattle.std.specs.Prelude.{◌≡◌, ◌<◌};
+ghost use Rattle.std.specs.Prelude.{◌≡◌, ◌<◌, true};
 ghost use Rattle.std.specs.FinMap as map;
 ghost use Rattle.mach_types.specs.Tokens.{no_senders, port_destroyed};
 ghost use Rattle.name_space.specs.declared.Entry.TheVariants.{DeadName};
-ghost use Rattle.destroy.specs.Burying.{dead_count, IsAny, IsNone, IsOnName, IsBurying, IsDueOn, IsNextToBury, EndsRequests};
+ghost use Rattle.destroy.specs.Burying.{dead_count, AsksNone, IsAny, IsNone, IsOnName, IsBurying, IsDueOn, IsNextToBury, EndsRequests};
 ghost use Rattle.destroy.specs.Stages.{AreTold, AreBuried, IsAt, Continues, KeepsRooms};
 
 use crate::paying::pay;
@@ -20,11 +20,66 @@ pub(crate) fn bury_ports(world: &mut World) -> u64
     ensures continues { Continues AreTold AreBuried world.old result world.new }
     ensures rooms { KeepsRooms world.old world.new }
 {
+    if asks_none(world) {
+        bury_unasked(world);
+        0
+    } else {
+        bury_asked(world)
+    }
+}
+
+// Whether no request stands, so that no port's burial ends one.
+fn asks_none(world: &World) -> bool
+    ensures { result ≡ true → AsksNone world.now }
+{
+    if !world.requests.names.is_empty() {
+        return false;
+    }
+    if world.requests.no_senders.len() > 0 {
+        return false;
+    }
+    world.requests.port_destroyed.len() == 0
+}
+
+// Where requests stand, ports are buried in the order in which they were doomed, and so are tasks told.
+#[inline(never)]
+fn bury_asked(world: &mut World) -> u64
+    requires { IsAt AreTold world.old }
+    ensures continues { Continues AreTold AreBuried world.old result world.new }
+    ensures rooms { KeepsRooms world.old world.new }
+{
     let mut turns: u64 = 0;
     while let Some(port) = world.ports.first_doomed() {
         turns = turns.wrapping_add(bury(world, port));
     }
     turns
+}
+
+// Where none stands, nobody is told, and the last goes first: it takes fewest moves to take what came last
+// out of the tables of ports and of rights.
+fn bury_unasked(world: &mut World)
+    requires at { IsAt AreTold world.old }
+    requires unasked { AsksNone world.old }
+    ensures continues { Continues AreTold AreBuried world.old 0 world.new }
+    ensures rooms { KeepsRooms world.old world.new }
+{
+    while let Some(port) = world.ports.last_doomed() {
+        bury_silently(world, port);
+    }
+}
+
+// A doomed port leaves, and no request ends.
+#[inline(always)]
+fn bury_silently(world: &mut World, port: PortId)
+    requires next { IsNextToBury port world.old }
+    requires unasked { AsksNone world.old }
+    ensures turns { Continues AreTold AreTold world.old 0 world.new }
+    ensures unasked { AsksNone world.new }
+    ensures fewer { map.len world.new.ports.ports < map.len world.old.ports.ports }
+    ensures rooms { KeepsRooms world.old world.new }
+{
+    world.ports.remove(port);
+    world.ledger.leave(port);
 }
 
 // A doomed port leaves.

@@ -1,5 +1,5 @@
 -- Lists once an item joined one, or left it.
-use Rattle.std.proofs.Common.{◌≡◌, ◌≢◌, inl, inr, ℕ, zero, suc, ◌+◌, ◌<◌, ◌≤◌, true, false, cond, eqb, List, [], ◌∷◌, ◌++◌, length, Some, None, slice_get, slice_set, refl, sym, ◌∙◌, ap, subst, arith, ltb, get_or, take, Contains}
+use Rattle.std.proofs.Common.{◌≡◌, ◌≢◌, inl, inr, ℕ, zero, suc, ◌+◌, ◌<◌, ◌≤◌, true, false, cond, eqb, List, [], ◌∷◌, ◌++◌, length, Option, Some, None, IfSome, IfNone, slice_get, slice_set, refl, sym, ◌∙◌, ap, subst, arith, ltb, get_or, take, Contains}
 use Rattle.std.specs.List.{filter}
 use Rattle.std.specs.Option.{option_or}
 use Rattle.std.proofs.lemmas.List.{length-set, take_all}
@@ -321,6 +321,9 @@ module _ (links : List Link) (chains : ℕ → Ends) (so : IsSound links chains)
   pub first_is : (e : Ends) → e ≡ chains l → e.first ≡ slice_get (list_of v l) 0
   first_is e is = ap (λ (f : Ends). f.first) is ∙ (so.chain l).first ∙ first_got (so.chained l) ∙ ap (λ ys. slice_get ys 0) (sym is_whole)
 
+  pub last_is_of : (e : Ends) → e ≡ chains l → e.last ≡ last_or None (list_of v l)
+  last_is_of e is = ap (λ (f : Ends). f.last) is ∙ (so.chain l).last ∙ ap (last_or None) (sym is_whole)
+
   -- nothing stands before the first
   pub first_before : (item : ℕ) → slice_get (list_of v l) 0 ≡ Some item → (link : Link) → slice_get links item ≡ Some link → link.before ≡ None
   first_before item at link there = by_first (so.chained l) ((so.chain l).linked) (ap (λ ys. slice_get ys 0) (sym is_whole) ∙ at)
@@ -363,3 +366,25 @@ got_before (k ∷ xs) ys (suc x) h = got_before xs ys x (let less : suc x < suc 
 
 pub links_grown : (links new rest : List Link) (n : ℕ) → length links ≤ n → new ≡ take n links ++ rest → (x : ℕ) → x < length links → slice_get new x ≡ slice_get links x
 links_grown links new rest n few is x h = ap (λ ks. slice_get ks x) is ∙ ap (λ ks. slice_get (ks ++ rest) x) (take_all n links few) ∙ got_before links rest x h
+
+-- ---- the last of a list
+
+behind_some : (x item : ℕ) (xs : List ℕ) → last_or (Some x) xs ≡ Some item → (front : List ℕ) × (x ∷ xs ≡ front ++ item ∷ [])
+behind_some x item [] e = ([], ap (λ y. y ∷ []) (same_some x item e))
+behind_some x item (y ∷ ys) e = let r = behind_some y item ys e in (x ∷ r.0, ap (λ zs. x ∷ zs) r.1)
+
+some_behind : (x : ℕ) (xs : List ℕ) → last_or (Some x) xs ≡ None → ⊥
+some_behind x [] e = cc
+some_behind x (y ∷ ys) e = some_behind y ys e
+
+pub last_of_some : (xs : List ℕ) (item : ℕ) → last_or None xs ≡ Some item → (front : List ℕ) × (xs ≡ front ++ item ∷ [])
+last_of_some [] item e = absurd (cc)
+last_of_some (x ∷ xs) item e = behind_some x item xs e
+
+pub last_of_none : (xs : List ℕ) → last_or None xs ≡ None → xs ≡ []
+last_of_none [] e = refl
+last_of_none (x ∷ xs) e = absurd (some_behind x xs e)
+
+pub last_told : (o : Option ℕ) (xs : List ℕ) → o ≡ last_or None xs → IfSome o (λ item. (front : List ℕ) × (xs ≡ front ++ item ∷ [])) × IfNone o (xs ≡ [])
+last_told None xs e = (tt, last_of_none xs (sym e))
+last_told (Some item) xs e = (last_of_some xs item (sym e), tt)

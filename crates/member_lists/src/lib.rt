@@ -7,7 +7,7 @@
 //! ends of both stand in one map.
 #![tactic(auto)]
 
-ghost use Rattle.std.specs.Prelude.{◌≡◌, ◌↔◌, ℕ, ◌+◌, ◌<◌, ◌≤◌, ◌^◌, ◌++◌, ◌∷◌, [], max, eqb, IsTrue, true, length, Some, None, IfOk, OnOk, OnErr, slice_get, slice_set};
+ghost use Rattle.std.specs.Prelude.{◌≡◌, ◌↔◌, ℕ, ◌+◌, ◌<◌, ◌≤◌, ◌^◌, ◌++◌, ◌∷◌, [], max, eqb, IsTrue, true, length, List, Some, None, IfSome, IfNone, IfOk, OnOk, OnErr, slice_get, slice_set};
 ghost use Rattle.std.specs.List.{Contains};
 ghost use Rattle.std.specs.Option.{option_or};
 ghost use Rattle.std.specs.FinMap as map;
@@ -606,6 +606,15 @@ impl TwoLists {
         let none = Place::none();
         set_before(&mut self.links, behind, none);
         self.ends.leave(list, none, behind);
+    }
+
+    /// The last item of a list. Constant time.
+    pub fn last(&self, list: u64) -> Option<usize>
+        requires { list < 2 }
+        ensures some { IfSome result (λ item. (front : List ℕ) × (list_of self.now list ≡ front ++ item ∷ [])) }
+        ensures none { IfNone result (list_of self.now list ≡ []) }
+    {
+        self.ends.last(list).item()
     }
 
     /// The first item of a list. Constant time.

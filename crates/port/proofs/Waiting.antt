@@ -1,6 +1,8 @@
 -- The ports that nobody holds, and those that are noted, from the lists of their keys.
 use Rattle.std.proofs.Common.{◌≡◌, ◌≢◌, ◌↔◌, inl, inr, ℕ, ◌<◌, eqb, IsTrue, Bool, false, cond, not, Option, Some, None, is_some, true, List, [], ◌∷◌, ◌++◌, length, slice_get, refl, ap, sym, subst, ◌∙◌, arith, Contains}
 use Rattle.std.proofs.lemmas.Bool.Decides.{eqb_tells}
+use Rattle.std.proofs.lemmas.List.{length-append}
+use Rattle.std.proofs.Math.Seq.{get_or-append_seam}
 use Rattle.std.specs.FinMap as map
 use Rattle.std.specs.Ordering.{nat_cmp}
 use Rattle.std.specs.Option.{option_map}
@@ -25,6 +27,10 @@ use Rattle.port.proofs.Turned.{ids-without, ids-pushed, ids-first, ids-same, own
 
 no_some : (l : ℕ) → None ≡ Some l → ⊥
 no_some l e = cc
+
+-- what stands last is there
+pub holds_last : (xs front : List ℕ) (x : ℕ) → xs ≡ front ++ x ∷ [] → Contains xs x
+holds_last xs front x is = subst (λ l. Contains l x) (sym is) (length front, (let n = length-append front (x ∷ []) in omega (arith, n)), get_or-append_seam front x [] x)
 
 not_one : lost_list ≡ doomed_list → ⊥
 not_one e = omega arith
@@ -239,6 +245,16 @@ module _ {M : Type 0} (s : Slab (Record M)) (keys : Keyed) (next : Option ℕ) (
       none_in : (xs : List ℕ) (port : ℕ) → slice_get xs 0 ≡ None → Contains xs port → ⊥
       none_in [] port e c = let less : c.0 < 0 = c.1 in omega arith
       none_in (x ∷ xs) port e c = cc
+
+      pub last_told : (front : List ℕ) (key : ℕ) (r : Record M) → list_of waiting list ≡ front ++ key ∷ [] → get s key ≡ Some r → told ≡ ids_at (get s) front ++ r.id ∷ []
+      last_told front key r is here = sym told_is ∙ ap (ids_at (get s)) is ∙ ids-pushed (get s) front key ∙ ap (λ (o : Option (Record M)). ids_at (get s) front ++ id_in o ∷ []) here
+
+      pub empty_told : list_of waiting list ≡ [] → NoneHeldBy v holder
+      empty_told is port p there holds =
+          let c = (held_told port).1 (record { view = p; there = there; holder_is = holds }) in
+          let none : told ≡ [] = sym told_is ∙ ap (ids_at (get s)) is in
+          let d : Contains [] port = subst (λ l. Contains l port) none c in
+          let less : d.0 < 0 = d.1 in omega arith
 
       pub none_told : slice_get told 0 ≡ None → NoneHeldBy v holder
       none_told none port p there is = none_in told port none ((held_told port).1 (record { view = p; there = there; holder_is = is }))

@@ -1,5 +1,6 @@
 //! How ports that lost their receive rights die, with one look-up each or none.
-ghost use Rattle.std.specs.Prelude.{◌≡◌, ◌↔◌, ℕ, ◌<◌, ◌++◌, ◌∷◌, [], length, IsTrue, true, false, Some, None, slice_get};
+ghost use Rattle.std.specs.Prelude.{◌≡◌, ◌↔◌, ℕ, ◌<◌, ◌++◌, ◌∷◌, [], length, List, IfSome, IfNone, IsTrue, true, false, Some, None, slice_get};
+ghost use Rattle.std.specs.List.{Contains};
 ghost use Rattle.std.specs.FinMap as map;
 
 use crate::by_key::{DOOMED, LOST, hold_at};
@@ -9,7 +10,7 @@ use mach_types::PortId;
 
 impl<M: Message> Ports<M> {
     ghost use Rattle.member_lists.specs.Lists.{without};
-    ghost use Rattle.port.specs.Holding.{CanHold, held};
+    ghost use Rattle.port.specs.Holding.{CanHold, IsHeldBy, NoneHeldBy, held};
     ghost use Rattle.port.specs.Ports.{PortView, with_port};
     ghost use Rattle.port.specs.declared.Holder.TheVariants as Holder;
 
@@ -44,5 +45,17 @@ impl<M: Message> Ports<M> {
         hold_at(&mut self.records, key, Holder::Doomed);
         rejoin_first(&mut self.waiting, key, LOST, DOOMED);
         !self.records[key].queue.is_empty()
+    }
+
+    /// The port that was doomed last of those that weren't removed. Constant time.
+    #[inline(always)]
+    pub fn last_doomed(&self) -> Option<PortId>
+        ensures last { IfSome result (λ port. (front : List ℕ) × (self.now.doomed ≡ front ++ port ∷ [])) }
+        ensures some { IfSome result (λ port. IsHeldBy self.now port Holder.Doomed) }
+        ensures none { IfNone result (NoneHeldBy self.now Holder.Doomed) }
+        ensures all { (port : ℕ) → Contains self.now.doomed port ↔ IsHeldBy self.now port Holder.Doomed }
+    {
+        let key = self.waiting.last(DOOMED)?;
+        Some(self.records[key].id)
     }
 }

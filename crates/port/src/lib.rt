@@ -467,6 +467,7 @@ impl<M: Message> Ports<M> {
 
     /// Removes a port that has no messages: it is in no set, neither lost nor doomed, and not noted.
     /// What was allocated for it is freed or kept for others. Takes no memory. Constant time.
+    #[inline(always)]
     pub fn remove(&mut self, port: PortId)
         requires { (p : PortView M) → map.get self.old.ports port ≡ Some p → length p.queue ≡ 0 }
         ensures { self.new ≡ record self.old { ports = map.remove self.old.ports port; lost = without port self.old.lost; doomed = without port self.old.doomed; noted = without port self.old.noted } }
@@ -699,14 +700,6 @@ impl<M: Message> Ports<M> {
             Some(key) => self.records[key].queue.len(),
             None => 0,
         }
-    }
-
-    /// The message at the front of a port's queue, if the port is there and has one. Constant time.
-    pub fn front(&self, port: PortId) -> Option<&M>
-        ensures { option_copied result ≡ option_and_then (λ p. slice_get p.queue 0) (map.get self.now.ports port) }
-    {
-        let key = key_of(&self.by_id, port)?;
-        self.records[key].queue.front()
     }
 
     /// Puts a message at the end of a port's queue, in a spare slot. Takes no memory. Constant time.

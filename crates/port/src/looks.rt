@@ -1,5 +1,6 @@
 //! What one look-up of a port tells in one.
-ghost use Rattle.std.specs.Prelude.{◌≡◌, Some, None, is_some, length, IfSome, IfNone};
+ghost use Rattle.std.specs.Prelude.{◌≡◌, Some, None, is_some, length, option_copied, slice_get, IfSome, IfNone};
+ghost use Rattle.std.specs.Option.{option_and_then};
 ghost use Rattle.std.specs.FinMap as map;
 
 use crate::{Message, Ports, key_of};
@@ -16,6 +17,14 @@ pub struct Standing {
 
 impl<M: Message> Ports<M> {
     ghost use Rattle.port.specs.Ports.{PortView, NoneQueued, IsNumberedFront};
+
+    /// The message at the front of a port's queue, if the port is there and has one. Constant time.
+    pub fn front(&self, port: PortId) -> Option<&M>
+        ensures { option_copied result ≡ option_and_then (λ p. slice_get p.queue 0) (map.get self.now.ports port) }
+    {
+        let key = key_of(&self.by_id, port)?;
+        self.records[key].queue.front()
+    }
 
     /// The message at the front of a port's queue, and the sequence number that it is received with, if the
     /// port is there and has one. Constant time.
