@@ -24,3 +24,9 @@ returns-clause-some g c =
       c.is_member.ensures ∙ ap (λ (q : PortView g.row.M.Denot). is_some q.attributes.set) (same_some (port_of c.index-record.result.now) p (sym is ∙ h)),
       c.len.ensures.value ∙ ap (λ (q : PortView g.row.M.Denot). length q.queue) (same_some (port_of c.index-record.result.now) p (sym is ∙ h)),
     )
+
+pub returns-clause-there : goal.returns-clause-there
+returns-clause-there g c =
+    let found : map.get c.self.inside.by_id.map c.args.port ≡ Some c.in_ok-key.key = sym (c.in_ok-key.ensures) in
+    let is : map.get c.args.self.now.ports c.args.port ≡ Some (port_of c.index-record.result.now) = live_port c.self.inside.records c.self.inside.by_id.map c.self.inside.next c.self.inside.spare c.self.inside.destroyed c.self.inside.slots c.self.invariant.sound c.args.self.now c.self.view_is c.args.port c.in_ok-key.key c.index-record.result.now found c.index-record.ensures in
+    ap is_some is
