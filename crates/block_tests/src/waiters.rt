@@ -59,7 +59,7 @@ fn waiter<'a, R: Wait>(
     name: u32,
     gate: Meets<'a>,
 ) -> Result<Block<Meets<'a>>, AllocError>
-    ensures { IfOk result (λ block. block.pass.table ≡ shared.now) }
+    ensures { IfOk result (λ block. block.pass.table ≡ shared.now.table) }
 {
     let pass = shared.pass(rt)?;
     let mut calls = Vec::new(alloc);

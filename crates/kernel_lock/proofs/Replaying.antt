@@ -1,5 +1,5 @@
 -- A step at the end of a history.
-use Rattle.std.proofs.Common.{◌≡◌, ◌≢◌, ℕ, ◌+◌, List, [], ◌∷◌, ◌++◌, length, sym, subst}
+use Rattle.std.proofs.Common.{◌≡◌, ◌≢◌, ℕ, ◌+◌, Bool, true, false, refl, List, [], ◌∷◌, ◌++◌, length, sym, subst}
 use mathlib.Core.List.{map-append}
 use Rattle.mach_types.specs.declared.calls.Event.{Event}
 use Rattle.mach_types.specs.declared.calls.Reply.{Reply}
@@ -11,8 +11,8 @@ use Rattle.kernel_core.specs.Answers.{Answers}
 use Rattle.kernel_core.specs.Bounds.{IsWithin}
 use Rattle.kernel_core.specs.Kernels.{KernelView}
 use Rattle.kernel_lock.specs.declared.entry.Entry.{Entry}
-use Rattle.kernel_lock.specs.History.{events_of, replies_of, LeadsTo, Legal, entry}
-use Rattle.kernel_lock.specs.Replays.{Replays}
+use Rattle.kernel_lock.specs.History.{events_of, replies_of, LeadsTo, Legal}
+use Rattle.kernel_lock.specs.Replays.{Replays, kept_of}
 use Rattle.kernel_lock.proofs.Answered.{answered}
 
 -- the number of the step that comes next
@@ -37,13 +37,10 @@ replays_push log old new e r answers =
 pub legal_of : (log : List Entry) (kernel : KernelView) → Replays log kernel → Legal log
 legal_of log kernel r = record { state = r.state; leads = r.leads }
 
--- the step is stored with a copy of its reply
-pub stores : (log : List Entry) (old new : KernelView) (caller : ℕ) (event : Event) (reply copy : Reply) → Replays log old → Answers old.tables event reply new.tables → copy ≡ reply → Replays (log ++ entry caller event copy ∷ []) new
-stores log old new caller event reply copy r answers same = replays_push log old new (entry caller event copy) r (subst (λ (x : Reply). Answers old.tables event x new.tables) (sym same) answers)
-
-pub stores_legal : (log seen : List Entry) (old new : KernelView) (caller : ℕ) (event : Event) (reply copy : Reply) → Replays log old → Answers old.tables event reply new.tables → copy ≡ reply → seen ≡ log → Legal (seen ++ entry caller event copy ∷ [])
-stores_legal log seen old new caller event reply copy r answers same is =
-    subst (λ (l : List Entry). Legal (l ++ entry caller event copy ∷ [])) (sym is) (legal_of _ new (stores log old new caller event reply copy r answers same))
+-- the entries that are kept, with one more
+pub kept_push : (keeps : Bool) (log : List Entry) (e : Entry) → kept_of keeps (log ++ e ∷ []) ≡ kept_of keeps log ++ kept_of keeps (e ∷ [])
+kept_push true log e = refl
+kept_push false log e = refl
 
 -- what is so of each reply to the event, by the states that the kernel shows, is so of its step's
 pub is_within : (log : List Entry) (old new : KernelView) (event : Event) (most : ℕ) (reply : Reply) → Replays log old → Answers old.tables event reply new.tables

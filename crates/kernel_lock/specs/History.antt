@@ -68,7 +68,7 @@ pub record Extends (v : Known) (e : Entry) (w : Known) : Type 0 where
   pub legal : Legal w.seen
   pub own : calls_by v.caller w.seen ≡ calls_by v.caller v.seen ++ e ∷ []
 
--- The call stands at the end of the stored history, and the pass has seen it all.
+-- The call stands at the end of the history, and the pass has seen it all.
 pub record Recorded (before after : List Entry) (v w : Known) (e : Entry) : Type 0 where
   pub appended : after ≡ before ++ e ∷ []
   pub extends : Extends v e w
@@ -79,7 +79,7 @@ pub record Unmade (before after : List Entry) (v w : Known) : Type 0 where
   pub log : after ≡ before
   pub pass : w ≡ v
 
--- What a call does to the stored history and to its pass.
+-- What a call does to the history and to its pass.
 abbrev pub Stepped : (before after : List Entry) (v w : Known) → Event → Reply → Type 0
 Stepped before after v w event Reply.NoRecord = Unmade before after v w
 Stepped before after v w event reply = Recorded before after v w (entry v.caller event reply)

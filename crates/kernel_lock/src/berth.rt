@@ -1,7 +1,8 @@
-//! One place, in which the kernel lies while nobody has it. Which board it is tied to is fixed when the place is made.
+//! One place, in which the kernel lies while nobody has it. Which board it is tied to, and whether it keeps
+//! entries, is fixed when the place is made.
 ghost use Rattle.std.specs.Prelude.{◌≡◌, [], ◌∷◌, None, Some, IfOk, IfSome};
+ghost use Rattle.kernel_lock.specs.Berth.{IsLike};
 
-use crate::board::Place;
 use crate::lock::LockedKernel;
 use atomic_table::{Play, Seat, Table, TableRule};
 use std::alloc::{AllocError, Global};
@@ -9,15 +10,16 @@ use std::snapshot::Snapshot;
 
 type Content = Option<LockedKernel>;
 
-type Key = Snapshot<Place>;
+/// The kernel that lay here first.
+type Key = Snapshot<LockedKernel>;
 
-/// A kernel that lies here is tied to the board that the key names.
+/// A kernel that lies here is like the first one: tied to the same board, and keeping entries as that one did.
 pub struct Moored;
 
 impl TableRule<Content, Key, Key> for Moored {
     ghost use Rattle.kernel_lock.specs.Berth.{IsMoored};
 
-    ghost holds = { λ key s. IsMoored key.value.table_id s };
+    ghost holds = { λ key s. IsMoored key.value s };
 
     ghost first = { λ key. key };
 }
@@ -27,7 +29,7 @@ pub struct Take;
 impl Play<Content, Key> for Take {
     ghost use Rattle.kernel_lock.specs.Berth.{Takes};
 
-    ghost then = { λ s v found w. Takes v.0.value.table_id found w.1 };
+    ghost then = { λ s v found w. Takes v.0.value found w.1 };
 }
 
 pub struct Give;
@@ -38,7 +40,7 @@ impl Play<Content, Key> for Give {
 
 pub(crate) type Hand = Seat<Content, Key>;
 
-/// To contracts it is the board that the kernel is tied to.
+/// To contracts it is the kernel that lay here first.
 #[derive(Drop)]
 pub struct Berth {
     table: Table<Content, Key, Key, Moored, Global>,
@@ -46,12 +48,12 @@ pub struct Berth {
 }
 
 impl Berth {
-    pub(crate) fn new(alloc: Global, key: &Key, kernel: LockedKernel) -> Result<Berth, AllocError>
-        requires { kernel.table ≡ key.now.value.table_id }
-        ensures { IfOk result (λ b. b.table.shared.key ≡ key.now) }
+    pub(crate) fn new(alloc: Global, kernel: LockedKernel) -> Result<Berth, AllocError>
+        ensures { IfOk result (λ b. b.table.shared.key.value ≡ kernel) }
     {
+        let key = Snapshot::of(&kernel);
         let slots = home_of(alloc, kernel)?;
-        match Table::new(alloc, &[1], slots, key) {
+        match Table::new(alloc, &[1], slots, &key) {
             Ok((table, _)) => Ok(Berth { table }),
             Err(_) => Err(AllocError),
         }
@@ -59,7 +61,7 @@ impl Berth {
 
     /// The kernel, if it lies here.
     pub(crate) fn take(&self) -> Option<(LockedKernel, Hand)>
-        ensures { IfSome result (λ r. (r.0.table ≡ self.now.table.shared.key.value.table_id) × (r.1.table_id ≡ self.now.table.shared.table_id) × (r.1.me.1 ≡ (0, None) ∷ [])) }
+        ensures { IfSome result (λ r. IsLike self.now.table.shared.key.value r.0 × (r.1.table_id ≡ self.now.table.shared.table_id) × (r.1.me.1 ≡ (0, None) ∷ [])) }
     {
         let shared = &self.table.shared;
         let (found, mut hand) = shared.swap_new_seat::<Take>(0, 0);
@@ -74,7 +76,7 @@ impl Berth {
 
     pub(crate) fn put(&self, mut hand: Hand, kernel: LockedKernel)
         requires hand { (hand.table_id ≡ self.now.table.shared.table_id) × (hand.me.1 ≡ (0, None) ∷ []) }
-        requires kernel { kernel.table ≡ self.now.table.shared.key.value.table_id }
+        requires kernel { IsLike self.now.table.shared.key.value kernel }
     {
         let shared = &self.table.shared;
         let _ = shared.exchange(&mut hand, 0, Some(kernel));

@@ -1,23 +1,27 @@
 //! The kernel behind its lock, with its history.
-ghost use Rattle.std.specs.Prelude.{◌≡◌, ◌+◌, ◌<◌, ◌^◌, [], ◌∷◌, length, None, IfOk, slice_index_or, slice_set};
+ghost use Rattle.std.specs.Prelude.{◌≡◌, ◌≢◌, ◌+◌, ◌<◌, ◌≤◌, ◌^◌, true, false, [], ◌∷◌, length, None, IfOk, slice_index_or, slice_set};
 ghost use Rattle.mach_types.specs.declared.calls.Reply.{Reply as AnyReply};
 ghost use Rattle.mach_model.specs.State.{opening};
 ghost use Rattle.copyin_base.specs.Shows.{Shows};
 ghost use Rattle.kernel_lock.specs.History.{Legal, StartsWith, Stepped, Called};
-ghost use Rattle.kernel_lock.specs.Replays.{Replays};
+ghost use Rattle.kernel_lock.specs.Berth.{IsLike};
+ghost use Rattle.kernel_lock.specs.Replays.{Replays, kept_of};
 ghost use Rattle.kernel_lock.specs.Views.{desk_view};
 
 use crate::berth::{Berth, Hand};
 use crate::board::{Board, Look, NewPass, NewWatch, Place, Tell, Watch};
+use crate::entries::Entries;
 use crate::entry::Entry;
-use crate::room::Room;
 use kernel_core::Kernel;
 use mach_types::{Event, Reply};
 use std::alloc::{AllocError, Global};
 use std::marker::Model;
-use std::snapshot::Snapshot;
 use std::sync::{Mutex, MutexGuard, Wait};
 use std::thread;
+
+/// How many calls a history has at most. No memory holds so many entries; only one whose entries aren't kept could
+/// come to it.
+const MOST_CALLS: u64 = 1 << 63;
 
 /// A caller: its number, how many of its calls were recorded, and what it has seen of the history.
 ///
@@ -45,13 +49,15 @@ impl Model for Pass {
 /// The kernel, with the history that led to it, and with the count of each caller's calls.
 ///
 /// The type keeps that the history's events and replies are a run of the machine to a state that this
-/// kernel shows, and that each count is that of the caller's entries. To contracts it is its board, the
-/// history, and the kernel's tables and turns.
+/// kernel shows, and that each count is that of the caller's entries. The entries themselves are kept, or they
+/// aren't, from the first call on. To contracts it is its board, the history, whether its entries are kept, and the
+/// kernel's tables and turns.
 #[derive(Drop)]
 pub struct LockedKernel {
     alloc: Global,
     kernel: Kernel,
-    history: Vec<Entry>,
+    entries: Entries,
+    events: u64,
     counts: Vec<u64>,
     seat: Place,
 }
@@ -59,7 +65,7 @@ pub struct LockedKernel {
 impl Model for LockedKernel {
     ghost use Rattle.std.specs.Prelude.{◌≡◌, [], length};
     ghost use Rattle.kernel_lock.specs.History.{CountsFit};
-    ghost use Rattle.kernel_lock.specs.Replays.{Stored, stored_code, Replays};
+    ghost use Rattle.kernel_lock.specs.Replays.{Stored, stored_code, Replays, kept_of};
     ghost use Rattle.atomic_table.specs.Seated.{table_id_coded};
     ghost use Rattle.kernel_lock.specs.contracts.entry.Entry as entry;
     ghost use Rattle.kernel_core.specs.contracts.kernel.Kernel as machine;
@@ -69,67 +75,80 @@ impl Model for LockedKernel {
 
     ghost coded = { stored_code table_id_coded entry.the_row.coded machine.the_row.coded };
 
-    ghost view = { λ k. record { table = k.seat.table_id; log = k.history.items; kernel = k.kernel } };
+    ghost view = { λ k. record { table = k.seat.table_id; log = k.seat.me.0.seen; keeps = k.entries.keeps; kernel = k.kernel } };
 
-    ghost invariant = { λ k. Replays k.history.items k.kernel × CountsFit k.counts.items k.history.items × (k.seat.me ≡ (desk_view k.history.items (length k.counts.items), [])) };
+    ghost invariant = { λ k. Replays k.seat.me.0.seen k.kernel × CountsFit k.counts.items k.seat.me.0.seen × (k.seat.me ≡ (desk_view k.seat.me.0.seen (length k.counts.items), []))
+        × (k.events ≡ length k.seat.me.0.seen) × (k.entries.list.items ≡ kept_of k.entries.keeps k.seat.me.0.seen) };
 }
 
 impl LockedKernel {
     // A kernel in which nothing was made yet, with the empty history and no callers. Takes no memory.
-    fn new(alloc: Global, seat: Place) -> LockedKernel
+    fn new(alloc: Global, seat: Place, keeps: bool) -> LockedKernel
         requires { seat.me ≡ (desk_view [] 0, []) }
         ensures tied { result.table ≡ seat.table_id }
+        ensures keeps { result.keeps ≡ keeps }
         ensures empty { result.log ≡ [] }
         ensures opening { Shows result.kernel.tables opening }
     {
         LockedKernel {
             alloc,
             kernel: Kernel::new(alloc),
-            history: Vec::new(alloc),
+            entries: Entries::new(alloc, keeps),
+            events: 0,
             counts: Vec::new(alloc),
             seat,
         }
     }
 
-    /// The stored history, oldest entry first. It is a run to a state that the kernel shows. Constant time.
+    /// The history's entries, oldest first; none where they aren't kept. The history is a run to a state that the
+    /// kernel shows. Constant time.
     pub fn entries(&self) -> &[Entry]
-        ensures stored { result.now ≡ self.now.log }
+        ensures stored { result.now ≡ kept_of self.now.keeps self.now.log }
         ensures replays { Replays self.now.log self.now.kernel }
     {
-        self.history.as_slice()
+        self.entries.as_slice()
+    }
+
+    /// How many calls the history has, whether its entries are kept or not. Constant time.
+    pub fn events(&self) -> u64
+        ensures { result ≡ length self.now.log }
+    {
+        self.events
     }
 
     /// Makes one call of the pass's caller, whole, and puts it at the end of the history as it was answered.
     ///
-    /// All growths come first: the entry's place, and room for a copy of the reply, as much as
-    /// [`Kernel::reply_bound`] tells of the event. Where one is refused the answer is `NoRecord`, and
-    /// nothing has happened: the kernel, its history and the pass are as before. Waits for nobody.
+    /// The history's growths come first: the entry's place, and room for a copy of the reply, as much as
+    /// [`Kernel::reply_bound`] tells of the event. Where one is refused the answer is `NoRecord`, and nothing has
+    /// happened: the kernel, its history and the pass are as before. Where entries aren't kept the history has no
+    /// growth, and each call is recorded. No call is where the history has 2^63 of them. Waits for nobody.
     pub fn step_locked(&mut self, board: &Board, pass: &mut Pass, event: Event) -> Reply
         requires { (self.old.table ≡ board.now) × (pass.old.table ≡ board.now) }
         ensures tied { (self.new.table ≡ board.now) × (pass.new.table ≡ board.now) }
         ensures step { Stepped self.old.log self.new.log pass.old pass.new event result }
+        ensures same { self.new.keeps ≡ self.old.keeps }
         ensures unmade { result ≡ AnyReply.NoRecord → self.new ≡ self.old }
+        ensures recorded { self.old.keeps ≡ false → length self.old.log < 2 ^ 63 → result ≢ AnyReply.NoRecord }
+        ensures full { 2 ^ 63 ≤ length self.old.log → result ≡ AnyReply.NoRecord }
     {
-        let Ok(room) = Room::of(self.alloc, &event, self.kernel.reply_bound(&event)) else {
-            return Reply::NoRecord;
-        };
-        if self.history.reserve(1).is_err() {
+        if self.events >= MOST_CALLS {
             return Reply::NoRecord;
         }
-        let length = self.history.len() as u64;
+        let most = self.kernel.reply_bound(&event);
+        let Ok(room) = self.entries.make_room(self.alloc, &event, most) else {
+            return Reply::NoRecord;
+        };
         let reply = self.kernel.step(&event);
         let entry = Entry {
             caller: pass.caller,
             event,
-            reply: room.copy(&reply),
+            reply,
         };
-        board.publish(&mut self.seat, &mut pass.seat, length, &entry);
-        let Ok(()) = self.history.push(entry) else {
-            unreachable!()
-        };
+        board.publish(&mut self.seat, &mut pass.seat, self.events, &entry);
+        self.events += 1;
         pass.count += 1;
         count_one(&mut self.counts, pass.caller);
-        reply
+        self.entries.add(room, entry)
     }
 
     fn new_pass(&mut self, board: &Board) -> Result<Pass, AllocError>
@@ -159,7 +178,7 @@ impl LockedKernel {
 
 /// A kernel behind its lock, for many threads, and the board beside it.
 ///
-/// To contracts it is which board that is.
+/// To contracts it is which board that is, and whether the history's entries are kept.
 #[derive(Drop)]
 pub struct Shared {
     gate: Mutex<()>,
@@ -169,13 +188,13 @@ pub struct Shared {
 
 impl Model for Shared {
     ghost use Rattle.std.specs.Prelude.{◌≡◌};
-    ghost use Rattle.atomic_table.specs.Seated.{TableId};
+    ghost use Rattle.kernel_lock.specs.Replays.{SharedView};
 
-    ghost Value = { TableId };
+    ghost Value = { SharedView };
 
-    ghost view = { λ s. s.board };
+    ghost view = { λ s. record { table = s.board; keeps = s.berth.table.shared.key.value.keeps } };
 
-    ghost invariant = { λ s. s.berth.table.shared.key.value.table_id ≡ s.board };
+    ghost invariant = { λ s. s.berth.table.shared.key.value.table ≡ s.board };
 }
 
 /// The kernel, while this thread has it; dropping it gives the kernel back.
@@ -187,7 +206,7 @@ pub struct Held<'a> {
     berth: &'a Berth,
     gate: MutexGuard<'a, ()>,
     ghost hand_is: { (hand.table_id ≡ berth.now.table.shared.table_id) × (hand.me.1 ≡ (0, None) ∷ []) },
-    ghost tied: { kernel.table ≡ berth.now.table.shared.key.value.table_id },
+    ghost tied: { IsLike berth.now.table.shared.key.value kernel },
 }
 
 impl<'a> Drop for Held<'a> {
@@ -204,12 +223,19 @@ impl<'a> Drop for Held<'a> {
 }
 
 impl<'a> Held<'a> {
-    /// The stored history, as [`LockedKernel::entries`] gives it.
+    /// The history's entries, as [`LockedKernel::entries`] gives them: all of them where its [`Shared`] keeps them.
     pub fn entries(&self) -> &[Entry]
-        ensures stored { result.now ≡ self.now.kernel.log }
+        ensures stored { result.now ≡ kept_of self.now.kernel.keeps self.now.kernel.log }
         ensures replays { Replays self.now.kernel.log self.now.kernel.kernel }
     {
         self.kernel.entries()
+    }
+
+    /// How many calls the history has, as [`LockedKernel::events`] tells.
+    pub fn events(&self) -> u64
+        ensures { result ≡ length self.now.kernel.log }
+    {
+        self.kernel.events()
     }
 
     /// One call, as [`LockedKernel::step_locked`] makes it.
@@ -217,13 +243,17 @@ impl<'a> Held<'a> {
         requires { (self.old.kernel.table ≡ board.now) × (pass.old.table ≡ board.now) }
         ensures tied { (self.new.kernel.table ≡ board.now) × (pass.new.table ≡ board.now) }
         ensures step { Stepped self.old.kernel.log self.new.kernel.log pass.old pass.new event result }
+        ensures same { self.new.kernel.keeps ≡ self.old.kernel.keeps }
         ensures unmade { result ≡ AnyReply.NoRecord → self.new.kernel ≡ self.old.kernel }
+        ensures recorded { self.old.kernel.keeps ≡ false → length self.old.kernel.log < 2 ^ 63 → result ≢ AnyReply.NoRecord }
+        ensures full { 2 ^ 63 ≤ length self.old.kernel.log → result ≡ AnyReply.NoRecord }
     {
         self.kernel.step_locked(board, pass, event)
     }
 
     fn new_pass(&mut self, board: &Board) -> Result<Pass, AllocError>
         requires { self.old.kernel.table ≡ board.now }
+        ensures same { self.new.kernel ≡ self.old.kernel }
         ensures new { IfOk result (λ p. (p.table ≡ board.now) × (p.seen ≡ [])) }
     {
         self.kernel.new_pass(board)
@@ -231,6 +261,7 @@ impl<'a> Held<'a> {
 
     fn new_watch(&mut self, board: &Board) -> Watch
         requires { self.old.kernel.table ≡ board.now }
+        ensures same { self.new.kernel ≡ self.old.kernel }
         ensures new { (result.table ≡ board.now) × (result.log ≡ []) }
     {
         self.kernel.new_watch(board)
@@ -238,12 +269,27 @@ impl<'a> Held<'a> {
 }
 
 impl Shared {
-    /// A kernel in which nothing was made yet, with the empty history. An error means that memory for its
-    /// board or its place was refused.
-    pub fn new(alloc: Global) -> Result<Shared, AllocError> {
+    /// A kernel in which nothing was made yet, with the empty history, whose entries will be kept. An error means
+    /// that memory for its board or its place was refused.
+    pub fn new(alloc: Global) -> Result<Shared, AllocError>
+        ensures { IfOk result (λ s. s.keeps ≡ true) }
+    {
+        Shared::keeping(alloc, true)
+    }
+
+    /// The same, but that the history's entries won't be kept: [`Held::entries`] is empty, and a call takes no memory
+    /// for its entry. [`Held::events`], [`Board::events`] and [`Pass::tell`] work as for any kernel.
+    pub fn without_entries(alloc: Global) -> Result<Shared, AllocError>
+        ensures { IfOk result (λ s. s.keeps ≡ false) }
+    {
+        Shared::keeping(alloc, false)
+    }
+
+    fn keeping(alloc: Global, keeps: bool) -> Result<Shared, AllocError>
+        ensures { IfOk result (λ s. s.keeps ≡ keeps) }
+    {
         let (board, desk) = Board::open(alloc)?;
-        let key = Snapshot::of(&desk);
-        let berth = Berth::new(alloc, &key, LockedKernel::new(alloc, desk))?;
+        let berth = Berth::new(alloc, LockedKernel::new(alloc, desk, keeps))?;
         Ok(Shared {
             gate: Mutex::new(()),
             berth,
@@ -253,7 +299,8 @@ impl Shared {
 
     /// The kernel, as soon as no other thread has it. May wait; takes no memory.
     pub fn lock<R: Wait>(&self, rt: &R) -> Held<'_>
-        ensures { result.kernel.table ≡ self.entry.now }
+        ensures tied { result.kernel.table ≡ self.entry.now.table }
+        ensures keeps { result.kernel.keeps ≡ self.entry.now.keeps }
     {
         let gate = self.gate.lock(rt);
         for _ in rt.forever() {
@@ -272,7 +319,7 @@ impl Shared {
 
     /// The board on which the history's length stands.
     pub fn board(&self) -> &Board
-        ensures { result.now ≡ self.now }
+        ensures { result.now ≡ self.now.table }
     {
         &self.board
     }
@@ -280,14 +327,14 @@ impl Shared {
     /// A new caller, which has seen nothing; callers are numbered from 0. May wait. An error means that
     /// memory for its count was refused, and there is no new caller.
     pub fn pass<R: Wait>(&self, rt: &R) -> Result<Pass, AllocError>
-        ensures { IfOk result (λ p. (p.table ≡ self.now) × (p.seen ≡ [])) }
+        ensures { IfOk result (λ p. (p.table ≡ self.now.table) × (p.seen ≡ [])) }
     {
         self.lock(rt).new_pass(&self.board)
     }
 
     /// A new watch, which has seen nothing. May wait; takes no memory.
     pub fn watch<R: Wait>(&self, rt: &R) -> Watch
-        ensures { (result.table ≡ self.now) × (result.log ≡ []) }
+        ensures { (result.table ≡ self.now.table) × (result.log ≡ []) }
     {
         self.lock(rt).new_watch(&self.board)
     }
@@ -295,8 +342,8 @@ impl Shared {
     /// Makes one call under the lock, as [`LockedKernel::step_locked`] does. May wait.
     #[tactic(auto, using(crate::proofs::Lists::called_of))]
     pub fn call<R: Wait>(&self, rt: &R, pass: &mut Pass, event: Event) -> Reply
-        requires { pass.old.table ≡ self.now }
-        ensures tied { pass.new.table ≡ self.now }
+        requires { pass.old.table ≡ self.now.table }
+        ensures tied { pass.new.table ≡ self.now.table }
         ensures call { Called pass.old pass.new event result }
     {
         self.lock(rt).step_locked(&self.board, pass, event)

@@ -1,9 +1,9 @@
 //! Room for the copy of a reply, made before the step whose reply it is: as much as that reply may need
 //! by the kernel's tables. What the reply leaves of it is given back.
-ghost use Rattle.std.specs.Prelude.{◌≡◌, [], IfOk};
+ghost use Rattle.std.specs.Prelude.{◌≡◌, IfOk};
 ghost use Rattle.mach_types.specs.declared.calls.Reply.{Reply};
 ghost use Rattle.kernel_core.specs.Bounds.{as_bytes, as_names, as_members, IsWithin};
-ghost use Rattle.kernel_lock.specs.Room.{HasRoom};
+ghost use Rattle.kernel_lock.specs.Room.{HasRoom, IsUnused};
 
 use mach_types::{Bytes, Event, Name, NameList, NameTypes, Reply};
 use std::alloc::{AllocError, Global};
@@ -17,9 +17,20 @@ pub(crate) struct Room {
 }
 
 impl Room {
+    /// No room. Takes no memory.
+    pub(crate) fn none(alloc: Global) -> Room
+        ensures { IsUnused result }
+    {
+        Room {
+            bytes: Vec::new(alloc),
+            names: Vec::new(alloc),
+            members: Vec::new(alloc),
+        }
+    }
+
     /// Room for a copy of each reply to the event that has no more than so many bytes, names or members.
     pub(crate) fn of(alloc: Global, event: &Event, most: usize) -> Result<Room, AllocError>
-        ensures empty { IfOk result (λ room. (room.bytes.items ≡ []) × (room.names.items ≡ []) × (room.members.items ≡ [])) }
+        ensures unused { IfOk result IsUnused }
         ensures room { IfOk result (λ room. (reply : Reply) → IsWithin event.now most reply → HasRoom room reply) }
     {
         Ok(Room {
@@ -31,7 +42,7 @@ impl Room {
 
     /// A copy of the reply, which takes no more memory; room that it leaves is given back.
     pub(crate) fn copy(self, reply: &Reply) -> Reply
-        requires empty { (self.bytes.items ≡ []) × (self.names.items ≡ []) × (self.members.items ≡ []) }
+        requires unused { IsUnused self }
         requires room { HasRoom self reply.now }
         ensures { result ≡ reply.now }
     {

@@ -48,8 +48,8 @@ impl Promise<Ran> for GivesBack {
 type Handle = PromisedHandle<Ran, GivesBack>;
 
 fn run_one<R: Wait>(rt: &R, shared: &Shared, work: Work, pass: Pass) -> Ran
-    requires { pass.table ≡ shared.now }
-    ensures { result.pass.table ≡ shared.now }
+    requires { pass.table ≡ shared.now.table }
+    ensures { result.pass.table ≡ shared.now.table }
 {
     match work {
         Work::Ask => ask(rt, shared, pass),
@@ -58,8 +58,8 @@ fn run_one<R: Wait>(rt: &R, shared: &Shared, work: Work, pass: Pass) -> Ran
 }
 
 fn ask<R: Wait>(rt: &R, shared: &Shared, mut pass: Pass) -> Ran
-    requires { pass.table ≡ shared.now }
-    ensures { result.pass.table ≡ shared.now }
+    requires { pass.table ≡ shared.now.table }
+    ensures { result.pass.table ≡ shared.now.table }
 {
     let mut answered = true;
     for number in 0..CALLS {
@@ -71,8 +71,8 @@ fn ask<R: Wait>(rt: &R, shared: &Shared, mut pass: Pass) -> Ran
 }
 
 fn receive<R: Wait>(rt: &R, shared: &Shared, mut pass: Pass) -> Ran
-    requires { pass.table ≡ shared.now }
-    ensures { result.pass.table ≡ shared.now }
+    requires { pass.table ≡ shared.now.table }
+    ensures { result.pass.table ≡ shared.now.table }
 {
     let event = Event::Receive(TaskId::new(0), Name::new(1), 24, false);
     let mut answered = finds_none(rt, shared, &mut pass, event);
@@ -86,8 +86,8 @@ fn receive<R: Wait>(rt: &R, shared: &Shared, mut pass: Pass) -> Ran
 
 /// One try, and whether it is answered that there is no message.
 fn finds_none<R: Wait>(rt: &R, shared: &Shared, pass: &mut Pass, event: Event) -> bool
-    requires { pass.old.table ≡ shared.now }
-    ensures { pass.new.table ≡ shared.now }
+    requires { pass.old.table ≡ shared.now.table }
+    ensures { pass.new.table ≡ shared.now.table }
 {
     let reply = shared.call(rt, pass, event);
     matches!(reply, Reply::Empty(_))
@@ -95,7 +95,7 @@ fn finds_none<R: Wait>(rt: &R, shared: &Shared, pass: &mut Pass, event: Event) -
 
 /// Whether the count that the watch reads never goes down.
 fn rises(shared: &Shared, mut watch: Watch) -> bool
-    requires { watch.table ≡ shared.now }
+    requires { watch.table ≡ shared.now.table }
 {
     let mut last = 0;
     let mut rising = true;
@@ -113,8 +113,8 @@ fn start_all<'s, E, R: Threads + Wait + Sync + 's>(
     shared: &'s Shared,
     callers: Callers,
 ) -> Option<Vec<Handle>>
-    requires { All (λ p. p.table ≡ shared.now) callers.passes.items }
-    ensures { IfSome result (λ v. All (λ h. h.promise.0.value.table ≡ shared.now) v.items) }
+    requires { All (λ p. p.table ≡ shared.now.table) callers.passes.items }
+    ensures { IfSome result (λ v. All (λ h. h.promise.0.value.table ≡ shared.now.table) v.items) }
 {
     let Callers {
         alloc,
@@ -127,7 +127,7 @@ fn start_all<'s, E, R: Threads + Wait + Sync + 's>(
         let Ok(handle) = scope.spawn_with(
             promise,
             move || -> Ran
-                requires { pass.table ≡ shared.now }
+                requires { pass.table ≡ shared.now.table }
                 ensures { result.pass.table ≡ pass.table }
             { run_one(rt, shared, work, pass) },
         ) else {
@@ -142,9 +142,9 @@ fn start_all<'s, E, R: Threads + Wait + Sync + 's>(
 
 /// Waits for each, tells the watch what it has seen, and says whether all were answered.
 fn join_all<R: Threads>(rt: &R, shared: &Shared, handles: Vec<Handle>, watch: &mut Watch) -> bool
-    requires all { All (λ h. h.promise.0.value.table ≡ shared.now) handles.items }
-    requires watch { watch.old.table ≡ shared.now }
-    ensures { watch.new.table ≡ shared.now }
+    requires all { All (λ h. h.promise.0.value.table ≡ shared.now.table) handles.items }
+    requires watch { watch.old.table ≡ shared.now.table }
+    ensures { watch.new.table ≡ shared.now.table }
 {
     let mut answered = true;
     for handle in handles {
@@ -158,7 +158,7 @@ fn join_all<R: Threads>(rt: &R, shared: &Shared, handles: Vec<Handle>, watch: &m
 /// Runs each caller in a thread, while one more thread reads the count of events. Whether all calls were
 /// answered, and the count never went down; `None` where a thread was refused.
 fn run_all<R: Threads + Wait + Sync>(rt: &R, shared: &Shared, callers: Callers) -> Option<bool>
-    requires { All (λ p. p.table ≡ shared.now) callers.passes.items }
+    requires { All (λ p. p.table ≡ shared.now.table) callers.passes.items }
 {
     let reads = shared.watch(rt);
     let mut told = shared.watch(rt);
@@ -166,12 +166,12 @@ fn run_all<R: Threads + Wait + Sync>(rt: &R, shared: &Shared, callers: Callers) 
         thread::scope_env(),
         rt,
         move |scope| -> Option<bool>
-            requires all { All (λ p. p.table ≡ shared.now) callers.passes.items }
-            requires watches { (reads.table ≡ shared.now) × (told.table ≡ shared.now) }
+            requires all { All (λ p. p.table ≡ shared.now.table) callers.passes.items }
+            requires watches { (reads.table ≡ shared.now.table) × (told.table ≡ shared.now.table) }
         {
             let Ok(reader) = scope.spawn(
                 move || -> bool
-                    requires { reads.table ≡ shared.now }
+                    requires { reads.table ≡ shared.now.table }
                 { rises(shared, reads) },
             ) else {
                 return None;
@@ -185,7 +185,7 @@ fn run_all<R: Threads + Wait + Sync>(rt: &R, shared: &Shared, callers: Callers) 
 
 /// Four callers who do this.
 fn four<R: Wait>(rt: &R, alloc: Global, shared: &Shared, work: Work) -> Result<Callers, AllocError>
-    ensures { IfOk result (λ c. All (λ p. p.table ≡ shared.now) c.passes.items) }
+    ensures { IfOk result (λ c. All (λ p. p.table ≡ shared.now.table) c.passes.items) }
 {
     let mut passes = Vec::new(alloc);
     for _ in 0..4u32 {

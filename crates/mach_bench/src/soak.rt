@@ -123,8 +123,8 @@ fn make_tasks<R: AllocGlobal + Wait>(
     pass: &mut Pass,
     count: u32,
 ) -> Result<Vec<TaskId>, AllocError>
-    requires { pass.old.table ≡ shared.now }
-    ensures { pass.new.table ≡ shared.now }
+    requires { pass.old.table ≡ shared.now.table }
+    ensures { pass.new.table ≡ shared.now.table }
 {
     let mut tasks = Vec::new(rt.alloc());
     for _ in 0..count {
@@ -137,7 +137,7 @@ fn make_tasks<R: AllocGlobal + Wait>(
 
 /// Ends the tasks.
 fn end_tasks<R: Wait>(rt: &R, shared: &Shared, pass: &mut Pass, tasks: &[TaskId])
-    requires { pass.old.table ≡ shared.now }
+    requires { pass.old.table ≡ shared.now.table }
 {
     for task in tasks {
         shared.call(rt, pass, Event::TaskTerminate(*task));
@@ -174,7 +174,7 @@ fn block_of<R: Wait>(
     pair: Pair,
     draw: &mut Draw,
 ) -> Result<Block<Passing>, AllocError>
-    ensures { IfOk result (λ block. block.pass.table ≡ shared.now) }
+    ensures { IfOk result (λ block. block.pass.table ≡ shared.now.table) }
 {
     Ok(Block {
         pass: shared.pass(rt)?,

@@ -60,8 +60,8 @@ pub(crate) fn run_block<G: Gate + Drop, R: Wait>(
     shared: &Shared,
     block: Block<G>,
 ) -> Result<(Pass, Vec<Answer>), RunFault>
-    requires { block.pass.table ≡ shared.now }
-    ensures tied { IfOk result (λ ran. ran.0.table ≡ shared.now) }
+    requires { block.pass.table ≡ shared.now.table }
+    ensures tied { IfOk result (λ ran. ran.0.table ≡ shared.now.table) }
     ensures ran { IfOk result (λ ran. Ran block.pass block.calls.items ran.1.items ran.0) }
 {
     let Block {
@@ -86,8 +86,8 @@ pub fn make_call<G: Gate, R: Wait>(
     gate: &mut G,
     call: Call,
 ) -> Result<Answer, AllocError>
-    requires { pass.old.table ≡ shared.now }
-    ensures tied { pass.new.table ≡ shared.now }
+    requires { pass.old.table ≡ shared.now.table }
+    ensures tied { pass.new.table ≡ shared.now.table }
     ensures answered { IfOk result (λ answer. Answered call pass.old answer pass.new) }
 {
     match call {

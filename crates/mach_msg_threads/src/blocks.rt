@@ -46,16 +46,16 @@ pub fn run_blocks<G: Gate + Send + Drop, R: Threads + Wait + Sync>(
     shared: &Shared,
     blocks: Vec<Block<G>>,
 ) -> Result<Vec<(Pass, Vec<Answer>)>, RunFault>
-    requires { All (λ block. block.pass.table ≡ shared.now) blocks.items }
-    ensures tied { IfOk result (λ all. All (λ ran. ran.0.table ≡ shared.now) all.items) }
+    requires { All (λ block. block.pass.table ≡ shared.now.table) blocks.items }
+    ensures tied { IfOk result (λ all. All (λ ran. ran.0.table ≡ shared.now.table) all.items) }
     ensures ran { IfOk result (λ all. AllZip (λ block ran. Ran block.pass block.calls.items ran.1.items ran.0) blocks.items all.items) }
 {
     thread::scope(
         thread::scope_env(),
         rt,
         move |scope| -> Result<Vec<(Pass, Vec<Answer>)>, RunFault>
-            requires { All (λ block. block.pass.table ≡ shared.now) blocks.items }
-            ensures tied { IfOk result (λ all. All (λ ran. ran.0.table ≡ shared.entry.now) all.items) }
+            requires { All (λ block. block.pass.table ≡ shared.now.table) blocks.items }
+            ensures tied { IfOk result (λ all. All (λ ran. ran.0.table ≡ shared.entry.now.table) all.items) }
             ensures ran { IfOk result (λ all. AllZip (λ block ran. Ran block.pass block.calls.items ran.1.items ran.0) blocks.items all.items) }
         {
             let handles = start_all(rt, alloc, scope, shared, blocks)?;
@@ -72,7 +72,7 @@ fn start_all<'s, E, G: Gate + Send + Drop + 's, R: Threads + Wait + Sync + 's>(
     shared: &'s Shared,
     blocks: Vec<Block<G>>,
 ) -> Result<Vec<Handle>, RunFault>
-    requires { All (λ block. block.pass.table ≡ shared.now) blocks.items }
+    requires { All (λ block. block.pass.table ≡ shared.now.table) blocks.items }
     ensures { IfOk result (λ all. AllZip (λ block h. (h.promise.pass.value ≡ block.pass) × (h.promise.calls.value ≡ block.calls)) blocks.items all.items) }
 {
     let mut handles = Vec::with_capacity(alloc, blocks.len())?;
@@ -84,7 +84,7 @@ fn start_all<'s, E, G: Gate + Send + Drop + 's, R: Threads + Wait + Sync + 's>(
         let Ok(handle) = scope.spawn_with(
             promise,
             move || -> Result<(Pass, Vec<Answer>), RunFault>
-                requires { block.pass.table ≡ shared.now }
+                requires { block.pass.table ≡ shared.now.table }
                 ensures { IfOk result (λ ran. (ran.0.table ≡ block.pass.table) × Ran block.pass block.calls.items ran.1.items ran.0) }
             { run_block(rt, alloc, shared, block) },
         ) else {

@@ -55,8 +55,8 @@ pub fn mach_msg<G: Gate, R: Wait>(
     buf: &mut [u8],
     name: Name,
 ) -> Outcome
-    requires { pass.old.table ≡ shared.now }
-    ensures tied { pass.new.table ≡ shared.now }
+    requires { pass.old.table ≡ shared.now.table }
+    ensures tied { pass.new.table ≡ shared.now.table }
     ensures call { MessageCall task options bytes.now name pass.old pass.new buf.old buf.new result.code result.len }
 {
     let Some(asked) = read_options(options) else {

@@ -69,7 +69,7 @@ const RECEIVED: [u8; 24] = [
 
 /// A task with a receive right under 1, whose caller this is.
 fn one_port<R: Wait>(rt: &R, shared: &Shared) -> Result<Pass, Fail>
-    ensures { IfOk result (λ p. p.table ≡ shared.now) }
+    ensures { IfOk result (λ p. p.table ≡ shared.now.table) }
 {
     let mut pass = shared.pass(rt)?;
     shared.call(rt, &mut pass, Event::TaskCreate);
@@ -117,8 +117,8 @@ struct Answer {
 
 /// A call of the task with a buffer that is all 0xee before.
 fn calls<R: Wait>(rt: &R, alloc: Global, shared: &Shared, pass: &mut Pass, asked: Asked) -> Answer
-    requires { pass.old.table ≡ shared.now }
-    ensures { pass.new.table ≡ shared.now }
+    requires { pass.old.table ≡ shared.now.table }
+    ensures { pass.new.table ≡ shared.now.table }
 {
     let mut gate = Times::new(asked.again);
     let mut room = [0xee; 24];
@@ -140,8 +140,8 @@ fn calls<R: Wait>(rt: &R, alloc: Global, shared: &Shared, pass: &mut Pass, asked
 
 /// Five messages: as many as a new port's queue takes.
 fn fills<R: Wait>(rt: &R, alloc: Global, shared: &Shared, pass: &mut Pass)
-    requires { pass.old.table ≡ shared.now }
-    ensures { pass.new.table ≡ shared.now }
+    requires { pass.old.table ≡ shared.now.table }
+    ensures { pass.new.table ≡ shared.now.table }
 {
     calls(rt, alloc, shared, pass, sends(SEND, 0));
     calls(rt, alloc, shared, pass, sends(SEND, 0));

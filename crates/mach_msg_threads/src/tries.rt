@@ -95,8 +95,8 @@ pub(crate) fn attempt<G: Gate, R: Wait>(
     gate: &mut G,
     event: Event,
 ) -> Reply
-    requires { pass.old.table ≡ shared.now }
-    ensures tied { pass.new.table ≡ shared.now }
+    requires { pass.old.table ≡ shared.now.table }
+    ensures tied { pass.new.table ≡ shared.now.table }
     ensures call { Called pass.old pass.new event result }
     ensures bytes { reply_bytes result ≤ most_received event }
 {
@@ -115,8 +115,8 @@ pub(crate) fn send<G: Gate, R: Wait>(
     sending: Sending,
     bytes: &[u8],
 ) -> u32
-    requires { pass.old.table ≡ shared.now }
-    ensures tied { pass.new.table ≡ shared.now }
+    requires { pass.old.table ≡ shared.now.table }
+    ensures tied { pass.new.table ≡ shared.now.table }
     ensures sends { SendPart sending.task sending.wanted sending.once bytes.now pass.old result pass.new }
 {
     if !sending.wanted {
@@ -146,8 +146,8 @@ pub(crate) fn receive<G: Gate, R: Wait>(
     gate: &mut G,
     receiving: &Receiving,
 ) -> Reply
-    requires { pass.old.table ≡ shared.now }
-    ensures tied { pass.new.table ≡ shared.now }
+    requires { pass.old.table ≡ shared.now.table }
+    ensures tied { pass.new.table ≡ shared.now.table }
     ensures receives { Receives receiving.now.task receiving.now.name receiving.now.room receiving.now.large receiving.now.once pass.old result pass.new }
     ensures bytes { reply_bytes result ≤ min receiving.now.room most_bytes }
 {
@@ -172,8 +172,8 @@ fn receive_again<G: Gate, R: Wait>(
     receiving: &Receiving,
     waited: &Waited,
 ) -> Reply
-    requires { pass.old.table ≡ shared.now }
-    ensures tied { pass.new.table ≡ shared.now }
+    requires { pass.old.table ≡ shared.now.table }
+    ensures tied { pass.new.table ≡ shared.now.table }
     ensures tries { TriesAgain receiving.now.task waited.now receiving.now.room receiving.now.large pass.old result pass.new }
     ensures bytes { reply_bytes result ≤ min receiving.now.room most_bytes }
 {

@@ -2,6 +2,7 @@
 ghost use Rattle.std.specs.Prelude.{◌≡◌, ◌≢◌, ◌≤◌, ℕ, List, Some, Ok, IfOk, IsErr, OnOk};
 ghost use Rattle.std.specs.Io.KnownBytes.{Appends, Keeps};
 ghost use Rattle.mach_run_base.specs.Jobs.{IsBad, IsDone, IsMade, IsMadeOf, IsHistory, history_shown, head_shown, entry_shown};
+ghost use Rattle.mach_run_base.specs.Output.{IsAnswered};
 ghost use Rattle.mach_run_base.specs.Scripts.{IsFirstBadLine};
 
 use crate::checking::check_file;
@@ -113,8 +114,7 @@ fn run_file<'a, S: Threads + Wait + Sync, R: Read, W: Write>(
         → IsErr result × Keeps (W.contents out.old) (W.contents out.new) }
 {
     let script = read_script(alloc, name, file)?;
-    let shared = Shared::new(alloc)?;
-    make(rt, alloc, &shared, shown, script, out)?;
+    make(rt, alloc, shown, script, out)?;
     out.flush()?;
     Ok(0)
 }
@@ -124,7 +124,6 @@ fn run_file<'a, S: Threads + Wait + Sync, R: Read, W: Write>(
 fn make<S: Threads + Wait + Sync, W: Write>(
     rt: &S,
     alloc: Global,
-    shared: &Shared,
     shown: Shown,
     script: Script,
     out: &mut W,
@@ -132,23 +131,36 @@ fn make<S: Threads + Wait + Sync, W: Write>(
     ensures { OnOk result ((text : List ℕ) × IsMade shown script text × Appends (W.contents out.old) (W.contents out.new) text) }
 {
     match shown {
-        Shown::Replies => run_script(rt, alloc, shared, script, out),
-        Shown::History { warn } => trace_script(rt, alloc, shared, script, warn, out),
+        Shown::Replies => answer_script(rt, alloc, script, out),
+        Shown::History { warn } => trace_script(rt, alloc, script, warn, out),
     }
+}
+
+/// Runs the script, and writes how its calls were answered. No history's entries are kept.
+fn answer_script<S: Threads + Wait + Sync, W: Write>(
+    rt: &S,
+    alloc: Global,
+    script: Script,
+    out: &mut W,
+) -> Result<(), Fault<'static>>
+    ensures { OnOk result ((text : List ℕ) × IsAnswered script text × Appends (W.contents out.old) (W.contents out.new) text) }
+{
+    let shared = Shared::without_entries(alloc)?;
+    run_script(rt, alloc, &shared, script, out)
 }
 
 /// Runs the script without a word, and then writes the history.
 fn trace_script<S: Threads + Wait + Sync, W: Write>(
     rt: &S,
     alloc: Global,
-    shared: &Shared,
     script: Script,
     warn: bool,
     out: &mut W,
 ) -> Result<(), Fault<'static>>
     ensures { OnOk result ((text : List ℕ) × IsHistory warn text × Appends (W.contents out.old) (W.contents out.new) text) }
 {
-    run_script(rt, alloc, shared, script, &mut io::sink())?;
+    let shared = Shared::new(alloc)?;
+    run_script(rt, alloc, &shared, script, &mut io::sink())?;
     write_history(shared.lock(rt).entries(), warn, out)?;
     Ok(())
 }

@@ -54,12 +54,12 @@ pub(crate) fn run_script<R: Threads + Wait + Sync, W: Write>(
 
 /// The kernel, where nothing was made on it yet; on one that is new, at once.
 fn untouched<'a, R: Wait>(rt: &R, shared: &'a Shared) -> Held<'a>
-    ensures tied { result.kernel.table ≡ shared.entry.now }
+    ensures tied { result.kernel.table ≡ shared.entry.now.table }
     ensures empty { result.kernel.log ≡ [] }
 {
     for _ in rt.forever() {
         let held = shared.lock(rt);
-        if held.entries().is_empty() {
+        if held.events() == 0 {
             return held;
         }
         drop(held);
@@ -77,9 +77,9 @@ fn run_opening<G: Gate, W: Write>(
     calls: Vec<Event>,
     out: &mut W,
 ) -> io::Result<()>
-    requires tied { (held.kernel.table ≡ shared.now) × (pass.old.table ≡ shared.now) }
+    requires tied { (held.kernel.table ≡ shared.now.table) × (pass.old.table ≡ shared.now.table) }
     requires empty { (held.kernel.log ≡ []) × (pass.old.seen ≡ []) }
-    ensures tied { pass.new.table ≡ shared.now }
+    ensures tied { pass.new.table ≡ shared.now.table }
     ensures answered { OnOk result ((text : List ℕ) × AreReplies calls.items text pass.new × Appends (W.contents out.old) (W.contents out.new) text) }
 {
     for event in calls {
@@ -97,8 +97,8 @@ fn run_event<G: Gate, W: Write>(
     event: Event,
     out: &mut W,
 ) -> io::Result<()>
-    requires { (held.old.kernel.table ≡ shared.now) × (pass.old.table ≡ shared.now) }
-    ensures tied { (held.new.kernel.table ≡ shared.now) × (pass.new.table ≡ shared.now) }
+    requires { (held.old.kernel.table ≡ shared.now.table) × (pass.old.table ≡ shared.now.table) }
+    ensures tied { (held.new.kernel.table ≡ shared.now.table) × (pass.new.table ≡ shared.now.table) }
     ensures made { OnOk result ((reply : AnyReply) × Stepped held.old.kernel.log held.new.kernel.log pass.old pass.new event reply
         × Appends (W.contents out.old) (W.contents out.new) (reply_line reply)) }
 {
@@ -117,7 +117,7 @@ fn run_calls<G: Gate, R: Wait, W: Write>(
     calls: Vec<Call>,
     out: &mut W,
 ) -> Result<(), Fault<'static>>
-    requires { pass.old.table ≡ shared.now }
+    requires { pass.old.table ≡ shared.now.table }
     ensures { OnOk result ((text : List ℕ) × AreAnswers pass.old calls.items text pass.new × Appends (W.contents out.old) (W.contents out.new) text) }
 {
     for call in calls {
@@ -136,8 +136,8 @@ fn run_call<G: Gate, R: Wait, W: Write>(
     call: Call,
     out: &mut W,
 ) -> Result<(), Fault<'static>>
-    requires { pass.old.table ≡ shared.now }
-    ensures tied { pass.new.table ≡ shared.now }
+    requires { pass.old.table ≡ shared.now.table }
+    ensures tied { pass.new.table ≡ shared.now.table }
     ensures made { OnOk result ((answer : AnyAnswer) × Answered call pass.old answer pass.new × Appends (W.contents out.old) (W.contents out.new) (answer_line answer)) }
 {
     let answer = make_call(rt, alloc, shared, pass, gate, call)?;
@@ -180,7 +180,7 @@ fn prepare<'a, R: Wait>(
     hall: &'a Hall,
     block: ThreadCalls,
 ) -> Result<Block<BlockGate<'a, R>>, AllocError>
-    ensures { IfOk result (λ ready. ready.pass.table ≡ shared.now) }
+    ensures { IfOk result (λ ready. ready.pass.table ≡ shared.now.table) }
 {
     let ThreadCalls { number: _, calls } = block;
     let pass = shared.pass(rt)?;

@@ -2,4 +2,4 @@ use Rattle.std.proofs.Common.{◌≡◌, All}
 use Rattle.kernel_lock.proofs.thread_tests.four.Given as goal
 
 abbrev pub invariant-loop : goal.invariant-loop
-invariant-loop g l = All (λ p. p.table ≡ l.fn.shared) l.passes.items
+invariant-loop g l = All (λ p. p.table ≡ l.fn.shared.table) l.passes.items

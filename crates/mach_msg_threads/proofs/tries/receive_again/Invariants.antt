@@ -5,4 +5,4 @@ use Rattle.mach_msg_threads.proofs.tries.receive_again.Given as goal
 
 abbrev pub invariant-loop : goal.invariant-loop
 invariant-loop g l =
-    (l.pass.table ≡ l.fn.shared) × Retries (Event.ReceiveAgain l.fn.receiving.task l.fn.waited l.fn.receiving.room l.fn.receiving.large) IsEmpty l.fn.pass l.pass
+    (l.pass.table ≡ l.fn.shared.table) × Retries (Event.ReceiveAgain l.fn.receiving.task l.fn.waited l.fn.receiving.room l.fn.receiving.large) IsEmpty l.fn.pass l.pass

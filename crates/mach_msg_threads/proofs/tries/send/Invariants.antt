@@ -5,4 +5,4 @@ use Rattle.mach_msg_threads.proofs.tries.send.Given as goal
 
 abbrev pub invariant-loop : goal.invariant-loop
 invariant-loop g l =
-    (l.pass.table ≡ l.fn.shared) × Retries (Event.Send l.fn.sending.task l.fn.bytes) IsFull l.fn.pass l.pass × (l.fn.sending.once ≡ true → l.pass ≡ l.fn.pass)
+    (l.pass.table ≡ l.fn.shared.table) × Retries (Event.Send l.fn.sending.task l.fn.bytes) IsFull l.fn.pass l.pass × (l.fn.sending.once ≡ true → l.pass ≡ l.fn.pass)

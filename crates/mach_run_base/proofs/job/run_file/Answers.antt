@@ -4,9 +4,6 @@ use Rattle.mach_run_base.specs.Scripts.{said_script}
 use Rattle.mach_run_base.proofs.ScriptLemmas.{read-whole}
 use Rattle.mach_run_base.proofs.job.run_file.Goals as goal
 
-pub returns-in_err-shared-clause-bad : goal.returns-in_err-shared-clause-bad
-returns-in_err-shared-clause-bad g c = λ bytes n known bad. absurd (read-whole bytes n _ (said_script c.in_ok-script.script) known c.in_ok-script.ensures.ok bad)
-
 pub returns-in_err-make-clause-bad : goal.returns-in_err-make-clause-bad
 returns-in_err-make-clause-bad g c = λ bytes n known bad. absurd (read-whole bytes n _ (said_script c.in_ok-script.script) known c.in_ok-script.ensures.ok bad)
 

@@ -6,5 +6,5 @@ use Rattle.mach_run_base.proofs.running.run_opening.Given as goal
 -- what is written so far is the replies to the calls so far, and the pass has seen the whole history
 abbrev pub invariant-loop-event : goal.invariant-loop-event
 invariant-loop-event g l =
-    (l.held.kernel.table ≡ l.fn.shared) × (l.pass.table ≡ l.fn.shared) × (l.pass.seen ≡ l.held.kernel.log)
+    (l.held.kernel.table ≡ l.fn.shared.table) × (l.pass.table ≡ l.fn.shared.table) × (l.pass.seen ≡ l.held.kernel.log)
     × ((text : List ℕ) × AreReplies l.yielded text l.pass × Appends (g.W.Write.contents l.fn.out) (g.W.Write.contents l.out) text)
