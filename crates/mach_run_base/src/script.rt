@@ -1,5 +1,6 @@
 //! Scripts, by who makes their calls.
-ghost use Rattle.std.specs.Prelude.{◌≡◌, [], ◌∷◌, ◌++◌, true, false, Err, OnOk};
+ghost use Rattle.std.specs.Prelude.{◌≡◌, ◌+◌, ◌*◌, ◌<◌, ◌≤◌, max, [], ◌∷◌, ◌++◌, length, true, false, Err, OnOk};
+ghost use Rattle.std.specs.Vec.{vec_capacity};
 ghost use Rattle.tracer_base.specs.declared.blocks.ScriptLine.{ScriptLine as AnyLine};
 ghost use Rattle.tracer_base.specs.Blocks.{said_line, said_text};
 ghost use Rattle.mach_run_base.specs.Scripts.{IsScript, has_number, said_call, said_script};
@@ -8,6 +9,9 @@ use mach_msg_threads::Call;
 use mach_types::Event;
 use std::alloc::Global;
 use tracer_base::{MessageCall, ScriptLine, TextFault, read_script_line};
+
+/// How many places a full list of calls gets at least, beside a quarter of its length.
+const LEAST_GROWTH: usize = 16;
 
 /// A block of a script: its number, and its calls in their order.
 #[derive(Debug, Drop)]
@@ -79,6 +83,7 @@ impl Script {
         ensures memory { result ≡ Err TextFault.Bad → ⊥ }
     {
         if self.main.is_empty() && self.blocks.is_empty() {
+            make_place(&mut self.opening)?;
             self.opening.push(event)?;
             return Ok(());
         }
@@ -92,9 +97,11 @@ impl Script {
         ensures memory { result ≡ Err TextFault.Bad → ⊥ }
     {
         let Some(mut block) = self.blocks.pop() else {
+            make_place(&mut self.main)?;
             self.main.push(call)?;
             return Ok(());
         };
+        make_place(&mut block.calls)?;
         block.calls.push(call)?;
         self.blocks.push(block)?;
         Ok(())
@@ -113,6 +120,24 @@ impl Script {
         let calls = Vec::new(alloc);
         self.blocks.push(ThreadCalls { number, calls })?;
         Ok(())
+    }
+}
+
+/// Has the list grow by a quarter where it is full: a `push` would double it, and up to half of a long script's memory
+/// would lie unused.
+fn make_place<T>(list: &mut Vec<T>) -> Result<(), TextFault>
+    ensures same { list.new.items ≡ list.old.items }
+    ensures place { OnOk result (length list.new.items < vec_capacity list.new) }
+    ensures few { 4 * vec_capacity list.new ≤ max (4 * vec_capacity list.old) (5 * length list.old.items + 64) }
+    ensures memory { result ≡ Err TextFault.Bad → ⊥ }
+{
+    let length = list.len();
+    if length < list.capacity() {
+        return Ok(());
+    }
+    match list.reserve_exact(length / 4 + LEAST_GROWTH) {
+        Ok(()) => Ok(()),
+        Err(_) => Err(TextFault::OutOfMemory),
     }
 }
 
