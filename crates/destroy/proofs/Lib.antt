@@ -9,8 +9,6 @@ pub mod StartRequests
 pub mod StartCan
 pub mod StartTurn
 pub mod StartHolders
-pub mod StartClean
-pub mod StartBegin
 pub mod StartEnd
 pub mod StartPays
 pub mod EndReached

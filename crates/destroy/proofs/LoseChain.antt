@@ -149,7 +149,7 @@ front_or_behind (y ∷ xs) ys (suc k) x is = go (front_or_behind xs ys k x is)
     go (inr (j, at, h)) = inr (j, (omega (arith, at)), h)
 
 -- Entries stay where an entry comes to the end of a log.
-in_front : {A : Type 0} (xs ys : List A) (k : ℕ) (x : A) → slice_get xs k ≡ Some x → slice_get (xs ++ ys) k ≡ Some x
+pub in_front : {A : Type 0} (xs ys : List A) (k : ℕ) (x : A) → slice_get xs k ≡ Some x → slice_get (xs ++ ys) k ≡ Some x
 in_front [] ys k x is = absurd (cc)
 in_front (z ∷ xs) ys zero x is = is
 in_front (z ∷ xs) ys (suc k) x is = in_front xs ys k x is

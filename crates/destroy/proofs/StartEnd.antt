@@ -1,79 +1,84 @@
 -- When all rights of requests whose names went have paid, the chain of turns begins.
-use Rattle.std.proofs.Common.{◌≡◌, ℕ, ◌<◌, List, [], Option, Some, None, refl, sym, ap, subst, ◌∙◌, arith, true, false, Bool, length, get_or}
-use Rattle.std.specs.Prelude.{if◌then◌else◌, ◌&&◌, Contains, is_some}
-use Rattle.mach_types.specs.Tokens.{send, Request, no_senders, port_destroyed, dead_name, Place, in_task, in_message, in_request, Token, is_of}
+use Rattle.std.proofs.Common.{◌≡◌, ℕ, ◌+◌, ◌<◌, ◌≤◌, ◌++◌, List, [], refl, sym, ap, subst, ◌∙◌, arith, true, false, Bool, ◌⊎◌, inl, inr, length, get_or}
+use Rattle.std.specs.Prelude.{if◌then◌else◌, ◌&&◌, All}
+use Rattle.mach_types.specs.Tokens.{Kind, receive, send, send_once, Request, no_senders, port_destroyed, dead_name, Place, in_task, in_message, in_request, Token, weigh, count, is_of}
 use Rattle.mach_model.specs.State.{State}
 use Rattle.mach_model.specs.Death.{same_place, IsOrphan, Dies, orphan, carried_at}
 use Rattle.mach_model.specs.Carried.{lying_among}
-use Rattle.mach_model.specs.Midway.{MidLawful}
 use Rattle.mach_model.specs.Notices.{Owed}
-use Rattle.mach_model.specs.Turns.{Ending, IsOnGone, IsReached, begins}
-use Rattle.mach_model.proofs.Settling.{is_at, own_test, lives}
-use Rattle.mach_model.proofs.TurnsMade.{start}
-use Rattle.mach_model.proofs.Weigh.{count_some, count_le, left_of, lying_le_of}
+use Rattle.mach_model.specs.Settles.{tokens_of}
+use Rattle.mach_model.specs.Turns.{Ending, lives_after, is_judged, PaidForName, IsOnGone, IsReached, begins}
+use Rattle.mach_model.specs.Unused.{onces_queued}
+use Rattle.mach_model.proofs.Settling.{is_at, own_test}
+use Rattle.mach_model.proofs.Weigh.{count_some, lying_le_of}
+use Rattle.port.specs.declared.Holder.TheVariants as holder
+use Rattle.port.specs.Holding.{NoneHeldBy, IsHeldBy}
+use Rattle.rights.specs.Counts.{no_rights}
+use Rattle.rights.specs.Ledger.{counts_of}
 use Rattle.copyin_base.specs.Acts.{ShowsMid}
-use Rattle.copyin_base.specs.Changes.{IsSenderless}
 use Rattle.copyin_base.specs.Kept.{Kept}
-use Rattle.copyin_base.specs.Requests.{notify_of, rights_kept, rights_went}
-use Rattle.copyin_base.specs.Shows.{Shows}
-use Rattle.copyin_base.specs.Worlds.{WorldView, port_at}
-use Rattle.notifications.specs.SoFar.{AreEntries}
-use Rattle.number_map.specs.Maps.{MapView}
-use Rattle.std.specs.FinMap as map
-use Rattle.request_table.specs.declared.Request.{Request as NameRequest}
-use Rattle.destroy.specs.Between.{Between, HadSenders}
+use Rattle.copyin_base.specs.Posted.{with_posted}
+use Rattle.copyin_base.specs.Shows.{CountsAgree, Shows}
+use Rattle.copyin_base.specs.Worlds.{WorldView}
+use Rattle.copyin_base.proofs.Requesting.{requests_stay}
+use Rattle.notifications.specs.SoFar.{AgreesOf, AreEntries}
+use Rattle.notifications.proofs.Owing.{posted_is}
+use Rattle.destroy.specs.Between.{Between, HadSenders, HasLost}
 use Rattle.destroy.specs.Stages.{IsEmptied}
 use Rattle.destroy.proofs.PaidCounts.{kept_live}
-use Rattle.destroy.proofs.StartHolders.{receives}
-use Rattle.destroy.proofs.StartPosted.{posted_rest}
-use Rattle.destroy.proofs.StartTurn.{Starting, live_yet}
+use Rattle.destroy.proofs.StartHolders.{TellsLost, receives, start_holders}
+use Rattle.destroy.proofs.StartPosted.{begun, owed_begun, went_begun, posted_ledger, begun_so_far}
 
-no_notify : (o : Option ℕ) → is_some o ≡ false → o ≡ None
-no_notify None e = refl
-no_notify (Some n) e = absurd (cc)
+-- Some of the rights have paid: the tables show the state midway without these rights, where their notices are owed besides.
+pub record Paying (now : ℕ) (tables : WorldView) (mid : State) (owed : Owed) (w v : WorldView) (left : List Token) (paid : Owed) : Type 0 where
+  pub went : All (PaidForName mid) paid
+  pub rights : (h : Token → ℕ) → weigh h mid.ledger ≡ weigh h left + weigh h (tokens_of paid)
+  pub shows : ShowsMid now tables v (record mid { ledger = left }) (owed ++ paid)
+  pub spare : v.ports.spare + length paid ≡ w.ports.spare
+  pub undoomed : NoneHeldBy v.ports holder.Doomed
+  pub tells : TellsLost v
 
-module _ (now : ℕ) (tables : WorldView) (old mid : State) (owed : Owed) (shown : Shows tables old) (w v : WorldView) (shows : ShowsMid now tables w mid owed) (s : Starting now mid owed w v) (none : v.requests.names.went ≡ []) where
-  abbrev l : MidLawful mid owed
-  l = shows.lawful
-
+module _ (now : ℕ) (tables : WorldView) (old mid : State) (owed : Owed) (shown : Shows tables old) (w v : WorldView) (start : ShowsMid now tables w mid owed)
+    (left : List Token) (paid : Owed) (s : Paying now tables mid owed w v left paid) (none : v.requests.names.went ≡ []) where
   abbrev pub e : Ending
-  e = start s.begun s.left
+  e = begun now mid owed start.lawful left paid
+
+  abbrev lives : ℕ → Bool
+  lives = lives_after mid e
+
+  abbrev here : State
+  here = with_posted now (record mid { ledger = left }) (owed ++ paid)
+
+  alive_same : (p : ℕ) → here.live_port p ≡ lives p
+  alive_same p = grind (arith, posted_is)
+
+  -- ---- the tables agree
+
+  -- no right is for a port that isn't there
+  none_for : (p : ℕ) → lives p ≡ false → (kind : Kind) → count (is_of kind p) here.ledger ≡ 0
+  none_for p dead = go (let entered = (s.shows.agrees.counts p).entered ∙ alive_same p ∙ dead in grind (arith, entered)) (s.shows.agrees.counts p)
+    where
+      go : counts_of v.ledger p ≡ no_rights → CountsAgree v.ledger here.live_port here.ledger (onces_queued here) p → (kind : Kind) → count (is_of kind p) here.ledger ≡ 0
+      go counted c receive = cc
+      go counted c send = cc
+      go counted c send_once = grind (arith, counted)
+
+  agrees : AgreesOf lives v here
+  agrees = grind (arith, alive_same, requests_stay, kept_live, none_for)
 
   -- ---- no right is left that such a request kept
 
-  module _ (k : ℕ) (d : Token) (below : k < length s.left) where
+  module _ (k : ℕ) (d : Token) (below : k < length left) where
     abbrev right : Token
-    right = get_or s.left k d
-
-    some_left : 0 < lying_among s.left right.kind right.port right.place
-    some_left = count_some (is_at right.kind right.port right.place) s.left k d below (own_test right)
-
-    lived : mid.live_port right.port ≡ true
-    lived = lives l.ports right.kind right.port
-        (let a = some_left in
-        let b = count_le (is_at right.kind right.port right.place) (is_of right.kind right.port) (λ y t. left_of (is_of right.kind right.port y) (same_place right.place y.place) t) s.left in
-        let c = s.rights (λ y. if is_of right.kind right.port y then 1 else 0) in
-        omega (arith, a, b, c))
-
-    alive : live_yet mid right.port ≡ true
-    alive = rw lived refl
-
-    none_at : (r : Request) → mid.stands r ≡ false → lying_among s.state.ledger right.kind right.port (in_request r) ≡ 0
-    none_at r ended =
-        let stands : s.state.stands r ≡ false = s.so_far.stands r ∙ rw ended refl in
-        let o : notify_of v.requests r ≡ None = no_notify (notify_of v.requests r) (sym (s.agrees.of_requests.standing r) ∙ stands) in
-        let a = s.agrees.of_requests.kept r right.kind right.port in
-        let b : rights_kept (live_yet mid) (notify_of v.requests r) right.kind right.port ≡ 0 = ap (λ o. rights_kept (live_yet mid) o right.kind right.port) o in
-        let c : rights_went (live_yet mid) v.requests.names.went r right.kind right.port ≡ 0 = ap (λ (xs : List NameRequest). rights_went (live_yet mid) xs r right.kind right.port) none in
-        let f = kept_live (live_yet mid) right.kind right.port (in_request r) s.state.ledger (λ dead. absurd (let g = alive in cc)) in
-        omega (arith, a, b, c, f)
+    right = get_or left k d
 
     not_at : (r : Request) → right.place ≡ in_request r → mid.stands r ≡ false → ⊥
     not_at r at ended =
-        let a = none_at r ended in
-        let b = s.so_far.ledger (λ y. if is_of right.kind right.port y && same_place (in_request r) y.place then 1 else 0) in
-        let c : 0 < lying_among s.left right.kind right.port (in_request r) = subst (λ (place : Place). 0 < lying_among s.left right.kind right.port place) at some_left in
-        omega (arith, a, b, c)
+        let stands : here.stands r ≡ false = ap (λ (x : State). x.stands r) (posted_is now (record mid { ledger = left }) (owed ++ paid)) ∙ ended in
+        let f = posted_ledger now (record mid { ledger = left }) (owed ++ paid) (λ y. if is_of right.kind right.port y && same_place (in_request r) y.place then 1 else 0) in
+        let g : 0 < lying_among left right.kind right.port (in_request r) =
+        subst (λ (place : Place). 0 < lying_among left right.kind right.port place) at (count_some (is_at right.kind right.port right.place) left k d below (own_test right)) in
+        grind (arith, stands, s.shows.agrees.of_requests.standing r, s.shows.agrees.of_requests.kept r right.kind right.port, f, g, none)
 
     not_gone : (place : Place) → right.place ≡ place → IsOnGone mid place → ⊥
     not_gone (in_task task) at h = h
@@ -84,29 +89,11 @@ module _ (now : ℕ) (tables : WorldView) (old mid : State) (owed : Owed) (shown
 
   reached : IsReached old mid owed e
   reached = begins e record {
-    owes = s.owes;
-    went = s.went;
-    rights = s.rights;
-    all_went = λ k d below. not_gone k d below (get_or s.left k d).place refl;
+    owes = owed_begun owed paid;
+    went = subst (λ (xs : Owed). All (PaidForName mid) xs) (sym (went_begun owed paid)) s.went;
+    rights = λ h. let a = s.rights h in let b = ap (λ (xs : Owed). weigh h (tokens_of xs)) (went_begun owed paid) in omega (arith, a, b);
+    all_went = λ k d below. not_gone k d below (get_or left k d).place refl;
     rest = refl;
-  }
-
-  -- ---- ports that were noted
-
-  there_same : (p : ℕ) → is_some (port_at v p) ≡ is_some (port_at w p)
-  there_same p =
-      s.agrees.live_port p ∙ s.so_far.live_port p ∙ same (mid.live_port p)
-      ∙ sym (ap (λ (x : State). x.live_port p) (posted_rest now mid owed)) ∙ sym (shows.agrees.live_port p)
-    where
-      same : (b : Bool) → (b && true) ≡ b
-      same true = refl
-      same false = refl
-
-  senderless : (p : ℕ) → IsSenderless v p → IsSenderless w p
-  senderless p h = record {
-    live = sym (there_same p) ∙ h.live;
-    asked = ap (λ (m : MapView ℕ). map.contains_key m.map p) (sym s.asked) ∙ h.asked;
-    none = sym (s.sends p) ∙ h.none;
   }
 
   -- ---- send rights in messages of ports that die
@@ -118,44 +105,53 @@ module _ (now : ℕ) (tables : WorldView) (old mid : State) (owed : Owed) (shown
   had : HadSenders old mid
   had p q k dies lies =
       let o = an_orphan q dies in
-      let a = shows.makes o.0 (shows.left.orphans o.0 o.1) p in
-      let b = (shows.agrees.counts p).senders in
-      let c = receives now tables w mid owed shows (λ x. if is_of send p x then 1 else 0) (λ q place. refl) in
+      let a = start.makes o.0 (start.left.orphans o.0 o.1) p in
+      let b = (start.agrees.counts p).senders in
+      let c = receives now tables w mid owed start (λ x. if is_of send p x then 1 else 0) (λ q place. refl) in
       let d = lying_le_of mid send p (in_message q k) in
       let f = (shown.agrees.counts p).senders in
       omega (arith, a, b, c, d, f, lies)
 
+  few_receive : (p : ℕ) → (counts_of v.ledger p).receive ≤ 1
+  few_receive p = grind (
+      arith, s.shows.agrees.counts p,
+      receives now tables v (record mid { ledger = left }) (owed ++ paid) s.shows (λ x. if is_of receive p x then 1 else 0) (λ q place. refl),
+      s.shows.lawful.most_receive p)
+
+  orphaned : (p : ℕ) → IsOrphan mid p → IsOrphan (record mid { ledger = left }) p
+  orphaned p (live, few) = (live, (let a = s.rights (λ x. if is_of receive p x then 1 else 0) in omega (arith, a, few)))
+
   pub starts : Between now tables old mid owed e v
   starts = record {
-    lawful = l;
+    lawful = start.lawful;
     reached = reached;
     tied = record {
-      state = s.state;
-      so_far = s.so_far;
-      agrees = s.agrees;
-      holders = s.holders;
-      slots = s.slots;
-      waiting = record { waiting = []; emptied = []; parts = refl; are = subst (λ (ms : List Kept). AreEntries s.state ms []) (sym s.destroyed) tt; lost = λ k d below. absurd (omega arith) };
+      state = here;
+      so_far = begun_so_far now mid owed start.lawful left paid s.shows.lawful.are_owed;
+      agrees = agrees;
+      holders = start_holders now tables v (record mid { ledger = left }) (owed ++ paid) s.shows s.tells;
+      slots = s.shows.slots;
+      waiting = record { waiting = []; emptied = []; parts = refl; are = subst (λ (ms : List Kept). AreEntries here ms []) (sym s.shows.left.destroyed) tt; lost = λ k d below. absurd (omega arith) };
     };
-    held = record { held = s.framed.held.held };
-    carriers = record { given = s.framed.carriers.given; carried = s.framed.carriers.carried };
-    requested = record {
-      on_names = λ key r is. let o = s.framed.requested.on_names key r is in record { own = o.own; small = o.small; entry = o.entry; found = o.found; for_port = o.for_port; live = o.live };
-      no_senders = s.framed.requested.no_senders;
-      port_destroyed = s.framed.requested.port_destroyed;
-    };
+    held = s.shows.holders;
+    carriers = s.shows.carriers;
+    requested = s.shows.requested;
     went = none;
-    unjudged = s.framed.unjudged;
-    doomed = s.framed.doomed;
-    lost = s.framed.lost;
+    unjudged = λ p h. refl;
+    doomed = λ p x there. ((λ is. absurd (s.undoomed p x there is)), (λ h. absurd (cc)));
+    lost = λ p h. lost p h;
     emptied = λ p k h. absurd (cc);
     senders = λ p. (shown.agrees.counts p).senders;
-    noted = λ p live had h. subst (λ (ps : List ℕ). Contains ps p) (sym s.noted) (shows.notes.noted p had (senderless p h));
-    had = λ p h. shows.notes.had p (subst (λ (ps : List ℕ). Contains ps p) s.noted h);
-    receivers = s.receivers;
+    noted = λ p live had h. s.shows.notes.noted p had h;
+    had = s.shows.notes.had;
+    receivers = few_receive;
     unlost = λ kind p q k a b c. refl;
     had_senders = had;
   }
+    where
+      lost : (p : ℕ) → HasLost mid e p → (is_judged e p ≡ true) ⊎ IsHeldBy v.ports p holder.Nobody
+      lost p (inl o) = inr ((s.tells p).0 (s.shows.left.orphans p (orphaned p o)))
+      lost p (inr (q, k, doomed, at, c)) = absurd (cc)
 
   pub emptied : IsEmptied v
   emptied p x there doomed = absurd (s.undoomed p x there doomed)

@@ -1,17 +1,16 @@
 -- As a step's end starts each port knows who has its receive right.
-use Rattle.std.proofs.Common.{◌≡◌, ℕ, suc, zero, ◌+◌, ◌-◌, ◌<◌, ◌≤◌, List, [], ◌∷◌, ◌++◌, Some, None, refl, sym, ap, subst, ◌∙◌, arith, true, false, Bool, inl, inr, ◌⊎◌, length}
+use Rattle.std.proofs.Common.{◌≡◌, ℕ, suc, zero, ◌+◌, ◌-◌, ◌<◌, ◌≤◌, List, [], ◌∷◌, Some, None, refl, sym, ap, subst, ◌∙◌, arith, true, Bool, inl, inr, ◌⊎◌, length}
 use Rattle.std.specs.Prelude.{◌≢◌, ◌↔◌, if◌then◌else◌, ◌&&◌, All, Contains, slice_get, is_some, option_map}
-use Rattle.std.proofs.lemmas.Bool.{true_from_ne_false}
+use Rattle.std.proofs.lemmas.Option.{get_or_from_slice_get}
 use Rattle.std.proofs.lemmas.List.Elements.{All-head, All-tail}
 use Rattle.mach_types.specs.declared.rights.Disposition.TheVariants.{MoveReceive}
-use Rattle.mach_types.specs.Tokens.{receive, send_once, Place, in_task, in_message, Token, token, weigh, is_of, is_held, is_in_task}
+use Rattle.mach_types.specs.Tokens.{receive, send_once, Place, in_task, in_message, Token, token, weigh, is_of, is_held}
 use Rattle.mach_types.specs.Messages.{Entry}
 use Rattle.mach_model.specs.State.{State, Target, lookup, queue, held}
 use Rattle.mach_model.specs.Death.{same_place, LiesAt, IsOrphan}
 use Rattle.mach_model.specs.Carried.{lying_among}
 use Rattle.mach_model.specs.Midway.{MidLawful, IsOwed}
-use Rattle.mach_model.specs.Notices.{Owed, carried_by, posted_tokens, all_posted_tokens}
-use Rattle.mach_model.specs.ReceiveRight.{one_if}
+use Rattle.mach_model.specs.Notices.{Owed, all_posted_tokens}
 use Rattle.mach_model.specs.Settles.{due_notices}
 use Rattle.mach_model.proofs.At.{slice_get_drop}
 use Rattle.mach_model.proofs.Grounding.{Where, with_task, nowhere, queued, where_is}
@@ -33,38 +32,24 @@ use Rattle.copyin_base.specs.Shows.{AllKept, target_of}
 use Rattle.copyin_base.specs.Worlds.{WorldView, port_at, entry_at}
 use Rattle.copyin_base.proofs.Gets.{seen, same_found}
 use Rattle.copyin_base.proofs.Told.{port_of, port_got}
-use Rattle.notifications.specs.SoFar.{posted_from, IsHolder, HoldersTell, entries_at}
+use Rattle.notifications.specs.SoFar.{posted_from, IsHolder, entries_at}
 use Rattle.destroy.proofs.JudgeCarried.{counted_carries}
-use Rattle.destroy.proofs.StartPosted.{posted_rest, posted_log, posted_ledger}
+use Rattle.notifications.proofs.Owing.{posted_is}
+use Rattle.copyin_base.proofs.KeptEntries.{kept_of}
+use Rattle.destroy.proofs.LoseChain.{in_front}
+use Rattle.destroy.proofs.StartPosted.{posted_log, posted_ledger}
 
 -- Of a port that is there, just those that were lost have nobody.
 abbrev pub TellsLost : WorldView → Type 0
 TellsLost w = (port : ℕ) → Contains w.ports.lost port ↔ IsHeldBy w.ports port holder.Nobody
-
--- No message that waits has a receive right to be answered with.
-abbrev pub AreSendable : WorldView → Type 0
-AreSendable w = (q : ℕ) (u : PortView Kept) (m : Kept) (c : Carried) → port_at w q ≡ Some u → Contains u.queue m → m.reply ≡ Some c → c.given ≢ MoveReceive
-
-same_entry : (x y : Entry) → Some x ≡ Some y → x ≡ y
-same_entry x y e = cc
 
 -- the message that is kept of an entry
 pub kept_at : (p : ℕ) (ms : List Kept) (es : List Entry) (i : ℕ) (e : Entry) → AllKept p ms es → slice_get es i ≡ Some e → (m : Kept) × (Contains ms m) × Keeps p m e.message
 kept_at p [] [] i e all at = absurd (let f : None ≡ Some e = at in cc)
 kept_at p (m ∷ ms) [] i e all at = absurd all
 kept_at p [] (x ∷ es) i e all at = absurd all
-kept_at p (m ∷ ms) (x ∷ es) zero e all at = (m, (zero, omega arith, refl), subst (λ (y : Entry). Keeps p m y.message) (same_entry x e at) all.0)
+kept_at p (m ∷ ms) (x ∷ es) zero e all at = (m, (zero, omega arith, refl), subst (λ (y : Entry). Keeps p m y.message) (same_found (Some x) x e refl at) all.0)
 kept_at p (m ∷ ms) (x ∷ es) (suc i) e all at = let r = kept_at p ms es i e all.1 at in (r.0, (let c = r.1 in let below = c.1 in (suc c.0, omega (arith, below), c.2)), r.2)
-
-listed_of : (cs : List Carried) (k : ℕ) (c : Carried) → slice_get cs k ≡ Some c → Contains cs c
-listed_of [] k c at = absurd (let f : None ≡ Some c = at in cc)
-listed_of (x ∷ cs) zero c at = (zero, omega arith, (let f : Some x ≡ Some c = at in cc))
-listed_of (x ∷ cs) (suc k) c at = let r = listed_of cs k c at in let below = r.1 in (suc r.0, omega (arith, below), r.2)
-
-front_stays : {A : Type 0} (xs ys : List A) (k : ℕ) (x : A) → slice_get xs k ≡ Some x → slice_get (xs ++ ys) k ≡ Some x
-front_stays [] ys k x e = absurd (let f : None ≡ Some x = e in cc)
-front_stays (y ∷ xs) ys zero x e = e
-front_stays (y ∷ xs) ys (suc k) x e = front_stays xs ys k x e
 
 some_at : {A : Type 0} (xs : List A) (k : ℕ) → k < length xs → (x : A) × (slice_get xs k ≡ Some x)
 some_at [] k below = absurd (omega (arith, below))
@@ -78,10 +63,7 @@ none_owed lives h none ends [] all = refl
 none_owed lives h none ends (x ∷ owed) all =
     let o = All-head (IsOwed lives) x owed all in
     let ih = none_owed lives h none (at ends x.0.port (ends x.0.port + 1)) owed (All-tail (IsOwed lives) x owed all) in
-    let a = weigh-append h (posted_tokens (record { port = x.0.port; entry = ends x.0.port; notice = x.1 })) (all_posted_tokens (posted_from (at ends x.0.port (ends x.0.port + 1)) (due_notices owed))) in
-    let b : weigh h (carried_by x.1 (in_message x.0.port (ends x.0.port))) ≡ 0 = ap (weigh h) (o.carries (in_message x.0.port (ends x.0.port))) in
-    let c = none x.0.port (in_message x.0.port (ends x.0.port)) in
-    omega (arith, ih, a, b, c)
+    grind (arith, o, ih, weigh-append, none)
 
 module _ (now : ℕ) (tables w : WorldView) (mid : State) (owed : Owed) (shows : ShowsMid now tables w mid owed) where
   abbrev l : MidLawful mid owed
@@ -91,41 +73,34 @@ module _ (now : ℕ) (tables w : WorldView) (mid : State) (owed : Owed) (shows :
   s = with_posted now mid owed
 
   pub live_same : (p : ℕ) → s.live_port p ≡ mid.live_port p
-  live_same p = ap (λ (x : State). x.live_port p) (posted_rest now mid owed)
+  live_same p = ap (λ (x : State). x.live_port p) (posted_is now mid owed)
 
   -- receive rights are where they were
   pub receives : (h : Token → ℕ) → ((p : ℕ) (place : Place) → h (token send_once p place) ≡ 0) → weigh h s.ledger ≡ weigh h mid.ledger
-  receives h none =
-      let a = posted_ledger now mid owed h in
-      let b = none_owed mid.live_port h none (λ p. length (mid.log p)) owed l.are_owed in
-      omega (arith, a, b)
+  receives h none = grind (arith, posted_ledger now mid owed h, none_owed mid.live_port h none (λ p. length (mid.log p)) owed l.are_owed)
 
   lies_yet : (p : ℕ) (place : Place) → LiesAt mid receive p place → LiesAt s receive p place
   lies_yet p place at = let a = receives (λ x. if is_of receive p x && same_place place x.place then 1 else 0) (λ q place. refl) in omega (arith, a, at)
 
-  module _ (sendable : AreSendable w) (tells_lost : TellsLost w) (p : ℕ) (v : PortView Kept) (there : port_at w p ≡ Some v) where
+  -- no reply is a receive right
+  sendable : (q : ℕ) (u : PortView Kept) (m : Kept) (c : Carried) → port_at w q ≡ Some u → Contains u.queue m → m.reply ≡ Some c → c.given ≢ MoveReceive
+  sendable q u m c there among reply = (kept_of q u.queue (queue s q) (shows.agrees.ports q u there).waiting m among).keeps.reply_sent c reply
+
+  module _ (tells_lost : TellsLost w) (p : ℕ) (v : PortView Kept) (there : port_at w p ≡ Some v) where
     lived : mid.live_port p ≡ true
     lived = sym (live_same p) ∙ sym (shows.agrees.live_port p) ∙ ap is_some there
 
     -- ---- with a task
 
     task_has : (t : ℕ) → LiesAt mid receive p (in_task t) → 0 < held s t receive p
-    task_has t lies =
-        let a = receives (λ x. if is_held t receive p x then 1 else 0) (λ q place. refl) in
-        let b = weigh-same (λ x. if is_of receive p x && same_place (in_task t) x.place then 1 else 0) (λ x. if is_held t receive p x then 1 else 0) (λ x. same (is_of receive p x) x.place) mid.ledger in
-        omega (arith, a, b, lies)
-      where
-        same : (b : Bool) (place : Place) → (if b && same_place (in_task t) place then suc zero else zero) ≡ (if b && is_in_task t place then suc zero else zero)
-        same b (in_task u) = ap (λ (c : Bool). if b && c then suc zero else zero) (eq_symm u t)
-        same b (in_message q k) = refl
-        same b (Place.in_request r) = refl
+    task_has t lies = grind (arith, receives, weigh-same, eq_symm)
 
     by_task : (t : ℕ) → LiesAt mid receive p (in_task t) → v.attributes.holder ≡ holder.Task t
     by_task t lies =
         let some = task_has t lies in
         let mid_some : 0 < held mid t receive p = (let a = receives (λ x. if is_held t receive p x then 1 else 0) (λ q place. refl) in omega (arith, a, some)) in
         let named = (l.naming t).is_named p (omega (arith, mid_some)) in
-        let at : lookup s t named.0 ≡ Some (Target.port p) = ap (λ (x : State). lookup x t named.0) (posted_rest now mid owed) ∙ named.1 in
+        let at : lookup s t named.0 ≡ Some (Target.port p) = ap (λ (x : State). lookup x t named.0) (posted_is now mid owed) ∙ named.1 in
         go t named.0 at some (seen (entry_at w t named.0))
       where
         go : (t name : ℕ) → lookup s t name ≡ Some (Target.port p) → 0 < held s t receive p → ((e : Named) × (entry_at w t name ≡ Some e)) ⊎ (entry_at w t name ≡ None) → v.attributes.holder ≡ holder.Task t
@@ -134,11 +109,8 @@ module _ (now : ℕ) (tables w : WorldView) (mid : State) (owed : Owed) (shows :
             let target : target_of e ≡ Target.port p = same_found (lookup s t name) (target_of e) (Target.port p) (shows.agrees.naming t name ∙ ap (option_map target_of) is) at in
             let named = port_of e p target in
             let has = (shows.agrees.references t name e p is named).0 in
-            shows.holders.held t name e p is named (received (has_receive e) (omega (arith, has, some))) v there
-          where
-            received : (b : Bool) → 0 < one_if b → b ≡ true
-            received true h = refl
-            received false h = absurd (omega (arith, h))
+            let receives_it : has_receive e ≡ true = grind (arith, has, some) in
+            shows.holders.held t name e p is named receives_it v there
 
     -- ---- in a queue
 
@@ -146,19 +118,13 @@ module _ (now : ℕ) (tables w : WorldView) (mid : State) (owed : Owed) (shows :
     by_queue q k lies = go (port_got (port_at w q) (shows.agrees.live_port q ∙ live_same q ∙ live)) (some_at (mid.log q) k within)
       where
         live : mid.live_port q ≡ true
-        live = true_from_ne_false (mid.live_port q) (λ dead. let z = l.gone q k (inr dead) receive p in omega (arith, z, lies))
+        live = grind (arith, l.gone q k, lies)
 
         waits : mid.taken q ≤ k
-        waits = at_least (λ less. let z = l.gone q k (inl less) receive p in omega (arith, z, lies))
-          where
-            at_least : ¬ (k < mid.taken q) → mid.taken q ≤ k
-            at_least not = omega (arith, not)
+        waits = grind (arith, l.gone q k, lies)
 
         within : k < length (mid.log q)
-        within = below (λ more. let z = l.no_entry q k more receive p in omega (arith, z, lies))
-          where
-            below : ¬ (length (mid.log q) ≤ k) → k < length (mid.log q)
-            below not = omega (arith, not)
+        within = grind (arith, l.no_entry q k, lies)
 
         place_is : mid.taken q + (k - mid.taken q) ≡ k
         place_is = let a = waits in omega (arith, a)
@@ -168,10 +134,10 @@ module _ (now : ℕ) (tables w : WorldView) (mid : State) (owed : Owed) (shows :
             let log : slice_get (mid.log q) (mid.taken q + (k - mid.taken q)) ≡ Some e = ap (slice_get (mid.log q)) place_is ∙ is in
             let counted = l.carried q (k - mid.taken q) e live (slice_get_drop (mid.taken q) (mid.log q) (k - mid.taken q) ∙ log) receive p lived in
             let lying : 0 < lying_among mid.ledger receive p (in_message q (mid.taken q + (k - mid.taken q))) = subst (λ (n : ℕ). 0 < lying_among mid.ledger receive p (in_message q n)) (sym place_is) lies in
-            let taken : s.taken q ≡ mid.taken q = ap (λ (x : State). x.taken q) (posted_rest now mid owed) in
+            let taken : s.taken q ≡ mid.taken q = ap (λ (x : State). x.taken q) (posted_is now mid owed) in
             let in_queue : slice_get (queue s q) (k - mid.taken q) ≡ Some e = slice_get_drop (s.taken q) (s.log q) (k - mid.taken q)
             ∙ (λ i. slice_get (posted_log now mid owed q i) (taken i + (k - mid.taken q)))
-            ∙ front_stays (mid.log q) (entries_at now q (due_notices owed)) (mid.taken q + (k - mid.taken q)) e log in
+            ∙ in_front (mid.log q) (entries_at now q (due_notices owed)) (mid.taken q + (k - mid.taken q)) e log in
             let m = kept_at q u.queue (queue s q) (k - mid.taken q) e (shows.agrees.ports q u at).waiting in_queue in
             carried u at m.0 m.1 (counted_carries q m.0 e.message m.2 p (omega (arith, counted, lying)))
           where
@@ -179,23 +145,18 @@ module _ (now : ℕ) (tables w : WorldView) (mid : State) (owed : Owed) (shows :
                 (m.reply ≡ Some (record { given = MoveReceive; mark = mark.Port p })) ⊎ ((n : ℕ) × (n < length m.rights) × (slice_get m.rights n ≡ Some (record { given = MoveReceive; mark = mark.Port p }))) →
                 v.attributes.holder ≡ holder.QueueOf q
             carried u at m one (inl reply) = absurd (sendable q u m (record { given = MoveReceive; mark = mark.Port p }) at one reply refl)
-            carried u at m one (inr (n, below, is)) = shows.carriers.carried q u m p at one (listed_of m.rights n (record { given = MoveReceive; mark = mark.Port p }) is) v there
+            carried u at m one (inr (n, below, is)) =
+                shows.carriers.carried q u m p at one (n, below, get_or_from_slice_get m.rights n (record { given = MoveReceive; mark = mark.Port p }) (record { given = MoveReceive; mark = mark.Port p }) is) v there
 
     -- ---- nowhere
 
     by_none : IsOrphan mid p → v.attributes.holder ≡ holder.Nobody
-    by_none o = let h = (tells_lost p).0 (shows.left.orphans p o) in ap (λ (x : PortView Kept). x.attributes.holder) (same_found (port_at w p) v h.view there h.there) ∙ h.holder_is
+    by_none o = grind (arith, (tells_lost p).0 (shows.left.orphans p o))
 
-    holder_tells : IsHolder s [] p v.attributes.holder
-    holder_tells = go (where_is mid owed p l lived)
+    pub start_holders : IsHolder s [] p v.attributes.holder
+    start_holders = go (where_is mid owed p l lived)
       where
         go : Where mid p → IsHolder s [] p v.attributes.holder
         go (with_task t lies) = subst (IsHolder s [] p) (sym (by_task t lies)) (lies_yet p (in_task t) lies)
-        go (queued q k lies) = subst (IsHolder s [] p) (sym (by_queue q k lies)) (k, lies_yet p (in_message q k) lies, λ c. none c)
-          where
-            none : Contains {X = ℕ × ℕ} [] (q, k) → ⊥
-            none (i, below, is) = omega (arith, below)
+        go (queued q k lies) = subst (IsHolder s [] p) (sym (by_queue q k lies)) (k, lies_yet p (in_message q k) lies, λ c. let below = c.1 in omega (arith, below))
         go (nowhere o) = subst (IsHolder s [] p) (sym (by_none o)) (inl (receives (λ x. if is_of receive p x then 1 else 0) (λ q place. refl) ∙ o.1))
-
-  pub start_holders : AreSendable w → TellsLost w → HoldersTell w s []
-  start_holders sendable tells p v there = holder_tells sendable tells p v there

@@ -1,8 +1,7 @@
 -- The first of the requests whose names went is taken out: what the others keep is as it was.
-use Rattle.std.proofs.Common.{◌≡◌, ℕ, suc, zero, ◌+◌, ◌<◌, List, ◌∷◌, Some, refl, sym, ap, subst, ◌∙◌, arith, true, false, Bool, inl, inr}
-use Rattle.std.specs.Prelude.{if◌then◌else◌, ◌==◌, ◌&&◌, drop, is_some}
+use Rattle.std.proofs.Common.{◌≡◌, ℕ, suc, zero, ◌+◌, ◌<◌, List, ◌∷◌, Some, refl, ap, subst, arith, true, false, Bool}
+use Rattle.std.specs.Prelude.{if◌then◌else◌, ◌&&◌, drop}
 use Rattle.std.proofs.lemmas.Bool.{eq-eqb}
-use Rattle.std.proofs.lemmas.Bool.Decides.{eqb_tells}
 use Rattle.mach_types.specs.Tokens.{Kind, receive, send, send_once, Request, no_senders, port_destroyed, dead_name, in_request, Token, token, is_of}
 use Rattle.mach_model.specs.Death.{same_place}
 use Rattle.mach_model.specs.Carried.{lying_among}
@@ -18,10 +17,7 @@ without_went v = record v { names = without_first_went v.names }
 pub none_kept : (lives : ℕ → Bool) (n : ℕ) → lives n ≡ false → (kind : Kind) (q : ℕ) → rights_kept lives (Some n) kind q ≡ 0
 none_kept lives n dead receive q = refl
 none_kept lives n dead send q = refl
-none_kept lives n dead send_once q = elim (eqb_tells n q) [
-  | inl h ↦ (let e : lives q ≡ false = ap lives (sym h.1) ∙ dead in rw (h.0, e) refl)
-  | inr h ↦ rw h.0 refl
-]
+none_kept lives n dead send_once q = grind arith
 
 module _ (lives : ℕ → Bool) (v : RequestTablesView) (r0 : NameRequest) (rest : List NameRequest) (is : v.names.went ≡ r0 ∷ rest) where
   abbrev this : Request
@@ -42,54 +38,18 @@ module _ (lives : ℕ → Bool) (v : RequestTablesView) (r0 : NameRequest) (rest
     pub requests_less : (tokens2 : List Token) →
         ((r : Request) (kind : Kind) (q : ℕ) → lying_among tokens kind q (in_request r) ≡ lying_among tokens2 kind q (in_request r) + (if was_on r r0 then rights_kept lives (Some r0.notify) kind q else 0)) →
         RequestsAgree (notify_of (without_went v)) (without_went v).names.went made stands lives tokens2
-    requests_less tokens2 less = subst (λ (xs : List NameRequest). RequestsAgree (notify_of (without_went v)) xs made stands lives tokens2) (sym went_is) (record {
-      standing = λ r. all.standing r ∙ ap is_some (sym (same_notify r));
-      kept = λ r kind q.
-          let b = all.kept r kind q in
-          let c = less r kind q in
-          let d : rights_kept lives (notify_of (without_went v) r) kind q ≡ rights_kept lives (notify_of v r) kind q = ap (λ o. rights_kept lives o kind q) (same_notify r) in
-          omega (arith, b, c, d);
-      given = λ r q n. all.given r q (sym (same_notify r) ∙ n);
-      given_went = all.given_went.1;
-      ended_went = all.ended_went.1;
-    })
+    requests_less tokens2 less = grind (arith, went_is, all, same_notify)
 
     -- its port isn't there
     pub requests_gone : lives r0.notify ≡ false → RequestsAgree (notify_of (without_went v)) (without_went v).names.went made stands lives tokens
-    requests_gone dead = requests_less tokens (λ r kind q. let a = go (was_on r r0) kind q in omega (arith, a))
-      where
-        go : (b : Bool) (kind : Kind) (q : ℕ) → (if b then rights_kept lives (Some r0.notify) kind q else 0) ≡ 0
-        go true kind q = none_kept lives r0.notify dead kind q
-        go false kind q = refl
+    requests_gone dead = grind (arith, requests_less, none_kept)
 
     -- it keeps its right, where its port lives
     pub some_kept : lives r0.notify ≡ true → 0 < lying_among tokens send_once r0.notify (in_request this)
-    some_kept live =
-        let a = all.kept this send_once r0.notify in
-        let on : (if was_on this r0 then rights_kept lives (Some r0.notify) send_once r0.notify else zero) ≡ suc zero = rw (eq-eqb r0.task r0.task refl, eq-eqb r0.name r0.name refl, eq-eqb r0.notify r0.notify refl, live) refl in
-        omega (arith, a, on)
+    some_kept live = grind (arith, all, eq-eqb)
 
 -- the right that it keeps, as it is counted
 pub one_kept : (lives : ℕ → Bool) (r0 : NameRequest) → lives r0.notify ≡ true → (r : Request) (kind : Kind) (q : ℕ) →
     (if is_of kind q (token send_once r0.notify (in_request (dead_name r0.task r0.name))) && same_place (in_request r) (in_request (dead_name r0.task r0.name)) then suc zero else zero)
     ≡ (if was_on r r0 then rights_kept lives (Some r0.notify) kind q else zero)
-one_kept lives r0 live r kind q = go kind r
-  where
-    once : (b : Bool) → (if (r0.notify == q) && b then suc zero else zero) ≡ (if b then (if (r0.notify == q) && lives q then suc zero else zero) else zero)
-    once true = elim (eqb_tells r0.notify q) [
-      | inl h ↦ (let e : lives q ≡ true = ap lives (sym h.1) ∙ live in rw (h.0, e) refl)
-      | inr h ↦ rw h.0 refl
-    ]
-    once false = rw (and_false (r0.notify == q)) refl
-
-    none : (b : Bool) → zero ≡ (if b then zero else zero)
-    none true = refl
-    none false = refl
-
-    go : (kind : Kind) (r : Request) → (if is_of kind q (token send_once r0.notify (in_request (dead_name r0.task r0.name))) && same_place (in_request r) (in_request (dead_name r0.task r0.name)) then suc zero else zero)
-        ≡ (if was_on r r0 then rights_kept lives (Some r0.notify) kind q else zero)
-    go receive r = none (was_on r r0)
-    go send r = none (was_on r r0)
-    go send_once (no_senders p) = once false
-    go send_once (port_destroyed p) = once false
-    go send_once (dead_name task name) = once (task == r0.task && name == r0.name)
+one_kept lives r0 live r kind q = grind (arith, and_false)
