@@ -78,9 +78,7 @@ named_pairs n (w ∷ ws) = ap (λ (ps : List (ℕ × ℕ)). (n, w) ∷ ps) (name
 items_pairs : (xs : List Wire) → pairs (items_words xs) ≡ flat_map wire_words xs
 items_pairs [] = refl
 items_pairs (data_item f n z c bytes padding ∷ xs) = items_pairs xs
-items_pairs (port_item f n words ∷ xs) =
-    map-append (λ (w : PortWord). (w.disposition, w.name)) (named n words) (items_words xs)
-    ∙ ap (λ (ps : List (ℕ × ℕ)). ps ++ pairs (items_words xs)) (named_pairs n words) ∙ ap (λ (ps : List (ℕ × ℕ)). list_map (λ (w : ℕ). (n, w)) words ++ ps) (items_pairs xs)
+items_pairs (port_item f n words ∷ xs) = grind (arith, items_pairs xs, map-append, named_pairs)
 
 pub body_pairs : (written : WireBody) → pairs (body_words written) ≡ machine_words written
 body_pairs (WireBody.raw bytes) = refl
@@ -93,9 +91,7 @@ named_numbers n (w ∷ ws) = ap (λ (ns : List ℕ). n ∷ ns) (named_numbers n 
 items_numbers : (xs : List Wire) → dispositions (items_words xs) ≡ items_given xs
 items_numbers [] = refl
 items_numbers (data_item f n z c bytes padding ∷ xs) = items_numbers xs
-items_numbers (port_item f n words ∷ xs) =
-    map-append (λ (w : PortWord). w.disposition) (named n words) (items_words xs)
-    ∙ ap (λ (ns : List ℕ). ns ++ dispositions (items_words xs)) (named_numbers n words) ∙ ap (λ (ns : List ℕ). replicate (length words) n ++ ns) (items_numbers xs)
+items_numbers (port_item f n words ∷ xs) = grind (arith, items_numbers xs, map-append, named_numbers)
 
 -- ---- and so are the rights
 

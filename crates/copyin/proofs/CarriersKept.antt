@@ -85,10 +85,7 @@ no_copied k e = cc
 
 -- It stood there.
 port_is : (x k : Copied) (q p : ℕ) → Some x ≡ Some k → x.mark ≡ mark.Port q → k.mark ≡ mark.Port p → Some q ≡ Some p
-port_is x k q p is from to = same q p (sym from ∙ ap (λ (c : Copied). c.mark) (same_found (Some x) x k refl is) ∙ to)
-  where
-    same : (q p : ℕ) → mark.Port q ≡ mark.Port p → Some q ≡ Some p
-    same q p e = cc
+port_is x k q p is from to = grind (arith, same_found)
 
 stood : (e : Entry) (k : Copied) (p : ℕ) → copied_from MoveReceive e ≡ Some k → k.mark ≡ mark.Port p → (port_named e ≡ Some p) × (has_receive e ≡ true)
 stood (entry.Receive q) k p is to = (port_is (record { left = None; mark = mark.Port q }) k q p is refl to, refl)
@@ -145,7 +142,7 @@ queues_kept = record {
 }
 
 carried_before : (old new : WorldView) (q p : ℕ) → QueuesStill old new → IsCarried new q p → IsCarried old q p
-carried_before old new q p kept c = let i = kept q c.u c.message c.there c.queued in record { u = i.v; there = i.there; message = c.message; queued = i.queued; carries = c.carries }
+carried_before old new q p kept c = grind (arith, kept q c.u c.message c.there c.queued)
 
 -- Once the rights went, no queue has one of them that is a receive right.
 words_uncarried : (ws : List PortWord) (cs : List Carried) (old new : WorldView) (task : ℕ) → CanGo old task ws cs → ChangesWords old task ws cs new →
@@ -184,10 +181,9 @@ module _ (old : WorldView) (task : ℕ) (parsed : Parsed) (written : WireBody) (
   before = held_carriers j.port j.rights c.mid c.held c.holds free (over_words CarryStill carriers_kept words rights old c.mid task c.changes a)
 
   made_before : (p : ℕ) → Contains j.rights (receive_right p) → p < c.held.ports.made
-  made_before p among =
-      let was = made p (words_live old c.mid task words rights goes c.changes (receive_right p) (among_all (receive_right p) among) p refl) in
-      let same = held_made j.port j.rights c.mid c.held c.holds in
-      omega (arith, was, same)
+  made_before p among = grind (arith,
+      made p (words_live old c.mid task words rights goes c.changes (receive_right p) (among_all (receive_right p) among) p refl),
+      held_made j.port j.rights c.mid c.held c.holds)
 
   -- a message that was sent
   pub commits_carriers : CarriersAgree new

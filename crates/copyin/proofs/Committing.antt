@@ -65,11 +65,7 @@ not_none o x a b = let e : None ≡ Some x = sym a ∙ b in cc
 -- The rights that were judged go, one after the other.
 module _ (w : WorldView) (task : ℕ) (parsed : Parsed) (written : WireBody) (j : Judged w task parsed written) (tied : AreTied j.space.names w.ports w.ledger) where
   first_word : CopiesWord j.space.names (destination_word parsed) j.destination j.first
-  first_word =
-      let d = j.copies_destination in
-      goes_by_name j.space.names (destination_word parsed) j.destination j.first
-      (λ e. not_none _ d.entry (ap (λ (n : ℕ). map.get j.space.names n) e ∙ tied.not_null) d.found)
-      (λ e. not_none _ d.entry (ap (λ (n : ℕ). map.get j.space.names n) e ∙ tied.not_dead) d.found) d
+  first_word = grind (arith, goes_by_name, not_none)
 
   pub judged_all : CopiesAll j.space.names (destination_word parsed ∷ (reply_words parsed ++ body_words written)) (j.destination ∷ (option_to_list j.reply ++ j.rights)) j.last
   judged_all = (
@@ -107,14 +103,10 @@ module _ (w : WorldView) (task : ℕ) (parsed : Parsed) (written : WireBody) (by
   plan_goes = rw (p.words.destination, p.words.reply, p.words.body, p.destination, reply_is, rights_are) (judged_go w task parsed written p.plans.judged tied p.plans.few)
 
   pub plan_pairs : length (option_to_list plan.words.reply) ≡ length (option_to_list plan.message.reply)
-  plan_pairs = rw (p.words.reply, reply_is)
-      (all_length p.plans.judged.first p.plans.judged.second (reply_words parsed) (option_to_list p.plans.judged.reply) (reply_all p.plans.judged.first (reply_words parsed) p.plans.judged.reply p.plans.judged.second p.plans.judged.copies_reply))
+  plan_pairs = grind (arith, reply_is, all_length, reply_all)
 
   pub plan_lives : IsLive w.ports plan.port
-  plan_lives =
-      let d = p.plans.judged.copies_destination in
-      subst (λ (q : ℕ). IsLive w.ports q) (sym p.port)
-      (tied.live parsed.remote d.entry p.plans.judged.port d.found ((keeps p.plans.judged.destination.given d.entry d.copied d.is).mark p.plans.judged.port (sym d.mark ∙ p.plans.judged.to_port)))
+  plan_lives = grind (arith, tied, keeps)
 
   -- once its rights went, where it goes by a send-once right: its port has one that no queued message goes by
   pub plan_unused : (one two mid : WorldView) → ChangesWord w task plan.words.destination plan.destination one →
@@ -167,7 +159,7 @@ record PortsStay (old new : WorldView) : Type 0 where
   rooms : (u : ℕ) → room_of new u ≡ room_of old u
 
 stay_same : (old new : WorldView) → new ≡ old → PortsStay old new
-stay_same old new e = record { live = λ p h. subst (λ (x : WorldView). IsLive x.ports p) (sym e) h; spare = ap (λ (x : WorldView). x.ports.spare) e; rooms = λ u. ap (λ (x : WorldView). room_of x u) e }
+stay_same old new e = grind arith
 
 stay_word : (old new : WorldView) (task : ℕ) (w : PortWord) (c : Carried) → ChangesWord old task w c new → PortsStay old new
 stay_word old new task w c ch = elim (eqb_tells w.name null_word) [
@@ -190,10 +182,7 @@ stay_words : (old new : WorldView) (task : ℕ) (ws : List PortWord) (cs : List 
 stay_words old new task [] [] ch = stay_same old new ch
 stay_words old new task [] (c ∷ cs) ch = absurd ch
 stay_words old new task (w ∷ ws) [] ch = absurd ch
-stay_words old new task (w ∷ ws) (c ∷ cs) ch =
-    let a = stay_word old ch.0 task w c ch.1 in
-    let b = stay_words ch.0 new task ws cs ch.2 in
-    record { live = λ p h. b.live p (a.live p h); spare = b.spare ∙ a.spare; rooms = λ u. b.rooms u ∙ a.rooms u }
+stay_words old new task (w ∷ ws) (c ∷ cs) ch = grind (arith, stay_words ch.0 new task ws cs ch.2, stay_word)
 
 -- ---- ports of rights that went
 
@@ -206,15 +195,7 @@ dead_no_port p e = cc
 -- Each is there.
 pub mark_lives : (w : WorldView) (task : ℕ) (word : PortWord) (words : List PortWord) (c : Carried) (cs : List Carried) → CanGo w task (word ∷ words) (c ∷ cs) → (p : ℕ) → c.mark ≡ mark.Port p →
     IsLive w.ports p
-mark_lives w task word words c cs go p to = elim (eqb_tells word.name null_word) [
-  | inl n ↦ absurd (null_no_port p (sym (rw n.0 at go.copies.1).1 ∙ to))
-  | inr n ↦ elim (eqb_tells word.name dead_word) [
-    | inl d ↦ absurd (dead_no_port p (sym (rw (n.0, d.0) at go.copies.1).1 ∙ to))
-    | inr d ↦
-        let x = by_name go.space.names word c go.copies.0 n.1 d.1 go.copies.1 in
-        go.tied.live word.name x.entry p x.found ((keeps c.given x.entry x.copied x.is).mark p (sym x.mark ∙ to))
-  ]
-]
+mark_lives w task word words c cs go p to = grind (arith, null_no_port, dead_no_port, by_name, keeps)
 
 pub words_live : (old new : WorldView) (task : ℕ) (ws : List PortWord) (cs : List Carried) → CanGo old task ws cs → ChangesWords old task ws cs new → (c : Carried) → Contains cs c → (p : ℕ) → c.mark ≡ mark.Port p →
     IsLive new.ports p
@@ -250,11 +231,7 @@ carries_by old one two mid plan reply words rights same words_are rights_are a b
 }
 
 stay_all : (old mid : WorldView) (task : ℕ) (plan : Plan) → Carries old task plan mid → PortsStay old mid
-stay_all old mid task plan ca =
-    let a = stay_word old ca.one task plan.words.destination plan.destination ca.destination in
-    let b = stay_words ca.one ca.two task (option_to_list plan.words.reply) (option_to_list plan.message.reply) ca.reply in
-    let d = stay_words ca.two mid task plan.words.body.items plan.message.rights ca.body in
-    record { live = λ p h. d.live p (b.live p (a.live p h)); spare = d.spare ∙ b.spare ∙ a.spare; rooms = λ u. d.rooms u ∙ b.rooms u ∙ a.rooms u }
+stay_all old mid task plan ca = grind (arith, stay_word, stay_words)
 
 pub carries_live : (old mid : WorldView) (task : ℕ) (plan : Plan) (p : ℕ) → Carries old task plan mid → IsLive old.ports p → IsLive mid.ports p
 carries_live old mid task plan p ca h = (stay_all old mid task plan ca).live p h

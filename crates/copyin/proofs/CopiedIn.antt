@@ -175,11 +175,7 @@ module _ (w : WorldView) (s : State) (a : Agrees w s) (o k : ℕ) (l : IsMoving 
         }
 
     pub there_port : s.live_port p ≡ true → (v : PortView Kept) × (port_at w p ≡ Some v)
-    there_port live = go (port_at w p) refl
-      where
-        go : (x : Option (PortView Kept)) → port_at w p ≡ x → (v : PortView Kept) × (port_at w p ≡ Some v)
-        go (Some v) e = (v, e)
-        go None e = absurd (let b : false ≡ true = sym (ap is_some e) ∙ a.live_port p ∙ live in cc)
+    there_port live = grind arith
 
     pub makes_send : RequestsStand w → (holds : has_receive entry ≡ true) → Goes w s o k task name space MakeSend (record { left = Some entry; mark = mark.Port p })
     makes_send requested holds =

@@ -212,10 +212,7 @@ module _ (w : WorldView) (s : State) (a : Agrees w s) (o k : ℕ) (l : IsMoving 
       (λ e is. subst (λ (x : Entry). HasCount x × (port_named x ≡ Some p) × (has_receive x ≡ false) × (send_references x ≡ n)) (sym (the_same (Send p n) e is)) (some, refl, refl, refl))
 
   its : (d : Disposition) (x c : Copied) → Some x ≡ Some c → Goes w s o k task name space d x → Goes w s o k task name space d c
-  its d x c e g = subst (Goes w s o k task name space d) (same x c e) g
-    where
-      same : (y z : Copied) → Some y ≡ Some z → y ≡ z
-      same y z f = cc
+  its d x c e g = grind arith
 
   -- A right goes by each disposition that it can go by.
   pub goes : (d : Disposition) (entry : Entry) (c : Copied) → map.get space.names name ≡ Some entry → copied_from d entry ≡ Some c → Goes w s o k task name space d c
@@ -234,5 +231,5 @@ module _ (w : WorldView) (s : State) (a : Agrees w s) (o k : ℕ) (l : IsMoving 
   goes MakeSend (Receive p) c found e = its MakeSend _ c e (makes_send w s a o k l task name space there (Receive p) found p refl refl requested refl)
   goes MakeSend (ReceiveAndSend p n) c found e = its MakeSend _ c e (makes_send w s a o k l task name space there (ReceiveAndSend p n) found p refl refl requested refl)
   goes MakeSendOnce (Receive p) c found e = its MakeSendOnce _ c e (makes_once w s a o k l task name space there (Receive p) found p refl refl requested refl)
-  goes MakeSendOnce (ReceiveAndSend p n) c found e = its MakeSendOnce _ c e (makes_once w s a o k l task name space there (ReceiveAndSend p n) found p refl refl requested refl)
+  goes MakeSendOnce (ReceiveAndSend p n) c found e = grind (arith, its, makes_once)
   goes d entry c found e = absurd (let f : None ≡ Some c = e in cc)

@@ -60,10 +60,7 @@ same_port names name c e k k' found is same = rw (same, found) ((keeps c.given e
 
 pub same_left : (w : WorldView) (task name : ℕ) (c : Carried) (can : CanCopy w task name c) (found : Option Entry) (e : Entry) (copied : Option Copied) (k : Copied)
     → found ≡ entry_at w task name → found ≡ Some e → copied ≡ copied_from c.given e → copied ≡ Some k → k ≡ can.copied
-same_left w task name c can found e copied k a b x y =
-    let at : entry_at w task name ≡ Some can.entry = rw can.there can.found in
-    let ee : e ≡ can.entry = same_found found e can.entry b (a ∙ at) in
-    same_found _ _ _ y (x ∙ ap (λ (z : Entry). copied_from c.given z) ee ∙ can.is)
+same_left w task name c can found e copied k a b x y = grind (arith, same_found)
 
 pub copies_right : (old mid : WorldView) (task name : ℕ) (c : Carried) (can : CanCopy old task name c) (k : Copied) → k ≡ can.copied → PutsLeft old task name k.left mid →
     (spaces : List (Option SpaceView)) (ports : PortsView Kept) (ledger : LedgerView) (sets : SetsView) (requests : RequestTablesView) →

@@ -1,6 +1,6 @@
 -- Copying in leaves each port's holder as it was, and no name gets a receive right by it. Of the receive rights that a message carries its
 -- queue is the holder.
-use Rattle.std.proofs.Common.{◌≡◌, ℕ, ◌-◌, ◌++◌, Bool, true, false, List, [], ◌∷◌, Option, Some, None, IfSome, refl, sym, ap, subst, ◌∙◌}
+use Rattle.std.proofs.Common.{arith, ◌≡◌, ℕ, ◌-◌, ◌++◌, Bool, true, false, List, [], ◌∷◌, Option, Some, None, IfSome, refl, sym, ap, subst, ◌∙◌}
 use Rattle.std.specs.Prelude.{nat_lt, MatchBool, if◌then◌else◌, ◌==◌, Contains}
 use Rattle.std.specs.FinMap as map
 use Rattle.mach_types.specs.Numbers.{null_word, dead_word}
@@ -83,9 +83,7 @@ left_has MakeSendOnce (entry.Set s) = tt
 
 had_receive : (e : Entry) (o : Option Entry) → IfSome o (λ left. (p : ℕ) → port_named left ≡ Some p → port_named e ≡ Some p) → HasNoMore e o → (p : ℕ) → IsReceive o p → IsReceive (Some e) p
 had_receive e None named has p i = absurd (none_receives p i)
-had_receive e (Some x) named has p i =
-    let same : i.entry ≡ x = same_found (Some x) i.entry x i.is refl in
-    record { entry = e; is = refl; named = named p (ap port_named (sym same) ∙ i.named); receives = has (ap has_receive (sym same) ∙ i.receives) }
+had_receive e (Some x) named has p i = grind (arith, same_found)
 
 left_receive : (d : Disposition) (e : Entry) (k : Copied) → copied_from d e ≡ Some k → (p : ℕ) → IsReceive k.left p → IsReceive (Some e) p
 left_receive d e k is = had_receive e k.left (keeps d e k is).named (subst (HasNoMoreIfAny e) is (left_has d e))
@@ -137,10 +135,7 @@ either true X Y P m f g = f m
 either false X Y P m f g = g m
 
 pub word_holders : (old new : WorldView) (task : ℕ) (w : PortWord) (c : Carried) → ChangesWord old task w c new → HoldersAgree old → HoldersAgree new
-word_holders old new task w c changes a =
-    let stays : new ≡ old → HoldersAgree new = λ same. subst HoldersAgree (sym same) a in
-    either (w.name == null_word) _ _ (HoldersAgree new) changes stays
-    (λ other. either (w.name == dead_word) _ _ (HoldersAgree new) other stays (λ copies. copied_holders old new task c.given w.name c.mark copies a))
+word_holders old new task w c changes a = grind (arith, either, copied_holders)
 
 pub words_holders : (ws : List PortWord) (cs : List Carried) (old new : WorldView) (task : ℕ) → ChangesWords old task ws cs new → HoldersAgree old → HoldersAgree new
 words_holders [] [] old new task same a = subst HoldersAgree (sym same) a

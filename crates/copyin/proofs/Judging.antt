@@ -1,5 +1,5 @@
 -- Words judged one after the other.
-use Rattle.std.proofs.Common.{◌≡◌, ℕ, ◌+◌, ◌<◌, Option, Some, None, List, [], ◌∷◌, ◌++◌, length, take, drop, get_or, refl, sym, ap, subst, ◌∙◌, ◌⊎◌, inl, inr, false, Result, Ok, Err, IfOk, IfErr}
+use Rattle.std.proofs.Common.{arith, ◌≡◌, ℕ, ◌+◌, ◌<◌, Option, Some, None, List, [], ◌∷◌, ◌++◌, length, take, drop, get_or, refl, sym, ap, subst, ◌∙◌, ◌⊎◌, inl, inr, false, Result, Ok, Err, IfOk, IfErr}
 use Rattle.std.specs.Prelude.{◌≢◌, ◌==◌}
 use Rattle.std.specs.Option.{option_to_list}
 use Rattle.std.proofs.lemmas.Bool.Decides.{eqb_tells}
@@ -28,17 +28,10 @@ same_value o x y a b = let e : Some x ≡ Some y = sym a ∙ b in cc
 -- What stands under the name and the disposition decide what goes.
 pub same_copied : (names : Names) (w : PortWord) (c : Carried) (after : Names) (d : Disposition) (e : Entry) (k : Copied) → CopiesName names w c after
     → disposition w.disposition ≡ Some d → map.get names w.name ≡ Some e → copied_from d e ≡ Some k → (c.given ≡ d) × (c.mark ≡ k.mark)
-same_copied names w c after d e k is given found copied =
-    let dd : c.given ≡ d = same_value _ _ _ is.is_given given in
-    let ee : is.entry ≡ e = same_value _ _ _ is.found found in
-    let at : copied_from d e ≡ Some is.copied = subst (λ (x : Disposition). copied_from x e ≡ Some is.copied) dd (subst (λ (x : Entry). copied_from c.given x ≡ Some is.copied) ee is.is) in
-    let kk : is.copied ≡ k = same_value _ _ _ at copied in
-    (dd, is.mark ∙ ap (λ (x : Copied). x.mark) kk)
+same_copied names w c after d e k is given found copied = grind (arith, same_value)
 
 pub same_mark : (names : Names) (w : PortWord) (a b : Carried) (x y : Names) → CopiesName names w a x → CopiesName names w b y → b.mark ≡ a.mark
-same_mark names w a b x y ca cb =
-    let s = same_copied names w b y a.given ca.entry ca.copied cb ca.is_given ca.found ca.is in
-    s.1 ∙ sym ca.mark
+same_mark names w a b x y ca cb = grind (arith, same_copied)
 
 pub leads_nowhere : (names : Names) (w : PortWord) (a : Carried) (x : Names) → CopiesName names w a x → ((p : ℕ) → ¬ (a.mark ≡ mark.Port p)) → LeadsNowhere names w
 leads_nowhere names w a x ca not = λ p c after is cc'. not p (sym (same_mark names w a c x after ca cc') ∙ is)
@@ -49,12 +42,7 @@ none_found names w none c after is = let f = is.found in cc
 
 pub none_copied : (names : Names) (w : PortWord) (d : Disposition) (e : Entry) → disposition w.disposition ≡ Some d → map.get names w.name ≡ Some e → copied_from d e ≡ None
     → (c : Carried) (after : Names) → ¬ (CopiesName names w c after)
-none_copied names w d e given found none c after is =
-    let dd : c.given ≡ d = same_value _ _ _ is.is_given given in
-    let ee : is.entry ≡ e = same_value _ _ _ is.found found in
-    let at : copied_from d e ≡ Some is.copied = subst (λ (x : Disposition). copied_from x e ≡ Some is.copied) dd (subst (λ (x : Entry). copied_from c.given x ≡ Some is.copied) ee is.is) in
-    let no : None ≡ Some is.copied = sym none ∙ at in
-    cc
+none_copied names w d e given found none c after is = grind (arith, same_value)
 
 -- ---- a body, word by word
 
@@ -156,10 +144,4 @@ pub lone_bad : (first : Names) (words : Words) (w : PortWord) → HasOne words w
 lone_bad first words w has bad = subst (λ (ws : List PortWord). BodyIsBad first ws) (sym has.one) (inl bad)
 
 pub word_given : (names : Names) (w : PortWord) (c : Carried) (after : Names) → CopiesWord names w c after → disposition w.disposition ≡ Some c.given
-word_given names w c after copies = elim (eqb_tells w.name null_word) [
-  | inl h ↦ let as_null = rw h.0 at copies in as_null.0
-  | inr h ↦ elim (eqb_tells w.name dead_word) [
-    | inl k ↦ let as_dead = rw (h.0, k.0) at copies in as_dead.0
-    | inr k ↦ let as_name : CopiesName names w c after = rw (h.0, k.0) at copies in as_name.is_given
-  ]
-]
+word_given names w c after copies = grind arith

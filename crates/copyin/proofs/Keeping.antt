@@ -40,12 +40,7 @@ kept_less : (e : Entry) (with_references : ℕ → Entry) (o : Option Entry) (m 
     → IfSome o (λ left. (p : ℕ) → port_named left ≡ Some p → port_named e ≡ Some p) → IfSome o (λ left. (p : ℕ) → port_of left ≡ Some p → port_of e ≡ Some p)
     → IfSome o (λ left. (p : ℕ) → port_of e ≡ Some p → port_of left ≡ Some p)
     → ((p : ℕ) → m ≡ mark.Port p → port_of e ≡ Some p) → Keeps e (record { left = one_less with_references o n; mark = m })
-kept_less e with_references o m n a b c x y z f = record {
-  named = if_either (nat_lt 1 n) (with_references (n - 1)) o (λ left. (p : ℕ) → port_named left ≡ Some p → port_named e ≡ Some p) a x;
-  held = if_either (nat_lt 1 n) (with_references (n - 1)) o (λ left. (p : ℕ) → port_of left ≡ Some p → port_of e ≡ Some p) b y;
-  stays = if_either (nat_lt 1 n) (with_references (n - 1)) o (λ left. (p : ℕ) → port_of e ≡ Some p → port_of left ≡ Some p) c z;
-  mark = f;
-}
+kept_less e with_references o m n a b c x y z f = grind (arith, if_either)
 
 kept : (d : Disposition) (e : Entry) → KeepsIfAny e (copied_from d e)
 kept MoveReceive (entry.Receive p) = record { named = tt; held = tt; stays = tt; mark = λ q h. (cc) }
@@ -56,7 +51,7 @@ kept MoveReceive (entry.DeadName n) = tt
 kept MoveReceive (entry.Set s) = tt
 kept MoveSend (entry.Receive p) = tt
 kept MoveSend (entry.Send p n) = kept_less (entry.Send p n) (entry.Send p) None (mark.Port p) n (λ q h. h) (λ q h. h) (λ q h. h) tt tt tt (λ q h. (cc))
-kept MoveSend (entry.ReceiveAndSend p n) = kept_less (entry.ReceiveAndSend p n) (entry.ReceiveAndSend p) (Some (entry.Receive p)) (mark.Port p) n (λ q h. h) (λ q h. h) (λ q h. h) (λ q h. h) (λ q h. h) (λ q h. h) (λ q h. (cc))
+kept MoveSend (entry.ReceiveAndSend p n) = grind (arith, kept_less)
 kept MoveSend (entry.SendOnce p) = tt
 kept MoveSend (entry.DeadName n) = kept_less (entry.DeadName n) entry.DeadName None mark.Dead n (λ q h. h) (λ q h. h) (λ q h. h) tt tt tt (λ q h. (cc))
 kept MoveSend (entry.Set s) = tt
@@ -116,10 +111,7 @@ no_true : false ≡ true → ⊥
 no_true e = cc
 
 pub still : {V : Type 0} (m : map.FinMap nat_cmp V) (q p : ℕ) (v : V) → map.contains_key m p ≡ true → map.contains_key (map.insert m q v) p ≡ true
-still {V} m q p v h = elim (eqb_tells p q) [
-  | inl e ↦ subst (λ (n : ℕ). map.contains_key (map.insert m q v) n ≡ true) (sym e.1) (ap is_some (get_own m q v))
-  | inr e ↦ ap is_some (get_other m q v p e.1) ∙ h
-]
+still {V} m q p v h = grind (arith, get_own, get_other)
 
 pub entered_copied : (d : Disposition) (m : Mark) (l : LedgerView) (p : ℕ) → IsEntered l p → IsEntered (ledger_copied d m l) p
 entered_copied MoveReceive (mark.Port q) l p h = h

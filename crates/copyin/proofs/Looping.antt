@@ -53,14 +53,7 @@ module _ (w : WorldView) (s : State) (sh : Shows w s) (p : ℕ) (v : PortView Ke
   lives = sym (sh.agrees.live_port p) ∙ ap is_some there_is
 
   task_has : (t : ℕ) → LiesAt s receive p (in_task t) → 0 < held s t receive p
-  task_has t lies =
-      let a = weigh-same (λ x. if is_of receive p x && same_place (in_task t) x.place then 1 else 0) (λ x. if is_held t receive p x then 1 else 0) (λ x. same (is_of receive p x) x.place) s.ledger in
-      omega (arith, a, lies)
-    where
-      same : (b : Bool) (place : Place) → (if b && same_place (in_task t) place then suc zero else zero) ≡ (if b && is_in_task t place then suc zero else zero)
-      same b (in_task u) = ap (λ (c : Bool). if b && c then suc zero else zero) (eq_symm u t)
-      same b (in_message q k) = refl
-      same b (in_request r) = refl
+  task_has t lies = grind (arith, weigh-same, eq_symm)
 
   by_task : (t : ℕ) → LiesAt s receive p (in_task t) → v.attributes.holder ≡ holder.Task t
   by_task t lies =
@@ -137,23 +130,11 @@ reaches_more s a b c (Reaches.there p q last e rest) d = Reaches.there p q c e (
 module _ (w : WorldView) (s : State) (sh : Shows w s) (t : State) (o : ℕ) (rights : List Carried) (apart : Apart s t o (length (s.log o)))
     (own : (p : ℕ) → LiesAt t receive p (place_at s o) ↔ Contains rights (receive_right p)) where
   queue_holds : (p q k : ℕ) → LiesAt s receive p (in_message q k) → IsHeldBy w.ports p (holder.QueueOf q)
-  queue_holds p q k lies =
-      let live = true_from_ne_false (s.live_port p) (λ dead. unmade s p q k sh.lawful dead lies) in
-      let x = port_got (port_at w p) (sh.agrees.live_port p ∙ live) in
-      record { view = x.0; there = x.1; holder_is = by_queue w s sh p x.0 x.1 q k lies }
+  queue_holds p q k lies = grind (arith, true_from_ne_false, unmade, port_got, by_queue)
 
   -- A port that the way of the machine comes to has its receive right in the message, or in the queue that the tables tell.
   next : (p q k : ℕ) → LiesAt t receive p (in_message q k) → Leads w.ports o p → (IsHeldBy w.ports p (holder.QueueOf q) → MakesLoop w.ports o rights) → MakesLoop w.ports o rights
-  next p q k at lead go_on = elim (eqb_tells q o) [
-    | inl same ↦ elim (eqb_tells k (length (s.log o))) [
-      | inl end ↦ record { port = p; moved = (own p).0 (subst (λ (x : ℕ). LiesAt t receive p (in_message x (length (s.log o)))) same.1 (subst (λ (x : ℕ). LiesAt t receive p (in_message q x)) end.1 at)); leads = lead }
-      | inr not ↦ elsewhere (λ e f. not.1 f)
-    ]
-    | inr not ↦ elsewhere (λ e f. not.1 e)
-  ]
-    where
-      elsewhere : (q ≡ o → k ≡ length (s.log o) → ⊥) → MakesLoop w.ports o rights
-      elsewhere far = let same = apart.elsewhere receive p q k far in go_on (queue_holds p q k (omega (arith, same, at)))
+  next p q k at lead go_on = grind (arith, queue_holds)
 
   follow : (a b : ℕ) → Reaches t a b → Leads w.ports o a → LiesAt t receive b (place_at s o) → MakesLoop w.ports o rights
   follow a b (Reaches.here p) lead lies = record { port = p; moved = (own p).0 lies; leads = lead }
@@ -161,14 +142,7 @@ module _ (w : WorldView) (s : State) (sh : Shows w s) (t : State) (o : ℕ) (rig
 
   -- The way of the tables is one of the machine.
   still_lies : (p q : ℕ) → IsHeldBy w.ports p (holder.QueueOf q) → CarriedAt t p q
-  still_lies p q held =
-      let x = lies_queued w s sh p held.view held.there q held.holder_is in
-      let was = x.1 in
-      let same = apart.elsewhere receive p q x.0 (λ e f. at_end x.0 e f was) in
-      (x.0, omega (arith, same, was))
-    where
-      at_end : (k : ℕ) → q ≡ o → k ≡ length (s.log o) → LiesAt s receive p (in_message q k) → ⊥
-      at_end k e f lies = let none = sh.lawful.no_entry q k (let g : length (s.log q) ≡ length (s.log o) = ap (λ (x : ℕ). length (s.log x)) e in omega (arith, f, g)) receive p in omega (arith, none, lies)
+  still_lies p q held = grind (arith, lies_queued w s sh p held.view held.there q held.holder_is)
 
   go_along : (a b : ℕ) → Leads w.ports a b → Reaches t o a → Contains rights (receive_right b) → ClosesLoop t o (place_at s o)
   go_along a b (Leads.here p) reach moved = (p, (own p).1 moved, reach)

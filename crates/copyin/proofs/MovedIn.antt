@@ -70,9 +70,7 @@ module _ (w : WorldView) (s : State) (a : Agrees w s) (o k : ℕ) (l : IsMoving 
     moved_of c q = let m = moves (λ x. if is_of c q x then 1 else 0) in omega (arith, m)
 
     naming_own : (x : Bool) → LeftIs entry x left → (kept x).naming task ≡ put (s.naming task) name (option_map target_of left)
-    naming_own true h =
-        unchanged w s a o k l task name space there entry found ∙ ap (λ (g : Target). put (s.naming task) name (Some g)) (sym h.2)
-        ∙ ap (λ (y : Option Entry). put (s.naming task) name (option_map target_of y)) (sym h.1)
+    naming_own true h = grind (arith, unchanged)
     naming_own false h = at_own s.naming task (map.remove (s.naming task) name) ∙ ap (λ (y : Option Entry). put (s.naming task) name (option_map target_of y)) (sym h)
 
     shape_is : (x : Bool) → kept x ≡ shape s (kept x)
@@ -97,28 +95,8 @@ module _ (w : WorldView) (s : State) (a : Agrees w s) (o k : ℕ) (l : IsMoving 
         w2.ports.made ≡ w.ports.made → ((q : ℕ) → is_some (port_at w2 q) ≡ is_some (port_at w q)) →
         ((q : ℕ) (v : PortView Kept) → port_at w2 q ≡ Some v → ShowsPort v moved_state q) →
         Rest w w2 s moved_state task name entry left
-    moved_rest w2 own other count_is no_set same_ledger made live ports = record {
-      rest = shape_is b;
-      naming_others = others_named b;
-      held_others = λ u not c q. let m = moved_held u c q in let z = far u task c kind q p not in omega (arith, m, z);
-      own_references = own;
-      other_references = other;
-      own_count = count_is;
-      made = made;
-      live = live;
-      ports = ports;
-      counts = λ q. subst (λ (x : LedgerView). CountsAgree x moved_state.live_port ledger (onces_queued moved_state) q) (sym same_ledger) (counts_are b q);
-      total = let t = ap (λ x. x.total) same_ledger in let m = moves (λ x. 1) in omega (arith, t, a.total, m, length-weigh s.ledger, length-weigh ledger);
-      stands = stands_are b is_left;
-      requests = λ r c q.
-          let m = moves (λ x. if is_of c q x && same_place (in_request r) x.place then 1 else 0) in
-          let y = kept_task r task c kind q p in let z = kept_entry r o k c kind q p in omega (arith, m, y, z);
-      no_set = no_set;
-    }
-      where
-        counts_are : (x : Bool) (q : ℕ) → CountsAgree w.ledger (kept x).live_port ledger (onces_queued (kept x)) q
-        counts_are true = counts_same w.ledger s.live_port s.ledger (onces_queued s) a.counts ledger moved_of
-        counts_are false = counts_same w.ledger s.live_port s.ledger (onces_queued s) a.counts ledger moved_of
+    moved_rest w2 own other count_is no_set same_ledger made live ports = grind (arith,
+        shape_is, others_named, moved_held, far, ledger, moves, length-weigh, stands_are, kept_task, kept_entry, counts_same, moved_of)
 
     pub moved_named : moved_state.naming task ≡ put (s.naming task) name (option_map target_of left)
     moved_named = naming_own b is_left
@@ -135,16 +113,10 @@ module _ (w : WorldView) (s : State) (a : Agrees w s) (o k : ℕ) (l : IsMoving 
     t = moved_state send p holds b left is_left s.sets_of s.make_send s.sequence
 
     at_port : (q : ℕ) → q ≡ p → (held t task receive q ≡ held s task receive p) × (held t task send q + 1 ≡ held s task send p)
-    at_port q is = subst (λ (x : ℕ). (held t task receive x ≡ held s task receive p) × (held t task send x + 1 ≡ held s task send p)) (sym is) (
-      (let m = moved_held send p holds b left is_left s.sets_of s.make_send s.sequence task receive p in omega (arith, m)),
-      (let m = moved_held send p holds b left is_left s.sets_of s.make_send s.sequence task send p in let y = own_right task send p refl in omega (arith, m, y)),
-    )
+    at_port q is = grind (arith, moved_held, holds, own_right)
 
     elsewhere : (q : ℕ) → (q ≡ p → ⊥) → (held t task receive q ≡ held s task receive q) × (held t task send q ≡ held s task send q)
-    elsewhere q not = (
-      (let m = moved_held send p holds b left is_left s.sets_of s.make_send s.sequence task receive q in let z = other_port task task receive send q p not in omega (arith, m, z)),
-      (let m = moved_held send p holds b left is_left s.sets_of s.make_send s.sequence task send q in let z = other_port task task send send q p not in omega (arith, m, z)),
-    )
+    elsewhere q not = grind (arith, moved_held, holds, other_port)
 
     same_port : (q r : ℕ) → Some q ≡ Some r → r ≡ q
     same_port q r e = cc
@@ -232,7 +204,7 @@ module _ (w : WorldView) (s : State) (a : Agrees w s) (o k : ℕ) (l : IsMoving 
       (b : Bool) (b_is : nat_lt 0 (held s task send p) ≡ b) (left : Option Entry) (is_left : LeftIs entry b left)
       (left_is : (e : Entry) → left ≡ Some e → HasCount e × (port_named e ≡ Some p) × (has_receive e ≡ false) × (send_references e ≡ send_references entry)) where
     receive_held : 0 < held s task receive p
-    receive_held = let h = own_held w s a o k l task name space there entry found p named in let one : one_if (has_receive entry) ≡ 1 = ap one_if has in omega (arith, h.0, one)
+    receive_held = grind (arith, own_held)
 
     abbrev f1 : ℕ → List ℕ
     f1 = at s.sets_of p []
@@ -247,17 +219,10 @@ module _ (w : WorldView) (s : State) (a : Agrees w s) (o k : ℕ) (l : IsMoving 
     receive_state = moved_state receive p receive_held b left is_left f1 f2 f3
 
     none_left : (q : ℕ) → q ≡ p → (held receive_state task receive q ≡ 0) × (held receive_state task send q ≡ held s task send p)
-    none_left q is = subst (λ (x : ℕ). (held receive_state task receive x ≡ 0) × (held receive_state task send x ≡ held s task send p)) (sym is) (
-      (let m = moved_held receive p receive_held b left is_left f1 f2 f3 task receive p in let y = own_right task receive p refl in
-          let h = own_held w s a o k l task name space there entry found p named in let one : one_if (has_receive entry) ≡ 1 = ap one_if has in omega (arith, m, y, h.0, one)),
-      (let m = moved_held receive p receive_held b left is_left f1 f2 f3 task send p in omega (arith, m)),
-    )
+    none_left q is = grind (arith, moved_held, receive_held, own_right, own_held)
 
     not_here : (q : ℕ) → (q ≡ p → ⊥) → (held receive_state task receive q ≡ held s task receive q) × (held receive_state task send q ≡ held s task send q)
-    not_here q not = (
-      (let m = moved_held receive p receive_held b left is_left f1 f2 f3 task receive q in let z = other_port task task receive receive q p not in omega (arith, m, z)),
-      (let m = moved_held receive p receive_held b left is_left f1 f2 f3 task send q in let z = other_port task task send receive q p not in omega (arith, m, z)),
-    )
+    not_here q not = grind (arith, moved_held, receive_held, other_port)
 
     its_port : (q r : ℕ) → Some q ≡ Some r → r ≡ q
     its_port q r e = cc

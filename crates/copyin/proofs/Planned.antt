@@ -48,12 +48,7 @@ usable w s o k task names at name e is =
 
 -- a name's word changes the tables as its right goes
 pub name_changes : (w new : WorldView) (task : ℕ) (word : PortWord) (c : Carried) → word.name ≢ null_word → word.name ≢ dead_word → CopiesRight w task c.given word.name c.mark new → ChangesWord w task word c new
-name_changes w new task word c a b r = go (word.name == null_word) (word.name == dead_word) (ne_eqb word.name null_word a) (ne_eqb word.name dead_word b)
-  where
-    go : (b1 b2 : Bool) → b1 ≡ false → b2 ≡ false → MatchBool b1 (new ≡ w) (MatchBool b2 (new ≡ w) (CopiesRight w task c.given word.name c.mark new))
-    go true b2 e f = absurd (cc)
-    go false true e f = absurd (cc)
-    go false false e f = r
+name_changes w new task word c a b r = grind (arith, ne_eqb)
 
 -- ---- the reply
 
@@ -124,12 +119,7 @@ module _ (w : WorldView) (s : State) (sh : Shows w s) (task : ℕ) (bytes : List
   none_receives = none_moved bytes text.header text.written (good_header bytes parsed text) text.message.spells
 
   is_sent : (d : Disposition) → kind_sent d ≢ receive → (if same_kind (kind_sent d) send_once then send_once else send) ≡ kind_sent d
-  is_sent d not = go_kind (kind_sent d) not
-    where
-      go_kind : (x : Kind) → x ≢ receive → (if same_kind x send_once then send_once else send) ≡ x
-      go_kind receive other = absurd (other refl)
-      go_kind send other = refl
-      go_kind send_once other = refl
+  is_sent d not = grind arith
 
   same_given : (a b : Disposition) → Some a ≡ Some b → a ≡ b
   same_given a b e = cc
@@ -149,15 +139,10 @@ module _ (w : WorldView) (s : State) (sh : Shows w s) (task : ℕ) (bytes : List
   kind_is = is_sent j.destination.given (not_sixteen parsed.remote_kind j.destination.given destination_given (λ e. none_receives.remote (sym text.remote_kind ∙ e)))
 
   to_header : CopyRight task (in_message j.port (length (s.log j.port))) text.header.remote_kind text.header.remote s (to_port j.port) first.t
-  to_header =
-      subst (λ (n : ℕ). CopyRight task (in_message j.port (length (s.log j.port))) text.header.remote_kind n s (to_port j.port) first.t) text.remote
-      (subst (λ (n : ℕ). CopyRight task (in_message j.port (length (s.log j.port))) n parsed.remote s (to_port j.port) first.t) text.remote_kind
-      (subst (λ (m : MachineMark). CopyRight task (in_message j.port (length (s.log j.port))) parsed.remote_kind parsed.remote s m first.t) (ap mark_of j.to_port) first.copy))
+  to_header = grind (arith, first)
 
   reply_header : CopyReply task (in_message j.port (length (s.log j.port))) text.header.local_kind text.header.local first.t (reply_of j.reply) second.t
-  reply_header =
-      subst (λ (n : ℕ). CopyReply task (in_message j.port (length (s.log j.port))) text.header.local_kind n first.t (reply_of j.reply) second.t) text.local
-      (subst (λ (n : ℕ). CopyReply task (in_message j.port (length (s.log j.port))) n parsed.local first.t (reply_of j.reply) second.t) text.local_kind second.copy)
+  reply_header = grind (arith, first, second)
 
   pub copied : Copied task text.header text.written s message third.t
   copied = record {

@@ -37,19 +37,7 @@ use Rattle.copyin.proofs.Keeping.{keeps}
 -- ---- the words of a text have dispositions
 
 ports_given : (n : ℕ) → NamesPorts n → IsSome (disposition n)
-ports_given n ports = elim (six n ports) [
-  | inl h ↦ rw h refl
-  | inr a ↦ elim a [
-    | inl h ↦ rw h refl
-    | inr b ↦ elim b [
-      | inl h ↦ rw h refl
-      | inr c ↦ elim c [
-        | inl h ↦ rw h refl
-        | inr d ↦ elim d [ inl h ↦ rw h refl | inr h ↦ rw h refl ]
-      ]
-    ]
-  ]
-]
+ports_given n ports = grind (arith, six)
 
 -- no receive right goes by such a disposition
 sends : (n : ℕ) (given d : Disposition) → disposition n ≡ Some given → kind_sent given ≢ receive → disposition n ≡ Some d → kind_sent d ≢ receive
@@ -62,19 +50,7 @@ not_once : send_once ≢ receive
 not_once e = cc
 
 pub sendable_sends : (n : ℕ) (d : Disposition) → IsSendable n → disposition n ≡ Some d → kind_sent d ≢ receive
-sendable_sends n d able e = elim (six n (omega (arith, able.0), able.1)) [
-  | inl h ↦ absurd (omega (arith, h, able.0))
-  | inr a ↦ elim a [
-    | inl h ↦ sends n MoveSend d (rw h refl) not_send e
-    | inr b ↦ elim b [
-      | inl h ↦ sends n MoveSendOnce d (rw h refl) not_once e
-      | inr c ↦ elim c [
-        | inl h ↦ sends n CopySend d (rw h refl) not_send e
-        | inr f ↦ elim f [ inl h ↦ sends n MakeSend d (rw h refl) not_send e | inr h ↦ sends n MakeSendOnce d (rw h refl) not_once e ]
-      ]
-    ]
-  ]
-]
+sendable_sends n d able e = grind (arith, six, sends, not_send, not_once)
 
 header_good : (bytes : List ℕ) → ((code : ℕ) → ¬ (TextRefuses bytes code)) → ¬ (BadHeader (word_at bytes 0) (word_at bytes 12))
 header_good bytes un bad =
@@ -84,10 +60,7 @@ header_good bytes un bad =
     )))
 
 sendable : (n : ℕ) → ¬ (¬ (IsSendable n)) → IsSendable n
-sendable n not = elim (leb_tells 17 n) [
-  | inl a ↦ elim (leb_tells n 21) [ inl b ↦ (a.1, b.1) | inr b ↦ absurd (not (λ s. absurd (omega (arith, s.1, b.1)))) ]
-  | inr a ↦ absurd (not (λ s. absurd (omega (arith, s.0, a.1))))
-]
+sendable n not = grind arith
 
 remote_of_text : (h : Header) (w : WireBody) → h.remote_kind < 2 ^ 8 → h.local_kind < 2 ^ 8 → word_at (text h w) 0 % 2 ^ 8 ≡ h.remote_kind
 remote_of_text h (raw bytes) fits small = omega arith
@@ -102,12 +75,10 @@ module _ (bytes : List ℕ) (parsed : Parsed) (p : Parses bytes parsed) where
   good = header_good bytes p.message.unrefused
 
   remote_is : word_at bytes 0 % 2 ^ 8 ≡ parsed.remote_kind
-  remote_is = ap (λ (bs : List ℕ). word_at bs 0 % 2 ^ 8) p.message.spells.is_text
-      ∙ remote_of_text p.header p.written p.message.spells.header_fits.remote_kind p.message.spells.header_fits.local_kind ∙ sym p.remote_kind
+  remote_is = grind (arith, remote_of_text)
 
   local_is : word_at bytes 0 / 2 ^ 8 % 2 ^ 8 ≡ parsed.local_kind
-  local_is = ap (λ (bs : List ℕ). word_at bs 0 / 2 ^ 8 % 2 ^ 8) p.message.spells.is_text
-      ∙ local_of_text p.header p.written p.message.spells.header_fits.remote_kind p.message.spells.header_fits.local_kind ∙ sym p.local_kind
+  local_is = grind (arith, local_of_text)
 
   pub remote_sendable : IsSendable parsed.remote_kind
   remote_sendable = subst IsSendable remote_is (sendable _ (λ n. good (inr (inl n))))
@@ -117,12 +88,7 @@ module _ (bytes : List ℕ) (parsed : Parsed) (p : Parses bytes parsed) where
 
 -- a word that is copied in gives its disposition
 word_given : (names : Names) (w : PortWord) (c : Carried) (after : Names) → CopiesWord names w c after → disposition w.disposition ≡ Some c.given
-word_given names w c after = go (w.name == null_word) (w.name == dead_word)
-  where
-    go : (a b : Bool) → MatchBool a (PassesAs w mark.Null names c after) (MatchBool b (PassesAs w mark.Dead names c after) (CopiesName names w c after)) → disposition w.disposition ≡ Some c.given
-    go true b x = x.0
-    go false true x = x.0
-    go false false x = x.is_given
+word_given names w c after = grind arith
 
 -- the right to answer with is no receive right
 pub reply_sends : (bytes : List ℕ) (parsed : Parsed) → Parses bytes parsed → (first second : Names) (reply : Option Carried) → CopiesReply first (reply_words parsed) reply second →
@@ -160,13 +126,7 @@ body_given (items xs) is = items_given xs is
 
 reply_given : (o : Option PortWord) (parsed : Parsed) → option_to_list o ≡ reply_words parsed → (parsed.local_kind ≢ 0 → IsSome (disposition parsed.local_kind)) → IfSome o IsGiven
 reply_given None parsed e able = tt
-reply_given (Some w) parsed e able = elim (eqb_tells parsed.local_kind 0) [
-  | inl h ↦ absurd (let no : w ∷ [] ≡ [] = rw h.0 at e in cc)
-  | inr h ↦
-      let only : w ∷ [] ≡ record { disposition = parsed.local_kind; name = parsed.local } ∷ [] = rw h.0 at e in
-      let same : w ≡ record { disposition = parsed.local_kind; name = parsed.local } = cc in
-      subst IsGiven (sym same) (able h.1)
-]
+reply_given (Some w) parsed e able = grind arith
 
 pub words_given : (bytes : List ℕ) (parsed : Parsed) (p : Parses bytes parsed) (words : Words) → AreWords parsed p.written words → AreGiven words
 words_given bytes parsed p words a = record {
@@ -245,10 +205,7 @@ module _ (w : WorldView) (task : ℕ) (parsed : Parsed) (written : WireBody) (sp
         record { judged = judged_of; no_loop = may.0; slot = may.1; few = may.2 }
 
     pub port_lives : AreTied space.names w.ports w.ledger → IsLive w.ports rights.port
-    port_lives tied =
-        let d = g.destination in
-        tied.live words.destination.name d.entry rights.port d.found ((keeps rights.destination.given d.entry d.copied d.is).mark rights.port (sym d.mark ∙ g.to_port))
+    port_lives tied = grind (arith, keeps)
 
     pub destination_sends : IsSendable parsed.remote_kind → kind_sent rights.destination.given ≢ receive
-    destination_sends able =
-        sendable_sends parsed.remote_kind rights.destination.given able (ap (λ (x : PortWord). disposition x.disposition) (sym a.destination) ∙ g.destination.is_given)
+    destination_sends able = grind (arith, sendable_sends)

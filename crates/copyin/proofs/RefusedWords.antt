@@ -1,5 +1,5 @@
 -- Words that can't be copied in, one after the other: the machine refuses them too.
-use Rattle.std.proofs.Common.{◌≡◌, ℕ, List, [], ◌∷◌, Option, Some, None, refl, sym, ap, subst, ◌∙◌, Bool, true, false, ◌⊎◌, inl, inr, length}
+use Rattle.std.proofs.Common.{arith, ◌≡◌, ℕ, List, [], ◌∷◌, Option, Some, None, refl, sym, ap, subst, ◌∙◌, Bool, true, false, ◌⊎◌, inl, inr, length}
 use Rattle.std.specs.Prelude.{◌≢◌, ◌==◌, if◌then◌else◌}
 use Rattle.mach_types.specs.declared.rights.Disposition.{Disposition}
 use Rattle.mach_types.specs.declared.rights.Disposition.TheVariants.{MoveReceive}
@@ -111,15 +111,12 @@ module _ (w : WorldView) (s : State) (sh : Shows w s) (task : ℕ) (bytes : List
     x1 = went w s p (length (s.log p)) task space.names (destination_word parsed) c first (start_at p space there) n
 
     to_header : CopyRight task (in_message p (length (s.log p))) text.header.remote_kind text.header.remote s (to_port p) x1.t
-    to_header =
-        subst (λ (m : ℕ). CopyRight task (in_message p (length (s.log p))) text.header.remote_kind m s (to_port p) x1.t) text.remote
-        (subst (λ (m : ℕ). CopyRight task (in_message p (length (s.log p))) m parsed.remote s (to_port p) x1.t) text.remote_kind
-        (subst (λ (m : MachineMark). CopyRight task (in_message p (length (s.log p))) parsed.remote_kind parsed.remote s m x1.t) (ap mark_of to) x1.copy))
+    to_header = grind (arith, x1)
 
     not_none : (b : Bool) → parsed.local_kind == 0 ≡ b → (r : PortWord) → (if b then [] else record { disposition = parsed.local_kind; name = parsed.local } ∷ []) ≡ r ∷ [] →
         (parsed.local_kind ≢ 0) × (r ≡ record { disposition = parsed.local_kind; name = parsed.local })
     not_none true e r is = absurd (let f : [] ≡ r ∷ [] = is in cc)
-    not_none false e r is = ((λ z. let f : parsed.local_kind == 0 ≡ true = ap (λ (m : ℕ). m == 0) z in cc), (let f : record { disposition = parsed.local_kind; name = parsed.local } ∷ [] ≡ r ∷ [] = is in cc))
+    not_none false e r is = grind arith
 
     bad_reply : (r : PortWord) → reply_words parsed ≡ r ∷ [] → IsBad first r → ReplyRefuses s task text.header
     bad_reply r is bad =
@@ -138,9 +135,7 @@ module _ (w : WorldView) (s : State) (sh : Shows w s) (task : ℕ) (bytes : List
       x2 = replied x1.w2 x1.t p (length (s.log p)) task first x1.along parsed (λ e. text.local ∙ no_answer bytes parsed text (sym text.local_kind ∙ e)) reply second r
 
       reply_header : CopyReply task (in_message p (length (s.log p))) text.header.local_kind text.header.local x1.t (reply_of reply) x2.t
-      reply_header =
-          subst (λ (m : ℕ). CopyReply task (in_message p (length (s.log p))) text.header.local_kind m x1.t (reply_of reply) x2.t) text.local
-          (subst (λ (m : ℕ). CopyReply task (in_message p (length (s.log p))) m parsed.local x1.t (reply_of reply) x2.t) text.local_kind x2.copy)
+      reply_header = grind (arith, x1, x2)
 
       bad_rights : BodyIsBad second (body_words text.written) → BodyRefuses s task text.header text.written
       bad_rights bad = record {

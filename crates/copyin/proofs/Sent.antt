@@ -97,11 +97,7 @@ module _ (w : WorldView) (s : State) (a : Agrees w s) (p : ℕ) (v : PortView Ke
   came = ap (λ (y : Message). same_kind send_once y.kind) keeps.message_is ∙ by_right m.by_once
 
   once_more : onces_queued with_entry p ≡ onces_queued s p + (if m.by_once then 1 else 0)
-  once_more =
-      let all : onces_queued with_entry p ≡ tally came_by_once (queue s p ++ logged now x ∷ []) = ap (tally came_by_once) queue_is in
-      let parts = tally-append came_by_once (queue s p) (logged now x ∷ []) in
-      let one : (if came_by_once (logged now x) then suc zero else zero) ≡ (if m.by_once then suc zero else zero) = ap (λ (b : Bool). if b then suc zero else zero) came in
-      omega (arith, all, parts, one)
+  once_more = grind (arith, queue_is, tally-append, came)
 
   lives : s.live_port p ≡ true
   lives = sym (a.live_port p) ∙ ap is_some there
@@ -112,10 +108,7 @@ module _ (w : WorldView) (s : State) (a : Agrees w s) (p : ℕ) (v : PortView Ke
   counted : (b : Bool) → (b ≡ true → 0 < (counts_of w.ledger p).send_once) → onces_queued with_entry p ≡ onces_queued s p + (if b then 1 else 0) →
       (q : ℕ) → CountsAgree (ledger_queued b p w.ledger) s.live_port s.ledger (onces_queued with_entry) q
   counted true some more = once_queued w.ledger s.live_port s.ledger (onces_queued s) a.counts (onces_queued with_entry) p lives onces_other (some refl) more
-  counted false some more = queues_same w.ledger s.live_port s.ledger (onces_queued s) a.counts (onces_queued with_entry) (λ q. elim (eqb_tells q p) [
-    | inl h ↦ subst (λ (n : ℕ). onces_queued s n ≡ onces_queued with_entry n) (sym h.1) (omega (arith, more))
-    | inr h ↦ onces_other q h.1
-  ])
+  counted false some more = grind (arith, queues_same, onces_other)
 
   total_queued : (b : Bool) → (ledger_queued b p w.ledger).total ≡ w.ledger.total
   total_queued true = refl
@@ -191,10 +184,7 @@ module _ (w : WorldView) (s : State) (sh : Shows w s) (now task : ℕ) (bytes : 
   limit_same = ap (λ (x : State). x.limit j.port) shaped
 
   not_full : HasSlot w j.port j.destination → ¬ ((m.kind ≡ send) × (copied_state.limit j.port ≤ length (queue copied_state j.port)))
-  not_full (inl once) full = let k = kind_is w s sh task bytes parsed text j in differ (sym full.0 ∙ k ∙ once)
-    where
-      differ : send ≡ send_once → ⊥
-      differ e = cc
+  not_full (inl once) full = grind (arith, kind_is)
   not_full (inr slot) full =
       let b = sh.agrees.ports j.port slot.0 slot.1 in
       let n = all_kept_length j.port slot.0.queue (queue s j.port) b.waiting in
@@ -261,8 +251,7 @@ module _ (w : WorldView) (s : State) (sh : Shows w s) (now task : ℕ) (bytes : 
     mid_agrees = subst (λ (y : WorldView). Agrees y copied_state) (sym mid_is) (third w s sh task bytes parsed text j).along.agrees
 
     once_there : same_kind (kind_sent j.destination.given) send_once ≡ true → 0 < (counts_of c.held.ledger j.port).send_once
-    once_there once = subst (λ (l : LedgerView). 0 < (counts_of l j.port).send_once) (sym (held_ledger j.port j.rights c.mid c.held c.holds))
-        (subst (λ (y : WorldView). 0 < (counts_of y.ledger j.port).send_once) (sym mid_is) (is_unused once))
+    once_there once = grind (arith, held_ledger, mid_is, is_unused)
 
     pub sent_agrees : Agrees new sent_state
     sent_agrees =
@@ -276,14 +265,7 @@ module _ (w : WorldView) (s : State) (sh : Shows w s) (now task : ℕ) (bytes : 
 
     -- a receive right that it carries lies in it, so no task has it ...
     most_one : (p : ℕ) → count (is_of receive p) copied_state.ledger ≤ 1
-    most_one p = go (copied_state.live_port p) refl
-      where
-        moving_state : IsMoving copied_state j.port (length (s.log j.port))
-        moving_state = (third w s sh task bytes parsed text j).along.moving
-
-        go : (b : Bool) → copied_state.live_port p ≡ b → count (is_of receive p) copied_state.ledger ≤ 1
-        go true is = let one = moving_state.one_receive p is in omega (arith, one)
-        go false is = let none = moving_state.no_rights p is receive in omega (arith, none)
+    most_one p = grind (arith, third)
 
     gone : (p : ℕ) → Contains j.rights (receive_right p) → (u : ℕ) → ReceivesAt c.mid u p → ⊥
     gone p among u = unheld c.mid copied_state mid_agrees u p (unheld_lying copied_state u p j.port (length (s.log j.port)) (most_one p) ((at_place p).1 among))

@@ -38,10 +38,7 @@ pub record MakesOnce (old new : WorldView) (made : ℕ) : Type 0 where
   pub spare : new.ports.spare ≡ old.ports.spare
 
 none_made : (old new : WorldView) → new ≡ old → MakesOnce old new 0
-none_made old new same = record {
-  unused = let e : new.ledger.unused ≡ old.ledger.unused = ap (λ (w : WorldView). w.ledger.unused) same in omega (arith, e);
-  spare = ap (λ (w : WorldView). w.ports.spare) same;
-}
+none_made old new same = grind arith
 
 -- ---- a right
 
@@ -66,45 +63,25 @@ unused_copied MakeSendOnce mark.Null l = omega arith
 unused_copied MakeSendOnce mark.Dead l = omega arith
 
 pub copied_once : (old new : WorldView) (task : ℕ) (d : Disposition) (name : ℕ) (one : Mark) → CopiesRight old task d name one new → MakesOnce old new (once_made_by_mark d one)
-copied_once old new task d name one c = record {
-  unused = ap (λ (w : WorldView). w.ledger.unused) c.rest ∙ unused_copied d c.copied.mark old.ledger ∙ ap (λ (m : Mark). old.ledger.unused + once_made_by_mark d m) (sym c.mark_is);
-  spare = ap (λ (w : WorldView). w.ports.spare) c.rest ∙ spare_copied d c.copied.mark old.ports;
-}
+copied_once old new task d name one c = grind (arith, unused_copied, spare_copied)
 
 -- ---- words
 
 none_by : (d : Disposition) (m : Mark) → (m ≡ mark.Null) → once_made_by_mark d m ≡ 0
-none_by d m is = ap (once_made_by_mark d) is ∙ none d
-  where
-    none : (x : Disposition) → once_made_by_mark x mark.Null ≡ 0
-    none MakeSendOnce = refl
-    none x = refl
+none_by d m is = grind arith
 
 none_dead : (d : Disposition) (m : Mark) → (m ≡ mark.Dead) → once_made_by_mark d m ≡ 0
-none_dead d m is = ap (once_made_by_mark d) is ∙ none d
-  where
-    none : (x : Disposition) → once_made_by_mark x mark.Dead ≡ 0
-    none MakeSendOnce = refl
-    none x = refl
+none_dead d m is = grind arith
 
 word_once : (names after : Names) (old new : WorldView) (task : ℕ) (w : PortWord) (c : Carried) → CopiesWord names w c after → ChangesWord old task w c new → MakesOnce old new (once_made_by c)
-word_once names after old new task w c copies changes = elim (eqb_tells w.name null_word) [
-  | inl n ↦ subst (MakesOnce old new) (sym (none_by c.given c.mark (rw n.0 at copies).1)) (none_made old new (rw n.0 at changes))
-  | inr n ↦ elim (eqb_tells w.name dead_word) [
-    | inl d ↦ subst (MakesOnce old new) (sym (none_dead c.given c.mark (rw (n.0, d.0) at copies).1)) (none_made old new (rw (n.0, d.0) at changes))
-    | inr d ↦ copied_once old new task c.given w.name c.mark (rw (n.0, d.0) at changes)
-  ]
-]
+word_once names after old new task w c copies changes = grind (arith, none_by, none_made, none_dead, copied_once)
 
 words_once : (names after : Names) (old new : WorldView) (task : ℕ) (ws : List PortWord) (cs : List Carried) → CopiesAll names ws cs after → ChangesWords old task ws cs new →
     MakesOnce old new (once_made_by_all cs)
 words_once names after old new task [] [] copies same = none_made old new same
 words_once names after old new task [] (c ∷ cs) copies changes = absurd changes
 words_once names after old new task (w ∷ ws) [] copies changes = absurd changes
-words_once names after old new task (w ∷ ws) (c ∷ cs) copies changes =
-    let a = word_once names copies.0 old changes.0 task w c copies.1 changes.1 in
-    let b = words_once copies.0 after changes.0 new task ws cs copies.2 changes.2 in
-    record { unused = omega (arith, a.unused, b.unused); spare = b.spare ∙ a.spare }
+words_once names after old new task (w ∷ ws) (c ∷ cs) copies changes = grind (arith, words_once copies.0 after changes.0 new task ws cs copies.2 changes.2, word_once)
 
 -- ---- a message
 
@@ -123,15 +100,7 @@ queued_less false p l = omega arith
 
 -- what it makes and uses at its destination leaves what it wants for itself, but for the slot that it takes
 own_balance : (d : Disposition) (m : Mark) (p : ℕ) → m ≡ mark.Port p → once_made_by_mark d m + 1 ≡ own_slot d + (if same_kind (kind_sent d) send_once then 1 else 0)
-own_balance d m p is = ap (λ (x : Mark). once_made_by_mark d x + 1) is ∙ go d
-  where
-    go : (x : Disposition) → once_made_by_mark x (mark.Port p) + 1 ≡ own_slot x + (if same_kind (kind_sent x) send_once then 1 else 0)
-    go MoveReceive = refl
-    go MoveSend = refl
-    go MoveSendOnce = refl
-    go CopySend = refl
-    go MakeSend = refl
-    go MakeSendOnce = refl
+own_balance d m p is = grind arith
 
 module _ (old : WorldView) (task : ℕ) (parsed : Parsed) (written : WireBody) (j : Judged old task parsed written) (tied : AreTied j.space.names old.ports old.ledger) (bytes : List ℕ) (new : WorldView)
     (c : Commits old task parsed written j bytes new) where
@@ -159,10 +128,7 @@ module _ (old : WorldView) (task : ℕ) (parsed : Parsed) (written : WireBody) (
 -- a right that goes by the disposition that takes no slot of its own is a send-once right that was there
 own_or_there : (d : Disposition) (e : Entry) (k : Copied) (p : ℕ) → copied_from d e ≡ Some k → k.mark ≡ mark.Port p → (own_slot d ≡ 1) ⊎ ((q : ℕ) × (e ≡ entry.SendOnce q))
 own_or_there MoveSendOnce (entry.SendOnce q) k p is to = inr (q, refl)
-own_or_there MoveSendOnce (entry.DeadName n) k p is to = absurd (dead k is to)
-  where
-    dead : {left : Option Entry} (c : Copied) → Some (record { left = left; mark = mark.Dead }) ≡ Some c → c.mark ≡ mark.Port p → ⊥
-    dead {left} c same port = let e : (record { left = left; mark = mark.Dead }) ≡ c = cc in let f : mark.Dead ≡ mark.Port p = ap (λ (x : Copied). x.mark) e ∙ port in cc
+own_or_there MoveSendOnce (entry.DeadName n) k p is to = grind arith
 own_or_there MoveSendOnce (entry.Receive q) k p is to = absurd (let e : None ≡ Some k = is in cc)
 own_or_there MoveSendOnce (entry.Send q n) k p is to = absurd (let e : None ≡ Some k = is in cc)
 own_or_there MoveSendOnce (entry.ReceiveAndSend q n) k p is to = absurd (let e : None ≡ Some k = is in cc)

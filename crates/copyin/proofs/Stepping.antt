@@ -150,26 +150,10 @@ module _ (w : WorldView) (s : State) (o k task : ℕ) (names : Names) (word : Po
 -- ---- what the tables do is determined
 
 right_once : (w : WorldView) (task : ℕ) (d : Disposition) (name : ℕ) (m : _) (a b : WorldView) → CopiesRight w task d name m a → CopiesRight w task d name m b → a ≡ b
-right_once w task d name m a b x y =
-    let space : x.space ≡ y.space = some_same x.space y.space (sym x.there ∙ y.there) in
-    let entry : x.entry ≡ y.entry = some_same x.entry y.entry (sym x.found ∙ ap (λ (z : SpaceView). map.get z.names name) space ∙ y.found) in
-    let copied : x.copied ≡ y.copied = some_same x.copied y.copied (sym x.is ∙ ap (copied_from d) entry ∙ y.is) in
-    x.rest ∙ both space copied ∙ sym y.rest
-  where
-    some_same : {A : Type 0} (p q : A) → Some p ≡ Some q → p ≡ q
-    some_same p q e = cc
-
-    both : {p q : SpaceView} {r t : Copied} → p ≡ q → r ≡ t → after w task name p d r ≡ after w task name q d t
-    both e f = λ i. after w task name (e i) d (f i)
+right_once w task d name m a b x y = grind (arith, after)
 
 word_once : (w : WorldView) (task : ℕ) (word : PortWord) (c : Carried) (a b : WorldView) → ChangesWord w task word c a → ChangesWord w task word c b → a ≡ b
-word_once w task word c a b = go (word.name == null_word) (word.name == dead_word)
-  where
-    go : (b1 b2 : Bool) → MatchBool b1 (a ≡ w) (MatchBool b2 (a ≡ w) (CopiesRight w task c.given word.name c.mark a)) →
-        MatchBool b1 (b ≡ w) (MatchBool b2 (b ≡ w) (CopiesRight w task c.given word.name c.mark b)) → a ≡ b
-    go true b2 x y = x ∙ sym y
-    go false true x y = x ∙ sym y
-    go false false x y = right_once w task c.given word.name c.mark a b x y
+word_once w task word c a b = grind (arith, right_once)
 
 pub words_once : (w : WorldView) (task : ℕ) (ws : List PortWord) (cs : List Carried) (a b : WorldView) → ChangesWords w task ws cs a → ChangesWords w task ws cs b → a ≡ b
 words_once w task [] [] a b x y = x ∙ sym y

@@ -30,11 +30,7 @@ use Rattle.copyin.specs.Plans.{ChangesWord, ChangesWords}
 
 -- a port with a right has its counts
 pub some_entered : (l : LedgerView) (p : ℕ) → 0 < (counts_of l p).send_once → IsEntered l p
-some_entered l p = go (map.get l.counts p)
-  where
-    go : (o : Option Counts) → 0 < (unwrap_or o no_rights).send_once → is_some o ≡ true
-    go None some = absurd (omega (arith, some))
-    go (Some c) some = refl
+some_entered l p = grind arith
 
 -- ---- none goes as rights are copied in
 
@@ -61,21 +57,14 @@ as_many : (old new : WorldView) (p : ℕ) → new ≡ old → (counts_of old.led
 as_many old new p e = subst (λ (x : WorldView). (counts_of old.ledger p).send_once ≤ (counts_of x.ledger p).send_once) (sym e) (omega arith)
 
 more_word : (old new : WorldView) (task : ℕ) (w : PortWord) (c : Carried) → ChangesWord old task w c new → (p : ℕ) → (counts_of old.ledger p).send_once ≤ (counts_of new.ledger p).send_once
-more_word old new task w c ch p = elim (eqb_tells w.name null_word) [
-  | inl n ↦ as_many old new p (rw n.0 at ch)
-  | inr n ↦ elim (eqb_tells w.name dead_word) [ inl d ↦ as_many old new p (rw (n.0, d.0) at ch) | inr d ↦ right (rw (n.0, d.0) at ch) ]
-]
-  where
-    right : CopiesRight old task c.given w.name c.mark new → (counts_of old.ledger p).send_once ≤ (counts_of new.ledger p).send_once
-    right r = subst (λ (x : WorldView). (counts_of old.ledger p).send_once ≤ (counts_of x.ledger p).send_once) (sym r.rest) (more_copied c.given r.copied.mark old.ledger p)
+more_word old new task w c ch p = grind (arith, as_many, more_copied)
 
 pub more_words : (old new : WorldView) (task : ℕ) (ws : List PortWord) (cs : List Carried) → ChangesWords old task ws cs new → (p : ℕ) →
     (counts_of old.ledger p).send_once ≤ (counts_of new.ledger p).send_once
 more_words old new task [] [] ch p = as_many old new p ch
 more_words old new task [] (c ∷ cs) ch p = absurd ch
 more_words old new task (w ∷ ws) [] ch p = absurd ch
-more_words old new task (w ∷ ws) (c ∷ cs) ch p =
-    let a = more_word old ch.0 task w c ch.1 p in let b = more_words ch.0 new task ws cs ch.2 p in omega (arith, a, b)
+more_words old new task (w ∷ ws) (c ∷ cs) ch p = grind (arith, more_words ch.0 new task ws cs ch.2 p, more_word)
 
 -- ---- the destination's right is one
 
@@ -94,13 +83,9 @@ once_copied MoveReceive e k p l is once to own = absurd (cc)
 once_copied MoveSend e k p l is once to own = absurd (cc)
 once_copied CopySend e k p l is once to own = absurd (cc)
 once_copied MakeSend e k p l is once to own = absurd (cc)
-once_copied MakeSendOnce e k p l is once to own =
-    rw to (subst (λ (o : Option Counts). 0 < (unwrap_or o no_rights).send_once) (sym (get_own l.counts p (with_more SendOnce 1 (counts_of l p)))) (omega arith))
-once_copied MoveSendOnce (entry.SendOnce q) k p l is once to own =
-    let marked : k.mark ≡ mark.Port q = ap (λ (x : Copied). x.mark) (sym (the_copied (record { left = None; mark = mark.Port q }) k is)) in
-    subst (λ (n : ℕ). 0 < (counts_of l n).send_once) (the_port q p k.mark marked to) (own q refl)
-once_copied MoveSendOnce (entry.DeadName n) k p l is once to own =
-    absurd (let marked : k.mark ≡ mark.Dead = ap (λ (x : Copied). x.mark) (sym (the_copied _ k is)) in let e : mark.Dead ≡ mark.Port p = sym marked ∙ to in cc)
+once_copied MakeSendOnce e k p l is once to own = grind (arith, get_own)
+once_copied MoveSendOnce (entry.SendOnce q) k p l is once to own = grind (arith, the_copied, the_port)
+once_copied MoveSendOnce (entry.DeadName n) k p l is once to own = grind (arith, the_copied)
 once_copied MoveSendOnce (entry.Receive q) k p l is once to own = absurd (no_copied k is)
 once_copied MoveSendOnce (entry.Send q n) k p l is once to own = absurd (no_copied k is)
 once_copied MoveSendOnce (entry.ReceiveAndSend q n) k p l is once to own = absurd (no_copied k is)

@@ -45,15 +45,7 @@ module _ (ports : map.FinMap nat_cmp (PortView Kept)) where
 
 -- the members of a set are in none now
 pub disbanded_queues : (old new : PortsView Kept) (set : ℕ) → IsDisbanded old new set → KeepQueues old.ports new.ports
-disbanded_queues old new set d q v m is queued = go (map.get old.ports q) refl
-  where
-    member : (x : PortView Kept) → map.get old.ports q ≡ Some x → (x.attributes.set ≡ Some set) ⊎ (x.attributes.set ≡ Some set → ⊥) → IsQueuedAt old.ports q m
-    member x at (inl e) = record { v = x; there = at; queued = subst (λ (y : PortView Kept). Contains y.queue m) (sym (same_found (map.get new.ports q) (in_set x None) v (d.members q x at e) is)) queued }
-    member x at (inr not) = record { v = x; there = at; queued = subst (λ (y : PortView Kept). Contains y.queue m) (sym (same_found (map.get new.ports q) x v (d.others q x at not) is)) queued }
-
-    go : (o : Option (PortView Kept)) → map.get old.ports q ≡ o → IsQueuedAt old.ports q m
-    go None at = absurd (let e : None ≡ Some v = sym (d.gone q at) ∙ is in cc)
-    go (Some x) at = member x at (same_port x.attributes.set set)
+disbanded_queues old new set d q v m is queued = grind (arith, same_found, same_port)
 
 -- ---- in the tables
 
@@ -84,9 +76,7 @@ module _ (w w2 : WorldView) (a : CarriersAgree w) where
 
   -- No port changed.
   pub carriers_same : w2.ports.made ≡ w.ports.made → w2.ports.ports ≡ w.ports.ports → CarriersAgree w2
-  carriers_same made ports = carriers_stay (omega (arith, made))
-      (subst (λ (x : map.FinMap nat_cmp (PortView Kept)). KeepQueues w.ports.ports x) (sym ports) (same_queues w.ports.ports))
-      (subst (λ (x : map.FinMap nat_cmp (PortView Kept)). KeepHolders w.ports.ports x) (sym ports) (λ p v there. record { v = v; there = there; is = refl }))
+  carriers_same made ports = grind (arith, carriers_stay, same_queues)
 
   -- One port was put, with the messages that it had, or fewer, and with its holder.
   pub carriers_fewer : (p : ℕ) (v v2 : PortView Kept) → port_at w p ≡ Some v → w2.ports.made ≡ w.ports.made → w2.ports.ports ≡ map.insert w.ports.ports p v2 →

@@ -21,19 +21,12 @@ kept_alike : (live live2 : ℕ → Bool) (o : Option ℕ) → ((n : ℕ) → o �
 kept_alike live live2 None same kind q = refl
 kept_alike live live2 (Some n) same receive q = refl
 kept_alike live live2 (Some n) same send q = refl
-kept_alike live live2 (Some n) same send_once q = elim (eqb_tells n q) [
-  | inl h ↦ ap (λ (b : Bool). if n == q && b then 1 else 0) (subst (λ (k : ℕ). live2 k ≡ live k) h.1 (same n refl))
-  | inr h ↦ rw h.0 refl
-]
+kept_alike live live2 (Some n) same send_once q = grind arith
 
 went_alike : (live live2 : ℕ → Bool) (made : ℕ) (went : List NameRequest) → AreMade made went → ((q : ℕ) → q < made → live2 q ≡ live q) → (r : Request) (kind : Kind) (q : ℕ) →
     rights_went live2 went r kind q ≡ rights_went live went r kind q
 went_alike live live2 made [] a same r kind q = refl
-went_alike live live2 made (x ∷ went) a same r kind q =
-    let here : rights_kept live2 (Some x.notify) kind q ≡ rights_kept live (Some x.notify) kind q =
-    kept_alike live live2 (Some x.notify) (of_some x.notify (λ n. live2 n ≡ live n) (same x.notify a.0)) kind q in
-    let rest = went_alike live live2 made went a.1 same r kind q in
-    λ i. (if was_on r x then here i else 0) + rest i
+went_alike live live2 made (x ∷ went) a same r kind q = grind (arith, went_alike live live2 made went a.1 same r kind q, kept_alike, of_some)
 
 made_more : (made made2 : ℕ) (went : List NameRequest) → made ≤ made2 → AreMade made went → AreMade made2 went
 made_more made made2 [] more a = tt
@@ -47,11 +40,7 @@ ended_same stands stands2 same (x ∷ went) a = (same (dead_name x.task x.name) 
 -- ... and nor do they where one more ends
 pub ended_more : (stands : Request → Bool) (this : Request) (went : List NameRequest) → AreEnded stands went → AreEnded (request_at stands this false) went
 ended_more stands this [] a = tt
-ended_more stands this (x ∷ went) a = (less (same_request (dead_name x.task x.name) this) a.0, ended_more stands this went a.1)
-  where
-    less : (b : Bool) → stands (dead_name x.task x.name) ≡ false → (if b then false else stands (dead_name x.task x.name)) ≡ false
-    less true e = refl
-    less false e = e
+ended_more stands this (x ∷ went) a = grind (arith, ended_more stands this went a.1)
 
 ended_append : (stands : Request → Bool) (went : List NameRequest) (g : NameRequest) → AreEnded stands went → stands (dead_name g.task g.name) ≡ false → AreEnded stands (went ++ g ∷ [])
 ended_append stands [] g a e = (e, tt)
@@ -61,16 +50,7 @@ ended_append stands (x ∷ went) g a e = (a.0, ended_append stands went g a.1 e)
 pub requests_stay : (notify : Request → Option ℕ) (went : List NameRequest) (made made2 : ℕ) (stands stands2 : Request → Bool) (live live2 : ℕ → Bool) (tokens tokens2 : List Token) →
     RequestsAgree notify went made stands live tokens → made ≤ made2 → ((r : Request) → stands2 r ≡ stands r) → ((q : ℕ) → q < made → live2 q ≡ live q) →
     ((r : Request) (kind : Kind) (q : ℕ) → lying_among tokens2 kind q (in_request r) ≡ lying_among tokens kind q (in_request r)) → RequestsAgree notify went made2 stands2 live2 tokens2
-requests_stay notify went made made2 stands stands2 live live2 tokens tokens2 a more same lives lying = record {
-  standing = λ r. same r ∙ a.standing r;
-  kept = λ r kind q.
-      let one = kept_alike live live2 (notify r) (λ n is. lives n (a.given r n is)) kind q in
-      let all = went_alike live live2 made went a.given_went lives r kind q in
-      lying r kind q ∙ a.kept r kind q ∙ sym (λ i. one i + all i);
-  given = λ r q is. let less = a.given r q is in omega (arith, less, more);
-  given_went = made_more made made2 went more a.given_went;
-  ended_went = ended_same stands stands2 same went a.ended_went;
-}
+requests_stay notify went made made2 stands stands2 live live2 tokens tokens2 a more same lives lying = grind (arith, kept_alike, went_alike, made_more, ended_same)
 
 -- ---- a name goes
 
@@ -98,22 +78,12 @@ module _ (v : RequestTablesView) (task name : ℕ) (small : name < 2 ^ 32)
   this = dead_name task name
 
   notify_this : (o : Option NameRequest) → map.get v.names.requests (name_key task name) ≡ o → notify_of v this ≡ option_map (λ (r : NameRequest). r.notify) o
-  notify_this o is = go (nat_lt name (2 ^ 32)) (lt-ltb name (2 ^ 32) small) ∙ ap (option_map (λ (r : NameRequest). r.notify)) is
-    where
-      go : (b : Bool) → b ≡ true → (if b then option_map (λ (r : NameRequest). r.notify) (map.get v.names.requests (name_key task name)) else None) ≡ option_map (λ (r : NameRequest). r.notify) (map.get v.names.requests (name_key task name))
-      go true e = refl
-      go false e = absurd (cc)
+  notify_this o is = grind (arith, lt-ltb)
 
   is_this : (r : Request) → same_request r this ≡ true → r ≡ this
   is_this (no_senders p) e = absurd (cc)
   is_this (port_destroyed p) e = absurd (cc)
-  is_this (dead_name t n) e = elim (eqb_tells t task) [
-    | inl h ↦ elim (eqb_tells n name) [
-      | inl k ↦ λ i. dead_name (h.1 i) (k.1 i)
-      | inr k ↦ absurd (let f : (t == task && n == name) ≡ false = rw (h.0, k.0) refl in let g : true ≡ false = sym e ∙ f in cc)
-    ]
-    | inr h ↦ absurd (let f : (t == task && n == name) ≡ false = rw h.0 refl in let g : true ≡ false = sym e ∙ f in cc)
-  ]
+  is_this (dead_name t n) e = grind arith
 
   abbrev gone : Option NameRequest → RequestTablesView
   gone o = record v { names = left_by v.names o }
@@ -122,32 +92,10 @@ module _ (v : RequestTablesView) (task name : ℕ) (small : name < 2 ^ 32)
   other_notify : (g : NameRequest) → (g.task ≡ task) × (g.name ≡ name) → (r : Request) → same_request r this ≡ false → notify_of (gone (Some g)) r ≡ notify_of v r
   other_notify g at (no_senders p) other = refl
   other_notify g at (port_destroyed p) other = refl
-  other_notify g at (dead_name t n) other = go (nat_lt n (2 ^ 32)) refl
-    where
-      key : key_of g ≡ name_key task name
-      key = λ i. name_key (at.0 i) (at.1 i)
-
-      differs : n < 2 ^ 32 → name_key t n ≡ key_of g → ⊥
-      differs few e =
-          let same = same_key t n task name few small (e ∙ key) in
-          let f : (t == task && n == name) ≡ true = rw (eq-eqb t task same.0, eq-eqb n name same.1) refl in
-          let g : false ≡ true = sym other ∙ f in cc
-
-      go : (b : Bool) → nat_lt n (2 ^ 32) ≡ b →
-          (if b then option_map (λ (r : NameRequest). r.notify) (map.get (map.remove v.names.requests (key_of g)) (name_key t n)) else None) ≡
-          (if b then option_map (λ (r : NameRequest). r.notify) (map.get v.names.requests (name_key t n)) else None)
-      go true is = ap (option_map (λ (r : NameRequest). r.notify)) (get_removed v.names.requests (key_of g) (name_key t n) (differs (ltb-true n (2 ^ 32) is)))
-      go false is = refl
+  other_notify g at (dead_name t n) other = grind (arith, same_key, eq-eqb, get_removed, ltb-true)
 
   this_gone : (g : NameRequest) → (g.task ≡ task) × (g.name ≡ name) → notify_of (gone (Some g)) this ≡ None
-  this_gone g at = go (nat_lt name (2 ^ 32))
-    where
-      found : map.get (map.remove v.names.requests (key_of g)) (name_key task name) ≡ None
-      found = subst (λ (k : ℕ). map.get (map.remove v.names.requests (key_of g)) k ≡ None) (λ i. name_key (at.0 i) (at.1 i)) (removed_own v.names.requests (key_of g))
-
-      go : (b : Bool) → (if b then option_map (λ (r : NameRequest). r.notify) (map.get (map.remove v.names.requests (key_of g)) (name_key task name)) else None) ≡ None
-      go true = ap (option_map (λ (r : NameRequest). r.notify)) found
-      go false = refl
+  this_gone g at = grind (arith, removed_own)
 
   own_ended : (stands : Request → Bool) (g : NameRequest) → (g.task ≡ task) × (g.name ≡ name) → request_at stands this false (dead_name g.task g.name) ≡ false
   own_ended stands g at = subst (λ (r : Request). request_at stands this false r ≡ false) (λ i. dead_name (sym at.0 i) (sym at.1 i)) (rw (request_refl this) refl)
@@ -160,17 +108,7 @@ module _ (v : RequestTablesView) (task name : ℕ) (small : name < 2 ^ 32)
   module _ (made : ℕ) (stands : Request → Bool) (live : ℕ → Bool) (tokens : List Token) (a : RequestsAgree (notify_of v) v.names.went made stands live tokens) where
     ended : (o : Option NameRequest) → map.get v.names.requests (name_key task name) ≡ o →
         RequestsAgree (notify_of (gone o)) (left_by v.names o).went made (request_at stands this false) live tokens
-    ended None is = record {
-      standing = λ r. standing r (same_request r this) refl;
-      kept = a.kept;
-      given = a.given;
-      given_went = a.given_went;
-      ended_went = ended_more stands this v.names.went a.ended_went;
-    }
-      where
-        standing : (r : Request) (b : Bool) → same_request r this ≡ b → (if b then false else stands r) ≡ is_some (notify_of v r)
-        standing r false e = a.standing r
-        standing r true e = sym (ap (λ (x : Request). is_some (notify_of v x)) (is_this r e) ∙ ap is_some (notify_this None is))
+    ended None is = grind (arith, ended_more, is_this, notify_this)
     ended (Some g) is = record {
       standing = λ r. standing r (same_request r this) refl;
       kept = λ r kind q. a.kept r kind q ∙ kept r kind q (same_request r this) refl;

@@ -1,12 +1,11 @@
 -- The tables after a burial agree with the state after it.
-use Rattle.std.proofs.Common.{◌≡◌, ℕ, zero, suc, ◌+◌, List, [], ◌∷◌, Option, Some, None, refl, sym, ap, subst, ◌∙◌, arith, true, false, Bool, inl, inr, length}
-use Rattle.std.specs.Prelude.{if◌then◌else◌, ◌==◌, ◌&&◌, not, filter, option_map, is_some}
+use Rattle.std.proofs.Common.{◌≡◌, ℕ, ◌+◌, List, [], ◌∷◌, Option, Some, None, refl, sym, ap, subst, ◌∙◌, arith, true, false, Bool, inl, inr, length}
+use Rattle.std.specs.Prelude.{if◌then◌else◌, ◌==◌, ◌&&◌, not, filter, is_some}
 use Rattle.std.specs.Option.{unwrap_or}
-use Rattle.std.specs.FinMap as map
 use Rattle.std.proofs.lemmas.Bool.{eq-eqb, ne_eqb}
 use Rattle.std.proofs.lemmas.Bool.Decides.{eqb_tells}
-use Rattle.mach_types.specs.Tokens.{Kind, receive, send, send_once, Request, dead_name, Place, in_task, in_message, in_request, Token, weigh, count, is_of, is_held, is_in_task, same_kind}
-use Rattle.mach_model.specs.State.{State, Target, lookup, held}
+use Rattle.mach_types.specs.Tokens.{Kind, receive, send, send_once, Request, Place, in_task, in_message, in_request, Token, weigh, count, is_of, is_held, is_in_task}
+use Rattle.mach_model.specs.State.{State, held}
 use Rattle.mach_model.specs.Death.{same_place, LiesAt}
 use Rattle.mach_model.specs.Carried.{lying_among}
 use Rattle.mach_model.specs.Turns.{Ending, listed, lives_after}
@@ -34,7 +33,7 @@ use Rattle.copyin_base.proofs.Putting.{get_removed}
 use Rattle.copyin_base.proofs.Requesting.{requests_stay}
 use Rattle.notifications.proofs.Agreeing.{filter_weigh}
 use Rattle.notifications.specs.SoFar.{AgreesOf, IsWithNobody, IsHolder, HoldersTell}
-use Rattle.destroy.specs.Burying.{is_among, without_port, buried, IsPartway}
+use Rattle.destroy.specs.Burying.{without_port, buried, IsPartway}
 use Rattle.destroy.proofs.BurNames.{left_target, left_as_read, spaces_left, rights_left, sets_left}
 use Rattle.destroy.proofs.BurSoFar.{after_burial}
 use Rattle.destroy.proofs.BurState.{weigh_same, is_off, count_else, none_here}
@@ -50,15 +49,7 @@ of_none kind port x not = rw (ne_eqb x.port port not) (and_false _)
 -- the rights for a port are those of the three kinds
 by_kinds : (port : ℕ) (xs : List Token) → weigh (λ x. if x.port == port then 1 else 0) xs ≡ count (is_of receive port) xs + count (is_of send port) xs + count (is_of send_once port) xs
 by_kinds port [] = refl
-by_kinds port (x ∷ xs) = let a = one x.kind (x.port == port) refl in let b = by_kinds port xs in omega (arith, a, b)
-  where
-    one : (k : Kind) (b : Bool) → x.kind ≡ k → (if b then suc zero else zero) ≡ (if same_kind receive x.kind && b then suc zero else zero) + (if same_kind send x.kind && b then suc zero else zero) + (if same_kind send_once x.kind && b then suc zero else zero)
-    one receive true is = rw is refl
-    one send true is = rw is refl
-    one send_once true is = rw is refl
-    one receive false is = rw is refl
-    one send false is = rw is refl
-    one send_once false is = rw is refl
+by_kinds port (x ∷ xs) = grind (arith, by_kinds port xs)
 
 module _ (now : ℕ) (mid : State) (e : Ending) (port : ℕ) (rs : List Request) (s : State) (f : IsPartway now mid e rs s) (w : WorldView) (doomed : List ℕ)
     (a : AgreesOf (lives_after mid e) w s) (is_doomed : listed e.doomed port ≡ true) (held_by : HoldersAgree w)
@@ -75,19 +66,10 @@ module _ (now : ℕ) (mid : State) (e : Ending) (port : ℕ) (rs : List Request)
   -- ---- which ports are there
 
   pub live_is : (q : ℕ) → live q ≡ (s.live_port q && not (q == port))
-  live_is q = elim (eqb_tells q port) [
-    | inl h ↦ ap is_some (ap (map.get (map.remove w.ports.ports port)) h.1 ∙ removed_own w.ports.ports port) ∙ sym (ap (λ (b : Bool). s.live_port q && not b) h.0 ∙ and_false (s.live_port q))
-    | inr h ↦ ap is_some (get_removed w.ports.ports port q h.1) ∙ a.live_port q ∙ sym (ap (λ (b : Bool). s.live_port q && not b) h.0 ∙ with_true (s.live_port q))
-  ]
-    where
-      with_true : (b : Bool) → (b && true) ≡ b
-      with_true true = refl
-      with_true false = refl
+  live_is q = grind (arith, removed_own, and_false, get_removed)
 
   pub live_other : (q : ℕ) → live q ≡ true → q ≡ port → ⊥
-  live_other q is same =
-      let h : (s.live_port q && not (q == port)) ≡ false = ap (λ (b : Bool). s.live_port q && not b) (eq-eqb q port same) ∙ and_false (s.live_port q) in
-      let g : true ≡ false = sym is ∙ live_is q ∙ h in cc
+  live_other q is same = grind (arith, eq-eqb, and_false, live_is)
 
   pub there_other : (q : ℕ) (v : PortView Kept) → port_at after q ≡ Some v → (q ≡ port → ⊥) × (port_at w q ≡ Some v)
   there_other q v there =
@@ -96,16 +78,10 @@ module _ (now : ℕ) (mid : State) (e : Ending) (port : ℕ) (rs : List Request)
 
   -- a port of a name is there
   named_there : (task n : ℕ) (x : Named) (p : ℕ) → entry_at w task n ≡ Some x → port_named x ≡ Some p → s.live_port p ≡ true
-  named_there task n x p at named =
-      let here : lookup s task n ≡ Some (Target.port p) = a.spaces.naming task n ∙ ap (option_map target_of) at ∙ ap Some (target_named x p named) in
-      let t = settled_port mid (record mid { live_port = λ q. s.live_port q && not (is_among rs (dead_name task n)) }) task n (lookup mid task n) p (sym (f.names task n) ∙ here) in
-      left_of (s.live_port p) (not (is_among rs (dead_name task n))) t.1
+  named_there task n x p at named = grind (arith, target_named, settled_port, left_of)
 
   dead_is : (p : ℕ) → s.live_port p ≡ true → live p ≡ false → p ≡ port
-  dead_is p lives dead = elim (eqb_tells p port) [
-    | inl h ↦ h.1
-    | inr h ↦ absurd (let g : live p ≡ true = live_is p ∙ (λ i. lives i && not (h.0 i)) in let k : true ≡ false = sym g ∙ dead in cc)
-  ]
+  dead_is p lives dead = grind (arith, live_is)
 
   -- no name has its receive right
   as_read : (task n : ℕ) (x : Named) → entry_at w task n ≡ Some x → left_target live (λ q. held s task send q) (target_of x) ≡ target_of (reading live x)
@@ -146,32 +122,10 @@ module _ (now : ℕ) (mid : State) (e : Ending) (port : ℕ) (rs : List Request)
   counts_own = ap (λ (o : Option Counts). unwrap_or o no_rights) (removed_own w.ledger.counts port)
 
   own_counts : CountsAgree after.ledger next.live_port next.ledger queued_after port
-  own_counts =
-      let dead : next.live_port port ≡ false = ap (λ (b : Bool). s.live_port port && not b) (eq-eqb port port refl) ∙ and_false (s.live_port port) in
-      record {
-        entered = ap is_some (removed_own w.ledger.counts port) ∙ sym dead;
-        receivers = ap (λ (c : Counts). c.receive) counts_own ∙ sym (none_here port (is_of receive port) (of_none receive port) s.ledger);
-        senders = ap (λ (c : Counts). c.send) counts_own ∙ sym (none_here port (is_of send port) (of_none send port) s.ledger);
-        once_rights = ap (λ (c : Counts). c.send_once + c.destination) counts_own ∙ sym (none_here port (is_of send_once port) (of_none send_once port) s.ledger);
-        destinations = λ lives. absurd (let g : true ≡ false = sym lives ∙ dead in cc);
-      }
+  own_counts = grind (arith, eq-eqb, and_false, removed_own, counts_own, none_here, of_none)
 
   other_counts : (q : ℕ) → (q ≡ port → ⊥) → CountsAgree after.ledger next.live_port next.ledger queued_after q
-  other_counts q other =
-      let b = a.counts q in
-      let same = counts_other q other in
-      let still : next.live_port q ≡ s.live_port q = ap (λ (b : Bool). s.live_port q && not b) (ne_eqb q port other) ∙ with_true (s.live_port q) in
-      record {
-        entered = ap is_some (get_removed w.ledger.counts port q other) ∙ b.entered ∙ sym still;
-        receivers = ap (λ (c : Counts). c.receive) same ∙ b.receivers ∙ sym (count_else port (is_of receive q) (of_other receive q port other) s.ledger);
-        senders = ap (λ (c : Counts). c.send) same ∙ b.senders ∙ sym (count_else port (is_of send q) (of_other send q port other) s.ledger);
-        once_rights = ap (λ (c : Counts). c.send_once + c.destination) same ∙ b.once_rights ∙ sym (count_else port (is_of send_once q) (of_other send_once q port other) s.ledger);
-        destinations = λ lives. ap (λ (c : Counts). c.destination) same ∙ b.destinations (sym still ∙ lives) ∙ ap (λ (c : Counts). if lives_after mid e q then onces_queued s q else c.destination) (sym same);
-      }
-    where
-      with_true : (b : Bool) → (b && true) ≡ b
-      with_true true = refl
-      with_true false = refl
+  other_counts q other = grind (arith, counts_other, ne_eqb, get_removed, count_else, of_other)
 
   counts : (q : ℕ) → CountsAgree after.ledger next.live_port next.ledger queued_after q
   counts q = elim (eqb_tells q port) [
@@ -180,18 +134,9 @@ module _ (now : ℕ) (mid : State) (e : Ending) (port : ℕ) (rs : List Request)
   ]
 
   total : after.ledger.total ≡ length next.ledger
-  total =
-      let b = a.counts port in
-      let r = b.receivers in
-      let d = b.senders in
-      let o = b.once_rights in
-      let k = by_kinds port s.ledger in
-      let p = parted (λ x. 1) (λ x. x.port == port) s.ledger in
-      let q = filter_weigh (λ x. 1) (λ x. x.port == port) s.ledger in
-      let l = length-weigh s.ledger in
-      let m = length-weigh next.ledger in
-      let t = a.total in
-      omega (arith, r, d, o, k, p, q, l, m, t)
+  total = grind (arith,
+      a.counts port, by_kinds port s.ledger, parted (λ x. 1) (λ x. x.port == port) s.ledger,
+      filter_weigh (λ x. 1) (λ x. x.port == port) s.ledger, length-weigh s.ledger, length-weigh next.ledger, a.total)
 
   -- ---- requests
 
@@ -240,7 +185,7 @@ module _ (now : ℕ) (mid : State) (e : Ending) (port : ℕ) (rs : List Request)
   -- ---- who holds receive rights
 
   lies_same : (p : ℕ) → (p ≡ port → ⊥) → (place : Place) → count (λ x. is_of receive p x && same_place place x.place) next.ledger ≡ count (λ x. is_of receive p x && same_place place x.place) s.ledger
-  lies_same p not place = count_else port (λ x. is_of receive p x && same_place place x.place) (λ x is. ap (λ (b : Bool). b && same_place place x.place) (of_other receive p port not x is)) s.ledger
+  lies_same p not place = grind (arith, count_else, of_other)
 
   still_lies : (p : ℕ) → (p ≡ port → ⊥) → (place : Place) → LiesAt s receive p place → LiesAt next receive p place
   still_lies p not place lies = let same = lies_same p not place in omega (arith, same, lies)

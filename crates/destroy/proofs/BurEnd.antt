@@ -1,16 +1,16 @@
 -- Once all requests of a doomed port have ended, and it has left, a turn is done.
-use Rattle.std.proofs.Common.{◌≡◌, ℕ, zero, suc, ◌+◌, ◌<◌, ◌≤◌, ◌^◌, List, [], ◌∷◌, ◌++◌, Option, Some, None, refl, sym, ap, subst, ◌∙◌, arith, true, false, Bool, ◌⊎◌, inl, inr, length, drop, get_or}
-use Rattle.std.specs.Prelude.{if◌then◌else◌, Contains, ◌==◌, ◌&&◌, not, filter, is_some, map as list_map, nat_lt}
+use Rattle.std.proofs.Common.{◌≡◌, ℕ, zero, suc, ◌+◌, ◌<◌, ◌≤◌, List, [], ◌∷◌, ◌++◌, Option, Some, None, refl, sym, ap, subst, ◌∙◌, arith, true, false, Bool, ◌⊎◌, inl, inr, length, drop, get_or}
+use Rattle.std.specs.Prelude.{if◌then◌else◌, Contains, ◌==◌, ◌&&◌, not, is_some, map as list_map}
 use Rattle.std.specs.Option.{option_map}
 use Rattle.std.specs.FinMap as map
 use Rattle.std.proofs.lemmas.Bool.{lt-ltb}
 use Rattle.std.proofs.lemmas.Bool.Decides.{eqb_tells}
-use Rattle.mach_types.specs.Tokens.{receive, send, Request, no_senders, port_destroyed, dead_name, Place, in_message, in_request, Token, weigh, count, is_of}
+use Rattle.mach_types.specs.Tokens.{Request, no_senders, port_destroyed, dead_name, Place, in_message, in_request, Token, weigh, count, is_of}
 use Rattle.mach_types.specs.Messages.{Entry}
-use Rattle.mach_model.specs.State.{State, Target, lookup, queue, held as held_of}
+use Rattle.mach_model.specs.State.{State, Target, lookup, queue}
 use Rattle.mach_model.specs.Death.{same_place}
-use Rattle.mach_model.specs.Notices.{Notice, Owed, notice_message}
-use Rattle.mach_model.specs.Settles.{due_notices, tokens_of, settled_target, dead_references}
+use Rattle.mach_model.specs.Notices.{Owed}
+use Rattle.mach_model.specs.Settles.{due_notices, tokens_of, settled_target}
 use Rattle.mach_model.specs.Lawful.{tally}
 use Rattle.mach_model.specs.Turns.{Begun, Ending, turns, IsWaiting, listed, lives_after, is_judged, IsNameOf, IsRequestOf, Buries, Turn}
 use Rattle.mach_model.proofs.SettledParts.{and_false, dead_cases}
@@ -28,7 +28,6 @@ use Rattle.port.specs.declared.Holder.TheVariants as holder
 use Rattle.port.specs.Holding.{IsHeldBy}
 use Rattle.port.specs.Ports.{PortView, IsLive}
 use Rattle.request_table.specs.declared.Request.{Request as NameRequest}
-use Rattle.request_table.specs.Requests.{name_key}
 use Rattle.rights.specs.declared.Counts.{Counts}
 use Rattle.rights.specs.Counts.{no_rights}
 use Rattle.rights.specs.Ledger.{counts_of}
@@ -72,15 +71,7 @@ length-joined (x ∷ xs) ys = let a = length-joined xs ys in omega (arith, a)
 -- what the step's own part posted at the port stands in its log
 begun_posted : (now p : ℕ) (ys : Begun) (xs : Owed) → tally (λ y. y.1.0.port == p) ys ≤ length (entries_at now p (due_notices (list_map (λ y. y.1) ys ++ xs)))
 begun_posted now p [] xs = omega arith
-begun_posted now p (y ∷ ys) xs = go (y.1.0.port == p) (begun_posted now p ys xs)
-  where
-    rest : List (ℕ × Notice)
-    rest = due_notices (list_map (λ y. y.1) ys ++ xs)
-
-    go : (b : Bool) → tally (λ y. y.1.0.port == p) ys ≤ length (entries_at now p rest) →
-        (if b then suc zero else zero) + tally (λ y. y.1.0.port == p) ys ≤ length {A = Entry} (list_map (λ (z : ℕ × Notice). record { origin = now; message = notice_message p z.1 }) (if b then (y.1.0.port, y.1.1) ∷ filter (λ z. z.0 == p) rest else filter (λ z. z.0 == p) rest))
-    go true ih = omega (arith, ih)
-    go false ih = omega (arith, ih)
+begun_posted now p (y ∷ ys) xs = grind (arith, begun_posted now p ys xs)
 
 pub named_once : (x : Named) (p : ℕ) → port_of x ≡ Some p → (target_of x ≡ Target.port p) ⊎ (target_of x ≡ Target.once p)
 named_once (named.Receive q) p is = inl (cc)
@@ -94,25 +85,14 @@ module _ (mid new : State) (task name : ℕ) where
   -- a name of a port was one of it before
   pub of_settled : (o : Option Target) (p : ℕ) → option_map (settled_target mid new task name) o ≡ Some (Target.once p) → o ≡ Some (Target.once p)
   of_settled None p e = absurd (cc)
-  of_settled (Some (Target.port q)) p e = absurd (go (new.live_port q) e)
-    where
-      go : (b : Bool) → ◌≡◌ {A = Option Target} (Some (if b then Target.port q else Target.dead (dead_references (mid.stands (dead_name task name)) (held_of mid task send q)))) (Some (Target.once p)) → ⊥
-      go true e = cc
-      go false e = cc
-  of_settled (Some (Target.once q)) p e = go (new.live_port q) e
-    where
-      go : (b : Bool) → ◌≡◌ {A = Option Target} (Some (if b then Target.once q else Target.dead (dead_references (mid.stands (dead_name task name)) 1))) (Some (Target.once p)) → Some (Target.once q) ≡ Some (Target.once p)
-      go true e = e
-      go false e = absurd (cc)
+  of_settled (Some (Target.port q)) p e = grind arith
+  of_settled (Some (Target.once q)) p e = grind arith
   of_settled (Some (Target.dead n)) p e = absurd (cc)
   of_settled (Some (Target.set n)) p e = absurd (cc)
 
 -- a port that is doomed was there
 pub dead_never : (old mid : State) (owed : Owed) (e : Ending) (port : ℕ) → CanBury old mid owed e port → mid.live_port port ≡ false → ⊥
-dead_never old mid owed e port can dead = elim (dead_cases mid port ((reached_sound old mid owed e can.reached).doomed port can.doomed)) [
-  | inl o ↦ (let g : true ≡ false = sym o.0 ∙ dead in cc)
-  | inr c ↦ (let a = can.lawful.no_rights port dead receive in let d = c.1.1 in let m = lying_le_of mid receive port (in_message c.0 c.1.0) in omega (arith, a, d, m))
-]
+dead_never old mid owed e port can dead = grind (arith, dead_cases, reached_sound, lying_le_of)
 
 module _ (now : ℕ) (tables : WorldView) (old mid : State) (owed : Owed) (e : Ending) (port : ℕ) (rs : List Request) (w : WorldView) (b : Burying now tables old mid owed e port rs w)
     (every : (r : Request) → mid.stands r ≡ true → IsRequestOf mid port r → Contains rs r) (doomed : List ℕ) where
@@ -155,14 +135,7 @@ module _ (now : ℕ) (tables : WorldView) (old mid : State) (owed : Owed) (e : E
   unkept r of = sym (b.agrees.of_requests.standing r) ∙ ended r of
 
   kept_name : (key : ℕ) (r : NameRequest) → map.get w.requests.names.requests key ≡ Some r → IsOnName w key r → is_some (notify_of w.requests (dead_name r.task r.name)) ≡ true
-  kept_name key r at on = go (nat_lt r.name (2 ^ 32)) (lt-ltb r.name (2 ^ 32) on.small)
-    where
-      here : map.get w.requests.names.requests (name_key r.task r.name) ≡ Some r
-      here = ap (map.get w.requests.names.requests) on.own ∙ at
-
-      go : (c : Bool) → c ≡ true → is_some (if c then option_map (λ (r : NameRequest). r.notify) (map.get w.requests.names.requests (name_key r.task r.name)) else None) ≡ true
-      go true h = ap (λ (o : Option NameRequest). is_some (option_map (λ (r : NameRequest). r.notify) o)) here
-      go false h = absurd (cc)
+  kept_name key r at on = grind (arith, lt-ltb)
 
   -- a request on a name isn't on one of the port
   on_other : (key : ℕ) (r : NameRequest) → map.get w.requests.names.requests key ≡ Some r → (on : IsOnName w key r) → r.port ≡ port → ⊥
@@ -253,10 +226,7 @@ module _ (now : ℕ) (tables : WorldView) (old mid : State) (owed : Owed) (e : E
       none_queued = no_entries port (queue s port) (subst (λ (ms : List Kept). AllKept port ms (queue s port)) (b.around.emptied port found.0 found.1 (is_doomed found.0 found.1)) (b.agrees.ports port found.0 found.1).waiting)
 
   emptied : (p k : ℕ) → listed done.buried p ≡ true → IsWaiting mid e (p, k) → Contains e.destroyed (p, k)
-  emptied p k h waits = elim (listed_cases port e.buried p h) [
-    | inl is ↦ subst (λ (q : ℕ). IsWaiting mid e (q, k) → Contains e.destroyed (q, k)) (sym is) (port_emptied k) waits
-    | inr was ↦ b.can.emptied p k was waits
-  ]
+  emptied p k h waits = grind (arith, listed_cases, port_emptied)
 
   -- ---- all together
 
@@ -283,15 +253,10 @@ module _ (now : ℕ) (tables : WorldView) (old mid : State) (owed : Owed) (e : E
   counts_other q not = ap (λ (o : Option Counts). unwrap_or o no_rights) (get_removed w.ledger.counts port q not)
 
   unnoted : (p : ℕ) → lives_after mid e p ≡ true → 0 < (counts_of tables.ledger p).send → IsSenderless after p → ⊥
-  unnoted p alive some is =
-      let not : p ≡ port → ⊥ = other p is.live in
-      b.around.unnoted p alive some (record { live = sym (ap is_some (get_removed w.ports.ports port p not)) ∙ is.live; asked = is.asked; none = sym (ap (λ (c : Counts). c.send) (counts_other p not)) ∙ is.none })
+  unnoted p alive some is = grind (arith, other, get_removed, counts_other)
 
   receivers : (p : ℕ) → (counts_of after.ledger p).receive ≤ 1
-  receivers p = elim (eqb_tells p port) [
-    | inl h ↦ (let a : (counts_of after.ledger p).receive ≡ 0 = ap (λ (q : ℕ). (counts_of after.ledger q).receive) h.1 ∙ ap (λ (o : Option Counts). (unwrap_or o no_rights).receive) (removed_own w.ledger.counts port) in omega (arith, a))
-    | inr h ↦ (let a : (counts_of after.ledger p).receive ≡ (counts_of w.ledger p).receive = ap (λ (c : Counts). c.receive) (counts_other p h.1) in let c = b.around.receivers p in omega (arith, a, c))
-  ]
+  receivers p = grind (arith, removed_own, counts_other)
 
   port_same : port ≡ turn_is.port
   port_same = heads port turn_is.port e.buried e.buried (ap (λ (x : Ending). x.buried) turn_is.rest)
@@ -349,10 +314,4 @@ module _ (now : ℕ) (tables : WorldView) (old mid : State) (owed : Owed) (e : E
       ]
 
   pub buried_told : AreTold mid done after
-  buried_told = record {
-    lost = record {
-      judged = record { emptied = λ p v is doomed. b.around.emptied p v (there p v is).1 doomed; judged = b.can.judged; none_lost = refl };
-      none_destroyed = b.around.none_destroyed;
-    };
-    none_noted = refl;
-  }
+  buried_told = grind (arith, emptied, there)

@@ -1,13 +1,12 @@
 -- A request ends, and a name dies: the tables still agree.
-use Rattle.std.proofs.Common.{◌≡◌, ℕ, zero, suc, ◌+◌, ◌<◌, List, [], ◌∷◌, Option, Some, None, refl, sym, ap, subst, ◌∙◌, arith, true, false, Bool, inl, inr, length}
-use Rattle.std.specs.Prelude.{if◌then◌else◌, ◌==◌, ◌&&◌, filter, is_some}
+use Rattle.std.proofs.Common.{◌≡◌, ℕ, ◌+◌, ◌<◌, List, [], ◌∷◌, Option, Some, None, refl, sym, ap, subst, ◌∙◌, arith, true, false, Bool, length}
+use Rattle.std.specs.Prelude.{if◌then◌else◌, ◌&&◌, filter, is_some}
 use Rattle.std.specs.Option.{option_map}
 use Rattle.std.specs.FinMap as map
 use Rattle.std.proofs.lemmas.Bool.{eq-eqb}
-use Rattle.std.proofs.lemmas.Bool.Decides.{eqb_tells}
-use Rattle.mach_types.specs.Tokens.{Kind, receive, send, send_once, Request, no_senders, port_destroyed, dead_name, Place, in_task, in_message, in_request, Token, token, Moves, weigh, count, is_of, is_held}
-use Rattle.mach_model.specs.State.{State, Target, Names, at, same_request, request_at}
-use Rattle.mach_model.specs.Death.{same_place, LiesAt}
+use Rattle.mach_types.specs.Tokens.{Kind, receive, send, send_once, Request, no_senders, port_destroyed, dead_name, Place, in_message, in_request, Token, token, Moves, weigh, count, is_of, is_held}
+use Rattle.mach_model.specs.State.{State, Target, at, same_request, request_at}
+use Rattle.mach_model.specs.Death.{same_place}
 use Rattle.mach_model.specs.Carried.{lying_among}
 use Rattle.mach_model.proofs.At.{at_own, at_other}
 use Rattle.mach_model.proofs.Names.{get_other}
@@ -17,8 +16,6 @@ use Rattle.name_space.specs.declared.Entry.{Entry}
 use Rattle.name_space.specs.declared.Entry.TheVariants.{DeadName}
 use Rattle.name_space.specs.Entry.{port_of, port_named}
 use Rattle.name_space.specs.Names.{SpaceView}
-use Rattle.port.specs.declared.Holder.{Holder}
-use Rattle.port.specs.declared.Holder.TheVariants as holder
 use Rattle.rights.specs.Ledger.{counts_of}
 use Rattle.mach_model.specs.Unused.{onces_queued}
 use Rattle.copyin_base.specs.Requests.{RequestTablesView, notify_of, rights_kept, rights_went, AreMade, AreEnded}
@@ -27,7 +24,7 @@ use Rattle.copyin_base.specs.Worlds.{WorldView, space_at, with_space, entry_in, 
 use Rattle.copyin_base.proofs.Agreeing.{NamesAgree, CountRights, put_names, put_rights, spaces_agree, references_agree, sets_stay}
 use Rattle.copyin_base.proofs.Counting.{counts_same}
 use Rattle.notifications.proofs.Agreeing.{filter_weigh}
-use Rattle.notifications.specs.SoFar.{AgreesOf, IsWithNobody, IsHolder, HoldersTell}
+use Rattle.notifications.specs.SoFar.{AgreesOf, HoldersTell}
 use Rattle.destroy.proofs.BurEnd.{named_once}
 
 -- ---- a request ends
@@ -55,11 +52,7 @@ module _ (lives : ℕ → Bool) (w : WorldView) (s : State) (a : AgreesOf lives 
     (is_this : (q : Request) → same_request q r ≡ true → q ≡ r) where
   -- what is so of both
   by_lives : (P : Type 0) → (lives n ≡ true → P) → (lives n ≡ false → P) → P
-  by_lives P alive dead = go (lives n) refl
-    where
-      go : (b : Bool) → lives n ≡ b → P
-      go true e = alive e
-      go false e = dead e
+  by_lives P alive dead = grind arith
 
   same_weight : (h : Token → ℕ) → h (token send_once n (in_request r)) ≡ h (token send_once n (in_message n g.k)) → weigh h tokens ≡ weigh h s.ledger
   same_weight h same = by_lives (weigh h tokens ≡ weigh h s.ledger) (λ alive. let m = g.goes alive h in omega (arith, m, same)) (λ dead. ap (weigh h) (g.stays dead))
@@ -88,88 +81,24 @@ module _ (lives : ℕ → Bool) (w : WorldView) (s : State) (a : AgreesOf lives 
   none_went q kind p = ap (λ xs. rights_went lives xs q kind p) went_same
 
   was_kept : (q : Request) (kind : Kind) (p : ℕ) → weigh (λ x. if lives x.port then kept_test kind p q x else 0) s.ledger ≡ rights_kept lives (notify_of w.requests q) kind p
-  was_kept q kind p =
-      let b = a.of_requests.kept q kind p in
-      let c = lying_is kind p q s.ledger in
-      let d : rights_went lives w.requests.names.went q kind p ≡ 0 = ap (λ xs. rights_went lives xs q kind p) went in
-      omega (arith, b, c, d)
+  was_kept q kind p = grind (arith, lying_is)
 
   -- the request's own right is gone
   own_kept : (kind : Kind) (p : ℕ) → weigh (λ x. if lives x.port then kept_test kind p r x else 0) tokens ≡ 0
-  own_kept kind p = by_lives (weigh (λ x. if lives x.port then kept_test kind p r x else 0) tokens ≡ 0)
-      (λ alive.
-      let m = g.goes alive (λ x. if lives x.port then kept_test kind p r x else 0) in
-      let b = was_kept r kind p in
-      let c : rights_kept lives (notify_of w.requests r) kind p ≡ rights_kept lives (Some n) kind p = ap (λ (o : Option ℕ). rights_kept lives o kind p) was in
-      let d = here alive kind in
-      let f : (if lives n then kept_test kind p r (token send_once n (in_message n g.k)) else 0) ≡ 0 = ap (λ (b : Bool). if b then kept_test kind p r (token send_once n (in_message n g.k)) else 0) alive ∙ ap (λ (b : Bool). if b then suc zero else zero) (and_false (is_of kind p (token send_once n (in_message n g.k)))) in
-      omega (arith, m, b, c, d, f))
-      (λ dead.
-      let m : weigh (λ x. if lives x.port then kept_test kind p r x else 0) tokens ≡ weigh (λ x. if lives x.port then kept_test kind p r x else 0) s.ledger = ap (weigh (λ x. if lives x.port then kept_test kind p r x else 0)) (g.stays dead) in
-      let b = was_kept r kind p in
-      let c : rights_kept lives (notify_of w.requests r) kind p ≡ rights_kept lives (Some n) kind p = ap (λ (o : Option ℕ). rights_kept lives o kind p) was in
-      let d = none_live dead kind in
-      omega (arith, m, b, c, d))
-    where
-      here : lives n ≡ true → (k : Kind) → (if lives n then kept_test k p r (token send_once n (in_request r)) else 0) ≡ rights_kept lives (Some n) k p
-      here alive receive = ap (λ (b : Bool). if b then kept_test receive p r (token send_once n (in_request r)) else 0) alive
-      here alive send = ap (λ (b : Bool). if b then kept_test send p r (token send_once n (in_request r)) else 0) alive
-      here alive send_once = elim (eqb_tells n p) [
-        | inl h ↦ ap (λ (b : Bool). if b then kept_test send_once p r (token send_once n (in_request r)) else 0) alive ∙ both (n == p) (request_refl r) h.0 (subst (λ (k : ℕ). lives k ≡ true) h.1 alive)
-        | inr h ↦ ap (λ (b : Bool). if b then kept_test send_once p r (token send_once n (in_request r)) else 0) alive ∙ neither (n == p) h.0
-      ]
-        where
-          both : (b : Bool) → same_request r r ≡ true → b ≡ true → lives p ≡ true → (if b && same_request r r then suc zero else zero) ≡ (if b && lives p then suc zero else zero)
-          both b c d f = rw (c, d, f) refl
-
-          neither : (b : Bool) → b ≡ false → (if b && same_request r r then suc zero else zero) ≡ (if b && lives p then suc zero else zero)
-          neither b d = rw d refl
-
-      none_live : lives n ≡ false → (k : Kind) → rights_kept lives (Some n) k p ≡ 0
-      none_live dead receive = refl
-      none_live dead send = refl
-      none_live dead send_once = elim (eqb_tells n p) [
-        | inl h ↦ both_test (n == p) (lives p) (inr (subst (λ (k : ℕ). lives k ≡ false) h.1 dead))
-        | inr h ↦ both_test (n == p) (lives p) (inl h.0)
-      ]
+  own_kept kind p = grind (arith, by_lives, was_kept, and_false, request_refl, both_test)
 
   -- another request keeps what it kept
   other_kept : (q : Request) (kind : Kind) (p : ℕ) → same_request q r ≡ false → weigh (λ x. if lives x.port then kept_test kind p q x else 0) tokens ≡ weigh (λ x. if lives x.port then kept_test kind p q x else 0) s.ledger
-  other_kept q kind p other = same_weight (λ x. if lives x.port then kept_test kind p q x else 0)
-      (ap (λ (b : Bool). if lives n then (if is_of kind p (token send_once n (in_request r)) && b then suc zero else zero) else zero) other)
+  other_kept q kind p other = grind (arith, same_weight)
 
   standing : (q : Request) → (if same_request q r then false else s.stands q) ≡ is_some (notify_of rq q)
-  standing q = go (same_request q r) refl
-    where
-      go : (b : Bool) → same_request q r ≡ b → (if b then false else s.stands q) ≡ is_some (notify_of rq q)
-      go true e = sym (ap is_some (ap (notify_of rq) (is_this q e) ∙ gone))
-      go false e = a.of_requests.standing q ∙ sym (ap is_some (others q e))
+  standing q = grind arith
 
   kept : (q : Request) (kind : Kind) (p : ℕ) → lying_among (filter (λ x. lives x.port) tokens) kind p (in_request q) ≡ rights_kept lives (notify_of rq q) kind p + rights_went lives rq.names.went q kind p
-  kept q kind p = go (same_request q r) refl
-    where
-      go : (b : Bool) → same_request q r ≡ b → lying_among (filter (λ x. lives x.port) tokens) kind p (in_request q) ≡ rights_kept lives (notify_of rq q) kind p + rights_went lives rq.names.went q kind p
-      go true e =
-          let b = lying_is kind p q tokens in
-          let c : weigh (λ x. if lives x.port then kept_test kind p q x else 0) tokens ≡ weigh (λ x. if lives x.port then kept_test kind p r x else 0) tokens = ap (λ (y : Request). weigh (λ x. if lives x.port then kept_test kind p y x else 0) tokens) (is_this q e) in
-          let d = own_kept kind p in
-          let f : rights_kept lives (notify_of rq q) kind p ≡ 0 = ap (λ (o : Option ℕ). rights_kept lives o kind p) (ap (notify_of rq) (is_this q e) ∙ gone) in
-          let z = none_went q kind p in
-          omega (arith, b, c, d, f, z)
-      go false e =
-          let b = lying_is kind p q tokens in
-          let c = other_kept q kind p e in
-          let d = was_kept q kind p in
-          let f : rights_kept lives (notify_of rq q) kind p ≡ rights_kept lives (notify_of w.requests q) kind p = ap (λ (o : Option ℕ). rights_kept lives o kind p) (others q e) in
-          let z = none_went q kind p in
-          omega (arith, b, c, d, f, z)
+  kept q kind p = grind (arith, lying_is, own_kept, none_went, other_kept, was_kept)
 
   given : (q : Request) (p : ℕ) → notify_of rq q ≡ Some p → p < w.ports.made
-  given q p is = go (same_request q r) refl
-    where
-      go : (b : Bool) → same_request q r ≡ b → p < w.ports.made
-      go true e = absurd (let f : None ≡ Some p = sym (ap (notify_of rq) (is_this q e) ∙ gone) ∙ is in cc)
-      go false e = a.of_requests.given q p (sym (others q e) ∙ is)
+  given q p is = grind arith
 
   pub request_ended : AgreesOf lives (unrequested w rq) (without_request s r tokens)
   request_ended = record {
@@ -185,20 +114,7 @@ module _ (lives : ℕ → Bool) (w : WorldView) (s : State) (a : AgreesOf lives 
   }
 
   pub ended_holders : (destroyed : List (ℕ × ℕ)) → HoldersTell w s destroyed → HoldersTell (unrequested w rq) (without_request s r tokens) destroyed
-  ended_holders destroyed h p v there = go v.attributes.holder (h p v there)
-    where
-      lies : (place : Place) → LiesAt s receive p place → LiesAt (without_request s r tokens) receive p place
-      lies place c = let same = lies_same p place in omega (arith, same, c)
-
-      nobody : IsWithNobody s destroyed p → IsWithNobody (without_request s r tokens) destroyed p
-      nobody (inl none) = inl (counts receive p ∙ none)
-      nobody (inr (q, k, c, d)) = inr (q, k, lies (in_message q k) c, d)
-
-      go : (x : Holder) → IsHolder s destroyed p x → IsHolder (without_request s r tokens) destroyed p x
-      go (holder.Task task) c = lies (in_task task) c
-      go (holder.QueueOf q) (k, c, d) = (k, lies (in_message q k) c, d)
-      go holder.Nobody c = nobody c
-      go holder.Doomed c = nobody c
+  ended_holders destroyed h p v there = grind (arith, lies_same, counts)
 
 -- ---- a name dies
 
@@ -230,16 +146,7 @@ module _ (lives : ℕ → Bool) (w : WorldView) (s : State) (a : AgreesOf lives 
   the_target y z e = cc
 
   set_names : (n set : ℕ) → map.get (s.naming task) n ≡ Some (Target.set set) → map.get (state_dead.naming task) n ≡ Some (Target.set set)
-  set_names n set is = elim (eqb_tells n name) [
-    | inl h ↦ absurd (no_set (the_target (target_of x) (Target.set set) (sym (own_names.naming name ∙ ap (option_map target_of) found) ∙ subst (λ (k : ℕ). map.get (s.naming task) k ≡ Some (Target.set set)) h.1 is)))
-    | inr h ↦ ap (λ (m : Names). map.get m n) (at_own s.naming task (map.insert (s.naming task) name (Target.dead references))) ∙ get_other (s.naming task) name (Target.dead references) n h.1 ∙ is
-  ]
-    where
-      no_set : target_of x ≡ Target.set set → ⊥
-      no_set e = elim (named_once x port for_port) [
-        | inl h ↦ (let f : Target.port port ≡ Target.set set = sym h ∙ e in cc)
-        | inr h ↦ (let f : Target.once port ≡ Target.set set = sym h ∙ e in cc)
-      ]
+  set_names n set is = grind (arith, the_target, own_names, at_own, get_other, named_once)
 
   pub name_died_agrees : AgreesOf lives with_dead state_dead
   name_died_agrees = record {

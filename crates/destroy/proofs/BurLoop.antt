@@ -167,11 +167,7 @@ none_queued port w i p is = let b = i.burying in let d = b.around.doomed port p 
 
 pub is_entered : (port : ℕ) (w v : WorldView) (t : ℕ) → IsNextToBury port w → EndsRequests port IsAny w t v → IsEntered v.ledger port
 unfolding still_burying is_burying
-is_entered port w v t n e =
-    let i = still_burying port IsAny w t v (is_burying port w n) e in
-    let b = i.burying in
-    let first = (is_burying port w n).burying in
-    (b.agrees.counts port).entered ∙ b.so_far.live_port port ∙ sym (first.so_far.live_port port) ∙ sym (first.agrees.live_port port) ∙ ap is_some n.doomed.there
+is_entered port w v t n e = grind (arith, still_burying port IsAny w t v (is_burying port w n) e, (is_burying port w n).burying)
 
 some_fewer : (m : map.FinMap nat_cmp (PortView Kept)) (k : ℕ) (v : PortView Kept) → map.get m k ≡ Some v → map.len (map.remove m k) < map.len m
 some_fewer m k v is =
@@ -235,10 +231,7 @@ pub rooms_more : (w u v : WorldView) → KeepsRooms w u → KeepsRooms u v → K
 rooms_more w u v a b task = b task ∙ a task
 
 pub continues_first : (w : WorldView) → Continues AreTold AreTold w 0 w
-continues_first w now tables old mid owed e b told = (e, b, same e.turns, refl, told)
-  where
-    same : (a : ℕ) → IsCount a (a + 0)
-    same a = ap (λ (n : ℕ). n % 2 ^ 64) (omega arith)
+continues_first w now tables old mid owed e b told = grind arith
 
 pub continues_more : (w : WorldView) (t : ℕ) (u : WorldView) (n : ℕ) (v : WorldView) → Continues AreTold AreTold w t u → Continues AreTold AreTold u n v → Continues AreTold AreTold w ((t + n) % 2 ^ 64) v
 continues_more w t u n v a c now tables old mid owed e b told =
@@ -267,42 +260,10 @@ all_buried w t v c none all now tables old mid owed e b told =
 
 -- what is read with fewer ports is what is read of what was read before
 read_twice : (live live2 : ℕ → Bool) (x : Entry) → ((p : ℕ) → live2 p ≡ true → live p ≡ true) → reading live2 (reading live x) ≡ reading live2 x
-read_twice live live2 (Receive p) fewer = go (live p) refl
-  where
-    go : (b : Bool) → live p ≡ b → reading live2 (if b then Receive p else DeadName 1) ≡ (if live2 p then Receive p else DeadName 1)
-    go true is = refl
-    go false is = other (live2 p) refl
-      where
-        other : (c : Bool) → live2 p ≡ c → DeadName 1 ≡ (if c then Receive p else DeadName 1)
-        other true at = absurd (let a : true ≡ false = sym (fewer p at) ∙ is in cc)
-        other false at = refl
-read_twice live live2 (Send p n) fewer = go (live p) refl
-  where
-    go : (b : Bool) → live p ≡ b → reading live2 (if b then Send p n else DeadName n) ≡ (if live2 p then Send p n else DeadName n)
-    go true is = refl
-    go false is = other (live2 p) refl
-      where
-        other : (c : Bool) → live2 p ≡ c → DeadName n ≡ (if c then Send p n else DeadName n)
-        other true at = absurd (let a : true ≡ false = sym (fewer p at) ∙ is in cc)
-        other false at = refl
-read_twice live live2 (ReceiveAndSend p n) fewer = go (live p) refl
-  where
-    go : (b : Bool) → live p ≡ b → reading live2 (if b then ReceiveAndSend p n else DeadName n) ≡ (if live2 p then ReceiveAndSend p n else DeadName n)
-    go true is = refl
-    go false is = other (live2 p) refl
-      where
-        other : (c : Bool) → live2 p ≡ c → DeadName n ≡ (if c then ReceiveAndSend p n else DeadName n)
-        other true at = absurd (let a : true ≡ false = sym (fewer p at) ∙ is in cc)
-        other false at = refl
-read_twice live live2 (SendOnce p) fewer = go (live p) refl
-  where
-    go : (b : Bool) → live p ≡ b → reading live2 (if b then SendOnce p else DeadName 1) ≡ (if live2 p then SendOnce p else DeadName 1)
-    go true is = refl
-    go false is = other (live2 p) refl
-      where
-        other : (c : Bool) → live2 p ≡ c → DeadName 1 ≡ (if c then SendOnce p else DeadName 1)
-        other true at = absurd (let a : true ≡ false = sym (fewer p at) ∙ is in cc)
-        other false at = refl
+read_twice live live2 (Receive p) fewer = grind arith
+read_twice live live2 (Send p n) fewer = grind arith
+read_twice live live2 (ReceiveAndSend p n) fewer = grind arith
+read_twice live live2 (SendOnce p) fewer = grind arith
 read_twice live live2 (DeadName n) fewer = refl
 read_twice live live2 (Set x) fewer = refl
 
@@ -321,10 +282,7 @@ spaces_twice live live2 fewer (x ∷ xs) = let h = one x in let t = spaces_twice
 module _ (old : WorldView) (spaces : List (Option SpaceView)) (ports : PortsView Kept) (ledger : LedgerView) (sets : SetsView) (requests : RequestTablesView) (view : tables spaces ports ledger sets requests ≡ old)
     (port : ℕ) (new : PortsView Kept) (doomed : List ℕ) (is : new ≡ without_port ports port doomed) where
   fewer : (p : ℕ) → live_in new p ≡ true → live_in ports p ≡ true
-  fewer p h = elim (eqb_tells p port) [
-    | inl e ↦ absurd (let a : live_in new p ≡ false = ap (λ (x : PortsView Kept). live_in x p) is ∙ ap is_some (ap (map.get (map.remove ports.ports port)) e.1 ∙ removed_own ports.ports port) in let g : true ≡ false = sym h ∙ a in cc)
-    | inr e ↦ ap is_some (sym (get_removed ports.ports port p e.1)) ∙ ap (λ (x : PortsView Kept). live_in x p) (sym is) ∙ h
-  ]
+  fewer p h = grind (arith, removed_own, get_removed)
 
   pub left_given : AreGiven spaces ports → AreGiven spaces new
   left_given g = record {
@@ -341,7 +299,4 @@ module _ (old : WorldView) (spaces : List (Option SpaceView)) (ports : PortsView
 -- the ports that are left, where none was lost or noted
 pub left_ports : (w : WorldView) (spaces : List (Option SpaceView)) (ports : PortsView Kept) (ledger : LedgerView) (sets : SetsView) (requests : RequestTablesView) → tables spaces ports ledger sets requests ≡ w → (port : ℕ) → IsBurying port w →
     (new : PortsView Kept) → new ≡ record ports { ports = map.remove ports.ports port; lost = without port ports.lost; doomed = without port ports.doomed; noted = without port ports.noted } → new ≡ without_port ports port (without port ports.doomed)
-left_ports w spaces ports ledger sets requests view port i new is =
-    let lost : ports.lost ≡ [] = ap (λ (x : WorldView). x.ports.lost) view ∙ i.burying.around.none_lost in
-    let noted : ports.noted ≡ [] = ap (λ (x : WorldView). x.ports.noted) view ∙ i.burying.around.none_noted in
-    is ∙ (λ j. record ports { ports = map.remove ports.ports port; lost = without port (lost j); doomed = without port ports.doomed; noted = without port (noted j) })
+left_ports w spaces ports ledger sets requests view port i new is = grind arith

@@ -1,13 +1,12 @@
 -- A request more has ended at a burial: the state is as far as that.
-use Rattle.std.proofs.Common.{◌≡◌, ℕ, ◌+◌, List, [], ◌∷◌, ◌++◌, Some, refl, sym, ap, subst, ◌∙◌, arith, true, false, Bool, inl, inr, length, length-append}
-use Rattle.std.specs.Prelude.{if◌then◌else◌, ◌==◌, ◌&&◌, ◌||◌, not, filter, option_map}
+use Rattle.std.proofs.Common.{◌≡◌, ℕ, ◌+◌, List, [], ◌∷◌, ◌++◌, Some, refl, sym, ap, ◌∙◌, arith, true, false, Bool, length, length-append}
+use Rattle.std.specs.Prelude.{if◌then◌else◌, ◌==◌, ◌&&◌, not, filter, option_map}
 use Rattle.std.specs.FinMap as map
 use Rattle.std.proofs.lemmas.Bool.{eq-eqb}
-use Rattle.std.proofs.lemmas.Bool.Decides.{eqb_tells}
 use Rattle.std.proofs.lemmas.List.{append-nil, append_assoc}
 use Rattle.mach_types.specs.Tokens.{send_once, Request, dead_name, Place, in_message, in_request, Token, token, weigh}
 use Rattle.mach_types.specs.Messages.{Entry}
-use Rattle.mach_model.specs.State.{State, Names, lookup, at, same_request, request_at}
+use Rattle.mach_model.specs.State.{State, Names, lookup, at, request_at}
 use Rattle.mach_model.specs.Notices.{Notice, Owed, notice_message, Posted, posted_tokens, all_posted_tokens, carried_by}
 use Rattle.mach_model.specs.Settles.{settled_target}
 use Rattle.mach_model.specs.Turns.{Ending, lives_after, outcome, death_notice}
@@ -33,26 +32,7 @@ module _ (now : ℕ) (old mid : State) (owed : Owed) (e : Ending) (port : ℕ) (
   more = rs ++ r ∷ []
 
   stands : (q : Request) → request_at s.stands r false q ≡ ((outcome mid (buried_alone e)).stands q && not (is_among more q))
-  stands q = go (same_request q r) refl
-    where
-      with : (b : Bool) → same_request q r ≡ b → is_among more q ≡ (is_among rs q || b)
-      with b is = among_more rs r q ∙ ap (λ (c : Bool). is_among rs q || c) is
-
-      or_true : (b : Bool) → (b || true) ≡ true
-      or_true true = refl
-      or_true false = refl
-
-      or_false : (b : Bool) → (b || false) ≡ b
-      or_false true = refl
-      or_false false = refl
-
-      and_none : (b : Bool) → (b && false) ≡ false
-      and_none true = refl
-      and_none false = refl
-
-      go : (b : Bool) → same_request q r ≡ b → (if b then false else s.stands q) ≡ ((outcome mid (buried_alone e)).stands q && not (is_among more q))
-      go true is = sym (ap (λ (c : Bool). (outcome mid (buried_alone e)).stands q && not c) (with true is ∙ or_true (is_among rs q)) ∙ and_none _)
-      go false is = so.stands q ∙ sym (ap (λ (c : Bool). (outcome mid (buried_alone e)).stands q && not c) (with false is ∙ or_false (is_among rs q)))
+  stands q = grind (arith, among_more)
 
   -- ---- its port lives
 
@@ -85,33 +65,10 @@ module _ (now : ℕ) (old mid : State) (owed : Owed) (e : Ending) (port : ℕ) (
     entries q = ap (entries_at now q) due ∙ entries_more now q (due_so_far (partway e rs)) n notice
 
     logs : (q : ℕ) → at s.log n (s.log n ++ own ∷ []) q ≡ mid.log q ++ entries_at now q (due_so_far (partway e more))
-    logs q = elim (eqb_tells q n) [
-      | inl same ↦ subst (λ (k : ℕ). at s.log n (s.log n ++ own ∷ []) k ≡ mid.log k ++ entries_at now k (due_so_far (partway e more))) (sym same.1) here
-      | inr other ↦ elsewhere other.1
-    ]
-      where
-        here : at s.log n (s.log n ++ own ∷ []) n ≡ mid.log n ++ entries_at now n (due_so_far (partway e more))
-        here =
-            let is : (if n == n then own ∷ [] else []) ≡ own ∷ [] = rw (eq-eqb n n refl) refl in
-            at_own s.log n (s.log n ++ own ∷ []) ∙ ap (λ (es : List Entry). es ++ own ∷ []) (so.log n) ∙ append_assoc (mid.log n) (entries_at now n (due_so_far (partway e rs))) (own ∷ [])
-            ∙ ap (λ (es : List Entry). mid.log n ++ (entries_at now n (due_so_far (partway e rs)) ++ es)) (sym is) ∙ ap (λ (es : List Entry). mid.log n ++ es) (sym (entries n))
-
-        elsewhere : (q ≡ n → ⊥) → at s.log n (s.log n ++ own ∷ []) q ≡ mid.log q ++ entries_at now q (due_so_far (partway e more))
-        elsewhere other = at_other s.log n (s.log n ++ own ∷ []) q other ∙ so.log q ∙ ap (λ (es : List Entry). mid.log q ++ es) (sym (entries q ∙ go (n == q) refl))
-          where
-            go : (b : Bool) → (n == q) ≡ b → entries_at now q (due_so_far (partway e rs)) ++ (if b then record { origin = now; message = notice_message q notice } ∷ [] else []) ≡ entries_at now q (due_so_far (partway e rs))
-            go true is = absurd (elim (eqb_tells n q) [
-              | inl h ↦ other (sym h.1)
-              | inr h ↦ (let a = h.0 in cc)
-            ])
-            go false is = append-nil (entries_at now q (due_so_far (partway e rs)))
+    logs q = grind (arith, eq-eqb, at_own, append_assoc, entries, at_other, append-nil)
 
     entry_is : ends_after (λ q. length (mid.log q)) (due_so_far (partway e rs)) n ≡ length (s.log n)
-    entry_is =
-        let a = ends_are now (λ q. length (mid.log q)) (due_so_far (partway e rs)) n in
-        let b = length-append (mid.log n) (entries_at now n (due_so_far (partway e rs))) in
-        let c : length (s.log n) ≡ length (mid.log n ++ entries_at now n (due_so_far (partway e rs))) = ap length (so.log n) in
-        omega (arith, a, b, c)
+    entry_is = grind (arith, ends_are, length-append)
 
     brought : (h : Token → ℕ) → weigh h (all_posted_tokens (filter (λ (y : Posted). s.live_port y.port) (posted_so_far mid (partway e more)))) ≡
         weigh h (all_posted_tokens (filter (λ (y : Posted). s.live_port y.port) (posted_so_far mid (partway e rs)))) + h brought_right

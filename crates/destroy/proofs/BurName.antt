@@ -1,6 +1,6 @@
 -- A request on a name of a doomed port ends: the name is dead at once.
-use Rattle.std.proofs.Common.{◌≡◌, ℕ, ◌+◌, ◌<◌, ◌^◌, List, [], ◌∷◌, ◌++◌, Option, Some, None, refl, sym, ap, subst, ◌∙◌, arith, true, false, Bool, inl, inr}
-use Rattle.std.specs.Prelude.{if◌then◌else◌, ◌==◌, ◌&&◌, ◌||◌, not, is_some, min, nat_lt, slice_set}
+use Rattle.std.proofs.Common.{◌≡◌, ℕ, ◌+◌, ◌<◌, List, [], ◌∷◌, ◌++◌, Option, Some, None, refl, sym, ap, subst, ◌∙◌, arith, true, false, Bool, inl, inr}
+use Rattle.std.specs.Prelude.{◌==◌, ◌&&◌, ◌||◌, not, is_some, min, slice_set}
 use Rattle.std.specs.Option.{option_map}
 use Rattle.std.specs.FinMap as map
 use Rattle.std.proofs.lemmas.Bool.{eq-eqb, lt-ltb, ltb-true}
@@ -9,8 +9,8 @@ use Rattle.mach_types.specs.Numbers.{most_references}
 use Rattle.mach_types.specs.Tokens.{send, Request, no_senders, port_destroyed, dead_name}
 use Rattle.mach_model.specs.State.{State, Target, Names, lookup, held, at, same_request}
 use Rattle.mach_model.specs.Notices.{Owed}
-use Rattle.mach_model.specs.Settles.{settled_target, dead_references}
-use Rattle.mach_model.specs.Turns.{Ending, listed, lives_after, outcome, IsNameOf, IsRequestOf}
+use Rattle.mach_model.specs.Settles.{settled_target}
+use Rattle.mach_model.specs.Turns.{Ending, lives_after, IsRequestOf}
 use Rattle.mach_model.proofs.At.{at_own, at_other}
 use Rattle.mach_model.proofs.Names.{get_own, get_other, removed_own}
 use Rattle.mach_model.proofs.SettledNames.{settled_port}
@@ -20,7 +20,6 @@ use Rattle.name_space.specs.declared.Entry.{Entry}
 use Rattle.name_space.specs.declared.Entry.TheVariants as named
 use Rattle.name_space.specs.Entry.{port_of, port_named, has_receive, send_references}
 use Rattle.name_space.specs.Names.{SpaceView}
-use Rattle.port.specs.declared.Holder.TheVariants as holder
 use Rattle.port.specs.Ports.{PortView}
 use Rattle.request_table.specs.declared.Request.{Request as NameRequest}
 use Rattle.request_table.specs.Requests.{name_key, key_of}
@@ -36,7 +35,6 @@ use Rattle.copyin_base.proofs.Reading.{named_port}
 use Rattle.copyin_base.proofs.Requesting.{same_key}
 use Rattle.copyin_base.proofs.Spaces.{space-set_same, space-set_other}
 use Rattle.notifications.specs.Posting.{CanPost}
-use Rattle.notifications.specs.SoFar.{buried_alone}
 use Rattle.rights.specs.Unused.{IsUnusedOfAll}
 use Rattle.destroy.specs.Burying.{dead_count, SameSpare, is_among, Around, Burying}
 use Rattle.destroy.specs.Paying.{LivesIn, Pays}
@@ -82,34 +80,15 @@ module _ (now : ℕ) (tables : WorldView) (old mid : State) (owed : Owed) (e : E
   on = b.around.requested.on_names (key_of q) q is_kept
 
   was : notify_of w.requests r ≡ Some q.notify
-  was = go (nat_lt q.name (2 ^ 32)) (lt-ltb q.name (2 ^ 32) on.small)
-    where
-      go : (c : Bool) → c ≡ true → (if c then option_map (λ (x : NameRequest). x.notify) (map.get w.requests.names.requests (name_key q.task q.name)) else None) ≡ Some q.notify
-      go true h = ap (option_map (λ (x : NameRequest). x.notify)) is_kept
-      go false h = absurd (cc)
+  was = grind (arith, lt-ltb, on)
 
   gone : notify_of rq r ≡ None
-  gone = go (nat_lt q.name (2 ^ 32))
-    where
-      go : (c : Bool) → (if c then option_map (λ (x : NameRequest). x.notify) (map.get (map.remove w.requests.names.requests (key_of q)) (name_key q.task q.name)) else None) ≡ None
-      go true = ap (option_map (λ (x : NameRequest). x.notify)) (removed_own w.requests.names.requests (key_of q))
-      go false = refl
+  gone = grind (arith, removed_own)
 
   others : (x : Request) → same_request x r ≡ false → notify_of rq x ≡ notify_of w.requests x
   others (no_senders p) other = refl
   others (port_destroyed p) other = refl
-  others (dead_name t n) other = go (nat_lt n (2 ^ 32)) refl
-    where
-      differs : n < 2 ^ 32 → name_key t n ≡ key_of q → ⊥
-      differs few same =
-          let k = same_key t n q.task q.name few on.small same in
-          let f : (t == q.task && n == q.name) ≡ true = rw (eq-eqb t q.task k.0, eq-eqb n q.name k.1) refl in
-          let g : false ≡ true = sym other ∙ f in cc
-
-      go : (c : Bool) → nat_lt n (2 ^ 32) ≡ c → (if c then option_map (λ (x : NameRequest). x.notify) (map.get (map.remove w.requests.names.requests (key_of q)) (name_key t n)) else None) ≡
-          (if c then option_map (λ (x : NameRequest). x.notify) (map.get w.requests.names.requests (name_key t n)) else None)
-      go true is = ap (option_map (λ (x : NameRequest). x.notify)) (get_removed w.requests.names.requests (key_of q) (name_key t n) (differs (ltb-true n (2 ^ 32) is)))
-      go false is = refl
+  others (dead_name t n) other = grind (arith, same_key, on, eq-eqb, get_removed, ltb-true)
 
   -- ---- the name
 
@@ -126,13 +105,10 @@ module _ (now : ℕ) (tables : WorldView) (old mid : State) (owed : Owed) (e : E
   of_once is = of_settled mid partly q.task q.name (lookup mid q.task q.name) q.port (sym (b.so_far.names q.task q.name) ∙ found_there ∙ ap Some is)
 
   pub is_of_port : IsRequestOf mid port r
-  is_of_port = elim (named_once on.entry q.port on.for_port) [
-    | inl h ↦ subst (IsNameOf port) (sym (of_port h)) is_port
-    | inr h ↦ subst (IsNameOf port) (sym (of_once h)) is_port
-  ]
+  is_of_port = grind (arith, named_once, on, of_port, of_once)
 
   stood : mid.stands r ≡ true
-  stood = left_of (mid.stands r) _ (left_of ((outcome mid (buried_alone e)).stands r) (not (is_among rs r)) (sym (b.so_far.stands r) ∙ b.agrees.of_requests.standing r ∙ ap is_some was))
+  stood = grind (arith, left_of, was)
 
   port_there : (o : Option (PortView Kept)) → port_at w q.port ≡ o → is_some o ≡ true → (v : PortView Kept) × (port_at w q.port ≡ Some v)
   port_there (Some v) at h = (v, at)
@@ -140,12 +116,7 @@ module _ (now : ℕ) (tables : WorldView) (old mid : State) (owed : Owed) (e : E
 
   -- no task has the port's receive right
   no_receive : (x : Entry) → entry_at w q.task q.name ≡ Some x → port_named x ≡ Some q.port → has_receive x ≡ true → ⊥
-  no_receive x at is has =
-      let v = port_there (port_at w q.port) refl on.live in
-      let a = b.around.held.held q.task q.name x q.port at is has v.0 v.1 in
-      let d = b.around.doomed q.port v.0 v.1 in
-      let f : v.0.attributes.holder ≡ holder.Doomed = d.1 (subst (λ (p : ℕ). listed e.doomed p ≡ true) (sym is_port) b.can.doomed) in
-      let g : holder.Task q.task ≡ holder.Doomed = sym a ∙ f in cc
+  no_receive x at is has = grind (arith, port_there, on)
 
   same_held : held s q.task send q.port ≡ held mid q.task send q.port
   same_held = subst (λ (p : ℕ). held s q.task send p ≡ held mid q.task send p) (sym is_port) (held_same now old mid owed e port rs s b.can b.ends b.so_far q.task send)
@@ -195,28 +166,13 @@ module _ (now : ℕ) (tables : WorldView) (old mid : State) (owed : Owed) (e : E
     own_among = among_more rs r r ∙ ap (λ (c : Bool). is_among rs r || c) (request_refl r) ∙ or_true (is_among rs r)
 
     own_result : Some (Target.dead k) ≡ result q.task q.name true
-    own_result = elim (named_once on.entry q.port on.for_port) [
-      | inl h ↦ own_port (of_port h) (counted on.entry on.found on.for_port h)
-      | inr h ↦ own_once (of_once h) (once_counted on.entry h)
-    ]
-      where
-        own_port : lookup mid q.task q.name ≡ Some (Target.port q.port) → k ≡ min (held mid q.task send q.port + 1) most_references → Some (Target.dead k) ≡ result q.task q.name true
-        own_port is c = ap (λ (n : ℕ). Some (Target.dead n)) (c ∙ ap (λ (b : Bool). dead_references b (held mid q.task send q.port)) (sym stood))
-            ∙ ap (λ (b : Bool). Some (if b then Target.port q.port else Target.dead (dead_references (mid.stands r) (held mid q.task send q.port)))) (sym (and_false (s.live_port q.port)))
-            ∙ ap (option_map (settled_target mid (record mid { live_port = λ p. s.live_port p && false }) q.task q.name)) (sym is)
-
-        own_once : lookup mid q.task q.name ≡ Some (Target.once q.port) → k ≡ min (1 + 1) most_references → Some (Target.dead k) ≡ result q.task q.name true
-        own_once is c = ap (λ (n : ℕ). Some (Target.dead n)) (c ∙ ap (λ (b : Bool). dead_references b 1) (sym stood))
-            ∙ ap (λ (b : Bool). Some (if b then Target.once q.port else Target.dead (dead_references (mid.stands r) 1))) (sym (and_false (s.live_port q.port)))
-            ∙ ap (option_map (settled_target mid (record mid { live_port = λ p. s.live_port p && false }) q.task q.name)) (sym is)
+    own_result = grind (arith, named_once, on, of_port, counted, of_once, once_counted, stood, and_false)
 
     own_named : map.get (naming q.task) q.name ≡ result q.task q.name (is_among more r)
-    own_named = ap (λ (m : Names). map.get m q.name) (at_own s.naming q.task (map.insert (s.naming q.task) q.name (Target.dead k))) ∙ get_own (s.naming q.task) q.name (Target.dead k)
-        ∙ own_result ∙ ap (result q.task q.name) (sym own_among)
+    own_named = grind (arith, at_own, get_own, own_result, own_among)
 
     other_named : (task name : ℕ) → same_request (dead_name task name) r ≡ false → map.get (naming task) name ≡ map.get (s.naming task) name → map.get (naming task) name ≡ result task name (is_among more (dead_name task name))
-    other_named task name off same = same ∙ b.so_far.names task name
-        ∙ ap (result task name) (sym (among_more rs r (dead_name task name) ∙ ap (λ (c : Bool). is_among rs (dead_name task name) || c) off ∙ or_false (is_among rs (dead_name task name))))
+    other_named task name off same = grind (arith, among_more, or_false)
 
     names : NamesSoFar mid more s.live_port naming
     names task name = elim (eqb_tells task q.task) [
@@ -247,19 +203,7 @@ module _ (now : ℕ) (tables : WorldView) (old mid : State) (owed : Owed) (e : E
     ]
 
     entry_from : (t n : ℕ) (x : Entry) (p : ℕ) → entry_at ended t n ≡ Some x → port_of x ≡ Some p → entry_at w t n ≡ Some x
-    entry_from t n x p is for = elim (eqb_tells t q.task) [
-      | inl h ↦ elim (eqb_tells n q.name) [
-        | inl g ↦ absurd (dead x (sym entry_own ∙ sym (ap (λ (u : ℕ). entry_at ended u n) h.1 ∙ ap (λ (m : ℕ). entry_at ended q.task m) g.1) ∙ is) for)
-        | inr g ↦ sym (entry_other t n (λ c. g.1 c.1)) ∙ is
-      ]
-      | inr h ↦ sym (entry_other t n (λ c. h.1 c.0)) ∙ is
-    ]
-      where
-        dead : (y : Entry) → Some (named.DeadName k) ≡ Some y → port_of y ≡ Some p → ⊥
-        dead y f g = let a : named.DeadName k ≡ y = is_same y f in let c : None ≡ Some p = ap port_of a ∙ g in cc
-          where
-            is_same : (y : Entry) → Some (named.DeadName k) ≡ Some y → named.DeadName k ≡ y
-            is_same y f = cc
+    entry_from t n x p is for = grind (arith, entry_own, entry_other)
 
     around : Around tables old mid e ended
     around = record {

@@ -1,5 +1,5 @@
 -- Of the rights that are left just the one that a request keeps pays as it ends, where its port lives.
-use Rattle.std.proofs.Common.{◌≡◌, ℕ, zero, suc, ◌+◌, ◌<◌, ◌≤◌, List, [], ◌∷◌, ◌++◌, Option, Some, refl, sym, ap, subst, ◌∙◌, arith, true, false, Bool, inl, inr, length, get_or}
+use Rattle.std.proofs.Common.{◌≡◌, ℕ, zero, suc, ◌+◌, ◌<◌, ◌≤◌, List, [], ◌∷◌, ◌++◌, Some, refl, sym, ap, subst, ◌∙◌, arith, true, false, Bool, inl, inr, length, get_or}
 use Rattle.std.specs.Prelude.{if◌then◌else◌, All, ◌==◌, ◌&&◌, ◌||◌, not, filter}
 use Rattle.std.proofs.lemmas.Bool.{eq-eqb, and_from, true_from_ne_false}
 use Rattle.std.proofs.lemmas.Bool.Decides.{eqb_tells}
@@ -17,7 +17,7 @@ use Rattle.mach_model.proofs.TurnsLeft.{all_fewer}
 use Rattle.mach_model.proofs.TurnsMade.{left_of_all, paying_of, notes, is_paying, parted, all_once_kept}
 use Rattle.mach_model.proofs.TurnsSound.{reached_sound}
 use Rattle.mach_model.proofs.Weigh.{left_of, right_of, count_some}
-use Rattle.copyin_base.specs.Requests.{notify_of, rights_kept, rights_went}
+use Rattle.copyin_base.specs.Requests.{notify_of, rights_kept}
 use Rattle.copyin_base.specs.Worlds.{WorldView}
 use Rattle.notifications.proofs.Agreeing.{filter_weigh}
 use Rattle.notifications.specs.SoFar.{AgreesOf, due_so_far, posted_so_far}
@@ -39,23 +39,12 @@ paying_more e n (q ∷ rs) r xs =
     ∙ sym (append_assoc (notes (λ x. n q) (filter (is_paying e q) xs)) _ _)
 
 pub among_more : (rs : List Request) (r q : Request) → is_among (rs ++ r ∷ []) q ≡ (is_among rs q || same_request q r)
-among_more [] r q = go (same_request q r)
-  where
-    go : (b : Bool) → (b || false) ≡ b
-    go true = refl
-    go false = refl
-among_more (x ∷ rs) r q = go (same_request q x) (among_more rs r q)
-  where
-    go : (b : Bool) → is_among (rs ++ r ∷ []) q ≡ (is_among rs q || same_request q r) → (b || is_among (rs ++ r ∷ []) q) ≡ ((b || is_among rs q) || same_request q r)
-    go true ih = refl
-    go false ih = ih
+among_more [] r q = grind arith
+among_more (x ∷ rs) r q = grind (arith, among_more rs r q)
 
 left_less : (e : Ending) (rs : List Request) (xs : List Token) (h : Token → ℕ) → weigh h (left_of_all e rs xs) ≤ weigh h xs
 left_less e [] xs h = omega arith
-left_less e (r ∷ rs) xs h =
-    let a = left_less e rs (filter (λ x. not (is_paying e r x)) xs) h in
-    let b = parted h (is_paying e r) xs in
-    omega (arith, a, b)
+left_less e (r ∷ rs) xs h = grind (arith, left_less e rs (filter (λ x. not (is_paying e r x)) xs) h, parted h (is_paying e r) xs)
 
 -- ---- lists of which one passes
 
@@ -115,11 +104,7 @@ module _ (now : ℕ) (old mid : State) (owed : Owed) (e : Ending) (rs : List Req
   weight kind p x = if lives x.port then (if keeps kind p x then 1 else 0) else 0
 
   as_test : (kind : Kind) (p : ℕ) (x : Token) → weight kind p x ≡ (if lives x.port && keeps kind p x then 1 else 0)
-  as_test kind p x = go (lives x.port)
-    where
-      go : (b : Bool) → (if b then (if keeps kind p x then suc zero else zero) else zero) ≡ (if b && keeps kind p x then suc zero else zero)
-      go true = refl
-      go false = refl
+  as_test kind p x = grind arith
 
   none_posted : (kind : Kind) (p : ℕ) (xs : List Posted) → weigh (weight kind p) (all_posted_tokens xs) ≡ 0
   none_posted kind p xs = weigh_same (weight kind p) (λ x. if lives x.port && keeps kind p x then 1 else 0) (as_test kind p) (all_posted_tokens xs)
@@ -127,28 +112,15 @@ module _ (now : ℕ) (old mid : State) (owed : Owed) (e : Ending) (rs : List Req
 
   -- what it keeps in the tables is what is left of it
   kept_in : (kind : Kind) (p : ℕ) → weigh (weight kind p) still ≡ rights_kept lives (Some n) kind p
-  kept_in kind p =
-      let b = a.of_requests.kept r kind p in
-      let c = filter_weigh (λ x. if keeps kind p x then 1 else 0) (λ x. lives x.port) s.ledger in
-      let d : rights_went lives w.requests.names.went r kind p ≡ 0 = ap (λ xs. rights_went lives xs r kind p) went in
-      let g : rights_kept lives (notify_of w.requests r) kind p ≡ rights_kept lives (Some n) kind p = ap (λ (o : Option ℕ). rights_kept lives o kind p) was in
-      let h = f.ledger (weight kind p) in
-      let m = none_posted kind p (filter (λ (x : Posted). s.live_port x.port) (posted_so_far mid (partway e rs))) in
-      omega (arith, b, c, d, g, h, m)
+  kept_in kind p = grind (arith,
+      a.of_requests.kept r kind p, filter_weigh (λ x. if keeps kind p x then 1 else 0) (λ x. lives x.port) s.ledger, f.ledger (weight kind p),
+      none_posted kind p (filter (λ (x : Posted). s.live_port x.port) (posted_so_far mid (partway e rs))))
 
   once_left : All (λ x. (q : Request) → x.place ≡ in_request q → x.kind ≡ send_once) still
   once_left = all_fewer (λ x. (q : Request) → x.place ≡ in_request q → x.kind ≡ send_once) still e.left (left_less e rs e.left) (all_once_kept old mid owed e l (reached_sound old mid owed e reached))
 
   lived : All (λ x. mid.live_port x.port ≡ true) still
-  lived = all_fewer (λ x. mid.live_port x.port ≡ true) still e.left (left_less e rs e.left) (λ k d below. one k d below)
-    where
-      one : (k : ℕ) (d : Token) → k < length e.left → mid.live_port (get_or e.left k d).port ≡ true
-      one k d below = true_from_ne_false (mid.live_port (get_or e.left k d).port) (λ dead.
-          let x = get_or e.left k d in
-          let some = count_some (is_of x.kind x.port) e.left k d below (left_of (is_of x.kind x.port x) (same_place x.place x.place) (own_test x)) in
-          let b = (reached_sound old mid owed e reached).parts (λ y. if is_of x.kind x.port y then 1 else 0) in
-          let c = l.no_rights x.port dead x.kind in
-          omega (arith, some, b, c))
+  lived = grind (arith, all_fewer, left_less, true_from_ne_false, count_some, left_of, own_test, reached_sound)
 
   -- what pays is this right, and its port lives
   each : All (λ y. is_paying e r y ≡ true → (lives n ≡ true) × (y ≡ the_right)) still
@@ -204,7 +176,7 @@ module _ (now : ℕ) (old mid : State) (owed : Owed) (e : Ending) (rs : List Req
               zeros false = refl
 
   own_paying : lives n ≡ true → is_paying e r the_right ≡ true
-  own_paying alive = and_from (same_place (in_request r) (in_request r)) (not (listed e.doomed n)) (place_refl (in_request r)) (right_of (mid.live_port n) (not (listed e.doomed n)) alive)
+  own_paying alive = grind (arith, and_from, place_refl, right_of)
 
   pub pays_one : lives n ≡ true → filter (is_paying e r) still ≡ the_right ∷ []
   pays_one alive = filter_one (is_paying e r) the_right still (own_paying alive) (λ k d below is. (each k d below is).1) (one_right alive)
@@ -218,8 +190,7 @@ module _ (now : ℕ) (old mid : State) (owed : Owed) (e : Ending) (rs : List Req
   next = partway e (rs ++ r ∷ [])
 
   paid_is : (xs : List Token) → filter (is_paying e r) still ≡ xs → next.paid ≡ (partway e rs).paid ++ notes (λ x. death_notice r) xs
-  paid_is xs is = ap (λ (ys : Owed). e.paid ++ ys) (paying_more e death_notice rs r e.left) ∙ sym (append_assoc e.paid (paying_of e death_notice rs e.left) _)
-      ∙ ap (λ (ys : List Token). (partway e rs).paid ++ notes (λ x. death_notice r) ys) is
+  paid_is xs is = grind (arith, paying_more, append_assoc, paying_of, notes)
 
   left_is : (h : Token → ℕ) → weigh h still ≡ weigh h next.left + weigh h (filter (is_paying e r) still)
   left_is h =
@@ -234,16 +205,10 @@ module _ (now : ℕ) (old mid : State) (owed : Owed) (e : Ending) (rs : List Req
   due_none dead = ap (λ (ys : Owed). due_so_far (record e { paid = ys })) (paid_is [] (pays_none dead) ∙ append-nil (partway e rs).paid)
 
   pub left_one : lives n ≡ true → (h : Token → ℕ) → weigh h still ≡ weigh h next.left + h the_right
-  left_one alive h =
-      let b = left_is h in
-      let c : weigh h (filter (is_paying e r) still) ≡ weigh h (the_right ∷ []) = ap (weigh h) (pays_one alive) in
-      omega (arith, b, c)
+  left_one alive h = grind (arith, left_is, is_paying, pays_one)
 
   pub left_none : lives n ≡ false → (h : Token → ℕ) → weigh h still ≡ weigh h next.left
-  left_none dead h =
-      let b = left_is h in
-      let c : weigh h (filter (is_paying e r) still) ≡ 0 = ap (weigh h) (pays_none dead) in
-      omega (arith, b, c)
+  left_none dead h = grind (arith, left_is, is_paying, pays_none)
 
   pub paid_one : lives n ≡ true → length next.paid ≡ length (partway e rs).paid + 1
   paid_one alive = ap (λ (ys : Owed). length ys) (paid_is (the_right ∷ []) (pays_one alive)) ∙ one_longer (partway e rs).paid (the_right, death_notice r)

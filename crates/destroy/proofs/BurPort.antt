@@ -1,13 +1,11 @@
 -- The two requests of a doomed port itself end.
 use Rattle.std.proofs.Common.{◌≡◌, ℕ, zero, suc, ◌+◌, ◌%◌, ◌^◌, List, [], ◌∷◌, ◌++◌, Option, Some, None, refl, sym, ap, subst, ◌∙◌, arith, true, false, Bool, ◌⊎◌, inl, inr, length}
-use Rattle.std.specs.Prelude.{Contains, ◌==◌, ◌&&◌, ◌||◌, not, is_some, option_map, nat_lt, if◌then◌else◌}
+use Rattle.std.specs.Prelude.{Contains, ◌||◌, nat_lt, if◌then◌else◌}
 use Rattle.std.specs.FinMap as map
 use Rattle.std.specs.Ordering.{nat_cmp}
 use Rattle.std.proofs.lemmas.Bool.{eq-eqb}
-use Rattle.std.proofs.lemmas.Bool.Decides.{eqb_tells}
 use Rattle.mach_types.specs.Tokens.{Request, no_senders, port_destroyed, dead_name}
-use Rattle.mach_model.specs.State.{State, lookup, same_request}
-use Rattle.mach_model.specs.Settles.{settled_target}
+use Rattle.mach_model.specs.State.{State, same_request}
 use Rattle.mach_model.specs.Notices.{Owed}
 use Rattle.mach_model.specs.Turns.{Ending, lives_after}
 use Rattle.mach_model.proofs.Names.{removed_own}
@@ -26,7 +24,7 @@ use Rattle.copyin_base.specs.Worlds.{WorldView, port_at}
 use Rattle.copyin_base.proofs.Putting.{get_removed, len_put}
 use Rattle.notifications.specs.Posting.{CanPost}
 use Rattle.rights.specs.Unused.{IsUnusedOfAll}
-use Rattle.destroy.specs.Burying.{is_among, partway, AsksNone, SameSpare, IsAny, IsPartway, Around, Burying, EndsRequests}
+use Rattle.destroy.specs.Burying.{partway, AsksNone, SameSpare, IsAny, IsPartway, Around, Burying, EndsRequests}
 use Rattle.destroy.specs.Paying.{LivesIn, Pays}
 use Rattle.destroy.specs.Stages.{IsCount}
 use Rattle.destroy.proofs.BurBegin.{gone_ended}
@@ -44,20 +42,14 @@ or_false false = refl
 -- a request that isn't on a name changes no name
 pub names_same : (now : ℕ) (mid : State) (e : Ending) (rs : List Request) (s : State) → IsPartway now mid e rs s → (r : Request) → ((task name : ℕ) → same_request (dead_name task name) r ≡ false) →
     NamesSoFar mid (rs ++ r ∷ []) s.live_port s.naming
-names_same now mid e rs s so r off task name =
-    so.names task name
-    ∙ ap (λ (c : Bool). option_map (settled_target mid (record mid { live_port = λ q. s.live_port q && not c }) task name) (lookup mid task name))
-    (sym (among_more rs r (dead_name task name) ∙ ap (λ (c : Bool). is_among rs (dead_name task name) || c) (off task name) ∙ or_false (is_among rs (dead_name task name))))
+names_same now mid e rs s so r off task name = grind (arith, among_more, or_false)
 
 pub no_bare : (q : ℕ) → ¬ (CarriesReceive (notice_kept SendOnce) q)
 no_bare q (i, below, is) = absurd (omega (arith, below))
 
 -- tables of which one key was taken
 kept_has : (m : map.FinMap nat_cmp ℕ) (k p : ℕ) → map.contains_key (map.remove m k) p ≡ true → map.contains_key m p ≡ true
-kept_has m k p h = elim (eqb_tells p k) [
-  | inl e ↦ absurd (let a : map.contains_key (map.remove m k) p ≡ false = ap (map.contains_key (map.remove m k)) e.1 ∙ ap is_some (removed_own m k) in let g : true ≡ false = sym h ∙ a in cc)
-  | inr e ↦ ap is_some (sym (get_removed m k p e.1)) ∙ h
-]
+kept_has m k p h = grind (arith, removed_own, get_removed)
 
 -- as many ports are there after a notice was posted
 pub pays_ports : (w : WorldView) (n : ℕ) (notice : Notice) (v : WorldView) → Pays w n notice v → (LivesIn w n ⊎ ¬ (LivesIn w n)) → map.len v.ports.ports ≡ map.len w.ports.ports
@@ -74,7 +66,7 @@ module _ (now : ℕ) (tables : WorldView) (old mid : State) (owed : Owed) (e : E
   without_senders = record w.requests { no_senders = record w.requests.no_senders { map = map.remove w.requests.no_senders.map port } }
 
   senders_other : (q : Request) → same_request q (no_senders port) ≡ false → notify_of without_senders q ≡ notify_of w.requests q
-  senders_other (no_senders p) other = get_removed w.requests.no_senders.map port p (λ is. let a : (p == port) ≡ true = eq-eqb p port is in let g : true ≡ false = sym a ∙ other in cc)
+  senders_other (no_senders p) other = grind (arith, get_removed, eq-eqb)
   senders_other (port_destroyed p) other = refl
   senders_other (dead_name t n) other = refl
 
@@ -126,7 +118,7 @@ module _ (now : ℕ) (tables : WorldView) (old mid : State) (owed : Owed) (e : E
 
   saving_other : (q : Request) → same_request q (port_destroyed port) ≡ false → notify_of without_saving q ≡ notify_of w.requests q
   saving_other (no_senders p) other = refl
-  saving_other (port_destroyed p) other = get_removed w.requests.port_destroyed.map port p (λ is. let a : (p == port) ≡ true = eq-eqb p port is in let g : true ≡ false = sym a ∙ other in cc)
+  saving_other (port_destroyed p) other = grind (arith, get_removed, eq-eqb)
   saving_other (dead_name t n) other = refl
 
   saving_around : Around tables old mid e (record w { requests = without_saving })

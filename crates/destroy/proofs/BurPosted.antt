@@ -50,16 +50,10 @@ module _ (port : ℕ) (h : Token → ℕ) (live : ℕ → Bool) where
 
   tokens_same : (q k : ℕ) (n : Notice) → IsFine port (q, n) → (q == port) ≡ false →
       weigh elsewhere (posted_tokens (record { port = q; entry = k; notice = n })) ≡ weigh h (posted_tokens (record { port = q; entry = k; notice = n }))
-  tokens_same q k n fine other =
-      let a : elsewhere (token send_once q (in_message q k)) ≡ h (token send_once q (in_message q k)) = rw other refl in
-      let b = carried_same n (in_message q k) (λ r is. (fine r is).0) in
-      omega (arith, a, b)
+  tokens_same q k n fine other = grind (arith, carried_same)
 
   no_tokens : (q k : ℕ) (n : Notice) → IsFine port (q, n) → (q == port) ≡ true → weigh elsewhere (posted_tokens (record { port = q; entry = k; notice = n })) ≡ 0
-  no_tokens q k n fine same =
-      let a : elsewhere (token send_once q (in_message q k)) ≡ 0 = rw same refl in
-      let b = none_carried n (in_message q k) (λ r is. (fine r is).1 (eqb-true q port same)) in
-      omega (arith, a, b)
+  no_tokens q k n fine same = grind (arith, none_carried, eqb-true)
 
   pub left_posted : (ys : List (ℕ × Notice)) (ends : ℕ → ℕ) → All (IsFine port) ys →
       weigh elsewhere (all_posted_tokens (filter (λ (x : Posted). live x.port) (posted_from ends ys))) ≡ weigh h (all_posted_tokens (filter (λ (x : Posted). lives_else x.port) (posted_from ends ys)))

@@ -26,14 +26,7 @@ is_off port x = not (x.port == port)
 
 -- rights for other ports stay
 pub count_else : (port : ℕ) (test : Token → Bool) → ((x : Token) → x.port ≡ port → test x ≡ false) → (xs : List Token) → count test (filter (is_off port) xs) ≡ count test xs
-count_else port test none xs = filter_weigh (λ x. if test x then 1 else 0) (is_off port) xs
-    ∙ weigh_same (λ x. if is_off port x then (if test x then 1 else 0) else 0) (λ x. if test x then 1 else 0) same xs
-  where
-    same : (x : Token) → (if is_off port x then (if test x then suc zero else zero) else zero) ≡ (if test x then suc zero else zero)
-    same x = elim (eqb_tells x.port port) [
-      | inl h ↦ rw (h.0, none x h.1) refl
-      | inr h ↦ rw h.0 refl
-    ]
+count_else port test none xs = grind (arith, filter_weigh, weigh_same)
 
 pub none_here : (port : ℕ) (test : Token → Bool) → ((x : Token) → (x.port ≡ port → ⊥) → test x ≡ false) → (xs : List Token) → count test (filter (is_off port) xs) ≡ 0
 none_here port test none xs = filter_weigh (λ x. if test x then 1 else 0) (is_off port) xs
@@ -59,7 +52,7 @@ same_request_refl (dead_name t n) = rw (eq-eqb t t refl, eq-eqb n n refl) refl
 pub same_request_is : (r q : Request) → same_request r q ≡ true → r ≡ q
 same_request_is (no_senders p) (no_senders q) e = ap no_senders (eqb-true p q e)
 same_request_is (port_destroyed p) (port_destroyed q) e = ap port_destroyed (eqb-true p q e)
-same_request_is (dead_name t n) (dead_name u m) e = let a = eqb-true t u (left_of (t == u) (n == m) e) in let b = eqb-true n m (right_of (t == u) (n == m) e) in λ i. dead_name (a i) (b i)
+same_request_is (dead_name t n) (dead_name u m) e = grind (arith, eqb-true, left_of, right_of)
 same_request_is (no_senders p) (port_destroyed q) e = absurd (cc)
 same_request_is (no_senders p) (dead_name u m) e = absurd (cc)
 same_request_is (port_destroyed p) (no_senders q) e = absurd (cc)
@@ -70,11 +63,7 @@ same_request_is (dead_name t n) (port_destroyed q) e = absurd (cc)
 pub among_of : (rs : List Request) (r : Request) → Contains rs r → is_among rs r ≡ true
 among_of [] r (i, below, is) = absurd (omega (arith, below))
 among_of (q ∷ qs) r (zero, below, is) = let a : same_request r q ≡ true = subst (λ (x : Request). same_request r x ≡ true) (sym is) (same_request_refl r) in rw a refl
-among_of (q ∷ qs) r (suc i, below, is) = go (same_request r q) (among_of qs r (i, omega (arith, below), is))
-  where
-    go : (b : Bool) → is_among qs r ≡ true → (b || is_among qs r) ≡ true
-    go true h = refl
-    go false h = h
+among_of (q ∷ qs) r (suc i, below, is) = grind (arith, among_of qs r (i, omega (arith, below), is))
 
 pub of_among : (P : Request → Type 0) (rs : List Request) (r : Request) → All P rs → is_among rs r ≡ true → P r
 of_among P [] r all h = absurd (cc)
@@ -118,14 +107,7 @@ module _ (mid : State) (e : Ending) (port : ℕ) where
   after = record before { doomed = port ∷ e.buried }
 
   pub lives_else_after : (p : ℕ) → (lives_after mid before p && not (p == port)) ≡ lives_after mid after p
-  lives_else_after p = go (mid.live_port p) (listed e.buried p) (p == port)
-    where
-      go : (a b c : Bool) → ((a && not b) && not c) ≡ (a && not (c || b))
-      go true true true = refl
-      go true true false = refl
-      go true false true = refl
-      go true false false = refl
-      go false b c = refl
+  lives_else_after p = grind arith
 
   lives_other : (p : ℕ) → (p ≡ port → ⊥) → lives_after mid after p ≡ lives_after mid before p
   lives_other p not = let h = ne_eqb p port not in rw h refl
@@ -152,26 +134,14 @@ module _ (mid : State) (e : Ending) (port : ℕ) where
 
   is_name : (o : Option Target) → IsNameOf port o ⊎ (IsNameOf port o → ⊥)
   is_name None = inr (λ h. h)
-  is_name (Some (Target.port q)) = elim (eqb_tells q port) [
-    | inl h ↦ inl h.1
-    | inr h ↦ inr h.1
-  ]
-  is_name (Some (Target.once q)) = elim (eqb_tells q port) [
-    | inl h ↦ inl h.1
-    | inr h ↦ inr h.1
-  ]
+  is_name (Some (Target.port q)) = grind arith
+  is_name (Some (Target.once q)) = grind arith
   is_name (Some (Target.dead n)) = inr (λ h. h)
   is_name (Some (Target.set n)) = inr (λ h. h)
 
   pub of_port : (r : Request) → IsRequestOf mid port r ⊎ (IsRequestOf mid port r → ⊥)
-  of_port (no_senders p) = elim (eqb_tells p port) [
-    | inl h ↦ inl h.1
-    | inr h ↦ inr h.1
-  ]
-  of_port (port_destroyed p) = elim (eqb_tells p port) [
-    | inl h ↦ inl h.1
-    | inr h ↦ inr h.1
-  ]
+  of_port (no_senders p) = grind arith
+  of_port (port_destroyed p) = grind arith
   of_port (dead_name t n) = is_name (lookup mid t n)
 
   pub own_ended : (r : Request) → IsRequestOf mid port r → has_ended mid after r ≡ true
@@ -189,12 +159,4 @@ module _ (now : ℕ) (old mid : State) (owed : Owed) (e : Ending) (port : ℕ) (
     (every : (r : Request) → mid.stands r ≡ true → IsRequestOf mid port r → Contains rs r) where
   -- no request of the port stands
   pub none_stands : (r : Request) → IsRequestOf mid port r → s.stands r ≡ false
-  none_stands r of = f.stands r ∙ go (mid.stands r) (is_among rs r) (λ yes. among_of rs r (every r yes of)) refl
-    where
-      go : (a b : Bool) → (mid.stands r ≡ true → is_among rs r ≡ true) → is_among rs r ≡ b → ((mid.stands r && not (has_ended mid (buried_alone e) r)) && not b) ≡ false
-      go a true so is = and_false _
-      go a false so is = unstood (mid.stands r) refl
-        where
-          unstood : (c : Bool) → mid.stands r ≡ c → ((c && not (has_ended mid (buried_alone e) r)) && true) ≡ false
-          unstood true at = absurd (let g : true ≡ false = sym (so at) ∙ is in cc)
-          unstood false at = refl
+  none_stands r of = grind (arith, among_of, and_false)

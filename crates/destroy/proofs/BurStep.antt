@@ -9,7 +9,7 @@ use Rattle.mach_types.specs.Tokens.{Request, Place, Token}
 use Rattle.mach_model.specs.State.{State, Names, same_request, request_at}
 use Rattle.mach_model.specs.Lawful.{tally}
 use Rattle.mach_model.specs.Notices.{Owed, carried_by}
-use Rattle.mach_model.specs.Turns.{Ending, listed, lives_after, IsRequestOf, death_notice, outcome}
+use Rattle.mach_model.specs.Turns.{Ending, lives_after, IsRequestOf, death_notice, outcome}
 use Rattle.mach_model.proofs.SettledReceives.{tally-append}
 use Rattle.mach_model.proofs.Weigh.{left_of, right_of}
 use Rattle.name_space.specs.Names.{SpaceView}
@@ -54,22 +54,7 @@ not_among (x ∷ rs) q none = go (same_request q x) none (not_among rs q)
     go false h rest = let a = rest h in omega (arith, a)
 
 once_more : (rs : List Request) (r : Request) → is_among rs r ≡ false → ((q : Request) → tally (same_request q) rs ≤ 1) → (q : Request) → tally (same_request q) (rs ++ r ∷ []) ≤ 1
-once_more rs r new once q = go (same_request q r) refl
-  where
-    parts : tally (same_request q) (rs ++ r ∷ []) ≡ tally (same_request q) rs + tally (same_request q) (r ∷ [])
-    parts = tally-append (same_request q) rs (r ∷ [])
-
-    go : (b : Bool) → same_request q r ≡ b → tally (same_request q) (rs ++ r ∷ []) ≤ 1
-    go true is =
-        let a = parts in
-        let z : (if same_request q r then suc zero else zero) ≡ suc zero = rw is refl in
-        let c : tally (same_request q) rs ≡ 0 = subst (λ (x : Request). tally (same_request x) rs ≡ 0) (sym (same_request_is q r is)) (not_among rs r new) in
-        omega (arith, a, z, c)
-    go false is =
-        let a = parts in
-        let z : (if same_request q r then suc zero else zero) ≡ zero = rw is refl in
-        let c = once q in
-        omega (arith, a, z, c)
+once_more rs r new once q = grind (arith, tally-append, same_request_is, not_among)
 
 one_all : {A : Type 0} (P : A → Type 0) (x : A) → P x → All P (x ∷ [])
 one_all P x h = All-cons P x [] h (λ k d below. absurd (omega arith))
@@ -78,14 +63,7 @@ one_all P x h = All-cons P x [] h (λ k d below. absurd (omega arith))
 
 module _ (now : ℕ) (tables : WorldView) (old mid : State) (owed : Owed) (e : Ending) (port : ℕ) (rs : List Request) (w : WorldView) (b : Burying now tables old mid owed e port rs w) where
   pub lives_now : (p : ℕ) → LivesIn w p → lives_after mid e p ≡ true
-  lives_now p l = and_from (mid.live_port p) (not (listed e.doomed p)) live (undoomed (listed e.doomed p) refl)
-    where
-      live : mid.live_port p ≡ true
-      live = left_of (mid.live_port p) (not (listed e.buried p)) (sym (b.so_far.live_port p) ∙ sym (b.agrees.live_port p) ∙ ap is_some l.there)
-
-      undoomed : (c : Bool) → listed e.doomed p ≡ c → not (listed e.doomed p) ≡ true
-      undoomed false is = ap not is
-      undoomed true is = absurd (l.undoomed (let d = b.around.doomed p l.v l.there in d.1 is))
+  lives_now p l = grind (arith, and_from, left_of)
 
 -- ---- the step
 
@@ -109,11 +87,7 @@ module _ (now : ℕ) (tables : WorldView) (old mid : State) (owed : Owed) (e : E
   stands_mid = left_of (mid.stands r) _ (left_of ((outcome mid (buried_alone e)).stands r) (not (is_among rs r)) (sym (b.so_far.stands r) ∙ stood))
 
   new_one : is_among rs r ≡ false
-  new_one = go (is_among rs r) refl
-    where
-      go : (c : Bool) → is_among rs r ≡ c → c ≡ false
-      go false is = refl
-      go true is = absurd (let a = right_of ((outcome mid (buried_alone e)).stands r) (not (is_among rs r)) (sym (b.so_far.stands r) ∙ stood) in let c : not (is_among rs r) ≡ false = ap not is in let d : true ≡ false = sym a ∙ c in cc)
+  new_one = grind (arith, right_of, stood)
 
   ends : All (λ q. (mid.stands q ≡ true) × IsRequestOf mid port q) (rs ++ r ∷ [])
   ends = All-append (λ q. (mid.stands q ≡ true) × IsRequestOf mid port q) rs (r ∷ []) b.ends (one_all (λ q. (mid.stands q ≡ true) × IsRequestOf mid port q) r (stands_mid, is_of_port))
@@ -166,12 +140,7 @@ module _ (now : ℕ) (tables : WorldView) (old mid : State) (owed : Owed) (e : E
       }
 
       undoomed : x.attributes.holder ≡ holder.Doomed → ⊥
-      undoomed is =
-          let d = around.doomed n x is_there in
-          let a = d.0 is in
-          let c = right_of (mid.live_port n) (not (listed e.doomed n)) alive in
-          let g : not (listed e.doomed n) ≡ false = ap not a in
-          let h : true ≡ false = sym c ∙ g in cc
+      undoomed is = grind (arith, right_of)
 
       emptied : (p : ℕ) (v : PortView Kept) → port_at posted p ≡ Some v → v.attributes.holder ≡ holder.Doomed → v.queue ≡ []
       emptied p v at doomed = elim (eqb_tells p n) [

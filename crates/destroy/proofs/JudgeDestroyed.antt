@@ -54,7 +54,7 @@ tail_kept p m ms (suc n) (x ∷ xs) h = tail_kept p m ms n xs h
 are_more : (s t : State) → t.log ≡ s.log → (ms : List Kept) (xs : List (ℕ × ℕ)) → AreEntries s ms xs → (m : Kept) (x : ℕ × ℕ) → (entry : Entry) × (slice_get (s.log x.0) x.1 ≡ Some entry) × Keeps x.0 m entry.message →
     AreEntries t (ms ++ m ∷ []) (xs ++ x ∷ [])
 are_more s t same [] [] h m x (entry, at_log, keeps) = ((entry, ap (λ (l : ℕ → List Entry). slice_get (l x.0) x.1) same ∙ at_log, keeps), tt)
-are_more s t same (n ∷ ms) (y ∷ xs) ((entry, at_log, keeps), h) m x one = ((entry, ap (λ (l : ℕ → List Entry). slice_get (l y.0) y.1) same ∙ at_log, keeps), are_more s t same ms xs h m x one)
+are_more s t same (n ∷ ms) (y ∷ xs) ((entry, at_log, keeps), h) m x one = grind (arith, are_more s t same ms xs h m x one)
 are_more s t same [] (y ∷ xs) h m x one = absurd h
 are_more s t same (n ∷ ms) [] h m x one = absurd h
 
@@ -111,11 +111,7 @@ module _ (now : ℕ) (tables : WorldView) (old mid : State) (owed : Owed) (e : E
   unjudged_at q n lies un = let a = unsaved q n lies in rw (un, a) refl
 
   undoomed : (q : ℕ) (u : PortView Kept) → port_at w q ≡ Some u → (u.attributes.holder ≡ holder.Doomed → ⊥) → listed e.doomed q ≡ false
-  undoomed q u found held_by = go (listed e.doomed q) refl
-    where
-      go : (t : Bool) → listed e.doomed q ≡ t → listed e.doomed q ≡ false
-      go false h = h
-      go true h = absurd (held_by ((b.doomed q u found).1 h))
+  undoomed q u found held_by = grind arith
 
   module _ (first : Kept) (behind : List Kept) (queue_is : v.queue ≡ first ∷ behind) where
     abbrev pub Carried : ℕ → Type 0
@@ -352,11 +348,7 @@ module _ (now : ℕ) (tables : WorldView) (old mid : State) (owed : Owed) (e : E
       -- ---- what the tables alone tell
 
       holder_was : (q : ℕ) (u : PortView Kept) (h : Holder) → map.get P q ≡ Some u → u.attributes.holder ≡ h → (h ≡ holder.Nobody → ⊥) → (y : PortView Kept) × (port_at w q ≡ Some y) × (y.attributes.holder ≡ h)
-      holder_was q u h is held_by some = let x = was q u is in (x.y, x.found, go x x.attributes)
-        where
-          go : (x : Was q u) → (u.attributes ≡ x.y.attributes) ⊎ ((n : ℕ) × (x.y.attributes.holder ≡ holder.QueueOf n) × Carried q × (u.attributes ≡ record x.y.attributes { holder = holder.Nobody })) → x.y.attributes.holder ≡ h
-          go x (inl same) = ap (λ (a : Attributes). a.holder) (sym same) ∙ held_by
-          go x (inr (n, queued, c, same)) = absurd (some (sym held_by ∙ ap (λ (a : Attributes). a.holder) same))
+      holder_was q u h is held_by some = grind (arith, was q u is)
 
       -- one that a queue doesn't hold has its holder still
       holder_stays : (q : ℕ) (y : PortView Kept) → port_at w q ≡ Some y → ((x : ℕ) → y.attributes.holder ≡ holder.QueueOf x → ⊥) → IsHeldBy after.ports q y.attributes.holder
@@ -385,15 +377,11 @@ module _ (now : ℕ) (tables : WorldView) (old mid : State) (owed : Owed) (e : E
       unjudged_still q u y (inr (n, queued, c, same)) found h = lost_unjudged q y n found queued (carried_at_first q y found c)
 
       doomed_still : (q : ℕ) (u y : PortView Kept) → Became q u y → port_at w q ≡ Some y → (u.attributes.holder ≡ holder.Doomed) ↔ (listed e.doomed q ≡ true)
-      doomed_still q u y (inl same) found = ((λ h. (b.doomed q y found).0 (ap (λ (a : Attributes). a.holder) (sym same) ∙ h)), (λ h. ap (λ (a : Attributes). a.holder) same ∙ (b.doomed q y found).1 h))
-      doomed_still q u y (inr (n, queued, c, same)) found = (
-        (λ h. absurd (let g : holder.Nobody ≡ holder.Doomed = sym (ap (λ (a : Attributes). a.holder) same) ∙ h in cc)),
-        (λ h. absurd (let g : holder.QueueOf n ≡ holder.Doomed = sym queued ∙ (b.doomed q y found).1 h in cc)),
-      )
+      doomed_still q u y (inl same) found = grind arith
+      doomed_still q u y (inr (n, queued, c, same)) found = grind arith
 
       nobody_still : (q : ℕ) → IsHeldBy w.ports q holder.Nobody → IsHeldBy after.ports q holder.Nobody
-      nobody_still q h = let r = holder_stays q h.view h.there (λ x queued. let g : holder.Nobody ≡ holder.QueueOf x = sym h.holder_is ∙ queued in cc) in
-          record { view = r.view; there = r.there; holder_is = r.holder_is ∙ h.holder_is }
+      nobody_still q h = grind (arith, holder_stays)
 
       -- ---- receive rights that messages carry
 

@@ -22,7 +22,7 @@ use Rattle.request_table.specs.declared.Request.{Request as NameRequest}
 use Rattle.rights.specs.Ledger.{counts_of}
 use Rattle.copyin_base.specs.Kept.{Kept}
 use Rattle.copyin_base.specs.Changes.{SetsHolder}
-use Rattle.copyin_base.specs.Requests.{rights_kept, was_on, rights_went, RequestsAgree}
+use Rattle.copyin_base.specs.Requests.{rights_kept, rights_went, RequestsAgree}
 use Rattle.copyin_base.specs.Worlds.{WorldView, port_at}
 use Rattle.copyin_base.proofs.Agreeing.{live_put, ports_put}
 use Rattle.copyin_base.proofs.Carriers.{carriers_held}
@@ -49,24 +49,15 @@ none_at : (lives : ℕ → Bool) (o : Option ℕ) (kind : Kind) (q : ℕ) → li
 none_at lives None kind q dead = refl
 none_at lives (Some n) receive q dead = refl
 none_at lives (Some n) send q dead = refl
-none_at lives (Some n) send_once q dead = go (n == q) (lives q) dead
-  where
-    go : (a b : Bool) → b ≡ false → (if a && b then suc zero else zero) ≡ zero
-    go true false h = refl
-    go false b h = refl
-    go true true h = absurd (cc)
+none_at lives (Some n) send_once q dead = grind arith
 
 went_at : (lives lives2 : ℕ → Bool) (went : List NameRequest) (r : Request) (kind : Kind) (q : ℕ) → lives2 q ≡ lives q → rights_went lives2 went r kind q ≡ rights_went lives went r kind q
 went_at lives lives2 [] r kind q same = refl
-went_at lives lives2 (x ∷ went) r kind q same = λ i. (if was_on r x then kept_at lives lives2 (Some x.notify) kind q same i else 0) + went_at lives lives2 went r kind q same i
+went_at lives lives2 (x ∷ went) r kind q same = grind (arith, went_at lives lives2 went r kind q same, kept_at)
 
 went_none : (lives : ℕ → Bool) (went : List NameRequest) (r : Request) (kind : Kind) (q : ℕ) → lives q ≡ false → rights_went lives went r kind q ≡ 0
 went_none lives [] r kind q dead = refl
-went_none lives (x ∷ went) r kind q dead = go (was_on r x) (none_at lives (Some x.notify) kind q dead) (went_none lives went r kind q dead)
-  where
-    go : (b : Bool) → rights_kept lives (Some x.notify) kind q ≡ 0 → rights_went lives went r kind q ≡ 0 → (if b then rights_kept lives (Some x.notify) kind q else 0) + rights_went lives went r kind q ≡ 0
-    go true a c = omega (arith, a, c)
-    go false a c = omega (arith, c)
+went_none lives (x ∷ went) r kind q dead = grind (arith, went_none lives went r kind q dead, none_at)
 
 -- rights for one port among those for ports that live
 lying_at : (lives : ℕ → Bool) (tokens : List Token) (kind : Kind) (q : ℕ) (r : Request) → lying_among (filter (λ x. lives x.port) tokens) kind q (in_request r) ≡ (if lives q then lying_among tokens kind q (in_request r) else 0)
@@ -155,31 +146,14 @@ module _ (now : ℕ) (tables : WorldView) (old mid : State) (owed : Owed) (e : E
   more q h = listed_later p e.doomed q h
 
   lives_fewer : (q : ℕ) → (lives_after mid f q ≡ lives_after mid e q) ⊎ (lives_after mid f q ≡ false)
-  lives_fewer q = go (mid.live_port q) (q == p) (listed e.doomed q)
-    where
-      go : (a c d : Bool) → ((a && not (c || d)) ≡ (a && not d)) ⊎ ((a && not (c || d)) ≡ false)
-      go false c d = inl refl
-      go true false d = inl refl
-      go true true d = inr refl
+  lives_fewer q = grind arith
 
   module _ (lost doomed : List ℕ) where
     sets : SetsHolder w p holder.Doomed (record w { ports = with_port w.ports p (held v holder.Doomed) })
     sets = record { v = v; there = there; rest = refl }
 
     so_far : IsSoFar now mid f s
-    so_far = let o = b.tied.so_far in record {
-      live_port = o.live_port;
-      stands = o.stands;
-      sets_of = o.sets_of;
-      make_send = o.make_send;
-      sequence = o.sequence;
-      names = o.names;
-      log = o.log;
-      taken = o.taken;
-      destroyed = o.destroyed;
-      ledger = o.ledger;
-      rest = o.rest;
-    }
+    so_far = grind arith
 
     agrees : AgreesOf (lives_after mid f) (after lost doomed) s
     agrees = let a = b.tied.agrees in record {
@@ -229,17 +203,10 @@ module _ (now : ℕ) (tables : WorldView) (old mid : State) (owed : Owed) (e : E
     own y q same at = of_some (held v holder.Doomed) (λ y. y.attributes.holder ≡ holder.Doomed) refl y (sym (put_own w.ports.ports p (Some (held v holder.Doomed))) ∙ subst (λ (x : ℕ). port_at (after lost doomed) x ≡ Some y) same at)
 
     judged_more : (q : ℕ) → is_judged e q ≡ true → is_judged f q ≡ true
-    judged_more q h = go (q == p) (listed e.doomed q) (listed e.saved q) h
-      where
-        go : (a c d : Bool) → (c || d) ≡ true → ((a || c) || d) ≡ true
-        go true c d h = refl
-        go false c d h = h
+    judged_more q h = grind arith
 
     lived : (q : ℕ) → lives_after mid f q ≡ true → lives_after mid e q ≡ true
-    lived q live = elim (lives_fewer q) [
-      | inl same ↦ sym same ∙ live
-      | inr dead ↦ absurd (let h : true ≡ false = sym live ∙ dead in cc)
-    ]
+    lived q live = grind (arith, lives_fewer)
 
     was_live : (q : ℕ) → is_some (port_at (after lost doomed) q) ≡ true → is_some (port_at w q) ≡ true
     was_live = each_put w.ports.ports p (Some (held v holder.Doomed)) (λ q o. is_some o ≡ true → is_some (port_at w q) ≡ true) (λ h. ap is_some there) (λ q not h. h)

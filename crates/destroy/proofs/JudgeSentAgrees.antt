@@ -12,7 +12,7 @@ use Rattle.mach_model.specs.State.{State, at, request_at}
 use Rattle.mach_model.specs.Carried.{lying_among}
 use Rattle.mach_model.specs.Death.{same_place}
 use Rattle.mach_model.specs.Notices.{Owed, notice_message, port_sent}
-use Rattle.mach_model.specs.Turns.{Ending, listed, lives_after}
+use Rattle.mach_model.specs.Turns.{Ending, lives_after}
 use Rattle.mach_model.specs.Unused.{onces_queued}
 use Rattle.mach_model.proofs.At.{at_own, at_other}
 use Rattle.mach_model.proofs.SettledParts.{and_false}
@@ -37,7 +37,7 @@ use Rattle.copyin_base.proofs.Counting.{counts_agree, counts_same}
 use Rattle.copyin_base.proofs.Gets.{of_some}
 use Rattle.copyin_base.proofs.Putting.{each_put, put_own, put_other}
 use Rattle.copyin_base.proofs.Requesting.{ended_more}
-use Rattle.notifications.specs.SoFar.{AgreesOf, entries_at, due_so_far}
+use Rattle.notifications.specs.SoFar.{AgreesOf}
 use Rattle.notifications.proofs.Agreeing.{posted_agrees}
 use Rattle.notifications.proofs.Written.{with_message}
 use Rattle.destroy.specs.Between.{Between}
@@ -64,17 +64,7 @@ module _ (l : LedgerView) (live lives : ℕ → Bool) (tokens tokens2 : List Tok
 
   -- it comes where it was taken, so the number of its receive rights is 1 then
   some : ((counts_of l p).receive == 0) ≡ false → (counts_of l p).receive ≡ 1
-  some is = go (counts_of l p).receive few is
-    where
-      go : (n : ℕ) → n ≤ 1 → (n == 0) ≡ false → n ≡ 1
-      go n h is = elim (eqb_tells n 0) [
-        | inl k ↦ absurd (let x = k.0 in cc)
-        | inr k ↦ less n h k.1
-      ]
-        where
-          less : (n : ℕ) → n ≤ 1 → (n ≡ 0 → ⊥) → n ≡ 1
-          less zero h not = absurd (not refl)
-          less (suc n) h not = omega (arith, h)
+  some is = grind arith
 
   same_other : (q : ℕ) → (q ≡ p → ⊥) → queued q ≡ now_queued (made l p Receive 1) q
   same_other q not =
@@ -106,18 +96,10 @@ module _ (l : LedgerView) (live lives : ℕ → Bool) (tokens tokens2 : List Tok
           ]
 
   pub brought_total : l.total ≡ length tokens → length tokens2 + count (is_of receive p) tokens ≡ length tokens + 1 → (brought l p).total ≡ length tokens2
-  brought_total total more = go ((counts_of l p).receive == 0) refl
-    where
-      go : (t : Bool) → ((counts_of l p).receive == 0) ≡ t → (if t then made l p Receive 1 else l).total ≡ length tokens2
-      go true is = let x = eqb-true (counts_of l p).receive 0 is in let y = (a p).receivers in omega (arith, x, y, total, more)
-      go false is = let x = some is in let y = (a p).receivers in omega (arith, x, y, total, more)
+  brought_total total more = grind (arith, eqb-true, some)
 
 pub brought_unused : (l : LedgerView) (p : ℕ) → (brought l p).unused ≡ l.unused
-brought_unused l p = go ((counts_of l p).receive == 0)
-  where
-    go : (t : Bool) → (if t then made l p Receive 1 else l).unused ≡ l.unused
-    go true = omega arith
-    go false = refl
+brought_unused l p = grind arith
 
 -- ---- requests, where the one of a port to be sent away ends
 
@@ -151,16 +133,11 @@ module _ (v : RequestTablesView) (went : List NameRequest) (made_ports : ℕ) (s
   own_right : (kind : Kind) (q : ℕ) → rights_kept live (Some n) kind q ≡ (if is_of kind q (kept_right n p) then suc zero else zero)
   own_right receive q = refl
   own_right send q = refl
-  own_right send_once q = elim (eqb_tells n q) [
-    | inl h ↦ ap (λ (t : Bool). if n == q && t then suc zero else zero) (subst (λ (x : ℕ). live x ≡ true) h.1 alive) ∙ on (n == q) true refl
-    | inr h ↦ rw h.0 refl
-  ]
+  own_right send_once q = grind (arith, on)
 
   keeps : (r : Request) (kind : Kind) (q : ℕ) → lying_among tokens2 kind q (in_request r) ≡ rights_kept live (notify_of unasked r) kind q + rights_went live went r kind q
-  keeps (no_senders x) kind q =
-      let c = kept (no_senders x) kind q in let d = a.kept (no_senders x) kind q in let f = off (is_of kind q (kept_right n p)) false refl in omega (arith, c, d, f)
-  keeps (dead_name task name) kind q =
-      let c = kept (dead_name task name) kind q in let d = a.kept (dead_name task name) kind q in let f = off (is_of kind q (kept_right n p)) false refl in omega (arith, c, d, f)
+  keeps (no_senders x) kind q = grind (arith, off, kept_right)
+  keeps (dead_name task name) kind q = grind (arith, off, kept_right)
   keeps (port_destroyed x) kind q = elim (eqb_tells x p) [
     | inl h ↦ subst (λ (x : ℕ). lying_among tokens2 kind q (in_request (port_destroyed x)) ≡ rights_kept live (notify_of unasked (port_destroyed x)) kind q + rights_went live went (port_destroyed x) kind q) (sym h.1) here
     | inr h ↦ there h.1
@@ -185,7 +162,7 @@ module _ (v : RequestTablesView) (went : List NameRequest) (made_ports : ℕ) (s
           omega (arith, c, d, f, h)
 
   pub unasked_agree : RequestsAgree (notify_of unasked) went made_ports (request_at stands (port_destroyed p) false) live tokens2
-  unasked_agree = record { standing = standing; kept = keeps; given = given; given_went = a.given_went; ended_went = ended_more stands (port_destroyed p) went a.ended_went }
+  unasked_agree = grind (arith, standing, keeps, given, ended_more)
 
 -- ---- all together, where the notice was posted already
 
@@ -202,10 +179,7 @@ module _ (lives : ℕ → Bool) (w : WorldView) (s : State) (a : AgreesOf lives 
   -- what is true of this port and of each other is true of all
   each : (Q : ℕ → Option (PortView Kept) → Type 0) → Q p (Some (record x { attributes = record x.attributes { make_send = 0; sequence = 0; set = None; holder = h } })) →
       ((q : ℕ) → q ≢ p → Q q (port_at w q)) → (q : ℕ) → Q q (map.get P q)
-  each Q one others q = elim (eqb_tells q p) [
-    | inl k ↦ subst (λ (y : ℕ). Q y (map.get P y)) (sym k.1) (subst (Q p) (sym own_at) one)
-    | inr k ↦ subst (Q q) (sym (at_others q k.1)) (others q k.1)
-  ]
+  each Q one others q = grind arith
 
   pub reset_agrees : ((task : ℕ) (kind : Kind) (q : ℕ) → count (is_held task kind q) tokens ≡ count (is_held task kind q) s.ledger) →
       ((q : ℕ) → CountsAgree l s.live_port tokens (λ q. if lives q then onces_queued s q else (counts_of l q).destination) q) → l.total ≡ length tokens →
@@ -260,19 +234,10 @@ module _ (now : ℕ) (tables : WorldView) (old mid : State) (owed : Owed) (e : E
   apart = differs now tables old mid owed e w b p n lost goes
 
   within : s.taken n ≤ length (s.log n)
-  within =
-      let a = b.tied.so_far.taken n in
-      let c = none_taken old mid owed e b.reached n (target_lives now tables old mid owed e w b p n lost goes) in
-      let d = b.lawful.within n in
-      let f = length-append (mid.log n) (entries_at now n (due_so_far e)) in
-      let g : length (s.log n) ≡ length (mid.log n ++ entries_at now n (due_so_far e)) = ap length (b.tied.so_far.log n) in
-      omega (arith, a, c, d, f, g)
+  within = grind (arith, none_taken, target_lives, length-append)
 
   own_lives : lives_after mid e p ≡ true
-  own_lives =
-      let a = there_mid now tables old mid owed e w b p lost.view lost.there in
-      let c = (false_or (listed e.doomed p) (listed e.saved p) (unjudged now tables old mid owed e w b p n lost goes)).0 in
-      rw (a, c) refl
+  own_lives = grind (arith, there_mid, false_or, unjudged)
 
   abbrev entry : Entry
   entry = record { origin = now; message = notice_message n (port_sent p) }

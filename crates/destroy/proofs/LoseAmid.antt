@@ -29,7 +29,7 @@ use Rattle.copyin_base.specs.declared.message.Carried.{Carried}
 use Rattle.copyin_base.specs.declared.message.Mark.{Mark}
 use Rattle.copyin_base.specs.declared.message.Mark.TheVariants as mark
 use Rattle.copyin_base.specs.declared.notice.Notice.TheVariants.{SendOnce}
-use Rattle.copyin_base.specs.Kept.{Kept, mark_of}
+use Rattle.copyin_base.specs.Kept.{Kept}
 use Rattle.copyin_base.specs.Requests.{notify_of}
 use Rattle.copyin_base.specs.Shows.{CountsAgree}
 use Rattle.copyin_base.specs.Worlds.{WorldView, port_at}
@@ -38,7 +38,7 @@ use Rattle.copyin_base.proofs.Listed.{none_listed}
 use Rattle.copyin_base.proofs.Requesting.{requests_stay}
 use Rattle.copyin_base.proofs.SendersNoted.{counts_own, counts_other}
 use Rattle.notifications.proofs.Agreeing.{pays_from, filter_weigh}
-use Rattle.destroy.specs.Losing.{Loose, Amid, CanLoseOf, CanLoseMark, CanLose, without_send, rights_of}
+use Rattle.destroy.specs.Losing.{Loose, Amid, CanLoseOf, CanLoseMark, CanLose, without_send}
 use Rattle.destroy.specs.Paying.{LivesIn}
 use Rattle.destroy.proofs.LoseChain.{alone_lives}
 use Rattle.destroy.proofs.LoseFrames.{SameShape, same_ports, framed_stays}
@@ -70,10 +70,7 @@ module _ (now : ℕ) (tables : WorldView) (old mid : State) (owed : Owed) (e : E
       go (i, below, is) = ap (λ (n : ℕ × ℕ). listed e.doomed n.0) (sym is) ∙ ((reached_counted old mid owed e l.reached).destroyed i m below).0
 
   other : (p : ℕ) → lives_after mid e p ≡ true → m.0 ≡ p → ⊥
-  other p alive same = let h = undoomed mid e p alive in let d = own_doomed in no (sym d ∙ ap (λ (q : ℕ). listed e.doomed q) same ∙ h)
-    where
-      no : true ≡ false → ⊥
-      no z = cc
+  other p alive same = grind (arith, undoomed, own_doomed)
 
   not_here : (p k : ℕ) → lives_after mid e p ≡ true → ¬ (Contains (m ∷ a.emptied) (p, k))
   not_here p k alive (zero, below, is) = other p alive (ap (λ (n : ℕ × ℕ). n.0) is)
@@ -87,13 +84,7 @@ module _ (now : ℕ) (tables : WorldView) (old mid : State) (owed : Owed) (e : E
 
   can_of : (kind : Kind) (p : ℕ) → LivesIn w p → (kind ≢ receive → 0 < lying_among e.left kind p place) → CanLoseOf kind p w
   can_of receive p lives some = tt
-  can_of send p lives some =
-      let alive = lives_is now tables old mid owed e w l p lives in
-      let c = l.agrees.counts p in
-      let b = in_ledger send p (some (λ h. cc)) in
-      let d = count_le (λ x. is_of send p x && same_place place x.place) (is_of send p) (λ x h. left_of (is_of send p x) (same_place place x.place) h) s.ledger in
-      let g = c.senders in
-      (c.entered ∙ there_s p alive, omega (arith, b, d, g))
+  can_of send p lives some = grind (arith, lives_is, in_ledger, count_le, left_of, there_s)
   can_of send_once p lives some =
       let alive = lives_is now tables old mid owed e w l p lives in
       can_pay now old mid owed e l.lawful l.reached s l.so_far w l.agrees p alive (λ k. a.unlost send_once p p k (λ h. cc) (undoomed mid e p alive) (not_here p k alive)) l.slots place
@@ -116,12 +107,7 @@ marked send_once p rest = let one : mark_count send_once p send_once (to_port p)
 
 module _ (now : ℕ) (tables : WorldView) (old mid : State) (owed : Owed) (e : Ending) (m : ℕ × ℕ) (c : Carried) (rest : List Carried) (w : WorldView) (a : Amid now tables old mid owed e m (c ∷ rest) w) where
   pub some_there : (p : ℕ) → c.mark ≡ mark.Port p → lives_after mid e p ≡ true → kind_sent c.given ≢ receive → 0 < lying_among e.left (kind_sent c.given) p (in_message m.0 m.1)
-  some_there p is alive kind =
-      let b = a.there (kind_sent c.given) p kind alive in
-      let d : rights_count (kind_sent c.given) p (rights_of (c ∷ rest)) ≡ rights_count (kind_sent c.given) p ((kind_sent c.given, to_port p) ∷ rights_of rest) =
-      ap (λ (k : Mark). rights_count (kind_sent c.given) p ((kind_sent c.given, mark_of k) ∷ rights_of rest)) is in
-      let g = marked (kind_sent c.given) p (rights_of rest) in
-      omega (arith, b, d, g)
+  some_there p is alive kind = grind (arith, marked)
 
   pub can_lose : CanLose w c
   can_lose = can_mark now tables old mid owed e m (c ∷ rest) w a (kind_sent c.given) c.mark some_there
@@ -207,10 +193,7 @@ module _ (now : ℕ) (tables : WorldView) (old mid : State) (owed : Owed) (e : E
     ]
 
     same_receives : SameReceives l2.state.ledger (without z l2.state.ledger)
-    same_receives = record {
-      all = λ q. let b = left_parts (λ t. if is_of receive q t then 1 else 0) in omega (arith, b);
-      each = λ q at. let b = left_parts (λ t. if is_of receive q t && same_place at t.place then 1 else 0) in omega (arith, b);
-    }
+    same_receives = grind (arith, left_parts)
 
     held_same : (task : ℕ) (kind : Kind) (q : ℕ) → count (is_held task kind q) (without z l2.state.ledger) ≡ count (is_held task kind q) l2.state.ledger
     held_same task kind q = let b = left_parts (λ t. if is_held task kind q t then 1 else 0) in let d = both_test (is_of kind q z) false (inr refl) in omega (arith, b, d)
@@ -219,15 +202,10 @@ module _ (now : ℕ) (tables : WorldView) (old mid : State) (owed : Owed) (e : E
     lives = lives_after mid e
 
     kept_same : (r : Request) (kind : Kind) (q : ℕ) → lying_among (filter (λ t. lives t.port) (without z l2.state.ledger)) kind q (in_request r) ≡ lying_among (filter (λ t. lives t.port) l2.state.ledger) kind q (in_request r)
-    kept_same r kind q =
-        let b = filter_weigh (λ t. if is_of kind q t && same_place (in_request r) t.place then 1 else 0) (λ t. lives t.port) (without z l2.state.ledger) in
-        let d = filter_weigh (λ t. if is_of kind q t && same_place (in_request r) t.place then 1 else 0) (λ t. lives t.port) l2.state.ledger in
-        let g = left_parts (λ t. if lives t.port then (if is_of kind q t && same_place (in_request r) t.place then 1 else 0) else 0) in
-        let h : (if lives p then (if is_of kind q z && false then suc zero else zero) else zero) ≡ zero = rw alive (both_test (is_of kind q z) false (inr refl)) in
-        omega (arith, b, d, g, h)
+    kept_same r kind q = grind (arith, filter_weigh, without, left_parts, both_test)
 
     total_same : w.ledger.total - 1 ≡ length (without z l2.state.ledger)
-    total_same = let b = left_parts (λ t. 1) in let d = length-weigh l2.state.ledger in let g = length-weigh (without z l2.state.ledger) in let h = l2.agrees.total in omega (arith, b, d, g, h)
+    total_same = grind (arith, left_parts, length-weigh, without)
 
     abbrev s2 : State
     s2 = record l2.state { ledger = without z l2.state.ledger }

@@ -1,5 +1,5 @@
 -- What is said of the tables alone between turns is kept where ports keep their attributes, and queues get no receive right.
-use Rattle.std.proofs.Common.{◌≡◌, ℕ, ◌<◌, List, [], ◌∷◌, ◌++◌, Option, Some, None, refl, sym, ap, subst, ◌∙◌, true, ◌⊎◌, inl, inr}
+use Rattle.std.proofs.Common.{arith, ◌≡◌, ℕ, ◌<◌, List, [], ◌∷◌, ◌++◌, Option, Some, None, refl, sym, ap, subst, ◌∙◌, true, ◌⊎◌, inl, inr}
 use Rattle.std.specs.Prelude.{◌||◌, Contains, is_some}
 use Rattle.std.specs.FinMap as map
 use Rattle.std.proofs.lemmas.Bool.Decides.{eqb_tells}
@@ -52,11 +52,7 @@ same_ports w v spaces ports made names no_senders port_destroyed = record {
 }
 
 some_same : (a b : PortView Kept) → Some a ≡ Some b → a ≡ b
-some_same a b e = ap (λ (o : Option (PortView Kept)). get o) e
-  where
-    get : Option (PortView Kept) → PortView Kept
-    get (Some x) = x
-    get None = a
+some_same a b e = grind arith
 
 live_some : (o : Option (PortView Kept)) → is_some o ≡ true → (v : PortView Kept) × (o ≡ Some v)
 live_some (Some v) e = (v, refl)
@@ -107,16 +103,13 @@ module _ (w v : WorldView) (p : ℕ) (x : PortView Kept) (there : port_at w p �
 
 module _ (w v : WorldView) (same : SameShape w v) where
   pub shape_live : (q : ℕ) → IsLive w.ports q → IsLive v.ports q
-  shape_live q live =
-      let u = live_some (port_at w q) live in
-      let f = same.forth q u.0 u.1 in
-      ap is_some f.1
+  shape_live q live = grind (arith, live_some)
 
   pub shape_held : (q : ℕ) (h : Holder) → IsHeldBy w.ports q h → IsHeldBy v.ports q h
   shape_held q h x = let f = same.forth q x.view x.there in record { view = f.0; there = f.1; holder_is = ap (λ (a : Attributes). a.holder) f.2 ∙ x.holder_is }
 
   pub shape_was_held : (q : ℕ) (h : Holder) → IsHeldBy v.ports q h → IsHeldBy w.ports q h
-  shape_was_held q h x = let f = same.back q x.view x.there in record { view = f.was; there = f.there; holder_is = ap (λ (a : Attributes). a.holder) (sym f.attributes) ∙ x.holder_is }
+  shape_was_held q h x = grind (arith, same.back q x.view x.there)
 
   module _ (mid : State) (e f : Ending) (doomed : f.doomed ≡ e.doomed) (saved : f.saved ≡ e.saved) (destroyed : f.destroyed ≡ e.destroyed) (a : Framed mid e w) where
     judged_same : (p : ℕ) → is_judged f p ≡ is_judged e p

@@ -8,7 +8,7 @@ use Rattle.mach_types.specs.Tokens.{Kind, receive, send, send_once, Place, in_ta
 use Rattle.mach_types.specs.Messages.{to_port, Entry, Message}
 use Rattle.mach_types.specs.Bodies.{message_rights}
 use Rattle.mach_model.specs.State.{State}
-use Rattle.mach_model.specs.Death.{same_place, CarriedAt, IsOrphan}
+use Rattle.mach_model.specs.Death.{same_place}
 use Rattle.mach_model.specs.Carried.{lying_among, mark_count, rights_count}
 use Rattle.mach_model.specs.Lawful.{tally}
 use Rattle.mach_model.specs.Notices.{Notice, port_deleted, port_sent, no_more_senders, right_unused, name_died, Owed, notice_message}
@@ -143,10 +143,7 @@ pub record First (s : State) (ms : List Kept) (xs : List (ℕ × ℕ)) (msg : Ke
 first_of : (s : State) (ms : List Kept) (xs : List (ℕ × ℕ)) (msg : Kept) → AreEntries s ms xs → slice_get ms 0 ≡ Some msg → First s ms xs msg
 first_of s [] xs msg h e = absurd (cc)
 first_of s (k ∷ ms) [] msg h e = absurd h
-first_of s (k ∷ ms) (x ∷ xs) msg h e =
-    let f : Some k ≡ Some msg = e in
-    let same : k ≡ msg = cc in
-    record { m = x; later = xs; is = refl; entry = h.0.0; at = h.0.1; keeps = subst (λ (y : Kept). Keeps x.0 y h.0.0.message) same h.0.2; are = h.1 }
+first_of s (k ∷ ms) (x ∷ xs) msg h e = grind arith
 
 -- rights of a notice are receive rights
 notice_none : (kind : Kind) (p q : ℕ) (n : Notice) → kind ≢ receive → rights_count kind p (message_rights (notice_message q n)) ≡ 0
@@ -176,8 +173,7 @@ told_entry now q (y ∷ ys) j x is = go (y.0 == q) is (λ i h. told_entry now q 
 
 contains_tally : (m : ℕ × ℕ) (xs : List (ℕ × ℕ)) → Contains xs m → 0 < tally (λ n. m.0 == n.0 && m.1 == n.1) xs
 contains_tally m [] (i, below, is) = absurd (omega (arith, below))
-contains_tally m (x ∷ xs) (zero, below, is) =
-    let one : (if m.0 == x.0 && m.1 == x.1 then suc zero else zero) ≡ suc zero = both_same m.0 x.0 m.1 x.1 (ap (λ (n : ℕ × ℕ). n.0) (sym is)) (ap (λ (n : ℕ × ℕ). n.1) (sym is)) in omega (arith, one)
+contains_tally m (x ∷ xs) (zero, below, is) = grind (arith, both_same)
 contains_tally m (x ∷ xs) (suc i, below, is) = let h = contains_tally m xs (i, omega (arith, below), is) in omega (arith, h)
 
 module _ (now : ℕ) (tables : WorldView) (old mid : State) (owed : Owed) (e : Ending) (w : WorldView) (b : Between now tables old mid owed e w) (stage : IsJudged mid e w)
@@ -195,10 +191,7 @@ module _ (now : ℕ) (tables : WorldView) (old mid : State) (owed : Owed) (e : E
   own_there = subst (λ (ms : List (ℕ × ℕ)). Contains ms found.m) (sym parts) (last_reversed found.m found.later emptied)
 
   own_counted : (listed e.doomed found.m.0 ≡ true) × IsWaiting mid e found.m
-  own_counted = go own_there
-    where
-      go : Contains e.destroyed found.m → (listed e.doomed found.m.0 ≡ true) × IsWaiting mid e found.m
-      go (i, below, is) = subst (λ (n : ℕ × ℕ). (listed e.doomed n.0 ≡ true) × IsWaiting mid e n) is ((reached_counted old mid owed e b.reached).destroyed i found.m below)
+  own_counted = grind (arith, own_there, found, reached_counted)
 
   -- it is destroyed once
   not_emptied_yet : ¬ (Contains emptied found.m)
@@ -214,11 +207,7 @@ module _ (now : ℕ) (tables : WorldView) (old mid : State) (owed : Owed) (e : E
       omega (arith, once, all, d, g, own, h)
 
   own_live : mid.live_port found.m.0 ≡ true
-  own_live = go (dead_cases mid found.m.0 ((reached_sound old mid owed e b.reached).doomed found.m.0 own_counted.0))
-    where
-      go : IsOrphan mid found.m.0 ⊎ ((q : ℕ) × CarriedAt mid found.m.0 q) → mid.live_port found.m.0 ≡ true
-      go (inl o) = o.0
-      go (inr (q, at)) = port_lives b.lawful.ports receive found.m.0 (let d = lying_le_of mid receive found.m.0 (in_message q at.0) in let some = at.1 in omega (arith, d, some))
+  own_live = grind (arith, dead_cases, found, reached_sound, own_counted, port_lives, lying_le_of)
 
   -- the rights that it carried midway
   lay : (kind : Kind) (p : ℕ) → kind ≢ receive → lives_after mid e p ≡ true → lying_among mid.ledger kind p (in_message found.m.0 found.m.1) ≡ rights_count kind p (message_rights found.entry.message)

@@ -1,6 +1,6 @@
 -- A turn in which a right pays for a notice: the state and the tables with the notice at the end of its port's queue.
-use Rattle.std.proofs.Common.{◌≡◌, ℕ, ◌+◌, ◌<◌, ◌≤◌, List, [], ◌∷◌, ◌++◌, Option, Some, None, refl, sym, ap, subst, ◌∙◌, arith, true, false, Bool, inl, inr, length, length-append}
-use Rattle.std.specs.Prelude.{if◌then◌else◌, ◌==◌, ◌&&◌, filter, slice_get, Contains}
+use Rattle.std.proofs.Common.{◌≡◌, ℕ, ◌+◌, ◌<◌, ◌≤◌, List, [], ◌∷◌, ◌++◌, Option, Some, None, refl, sym, ap, subst, ◌∙◌, arith, true, Bool, inl, inr, length, length-append}
+use Rattle.std.specs.Prelude.{if◌then◌else◌, ◌==◌, filter, slice_get, Contains}
 use Rattle.std.specs.Option.{option_map}
 use Rattle.std.proofs.lemmas.Bool.{eq-eqb}
 use Rattle.std.proofs.lemmas.Bool.Decides.{eqb_tells}
@@ -8,7 +8,6 @@ use Rattle.std.proofs.lemmas.List.{append-nil, append_assoc}
 use Rattle.mach_types.specs.Tokens.{receive, send, send_once, Request, Place, in_task, in_message, Token, token, weigh, count, is_of}
 use Rattle.mach_types.specs.Messages.{Entry}
 use Rattle.mach_model.specs.State.{State, Target, lookup, at}
-use Rattle.mach_model.specs.Death.{same_place}
 use Rattle.mach_model.specs.Carried.{lying_among}
 use Rattle.mach_model.specs.Midway.{MidLawful}
 use Rattle.mach_model.specs.Notices.{notice_message, carried_by, Posted, posted_tokens, all_posted_tokens, Owed}
@@ -19,7 +18,6 @@ use Rattle.mach_model.specs.Unused.{onces_queued}
 use Rattle.mach_model.proofs.At.{at_own, at_other}
 use Rattle.port.specs.declared.Holder.{Holder}
 use Rattle.port.specs.declared.Holder.TheVariants as holder
-use Rattle.port.specs.declared.Attributes.{Attributes}
 use Rattle.port.specs.Ports.{PortView}
 use Rattle.rights.specs.declared.Counts.{Counts}
 use Rattle.rights.specs.Counts.{one_shifted}
@@ -79,9 +77,7 @@ module _ (s s2 : State) (destroyed : List (ℕ × ℕ)) (same : SameReceives s.l
   holder_stays p holder.Doomed h = nobody_stays p h
 
   pub holders_stay : (w v : WorldView) → SameShape w v → HoldersTell w s destroyed → HoldersTell v s2 destroyed
-  holders_stay w v shape h p u there =
-      let b = shape.back p u there in
-      holder_stays p u.attributes.holder (subst (λ (a : Attributes). IsHolder s destroyed p a.holder) (sym b.attributes) (h p b.was b.there))
+  holders_stay w v shape h p u there = grind (arith, shape.back p u there)
 
 -- ---- a notice is posted
 
@@ -106,33 +102,10 @@ module _ (now : ℕ) (mid : State) (e : Ending) (s : State) (so : IsSoFar now mi
   entries q = ap (entries_at now q) due ∙ entries_more now q (due_so_far e) p n
 
   logs : (q : ℕ) → at s.log p (s.log p ++ own ∷ []) q ≡ mid.log q ++ entries_at now q (due_so_far paid_for)
-  logs q = elim (eqb_tells q p) [
-    | inl same ↦ subst (λ (k : ℕ). at s.log p (s.log p ++ own ∷ []) k ≡ mid.log k ++ entries_at now k (due_so_far paid_for)) (sym same.1) here
-    | inr not ↦ there not.1
-  ]
-    where
-      here : at s.log p (s.log p ++ own ∷ []) p ≡ mid.log p ++ entries_at now p (due_so_far paid_for)
-      here =
-          let is : (if p == p then own ∷ [] else []) ≡ own ∷ [] = rw (eq-eqb p p refl) refl in
-          at_own s.log p (s.log p ++ own ∷ []) ∙ ap (λ (es : List Entry). es ++ own ∷ []) (so.log p) ∙ append_assoc (mid.log p) (entries_at now p (due_so_far e)) (own ∷ [])
-          ∙ ap (λ (es : List Entry). mid.log p ++ (entries_at now p (due_so_far e) ++ es)) (sym is) ∙ ap (λ (es : List Entry). mid.log p ++ es) (sym (entries p))
-
-      there : (q ≡ p → ⊥) → at s.log p (s.log p ++ own ∷ []) q ≡ mid.log q ++ entries_at now q (due_so_far paid_for)
-      there not = at_other s.log p (s.log p ++ own ∷ []) q not ∙ so.log q ∙ ap (λ (es : List Entry). mid.log q ++ es) (sym (entries q ∙ go (p == q) refl))
-        where
-          go : (b : Bool) → (p == q) ≡ b → entries_at now q (due_so_far e) ++ (if b then record { origin = now; message = notice_message q n } ∷ [] else []) ≡ entries_at now q (due_so_far e)
-          go true is = absurd (elim (eqb_tells p q) [
-            | inl h ↦ not (sym h.1)
-            | inr h ↦ (let a = h.0 in cc)
-          ])
-          go false is = append-nil (entries_at now q (due_so_far e))
+  logs q = grind (arith, eq-eqb, at_own, append_assoc, entries, at_other, append-nil)
 
   entry_is : ends_after (λ q. length (mid.log q)) (due_so_far e) p ≡ length (s.log p)
-  entry_is =
-      let a = ends_are now (λ q. length (mid.log q)) (due_so_far e) p in
-      let b = length-append (mid.log p) (entries_at now p (due_so_far e)) in
-      let c : length (s.log p) ≡ length (mid.log p ++ entries_at now p (due_so_far e)) = ap length (so.log p) in
-      omega (arith, a, b, c)
+  entry_is = grind (arith, ends_are, length-append)
 
   names_same : (task name : ℕ) (o : Option Target) → option_map (settled_target mid s task name) o ≡ option_map (settled_target mid noticed task name) o
   names_same task name None = refl
@@ -187,19 +160,10 @@ module _ (now : ℕ) (tables : WorldView) (old mid : State) (owed : Owed) (e : E
   there_is = so.live_port p ∙ alone_lives old mid owed e reached p alive
 
   within : s.taken p ≤ length (s.log p)
-  within =
-      let a = so.taken p in
-      let b = none_taken old mid owed e reached p alive in
-      let c = lawful.within p in
-      let d = length-append (mid.log p) (entries_at now p (due_so_far e)) in
-      let g : length (s.log p) ≡ length (mid.log p ++ entries_at now p (due_so_far e)) = ap length (so.log p) in
-      omega (arith, a, b, c, d, g)
+  within = grind (arith, none_taken, length-append)
 
   same_receives : ((h : Token → ℕ) → weigh h tokens + h (token send_once p place) ≡ weigh h s.ledger + h (token send_once p (in_message p (length (s.log p))))) → SameReceives s.ledger tokens
-  same_receives moved = record {
-    all = λ q. let a = moved (λ x. if is_of receive q x then 1 else 0) in omega (arith, a);
-    each = λ q at. let a = moved (λ x. if is_of receive q x && same_place at x.place then 1 else 0) in omega (arith, a);
-  }
+  same_receives moved = grind arith
 
   few : (q : ℕ) → (counts_of (shifted w.ledger p) q).receive ≤ 1
   few q = elim (eqb_tells q p) [

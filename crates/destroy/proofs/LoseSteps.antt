@@ -95,10 +95,7 @@ module _ (now : ℕ) (tables : WorldView) (old mid : State) (owed : Owed) (e : E
 
     module _ (kind_is : kind ≡ send) where
       some_send : 0 < lying_among e.left send p place
-      some_send = subst (λ (k : Kind). 0 < lying_among e.left k p place) kind_is (some_there now tables old mid owed e m c rest w a p is alive (λ h. no (sym kind_is ∙ h)))
-        where
-          no : send ≡ receive → ⊥
-          no z = cc
+      some_send = grind (arith, some_there, alive)
 
       module _ (noted : List ℕ) where
         abbrev f : Ending
@@ -117,19 +114,10 @@ module _ (now : ℕ) (tables : WorldView) (old mid : State) (owed : Owed) (e : E
         parts_f h = send_parts now tables old mid owed e m (c ∷ rest) w a p alive some_send noted h
 
         unlost_f : IsUnlost f (m ∷ a.emptied)
-        unlost_f k2 q n k other undoomed none =
-            let b = a.unlost k2 q n k other undoomed none in
-            let d = weigh-append (λ t. if is_of k2 q t && same_place (in_message n k) t.place then 1 else 0) e.gone (z ∷ []) in
-            let h = both_test (is_of k2 q z) (same_place (in_message n k) place) (inr (apart n k none)) in
-            omega (arith, b, d, h)
+        unlost_f k2 q n k other undoomed none = grind (arith, undoomed, weigh-append, both_test, apart)
 
         there_f : (k2 : Kind) (q : ℕ) → k2 ≢ receive → lives_after mid e q ≡ true → lying_among f.left k2 q place ≡ rights_count k2 q (rights_of rest)
-        there_f k2 q other living =
-            let b = there_was k2 q other living in
-            let d = parts_f (λ t. if is_of k2 q t && same_place place t.place then 1 else 0) in
-            let h = own_place (is_of k2 q z) in
-            let same : mark_count k2 q kind (to_port p) ≡ mark_count k2 q send (to_port p) = ap (λ (k : Kind). mark_count k2 q k (to_port p)) kind_is in
-            omega (arith, b, d, h, same)
+        there_f k2 q other living = grind (arith, there_was, parts_f, own_place)
 
         was : (q : ℕ) → (q ≡ p → ⊥) → IsSenderless v q → IsSenderless w q
         was q not s = record { live = s.live; asked = s.asked; none = sym (sends_elsewhere w.ledger p right.Send 1 q not) ∙ s.none }
@@ -173,10 +161,7 @@ module _ (now : ℕ) (tables : WorldView) (old mid : State) (owed : Owed) (e : E
 
     module _ (kind_is : kind ≡ send_once) (spare : 0 < w.ports.spare) (u : PortView Kept) (at : port_at w p ≡ Some u) where
       some_once : 0 < lying_among e.left send_once p place
-      some_once = subst (λ (k : Kind). 0 < lying_among e.left k p place) kind_is (some_there now tables old mid owed e m c rest w a p is alive (λ h. no (sym kind_is ∙ h)))
-        where
-          no : send_once ≡ receive → ⊥
-          no z = cc
+      some_once = grind (arith, some_there, alive)
 
       may : CanPost w p
       may = can_mark now tables old mid owed e m (c ∷ rest) w a send_once (mark.Port p) (λ q same living other. subst (λ (k : ℕ). 0 < lying_among e.left send_once k place) (port_same q same) some_once) lives
@@ -200,28 +185,16 @@ module _ (now : ℕ) (tables : WorldView) (old mid : State) (owed : Owed) (e : E
       parts_2 h = once_parts now tables old mid owed e m (c ∷ rest) w a p alive some_once u at may.paid h
 
       unlost_2 : IsUnlost f2 (m ∷ a.emptied)
-      unlost_2 k2 q n k other undoomed none =
-          let b = a.unlost k2 q n k other undoomed none in
-          let d = tokens_joined (λ t. if is_of k2 q t && same_place (in_message n k) t.place then 1 else 0) e.paid ((x, right_unused) ∷ []) in
-          let h = both_test (is_of k2 q x) (same_place (in_message n k) place) (inr (apart n k none)) in
-          omega (arith, b, d, h)
+      unlost_2 k2 q n k other undoomed none = grind (arith, undoomed, tokens_joined, both_test, apart)
 
       there_2 : (k2 : Kind) (q : ℕ) → k2 ≢ receive → lives_after mid e q ≡ true → lying_among f2.left k2 q place ≡ rights_count k2 q (rights_of rest)
-      there_2 k2 q other living =
-          let b = there_was k2 q other living in
-          let d = parts_2 (λ t. if is_of k2 q t && same_place place t.place then 1 else 0) in
-          let h = own_place (is_of k2 q x) in
-          let same : mark_count k2 q kind (to_port p) ≡ mark_count k2 q send_once (to_port p) = ap (λ (k : Kind). mark_count k2 q k (to_port p)) kind_is in
-          omega (arith, b, d, h, same)
+      there_2 k2 q other living = grind (arith, there_was, parts_2, own_place)
 
       was_2 : (q : ℕ) → IsSenderless v2 q → IsSenderless w q
       was_2 q s = record { live = l.framed.requested.no_senders q s.asked; asked = s.asked; none = sends_shifted w.ledger p q s.none }
 
       undoomed_p : u.attributes.holder ≢ holder.Doomed
-      undoomed_p h = no (sym ((l.framed.doomed p u at).0 h) ∙ undoomed mid e p alive)
-        where
-          no : true ≡ false → ⊥
-          no z = cc
+      undoomed_p h = grind (arith, undoomed, alive)
 
       once_paid : Stepped 1 v2
       once_paid = (
@@ -245,12 +218,7 @@ module _ (now : ℕ) (tables : WorldView) (old mid : State) (owed : Owed) (e : E
 
     -- a receive right stays
     receive_stays : kind ≡ receive → Stepped 0 w
-    receive_stays kind_is = unmarked (λ k2 q other living. ap (λ (k : Mark). mark_count k2 q kind (mark_of k)) is ∙ ap (λ (k : Kind). mark_count k2 q k (to_port p)) kind_is ∙ none k2 q other)
-      where
-        none : (k2 : Kind) (q : ℕ) → k2 ≢ receive → mark_count k2 q receive (to_port p) ≡ 0
-        none receive q other = absurd (other refl)
-        none send q other = refl
-        none send_once q other = refl
+    receive_stays kind_is = grind (arith, unmarked)
 
     living_step : (turns : ℕ) (v : WorldView) (k : Kind) → kind ≡ k → LosesOf k p w turns v → Stepped turns v
     living_step turns v receive kind_is (none, same) = subst (λ (t : ℕ). Stepped t v) (sym none) (subst (Stepped 0) (sym same) (receive_stays kind_is))
@@ -274,18 +242,7 @@ module _ (now : ℕ) (tables : WorldView) (old mid : State) (owed : Owed) (e : E
 
 -- the messages that wait are as they were
 right_keeps : (c : Carried) (w : WorldView) (turns : ℕ) (v : WorldView) → LosesRight w c turns v → v.ports.destroyed ≡ w.ports.destroyed
-right_keeps c w turns v loses = go (kind_sent c.given) c.mark loses
-  where
-    of : (k : Kind) (p : ℕ) → LosesOf k p w turns v → v.ports.destroyed ≡ w.ports.destroyed
-    of receive p (none, same) = ap (λ (u : WorldView). u.ports.destroyed) same
-    of send p (one, n) = ap (λ (u : WorldView). u.ports.destroyed) n.rest
-    of send_once p (one, spare, posts) = ap (λ (u : WorldView). u.ports.destroyed) posts.rest
-
-    go : (k : Kind) (y : Mark) → LosesMark k y w turns v → v.ports.destroyed ≡ w.ports.destroyed
-    go k (mark.Port p) (inl (lives, h)) = of k p h
-    go k (mark.Port p) (inr (dead, none, same)) = ap (λ (u : WorldView). u.ports.destroyed) same
-    go k mark.Null (none, same) = ap (λ (u : WorldView). u.ports.destroyed) same
-    go k mark.Dead (none, same) = ap (λ (u : WorldView). u.ports.destroyed) same
+right_keeps c w turns v loses = grind arith
 
 pub loses_none : (rights : List Carried) (w : WorldView) → LosesTo rights rights w 0 w
 loses_none rights w now tables old mid owed e m rest a = (e, a, omega arith, refl, refl)
@@ -298,9 +255,7 @@ loses_one rights left c w0 turns w number v so_far is now tables old mid owed e 
     (g.0, g.1, (let x = r.2 in let y = g.2 in omega (arith, x, y)), (let x = r.3 in let y = g.3 in omega (arith, x, y)), right_keeps c w number v is ∙ r.4)
 
 pub loses_single : (c : Carried) (w : WorldView) (number : ℕ) (v : WorldView) → LosesRight w c number v → LosesTo (c ∷ []) [] w number v
-loses_single c w number v is now tables old mid owed e m rest a =
-    let g = step now tables old mid owed e m c rest w a number v is in
-    (g.0, g.1, (let y = g.2 in omega (arith, y)), g.3, right_keeps c w number v is)
+loses_single c w number v is now tables old mid owed e m rest a = grind (arith, step now tables old mid owed e m c rest w a number v is)
 
 pub can_next : (rights left : List Carried) (c : Carried) (w0 : WorldView) (turns : ℕ) (w : WorldView) → LosesTo rights (c ∷ left) w0 turns w → IsLosing rights w0 → CanLose w c
 can_next rights left c w0 turns w so_far is =

@@ -113,8 +113,8 @@ module _ (now : ℕ) (tables : WorldView) (old mid : State) (owed : Owed) (shown
       omega (arith, a, b, c, d, f, lies)
 
   few_receive : (p : ℕ) → (counts_of v.ledger p).receive ≤ 1
-  few_receive p = grind (
-      arith, s.shows.agrees.counts p,
+  few_receive p = grind (arith,
+      s.shows.agrees.counts p,
       receives now tables v (record mid { ledger = left }) (owed ++ paid) s.shows (λ x. if is_of receive p x then 1 else 0) (λ q place. refl),
       s.shows.lawful.most_receive p)
 

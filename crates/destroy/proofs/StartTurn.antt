@@ -195,8 +195,8 @@ module _ (now : ℕ) (tables v : WorldView) (m : State) (owed : Owed) (s : Shows
     posted_state = grind (arith, posted_is, logs_more, rights_more, entry_with, brought)
 
     fewer_sends : (q : ℕ) → (counts_of (shifted v.ledger p) q).send ≡ (counts_of v.ledger q).send
-    fewer_sends q = grind (
-        arith, counts_own v.ledger p (one_shifted (counts_of v.ledger p)) (shifted v.ledger p) refl,
+    fewer_sends q = grind (arith,
+        counts_own v.ledger p (one_shifted (counts_of v.ledger p)) (shifted v.ledger p) refl,
         counts_other v.ledger p (one_shifted (counts_of v.ledger p)) (shifted v.ledger p) refl q)
 
     shows : ShowsMid now tables v2 after (owed ++ paid ∷ [])

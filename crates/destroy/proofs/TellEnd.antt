@@ -1,7 +1,6 @@
 -- Each port that was noted is told of in turn: between two of them the tables are between turns.
 use Rattle.std.proofs.Common.{◌≡◌, ℕ, zero, suc, ◌+◌, ◌<◌, ◌≤◌, List, [], ◌∷◌, ◌++◌, Option, Some, None, refl, sym, ap, subst, ◌∙◌, arith, true, false, Bool, ◌⊎◌, inl, inr, length, length-append}
-use Rattle.std.specs.Prelude.{◌≢◌, ◌%◌, ◌^◌, not, eqb, is_some, if◌then◌else◌, ◌&&◌, reverse, slice_get, Contains, filter, IfSome, IfNone}
-use Rattle.std.specs.FinMap as map
+use Rattle.std.specs.Prelude.{◌≢◌, ◌%◌, ◌^◌, not, eqb, if◌then◌else◌, ◌&&◌, reverse, slice_get, Contains, filter, IfSome, IfNone}
 use Rattle.std.proofs.lemmas.Bool.{eq-eqb, ne_eqb}
 use Rattle.mach_types.specs.Tokens.{send_once, no_senders, in_message, in_request, Token, token, weigh, is_of}
 use Rattle.mach_model.specs.State.{State, senders}
@@ -15,7 +14,6 @@ use Rattle.port.specs.Ports.{PortView}
 use Rattle.port.specs.declared.Holder.{Holder}
 use Rattle.port.specs.declared.Holder.TheVariants as holder
 use Rattle.rights.specs.Ledger.{counts_of}
-use Rattle.copyin_base.specs.Requests.{RequestTablesView}
 use Rattle.copyin_base.specs.declared.notice.Notice.TheVariants.{NoSenders}
 use Rattle.copyin_base.specs.Changes.{IsSenderless}
 use Rattle.copyin_base.specs.Kept.{Kept}
@@ -106,19 +104,7 @@ module _ (now : ℕ) (tables : WorldView) (old mid : State) (owed : Owed) (e : E
     Told u = (f : Ending) × Between now tables old mid owed f u × (f.turns ≡ e.turns + 1) × SameSlots e w f u × AreLost mid f u
 
     senderless_was : (u : WorldView) → u.requests ≡ w1.requests → ((q : ℕ) → (counts_of u.ledger q).send ≡ 0 → (counts_of w0.ledger q).send ≡ 0) → (q : ℕ) → IsSenderless u q → (q ≡ p → ⊥) × IsSenderless w0 q
-    senderless_was u requests sends q s = (other, record { live = b.requested.no_senders q asked; asked = asked; none = sends q s.none })
-      where
-        asked_now : is_some (map.get (map.remove w0.requests.no_senders.map p) q) ≡ true
-        asked_now = ap (λ (r : RequestTablesView). is_some (map.get r.no_senders.map q)) (sym requests) ∙ s.asked
-
-        other : q ≡ p → ⊥
-        other same = no (sym asked_now ∙ ap is_some (ap (λ (k : ℕ). map.get (map.remove w0.requests.no_senders.map p) k) same ∙ own_ended w0.requests p))
-          where
-            no : true ≡ false → ⊥
-            no z = cc
-
-        asked : map.contains_key w0.requests.no_senders.map q ≡ true
-        asked = ap is_some (sym (get_removed w0.requests.no_senders.map p q other)) ∙ asked_now
+    senderless_was u requests sends q s = grind (arith, own_ended, get_removed)
 
     same_lives : LivesIn w1 t.notify → LivesIn w t.notify
     same_lives h = record { v = h.v; there = h.there; undoomed = h.undoomed }
@@ -227,9 +213,7 @@ pub none_told : (w : WorldView) → Continues AreLost AreLost w 0 w
 none_told w now tables old mid owed e b stage = (e, b, omega arith, refl, stage)
 
 pub all_told : (old : WorldView) (turns : ℕ) (w : WorldView) → Continues AreLost AreLost old turns w → w.ports.noted ≡ [] → Continues AreLost AreTold old turns w
-all_told old turns w so_far none now tables s mid owed e b stage =
-    let r = so_far now tables s mid owed e b stage in
-    (r.0, r.1, r.2, r.3, record { lost = r.4; none_noted = none })
+all_told old turns w so_far none now tables s mid owed e b stage = grind (arith, so_far now tables s mid owed e b stage)
 
 pub none_first : (xs : List ℕ) → slice_get xs 0 ≡ None → xs ≡ []
 none_first [] e = refl
@@ -237,20 +221,11 @@ none_first (x ∷ xs) e = absurd (let f : Some x ≡ None = e in cc)
 
 no_more : (p : ℕ) (xs : List ℕ) → length (without p xs) ≤ length xs
 no_more p [] = omega arith
-no_more p (x ∷ xs) = go (eqb x p) (no_more p xs)
-  where
-    go : (b : Bool) → length (without p xs) ≤ length xs → length (if not b then x ∷ without p xs else without p xs) ≤ suc (length xs)
-    go true ih = omega (arith, ih)
-    go false ih = omega (arith, ih)
+no_more p (x ∷ xs) = grind (arith, no_more p xs, x)
 
 pub fewer_noted : (p : ℕ) (xs : List ℕ) → slice_get xs 0 ≡ Some p → length (without p xs) < length xs
 fewer_noted p [] e = absurd (let f : None ≡ Some p = e in cc)
-fewer_noted p (x ∷ xs) e =
-    let f : Some x ≡ Some p = e in
-    let same : x ≡ p = cc in
-    let is = eq-eqb x p same in
-    let le = no_more p xs in
-    rw is (omega (arith, le))
+fewer_noted p (x ∷ xs) e = grind (arith, x, eq-eqb, no_more)
 
 -- A port lives in the tables or it doesn't.
 lives_or_not : (w : WorldView) (p : ℕ) → LivesIn w p ⊎ ¬ (LivesIn w p)
@@ -276,10 +251,7 @@ lives_or_not w p = go (port_at w p) refl
 -- Telling leaves the noted ports.
 noted_same : (w : WorldView) (p number : ℕ) (new : WorldView) → TellsOf w p number new → new.ports.noted ≡ w.ports.noted
 noted_same w p number new (inr (none, same, not)) = ap (λ (u : WorldView). u.ports.noted) same
-noted_same w p number new (inl (one, t)) = elim (lives_or_not (without_no_senders w p) t.notify) [
-  | inl lives ↦ ap (λ (u : WorldView). u.ports.noted) (t.pays.posts lives).rest
-  | inr dead ↦ ap (λ (u : WorldView). u.ports.noted) (t.pays.stays dead)
-]
+noted_same w p number new (inl (one, t)) = grind (arith, lives_or_not)
 
 -- ---- as the loop has it
 
@@ -291,10 +263,7 @@ module _ (w0 taken : WorldView) (found : Option ℕ) (p : ℕ) (first : found �
   is_first = sym first ∙ some
 
   pub loop_fewer : (number : ℕ) (new : WorldView) → TellsOf taken p number new → length new.ports.noted < length w0.ports.noted
-  loop_fewer number new is =
-      let a = ap length (noted_same taken p number new is ∙ ap (λ (u : WorldView). u.ports.noted) is_out) in
-      let b = fewer_noted p w0.ports.noted is_first in
-      omega (arith, a, b)
+  loop_fewer number new is = grind (arith, noted_same, is_out, fewer_noted, is_first)
 
   module _ (old : WorldView) (turns : ℕ) (so_far : Continues AreLost AreLost old turns w0) where
     pub loop_can : IsAt AreLost old → CanTell taken p

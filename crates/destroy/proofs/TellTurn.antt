@@ -1,12 +1,12 @@
 -- A port that was noted is told of: a turn, after which the tables are between turns again.
 use Rattle.std.proofs.Common.{◌≡◌, ℕ, zero, suc, ◌+◌, ◌<◌, List, [], ◌∷◌, ◌++◌, Option, Some, None, refl, sym, ap, subst, ◌∙◌, arith, true, false, Bool, inl, inr, length}
-use Rattle.std.specs.Prelude.{if◌then◌else◌, ◌==◌, ◌&&◌, ◌||◌, not, is_some, filter, All}
+use Rattle.std.specs.Prelude.{if◌then◌else◌, ◌&&◌, not, filter, All}
 use Rattle.std.specs.Option.{option_map}
 use Rattle.std.specs.FinMap as map
 use Rattle.std.proofs.lemmas.Bool.{eq-eqb}
 use Rattle.std.proofs.lemmas.Bool.Decides.{eqb_tells}
 use Rattle.std.proofs.lemmas.List.{append-nil}
-use Rattle.mach_types.specs.Tokens.{Kind, receive, send, send_once, Request, no_senders, port_destroyed, dead_name, Place, in_message, in_request, Token, token, weigh, count, is_of, is_held}
+use Rattle.mach_types.specs.Tokens.{Kind, receive, send, send_once, Request, no_senders, Place, in_message, in_request, Token, token, weigh, count, is_of, is_held}
 use Rattle.mach_model.specs.State.{State, Target, lookup, senders, same_request, request_at}
 use Rattle.mach_model.specs.Death.{same_place}
 use Rattle.mach_model.specs.Carried.{lying_among}
@@ -62,39 +62,14 @@ module _ (now : ℕ) (tables : WorldView) (old mid : State) (owed : Owed) (e : E
     s = l.state
 
     pub shape : SameShape w w1
-    shape = same_ports w w1 refl refl refl refl fewer refl
-      where
-        fewer : (q : ℕ) → map.contains_key w1.requests.no_senders.map q ≡ true → map.contains_key w.requests.no_senders.map q ≡ true
-        fewer q h = elim (eqb_tells q p) [
-          | inl same ↦ absurd (no (sym h ∙ ap is_some (ap (λ (k : ℕ). map.get w1.requests.no_senders.map k) same.1 ∙ own_ended w.requests p)))
-          | inr not ↦ ap is_some (sym (get_removed w.requests.no_senders.map p q not.1)) ∙ h
-        ]
-          where
-            no : true ≡ false → ⊥
-            no z = cc
+    shape = grind (arith, same_ports, own_ended, get_removed)
 
     -- the request stands no more
     abbrev pub told2 : List ℕ
     told2 = p ∷ e.told
 
     pub stands_now : (q : Request) → request_at s.stands r false q ≡ (mid.stands q && not (has_ended mid (buried_alone (record e { told = told2 })) q))
-    stands_now q = go (same_request q r) refl
-      where
-        off : (a b c d : Bool) → c ≡ true → false ≡ (a && not (b || (c || d)))
-        off true true c d h = refl
-        off true false true d h = refl
-        off true false false d h = absurd (cc)
-        off false b c d h = refl
-
-        still : (q : Request) → same_request q r ≡ false → (mid.stands q && not (has_ended mid (buried_alone e) q)) ≡ (mid.stands q && not (has_ended mid (buried_alone (record e { told = told2 })) q))
-        still (no_senders n) is = rw is refl
-        still (port_destroyed n) is = refl
-        still (dead_name t n) is = refl
-
-        go : (b : Bool) → same_request q r ≡ b → (if b then false else s.stands q) ≡ (mid.stands q && not (has_ended mid (buried_alone (record e { told = told2 })) q))
-        go true is = subst (λ (k : Request). false ≡ (mid.stands k && not (has_ended mid (buried_alone (record e { told = told2 })) k))) (sym (only_own p q is))
-            (off (mid.stands r) (not (lives_after mid (buried_alone e) p)) (p == p) (listed e.told p) (eq-eqb p p refl))
-        go false is = l.so_far.stands q ∙ still q is
+    stands_now q = grind (arith, only_own, eq-eqb)
 
     abbrev lives : ℕ → Bool
     lives = lives_after mid e
@@ -113,10 +88,7 @@ module _ (now : ℕ) (tables : WorldView) (old mid : State) (owed : Owed) (e : E
       tokens = y ∷ without x s.ledger
 
       pub moved : (h : Token → ℕ) → weigh h tokens + h x ≡ weigh h s.ledger + h y
-      moved h =
-          let a = left_is now old mid owed e l.lawful l.reached l.state l.so_far w l.agrees l.framed.went p notify asked r send_once notify in
-          let some = there in
-          let b = without_weigh x s.ledger (omega (arith, a, some)) h in omega (arith, b)
+      moved h = grind (arith, left_is, there, without_weigh)
 
       lived : Request → Kind → ℕ → Token → ℕ
       lived r2 kind q z = if lives z.port then kept_there r2 kind q z else 0
@@ -143,13 +115,7 @@ module _ (now : ℕ) (tables : WorldView) (old mid : State) (owed : Owed) (e : E
           ]
 
       others : (r2 : Request) (kind : Kind) (q : ℕ) → same_request r2 r ≡ false → lying_among (filter (λ z. lives z.port) tokens) kind q (in_request r2) ≡ lying_among (filter (λ z. lives z.port) s.ledger) kind q (in_request r2)
-      others r2 kind q other =
-          let a = filter_weigh (kept_there r2 kind q) (λ z. lives z.port) tokens in
-          let b = filter_weigh (kept_there r2 kind q) (λ z. lives z.port) s.ledger in
-          let m = moved (λ z. if lives z.port then kept_there r2 kind q z else 0) in
-          let n = in_none r2 kind q in
-          let c : (if lives notify then (if is_of kind q x && same_request r2 r then suc zero else zero) else zero) ≡ zero = rw alive (both_test (is_of kind q x) (same_request r2 r) (inr other)) in
-          omega (arith, a, b, m, n, c)
+      others r2 kind q other = grind (arith, filter_weigh, kept_there, moved, in_none, both_test)
 
       pays : PaysFrom (lives_after mid e) w1 s tokens (request_at s.stands r false)
       pays = record {
@@ -166,11 +132,7 @@ module _ (now : ℕ) (tables : WorldView) (old mid : State) (owed : Owed) (e : E
 
     module _ (judged : AreJudged mid e) (own_lives : LivesIn w p) (had : 0 < senders old p) (none : (counts_of w.ledger p).send ≡ 0) (n : ℕ) (made : n ≡ (outcome mid e).make_send p) where
       has_none : count (is_of send p) e.left ≡ 0
-      has_none =
-          let a = l.agrees.counts p in
-          let b = a.senders in
-          let c = l.so_far.ledger (λ z. if is_of send p z then 1 else 0) in
-          omega (arith, none, b, c)
+      has_none = grind arith
 
       own_alive : lives_after mid e p ≡ true
       own_alive = lives_is now tables old mid owed e w l p own_lives
@@ -202,13 +164,11 @@ module _ (now : ℕ) (tables : WorldView) (old mid : State) (owed : Owed) (e : E
         parts_left h = without_weigh (x alive) e.left (there alive) h
 
         all_gone : All (λ (z : Token). z.place ≡ in_request r → listed e.doomed z.port ≡ true) (without (x alive) e.left)
-        all_gone k d below at =
-            let some = count_some (λ z. same_place (in_request r) z.place) (without (x alive) e.left) k d below (subst (λ (place : Place). same_place (in_request r) place ≡ true) (sym at) (place_refl (in_request r))) in
-            let a = parts_left (λ z. if same_place (in_request r) z.place then 1 else 0) in
-            let one : (if same_place (in_request r) (in_request r) then suc zero else zero) ≡ suc zero = rw (place_refl (in_request r)) refl in
-            let b = left_within old mid owed e l.reached (λ z. if same_place (in_request r) z.place then 1 else 0) in
-            let c = l.lawful.one_kept r in
-            absurd (omega (arith, some, a, one, b, c))
+        all_gone k d below at = grind (
+            arith,
+            count_some (λ z. same_place (in_request r) z.place) (without (x alive) e.left) k d below (subst (λ (place : Place). same_place (in_request r) place ≡ true) (sym at) (place_refl (in_request r))),
+            parts_left (λ z. if same_place (in_request r) z.place then 1 else 0),
+            left_within old mid owed e l.reached (λ z. if same_place (in_request r) z.place then 1 else 0), l.lawful.one_kept r)
 
         pub paid_turn : TellsSenderless old mid e paid_ending
         paid_turn = record {

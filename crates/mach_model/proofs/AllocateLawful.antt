@@ -48,9 +48,7 @@ module _ (s : State) (task name : ℕ) (ledger : List Token) (l : IsLawful s) (i
 
   -- names
   held_far : (t : ℕ) → (t ≡ task → ⊥) → (kind : Kind) (q : ℕ) → held new t kind q ≡ held s t kind q
-  held_far t not kind q =
-      let e = tokens_for (is_held t kind q) in
-      let z = both_test (is_of kind q (token receive made (in_task task))) (task == t) (inr (ne_eqb task t (λ f. not (sym f)))) in omega (arith, e, z)
+  held_far t not kind q = grind (arith, tokens_for, both_test, ne_eqb)
 
   held_other : (kind : Kind) (q : ℕ) → (q ≡ made → ⊥) → held new task kind q ≡ held s task kind q
   held_other kind q not = let e = tokens_for (is_held task kind q) in let z = other_port task task kind receive q made not in omega (arith, e, z)
@@ -76,27 +74,10 @@ module _ (s : State) (task name : ℕ) (ledger : List Token) (l : IsLawful s) (i
   not_new p dead is = let e = at_same s.live_port made true p is in let f : true ≡ false = sym e ∙ dead in cc
 
   one_receive : (p : ℕ) → new.live_port p ≡ true → count (is_of receive p) ledger ≡ 1
-  one_receive p live = elim (eqb_tells p made) [
-    | inl h ↦
-        let e = if_same made p (sym h.1) in
-        let z : count (is_of receive p) s.ledger ≡ 0 = ap (λ (x : ℕ). count (is_of receive x) s.ledger) h.1 ∙ none_made receive in
-        omega (arith, tokens_for (is_of receive p), e, z)
-    | inr h ↦
-        let e = if_other made p (λ x. h.1 (sym x)) in
-        let z = l.one_receive p (sym (old_port p h.1) ∙ live) in
-        omega (arith, tokens_for (is_of receive p), e, z)
-  ]
+  one_receive p live = grind (arith, if_same, none_made, tokens_for, if_other, old_port)
 
   no_rights : (p : ℕ) → new.live_port p ≡ false → (kind : Kind) → count (is_of kind p) ledger ≡ 0
-  no_rights p dead kind =
-      let not = not_new p dead in
-      let z = l.no_rights p (sym (old_port p not) ∙ dead) kind in
-      let e = go kind (if_other made p (λ x. not (sym x))) in omega (arith, tokens_for (is_of kind p), e, z)
-    where
-      go : (k : Kind) → (if made == p then suc zero else zero) ≡ zero → (if is_of k p (token receive made (in_task task)) then suc zero else zero) ≡ zero
-      go receive e = e
-      go send e = refl
-      go send_once e = refl
+  no_rights p dead kind = grind (arith, not_new, old_port, if_other, tokens_for)
 
   members : (p set : ℕ) → Contains (new.sets_of p) set → (t : ℕ) × (s.set_owner set ≡ Some t) × Holds new t receive p
   members p set = at_all (λ p sets. Contains sets set → (t : ℕ) × (s.set_owner set ≡ Some t) × Holds new t receive p) s.sets_of made []
@@ -105,14 +86,10 @@ module _ (s : State) (task name : ℕ) (ledger : List Token) (l : IsLawful s) (i
 
   -- messages
   lying_same : (kind : Kind) (q p k : ℕ) → lying new kind q (in_message p k) ≡ lying s kind q (in_message p k)
-  lying_same kind q p k =
-      let t = tokens_for (λ x. is_of kind q x && same_place (in_message p k) x.place) in
-      let z = both_test (is_of kind q (token receive made (in_task task))) false (inr refl) in omega (arith, t, z)
+  lying_same kind q p k = grind (arith, tokens_for, both_test)
 
   lying_kept : (kind : Kind) (q : ℕ) (r : Request) → lying new kind q (in_request r) ≡ lying s kind q (in_request r)
-  lying_kept kind q r =
-      let t = tokens_for (λ x. is_of kind q x && same_place (in_request r) x.place) in
-      let z = both_test (is_of kind q (token receive made (in_task task))) false (inr refl) in omega (arith, t, z)
+  lying_kept kind q r = grind (arith, tokens_for, both_test)
 
   old_entry : (P : ℕ → Entry → Type 0) → ((p k : ℕ) (e : Entry) → slice_get (s.log p) k ≡ Some e → P p e) → (p k : ℕ) (e : Entry) → slice_get (new.log p) k ≡ Some e → P p e
   old_entry P all p k e = at_all (λ p log. slice_get log k ≡ Some e → P p e) s.log made [] (λ is. absurd (none_of [] k e refl is)) (λ q not is. all q k e is) p
@@ -142,14 +119,11 @@ module _ (s : State) (task name : ℕ) (ledger : List Token) (l : IsLawful s) (i
       ]
 
   gone : (p k : ℕ) → (k < new.taken p) ⊎ (new.live_port p ≡ false) → (kind : Kind) (q : ℕ) → lying new kind q (in_message p k) ≡ 0
-  gone p k (inl below) kind q = lying_same kind q p k
-      ∙ at_all (λ p taken. k < taken → lying s kind q (in_message p k) ≡ 0) s.taken made 0 (λ h. absurd (omega (arith, h))) (λ p not h. l.gone p k (inl h) kind q) p below
+  gone p k (inl below) kind q = grind (arith, lying_same, at_all)
   gone p k (inr dead) kind q = lying_same kind q p k ∙ l.gone p k (inr (sym (old_port p (not_new p dead)) ∙ dead)) kind q
 
   no_entry : (p k : ℕ) → length (new.log p) ≤ k → (kind : Kind) (q : ℕ) → lying new kind q (in_message p k) ≡ 0
-  no_entry p k above kind q = lying_same kind q p k
-      ∙ at_all (λ p log. length log ≤ k → lying s kind q (in_message p k) ≡ 0) s.log made []
-      (λ h. let e = ap length (l.unmade_log made (omega arith)) in l.no_entry made k (omega (arith, e)) kind q) (λ p not h. l.no_entry p k h kind q) p above
+  no_entry p k above kind q = grind (arith, lying_same, at_all)
 
   founded : (r : Request) → s.stands r ≡ true → StandsOn new.live_port new.naming r
   founded (no_senders p) e = at_all (λ p b. s.live_port p ≡ true → b ≡ true) s.live_port made true (λ f. refl) (λ q not f. f) p (l.stands_on (no_senders p) e)
@@ -203,12 +177,7 @@ AllocatesPort-lawful task name old mid l is_task new few a = subst IsLawful (sym
 
 -- a fresh name may come
 pub fresh_new : (m : Names) (name : ℕ) → IsFresh m name → map.len m < most_names → IsNew m name
-fresh_new m name fresh room = record {
-  unused = fresh.unused;
-  some = fresh.not_null;
-  fits = let f = fresh_fits m name fresh in omega (arith, f, room);
-  room = room;
-}
+fresh_new m name fresh room = grind (arith, fresh_fits)
 
 dead_made : (task name : ℕ) (s : State) → IsLawful s → s.live_task task ≡ true → IsNew (s.naming task) name → MidLawful (with_name task name (Target.dead 1) s) []
 dead_made task name s l is_task new = named_as task s l is_task (map.insert (s.naming task) name (Target.dead 1)) s.stands
@@ -223,7 +192,7 @@ pub Makes-mid : (task right name : ℕ) (old mid : State) → IsLawful old → o
 Makes-mid task right name old mid l is_task unused some fits not_full makes = go makes
   where
     new : IsNew (old.naming task) name
-    new = record { unused = unused; some = some; fits = fits; room = (let h : ¬ (most_names ≤ map.len (old.naming task)) = λ full. not_full (inl full) in omega (arith, h)) }
+    new = grind arith
 
     go : Makes task right name old mid → MidLawful mid []
     go (inl (is, made)) = mid_lawful mid (AllocatesPort-lawful task name old mid l is_task new (let h : ¬ (most_rights ≤ length old.ledger) = λ full. not_full (inr (inl (is, inl full))) in omega (arith, h)) made)

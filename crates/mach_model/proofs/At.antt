@@ -16,10 +16,7 @@ at_own f k v = at_same f k v k refl
 
 -- what holds of the value at k, and of all others, holds of the changed function
 pub at_all : {A : Type 0} (P : ℕ → A → Type 0) (f : ℕ → A) (k : ℕ) (v : A) → P k v → ((q : ℕ) → (q ≡ k → ⊥) → P q (f q)) → (q : ℕ) → P q (at f k v q)
-at_all P f k v own others q = elim (eqb_tells q k) [
-  | inl h ↦ rw (h.0, h.1) own
-  | inr h ↦ rw h.0 (others q h.1)
-]
+at_all P f k v own others q = grind arith
 
 pub if_same : (q p : ℕ) → q ≡ p → (if q == p then suc zero else zero) ≡ suc zero
 if_same q p e = rw (eq-eqb q p e)
@@ -32,10 +29,7 @@ both_same a b c d e f = rw (eq-eqb a b e, eq-eqb c d f)
 
 -- the same place of another port's log, or another place of the same
 pub elsewhere : (p q e f : ℕ) → (p ≡ q → e ≡ f → ⊥) → (p == q && e == f) ≡ false
-elsewhere p q e f not = elim (eqb_tells p q) [
-  | inl h ↦ rw (h.0, ne_eqb e f (not h.1))
-  | inr h ↦ rw h.0
-]
+elsewhere p q e f not = grind (arith, ne_eqb)
 
 -- an element of a list with one more at its end
 pub snoc_cases : {A : Type 0} (xs : List A) (y : A) (i : ℕ) (x : A) → slice_get (xs ++ y ∷ []) i ≡ Some x →
@@ -43,15 +37,10 @@ pub snoc_cases : {A : Type 0} (xs : List A) (y : A) (i : ℕ) (x : A) → slice_
 snoc_cases [] y zero x e = let e' : Some y ≡ Some x = e in inr (refl, (cc))
 snoc_cases [] y (suc i) x e = absurd (let e' : None ≡ Some x = e in cc)
 snoc_cases (z ∷ xs) y zero x e = inl (omega arith, e)
-snoc_cases (z ∷ xs) y (suc i) x e = elim (snoc_cases xs y i x e) [
-  | inl h ↦ inl (omega (arith, h.0), h.1)
-  | inr h ↦ inr (ap suc h.0, h.1)
-]
+snoc_cases (z ∷ xs) y (suc i) x e = grind (arith, snoc_cases xs y i x e)
 
 -- an element behind the first n
 pub slice_get_drop : {A : Type 0} (n : ℕ) (xs : List A) (i : ℕ) → slice_get (drop n xs) i ≡ slice_get xs (n + i)
 slice_get_drop zero xs i = ap (slice_get xs) (omega arith)
 slice_get_drop (suc n) [] i = refl
-slice_get_drop (suc n) (x ∷ xs) i =
-    let e : suc n + i ≡ suc (n + i) = omega arith in
-    slice_get_drop n xs i ∙ sym (ap (slice_get (x ∷ xs)) e)
+slice_get_drop (suc n) (x ∷ xs) i = grind (arith, slice_get_drop n xs i)

@@ -13,18 +13,7 @@ use Rattle.mach_model.specs.State.{State}
 use Rattle.mach_model.specs.Send.{Sends}
 
 receive_number : (n : ℕ) → disposition n ≡ Some MoveReceive → n ≡ 16
-receive_number n is = elim (eqb_tells n 16) [
-  | inl h ↦ h.1
-  | inr h ↦ absurd (others (n == 17) (n == 18) (n == 19) (n == 20) (n == 21) (rw h.0 at is))
-]
-  where
-    others : (a b c d e : Bool) → (if a then Some MoveSend else if b then Some MoveSendOnce else if c then Some CopySend else if d then Some MakeSend else if e then Some MakeSendOnce else None) ≡ Some MoveReceive → ⊥
-    others true b c d e is = cc
-    others false true c d e is = cc
-    others false false true d e is = cc
-    others false false false true e is = cc
-    others false false false false true is = cc
-    others false false false false false is = cc
+receive_number n is = grind arith
 
 -- the first word of a text begins with the destination's disposition
 pub first_byte : (h : Header) (w : WireBody) → h.remote_kind < 2 ^ 8 → h.local_kind < 2 ^ 8 → word_at (text h w) 0 % 2 ^ 8 ≡ h.remote_kind
@@ -41,28 +30,7 @@ pub record NoneMoved (header : Header) : Type 0 where
   pub local : header.local_kind ≢ 16
 
 pub none_moved : (bytes : List ℕ) (header : Header) (written : WireBody) → NoneHolds (header_guards bytes) → Spells bytes header written → NoneMoved header
-none_moved bytes header written good spells = record {
-  remote = λ e. not (inr (inl (λ (sendable : IsSendable (word_at bytes 0 % 2 ^ 8)). at_seventeen (word_at bytes 0 % 2 ^ 8) (first ∙ e) sendable.0)));
-  local = λ e. not (inr (inr (inl (
-    some (word_at bytes 0 / 2 ^ 8 % 2 ^ 8) (second ∙ e),
-    (λ (sendable : IsSendable (word_at bytes 0 / 2 ^ 8 % 2 ^ 8)). at_seventeen (word_at bytes 0 / 2 ^ 8 % 2 ^ 8) (second ∙ e) sendable.0),
-  ))));
-}
-  where
-    not : ¬ (BadHeader (word_at bytes 0) (word_at bytes 12))
-    not = good.1.1.0
-
-    first : word_at bytes 0 % 2 ^ 8 ≡ header.remote_kind
-    first = ap (λ (xs : List ℕ). word_at xs 0 % 2 ^ 8) spells.is_text ∙ first_byte header written spells.header_fits.remote_kind spells.header_fits.local_kind
-
-    second : word_at bytes 0 / 2 ^ 8 % 2 ^ 8 ≡ header.local_kind
-    second = ap (λ (xs : List ℕ). word_at xs 0 / 2 ^ 8 % 2 ^ 8) spells.is_text ∙ second_byte header written spells.header_fits.remote_kind spells.header_fits.local_kind
-
-    at_seventeen : (n : ℕ) → n ≡ 16 → 17 ≤ n → ⊥
-    at_seventeen n e above = omega (arith, e, above)
-
-    some : (n : ℕ) → n ≡ 16 → n ≢ 0
-    some n e z = omega (arith, e, z)
+none_moved bytes header written good spells = grind (arith, first_byte, second_byte)
 
 not_receive : (n : ℕ) (given : Disposition) → n ≢ 16 → disposition n ≡ Some given → kind_sent given ≢ receive
 not_receive n MoveReceive other is e = other (receive_number n is)
@@ -73,6 +41,4 @@ not_receive n MakeSend other is e = cc
 not_receive n MakeSendOnce other is e = cc
 
 pub by_a_send : (now task : ℕ) (bytes : List ℕ) (old mid : State) → NoneHolds (header_guards bytes) → (s : Sends now task bytes old mid) → s.m.kind ≢ receive
-by_a_send now task bytes old mid good s e =
-    let none = none_moved bytes s.header s.written good s.spells in
-    not_receive s.header.remote_kind s.copied.destination.given none.remote s.copied.destination.is_given (sym s.copied.kind ∙ e)
+by_a_send now task bytes old mid good s e = grind (arith, none_moved bytes s.header s.written good s.spells)

@@ -29,9 +29,7 @@ pub alive_held : (s : State) (o k : ℕ) → IsMoving s o k → (task : ℕ) (ki
 alive_held s o k l task kind p some = lives l.ports kind p (let le = held_le_of task kind p s.ledger in omega (arith, some, le))
 
 pub once_held : (s : State) (o k : ℕ) → IsMoving s o k → (task name p : ℕ) → lookup s task name ≡ Some (Target.once p) → 0 < held s task send_once p
-once_held s o k l task name p is =
-    let some = some_tally (is_once p) (s.naming task) name (Target.once p) is (eq-eqb p p refl) in
-    let e = (l.naming task).once_names p in omega (arith, some, e)
+once_held s o k l task name p is = grind (arith, some_tally, eq-eqb)
 
 -- ---- tests of a token at one place
 
@@ -49,13 +47,7 @@ other_port t task c kind q p not = both_test (same_kind c kind && p == q) (task 
 -- how the tests of what lies at an entry see a right there
 pub at_entry : (c : Kind) (q o k : ℕ) (kind : Kind) (p : ℕ) →
     (if is_of c q (token kind p (in_message o k)) && same_place (in_message o k) (in_message o k) then suc zero else zero) ≡ mark_count c q kind (to_port p)
-at_entry c q o k kind p = here (same_kind c kind && p == q) (o == o) (k == k) (eq-eqb o o refl) (eq-eqb k k refl)
-  where
-    here : (a b c : Bool) → b ≡ true → c ≡ true → (if a && (b && c) then suc zero else zero) ≡ (if a then suc zero else zero)
-    here true true true e f = refl
-    here true true false e f = absurd (cc)
-    here true false c e f = absurd (cc)
-    here false b c e f = refl
+at_entry c q o k kind p = grind (arith, eq-eqb)
 
 pub not_at_entry : (c : Kind) (q o k : ℕ) (kind : Kind) (p task : ℕ) →
     (if is_of c q (token kind p (in_task task)) && same_place (in_message o k) (in_task task) then suc zero else zero) ≡ zero
@@ -80,18 +72,10 @@ module _ (task o k : ℕ) (old new : State) (kind : Kind) (p : ℕ) (l : IsMovin
   made_held t c q = let m = tokens (λ x. if is_held t c q x then 1 else 0) in let z = not_held c q o k kind p t in omega (arith, m, z)
 
   made_ports : LawfulPorts old.live_port old.ports_made new.ledger
-  made_ports = record {
-    made_port = l.made_port;
-    no_rights = λ q dead c.
-        let m = tokens (λ x. if is_of c q x then 1 else 0) in
-        let n = l.no_rights q dead c in
-        let apart : (p == q) ≡ false = ne_eqb p q (λ e. let a = live in let b : old.live_port p ≡ false = ap old.live_port e ∙ dead in cc) in
-        let z = both_test (same_kind c kind) (p == q) (inr apart) in omega (arith, m, n, z);
-  }
+  made_ports = grind (arith, ne_eqb, both_test)
 
   made_receivers : LawfulReceivers old.live_port old.set_owner old.sets_of new.ledger
-  made_receivers = same_receivers old.live_port old.set_owner old.sets_of old.ledger new.ledger l.receivers
-      (λ q. let m = tokens (λ x. if is_of receive q x then 1 else 0) in let z = no_receive q in omega (arith, m, z)) (λ t q. let m = made_held t receive q in omega (arith, m))
+  made_receivers = grind (arith, same_receivers, made_held)
 
   made_copies : (make_send : ℕ → ℕ) → LawfulNumbers old.limit make_send old.sequence → new ≡ record old { make_send = make_send; ledger = new.ledger } → Copies old new o k kind (to_port p)
   made_copies make_send numbers rest = record {
@@ -115,9 +99,7 @@ module _ (task o k : ℕ) (old new : State) (kind : Kind) (p : ℕ) (l : IsMovin
   left_other c q not = let m = left_held c q in let z = other_port task task c kind q p not in omega (arith, m, z)
 
   left_there : (t q : ℕ) → (q ≡ p → ⊥) → held new t receive q ≡ held old t receive q
-  left_there t q not =
-      let m = tokens (λ x. if is_held t receive q x then 1 else 0) in
-      let y = other_port t task receive kind q p not in let z = not_held receive q o k kind p t in omega (arith, m, y, z)
+  left_there t q not = grind (arith, other_port, not_held)
 
   left_of : (c : Kind) (q : ℕ) → count (is_of c q) new.ledger ≡ count (is_of c q) old.ledger
   left_of c q = let m = tokens (λ x. if is_of c q x then 1 else 0) in omega (arith, m)
@@ -127,7 +109,7 @@ module _ (task o k : ℕ) (old new : State) (kind : Kind) (p : ℕ) (l : IsMovin
 
   -- the right is no receive right
   left_receivers : ((t q : ℕ) → held new t receive q ≡ held old t receive q) → LawfulReceivers old.live_port old.set_owner old.sets_of new.ledger
-  left_receivers same = same_receivers old.live_port old.set_owner old.sets_of old.ledger new.ledger l.receivers (left_of receive) (λ t q. let e = same t q in omega (arith, e))
+  left_receivers same = grind (arith, same_receivers, left_of)
 
   left_copies : Leaves old new task → Copies old new o k kind (to_port p)
   left_copies v = record {
@@ -150,8 +132,7 @@ kept_when false false n f g h = inr (refl, h refl refl)
 -- One send right less is with the task.
 pub one_less : (sends receives less same : ℕ) → less + 1 ≡ sends → same ≡ receives →
     ((nat_lt 1 sends || nat_lt 0 receives) ≡ true) × (0 < same + less) ⊎ ((nat_lt 1 sends || nat_lt 0 receives) ≡ false) × (same + less ≡ 0)
-one_less sends receives less same e f = kept_when (nat_lt 1 sends) (nat_lt 0 receives) (same + less) (λ g. let h = ltb-true 1 sends g in omega (arith, e, h))
-    (λ g. let h = ltb-true 0 receives g in omega (arith, f, h)) (λ g h. let i = ltb-false 1 sends g in let j = ltb-false 0 receives h in omega (arith, e, f, i, j))
+one_less sends receives less same e f = grind (arith, kept_when, ltb-true, ltb-false)
 
 module _ (task o k name p : ℕ) (old : State) (ledger : List Token) (l : IsMoving old o k) (is : lookup old task name ≡ Some (Target.port p))
     (same : (kind : Kind) (q : ℕ) → (q ≡ p → ⊥) → count (is_held task kind q) ledger ≡ held old task kind q) (same_once : count (is_held task send_once p) ledger ≡ held old task send_once p)
@@ -165,9 +146,7 @@ module _ (task o k name p : ℕ) (old : State) (ledger : List Token) (l : IsMovi
   pub port_leaves : (b : Bool) → (b ≡ true) × (0 < left_over) ⊎ (b ≡ false) × (left_over ≡ 0) → (make_send sequence : ℕ → ℕ) (sets_of : ℕ → List ℕ) → LawfulNumbers old.limit make_send sequence →
       LawfulReceivers old.live_port old.set_owner sets_of ledger → LawfulMembership old.live_port sets_of →
       Leaves old (record (name_kept b task name old) { make_send = make_send; sequence = sequence; sets_of = sets_of; ledger = ledger }) task
-  port_leaves true (inl (e, some)) make_send sequence sets_of numbers receivers membership =
-      same_leaves task o k old l (has_task l.tasks task name (Target.port p) is) make_send sequence sets_of ledger ports numbers receivers membership
-      (port_kept (old.naming task) (held old task) left_rights (l.naming task) p same same_once name is some few)
+  port_leaves true (inl (e, some)) make_send sequence sets_of numbers receivers membership = grind (arith, same_leaves, has_task, port_kept)
   port_leaves false (inr (e, none)) make_send sequence sets_of numbers receivers membership =
       other_leaves task o k old l (has_task l.tasks task name (Target.port p) is) make_send sequence sets_of ledger ports numbers receivers membership
       (map.remove (old.naming task) name) (request_at old.stands (dead_name task name) false)
@@ -203,21 +182,14 @@ module _ (task o k name p : ℕ) (old new : State) (l : IsMoving old o k) (is : 
 module _ (task o k name p : ℕ) (old new : State) (l : IsMoving old o k) (is : lookup old task name ≡ Some (Target.port p)) (holds : Holds old task receive p)
     (tokens : Moves old.ledger new.ledger (token receive p (in_task task) ∷ []) (token receive p (in_message o k) ∷ [])) where
   none_more : held new task receive p ≡ 0
-  none_more =
-      let m = left_held task o k old new receive p l tokens receive p in
-      let e = own_right task receive p refl in
-      let one = l.one_receive p (alive_held old o k l task receive p holds) in
-      let le = held_le_of task receive p old.ledger in omega (arith, m, e, one, le)
+  none_more = grind (arith, left_held, own_right, alive_held, held_le_of)
 
   same_sends : held new task send p ≡ held old task send p
   same_sends = let m = tokens (λ x. if is_held task send p x then 1 else 0) in omega (arith, m)
 
   is_kept : (held new task receive p + held new task send p ≡ held old task send p) → (nat_lt 0 (held old task send p) ≡ true) × (0 < held new task receive p + held new task send p)
       ⊎ (nat_lt 0 (held old task send p) ≡ false) × (held new task receive p + held new task send p ≡ 0)
-  is_kept same = elim (cases_Bool (nat_lt 0 (held old task send p))) [
-    | inl e ↦ inl (e, (let h = ltb-true 0 (held old task send p) e in omega (arith, h, same)))
-    | inr e ↦ inr (e, (let h = ltb-false 0 (held old task send p) e in omega (arith, h, same)))
-  ]
+  is_kept same = grind (arith, cases_Bool, ltb-true, ltb-false)
 
   receive_moved : new ≡ record (name_kept (nat_lt 0 (held old task send p)) task name old) { sets_of = at old.sets_of p []; make_send = at old.make_send p 0; sequence = at old.sequence p 0; ledger = new.ledger } →
       Copies old new o k receive (to_port p)
@@ -267,11 +239,10 @@ module _ (task o k : ℕ) (old new : State) (l : IsMoving old o k) (tokens : Mov
   same_held t c q = let m = tokens (λ x. if is_held t c q x then 1 else 0) in omega (arith, m)
 
   dead_ports : LawfulPorts old.live_port old.ports_made new.ledger
-  dead_ports = record { made_port = l.made_port; no_rights = λ q dead kind. let m = tokens (λ x. if is_of kind q x then 1 else 0) in let n = l.no_rights q dead kind in omega (arith, m, n) }
+  dead_ports = grind arith
 
   dead_receivers : LawfulReceivers old.live_port old.set_owner old.sets_of new.ledger
-  dead_receivers = same_receivers old.live_port old.set_owner old.sets_of old.ledger new.ledger l.receivers (λ q. let m = tokens (λ x. if is_of receive q x then 1 else 0) in omega (arith, m))
-      (λ t q. let e = same_held t receive q in omega (arith, e))
+  dead_receivers = grind (arith, same_receivers, same_held)
 
   -- the task's names are others, with the same rights
   pub dead_leaves : old.live_task task ≡ true → (names : Names) (stands : Request → Bool) → LawfulNames names (held new task) → SameSets (old.naming task) names → KeepsRequests old.stands stands (at old.naming task names) →
@@ -279,14 +250,7 @@ module _ (task o k : ℕ) (old new : State) (l : IsMoving old o k) (tokens : Mov
   dead_leaves is_task = other_leaves task o k old l is_task old.make_send old.sequence old.sets_of new.ledger dead_ports l.numbers dead_receivers l.membership
 
   dead_copies : (kind : Kind) (mark : Mark) → mark ≡ dead → Leaves old new task → Copies old new o k kind mark
-  dead_copies kind mark is v = record {
-    keeps = moved old new task o k l [] [] tokens (near_none task o k) (near_none task o k) v;
-    rest = v.rest;
-    apart = moved_apart old new task o k l [] [] tokens (near_none task o k) (near_none task o k) v;
-    lies = λ c q.
-        let m = tokens (λ x. if is_of c q x && same_place (in_message o k) x.place then 1 else 0) in
-        let z : mark_count c q kind mark ≡ 0 = ap (mark_count c q kind) is in omega (arith, m, z);
-  }
+  dead_copies kind mark is v = grind (arith, moved, near_none, moved_apart)
 
   no_rights_under : (n q : ℕ) → Target.dead n ≡ Target.port q → ⊥
   no_rights_under n q e = cc
@@ -305,9 +269,7 @@ module _ (task o k : ℕ) (old new : State) (l : IsMoving old o k) (tokens : Mov
       (removed_sets (old.naming task) name (Target.dead n) is (λ set e. cc)) (without_requests old l.ground task name))
 
   same_references : (name : ℕ) (x : Target) → lookup old task name ≡ Some x → new ≡ record old { ledger = new.ledger } → Leaves old new task
-  same_references name x is rest = subst (λ (x : State). Leaves old x task) (sym rest)
-      (same_leaves task o k old l (has_task l.tasks task name x is) old.make_send old.sequence old.sets_of new.ledger dead_ports l.numbers dead_receivers l.membership
-      (same_naming (old.naming task) (held old task) (held new task) (l.naming task) (same_held task)))
+  same_references name x is rest = grind (arith, same_leaves, has_task, dead_ports, dead_receivers, same_naming, same_held)
 
 -- ---- each disposition
 

@@ -17,35 +17,15 @@ use Rattle.mach_model.proofs.CopyingWords.{either}
 use Rattle.mach_model.proofs.CopyingOut.{Removes, come_held, come_same, come_port, come_once, gone_removes}
 
 removes_none : (s new : State) (o k : ℕ) (less : Kind → ℕ → ℕ) → IsMoving s o k → new ≡ s → ((c : Kind) (q : ℕ) → s.live_port q ≡ true → less c q ≡ 0) → Removes s new o k less
-removes_none s new o k less l e none = record {
-  keeps = subst (λ (x : State). IsMoving x o k) (sym e) l;
-  rest = shape-same s new e;
-  apart = apart-same s new o k e;
-  few = let a = ap (λ (x : State). length x.ledger) e in omega (arith, a);
-  lies = λ c q live. let a = ap (λ (x : State). lying x c q (in_message o k)) e in let b = none c q live in omega (arith, a, b);
-}
+removes_none s new o k less l e none = grind (arith, shape-same, apart-same)
 
 removes_both : (a b c : State) (o k : ℕ) (f g h : Kind → ℕ → ℕ) → Removes a b o k f → Removes b c o k g → ((kind : Kind) (q : ℕ) → h kind q ≡ f kind q + g kind q) → Removes a c o k h
-removes_both a b c o k f g h x y sum = record {
-  keeps = y.keeps;
-  rest = shape-trans a b c x.rest y.rest;
-  apart = apart-trans a b c o k x.apart y.apart;
-  few = let m = x.few in let n = y.few in omega (arith, m, n);
-  lies = λ kind q live.
-      let m = x.lies kind q live in
-      let n = y.lies kind q (ap (λ (s : State). s.live_port q) x.rest ∙ live) in
-      let s = sum kind q in omega (arith, m, n, s);
-}
+removes_both a b c o k f g h x y sum = grind (arith, shape-trans, apart-trans)
 
 -- ---- one right
 
 pub named_new : (task name : ℕ) (x : Target) (old new : State) → Named task name x old new → IsNew (old.naming task) name
-named_new task name x old new n = record {
-  unused = n.fresh.unused;
-  some = n.fresh.not_null;
-  fits = let a = fresh_fits (old.naming task) name n.fresh in let b = n.room in omega (arith, a, b);
-  room = n.room;
-}
+named_new task name x old new n = grind (arith, fresh_fits)
 
 onward : (old s new : State) (ledger : List Token) → new ≡ record s { ledger = ledger } → s ≡ old → new ≡ record old { ledger = ledger }
 onward old s new ledger e f = e ∙ ap (λ (x : State). record x { ledger = ledger }) f

@@ -42,8 +42,7 @@ module _ (task o k : ℕ) (old new : State) (kind : Kind) (p : ℕ) (l : IsMovin
   come_ports = record { made_port = l.made_port; no_rights = λ q dead c. come_of c q ∙ l.no_rights q dead c }
 
   come_receivers : LawfulReceivers old.live_port old.set_owner old.sets_of new.ledger
-  come_receivers = same_receivers old.live_port old.set_owner old.sets_of old.ledger new.ledger l.receivers (come_of receive)
-      (λ t q. let m = tokens (λ x. if is_held t receive q x then 1 else 0) in let z = not_held receive q o k kind p t in omega (arith, m, z))
+  come_receivers = grind (arith, same_receivers, come_of, not_held)
 
   come_removes : Leaves old new task → Removes old new o k (λ c q. mark_count c q kind (to_port p))
   come_removes v = record {
@@ -58,21 +57,10 @@ module _ (task o k : ℕ) (old new : State) (kind : Kind) (p : ℕ) (l : IsMovin
 
   -- a receive or send right is one more of these, and no send-once right
   some_right : (kind ≡ send_once → ⊥) → 0 < held new task receive p + held new task send p
-  some_right not = let m = come_held receive p in let n = come_held send p in let e = one kind not in omega (arith, m, n, e)
-    where
-      one : (c : Kind) → (c ≡ send_once → ⊥) →
-          0 < (if is_held task receive p (token c p (in_task task)) then suc zero else zero) + (if is_held task send p (token c p (in_task task)) then suc zero else zero)
-      one receive not = let e = own_right task receive p refl in omega (arith, e)
-      one send not = let e = own_right task send p refl in omega (arith, e)
-      one send_once not = absurd (not refl)
+  some_right not = grind (arith, come_held, own_right)
 
   same_once : (kind ≡ send_once → ⊥) → held new task send_once p ≡ held old task send_once p
-  same_once not = let m = come_held send_once p in let e = none kind not in omega (arith, m, e)
-    where
-      none : (c : Kind) → (c ≡ send_once → ⊥) → (if is_held task send_once p (token c p (in_task task)) then suc zero else zero) ≡ zero
-      none receive not = refl
-      none send not = refl
-      none send_once not = absurd (not refl)
+  same_once not = grind (arith, come_held)
 
   -- under the name that the task has for the port
   pub come_same : (name : ℕ) → (kind ≡ send_once → ⊥) → lookup old task name ≡ Some (Target.port p) → held new task send p ≤ most_references → new ≡ record old { ledger = new.ledger } →

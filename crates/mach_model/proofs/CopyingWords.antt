@@ -29,20 +29,10 @@ pub record Adds (s new : State) (o k : ℕ) (more : Kind → ℕ → ℕ) : Type
   pub lies : (c : Kind) (q : ℕ) → lying new c q (in_message o k) ≡ lying s c q (in_message o k) + more c q
 
 adds_none : (s new : State) (o k : ℕ) (more : Kind → ℕ → ℕ) → IsMoving s o k → new ≡ s → ((c : Kind) (q : ℕ) → more c q ≡ 0) → Adds s new o k more
-adds_none s new o k more l e none = record {
-  keeps = subst (λ (x : State). IsMoving x o k) (sym e) l;
-  rest = shape-same s new e;
-  apart = apart-same s new o k e;
-  lies = λ c q. let a = ap (λ (x : State). lying x c q (in_message o k)) e in let b = none c q in omega (arith, a, b);
-}
+adds_none s new o k more l e none = grind (arith, shape-same, apart-same)
 
 adds_both : (a b c : State) (o k : ℕ) (f g h : Kind → ℕ → ℕ) → Adds a b o k f → Adds b c o k g → ((kind : Kind) (q : ℕ) → h kind q ≡ f kind q + g kind q) → Adds a c o k h
-adds_both a b c o k f g h x y sum = record {
-  keeps = y.keeps;
-  rest = shape-trans a b c x.rest y.rest;
-  apart = apart-trans a b c o k x.apart y.apart;
-  lies = λ kind q. let m = x.lies kind q in let n = y.lies kind q in let s = sum kind q in omega (arith, m, n, s);
-}
+adds_both a b c o k f g h x y sum = grind (arith, shape-trans, apart-trans)
 
 given_once : (number : ℕ) (a b : Disposition) → disposition number ≡ Some a → disposition number ≡ Some b → a ≡ b
 given_once number a b e f = cc

@@ -26,30 +26,7 @@ module _ (s : State) (l : IsLawful s) where
   created = record s { live_task = at s.live_task s.tasks_made true; tasks_made = s.tasks_made + 1 }
 
   created_lawful : IsLawful created
-  created_lawful = record {
-    tasks = record {
-      made_task = λ t live. elim (eqb_tells t s.tasks_made) [
-        | inl h ↦ omega (arith, h.1)
-        | inr h ↦ let e = l.made_task t (sym (at_other s.live_task s.tasks_made true t h.1) ∙ live) in omega (arith, e)
-      ];
-      no_task = λ t n dead. elim (eqb_tells t s.tasks_made) [
-        | inl h ↦ l.no_task t n (ap s.live_task h.1 ∙ not_live)
-        | inr h ↦ l.no_task t n (sym (at_other s.live_task s.tasks_made true t h.1) ∙ dead)
-      ];
-    };
-    naming = l.naming;
-    ports = l.ports;
-    numbers = l.numbers;
-    receivers = l.receivers;
-    few_rights = l.few_rights;
-    sets = l.sets;
-    membership = l.membership;
-    logs = l.logs;
-    messages = l.messages;
-    requests = l.requests;
-    standing = l.standing;
-    ground = l.ground;
-  }
+  created_lawful = grind (arith, at_other, not_live)
 
   pub CreatesTask-lawful : (t : ℕ) (mid : State) → CreatesTask s t mid → IsLawful mid
   CreatesTask-lawful t mid c =

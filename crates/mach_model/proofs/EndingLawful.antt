@@ -62,24 +62,10 @@ no_owner task o e = subst (λ (x : Option ℕ). (if is_owner task x then None el
 
 was_owner : (task t : ℕ) (o : Option ℕ) → (if is_owner task o then None else o) ≡ Some t → (o ≡ Some t) × (t ≡ task → ⊥)
 was_owner task t None e = absurd (cc)
-was_owner task t (Some u) e = elim (eqb_tells u task) [
-  | inl h ↦ absurd (none u h.0 e)
-  | inr h ↦ (is u h.0 e, λ same. h.1 (owner_of u t (is u h.0 e) ∙ same))
-]
-  where
-    owner_of : (a b : ℕ) → Some a ≡ Some b → a ≡ b
-    owner_of a b e = cc
-
-    none : (u : ℕ) → (u == task) ≡ true → (if u == task then None else Some u) ≡ Some t → ⊥
-    none u a e = let f : None ≡ Some t = subst (λ (b : Bool). (if b then None else Some u) ≡ Some t) a e in cc
-
-    is : (u : ℕ) → (u == task) ≡ false → (if u == task then None else Some u) ≡ Some t → Some u ≡ Some t
-    is u a e = subst (λ (b : Bool). (if b then None else Some u) ≡ Some t) a e
+was_owner task t (Some u) e = grind arith
 
 stays_owned : (task t : ℕ) (o : Option ℕ) → o ≡ Some t → not (is_owner task o) ≡ true → t ≡ task → ⊥
-stays_owned task t o e kept same =
-    let a : not (t == task) ≡ true = subst (λ (x : Option ℕ). not (is_owner task x) ≡ true) e kept in
-    let b = eq-eqb t task same in let c : not true ≡ true = subst (λ (x : Bool). not x ≡ true) b a in cc
+stays_owned task t o e kept same = grind (arith, eq-eqb)
 
 module _ (task : ℕ) (old : State) (ledger : List Token) (l : IsLawful old) (loses : LosesAll (λ x. is_in_task task x.place) old.ledger ledger) where
   abbrev ended : State
@@ -93,51 +79,23 @@ module _ (task : ℕ) (old : State) (ledger : List Token) (l : IsLawful old) (lo
   }
 
   own : AreOwn task loses.gone
-  own test not = count_none test loses.gone (λ k d below passes.
-      let x = get_or loses.gone k d in
-      let place = same_task task x.place (loses.passed k d below) in
-      let at_task : x ≡ token x.kind x.port (in_task task) = λ i. token x.kind x.port (place i) in
-      let f : true ≡ false = sym passes ∙ ap test at_task ∙ not x.kind x.port in cc)
+  own test not = grind (arith, count_none, same_task)
 
   none_held : (kind : Kind) (q : ℕ) → held ended task kind q ≡ 0
-  none_held kind q =
-      let a = count_le (is_held task kind q) (λ x. is_in_task task x.place) (λ x e. right_of (is_of kind q x) (is_in_task task x.place) e) ledger in
-      let none = loses.none_left in omega (arith, a, none)
+  none_held kind q = grind (arith, count_le, right_of)
 
   other_names : (t : ℕ) → (t ≡ task → ⊥) → ended.naming t ≡ old.naming t
   other_names t not = at_other old.naming task map.empty t not
 
   -- a task with a name is another
   is_other : (t n : ℕ) (x : Target) → lookup ended t n ≡ Some x → (t ≡ task → ⊥) × (lookup old t n ≡ Some x)
-  is_other t n x e = elim (eqb_tells t task) [
-    | inl h ↦ absurd (no_name n x (sym (ap (λ (m : Names). map.get m n) (at_same old.naming task map.empty t h.1)) ∙ e))
-    | inr h ↦ (h.1, sym (ap (λ (m : Names). map.get m n) (other_names t h.1)) ∙ e)
-  ]
+  is_other t n x e = grind (arith, no_name, at_same, other_names)
 
   sets : LawfulSets ended.naming ended.set_owner old.sets_made
-  sets = record {
-    made_set = λ set above. no_owner task (old.set_owner set) (l.made_set set above);
-    set_owned = λ t n set e. let h = is_other t n (Target.set set) e in kept_owner task t (old.set_owner set) (l.set_owned t n set h.1) h.0;
-    set_named = λ set t e.
-        let h = was_owner task t (old.set_owner set) e in
-        let n = l.set_named set t h.0 in (n.0, ap (λ (m : Names). map.get m n.0) (other_names t h.1) ∙ n.1);
-    one_set_name = λ t n m set e f. l.one_set_name t n m set (is_other t n (Target.set set) e).1 (is_other t m (Target.set set) f).1;
-  }
+  sets = grind (arith, no_owner, is_other, kept_owner, was_owner, other_names)
 
   requests : KeepsRequests old.stands ended.stands ended.naming
-  requests = record { ports = ports; names = names }
-    where
-      ports : (r : Request) → ¬ (IsOnName r) → ended.stands r ≡ old.stands r
-      ports (no_senders p) on = refl
-      ports (port_destroyed p) on = refl
-      ports (dead_name t n) on = absurd (on tt)
-
-      names : (t n : ℕ) → ended.stands (dead_name t n) ≡ true → (old.stands (dead_name t n) ≡ true) × IsRight (lookup ended t n)
-      names t n e = elim (eqb_tells t task) [
-        | inl h ↦ absurd (let f : false ≡ true = subst (λ (b : Bool). (if b then false else old.stands (dead_name t n)) ≡ true) h.0 e in cc)
-        | inr h ↦ (let f : old.stands (dead_name t n) ≡ true = subst (λ (b : Bool). (if b then false else old.stands (dead_name t n)) ≡ true) h.0 e in
-            (f, subst (λ (m : Names). IsRight (map.get m n)) (sym (other_names t h.1)) (l.stands_on (dead_name t n) f)))
-      ]
+  requests = grind (arith, other_names)
 
   ended_loses : Loses old ended loses.gone []
   ended_loses = record {
@@ -197,18 +155,10 @@ module _ (s : State) (p : ℕ) (e : Entry) (ledger left : List Token) (l : IsLaw
 
   -- a test that is passed at no other place than this entry
   far : (test : Token → Bool) → ((x : Token) → same_place (in_message p k) x.place ≡ true → test x ≡ false) → count test left ≡ count test ledger
-  far test not =
-      let a = loses.moves (λ x. if test x then 1 else 0) in
-      let z = count_none test loses.gone (λ j d below passes. (let f : true ≡ false = sym passes ∙ not (get_or loses.gone j d) (loses.passed j d below) in cc)) in omega (arith, a, z)
+  far test not = grind (arith, count_none)
 
   not_held : (t : ℕ) (kind : Kind) (q : ℕ) (x : Token) → same_place (in_message p k) x.place ≡ true → is_held t kind q x ≡ false
-  not_held t kind q x here = by x.place here (is_of kind q x)
-    where
-      by : (place : Place) → same_place (in_message p k) place ≡ true → (b : Bool) → (b && is_in_task t place) ≡ false
-      by (in_task u) here b = absurd (cc)
-      by (in_message o j) here true = refl
-      by (in_message o j) here false = refl
-      by (in_request r) here b = absurd (cc)
+  not_held t kind q x here = grind arith
 
   lying_other : (kind : Kind) (q o j : ℕ) → (o ≡ p → j ≡ k → ⊥) → lying new kind q (in_message o j) ≡ lying taken kind q (in_message o j)
   lying_other kind q o j not = far (λ x. is_of kind q x && same_place (in_message o j) x.place) (λ x here. by x.place here (is_of kind q x))
@@ -229,9 +179,7 @@ module _ (s : State) (p : ℕ) (e : Entry) (ledger left : List Token) (l : IsLaw
       by (in_request r) here b = absurd (cc)
 
   none_here : (kind : Kind) (q : ℕ) → lying new kind q (in_message p k) ≡ 0
-  none_here kind q =
-      let a = count_le (λ x. is_of kind q x && same_place (in_message p k) x.place) (λ x. same_place (in_message p k) x.place) (λ x f. right_of (is_of kind q x) (same_place (in_message p k) x.place) f) left in
-      let none = loses.none_left in omega (arith, a, none)
+  none_here kind q = grind (arith, count_le, right_of)
 
   held_same : (t : ℕ) (kind : Kind) (q : ℕ) → held new t kind q ≡ held taken t kind q
   held_same t kind q = far (is_held t kind q) (not_held t kind q)
@@ -245,13 +193,7 @@ module _ (s : State) (p : ℕ) (e : Entry) (ledger left : List Token) (l : IsLaw
   taken_after q i is at_k = let t = at_same s.taken p (s.taken p + 1) q is in omega (arith, t, at_k)
 
   gone_there : (q j : ℕ) → (j < new.taken q) ⊎ (s.live_port q ≡ false) → (kind : Kind) (r : ℕ) → lying new kind r (in_message q j) ≡ 0
-  gone_there q j is kind r = elim (eqb_tells q p) [
-    | inl h ↦ elim (eqb_tells j k) [
-      | inl g ↦ subst (λ (x : ℕ). lying new kind r (in_message x j) ≡ 0) (sym h.1) (subst (λ (x : ℕ). lying new kind r (in_message p x) ≡ 0) (sym g.1) (none_here kind r))
-      | inr g ↦ lying_other kind r q j (λ x y. g.1 y) ∙ m.gone q j (λ x y. g.1 y) is kind r
-    ]
-    | inr h ↦ lying_other kind r q j (λ x y. h.1 x) ∙ m.gone q j (λ x y. h.1 x) is kind r
-  ]
+  gone_there q j is kind r = grind (arith, none_here, lying_other, m)
 
   front_loses : Loses s new loses.gone (token e.message.kind p (in_message p k) ∷ [])
   front_loses = record {

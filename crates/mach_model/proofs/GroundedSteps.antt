@@ -53,15 +53,14 @@ abbrev ComesElsewhere : Place → List Token → Type 0
 ComesElsewhere own come = (p q k : ℕ) → same_place own (in_message q k) ≡ false → count (is_at receive p (in_message q k)) come ≡ 0
 
 fewer_moves : (own : Place) (s t : State) (gone come : List Token) → Moves s.ledger t.ledger gone come → ComesElsewhere own come → Fewer own s t
-fewer_moves own s t gone come moves none p q k far = let e = moves (λ x. if is_at receive p (in_message q k) x then 1 else 0) in let z = none p q k far in omega (arith, e, z)
+fewer_moves own s t gone come moves none p q k far = grind (arith, is_at)
 
 none_come : (own : Place) → ComesElsewhere own []
 none_come own p q k far = refl
 
 one_come : (own : Place) (kind : Kind) (r : ℕ) (place : Place) → ((q k : ℕ) → same_place own (in_message q k) ≡ false → same_place (in_message q k) place ≡ false) →
     ComesElsewhere own (token kind r place ∷ [])
-one_come own kind r place apart p q k far =
-    let z = both_test (is_of receive p (token kind r place)) (same_place (in_message q k) place) (inr (apart q k far)) in omega (arith, z)
+one_come own kind r place apart p q k far = grind (arith, both_test)
 
 far_back : (own : Place) (q k : ℕ) → same_place own (in_message q k) ≡ false → same_place (in_message q k) own ≡ false
 far_back (in_task t) q k far = refl
@@ -80,11 +79,7 @@ task_come own kind p task = one_come own kind p (in_task task) (λ q k far. refl
 given_come : (own : Place) (kind : Kind) (p task : ℕ) (s : State) → ComesElsewhere own (given_to kind p task s)
 given_come own receive p task s = task_come own receive p task
 given_come own send_once p task s = task_come own send_once p task
-given_come own send p task s = go (nat_lt (held s task send p) _)
-  where
-    go : (b : Bool) → ComesElsewhere own (if b then token send p (in_task task) ∷ [] else [])
-    go true = task_come own send p task
-    go false = none_come own
+given_come own send p task s = grind (arith, task_come, none_come)
 
 many_come : (own : Place) (n : ℕ) (kind : Kind) (p task : ℕ) → ComesElsewhere own (replicate n (token kind p (in_task task)))
 many_come own zero kind p task = none_come own
@@ -93,7 +88,7 @@ many_come own (suc n) kind p task = λ r q k far. let a = task_come own kind p t
 -- ---- copying in
 
 copy_fewer : (task : ℕ) (own : Place) (number name : ℕ) (old : State) (mark : Mark) (new : State) → CopyRight task own number name old mark new → Fewer own old new
-copy_fewer task own number name old mark new r = fewer_moves own old new (taken_by r.given r.target task) (put_by r.given r.target own) r.tokens (put_come own r.given r.target)
+copy_fewer task own number name old mark new r = grind (arith, fewer_moves, put_come)
 
 pick : (b : Bool) (P Q R : Type 0) → (P → R) → (Q → R) → MatchBool b P Q → R
 pick true P Q R f g h = f h
@@ -103,8 +98,7 @@ same_fewer : (own : Place) (s t : State) → t ≡ s → Fewer own s t
 same_fewer own s t e = fewer_same own s t (ap (λ (x : State). x.ledger) e)
 
 word_fewer : (task : ℕ) (own : Place) (number word : ℕ) (old : State) (mark : Mark) (new : State) → CopyWord task own number word old mark new → Fewer own old new
-word_fewer task own number word old mark new = pick (word == null_word) _ _ _ (λ (x : (mark ≡ null) × (new ≡ old)). same_fewer own old new x.1)
-    (pick (word == dead_word) _ _ _ (λ (x : (mark ≡ dead) × (new ≡ old)). same_fewer own old new x.1) (copy_fewer task own number word old mark new))
+word_fewer task own number word old mark new = grind (arith, pick, same_fewer, copy_fewer)
 
 reply_fewer : (task : ℕ) (own : Place) (number word : ℕ) (old : State) (reply : ReplyRight) (new : State) → CopyReply task own number word old reply new → Fewer own old new
 reply_fewer task own number word old absent new h = same_fewer own old new h.2
@@ -127,11 +121,11 @@ give_fewer own task place kind p old name new g = fewer_moves own old new (token
 mark_given : (own : Place) (task : ℕ) (place : Place) (kind : Kind) (mark : Mark) (old : State) (word : ℕ) (new : State) → GiveMark task place kind mark old word new → Fewer own old new
 mark_given own task place kind null old word new h = same_fewer own old new h.1
 mark_given own task place kind dead old word new h = same_fewer own old new h.1
-mark_given own task place kind (to_port p) old word new h = pick (old.live_port p) _ _ _ (give_fewer own task place kind p old word new) (λ (x : (word ≡ dead_word) × (new ≡ old)). same_fewer own old new x.1) h
+mark_given own task place kind (to_port p) old word new h = grind (arith, pick, give_fewer, same_fewer)
 
 words_given : (own : Place) (task : ℕ) (place : Place) (ws : List (ℕ × ℕ)) (old : State) (rs : List (Kind × Mark)) (new : State) → Through (GiveWord task place) old ws rs new → Fewer own old new
 words_given own task place [] old [] new h = same_fewer own old new h
-words_given own task place (w ∷ ws) old (r ∷ rs) new h = fewer_trans own old h.0 new (mark_given own task place r.0 r.1 old w.1 h.0 h.1) (words_given own task place ws h.0 rs new h.2)
+words_given own task place (w ∷ ws) old (r ∷ rs) new h = grind (arith, words_given own task place ws h.0 rs new h.2, fewer_trans, mark_given)
 words_given own task place [] old (r ∷ rs) new h = absurd h
 words_given own task place (w ∷ ws) old [] new h = absurd h
 
@@ -145,7 +139,7 @@ module _ (own : Place) where
   ledger_of old mid changed e f = fewer_same own old mid (ap (λ (x : State). x.ledger) e ∙ f)
 
   makes_fewer : (task right name : ℕ) (old mid : State) → Makes task right name old mid → Fewer own old mid
-  makes_fewer task right name old mid (inl x) = fewer_moves own old mid [] (token receive old.ports_made (in_task task) ∷ []) x.1.tokens (task_come own receive old.ports_made task)
+  makes_fewer task right name old mid (inl x) = grind (arith, fewer_moves, task_come)
   makes_fewer task right name old mid (inr (inl x)) = ledger_of old mid _ x.1 refl
   makes_fewer task right name old mid (inr (inr x)) = ledger_of old mid _ x.1 refl
 
@@ -161,11 +155,7 @@ module _ (own : Place) where
   target_fewer task name (Target.set s) old mid owed x = ledger_of old mid _ x.0 refl
 
   with_dead_ledger : (task name n : ℕ) (s : State) → (with_dead task name n s).ledger ≡ s.ledger
-  with_dead_ledger task name n s = go (nat_lt 0 n)
-    where
-      go : (b : Bool) → (if b then with_name task name (Target.dead n) s else without_name task name s).ledger ≡ s.ledger
-      go true = refl
-      go false = refl
+  with_dead_ledger task name n s = grind arith
 
   removes_fewer : (right task name : ℕ) (target : Target) (old mid : State) (owed : Owed) → RemovesRight right task name target old mid owed → Fewer own old mid
   removes_fewer right task name (Target.port p) old mid owed x = fewer_moves own old mid (token receive p (in_task task) ∷ []) [] x.1.0 (none_come own)
@@ -174,7 +164,7 @@ module _ (own : Place) where
   removes_fewer right task name (Target.dead n) old mid owed x = absurd x
 
   modifies_fewer : (task name right : ℕ) (delta : ℤ) (old mid : State) (owed : Owed) → Modifies task name right delta old mid owed → Fewer own old mid
-  modifies_fewer task name right delta old mid owed (inl x) = fewer_moves own old mid (replicate (held old task send x.0 - x.1) (token send x.0 (in_task task))) (replicate (x.1 - held old task send x.0) (token send x.0 (in_task task))) x.5.tokens (many_come own (x.1 - held old task send x.0) send x.0 task)
+  modifies_fewer task name right delta old mid owed (inl x) = grind (arith, fewer_moves, many_come)
   modifies_fewer task name right delta old mid owed (inr (inl x)) = ledger_of old mid _ x.5 (with_dead_ledger task name x.1 old)
   modifies_fewer task name right delta old mid owed (inr (inr (inl x))) = ledger_of old mid old x.2 refl
   modifies_fewer task name right delta old mid owed (inr (inr (inr x))) = removes_fewer right task name x.0 old mid owed x.3
@@ -182,18 +172,10 @@ module _ (own : Place) where
   renamed_same : (task o n q k : ℕ) (place : Place) → same_place (in_message q k) (renamed_place task o n place) ≡ same_place (in_message q k) place
   renamed_same task o n q k (in_task t) = refl
   renamed_same task o n q k (in_message r j) = refl
-  renamed_same task o n q k (in_request r) = go (same_request r (Request.dead_name task o))
-    where
-      go : (b : Bool) → same_place (in_message q k) (if b then in_request (Request.dead_name task n) else in_request r) ≡ false
-      go true = refl
-      go false = refl
+  renamed_same task o n q k (in_request r) = grind arith
 
   renames_fewer : (task o n : ℕ) (old mid : State) → Renames task o n old mid → Fewer own old mid
-  renames_fewer task o n old mid x p q k far =
-      let e = x.tokens (λ y. if is_at receive p (in_message q k) y then 1 else 0) in
-      let f = weigh-le (λ y. if is_at receive p (in_message q k) (renamed_token task o n y) then 1 else 0) (λ y. if is_at receive p (in_message q k) y then 1 else 0)
-      (λ y. let g = renamed_same task o n q k y.place in rw g (omega arith)) old.ledger in
-      omega (arith, e, f)
+  renames_fewer task o n old mid x p q k far = grind (arith, is_at, weigh-le, renamed_same)
 
   ports_fewer : (task name : ℕ) (change : ℕ → State) (old mid : State) → ((p : ℕ) → (change p).ledger ≡ old.ledger) → ChangesPort old task name change mid → Fewer own old mid
   ports_fewer task name change old mid same x = ledger_of old mid (change x.0) x.3 (same x.0)
@@ -209,37 +191,27 @@ module _ (own : Place) where
   ends_fewer task old mid owed x = fewer_moves own old mid x.loses.gone [] x.loses.moves (none_come own)
 
   front_fewer : (port : ℕ) (e : Entry) (old mid : State) (owed : Owed) → DestroysFront port e old mid owed → Fewer own old mid
-  front_fewer port e old mid owed x = fewer_trans own old x.taken mid (takes_fewer port e old x.taken x.takes) (fewer_moves own x.taken mid x.loses.gone [] x.loses.moves (none_come own))
+  front_fewer port e old mid owed x = grind (arith, fewer_trans, takes_fewer, fewer_moves, none_come)
 
   receives_fewer : (task port room : ℕ) (bytes : List ℕ) (old mid : State) → Receives task port room bytes old mid → Fewer own old mid
-  receives_fewer task port room bytes old mid x =
-      fewer_trans own old x.taken mid (takes_fewer port x.e old x.taken x.takes)
-      (words_given own task _ (received_words x.header x.written) x.taken (message_rights x.e.message) mid x.rights)
+  receives_fewer task port room bytes old mid x = grind (arith, fewer_trans, takes_fewer, words_given)
 
   receipt_fewer : (old : State) (task : ℕ) (waited : Waited) (room : ℕ) (large : Bool) (reply : Reply) (mid : State) (owed : Owed) → Receipt old task waited room large reply mid owed → Fewer own old mid
   receipt_fewer old task waited room large (Reply.Message bytes) mid owed x = receives_fewer task x.0 room bytes old mid x.2
   receipt_fewer old task waited room large (Reply.Empty told) mid owed x = same_fewer own old mid x.2
-  receipt_fewer old task waited room large (Reply.TooLarge n) mid owed x = pick large _ _ _ (λ (h : (mid ≡ old) × (owed ≡ [])). same_fewer own old mid h.0) (front_fewer x.0 x.1 old mid owed) x.6
+  receipt_fewer old task waited room large (Reply.TooLarge n) mid owed x = grind (arith, pick, same_fewer, front_fewer)
   receipt_fewer old task waited room large reply mid owed x = absurd x
 
 inserts_fewer : (task name from poly number : ℕ) (old mid : State) → Inserts task name from poly number old mid → Fewer (in_task task) old mid
-inserts_fewer task name from poly number old mid x =
-    fewer_trans (in_task task) old x.copied mid (copy_fewer from (in_task task) number poly old (to_port x.p) x.copied x.copy) (go x.named)
-  where
-    go : (lookup x.copied task name ≢ None) × (mid ≡ x.copied) ⊎ (lookup x.copied task name ≡ None) × (mid ≡ with_name task name (target_for (kind_sent x.copy.given) x.p) x.copied) → Fewer (in_task task) x.copied mid
-    go (inl h) = same_fewer (in_task task) x.copied mid h.1
-    go (inr h) = ledger_of (in_task task) x.copied mid _ h.1 refl
+inserts_fewer task name from poly number old mid x = grind (arith, fewer_trans, copy_fewer, same_fewer)
 
 extracts_fewer : (task name number to new_name kind : ℕ) (old mid : State) → Extracts task name number to new_name kind old mid → Fewer (in_task to) old mid
-extracts_fewer task name number to new_name kind old mid x =
-    fewer_trans (in_task to) old x.copied mid (copy_fewer task (in_task to) number name old (to_port x.p) x.copied x.copy)
-    (fewer_moves (in_task to) x.copied mid (pegged to x.p x.copied) [] x.tokens (none_come (in_task to)))
+extracts_fewer task name number to new_name kind old mid x = grind (arith, fewer_trans, copy_fewer, fewer_moves, none_come)
 
 back_fewer : (own : Place) (task : ℕ) (request : Request) (before old : State) (name : ℕ) (new : State) → GivesBack task request before old name new → Fewer own old new
 back_fewer own task request before old name new (inl x) = same_fewer own old new x.2
 back_fewer own task request before old name new (inr (inl x)) = ledger_of own old new _ x.3 refl
-back_fewer own task request before old name new (inr (inr x)) =
-    fewer_moves own old new (token send_once x.0 (in_request request) ∷ []) (token send_once x.0 (in_task task) ∷ []) x.5 (task_come own send_once x.0 task)
+back_fewer own task request before old name new (inr (inr x)) = grind (arith, fewer_moves, task_come)
 
 keeps_fewer : (own : Place) (task name sync : ℕ) (request : Request) (q : ℕ) (old mid : State) (owed : Owed) → Keeps task name sync request q old mid owed → Fewer own old mid
 keeps_fewer own task name sync request q old mid owed (inl x) = fewer_moves own old mid (token send_once q (in_request request) ∷ []) [] x.3 (none_come own)
@@ -277,11 +249,7 @@ module _ (d e : ℕ) (old mid : State) (owed : Owed) (l : IsLawful old) (m : Mid
   go_on : (x : ℕ) → Reaches mid d x → Where mid x → ((q k : ℕ) → LiesAt old receive x (in_message q k) → LiesAt mid receive x (in_message q k) → LeadsOn mid x) → LeadsOn mid x
   go_on x reach (with_task u h) far = to_task x u h
   go_on x reach (nowhere o) far = to_orphan x o
-  go_on x reach (queued q k h) far = by (same_place (in_message d e) (in_message q k)) refl
-    where
-      by : (b : Bool) → same_place (in_message d e) (in_message q k) ≡ b → LeadsOn mid x
-      by true t = absurd (loop x (subst (LiesAt mid receive x) (place_is (in_message d e) (in_message q k) t) h) reach)
-      by false f = far q k (none x q k f h) h
+  go_on x reach (queued q k h) far = grind (arith, place_is)
 
   way : (x : ℕ) → IsGrounded old x → mid.live_port x ≡ true → Reaches mid d x → LeadsOn mid x
   way r (at_task x t lies) live reach = go_on x reach (where_is mid owed x m live) (λ q k was h. absurd (not_both old x t q k l lies was))
@@ -298,10 +266,7 @@ module _ (d e : ℕ) (old mid : State) (owed : Owed) (l : IsLawful old) (m : Mid
       by false gone = go_on d (here d) (where_is mid owed d m live) (λ q k was h. absurd (unmade old d q k l gone was))
 
   sent_mine : AllGrounded old → OwnLeads (in_message d e) mid
-  sent_mine all p q k t lies =
-      let same : in_message q k ≡ in_message d e = place_is (in_message d e) (in_message q k) t in
-      let port : q ≡ d = cc in
-      subst (LeadsOn mid) (sym port) (destination_leads all (ap mid.live_port (sym port) ∙ queue_lives mid owed p q k m lies))
+  sent_mine all p q k t lies = grind (arith, place_is, destination_leads, queue_lives)
 
   sent_leads : AllGrounded old → (p : ℕ) → mid.live_port p ≡ true → LeadsOn mid p
   sent_leads all = all_lead (in_message d e) old mid owed l m none (sent_mine all) all

@@ -47,8 +47,7 @@ where_is mid owed p l live = elim (pos_or_zero (count (is_of receive p) mid.ledg
 -- a right that there is one of at most isn't at two places
 apart : (s : State) (p : ℕ) (a b : Place) → ((x : Place) → same_place a x ≡ true → same_place b x ≡ true → ⊥) → count (is_of receive p) s.ledger ≤ 1 →
     LiesAt s receive p a → LiesAt s receive p b → ⊥
-apart s p a b not one here there =
-    let two = two_le (is_of receive p) (λ x. same_place a x.place) (λ x. same_place b x.place) (λ x. not x.place) s.ledger in omega (arith, two, one, here, there)
+apart s p a b not one here there = grind (arith, two_le (is_of receive p) (λ x. same_place a x.place) (λ x. same_place b x.place) (λ x. not x.place) s.ledger)
 
 -- ---- a step's own part
 
@@ -79,18 +78,11 @@ not_both s p t q k l lies c = apart s p (in_task t) (in_message q k)
 
 -- a queue in which a right lies is a live port's
 pub queue_lives : (mid : State) (owed : Owed) (p q k : ℕ) → MidLawful mid owed → LiesAt mid receive p (in_message q k) → mid.live_port q ≡ true
-queue_lives mid owed p q k m some = go (mid.live_port q) refl
-  where
-    go : (b : Bool) → mid.live_port q ≡ b → mid.live_port q ≡ true
-    go true e = e
-    go false e = absurd (let z = m.gone q k (inr e) receive p in omega (arith, z, some))
+queue_lives mid owed p q k m some = grind arith
 
 -- a port that wasn't there has no right
 pub unmade : (old : State) (p q k : ℕ) → IsLawful old → old.live_port p ≡ false → LiesAt old receive p (in_message q k) → ⊥
-unmade old p q k l dead some =
-    let z = l.no_rights p dead receive in
-    let le = count_le (is_at receive p (in_message q k)) (is_of receive p) (λ x t. left_of _ _ t) old.ledger in
-    omega (arith, z, le, some)
+unmade old p q k l dead some = grind (arith, l.no_rights p dead receive, count_le (is_at receive p (in_message q k)) (is_of receive p) (λ x t. left_of _ _ t) old.ledger)
 
 module _ (own : Place) (old mid : State) (owed : Owed) (l : IsLawful old) (m : MidLawful mid owed) (none : NoneQueued own old mid) (mine : OwnLeads own mid) where
   queued_leads : (p q k : ℕ) → LiesAt mid receive p (in_message q k) → (LiesAt old receive p (in_message q k) → LeadsOn mid p) → LeadsOn mid p

@@ -1,14 +1,13 @@
 -- A right that is handed from a task to another, or to the same, leaves a lawful state. On its way it is seen as lying at an entry
 -- that no log has.
-use Rattle.std.proofs.Common.{◌≡◌, ℕ, zero, suc, ◌+◌, ◌<◌, ◌≤◌, List, [], ◌∷◌, Option, Some, None, refl, sym, ap, subst, ◌∙◌, arith, true, false, Bool, ◌⊎◌, inl, inr, length}
-use Rattle.std.specs.Prelude.{if◌then◌else◌, ◌==◌, ◌&&◌, ◌≢◌, nat_lt}
-use Rattle.std.specs.FinMap as map
+use Rattle.std.proofs.Common.{◌≡◌, ℕ, zero, suc, ◌<◌, ◌≤◌, List, [], ◌∷◌, Option, Some, None, refl, sym, ap, subst, ◌∙◌, arith, true, false, Bool, ◌⊎◌, inl, inr, length}
+use Rattle.std.specs.Prelude.{if◌then◌else◌, ◌==◌, ◌≢◌}
 use Rattle.std.proofs.lemmas.Bool.Decides.{eqb_tells}
 use Rattle.std.proofs.lemmas.Bool.{lt-ltb, ltb-true, ltb-false, cases_Bool}
 use Rattle.mach_types.specs.declared.rights.Disposition.{Disposition}
 use Rattle.mach_types.specs.declared.rights.Disposition.TheVariants.{MoveReceive, MoveSend, MoveSendOnce, CopySend, MakeSend, MakeSendOnce}
-use Rattle.mach_types.specs.Numbers.{kind_sent, dead_word, most_names, most_references, most_rights}
-use Rattle.mach_types.specs.Tokens.{Kind, receive, send, send_once, Place, in_task, in_message, in_request, Token, token, weigh, count, is_of, is_held, same_kind, is_in_task, Moves}
+use Rattle.mach_types.specs.Numbers.{kind_sent, most_references, most_rights}
+use Rattle.mach_types.specs.Tokens.{Kind, receive, send, send_once, Place, in_task, in_message, in_request, Token, token, weigh, count, is_held, same_kind, is_in_task, Moves}
 use Rattle.mach_types.specs.Messages.{to_port}
 use Rattle.mach_types.specs.Guards.{NoneHolds}
 use Rattle.mach_model.specs.State.{State, Target, lookup, held, with_name}
@@ -17,7 +16,7 @@ use Rattle.mach_model.specs.CopyIn.{IsLegal, taken_by, put_by, CopyRight}
 use Rattle.mach_model.specs.CopyOut.{given_to, NamedFor, NamedOnce}
 use Rattle.mach_model.specs.Transfer.{target_for, inserted_guards, Inserts, pegged, Extracts}
 use Rattle.mach_model.specs.Refusals.{IsNoName}
-use Rattle.mach_model.specs.Carried.{mark_count, lying}
+use Rattle.mach_model.specs.Carried.{mark_count}
 use Rattle.mach_model.specs.Lawful.{IsLawful}
 use Rattle.mach_model.specs.Midway.{MidLawful}
 use Rattle.mach_model.proofs.Weigh.{length-weigh, left_of, right_of, lying_le_of}
@@ -42,10 +41,7 @@ same_kinds send_once receive e = absurd (cc)
 same_kinds send_once send e = absurd (cc)
 
 pub same_numbers : (a b : ℕ) → (a == b) ≡ true → a ≡ b
-same_numbers a b e = elim (eqb_tells a b) [
-  | inl h ↦ h.1
-  | inr h ↦ absurd (let f = h.0 in cc)
-]
+same_numbers a b e = grind arith
 
 pub same_task : (task : ℕ) (place : Place) → is_in_task task place ≡ true → place ≡ in_task task
 same_task task (in_task other) e = ap in_task (same_numbers other task e)
@@ -54,12 +50,7 @@ same_task task (in_request r) e = absurd (cc)
 
 -- a token that passes is the one
 pub is_it : (task : ℕ) (kind : Kind) (p : ℕ) (x : Token) → is_held task kind p x ≡ true → x ≡ token kind p (in_task task)
-is_it task kind p x e =
-    let a = left_of (is_of kind p x) (is_in_task task x.place) e in
-    let k = same_kinds kind x.kind (left_of (same_kind kind x.kind) (x.port == p) a) in
-    let q = same_numbers x.port p (right_of (same_kind kind x.kind) (x.port == p) a) in
-    let at = same_task task x.place (right_of (is_of kind p x) (is_in_task task x.place) e) in
-    λ i. token (k i) (q i) (at i)
+is_it task kind p x e = grind (arith, left_of, same_kinds, same_numbers, right_of, same_task)
 
 one_taken : (task : ℕ) (kind : Kind) (p : ℕ) (xs : List Token) → 0 < count (is_held task kind p) xs → (ys : List Token) × Moves xs ys (token kind p (in_task task) ∷ []) []
 one_taken task kind p [] some = absurd (omega (arith, some))
@@ -91,18 +82,7 @@ put_is s from given target p legal e place = absurd legal
 -- what is taken was there
 module _ (s : State) (o k : ℕ) (l : IsMoving s o k) (from to name : ℕ) where
   was_held : (c kind : Kind) (p q : ℕ) → 0 < held s from kind q → weigh (λ x. if is_held to c p x then 1 else 0) (token kind q (in_task from) ∷ []) ≤ held s to c p
-  was_held c kind p q some = go (is_held to c p (token kind q (in_task from))) refl
-    where
-      go : (b : Bool) → is_held to c p (token kind q (in_task from)) ≡ b → (if b then suc zero else zero) + zero ≤ held s to c p
-      go false e = omega arith
-      go true e =
-          let a = left_of (same_kind c kind && q == p) (from == to) e in
-          let x = same_kinds c kind (left_of (same_kind c kind) (q == p) a) in
-          let y = same_numbers q p (right_of (same_kind c kind) (q == p) a) in
-          let z = same_numbers from to (right_of (same_kind c kind && q == p) (from == to) e) in
-          let some' : 0 < held s to c p =
-          subst (λ (t : ℕ). 0 < held s t c p) z (subst (λ (r : ℕ). 0 < held s from c r) y (subst (λ (d : Kind). 0 < held s from d q) x some)) in
-          omega (arith, some')
+  was_held c kind p q some = grind (arith, left_of, same_kinds, same_numbers, right_of)
 
   taken_less : (c : Kind) (p : ℕ) (given : Disposition) (target : Target) → lookup s from name ≡ Some target → IsLegal s from given target →
       weigh (λ x. if is_held to c p x then 1 else 0) (taken_by given target from) ≤ held s to c p
@@ -128,11 +108,10 @@ module _ (from to number name p o k : ℕ) (s copied : State) (l : IsMoving s o 
   sent_kind = kind_sent r.given
 
   some : 0 < count (is_held to sent_kind p) copied.ledger
-  some =
-      let a = r.tokens (λ x. if is_held to sent_kind p x then 1 else 0) in
-      let b = taken_less s o k l from to name sent_kind p r.given r.target r.found r.legal in
-      let c = ap (weigh (λ x. if is_held to sent_kind p x then 1 else 0)) (put_is s from r.given r.target p r.legal r.mark_is (in_task to)) in
-      let d = own_right to sent_kind p (kind_refl sent_kind) in omega (arith, a, b, c, d)
+  some = grind (arith,
+      r.tokens (λ x. if is_held to sent_kind p x then 1 else 0), taken_less s o k l from to name sent_kind p r.given r.target r.found r.legal,
+      ap (weigh (λ x. if is_held to sent_kind p x then 1 else 0)) (put_is s from r.given r.target p r.legal r.mark_is (in_task to)),
+      own_right to sent_kind p (kind_refl sent_kind))
 
   taken : (ys : List Token) × Moves copied.ledger ys (token sent_kind p (in_task to) ∷ []) []
   taken = one_taken to sent_kind p copied.ledger some
@@ -165,34 +144,13 @@ module _ (from to number name p o k : ℕ) (s copied : State) (l : IsMoving s o 
 -- what was on its way and is with a task now has left the state lawful
 arrives : (o k : ℕ) (old v mid : State) (kind : Kind) (p : ℕ) → IsLawful old → length (old.log o) ≤ k → Copies old v o k kind (to_port p) → Removes v mid o k (λ c q. mark_count c q kind (to_port p)) →
     length mid.ledger ≤ most_rights → MidLawful mid []
-arrives o k old v mid kind p l above c r few = arrived mid o k r.keeps (inr outside) none few
-  where
-    log : mid.log ≡ old.log
-    log = ap (λ (x : State). x.log) r.rest ∙ ap (λ (x : State). x.log) c.rest
-
-    outside : length (mid.log o) ≤ k
-    outside = let e = ap (λ f. length (f o)) log in omega (arith, e, above)
-
-    none : (d : Kind) (q : ℕ) → lying mid d q (in_message o k) ≡ 0
-    none d q = elim (cases_Bool (mid.live_port q)) [
-      | inl live ↦
-          let a = r.lies d q (sym (ap (λ (x : State). x.live_port q) r.rest) ∙ live) in
-          let b = c.lies d q in
-          let e = l.no_entry o k above d q in omega (arith, a, b, e)
-      | inr gone ↦ let a = lying_le_of mid d q (in_message o k) in let b = r.keeps.no_rights q gone d in omega (arith, a, b)
-    ]
+arrives o k old v mid kind p l above c r few = grind (arith, arrived, cases_Bool, lying_le_of)
 
 -- ---- into a task, under a name that the caller gives
 
 must_be : (o : Option Target) (p : ℕ) → ¬ (o ≢ Some (Target.port p)) → o ≡ Some (Target.port p)
 must_be None p not = absurd (not (λ e. cc))
-must_be (Some (Target.port q)) p not = elim (eqb_tells q p) [
-  | inl h ↦ ap (λ (x : ℕ). Some (Target.port x)) h.1
-  | inr h ↦ absurd (not (λ e. h.1 (port_of q p e)))
-]
-  where
-    port_of : (a b : ℕ) → Some (Target.port a) ≡ Some (Target.port b) → a ≡ b
-    port_of a b e = cc
+must_be (Some (Target.port q)) p not = grind arith
 must_be (Some (Target.once q)) p not = absurd (not (λ e. cc))
 must_be (Some (Target.dead n)) p not = absurd (not (λ e. cc))
 must_be (Some (Target.set s)) p not = absurd (not (λ e. cc))
@@ -216,12 +174,7 @@ module _ (task name p o k : ℕ) (copied : State) (ledger : List Token) (kind : 
   Done mid = Removes v mid o k (λ c q. mark_count c q kind (to_port p))
 
   is_new : lookup copied task name ≡ None → IsNew (v.naming task) name
-  is_new none = record {
-    unused = none;
-    some = is_below 0 name (λ h. fits (inl (omega (arith, h))));
-    fits = is_below name dead_word (λ h. fits (inr h));
-    room = is_below (map.len (copied.naming task)) most_names (λ h. good.1.1.1.0 (inl (h, none)));
-  }
+  is_new none = grind (arith, some, is_below)
 
   named_there : lookup copied task name ≢ None → Done copied
   named_there some = come_same task o k v copied kind p l is_task tokens name (λ e. good.1.0 (some, inl e))
@@ -296,40 +249,12 @@ module _ (task name p o k : ℕ) (copied named mid : State) (ledger : List Token
 
   -- none goes where there are not too many
   unpegged : held copied task send p ≤ most_references → Moves copied.ledger mid.ledger [] []
-  unpegged few = by (nat_lt most_references (held copied task send p)) refl pegs
-    where
-      by : (b : Bool) → nat_lt most_references (held copied task send p) ≡ b → Moves copied.ledger mid.ledger (if b then token send p (in_task task) ∷ [] else []) [] → Moves copied.ledger mid.ledger [] []
-      by false e m = m
-      by true e m = absurd (let h = ltb-true most_references (held copied task send p) e in omega (arith, h, few))
+  unpegged few = grind (arith, ltb-true)
 
   given : (c : Kind) → Moves ledger copied.ledger (token c p (in_message o k) ∷ []) (token c p (in_task task) ∷ []) → Moves ledger mid.ledger (token c p (in_message o k) ∷ []) (given_to c p task w)
-  given receive tokens = λ h.
-      let n = tokens (λ x. if is_held task send p x then 1 else 0) in
-      let few = (l.naming task).few_references p in
-      let a = tokens h in let b = unpegged (omega (arith, n, few)) h in omega (arith, a, b)
-  given send_once tokens = λ h.
-      let n = tokens (λ x. if is_held task send p x then 1 else 0) in
-      let few = (l.naming task).few_references p in
-      let a = tokens h in let b = unpegged (omega (arith, n, few)) h in omega (arith, a, b)
-  given send tokens = by (nat_lt (held w task send p) most_references) refl
-    where
-      more : held copied task send p ≡ held w task send p + 1
-      more =
-          let n = tokens (λ x. if is_held task send p x then 1 else 0) in
-          let e = own_right task send p refl in let z = not_held send p o k send p task in omega (arith, n, e, z)
-
-      by : (b : Bool) → nat_lt (held w task send p) most_references ≡ b → Moves ledger mid.ledger (token send p (in_message o k) ∷ []) (if b then token send p (in_task task) ∷ [] else [])
-      by true e = λ h.
-          let n = more in
-          let less = ltb-true (held w task send p) most_references e in
-          let a = tokens h in let b = unpegged (omega (arith, n, less)) h in omega (arith, a, b)
-      by false e = λ h.
-          let n = more in
-          let full = ltb-false (held w task send p) most_references e in
-          let many : nat_lt most_references (held copied task send p) ≡ true = lt-ltb most_references (held copied task send p) (omega (arith, n, full)) in
-          let peg : Moves copied.ledger mid.ledger (token send p (in_task task) ∷ []) [] =
-          subst (λ (b : Bool). Moves copied.ledger mid.ledger (if b then token send p (in_task task) ∷ [] else []) []) many pegs in
-          let a = tokens h in let b = peg h in omega (arith, a, b)
+  given receive tokens = grind (arith, tokens (λ x. if is_held task send p x then 1 else 0), (l.naming task).few_references p)
+  given send_once tokens = grind (arith, tokens (λ x. if is_held task send p x then 1 else 0), (l.naming task).few_references p)
+  given send tokens = grind (arith, own_right, not_held, ledger, ltb-true, unpegged, ltb-false, lt-ltb)
 
   extracted : NamedFor kind task name p copied named → Removes w mid o k (λ c q. mark_count c q kind (to_port p))
   extracted n = GiveRight-removes task o k kind p w name mid (record named { ledger = ledger }) l is_task (named_for kind n) rest (given kind tokens)

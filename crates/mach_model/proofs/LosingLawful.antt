@@ -35,9 +35,7 @@ no_sends task p test e = refl
 
 pub same_sends : (task p n : ℕ) → AreSends task p (replicate n (token send p (in_task task)))
 same_sends task p zero test e = refl
-same_sends task p (suc n) test e =
-    let h = same_sends task p n test e in
-    let f : (if test (token send p (in_task task)) then suc zero else zero) ≡ zero = rw e refl in omega (arith, f, h)
+same_sends task p (suc n) test e = grind (arith, same_sends task p n test e)
 
 pub sends_near : (task p o k : ℕ) (xs : List Token) → AreSends task p xs → AreNear task o k xs
 sends_near task p o k xs are test a b = are test (a send p)
@@ -51,11 +49,7 @@ module _ (task name p : ℕ) (old new : State) (l : IsLawful old) (is : lookup o
   others test e = let m = moves (λ x. if test x then 1 else 0) in let a = are_gone test e in let b = are_come test e in omega (arith, m, a, b)
 
   ports : LawfulPorts old.live_port old.ports_made new.ledger
-  ports = record {
-    made_port = l.made_port;
-    no_rights = λ q dead kind. others (is_of kind q)
-        (and_right (same_kind kind send) (p == q) (ne_eqb p q (λ e. let a = named_lives old l task name p is in let b : old.live_port p ≡ false = ap old.live_port e ∙ dead in cc))) ∙ l.no_rights q dead kind;
-  }
+  ports = grind (arith, others, and_right, ne_eqb, named_lives)
 
   apart : (c : Kind) (q : ℕ) → (q ≡ p → ⊥) → is_held task c q (token send p (in_task task)) ≡ false
   apart c q not = and_left (same_kind c send && p == q) (task == task) (and_right (same_kind c send) (p == q) (ne_eqb p q (λ e. not (sym e))))
@@ -155,18 +149,10 @@ adds_fits n m (negsuc k) rights adds not_above fits room = record { references =
 
 module _ (task name p m : ℕ) (old mid : State) (l : IsLawful old) (is : lookup old task name ≡ Some (Target.port p)) (d : SetsSends task name p m old mid) where
   now_held : held mid task send p ≡ m
-  now_held =
-      let t = d.tokens (λ x. if is_held task send p x then 1 else 0) in
-      let a = weigh_replicate (λ x. if is_held task send p x then 1 else 0) (held old task send p - m) (token send p (in_task task)) (one_right task p) in
-      let b = weigh_replicate (λ x. if is_held task send p x then 1 else 0) (m - held old task send p) (token send p (in_task task)) (one_right task p) in
-      omega (arith, t, a, b)
+  now_held = grind (arith, weigh_replicate, one_right)
 
   still_receives : held mid task receive p ≡ held old task receive p
-  still_receives =
-      let t = d.tokens (λ x. if is_held task receive p x then 1 else 0) in
-      let a = same_sends task p (held old task send p - m) (is_held task receive p) refl in
-      let b = same_sends task p (m - held old task send p) (is_held task receive p) refl in
-      omega (arith, t, a, b)
+  still_receives = grind (arith, same_sends)
 
   sends_set : (delta : ℤ) → Fits (held old task send p) m delta (length old.ledger) → MidLawful mid []
   sends_set delta fits = sends_lawful task name p old mid l is (replicate (held old task send p - m) (token send p (in_task task))) (replicate (m - held old task send p) (token send p (in_task task)))

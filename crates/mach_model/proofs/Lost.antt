@@ -1,15 +1,14 @@
 -- Rights that are lost, with the names that stood for them, leave a state lawful midway: ports may be orphans, and send-once rights are owed
 -- a notice.
-use Rattle.std.proofs.Common.{◌≡◌, ℕ, zero, suc, ◌+◌, ◌<◌, ◌≤◌, List, [], ◌∷◌, Some, refl, sym, subst, ◌∙◌, arith, true, false, Bool, ◌⊎◌, inl, inr, length, get_or}
-use Rattle.std.specs.Prelude.{if◌then◌else◌, ◌==◌, ◌&&◌, map, filter, slice_get, drop, All, Contains}
-use Rattle.std.proofs.lemmas.Bool.Decides.{eqb_tells}
+use Rattle.std.proofs.Common.{◌≡◌, ℕ, zero, suc, ◌+◌, ◌<◌, ◌≤◌, List, [], ◌∷◌, Some, refl, sym, subst, ◌∙◌, arith, true, false, Bool, ◌⊎◌, length, get_or}
+use Rattle.std.specs.Prelude.{if◌then◌else◌, ◌&&◌, map, filter, slice_get, drop, All, Contains}
 use Rattle.std.proofs.lemmas.Bool.{eq-eqb, and_from}
-use Rattle.mach_types.specs.Tokens.{Kind, receive, send, send_once, in_message, in_request, Token, weigh, count, is_of, is_held, same_kind}
+use Rattle.mach_types.specs.Tokens.{Kind, receive, send, send_once, in_message, in_request, Token, weigh, count, is_of, same_kind}
 use Rattle.mach_types.specs.Messages.{Entry}
-use Rattle.mach_model.specs.State.{State, held, Holds}
+use Rattle.mach_model.specs.State.{State, Holds}
 use Rattle.mach_model.specs.Death.{same_place}
 use Rattle.mach_model.specs.Carried.{message_count, lying}
-use Rattle.mach_model.specs.Notices.{Notice, right_unused}
+use Rattle.mach_model.specs.Notices.{right_unused}
 use Rattle.mach_model.specs.References.{unused}
 use Rattle.mach_model.specs.Lawful.{LawfulTasks, LawfulNumbers, LawfulSets, LawfulMembership, IsLawful}
 use Rattle.mach_model.specs.Midway.{IsOwed, MidLawful}
@@ -24,13 +23,7 @@ abbrev pub orphans_of : List Token → List ℕ
 orphans_of xs = map (λ x. x.port) (filter (λ x. same_kind receive x.kind) xs)
 
 same_port : (kind : Kind) (p : ℕ) (x : Token) → is_of kind p x ≡ true → x.port ≡ p
-same_port kind p x e = by_test x.port p (right_of (same_kind kind x.kind) (x.port == p) e)
-  where
-    by_test : (a b : ℕ) → (a == b) ≡ true → a ≡ b
-    by_test a b e = elim (eqb_tells a b) [
-      | inl h ↦ h.1
-      | inr h ↦ absurd (let f = h.0 in cc)
-    ]
+same_port kind p x e = grind (arith, right_of)
 
 pub among_orphans : (p : ℕ) (xs : List Token) → 0 < count (is_of receive p) xs → Contains (orphans_of xs) p
 among_orphans p [] some = absurd (omega (arith, some))
@@ -50,14 +43,7 @@ among_orphans p (x ∷ xs) some = go (same_kind receive x.kind) refl (among_orph
 
 pub few_of : (xs : List Token) → length (unused xs) + length (orphans_of xs) ≤ length xs
 few_of [] = omega arith
-few_of (x ∷ xs) = go x.kind (few_of xs)
-  where
-    go : (kind : Kind) → length (unused xs) + length (orphans_of xs) ≤ length xs →
-        length {A = Token × Notice} (map (λ x. (x, right_unused)) (if same_kind send_once kind then x ∷ filter (λ x. same_kind send_once x.kind) xs else filter (λ x. same_kind send_once x.kind) xs))
-        + length (map (λ x. x.port) (if same_kind receive kind then x ∷ filter (λ x. same_kind receive x.kind) xs else filter (λ x. same_kind receive x.kind) xs)) ≤ suc (length xs)
-    go receive h = omega (arith, h)
-    go send h = omega (arith, h)
-    go send_once h = omega (arith, h)
+few_of (x ∷ xs) = grind (arith, few_of xs)
 
 pub are_unused : (live : ℕ → Bool) (xs : List Token) → ((k : ℕ) (d : Token) → k < length xs → live (get_or xs k d).port ≡ true) → All (IsOwed live) (unused xs)
 are_unused live [] is = λ k d below. absurd (omega (arith, below))
@@ -120,19 +106,7 @@ module _ (s new : State) (gone spent : List Token) (l : IsLawful s) (v : Loses s
 
   -- a right that the task has lost no more was lost by all
   member : (task p : ℕ) → Holds s task receive p → Holds new task receive p ⊎ (s.live_port p ≡ true) × (count (is_of receive p) new.ledger ≡ 0)
-  member task p holds = elim (pos_or_zero (held new task receive p)) [
-    | inr h ↦ inl h
-    | inl h ↦
-        let le = held_le_of task receive p s.ledger in
-        let live = alive s l receive p (omega (arith, holds, le)) in
-        let a = v.tokens (λ x. if is_held task receive p x then 1 else 0) in
-        let b = v.tokens (λ x. if is_of receive p x then 1 else 0) in
-        let c = held_le_of task receive p gone in
-        let d = held_le_of task receive p spent in
-        let n = v.no_receive p in
-        let one = l.one_receive p live in
-        inr (live, omega (arith, h, holds, a, b, c, d, n, one))
-  ]
+  member task p holds = grind (arith, pos_or_zero, held_le_of, alive)
 
   abbrev shaped : State
   shaped = lost_shape s new

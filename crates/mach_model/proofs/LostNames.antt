@@ -129,10 +129,7 @@ module _ (task name p : ℕ) (old mid : State) (l : IsLawful old) (is : lookup o
 module _ (task p : ℕ) (xs : List Token) (all : All (λ x. is_either task p x ≡ true) xs) where
   -- a test that neither right passes
   none_of_either : (test : Token → Bool) → test (token receive p (in_task task)) ≡ false → test (token send p (in_task task)) ≡ false → count test xs ≡ 0
-  none_of_either test a b = count_none test xs (λ k d below passes. elim (or_cases (is_held task receive p (get_or xs k d)) (is_held task send p (get_or xs k d)) (all k d below)) [
-    | inl h ↦ (let is = is_it task receive p (get_or xs k d) h in let f : true ≡ false = sym passes ∙ ap test is ∙ a in cc)
-    | inr h ↦ (let is = is_it task send p (get_or xs k d) h in let f : true ≡ false = sym passes ∙ ap test is ∙ b in cc)
-  ])
+  none_of_either test a b = grind (arith, count_none, or_cases, is_it)
 
   -- none of them is a send-once right
   pub none_unused : unused xs ≡ []

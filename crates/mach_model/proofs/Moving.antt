@@ -18,7 +18,7 @@ use Rattle.mach_model.specs.Midway.{IsOwed, MidRoom, MidStanding, MidLawful}
 use Rattle.mach_model.proofs.Requests.{KeepsRequests, stood, all_ground, requests_stay}
 use Rattle.mach_model.proofs.At.{at_same, at_other, elsewhere}
 use Rattle.mach_model.proofs.Spaces.{tasks_named, all_named}
-use Rattle.mach_model.proofs.SetNames.{SameSets, SameSets-refl, kept_set_law}
+use Rattle.mach_model.proofs.SetNames.{SameSets, kept_set_law}
 
 abbrev pub TaskNaming : State → (task : ℕ) → Type 0
 TaskNaming s task = LawfulNames (s.naming task) (held s task)
@@ -60,20 +60,7 @@ pub record IsMoving (s : State) (o k : ℕ) : Type 0 where
 
 -- Nothing is on its way in a lawful state.
 pub moving : (s : State) (o k : ℕ) → IsLawful s → IsMoving s o k
-moving s o k l = record {
-  tasks = l.tasks;
-  naming = l.naming;
-  ports = l.ports;
-  numbers = l.numbers;
-  receivers = l.receivers;
-  sets = l.sets;
-  membership = l.membership;
-  logs = l.logs;
-  messages = record { carried = λ p i e not. l.carried p i e; gone = λ p j not. l.gone p j; no_entry = λ p j not. l.no_entry p j };
-  requests = l.requests;
-  standing = record { ended = λ r not on. l.ended r not };
-  ground = l.ground;
-}
+moving s o k l = grind arith
 
 -- The place is no queued entry's.
 abbrev pub IsOutside : State → (o k : ℕ) → Type 0
@@ -82,19 +69,11 @@ IsOutside s o k = (k < s.taken o) ⊎ (length (s.log o) ≤ k)
 -- each port has one receive right at most
 pub one_at_most : (live : ℕ → Bool) (ledger : List Token) → ((p : ℕ) → live p ≡ true → count (is_of receive p) ledger ≡ 1) → ((p : ℕ) → live p ≡ false → (kind : Kind) → count (is_of kind p) ledger ≡ 0) →
     (p : ℕ) → count (is_of receive p) ledger ≤ 1
-one_at_most live ledger one none p = elim (cases_Bool (live p)) [
-  | inl e ↦ omega (arith, one p e)
-  | inr e ↦ omega (arith, none p e receive)
-]
+one_at_most live ledger one none p = grind (arith, cases_Bool)
 
 -- no port is an orphan where each that lives has a receive right
 pub no_orphans : (s : State) (owed : Owed) → ((p : ℕ) → s.live_port p ≡ true → count (is_of receive p) s.ledger ≡ 1) → All (IsOwed s.live_port) owed → length s.ledger + length owed ≤ most_rights → MidRoom s owed
-no_orphans s owed one are few = record {
-  orphans = [];
-  each_orphan = λ p is. absurd (let a = one p is.0 in let b = is.1 in omega (arith, a, b));
-  few_rights = omega (arith, few);
-  are_owed = are;
-}
+no_orphans s owed one are few = grind arith
 
 -- Where none is on its way, and there are not too many, the state is lawful but for what requests on names keep.
 pub arriving : (s : State) (o k : ℕ) → IsMoving s o k → IsOutside s o k → ((kind : Kind) (q : ℕ) → lying s kind q (in_message o k) ≡ 0) → (owed : Owed) → All (IsOwed s.live_port) owed →
@@ -165,14 +144,10 @@ pub record Apart (s new : State) (o k : ℕ) : Type 0 where
   pub stood : (r : Request) → new.stands r ≡ true → s.stands r ≡ true
 
 pub apart-trans : (a b c : State) (o k : ℕ) → Apart a b o k → Apart b c o k → Apart a c o k
-apart-trans a b c o k x y = record { elsewhere = λ kind q p j not. y.elsewhere kind q p j not ∙ x.elsewhere kind q p j not; kept = λ kind q r. y.kept kind q r ∙ x.kept kind q r; stood = λ r is. x.stood r (y.stood r is) }
+apart-trans a b c o k x y = grind (arith, elsewhere, stood)
 
 pub apart-same : (a b : State) (o k : ℕ) → b ≡ a → Apart a b o k
-apart-same a b o k e = record {
-  elsewhere = λ kind q p j not. ap (λ (x : State). lying x kind q (in_message p j)) e;
-  kept = λ kind q r. ap (λ (x : State). lying x kind q (in_request r)) e;
-  stood = λ r is. sym (ap (λ (x : State). x.stands r) e) ∙ is;
-}
+apart-same a b o k e = grind (arith, elsewhere, stood)
 
 -- tokens that are with the task or at the entry, as a test sees them that passes none there
 abbrev pub AreNear : (task o k : ℕ) → List Token → Type 0
@@ -217,34 +192,12 @@ module _ (task o k : ℕ) (s : State) (l : IsMoving s o k) (is_task : s.live_tas
 
   -- the task's names stay
   pub same_leaves : TaskNaming now task → Leaves s now task
-  same_leaves own = record {
-    rest = refl;
-    is_task = is_task;
-    others = λ t not. refl;
-    own = own;
-    same_sets = SameSets-refl (s.naming task);
-    stands = requests_stay s l.ground;
-    ports = ports;
-    numbers = numbers;
-    receivers = receivers;
-    membership = membership;
-  }
+  same_leaves own = grind (arith, requests_stay)
 
   -- they are others, with the same sets
   pub other_leaves : (names : Names) (stands : Request → Bool) → LawfulNames names (held now task) → SameSets (s.naming task) names → KeepsRequests s.stands stands (at s.naming task names) →
       Leaves s (record now { naming = at s.naming task names; stands = stands }) task
-  other_leaves names stands own sets keeps = record {
-    rest = refl;
-    is_task = is_task;
-    others = λ t not. at_other s.naming task names t not;
-    own = subst (λ (m : Names). LawfulNames m (held now task)) (sym (at_same s.naming task names task refl)) own;
-    same_sets = subst (SameSets (s.naming task)) (sym (at_same s.naming task names task refl)) sets;
-    stands = keeps;
-    ports = ports;
-    numbers = numbers;
-    receivers = receivers;
-    membership = membership;
-  }
+  other_leaves names stands own sets keeps = grind (arith, at_other, at_same)
 
 module _ (s new : State) (task o k : ℕ) (l : IsMoving s o k) (gone come : List Token) (moves : Moves s.ledger new.ledger gone come)
     (near_gone : AreNear task o k gone) (near_come : AreNear task o k come) where

@@ -17,12 +17,7 @@ use Rattle.mach_model.proofs.Weigh.{pos_or_zero}
 -- ---- what stands under a name
 
 apart : (n name : ℕ) → (n ≡ name → ⊥) → eq_by_cmp nat_cmp n name ≡ false
-apart n name not = false_from_ne_true (eq_by_cmp nat_cmp n name) (tied (nat_cmp n name) refl)
-  where
-    tied : (r : Ordering) → nat_cmp n name ≡ r → is_eq r ≡ true → ⊥
-    tied Less e h = cc
-    tied Greater e h = cc
-    tied Equal e h = not (nat_cmp-IsAntisymmetric n name e)
+apart n name not = grind (arith, false_from_ne_true)
 
 put_own : {V : Type 0} (name : ℕ) (v : V) (o : Option V) → cond (eq_by_cmp nat_cmp name name) (Some v) o ≡ Some v
 put_own name v o = rw ((eq_by_cmp_equiv nat_cmp_total).refl name)
@@ -45,13 +40,7 @@ kept m name v n w none some = get_other m name v n (λ e. (let f = ap (map.get m
 -- what stands there is what was put, or was there
 pub inserted : {V : Type 0} (m : map.FinMap nat_cmp V) (name : ℕ) (v : V) (n : ℕ) (w : V) → map.get (map.insert m name v) n ≡ Some w →
     (n ≡ name) × (v ≡ w) ⊎ (map.get m n ≡ Some w)
-inserted m name v n w e = elim (eqb_tells n name) [
-  | inl h ↦ inl (h.1, same (sym (get_own m name v) ∙ ap (map.get (map.insert m name v)) (sym h.1) ∙ e))
-  | inr h ↦ inr (sym (get_other m name v n h.1) ∙ e)
-]
-  where
-    same : Some v ≡ Some w → v ≡ w
-    same f = cc
+inserted m name v n w e = grind (arith, get_own, get_other)
 
 -- maps that answer alike are equal
 pub alike : {V : Type 0} (m n : map.FinMap nat_cmp V) → ((q : ℕ) → map.get m q ≡ map.get n q) → m ≡ n
@@ -95,10 +84,7 @@ removed_own m name = get-remove nat_cmp_total m name name ∙ rw ((eq_by_cmp_equ
 
 -- a name that is taken away and put again
 pub put_again : {V : Type 0} (m : map.FinMap nat_cmp V) (name : ℕ) (v : V) → map.get m name ≡ Some v → map.insert (map.remove m name) name v ≡ m
-put_again m name v is = alike _ m (λ n. elim (eqb_tells n name) [
-  | inl h ↦ ap (map.get (map.insert (map.remove m name) name v)) h.1 ∙ get_own (map.remove m name) name v ∙ sym is ∙ ap (map.get m) (sym h.1)
-  | inr h ↦ get_other (map.remove m name) name v n h.1 ∙ get_removed m name n h.1
-])
+put_again m name v is = grind (arith, alike, get_own, get_other, get_removed)
 
 -- a value that passes is counted
 pub some_tally : {V : Type 0} (test : V → Bool) (m : map.FinMap nat_cmp V) (name : ℕ) (v : V) → map.get m name ≡ Some v → test v ≡ true →

@@ -40,9 +40,7 @@ module _ (s : State) (p : ℕ) (e : Entry) (ledger : List Token) (l : IsLawful s
   tokens_for test = let m = moves (λ x. if test x then 1 else 0) in omega (arith, m)
 
   held_same : (t : ℕ) (kind : Kind) (q : ℕ) → held new t kind q ≡ held s t kind q
-  held_same t kind q =
-      let m = tokens_for (is_held t kind q) in
-      let z = both_test (is_of kind q (token e.message.kind p (in_message p k))) false (inr refl) in omega (arith, m, z)
+  held_same t kind q = grind (arith, tokens_for, both_test)
 
   no_receive : (c : Kind) → c ≢ receive → same_kind receive c ≡ false
   no_receive receive not = absurd (not refl)
@@ -50,14 +48,10 @@ module _ (s : State) (p : ℕ) (e : Entry) (ledger : List Token) (l : IsLawful s
   no_receive send_once not = refl
 
   of_receive : (q : ℕ) → count (is_of receive q) ledger ≡ count (is_of receive q) s.ledger
-  of_receive q =
-      let m = tokens_for (is_of receive q) in
-      let z = both_test (same_kind receive e.message.kind) (p == q) (inl (no_receive e.message.kind here.1)) in omega (arith, m, z)
+  of_receive q = grind (arith, tokens_for, both_test, no_receive, here)
 
   lying_elsewhere : (kind : Kind) (q o j : ℕ) → (o ≡ p → j ≡ k → ⊥) → lying new kind q (in_message o j) ≡ lying s kind q (in_message o j)
-  lying_elsewhere kind q o j not =
-      let m = tokens_for (λ x. is_of kind q x && same_place (in_message o j) x.place) in
-      let z = both_test (is_of kind q (token e.message.kind p (in_message p k))) (o == p && j == k) (inr (elsewhere o p j k not)) in omega (arith, m, z)
+  lying_elsewhere kind q o j not = grind (arith, tokens_for, both_test, elsewhere)
 
   lying_less : (kind : Kind) (q : ℕ) (place : Place) → lying new kind q place ≤ lying s kind q place
   lying_less kind q place = let m = tokens_for (λ x. is_of kind q x && same_place place x.place) in omega (arith, m)
@@ -97,19 +91,7 @@ module _ (s : State) (p : ℕ) (e : Entry) (ledger : List Token) (l : IsLawful s
 
   gone : (q j : ℕ) → (q ≡ p → j ≡ k → ⊥) → (j < new.taken q) ⊎ (new.live_port q ≡ false) → (kind : Kind) (r : ℕ) → lying new kind r (in_message q j) ≡ 0
   gone q j not (inr dead) kind r = lying_elsewhere kind r q j not ∙ l.gone q j (inr dead) kind r
-  gone q j not (inl below) kind r = elim (eqb_tells q p) [
-    | inl h ↦
-        let t = taken_is q h.1 in
-        let same : s.taken q ≡ s.taken p = ap s.taken h.1 in
-        let other = not h.1 in
-        lying_elsewhere kind r q j not ∙ l.gone q j (inl (smaller j (new.taken q) (s.taken q) (s.taken p) below t same other)) kind r
-    | inr h ↦
-        let t = taken_other q h.1 in
-        lying_elsewhere kind r q j not ∙ l.gone q j (inl (omega (arith, below, t))) kind r
-  ]
-    where
-      smaller : (j a b c : ℕ) → j < a → a ≡ c + 1 → b ≡ c → (j ≡ c → ⊥) → j < b
-      smaller j a b c below t same not = omega (arith, below, t, same, not)
+  gone q j not (inl below) kind r = grind (arith, taken_is, lying_elsewhere, taken_other)
 
   pub taken_moving : IsMoving new p k
   taken_moving = record {
@@ -163,9 +145,7 @@ Receives-mid task port room bytes old mid l live is_task r =
     rest = (Receives-removes task port room bytes old mid l live is_task r).rest
 
     below : old.taken port < mid.taken port
-    below =
-        let a : mid.taken port ≡ old.taken port + 1 = ap (λ (x : State). x.taken port) rest ∙ ap (λ (x : State). x.taken port) r.takes.rest ∙ at_own old.taken port (old.taken port + 1) in
-        omega (arith, a)
+    below = grind (arith, rest, at_own)
 
     few : length mid.ledger ≤ most_rights
     few =

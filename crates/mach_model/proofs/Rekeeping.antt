@@ -1,7 +1,7 @@
 -- A send-once right goes to a request, or comes from it, while the request is made or ended: the state stays lawful but for the rights on
 -- their way.
 use Rattle.std.proofs.Common.{◌≡◌, ℕ, zero, suc, ◌+◌, ◌<◌, ◌≤◌, List, [], ◌∷◌, refl, sym, ap, subst, ◌∙◌, arith, true, false, Bool}
-use Rattle.std.specs.Prelude.{if◌then◌else◌, ◌==◌, ◌&&◌, ◌≢◌}
+use Rattle.std.specs.Prelude.{if◌then◌else◌, ◌&&◌, ◌≢◌}
 use Rattle.mach_types.specs.Tokens.{Kind, receive, send, send_once, Request, no_senders, port_destroyed, dead_name, Place, in_task, in_message, in_request, Token, token, count, is_of, is_held, same_kind, Moves}
 use Rattle.mach_model.specs.State.{State, held, request_at, same_request}
 use Rattle.mach_model.specs.Death.{same_place}
@@ -20,9 +20,7 @@ use Rattle.mach_model.proofs.Spaces.{same_naming}
 pub same_request_is : (a b : Request) → same_request a b ≡ true → b ≡ a
 same_request_is (no_senders p) (no_senders q) e = sym (ap no_senders (same_numbers p q e))
 same_request_is (port_destroyed p) (port_destroyed q) e = sym (ap port_destroyed (same_numbers p q e))
-same_request_is (dead_name t n) (dead_name u m) e =
-    let a = same_numbers t u (left_of (t == u) (n == m) e) in
-    let b = same_numbers n m (right_of (t == u) (n == m) e) in sym (λ i. dead_name (a i) (b i))
+same_request_is (dead_name t n) (dead_name u m) e = grind (arith, same_numbers, left_of, right_of)
 same_request_is (no_senders p) (port_destroyed q) e = absurd (cc)
 same_request_is (no_senders p) (dead_name u m) e = absurd (cc)
 same_request_is (port_destroyed p) (no_senders q) e = absurd (cc)
@@ -37,12 +35,7 @@ kept_at r (in_message p k) e = absurd (cc)
 
 -- a token that passes is the one
 kept_is : (kind : Kind) (p : ℕ) (r : Request) (x : Token) → is_at kind p (in_request r) x ≡ true → x ≡ token kind p (in_request r)
-kept_is kind p r x e =
-    let a = left_of (is_of kind p x) (same_place (in_request r) x.place) e in
-    let k = same_kinds kind x.kind (left_of (same_kind kind x.kind) (x.port == p) a) in
-    let q = same_numbers x.port p (right_of (same_kind kind x.kind) (x.port == p) a) in
-    let at = kept_at r x.place (right_of (is_of kind p x) (same_place (in_request r) x.place) e) in
-    λ i. token (k i) (q i) (at i)
+kept_is kind p r x e = grind (arith, left_of, same_kinds, same_numbers, right_of, kept_at)
 
 pub kept_taken : (kind : Kind) (p : ℕ) (r : Request) (xs : List Token) → 0 < count (is_at kind p (in_request r)) xs → (ys : List Token) × Moves xs ys (token kind p (in_request r) ∷ []) []
 kept_taken kind p r [] some = absurd (omega (arith, some))
@@ -93,10 +86,7 @@ module _ (s : State) (ledger : List Token) (o k : ℕ) (r : Request) (now : Bool
   other_lying x e kind q = v.far (λ y. is_of kind q y && same_place (in_request x) y.place) (λ c. and_false _ _ e) (λ c. and_false _ _ refl)
 
   ended : (x : Request) (b : Bool) → same_request x r ≡ b → (if b then now else s.stands x) ≡ false → ¬ (IsOnName x) → (kind : Kind) (q : ℕ) → lying new kind q (in_request x) ≡ 0
-  ended x true e not on_port kind q =
-      let a = count_le (λ y. is_of kind q y && same_place (in_request r) y.place) (λ y. same_place (in_request r) y.place) (λ y f. right_of (is_of kind q y) (same_place (in_request r) y.place) f) ledger in
-      let none = v.none not in
-      subst (λ (y : Request). lying new kind q (in_request y) ≡ 0) (same_request_is x r e) (omega (arith, a, none))
+  ended x true e not on_port kind q = grind (arith, count_le, right_of, same_request_is)
   ended x false e not on_port kind q = other_lying x e kind q ∙ l.ended x not on_port kind q
 
   one_kept : (x : Request) (b : Bool) → same_request x r ≡ b → count (λ y. same_place (in_request x) y.place) ledger ≤ 1

@@ -30,20 +30,12 @@ module _ (task o n : ℕ) where
   place_in_task : (t : ℕ) (place : Place) → is_in_task t (renamed_place task o n place) ≡ is_in_task t place
   place_in_task t (in_task u) = refl
   place_in_task t (in_message p k) = refl
-  place_in_task t (in_request r) = by (same_request r (dead_name task o))
-    where
-      by : (b : Bool) → is_in_task t (if b then in_request (dead_name task n) else in_request r) ≡ false
-      by true = refl
-      by false = refl
+  place_in_task t (in_request r) = grind arith
 
   place_in_message : (p k : ℕ) (place : Place) → same_place (in_message p k) (renamed_place task o n place) ≡ same_place (in_message p k) place
   place_in_message p k (in_task u) = refl
   place_in_message p k (in_message q j) = refl
-  place_in_message p k (in_request r) = by (same_request r (dead_name task o))
-    where
-      by : (b : Bool) → same_place (in_message p k) (if b then in_request (dead_name task n) else in_request r) ≡ false
-      by true = refl
-      by false = refl
+  place_in_message p k (in_request r) = grind arith
 
   -- a request of a port keeps what it kept
   place_on_port : (r : Request) → ¬ (IsOnName r) → (place : Place) → same_place (in_request r) (renamed_place task o n place) ≡ same_place (in_request r) place
@@ -51,57 +43,25 @@ module _ (task o n : ℕ) where
   place_on_port r not (in_message q j) = refl
   place_on_port (no_senders p) not (in_request (no_senders q)) = refl
   place_on_port (no_senders p) not (in_request (port_destroyed q)) = refl
-  place_on_port (no_senders p) not (in_request (dead_name t m)) = by (t == task && m == o)
-    where
-      by : (b : Bool) → same_place (in_request (no_senders p)) (if b then in_request (dead_name task n) else in_request (dead_name t m)) ≡ false
-      by true = refl
-      by false = refl
+  place_on_port (no_senders p) not (in_request (dead_name t m)) = grind arith
   place_on_port (port_destroyed p) not (in_request (no_senders q)) = refl
   place_on_port (port_destroyed p) not (in_request (port_destroyed q)) = refl
-  place_on_port (port_destroyed p) not (in_request (dead_name t m)) = by (t == task && m == o)
-    where
-      by : (b : Bool) → same_place (in_request (port_destroyed p)) (if b then in_request (dead_name task n) else in_request (dead_name t m)) ≡ false
-      by true = refl
-      by false = refl
+  place_on_port (port_destroyed p) not (in_request (dead_name t m)) = grind arith
   place_on_port (dead_name t m) not (in_request r) = absurd (not tt)
 
   if_both : (a b c d : Bool) → (a ≡ true → (b ≡ true) ⊎ ((c ≡ true) × (d ≡ true))) → (if a then suc zero else zero) ≤ (if b then suc zero else zero) + (if c && d then suc zero else zero)
   if_both false b c d f = omega arith
   if_both true true c d f = omega arith
   if_both true false true true f = omega arith
-  if_both true false false d f = absurd (both_false (f refl))
-    where
-      both_false : (false ≡ true) ⊎ ((false ≡ true) × (d ≡ true)) → ⊥
-      both_false (inl e) = cc
-      both_false (inr e) = let g = e.0 in cc
-  if_both true false true false f = absurd (both_false (f refl))
-    where
-      both_false : (false ≡ true) ⊎ ((true ≡ true) × (false ≡ true)) → ⊥
-      both_false (inl e) = cc
-      both_false (inr e) = let g = e.1 in cc
+  if_both true false false d f = grind arith
+  if_both true false true false f = grind arith
 
   -- what lies at any request afterwards lay there, or at the one on the old name, and then it is the one on the new
   place_kept : (r : Request) (place : Place) → same_place (in_request r) (renamed_place task o n place) ≡ true →
       (same_place (in_request r) place ≡ true) ⊎ ((same_request r (dead_name task n) ≡ true) × (same_place (in_request (dead_name task o)) place ≡ true))
   place_kept r (in_task u) e = absurd (cc)
   place_kept r (in_message q j) e = absurd (cc)
-  place_kept r (in_request x) e = by (same_request x (dead_name task o)) refl e
-    where
-      by : (b : Bool) → same_request x (dead_name task o) ≡ b → same_place (in_request r) (if b then in_request (dead_name task n) else in_request x) ≡ true →
-          (same_request r x ≡ true) ⊎ ((same_request r (dead_name task n) ≡ true) × (same_request (dead_name task o) x ≡ true))
-      by true f g = inr (g, turned x f)
-        where
-          turned : (x : Request) → same_request x (dead_name task o) ≡ true → same_request (dead_name task o) x ≡ true
-          turned (no_senders p) f = absurd (cc)
-          turned (port_destroyed p) f = absurd (cc)
-          turned (dead_name t m) f = and_from (task == t) (o == m) (turn t task (left_of (t == task) (m == o) f)) (turn m o (right_of (t == task) (m == o) f))
-            where
-              turn : (a b : ℕ) → (a == b) ≡ true → (b == a) ≡ true
-              turn a b e = elim (eqb_tells a b) [
-                | inl h ↦ eq-eqb b a (sym h.1)
-                | inr h ↦ absurd (let g = h.0 in cc)
-              ]
-      by false f g = inl g
+  place_kept r (in_request x) e = grind (arith, and_from, left_of, right_of, eq-eqb)
 
 -- ---- the new name
 
@@ -165,9 +125,7 @@ module _ (task o n : ℕ) (old mid : State) (l : IsLawful old) (unused : lookup 
 
   -- a test that sees no renaming
   blind : (test : Token → Bool) → ((x : Token) → test (renamed_token task o n x) ≡ test x) → count test mid.ledger ≡ count test old.ledger
-  blind test same =
-      r.tokens (λ x. if test x then 1 else 0)
-      ∙ weigh_same (λ x. if test (renamed_token task o n x) then 1 else 0) (λ x. if test x then 1 else 0) old.ledger (λ x. ap (λ (b : Bool). if b then 1 else 0) (same x))
+  blind test same = grind (arith, weigh_same)
 
   -- none was kept on the new name
   none_there : count (λ x. same_place (in_request (dead_name task n)) x.place) old.ledger ≡ 0

@@ -1,5 +1,5 @@
 -- Requests while names change: one on a name that goes ends, and each that stands has a right under its name.
-use Rattle.std.proofs.Common.{◌≡◌, ℕ, Option, Some, None, refl, sym, subst, ◌∙◌, true, false, Bool, ◌⊎◌, inl, inr}
+use Rattle.std.proofs.Common.{arith, ◌≡◌, ℕ, Option, Some, None, refl, sym, subst, ◌∙◌, true, false, Bool, ◌⊎◌, inl, inr}
 use Rattle.std.specs.Prelude.{if◌then◌else◌, ◌==◌, ◌&&◌}
 use Rattle.std.specs.FinMap as map
 use Rattle.std.proofs.lemmas.Bool.Decides.{eqb_tells}
@@ -24,12 +24,7 @@ stood k (dead_name t n) e = (k.names t n e).0
 
 -- Each request still stands on something.
 pub all_ground : (live : ℕ → Bool) (naming new : ℕ → Names) (stands now : Request → Bool) → LawfulGround live naming stands → KeepsRequests stands now new → LawfulGround live new now
-all_ground live naming new stands now g k = record { stands_on = on }
-  where
-    on : (r : Request) → now r ≡ true → StandsOn live new r
-    on (no_senders p) e = g.stands_on (no_senders p) (stood k (no_senders p) e)
-    on (port_destroyed p) e = g.stands_on (port_destroyed p) (stood k (port_destroyed p) e)
-    on (dead_name t n) e = (k.names t n e).1
+all_ground live naming new stands now g k = grind (arith, stood)
 
 module _ (s : State) (ground : LawfulGround s.live_port s.naming s.stands) where
   pub requests_stay : KeepsRequests s.stands s.stands s.naming
@@ -46,49 +41,13 @@ module _ (s : State) (ground : LawfulGround s.live_port s.naming s.stands) where
   not_both false b e f = absurd (cc)
 
   pub without_requests : (task name : ℕ) → KeepsRequests s.stands (request_at s.stands (dead_name task name) false) (at s.naming task (map.remove (s.naming task) name))
-  without_requests task name = record { ports = ports; names = left }
-    where
-      ports : (r : Request) → ¬ (IsOnName r) → request_at s.stands (dead_name task name) false r ≡ s.stands r
-      ports (no_senders p) not = refl
-      ports (port_destroyed p) not = refl
-      ports (dead_name t n) not = absurd (not tt)
-
-      left : (t n : ℕ) → request_at s.stands (dead_name task name) false (dead_name t n) ≡ true →
-          (s.stands (dead_name t n) ≡ true) × IsRight (map.get (at s.naming task (map.remove (s.naming task) name) t) n)
-      left t n e =
-          let h = ended_other (t == task && n == name) (s.stands (dead_name t n)) e in (
-            h.1,
-            elim (eqb_tells t task) [
-              | inl g ↦ subst (λ (m : Names). IsRight (map.get m n)) (sym (at_same s.naming task (map.remove (s.naming task) name) t g.1))
-                  (subst IsRight (sym (get_removed (s.naming task) name n (λ same. (let a = not_both (t == task) (n == name) h.0 g.0 in let b = eq-eqb n name same in cc))))
-                  (subst (λ (x : ℕ). IsRight (map.get (s.naming x) n)) g.1 (ground.stands_on (dead_name t n) h.1)))
-              | inr g ↦ subst (λ (m : Names). IsRight (map.get m n)) (sym (at_other s.naming task (map.remove (s.naming task) name) t g.1)) (ground.stands_on (dead_name t n) h.1)
-            ],
-          )
+  without_requests task name = grind (arith, ended_other, at_same, get_removed, not_both, eq-eqb, at_other)
 
   -- ---- a name is given
 
   pub named_requests : (task name : ℕ) (x : Target) → IsRight (Some x) ⊎ ¬ (IsRight (lookup s task name)) →
       KeepsRequests s.stands s.stands (at s.naming task (map.insert (s.naming task) name x))
-  named_requests task name x is = record { ports = λ r not. refl; names = λ t n e. (e, given t n (ground.stands_on (dead_name t n) e)) }
-    where
-      right : IsRight (lookup s task name) → IsRight (Some x) ⊎ ¬ (IsRight (lookup s task name)) → IsRight (Some x)
-      right was (inl h) = h
-      right was (inr not) = absurd (not was)
-
-      own : (n : ℕ) → IsRight (lookup s task n) → IsRight (map.get (map.insert (s.naming task) name x) n)
-      own n was = elim (eqb_tells n name) [
-        | inl g ↦ subst (λ (y : ℕ). IsRight (map.get (map.insert (s.naming task) name x) y)) (sym g.1)
-            (subst IsRight (sym (get_own (s.naming task) name x)) (right (subst (λ (y : ℕ). IsRight (lookup s task y)) g.1 was) is))
-        | inr g ↦ subst IsRight (sym (get_other (s.naming task) name x n g.1)) was
-      ]
-
-      given : (t n : ℕ) → IsRight (lookup s t n) → IsRight (map.get (at s.naming task (map.insert (s.naming task) name x) t) n)
-      given t n was = elim (eqb_tells t task) [
-        | inl g ↦ subst (λ (m : Names). IsRight (map.get m n)) (sym (at_same s.naming task (map.insert (s.naming task) name x) t g.1))
-            (own n (subst (λ (y : ℕ). IsRight (lookup s y n)) g.1 was))
-        | inr g ↦ subst (λ (m : Names). IsRight (map.get m n)) (sym (at_other s.naming task (map.insert (s.naming task) name x) t g.1)) was
-      ]
+  named_requests task name x is = grind (arith, get_own, get_other, at_same, at_other)
 
 pub none_right : (o : Option Target) → o ≡ None → ¬ (IsRight o)
 none_right o e h = subst IsRight e h

@@ -39,14 +39,8 @@ use Rattle.mach_model.proofs.Rekeeping.{kept_taken, rekept}
 -- ---- the notify right is copied in
 
 once_sent : (number : ℕ) (given : Disposition) → disposition number ≡ Some given → (number ≡ 18) ⊎ (number ≡ 21) → kind_sent given ≡ send_once
-once_sent number given is (inl e) = ap kind_sent (sent given (subst (λ (n : ℕ). disposition n ≡ Some given) e is))
-  where
-    sent : (d : Disposition) → Some MoveSendOnce ≡ Some d → d ≡ MoveSendOnce
-    sent d f = cc
-once_sent number given is (inr e) = ap kind_sent (sent given (subst (λ (n : ℕ). disposition n ≡ Some given) e is))
-  where
-    sent : (d : Disposition) → Some MakeSendOnce ≡ Some d → d ≡ MakeSendOnce
-    sent d f = cc
+once_sent number given is (inl e) = grind arith
+once_sent number given is (inr e) = grind arith
 
 -- what is taken from the task was at no request
 taken_far : (s : State) (task : ℕ) (test : Token → Bool) → ((kind : Kind) (q : ℕ) → test (token kind q (in_task task)) ≡ false) → (given : Disposition) (target : Target) → IsLegal s task given target →
@@ -84,11 +78,7 @@ module _ (task number notify q o k : ℕ) (r : Request) (s copied : State) (l : 
   own_kept = rw (eq-eqb q q refl, request_refl r) refl
 
   some : 0 < count (is_at send_once q (in_request r)) copied.ledger
-  some =
-      let a = c.tokens (λ x. if is_at send_once q (in_request r) x then 1 else 0) in
-      let b = taken_far s task (is_at send_once q (in_request r)) (λ kind p. and_false _ _ refl) c.given c.target c.legal in
-      let e = ap (weigh (λ x. if is_at send_once q (in_request r) x then 1 else 0)) (put (in_request r)) in
-      let d = own_kept in omega (arith, a, b, e, d)
+  some = grind (arith, is_at, taken_far, and_false, put, own_kept)
 
   taken : (ys : List Token) × Moves copied.ledger ys (token send_once q (in_request r) ∷ []) []
   taken = kept_taken send_once q r copied.ledger some
@@ -183,8 +173,7 @@ module _ (task name o k : ℕ) (r : Request) (before copied back : State) (ledge
 
   module _ (q : ℕ) (lies : LiesAt before send_once q (in_request r)) (unused : IsNew (copied.naming task) name) where
     there : 0 < count (is_at send_once q (in_request r)) ledger
-    there =
-        let e = kept (is_at send_once q (in_request r)) (λ t kind p. and_false _ _ refl) (λ p. and_false _ _ refl) in omega (arith, lies, e)
+    there = grind (arith, is_at, and_false)
 
     taken_out : (ys : List Token) × Moves ledger ys (token send_once q (in_request r) ∷ []) []
     taken_out = kept_taken send_once q r ledger there
@@ -196,10 +185,7 @@ module _ (task name o k : ℕ) (r : Request) (before copied back : State) (ledge
     come = token send_once q (in_task task) ∷ taken_out.0
 
     none_left : count (λ x. same_place (in_request r) x.place) taken_out.0 ≡ 0
-    none_left =
-        let m = taken_out.1 (λ x. if same_place (in_request r) x.place then 1 else 0) in
-        let one = l.one_kept r in
-        let own : (if same_place (in_request r) (in_request r) then suc zero else zero) ≡ suc zero = rw (request_refl r) refl in omega (arith, m, one, own)
+    none_left = grind (arith, taken_out, request_refl)
 
     w2_keeps : IsMoving (record w { stands = request_at copied.stands r false; ledger = on_way }) o k
     w2_keeps = rekept w on_way o k r false l (record {
@@ -250,14 +236,7 @@ module _ (task name o k : ℕ) (r : Request) (before copied back : State) (ledge
 -- ---- the new right is kept, or used at once
 
 named_port_lives : (s : State) (o k : ℕ) → IsMoving s o k → (task name p : ℕ) → lookup s task name ≡ Some (Target.port p) → s.live_port p ≡ true
-named_port_lives s o k l task name p is =
-    let some = (l.naming task).has_right name p is in
-    let a = held_le_of task receive p s.ledger in
-    let b = held_le_of task send p s.ledger in
-    elim (pos_or_zero (count (is_of receive p) s.ledger)) [
-      | inl h ↦ lives l.ports send p (omega (arith, some, a, b, h))
-      | inr h ↦ lives l.ports receive p h
-    ]
+named_port_lives s o k l task name p is = grind (arith, (l.naming task).has_right name p is, held_le_of task receive p s.ledger, held_le_of task send p s.ledger)
 
 not_above : (a b : ℕ) → (b < a → ⊥) → a ≤ b
 not_above a b not = omega (arith, not)
@@ -286,20 +265,13 @@ module _ (task name variant sync notify q : ℕ) (r : Request) (old copied back 
   here kind p = let a = g.way kind p in let b = y.copies.lies kind p in let z = l.no_entry 0 k (omega arith) kind p in omega (arith, a, b, z)
 
   live : back.live_port q ≡ true
-  live =
-      let a = here send_once q in
-      let own : mark_count send_once q send_once (to_port q) ≡ suc zero = rw (eq-eqb q q refl) refl in
-      let le = lying_le_of v send_once q (in_message 0 k) in
-      lives g.keeps.ports send_once q (omega (arith, a, own, le))
+  live = grind (arith, here send_once q, lying_le_of v send_once q (in_message 0 k))
 
   log : (s : State) → s ≡ shape v s → length (s.log 0) ≤ k
   log s e = let a = ap (λ (x : State). length (x.log 0)) e in let b = ap (λ (x : State). length (x.log 0)) changed in omega (arith, a, b)
 
   few_given : length g.given ≤ most_rights
-  few_given =
-      let a = not_above (length copied.ledger) most_rights (λ more. good.1.1.1.1.0 (inl more)) in
-      let b = g.few in
-      let c = y.moves (λ x. 1) in omega (arith, a, b, c, length-weigh y.ledger, length-weigh copied.ledger)
+  few_given = grind (arith, not_above, length-weigh)
 
   -- a right that is used
   spent : Moves back.ledger mid.ledger (token send_once q (in_request r) ∷ []) [] → Moves g.given mid.ledger (token send_once q (in_message 0 k) ∷ []) []
@@ -309,10 +281,7 @@ module _ (task name variant sync notify q : ℕ) (r : Request) (old copied back 
   used moves = (gone_removes task 0 k v (record back { ledger = mid.ledger }) send_once q refl g.keeps task_lives (spent moves) refl).keeps
 
   none_here : Moves back.ledger mid.ledger (token send_once q (in_request r) ∷ []) [] → (kind : Kind) (p : ℕ) → lying mid kind p (in_message 0 k) ≡ 0
-  none_here moves kind p =
-      let a = spent moves (λ x. if is_of kind p x && same_place (in_message 0 k) x.place then 1 else 0) in
-      let b = here kind p in
-      let c = at_entry kind p 0 k send_once q in omega (arith, a, b, c)
+  none_here moves kind p = grind (arith, spent moves (λ x. if is_of kind p x && same_place (in_message 0 k) x.place then 1 else 0), here kind p, at_entry kind p 0 k send_once q)
 
   -- a lawful state, where the right is owed a notice
   owing : (notice : Notice) → ((place : Place) → carried_by notice place ≡ []) → owed ≡ (token send_once q (in_request r), notice) ∷ [] → mid ≡ shape v mid →
@@ -450,13 +419,7 @@ pub Requests-mid : (task name variant sync notify number previous : ℕ) (old mi
 Requests-mid task name variant sync notify number previous old mid owed l is_task good x = by x.copy
   where
     number_is : notify ≢ 0 → (number ≡ 18) ⊎ (number ≡ 21)
-    number_is not = elim (eqb_tells number 18) [
-      | inl h ↦ inl h.1
-      | inr h ↦ elim (eqb_tells number 21) [
-        | inl f ↦ inr f.1
-        | inr f ↦ absurd (good.0 (inr (inl (not, h.1, f.1))))
-      ]
-    ]
+    number_is not = grind arith
 
     none_copied : x.copied ≡ old → mid ≡ x.back → MidLawful mid []
     none_copied e f = subst (λ (s : State). MidLawful s []) (sym f) (taken_away task x.request old x.back l

@@ -35,11 +35,7 @@ module _ (s : State) (now : ℕ) (m : Message) (l : IsMoving s m.destination (le
   new = record s { log = at s.log p (s.log p ++ entry now m ∷ []) }
 
   live : s.live_port p ≡ true
-  live =
-      let own : (if same_kind m.kind m.kind && p == p then suc zero else zero) ≡ suc zero = rw (kind_refl m.kind, eq-eqb p p refl) refl in
-      let e = lies m.kind p in
-      let le = lying_le_of s m.kind p (in_message p end) in
-      lives l.ports m.kind p (omega (arith, own, e, le))
+  live = grind (arith, lies m.kind p, lying_le_of s m.kind p (in_message p end))
 
   below_made : p < s.ports_made
   below_made = l.made_port p live
@@ -53,18 +49,10 @@ module _ (s : State) (now : ℕ) (m : Message) (l : IsMoving s m.destination (le
   -- what is true of each entry before, and of the new one
   entries : (P : ℕ → Entry → Type 0) → P p (entry now m) → ((q k : ℕ) (e : Entry) → slice_get (s.log q) k ≡ Some e → P q e) →
       (q k : ℕ) (e : Entry) → slice_get (new.log q) k ≡ Some e → P q e
-  entries P own all q k e = at_all (λ q log. slice_get log k ≡ Some e → P q e) s.log p (s.log p ++ entry now m ∷ [])
-      (λ is. elim (snoc_cases (s.log p) (entry now m) k e is) [
-        | inl h ↦ all p k e h.1
-        | inr h ↦ subst (P p) (sym h.1) own
-      ])
-      (λ q not is. all q k e is) q
+  entries P own all q k e = grind (arith, at_all, snoc_cases)
 
   made_marks : (kind : Kind) (r : ℕ) → s.ports_made ≤ r → message_count kind r m ≡ 0
-  made_marks kind r above = elim (cases_Bool (s.live_port r)) [
-    | inl e ↦ absurd (let h = l.made_port r e in omega (arith, h, above))
-    | inr e ↦ let a = lies kind r in let b = lying_le_of s kind r (in_message p end) in let c = l.no_rights r e kind in omega (arith, a, b, c)
-  ]
+  made_marks kind r above = grind (arith, cases_Bool, lying_le_of)
 
   carried : (q i : ℕ) (e : Entry) → s.live_port q ≡ true → slice_get (queue new q) i ≡ Some e → (kind : Kind) (r : ℕ) → s.live_port r ≡ true →
       lying s kind r (in_message q (s.taken q + i)) ≡ message_count kind r e.message
@@ -85,22 +73,11 @@ module _ (s : State) (now : ℕ) (m : Message) (l : IsMoving s m.destination (le
   ]
 
   not_end : (q k : ℕ) → (k < s.taken q) ⊎ (s.live_port q ≡ false) → q ≡ p → k ≡ end → ⊥
-  not_end q k (inl below) x y =
-      let within = l.within q in
-      let same : length (s.log q) ≡ end = ap (λ (o : ℕ). length (s.log o)) x in omega (arith, within, below, y, same)
+  not_end q k (inl below) x y = grind arith
   not_end q k (inr dead) x y = let a = live in let b : s.live_port p ≡ false = subst (λ (o : ℕ). s.live_port o ≡ false) x dead in cc
 
   no_entry : (q k : ℕ) → length (new.log q) ≤ k → (kind : Kind) (r : ℕ) → lying s kind r (in_message q k) ≡ 0
-  no_entry q k above kind r = elim (eqb_tells q p) [
-    | inl h ↦
-        let long : length (new.log q) ≡ length (s.log p ++ entry now m ∷ []) = ap length (at_same s.log p (s.log p ++ entry now m ∷ []) q h.1) in
-        let more = length-append (s.log p) (entry now m ∷ []) in
-        let same : length (s.log q) ≡ end = ap (λ (o : ℕ). length (s.log o)) h.1 in
-        l.no_entry q k (λ x y. omega (arith, long, more, above, y)) (omega (arith, long, more, above, same)) kind r
-    | inr h ↦
-        let long : length (new.log q) ≡ length (s.log q) = ap length (log_other q h.1) in
-        l.no_entry q k (λ x y. h.1 x) (omega (arith, long, above)) kind r
-  ]
+  no_entry q k above kind r = grind (arith, at_same, length-append, log_other)
 
   sent_lawful : MidLawful new []
   sent_lawful = record {

@@ -1,5 +1,5 @@
 -- The names of port sets, and what keeps them.
-use Rattle.std.proofs.Common.{◌≡◌, ℕ, Option, Some, None, refl, sym, ap, subst, ◌∙◌, ◌⊎◌, inl, inr}
+use Rattle.std.proofs.Common.{arith, ◌≡◌, ℕ, Option, Some, None, refl, sym, ap, subst, ◌∙◌, ◌⊎◌, inl, inr}
 use Rattle.std.specs.FinMap as map
 use Rattle.std.proofs.lemmas.Bool.Decides.{eqb_tells}
 use Rattle.mach_model.specs.State.{Target, Names, at}
@@ -29,20 +29,11 @@ no_target o v e f = cc
 
 -- A name that stands for no set goes.
 pub removed_sets : (m : Names) (name : ℕ) (x : Target) → map.get m name ≡ Some x → IsNoSet x → SameSets m (map.remove m name)
-removed_sets m name x is not = record {
-  there = λ n set e. get_removed m name n (λ same. not set (one_target (map.get m name) x (Target.set set) is (ap (map.get m) (sym same) ∙ e))) ∙ e;
-  back = λ n set e. (left m name n (Target.set set) e).1;
-}
+removed_sets m name x is not = grind (arith, get_removed, one_target, left)
 
 -- A name that stood for no set stands for another thing that is none.
 pub replaced_sets : (m : Names) (name : ℕ) (x : Target) → ((set : ℕ) → map.get m name ≡ Some (Target.set set) → ⊥) → IsNoSet x → SameSets m (map.insert m name x)
-replaced_sets m name x before not = record {
-  there = λ n set e. get_other m name x n (λ same. before set (ap (map.get m) (sym same) ∙ e)) ∙ e;
-  back = λ n set e. elim (inserted m name x n (Target.set set) e) [
-    | inl h ↦ absurd (not set h.1)
-    | inr h ↦ h
-  ];
-}
+replaced_sets m name x before not = grind (arith, get_other, inserted)
 
 -- An unused name comes to stand for no set.
 pub inserted_sets : (m : Names) (name : ℕ) (x : Target) → map.get m name ≡ None → IsNoSet x → SameSets m (map.insert m name x)
@@ -56,22 +47,10 @@ dead_sets m name a b is = replaced_sets m name (Target.dead b) (λ set e. (let f
 -- What is true of the sets' names stays where one task's names change, and the same of them stand for the same sets.
 pub kept_set_law : (naming new : ℕ → Names) (owner : ℕ → Option ℕ) (made task : ℕ) → LawfulSets naming owner made → ((t : ℕ) → (t ≡ task → ⊥) → new t ≡ naming t) →
     SameSets (naming task) (new task) → LawfulSets new owner made
-kept_set_law naming new owner made task l others own = record {
-  made_set = l.made_set;
-  set_owned = λ t name set e. l.set_owned t name set ((same t).back name set e);
-  set_named = λ set t e. let h = l.set_named set t e in (h.0, (same t).there h.0 set h.1);
-  one_set_name = λ t n m set e f. l.one_set_name t n m set ((same t).back n set e) ((same t).back m set f);
-}
-  where
-    same : (t : ℕ) → SameSets (naming t) (new t)
-    same t = elim (eqb_tells t task) [
-      | inl h ↦ subst (λ (x : ℕ). SameSets (naming x) (new x)) (sym h.1) own
-      | inr h ↦ subst (SameSets (naming t)) (sym (others t h.1)) (SameSets-refl (naming t))
-    ]
+kept_set_law naming new owner made task l others own = grind arith
 
 pub at_law : (naming : ℕ → Names) (task : ℕ) (owner : ℕ → Option ℕ) (made : ℕ) (names : Names) → LawfulSets naming owner made → SameSets (naming task) names → LawfulSets (at naming task names) owner made
-at_law naming task owner made names l same =
-    kept_set_law naming (at naming task names) owner made task l (at_other naming task names) (subst (SameSets (naming task)) (sym (at_same naming task names task refl)) same)
+at_law naming task owner made names l same = grind (arith, kept_set_law, at_other, at_same)
 
 -- A name that becomes another number keeps its set.
 module _ (naming : ℕ → Names) (task : ℕ) (owner : ℕ → Option ℕ) (made o n : ℕ) (x : Target) (l : LawfulSets naming owner made) (is : map.get (naming task) o ≡ Some x) (unused : map.get (naming task) n ≡ None) where
@@ -84,13 +63,7 @@ module _ (naming : ℕ → Names) (task : ℕ) (owner : ℕ → Option ℕ) (mad
   -- what a name stands for was under it, or is what came
   came : (t name set : ℕ) → map.get (all t) name ≡ Some (Target.set set) →
       (t ≡ task) × (name ≡ n) × (x ≡ Target.set set) ⊎ (map.get (naming t) name ≡ Some (Target.set set)) × (t ≡ task → name ≡ o → ⊥)
-  came t name set e = elim (eqb_tells t task) [
-    | inl h ↦ elim (inserted (map.remove (naming task) o) n x name (Target.set set) (sym (ap (λ (m : Names). map.get m name) (at_same naming task moved t h.1)) ∙ e)) [
-      | inl g ↦ inl (h.1, g.0, g.1)
-      | inr g ↦ let f = left (naming task) o name (Target.set set) g in inr (ap (λ (k : ℕ). map.get (naming k) name) h.1 ∙ f.1, λ a. f.0)
-    ]
-    | inr h ↦ inr (sym (ap (λ (m : Names). map.get m name) (at_other naming task moved t h.1)) ∙ e, λ a b. h.1 a)
-  ]
+  came t name set e = grind (arith, inserted, at_same, left, at_other)
 
   goes : (t name set : ℕ) → map.get (naming t) name ≡ Some (Target.set set) → (other : ℕ) × (map.get (all t) other ≡ Some (Target.set set))
   goes t name set e = elim (eqb_tells t task) [
@@ -114,21 +87,4 @@ module _ (naming : ℕ → Names) (task : ℕ) (owner : ℕ → Option ℕ) (mad
   here_owned set e = is ∙ ap (λ (y : Target). Some y) e
 
   pub rename_law : LawfulSets all owner made
-  rename_law = record {
-    made_set = l.made_set;
-    set_owned = λ t name set e. elim (came t name set e) [
-      | inl h ↦ l.set_owned task o set (here_owned set h.2) ∙ ap (λ (k : ℕ). Some k) (sym h.0)
-      | inr h ↦ l.set_owned t name set h.0
-    ];
-    set_named = λ set t e. let h = l.set_named set t e in goes t h.0 set h.1;
-    one_set_name = λ t a b set e f. elim (came t a set e) [
-      | inl h ↦ elim (came t b set f) [
-        | inl g ↦ h.1 ∙ sym g.1
-        | inr g ↦ absurd (g.1 h.0 (l.one_set_name task b o set (subst (λ (k : ℕ). map.get (naming k) b ≡ Some (Target.set set)) h.0 g.0) (here_owned set h.2)))
-      ]
-      | inr h ↦ elim (came t b set f) [
-        | inl g ↦ absurd (h.1 g.0 (l.one_set_name task a o set (subst (λ (k : ℕ). map.get (naming k) a ≡ Some (Target.set set)) g.0 h.0) (here_owned set g.2)))
-        | inr g ↦ l.one_set_name t a b set h.0 g.0
-      ]
-    ];
-  }
+  rename_law = grind (arith, came, here_owned, goes)

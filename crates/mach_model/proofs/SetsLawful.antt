@@ -53,8 +53,7 @@ named_mid task s l = sorted_mid task s l s.set_owner s.sets_made s.sets_of l.rec
 -- each request that stands stood
 pub named_as : (task : ℕ) (s : State) → IsLawful s → s.live_task task ≡ true → (names : Names) (stands : Request → Bool) → LawfulNames names (held s task) →
     LawfulSets (at s.naming task names) s.set_owner s.sets_made → KeepsRequests s.stands stands (at s.naming task names) → MidLawful (record s { naming = at s.naming task names; stands = stands }) []
-named_as task s l is_task names stands own sets keeps =
-    named_mid task s l is_task names stands own sets keeps.ports (all_ground s.live_port s.naming (at s.naming task names) s.stands stands l.ground keeps)
+named_as task s l is_task names stands own sets keeps = grind (arith, named_mid, all_ground)
 
 -- ---- owners and names
 
@@ -91,17 +90,10 @@ module _ (naming : ℕ → Names) (owner : ℕ → Option ℕ) (made task name :
   module _ (unused : map.get own name ≡ None) where
     -- a name for a set now: the new one's, or one that was there
     new_cases : (t n set : ℕ) → map.get (with_new t) n ≡ Some (Target.set set) → (t ≡ task) × (n ≡ name) × (made ≡ set) ⊎ (map.get (naming t) n ≡ Some (Target.set set))
-    new_cases t n set e = elim (eqb_tells t task) [
-      | inl h ↦ elim (inserted own name (Target.set made) n (Target.set set) (sym (ap (λ (m : Names). map.get m n) (at_same naming task (map.insert own name (Target.set made)) t h.1)) ∙ e)) [
-        | inl g ↦ inl (h.1, g.0, set_same made set g.1)
-        | inr g ↦ inr (ap (λ (x : ℕ). map.get (naming x) n) h.1 ∙ g)
-      ]
-      | inr h ↦ inr (sym (ap (λ (m : Names). map.get m n) (at_other naming task (map.insert own name (Target.set made)) t h.1)) ∙ e)
-    ]
+    new_cases t n set e = grind (arith, inserted, at_same, set_same, at_other)
 
     still : (t n set : ℕ) → map.get (naming t) n ≡ Some (Target.set set) → map.get (with_new t) n ≡ Some (Target.set set)
-    still t n set e = at_all (λ t m. map.get (naming t) n ≡ Some (Target.set set) → map.get m n ≡ Some (Target.set set)) naming task (map.insert own name (Target.set made))
-        (λ f. kept own name (Target.set made) n (Target.set set) unused f) (λ q not f. f) t e
+    still t n set e = grind (arith, at_all, kept)
 
     -- A new set has its name, and its task.
     pub made_law : LawfulSets with_new owned (made + 1)
@@ -151,20 +143,11 @@ module _ (naming : ℕ → Names) (owner : ℕ → Option ℕ) (made task name :
     ]
 
     stays : (t n set : ℕ) → (set ≡ gone → ⊥) → map.get (naming t) n ≡ Some (Target.set set) → map.get (less t) n ≡ Some (Target.set set)
-    stays t n set not e = at_all (λ t m. map.get (naming t) n ≡ Some (Target.set set) → map.get m n ≡ Some (Target.set set)) naming task (map.remove own name)
-        (λ f. get_removed own name n (λ same. not (one_set_of (map.get own n) set gone f (ap (map.get own) same ∙ is))) ∙ f) (λ q not f. f) t e
+    stays t n set not e = grind (arith, at_all, get_removed, one_set_of)
 
     -- A set that goes has no task, and no name.
     pub lost_law : LawfulSets less disowned made
-    lost_law = record {
-      made_set = λ set above. at_all (λ set o. made ≤ set → o ≡ None) owner gone None (λ h. refl) (λ q not h. l.made_set q h) set above;
-      set_owned = λ t n set e. let h = was t n set e in at_other owner gone None set h.0 ∙ l.set_owned t n set h.1;
-      set_named = λ set t e. elim (eqb_tells set gone) [
-        | inl h ↦ absurd (no_one t (sym (at_same owner gone None set h.1) ∙ e))
-        | inr h ↦ let g = l.set_named set t (sym (at_other owner gone None set h.1) ∙ e) in (g.0, stays t g.0 set h.1 g.1)
-      ];
-      one_set_name = λ t n m set e f. l.one_set_name t n m set (was t n set e).1 (was t m set f).1;
-    }
+    lost_law = grind (arith, at_all, was, at_other, no_one, at_same, stays)
 
 -- ---- a new set
 
@@ -218,19 +201,14 @@ one_port o p q e f = cc
 
 -- the receive right of the port under a name that isn't refused for want of it
 pub names_receive : (s : State) (task name p : ℕ) → lookup s task name ≡ Some (Target.port p) → ¬ ¬ (NamesReceive s task name) → Holds s task receive p
-names_receive s task name p is some = elim (pos_or_zero (held s task receive p)) [
-  | inl h ↦ absurd (some (λ n. let e = one_port (lookup s task name) p n.0 is n.1 in let f : held s task receive n.0 ≡ 0 = ap (held s task receive) e ∙ h in let g = n.2 in omega (arith, f, g)))
-  | inr h ↦ h
-]
+names_receive s task name p is some = grind (arith, pos_or_zero, one_port)
 
 pub JoinsSet-lawful : (task member after : ℕ) (old mid : State) → IsLawful old → ¬ ¬ (NamesReceive old task member) → JoinsSet task member after old mid →
     IsLawful mid
 JoinsSet-lawful task member after old mid l some j = by j.2
   where
     own : (old.live_port j.0 ≡ true) × Holds old task receive j.0
-    own =
-        let h = names_receive old task member j.0 j.1 some in
-        let le = held_le_of task receive j.0 old.ledger in (alive old l receive j.0 (omega (arith, h, le)), h)
+    own = grind (arith, names_receive, held_le_of, alive)
 
     by : (after ≡ 0) × (mid ≡ record old { sets_of = at old.sets_of j.0 [] })
         ⊎ ((set : ℕ) × (lookup old task after ≡ Some (Target.set set)) × (mid ≡ record old { sets_of = at old.sets_of j.0 (set ∷ []) })) → IsLawful mid
@@ -255,17 +233,10 @@ filtered test (y ∷ ys) x h = go (test y) refl (filtered test ys x) h
 
 pub fewer : (test : ℕ → Bool) (xs : List ℕ) → length (filter test xs) ≤ length xs
 fewer test [] = omega arith
-fewer test (y ∷ ys) = go (test y) (fewer test ys)
-  where
-    go : (b : Bool) → length (filter test ys) ≤ length ys → length (if b then y ∷ filter test ys else filter test ys) ≤ length (y ∷ ys)
-    go true h = omega (arith, h)
-    go false h = omega (arith, h)
+fewer test (y ∷ ys) = grind (arith, fewer test ys)
 
 not_that : (a b : ℕ) → not (a == b) ≡ true → a ≡ b → ⊥
-not_that a b e = elim (eqb_tells a b) [
-  | inl h ↦ absurd (let f = h.0 in let g : not true ≡ true = ap not (sym f) ∙ e in cc)
-  | inr h ↦ h.1
-]
+not_that a b e = grind arith
 
 -- The task's set goes with its name.
 pub without_set-mid : (task name set : ℕ) (s : State) → IsLawful s → lookup s task name ≡ Some (Target.set set) → MidLawful (without_set set (without_name task name s)) []

@@ -1,5 +1,5 @@
 -- Numbers of a port that are set leave a lawful state.
-use Rattle.std.proofs.Common.{ℕ, ◌^◌, ◌<◌, ◌≤◌, sym, subst}
+use Rattle.std.proofs.Common.{arith, ℕ, ◌^◌, ◌<◌, ◌≤◌, sym, subst}
 use Rattle.mach_types.specs.Numbers.{greatest_limit}
 use Rattle.mach_model.specs.State.{State, at}
 use Rattle.mach_model.specs.ReceiveRight.{ChangesPort}
@@ -7,21 +7,7 @@ use Rattle.mach_model.specs.Lawful.{LawfulNumbers, IsLawful}
 use Rattle.mach_model.proofs.At.{at_all}
 
 numbers_lawful : (s : State) (limit make_send sequence : ℕ → ℕ) → IsLawful s → LawfulNumbers limit make_send sequence → IsLawful (record s { limit = limit; make_send = make_send; sequence = sequence })
-numbers_lawful s limit make_send sequence l numbers = record {
-  tasks = l.tasks;
-  naming = l.naming;
-  ports = l.ports;
-  numbers = numbers;
-  receivers = l.receivers;
-  few_rights = l.few_rights;
-  sets = l.sets;
-  membership = l.membership;
-  logs = l.logs;
-  messages = l.messages;
-  requests = l.requests;
-  standing = l.standing;
-  ground = l.ground;
-}
+numbers_lawful s limit make_send sequence l numbers = grind arith
 
 pub limit-lawful : (task name n : ℕ) (old mid : State) → IsLawful old → n ≤ greatest_limit → ChangesPort old task name (λ p. record old { limit = at old.limit p n }) mid → IsLawful mid
 limit-lawful task name n old mid l fits (p, is, holds, rest) = subst IsLawful (sym rest) (numbers_lawful old (at old.limit p n) old.make_send old.sequence l

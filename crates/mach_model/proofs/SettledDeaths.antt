@@ -1,7 +1,6 @@
 -- Who dies and who is saved can be told: the dying set is reached in as many rounds as there are ports, at most.
 use Rattle.std.proofs.Common.{◌≡◌, ℕ, zero, suc, ◌+◌, ◌<◌, ◌≤◌, List, [], ◌∷◌, refl, sym, ap, subst, ◌∙◌, arith, true, false, Bool, ◌⊎◌, inl, inr, length, get_or}
 use Rattle.std.specs.Prelude.{if◌then◌else◌, ◌==◌, ◌&&◌, ◌||◌, not}
-use Rattle.std.proofs.lemmas.Bool.Decides.{eqb_tells}
 use Rattle.std.proofs.lemmas.Bool.{eq-eqb, eqb-true}
 use Rattle.std.proofs.lemmas.Bool.{and_from}
 use Rattle.mach_types.specs.Tokens.{Kind, receive, send_once, port_destroyed, Place, in_task, in_message, in_request, Token, count, is_of, same_kind}
@@ -90,22 +89,10 @@ module _ (mid : State) where
   is_here kind p place x t e = and_from _ _ t (subst (λ (y : Place). same_place place y ≡ true) (sym e) (place_refl place))
 
   tasked_is : (n : ℕ) → tasked n ≡ true → (t : ℕ) × LiesAt mid receive n (in_task t)
-  tasked_is n e =
-      let r = some_passes (λ y. is_of receive n y && with_a_task y.place) mid.ledger e in
-      let x = get_or mid.ledger r.0 r.1 in
-      let t = task_of x.place (right_of (is_of receive n x) (with_a_task x.place) r.3) in (
-        t.0,
-        counts_some (λ y. is_of receive n y && same_place (in_task t.0) y.place) mid.ledger
-            (r.0, r.1, r.2, is_here receive n (in_task t.0) x (left_of (is_of receive n x) (with_a_task x.place) r.3) t.1),
-      )
+  tasked_is n e = grind (arith, some_passes, task_of, right_of, counts_some, is_here, left_of)
 
   is_tasked : (n t : ℕ) → LiesAt mid receive n (in_task t) → tasked n ≡ true
-  is_tasked n t some =
-      let r = count_passes (λ y. is_of receive n y && same_place (in_task t) y.place) mid.ledger some in
-      let x = get_or mid.ledger r.0 r.1 in
-      let a = left_of (is_of receive n x) (same_place (in_task t) x.place) r.3 in
-      let b = (at_place receive n (in_task t) x r.3).1 in
-      passes_some (λ y. is_of receive n y && with_a_task y.place) mid.ledger r.0 r.1 r.2 (and_from _ _ a (ap with_a_task b))
+  is_tasked n t some = grind (arith, count_passes, left_of, at_place, passes_some, and_from)
 
   pub saved_tells : (p : ℕ) → Tells (is_saved p) (IsSaved mid p)
   saved_tells p = record { yes = yes; is = is }
@@ -141,40 +128,14 @@ module _ (mid : State) where
   is_orphan p = mid.live_port p && count (is_of receive p) mid.ledger == 0
 
   pub orphan_tells : (p : ℕ) → Tells (is_orphan p) (IsOrphan mid p)
-  orphan_tells p = record {
-    yes = λ e. (left_of (mid.live_port p) (count (is_of receive p) mid.ledger == 0) e, eqb-true (count (is_of receive p) mid.ledger) 0 (right_of (mid.live_port p) (count (is_of receive p) mid.ledger == 0) e));
-    is = λ o. and_from _ _ o.0 (eq-eqb (count (is_of receive p) mid.ledger) 0 o.1);
-  }
+  orphan_tells p = grind (arith, left_of, eqb-true, right_of, and_from, eq-eqb)
 
   -- carried at a port of the set
   abbrev pub is_carried : (ℕ → Bool) → ℕ → Bool
   is_carried set p = some_token (λ x. is_of receive p x && in_queue set x.place) mid.ledger
 
   pub carried_tells : (set : ℕ → Bool) (p : ℕ) → Tells (is_carried set p) ((q : ℕ) × (set q ≡ true) × CarriedAt mid p q)
-  carried_tells set p = record { yes = yes; is = is }
-    where
-      yes : is_carried set p ≡ true → (q : ℕ) × (set q ≡ true) × CarriedAt mid p q
-      yes e =
-          let r = some_passes (λ x. is_of receive p x && in_queue set x.place) mid.ledger e in
-          let x = get_or mid.ledger r.0 r.1 in
-          let h = queue_of set x.place (right_of (is_of receive p x) (in_queue set x.place) r.3) in (
-            h.0,
-            h.3,
-            (
-              h.1,
-              counts_some (λ y. is_of receive p y && same_place (in_message h.0 h.1) y.place) mid.ledger
-                  (r.0, r.1, r.2, is_here receive p (in_message h.0 h.1) x (left_of (is_of receive p x) (in_queue set x.place) r.3) h.2),
-            ),
-          )
-
-      is : (q : ℕ) × (set q ≡ true) × CarriedAt mid p q → is_carried set p ≡ true
-      is (q, in_set, at) =
-          let k = at.0 in
-          let lies = at.1 in
-          let r = count_passes (λ y. is_of receive p y && same_place (in_message q k) y.place) mid.ledger lies in
-          let x = get_or mid.ledger r.0 r.1 in
-          let a = left_of (is_of receive p x) (same_place (in_message q k) x.place) r.3 in
-          passes_some (λ x. is_of receive p x && in_queue set x.place) mid.ledger r.0 r.1 r.2 (and_from _ _ a (ap (in_queue set) (at_place receive p (in_message q k) x r.3).1 ∙ in_set))
+  carried_tells set p = grind (arith, some_passes, queue_of, right_of, counts_some, is_here, left_of, count_passes, passes_some, and_from, at_place)
 
   -- ---- the dying set in rounds
 
@@ -242,11 +203,7 @@ module _ (mid : State) where
 
   below_le : (f : ℕ → Bool) (m : ℕ) → below f m ≤ m
   below_le f zero = omega arith
-  below_le f (suc m) = go (f m) (below_le f m)
-    where
-      go : (b : Bool) → below f m ≤ m → (if b then suc zero else zero) + below f m ≤ suc m
-      go true h = omega (arith, h)
-      go false h = omega (arith, h)
+  below_le f (suc m) = grind (arith, below_le f m)
 
   below_more : (f g : ℕ → Bool) (m : ℕ) → ((q : ℕ) → f q ≡ true → g q ≡ true) → below f m ≤ below g m
   below_more f g zero up = omega arith
@@ -255,40 +212,15 @@ module _ (mid : State) where
   -- no more, or one more at least
   same_or_more : (f g : ℕ → Bool) (m : ℕ) → ((q : ℕ) → f q ≡ true → g q ≡ true) → ((p : ℕ) → p < m → g p ≡ true → f p ≡ true) ⊎ (below f m + 1 ≤ below g m)
   same_or_more f g zero up = inl (λ p under e. absurd (omega (arith, under)))
-  same_or_more f g (suc m) up = elim (same_or_more f g m up) [
-    | inl h ↦ last (f m) (g m) refl refl h
-    | inr h ↦ inr (let a = if_le (f m) (g m) (up m) in omega (arith, h, a))
-  ]
-    where
-      last : (a b : Bool) → f m ≡ a → g m ≡ b → ((p : ℕ) → p < m → g p ≡ true → f p ≡ true) → ((p : ℕ) → p < suc m → g p ≡ true → f p ≡ true) ⊎ (below f (suc m) + 1 ≤ below g (suc m))
-      last true b e e' h = inl (λ p under is. elim (eqb_tells p m) [
-        | inl q ↦ subst (λ (x : ℕ). f x ≡ true) (sym q.1) e
-        | inr q ↦ h p (less p m (omega (arith, under)) q.1) is
-      ])
-      last false false e e' h = inl (λ p under is. elim (eqb_tells p m) [
-        | inl q ↦ absurd (let x : g m ≡ true = subst (λ (x : ℕ). g x ≡ true) q.1 is in cc)
-        | inr q ↦ h p (less p m (omega (arith, under)) q.1) is
-      ])
-      last false true e e' h = inr (
-          let a : (if f m then suc zero else zero) ≡ zero = rw e refl in
-          let b : (if g m then suc zero else zero) ≡ suc zero = rw e' refl in
-          let c = below_more f g m up in omega (arith, a, b, c))
+  same_or_more f g (suc m) up = grind (arith, same_or_more f g m up, if_le, less, below_more)
 
   module _ (owed : Owed) (l : MidLawful mid owed) where
     live_right : (kind : Kind) (p : ℕ) → 0 < count (is_of kind p) mid.ledger → mid.live_port p ≡ true
-    live_right kind p some = go (mid.live_port p) refl
-      where
-        go : (b : Bool) → mid.live_port p ≡ b → mid.live_port p ≡ true
-        go true e = e
-        go false e = absurd (let z = l.no_rights p e kind in omega (arith, z, some))
+    live_right kind p some = grind arith
 
     known : (n p : ℕ) → round n p ≡ true → p < mid.ports_made
     known zero p e = absurd (cc)
-    known (suc n) p e = l.made_port p (live (next_yes (round n) p e).0)
-      where
-        live : Why (round n) p → mid.live_port p ≡ true
-        live (inl o) = o.0
-        live (inr c) = live_right receive p (let a = lying_le_of mid receive p (in_message c.0 c.2.0) in let b = c.2.1 in omega (arith, a, b))
+    known (suc n) p e = grind (arith, next_yes, live_right, lying_le_of)
 
     abbrev IsLast : ℕ → Type 0
     IsLast n = (p : ℕ) → round (suc n) p ≡ true → round n p ≡ true

@@ -110,18 +110,14 @@ module _ (now : ℕ) (old mid : State) (owed : Owed) (new : State) (s : Settles 
 
   paying_none : (h : Token → ℕ) (xs : List (Token × Notice)) → All (λ x. PaysFor mid new x.0 x.1) xs → weigh (stay_h h) (tokens_of xs) ≡ 0
   paying_none h [] all = refl
-  paying_none h (x ∷ xs) all =
-      let r = paying_none h xs (λ k d below. all (suc k) d (omega (arith, below))) in
-      let e = pay_leaves mid new x.0 x.1 (all 0 x (omega arith)) in
-      rw e (omega (arith, r))
+  paying_none h (x ∷ xs) all = grind (arith, paying_none h xs (λ k d below. all (suc k) d (omega (arith, below))), pay_leaves mid new x.0 x.1 (all 0 x (omega arith)))
 
   pub staying_weigh : (h : Token → ℕ) → weigh h s.rights.staying ≡ weigh (stay_h h) mid.ledger
-  staying_weigh h =
-      let a = s.rights.parts (stay_h h) in
-      let b = same_weigh (StaysWith new) (stay_h h) h (λ x p. ap (λ (b : Bool). if b then h x else 0) (stay_stays new x p)) s.rights.staying s.rights.stay in
-      let c = paying_none h s.rights.paying s.rights.pay in
-      let d = none_weigh (GoesFrom new) (stay_h h) (λ x p. ap (λ (b : Bool). if b then h x else 0) (go_leaves new x p)) s.rights.going s.rights.go in
-      omega (arith, a, b, c, d)
+  staying_weigh h = grind (arith,
+      s.rights.parts (stay_h h),
+      same_weigh (StaysWith new) (stay_h h) h (λ x p. ap (λ (b : Bool). if b then h x else 0) (stay_stays new x p)) s.rights.staying s.rights.stay,
+      paying_none h s.rights.paying s.rights.pay,
+      none_weigh (GoesFrom new) (stay_h h) (λ x p. ap (λ (b : Bool). if b then h x else 0) (go_leaves new x p)) s.rights.going s.rights.go)
 
   -- what pays
   abbrev pay_h : (ℕ × Notice → ℕ) → Token → ℕ
@@ -129,50 +125,29 @@ module _ (now : ℕ) (old mid : State) (owed : Owed) (new : State) (s : Settles 
 
   paying_sum : (g : ℕ × Notice → ℕ) (xs : List (Token × Notice)) → All (λ x. PaysFor mid new x.0 x.1) xs → weigh (pay_h g) (tokens_of xs) ≡ sum g (due_notices xs)
   paying_sum g [] all = refl
-  paying_sum g (x ∷ xs) all =
-      let p = all 0 x (omega arith) in
-      let r = paying_sum g xs (λ k d below. all (suc k) d (omega (arith, below))) in
-      let e = pay_pays mid new x.0 x.1 p in
-      let n = ap (λ (m : Notice). g (x.0.port, m)) (tells mid new x.0.place x.1 p.3) in
-      rw e (omega (arith, r, n))
+  paying_sum g (x ∷ xs) all = grind (arith, all 0 x (omega arith), paying_sum g xs (λ k d below. all (suc k) d (omega (arith, below))))
 
   -- The notices that are sent: those that rights pay for, and those owed to live ports.
   pub notices_sum : (g : ℕ × Notice → ℕ) →
       sum g (map (λ x. (x.port, x.notice)) s.notices.posted) ≡ weigh (pay_h g) mid.ledger + sum g (due_notices (filter (λ x. new.live_port x.0.port) owed))
-  notices_sum g =
-      let a = s.rights.parts (pay_h g) in
-      let b = none_weigh (StaysWith new) (pay_h g) (λ x p. ap (λ (b : Bool). if b then g (x.port, notice_of mid new x.place) else 0) (stay_unpaid new x p)) s.rights.staying s.rights.stay in
-      let c = paying_sum g s.rights.paying s.rights.pay in
-      let d = none_weigh (GoesFrom new) (pay_h g) (λ x p. ap (λ (b : Bool). if b then g (x.port, notice_of mid new x.place) else 0) (go_unpaid new x p)) s.rights.going s.rights.go in
-      let e = ap (sum g) s.notices.due in
-      let f = ap (sum g) (map-append (λ (x : Token × Notice). (x.0.port, x.1)) s.rights.paying (filter (λ x. new.live_port x.0.port) owed)) in
-      let k = sum-append g (due_notices s.rights.paying) (due_notices (filter (λ x. new.live_port x.0.port) owed)) in
-      omega (arith, a, b, c, d, e, f, k)
+  notices_sum g = grind (arith,
+      s.rights.parts (pay_h g),
+      none_weigh (StaysWith new) (pay_h g) (λ x p. ap (λ (b : Bool). if b then g (x.port, notice_of mid new x.place) else 0) (stay_unpaid new x p)) s.rights.staying s.rights.stay,
+      paying_sum g s.rights.paying s.rights.pay,
+      none_weigh (GoesFrom new) (pay_h g) (λ x p. ap (λ (b : Bool). if b then g (x.port, notice_of mid new x.place) else 0) (go_unpaid new x p)) s.rights.going s.rights.go,
+      ap (sum g) s.notices.due,
+      ap (sum g) (map-append (λ (x : Token × Notice). (x.0.port, x.1)) s.rights.paying (filter (λ x. new.live_port x.0.port) owed)),
+      sum-append g (due_notices s.rights.paying) (due_notices (filter (λ x. new.live_port x.0.port) owed)))
 
 -- ---- two ends of the same step
 
 posted_outside : (h : Token → ℕ) → Outside h → (xs : List Posted) → weigh h (all_posted_tokens xs) ≡ 0
 posted_outside h out [] = refl
-posted_outside h out (x ∷ xs) =
-    omega (arith, weigh-append h (posted_tokens x) (all_posted_tokens xs), one x.port x.entry x.notice, posted_outside h out xs)
-  where
-    one : (port entry : ℕ) (n : Notice) → weigh h (token send_once port (in_message port entry) ∷ carried_by n (in_message port entry)) ≡ 0
-    one port entry (port_deleted name) = omega (arith, out send_once port port entry)
-    one port entry (port_sent p) = omega (arith, out send_once port port entry, out receive p port entry)
-    one port entry (no_more_senders n) = omega (arith, out send_once port port entry)
-    one port entry right_unused = omega (arith, out send_once port port entry)
-    one port entry (name_died name) = omega (arith, out send_once port port entry)
+posted_outside h out (x ∷ xs) = grind (arith, posted_outside h out xs, weigh-append)
 
 posted_sends : (p : ℕ) (xs : List Posted) → count (is_of send p) (all_posted_tokens xs) ≡ 0
 posted_sends p [] = refl
-posted_sends p (x ∷ xs) = omega (arith, weigh-append (λ y. if is_of send p y then 1 else 0) (posted_tokens x) (all_posted_tokens xs), one x.port x.entry x.notice, posted_sends p xs)
-  where
-    one : (port entry : ℕ) (n : Notice) → count (is_of send p) (token send_once port (in_message port entry) ∷ carried_by n (in_message port entry)) ≡ 0
-    one port entry (port_deleted name) = refl
-    one port entry (port_sent q) = refl
-    one port entry (no_more_senders n) = refl
-    one port entry right_unused = refl
-    one port entry (name_died name) = refl
+posted_sends p (x ∷ xs) = grind (arith, posted_sends p xs, weigh-append)
 
 true_both : (a b : Bool) → (a ≡ true → b ≡ true) → (b ≡ true → a ≡ true) → a ≡ b
 true_both true b f g = sym (f refl)
@@ -191,12 +166,7 @@ NoSendKept mid = (p : ℕ) → count (λ x. is_of send p x && is_kept x.place) m
 module _ (now : ℕ) (old mid : State) (owed : Owed) (no_send_kept : NoSendKept mid) where
   module _ (a b : State) (s : Settles now old mid owed a) (t : Settles now old mid owed b) where
     lives_too : (p : ℕ) → a.live_port p ≡ true → b.live_port p ≡ true
-    lives_too p live = go (mid.live_port p) refl (b.live_port p) refl
-      where
-        go : (m : Bool) → mid.live_port p ≡ m → (c : Bool) → b.live_port p ≡ c → b.live_port p ≡ true
-        go m e true f = f
-        go true e false f = absurd (let d = s.deaths.dies p (t.deaths.only p e f) in cc)
-        go false e false f = absurd (let d = s.deaths.gone_before p e in cc)
+    lives_too p live = grind arith
 
   module _ (a b : State) (s : Settles now old mid owed a) (t : Settles now old mid owed b) where
     -- the same ports live
@@ -216,32 +186,16 @@ sends_left live p x = if is_of send p x && (live x.port && queue_stays live x.pl
 place_le : (c : State) (u v : Bool) (place : Place) →
     (if v && place_stays c place then (if u then 1 else 0) else 0) ≤ (if u && (v && queue_stays c.live_port place) then 1 else 0) + (if u && is_kept place then 1 else 0)
 place_le c true true (in_task t) = omega arith
-place_le c true true (in_message q k) = go (c.live_port q)
-  where
-    go : (b : Bool) → (if b then 1 else 0) ≤ (if b then 1 else 0) + 0
-    go true = omega arith
-    go false = omega arith
-place_le c true true (in_request r) = go (c.stands r)
-  where
-    go : (b : Bool) → (if b then 1 else 0) ≤ 0 + 1
-    go true = omega arith
-    go false = omega arith
+place_le c true true (in_message q k) = grind arith
+place_le c true true (in_request r) = grind arith
 place_le c true false place = omega arith
-place_le c false true place = go (place_stays c place)
-  where
-    go : (b : Bool) → (if b then 0 else 0) ≤ 0
-    go true = omega arith
-    go false = omega arith
+place_le c false true place = grind arith
 place_le c false false place = omega arith
 
 place_ge : (c : State) (u v : Bool) (place : Place) →
     (if u && (v && queue_stays c.live_port place) then 1 else 0) ≤ (if v && place_stays c place then (if u then 1 else 0) else 0)
 place_ge c true true (in_task t) = omega arith
-place_ge c true true (in_message q k) = go (c.live_port q)
-  where
-    go : (b : Bool) → (if b then 1 else 0) ≤ (if b then 1 else 0)
-    go true = omega arith
-    go false = omega arith
+place_ge c true true (in_message q k) = grind arith
 place_ge c true true (in_request r) = omega arith
 place_ge c true false place = omega arith
 place_ge c false true place = omega arith
@@ -254,14 +208,12 @@ weigh_two f g h le (x ∷ xs) = omega (arith, le x, weigh_two f g h le xs)
 -- how many send rights are left depends on the ports that live alone
 pub senders_left : (now : ℕ) (old mid : State) (owed : Owed) (new : State) → Settles now old mid owed new →
     (p : ℕ) → count (λ x. is_of send p x && is_kept x.place) mid.ledger ≡ 0 → senders new p ≡ weigh (sends_left new.live_port p) mid.ledger
-senders_left now old mid owed new s p none =
-    let a = s.notices.ledger (λ x. if is_of send p x then 1 else 0) in
-    let b = posted_sends p s.notices.posted in
-    let c = staying_weigh now old mid owed new s (λ x. if is_of send p x then 1 else 0) in
-    let d = weigh_two _ (sends_left new.live_port p) _ (λ x. place_le new (is_of send p x) (new.live_port x.port) x.place) mid.ledger in
-    let e = weigh_two (sends_left new.live_port p) (λ x. if stays new x then (if is_of send p x then 1 else 0) else 0) (λ x. 0) (λ x. omega (arith, place_ge new (is_of send p x) (new.live_port x.port) x.place)) mid.ledger in
-    let z = none_weigh (λ x. Unit {0}) (λ x. 0) (λ x u. refl) mid.ledger (λ k d below. tt) in
-    omega (arith, a, b, c, d, e, z, none)
+senders_left now old mid owed new s p none = grind (arith,
+    s.notices.ledger (λ x. if is_of send p x then 1 else 0), posted_sends p s.notices.posted,
+    staying_weigh now old mid owed new s (λ x. if is_of send p x then 1 else 0),
+    weigh_two _ (sends_left new.live_port p) _ (λ x. place_le new (is_of send p x) (new.live_port x.port) x.place) mid.ledger,
+    weigh_two (sends_left new.live_port p) (λ x. if stays new x then (if is_of send p x then 1 else 0) else 0) (λ x. 0) (λ x. omega (arith, place_ge new (is_of send p x) (new.live_port x.port) x.place)) mid.ledger,
+    none_weigh (λ x. Unit {0}) (λ x. 0) (λ x u. refl) mid.ledger (λ k d below. tt))
 
 module _ (now : ℕ) (old mid : State) (owed : Owed) (no_send_kept : NoSendKept mid) where
   module _ (a b : State) (s : Settles now old mid owed a) (t : Settles now old mid owed b) where
@@ -291,12 +243,7 @@ module _ (now : ℕ) (old mid : State) (owed : Owed) (no_send_kept : NoSendKept 
     ends_too (dead_name task name) h = became (lookup mid task name) h
 
     stands_too : (r : Request) → b.stands r ≡ true → a.stands r ≡ true
-    stands_too r stood = go (mid.stands r) refl (a.stands r) refl
-      where
-        go : (m : Bool) → mid.stands r ≡ m → (c : Bool) → a.stands r ≡ c → a.stands r ≡ true
-        go m e true f = f
-        go false e false f = absurd (let d = t.requests.unmade r e in cc)
-        go true e false f = absurd (let d = t.requests.ended r e (ends_too r (s.requests.only r e f)) in cc)
+    stands_too r stood = grind (arith, ends_too)
 
   module _ (a b : State) (s : Settles now old mid owed a) (t : Settles now old mid owed b) where
     -- the same requests stand
@@ -343,16 +290,7 @@ module _ (now : ℕ) (old mid : State) (owed : Owed) (no_send_kept : NoSendKept 
     owed_same : (g : ℕ × Notice → ℕ) (xs : List (Token × Notice)) →
         sum g (due_notices (filter (λ x. a.live_port x.0.port) xs)) ≡ sum g (due_notices (filter (λ x. b.live_port x.0.port) xs))
     owed_same g [] = refl
-    owed_same g (x ∷ xs) = go (a.live_port x.0.port) (b.live_port x.0.port) (same_live a b s t x.0.port) (owed_same g xs)
-      where
-        go : (c d : Bool) → c ≡ d →
-            sum g (due_notices (filter (λ x. a.live_port x.0.port) xs)) ≡ sum g (due_notices (filter (λ x. b.live_port x.0.port) xs)) →
-            sum g (due_notices (if c then x ∷ filter (λ x. a.live_port x.0.port) xs else filter (λ x. a.live_port x.0.port) xs))
-            ≡ sum g (due_notices (if d then x ∷ filter (λ x. b.live_port x.0.port) xs else filter (λ x. b.live_port x.0.port) xs))
-        go true true e r = omega (arith, r)
-        go false false e r = r
-        go true false e r = absurd (cc)
-        go false true e r = absurd (cc)
+    owed_same g (x ∷ xs) = grind (arith, owed_same g xs, same_live)
 
     -- The same notices are sent to the same ports, each as often.
     pub notices_same : (g : ℕ × Notice → ℕ) → sum g (map (λ x. (x.port, x.notice)) s.notices.posted) ≡ sum g (map (λ x. (x.port, x.notice)) t.notices.posted)

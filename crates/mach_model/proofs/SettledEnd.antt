@@ -56,14 +56,7 @@ all_filtered {A} P test so (x ∷ xs) = go (test x) refl (all_filtered P test so
 
 count_filter : (test keep : Token → Bool) (xs : List Token) → count test (filter keep xs) ≡ count (λ x. test x && keep x) xs
 count_filter test keep [] = refl
-count_filter test keep (x ∷ xs) = go (keep x) (test x) refl refl (count_filter test keep xs)
-  where
-    go : (b c : Bool) → keep x ≡ b → test x ≡ c → count test (filter keep xs) ≡ count (λ x. test x && keep x) xs →
-        count test (if b then x ∷ filter keep xs else filter keep xs) ≡ (if c && b then suc zero else zero) + count (λ x. test x && keep x) xs
-    go true true e f ih = rw f (omega (arith, ih))
-    go true false e f ih = rw f (omega (arith, ih))
-    go false true e f ih = omega (arith, ih)
-    go false false e f ih = omega (arith, ih)
+count_filter test keep (x ∷ xs) = grind (arith, count_filter test keep xs)
 
 same_count : (P : Token → Type 0) (f g : Token → Bool) → ((x : Token) → P x → f x ≡ g x) → (xs : List Token) → All P xs → count f xs ≡ count g xs
 same_count P f g same [] all = refl
@@ -76,16 +69,7 @@ same_count P f g same (x ∷ xs) all =
 in_parts : (a b : Token → Bool) (n : Token → Notice) → ((x : Token) → a x ≡ true → b x ≡ true → ⊥) → (h : Token → ℕ) (xs : List Token) →
     weigh h xs ≡ weigh h (filter a xs) + weigh h (tokens_of (list_map (λ x. (x, n x)) (filter b xs))) + weigh h (filter (λ x. not (a x) && not (b x)) xs)
 in_parts a b n apart h [] = refl
-in_parts a b n apart h (x ∷ xs) = go (a x) (b x) refl refl (in_parts a b n apart h xs)
-  where
-    go : (c d : Bool) → a x ≡ c → b x ≡ d →
-        weigh h xs ≡ weigh h (filter a xs) + weigh h (tokens_of (list_map (λ x. (x, n x)) (filter b xs))) + weigh h (filter (λ x. not (a x) && not (b x)) xs) →
-        h x + weigh h xs ≡ weigh h (if c then x ∷ filter a xs else filter a xs) + weigh h (tokens_of (list_map (λ x. (x, n x)) (if d then x ∷ filter b xs else filter b xs)))
-        + weigh h (if not c && not d then x ∷ filter (λ x. not (a x) && not (b x)) xs else filter (λ x. not (a x) && not (b x)) xs)
-    go true true e f ih = absurd (apart x e f)
-    go true false e f ih = omega (arith, ih)
-    go false true e f ih = omega (arith, ih)
-    go false false e f ih = omega (arith, ih)
+in_parts a b n apart h (x ∷ xs) = grind (arith, in_parts a b n apart h xs)
 
 not_both_ways : (b : Bool) → b ≡ true → not b ≡ true → ⊥
 not_both_ways true e f = cc
@@ -190,25 +174,13 @@ module _ (now : ℕ) (old mid : State) (owed : Owed) (t : Told mid) where
   stays_so x e = (left_of (live x.port) (place_stays x.place) e, place_yes x.place (right_of (live x.port) (place_stays x.place) e))
 
   pays_so : (x : Token) → pays x ≡ true → PaysFor mid end_state x (notice_at x.place)
-  pays_so x e =
-      let a = left_of (same_kind send_once x.kind && live x.port) (not (place_stays x.place)) e in
-      let b = right_of (same_kind send_once x.kind && live x.port) (not (place_stays x.place)) e in
-      (kind_is send_once x.kind (left_of (same_kind send_once x.kind) (live x.port) a), right_of (same_kind send_once x.kind) (live x.port) a, place_none x.place b, tells_so x.place b)
+  pays_so x e = grind (arith, left_of, right_of, kind_is, place_none, tells_so)
 
   goes_so : (x : Token) → (not (stays x) && not (pays x)) ≡ true → GoesFrom end_state x
-  goes_so x e = go (live x.port) (place_stays x.place) (same_kind send_once x.kind) refl refl refl e
-    where
-      once_is : (k : Kind) → k ≡ send_once → same_kind send_once k ≡ true
-      once_is k e = ap (same_kind send_once) e
-
-      go : (a b c : Bool) → live x.port ≡ a → place_stays x.place ≡ b → same_kind send_once x.kind ≡ c → (not (a && b) && not (c && a && not b)) ≡ true → GoesFrom end_state x
-      go false b c f g h e = inl f
-      go true true c f g h e = absurd (cc)
-      go true false true f g h e = absurd (cc)
-      go true false false f g h e = inr (λ is. (let i = once_is x.kind is in cc), place_none x.place (of_false (place_stays x.place) g))
+  goes_so x e = grind (arith, place_none, of_false)
 
   apart : (x : Token) → stays x ≡ true → pays x ≡ true → ⊥
-  apart x e f = not_both_ways (place_stays x.place) (right_of (live x.port) (place_stays x.place) e) (right_of (same_kind send_once x.kind && live x.port) (not (place_stays x.place)) f)
+  apart x e f = grind (arith, not_both_ways, right_of)
 
   -- ---- which requests end
 
@@ -225,74 +197,26 @@ module _ (now : ℕ) (old mid : State) (owed : Owed) (t : Told mid) where
         omega (arith, z, some, same)
 
     same_left : (p : ℕ) → live p ≡ true → (x : Token) → NotKept x → (is_of send p x && stays x) ≡ (is_of send p x && queue_lives x.place)
-    same_left p alive x kept = go (is_of send p x) refl
-      where
-        there : (place : Place) → x.place ≡ place → (x.kind ≡ send) → place_stays place ≡ queue_lives place
-        there (in_task task) e is = refl
-        there (in_message q k) e is = refl
-        there (in_request r) e is = absurd (kept is r e)
-
-        both : (a b c : Bool) → a ≡ true → b ≡ c → (a && b) ≡ c
-        both true b c e f = f
-        both false b c e f = absurd (cc)
-
-        go : (b : Bool) → is_of send p x ≡ b → (b && stays x) ≡ (b && queue_lives x.place)
-        go true e = let h = of_kind send p x e in both (live x.port) (place_stays x.place) (queue_lives x.place) (ap live h.1 ∙ alive) (there x.place refl h.0)
-        go false e = refl
+    same_left p alive x kept = grind (arith, of_kind)
 
     senders_left : (p : ℕ) → live p ≡ true → senders end_state p ≡ sends_left p
-    senders_left p alive =
-        let a = weigh-append (λ x. if is_of send p x then 1 else 0) (filter stays mid.ledger) (all_posted_tokens left_posted) in
-        let b = none_posted (λ x. Unit {0}) (is_of send p) (λ x u e. cc) (λ x q u sent e. cc) left_posted (λ k d below. tt) in
-        let c = count_filter (is_of send p) stays mid.ledger in
-        let d = same_count NotKept (λ x. is_of send p x && stays x) (λ x. is_of send p x && queue_lives x.place) (same_left p alive) mid.ledger none_kept in
-        omega (arith, a, b, c, d)
+    senders_left p alive = grind (arith,
+        weigh-append (λ x. if is_of send p x then 1 else 0) (filter stays mid.ledger) (all_posted_tokens left_posted),
+        none_posted (λ x. Unit {0}) (is_of send p) (λ x u e. cc) (λ x q u sent e. cc) left_posted (λ k d below. tt),
+        count_filter (is_of send p) stays mid.ledger,
+        same_count NotKept (λ x. is_of send p x && stays x) (λ x. is_of send p x && queue_lives x.place) (same_left p alive) mid.ledger none_kept)
 
     ends_is : (r : Request) → Ends old mid end_state r → ends r ≡ true
     ends_is (no_senders p) (inl dead) = or_left (not (live p)) (not (senders old p == 0) && sends_left p == 0) (of_false (live p) dead)
-    ends_is (no_senders p) (inr last) = go (live p) refl
-      where
-        go : (b : Bool) → live p ≡ b → (not b || not (senders old p == 0) && sends_left p == 0) ≡ true
-        go false e = refl
-        go true e = and_from (not (senders old p == 0)) (sends_left p == 0) (some (senders old p) last.0) (eq-eqb (sends_left p) 0 (sym (senders_left p e) ∙ last.1))
-          where
-            some : (n : ℕ) → 0 < n → not (n == 0) ≡ true
-            some n h = rw (ne_eqb n 0 (λ e. omega (arith, h, e))) refl
+    ends_is (no_senders p) (inr last) = grind (arith, and_from, eq-eqb, senders_left, ne_eqb)
     ends_is (port_destroyed p) (inl dead) = or_left (not (live p)) (t.away p) (of_false (live p) dead)
     ends_is (port_destroyed p) (inr sent) = or_right (not (live p)) (t.away p) ((t.sent p).is sent)
-    ends_is (dead_name task name) h = go (lookup mid task name) h
-      where
-        go : (o : Option Target) → BecameDead mid end_state o → became o ≡ true
-        go None h = absurd h
-        go (Some (Target.port p)) h = of_false (live p) h
-        go (Some (Target.once p)) h = of_false (live p) h
-        go (Some (Target.dead n)) h = absurd h
-        go (Some (Target.set n)) h = absurd h
+    ends_is (dead_name task name) h = grind (arith, of_false)
 
     is_ends : (r : Request) → ends r ≡ true → Ends old mid end_state r
-    is_ends (no_senders p) e = go (live p) refl e
-      where
-        some : (n : ℕ) → not (n == 0) ≡ true → 0 < n
-        some n h = elim (pos_or_zero n) [
-          | inl z ↦ absurd (not_both_ways (n == 0) (eq-eqb n 0 z) h)
-          | inr p ↦ p
-        ]
-
-        go : (b : Bool) → live p ≡ b → (not b || not (senders old p == 0) && sends_left p == 0) ≡ true → Ends old mid end_state (no_senders p)
-        go false f e = inl f
-        go true f e = inr (some (senders old p) (left_of (not (senders old p == 0)) (sends_left p == 0) e), senders_left p f ∙ eqb-true (sends_left p) 0 (right_of (not (senders old p == 0)) (sends_left p == 0) e))
-    is_ends (port_destroyed p) e = elim (or_cases (not (live p)) (t.away p) e) [
-      | inl h ↦ inl (is_false (live p) h)
-      | inr h ↦ inr ((t.sent p).yes h)
-    ]
-    is_ends (dead_name task name) e = go (lookup mid task name) e
-      where
-        go : (o : Option Target) → became o ≡ true → BecameDead mid end_state o
-        go None e = absurd (cc)
-        go (Some (Target.port p)) e = is_false (live p) e
-        go (Some (Target.once p)) e = is_false (live p) e
-        go (Some (Target.dead n)) e = absurd (cc)
-        go (Some (Target.set n)) e = absurd (cc)
+    is_ends (no_senders p) e = grind (arith, pos_or_zero, not_both_ways, eq-eqb, left_of, senders_left, eqb-true, right_of)
+    is_ends (port_destroyed p) e = grind (arith, or_cases, is_false)
+    is_ends (dead_name task name) e = grind (arith, is_false)
 
     both_false : (a b : Bool) → b ≡ true → (a && not b) ≡ false
     both_false a true e = and_false a

@@ -26,20 +26,7 @@ unmarked true p q not = rw (ne_eqb p q not) refl
 unmarked false p q not = refl
 
 notice_marks : (live : ℕ → Bool) (kind : Kind) (q p : ℕ) (n : Notice) → live p ≡ true → BringsLive live n → (live q ≡ true → ⊥) → message_count kind q (notice_message p n) ≡ 0
-notice_marks live kind q p n is brings dead = go n brings
-  where
-    own : (if same_kind kind send_once && p == q then suc zero else zero) ≡ zero
-    own = unmarked (same_kind kind send_once) p q (λ e. dead (subst (λ (x : ℕ). live x ≡ true) e is))
-
-    go : (n : Notice) → BringsLive live n → message_count kind q (notice_message p n) ≡ 0
-    go (port_deleted k) brings = omega (arith, own)
-    go (port_sent r) brings =
-        let a = own in
-        let b = unmarked (same_kind kind receive) r q (λ e. dead (subst (λ (x : ℕ). live x ≡ true) e (brings r (eq-eqb r r refl)))) in
-        omega (arith, a, b)
-    go (no_more_senders k) brings = omega (arith, own)
-    go right_unused brings = omega (arith, own)
-    go (name_died k) brings = omega (arith, own)
+notice_marks live kind q p n is brings dead = grind (arith, unmarked, eq-eqb)
 
 -- ---- sets
 
@@ -73,11 +60,7 @@ module _ (now : ℕ) (old mid : State) (owed : Owed) (new : State) (l : MidLawfu
   right_if false t n h e = absurd (cc)
 
   alive : (p : ℕ) → (new.live_port p ≡ false → ⊥) → new.live_port p ≡ true
-  alive p not = go (new.live_port p) refl
-    where
-      go : (b : Bool) → new.live_port p ≡ b → new.live_port p ≡ true
-      go true e = e
-      go false e = absurd (not e)
+  alive p not = grind arith
 
   right_stays : (task name : ℕ) (o : Option Target) → IsRight o → (BecameDead mid new o → ⊥) → IsRight (option_map (settled_target mid new task name) o)
   right_stays task name None h not = h
@@ -87,11 +70,7 @@ module _ (now : ℕ) (old mid : State) (owed : Owed) (new : State) (l : MidLawfu
   right_stays task name (Some (Target.set n)) h not = h
 
   stood : (r : Request) → new.stands r ≡ true → mid.stands r ≡ true
-  stood r is = go (mid.stands r) refl
-    where
-      go : (b : Bool) → mid.stands r ≡ b → mid.stands r ≡ true
-      go true e = e
-      go false e = absurd (let f = s.requests.unmade r e in cc)
+  stood r is = grind arith
 
   not_ended : (r : Request) → new.stands r ≡ true → Ends old mid new r → ⊥
   not_ended r is ends = let e = s.requests.ended r (stood r is) ends in cc
@@ -99,15 +78,11 @@ module _ (now : ℕ) (old mid : State) (owed : Owed) (new : State) (l : MidLawfu
   stands_on : (r : Request) → new.stands r ≡ true → StandsOn new.live_port new.naming r
   stands_on (no_senders p) is = alive p (λ dead. not_ended (no_senders p) is (inl dead))
   stands_on (port_destroyed p) is = alive p (λ dead. not_ended (port_destroyed p) is (inl dead))
-  stands_on (dead_name task name) is = subst IsRight (sym (s.names task name))
-      (right_stays task name (lookup mid task name) (l.stands_on (dead_name task name) (stood (dead_name task name) is)) (not_ended (dead_name task name) is))
+  stands_on (dead_name task name) is = grind (arith, right_stays, stood, not_ended)
 
   -- what requests keep
   at_request : (kind : Kind) (q : ℕ) (r : Request) → lying new kind q (in_request r) ≡ count (λ x. is_of kind q x && same_place (in_request r) x.place) s.rights.staying
-  at_request kind q r =
-      let a = made_of now old mid owed new s (λ x. is_of kind q x && same_place (in_request r) x.place) in
-      let b = none_tasked (λ x. is_of kind q x && same_place (in_request r) x.place) (λ k p t e. and_false (is_of kind q (token k p (in_message t e)))) s.notices.posted in
-      omega (arith, a, b)
+  at_request kind q r = grind (arith, made_of, none_tasked, and_false)
 
   ended : (r : Request) → new.stands r ≡ false → (kind : Kind) (q : ℕ) → lying new kind q (in_request r) ≡ 0
   ended r not kind q =
@@ -117,17 +92,10 @@ module _ (now : ℕ) (old mid : State) (owed : Owed) (new : State) (l : MidLawfu
       omega (arith, a, b)
 
   one_kept : (r : Request) → count (λ x. same_place (in_request r) x.place) new.ledger ≤ 1
-  one_kept r =
-      let a = made_of now old mid owed new s (λ x. same_place (in_request r) x.place) in
-      let b = none_tasked (λ x. same_place (in_request r) x.place) (λ k p t e. refl) s.notices.posted in
-      let c = parts now old mid owed new s (λ x. same_place (in_request r) x.place) in
-      let d = l.one_kept r in omega (arith, a, b, c, d)
+  one_kept r = grind (arith, made_of, none_tasked, parts)
 
   once_kept : (r : Request) (kind : Kind) (q : ℕ) → kind ≢ send_once → lying new kind q (in_request r) ≡ 0
-  once_kept r kind q not =
-      let a = at_request kind q r in
-      let b = parts now old mid owed new s (λ x. is_of kind q x && same_place (in_request r) x.place) in
-      let c = l.once_kept r kind q not in omega (arith, a, b, c)
+  once_kept r kind q not = grind (arith, at_request, parts)
 
   -- ports and sets
   no_rights : (p : ℕ) → new.live_port p ≡ false → (kind : Kind) → count (is_of kind p) new.ledger ≡ 0
@@ -193,10 +161,7 @@ module _ (now : ℕ) (old mid : State) (owed : Owed) (new : State) (l : MidLawfu
   ]
 
   within : (p : ℕ) → new.taken p ≤ length (new.log p)
-  within p =
-      let a = l.within p in
-      let b : new.taken p ≡ mid.taken p = ap (λ (x : State). x.taken p) s.rest in
-      let c = log_length now old mid owed new l s p in omega (arith, a, b, c)
+  within p = grind (arith, l.within p, log_length now old mid owed new l s p)
 
   -- A step's end leaves a lawful state.
   pub settled_lawful : IsLawful new

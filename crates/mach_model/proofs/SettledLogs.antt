@@ -4,7 +4,6 @@ use Rattle.std.specs.Prelude.{if◌then◌else◌, All, ◌==◌, ◌&&◌, filt
 use Rattle.std.proofs.lemmas.List.{length-append}
 use Rattle.std.proofs.lemmas.List.Elements.{All-head, All-tail}
 use Rattle.std.proofs.lemmas.Option.{slice_get_within}
-use Rattle.std.proofs.lemmas.Bool.Decides.{eqb_tells}
 use Rattle.std.proofs.lemmas.Bool.{eq-eqb, ne_eqb}
 use Rattle.std.proofs.lemmas.Bool.{and_from}
 use Rattle.mach_types.specs.Tokens.{Kind, receive, send_once, in_message, Token, token, count, is_of, same_kind}
@@ -18,7 +17,7 @@ use Rattle.mach_model.specs.Lawful.{tally}
 use Rattle.mach_model.specs.Midway.{MidLawful}
 use Rattle.mach_model.proofs.Weigh.{weigh-append}
 use Rattle.mach_model.proofs.At.{slice_get_drop}
-use Rattle.mach_model.proofs.SettledParts.{less, eq_symm, parts, at_place, same_entry, IsDue, due_all, made_of, live_mid, kept_there, stays_if, none_posted}
+use Rattle.mach_model.proofs.SettledParts.{eq_symm, parts, at_place, same_entry, IsDue, due_all, made_of, live_mid, kept_there, stays_if, none_posted}
 use Rattle.mach_model.proofs.SettledReceives.{owed_brings}
 
 -- ---- elements of two lists, one behind the other
@@ -26,10 +25,7 @@ use Rattle.mach_model.proofs.SettledReceives.{owed_brings}
 front_or_added : {A : Type 0} (xs ys : List A) (k : ℕ) (x : A) → slice_get (xs ++ ys) k ≡ Some x → (slice_get xs k ≡ Some x) ⊎ (length xs ≤ k)
 front_or_added [] ys k x e = inr (omega arith)
 front_or_added (y ∷ xs) ys zero x e = inl e
-front_or_added (y ∷ xs) ys (suc k) x e = elim (front_or_added xs ys k x e) [
-  | inl h ↦ inl h
-  | inr h ↦ inr (omega (arith, h))
-]
+front_or_added (y ∷ xs) ys (suc k) x e = grind (arith, front_or_added xs ys k x e)
 
 -- ---- each notice has an entry of its own
 
@@ -47,36 +43,15 @@ spread p b (suc n) xs = hits p (b + n) xs + spread p b n xs
 
 spread_one : (p b n : ℕ) (x : Posted) → b + n ≤ x.entry → spread p b n (x ∷ []) ≡ 0
 spread_one p b zero x above = refl
-spread_one p b (suc n) x above =
-    let e = ne_eqb (b + n) x.entry (λ e. omega (arith, e, above)) in
-    let h : hits p (b + n) (x ∷ []) ≡ 0 = zero_if (p == x.port) (b + n == x.entry) e in
-    let rest = spread_one p b n x (omega (arith, above)) in
-    omega (arith, h, rest)
-  where
-    zero_if : (a c : Bool) → c ≡ false → (if a && c then suc zero else zero) + 0 ≡ 0
-    zero_if true c e = rw e refl
-    zero_if false c e = refl
+spread_one p b (suc n) x above = grind (arith, spread_one p b n x (omega (arith, above)), ne_eqb)
 
 other_port : (p b n : ℕ) (x : Posted) → (p == x.port) ≡ false → spread p b n (x ∷ []) ≡ 0
 other_port p b zero x e = refl
-other_port p b (suc n) x e =
-    let h : hits p (b + n) (x ∷ []) ≡ 0 = rw e refl in
-    let rest = other_port p b n x e in omega (arith, h, rest)
+other_port p b (suc n) x e = grind (arith, other_port p b n x e)
 
 one_entry : (p b n : ℕ) (x : Posted) → spread p b n (x ∷ []) ≤ 1
 one_entry p b zero x = omega arith
-one_entry p b (suc n) x = elim (eqb_tells (b + n) x.entry) [
-  | inl h ↦ (let rest = spread_one p b n x (let e = h.1 in omega (arith, e)) in let a = at_most (p == x.port && (b + n) == x.entry) in omega (arith, rest, a))
-  | inr h ↦ (let rest = one_entry p b n x in let a = none (p == x.port) ((b + n) == x.entry) h.0 in omega (arith, rest, a))
-]
-  where
-    at_most : (b : Bool) → (if b then suc zero else zero) ≤ 1
-    at_most true = omega arith
-    at_most false = omega arith
-
-    none : (a c : Bool) → c ≡ false → (if a && c then suc zero else zero) ≡ zero
-    none true c e = rw e refl
-    none false c e = refl
+one_entry p b (suc n) x = grind (arith, one_entry p b n x, spread_one)
 
 spread_cons : (p b n : ℕ) (x : Posted) (xs : List Posted) → spread p b n (x ∷ xs) ≡ spread p b n (x ∷ []) + spread p b n xs
 spread_cons p b zero x xs = refl
@@ -88,25 +63,12 @@ spread_empty p b (suc n) = omega (arith, spread_empty p b n)
 
 spread_le : (p b n : ℕ) (xs : List Posted) → spread p b n xs ≤ tally (λ (x : Posted). p == x.port) xs
 spread_le p b n [] = omega (arith, spread_empty p b n)
-spread_le p b n (x ∷ xs) = let c = spread_cons p b n x xs in let rest = spread_le p b n xs in let o = own (p == x.port) refl in omega (arith, c, rest, o)
-  where
-    own : (a : Bool) → (p == x.port) ≡ a → spread p b n (x ∷ []) ≤ (if p == x.port then 1 else 0)
-    own true e = rw e (one_entry p b n x)
-    own false e = let z = other_port p b n x e in omega (arith, z)
+spread_le p b n (x ∷ xs) = grind (arith, spread_le p b n xs, spread_cons, one_entry, other_port)
 
 -- where each entry has one, and one has more, there are more than entries
 spread_ge : (p b n : ℕ) (xs : List Posted) → ((k : ℕ) → b ≤ k → k < b + n → 0 < hits p k xs) → (n ≤ spread p b n xs) × ((j : ℕ) → b ≤ j → j < b + n → hits p j xs + n ≤ spread p b n xs + 1)
 spread_ge p b zero xs all = (omega arith, λ j above below. absurd (omega (arith, above, below)))
-spread_ge p b (suc n) xs all =
-    let ih = spread_ge p b n xs (λ k above below. all k above (omega (arith, below))) in
-    let a = ih.0 in
-    let one = all (b + n) (omega arith) (omega arith) in (
-      omega (arith, a, one),
-      λ j above below. elim (eqb_tells j (b + n)) [
-        | inl h ↦ (let same : hits p j xs ≡ hits p (b + n) xs = ap (λ (k : ℕ). hits p k xs) h.1 in omega (arith, a, same))
-        | inr h ↦ (let i = ih.1 j above (less j (b + n) (omega (arith, below)) h.1) in omega (arith, i, one))
-      ],
-    )
+spread_ge p b (suc n) xs all = grind (arith, spread_ge p b n xs (λ k above below. all k above (omega (arith, below))), all (b + n) (omega arith) (omega arith))
 
 tally_filter : {A : Type 0} (f g : A → Bool) → ((x : A) → g x ≡ f x) → (xs : List A) → tally g xs ≡ length (filter f xs)
 tally_filter f g same [] = refl
@@ -158,16 +120,7 @@ Alike kind q p k c x = is_entry p k x ≡ true → message_count kind q (notice_
 
 here_none : (kind : Kind) (q p k : ℕ) (xs : List Posted) → hits p k xs ≡ 0 → here kind q p k xs ≡ 0
 here_none kind q p k [] none = refl
-here_none kind q p k (x ∷ xs) none =
-    let a = weigh-append (λ y. if is_of kind q y && same_place (in_message p k) y.place then 1 else 0) (posted_tokens x) (all_posted_tokens xs) in
-    let b = one_lying kind q p k x.port x.entry x.notice in
-    let c = unhit (is_entry p k x) (omega (arith, none)) in
-    let rest = here_none kind q p k xs (omega (arith, none)) in
-    omega (arith, a, b, c, rest)
-  where
-    unhit : (b : Bool) → (if b then suc zero else zero) ≡ zero → (if b then message_count kind q (notice_message x.port x.notice) else 0) ≡ 0
-    unhit true e = absurd (omega (arith, e))
-    unhit false e = refl
+here_none kind q p k (x ∷ xs) none = grind (arith, here_none kind q p k xs (omega (arith, none)), weigh-append, one_lying)
 
 here_one : (kind : Kind) (q p k c : ℕ) (xs : List Posted) → All (Alike kind q p k c) xs → hits p k xs ≡ 1 → here kind q p k xs ≡ c
 here_one kind q p k c [] all one = absurd (omega (arith, one))
@@ -192,10 +145,7 @@ here_one kind q p k c (x ∷ xs) all one =
         omega (arith, a, b, rest, g)
 
 entry_of : {A : Type 0} (o : Option A) (a b : A) → o ≡ Some a → o ≡ Some b → a ≡ b
-entry_of {A} o a b e f = go (sym e ∙ f)
-  where
-    go : Some a ≡ Some b → a ≡ b
-    go g = cc
+entry_of {A} o a b e f = grind arith
 
 -- ---- the logs after the step
 
@@ -324,14 +274,7 @@ module _ (now : ℕ) (old mid : State) (owed : Owed) (new : State) (l : MidLawfu
               ap (λ (y : Entry). message_count kind q y.message) (entry_of (slice_get (new.log p) (new.taken p + i)) _ e same there)
 
   pub gone : (p k : ℕ) → (k < new.taken p) ⊎ (new.live_port p ≡ false) → (kind : Kind) (q : ℕ) → lying new kind q (in_message p k) ≡ 0
-  gone p k (inl below) kind q =
-      let t = same_taken p in
-      let w = l.within p in
-      let a = lying_is kind q p k in
-      let b = staying_le kind q p k in
-      let z = l.gone p k (inl (omega (arith, below, t))) kind q in
-      let c = none_in_front kind q p k (omega (arith, below, t, w)) in
-      omega (arith, a, b, z, c)
+  gone p k (inl below) kind q = grind (arith, same_taken, lying_is, staying_le, none_in_front)
   gone p k (inr dead) kind q =
       let a = lying_is kind q p k in
       let b = stays_if now old mid owed new s (lies kind q p k) (λ x stays t.

@@ -37,13 +37,7 @@ pub record IsMapped (f : ℕ → Target → Target) (m m' : Names) : Type 0 wher
   pub get : (name : ℕ) → map.get m' name ≡ option_map (f name) (map.get m name)
 
 removed_too : (f : ℕ → Target → Target) (m m' : Names) (name : ℕ) → IsMapped f m m' → IsMapped f (map.remove m name) (map.remove m' name)
-removed_too f m m' name is = record {
-  get = λ n. elim (eqb_tells n name) [
-    | inl h ↦ subst (λ (k : ℕ). map.get (map.remove m' name) k ≡ option_map (f k) (map.get (map.remove m name) k)) (sym h.1)
-        (removed_own m' name ∙ sym (ap (option_map (f name)) (removed_own m name)))
-    | inr h ↦ get_removed m' name n h.1 ∙ is.get n ∙ sym (ap (option_map (f n)) (get_removed m name n h.1))
-  ];
-}
+removed_too f m m' name is = grind (arith, removed_own, get_removed)
 
 none_mapped : (f : Target → Target) (o : Option Target) → o ≡ None → option_map f o ≡ None
 none_mapped f o e = ap (option_map f) e
@@ -106,9 +100,7 @@ module _ (mid new : State) (task name : ℕ) where
   -- a name that stands for a port stood for it, and the port lives
   pub settled_port : (o : Option Target) (q : ℕ) → option_map (settled_target mid new task name) o ≡ Some (Target.port q) → (o ≡ Some (Target.port q)) × (new.live_port q ≡ true)
   settled_port None q e = absurd (cc)
-  settled_port (Some (Target.port p)) q e =
-      let h = port_is (new.live_port p) p q _ refl (some_is _ _ e) in
-      (ap (λ (x : ℕ). Some (Target.port x)) h.0, subst (λ (x : ℕ). new.live_port x ≡ true) h.0 h.1)
+  settled_port (Some (Target.port p)) q e = grind (arith, port_is, some_is)
   settled_port (Some (Target.once p)) q e = absurd (once_port (new.live_port p) p q _ (some_is _ _ e))
   settled_port (Some (Target.dead n)) q e = absurd (let f = some_is _ _ e in cc)
   settled_port (Some (Target.set n)) q e = absurd (let f = some_is _ _ e in cc)
@@ -127,10 +119,7 @@ module _ (mid new : State) (task name : ℕ) where
 
   once_live : (b : Bool) (p q n : ℕ) → new.live_port q ≡ b → new.live_port p ≡ true → is_once p (if b then Target.once q else Target.dead n) ≡ (q == p)
   once_live true p q n e live = refl
-  once_live false p q n e live = elim (eqb_tells q p) [
-    | inl h ↦ absurd (let f = ap new.live_port h.1 in cc)
-    | inr h ↦ sym h.0
-  ]
+  once_live false p q n e live = grind arith
 
   not_once : (b : Bool) (p q n : ℕ) → is_once p (if b then Target.port q else Target.dead n) ≡ false
   not_once true p q n = refl
@@ -144,10 +133,7 @@ module _ (mid new : State) (task name : ℕ) where
   same_once p live (Target.set n) = refl
 
   once_dead : (b : Bool) (p q n : ℕ) → new.live_port q ≡ b → new.live_port p ≡ false → is_once p (if b then Target.once q else Target.dead n) ≡ false
-  once_dead true p q n e dead = elim (eqb_tells q p) [
-    | inl h ↦ absurd (let f = ap new.live_port h.1 in cc)
-    | inr h ↦ h.0
-  ]
+  once_dead true p q n e dead = grind arith
   once_dead false p q n e dead = refl
 
   -- and no name is a dead port's
@@ -167,10 +153,8 @@ module _ (mid new : State) (task name : ℕ) where
 
   pub has_references : (u : Target) → HasReferences u → ((p : ℕ) → u ≡ Target.port p → new.live_port p ≡ false → 0 < held mid task send p) → ((p : ℕ) → held mid task send p ≤ most_references) →
       HasReferences (settled_target mid new task name u)
-  has_references (Target.port p) has some few =
-      became (new.live_port p) (mid.stands (dead_name task name)) (held mid task send p) (Target.port p) tt (λ dead. (some p refl dead, few p))
-  has_references (Target.once p) has some few =
-      became (new.live_port p) (mid.stands (dead_name task name)) 1 (Target.once p) tt (λ dead. (omega arith, omega arith))
+  has_references (Target.port p) has some few = grind (arith, became)
+  has_references (Target.once p) has some few = grind (arith, became)
   has_references (Target.dead n) has some few = has
   has_references (Target.set n) has some few = has
 
@@ -201,11 +185,7 @@ module _ (now : ℕ) (old mid : State) (owed : Owed) (new : State) (s : Settles 
   -- what is asked of the names between
   module _ (l : MidLawful mid owed) where
     live_before : (kind : Kind) (p : ℕ) → 0 < count (is_of kind p) mid.ledger → mid.live_port p ≡ true
-    live_before kind p some = go (mid.live_port p) refl
-      where
-        go : (b : Bool) → mid.live_port p ≡ b → mid.live_port p ≡ true
-        go true e = e
-        go false e = absurd (let z = l.no_rights p e kind in omega (arith, z, some))
+    live_before kind p some = grind arith
 
     -- no task has the receive right of a port that dies
     pub dying_unheld : (p : ℕ) → Dies mid p → (task : ℕ) → held mid task receive p ≡ 0
@@ -219,13 +199,7 @@ module _ (now : ℕ) (old mid : State) (owed : Owed) (new : State) (s : Settles 
     ]
 
     pub named_sends : (task name p : ℕ) → lookup mid task name ≡ Some (Target.port p) → new.live_port p ≡ false → 0 < held mid task send p
-    named_sends task name p is dead = elim (pos_or_zero (held mid task receive p)) [
-      | inl h ↦ (let some = (l.naming task).has_right name p is in omega (arith, h, some))
-      | inr h ↦ absurd (
-          let a = held_le_of task receive p mid.ledger in
-          let d = s.deaths.only p (live_before receive p (omega (arith, h, a))) dead in
-          let z = dying_unheld p d task in omega (arith, h, z))
-    ]
+    named_sends task name p is dead = grind (arith, pos_or_zero, held_le_of, live_before, dying_unheld)
 
     pub settled_naming : (task : ℕ) → LawfulNames (new.naming task) (held new task)
     settled_naming task = record {

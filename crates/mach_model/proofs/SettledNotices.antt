@@ -43,17 +43,11 @@ other_port p b zero f x e = refl
 other_port p b (suc n) f x e = let rest = other_port p (b + 1) n f x e in rw e (omega (arith, rest))
 
 not_here : (p k : ℕ) (f : Posted → ℕ) (x : Posted) → ¬ (k ≡ x.entry) → weight_at p k f (x ∷ []) ≡ 0
-not_here p k f x not = zero_if (p == x.port) (k == x.entry) (ne_eqb k x.entry not)
-  where
-    zero_if : (a c : Bool) → c ≡ false → (if a && c then f x else 0) + 0 ≡ 0
-    zero_if true c e = rw e refl
-    zero_if false c e = refl
+not_here p k f x not = grind (arith, ne_eqb)
 
 above : (p b n : ℕ) (f : Posted → ℕ) (x : Posted) → x.entry < b → weight_along p b n f (x ∷ []) ≡ 0
 above p b zero f x less = refl
-above p b (suc n) f x less =
-    let a = not_here p b f x (λ e. omega (arith, e, less)) in
-    let rest = above p (b + 1) n f x (omega (arith, less)) in omega (arith, a, rest)
+above p b (suc n) f x less = grind (arith, above p (b + 1) n f x (omega (arith, less)), not_here)
 
 own_port : (p b n : ℕ) (f : Posted → ℕ) (x : Posted) → (p == x.port) ≡ true → b ≤ x.entry → x.entry < b + n → weight_along p b n f (x ∷ []) ≡ f x
 own_port p b zero f x e from below = absurd (omega (arith, from, below))
@@ -107,23 +101,14 @@ one_here p k c f (x ∷ xs) all one = go (is_entry p k x) (All-head (Weighs p k 
 along_log : (p b : ℕ) (g : Entry → ℕ) (f : Posted → ℕ) (xs : List Posted) (told : List Entry) →
     ((j : ℕ) (e : Entry) → slice_get told j ≡ Some e → weight_at p (b + j) f xs ≡ g e) → sum g told ≡ weight_along p b (length told) f xs
 along_log p b g f xs [] each = refl
-along_log p b g f xs (e ∷ told) each =
-    let first = each 0 e refl in
-    let here : weight_at p (b + 0) f xs ≡ weight_at p b f xs = ap (λ (k : ℕ). weight_at p k f xs) (omega arith) in
-    let rest = along_log p (b + 1) g f xs told (λ j d is. ap (λ (k : ℕ). weight_at p k f xs) (omega arith) ∙ each (suc j) d is) in
-    omega (arith, first, here, rest)
+along_log p b g f xs (e ∷ told) each = grind (arith, each 0 e refl, along_log p (b + 1) g f xs told (λ j d is. ap (λ (k : ℕ). weight_at p k f xs) (omega arith) ∙ each (suc j) d is))
 
 behind_at : {A : Type 0} (xs ys : List A) (i : ℕ) → slice_get (xs ++ ys) (length xs + i) ≡ slice_get ys i
 behind_at [] ys i = ap (slice_get ys) (omega arith)
-behind_at (x ∷ xs) ys i =
-    let e : suc (length xs) + i ≡ suc (length xs + i) = omega arith in
-    ap (slice_get (x ∷ xs ++ ys)) e ∙ behind_at xs ys i
+behind_at (x ∷ xs) ys i = grind (arith, behind_at xs ys i)
 
 some_same : {A : Type 0} (o : Option A) (a b : A) → o ≡ Some a → o ≡ Some b → a ≡ b
-some_same {A} o a b e f = go (sym e ∙ f)
-  where
-    go : Some a ≡ Some b → a ≡ b
-    go g = cc
+some_same {A} o a b e f = grind arith
 
 -- a weight of ports and notices
 abbrev due_weight : (p : ℕ) → (ℕ × Notice → ℕ) → List (ℕ × Notice) → ℕ
@@ -153,22 +138,10 @@ module _ (now : ℕ) (old mid : State) (owed : Owed) (new : State) (l : MidLawfu
   told_length = ap length told_log ∙ length-append (mid.log p) told
 
   within : (x : Posted) → Stands x → Within p (length (mid.log p)) (length told) x
-  within x stands is =
-      let port = eqb-true p x.port is in
-      let at : (length (mid.log p) ≤ x.entry) × (slice_get (new.log p) x.entry ≡ Some record { origin = now; message = notice_message x.port x.notice }) =
-      subst (λ (q : ℕ). (length (mid.log q) ≤ x.entry) × (slice_get (new.log q) x.entry ≡ Some record { origin = now; message = notice_message x.port x.notice })) (sym port) stands in
-      let low = at.0 in
-      let high = slice_get_within (new.log p) x.entry _ at.1 in
-      let n = told_length in
-      (low, omega (arith, high, n))
+  within x stands is = grind (arith, eqb-true, slice_get_within, told_length)
 
   weighs : (k : ℕ) (e : Entry) (x : Posted) → slice_get (new.log p) k ≡ Some e → Stands x → Weighs p k (g e) posted_weight x
-  weighs k e x is stands t =
-      let h = same_entry p k x.port x.entry t in
-      let a = sym h.0 in
-      let b = sym h.1 in
-      let same : slice_get (new.log p) k ≡ Some record { origin = now; message = notice_message x.port x.notice } = (λ j. slice_get (new.log (a j)) (b j)) ∙ stands.1 in
-      ap (λ (q : ℕ). g (record { origin = now; message = notice_message q x.notice })) a ∙ ap g (some_same (slice_get (new.log p) k) _ e same is)
+  weighs k e x is stands t = grind (arith, same_entry, some_same)
 
   each : (j : ℕ) (e : Entry) → slice_get told j ≡ Some e → weight_at p (length (mid.log p) + j) posted_weight s.notices.posted ≡ g e
   each j e is =

@@ -20,28 +20,16 @@ for_port p ys = sum (λ (y : ℕ × Notice). if y.0 == p then 1 else 0) ys
 -- each notice goes by one send-once right, and brings no other
 posted_once : (p : ℕ) (xs : List Posted) → count (is_of send_once p) (all_posted_tokens xs) ≡ for_port p (list_map (λ (x : Posted). (x.port, x.notice)) xs)
 posted_once p [] = refl
-posted_once p (x ∷ xs) =
-    let a = weigh-append (λ y. if is_of send_once p y then 1 else 0) (posted_tokens x) (all_posted_tokens xs) in
-    let rest = posted_once p xs in
-    let b = brought x.notice in omega (arith, a, rest, b)
-  where
-    brought : (n : Notice) → count (is_of send_once p) (carried_by n (in_message x.port x.entry)) ≡ 0
-    brought (port_deleted n) = refl
-    brought (port_sent q) = refl
-    brought (no_more_senders n) = refl
-    brought right_unused = refl
-    brought (name_died n) = refl
+posted_once p (x ∷ xs) = grind (arith, posted_once p xs, weigh-append)
 
 own_port : (p : ℕ) (x : Token) → x.kind ≡ send_once → is_of send_once p x ≡ (x.port == p)
 own_port p x e = ap (λ (k : Kind). same_kind send_once k && x.port == p) e
 
 paid_once : (p : ℕ) (mid new : State) (xs : Owed) → All (λ x. PaysFor mid new x.0 x.1) xs → count (is_of send_once p) (tokens_of xs) ≡ for_port p (due_notices xs)
 paid_once p mid new [] all = refl
-paid_once p mid new (x ∷ xs) all =
-    let pays = All-head (λ (x : Token × Notice). PaysFor mid new x.0 x.1) x xs all in
-    let e = own_port p x.0 pays.0 in
-    let rest = paid_once p mid new xs (All-tail (λ (x : Token × Notice). PaysFor mid new x.0 x.1) x xs all) in
-    rw e (omega (arith, rest))
+paid_once p mid new (x ∷ xs) all = grind (arith,
+    All-head (λ (x : Token × Notice). PaysFor mid new x.0 x.1) x xs all,
+    paid_once p mid new xs (All-tail (λ (x : Token × Notice). PaysFor mid new x.0 x.1) x xs all))
 
 -- those that are owed to the port are told, since it lives
 owed_once : (p : ℕ) (lives alive : ℕ → Bool) (xs : Owed) → alive p ≡ true → All (IsOwed lives) xs → count (is_of send_once p) (tokens_of xs) ≡ for_port p (due_notices (filter (λ x. alive x.0.port) xs))
@@ -71,12 +59,9 @@ module _ (now : ℕ) (old mid : State) (owed : Owed) (new : State) (l : MidLawfu
       lost x (inr h) is = h.0 is.0
 
   pub once_kept : count (is_of send_once p) new.ledger ≡ count (is_of send_once p) mid.ledger + count (is_of send_once p) (tokens_of owed)
-  once_kept =
-      let staying = parts now old mid owed new s (is_of send_once p) in
-      let made = made_of now old mid owed new s (is_of send_once p) in
-      let goes = none_goes in
-      let posts = posted_once p s.notices.posted ∙ ap (for_port p) s.notices.due ∙ ap (for_port p) (map-append (λ (x : Token × Notice). (x.0.port, x.1)) s.rights.paying (filter (λ x. new.live_port x.0.port) owed))
-      ∙ sum-append (λ (y : ℕ × Notice). if y.0 == p then 1 else 0) (due_notices s.rights.paying) (due_notices (filter (λ x. new.live_port x.0.port) owed)) in
-      let pays = paid_once p mid new s.rights.paying s.rights.pay in
-      let owes = owed_once p mid.live_port new.live_port owed live l.are_owed in
-      omega (arith, staying, made, goes, posts, pays, owes)
+  once_kept = grind (arith,
+      parts now old mid owed new s (is_of send_once p), made_of now old mid owed new s (is_of send_once p), none_goes,
+      posted_once p s.notices.posted ∙ ap (for_port p) s.notices.due
+      ∙ ap (for_port p) (map-append (λ (x : Token × Notice). (x.0.port, x.1)) s.rights.paying (filter (λ x. new.live_port x.0.port) owed))
+      ∙ sum-append (λ (y : ℕ × Notice). if y.0 == p then 1 else 0) (due_notices s.rights.paying) (due_notices (filter (λ x. new.live_port x.0.port) owed)),
+      paid_once p mid new s.rights.paying s.rights.pay, owed_once p mid.live_port new.live_port owed live l.are_owed)

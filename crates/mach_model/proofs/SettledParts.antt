@@ -3,7 +3,6 @@
 use Rattle.std.proofs.Common.{zero, suc, ◌<◌, ◌≡◌, ℕ, ◌+◌, ◌≤◌, List, [], ◌∷◌, ◌++◌, refl, sym, ap, subst, arith, true, false, Bool, ◌⊎◌, inl, inr}
 use Rattle.std.specs.Prelude.{◌||◌, if◌then◌else◌, All, ◌==◌, ◌&&◌, map as list_map, filter}
 use Rattle.std.proofs.lemmas.List.Elements.{All-cons, All-append, All-map, All-head, All-tail}
-use Rattle.std.proofs.lemmas.Bool.Decides.{eqb_tells}
 use Rattle.std.proofs.lemmas.Bool.{eq-eqb, ne_eqb, eqb-true}
 use Rattle.std.proofs.lemmas.Bool.{false_from_ne_true}
 use Rattle.mach_types.specs.Tokens.{Kind, receive, send, send_once, Request, no_senders, port_destroyed, dead_name, Place, in_task, in_message, in_request, Token, token, count, is_of, is_held, is_in_task, same_kind}
@@ -23,10 +22,7 @@ less (suc j) zero le not = absurd (omega (arith, le))
 less (suc j) (suc m) le not = let h = less j m (omega (arith, le)) (λ e. not (ap suc e)) in omega (arith, h)
 
 pub eq_symm : (p q : ℕ) → (q == p) ≡ (p == q)
-eq_symm p q = elim (eqb_tells p q) [
-  | inl h ↦ rw (h.0, eq-eqb q p (sym h.1))
-  | inr h ↦ rw (h.0, ne_eqb q p (λ x. h.1 (sym x)))
-]
+eq_symm p q = grind (arith, eq-eqb, ne_eqb)
 
 pub and_false : (b : Bool) → (b && false) ≡ false
 and_false true = refl
@@ -49,18 +45,14 @@ or_left false b e = absurd (cc)
 -- no token passes the test
 pub none_pass : (P : Token → Type 0) (test : Token → Bool) → ((x : Token) → P x → test x ≡ true → ⊥) → (xs : List Token) → All P xs → count test xs ≡ 0
 none_pass P test none [] all = refl
-none_pass P test none (x ∷ xs) all =
-    let e = false_from_ne_true (test x) (none x (All-head P x xs all)) in
-    let rest = none_pass P test none xs (All-tail P x xs all) in
-    rw e (omega (arith, rest))
+none_pass P test none (x ∷ xs) all = grind (arith, none_pass P test none xs (All-tail P x xs all), false_from_ne_true (test x) (none x (All-head P x xs all)))
 
 -- the same for those that pay
 pub none_paid : (P : Token → Notice → Type 0) (test : Token → Bool) → ((x : Token) (n : Notice) → P x n → test x ≡ true → ⊥) → (xs : List (Token × Notice)) → All (λ x. P x.0 x.1) xs → count test (tokens_of xs) ≡ 0
 none_paid P test none [] all = refl
-none_paid P test none (x ∷ xs) all =
-    let e = false_from_ne_true (test x.0) (none x.0 x.1 (All-head (λ (x : Token × Notice). P x.0 x.1) x xs all)) in
-    let rest = none_paid P test none xs (All-tail (λ (x : Token × Notice). P x.0 x.1) x xs all) in
-    rw e (omega (arith, rest))
+none_paid P test none (x ∷ xs) all = grind (arith,
+    false_from_ne_true (test x.0) (none x.0 x.1 (All-head (λ (x : Token × Notice). P x.0 x.1) x xs all)),
+    none_paid P test none xs (All-tail (λ (x : Token × Notice). P x.0 x.1) x xs all))
 
 pub all_mapped : {A B : Type 0} (P : B → Type 0) (f : A → B) (xs : List A) → All P (list_map f xs) → All (λ x. P (f x)) xs
 all_mapped P f [] all = λ k d below. absurd (omega arith)
@@ -107,16 +99,14 @@ same_is (port_destroyed p) (port_destroyed q) e = ap port_destroyed (sym (eqb-tr
 same_is (port_destroyed p) (dead_name t n) e = absurd (cc)
 same_is (dead_name t n) (no_senders p) e = absurd (cc)
 same_is (dead_name t n) (port_destroyed p) e = absurd (cc)
-same_is (dead_name t n) (dead_name u m) e =
-    let a = eqb-true t u (left_of _ _ e) in let b = eqb-true n m (right_of _ _ e) in λ i. dead_name (sym a i) (sym b i)
+same_is (dead_name t n) (dead_name u m) e = grind (arith, eqb-true, left_of, right_of)
 
 pub place_is : (a b : Place) → same_place a b ≡ true → b ≡ a
 place_is (in_task t) (in_task u) e = ap in_task (sym (eqb-true t u e))
 place_is (in_task t) (in_message p k) e = absurd (cc)
 place_is (in_task t) (in_request r) e = absurd (cc)
 place_is (in_message p k) (in_task t) e = absurd (cc)
-place_is (in_message p k) (in_message q l) e =
-    let a = eqb-true p q (left_of _ _ e) in let b = eqb-true k l (right_of _ _ e) in λ i. in_message (sym a i) (sym b i)
+place_is (in_message p k) (in_message q l) e = grind (arith, eqb-true, left_of, right_of)
 place_is (in_message p k) (in_request r) e = absurd (cc)
 place_is (in_request r) (in_task t) e = absurd (cc)
 place_is (in_request r) (in_message p k) e = absurd (cc)
@@ -129,10 +119,10 @@ in_task_is task (in_request r) e = absurd (cc)
 
 -- where a token is that such tests pass
 pub at_place : (kind : Kind) (q : ℕ) (place : Place) (x : Token) → (is_of kind q x && same_place place x.place) ≡ true → (x.port ≡ q) × (x.place ≡ place)
-at_place kind q place x t = ((of_kind kind q x (left_of (is_of kind q x) (same_place place x.place) t)).1, place_is place x.place (right_of (is_of kind q x) (same_place place x.place) t))
+at_place kind q place x t = grind (arith, of_kind, left_of, place_is, right_of)
 
 pub with_task : (task : ℕ) (kind : Kind) (p : ℕ) (x : Token) → is_held task kind p x ≡ true → (x.port ≡ p) × (x.place ≡ in_task task)
-with_task task kind p x t = ((of_kind kind p x (left_of (is_of kind p x) (is_in_task task x.place) t)).1, in_task_is task x.place (right_of (is_of kind p x) (is_in_task task x.place) t))
+with_task task kind p x t = grind (arith, of_kind, left_of, in_task_is, right_of)
 
 pub same_entry : (p k q l : ℕ) → same_place (in_message p k) (in_message q l) ≡ true → (q ≡ p) × (l ≡ k)
 same_entry p k q l t = (sym (eqb-true p q (left_of (p == q) (k == l) t)), sym (eqb-true k l (right_of (p == q) (k == l) t)))
@@ -163,17 +153,9 @@ told_live live p q false e h = absurd (cc)
 tells_live : (mid new : State) (place : Place) (notice : Notice) → TellsAt mid new place notice → BringsLive new.live_port notice
 tells_live mid new (in_task t) notice h p e = absurd h
 tells_live mid new (in_message q k) notice h p e = absurd (let f : is_port_sent p right_unused ≡ true = subst (λ (n : Notice). is_port_sent p n ≡ true) h e in cc)
-tells_live mid new (in_request (no_senders q)) notice h p e = absurd (go (new.live_port q) (subst (λ (n : Notice). is_port_sent p n ≡ true) h e))
-  where
-    go : (b : Bool) → is_port_sent p (if b then no_more_senders (new.make_send q) else right_unused) ≡ true → ⊥
-    go true e = cc
-    go false e = cc
+tells_live mid new (in_request (no_senders q)) notice h p e = grind arith
 tells_live mid new (in_request (port_destroyed q)) notice h p e = told_live new.live_port p q (new.live_port q) refl (subst (λ (n : Notice). is_port_sent p n ≡ true) h e)
-tells_live mid new (in_request (dead_name t n)) notice h p e = absurd (go (mid.stands (dead_name t n)) (subst (λ (n : Notice). is_port_sent p n ≡ true) h e))
-  where
-    go : (b : Bool) → is_port_sent p (if b then name_died n else port_deleted n) ≡ true → ⊥
-    go true e = cc
-    go false e = cc
+tells_live mid new (in_request (dead_name t n)) notice h p e = grind arith
 
 -- ---- the parts
 
@@ -185,11 +167,7 @@ module _ (now : ℕ) (old mid : State) (owed : Owed) (new : State) (s : Settles 
   made_of test = s.notices.ledger (λ x. if test x then 1 else 0)
 
   pub live_mid : (p : ℕ) → new.live_port p ≡ true → mid.live_port p ≡ true
-  live_mid p live = go (mid.live_port p) refl
-    where
-      go : (b : Bool) → mid.live_port p ≡ b → mid.live_port p ≡ true
-      go true e = e
-      go false e = absurd (let f = s.deaths.gone_before p e in cc)
+  live_mid p live = grind arith
 
   -- what stays is for live ports, at places that stay
   pub stays_if : (test : Token → Bool) → ((x : Token) → StaysWith new x → test x ≡ true → ⊥) → count test s.rights.staying ≡ 0
@@ -203,14 +181,7 @@ module _ (now : ℕ) (old mid : State) (owed : Owed) (new : State) (s : Settles 
 
   -- a right of a live port at a place that stays does stay
   pub kept_there : (test : Token → Bool) → ((x : Token) → test x ≡ true → (new.live_port x.port ≡ true) × PlaceStays new x.place) → count test mid.ledger ≡ count test s.rights.staying
-  kept_there test there =
-      let a = pays_if test (λ x n pays t. pays.2 (there x t).1) in
-      let b = goes_if test (λ x goes t. leaves x goes (there x t)) in
-      let c = parts test in omega (arith, a, b, c)
-    where
-      leaves : (x : Token) → GoesFrom new x → (new.live_port x.port ≡ true) × PlaceStays new x.place → ⊥
-      leaves x (inl dead) h = let f = h.0 in cc
-      leaves x (inr g) h = g.1 h.1
+  kept_there test there = grind (arith, pays_if, goes_if, parts)
 
   -- ---- notices
 

@@ -38,27 +38,7 @@ pub record Appended (front after : List Entry) (n : ℕ) : Type 0 where
 pub posts_append : (now : ℕ) (front : ℕ → List Entry) (ys : List (ℕ × Notice)) (p : ℕ) →
     Appended (front p) (logs_after now front ys p) (length (filter (λ (x : Posted). x.port == p) (post_all now front ys)))
 posts_append now front [] p = record { added = []; is = sym (append-nil (front p)); many = refl }
-posts_append now front (y ∷ ys) p = elim (eqb_tells y.0 p) [
-  | inl h ↦ own h.0 h.1 (posts_append now (with_notice now front y) ys p)
-  | inr h ↦ other h.0 h.1 (posts_append now (with_notice now front y) ys p)
-]
-  where
-    own : (y.0 == p) ≡ true → y.0 ≡ p → Appended (with_notice now front y p) (logs_after now (with_notice now front y) ys p) (length (filter (λ (x : Posted). x.port == p) (post_all now (with_notice now front y) ys))) →
-        Appended (front p) (logs_after now front (y ∷ ys) p) (length (filter (λ (x : Posted). x.port == p) (post_all now front (y ∷ ys))))
-    own e same a = record {
-      added = notice_entry now y ∷ a.added;
-      is = a.is ∙ ap (λ (xs : List Entry). xs ++ a.added) (at_same front y.0 (front y.0 ++ notice_entry now y ∷ []) p (sym same) ∙ ap (λ (q : ℕ). front q ++ notice_entry now y ∷ []) same)
-          ∙ append_assoc (front p) (notice_entry now y ∷ []) a.added;
-      many = rw e (ap suc a.many);
-    }
-
-    other : (y.0 == p) ≡ false → (y.0 ≡ p → ⊥) → Appended (with_notice now front y p) (logs_after now (with_notice now front y) ys p) (length (filter (λ (x : Posted). x.port == p) (post_all now (with_notice now front y) ys))) →
-        Appended (front p) (logs_after now front (y ∷ ys) p) (length (filter (λ (x : Posted). x.port == p) (post_all now front (y ∷ ys))))
-    other e not a = record {
-      added = a.added;
-      is = a.is ∙ ap (λ (xs : List Entry). xs ++ a.added) (at_other front y.0 (front y.0 ++ notice_entry now y ∷ []) p (λ x. not (sym x)));
-      many = rw e a.many;
-    }
+posts_append now front (y ∷ ys) p = grind (arith, posts_append now (with_notice now front y) ys p, at_same, append_assoc, at_other)
 
 -- what stood stands
 front_stays : {A : Type 0} (xs ys : List A) (k : ℕ) (x : A) → slice_get xs k ≡ Some x → slice_get (xs ++ ys) k ≡ Some x
@@ -77,11 +57,7 @@ abbrev pub StandsBehind : (now : ℕ) → (first : ℕ → List Entry) → (afte
 StandsBehind now first after x = (length (first x.port) ≤ x.entry) × (slice_get (after x.port) x.entry ≡ Some record { origin = now; message = notice_message x.port x.notice })
 
 grown : (now : ℕ) (front : ℕ → List Entry) (y : ℕ × Notice) (p : ℕ) → length (front p) ≤ length (with_notice now front y p)
-grown now front y p = elim (eqb_tells p y.0) [
-  | inl h ↦ (let a = ap length (at_same front y.0 (front y.0 ++ notice_entry now y ∷ []) p h.1) in let b = length-append (front y.0) (notice_entry now y ∷ []) in
-      let c : length (front p) ≡ length (front y.0) = ap (λ (q : ℕ). length (front q)) h.1 in omega (arith, a, b, c))
-  | inr h ↦ (let a = ap length (at_other front y.0 (front y.0 ++ notice_entry now y ∷ []) p h.1) in omega (arith, a))
-]
+grown now front y p = grind (arith, at_same, length-append, at_other)
 
 pub posts_stand : (now : ℕ) (first front : ℕ → List Entry) (ys : List (ℕ × Notice)) → ((p : ℕ) → length (first p) ≤ length (front p)) → All (StandsBehind now first (logs_after now front ys)) (post_all now front ys)
 posts_stand now first front [] more = λ k d below. absurd (omega arith)

@@ -7,7 +7,7 @@ use Rattle.std.proofs.lemmas.Bool.{and_from, false_from_ne_true}
 use Rattle.mach_types.specs.Tokens.{Kind, receive, send_once, no_senders, port_destroyed, dead_name, Place, in_task, in_message, in_request, Token, token, count, is_of}
 use Rattle.mach_model.specs.State.{State}
 use Rattle.mach_model.specs.Death.{same_place, Dies, orphan, carried_at, IsOrphan, IsSaved, CarriedAt}
-use Rattle.mach_model.specs.Notices.{Notice, port_deleted, port_sent, no_more_senders, right_unused, name_died, Owed, Posted, posted_tokens, all_posted_tokens, carried_by}
+use Rattle.mach_model.specs.Notices.{Notice, port_deleted, port_sent, no_more_senders, right_unused, name_died, Owed, Posted, all_posted_tokens, carried_by}
 use Rattle.mach_model.specs.Settles.{PlaceStays, TellsAt, PaysFor, GoesFrom, tokens_of, Settles}
 use Rattle.mach_model.specs.Lawful.{tally}
 use Rattle.mach_model.specs.Midway.{MidLawful, IsOwed}
@@ -30,11 +30,7 @@ tally-append test (x ∷ xs) ys = omega (arith, tally-append test xs ys)
 
 pub tally-filter : {A : Type 0} (test keep : A → Bool) (xs : List A) → tally test (filter keep xs) ≤ tally test xs
 tally-filter test keep [] = omega arith
-tally-filter test keep (x ∷ xs) = go (keep x) (tally-filter test keep xs)
-  where
-    go : (b : Bool) → tally test (filter keep xs) ≤ tally test xs → tally test (if b then x ∷ filter keep xs else filter keep xs) ≤ (if test x then 1 else 0) + tally test xs
-    go true h = omega (arith, h)
-    go false h = omega (arith, h)
+tally-filter test keep (x ∷ xs) = grind (arith, tally-filter test keep xs)
 
 -- ---- the receive rights that notices bring
 
@@ -48,8 +44,7 @@ one_posted p port place (name_died n) = refl
 
 pub posted_receives : (p : ℕ) (xs : List Posted) → receives p (all_posted_tokens xs) ≡ tally (λ (x : Posted). is_port_sent p x.notice) xs
 posted_receives p [] = refl
-posted_receives p (x ∷ xs) =
-    omega (arith, weigh-append (λ y. if is_of receive p y then 1 else 0) (posted_tokens x) (all_posted_tokens xs), one_posted p x.port (in_message x.port x.entry) x.notice, posted_receives p xs)
+posted_receives p (x ∷ xs) = grind (arith, posted_receives p xs, weigh-append, one_posted)
 
 sent_if : (live : ℕ → Bool) (p q : ℕ) (b : Bool) → live p ≡ true → live q ≡ b → is_port_sent p (if b then port_sent q else right_unused) ≡ (p == q)
 sent_if live p q true l e = eq_symm p q
@@ -59,26 +54,17 @@ tells_sent : (mid new : State) (p : ℕ) (place : Place) (notice : Notice) → n
     is_port_sent p notice ≡ same_place (in_request (port_destroyed p)) place
 tells_sent mid new p (in_task t) notice live h = absurd h
 tells_sent mid new p (in_message q k) notice live h = rw h refl
-tells_sent mid new p (in_request (no_senders q)) notice live h = rw h (go (new.live_port q))
-  where
-    go : (b : Bool) → is_port_sent p (if b then no_more_senders (new.make_send q) else right_unused) ≡ false
-    go true = refl
-    go false = refl
+tells_sent mid new p (in_request (no_senders q)) notice live h = grind (arith, is_port_sent)
 tells_sent mid new p (in_request (port_destroyed q)) notice live h = rw h (sent_if new.live_port p q (new.live_port q) live refl)
-tells_sent mid new p (in_request (dead_name t n)) notice live h = rw h (go (mid.stands (dead_name t n)))
-  where
-    go : (b : Bool) → is_port_sent p (if b then name_died n else port_deleted n) ≡ false
-    go true = refl
-    go false = refl
+tells_sent mid new p (in_request (dead_name t n)) notice live h = grind (arith, is_port_sent)
 
 -- as many notices send the port away as rights of its request pay
 paying_sent : (mid new : State) (p : ℕ) (xs : List (Token × Notice)) → new.live_port p ≡ true → All (λ x. PaysFor mid new x.0 x.1) xs →
     tally (λ x. is_port_sent p x.1) xs ≡ count (λ x. same_place (in_request (port_destroyed p)) x.place) (tokens_of xs)
 paying_sent mid new p [] live all = refl
-paying_sent mid new p (x ∷ xs) live all =
-    let e = tells_sent mid new p x.0.place x.1 live (all 0 x (omega arith)).3 in
-    let rest = paying_sent mid new p xs live (λ k d below. all (suc k) d (omega (arith, below))) in
-    rw e (omega (arith, rest))
+paying_sent mid new p (x ∷ xs) live all = grind (arith,
+    tells_sent mid new p x.0.place x.1 live (all 0 x (omega arith)).3,
+    paying_sent mid new p xs live (λ k d below. all (suc k) d (omega (arith, below))))
 
 -- an owed notice brings no receive right
 none_brought : (n : Notice) → ((place : Place) → carried_by n place ≡ []) → BringsNone n
@@ -93,26 +79,21 @@ owed_brings mid owed all k d below = none_brought _ (all k d below).carries
 
 pub owed_none : (p : ℕ) (owed : Owed) → All (λ (x : Token × Notice). BringsNone x.1) owed → tally (λ (x : Token × Notice). is_port_sent p x.1) owed ≡ 0
 owed_none p [] all = refl
-owed_none p (x ∷ xs) all =
-    let e = All-head (λ (x : Token × Notice). BringsNone x.1) x xs all p in
-    let rest = owed_none p xs (All-tail (λ (x : Token × Notice). BringsNone x.1) x xs all) in
-    rw e (omega (arith, rest))
+owed_none p (x ∷ xs) all = grind (arith, All-head (λ (x : Token × Notice). BringsNone x.1) x xs all p, owed_none p xs (All-tail (λ (x : Token × Notice). BringsNone x.1) x xs all))
 
 module _ (now : ℕ) (old mid : State) (owed : Owed) (new : State) (l : MidLawful mid owed) (s : Settles now old mid owed new) where
   abbrev pub At : ℕ → Token → Bool
   At p x = same_place (in_request (port_destroyed p)) x.place
 
   pub sent_posted : (p : ℕ) → new.live_port p ≡ true → receives p (all_posted_tokens s.notices.posted) ≡ count (At p) (tokens_of s.rights.paying)
-  sent_posted p live =
-      let a = posted_receives p s.notices.posted in
-      let b = tally-map (λ (y : ℕ × Notice). is_port_sent p y.1) (λ (x : Posted). (x.port, x.notice)) s.notices.posted in
-      let c = ap (tally (λ (y : ℕ × Notice). is_port_sent p y.1)) s.notices.due in
-      let d = tally-map (λ (y : ℕ × Notice). is_port_sent p y.1) (λ (x : Token × Notice). (x.0.port, x.1)) (s.rights.paying ++ filter (λ x. new.live_port x.0.port) owed) in
-      let e = tally-append (λ (x : Token × Notice). is_port_sent p x.1) s.rights.paying (filter (λ x. new.live_port x.0.port) owed) in
-      let f = tally-filter (λ (x : Token × Notice). is_port_sent p x.1) (λ x. new.live_port x.0.port) owed in
-      let g = owed_none p owed (owed_brings mid owed l.are_owed) in
-      let h = paying_sent mid new p s.rights.paying live s.rights.pay in
-      omega (arith, a, b, c, d, e, f, g, h)
+  sent_posted p live = grind (arith,
+      posted_receives p s.notices.posted,
+      tally-map (λ (y : ℕ × Notice). is_port_sent p y.1) (λ (x : Posted). (x.port, x.notice)) s.notices.posted,
+      ap (tally (λ (y : ℕ × Notice). is_port_sent p y.1)) s.notices.due,
+      tally-map (λ (y : ℕ × Notice). is_port_sent p y.1) (λ (x : Token × Notice). (x.0.port, x.1)) (s.rights.paying ++ filter (λ x. new.live_port x.0.port) owed),
+      tally-append (λ (x : Token × Notice). is_port_sent p x.1) s.rights.paying (filter (λ x. new.live_port x.0.port) owed),
+      tally-filter (λ (x : Token × Notice). is_port_sent p x.1) (λ x. new.live_port x.0.port) owed, owed_none p owed (owed_brings mid owed l.are_owed),
+      paying_sent mid new p s.rights.paying live s.rights.pay)
 
   new_receives : (p : ℕ) → new.live_port p ≡ true → receives p new.ledger ≡ receives p s.rights.staying + count (At p) (tokens_of s.rights.paying)
   new_receives p live = let a = made_of now old mid owed new s (is_of receive p) in let b = sent_posted p live in omega (arith, a, b)
@@ -192,27 +173,12 @@ module _ (now : ℕ) (old mid : State) (owed : Owed) (new : State) (l : MidLawfu
           omega (arith, two, part, z)
 
   unsent : (p : ℕ) → new.live_port p ≡ true → s.ports.is_sent p ≡ false → receives p new.ledger ≡ 1
-  unsent p live un =
-      let some : 0 < receives p mid.ledger = elim (pos_or_zero (receives p mid.ledger)) [
-        | inl h ↦ absurd (unsent_saved p live un (inl (live_mid now old mid owed new s p live, h)))
-        | inr h ↦ h
-      ] in
-      let a = l.most_receive p in
-      let b = parts now old mid owed new s (is_of receive p) in
-      let c = none_pay p in
-      let d = going_none p live un in
-      let e = new_receives p live in
-      let f = no_paying p live un in
-      omega (arith, some, a, b, c, d, e, f)
+  unsent p live un = grind (arith, pos_or_zero, unsent_saved, live_mid, parts, none_pay, going_none, new_receives, no_paying)
 
   -- ---- a port that is sent away
 
   live_rights : (kind : Kind) (p : ℕ) → 0 < count (is_of kind p) mid.ledger → mid.live_port p ≡ true
-  live_rights kind p some = go (mid.live_port p) refl
-    where
-      go : (b : Bool) → mid.live_port p ≡ b → mid.live_port p ≡ true
-      go true e = e
-      go false e = absurd (let z = l.no_rights p e kind in omega (arith, z, some))
+  live_rights kind p some = grind arith
 
   -- the port that is told lives: its receive right is with a task
   pub notify_lives : (p : ℕ) (saved : IsSaved mid p) → new.live_port saved.notify ≡ true
@@ -285,8 +251,4 @@ module _ (now : ℕ) (old mid : State) (owed : Owed) (new : State) (l : MidLawfu
 
   -- After the step each live port has exactly one receive right.
   pub settled_one_receive : (p : ℕ) → new.live_port p ≡ true → receives p new.ledger ≡ 1
-  settled_one_receive p live = go (s.ports.is_sent p) refl
-    where
-      go : (b : Bool) → s.ports.is_sent p ≡ b → receives p new.ledger ≡ 1
-      go true e = sent_away p live e
-      go false e = unsent p live e
+  settled_one_receive p live = grind (arith, sent_away, unsent)

@@ -72,41 +72,20 @@ ports_of (x ∷ xs) = if same_kind receive x.kind then x.port ∷ ports_of xs el
 
 times_ports : (p : ℕ) (xs : List Token) → times p (ports_of xs) ≡ receives p xs
 times_ports p [] = omega arith
-times_ports p (x ∷ xs) = go (same_kind receive x.kind) (times_ports p xs)
-  where
-    go : (b : Bool) → times p (ports_of xs) ≡ receives p xs → times p (if b then x.port ∷ ports_of xs else ports_of xs) ≡ (if b && x.port == p then 1 else 0) + receives p xs
-    go true ih = omega (arith, ih)
-    go false ih = omega (arith, ih)
+times_ports p (x ∷ xs) = grind (arith, times_ports p xs, receives)
 
 few_ports : (xs : List Token) → length (ports_of xs) ≤ length xs
 few_ports [] = omega arith
-few_ports (x ∷ xs) = go (same_kind receive x.kind) (few_ports xs)
-  where
-    go : (b : Bool) → length (ports_of xs) ≤ length xs → length (if b then x.port ∷ ports_of xs else ports_of xs) ≤ suc (length xs)
-    go true ih = omega (arith, ih)
-    go false ih = omega (arith, ih)
+few_ports (x ∷ xs) = grind (arith, few_ports xs)
 
 -- a notice goes by one right, and may bring a receive right
 posted_length : (xs : List Posted) → length (all_posted_tokens xs) ≡ length xs + length (ports_of (all_posted_tokens xs))
 posted_length [] = omega arith
-posted_length (x ∷ xs) = go x.notice (posted_length xs)
-  where
-    go : (n : Notice) → length (all_posted_tokens xs) ≡ length xs + length (ports_of (all_posted_tokens xs)) →
-        length ((token send_once x.port (in_message x.port x.entry) ∷ carried_by n (in_message x.port x.entry)) ++ all_posted_tokens xs)
-        ≡ suc (length xs) + length (ports_of ((token send_once x.port (in_message x.port x.entry) ∷ carried_by n (in_message x.port x.entry)) ++ all_posted_tokens xs))
-    go (port_deleted k) ih = omega (arith, ih)
-    go (port_sent q) ih = omega (arith, ih)
-    go (no_more_senders k) ih = omega (arith, ih)
-    go right_unused ih = omega (arith, ih)
-    go (name_died k) ih = omega (arith, ih)
+posted_length (x ∷ xs) = grind (arith, posted_length xs)
 
 filter_shorter : {A : Type 0} (keep : A → Bool) (xs : List A) → length (filter keep xs) ≤ length xs
 filter_shorter keep [] = omega arith
-filter_shorter keep (x ∷ xs) = go (keep x) (filter_shorter keep xs)
-  where
-    go : (b : Bool) → length (filter keep xs) ≤ length xs → length (if b then x ∷ filter keep xs else filter keep xs) ≤ suc (length xs)
-    go true ih = omega (arith, ih)
-    go false ih = omega (arith, ih)
+filter_shorter keep (x ∷ xs) = grind (arith, filter_shorter keep xs)
 
 weigh_length : (xs : List Token) → weigh (λ x. 1) xs ≡ length xs
 weigh_length xs = sym (length-weigh xs)
@@ -114,13 +93,7 @@ weigh_length xs = sym (length-weigh xs)
 module _ (now : ℕ) (old mid : State) (owed : Owed) (new : State) (l : MidLawful mid owed) (s : Settles now old mid owed new) where
   -- as many notices as rights that pay, or are owed one
   posted_few : length s.notices.posted ≤ length s.rights.paying + length owed
-  posted_few =
-      let a = ap length s.notices.due in
-      let b = length-map {B = ℕ × Notice} s.notices.posted (λ (x : Posted). (x.port, x.notice)) in
-      let c = length-map {B = ℕ × Notice} (s.rights.paying ++ filter (λ x. new.live_port x.0.port) owed) (λ (x : Token × Notice). (x.0.port, x.1)) in
-      let d = length-append s.rights.paying (filter (λ x. new.live_port x.0.port) owed) in
-      let e = filter_shorter (λ (x : Token × Notice). new.live_port x.0.port) owed in
-      omega (arith, a, b, c, d, e)
+  posted_few = grind (arith, length-map, length-append, filter_shorter)
 
   -- a receive right that a notice brings was an orphan's, or goes with a queue
   brought_few : (p : ℕ) → receives p (all_posted_tokens s.notices.posted) ≤ times p (l.orphans ++ ports_of s.rights.going)

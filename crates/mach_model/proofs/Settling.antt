@@ -82,20 +82,10 @@ stays_with s l k d below =
     (alive s l x.kind x.port (let le = lying_le_of s x.kind x.port x.place in omega (arith, some, le)), place_stays s l x.kind x.port x.place some)
 
 pub named_lives : (s : State) → IsLawful s → (task name p : ℕ) → lookup s task name ≡ Some (Target.port p) → s.live_port p ≡ true
-named_lives s l task name p is =
-    let some = (l.naming task).has_right name p is in
-    let a = held_le_of task receive p s.ledger in
-    let b = held_le_of task send p s.ledger in
-    elim (pos_or_zero (count (is_of receive p) s.ledger)) [
-      | inl h ↦ alive s l send p (omega (arith, some, a, b, h))
-      | inr h ↦ alive s l receive p h
-    ]
+named_lives s l task name p is = grind (arith, (l.naming task).has_right name p is, held_le_of task receive p s.ledger, held_le_of task send p s.ledger)
 
 pub once_lives : (s : State) → IsLawful s → (task name p : ℕ) → lookup s task name ≡ Some (Target.once p) → s.live_port p ≡ true
-once_lives s l task name p is =
-    let some = some_tally (is_once p) (s.naming task) name (Target.once p) is (eq-eqb p p refl) in
-    let a = held_le_of task send_once p s.ledger in
-    alive s l send_once p (omega (arith, some, (l.naming task).once_names p, a))
+once_lives s l task name p is = grind (arith, some_tally (is_once p) (s.naming task) name (Target.once p) is (eq-eqb p p refl), held_le_of task send_once p s.ledger)
 
 -- ---- a lawful state may stay
 
@@ -123,14 +113,7 @@ nothing_ends old mid new l keeps live same (no_senders p) is (inl dead) = let a 
 nothing_ends old mid new l keeps live same (no_senders p) is (inr h) = let a = keeps p is h.0 in let b = same p in let c = h.1 in omega (arith, a, b, c)
 nothing_ends old mid new l keeps live same (port_destroyed p) is (inl dead) = let a = l.stands_on (port_destroyed p) is in let b = live p in cc
 nothing_ends old mid new l keeps live same (port_destroyed p) is (inr sent) = never_sent mid l p sent
-nothing_ends old mid new l keeps live same (dead_name task name) is dead = go (lookup mid task name) refl dead
-  where
-    go : (o : Option Target) → lookup mid task name ≡ o → BecameDead mid new o → ⊥
-    go None e f = f
-    go (Some (Target.port p)) e f = let a = named_lives mid l task name p e in let b = live p in cc
-    go (Some (Target.once p)) e f = let a = once_lives mid l task name p e in let b = live p in cc
-    go (Some (Target.dead n)) e f = f
-    go (Some (Target.set s)) e f = f
+nothing_ends old mid new l keeps live same (dead_name task name) is dead = grind (arith, named_lives, once_lives)
 
 -- From a lawful state after a step's own part that owes nothing and keeps senders, the step may end as it is.
 pub calm_settles : (now : ℕ) (old mid : State) → IsLawful mid → KeepsSenders old mid → Settles now old mid [] mid
@@ -197,18 +180,11 @@ empty_mapped f (x ∷ xs) e = absurd (cc)
 
 module _ (now : ℕ) (old mid new : State) (l : IsLawful mid) (keeps : KeepsSenders old mid) (s : Settles now old mid [] new) where
   live : (p : ℕ) → new.live_port p ≡ mid.live_port p
-  live p = elim (cases_Bool (mid.live_port p)) [
-    | inl e ↦ true_from_ne_false (new.live_port p) (λ f. no_death mid l p (s.deaths.only p e f)) ∙ sym e
-    | inr e ↦ s.deaths.gone_before p e ∙ sym e
-  ]
+  live p = grind (arith, cases_Bool, true_from_ne_false, no_death)
 
   -- a token that is one of the ledger's
   head_lies : (x : Token) (xs : List Token) → ((test : Token → Bool) → count test (x ∷ xs) ≤ count test mid.ledger) → 0 < lying mid x.kind x.port x.place
-  head_lies x xs le =
-      let e = own_test x in
-      let f = le (is_at x.kind x.port x.place) in
-      let g : 0 < count (is_at x.kind x.port x.place) (x ∷ xs) = rw e (omega arith) in
-      omega (arith, f, g)
+  head_lies x xs le = grind (arith, own_test)
 
   -- ---- send rights, of which no request keeps any
 
@@ -218,16 +194,8 @@ module _ (now : ℕ) (old mid new : State) (l : IsLawful mid) (keeps : KeepsSend
   sends_stay q (in_request r) some = absurd (let z = l.once_kept r send q (λ e. cc) in omega (arith, some, z))
 
   send_kept : (x : Token) (q : ℕ) → is_of send q x ≡ true → 0 < lying mid x.kind x.port x.place → GoesFrom new x → ⊥
-  send_kept x q is some (inl dead) =
-      let more = lying_le_of mid x.kind x.port x.place in
-      let e = alive mid l x.kind x.port (omega (arith, some, more)) in
-      let f = live x.port in cc
-  send_kept x q is some (inr h) = h.1 (sends_stay x.port x.place (subst (λ (k : Kind). 0 < lying mid k x.port x.place) (is_send x.kind (left_of (same_kind send x.kind) (x.port == q) is)) some))
-    where
-      is_send : (k : Kind) → same_kind send k ≡ true → k ≡ send
-      is_send send e = refl
-      is_send receive e = absurd (cc)
-      is_send send_once e = absurd (cc)
+  send_kept x q is some (inl dead) = grind (arith, lying_le_of, alive, live)
+  send_kept x q is some (inr h) = grind (arith, sends_stay, left_of)
 
   no_send_goes : (q : ℕ) (xs : List Token) → All (GoesFrom new) xs → ((test : Token → Bool) → count test xs ≤ count test mid.ledger) → count (is_of send q) xs ≡ 0
   no_send_goes q [] all le = refl
@@ -247,35 +215,15 @@ module _ (now : ℕ) (old mid new : State) (l : IsLawful mid) (keeps : KeepsSend
 
   no_send_posted : (q : ℕ) (xs : List Posted) → count (is_of send q) (all_posted_tokens xs) ≡ 0
   no_send_posted q [] = refl
-  no_send_posted q (x ∷ xs) =
-      let a = weigh-append (λ y. if is_of send q y then 1 else 0) (posted_tokens x) (all_posted_tokens xs) in
-      let rest = no_send_posted q xs in
-      let b = brought x.notice in omega (arith, a, rest, b)
-    where
-      brought : (n : Notice) → count (is_of send q) (carried_by n (in_message x.port x.entry)) ≡ 0
-      brought (port_deleted n) = refl
-      brought (port_sent p) = refl
-      brought (no_more_senders n) = refl
-      brought right_unused = refl
-      brought (name_died n) = refl
+  no_send_posted q (x ∷ xs) = grind (arith, no_send_posted q xs, weigh-append)
 
   same_senders : (q : ℕ) → senders new q ≡ senders mid q
-  same_senders q =
-      let parts = s.rights.parts (λ x. if is_of send q x then 1 else 0) in
-      let made = s.notices.ledger (λ x. if is_of send q x then 1 else 0) in
-      let le : (f : Token → Bool) → count f s.rights.going ≤ count f mid.ledger = λ f. (let e = s.rights.parts (λ x. if f x then 1 else 0) in omega (arith, e)) in
-      let goes = no_send_goes q s.rights.going s.rights.go le in
-      let pays = no_send_pays q s.rights.paying s.rights.pay in
-      let posts = no_send_posted q s.notices.posted in
-      omega (arith, parts, made, goes, pays, posts)
+  same_senders q = grind (arith, no_send_goes, no_send_pays, no_send_posted)
 
   -- ---- so every right stays
 
   same_stands : (r : Request) → new.stands r ≡ mid.stands r
-  same_stands r = elim (cases_Bool (mid.stands r)) [
-    | inl e ↦ true_from_ne_false (new.stands r) (λ f. nothing_ends old mid new l keeps live same_senders r e (s.requests.only r e f)) ∙ sym e
-    | inr e ↦ s.requests.unmade r e ∙ sym e
-  ]
+  same_stands r = grind (arith, cases_Bool, true_from_ne_false, nothing_ends, live, same_senders)
 
   stays_new : (kind : Kind) (q : ℕ) (place : Place) → 0 < lying mid kind q place → PlaceStays new place
   stays_new kind q (in_task t) some = tt
@@ -307,7 +255,7 @@ module _ (now : ℕ) (old mid new : State) (l : IsLawful mid) (keeps : KeepsSend
   none_going = none_goes s.rights.going s.rights.go (λ test. let e = s.rights.parts (λ x. if test x then 1 else 0) in omega (arith, e))
 
   none_posted : s.notices.posted ≡ []
-  none_posted = empty_mapped (λ (x : Posted). (x.port, x.notice)) s.notices.posted (s.notices.due ∙ ap (λ (xs : List (Token × Notice)). due_notices (xs ++ [])) none_paying)
+  none_posted = grind (arith, empty_mapped, none_paying)
 
   same_log : (p : ℕ) → new.log p ≡ mid.log p
   same_log p =
@@ -316,8 +264,7 @@ module _ (now : ℕ) (old mid new : State) (l : IsLawful mid) (keeps : KeepsSend
       h.1 ∙ ap (λ (xs : List Entry). mid.log p ++ xs) e ∙ append-nil (mid.log p)
 
   same_name : (task name : ℕ) → lookup new task name ≡ lookup mid task name
-  same_name task name = s.names task name ∙ sym (same_target mid new task name (lookup mid task name)
-      (λ p e. live p ∙ named_lives mid l task name p e) (λ p e. live p ∙ once_lives mid l task name p e))
+  same_name task name = grind (arith, same_target, live, named_lives, once_lives)
 
   unsent : (p : ℕ) → s.ports.is_sent p ≡ false
   unsent p = false_from_ne_true (s.ports.is_sent p) (λ e. never_sent mid l p (s.ports.sent_only p e))
@@ -333,25 +280,7 @@ module _ (now : ℕ) (old mid new : State) (l : IsLawful mid) (keeps : KeepsSend
 
   -- From a lawful state after a step's own part that owes nothing and keeps senders, the step ends with that state.
   pub settles_calmly : IsReordered mid new
-  settles_calmly = record {
-    rest = s.rest ∙ (λ i. record mid {
-      live_port = fun_ext live i;
-      naming = fun_ext (λ (task : ℕ). alike (new.naming task) (mid.naming task) (same_name task)) i;
-      log = fun_ext same_log i;
-      ledger = new.ledger;
-      stands = fun_ext same_stands i;
-      sets_of = fun_ext same_set i;
-      make_send = fun_ext same_make_send i;
-      sequence = fun_ext same_sequence i;
-    });
-    tokens = λ h.
-        let a = s.notices.ledger h in
-        let b = s.rights.parts h in
-        let c : weigh h (tokens_of s.rights.paying) ≡ 0 = ap (λ (xs : List (Token × Notice)). weigh h (tokens_of xs)) none_paying in
-        let d : weigh h s.rights.going ≡ 0 = ap (weigh h) none_going in
-        let e : weigh h (all_posted_tokens s.notices.posted) ≡ 0 = ap (λ (xs : List Posted). weigh h (all_posted_tokens xs)) none_posted in
-        omega (arith, a, b, c, d, e);
-  }
+  settles_calmly = grind (arith, fun_ext, live, alike, same_name, same_log, same_stands, same_set, same_make_send, same_sequence, none_paying, none_going, none_posted)
 
 pub settles_quietly : (now : ℕ) (old mid new : State) → IsLawful mid → IsQuiet mid → Settles now old mid [] new → IsReordered mid new
 settles_quietly now old mid new l quiet s = settles_calmly now old mid new l (quiet_keeps old mid quiet) s

@@ -16,10 +16,7 @@ use Rattle.mach_model.proofs.Names.{kept, get_removed, get_own, get_other, inser
 
 -- what is left was there, under another name
 pub left : (m : Names) (name n : ℕ) (x : Target) → map.get (map.remove m name) n ≡ Some x → (n ≡ name → ⊥) × (map.get m n ≡ Some x)
-left m name n x is = elim (eqb_tells n name) [
-  | inl h ↦ absurd (let a = removed_own m name in let b : map.get (map.remove m name) name ≡ Some x = subst (λ (k : ℕ). map.get (map.remove m name) k ≡ Some x) h.1 is in cc)
-  | inr h ↦ (h.1, sym (get_removed m name n h.1) ∙ is)
-]
+left m name n x is = grind (arith, removed_own, get_removed)
 
 pub remove_tally : (test : Target → Bool) (m : Names) (name : ℕ) (v : Target) → map.get m name ≡ Some v →
     tally test (map.values m) ≡ (if test v then 1 else 0) + tally test (map.values (map.remove m name))
@@ -41,20 +38,13 @@ removed_length m name v is =
 
 -- a name that stands for another thing now
 pub again : (m : Names) (name : ℕ) (v : Target) → map.insert (map.remove m name) name v ≡ map.insert m name v
-again m name v = alike _ _ (λ n. elim (eqb_tells n name) [
-  | inl h ↦ subst (λ (k : ℕ). map.get (map.insert (map.remove m name) name v) k ≡ map.get (map.insert m name v) k) (sym h.1)
-      (get_own (map.remove m name) name v ∙ sym (get_own m name v))
-  | inr h ↦ get_other (map.remove m name) name v n h.1 ∙ get_removed m name n h.1 ∙ sym (get_other m name v n h.1)
-])
+again m name v = grind (arith, alike, get_own, get_other, get_removed)
 
 pub replace_tally : (test : Target → Bool) (m : Names) (name : ℕ) (v w : Target) → map.get m name ≡ Some v → test v ≡ test w →
     tally test (map.values (map.insert m name w)) ≡ tally test (map.values m)
-replace_tally test m name v w is same =
-    let a = insert_tally test (map.remove m name) name w (removed_own m name) in
-    let b = ap (λ (x : Names). tally test (map.values x)) (again m name w) in
-    let c = remove_tally test m name v is in
-    let d : (if test v then suc zero else zero) ≡ (if test w then suc zero else zero) = ap (λ (t : Bool). if t then suc zero else zero) same in
-    omega (arith, a, b, c, d)
+replace_tally test m name v w is same = grind (arith,
+    insert_tally test (map.remove m name) name w (removed_own m name), ap (λ (x : Names). tally test (map.values x)) (again m name w),
+    remove_tally test m name v is)
 
 pub same_length : (m : Names) (name : ℕ) (v w : Target) → map.get m name ≡ Some v → map.len (map.insert m name w) ≡ map.len m
 same_length m name v w is = len-insert nat_cmp_total m name w ∙ rw is refl
@@ -80,35 +70,11 @@ port_of p q e = cc
 module _ (m : Names) (name : ℕ) (l : LawfulSpace m) where
   -- A name goes.
   pub less_space : LawfulSpace (map.remove m name)
-  less_space = record {
-    not_null = gone null_word l.not_null;
-    not_dead = gone dead_word l.not_dead;
-    name_fits = λ n x e. l.name_fits n x (left m name n x e).1;
-    few_names = let a = fewer_names m name in let b = l.few_names in omega (arith, a, b);
-    references = λ n x e. l.references n x (left m name n x e).1;
-  }
-    where
-      gone : (n : ℕ) → map.get m n ≡ None → map.get (map.remove m name) n ≡ None
-      gone n none = elim (eqb_tells n name) [
-        | inl h ↦ subst (λ (k : ℕ). map.get (map.remove m name) k ≡ None) (sym h.1) (removed_own m name)
-        | inr h ↦ get_removed m name n h.1 ∙ none
-      ]
+  less_space = grind (arith, left, fewer_names, removed_own, get_removed)
 
   -- A name comes, or comes to stand for another thing.
   pub more_space : (v : Target) → 0 < name → name < dead_word → map.len (map.insert m name v) ≤ most_names → HasReferences v → LawfulSpace (map.insert m name v)
-  more_space v some fits few has = record {
-    not_null = get_other m name v null_word (λ e. omega (arith, e, some)) ∙ l.not_null;
-    not_dead = get_other m name v dead_word (λ e. omega (arith, e, fits)) ∙ l.not_dead;
-    name_fits = λ n x e. elim (inserted m name v n x e) [
-      | inl h ↦ omega (arith, h.0, fits)
-      | inr h ↦ l.name_fits n x h
-    ];
-    few_names = few;
-    references = λ n x e. elim (inserted m name v n x e) [
-      | inl h ↦ subst HasReferences h.1 has
-      | inr h ↦ l.references n x h
-    ];
-  }
+  more_space v some fits few has = grind (arith, get_other, inserted)
 
   pub new_space : (v : Target) → IsNew m name → HasReferences v → LawfulSpace (map.insert m name v)
   new_space v new has = more_space v new.some new.fits (
@@ -116,8 +82,7 @@ module _ (m : Names) (name : ℕ) (l : LawfulSpace m) where
       let r = new.room in omega (arith, e, r)) has
 
   pub changed_space : (v w : Target) → map.get m name ≡ Some v → HasReferences w → LawfulSpace (map.insert m name w)
-  changed_space v w is has = more_space w (let n = not_there m name null_word v l.not_null is in omega (arith, n)) (let n = not_there m name dead_word v l.not_dead is in let f = l.name_fits name v is in omega (arith, n, f))
-      (let e = same_length m name v w is in let f = l.few_names in omega (arith, e, f)) has
+  changed_space v w is has = grind (arith, more_space, not_there, same_length)
 
 module _ (m : Names) (rights now : Kind → ℕ → ℕ) (l : LawfulNames m rights) where
   abbrev New : Names → Type 0
@@ -125,29 +90,16 @@ module _ (m : Names) (rights now : Kind → ℕ → ℕ) (l : LawfulNames m righ
 
   -- The same rights, in another count.
   pub same_naming : ((kind : Kind) (q : ℕ) → now kind q ≡ rights kind q) → New m
-  same_naming same = record {
-    space = l.space;
-    has_right = λ name q is. let h = l.has_right name q is in omega (arith, h, same receive q, same send q);
-    is_named = λ q some. l.is_named q (omega (arith, some, same receive q, same send q));
-    one_name = l.one_name;
-    once_names = λ q. same send_once q ∙ l.once_names q;
-    few_references = λ q. let h = l.few_references q in omega (arith, h, same send q);
-  }
+  same_naming same = grind arith
 
   -- ---- the rights for one port change
 
   module _ (p : ℕ) (same : (kind : Kind) (q : ℕ) → (q ≡ p → ⊥) → now kind q ≡ rights kind q) (same_once : now send_once p ≡ rights send_once p) where
     onces_kept : (q : ℕ) → now send_once q ≡ rights send_once q
-    onces_kept q = elim (eqb_tells q p) [
-      | inl h ↦ ap (now send_once) h.1 ∙ same_once ∙ ap (rights send_once) (sym h.1)
-      | inr h ↦ same send_once q h.1
-    ]
+    onces_kept q = grind arith
 
     few_kept : now send p ≤ most_references → (q : ℕ) → now send q ≤ most_references
-    few_kept few q = elim (eqb_tells q p) [
-      | inl h ↦ subst (λ (k : ℕ). now send k ≤ most_references) (sym h.1) few
-      | inr h ↦ let a = l.few_references q in omega (arith, a, same send q h.1)
-    ]
+    few_kept few q = grind arith
 
     -- a port that has a right now has not the rights of one that has none
     unlike : (of : Kind → ℕ → ℕ) (q : ℕ) → 0 < of receive q + of send q → of receive p + of send p ≡ 0 → q ≡ p → ⊥
@@ -155,20 +107,7 @@ module _ (m : Names) (rights now : Kind → ℕ → ℕ) (l : LawfulNames m righ
 
     -- The port keeps its name.
     pub port_kept : (name : ℕ) → map.get m name ≡ Some (Target.port p) → 0 < now receive p + now send p → now send p ≤ most_references → New m
-    port_kept name is some few = record {
-      space = l.space;
-      has_right = λ n q e. elim (eqb_tells q p) [
-        | inl h ↦ subst (λ (k : ℕ). 0 < now receive k + now send k) (sym h.1) some
-        | inr h ↦ let r = l.has_right n q e in omega (arith, r, same receive q h.1, same send q h.1)
-      ];
-      is_named = λ q more. elim (eqb_tells q p) [
-        | inl h ↦ (name, is ∙ ap (λ (k : ℕ). Some (Target.port k)) (sym h.1))
-        | inr h ↦ l.is_named q (omega (arith, more, same receive q h.1, same send q h.1))
-      ];
-      one_name = l.one_name;
-      once_names = λ q. onces_kept q ∙ l.once_names q;
-      few_references = few_kept few;
-    }
+    port_kept name is some few = grind (arith, onces_kept, few_kept)
 
     -- Its last right goes, and the name with it.
     pub port_unnamed : (name : ℕ) → map.get m name ≡ Some (Target.port p) → now receive p + now send p ≡ 0 → New (map.remove m name)
@@ -225,14 +164,7 @@ module _ (m : Names) (rights now : Kind → ℕ → ℕ) (l : LawfulNames m righ
     -- the same ports have the same names
     others_named : (names : Names) → LawfulSpace names → ((n q : ℕ) → map.get names n ≡ Some (Target.port q) → map.get m n ≡ Some (Target.port q)) →
         ((n q : ℕ) → map.get m n ≡ Some (Target.port q) → map.get names n ≡ Some (Target.port q)) → ((q : ℕ) → now send_once q ≡ onces names q) → New names
-    others_named names space before after once_names = record {
-      space = space;
-      has_right = λ n q e. let h = l.has_right n q (before n q e) in omega (arith, h, receives q, sends q);
-      is_named = λ q some. let h = l.is_named q (omega (arith, some, receives q, sends q)) in (h.0, after h.0 q h.1);
-      one_name = λ a b q e f. l.one_name a b q (before a q e) (before b q f);
-      once_names = once_names;
-      few_references = λ q. let h = l.few_references q in omega (arith, h, sends q);
-    }
+    others_named names space before after once_names = grind arith
 
     -- A name that stands for no port with a receive or send right goes.
     pub other_unnamed : (name : ℕ) (v : Target) → map.get m name ≡ Some v → ((q : ℕ) → v ≡ Target.port q → ⊥) → ((q : ℕ) → now send_once q + (if is_once q v then 1 else 0) ≡ rights send_once q) →
@@ -321,14 +253,8 @@ has_task {live} l task name x is = true_from_ne_false (live task) (λ e. let z =
 -- Only this task's names change.
 module _ (naming new : ℕ → Names) (task : ℕ) (others : (t : ℕ) → (t ≡ task → ⊥) → new t ≡ naming t) where
   pub tasks_named : (live : ℕ → Bool) (made : ℕ) → LawfulTasks live made naming → live task ≡ true → LawfulTasks live made new
-  tasks_named live made l is_task = record {
-    made_task = l.made_task;
-    no_task = λ t n dead. ap (λ (m : Names). map.get m n) (others t (λ e. let f = ap live e in cc)) ∙ l.no_task t n dead;
-  }
+  tasks_named live made l is_task = grind arith
 
   pub all_named : (rights now : ℕ → Kind → ℕ → ℕ) → ((t : ℕ) → LawfulNames (naming t) (rights t)) → ((t : ℕ) → (t ≡ task → ⊥) → (kind : Kind) (q : ℕ) → now t kind q ≡ rights t kind q) →
       LawfulNames (new task) (now task) → (t : ℕ) → LawfulNames (new t) (now t)
-  all_named rights now l same own t = elim (eqb_tells t task) [
-    | inl h ↦ subst (λ (x : ℕ). LawfulNames (new x) (now x)) (sym h.1) own
-    | inr h ↦ subst (λ (m : Names). LawfulNames m (now t)) (sym (others t h.1)) (same_naming (naming t) (rights t) (now t) (l t) (same t h.1))
-  ]
+  all_named rights now l same own t = grind (arith, same_naming)

@@ -52,12 +52,7 @@ BringsNone old (Event.Send task bytes) mid = (p q : ℕ) → lying mid receive q
 BringsNone old event mid = Unit {0}
 
 pub still : (old mid : State) (owed : Owed) → IsLawful old → IsQuiet old → owed ≡ [] → MidLawful mid owed → Quietly old mid → IsStill mid owed
-still old mid owed l quiet none m q = record {
-  lawful = calm_lawful mid (subst (MidLawful mid) none m) (λ p live. q.receives p ∙ l.one_receive p (q.live p live))
-      (λ t n ended kind p. let a = q.kept kind p (dead_name t n) in let b = l.ended (dead_name t n) (quiet.none_stands (dead_name t n)) kind p in omega (arith, a, b));
-  quiet = record { none_carried = λ p k r. q.carried p k r; none_stands = q.none_stands };
-  none_owed = none;
-}
+still old mid owed l quiet none m q = grind (arith, calm_lawful)
 
 if_false : (b c : Bool) → c ≡ false → (if b then false else c) ≡ false
 if_false true c e = refl
@@ -83,9 +78,7 @@ module _ (old : State) (l : IsLawful old) (quiet : IsQuiet old) where
 
   -- a state that differs in neither rights, ports nor requests
   as_it_was : (mid c : State) → mid ≡ c → c.ledger ≡ old.ledger → c.live_port ≡ old.live_port → NoRequests c.stands → Quietly old mid
-  as_it_was mid c rest ledger live stands = same_rights mid
-      (λ h. (let e = ap (weigh h) (ap (λ (x : State). x.ledger) rest ∙ ledger) in omega (arith, e))) (ap (λ (x : State). x.live_port) rest ∙ live)
-      (λ r. ap (λ (x : State). x.stands r) rest ∙ stands r)
+  as_it_was mid c rest ledger live stands = grind (arith, same_rights)
 
   -- send rights of one task come and go
   sends_change : (task p : ℕ) (mid : State) (gone come : List Token) → Moves old.ledger mid.ledger gone come → AreSends task p gone → AreSends task p come →
@@ -128,33 +121,13 @@ module _ (old : State) (l : IsLawful old) (quiet : IsQuiet old) where
 
   module _ (task name : ℕ) (mid : State) (made : AllocatesPort task name old mid) (m : MidLawful mid []) where
     at_task : (kind : Kind) (q : ℕ) (test : Place → Bool) → test (in_task task) ≡ false → count (λ x. is_of kind q x && test x.place) mid.ledger ≡ count (λ x. is_of kind q x && test x.place) old.ledger
-    at_task kind q test e =
-        let h = made.tokens (λ x. if is_of kind q x && test x.place then 1 else 0) in
-        let z : (if is_of kind q (token receive old.ports_made (in_task task)) && test (in_task task) then suc zero else zero) ≡ zero = both_test (is_of kind q (token receive old.ports_made (in_task task))) (test (in_task task)) (inr e) in
-        omega (arith, h, z)
+    at_task kind q test e = grind (arith, both_test)
 
     one : (p : ℕ) → mid.live_port p ≡ true → count (is_of receive p) mid.ledger ≡ 1
-    one p live = elim (eqb_tells p old.ports_made) [
-      | inl h ↦
-          let t = made.tokens (λ x. if is_of receive p x then 1 else 0) in
-          let none = l.no_rights p (false_from_ne_true (old.live_port p) (λ e. (let b = l.made_port p e in omega (arith, b, h.1)))) receive in
-          let own : (if is_of receive p (token receive old.ports_made (in_task task)) then suc zero else zero) ≡ suc zero = rw (eq-eqb old.ports_made p (sym h.1)) refl in omega (arith, t, none, own)
-      | inr h ↦
-          let t = made.tokens (λ x. if is_of receive p x then 1 else 0) in
-          let was : old.live_port p ≡ true = sym (ap (λ (x : State). x.live_port p) made.rest ∙ at_other old.live_port old.ports_made true p h.1) ∙ live in
-          let one = l.one_receive p was in
-          let other : (if is_of receive p (token receive old.ports_made (in_task task)) then suc zero else zero) ≡ zero = rw (ne_eqb old.ports_made p (λ e. h.1 (sym e))) refl in omega (arith, t, one, other)
-    ]
+    one p live = grind (arith, false_from_ne_true, eq-eqb, at_other, ne_eqb)
 
     port_made : IsStill mid []
-    port_made = record {
-      lawful = calm_lawful mid m one (λ t n ended kind q. at_task kind q (same_place (in_request (dead_name t n))) refl ∙ l.ended (dead_name t n) (quiet.none_stands (dead_name t n)) kind q);
-      quiet = record {
-        none_carried = λ p k q. at_task receive q (same_place (in_message p k)) refl ∙ quiet.none_carried p k q;
-        none_stands = λ r. ap (λ (x : State). x.stands r) made.rest ∙ quiet.none_stands r;
-      };
-      none_owed = refl;
-    }
+    port_made = grind (arith, calm_lawful, one, at_task)
 
   -- ---- rights under a name
 
@@ -175,9 +148,8 @@ module _ (old : State) (l : IsLawful old) (quiet : IsQuiet old) where
   -- a dead name that may go
   dead_changes : (task name n : ℕ) (b : Bool) (mid : State) → Moves old.ledger mid.ledger [] [] →
       mid ≡ record (if b then with_name task name (Target.dead n) old else without_name task name old) { ledger = mid.ledger } → Quietly old mid
-  dead_changes task name n true mid moves rest = same_rights mid moves (ap (λ (x : State). x.live_port) rest) (λ r. ap (λ (x : State). x.stands r) rest ∙ quiet.none_stands r)
-  dead_changes task name n false mid moves rest =
-      same_rights mid moves (ap (λ (x : State). x.live_port) rest) (λ r. ap (λ (x : State). x.stands r) rest ∙ without_stands task name old.stands quiet.none_stands r)
+  dead_changes task name n true mid moves rest = grind (arith, same_rights)
+  dead_changes task name n false mid moves rest = grind (arith, same_rights, without_stands)
 
   deallocates : (task name : ℕ) (mid : State) (owed : Owed) → ¬ (NamesOnce old task name) → Deallocates task name old mid owed → (owed ≡ []) × Quietly old mid
   deallocates task name mid owed not_once (inl (p, d, none)) =
@@ -187,10 +159,7 @@ module _ (old : State) (l : IsLawful old) (quiet : IsQuiet old) where
 
   -- tokens of which each is a receive or send right that the task has for the port, and none is a receive right, are its send rights
   sends_of_either : (task p : ℕ) (xs : List Token) → All (λ x. is_either task p x ≡ true) xs → count (is_held task receive p) xs ≡ 0 → AreSends task p xs
-  sends_of_either task p xs all none test e = count_none test xs (λ k d below passes. elim (or_cases (is_held task receive p (get_or xs k d)) (is_held task send p (get_or xs k d)) (all k d below)) [
-    | inl h ↦ let some = count_some (is_held task receive p) xs k d below h in omega (arith, some, none)
-    | inr h ↦ (let is = is_it task send p (get_or xs k d) h in let f : true ≡ false = sym passes ∙ ap test is ∙ e in cc)
-  ])
+  sends_of_either task p xs all none test e = grind (arith, count_none, or_cases, count_some, is_it)
 
   port_destroyed : (task name p : ℕ) (mid : State) → lookup old task name ≡ Some (Target.port p) → ¬ (NamesReceive old task name) →
       LosesAll (is_either task p) old.ledger mid.ledger → mid ≡ record (without_name task name old) { ledger = mid.ledger } → Quietly old mid
@@ -234,9 +203,7 @@ module _ (old : State) (l : IsLawful old) (quiet : IsQuiet old) where
 
   weigh_same : (f g : Token → ℕ) (xs : List Token) → ((k : ℕ) (d : Token) → k < length xs → f (get_or xs k d) ≡ g (get_or xs k d)) → weigh f xs ≡ weigh g xs
   weigh_same f g [] same = refl
-  weigh_same f g (x ∷ xs) same =
-      let a = same 0 x (omega arith) in
-      let b = weigh_same f g xs (λ k d below. same (suc k) d (omega (arith, below))) in omega (arith, a, b)
+  weigh_same f g (x ∷ xs) same = grind (arith, same 0 x (omega arith), weigh_same f g xs (λ k d below. same (suc k) d (omega (arith, below))))
 
   -- a token that lies at no request keeps its place
   place_kept : (task o n : ℕ) (place : Place) → ((r : Request) → place ≡ in_request r → ⊥) → renamed_place task o n place ≡ place
@@ -252,17 +219,10 @@ module _ (old : State) (l : IsLawful old) (quiet : IsQuiet old) where
       let e : lying old x.kind x.port x.place ≡ lying old x.kind x.port (in_request r) = ap (lying old x.kind x.port) at_request in omega (arith, some, none, e)
 
   token_kept : (task o n k : ℕ) (d : Token) → k < length old.ledger → renamed_token task o n (get_or old.ledger k d) ≡ get_or old.ledger k d
-  token_kept task o n k d below =
-      let x = get_or old.ledger k d in
-      let e = place_kept task o n x.place (not_kept k d below) in λ i. record x { place = e i }
+  token_kept task o n k d below = grind (arith, place_kept, not_kept)
 
   none_renamed : (task o n : ℕ) → NoRequests (renamed_requests task o n old.stands)
-  none_renamed task o n r = go (same_request r (dead_name task o)) (same_request r (dead_name task n)) (old.stands (dead_name task o)) (old.stands r) (quiet.none_stands (dead_name task o)) (quiet.none_stands r)
-    where
-      go : (a b c d : Bool) → c ≡ false → d ≡ false → (if a then false else if b then c else d) ≡ false
-      go true b c d e f = refl
-      go false true c d e f = e
-      go false false c d e f = f
+  none_renamed task o n r = grind arith
 
   renames : (task o n : ℕ) (mid : State) → Renames task o n old mid → Quietly old mid
   renames task o n mid r = same_rights mid

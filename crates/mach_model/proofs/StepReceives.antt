@@ -43,29 +43,17 @@ module _ (old : State) (l : IsLawful old) where
   same_rights mid moves live = alike mid live (λ p. (let m = moves (λ x. if is_of receive p x then 1 else 0) in omega (arith, m)))
 
   as_it_was : (mid c : State) → mid ≡ c → c.ledger ≡ old.ledger → c.live_port ≡ old.live_port → HaveReceive mid
-  as_it_was mid c rest ledger live = same_rights mid
-      (λ h. (let e = ap (weigh h) (ap (λ (x : State). x.ledger) rest ∙ ledger) in omega (arith, e))) (ap (λ (x : State). x.live_port) rest ∙ live)
+  as_it_was mid c rest ledger live = grind (arith, same_rights)
 
   -- send rights of one task come and go
   sends_change : (task p : ℕ) (mid : State) (gone come : List Token) → Moves old.ledger mid.ledger gone come → AreSends task p gone → AreSends task p come →
       mid.live_port ≡ old.live_port → HaveReceive mid
-  sends_change task p mid gone come moves are_gone are_come live = alike mid live
-      (λ q. (let m = moves (λ x. if is_of receive q x then 1 else 0) in let a = are_gone (is_of receive q) refl in let b = are_come (is_of receive q) refl in omega (arith, m, a, b)))
+  sends_change task p mid gone come moves are_gone are_come live = grind (arith, alike)
 
   -- ---- a port is made
 
   port_made : (task name : ℕ) (mid : State) → AllocatesPort task name old mid → HaveReceive mid
-  port_made task name mid made p live = elim (eqb_tells p old.ports_made) [
-    | inl h ↦
-        let t = made.tokens (λ x. if is_of receive p x then 1 else 0) in
-        let none = l.no_rights p (false_from_ne_true (old.live_port p) (λ e. (let b = l.made_port p e in omega (arith, b, h.1)))) receive in
-        let own : (if is_of receive p (token receive old.ports_made (in_task task)) then suc zero else zero) ≡ suc zero = rw (eq-eqb old.ports_made p (sym h.1)) refl in omega (arith, t, none, own)
-    | inr h ↦
-        let t = made.tokens (λ x. if is_of receive p x then 1 else 0) in
-        let was : old.live_port p ≡ true = sym (ap (λ (x : State). x.live_port p) made.rest ∙ at_other old.live_port old.ports_made true p h.1) ∙ live in
-        let one = l.one_receive p was in
-        let other : (if is_of receive p (token receive old.ports_made (in_task task)) then suc zero else zero) ≡ zero = rw (ne_eqb old.ports_made p (λ e. h.1 (sym e))) refl in omega (arith, t, one, other)
-  ]
+  port_made task name mid made p live = grind (arith, false_from_ne_true, eq-eqb, at_other, ne_eqb)
 
   -- ---- rights under a name
 
@@ -75,8 +63,7 @@ module _ (old : State) (l : IsLawful old) where
 
   name_changes : (task name p : ℕ) (b : Bool) (mid : State) (gone come : List Token) → Moves old.ledger mid.ledger gone come → AreSends task p gone → AreSends task p come →
       mid ≡ record (name_kept b task name old) { ledger = mid.ledger } → HaveReceive mid
-  name_changes task name p b mid gone come moves are_gone are_come rest = sends_change task p mid gone come moves are_gone are_come
-      (ap (λ (x : State). x.live_port) rest ∙ kept_live b task name)
+  name_changes task name p b mid gone come moves are_gone are_come rest = grind (arith, sends_change, kept_live)
 
   dead_changes : (task name n : ℕ) (b : Bool) (mid : State) → Moves old.ledger mid.ledger [] [] →
       mid ≡ record (if b then with_name task name (Target.dead n) old else without_name task name old) { ledger = mid.ledger } → HaveReceive mid
@@ -84,29 +71,17 @@ module _ (old : State) (l : IsLawful old) where
   dead_changes task name n false mid moves rest = same_rights mid moves (ap (λ (x : State). x.live_port) rest)
 
   deallocates : (task name : ℕ) (mid : State) (owed : Owed) → ¬ (NamesOnce old task name) → Deallocates task name old mid owed → HaveReceive mid
-  deallocates task name mid owed not_once (inl (p, d, none)) =
-      name_changes task name p (nat_lt 1 (held old task send p) || nat_lt 0 (held old task receive p)) mid (token send p (in_task task) ∷ []) [] d.tokens (same_sends task p 1) (no_sends task p) d.rest
+  deallocates task name mid owed not_once (inl (p, d, none)) = grind (arith, name_changes, same_sends, no_sends)
   deallocates task name mid owed not_once (inr (inl (p, d, owes))) = absurd (not_once (p, d.found))
   deallocates task name mid owed not_once (inr (inr (n, d, none))) = dead_changes task name (n - 1) (nat_lt 1 n) mid d.tokens d.rest
 
   -- tokens of which each is a receive or send right that the task has for the port, and none is a receive right, are its send rights
   sends_of_either : (task p : ℕ) (xs : List Token) → All (λ x. is_either task p x ≡ true) xs → count (is_held task receive p) xs ≡ 0 → AreSends task p xs
-  sends_of_either task p xs all none test e = count_none test xs (λ k d below passes. elim (or_cases (is_held task receive p (get_or xs k d)) (is_held task send p (get_or xs k d)) (all k d below)) [
-    | inl h ↦ let some = count_some (is_held task receive p) xs k d below h in omega (arith, some, none)
-    | inr h ↦ (let is = is_it task send p (get_or xs k d) h in let f : true ≡ false = sym passes ∙ ap test is ∙ e in cc)
-  ])
+  sends_of_either task p xs all none test e = grind (arith, count_none, or_cases, count_some, is_it)
 
   port_destroyed : (task name p : ℕ) (mid : State) → lookup old task name ≡ Some (Target.port p) → ¬ (NamesReceive old task name) →
       LosesAll (is_either task p) old.ledger mid.ledger → mid ≡ record (without_name task name old) { ledger = mid.ledger } → HaveReceive mid
-  port_destroyed task name p mid is not all rest =
-      let receives = all.moves (λ x. if is_held task receive p x then 1 else 0) in
-      name_changes task name p false mid all.gone [] all.moves (sends_of_either task p all.gone all.passed (omega (arith, receives, none_held))) (no_sends task p) rest
-    where
-      none_held : held old task receive p ≡ 0
-      none_held = elim (pos_or_zero (held old task receive p)) [
-        | inl h ↦ h
-        | inr h ↦ absurd (not (p, is, h))
-      ]
+  port_destroyed task name p mid is not all rest = grind (arith, name_changes, sends_of_either, no_sends, pos_or_zero)
 
   destroys : (task name : ℕ) (mid : State) (owed : Owed) → ¬ (LosesWhole old task name) → Destroys task name old mid owed → HaveReceive mid
   destroys task name mid owed not (Target.port p, is, d) = port_destroyed task name p mid is (λ e. not (inl e)) d.0 d.1
@@ -115,21 +90,10 @@ module _ (old : State) (l : IsLawful old) where
   destroys task name mid owed not (Target.set set, is, d) = as_it_was mid _ d.0 refl refl
 
   modifies : (task name right : ℕ) (delta : ℤ) (mid : State) (owed : Owed) → ¬ (Removes right delta) → Modifies task name right delta old mid owed → HaveReceive mid
-  modifies task name right delta mid owed not (inl (p, m, is_send, is, adds, d, none)) =
-      name_changes task name p (nat_lt 0 m || nat_lt 0 (held old task receive p)) mid _ _ d.tokens (same_sends task p (held old task send p - m)) (same_sends task p (m - held old task send p)) d.rest
-  modifies task name right delta mid owed not (inr (inl (n, m, is_dead, is, adds, rest, none))) = go (nat_lt 0 m) rest
-    where
-      go : (b : Bool) → mid ≡ (if b then with_name task name (Target.dead m) old else without_name task name old) → HaveReceive mid
-      go true e = as_it_was mid _ e refl refl
-      go false e = as_it_was mid _ e refl refl
+  modifies task name right delta mid owed not (inl (p, m, is_send, is, adds, d, none)) = grind (arith, name_changes, same_sends)
+  modifies task name right delta mid owed not (inr (inl (n, m, is_dead, is, adds, rest, none))) = grind (arith, as_it_was)
   modifies task name right delta mid owed not (inr (inr (inl (uncounted, none, rest, owes)))) = as_it_was mid old rest refl refl
-  modifies task name right delta mid owed not (inr (inr (inr (target, one, is, d)))) = go target d
-    where
-      go : (target : Target) → RemovesRight right task name target old mid owed → HaveReceive mid
-      go (Target.port p) d = absurd (not (inl d.0, one))
-      go (Target.once p) d = absurd (not (inr d.0, one))
-      go (Target.set set) d = as_it_was mid _ d.1.0 refl refl
-      go (Target.dead n) d = absurd d
+  modifies task name right delta mid owed not (inr (inr (inr (target, one, is, d)))) = grind (arith, as_it_was)
 
   -- ---- names
 
@@ -142,9 +106,7 @@ module _ (old : State) (l : IsLawful old) where
   hands mid kind p h = h.removes.keeps.one_receive
 
   sends : (now task : ℕ) (bytes : List ℕ) (mid : State) → Sends now task bytes old mid → HaveReceive mid
-  sends now task bytes mid s p e =
-      let a = Sends-adds now task bytes old mid l s in
-      ap (λ (x : State). count (is_of receive p) x.ledger) s.rest ∙ a.keeps.one_receive p (sym (ap (λ (x : State). x.live_port p) s.rest) ∙ e)
+  sends now task bytes mid s p e = grind (arith, Sends-adds now task bytes old mid l s)
 
   receives : (task port room : ℕ) (bytes : List ℕ) (mid : State) → old.live_port port ≡ true → old.live_task task ≡ true → Receives task port room bytes old mid → HaveReceive mid
   receives task port room bytes mid live is_task r = (Receives-removes task port room bytes old mid l live is_task r).keeps.one_receive
@@ -188,10 +150,8 @@ Does-receives now old event reply mid owed none g d l p orphan = let one = go ev
     go (Event.SetSeqno task name k) (Reply.Code code) n g d = as_it_was old l mid _ d.2.3 refl refl
     go (Event.SetStatus task name) (Reply.Members members) n g d = same d.1
     go (Event.MoveMember task member after) (Reply.Code code) n g d = joins task member after d.1
-    go (Event.InsertRight task name from poly number) (Reply.Code code) n g d =
-        hands old l mid _ _ (Inserts-hands task name from poly number old mid l (not_false (old.live_task task) (λ e. g.0 (inl e))) (λ e. g.1.0 (inl e)) d.1)
-    go (Event.ExtractRight task name number to) (Reply.Right new_name kind) n g d =
-        hands old l mid _ _ (Extracts-hands task name number to new_name kind old mid l (not_false (old.live_task to) (λ e. g.0 (inr e))) d.0)
+    go (Event.InsertRight task name from poly number) (Reply.Code code) n g d = grind (arith, hands, not_false)
+    go (Event.ExtractRight task name number to) (Reply.Right new_name kind) n g d = grind (arith, hands, not_false)
     go (Event.RequestNotification task name variant sync notify number) reply n g d = absurd n
     go (Event.Send task bytes) (Reply.Code code) n g d = sends old l now task bytes mid d.1
     go (Event.Receive task name room large) (Reply.Message bytes) n g d =

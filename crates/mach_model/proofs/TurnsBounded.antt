@@ -1,12 +1,12 @@
 -- How many turns a chain has, in the machine's own numbers.
-use Rattle.std.proofs.Common.{◌≡◌, ℕ, suc, zero, ◌+◌, ◌<◌, ◌≤◌, List, [], ◌∷◌, refl, sym, ap, subst, ◌∙◌, arith, true, false, Bool, ◌⊎◌, inl, inr, length}
+use Rattle.std.proofs.Common.{◌≡◌, ℕ, suc, zero, ◌+◌, ◌<◌, ◌≤◌, List, [], ◌∷◌, refl, sym, ap, subst, ◌∙◌, arith, true, false, Bool, inl, inr, length}
 use Rattle.std.specs.Prelude.{if◌then◌else◌, All, ◌==◌, ◌&&◌, ◌||◌, not, drop}
 use Rattle.std.proofs.lemmas.List.Elements.{All-cons, All-head, All-tail, All-map}
 use Rattle.std.proofs.lemmas.Bool.{eq-eqb, ne_eqb, eqb-true, false_from_ne_true}
 use Rattle.std.proofs.lemmas.Bool.Decides.{eqb_tells}
-use Rattle.mach_types.specs.Tokens.{receive, Place, in_task, in_message, in_request, Token, count}
+use Rattle.mach_types.specs.Tokens.{Place, in_task, in_message, in_request, Token, count}
 use Rattle.mach_model.specs.State.{State}
-use Rattle.mach_model.specs.Death.{Dies, IsOrphan, CarriedAt, IsSentAway}
+use Rattle.mach_model.specs.Death.{Dies, IsSentAway}
 use Rattle.mach_model.specs.Notices.{Notice, Owed}
 use Rattle.mach_model.specs.Settles.{tokens_of, Settles}
 use Rattle.mach_model.specs.Lawful.{tally, IsLawful}
@@ -32,9 +32,7 @@ under n ps = number (λ p. listed ps p) n
 
 number_same : (f g : ℕ → Bool) → (n : ℕ) → ((p : ℕ) → p < n → f p ≡ g p) → number f n ≡ number g n
 number_same f g zero same = refl
-number_same f g (suc n) same =
-    let a : (if f n then suc zero else zero) ≡ (if g n then suc zero else zero) = ap (λ (b : Bool). if b then suc zero else zero) (same n (omega arith)) in
-    let b = number_same f g n (λ p h. same p (omega (arith, h))) in omega (arith, a, b)
+number_same f g (suc n) same = grind (arith, number_same f g n (λ p h. same p (omega (arith, h))))
 
 number_none : (f : ℕ → Bool) (n : ℕ) → ((p : ℕ) → p < n → f p ≡ false) → number f n ≡ 0
 number_none f zero none = refl
@@ -105,10 +103,7 @@ entries p (m ∷ ms) = if m.0 == p then m.1 ∷ entries p ms else entries p ms
 
 entries_times : (p k : ℕ) (ms : List (ℕ × ℕ)) → times k (entries p ms) ≡ tally (λ m. p == m.0 && k == m.1) ms
 entries_times p k [] = refl
-entries_times p k (m ∷ ms) = elim (eqb_tells m.0 p) [
-  | inl h ↦ (let a = entries_times p k ms in rw (h.0, eq_symm m.0 p ∙ h.0) (omega (arith, a)))
-  | inr h ↦ (let a = entries_times p k ms in rw (h.0, eq_symm m.0 p ∙ h.0) (omega (arith, a)))
-]
+entries_times p k (m ∷ ms) = grind (arith, entries_times p k ms, eq_symm)
 
 entries_all : (P : ℕ × ℕ → Type 0) (p : ℕ) (ms : List (ℕ × ℕ)) → All P ms → All (λ k. P (p, k)) (entries p ms)
 entries_all P p [] all = λ k d below. absurd (omega arith)
@@ -140,9 +135,7 @@ total_more m ms (suc n) below = elim (eqb_tells m.0 n) [
 
 entries_length : (ms : List (ℕ × ℕ)) (n : ℕ) → All (λ m. m.0 < n) ms → length ms ≡ total (λ p. length (entries p ms)) n
 entries_length [] n all = sym (total_zero n)
-entries_length (m ∷ ms) n all =
-    let a = total_more m ms n (All-head (λ m. m.0 < n) m ms all) in
-    let b = entries_length ms n (All-tail (λ m. m.0 < n) m ms all) in omega (arith, a, b)
+entries_length (m ∷ ms) n all = grind (arith, total_more m ms n (All-head (λ m. m.0 < n) m ms all), entries_length ms n (All-tail (λ m. m.0 < n) m ms all))
 
 -- how long the list is that is left behind the first
 length_drop : {A : Type 0} (n : ℕ) (xs : List A) → length xs ≤ n + length (drop n xs)
@@ -160,18 +153,10 @@ module _ (now : ℕ) (old mid : State) (owed : Owed) (e : Ending) (l : MidLawful
   counted = reached_counted old mid owed e r
 
   dead_lived : (p : ℕ) → Dies mid p → mid.live_port p ≡ true
-  dead_lived p d = go (dead_cases mid p d)
-    where
-      go : IsOrphan mid p ⊎ ((q : ℕ) × CarriedAt mid p q) → mid.live_port p ≡ true
-      go (inl o) = o.0
-      go (inr (q, at)) = lives l.ports receive p (let a = lying_le_of mid receive p (in_message q at.0) in let b = at.1 in omega (arith, a, b))
+  dead_lived p d = grind (arith, dead_cases, lives, lying_le_of)
 
   sent_lived : (p : ℕ) → IsSentAway mid p → mid.live_port p ≡ true
-  sent_lived p (saved, why) = go why
-    where
-      go : IsOrphan mid p ⊎ ((q : ℕ) × Dies mid q × CarriedAt mid p q) → mid.live_port p ≡ true
-      go (inl o) = o.0
-      go (inr (q, d, at)) = lives l.ports receive p (let a = lying_le_of mid receive p (in_message q at.0) in let b = at.1 in omega (arith, a, b))
+  sent_lived p (saved, why) = grind (arith, lives, lying_le_of)
 
   doomed_made : (p : ℕ) → listed e.doomed p ≡ true → p < mid.ports_made
   doomed_made p h = l.made_port p (dead_lived p (sound.doomed p h))
@@ -180,13 +165,7 @@ module _ (now : ℕ) (old mid : State) (owed : Owed) (e : Ending) (l : MidLawful
   new = end_of now mid e
 
   died_is : (p : ℕ) → listed e.doomed p ≡ has_died mid new p
-  died_is p = go (listed e.doomed p) refl (mid.live_port p) refl
-    where
-      go : (b : Bool) → listed e.doomed p ≡ b → (a : Bool) → mid.live_port p ≡ a → b ≡ (a && not (a && not b))
-      go true h true live = refl
-      go true h false dead = absurd (let a = dead_lived p (sound.doomed p h) in cc)
-      go false h true live = refl
-      go false h false dead = refl
+  died_is p = grind (arith, dead_lived, sound)
 
   many_died : number (has_died mid new) mid.ports_made ≡ length e.doomed
   many_died =
@@ -227,10 +206,9 @@ module _ (now : ℕ) (old mid : State) (owed : Owed) (e : Ending) (l : MidLawful
           none (k ∷ ks) each = absurd (let h = (All-head (λ k. WasDestroyed (p, k)) k ks each).0 in let d = died_is p in cc)
 
   many_destroyed : length e.destroyed ≤ total (λ p. if has_died mid new p then waiting_at mid e p else 0) mid.ports_made
-  many_destroyed =
-      let a = entries_length e.destroyed mid.ports_made (λ k d below. doomed_made _ (counted.destroyed k d below).0) in
-      let b = total_same (λ p. length (entries p e.destroyed)) (λ p. if has_died mid new p then waiting_at mid e p else 0) mid.ports_made (λ p h. few_entries p) in
-      omega (arith, a, b)
+  many_destroyed = grind (arith,
+      entries_length e.destroyed mid.ports_made (λ k d below. doomed_made _ (counted.destroyed k d below).0),
+      total_same (λ p. length (entries p e.destroyed)) (λ p. if has_died mid new p then waiting_at mid e p else 0) mid.ports_made (λ p h. few_entries p))
 
   -- ---- rights in messages
 
@@ -267,12 +245,10 @@ module _ (now : ℕ) (old mid : State) (owed : Owed) (e : Ending) (l : MidLawful
     gone_lost x (inr h) = around_lost x.port x.place h.1
 
     few_lost : lost_in e ≤ count (is_lost new) mid.ledger
-    few_lost =
-        let a = lost_count (tokens_of e.paid) (All-map IsLost (λ (x : Token × Notice). x.0) e.paid
-        (weaker (HasPaid mid e.told) (λ x. IsLost x.0) (λ x h. paid_lost x.0.port x.0.place x.1 h.1) e.paid sound.paid)) in
-        let b = lost_count e.gone (weaker (HasGone mid) IsLost gone_lost e.gone sound.gone) in
-        let c = sound.parts (λ x. if is_lost new x then 1 else 0) in
-        omega (arith, a, b, c)
+    few_lost = grind (
+        arith,
+        lost_count (tokens_of e.paid) (All-map IsLost (λ (x : Token × Notice). x.0) e.paid (weaker (HasPaid mid e.told) (λ x. IsLost x.0) (λ x h. paid_lost x.0.port x.0.place x.1 h.1) e.paid sound.paid)),
+        lost_count e.gone (weaker (HasGone mid) IsLost gone_lost e.gone sound.gone), sound.parts (λ x. if is_lost new x then 1 else 0))
 
     pub reached_bounded : IsBounded mid new (listed e.saved) e
     reached_bounded = record {

@@ -5,13 +5,12 @@ use Rattle.std.specs.Prelude.{◌≢◌, if◌then◌else◌, All, Contains, ◌
 use Rattle.std.proofs.lemmas.List.{length-append}
 use Rattle.std.proofs.lemmas.List.Elements.{All-cons, All-head, All-tail, All-append}
 use Rattle.std.proofs.lemmas.Bool.{eqb-true}
-use Rattle.std.proofs.lemmas.Bool.Decides.{eqb_tells}
 use Rattle.mach_types.specs.Tokens.{send_once, Request, no_senders, port_destroyed, dead_name, Place, in_task, in_message, in_request, Token, count}
 use Rattle.mach_model.specs.State.{State, Target, lookup, same_request}
 use Rattle.mach_model.specs.Notices.{right_unused, Owed}
 use Rattle.mach_model.specs.Settles.{tokens_of}
 use Rattle.mach_model.specs.Lawful.{tally}
-use Rattle.mach_model.specs.Turns.{Begun, Ending, listed, lives_after, became_dead, has_ended, IsAtDoomed, IsNameOf, IsRequestOf, Takes, Begins, Dooms, Saves, Destroys, Loses, Buries, TellsSenderless, Turn, IsReached, begins, turns, is_queued, lost_in, IsWaiting, IsCounted}
+use Rattle.mach_model.specs.Turns.{Begun, Ending, listed, lives_after, has_ended, IsAtDoomed, IsNameOf, IsRequestOf, Takes, Begins, Dooms, Saves, Destroys, Loses, Buries, TellsSenderless, Turn, IsReached, begins, turns, is_queued, lost_in, IsWaiting, IsCounted}
 use Rattle.mach_model.proofs.Weigh.{weigh-append, left_of, right_of, pos_or_zero}
 use Rattle.mach_model.proofs.SettledParts.{or_left, or_right, place_is}
 use Rattle.mach_model.proofs.SettledReceives.{tally-append}
@@ -124,12 +123,7 @@ module _ (old mid : State) (owed : Owed) where
   -- how many rights in messages are lost
   lost_takes : (e f : Ending) (paying : Owed) (going : List Token) → Takes e f paying going →
       lost_in f ≡ lost_in e + count (λ x. is_queued x.place) (tokens_of paying) + count (λ x. is_queued x.place) going
-  lost_takes e f paying going t =
-      let a : count (λ x. is_queued x.place) (tokens_of f.paid) ≡ count (λ x. is_queued x.place) (tokens_of (e.paid ++ paying)) = ap (λ (xs : Owed). count (λ x. is_queued x.place) (tokens_of xs)) t.paid in
-      let b : count (λ x. is_queued x.place) f.gone ≡ count (λ x. is_queued x.place) (e.gone ++ going) = ap (count (λ x. is_queued x.place)) t.gone in
-      let c = tokens_joined (λ x. if is_queued x.place then 1 else 0) e.paid paying in
-      let d = weigh-append (λ x. if is_queued x.place then 1 else 0) e.gone going in
-      omega (arith, a, b, c, d)
+  lost_takes e f paying going t = grind (arith, tokens_joined, weigh-append)
 
   -- ---- each turn
 
@@ -137,12 +131,7 @@ module _ (old mid : State) (owed : Owed) where
     -- a port that wasn't judged before stands in one list more
     once_more : (port : ℕ) (ps qs : List ℕ) → listed ps port ≡ false → listed qs port ≡ false → ((p : ℕ) → tally (λ q. p == q) ps + tally (λ q. p == q) qs ≤ 1) →
         (p : ℕ) → tally (λ q. p == q) (port ∷ ps) + tally (λ q. p == q) qs ≤ 1
-    once_more port ps qs none none_too once p = elim (eqb_tells p port) [
-      | inl h ↦ (let a : tally (λ q. p == q) ps ≡ 0 = unlisted_none ps p (ap (listed ps) h.1 ∙ none) in
-          let b : tally (λ q. p == q) qs ≡ 0 = unlisted_none qs p (ap (listed qs) h.1 ∙ none_too) in
-          rw h.0 (omega (arith, a, b)))
-      | inr h ↦ (let a = once p in rw h.0 (omega (arith, a)))
-    ]
+    once_more port ps qs none none_too once p = grind (arith, unlisted_none)
 
     -- what follows from a turn that judges no port and destroys no message
     plain : (ended : List Request) → Follows e f → f.doomed ≡ e.doomed → f.saved ≡ e.saved → f.destroyed ≡ e.destroyed → f.ended ≡ ended ++ e.ended →
@@ -427,20 +416,7 @@ module _ (old mid : State) (owed : Owed) where
     turn_tallied (inr (inr (inr (inr (inr w))))) = tells_tallied w
 
   begins_tallied : (e : Ending) → Begins mid owed e → IsTallied e
-  begins_tallied e b = record {
-    least =
-        let a : length e.doomed ≡ 0 = ap (λ (x : Ending). length x.doomed) b.rest in
-        let c : length e.saved ≡ 0 = ap (λ (x : Ending). length x.saved) b.rest in omega (arith, a, c);
-    turns = let n : e.turns ≡ 0 = ap (λ (x : Ending). x.turns) b.rest in omega (arith, n);
-    port_once = λ p.
-        let a : tally (λ q. p == q) e.doomed ≡ 0 = ap (λ (x : Ending). tally (λ q. p == q) x.doomed) b.rest in
-        let c : tally (λ q. p == q) e.saved ≡ 0 = ap (λ (x : Ending). tally (λ q. p == q) x.saved) b.rest in omega (arith, a, c);
-    destroyed = subst (All (WasDestroyed e)) (sym (ap (λ (x : Ending). x.destroyed) b.rest)) (λ k d below. absurd (omega arith));
-    message_once = λ m. let a : tally (λ n. m.0 == n.0 && m.1 == n.1) e.destroyed ≡ 0 = ap (λ (x : Ending). tally (λ n. m.0 == n.0 && m.1 == n.1) x.destroyed) b.rest in omega (arith, a);
-    buried = λ p h. absurd (let z : listed e.buried p ≡ false = ap (λ (x : Ending). listed x.buried p) b.rest in cc);
-    ended = subst (All (HasEnded e)) (sym (ap (λ (x : Ending). x.ended) b.rest)) (λ k d below. absurd (omega arith));
-    request_once = λ r. let a : tally (same_request r) e.ended ≡ 0 = ap (λ (x : Ending). tally (same_request r) x.ended) b.rest in omega (arith, a);
-  }
+  begins_tallied e b = grind arith
 
   reached_tallied : (e : Ending) → IsReached old mid owed e → IsTallied e
   reached_tallied e' (begins e b) = begins_tallied e b
@@ -451,27 +427,7 @@ module _ (old mid : State) (owed : Owed) where
   -- a request that was counted has ended
   ended_is : (e : Ending) → ((p : ℕ) → listed e.buried p ≡ true → listed e.doomed p ≡ true) → (r : Request) → IsEndedFor e r → has_ended mid e r ≡ true
   ended_is e buried r (inr (q, told, is)) = subst (λ (x : Request). has_ended mid e x ≡ true) (sym is) (or_right (not (lives_after mid e q)) (listed e.told q) told)
-  ended_is e buried r (inl (q, b, of)) = go r of
-    where
-      dead : (p : ℕ) → p ≡ q → not (lives_after mid e p) ≡ true
-      dead p is = away (mid.live_port p) (listed e.doomed p) (subst (λ (x : ℕ). listed e.doomed x ≡ true) (sym is) (buried q b))
-        where
-          away : (a b : Bool) → b ≡ true → not (a && not b) ≡ true
-          away true true e = refl
-          away false true e = refl
-          away a false e = absurd (cc)
-
-      named : (o : Option Target) → IsNameOf q o → became_dead mid e o ≡ true
-      named None is = absurd is
-      named (Some (Target.port p)) is = dead p is
-      named (Some (Target.once p)) is = dead p is
-      named (Some (Target.dead n)) is = absurd is
-      named (Some (Target.set n)) is = absurd is
-
-      go : (r : Request) → IsRequestOf mid q r → has_ended mid e r ≡ true
-      go (no_senders p) is = or_left (not (lives_after mid e p)) (listed e.told p) (dead p is)
-      go (port_destroyed p) is = or_left (not (lives_after mid e p)) (listed e.saved p) (dead p is)
-      go (dead_name task name) is = named (lookup mid task name) is
+  ended_is e buried r (inl (q, b, of)) = grind (arith, or_left)
 
   pub reached_counted : (e : Ending) → IsReached old mid owed e → IsCounted mid e
   reached_counted e r =

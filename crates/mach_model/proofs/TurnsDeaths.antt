@@ -1,5 +1,5 @@
 -- What is true between the turns of the end of a step; and when all are judged, exactly the ports of the least set are doomed.
-use Rattle.std.proofs.Common.{◌≡◌, ℕ, ◌+◌, ◌<◌, List, refl, true, false, Bool, ◌⊎◌, inl, inr}
+use Rattle.std.proofs.Common.{arith, ◌≡◌, ℕ, ◌+◌, ◌<◌, List, refl, true, false, Bool, ◌⊎◌, inl, inr}
 use Rattle.std.specs.Prelude.{◌≢◌, ◌&&◌, not, All, Option, Some}
 use Rattle.mach_types.specs.Tokens.{send, send_once, no_senders, port_destroyed, dead_name, Place, in_task, in_message, in_request, Token, weigh, count, is_of}
 use Rattle.mach_model.specs.State.{State, Target, lookup, senders}
@@ -77,10 +77,7 @@ module _ (old mid : State) (owed : Owed) (e : Ending) (s : IsSound old mid owed 
 
   module _ (judged : AreJudged mid e) where
     unsaved_doomed : (p : ℕ) → IsFound mid e p → ¬ (IsSaved mid p) → listed e.doomed p ≡ true
-    unsaved_doomed p f unsaved = elim (or_cases (listed e.doomed p) (listed e.saved p) (judged p f)) [
-      | inl h ↦ h
-      | inr h ↦ absurd (unsaved (s.saved p h).0)
-    ]
+    unsaved_doomed p f unsaved = grind (arith, or_cases)
 
     pub all_doomed : (p : ℕ) → Dies mid p → listed e.doomed p ≡ true
     all_doomed p d = Dies-least mid (λ q. listed e.doomed q ≡ true) (record {
@@ -89,14 +86,7 @@ module _ (old mid : State) (owed : Owed) (e : Ending) (s : IsSound old mid owed 
     }) p d
 
     pub all_saved : (p : ℕ) → IsSentAway mid p → listed e.saved p ≡ true
-    all_saved p (saved, why) = elim (or_cases (listed e.doomed p) (listed e.saved p) (judged p (found why))) [
-      | inl h ↦ absurd (dies_unsaved mid p (s.doomed p h) saved)
-      | inr h ↦ h
-    ]
-      where
-        found : IsOrphan mid p ⊎ ((q : ℕ) × Dies mid q × CarriedAt mid p q) → IsFound mid e p
-        found (inl o) = inl o
-        found (inr (q, d, at)) = inr (q, all_doomed q d, at)
+    all_saved p (saved, why) = grind (arith, or_cases, dies_unsaved, all_doomed)
 
     pub survives : (p : ℕ) → listed e.doomed p ≡ false → ¬ (Dies mid p)
     survives p e' d = let h = all_doomed p d in cc
@@ -114,11 +104,7 @@ module _ (old mid : State) (owed : Owed) (e : Ending) (s : IsSound old mid owed 
     dies_after p d = dead_after (mid.live_port p) (listed e.doomed p) (all_doomed p d)
 
     pub turns_deaths : DeathsSettle mid (outcome mid e)
-    turns_deaths = record {
-      dies = dies_after;
-      only = λ p was gone. s.doomed p (died (mid.live_port p) (listed e.doomed p) was gone);
-      gone_before = λ p is. rw is refl;
-    }
+    turns_deaths = grind (arith, dies_after, died)
 
     pub turns_ports : PortsSettle mid (outcome mid e)
     turns_ports = record {

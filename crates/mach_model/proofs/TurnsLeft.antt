@@ -1,18 +1,18 @@
 -- When nothing is left to do, each right that is left stays: so a chain of turns that is done is an end as `Settles` says.
 use Rattle.std.proofs.Common.{◌≡◌, ℕ, suc, zero, ◌+◌, ◌<◌, ◌≤◌, List, [], ◌∷◌, Option, Some, None, refl, sym, ap, subst, ◌∙◌, arith, true, false, Bool, ◌⊎◌, inl, inr, length, get_or}
-use Rattle.std.specs.Prelude.{◌≢◌, if◌then◌else◌, All, ◌&&◌, not}
+use Rattle.std.specs.Prelude.{◌≢◌, if◌then◌else◌, All, not}
 use Rattle.std.proofs.lemmas.List.Elements.{All-head, All-tail}
-use Rattle.std.proofs.lemmas.Bool.{eq-eqb, and_from, false_from_ne_true, true_from_ne_false}
-use Rattle.mach_types.specs.Tokens.{receive, send, send_once, Request, no_senders, port_destroyed, dead_name, Place, in_task, in_message, in_request, Token, token, weigh, count, is_of}
+use Rattle.std.proofs.lemmas.Bool.{eq-eqb, and_from, false_from_ne_true}
+use Rattle.mach_types.specs.Tokens.{receive, send, send_once, Request, no_senders, port_destroyed, dead_name, Place, in_task, in_message, in_request, Token, weigh, count}
 use Rattle.mach_model.specs.State.{State, Target, lookup}
 use Rattle.mach_model.specs.Death.{same_place}
 use Rattle.mach_model.specs.Notices.{right_unused, Owed}
 use Rattle.mach_model.specs.Settles.{PlaceStays, StaysWith, Settles}
 use Rattle.mach_model.specs.Carried.{lying}
 use Rattle.mach_model.specs.Lawful.{is_once}
-use Rattle.mach_model.specs.Midway.{MidLawful, IsOnName}
-use Rattle.mach_model.specs.Turns.{Ending, listed, lives_after, became_dead, has_ended, outcome, IsAtDoomed, IsNameOf, IsRequestOf, IsOnGone, IsOffPort, Takes, Begins, Dooms, Saves, Destroys, Loses, Buries, TellsSenderless, Turn, IsReached, begins, turns, IsDone}
-use Rattle.mach_model.proofs.Weigh.{left_of, count_some, lying_le_of, held_le_of, pos_or_zero}
+use Rattle.mach_model.specs.Midway.{MidLawful}
+use Rattle.mach_model.specs.Turns.{Ending, listed, lives_after, became_dead, has_ended, outcome, IsNameOf, IsRequestOf, IsOnGone, IsOffPort, Takes, Begins, Dooms, Saves, Destroys, Loses, Buries, TellsSenderless, Turn, IsReached, begins, turns, IsDone}
+use Rattle.mach_model.proofs.Weigh.{left_of, count_some, lying_le_of, held_le_of}
 use Rattle.mach_model.proofs.Names.{some_tally}
 use Rattle.mach_model.proofs.Settling.{is_at, own_test, place_refl, lives}
 use Rattle.mach_model.proofs.SettledParts.{or_cases, of_kind, at_place}
@@ -32,13 +32,7 @@ one_passes P test (y ∷ ys) all some = go (test y) refl (All-head P y ys all) s
     go false e h some rest = rest (omega (arith, some))
 
 same_token : (P : Token → Type 0) (x y : Token) → is_at x.kind x.port x.place y ≡ true → P y → P x
-same_token P x y e h =
-    let k = sym (of_kind x.kind x.port y (left_of (is_of x.kind x.port y) (same_place x.place y.place) e)).0 in
-    let a = at_place x.kind x.port x.place y e in
-    let p = sym a.0 in
-    let l = sym a.1 in
-    let is : token x.kind x.port x.place ≡ token y.kind y.port y.place = λ i. token (k i) (p i) (l i) in
-    subst P (sym is) h
+same_token P x y e h = grind (arith, of_kind, left_of, at_place)
 
 pub all_fewer : (P : Token → Type 0) (xs ys : List Token) → ((h : Token → ℕ) → weigh h xs ≤ weigh h ys) → All P ys → All P xs
 all_fewer P xs ys fewer all = λ k d below.
@@ -97,10 +91,7 @@ module _ (old mid : State) (owed : Owed) where
     same_list P ps qs is all p h = all p (ap (λ (ps : List ℕ). listed ps p) (sym is) ∙ h)
 
     calm_kept : IsCleared e → f.buried ≡ e.buried → f.told ≡ e.told → f.saved ≡ e.saved → IsCleared f
-    calm_kept c b t s = kept c
-        (same_list (λ p. All (IsOffPort mid f p) f.left) e.buried f.buried b (was_buried c))
-        (same_list (λ p. All (IsOffRequest f (no_senders p)) f.left) e.told f.told t (was_told c))
-        (same_list (λ p. count (at_request (port_destroyed p)) f.left ≡ 0) e.saved f.saved s (was_saved c))
+    calm_kept c b t s = grind (arith, kept, same_list, was_buried, was_told, was_saved)
 
   same_doomed : (e f : Ending) → f.doomed ≡ e.doomed → (p : ℕ) → listed e.doomed p ≡ true → listed f.doomed p ≡ true
   same_doomed e f is p h = ap (λ (ps : List ℕ). listed ps p) is ∙ h
@@ -110,13 +101,10 @@ module _ (old mid : State) (owed : Owed) where
     no_less is h = let a : weigh h f.left ≡ weigh h e.left = ap (weigh h) is in omega (arith, a)
 
     dooms_cleared : Dooms mid e f → IsCleared f
-    dooms_cleared t = calm_kept e f
-        (record { doomed = λ p h. ap (λ (x : Ending). listed x.doomed p) t.rest ∙ listed_later t.port e.doomed p h; left = no_less (ap (λ (x : Ending). x.left) t.rest) })
-        c (ap (λ (x : Ending). x.buried) t.rest) (ap (λ (x : Ending). x.told) t.rest) (ap (λ (x : Ending). x.saved) t.rest)
+    dooms_cleared t = grind (arith, calm_kept, listed_later, no_less)
 
     destroys_cleared : Destroys mid e f → IsCleared f
-    destroys_cleared t = calm_kept e f (record { doomed = same_doomed e f (ap (λ (x : Ending). x.doomed) t.rest); left = no_less (ap (λ (x : Ending). x.left) t.rest) })
-        c (ap (λ (x : Ending). x.buried) t.rest) (ap (λ (x : Ending). x.told) t.rest) (ap (λ (x : Ending). x.saved) t.rest)
+    destroys_cleared t = grind (arith, calm_kept, same_doomed, no_less)
 
     loses_cleared : Loses mid e f → IsCleared f
     loses_cleared t = calm_kept e f (record { doomed = same_doomed e f (ap (λ (x : Ending). x.doomed) t.rest); left = less t.takes })
@@ -204,15 +192,7 @@ module _ (old mid : State) (owed : Owed) where
       lies_at place at = subst (λ (y : Place). 0 < lying mid x.kind x.port y) at some_lies
 
       stood : (r : Request) → x.place ≡ in_request r → mid.stands r ≡ true
-      stood r at = true_from_ne_false (mid.stands r) (λ none. go r at none)
-        where
-          none_kept : (r : Request) → x.place ≡ in_request r → mid.stands r ≡ false → ¬ (IsOnName r) → ⊥
-          none_kept r at none off = let z = l.ended r none off x.kind x.port in let some = lies_at (in_request r) at in omega (arith, z, some)
-
-          go : (r : Request) → x.place ≡ in_request r → mid.stands r ≡ false → ⊥
-          go (no_senders p) at none = none_kept (no_senders p) at none (λ h. h)
-          go (port_destroyed p) at none = none_kept (port_destroyed p) at none (λ h. h)
-          go (dead_name task name) at none = c.names k o below (subst (IsOnGone mid) (sym at) none)
+      stood r at = grind (arith, lies_at (in_request r) at)
 
     -- a request that keeps it stood
     stood_all : All (λ x. (r : Request) → x.place ≡ in_request r → mid.stands r ≡ true) e.left
@@ -226,28 +206,13 @@ module _ (old mid : State) (owed : Owed) where
 
     -- a port of before that doesn't live
     gone_doomed : (p : ℕ) → mid.live_port p ≡ true → not (lives_after mid e p) ≡ true → listed e.doomed p ≡ true
-    gone_doomed p live = go (mid.live_port p) (listed e.doomed p) live
-      where
-        go : (a b : Bool) → a ≡ true → not (a && not b) ≡ true → b ≡ true
-        go true true e h = refl
-        go true false e h = absurd (cc)
-        go false b e h = absurd (cc)
+    gone_doomed p live = grind arith
 
     named_lives : (task name p : ℕ) → lookup mid task name ≡ Some (Target.port p) → mid.live_port p ≡ true
-    named_lives task name p is =
-        let some = (l.naming task).has_right name p is in
-        let a = held_le_of task receive p mid.ledger in
-        let b = held_le_of task send p mid.ledger in
-        elim (pos_or_zero (count (is_of receive p) mid.ledger)) [
-          | inl h ↦ lives l.ports send p (omega (arith, some, a, b, h))
-          | inr h ↦ lives l.ports receive p h
-        ]
+    named_lives task name p is = grind (arith, (l.naming task).has_right name p is, held_le_of task receive p mid.ledger, held_le_of task send p mid.ledger)
 
     once_lives : (task name p : ℕ) → lookup mid task name ≡ Some (Target.once p) → mid.live_port p ≡ true
-    once_lives task name p is =
-        let some = some_tally (is_once p) (mid.naming task) name (Target.once p) is (eq-eqb p p refl) in
-        let a = held_le_of task send_once p mid.ledger in
-        lives l.ports send_once p (omega (arith, some, (l.naming task).once_names p, a))
+    once_lives task name p is = grind (arith, some_tally (is_once p) (mid.naming task) name (Target.once p) is (eq-eqb p p refl), held_le_of task send_once p mid.ledger)
 
     module _ (k : ℕ) (o : Token) (below : k < length e.left) where
       abbrev right : Token
@@ -282,10 +247,8 @@ module _ (old mid : State) (owed : Owed) where
 
       place_stays : (place : Place) → right.place ≡ place → PlaceStays (outcome mid e) place
       place_stays (in_task task) at = tt
-      place_stays (in_message q n) at = undoomed_lives q
-          (true_from_ne_false (mid.live_port q) (λ none. let z = l.gone q n (inr none) right.kind right.port in let some = lies_at l e s c k o below (in_message q n) at in omega (arith, z, some)))
-          (λ h. d.lost k o below (subst (λ (y : Place). IsAtDoomed e y) (sym at) h))
-      place_stays (in_request r) at = and_from (mid.stands r) (not (has_ended mid e r)) (stood l e s c k o below r at) (rw (false_from_ne_true (has_ended mid e r) (unended r at (stood l e s c k o below r at))) refl)
+      place_stays (in_message q n) at = grind (arith, lies_at l e s c k o below (in_message q n) at)
+      place_stays (in_request r) at = grind (arith, and_from, stood, false_from_ne_true, unended)
 
       one_stays : StaysWith (outcome mid e) right
       one_stays = (undoomed_lives right.port (port_lived l e s c k o below) undoomed, place_stays right.place refl)

@@ -1,5 +1,5 @@
 -- What the logs are when a step has ended turn by turn: at a port that lives the notices stand in the order in which they were posted.
-use Rattle.std.proofs.Common.{◌≡◌, ℕ, List, [], ◌∷◌, ◌++◌, refl, sym, ap, ◌∙◌, true, false, Bool, inl, inr}
+use Rattle.std.proofs.Common.{arith, ◌≡◌, ℕ, List, [], ◌∷◌, ◌++◌, refl, sym, ap, ◌∙◌, true, false, Bool, inl, inr}
 use Rattle.std.specs.Prelude.{if◌then◌else◌, ◌==◌, filter}
 use Rattle.std.proofs.lemmas.List.{append-nil, append_assoc}
 use Rattle.std.proofs.lemmas.Bool.Decides.{eqb_tells}
@@ -25,19 +25,7 @@ one_told now front y = at front y.0 (front y.0 ++ told_entry now y ∷ [])
 
 logs_told : (now : ℕ) (front : ℕ → List Entry) (ys : List (ℕ × Notice)) (p : ℕ) → logs_after now front ys p ≡ front p ++ entries_at now p ys
 logs_told now front [] p = sym (append-nil (front p))
-logs_told now front (y ∷ ys) p = elim (eqb_tells y.0 p) [
-  | inl h ↦ own h.0 h.1 (logs_told now (one_told now front y) ys p)
-  | inr h ↦ other h.0 h.1 (logs_told now (one_told now front y) ys p)
-]
-  where
-    own : (y.0 == p) ≡ true → y.0 ≡ p → logs_after now (one_told now front y) ys p ≡ one_told now front y p ++ entries_at now p ys → logs_after now front (y ∷ ys) p ≡ front p ++ entries_at now p (y ∷ ys)
-    own e same ih = rw e (
-        ih
-        ∙ ap (λ (xs : List Entry). xs ++ entries_at now p ys) (at_same front y.0 (front y.0 ++ told_entry now y ∷ []) p (sym same) ∙ ap (λ (q : ℕ). front q ++ told_entry now (q, y.1) ∷ []) same)
-        ∙ append_assoc (front p) (told_entry now (p, y.1) ∷ []) (entries_at now p ys))
-
-    other : (y.0 == p) ≡ false → (y.0 ≡ p → ⊥) → logs_after now (one_told now front y) ys p ≡ one_told now front y p ++ entries_at now p ys → logs_after now front (y ∷ ys) p ≡ front p ++ entries_at now p (y ∷ ys)
-    other e not ih = rw e (ih ∙ ap (λ (xs : List Entry). xs ++ entries_at now p ys) (at_other front y.0 (front y.0 ++ told_entry now y ∷ []) p (λ x. not (sym x))))
+logs_told now front (y ∷ ys) p = grind (arith, logs_told now (one_told now front y) ys p, logs_after, at_same, append_assoc, at_other)
 
 -- ---- of an ending
 
@@ -50,27 +38,11 @@ posted_at now p e = entries_of now p (with_paid e.begun e.paid)
 
 kept_entries : (now p : ℕ) (lives : ℕ → Bool) (ys : Begun) → lives p ≡ true → entries_of now p (filter (λ y. lives y.1.0.port) ys) ≡ entries_of now p ys
 kept_entries now p lives [] e = refl
-kept_entries now p lives (y ∷ ys) e = elim (eqb_tells y.1.0.port p) [
-  | inl h ↦ rw (ap lives h.1 ∙ e, h.0) (ap (λ (xs : List Entry). record { origin = now; message = notice_message p y.1.1 } ∷ xs) (kept_entries now p lives ys e))
-  | inr h ↦ go (lives y.1.0.port) h.0 (kept_entries now p lives ys e)
-]
-  where
-    go : (b : Bool) → (y.1.0.port == p) ≡ false → entries_of now p (filter (λ y. lives y.1.0.port) ys) ≡ entries_of now p ys →
-        entries_of now p (if b then y ∷ filter (λ y. lives y.1.0.port) ys else filter (λ y. lives y.1.0.port) ys) ≡ entries_of now p (y ∷ ys)
-    go true f ih = rw f ih
-    go false f ih = rw f ih
+kept_entries now p lives (y ∷ ys) e = grind (arith, kept_entries now p lives ys e)
 
 no_entries : (now p : ℕ) (lives : ℕ → Bool) (ys : Begun) → lives p ≡ false → entries_of now p (filter (λ y. lives y.1.0.port) ys) ≡ []
 no_entries now p lives [] e = refl
-no_entries now p lives (y ∷ ys) e = elim (eqb_tells y.1.0.port p) [
-  | inl h ↦ rw (ap lives h.1 ∙ e) (no_entries now p lives ys e)
-  | inr h ↦ go (lives y.1.0.port) h.0 (no_entries now p lives ys e)
-]
-  where
-    go : (b : Bool) → (y.1.0.port == p) ≡ false → entries_of now p (filter (λ y. lives y.1.0.port) ys) ≡ [] →
-        entries_of now p (if b then y ∷ filter (λ y. lives y.1.0.port) ys else filter (λ y. lives y.1.0.port) ys) ≡ []
-    go true f ih = rw f ih
-    go false f ih = ih
+no_entries now p lives (y ∷ ys) e = grind (arith, no_entries now p lives ys e)
 
 -- At a port that lives all stand that were posted; the log of another is as it was.
 pub end_log : (now : ℕ) (mid : State) (e : Ending) (p : ℕ) → lives_after mid e p ≡ true → (end_of now mid e).log p ≡ mid.log p ++ posted_at now p e
@@ -85,13 +57,7 @@ end_log_dead now mid e p dead =
 -- A turn's notices come behind those of before.
 entries_joined : (now p : ℕ) (xs ys : Begun) → entries_of now p (xs ++ ys) ≡ entries_of now p xs ++ entries_of now p ys
 entries_joined now p [] ys = refl
-entries_joined now p (x ∷ xs) ys = go (x.1.0.port == p) (entries_joined now p xs ys)
-  where
-    go : (b : Bool) → entries_of now p (xs ++ ys) ≡ entries_of now p xs ++ entries_of now p ys →
-        (if b then record { origin = now; message = notice_message p x.1.1 } ∷ entries_of now p (xs ++ ys) else entries_of now p (xs ++ ys))
-        ≡ (if b then record { origin = now; message = notice_message p x.1.1 } ∷ entries_of now p xs else entries_of now p xs) ++ entries_of now p ys
-    go true ih = ap (λ (es : List Entry). record { origin = now; message = notice_message p x.1.1 } ∷ es) ih
-    go false ih = ih
+entries_joined now p (x ∷ xs) ys = grind (arith, entries_joined now p xs ys)
 
 paid_joined : (ys : Begun) (xs zs : Owed) → with_paid ys (xs ++ zs) ≡ with_paid ys xs ++ with_paid [] zs
 paid_joined [] [] zs = refl
@@ -99,7 +65,4 @@ paid_joined [] (x ∷ xs) zs = ap (λ (us : Begun). (false, x) ∷ us) (paid_joi
 paid_joined (y ∷ ys) xs zs = ap (λ (us : Begun). y ∷ us) (paid_joined ys xs zs)
 
 pub posted_more : (now p : ℕ) (e f : Ending) (paying : Owed) → f.begun ≡ e.begun → f.paid ≡ e.paid ++ paying → posted_at now p f ≡ posted_at now p e ++ entries_of now p (with_paid [] paying)
-posted_more now p e f paying begun paid =
-    (λ i. entries_of now p (with_paid (begun i) (paid i)))
-    ∙ ap (entries_of now p) (paid_joined e.begun e.paid paying)
-    ∙ entries_joined now p (with_paid e.begun e.paid) (with_paid [] paying)
+posted_more now p e f paying begun paid = grind (arith, with_paid, paid_joined, entries_joined)

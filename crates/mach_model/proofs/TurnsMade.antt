@@ -1,5 +1,5 @@
 -- Each turn as a function: what it makes of an ending, and when that is a turn.
-use Rattle.std.proofs.Common.{◌≡◌, ℕ, suc, zero, ◌+◌, ◌<◌, ◌≤◌, List, [], ◌∷◌, ◌++◌, refl, sym, ap, subst, ◌∙◌, arith, true, false, Bool, ◌⊎◌, inl, inr, length, get_or}
+use Rattle.std.proofs.Common.{◌≡◌, ℕ, suc, zero, ◌+◌, ◌<◌, ◌≤◌, List, [], ◌∷◌, ◌++◌, refl, sym, ap, subst, ◌∙◌, arith, true, false, Bool, ◌⊎◌, length, get_or}
 use Rattle.std.specs.Prelude.{◌≢◌, if◌then◌else◌, All, Contains, ◌==◌, ◌&&◌, not, map as list_map, filter}
 use Rattle.std.proofs.lemmas.List.{append-nil}
 use Rattle.std.proofs.lemmas.List.Elements.{All-cons, All-head, All-tail, All-append, All-map}
@@ -29,12 +29,7 @@ without x [] = []
 without x (y ∷ ys) = if is_at x.kind x.port x.place y then ys else y ∷ without x ys
 
 same_weight : (h : Token → ℕ) (x y : Token) → is_at x.kind x.port x.place y ≡ true → h y ≡ h x
-same_weight h x y e =
-    let k = (of_kind x.kind x.port y (left_of (is_of x.kind x.port y) (same_place x.place y.place) e)).0 in
-    let a = at_place x.kind x.port x.place y e in
-    let p = a.0 in
-    let l = a.1 in
-    λ i. h (token (k i) (p i) (l i))
+same_weight h x y e = grind (arith, of_kind, left_of, at_place)
 
 pub without_weigh : (x : Token) (xs : List Token) → 0 < count (is_at x.kind x.port x.place) xs → (h : Token → ℕ) → weigh h xs ≡ weigh h (without x xs) + h x
 without_weigh x [] some h = absurd (omega (arith, some))
@@ -47,12 +42,7 @@ without_weigh x (y ∷ ys) some h = go (is_at x.kind x.port x.place y) refl some
 
 pub parted : (h : Token → ℕ) (t : Token → Bool) (xs : List Token) → weigh h xs ≡ weigh h (filter (λ x. not (t x)) xs) + weigh h (filter t xs)
 parted h t [] = omega arith
-parted h t (x ∷ xs) = go (t x) (parted h t xs)
-  where
-    go : (b : Bool) → weigh h xs ≡ weigh h (filter (λ x. not (t x)) xs) + weigh h (filter t xs) →
-        h x + weigh h xs ≡ weigh h (if not b then x ∷ filter (λ x. not (t x)) xs else filter (λ x. not (t x)) xs) + weigh h (if b then x ∷ filter t xs else filter t xs)
-    go true ih = omega (arith, ih)
-    go false ih = omega (arith, ih)
+parted h t (x ∷ xs) = grind (arith, parted h t xs)
 
 -- what is so of those that pass, and of those that don't
 passing : (P : Token → Type 0) (t : Token → Bool) (xs : List Token) → All P xs → All (λ x. P x × (t x ≡ true)) (filter t xs)
@@ -155,22 +145,8 @@ pub lose_is : (mid : State) (e : Ending) (x : Token) → AreJudged mid e → lis
 lose_is mid e x judged lives at there = record { right = x; judged = judged; lives = lives; destroyed = at; takes = go (same_kind send_once x.kind) refl; rest = refl }
   where
     go : (b : Bool) → same_kind send_once x.kind ≡ b → (x.kind ≡ send_once) × Takes e (lose x e) ((x, right_unused) ∷ []) [] ⊎ (x.kind ≢ send_once) × Takes e (lose x e) [] (x ∷ [])
-    go true is = inl (
-      kind_is send_once x.kind is,
-      record {
-        left = λ h. let a = without_weigh x e.left there h in omega (arith, a);
-        paid = rw is refl;
-        gone = rw is (sym (append-nil e.gone));
-      },
-    )
-    go false is = inr (
-      (λ once. let a = ap (same_kind send_once) once in cc),
-      record {
-        left = λ h. let a = without_weigh x e.left there h in omega (arith, a);
-        paid = rw is (sym (append-nil e.paid));
-        gone = rw is refl;
-      },
-    )
+    go true is = grind (arith, kind_is, without_weigh, append-nil)
+    go false is = grind (arith, without_weigh, append-nil)
 
 -- ---- requests pay
 
@@ -256,10 +232,7 @@ abbrev pub IsOffRequests : Ending → List Request → Token → Type 0
 IsOffRequests e rs x = (r : Request) → Contains rs r → x.place ≡ in_request r → listed e.doomed x.port ≡ true
 
 off_requests : (e : Ending) (P : Token → Type 0) (rs : List Request) (xs : List Token) → All P xs → All (λ x. P x × IsOffRequests e rs x) (left_of_all e rs xs)
-off_requests e P [] xs all = weaker P (λ x. P x × IsOffRequests e [] x) (λ x h. (h, λ r c at. none r c)) xs all
-  where
-    none : {A : Type 0} (r : Request) → Contains [] r → A
-    none r (i, below, is) = absurd (omega (arith, below))
+off_requests e P [] xs all = grind (arith, weaker)
 off_requests e P (r ∷ rs) xs all =
     weaker (λ x. (P x × (not (is_paying e r x) ≡ true)) × IsOffRequests e rs x) (λ x. P x × IsOffRequests e (r ∷ rs) x) (λ x h. (h.0.0, off x h.0.1 h.1))
     (left_of_all e rs (filter (λ x. not (is_paying e r x)) xs))
@@ -321,10 +294,7 @@ bury_is old mid owed e p rs l reached judged doomed unburied ends once every = r
     pays x h = let r = of_one h.request h.one in record { request = h.request; once = h.once; lives = h.lives; stands = r.0; is_of = r.1; kept = h.kept; tells = h.tells }
 
     off : (x : Token) → (Stood x × IsOffRequests e rs x) × (not (x.port == p) ≡ true) → IsOffPort mid e p x
-    off x h = (
-      (λ is. let a = eq-eqb x.port p is in let b = not_true (x.port == p) h.1 in cc),
-      λ r at of. h.0.1 r (every r (h.0.0 r at) of) at,
-    )
+    off x h = grind (arith, eq-eqb, not_true)
 
 -- ---- a port is told that it has no senders
 

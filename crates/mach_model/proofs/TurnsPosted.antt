@@ -1,9 +1,9 @@
 -- Notices that were posted in one order, told in another: first those that are no part of what is owed, then those that are.
-use Rattle.std.proofs.Common.{◌≡◌, ℕ, zero, suc, ◌+◌, List, [], ◌∷◌, ◌++◌, refl, sym, ap, subst, ◌∙◌, arith, true, false, Bool, inl, inr, length}
+use Rattle.std.proofs.Common.{◌≡◌, ℕ, zero, suc, ◌+◌, List, [], ◌∷◌, ◌++◌, refl, sym, ap, subst, arith, true, false, Bool, inl, inr, length}
 use Rattle.std.specs.Prelude.{if◌then◌else◌, All, Any, ◌==◌, ◌⊎◌, map as list_map, filter}
 use Rattle.std.proofs.lemmas.List.Elements.{All-cons, All-head, All-tail}
 use Rattle.mach_types.specs.Tokens.{Token, weigh}
-use Rattle.mach_model.specs.Notices.{Notice, Posted, posted_tokens, all_posted_tokens}
+use Rattle.mach_model.specs.Notices.{Notice, Posted, all_posted_tokens}
 use Rattle.mach_model.specs.Settles.{due_notices}
 use Rattle.mach_model.specs.Turns.{Begun, owed_in, went_in}
 use Rattle.mach_model.proofs.Weigh.{weigh-append}
@@ -40,32 +40,19 @@ rest_same x y xs ys e = cc
 marked_due : (ys : Begun) (xs : List Posted) → told_of xs ≡ due_in ys → told_of (marked ys xs) ≡ due_notices (owed_in ys)
 marked_due [] xs e = refl
 marked_due (y ∷ ys) [] e = absurd (cc)
-marked_due (y ∷ ys) (x ∷ xs) e = go y.0 (first_same _ _ _ _ e) (marked_due ys xs (rest_same _ _ _ _ e))
-  where
-    go : (b : Bool) → ◌≡◌ {A = ℕ × Notice} (x.port, x.notice) (y.1.0.port, y.1.1) → told_of (marked ys xs) ≡ due_notices (owed_in ys) →
-        told_of (if b then x ∷ marked ys xs else marked ys xs) ≡ due_notices (if b then y.1 ∷ owed_in ys else owed_in ys)
-    go true f ih = λ i. f i ∷ ih i
-    go false f ih = ih
+marked_due (y ∷ ys) (x ∷ xs) e = grind (arith, marked_due ys xs (rest_same _ _ _ _ e), first_same, rest_same)
 
 unmarked_due : (ys : Begun) (xs : List Posted) → told_of xs ≡ due_in ys → told_of (unmarked ys xs) ≡ due_notices (went_in ys)
 unmarked_due [] xs e = refl
 unmarked_due (y ∷ ys) [] e = absurd (cc)
-unmarked_due (y ∷ ys) (x ∷ xs) e = go y.0 (first_same _ _ _ _ e) (unmarked_due ys xs (rest_same _ _ _ _ e))
-  where
-    go : (b : Bool) → ◌≡◌ {A = ℕ × Notice} (x.port, x.notice) (y.1.0.port, y.1.1) → told_of (unmarked ys xs) ≡ due_notices (went_in ys) →
-        told_of (if b then unmarked ys xs else x ∷ unmarked ys xs) ≡ due_notices (if b then went_in ys else y.1 ∷ went_in ys)
-    go true f ih = ih
-    go false f ih = λ i. f i ∷ ih i
+unmarked_due (y ∷ ys) (x ∷ xs) e = grind (arith, unmarked_due ys xs (rest_same _ _ _ _ e), first_same, rest_same)
 
 map_joined : {A B : Type 0} (f : A → B) (xs ys : List A) → list_map f (xs ++ ys) ≡ list_map f xs ++ list_map f ys
 map_joined f [] ys = refl
 map_joined f (x ∷ xs) ys = ap (λ zs. f x ∷ zs) (map_joined f xs ys)
 
 pub sorted_due : (ys : Begun) (xs : List Posted) → told_of xs ≡ due_in ys → told_of (sorted ys xs) ≡ due_notices (went_in ys ++ owed_in ys)
-sorted_due ys xs e =
-    map_joined (λ (x : Posted). (x.port, x.notice)) (unmarked ys xs) (marked ys xs)
-    ∙ (λ i. unmarked_due ys xs e i ++ marked_due ys xs e i)
-    ∙ sym (map_joined (λ (x : Token × Notice). (x.0.port, x.1)) (went_in ys) (owed_in ys))
+sorted_due ys xs e = grind (arith, map_joined, unmarked_due, marked_due)
 
 -- ---- all stand in the other order too
 
@@ -74,20 +61,11 @@ sorted_weigh_of : (h : Token → ℕ) (ys : Begun) (xs : List Posted) → told_o
 sorted_weigh_of h [] [] e = omega arith
 sorted_weigh_of h [] (x ∷ xs) e = absurd (cc)
 sorted_weigh_of h (y ∷ ys) [] e = absurd (cc)
-sorted_weigh_of h (y ∷ ys) (x ∷ xs) e = go y.0 (sorted_weigh_of h ys xs (rest_same _ _ _ _ e))
-  where
-    go : (b : Bool) → weigh h (all_posted_tokens xs) ≡ weigh h (all_posted_tokens (unmarked ys xs)) + weigh h (all_posted_tokens (marked ys xs)) →
-        weigh h (posted_tokens x ++ all_posted_tokens xs)
-        ≡ weigh h (all_posted_tokens (if b then unmarked ys xs else x ∷ unmarked ys xs)) + weigh h (all_posted_tokens (if b then x ∷ marked ys xs else marked ys xs))
-    go true ih = let a = weigh-append h (posted_tokens x) (all_posted_tokens xs) in let b = weigh-append h (posted_tokens x) (all_posted_tokens (marked ys xs)) in omega (arith, a, b, ih)
-    go false ih = let a = weigh-append h (posted_tokens x) (all_posted_tokens xs) in let b = weigh-append h (posted_tokens x) (all_posted_tokens (unmarked ys xs)) in omega (arith, a, b, ih)
+sorted_weigh_of h (y ∷ ys) (x ∷ xs) e = grind (arith, sorted_weigh_of h ys xs (rest_same _ _ _ _ e), rest_same, weigh-append)
 
 tokens_joined : (h : Token → ℕ) (xs ys : List Posted) → weigh h (all_posted_tokens (xs ++ ys)) ≡ weigh h (all_posted_tokens xs) + weigh h (all_posted_tokens ys)
 tokens_joined h [] ys = omega arith
-tokens_joined h (x ∷ xs) ys =
-    let a = weigh-append h (posted_tokens x) (all_posted_tokens (xs ++ ys)) in
-    let b = weigh-append h (posted_tokens x) (all_posted_tokens xs) in
-    let r = tokens_joined h xs ys in omega (arith, a, b, r)
+tokens_joined h (x ∷ xs) ys = grind (arith, tokens_joined h xs ys, weigh-append)
 
 pub sorted_weigh : (h : Token → ℕ) (ys : Begun) (xs : List Posted) → told_of xs ≡ due_in ys → weigh h (all_posted_tokens (sorted ys xs)) ≡ weigh h (all_posted_tokens xs)
 sorted_weigh h ys xs e = let a = sorted_weigh_of h ys xs e in let b = tokens_joined h (unmarked ys xs) (marked ys xs) in omega (arith, a, b)
@@ -98,13 +76,7 @@ at_port p xs = length (filter (λ (x : Posted). x.port == p) xs)
 
 at_joined : (p : ℕ) (xs ys : List Posted) → at_port p (xs ++ ys) ≡ at_port p xs + at_port p ys
 at_joined p [] ys = omega arith
-at_joined p (x ∷ xs) ys = go (x.port == p) (at_joined p xs ys)
-  where
-    go : (b : Bool) → at_port p (xs ++ ys) ≡ at_port p xs + at_port p ys →
-        length (if b then x ∷ filter (λ (x : Posted). x.port == p) (xs ++ ys) else filter (λ (x : Posted). x.port == p) (xs ++ ys))
-        ≡ length (if b then x ∷ filter (λ (x : Posted). x.port == p) xs else filter (λ (x : Posted). x.port == p) xs) + at_port p ys
-    go true ih = omega (arith, ih)
-    go false ih = ih
+at_joined p (x ∷ xs) ys = grind (arith, at_joined p xs ys)
 
 at_one : (p : ℕ) (x : Posted) (xs : List Posted) → at_port p (x ∷ xs) ≡ at_port p (x ∷ []) + at_port p xs
 at_one p x xs = at_joined p (x ∷ []) xs
@@ -113,12 +85,7 @@ sorted_at_of : (p : ℕ) (ys : Begun) (xs : List Posted) → told_of xs ≡ due_
 sorted_at_of p [] [] e = omega arith
 sorted_at_of p [] (x ∷ xs) e = absurd (cc)
 sorted_at_of p (y ∷ ys) [] e = absurd (cc)
-sorted_at_of p (y ∷ ys) (x ∷ xs) e = go y.0 (sorted_at_of p ys xs (rest_same _ _ _ _ e))
-  where
-    go : (b : Bool) → at_port p xs ≡ at_port p (unmarked ys xs) + at_port p (marked ys xs) →
-        at_port p (x ∷ xs) ≡ at_port p (if b then unmarked ys xs else x ∷ unmarked ys xs) + at_port p (if b then x ∷ marked ys xs else marked ys xs)
-    go true ih = let a = at_one p x xs in let b = at_one p x (marked ys xs) in omega (arith, a, b, ih)
-    go false ih = let a = at_one p x xs in let b = at_one p x (unmarked ys xs) in omega (arith, a, b, ih)
+sorted_at_of p (y ∷ ys) (x ∷ xs) e = grind (arith, sorted_at_of p ys xs (rest_same _ _ _ _ e), rest_same, at_one)
 
 pub sorted_at : (p : ℕ) (ys : Begun) (xs : List Posted) → told_of xs ≡ due_in ys → length (filter (λ (x : Posted). x.port == p) (sorted ys xs)) ≡ length (filter (λ (x : Posted). x.port == p) xs)
 sorted_at p ys xs e = let a = sorted_at_of p ys xs e in let b = at_joined p (unmarked ys xs) (marked ys xs) in omega (arith, a, b)

@@ -1,5 +1,5 @@
 -- What the turns of the end of a step come to, once nothing is left to do, is an end as `Settles` says.
-use Rattle.std.proofs.Common.{◌≡◌, ℕ, ◌+◌, ◌<◌, List, [], ◌∷◌, ◌++◌, Option, Some, None, refl, sym, ap, subst, ◌∙◌, arith, true, false, Bool, ◌⊎◌, inl, inr, cond}
+use Rattle.std.proofs.Common.{◌≡◌, ℕ, ◌+◌, ◌<◌, List, [], ◌∷◌, ◌++◌, Option, Some, None, refl, sym, ap, ◌∙◌, arith, true, false, Bool, ◌⊎◌, inl, inr, cond}
 use Rattle.std.specs.Prelude.{if◌then◌else◌, All, ◌&&◌, ◌||◌, not, map as list_map, filter, option_map}
 use Rattle.std.specs.FinMap as map
 use Rattle.std.specs.FinMap.{get-insert, get-empty, nat_cmp-IsAntisymmetric}
@@ -10,18 +10,18 @@ use Rattle.std.specs.Ordering.{nat_cmp, is_eq}
 use Rattle.std.specs.Cmp.{nat_cmp_total}
 use Rattle.std.proofs.lemmas.List.Elements.{All-cons, All-head, All-tail, All-map, All-append}
 use Rattle.std.proofs.lemmas.Bool.{and_from, false_from_ne_true}
-use Rattle.mach_types.specs.Tokens.{Kind, receive, send, Request, no_senders, port_destroyed, dead_name, Place, in_task, in_message, in_request, Token, token, weigh, count, is_of}
+use Rattle.mach_types.specs.Tokens.{Kind, send, Request, no_senders, port_destroyed, dead_name, Place, in_task, in_message, in_request, Token, token, weigh, count, is_of}
 use Rattle.mach_model.specs.State.{State, Target, Names, lookup, senders}
-use Rattle.mach_model.specs.Death.{Dies, IsOrphan, CarriedAt, IsSentAway}
+use Rattle.mach_model.specs.Death.{Dies, IsSentAway}
 use Rattle.mach_model.specs.Notices.{Notice, Owed, Posted, all_posted_tokens}
-use Rattle.mach_model.specs.Settles.{PlaceStays, StaysWith, TellsAt, PaysFor, GoesFrom, settled_target, BecameDead, Ends, due_notices, tokens_of, RightsSettle, NoticesSettle, NamesSettle, RequestsSettle, Settles}
+use Rattle.mach_model.specs.Settles.{PlaceStays, StaysWith, TellsAt, PaysFor, GoesFrom, settled_target, Ends, due_notices, tokens_of, RightsSettle, NoticesSettle, NamesSettle, RequestsSettle, Settles}
 use Rattle.mach_model.specs.Midway.{MidLawful}
 use Rattle.mach_model.specs.Turns.{Begun, owed_in, went_in, Ending, listed, lives_after, became_dead, has_ended, outcome, AreJudged, PaidForName}
 use Rattle.mach_model.proofs.Weigh.{weigh-append, lying_le_of}
 use Rattle.mach_model.proofs.Settling.{lives}
 use Rattle.mach_model.proofs.SettledParts.{and_false, or_cases, or_right, or_left, none_posted, none_tasked}
 use Rattle.mach_model.proofs.SettledPosting.{StandsBehind, logs_after, post_all, posts_due, posts_append, posts_stand, posts_cover}
-use Rattle.mach_model.proofs.TurnsDeaths.{DiesUnder, IsPaidAt, HasPaid, DiesAround, HasGone, IsSound, dies_unsaved, all_saved, dies_after, turns_deaths, turns_ports}
+use Rattle.mach_model.proofs.TurnsDeaths.{DiesUnder, IsPaidAt, HasPaid, HasGone, IsSound, dies_unsaved, all_saved, dies_after, turns_deaths, turns_ports}
 use Rattle.mach_model.proofs.TurnsPosted.{due_in, sorted, sorted_due, sorted_weigh, sorted_at, sorted_all, sorted_any}
 
 -- ---- names of which each stands for another thing
@@ -50,25 +50,11 @@ turned_get f m n = turned_at f (map.entries m) n ∙ ap (option_map (f n)) (sym 
 
 owed_kept : (t : Token × Notice → Bool) (ys : Begun) → owed_in (filter (λ y. t y.1) ys) ≡ filter t (owed_in ys)
 owed_kept t [] = refl
-owed_kept t (y ∷ ys) = go y.0 (t y.1) refl refl (owed_kept t ys)
-  where
-    go : (b c : Bool) → y.0 ≡ b → t y.1 ≡ c → owed_in (filter (λ y. t y.1) ys) ≡ filter t (owed_in ys) →
-        owed_in (if c then y ∷ filter (λ y. t y.1) ys else filter (λ y. t y.1) ys) ≡ filter t (if b then y.1 ∷ owed_in ys else owed_in ys)
-    go true true e f ih = rw (e, f) (ap (λ zs. y.1 ∷ zs) ih)
-    go true false e f ih = rw f ih
-    go false true e f ih = rw e ih
-    go false false e f ih = ih
+owed_kept t (y ∷ ys) = grind (arith, owed_kept t ys)
 
 went_kept : (t : Token × Notice → Bool) (ys : Begun) → went_in (filter (λ y. t y.1) ys) ≡ filter t (went_in ys)
 went_kept t [] = refl
-went_kept t (y ∷ ys) = go y.0 (t y.1) refl refl (went_kept t ys)
-  where
-    go : (b c : Bool) → y.0 ≡ b → t y.1 ≡ c → went_in (filter (λ y. t y.1) ys) ≡ filter t (went_in ys) →
-        went_in (if c then y ∷ filter (λ y. t y.1) ys else filter (λ y. t y.1) ys) ≡ filter t (if b then went_in ys else y.1 ∷ went_in ys)
-    go true true e f ih = rw e ih
-    go true false e f ih = ih
-    go false true e f ih = rw (e, f) (ap (λ zs. y.1 ∷ zs) ih)
-    go false false e f ih = rw f ih
+went_kept t (y ∷ ys) = grind (arith, went_kept t ys)
 
 abbrev pub with_paid : Begun → Owed → Begun
 with_paid ys xs = ys ++ list_map (λ x. (false, x)) xs
@@ -83,19 +69,11 @@ went_alone (x ∷ xs) = ap (λ zs. x ∷ zs) (went_alone xs)
 
 owed_with : (ys : Begun) (xs : Owed) → owed_in (with_paid ys xs) ≡ owed_in ys
 owed_with [] xs = owed_alone xs
-owed_with (y ∷ ys) xs = go y.0 (owed_with ys xs)
-  where
-    go : (b : Bool) → owed_in (with_paid ys xs) ≡ owed_in ys → (if b then y.1 ∷ owed_in (with_paid ys xs) else owed_in (with_paid ys xs)) ≡ (if b then y.1 ∷ owed_in ys else owed_in ys)
-    go true ih = ap (λ zs. y.1 ∷ zs) ih
-    go false ih = ih
+owed_with (y ∷ ys) xs = grind (arith, owed_with ys xs)
 
 went_with : (ys : Begun) (xs : Owed) → went_in (with_paid ys xs) ≡ went_in ys ++ xs
 went_with [] xs = went_alone xs
-went_with (y ∷ ys) xs = go y.0 (went_with ys xs)
-  where
-    go : (b : Bool) → went_in (with_paid ys xs) ≡ went_in ys ++ xs → (if b then went_in (with_paid ys xs) else y.1 ∷ went_in (with_paid ys xs)) ≡ (if b then went_in ys else y.1 ∷ went_in ys) ++ xs
-    go true ih = ih
-    go false ih = ap (λ zs. y.1 ∷ zs) ih
+went_with (y ∷ ys) xs = grind (arith, went_with ys xs)
 
 filtered : {A : Type 0} (P Q : A → Type 0) (t : A → Bool) → ((x : A) → P x → t x ≡ true → Q x) → (xs : List A) → All P xs → All Q (filter t xs)
 filtered P Q t so [] all = λ k d below. absurd (omega arith)
@@ -111,13 +89,7 @@ weaker {A} P Q so (x ∷ xs) all = All-cons Q x xs (so x (All-head P x xs all)) 
 
 two_parts : (h : Token → ℕ) (t : Token × Notice → Bool) (xs : Owed) → weigh h (tokens_of xs) ≡ weigh h (tokens_of (filter t xs)) + weigh h (tokens_of (filter (λ x. not (t x)) xs))
 two_parts h t [] = omega arith
-two_parts h t (x ∷ xs) = go (t x) (two_parts h t xs)
-  where
-    go : (b : Bool) → weigh h (tokens_of xs) ≡ weigh h (tokens_of (filter t xs)) + weigh h (tokens_of (filter (λ x. not (t x)) xs)) →
-        h x.0 + weigh h (tokens_of xs) ≡ weigh h (tokens_of (if b then x ∷ filter t xs else filter t xs))
-        + weigh h (tokens_of (if not b then x ∷ filter (λ x. not (t x)) xs else filter (λ x. not (t x)) xs))
-    go true ih = omega (arith, ih)
-    go false ih = omega (arith, ih)
+two_parts h t (x ∷ xs) = grind (arith, two_parts h t xs)
 
 pub tokens_joined : (h : Token → ℕ) (xs ys : Owed) → weigh h (tokens_of (xs ++ ys)) ≡ weigh h (tokens_of xs) + weigh h (tokens_of ys)
 tokens_joined h [] ys = omega arith
@@ -163,10 +135,7 @@ end_sends now mid e p =
     omega (arith, a, b)
 
 pub end_outside : (now : ℕ) (mid : State) (e : Ending) (test : Token → Bool) → ((kind : Kind) (p q k : ℕ) → test (token kind p (in_message q k)) ≡ false) → count test (end_of now mid e).ledger ≡ count test e.left
-end_outside now mid e test none =
-    let a = weigh-append (λ x. if test x then 1 else 0) e.left (all_posted_tokens (all_posted now mid e)) in
-    let b = none_tasked test none (all_posted now mid e) in
-    omega (arith, a, b)
+end_outside now mid e test none = grind (arith, weigh-append, none_tasked)
 
 module _ (now : ℕ) (old mid : State) (owed : Owed) (e : Ending) (l : MidLawful mid owed) (s : IsSound old mid owed e) (judged : AreJudged mid e) where
   abbrev new : State
@@ -179,14 +148,10 @@ module _ (now : ℕ) (old mid : State) (owed : Owed) (e : Ending) (l : MidLawful
 
   -- a port that lived and doesn't die
   alive : (p : ℕ) → mid.live_port p ≡ true → ¬ (Dies mid p) → lives_after mid e p ≡ true
-  alive p live not_dead = and_from (mid.live_port p) (not (listed e.doomed p)) live (of_false (listed e.doomed p) (false_from_ne_true (listed e.doomed p) (λ h. not_dead (s.doomed p h))))
+  alive p live not_dead = grind (arith, and_from, of_false, false_from_ne_true)
 
   sent_lives : (p : ℕ) → IsSentAway mid p → lives_after mid e p ≡ true
-  sent_lives p (saved, why) = alive p (live why) (λ d. dies_unsaved mid p d saved)
-    where
-      live : IsOrphan mid p ⊎ ((q : ℕ) × Dies mid q × CarriedAt mid p q) → mid.live_port p ≡ true
-      live (inl o) = o.0
-      live (inr (q, d, at)) = lives l.ports receive p (let a = lying_le_of mid receive p (in_message q at.0) in let b = at.1 in omega (arith, a, b))
+  sent_lives p (saved, why) = grind (arith, alive, dies_unsaved, lives, lying_le_of)
 
   saved_is : (p : ℕ) → IsSentAway mid p → listed e.saved p ≡ true
   saved_is = all_saved old mid owed e s judged
@@ -197,14 +162,7 @@ module _ (now : ℕ) (old mid : State) (owed : Owed) (e : Ending) (l : MidLawful
   -- ---- names
 
   pub turns_names : NamesSettle mid new
-  turns_names task name = turned_get (settled_target mid (outcome mid e) task) (mid.naming task) name ∙ same (lookup mid task name)
-    where
-      same : (o : Option Target) → option_map (settled_target mid (outcome mid e) task name) o ≡ option_map (settled_target mid new task name) o
-      same None = refl
-      same (Some (Target.port p)) = refl
-      same (Some (Target.once p)) = refl
-      same (Some (Target.dead n)) = refl
-      same (Some (Target.set n)) = refl
+  turns_names task name = grind (arith, turned_get)
 
   -- ---- requests
 
@@ -214,39 +172,15 @@ module _ (now : ℕ) (old mid : State) (owed : Owed) (e : Ending) (l : MidLawful
   module _ (told : (p : ℕ) → mid.stands (no_senders p) ≡ true → lives_after mid e p ≡ true → 0 < senders old p → count (is_of send p) e.left ≡ 0 → listed e.told p ≡ true) where
     ended_so : (r : Request) → mid.stands r ≡ true → Ends old mid new r → has_ended mid e r ≡ true
     ended_so (no_senders p) stands (inl gone) = or_left (not (lives_after mid e p)) (listed e.told p) (of_false (lives_after mid e p) gone)
-    ended_so (no_senders p) stands (inr last) = go (lives_after mid e p) refl
-      where
-        go : (b : Bool) → lives_after mid e p ≡ b → (not b || listed e.told p) ≡ true
-        go false f = refl
-        go true f = told p stands f last.0 (sym (senders_left p) ∙ last.1)
+    ended_so (no_senders p) stands (inr last) = grind (arith, senders_left)
     ended_so (port_destroyed p) stands (inl gone) = or_left (not (lives_after mid e p)) (listed e.saved p) (of_false (lives_after mid e p) gone)
     ended_so (port_destroyed p) stands (inr sent) = or_right (not (lives_after mid e p)) (listed e.saved p) (saved_is p sent)
-    ended_so (dead_name task name) stands became = go (lookup mid task name) became
-      where
-        go : (o : Option Target) → BecameDead mid new o → became_dead mid e o ≡ true
-        go None h = absurd h
-        go (Some (Target.port p)) h = of_false (lives_after mid e p) h
-        go (Some (Target.once p)) h = of_false (lives_after mid e p) h
-        go (Some (Target.dead n)) h = absurd h
-        go (Some (Target.set n)) h = absurd h
+    ended_so (dead_name task name) stands became = grind (arith, of_false)
 
     so_ended : (r : Request) → has_ended mid e r ≡ true → Ends old mid new r
-    so_ended (no_senders p) h = elim (or_cases (not (lives_after mid e p)) (listed e.told p) h) [
-      | inl gone ↦ inl (is_false (lives_after mid e p) gone)
-      | inr was ↦ inr (let w = s.told p was in (w.had, senders_left p ∙ w.none))
-    ]
-    so_ended (port_destroyed p) h = elim (or_cases (not (lives_after mid e p)) (listed e.saved p) h) [
-      | inl gone ↦ inl (is_false (lives_after mid e p) gone)
-      | inr was ↦ inr (s.saved p was)
-    ]
-    so_ended (dead_name task name) h = go (lookup mid task name) h
-      where
-        go : (o : Option Target) → became_dead mid e o ≡ true → BecameDead mid new o
-        go None f = absurd (cc)
-        go (Some (Target.port p)) f = is_false (lives_after mid e p) f
-        go (Some (Target.once p)) f = is_false (lives_after mid e p) f
-        go (Some (Target.dead n)) f = absurd (cc)
-        go (Some (Target.set n)) f = absurd (cc)
+    so_ended (no_senders p) h = grind (arith, or_cases, is_false, senders_left)
+    so_ended (port_destroyed p) h = grind (arith, or_cases, is_false)
+    so_ended (dead_name task name) h = grind (arith, is_false)
 
     pub turns_requests : RequestsSettle old mid new
     turns_requests = record {
@@ -281,8 +215,7 @@ module _ (now : ℕ) (old mid : State) (owed : Owed) (e : Ending) (l : MidLawful
   paid_tells (in_message q k) n h = h.1
   paid_tells (in_request (no_senders p)) n (inl h) = rw (dead p h.0) h.1
   paid_tells (in_request (no_senders p)) n (inr (was, inl h)) = let w = s.told p was in rw (alive p w.live w.survives, saved_is p h.0) h.1
-  paid_tells (in_request (no_senders p)) n (inr (was, inr h)) =
-      let w = s.told p was in rw (alive p w.live w.survives, false_from_ne_true (listed e.saved p) (λ is. h.0 (s.saved p is))) h.1
+  paid_tells (in_request (no_senders p)) n (inr (was, inr h)) = grind (arith, alive, false_from_ne_true)
   paid_tells (in_request (port_destroyed p)) n (inl h) = rw (dead p h.0) h.1
   paid_tells (in_request (port_destroyed p)) n (inr h) = rw (sent_lives p h.0) h.1
   paid_tells (in_request (dead_name task name)) n h = rw h.1 h.2
@@ -302,21 +235,11 @@ module _ (now : ℕ) (old mid : State) (owed : Owed) (e : Ending) (l : MidLawful
 
   pays_so : (x : Token × Notice) → Paid x → at_live x ≡ true → PaysFor mid new x.0 x.1
   pays_so x (inr h) live = (h.0, live, paid_leaves x.0.place x.1 h.1, paid_tells x.0.place x.1 h.1)
-  pays_so x (inl h) live = (
-    h.once,
-    live,
-    (λ stays. let a : (mid.stands (dead_name h.task h.name) && not (has_ended mid e (dead_name h.task h.name))) ≡ true = subst (PlaceStays new) h.kept stays in let b = h.went in cc),
-    subst (λ (place : Place). TellsAt mid new place x.1) (sym h.kept) (rw h.went h.tells),
-  )
+  pays_so x (inl h) live = grind arith
 
   goes_so : (x : Token) → HasGone mid x → GoesFrom new x
   goes_so x (inl d) = inl (dead x.port d)
-  goes_so x (inr h) = inr (h.0, leaves x.place h.1)
-    where
-      leaves : (place : Place) → DiesAround mid place → ¬ (PlaceStays new place)
-      leaves (in_task task) d = absurd d
-      leaves (in_message q k) d = λ live. let f = dead q d in cc
-      leaves (in_request r) d = absurd d
+  goes_so x (inr h) = grind (arith, dead)
 
   abbrev spoilt : Owed
   spoilt = filter (λ x. not (at_live x)) all_paid

@@ -1,6 +1,6 @@
 -- Each turn keeps what is true between turns.
 use Rattle.std.proofs.Common.{◌≡◌, ℕ, ◌+◌, ◌≤◌, List, [], ◌∷◌, ◌++◌, Option, Some, None, refl, sym, ap, subst, ◌∙◌, arith, true, false, Bool, ◌⊎◌, inl, inr}
-use Rattle.std.specs.Prelude.{if◌then◌else◌, All, ◌==◌, ◌||◌, not}
+use Rattle.std.specs.Prelude.{if◌then◌else◌, All, ◌==◌, not}
 use Rattle.std.proofs.lemmas.List.{append-nil}
 use Rattle.std.proofs.lemmas.List.Elements.{All-cons, All-append}
 use Rattle.std.proofs.lemmas.Bool.{eq-eqb, eqb-true}
@@ -9,7 +9,7 @@ use Rattle.mach_model.specs.State.{State, Target, lookup}
 use Rattle.mach_model.specs.Death.{Dies, IsSentAway}
 use Rattle.mach_model.specs.Notices.{Notice, port_sent, no_more_senders, right_unused, Owed}
 use Rattle.mach_model.specs.Settles.{tokens_of}
-use Rattle.mach_model.specs.Turns.{owed_in, went_in, Ending, listed, IsFound, AreJudged, IsAtDoomed, IsNameOf, IsRequestOf, death_notice, Takes, PaidForName, Begins, Dooms, Saves, Destroys, Loses, PaysAtBurial, Buries, TellsSenderless, Turn, IsReached, begins, turns}
+use Rattle.mach_model.specs.Turns.{owed_in, went_in, Ending, listed, AreJudged, IsAtDoomed, IsNameOf, IsRequestOf, death_notice, Takes, PaidForName, Begins, Dooms, Saves, Destroys, Loses, PaysAtBurial, Buries, TellsSenderless, Turn, IsReached, begins, turns}
 use Rattle.mach_model.proofs.Weigh.{left_of, right_of}
 use Rattle.mach_model.proofs.SettledParts.{or_cases, or_right, or_left}
 use Rattle.mach_model.proofs.TurnsDeaths.{DiesUnder, IsToldOf, IsPaidAt, HasPaid, DiesAround, HasGone, WasTold, IsSound, found_is, found_dies, all_saved, survives}
@@ -18,10 +18,7 @@ use Rattle.mach_model.proofs.TurnsSettle.{tokens_joined, weaker}
 -- ---- lists of ports
 
 pub listed_cases : (port : ℕ) (ps : List ℕ) (p : ℕ) → listed (port ∷ ps) p ≡ true → (p ≡ port) ⊎ (listed ps p ≡ true)
-listed_cases port ps p h = elim (or_cases (p == port) (listed ps p) h) [
-  | inl is ↦ inl (eqb-true p port is)
-  | inr is ↦ inr is
-]
+listed_cases port ps p h = grind (arith, or_cases, eqb-true)
 
 pub listed_first : (port : ℕ) (ps : List ℕ) → listed (port ∷ ps) port ≡ true
 listed_first port ps = or_left (port == port) (listed ps port) (eq-eqb port port refl)
@@ -31,10 +28,7 @@ listed_later port ps p h = or_right (p == port) (listed ps p) h
 
 -- what is so of each port of a list with one more
 pub one_more : (P : ℕ → Type 0) (port : ℕ) (ps qs : List ℕ) → qs ≡ port ∷ ps → P port → ((p : ℕ) → listed ps p ≡ true → P p) → (p : ℕ) → listed qs p ≡ true → P p
-one_more P port ps qs is own others p h = elim (listed_cases port ps p (ap (λ (ps : List ℕ). listed ps p) (sym is) ∙ h)) [
-  | inl same ↦ subst P (sym same) own
-  | inr was ↦ others p was
-]
+one_more P port ps qs is own others p h = grind (arith, listed_cases)
 
 none_all : {A : Type 0} (P : A → Type 0) → All P []
 none_all P = λ k d below. absurd (omega arith)
@@ -44,11 +38,7 @@ one_all P x h = All-cons P x [] h (none_all P)
 
 -- a turn that takes no right
 pub takes_none : (e f : Ending) → f.left ≡ e.left → f.paid ≡ e.paid → f.gone ≡ e.gone → Takes e f [] []
-takes_none e f left paid gone = record {
-  left = λ h. let a : weigh h f.left ≡ weigh h e.left = ap (weigh h) left in omega (arith, a);
-  paid = paid ∙ sym (append-nil e.paid);
-  gone = gone ∙ sym (append-nil e.gone);
-}
+takes_none e f left paid gone = grind (arith, append-nil)
 
 pub takes_less : (e f : Ending) (paying : Owed) (going : List Token) → Takes e f paying going → (h : Token → ℕ) → weigh h f.left ≤ weigh h e.left
 takes_less e f paying going t h = let a = t.left h in omega (arith, a)
@@ -133,23 +123,7 @@ module _ (old mid : State) (owed : Owed) where
   -- ---- each turn
 
   pub begins_sound : (e : Ending) → Begins mid owed e → IsSound old mid owed e
-  begins_sound e b =
-      let none : e.paid ≡ [] = ap (λ (x : Ending). x.paid) b.rest in
-      let gone_none : e.gone ≡ [] = ap (λ (x : Ending). x.gone) b.rest in
-      record {
-        owes = b.owes;
-        went = b.went;
-        parts = λ h.
-            let a = b.rights h in
-            let c : weigh h (tokens_of e.paid) ≡ 0 = ap (λ (xs : Owed). weigh h (tokens_of xs)) none in
-            let d : weigh h e.gone ≡ 0 = ap (weigh h) gone_none in
-            omega (arith, a, c, d);
-        doomed = λ p h. absurd (let z : listed e.doomed p ≡ false = ap (λ (x : Ending). listed x.doomed p) b.rest in cc);
-        saved = λ p h. absurd (let z : listed e.saved p ≡ false = ap (λ (x : Ending). listed x.saved p) b.rest in cc);
-        told = λ p h. absurd (let z : listed e.told p ≡ false = ap (λ (x : Ending). listed x.told p) b.rest in cc);
-        paid = subst (λ (xs : Owed). All (HasPaid mid e.told) xs) (sym none) (none_all (HasPaid mid e.told));
-        gone = subst (λ (xs : List Token). All (HasGone mid) xs) (sym gone_none) (none_all (HasGone mid));
-      }
+  begins_sound e b = grind (arith, none_all)
 
   -- a right of the request tells that the port has no senders
   abbrev TellsFor : Ending → ℕ → Token × Notice → Type 0
@@ -195,16 +169,7 @@ module _ (old mid : State) (owed : Owed) where
         }
 
     destroys_sound : Destroys mid e f → IsSound old mid owed f
-    destroys_sound t = adds_sound e f [] [] s record {
-      begun = ap (λ (x : Ending). x.begun) t.rest;
-      doomed = was_doomed (ap (λ (x : Ending). x.doomed) t.rest);
-      saved = was_saved (ap (λ (x : Ending). x.saved) t.rest);
-      told = was_told (ap (λ (x : Ending). x.told) t.rest);
-      more = still_told (ap (λ (x : Ending). x.told) t.rest);
-      takes = takes_none e f (ap (λ (x : Ending). x.left) t.rest) (ap (λ (x : Ending). x.paid) t.rest) (ap (λ (x : Ending). x.gone) t.rest);
-      pays = none_all (HasPaid mid f.told);
-      goes = none_all (HasGone mid);
-    }
+    destroys_sound t = grind (arith, adds_sound, was_doomed, was_saved, was_told, still_told, takes_none, none_all)
 
     loses_sound : Loses mid e f → IsSound old mid owed f
     loses_sound t = go t.takes
@@ -285,19 +250,4 @@ module _ (old mid : State) (owed : Owed) where
 
 -- When all are judged, that stays so.
 pub judged_stays : (old mid : State) (e f : Ending) → Turn old mid e f → AreJudged mid e → AreJudged mid f
-judged_stays old mid e f t judged = go t
-  where
-    same : f.doomed ≡ e.doomed → f.saved ≡ e.saved → AreJudged mid f
-    same doomed saved p found = (λ i. listed (doomed i) p || listed (saved i) p) ∙ judged p (was found)
-      where
-        was : IsFound mid f p → IsFound mid e p
-        was (inl o) = inl o
-        was (inr (q, h, at)) = inr (q, ap (λ (ps : List ℕ). listed ps q) (sym doomed) ∙ h, at)
-
-    go : Turn old mid e f → AreJudged mid f
-    go (inl d) = absurd (let a = judged d.port d.found in let b = d.unjudged in cc)
-    go (inr (inl s)) = absurd (let a = judged s.port s.found in let b = s.unjudged in cc)
-    go (inr (inr (inl d))) = same (ap (λ (x : Ending). x.doomed) d.rest) (ap (λ (x : Ending). x.saved) d.rest)
-    go (inr (inr (inr (inl d)))) = same (ap (λ (x : Ending). x.doomed) d.rest) (ap (λ (x : Ending). x.saved) d.rest)
-    go (inr (inr (inr (inr (inl d))))) = same (ap (λ (x : Ending). x.doomed) d.rest) (ap (λ (x : Ending). x.saved) d.rest)
-    go (inr (inr (inr (inr (inr d))))) = same (ap (λ (x : Ending). x.doomed) d.rest) (ap (λ (x : Ending). x.saved) d.rest)
+judged_stays old mid e f t judged = grind arith

@@ -69,9 +69,4 @@ pub no_reply : (number word : ℕ) → number ≡ 0 → reply_words number word 
 no_reply number word e = rw e refl
 
 pub one_reply : (number word : ℕ) (kind : Kind) → IsReceived number kind → reply_words number word ≡ (number, word) ∷ []
-one_reply number word kind e = subst (λ (n : ℕ). reply_words n word ≡ (n, word) ∷ []) (sym e) (by kind)
-  where
-    by : (c : Kind) → reply_words (kind_number c) word ≡ (kind_number c, word) ∷ []
-    by receive = refl
-    by send = refl
-    by send_once = refl
+one_reply number word kind e = grind arith

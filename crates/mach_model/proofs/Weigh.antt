@@ -48,10 +48,7 @@ lying_le_of s kind q place = count_le (λ x. is_of kind q x && same_place place 
 -- a test that some token passes, and one that none does
 pub count_none : (test : Token → Bool) (xs : List Token) → ((k : ℕ) (d : Token) → k < length xs → test (get_or xs k d) ≡ true → ⊥) → count test xs ≡ 0
 count_none test [] none = refl
-count_none test (x ∷ xs) none =
-    let e = false_from_ne_true (test x) (none 0 x (omega arith)) in
-    let rest = count_none test xs (λ k d below. none (suc k) d (omega (arith, below))) in
-    rw e (omega (arith, rest))
+count_none test (x ∷ xs) none = grind (arith, false_from_ne_true (test x) (none 0 x (omega arith)), count_none test xs (λ k d below. none (suc k) d (omega (arith, below))))
 
 pub count_some : (test : Token → Bool) (xs : List Token) (k : ℕ) (d : Token) → k < length xs → test (get_or xs k d) ≡ true → 0 < count test xs
 count_some test [] k d below e = absurd (omega arith)

@@ -30,10 +30,7 @@ pub skipped-later : (p : ℕ) → p ≢ 0 → skipped p ≡ 0
 skipped-later p n = ap (λ b. cond b 1 0) (ne_eqb p 0 n)
 
 pub skipped-few : (p : ℕ) → skipped p ≤ 1
-skipped-few p = elim (cases_eq p 0) [
-  | inl e ↦ let k : skipped p ≡ 1 = skipped-first p e in omega arith
-  | inr n ↦ let k : skipped p ≡ 0 = skipped-later p n in omega arith
-]
+skipped-few p = grind (arith, cases_eq, skipped-first, skipped-later)
 
 -- how many free numbers the pages in front lose with one of a page
 abbrev pub lost-in : ℕ → ℕ → ℕ
@@ -47,10 +44,7 @@ lost-none p front h = ap (λ b. cond b 1 0) (le-ltb p front h)
 
 -- the place of a used number isn't skipped
 pub not-skipped : (q : ℕ) → 0 < q → skipped (q / 256) ≤ q % 256
-not-skipped q h = elim (cases_eq (q / 256) 0) [
-  | inl e ↦ let k : skipped (q / 256) ≡ 1 = skipped-first (q / 256) e in let m : 0 < q % 256 = omega arith in omega arith
-  | inr n ↦ let k : skipped (q / 256) ≡ 0 = skipped-later (q / 256) n in omega arith
-]
+not-skipped q h = grind (arith, cases_eq, skipped-first, skipped-later)
 
 module _ {T : Type 0} where
   some_none : (o : Option T) → is_some o ≡ true → o ≡ None → ⊥
@@ -58,35 +52,14 @@ module _ {T : Type 0} where
   some_none (Some x) s e = cc
 
   pub used_made : (ps : Sheets T) (n : ℕ) → is_some (look ps n) ≡ true → n % 256 < length (page_at ps (n / 256))
-  used_made ps n used = elim (cases_lt (n % 256) (length (page_at ps (n / 256)))) [
-    | inl h ↦ h
-    | inr h ↦ absurd (some_none (look ps n) used (get_or_past (page_at ps (n / 256)) (n % 256) None h))
-  ]
+  used_made ps n used = grind (arith, cases_lt, some_none, get_or_past)
 
   pub look-at : (ps : Sheets T) (p i : ℕ) → i < 256 → look ps (256 * p + i) ≡ get_or (page_at ps p) i None
-  look-at ps p i h =
-      let d : (256 * p + i) / 256 ≡ p = omega arith in
-      let m : (256 * p + i) % 256 ≡ i = omega arith in
-      ap (λ k. get_or (page_at ps k) ((256 * p + i) % 256) None) d ∙ ap (λ k. get_or (page_at ps p) k None) m
+  look-at ps p i h = grind arith
 
   -- a page of 256 places, or none, takes at most 256
   pub taken-few : (l : List (Option T)) (p : ℕ) → (length l ≡ 0) ⊎ (length l ≡ 256) → (p ≡ 0 → get_or l 0 None ≡ None) → used_in l + skipped p ≤ 256
-  taken-few l p shape free_zero =
-      let k : used_in l ≤ length l = used-le l in
-      elim (cases_eq p 0) [
-        | inl e ↦
-            let s : skipped p ≡ 1 = skipped-first p e in
-            elim shape [
-              | inl h ↦ omega arith
-              | inr h ↦ let m : used_in l + 1 ≤ length l = used-lt l (free_zero e) (omega arith) in omega arith
-            ]
-        | inr n ↦
-            let s : skipped p ≡ 0 = skipped-later p n in
-            elim shape [
-              | inl h ↦ omega arith
-              | inr h ↦ omega arith
-            ]
-      ]
+  taken-few l p shape free_zero = grind (arith, used-le, cases_eq, skipped-first, used-lt, skipped-later)
 
   module _ (ps : Sheets T) (full : List ℕ) (len front front_free room : ℕ) (s : IsSound ps full len front front_free room) where
     pub zero_free : (p : ℕ) → p ≡ 0 → get_or (page_at ps p) 0 None ≡ None
@@ -97,73 +70,26 @@ module _ {T : Type 0} where
 
     -- the page is full
     pub full-used : (p i : ℕ) → taken ps p ≡ 256 → i < 256 → skipped p ≤ i → is_some (get_or (page_at ps p) i None) ≡ true
-    full-used p i all h k =
-        let u : used_in (page_at ps p) ≤ length (page_at ps p) = used-le (page_at ps p) in
-        elim (cases_eq p 0) [
-          | inl e ↦
-              let one : skipped p ≡ 1 = skipped-first p e in
-              elim (s.shaped p) [
-                | inl z ↦ absurd (omega arith)
-                | inr z ↦ all-used_after (page_at ps p) i (zero_free p e) (omega arith) (omega arith) (omega arith)
-              ]
-          | inr n ↦
-              let none : skipped p ≡ 0 = skipped-later p n in
-              elim (s.shaped p) [
-                | inl z ↦ absurd (omega arith)
-                | inr z ↦ all-used (page_at ps p) i (omega arith) (omega arith)
-              ]
-        ]
+    full-used p i all h k = grind (arith, used-le, cases_eq, skipped-first, all-used_after, zero_free, skipped-later, all-used)
 
     -- a page that is made and isn't full has a free place
     pub some_place : (p : ℕ) → taken ps p < 256 → length (page_at ps p) ≡ 256 → (i : ℕ) × IsFreeAt (page_at ps p) (skipped p) i
-    some_place p less long = elim (cases_eq p 0) [
-      | inl e ↦
-          let one : skipped p ≡ 1 = skipped-first p e in
-          subst (λ k. (i : ℕ) × IsFreeAt (page_at ps p) k i) (sym one) (some-free_after (page_at ps p) (zero_free p e) (omega arith))
-      | inr n ↦
-          let none : skipped p ≡ 0 = skipped-later p n in
-          subst (λ k. (i : ℕ) × IsFreeAt (page_at ps p) k i) (sym none) (some-free (page_at ps p) (omega arith))
-    ]
+    some_place p less long = grind (arith, cases_eq, skipped-first, some-free_after, zero_free, skipped-later, some-free)
 
     marked_full : (p : ℕ) → p < 256 → has full p ≡ true → taken ps p ≡ 256
     marked_full p h e = eqb-true (taken ps p) 256 (sym (s.marked p h) ∙ e)
 
     marked_not_full : (p : ℕ) → p < 256 → has full p ≡ false → taken ps p < 256
-    marked_not_full p h e =
-        let bound : taken ps p ≤ 256 = taken-bound p in
-        let apart : taken ps p ≢ 256 = eqb-false (taken ps p) 256 (sym (s.marked p h) ∙ e) in
-        omega arith
+    marked_not_full p h e = grind (arith, taken-bound, eqb-false)
 
     -- the first place that the search of a page finds is a place of it
     pub found-within : (p j : ℕ) → p < 256 → has full p ≡ false → j ≤ 256 → ((i : ℕ) → skipped p ≤ i → i < j → is_some (get_or (page_at ps p) i None) ≡ true) → j < 256
-    found-within p j h spare few used = elim (cases_lt j 256) [
-      | inl k ↦ k
-      | inr k ↦ elim (s.shaped p) [
-        | inl z ↦ absurd (some_none (get_or (page_at ps p) 255 None) (used 255 (let b : skipped p ≤ 1 = skipped-few p in omega arith) (omega arith)) (get_or_past (page_at ps p) 255 None (omega arith)))
-        | inr z ↦
-            let found : (i : ℕ) × IsFreeAt (page_at ps p) (skipped p) i = some_place p (marked_not_full p h spare) z in
-            let w : found.0 < length (page_at ps p) = found.1.within in
-            absurd (some_none (get_or (page_at ps p) found.0 None) (used found.0 found.1.after (omega arith)) found.1.free)
-      ]
-    ]
+    found-within p j h spare few used = grind (arith, cases_lt, some_none, skipped-few, get_or_past, some_place, marked_not_full)
 
     -- what the search of the full pages, and then of a page, finds
     pub first-found : (p j : ℕ) → p ≤ 256 → ((i : ℕ) → i < p → has full i ≡ true) → skipped p ≤ j → j < 256 → ((i : ℕ) → skipped p ≤ i → i < j → is_some (get_or (page_at ps p) i None) ≡ true)
         → get_or (page_at ps p) j None ≡ None → IsFirstFree (values_of ps) (256 * p + j)
-    first-found p j few before after within used none = record {
-      free = get-values ps (256 * p + j) ∙ look-at ps p j within ∙ none;
-      positive = elim (cases_eq p 0) [
-        | inl e ↦ let one : skipped p ≡ 1 = skipped-first p e in omega arith
-        | inr n ↦ omega arith
-      ];
-      least = λ q positive less. ap is_some (get-values ps q) ∙ elim (cases_lt (q / 256) p) [
-        | inl h ↦ full-used (q / 256) (q % 256) (marked_full (q / 256) (omega arith) (before (q / 256) h)) (omega arith) (not-skipped q positive)
-        | inr h ↦
-            let same : q / 256 ≡ p = omega arith in
-            let skip : skipped p ≤ q % 256 = subst (λ k. skipped k ≤ q % 256) same (not-skipped q positive) in
-            ap (λ k. is_some (get_or (page_at ps k) (q % 256) None)) same ∙ used (q % 256) skip (omega arith)
-      ];
-    }
+    first-found p j few before after within used none = grind (arith, get-values, look-at, cases_eq, skipped-first, is_some, cases_lt, full-used, marked_full, not-skipped)
 
     -- where there is room, the least free number lies in the pages in front
     in-front : (n : ℕ) → front < 256 → IsFirstFree (values_of ps) n → 0 < room → n % 256 < length (page_at ps (n / 256))
@@ -191,20 +117,12 @@ module _ {T : Type 0} where
 
     -- ... and where all are in front, each number does
     pub room-made : (n : ℕ) → n < 65536 → IsFirstFree (values_of ps) n → 0 < room → n % 256 < length (page_at ps (n / 256))
-    room-made n small first some = elim (cases_lt front 256) [
-      | inl h ↦ in-front n h first some
-      | inr h ↦ let here : length (page_at ps (n / 256)) ≡ 256 = s.front_made (n / 256) (omega arith) in omega arith
-    ]
+    room-made n small first some = grind (arith, cases_lt, in-front)
 
   -- a search that found nothing before, and nothing in a page up to a place
   pub free-so-far : (ps : Sheets T) (from p place found : ℕ) → ((n : ℕ) → from ≤ n → n < 256 * p + place → look ps n ≡ None) → found ≤ 256
       → ((i : ℕ) → place ≤ i → i < found → get_or (page_at ps p) i None ≡ None) → (n : ℕ) → from ≤ n → n < 256 * p + found → look ps n ≡ None
-  free-so-far ps from p place found before few free n a b = elim (cases_lt n (256 * p + place)) [
-    | inl h ↦ before n a h
-    | inr h ↦
-        let same : n / 256 ≡ p = omega arith in
-        ap (λ k. get_or (page_at ps k) (n % 256) None) same ∙ free (n % 256) (omega arith) (omega arith)
-  ]
+  free-so-far ps from p place found before few free n a b = grind (arith, cases_lt)
 
   pub values-none : (ps : Sheets T) → ps ≡ [] → values_of ps ≡ map.empty
   values-none ps e = same_gets _ _ (λ q. get-values ps q ∙ ap (λ (l : Sheets T). look l q) e ∙ sym (map.get-empty nat_cmp q))
@@ -227,17 +145,10 @@ module _ {T : Type 0} where
 
   -- the page of a used number is made
   pub used-page : (ps : Sheets T) (n : ℕ) → map.contains_key (values_of ps) n ≡ true → finset.contains (made_of ps) (n / 256) ≡ true
-  used-page ps n used =
-      let h : n % 256 < length (page_at ps (n / 256)) = used_made ps n (ap is_some (sym (get-values ps n)) ∙ used) in
-      contains-made ps (n / 256) ∙ lt-ltb 0 (length (page_at ps (n / 256))) (omega arith)
+  used-page ps n used = grind (arith, used_made, is_some, get-values, contains-made, lt-ltb)
 
   made-within : (ps : Sheets T) (full : List ℕ) (len front front_free room : ℕ) → IsSound ps full len front front_free room → (n : ℕ) → finset.contains (made_of ps) (n / 256) ≡ true → n % 256 < length (page_at ps (n / 256))
-  made-within ps full len front front_free room s n h =
-      let some : 0 < length (page_at ps (n / 256)) = ltb-true 0 (length (page_at ps (n / 256))) (sym (contains-made ps (n / 256)) ∙ h) in
-      elim (s.shaped (n / 256)) [
-        | inl z ↦ absurd (omega arith)
-        | inr z ↦ omega arith
-      ]
+  made-within ps full len front front_free room s n h = grind (arith, ltb-true, contains-made)
 
   -- a number that has a place lies in a page that is made
   pub place-within : (ps : Sheets T) (full : List ℕ) (len front front_free room : ℕ) → IsSound ps full len front front_free room → (n : ℕ) → n < 65536 → HasPlace record { values = values_of ps; room = room; made = made_of ps } n → n % 256 < length (page_at ps (n / 256))
@@ -248,14 +159,8 @@ module _ {T : Type 0} where
 
   -- 0 isn't used
   pub positive-used : (ps : Sheets T) (full : List ℕ) (len front front_free room : ℕ) → IsSound ps full len front front_free room → (n : ℕ) → is_some (look ps n) ≡ true → 0 < n
-  positive-used ps full len front front_free room s n used = elim (cases_eq n 0) [
-    | inl e ↦ absurd (some_none (look ps n) used (ap (look ps) e ∙ s.no_zero))
-    | inr d ↦ omega arith
-  ]
+  positive-used ps full len front front_free room s n used = grind (arith, cases_eq, some_none)
 
   -- to take out what isn't there changes nothing
   pub values-absent : (m : map.FinMap nat_cmp T) (n : ℕ) → map.get m n ≡ None → m ≡ map.remove m n
-  values-absent m n none = same_gets m (map.remove m n) (λ q. elim (cases_eq q n) [
-    | inl e ↦ ap (map.get m) e ∙ none ∙ sym (out_here m n) ∙ ap (map.get (map.remove m n)) (sym e)
-    | inr d ↦ sym (out_other m n q d)
-  ])
+  values-absent m n none = grind (arith, same_gets, cases_eq, out_here, out_other)

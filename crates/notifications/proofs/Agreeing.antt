@@ -50,30 +50,12 @@ pub record PaysFrom (lives : ℕ → Bool) (w : WorldView) (s : State) (tokens :
 
 pub filter_weigh : (h : Token → ℕ) (t : Token → Bool) (xs : List Token) → weigh h (filter t xs) ≡ weigh (λ x. if t x then h x else 0) xs
 filter_weigh h t [] = refl
-filter_weigh h t (x ∷ xs) = go (t x) (filter_weigh h t xs)
-  where
-    go : (b : Bool) → weigh h (filter t xs) ≡ weigh (λ x. if t x then h x else 0) xs →
-        weigh h (if b then x ∷ filter t xs else filter t xs) ≡ (if b then h x else 0) + weigh (λ x. if t x then h x else 0) xs
-    go true ih = omega (arith, ih)
-    go false ih = omega (arith, ih)
+filter_weigh h t (x ∷ xs) = grind (arith, filter_weigh h t xs)
 
 module _ (lives : ℕ → Bool) (w : WorldView) (s : State) (a : AgreesOf lives w s) (p : ℕ) where
   -- A send-once right for the port went from one message to another.
   pub pays_from : (q k j : ℕ) (tokens : List Token) → Moves s.ledger tokens (token send_once p (in_message q k) ∷ []) (token send_once p (in_message p j) ∷ []) → PaysFrom lives w s tokens s.stands
-  pays_from q k j tokens moves = record {
-    counts = λ kind n. let m = moves (λ x. if is_of kind n x then 1 else 0) in omega (arith, m);
-    held = λ task kind n. let m = moves (λ x. if is_held task kind n x then 1 else 0) in omega (arith, m);
-    total = (let m = moves (λ x. 1) in let b = length-weigh s.ledger in let c = length-weigh tokens in omega (arith, m, b, c));
-    of_requests = requests_stay (notify_of w.requests) w.requests.names.went w.ports.made w.ports.made s.stands s.stands lives lives (filter (λ x. lives x.port) s.ledger) (filter (λ x. lives x.port) tokens)
-        a.of_requests (omega arith) (λ r. refl) (λ n h. refl) same;
-  }
-    where
-      same : (r : Request) (kind : Kind) (n : ℕ) → lying_among (filter (λ x. lives x.port) tokens) kind n (in_request r) ≡ lying_among (filter (λ x. lives x.port) s.ledger) kind n (in_request r)
-      same r kind n =
-          let b = filter_weigh (λ x. if is_of kind n x && same_place (in_request r) x.place then 1 else 0) (λ x. lives x.port) tokens in
-          let c = filter_weigh (λ x. if is_of kind n x && same_place (in_request r) x.place then 1 else 0) (λ x. lives x.port) s.ledger in
-          let m = moves (λ x. if lives x.port then (if is_of kind n x && same_place (in_request r) x.place then 1 else 0) else 0) in
-          omega (arith, b, c, m)
+  pays_from q k j tokens moves = grind (arith, length-weigh, requests_stay, filter_weigh)
 
   module _ (v : PortView Kept) (there : port_at w p ≡ Some v) (notice : Notice) (now : ℕ) (within : s.taken p ≤ length (s.log p)) (alive : lives p ≡ true)
       (paid : 0 < (counts_of w.ledger p).send_once) (tokens : List Token) (stands : Request → Bool) where
@@ -105,10 +87,7 @@ module _ (lives : ℕ → Bool) (w : WorldView) (s : State) (a : AgreesOf lives 
     }
 
     once_more : onces_queued with_notice p ≡ onces_queued s p + 1
-    once_more =
-        let all : onces_queued with_notice p ≡ tally came_by_once (queue s p ++ entry ∷ []) = ap (tally came_by_once) queue_is in
-        let parts = tally-append came_by_once (queue s p) (entry ∷ []) in
-        omega (arith, all, parts)
+    once_more = grind (arith, queue_is, tally-append)
 
     abbrev was_queued : ℕ → ℕ
     was_queued q = if lives q then onces_queued s q else (counts_of w.ledger q).destination

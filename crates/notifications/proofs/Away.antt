@@ -1,6 +1,6 @@
 -- One request goes, or comes: the requests that the tables keep, and those of the machine, still agree.
-use Rattle.std.proofs.Common.{◌≡◌, ℕ, ◌+◌, ◌<◌, ◌^◌, Bool, true, false, List, [], ◌∷◌, Option, Some, None, refl, sym, ap, subst, ◌∙◌}
-use Rattle.std.specs.Prelude.{is_some, if◌then◌else◌, ◌==◌, ◌&&◌, nat_lt}
+use Rattle.std.proofs.Common.{arith, ◌≡◌, ℕ, ◌+◌, ◌<◌, ◌^◌, Bool, true, false, List, [], ◌∷◌, Option, Some, None, refl, sym, ap, subst, ◌∙◌}
+use Rattle.std.specs.Prelude.{is_some, if◌then◌else◌, ◌==◌, nat_lt}
 use Rattle.std.specs.Option.{option_map}
 use Rattle.std.specs.FinMap as map
 use Rattle.std.proofs.lemmas.Bool.{eq-eqb, lt-ltb, ltb-true}
@@ -29,19 +29,11 @@ AreOthers r (q ∷ went) = (same_request (dead_name q.task q.name) r ≡ false) 
 
 pub ended_others : (stands : Request → Bool) (r : Request) (now : Bool) (went : List NameRequest) → AreOthers r went → AreEnded stands went → AreEnded (request_at stands r now) went
 ended_others stands r now [] others ended = tt
-ended_others stands r now (q ∷ went) others ended = (go (same_request (dead_name q.task q.name) r) others.0, ended_others stands r now went others.1 ended.1)
-  where
-    go : (b : Bool) → b ≡ false → (if b then now else stands (dead_name q.task q.name)) ≡ false
-    go true e = absurd (let f : true ≡ false = e in cc)
-    go false e = ended.0
+ended_others stands r now (q ∷ went) others ended = grind (arith, ended_others stands r now went others.1 ended.1)
 
 pub ended_away : (stands : Request → Bool) (r : Request) (went : List NameRequest) → AreEnded stands went → AreEnded (request_at stands r false) went
 ended_away stands r [] ended = tt
-ended_away stands r (q ∷ went) ended = (go (same_request (dead_name q.task q.name) r), ended_away stands r went ended.1)
-  where
-    go : (b : Bool) → (if b then false else stands (dead_name q.task q.name)) ≡ false
-    go true = refl
-    go false = ended.0
+ended_away stands r (q ∷ went) ended = grind (arith, ended_away stands r went ended.1)
 
 -- ---- the tables and the machine
 
@@ -96,19 +88,7 @@ module _ (v : RequestTablesView) (task name : ℕ) (small : name < 2 ^ 32) where
       (x : Request) → same_request x on ≡ false → notify_of (record v { names = names2 }) x ≡ notify_of v x
   names_other names2 same (no_senders p) e = refl
   names_other names2 same (port_destroyed p) e = refl
-  names_other names2 same (dead_name t n) e = go (nat_lt n (2 ^ 32)) refl
-    where
-      differs : n < 2 ^ 32 → name_key t n ≡ name_key task name → ⊥
-      differs few f =
-          let both = same_key t n task name few small f in
-          let g : (t == task && n == name) ≡ true = rw (eq-eqb t task both.0, eq-eqb n name both.1) refl in
-          let h : false ≡ true = sym e ∙ g in cc
-
-      go : (b : Bool) → nat_lt n (2 ^ 32) ≡ b →
-          (if b then option_map (λ (r : NameRequest). r.notify) (map.get names2.requests (name_key t n)) else None) ≡
-          (if b then option_map (λ (r : NameRequest). r.notify) (map.get v.names.requests (name_key t n)) else None)
-      go true is = ap (option_map (λ (r : NameRequest). r.notify)) (same (name_key t n) (differs (ltb-true n (2 ^ 32) is)))
-      go false is = refl
+  names_other names2 same (dead_name t n) e = grind (arith, same_key, eq-eqb, ltb-true)
 
   pub names_own : (names2 : RequestsView) → notify_of (record v { names = names2 }) on ≡ option_map (λ (r : NameRequest). r.notify) (map.get names2.requests (name_key task name))
   names_own names2 = let e : nat_lt name (2 ^ 32) ≡ true = lt-ltb name (2 ^ 32) small in rw e refl
@@ -116,7 +96,7 @@ module _ (v : RequestTablesView) (task name : ℕ) (small : name < 2 ^ 32) where
   module _ (own : (r : NameRequest) → map.get v.names.requests (name_key task name) ≡ Some r → key_of r ≡ name_key task name) where
     taken_own : (o : Option NameRequest) → map.get v.names.requests (name_key task name) ≡ o → map.get (name_taken v.names o).requests (name_key task name) ≡ None
     taken_own None is = is
-    taken_own (Some r) is = subst (λ (key : ℕ). map.get (map.remove v.names.requests key) (name_key task name) ≡ None) (sym (own r is)) (removed_own v.names.requests (name_key task name))
+    taken_own (Some r) is = grind (arith, removed_own)
 
     taken_other : (o : Option NameRequest) → map.get v.names.requests (name_key task name) ≡ o → (key : ℕ) → (key ≡ name_key task name → ⊥) → map.get (name_taken v.names o).requests key ≡ map.get v.names.requests key
     taken_other None is key not = refl
@@ -127,8 +107,8 @@ module _ (v : RequestTablesView) (task name : ℕ) (small : name < 2 ^ 32) where
     pub away_own : (subject : Subject) → notify_of (taken_away v task name subject) (request_of task name subject) ≡ None
     away_own (Receive p) = own_taken v.port_destroyed p (map.get v.port_destroyed.map p) refl
     away_own (Senders p) = own_taken v.no_senders p (map.get v.no_senders.map p) refl
-    away_own (Live p) = names_own (name_taken v.names (map.get v.names.requests (name_key task name))) ∙ ap (option_map (λ (r : NameRequest). r.notify)) (taken_own (map.get v.names.requests (name_key task name)) refl)
-    away_own (Dead n) = names_own (name_taken v.names (map.get v.names.requests (name_key task name))) ∙ ap (option_map (λ (r : NameRequest). r.notify)) (taken_own (map.get v.names.requests (name_key task name)) refl)
+    away_own (Live p) = grind (arith, names_own, taken_own)
+    away_own (Dead n) = grind (arith, names_own, taken_own)
 
     pub away_other : (subject : Subject) (x : Request) → same_request x (request_of task name subject) ≡ false → notify_of (taken_away v task name subject) x ≡ notify_of v x
     away_other (Receive p) (port_destroyed q) e = other_taken v.port_destroyed p (map.get v.port_destroyed.map p) q (not_same q p e)
@@ -137,23 +117,15 @@ module _ (v : RequestTablesView) (task name : ℕ) (small : name < 2 ^ 32) where
     away_other (Senders p) (no_senders q) e = other_taken v.no_senders p (map.get v.no_senders.map p) q (not_same q p e)
     away_other (Senders p) (port_destroyed q) e = refl
     away_other (Senders p) (dead_name t n) e = refl
-    away_other (Live p) x e = names_other (name_taken v.names (map.get v.names.requests (name_key task name))) (taken_other (map.get v.names.requests (name_key task name)) refl) x e
-    away_other (Dead n) x e = names_other (name_taken v.names (map.get v.names.requests (name_key task name))) (taken_other (map.get v.names.requests (name_key task name)) refl) x e
+    away_other (Live p) x e = grind (arith, names_other, taken_other)
+    away_other (Dead n) x e = grind (arith, names_other, taken_other)
 
     -- those whose names went are as they were
     pub away_went : (subject : Subject) → (taken_away v task name subject).names.went ≡ v.names.went
     away_went (Receive p) = refl
     away_went (Senders p) = refl
-    away_went (Live p) = same (map.get v.names.requests (name_key task name))
-      where
-        same : (o : Option NameRequest) → (name_taken v.names o).went ≡ v.names.went
-        same None = refl
-        same (Some r) = refl
-    away_went (Dead n) = same (map.get v.names.requests (name_key task name))
-      where
-        same : (o : Option NameRequest) → (name_taken v.names o).went ≡ v.names.went
-        same None = refl
-        same (Some r) = refl
+    away_went (Live p) = grind arith
+    away_went (Dead n) = grind arith
 
   -- ---- a request comes
 

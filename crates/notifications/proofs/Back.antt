@@ -88,11 +88,7 @@ module _ (before : State) (w : WorldView) (t : State) (a : Agrees w t) (k : ℕ)
     stands_none = a.standing r ∙ ap is_some (is ∙ none)
 
     same_stands : request_at t.stands r false ≡ t.stands
-    same_stands = λ i x. at x (same_request x r) refl i
-      where
-        at : (x : Request) (b : Bool) → same_request x r ≡ b → (if b then false else t.stands x) ≡ t.stands x
-        at x true e = sym (ap t.stands (sym (same_request_is x r e)) ∙ stands_none)
-        at x false e = refl
+    same_stands = grind (arith, same_request_is, stands_none)
 
     pub none_comes : (word : ℕ) (out : WorldView) → word ≡ null_word → out ≡ away → Comes word out
     none_comes word out null same =
@@ -154,8 +150,7 @@ module _ (before : State) (w : WorldView) (t : State) (a : Agrees w t) (k : ℕ)
     t2 = record t { stands = request_at t.stands r false; ledger = token send_once q (in_message 0 k) ∷ ys.0 }
 
     at_entry : 0 < lying t2 send_once q (in_message 0 k)
-    at_entry =
-        let own : (if (same_kind send_once send_once && q == q) && (0 == 0 && k == k) then suc zero else zero) ≡ suc zero = rw (eq-eqb q q refl, eq-eqb k k refl) refl in omega (arith, own)
+    at_entry = grind (arith, eq-eqb)
 
     given : Given t2 0 k task send_once q word out
     given = port_given away t2 taken.agrees 0 k taken.keeps task send_once q word out at_entry g
@@ -173,20 +168,13 @@ module _ (before : State) (w : WorldView) (t : State) (a : Agrees w t) (k : ℕ)
     B = token send_once q (in_task task) ∷ cut.0
 
     one_lies : 0 < lying_among before.ledger send_once q (in_request r)
-    one_lies =
-        let b = lay send_once q in
-        let c : rights_kept t.live_port previous send_once q ≡ (if q == q && t.live_port q then 1 else 0) = ap (λ (o : Option ℕ). rights_kept t.live_port o send_once q) some in
-        let d : (if q == q && t.live_port q then suc zero else zero) ≡ suc zero = rw (eq-eqb q q refl, live) refl in
-        omega (arith, b, c, d)
+    one_lies = grind (arith, lay send_once q)
 
     abbrev space2 : SpaceView
     space2 = record g.space { names = g.after; room = g.room }
 
     own_name : TakesName g.space.names send_once q word g.after × (g.ledger ≡ away.ledger)
-    own_name = elim g.given [
-      | inl h ↦ absurd (h.0.not_once refl)
-      | inr h ↦ (h.0, h.1)
-    ]
+    own_name = grind arith
 
     entries_stay : (n : ℕ) (e : Entry) → entry_at away task n ≡ Some e → entry_at out task n ≡ Some e
     entries_stay n e found = entry_other away out task word g.space space2 (Some (alone send_once q)) g.there (ap (λ (x : WorldView). x.spaces) g.rest) own_name.0.rest task n (λ u is.

@@ -125,7 +125,7 @@ module _ (w : WorldView) (s : State) (sh : Shows w s) (task name : ℕ) (subject
     ready_ledger = same.same.ledger
 
     pub ready_notify : notify_of ready.requests r ≡ previous
-    ready_notify = ap (λ (v : RequestTablesView). notify_of v r) same.same.requests ∙ sym (same_notify w.requests same.names same.senders same.destroyed r) ∙ sym previous_is
+    ready_notify = grind (arith, same_notify)
 
     pub ready_space : (x : SpaceView) × (space_at ready task ≡ Some x)
     ready_space = space_there ready task (room_has_task base ready same.same task below)
@@ -178,9 +178,7 @@ module _ (w : WorldView) (s : State) (sh : Shows w s) (task name : ℕ) (subject
 
     -- the right goes from another name where nothing is left there
     pub differs : g.left ≡ None → g.name ≡ name → ⊥
-    differs none same =
-        let f : (if g.name == name then g.left else entry_at w task name) ≡ None = (let b = eq-eqb g.name name same in rw b none) in
-        let h : Some e ≡ None = sym stands ∙ f in cc
+    differs none same = grind (arith, eq-eqb)
 
     pub small : g.name < 2 ^ 32
     small = (sh.lawful.naming task).space.name_fits g.name (target_of pays.entry) (found w s sh.agrees task g.name pays.entry pays.found)

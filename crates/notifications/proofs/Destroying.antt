@@ -1,13 +1,13 @@
 -- What a message carries is lost right by right: each can be lost, and then those behind it.
 use Rattle.std.proofs.Common.{◌≡◌, ℕ, zero, suc, ◌+◌, ◌-◌, ◌<◌, ◌≤◌, List, [], ◌∷◌, ◌++◌, Option, Some, None, refl, sym, ap, subst, ◌∙◌, arith, true, false, Bool, inl, inr, take, drop, length}
-use Rattle.std.specs.Prelude.{◌⊎◌, if◌then◌else◌, ◌==◌, ◌&&◌, is_some, MatchBool, slice_get}
+use Rattle.std.specs.Prelude.{◌⊎◌, is_some, MatchBool, slice_get}
 use Rattle.std.specs.Option.{unwrap_or, option_to_list}
 use Rattle.std.specs.FinMap as map
 use Rattle.std.proofs.lemmas.Bool.{eq-eqb, ne_eqb}
 use Rattle.std.proofs.lemmas.Bool.Decides.{eqb_tells}
 use Rattle.mach_types.specs.Numbers.{kind_sent}
 use Rattle.mach_types.specs.Tokens.{Kind, receive, send, send_once, same_kind}
-use Rattle.port.specs.Holding.{CanHold, held}
+use Rattle.port.specs.Holding.{held}
 use Rattle.port.specs.Ports.{PortView}
 use Rattle.rights.specs.declared.Counts.{Counts}
 use Rattle.rights.specs.declared.RightKind.TheVariants as right
@@ -43,25 +43,12 @@ module _ (w : WorldView) (c : Carried) (cs : List Carried) (a : CanLoseAll w (c 
   some_port p None e live = absurd (cc)
 
   pub can_kind : (kind : Kind) (p : ℕ) → kind_sent c.given ≡ kind → c.mark ≡ mark.Port p → is_some (map.get w.ports.ports p) ≡ true → CanLoseRight w kind p
-  can_kind receive p k is live =
-      let v = some_port p (map.get w.ports.ports p) refl live in
-      let own : one_for receive p (kind_sent c.given) c.mark ≡ 1 = ap (λ (x : Kind). one_for receive p x c.mark) k ∙ ap (one_for receive p receive) is ∙ own_one receive p in
-      let n = a.receivers p live in
-      record { v = v.0; there = v.1; held = a.held p v.0 v.1 (omega (arith, own)); entered = a.entered p live; counted = omega (arith, own, n) }
-  can_kind send p k is live =
-      let own : one_for send p (kind_sent c.given) c.mark ≡ 1 = ap (λ (x : Kind). one_for send p x c.mark) k ∙ ap (one_for send p send) is ∙ own_one send p in
-      let n = a.senders p live in (a.entered p live, omega (arith, own, n))
-  can_kind send_once p k is live =
-      let own : one_for send_once p (kind_sent c.given) c.mark ≡ 1 = ap (λ (x : Kind). one_for send_once p x c.mark) k ∙ ap (one_for send_once p send_once) is ∙ own_one send_once p in
-      let n = a.onces p live in record { live = live; paid = omega (arith, own, n); slots = a.slots }
+  can_kind receive p k is live = grind (arith, some_port, own_one)
+  can_kind send p k is live = grind (arith, own_one)
+  can_kind send_once p k is live = grind (arith, own_one)
 
   pub can_first : CanLoseMark w (kind_sent c.given) c.mark
-  can_first = go c.mark refl
-    where
-      go : (m : Mark) → c.mark ≡ m → CanLoseMark w (kind_sent c.given) m
-      go (mark.Port p) is = can_kind (kind_sent c.given) p refl is
-      go mark.Null is = tt
-      go mark.Dead is = tt
+  can_first = grind (arith, can_kind)
 
   -- ---- and then those behind it
 
@@ -77,32 +64,11 @@ module _ (w : WorldView) (c : Carried) (cs : List Carried) (a : CanLoseAll w (c 
     pub holders : (q : ℕ) (v : PortView Kept) → port_at u q ≡ Some v → (0 < one_for receive q kind m) ⊎ ((x : PortView Kept) × (port_at w q ≡ Some x) × (x.attributes.holder ≡ v.attributes.holder))
 
   behind : (u : WorldView) → Leaves (kind_sent c.given) c.mark u → CanLoseAll u cs
-  behind u l = record {
-    entered = λ q live. l.entered q (a.entered q (sym (l.live q) ∙ live));
-    slots = l.slots;
-    receivers = λ q live. let was = sym (l.live q) ∙ live in let n = a.receivers q was in let m = l.receivers q was in omega (arith, n, m);
-    one_each = l.one_each;
-    senders = λ q live. let was = sym (l.live q) ∙ live in let n = a.senders q was in let m = l.senders q was in omega (arith, n, m);
-    onces = λ q live. let was = sym (l.live q) ∙ live in let n = a.onces q was in let m = l.onces q was in omega (arith, n, m);
-    held = λ q v is some. elim (l.holders q v is) [
-      | inl lost ↦
-          let was : is_some (port_at w q) ≡ true = sym (l.live q) ∙ ap is_some is in
-          let n = a.receivers q was in let one = a.one_each q in absurd (omega (arith, n, one, lost, some))
-      | inr kept ↦ subst CanHold kept.2 (a.held q kept.0 kept.1 (omega (arith, some)))
-    ];
-  }
+  behind u l = grind arith
 
 -- what stays as it was leaves no fewer
 stays : (w : WorldView) (c : Carried) (cs : List Carried) → CanLoseAll w (c ∷ cs) → CanLoseAll w cs
-stays w c cs a = record {
-  entered = a.entered;
-  slots = a.slots;
-  receivers = λ p live. let n = a.receivers p live in omega (arith, n);
-  one_each = a.one_each;
-  senders = λ p live. let n = a.senders p live in omega (arith, n);
-  onces = λ p live. let n = a.onces p live in omega (arith, n);
-  held = λ p v is some. a.held p v is (omega (arith, some));
-}
+stays w c cs a = grind arith
 
 -- ---- counts of one port
 
@@ -112,17 +78,7 @@ module _ (l : LedgerView) (p : ℕ) (v : Counts) (l2 : LedgerView) (is : l2.coun
 
   -- a number of each port that is one less for this port, where it is of that kind
   pub fewer : (of kind : Kind) (f : Counts → ℕ) → f v + one_for of p kind (mark.Port p) ≡ f (counts_of l p) → (q : ℕ) → f (counts_of l2 q) + one_for of q kind (mark.Port p) ≡ f (counts_of l q)
-  fewer of kind f own q = elim (eqb_tells q p) [
-    | inl h ↦ subst (λ (x : ℕ). f (counts_of l2 x) + one_for of x kind (mark.Port p) ≡ f (counts_of l x)) (sym h.1)
-        (let e = ap f (counts_own l p v l2 is) in omega (arith, e, own))
-    | inr h ↦
-        let e = ap f (counts_other l p v l2 is q h.1) in
-        let z : one_for of q kind (mark.Port p) ≡ 0 = none (same_kind of kind) (ne_eqb p q (λ is. h.1 (sym is))) in omega (arith, e, z)
-  ]
-    where
-      none : (b : Bool) → (p == q) ≡ false → (if b && p == q then 1 else 0) ≡ zero
-      none true e = rw e refl
-      none false e = refl
+  fewer of kind f own q = grind (arith, counts_own, counts_other, ne_eqb)
 
 -- ---- each kind
 

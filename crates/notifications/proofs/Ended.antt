@@ -71,10 +71,7 @@ module _ (now : ℕ) (start : WorldView) (task : ℕ) (s : State) (sh : Shows st
   -- ---- its rights
 
   no_port : (q : ℕ) → count (is_held task receive q) x.kept + count (is_held task send q) x.kept ≡ 0
-  no_port q = elim (pos_or_zero (count (is_held task receive q) x.kept + count (is_held task send q) x.kept)) [
-    | inl h ↦ h
-    | inr h ↦ absurd (let n = sp.is_part.named.is_named q h in no_some (Target.port q) (sym (unnamed n.0) ∙ n.1))
-  ]
+  no_port q = grind (arith, pos_or_zero, no_some, unnamed)
 
   no_right : (kind : Kind) (q : ℕ) → count (is_held task kind q) x.kept ≡ 0
   no_right receive q = let z = no_port q in omega (arith, z)
@@ -127,31 +124,9 @@ module _ (now : ℕ) (start : WorldView) (task : ℕ) (s : State) (sh : Shows st
       go false less e = absurd (cc)
 
   stands_are : (r : Request) → x.stands r ≡ (if ends_with task r then false else s.stands r)
-  stands_are (no_senders p) = other (no_senders p) refl
-    where
-      other : (r : Request) → ends_with task r ≡ false → x.stands r ≡ s.stands r
-      other r not = elim (sp.is_part.stood r) [
-        | inl e ↦ e
-        | inr e ↦ absurd (let f : false ≡ true = sym not ∙ e.1 in cc)
-      ]
-  stands_are (port_destroyed p) = other (port_destroyed p) refl
-    where
-      other : (r : Request) → ends_with task r ≡ false → x.stands r ≡ s.stands r
-      other r not = elim (sp.is_part.stood r) [
-        | inl e ↦ e
-        | inr e ↦ absurd (let f : false ≡ true = sym not ∙ e.1 in cc)
-      ]
-  stands_are (dead_name t n) = elim (eqb_tells t task) [
-    | inl h ↦ rw h.0 (none_stands (x.stands (dead_name t n)) refl h.1)
-    | inr h ↦ rw h.0 (elim (sp.is_part.stood (dead_name t n)) [
-      | inl e ↦ e
-      | inr e ↦ absurd (let f : false ≡ true = sym h.0 ∙ e.1 in cc)
-    ])
-  ]
-    where
-      none_stands : (b : Bool) → x.stands (dead_name t n) ≡ b → t ≡ task → b ≡ false
-      none_stands true e same = absurd (no_request n (subst (λ (k : ℕ). x.stands (dead_name k n) ≡ true) same e))
-      none_stands false e same = refl
+  stands_are (no_senders p) = grind arith
+  stands_are (port_destroyed p) = grind arith
+  stands_are (dead_name t n) = grind (arith, no_request)
 
   -- ---- the state
 

@@ -39,17 +39,11 @@ use Rattle.notifications.proofs.Taken.{none_kept, dead_keeps}
 
 -- the request of a variant on a name is one
 on_one : (x : State) (task name v : ℕ) (a b : Request) → RequestOn x task name v a → RequestOn x task name v b → a ≡ b
-on_one x task name v a b (inl h) (inl i) = h.1.2 ∙ ap port_destroyed (one_port h.1.0 i.1.0 (sym h.1.1 ∙ i.1.1)) ∙ sym i.1.2
-  where
-    one_port : (p q : ℕ) → Some (Target.port p) ≡ Some (Target.port q) → p ≡ q
-    one_port p q e = cc
+on_one x task name v a b (inl h) (inl i) = grind arith
 on_one x task name v a b (inl h) (inr (inl i)) = absurd (let e = h.0 in let f = i.0 in omega (arith, e, f))
 on_one x task name v a b (inl h) (inr (inr i)) = absurd (let e = h.0 in let f = i.0 in omega (arith, e, f))
 on_one x task name v a b (inr (inl h)) (inl i) = absurd (let e = h.0 in let f = i.0 in omega (arith, e, f))
-on_one x task name v a b (inr (inl h)) (inr (inl i)) = h.1.2 ∙ ap no_senders (one_port h.1.0 i.1.0 (sym h.1.1 ∙ i.1.1)) ∙ sym i.1.2
-  where
-    one_port : (p q : ℕ) → Some (Target.port p) ≡ Some (Target.port q) → p ≡ q
-    one_port p q e = cc
+on_one x task name v a b (inr (inl h)) (inr (inl i)) = grind arith
 on_one x task name v a b (inr (inl h)) (inr (inr i)) = absurd (let e = h.0 in let f = i.0 in omega (arith, e, f))
 on_one x task name v a b (inr (inr h)) (inl i) = absurd (let e = h.0 in let f = i.0 in omega (arith, e, f))
 on_one x task name v a b (inr (inr h)) (inr (inl i)) = absurd (let e = h.0 in let f = i.0 in omega (arith, e, f))
@@ -63,11 +57,7 @@ module _ (w : WorldView) (s : State) (sh : Shows w s) (task name : ℕ) (subject
   stood = sh.agrees.standing r ∙ ap is_some (sym previous_is)
 
   lay : (live : ℕ → Bool) → live ≡ s.live_port → (kind : Kind) (n : ℕ) → lying_among s.ledger kind n (in_request r) ≡ rights_kept live previous kind n
-  lay live same kind n =
-      let a = sh.agrees.kept r kind n in
-      let b : rights_went s.live_port w.requests.names.went r kind n ≡ 0 = ap (λ (xs : List NameRequest). rights_went s.live_port xs r kind n) sh.idle.went in
-      let c : rights_kept live previous kind n ≡ rights_kept s.live_port (notify_of w.requests r) kind n = λ i. rights_kept (same i) (previous_is i) kind n in
-      omega (arith, a, b, c)
+  lay live same kind n = grind arith
 
   -- where a right lies at the request it comes out
   comes_out : 0 < count (λ x. same_place (in_request r) x.place) s.ledger → ComesOut w previous
@@ -116,13 +106,7 @@ module _ (w : WorldView) (s : State) (sh : Shows w s) (task name : ℕ) (subject
   -- what a request is on, in the machine
   pub subject_on : (mid : WorldView) (t : State) → Agrees mid t → (tokens : List Token) (o : Option Entry) → entry_at mid task name ≡ o → (variant : Variant) (sync notify : ℕ) → IsSubject o variant sync notify subject →
       RequestOn (record t { ledger = tokens }) task name (variant_number variant) r
-  subject_on mid t a tokens o stands variant sync notify is = by subject is
-    where
-      by : (x : Subject) → IsSubject o variant sync notify x → RequestOn (record t { ledger = tokens }) task name (variant_number variant) (request_of task name x)
-      by (Receive p) h = inl (ap variant_number h.0, (p, names_port mid t a task name h.1.0 p (stands ∙ h.1.1) h.1.2, refl))
-      by (Senders p) h = inr (inl (ap variant_number h.0, (p, names_port mid t a task name h.1.0 p (stands ∙ h.1.1) h.1.2, refl)))
-      by (Live p) h = inr (inr (ap variant_number h.0, refl))
-      by (Dead n) h = inr (inr (ap variant_number h.0, refl))
+  subject_on mid t a tokens o stands variant sync notify is = grind (arith, names_port)
 
   -- ---- its right comes out
 

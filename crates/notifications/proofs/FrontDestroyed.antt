@@ -61,13 +61,7 @@ carried_as d m = record { given = d; mark = m }
 module _ (q : ℕ) where
   -- it is the port's receive right, that was moved
   moved : (d : Disposition) (m : Mark) → 0 < one_for receive q (kind_sent d) m → (d ≡ MoveReceive) × (m ≡ mark.Port q)
-  moved MoveReceive (mark.Port p) some = elim (eqb_tells p q) [
-    | inl h ↦ (refl, ap mark.Port h.1)
-    | inr h ↦ absurd (zero_of p h.0 some)
-  ]
-    where
-      zero_of : (p : ℕ) → (p == q) ≡ false → 0 < (if p == q then 1 else 0) → ⊥
-      zero_of p e some = let z : (if p == q then suc zero else zero) ≡ zero = rw e refl in omega (arith, some, z)
+  moved MoveReceive (mark.Port p) some = grind arith
   moved MoveSend (mark.Port p) some = absurd (omega (arith, some))
   moved MoveSendOnce (mark.Port p) some = absurd (omega (arith, some))
   moved CopySend (mark.Port p) some = absurd (omega (arith, some))
@@ -168,11 +162,7 @@ module _ (w : WorldView) (s : State) (sh : Shows w s) (now p : ℕ) (t : WorldVi
 
   -- a port's holder is as it was
   same_holder : KeepHolders w.ports.ports v.ports.ports
-  same_holder = noted (λ x. KeepHolders w.ports.ports x.ports.ports)
-      (λ y. subst (λ m. KeepHolders w.ports.ports m) (sym (ap (λ (x : WorldView). x.ports.ports) y.rest)) taken_holders) taken_holders
-    where
-      taken_holders : KeepHolders w.ports.ports t.ports.ports
-      taken_holders = subst (λ (x : WorldView). KeepHolders w.ports.ports x.ports.ports) (sym f.rest) (put_holders w.ports.ports p f.v _ f.there refl)
+  same_holder = grind (arith, noted, put_holders)
 
   held_here : (q : ℕ) (x : PortView Kept) → port_at v q ≡ Some x → 0 < rights_for receive q rights → CanHold x.attributes.holder
   held_here q x there some =
@@ -184,15 +174,7 @@ module _ (w : WorldView) (s : State) (sh : Shows w s) (now p : ℕ) (t : WorldVi
       (subst (λ (ms : List Kept). Contains ms f.front) (sym f.queue) (0, omega arith, refl)) body h.v h.there)
 
   pub can_lose : CanLoseAll v rights
-  can_lose = record {
-    entered = λ q there. (agrees.counts q).entered ∙ is_live q there;
-    slots = let before = front_slots w p t f sh.slots in noted SlotsSuffice (λ y. noted_slots t v p y before) before;
-    receivers = λ q there. let m = few receive q there in let c = (agrees.counts q).receivers in omega (arith, m, c);
-    one_each = λ q. let c = (agrees.counts q).receivers in let one = one_at_most start.live_port start.ledger moving.one_receive moving.no_rights q in omega (arith, c, one);
-    senders = λ q there. let m = few send q there in let c = (agrees.counts q).senders in omega (arith, m, c);
-    onces = once_few;
-    held = held_here;
-  }
+  can_lose = grind (arith, agrees, is_live, front_slots, noted, noted_slots, few, one_at_most, moving, once_few, held_here)
 
   -- ---- and that is so of which one right more is lost, and then the next
 
@@ -230,11 +212,7 @@ module _ (w : WorldView) (s : State) (sh : Shows w s) (now p : ℕ) (t : WorldVi
   }
 
   pub lists_none : ListsLost v
-  lists_none = record {
-    there = λ q c. absurd (none_listed v.ports.lost none_lost.lost q c);
-    none = λ q c. absurd (none_listed v.ports.lost none_lost.lost q c);
-    listed = λ q there none. absurd (let one = moving.one_receive q (is_live q there) in let c = (agrees.counts q).receivers in omega (arith, one, c, none));
-  }
+  lists_none = grind (arith, none_listed, none_lost, moving, is_live, agrees)
 
 -- A message that waits in tables that show a state can be destroyed.
 pub can_destroy : (w : WorldView) (s : State) → Shows w s → (p : ℕ) (x : PortView Kept) → port_at w p ≡ Some x → (m : Kept) (behind : List Kept) → x.queue ≡ m ∷ behind → CanDestroy w p

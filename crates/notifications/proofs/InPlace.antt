@@ -1,5 +1,5 @@
 -- What a name stands for is lost while the name stays: the tables are then those where the name went too, but for the names.
-use Rattle.std.proofs.Common.{◌≡◌, ℕ, ◌<◌, ◌≤◌, Bool, false, List, [], ◌∷◌, ◌++◌, Option, Some, None, refl, sym, ap, subst, ◌∙◌, inl, inr}
+use Rattle.std.proofs.Common.{arith, ◌≡◌, ℕ, ◌<◌, ◌≤◌, Bool, false, List, [], ◌∷◌, ◌++◌, Option, Some, None, refl, sym, ap, subst, ◌∙◌, inl, inr}
 use Rattle.std.specs.Prelude.{◌-◌, slice_set, is_some, if◌then◌else◌}
 use Rattle.std.specs.FinMap as map
 use Rattle.name_space.specs.declared.Entry.{Entry}
@@ -66,21 +66,14 @@ can_lose_in g w spaces task name e is ending found = subst (λ (x : WorldView). 
 pub can_lose_left : (w : WorldView) (task name : ℕ) (e : Entry) → CanLoseEntry w e → CanLoseEntry (record w { requests = request_left w.requests task name }) e
 can_lose_left w task name (entry.Receive p) c = record { v = c.v; there = c.there; held = c.held; entered = c.entered; counted = c.counted }
 can_lose_left w task name (entry.Send p n) c = c
-can_lose_left w task name (entry.ReceiveAndSend p n) c = (c.0, c.1, record { v = c.2.v; there = c.2.there; held = c.2.held; entered = c.2.entered; counted = c.2.counted })
+can_lose_left w task name (entry.ReceiveAndSend p n) c = grind arith
 can_lose_left w task name (entry.SendOnce p) c = record { live = c.live; paid = c.paid; slots = c.slots }
 can_lose_left w task name (entry.DeadName n) c = c
 can_lose_left w task name (entry.Set set) c = c
 
 -- once the send rights went
 pub lose_then : (w v : WorldView) (p n : ℕ) → LosesSends w p n v → CanLose w p → CanLose v p
-lose_then w v p n r c = record {
-  v = c.v;
-  there = ap (λ (x : WorldView). map.get x.ports.ports p) r.rest ∙ c.there;
-  held = c.held;
-  entered = ap (λ (x : WorldView). map.contains_key x.ledger.counts p) r.rest ∙ ap is_some (put_own w.ledger.counts p (Some (with_fewer kind.Send n (counts_of w.ledger p))));
-  counted = subst (λ (x : WorldView). 0 < (counts_of x.ledger p).receive) (sym r.rest)
-      (subst (λ (k : Counts). 0 < k.receive) (sym (counts_own w.ledger p (with_fewer kind.Send n (counts_of w.ledger p)) (taken w.ledger p kind.Send n) refl)) c.counted);
-}
+lose_then w v p n r c = grind (arith, put_own, counts_own)
 
 -- ---- what is kept stands for what is read of it
 

@@ -143,25 +143,7 @@ module _ (s : State) (mid : WorldView) (t : State) (a : Agrees mid t) (tokens : 
   -- refused in the tables, and so by the machine
   pub first_noted : (code : ℕ) → FirstIs (subject_guards o v sync notify) code → FirstIs (noted_guards s copied task name (variant_number v) sync notify) code
   first_noted code (inl h) = inl (look ∙ ap (option_map target_of) h.0, h.1)
-  first_noted code (inr h) = inr (
-    (λ x. h.0 (first_from x)),
-    elim h.1 [
-      | inl i ↦ inl (kind_to v i.0, i.1)
-      | inr i ↦ inr (
-        (λ x. i.0 (kind_from v x)),
-        elim i.1 [
-          | inl j ↦ inl (third_to j.0, j.1)
-          | inr j ↦ inr (
-            (λ x. j.0 (third_from x)),
-            elim j.1 [
-              | inl m ↦ inl (fourth_to m.0, m.1)
-              | inr m ↦ absurd m.1
-            ],
-          )
-        ],
-      )
-    ],
-  )
+  first_noted code (inr h) = grind (arith, first_from, kind_to, kind_from, third_to, third_from, fourth_to)
 
   -- ---- what is asked for is there
 
@@ -190,22 +172,13 @@ module _ (s : State) (mid : WorldView) (t : State) (a : Agrees mid t) (tokens : 
     not_fourth (Receive p) h x = let f : PortDestroyed ≡ DeadName = sym h.0 ∙ x.0 in cc
     not_fourth (Senders p) h x = let f : NoSenders ≡ DeadName = sym h.0 ∙ x.0 in cc
     not_fourth (Live p) h x = let same = the_entry h.1.0 (entry.DeadName most_references) (sym h.1.1 ∙ x.1) in let f : None ≡ Some p = sym (ap port_of same) ∙ h.1.2 in cc
-    not_fourth (Dead n) h x =
-        let same : entry.DeadName n ≡ entry.DeadName most_references = the_entry (entry.DeadName n) (entry.DeadName most_references) (sym h.1 ∙ x.1) in
-        let number : n ≡ most_references = cc in
-        let few = h.4 in omega (arith, number, few)
+    not_fourth (Dead n) h x = grind (arith, the_entry)
 
     abbrev pub Space : Type 0
     Space = (most_rights < length tokens) ⊎ HasNoRoom copied task × GivesRight s copied task name (variant_number v)
 
     pub none_noted : ¬ Space → NoneHolds (noted_guards s copied task name (variant_number v) sync notify)
-    none_noted space = (
-      (λ x. let f : Some there.0 ≡ None = sym there.1 ∙ first_from x in cc),
-      ((λ x. not_kind subject is (kind_from v x)), ((λ x. not_third subject is (third_from x)), ((λ x. not_fourth subject is (fourth_from x)), (space, tt)))),
-    )
+    none_noted space = grind (arith, there, first_from, not_kind, kind_from, not_third, third_from, not_fourth, fourth_from)
 
     pub full_noted : Space → FirstIs (noted_guards s copied task name (variant_number v) sync notify) (kern_number NoSpace)
-    full_noted space = inr (
-      (λ x. let f : Some there.0 ≡ None = sym there.1 ∙ first_from x in cc),
-      inr ((λ x. not_kind subject is (kind_from v x)), inr ((λ x. not_third subject is (third_from x)), inr ((λ x. not_fourth subject is (fourth_from x)), inl (space, refl)))),
-    )
+    full_noted space = grind (arith, there, first_from, not_kind, kind_from, not_third, third_from, not_fourth, fourth_from)

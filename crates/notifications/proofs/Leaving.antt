@@ -71,49 +71,23 @@ goes old mid task g c =
 -- ---- the right of the request that stood there comes out
 
 given_lost : (old new : WorldView) (task : ℕ) (one : Mark) (word : ℕ) → GivesMark old task send_once one word new → new.ports.lost ≡ old.ports.lost
-given_lost old new task (mark.Port p) word h = go (is_some (map.get old.ports.ports p)) _ h
-  where
-    go : (b : Bool) (dead : ℕ) → MatchBool b (GivesPort old task send_once p word new) ((word ≡ dead) × (new ≡ old)) → new.ports.lost ≡ old.ports.lost
-    go true dead g = ap (λ (x : WorldView). x.ports.lost) g.rest
-    go false dead g = ap (λ (x : WorldView). x.ports.lost) g.1
+given_lost old new task (mark.Port p) word h = grind arith
 given_lost old new task mark.Null word h = ap (λ (x : WorldView). x.ports.lost) h.1
 given_lost old new task mark.Dead word h = ap (λ (x : WorldView). x.ports.lost) h.1
 
 ended : (old out : WorldView) (task name : ℕ) (subject : Subject) (previous : Option ℕ) (word : ℕ) → Ends old task name subject previous word out → Keeps old out 0
-ended old out task name subject previous word e =
-    let keeps = given_keeps (without old task name subject) out task send_once (mark_for previous) word e in
-    let unused = mark_unused (without old task name subject) out task send_once (mark_for previous) word e in
-    record { rooms = keeps.rooms; spare = keeps.slots; unused = (omega (arith, unused)); lost = given_lost (without old task name subject) out task (mark_for previous) word e }
+ended old out task name subject previous word e = grind (arith, given_keeps, mark_unused, given_lost)
 
 -- ---- the new one is kept, or told at once
 
 kept : (old new : WorldView) (task name : ℕ) (subject : Subject) (notify : ℕ) → KeepsNew old task name subject notify new → Uses old new
-kept old new task name subject notify k =
-    let spare = ap (λ (x : WorldView). x.ports.spare) k in
-    let keeps = keeps_names old new (ap (λ (x : WorldView). x.spaces) k) spare in
-    record { rooms = keeps.rooms; slots = inl (spare, ap (λ (x : WorldView). x.ledger.unused) k); lost = ap (λ (x : WorldView). x.ports.lost) k }
+kept old new task name subject notify k = grind (arith, keeps_names)
 
 posted : (old new : WorldView) (notify : ℕ) (notice : Notice) → Posts old notify notice new → Uses old new
-posted old new notify notice p = record {
-  rooms = λ task. let e : room_of new task ≡ room_of old task = ap (λ (x : WorldView). room_of x task) p.rest in omega (arith, e);
-  slots = inr (ap (λ (x : WorldView). x.ports.spare) p.rest, ap (λ (x : WorldView). x.ledger.unused) p.rest);
-  lost = ap (λ (x : WorldView). x.ports.lost) p.rest;
-}
+posted old new notify notice p = grind arith
 
 tells : (old new : WorldView) (task name references notify : ℕ) → TellsDead old task name references notify new → Uses old new
-tells old new task name references notify t =
-    let left = left_keeps old t.mid task name _ t.more in
-    let unused : t.mid.ledger.unused ≡ old.ledger.unused = ap (λ (x : WorldView). x.ledger.unused) t.more.rest in
-    let spare = left.slots in
-    let p = posted t.mid new notify _ t.posts in
-    record {
-      rooms = λ u. let a = left.rooms u in let b = p.rooms u in omega (arith, a, b);
-      slots = elim p.slots [
-        | inl h ↦ inl (h.0 ∙ spare, h.1 ∙ unused)
-        | inr h ↦ inr (h.0 ∙ ap (λ (n : ℕ). n - 1) spare, h.1 ∙ ap (λ (n : ℕ). n - 1) unused)
-      ];
-      lost = p.lost ∙ ap (λ (x : WorldView). x.ports.lost) t.more.rest;
-    }
+tells old new task name references notify t = grind (arith, left_keeps old t.mid task name _ t.more, posted t.mid new notify _ t.posts)
 
 puts : (old new : WorldView) (task name sync : ℕ) (subject : Subject) (notify : ℕ) → Puts old task name sync subject notify new → Uses old new
 puts old new task name sync (Receive p) notify k = kept old new task name (Receive p) notify k
@@ -132,29 +106,10 @@ module _ (asked : Asked) where
   by_number n = if n == 21 then 1 else 0
 
   same_for : (d : Disposition) → asked.notify ≢ null_word → disposition asked.disposition ≡ Some d → kind_sent d ≡ send_once → made_for asked ≡ (if makes_right d then 1 else 0)
-  same_for d some given once = elim (eqb_tells asked.notify null_word) [
-    | inl h ↦ absurd (some h.1)
-    | inr h ↦ rw h.0 (by d once (number_of asked.disposition d given))
-  ]
-    where
-      by : (x : Disposition) → kind_sent x ≡ send_once → disposition_number x ≡ asked.disposition → by_number asked.disposition ≡ (if makes_right x then 1 else 0)
-      by MoveSendOnce e n = ap by_number (sym n)
-      by MakeSendOnce e n = ap by_number (sym n)
-      by MoveReceive e n = absurd (cc)
-      by MoveSend e n = absurd (cc)
-      by CopySend e n = absurd (cc)
-      by MakeSend e n = absurd (cc)
+  same_for d some given once = grind (arith, number_of)
 
 made_right : (g : Paying) → kind_sent g.given ≡ send_once → made_by (Some g) ≡ once_made_by_mark g.given (mark.Port g.port)
-made_right g once = by g.given once
-  where
-    by : (d : Disposition) → kind_sent d ≡ send_once → (if makes_right d then 1 else 0) ≡ once_made_by_mark d (mark.Port g.port)
-    by MoveSendOnce e = refl
-    by MakeSendOnce e = refl
-    by MoveReceive e = refl
-    by MoveSend e = refl
-    by CopySend e = absurd (cc)
-    by MakeSend e = absurd (cc)
+made_right g once = grind arith
 
 same_made : (w : WorldView) (task : ℕ) (asked : Asked) (paying : Option Paying) → Pays w task asked paying → made_for asked ≡ made_by paying
 same_made w task asked None none = none_for asked none
@@ -181,37 +136,13 @@ module _ (w ready : WorldView) (task name : ℕ) (asked : Asked) (same : SameBut
 
   -- where no right pays
   leaves_removed : (subject : Subject) (previous : Option ℕ) → MakesSlotsFor w 0 ready → made_for asked ≡ 0 → (word : ℕ) (new : WorldView) → Ends ready task name subject previous word new → LeavesRequest w asked (Ok (Reply.Previous word)) new
-  leaves_removed subject previous made none word new e =
-      let x = ended ready new task name subject previous word e in
-      record {
-        rooms = λ u. let a = made.rooms u in let b = x.rooms u in omega (arith, a, b);
-        slots = (
-          (let a = x.spare ∙ made.slots in
-              let b : new.ledger.unused ≡ w.ledger.unused + 0 = (let c = x.unused in let d = ready_unused in omega (arith, c, d)) in
-              subst (λ (n : ℕ). IsBalanced w.ports.spare w.ledger.unused n new.ports.spare new.ledger.unused) (sym none) (balanced w.ports.spare w.ledger.unused 0 new.ports.spare new.ledger.unused (inl (a, b)))),
-          x.lost ∙ ready_lost,
-        );
-      }
+  leaves_removed subject previous made none word new e = grind (arith, ended, ready_unused, balanced, ready_lost)
 
   leaves_renewed : (g : Paying) (subject : Subject) (previous : Option ℕ) (more : ℕ) → MakesSlotsFor w more ready → more ≡ once_made_by_mark g.given (mark.Port g.port) → made_for asked ≡ more →
       (mid out : WorldView) (word : ℕ) (new : WorldView) → Goes ready task g mid → Ends mid task name subject previous word out → Puts out task name asked.sync subject g.port new → LeavesRequest w asked (Ok (Reply.Previous word)) new
-  leaves_renewed g subject previous more made once for mid out word new c e p =
-      let x = goes ready mid task g c in
-      let y = ended mid out task name subject previous word e in
-      let z = puts out new task name asked.sync subject g.port p in
-      let spare : out.ports.spare ≡ max w.ports.spare (w.ledger.unused + more) = y.spare ∙ x.spare ∙ made.slots in
-      let unused : out.ledger.unused ≡ w.ledger.unused + more = (let a = x.unused in let b = y.unused in let d = ready_unused in omega (arith, a, b, d, once)) in
-      record {
-        rooms = λ u. let a = made.rooms u in let b = x.rooms u in let d = y.rooms u in let f = z.rooms u in omega (arith, a, b, d, f);
-        slots = (
-          subst (λ (n : ℕ). IsBalanced w.ports.spare w.ledger.unused n new.ports.spare new.ledger.unused) (sym for) (balanced w.ports.spare w.ledger.unused more new.ports.spare new.ledger.unused
-              (elim z.slots [
-                | inl h ↦ inl (h.0 ∙ spare, h.1 ∙ unused)
-                | inr h ↦ inr (h.0 ∙ ap (λ (n : ℕ). n - 1) spare, h.1 ∙ ap (λ (n : ℕ). n - 1) unused)
-              ])),
-          z.lost ∙ y.lost ∙ x.lost ∙ ready_lost,
-        );
-      }
+  leaves_renewed g subject previous more made once for mid out word new c e p = grind (arith,
+      goes ready mid task g c, ended mid out task name subject previous word e, puts out new task name asked.sync subject g.port p,
+      ready_unused)
 
 -- A request that is carried out so leaves so much.
 pub leaves_request : (w ready : WorldView) (task name : ℕ) (asked : Asked) (paying : Option Paying) (subject : Subject) (previous : Option ℕ) → Pays w task asked paying → SameButRooms w ready → MakesSlotsFor w (made_by paying) ready →

@@ -41,7 +41,9 @@ posted_push now mid (y ∷ owed) x = posted_push now (with_notice now mid y) owe
 pub posted_swap : (now : ℕ) (mid : State) (ledger : List Token) (owed : Owed) →
     with_posted now (record mid { ledger = ledger }) owed ≡ record (with_posted now mid owed) { ledger = (with_posted now (record mid { ledger = ledger }) owed).ledger }
 posted_swap now mid ledger [] = refl
-posted_swap now mid ledger (x ∷ owed) = posted_swap now (with_notice now mid x) (posted_tokens (record { port = x.0.port; entry = length (mid.log x.0.port); notice = x.1 }) ++ ledger) owed
+posted_swap now mid ledger (x ∷ owed) = grind (
+    arith,
+    posted_swap now (with_notice now mid x) (posted_tokens (record { port = x.0.port; entry = length (mid.log x.0.port); notice = x.1 }) ++ ledger) owed)
 
 pub posted_weigh : (now : ℕ) (mid : State) (ledger : List Token) (owed : Owed) (h : Token → ℕ) →
     weigh h (with_posted now (record mid { ledger = ledger }) owed).ledger + weigh h mid.ledger ≡ weigh h (with_posted now mid owed).ledger + weigh h ledger
@@ -70,9 +72,7 @@ posted_live now mid (x ∷ owed) = posted_live now (with_notice now mid x) owed
 -- ---- one right more is lost
 
 unused_push : (gone : List Token) (x : Token) → unused (gone ++ x ∷ []) ≡ unused gone ++ unused (x ∷ [])
-unused_push gone x =
-    ap (λ (xs : List Token). list_map (λ (y : Token). (y, right_unused)) xs) (filter-append (λ (y : Token). same_kind send_once y.kind) gone (x ∷ []))
-    ∙ map-append (λ (y : Token). (y, right_unused)) (filter (λ (y : Token). same_kind send_once y.kind) gone) (filter (λ (y : Token). same_kind send_once y.kind) (x ∷ []))
+unused_push gone x = grind (arith, filter-append, map-append)
 
 -- What is so while the rights of a message are lost that was taken from this entry, from the state t: these are still to be lost.
 pub record IsLosing (now o k : ℕ) (t : State) (cs : List Carried) (u : WorldView) : Type 0 where
@@ -111,18 +111,7 @@ module _ (now o k : ℕ) (t : State) (within : (q : ℕ) → t.taken q ≤ lengt
     going = token kind p (in_message o k)
 
     own : one_for kind p kind (mark.Port p) ≡ 1
-    own = rw (kind_is kind, eqb_is p) refl
-      where
-        kind_is : (a : Kind) → same_kind a a ≡ true
-        kind_is receive = refl
-        kind_is send = refl
-        kind_is send_once = refl
-
-        eqb_is : (a : ℕ) → (a == a) ≡ true
-        eqb_is a = elim (cases_Bool (a == a)) [
-          | inl e ↦ e
-          | inr e ↦ elim (eqb_tells a a) [ inl h ↦ h.0 | inr h ↦ absurd (h.1 refl) ]
-        ]
+    own = grind (arith, cases_Bool)
 
     lies : 0 < lying x.mid kind p (in_message o k)
     lies = let l = x.lie kind p live in let e : one_for kind p kind c.mark ≡ 1 = ap (one_for kind p kind) is ∙ own in omega (arith, l, e)
@@ -152,12 +141,7 @@ module _ (now o k : ℕ) (t : State) (within : (q : ℕ) → t.taken q ≤ lengt
     }
 
     lie_after : (of : Kind) (q : ℕ) → t.live_port q ≡ true → lying after of q (in_message o k) ≡ rights_for of q cs
-    lie_after of q live_q =
-        let l = x.lie of q live_q in
-        let m = left.parts (λ y. if is_of of q y && same_place (in_message o k) y.place then 1 else 0) in
-        let e = at_entry of q o k kind p in
-        let n : one_for of q kind c.mark ≡ one_for of q kind (mark.Port p) = ap (one_for of q kind) is in
-        omega (arith, l, m, e, n)
+    lie_after of q live_q = grind (arith, left, at_entry)
 
     lost : (v : WorldView) → Agrees v (with_posted now after (unused (x.gone ++ going ∷ []))) → CanLoseAll v cs → IsLosing now o k t cs v
     lost v agrees can = record {
@@ -173,13 +157,7 @@ module _ (now o k : ℕ) (t : State) (within : (q : ℕ) → t.taken q ≤ lengt
 
     -- one that goes without a notice
     silent : same_kind send_once kind ≡ false → (v : WorldView) → Agrees v (record before_posted { ledger = after_posted.ledger }) → Agrees v (with_posted now after (unused (x.gone ++ going ∷ [])))
-    silent not v a =
-        let none : unused (going ∷ []) ≡ [] = one (same_kind send_once kind) not in
-        let e : unused (x.gone ++ going ∷ []) ≡ unused x.gone = unused_push x.gone going ∙ ap (λ (ys : Owed). unused x.gone ++ ys) none ∙ append-nil (unused x.gone) in
-        subst (λ (ys : Owed). Agrees v (with_posted now after ys)) (sym e) (subst (Agrees v) (sym swapped) a)
-      where
-        one : (b : Bool) → same_kind send_once kind ≡ false → unused (going ∷ []) ≡ []
-        one b e = rw e refl
+    silent not v a = grind (arith, unused_push, append-nil, swapped)
 
     by_kind : (of : Kind) → kind ≡ of → CanLoseRight u of p → (v : WorldView) → LosesRight u of p v → Agrees v (with_posted now after (unused (x.gone ++ going ∷ [])))
     by_kind send e can v loses = silent (ap (same_kind send_once) e) v

@@ -1,11 +1,10 @@
 -- A right that lay in a message is lost: the state without it, with which the tables agree.
 use Rattle.std.proofs.Common.{◌≡◌, ℕ, ◌+◌, ◌-◌, ◌<◌, ◌≤◌, Bool, true, false, List, [], ◌∷◌, ◌++◌, Some, refl, sym, ap, subst, ◌∙◌, arith, inr, length, drop}
-use Rattle.std.specs.Prelude.{if◌then◌else◌, ◌&&◌}
+use Rattle.std.specs.Prelude.{if◌then◌else◌}
 use Rattle.std.proofs.lemmas.List.{drop-append-le}
 use Rattle.mach_types.specs.Tokens.{Kind, receive, send, send_once, Request, in_message, in_request, Token, token, count, is_of, is_held}
 use Rattle.mach_types.specs.Messages.{Entry}
 use Rattle.mach_model.specs.State.{State, at, queue}
-use Rattle.mach_model.specs.Death.{same_place}
 use Rattle.mach_model.specs.Carried.{lying_among}
 use Rattle.mach_model.specs.Lawful.{tally}
 use Rattle.mach_model.specs.Notices.{right_unused, notice_message}
@@ -49,9 +48,7 @@ module _ (w : WorldView) (s : State) (a : Agrees w s) (o k p : ℕ) (live : s.li
     total_left = let m = left.parts (λ x. 1) in let t = a.total in let b = length-weigh s.ledger in let c = length-weigh left.others in omega (arith, m, t, b, c)
 
     requests_left : RequestsAgree (notify_of w.requests) w.requests.names.went w.ports.made s.stands s.live_port left.others
-    requests_left = requests_stay (notify_of w.requests) w.requests.names.went w.ports.made w.ports.made s.stands s.stands s.live_port s.live_port s.ledger left.others a.of_requests (omega arith) (λ r. refl) (λ q less. refl) (λ r c q.
-        let m = tokens_for (λ x. is_of c q x && same_place (in_request r) x.place) in
-        let z = both_test (is_of c q (token kind p (in_message o k))) false (inr refl) in omega (arith, m, z))
+    requests_left = grind (arith, requests_stay, tokens_for, both_test)
 
   -- ---- a send right
 
@@ -117,21 +114,14 @@ module _ (w : WorldView) (s : State) (a : Agrees w s) (o k p : ℕ) (live : s.li
     }
 
     once_more : onces_queued told_state p ≡ onces_queued s p + 1
-    once_more =
-        let all : onces_queued told_state p ≡ tally came_by_once (queue s p ++ entry ∷ []) = ap (tally came_by_once) queue_is in
-        let parts = tally-append came_by_once (queue s p) (entry ∷ []) in
-        omega (arith, all, parts)
+    once_more = grind (arith, queue_is, tally-append)
 
     -- as many rights as before
     same : (kind : Kind) (q : ℕ) → count (is_of kind q) tokens ≡ count (is_of kind q) s.ledger
     same kind q = let m = left.parts (λ x. if is_of kind q x then 1 else 0) in omega (arith, m)
 
     lying : (r : Request) (kind : Kind) (q : ℕ) → lying_among tokens kind q (in_request r) ≡ lying_among s.ledger kind q (in_request r)
-    lying r kind q =
-        let m = tokens_for send_once left (λ x. is_of kind q x && same_place (in_request r) x.place) in
-        let z = both_test (is_of kind q (token send_once p (in_message o k))) false (inr refl) in
-        let y = both_test (is_of kind q (token send_once p (in_message p (length (s.log p))))) false (inr refl) in
-        omega (arith, m, z, y)
+    lying r kind q = grind (arith, tokens_for, both_test)
 
     pub once_lost : Agrees (record w { ports = with_message w.ports p v (notice_kept SendOnce); ledger = shifted w.ledger p }) told_state
     once_lost = record {

@@ -62,9 +62,7 @@ told_none q (i, below, is) = omega (arith, below)
 
 module _ (w : WorldView) (c : Carried) (cs : List Carried) (u : WorldView) (s : Sound w (c ∷ cs) u) (p : ℕ) (is : c.mark ≡ mark.Port p) (live : is_some (port_at u p) ≡ true) (v : WorldView) where
   own : (kind : Kind) → kind_sent c.given ≡ kind → 0 < rights_for kind p (c ∷ cs)
-  own kind e =
-      let one : one_for kind p (kind_sent c.given) c.mark ≡ 1 = ap (λ (x : Kind). one_for kind p x c.mark) e ∙ ap (one_for kind p kind) is ∙ own_one kind p in
-      omega (arith, one)
+  own kind e = grind (arith, own_one)
 
   -- what holds of the tables whose ports are there as before, and whose queues carry and names have no more
   sound : HoldersAgree v → CarriersAgree v → RequestsStand v → NotesSenders w v → ((q : ℕ) → is_some (port_at v q) ≡ is_some (port_at u q)) →

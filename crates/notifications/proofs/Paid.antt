@@ -45,14 +45,7 @@ the_same x y e = cc
 
 -- what copying in does is determined
 right_once : (w : WorldView) (task : ℕ) (d : Disposition) (name : ℕ) (m : _) (a b : WorldView) → CopiesRight w task d name m a → CopiesRight w task d name m b → a ≡ b
-right_once w task d name m a b x y =
-    let space : x.space ≡ y.space = the_same x.space y.space (sym x.there ∙ y.there) in
-    let entry : x.entry ≡ y.entry = the_same x.entry y.entry (sym x.found ∙ ap (λ (z : SpaceView). map.get z.names name) space ∙ y.found) in
-    let copied : x.copied ≡ y.copied = the_same x.copied y.copied (sym x.is ∙ ap (copied_from d) entry ∙ y.is) in
-    x.rest ∙ both space copied ∙ sym y.rest
-  where
-    both : {p q : SpaceView} {r t : Copied} → p ≡ q → r ≡ t → after w task name p d r ≡ after w task name q d t
-    both e f = λ i. after w task name (e i) d (f i)
+right_once w task d name m a b x y = grind (arith, the_same, after)
 
 space_of : (o : Option SpaceView) (name : ℕ) (e : Entry) → entry_in o name ≡ Some e → (space : SpaceView) × (o ≡ Some space) × (map.get space.names name ≡ Some e)
 space_of (Some space) name e is = (space, refl, is)
@@ -114,18 +107,13 @@ module _ (w : WorldView) (s : State) (sh : Shows w s) (task number : ℕ) (g : P
     same_space = same_found (space_at w task) c.space source.0 c.there source.1
 
     pub same_copied : c.copied ≡ copied
-    same_copied =
-        let entry : c.entry ≡ pays.entry = the_same c.entry pays.entry (sym c.found ∙ ap (λ (x : SpaceView). map.get x.names name) same_space ∙ source.2) in
-        the_same c.copied copied (sym c.is ∙ ap (copied_from g.given) entry ∙ pays.is)
+    same_copied = grind (arith, the_same, same_space, source)
 
     abbrev after_space : SpaceView
     after_space = record source.0 { names = after_names }
 
     spaces_are : mid.spaces ≡ slice_set w.spaces task (Some after_space)
-    spaces_are = ap (λ (x : WorldView). x.spaces) c.rest ∙ renamed c.space source.0 c.copied copied same_space same_copied
-      where
-        renamed : (x y : SpaceView) (d e : Copied) → x ≡ y → d ≡ e → slice_set w.spaces task (Some (record x { names = put x.names name d.left })) ≡ slice_set w.spaces task (Some (record y { names = put y.names name e.left }))
-        renamed x y d e p q = λ i. slice_set w.spaces task (Some (record (p i) { names = put (p i).names name (q i).left }))
+    spaces_are = grind (arith, source, same_space, same_copied)
 
     mid_own : space_at mid task ≡ Some after_space
     mid_own = ap (λ (xs : List (Option SpaceView)). space_in xs task) spaces_are ∙ space-set_same w.spaces task after_space source.0 source.1

@@ -100,8 +100,7 @@ module _ (now : ℕ) (s : State) (task : ℕ) (x : Part) where
 
   module _ (l : IsLawful s) (is : IsPart s task x) where
     pub lawful_naming : TaskNaming shown task
-    lawful_naming = subst (λ (m : Names). LawfulNames m (held shown task)) (sym (at_own s.naming task x.names))
-        (same_naming x.names (λ kind q. count (is_held task kind q) x.kept) (held shown task) is.named (λ kind q. held_shown task kind q))
+    lawful_naming = grind (arith, at_own, same_naming, held_shown)
 
     pub looked_up : (name : ℕ) → lookup shown task name ≡ map.get x.names name
     looked_up name = ap (λ (m : Names). map.get m name) (at_own s.naming task x.names)

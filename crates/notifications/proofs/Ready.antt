@@ -42,14 +42,7 @@ use Rattle.notifications.proofs.Paid.{lives as paying_lives}
 
 -- a port's name is for one that is there
 pub named_lives : (s : State) (o k : ℕ) → IsMoving s o k → (task name p : ℕ) → lookup s task name ≡ Some (Target.port p) → s.live_port p ≡ true
-named_lives s o k l task name p is =
-    let some = (l.naming task).has_right name p is in
-    let a = held_le_of task receive p s.ledger in
-    let b = held_le_of task send p s.ledger in
-    elim (pos_or_zero (count (is_of receive p) s.ledger)) [
-      | inl h ↦ lives l.ports send p (omega (arith, some, a, b, h))
-      | inr h ↦ lives l.ports receive p h
-    ]
+named_lives s o k l task name p is = grind (arith, (l.naming task).has_right name p is, held_le_of task receive p s.ledger, held_le_of task send p s.ledger)
 
 module _ (w : WorldView) (task name : ℕ) (asked : Asked) (g : Paying) (subject : Subject) (previous : Option ℕ) (below : HasTask w task) (may : MayRequest w task name asked (Some g) subject previous)
     (ready : WorldView) (rdy : Readies w task subject (Some g) previous ready) where
@@ -76,18 +69,12 @@ module _ (w : WorldView) (task name : ℕ) (asked : Asked) (g : Paying) (subject
             ∙ paying_lives ready s shr task asked.disposition g may.pays.2 (pays_ready w s sh task name subject previous may.stood ready below g asked.disposition may.pays.2 may.pays.3 may.pays.4 rdy e.0 e.1)
 
         pub unused_mid : 0 < (counts_of mid.ledger g.port).send_once
-        unused_mid =
-            let a = is_unused ready (record { state = s; shown = shr }) task g (pays_ready w s sh task name subject previous may.stood ready below g asked.disposition may.pays.2 may.pays.3 may.pays.4 rdy e.0 e.1) may.pays.3 in
-            let b : mid.ledger ≡ ledger_copied g.given c.copied.mark ready.ledger = ap (λ (x : WorldView). x.ledger) c.rest in
-            let d : ledger_copied g.given c.copied.mark ready.ledger ≡ ledger_copied g.given (mark.Port g.port) ready.ledger = ap (λ (m : Mark). ledger_copied g.given m ready.ledger) (sym c.mark_is) in
-            subst (λ (l : LedgerView). 0 < (counts_of l g.port).send_once) (sym (b ∙ d)) a
+        unused_mid = grind (
+            arith,
+            is_unused ready (record { state = s; shown = shr }) task g (pays_ready w s sh task name subject previous may.stood ready below g asked.disposition may.pays.2 may.pays.3 may.pays.4 rdy e.0 e.1) may.pays.3)
 
         pub can_post : CanPost out g.port
-        can_post = record {
-          live = ap (λ (x : PortsView Kept). is_some (map.get x.ports g.port)) bk.ports ∙ alive;
-          paid = subst (λ (l : LedgerView). 0 < (counts_of l g.port).send_once) (sym bk.ledger) unused_mid;
-          slots = out_slots w s task name subject previous (Some g) mid begun word out bk;
-        }
+        can_post = grind (arith, alive, unused_mid, out_slots)
 
         pub sender_lives : (p : ℕ) → subject ≡ Senders p → is_some (port_at out p) ≡ true
         sender_lives p is =
@@ -110,13 +97,7 @@ module _ (w : WorldView) (task name : ℕ) (asked : Asked) (g : Paying) (subject
         }
 
   few : (s : State) → Shows w s → rights_then ready (Some g) ≤ most_rights
-  few s sh =
-      let a : rights_then ready (Some g) ≡ rights_then w (Some g) = ap (λ (l : LedgerView). l.total + made_by (Some g)) (ready_ledger w s sh task name subject previous may.stood ready below rdy.same) in
-      let b = at_most (rights_then w (Some g)) (λ many. may.space (inl many)) in
-      omega (arith, a, b)
-    where
-      at_most : (n : ℕ) → ¬ (most_rights < n) → n ≤ most_rights
-      at_most n not = omega (arith, not)
+  few s sh = grind (arith, ready_ledger)
 
   pub can_renew : Stands w → CanRenew ready task name g subject previous
   can_renew stands =

@@ -95,15 +95,10 @@ module _ (now : ℕ) (start : WorldView) (task : ℕ) (s : State) (sh : Shows st
   receives_other q not = unlike (λ y. if is_of receive q y then 1 else 0) (none_of_port receive receive p q (in_task task) not)
 
   receives_fewer : count (is_of receive p) kept + 1 ≡ count (is_of receive p) x.kept
-  receives_fewer =
-      let m = kept_alike now s task x sh.lawful sp.is_part receive receive_not_once p (λ y. if is_of receive p y then 1 else 0) (one_of receive p (in_task task) refl) in
-      let h = held_before.0 in omega (arith, m, h)
+  receives_fewer = grind (arith, kept_alike, receive_not_once, one_of, held_before)
 
   no_receive : count (is_of receive p) kept ≡ 0
-  no_receive =
-      let m = sp.is_part.moves (λ y. if is_of receive p y then 1 else 0) in
-      let one = sh.lawful.one_receive p live in
-      let f = receives_fewer in omega (arith, m, one, f)
+  no_receive = grind (arith, live, receives_fewer)
 
   -- ---- the tables
 
@@ -135,10 +130,7 @@ module _ (now : ℕ) (start : WorldView) (task : ℕ) (s : State) (sh : Shows st
       (same_put w.ports p vp (port_held vp by.Nobody) there) ports_show own_left
 
   tables_are : v ≡ tables
-  tables_are = r.loses.rest ∙ (λ i. record (r.puts.rest i) {
-    ports = record (with_port (r.puts.rest i).ports p (port_held vp by.Nobody)) { lost = (r.puts.rest i).ports.lost ++ p ∷ [] };
-    ledger = taken (r.puts.rest i).ledger p right.Receive (sym held_before.0 i);
-  })
+  tables_are = grind (arith, held_before)
 
   abbrev part : Part
   part = part_then now s task x sh.lawful sp.is_part receive receive_not_once p name None

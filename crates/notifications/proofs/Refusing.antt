@@ -53,12 +53,7 @@ module _ (w : WorldView) (task name : ℕ) (asked : Asked) (below : HasTask w ta
 
   module _ (good : ¬ (IsMisasked asked)) where
     pub incapable : (code : ℕ) → asked.notify ≢ null_word → IsRefused w (λ s. capability_guards s task asked.notify asked.disposition) code → Declines w (event_of task name asked) code w
-    incapable code some r = refused w (event_of task name asked) below code record { refused = λ s sh. inr (good, go s (r.refused s sh)) }
-      where
-        go : (s : State) → FirstIs (capability_guards s task asked.notify asked.disposition) code →
-            FirstIs (((asked.notify ≢ null_word) × (¬ (IsLegalName s task asked.notify asked.disposition) ⊎ IsDeadName s task asked.notify), kern_number InvalidCapability) ∷ []) code
-        go s (inl h) = inl ((some, h.0), h.1)
-        go s (inr h) = absurd h.1
+    incapable code some r = grind (arith, refused)
 
     late : (s : State) → Shows w s → (paying : Option Paying) → Pays w task asked paying → Late w s task asked paying
     late s sh None pays =

@@ -10,7 +10,6 @@ use Rattle.mach_model.specs.Requests.{HasNoSenders}
 use Rattle.mach_model.specs.State.{State, Target, lookup}
 use Rattle.mach_model.proofs.Moving.{IsMoving}
 use Rattle.mach_model.proofs.Names.{some_tally}
-use Rattle.mach_model.proofs.Settling.{lives}
 use Rattle.mach_model.proofs.Weigh.{held_le_of}
 use Rattle.name_space.specs.declared.Entry.{Entry}
 use Rattle.name_space.specs.declared.Entry.TheVariants as entry
@@ -42,11 +41,7 @@ use Rattle.notifications.proofs.Standing.{kept_stand}
 -- ---- a right's name is for a port that is there
 
 once_lives : (s : State) (o k : ℕ) → IsMoving s o k → (task name p : ℕ) → lookup s task name ≡ Some (Target.once p) → s.live_port p ≡ true
-once_lives s o k l task name p is =
-    let some = some_tally (is_once p) (s.naming task) name (Target.once p) is (eq-eqb p p refl) in
-    let a = held_le_of task send_once p s.ledger in
-    let b = (l.naming task).once_names p in
-    lives l.ports send_once p (omega (arith, some, a, b))
+once_lives s o k l task name p is = grind (arith, some_tally (is_once p) (s.naming task) name (Target.once p) is (eq-eqb p p refl), held_le_of task send_once p s.ledger, (l.naming task).once_names p)
 
 right_lives : (s : State) (o k : ℕ) → IsMoving s o k → (task name : ℕ) (e : Entry) (p : ℕ) → lookup s task name ≡ Some (target_of e) → port_of e ≡ Some p → s.live_port p ≡ true
 right_lives s o k l task name (entry.Receive q) p at held = ready_for.named_lives s o k l task name p (at ∙ ap (option_map Target.port) held)
@@ -105,9 +100,7 @@ module _ (w : WorldView) (task name : ℕ) (asked : Asked) (g : Paying) (subject
   live_out p live = it.agrees.live_port p ∙ live
 
   made : g.port < out.ports.made
-  made =
-      let less = it.keeps.made_port g.port (port_lives w task name asked g subject previous below may ready rdy s sh mid c word out ends) in
-      let same = it.agrees.ports_made in omega (arith, less, same)
+  made = grind (arith, it.keeps.made_port g.port (port_lives w task name asked g subject previous below may ready rdy s sh mid c word out ends), it.agrees.ports_made)
 
   small : name < 2 ^ 32
   small = few w task name asked g subject previous below may ready rdy s sh mid c word out ends

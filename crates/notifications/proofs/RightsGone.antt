@@ -44,13 +44,7 @@ pub stood_left : {A : Type 0} (s : State) (task name : ℕ) (stands : Request �
 stood_left s task name stands (Some e) was r = was r
 stood_left s task name stands None was (no_senders p) = was (no_senders p)
 stood_left s task name stands None was (port_destroyed p) = was (port_destroyed p)
-stood_left s task name stands None was (dead_name t n) = go (t == task) refl (n == name) (was (dead_name t n))
-  where
-    go : (b : Bool) → (t == task) ≡ b → (c : Bool) → (stands (dead_name t n) ≡ s.stands (dead_name t n)) ⊎ (stands (dead_name t n) ≡ false) × ((t == task) ≡ true) →
-        ((if b && c then false else stands (dead_name t n)) ≡ s.stands (dead_name t n)) ⊎ ((if b && c then false else stands (dead_name t n)) ≡ false) × ((t == task) ≡ true)
-    go true is true w = inr (refl, is)
-    go true is false w = w
-    go false is c w = w
+stood_left s task name stands None was (dead_name t n) = grind arith
 
 -- what is left under the name stood there
 pub fewer_left : (names own : Names) (name : ℕ) (o : Option Target) → ((target : Target) → o ≡ Some target → map.get own name ≡ Some target) →
@@ -83,22 +77,14 @@ module _ (now : ℕ) (s : State) (task : ℕ) (x : Part) (l : IsLawful s) (is : 
   ledger_then = rights_with now s.log (unused x.gone) kept_then
 
   pub parts_then : (h : Token → ℕ) → weigh h ledger_then + weigh h (replicate number tok) ≡ weigh h (shown now s task x).ledger
-  parts_then h =
-      let a = takes.parts h in
-      let b = rights_weigh h now s.log (unused x.gone) kept_then in
-      let c = rights_weigh h now s.log (unused x.gone) x.kept in omega (arith, a, b, c)
+  parts_then h = grind (arith, takes, rights_weigh)
 
   pub ledger_unlike : (h : Token → ℕ) → h tok ≡ 0 → weigh h ledger_then ≡ weigh h (shown now s task x).ledger
   ledger_unlike h z = let a = parts_then h in let b = weigh_unlike h number tok z in omega (arith, a, b)
 
   -- the same notices are owed
   not_owed : unused (x.gone ++ replicate number tok) ≡ unused x.gone
-  not_owed = unused_append x.gone (replicate number tok) ∙ ap (λ (o : Owed). unused x.gone ++ o) (unused_none tok (by_kind k not_once) number) ∙ append-nil (unused x.gone)
-    where
-      by_kind : (c : Kind) → (c ≡ send_once → ⊥) → same_kind send_once c ≡ false
-      by_kind receive not = refl
-      by_kind send not = refl
-      by_kind send_once not = absurd (not refl)
+  not_owed = grind (arith, unused_append, unused_none, append-nil)
 
   in_own : is_in_task task (in_task task) ≡ true
   in_own = eq-eqb task task refl
@@ -114,8 +100,7 @@ module _ (now : ℕ) (s : State) (task : ℕ) (x : Part) (l : IsLawful s) (is : 
     t = record (shown now s task x) { naming = at s.naming task names_then; stands = stands_after x.stands task name left; ledger = ledger_then }
 
     pub then_is : with_posted now (with_part s task part_then) (unused part_then.gone) ≡ t
-    then_is = posted_is now (with_part s task part_then) (unused part_then.gone)
-        ∙ ap (λ (o : Owed). record (with_part s task part_then) { log = logs_with now s.log o; ledger = rights_with now s.log o kept_then }) not_owed
+    then_is = grind (arith, posted_is, with_part, logs_with, rights_with, not_owed)
 
     pub is_part_then : LawfulNames names_then (λ kind q. count (is_held task kind q) kept_then) → ((target : Target) → option_map target_of left ≡ Some target → map.get (s.naming task) name ≡ Some target) →
         IsPart s task part_then
@@ -140,10 +125,7 @@ module _ (now : ℕ) (s : State) (task : ℕ) (x : Part) (l : IsLawful s) (is : 
       lives = part_lives now s task x l is name p target_is
 
       total : (taken w.ledger p (right_of k) number).total ≡ length ledger_then
-      total =
-          let m = parts_then (λ y. 1) in
-          let o = weigh_alike (λ y. 1) number tok refl in
-          let b = length-weigh ledger_then in let c = length-weigh (shown now s task x).ledger in let d = a.total in omega (arith, m, o, b, c, d)
+      total = grind (arith, parts_then, weigh_alike, length-weigh, shown)
 
       -- What is left under the name is right, and so are the ports.
       module _ (ports : PortsView Kept) (made : ports.made ≡ w.ports.made) (same_live : (q : ℕ) → is_some (map.get ports.ports q) ≡ is_some (map.get w.ports.ports q))

@@ -87,7 +87,7 @@ module _ (now : ℕ) (start : WorldView) (task : ℕ) (s : State) (sh : Shows st
       (sym (held_shown now s task x task receive p) ∙ r.0, sym (held_shown now s task x task send p) ∙ r.1 ∙ counted)
 
   pub target_before : map.get x.names name ≡ Some (Target.port p)
-  target_before = sym (looked_up now s task x sh.lawful sp.is_part name) ∙ agrees_shown.naming task name ∙ ap (option_map target_of) found ∙ ap Some (target_named entry p named)
+  target_before = grind (arith, looked_up, agrees_shown, target_named)
 
   abbrev kept : List Token
   kept = kept_then now s task x sh.lawful sp.is_part send send_not_once p
@@ -143,11 +143,7 @@ module _ (now : ℕ) (start : WorldView) (task : ℕ) (s : State) (sh : Shows st
         (λ q lives. lives) refl refl
 
     had : n ≤ (counts_of w.ledger p).send
-    had =
-        let h = held_before.1 in
-        let u = held_shown now s task x task send p in
-        let c = (agrees_shown.counts p).senders in
-        let le = held_le_of task send p (shown now s task x).ledger in omega (arith, h, u, c, le)
+    had = grind (arith, held_before.1, held_shown now s task x task send p, (agrees_shown.counts p).senders, held_le_of task send p (shown now s task x).ledger)
 
     pub sends_lost : ShowsPart now start task s v
     sends_lost = record {
@@ -201,7 +197,7 @@ module _ (now : ℕ) (start : WorldView) (task : ℕ) (s : State) (sh : Shows st
   kept_now = kept_then now s task sp.part sh.lawful sp.is_part send send_not_once p
 
   far : (kind : Kind) (q : ℕ) → (q ≡ p → ⊥) → rights kept_now kind q ≡ rights sp.part.kept kind q
-  far kind q not = kept_unlike now s task sp.part sh.lawful sp.is_part send send_not_once p (λ y. if is_held task kind q y then 1 else 0) (other_port task task kind send q p not)
+  far kind q not = grind (arith, kept_unlike, send_not_once, other_port)
 
   same_once : rights kept_now send_once p ≡ rights sp.part.kept send_once p
   same_once = kept_unlike now s task sp.part sh.lawful sp.is_part send send_not_once p (λ y. if is_held task send_once p y then 1 else 0) refl

@@ -1,10 +1,9 @@
 -- A set's name went, and the set: the tables show what is left of the task.
-use Rattle.std.proofs.Common.{◌≡◌, ℕ, ◌<◌, ◌≤◌, ◌^◌, List, [], ◌∷◌, Option, Some, None, refl, sym, ap, subst, ◌∙◌, arith, Bool, true, false, inl, inr}
+use Rattle.std.proofs.Common.{◌≡◌, ℕ, ◌<◌, ◌≤◌, ◌^◌, List, [], ◌∷◌, Option, Some, None, refl, sym, ap, subst, ◌∙◌, arith, Bool, true}
 use Rattle.std.specs.Prelude.{if◌then◌else◌, Contains, filter, not, ◌==◌, ◌||◌}
 use Rattle.std.specs.Option.{option_map}
 use Rattle.std.specs.FinMap as map
 use Rattle.std.proofs.Math.Path.{fun_ext}
-use Rattle.std.proofs.lemmas.Bool.Decides.{eqb_tells}
 use Rattle.mach_types.specs.Tokens.{send_once, count, is_held}
 use Rattle.mach_model.specs.State.{State, Target, Names, lookup, at}
 use Rattle.mach_model.specs.References.{unused}
@@ -50,14 +49,7 @@ same_set x y e = cc
 -- what is picked by one test and then by another is picked by both
 filter_twice : (f g : ℕ → Bool) (xs : List ℕ) → filter (λ k. not (f k)) (filter (λ k. not (g k)) xs) ≡ filter (λ k. not (f k || g k)) xs
 filter_twice f g [] = refl
-filter_twice f g (x ∷ xs) = go (f x) (g x) refl refl (filter_twice f g xs)
-  where
-    go : (b c : Bool) → f x ≡ b → g x ≡ c → filter (λ k. not (f k)) (filter (λ k. not (g k)) xs) ≡ filter (λ k. not (f k || g k)) xs →
-        filter (λ k. not (f k)) (if not c then x ∷ filter (λ k. not (g k)) xs else filter (λ k. not (g k)) xs) ≡ (if not (b || c) then x ∷ filter (λ k. not (f k || g k)) xs else filter (λ k. not (f k || g k)) xs)
-    go true true e d ih = ih
-    go false true e d ih = ih
-    go true false e d ih = rw e ih
-    go false false e d ih = rw e (ap (λ (ys : List ℕ). x ∷ ys) ih)
+filter_twice f g (x ∷ xs) = grind (arith, filter_twice f g xs)
 
 module _ (now : ℕ) (start : WorldView) (task : ℕ) (s : State) (sh : Shows start s) (w : WorldView) (sp : ShowsPart now start task s w)
     (name set : ℕ) (found : entry_at w task name ≡ Some (entry_of.Set set)) (v : WorldView) (r : SetGoes w task name set v) where
@@ -97,25 +89,13 @@ module _ (now : ℕ) (start : WorldView) (task : ℕ) (s : State) (sh : Shows st
 
   -- another set stands under another name
   still : (q : ℕ) (y : SetRecord) → (q ≡ set → ⊥) → map.get w.sets.sets q ≡ Some y → map.get (at u.naming task own y.owner) y.name ≡ Some (Target.set q)
-  still q y differs is = let was = a.set_named q y is in elim (eqb_tells y.owner task) [
-    | inl h ↦
-        let mine : lookup u task y.name ≡ Some (Target.set q) = subst (λ (k : ℕ). lookup u k y.name ≡ Some (Target.set q)) h.1 was in
-        ap (λ (k : ℕ). map.get (at u.naming task own k) y.name) h.1 ∙ ap (λ (m : Names). map.get m y.name) (at_own u.naming task own)
-        ∙ get_removed (u.naming task) name y.name (λ same. differs (same_set q set (same_found (lookup u task name) (Target.set q) (Target.set set) (ap (lookup u task) (sym same) ∙ mine) named))) ∙ mine
-    | inr h ↦ ap (λ (m : Names). map.get m y.name) (at_other u.naming task own y.owner h.1) ∙ was
-  ]
+  still q y differs is = grind (arith, a, at_own, get_removed, same_set, same_found, named, at_other)
 
   owner_other : (q : ℕ) → (q ≡ set → ⊥) → owner q ≡ u.set_owner q
-  owner_other q differs = elim (eqb_tells q set) [
-    | inl h ↦ absurd (differs h.1)
-    | inr h ↦ rw h.0 refl
-  ]
+  owner_other q differs = grind arith
 
   owner_own : owner set ≡ None
-  owner_own = elim (eqb_tells set set) [
-    | inl h ↦ rw h.0 refl
-    | inr h ↦ absurd (h.1 refl)
-  ]
+  owner_own = grind arith
 
   in_sets : SetsAgree (removed w.sets set) owner s.sets_made (at u.naming task own)
   in_sets = record {
@@ -145,10 +125,7 @@ module _ (now : ℕ) (start : WorldView) (task : ℕ) (s : State) (sh : Shows st
   -- ---- the members leave
 
   naming_is : at u.naming task own ≡ at s.naming task part.names
-  naming_is = fun_ext (λ q. elim (eqb_tells q task) [
-    | inl h ↦ rw h.0 (ap (λ (m : Names). map.remove m name) (at_own s.naming task x.names))
-    | inr h ↦ rw h.0 refl
-  ])
+  naming_is = grind (arith, fun_ext, at_own)
 
   sets_are : ◌≡◌ {A = ℕ → List ℕ} (λ (p : ℕ). filter (λ k. not (k == set)) (filter (λ k. not (x.disbanded k)) (s.sets_of p))) (λ (p : ℕ). filter (λ k. not (k == set || x.disbanded k)) (s.sets_of p))
   sets_are = fun_ext (λ p. filter_twice (λ k. k == set) x.disbanded (s.sets_of p))
@@ -171,16 +148,10 @@ module _ (now : ℕ) (start : WorldView) (task : ℕ) (s : State) (sh : Shows st
   lost_is = r.disbanded.lost ∙ ap (λ (y : WorldView). y.ports.lost) r.puts.rest
 
   slots : SlotsSuffice v
-  slots =
-      let b = sp.slots in
-      let l : v.ledger.unused ≡ w.ledger.unused = ap (λ (y : LedgerView). y.unused) ledger_is in
-      let p : v.ports.spare ≡ w.ports.spare = r.disbanded.spare ∙ ap (λ (y : WorldView). y.ports.spare) r.puts.rest in omega (arith, b, l, p)
+  slots = grind (arith, ledger_is)
 
   owned : (k : ℕ) → part.disbanded k ≡ true → s.set_owner k ≡ Some task
-  owned k e = elim (eqb_tells k set) [
-    | inl h ↦ ap s.set_owner h.1 ∙ sh.lawful.set_owned task name set (sp.is_part.fewer name (Target.set set) target)
-    | inr h ↦ sp.is_part.owned k (subst (λ (b : Bool). (b || x.disbanded k) ≡ true) h.0 e)
-  ]
+  owned k e = grind (arith, target)
 
   pub set_lost : ShowsPart now start task s v
   set_lost = record {

@@ -1,17 +1,15 @@
 -- A notice is posted at once: tables that agree with a state agree with the state in which it stands in the log.
-use Rattle.std.proofs.Common.{◌≡◌, ℕ, zero, suc, ◌+◌, ◌-◌, ◌<◌, ◌≤◌, Bool, true, false, List, [], ◌∷◌, ◌++◌, refl, sym, ap, subst, ◌∙◌, arith, length, drop}
-use Rattle.std.specs.Prelude.{is_some, if◌then◌else◌, ◌&&◌, Contains}
+use Rattle.std.proofs.Common.{◌≡◌, ℕ, ◌+◌, ◌-◌, ◌<◌, ◌≤◌, true, List, [], ◌∷◌, ◌++◌, refl, sym, ap, subst, ◌∙◌, arith, length, drop}
+use Rattle.std.specs.Prelude.{is_some, if◌then◌else◌, Contains}
 use Rattle.std.specs.FinMap as map
 use Rattle.std.specs.Ordering.{nat_cmp}
 use Rattle.mach_types.specs.declared.rights.Disposition.TheVariants.{MoveReceive}
 use Rattle.copyin_base.specs.declared.message.Carried.{Carried}
 use Rattle.copyin_base.specs.declared.message.Mark.TheVariants as mark
 use Rattle.std.proofs.lemmas.List.{drop-append-le}
-use Rattle.mach_types.specs.Tokens.{Kind, receive, send, send_once, Request, in_message, in_request, Token, token, Moves, is_of, is_held}
+use Rattle.mach_types.specs.Tokens.{receive, send, send_once, in_message, Token, token, Moves, is_of, is_held}
 use Rattle.mach_types.specs.Messages.{Entry}
 use Rattle.mach_model.specs.State.{State, at, queue}
-use Rattle.mach_model.specs.Death.{same_place}
-use Rattle.mach_model.specs.Carried.{lying_among}
 use Rattle.mach_model.specs.Lawful.{tally}
 use Rattle.mach_model.specs.Notices.{notice_message}
 use Rattle.mach_model.specs.Unused.{came_by_once, onces_queued}
@@ -79,24 +77,10 @@ module _ (w : WorldView) (s : State) (a : Agrees w s) (p : ℕ) (notice : Notice
     elsewhere q not = ap (tally came_by_once) (sym (queue_other q not))
 
     here : onces_queued told p ≡ onces_queued s p + 1
-    here =
-        let all : onces_queued told p ≡ tally came_by_once (queue s p ++ entry ∷ []) = ap (tally came_by_once) queue_is in
-        let parts = tally-append came_by_once (queue s p) (entry ∷ []) in
-        omega (arith, all, parts)
+    here = grind (arith, queue_is, tally-append)
 
     of_requests : RequestsAgree (notify_of w.requests) w.requests.names.went w.ports.made s.stands s.live_port tokens
-    of_requests = requests_stay (notify_of w.requests) w.requests.names.went w.ports.made w.ports.made s.stands s.stands s.live_port s.live_port s.ledger tokens
-        a.of_requests (omega arith) (λ r. refl) (λ n h. refl) (λ r kind n. let m = moves (λ x. if is_of kind n x && same_place (in_request r) x.place then 1 else 0) in same r kind n m)
-      where
-        apart : (b : Bool) → (if b && false then suc zero else zero) ≡ zero
-        apart true = refl
-        apart false = refl
-
-        same : (r : Request) (kind : Kind) (n : ℕ) →
-            lying_among tokens kind n (in_request r) + ((if is_of kind n (token send_once p (in_message q k)) && false then suc zero else zero) + 0) ≡
-            lying_among s.ledger kind n (in_request r) + ((if is_of kind n (token send_once p (in_message p j)) && false then suc zero else zero) + 0) →
-            lying_among tokens kind n (in_request r) ≡ lying_among s.ledger kind n (in_request r)
-        same r kind n m = let x = apart (is_of kind n (token send_once p (in_message q k))) in let y = apart (is_of kind n (token send_once p (in_message p j))) in omega (arith, m, x, y)
+    of_requests = grind (arith, requests_stay)
 
     is_live : s.live_port p ≡ true
     is_live = sym (a.live_port p) ∙ ap is_some posts.there

@@ -111,11 +111,7 @@ module _ (now : ℕ) (start : WorldView) (task : ℕ) (s : State) (sh : Shows st
   there_tok = token send_once p (in_message p (length (log p)))
 
   weighs : (h : Token → ℕ) → weigh h ledger + h tok ≡ h there_tok + weigh h u.ledger
-  weighs h =
-      let m = taken.parts h in
-      let b = rights_weigh h now s.log (unused x.gone) kept in
-      let c = rights_weigh h now s.log (unused x.gone) x.kept in
-      omega (arith, m, b, c)
+  weighs h = grind (arith, taken, rights_weigh)
 
   abbrev space : SpaceView
   space = r.puts.space
@@ -190,10 +186,7 @@ module _ (now : ℕ) (start : WorldView) (task : ℕ) (s : State) (sh : Shows st
       (subst (λ (m : map.FinMap nat_cmp (PortView Kept)). KeepHolders r.named.ports.ports m) (sym ports_are) (put_holders r.named.ports.ports p r.posts.v longer r.posts.there refl))
 
   carriers : CarriersAgree v
-  carriers = carriers_queued r.named v
-      (carriers_same w r.named sp.carriers (ap (λ (y : WorldView). y.ports.made) r.puts.rest) (ap (λ (y : WorldView). y.ports.ports) r.puts.rest))
-      p r.posts.v longer (notice_kept notice.SendOnce) r.posts.there (ap (λ (y : WorldView). y.ports.made) r.posts.rest) ports_are refl refl
-      (λ q carries. absurd (none_listed [] refl _ carries))
+  carriers = grind (arith, carriers_queued, carriers_same, ports_are, none_listed)
 
   requested : RequestsStand v
   requested = requested_put r.named v (requested_removed w r.named sp.requested task name r.puts) p longer ports_are

@@ -121,10 +121,7 @@ module _ {M : Type 0} (at : ℕ → Option (Record M)) where
             (so.stands key r here).only l (subst (λ n. Contains (list_of w l) n) same k.1)
 
 pub insert-same : {X : Type 0} (m : map.FinMap nat_cmp X) (k : ℕ) (x : X) → map.get m k ≡ Some x → map.insert m k x ≡ m
-insert-same m k x is = same_gets _ _ (λ q. elim (equal_or_not q k) [
-  | inl e ↦ ap (map.get (map.insert m k x)) e ∙ put_here m k x ∙ sym is ∙ ap (map.get m) (sym e)
-  | inr d ↦ put_other m k x q d
-])
+insert-same m k x is = grind (arith, same_gets, equal_or_not, put_here, put_other)
 
 pub ids-set : {M : Type 0} (s : Slab (Record M)) (key : ℕ) (r a : Record M) → get s key ≡ Some r → a.id ≡ r.id → (k : ℕ) → id_in (get (with_value s key a) k) ≡ id_in (get s k)
 ids-set s key r a here same k = elim (equal_or_not k key) [
@@ -152,7 +149,7 @@ module _ {M : Type 0} (s : Slab (Record M)) (keys : Keyed) (next : Option ℕ) (
 
     -- a port that changes and keeps its holder, noted or not as before
     pub stay-same : AreSame (ids_in (get (with_value s key a)) waiting lost_list) (ids_in (get (with_value s key a)) waiting doomed_list) (ids_in (get (with_value s key a)) noting noted_list) v.lost v.doomed v.noted
-    stay-same = record { lost_is = ids-stay waiting lost_list ∙ lost_now; doomed_is = ids-stay waiting doomed_list ∙ doomed_now; noted_is = ids-stay noting noted_list ∙ noted_now }
+    stay-same = grind (arith, ids-stay, lost_now, doomed_now, noted_now)
 
     module _ (awaited : IsAwaited (get s) waiting) (id : ℕ) (found : map.get keys id ≡ Some key) where
       its_id : id_in (get s key) ≡ id
@@ -247,14 +244,10 @@ module _ {M : Type 0} (s : Slab (Record M)) (keys : Keyed) (next : Option ℕ) (
       none_in (x ∷ xs) port e c = cc
 
       pub last_told : (front : List ℕ) (key : ℕ) (r : Record M) → list_of waiting list ≡ front ++ key ∷ [] → get s key ≡ Some r → told ≡ ids_at (get s) front ++ r.id ∷ []
-      last_told front key r is here = sym told_is ∙ ap (ids_at (get s)) is ∙ ids-pushed (get s) front key ∙ ap (λ (o : Option (Record M)). ids_at (get s) front ++ id_in o ∷ []) here
+      last_told front key r is here = grind (arith, ids-pushed)
 
       pub empty_told : list_of waiting list ≡ [] → NoneHeldBy v holder
-      empty_told is port p there holds =
-          let c = (held_told port).1 (record { view = p; there = there; holder_is = holds }) in
-          let none : told ≡ [] = sym told_is ∙ ap (ids_at (get s)) is in
-          let d : Contains [] port = subst (λ l. Contains l port) none c in
-          let less : d.0 < 0 = d.1 in omega arith
+      empty_told is port p there holds = grind (arith, (held_told port).1 (record { view = p; there = there; holder_is = holds }))
 
       pub none_told : slice_get told 0 ≡ None → NoneHeldBy v holder
       none_told none port p there is = none_in told port none ((held_told port).1 (record { view = p; there = there; holder_is = is }))
@@ -265,9 +258,7 @@ pub view-then : {M : Type 0} (s t : Slab (Record M)) (keys keys2 : Keyed) (next 
     t ≡ record s { capacity = t.capacity } → keys2 ≡ keys →
     ◌≡◌ {A = PortsView M} record { ports = ports_of (get t) keys2; ready = turns_at (get t) ready2.lists; made = made_of next; spare = length spare; destroyed = destroyed; lost = ids_in (get t) waiting2 lost_list; doomed = ids_in (get t) waiting2 doomed_list; noted = ids_in (get t) noting2 noted_list }
     record { ports = ports_of (get s) keys; ready = turns_at (get s) ready.lists; made = made_of next; spare = length spare; destroyed = destroyed; lost = ids_in (get s) waiting lost_list; doomed = ids_in (get s) waiting doomed_list; noted = ids_in (get s) noting noted_list }
-view-then {M} s t keys keys2 next spare destroyed ready ready2 a ea waiting waiting2 b eb noting noting2 c ec e ek =
-    let mk : Slab (Record M) → Keyed → ListsView → ListsView → ListsView → PortsView M = λ u k x y z. record { ports = ports_of (get u) k; ready = turns_at (get u) x.lists; made = made_of next; spare = length spare; destroyed = destroyed; lost = ids_in (get u) y lost_list; doomed = ids_in (get u) y doomed_list; noted = ids_in (get u) z noted_list } in
-    ap (λ u. mk u keys2 ready2 waiting2 noting2) e ∙ ap (λ k. mk s k ready2 waiting2 noting2) ek ∙ ap (λ x. mk s keys x waiting2 noting2) ea ∙ ap (λ y. mk s keys ready y noting2) eb ∙ ap (mk s keys ready waiting) ec
+view-then {M} s t keys keys2 next spare destroyed ready ready2 a ea waiting waiting2 b eb noting noting2 c ec e ek = grind arith
 
 -- ---- a port that is noted, or no longer: nothing else of it changes
 
@@ -307,10 +298,7 @@ module _ {M : Type 0} (s : Slab (Record M)) (keys : Keyed) (next : Option ℕ) (
       ∙ ap (λ (b : PortsView M). record b { noted = noted }) view_is
 
 some_told : (n : ℕ) → IsTrue (not (eqb n 0)) ↔ (0 < n)
-some_told n = elim (eqb_tells n 0) [
-  | inl h ↦ (λ yes. absurd (no_true (sym (ap not h.0) ∙ yes)), λ some. absurd (let none = h.1 in omega arith))
-  | inr h ↦ (λ yes. (let some = h.1 in omega arith), λ some. ap not h.0)
-]
+some_told n = grind (arith, no_true, not)
 
 -- a queue has messages just where it is not empty
 pub some_queued : {A : Type 0} (xs ys : List A) → xs ≡ ys → (none : Bool) → none ≡ eqb (length xs) 0 → IsTrue (not none) ↔ (0 < length ys)

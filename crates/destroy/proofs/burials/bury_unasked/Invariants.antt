@@ -1,4 +1,3 @@
-use Rattle.std.specs.Prelude.{ℕ}
 use Rattle.std.specs.FinMap as map
 use Rattle.destroy.specs.Burying.{AsksNone}
 use Rattle.destroy.specs.Stages.{AreTold, Continues, KeepsRooms}
