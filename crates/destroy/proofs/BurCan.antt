@@ -1,17 +1,17 @@
 -- While a port is buried, the right that a request keeps is counted as one that may pay: so its port can get a notice.
 use Rattle.std.proofs.Common.{◌≡◌, ℕ, ◌+◌, ◌<◌, ◌≤◌, List, [], ◌++◌, Some, refl, sym, ap, subst, ◌∙◌, arith, true, false, Bool, ◌⊎◌, inl, inr, length, length-append}
 use Rattle.std.specs.Prelude.{if◌then◌else◌, slice_get, ◌&&◌, not, Contains}
-use Rattle.std.proofs.lemmas.Bool.{eq-eqb}
 use Rattle.std.proofs.lemmas.Option.{slice_get_within}
-use Rattle.mach_types.specs.Tokens.{send_once, Request, in_message, in_request, Token, is_of, same_kind}
-use Rattle.mach_types.specs.Messages.{Entry, Message, to_port}
+use Rattle.mach_types.specs.Tokens.{send_once, Request, in_message, in_request, Token, is_of}
+use Rattle.mach_types.specs.Messages.{Entry}
 use Rattle.mach_model.specs.State.{State, queue}
 use Rattle.mach_model.specs.Death.{same_place}
-use Rattle.mach_model.specs.Carried.{lying_among, mark_count, message_count}
+use Rattle.mach_model.specs.Carried.{lying_among}
 use Rattle.mach_model.specs.Notices.{Owed}
 use Rattle.mach_model.specs.Turns.{Ending, listed, lives_after, went_in}
 use Rattle.mach_model.specs.Unused.{onces_queued}
 use Rattle.mach_model.proofs.At.{slice_get_drop}
+use Rattle.mach_model.proofs.SettledOnce.{AreApart, by_its_kind, placed_apart}
 use Rattle.mach_model.proofs.SettledParts.{at_place}
 use Rattle.mach_model.proofs.TurnsSound.{reached_sound}
 use Rattle.mach_model.proofs.Weigh.{left_of, right_of}
@@ -23,7 +23,7 @@ use Rattle.destroy.specs.Burying.{partway, IsPartway, CanBury}
 use Rattle.destroy.proofs.BurPaying.{one_right}
 use Rattle.destroy.proofs.BurState.{left_tasks}
 use Rattle.destroy.proofs.LoseChain.{alone_lives, none_taken, front_or_behind}
-use Rattle.destroy.proofs.LosePaid.{AreApart, placed_apart, posted_lies, went_none}
+use Rattle.destroy.proofs.LosePaid.{posted_lies, went_none}
 
 module _ (now : ℕ) (old mid : State) (owed : Owed) (e : Ending) (port : ℕ) (rs : List Request) (s : State) (w : WorldView) (can : CanBury old mid owed e port)
     (so : IsPartway now mid e rs s) (agrees : AgreesOf (lives_after mid e) w s) (went : w.requests.names.went ≡ []) (r : Request) (p : ℕ) (was : notify_of w.requests r ≡ Some p)
@@ -77,11 +77,6 @@ module _ (now : ℕ) (old mid : State) (owed : Owed) (e : Ending) (port : ℕ) (
       let d = so.ledger (λ x. if mine k x then 1 else 0) in
       omega (arith, c, d)
 
-  by_its_kind : (message : Message) → message.destination ≡ p → same_kind send_once message.kind ≡ true → 0 < message_count send_once p message
-  by_its_kind message to once =
-      let one : mark_count send_once p message.kind (to_port message.destination) ≡ 1 = rw (once, eq-eqb message.destination p to) refl in
-      omega (arith, one)
-
   are_apart : AreApart p (s.taken p) (queue s p) s.ledger
   are_apart i x is once = go (front_or_behind (mid.log p) (entries_at now p (due_so_far (partway e rs))) (s.taken p + i) x (ap (λ (es : List Entry). slice_get es (s.taken p + i)) (sym (so.log p)) ∙ at_log))
     where
@@ -96,7 +91,7 @@ module _ (now : ℕ) (old mid : State) (owed : Owed) (e : Ending) (port : ℕ) (
       go (inl h) =
           let c = can.lawful.carried p i x live (slice_get_drop (mid.taken p) (mid.log p) i ∙ ap (λ (n : ℕ). slice_get (mid.log p) n) (sym same_index) ∙ h) send_once p live in
           let to = (can.lawful.sent_here p (s.taken p + i) x h).0 in
-          let some = by_its_kind x.message to once in
+          let some = by_its_kind p x.message to once in
           let d = kept (mid.taken p + i) in
           subst (λ (n : ℕ). 0 < lying_among s.ledger send_once p (in_message p n)) (sym same_index) (omega (arith, c, some, d))
       go (inr (j, at, h)) = brought (s.taken p + i) (omega (arith, at)) (slice_get_within (s.log p) (s.taken p + i) x at_log)
@@ -110,7 +105,7 @@ module _ (now : ℕ) (old mid : State) (owed : Owed) (e : Ending) (port : ℕ) (
   pub may_pay : 0 < (counts_of w.ledger p).send_once
   may_pay =
       let c = agrees.counts p in
-      let a = placed_apart p (in_request r) (λ k. refl) (s.taken p) (queue s p) s.ledger are_apart in
+      let a = placed_apart p (in_request r) (s.taken p) (queue s p) s.ledger (λ i. refl) are_apart in
       let some = right_there in
       let d : (counts_of w.ledger p).destination ≡ onces_queued s p = c.destinations there ∙ (rw alive refl) in
       let g = c.once_rights in

@@ -1,73 +1,30 @@
 -- A right that no queued message goes by is counted as one that may pay: so its port can get a notice.
 use Rattle.std.proofs.Common.{◌≡◌, ℕ, zero, suc, ◌+◌, ◌<◌, ◌≤◌, List, [], ◌∷◌, ◌++◌, Some, refl, sym, ap, subst, ◌∙◌, arith, true, false, Bool, ◌⊎◌, inl, inr, length, length-append}
 use Rattle.std.specs.Prelude.{if◌then◌else◌, slice_get, ◌==◌, ◌&&◌, filter, All}
-use Rattle.std.proofs.lemmas.Bool.{eq-eqb, ne_eqb}
+use Rattle.std.proofs.lemmas.Bool.{eq-eqb}
 use Rattle.std.proofs.lemmas.Bool.Decides.{eqb_tells}
 use Rattle.std.proofs.lemmas.Option.{slice_get_within}
-use Rattle.mach_types.specs.Tokens.{Kind, send_once, Request, Place, in_message, in_request, Token, token, count, is_of, same_kind}
-use Rattle.mach_types.specs.Messages.{Entry, Message, to_port}
+use Rattle.mach_types.specs.Tokens.{Kind, send_once, Request, Place, in_message, in_request, Token, token, is_of}
+use Rattle.mach_types.specs.Messages.{Entry}
 use Rattle.mach_model.specs.State.{State, at, queue}
 use Rattle.mach_model.specs.Death.{same_place}
-use Rattle.mach_model.specs.Carried.{lying_among, mark_count, message_count}
-use Rattle.mach_model.specs.Lawful.{tally}
+use Rattle.mach_model.specs.Carried.{lying_among}
 use Rattle.mach_model.specs.Midway.{MidLawful}
 use Rattle.mach_model.specs.Notices.{Notice, Owed, Posted, posted_tokens, all_posted_tokens}
 use Rattle.mach_model.specs.Settles.{tokens_of}
-use Rattle.mach_model.specs.Unused.{came_by_once, onces_queued}
+use Rattle.mach_model.specs.Unused.{onces_queued}
 use Rattle.mach_model.specs.Turns.{Ending, lives_after, IsReached, PaidForName, went_in}
 use Rattle.mach_model.proofs.At.{at_own, at_other, slice_get_drop}
+use Rattle.mach_model.proofs.SettledOnce.{AreApart, by_its_kind, placed_apart}
 use Rattle.mach_model.proofs.SettledParts.{none_paid, at_place}
 use Rattle.mach_model.proofs.TurnsSound.{reached_sound}
-use Rattle.mach_model.proofs.Weigh.{both_test, weigh-append, count_le, left_of}
+use Rattle.mach_model.proofs.Weigh.{weigh-append, left_of}
 use Rattle.rights.specs.Ledger.{counts_of}
 use Rattle.copyin_base.specs.Shows.{SlotsSuffice}
 use Rattle.copyin_base.specs.Worlds.{WorldView}
-use Rattle.copyin_base.proofs.Taking.{take_lying}
 use Rattle.notifications.specs.Posting.{CanPost}
 use Rattle.notifications.specs.SoFar.{due_so_far, entries_at, posted_from, IsSoFar, AgreesOf}
 use Rattle.destroy.proofs.LoseChain.{alone_lives, none_taken, front_or_behind}
-
--- ---- each queued message that goes by a send-once right has it at its own entry
-
-abbrev pub AreApart : (p k : ℕ) → List Entry → List Token → Type 0
-AreApart p k es tokens = (i : ℕ) (e : Entry) → slice_get es i ≡ Some e → came_by_once e ≡ true → 0 < lying_among tokens send_once p (in_message p (k + i))
-
-later : (p k : ℕ) (e : Entry) (es : List Entry) (tokens : List Token) → AreApart p k (e ∷ es) tokens → AreApart p (suc k) es tokens
-later p k e es tokens apart i x is once =
-    subst (λ (n : ℕ). 0 < lying_among tokens send_once p (in_message p n)) (omega arith) (apart (suc i) x is once)
-
--- a right at one entry isn't at a later one
-elsewhere : (p k i : ℕ) → (if is_of send_once p (token send_once p (in_message p k)) && same_place (in_message p (suc k + i)) (in_message p k) then suc zero else zero) ≡ zero
-elsewhere p k i = both_test (is_of send_once p (token send_once p (in_message p k))) (same_place (in_message p (suc k + i)) (in_message p k)) (inr (not_it (p == p)))
-  where
-    not_it : (b : Bool) → (b && (suc k + i == k)) ≡ false
-    not_it true = ne_eqb (suc k + i) k (λ e. omega (arith, e))
-    not_it false = refl
-
--- rights at a place that is none of these entries come besides
-module _ (p : ℕ) (place : Place) (off : (k : ℕ) → same_place place (in_message p k) ≡ false) where
-  pub placed_apart : (k : ℕ) (es : List Entry) (tokens : List Token) → AreApart p k es tokens → lying_among tokens send_once p place + tally came_by_once es ≤ count (is_of send_once p) tokens
-  placed_apart k [] tokens apart = let h = count_le (λ x. is_of send_once p x && same_place place x.place) (is_of send_once p) (λ x e. left_of (is_of send_once p x) (same_place place x.place) e) tokens in omega (arith, h)
-  placed_apart k (e ∷ es) tokens apart = go (came_by_once e) refl (λ others so. placed_apart (suc k) es others so)
-    where
-      go : (b : Bool) → came_by_once e ≡ b →
-          ((others : List Token) → AreApart p (suc k) es others → lying_among others send_once p place + tally came_by_once es ≤ count (is_of send_once p) others) →
-          lying_among tokens send_once p place + ((if came_by_once e then 1 else 0) + tally came_by_once es) ≤ count (is_of send_once p) tokens
-      go false is more = let z : (if came_by_once e then suc zero else zero) ≡ zero = rw is in let h = more tokens (later p k e es tokens apart) in omega (arith, z, h)
-      go true is more =
-          let here = subst (λ (n : ℕ). 0 < lying_among tokens send_once p (in_message p n)) (omega arith) (apart 0 e refl is) in
-          let t = take_lying p k send_once p tokens here in
-          let rest : AreApart p (suc k) es t.others = λ i x at once.
-          let was = later p k e es tokens apart i x at once in
-          let m = t.parts (λ y. if is_of send_once p y && same_place (in_message p (suc k + i)) y.place then 1 else 0) in
-          let none = elsewhere p k i in omega (arith, was, m, none) in
-          let h = more t.others rest in
-          let all = t.parts (λ y. if is_of send_once p y then 1 else 0) in
-          let own = t.parts (λ y. if is_of send_once p y && same_place place y.place then 1 else 0) in
-          let none = both_test (is_of send_once p (token send_once p (in_message p k))) (same_place place (in_message p k)) (inr (off k)) in
-          let one : (if is_of send_once p (token send_once p (in_message p k)) then suc zero else zero) ≡ suc zero = rw (eq-eqb p p refl) refl in
-          let this : (if came_by_once e then suc zero else zero) ≡ suc zero = rw is in
-          omega (arith, h, all, own, none, one, this)
 
 -- ---- a notice that was posted to a port that is there has its right there
 
@@ -160,11 +117,6 @@ module _ (now : ℕ) (old mid : State) (owed : Owed) (e : Ending) (lawful : MidL
   taken_same : s.taken p ≡ mid.taken p
   taken_same = let a = so.taken p in let b = none_taken old mid owed e reached p alive in omega (arith, a, b)
 
-  by_its_kind : (message : Message) → message.destination ≡ p → same_kind send_once message.kind ≡ true → 0 < message_count send_once p message
-  by_its_kind message to once =
-      let one : mark_count send_once p message.kind (to_port message.destination) ≡ 1 = rw (once, eq-eqb message.destination p to) refl in
-      omega (arith, one)
-
   are_apart : AreApart p (s.taken p) (queue s p) s.ledger
   are_apart i x is once = go (front_or_behind (mid.log p) (entries_at now p (due_so_far e)) (s.taken p + i) x (ap (λ (es : List Entry). slice_get es (s.taken p + i)) (sym (so.log p)) ∙ at_log))
     where
@@ -179,7 +131,7 @@ module _ (now : ℕ) (old mid : State) (owed : Owed) (e : Ending) (lawful : MidL
       go (inl h) =
           let c = lawful.carried p i x live (slice_get_drop (mid.taken p) (mid.log p) i ∙ ap (λ (n : ℕ). slice_get (mid.log p) n) (sym place_is) ∙ h) send_once p live in
           let to = (lawful.sent_here p (s.taken p + i) x h).0 in
-          let some = by_its_kind x.message to once in
+          let some = by_its_kind p x.message to once in
           let d = kept (mid.taken p + i) in
           subst (λ (n : ℕ). 0 < lying_among s.ledger send_once p (in_message p n)) (sym place_is) (omega (arith, c, some, d))
       go (inr (j, at, h)) = brought (s.taken p + i) (omega (arith, at)) (slice_get_within (s.log p) (s.taken p + i) x at_log)
@@ -187,7 +139,7 @@ module _ (now : ℕ) (old mid : State) (owed : Owed) (e : Ending) (lawful : MidL
   pub may_pay : (place : Place) → ((k : ℕ) → same_place place (in_message p k) ≡ false) → 0 < lying_among e.left send_once p place → 0 < (counts_of w.ledger p).send_once
   may_pay place off some =
       let c = agrees.counts p in
-      let a = placed_apart p place off (s.taken p) (queue s p) s.ledger are_apart in
+      let a = placed_apart p place (s.taken p) (queue s p) s.ledger (λ i. off (s.taken p + i)) are_apart in
       let b = so.ledger (λ x. if is_of send_once p x && same_place place x.place then 1 else 0) in
       let d : (counts_of w.ledger p).destination ≡ onces_queued s p = c.destinations there ∙ (rw alive refl) in
       let g = c.once_rights in

@@ -1,68 +1,26 @@
 -- How many slots are needed: as many as there are send-once rights, and queued messages that came by send rights. A step's end needs no more.
-use Rattle.std.proofs.Common.{◌≡◌, ℕ, zero, suc, ◌+◌, ◌≤◌, ◌<◌, List, [], ◌∷◌, ◌++◌, Some, refl, sym, ap, subst, ◌∙◌, arith, true, false, Bool, inl, inr, length, length-append}
-use Rattle.std.specs.Prelude.{if◌then◌else◌, ◌==◌, ◌&&◌, not, All, filter, drop, slice_get}
+use Rattle.std.proofs.Common.{◌≡◌, ℕ, zero, suc, ◌+◌, ◌≤◌, ◌<◌, List, [], ◌∷◌, ◌++◌, Some, refl, sym, ap, ◌∙◌, arith, true, false, Bool, inl, inr, length, length-append}
+use Rattle.std.specs.Prelude.{if◌then◌else◌, not, All, filter, drop, slice_get}
 use Rattle.std.proofs.lemmas.Bool.Decides.{leb_tells}
 use Rattle.std.proofs.lemmas.Bool.{eq-eqb, ne_eqb}
 use Rattle.std.proofs.lemmas.List.{length-map, drop-append-le}
 use Rattle.std.proofs.lemmas.List.Elements.{All-head, All-tail}
-use Rattle.mach_types.specs.Tokens.{Kind, send_once, in_message, Token, token, count, is_of, same_kind}
-use Rattle.mach_types.specs.Messages.{Entry, Message, to_port}
+use Rattle.mach_types.specs.Tokens.{Kind, send_once, in_message, Token, count, is_of, same_kind}
+use Rattle.mach_types.specs.Messages.{Entry, Message}
 use Rattle.mach_model.specs.State.{State, queue}
-use Rattle.mach_model.specs.Death.{same_place}
-use Rattle.mach_model.specs.Carried.{lying_among, mark_count, message_count}
 use Rattle.mach_model.specs.Notices.{Notice, port_deleted, port_sent, no_more_senders, right_unused, name_died, Owed, Posted, posted_tokens, all_posted_tokens, carried_by}
 use Rattle.mach_model.specs.Settles.{PaysFor, tokens_of, Settles}
 use Rattle.mach_model.specs.Lawful.{tally, LawfulPorts, LawfulLogs, LawfulMessages}
 use Rattle.mach_model.specs.Midway.{MidLawful}
 use Rattle.mach_model.specs.Unused.{came_by_once, unused_at}
-use Rattle.mach_model.proofs.At.{slice_get_drop}
-use Rattle.mach_model.proofs.Weigh.{weigh-append, both_test}
-use Rattle.mach_model.proofs.TurnsMade.{without, without_weigh}
+use Rattle.mach_model.proofs.Weigh.{weigh-append}
+use Rattle.mach_model.proofs.SettledOnce.{are_apart, apart_count}
 use Rattle.mach_model.proofs.SettledParts.{parts, made_of, live_mid}
 use Rattle.mach_model.proofs.SettledLogs.{added_is}
 use Rattle.mach_model.proofs.SettledLawful.{settled_lawful}
 use Rattle.mach_laws.specs.Queued.{sum_below, waiting, queued, unused}
 use Rattle.mach_laws.specs.Counts.{once_rights, by_send_at, queued_by_send}
 use Rattle.mach_laws.proofs.Counted.{sum_same, sum_one, sum_both}
-
--- ---- each queued message that goes by a send-once right has it at its own entry
-
--- the rights that lie at these entries, one by one
-abbrev AreApart : (p k : ℕ) → List Entry → List Token → Type 0
-AreApart p k es tokens = (i : ℕ) (e : Entry) → slice_get es i ≡ Some e → came_by_once e ≡ true → 0 < lying_among tokens send_once p (in_message p (k + i))
-
-later : (p k : ℕ) (e : Entry) (es : List Entry) (tokens : List Token) → AreApart p k (e ∷ es) tokens → AreApart p (suc k) es tokens
-later p k e es tokens apart i x is once =
-    subst (λ (n : ℕ). 0 < lying_among tokens send_once p (in_message p n)) (omega arith) (apart (suc i) x is once)
-
--- a right at one entry isn't at a later one
-elsewhere : (p k i : ℕ) → (if is_of send_once p (token send_once p (in_message p k)) && same_place (in_message p (suc k + i)) (in_message p k) then suc zero else zero) ≡ zero
-elsewhere p k i = both_test (is_of send_once p (token send_once p (in_message p k))) (same_place (in_message p (suc k + i)) (in_message p k)) (inr (not_it (p == p)))
-  where
-    not_it : (b : Bool) → (b && (suc k + i == k)) ≡ false
-    not_it true = ne_eqb (suc k + i) k (λ e. omega (arith, e))
-    not_it false = refl
-
-once_apart : (p k : ℕ) (es : List Entry) (tokens : List Token) → AreApart p k es tokens → tally came_by_once es ≤ count (is_of send_once p) tokens
-once_apart p k [] tokens apart = omega arith
-once_apart p k (e ∷ es) tokens apart = go (came_by_once e) refl (λ others so. once_apart p (suc k) es others so)
-  where
-    go : (b : Bool) → came_by_once e ≡ b → ((others : List Token) → AreApart p (suc k) es others → tally came_by_once es ≤ count (is_of send_once p) others) →
-        (if came_by_once e then 1 else 0) + tally came_by_once es ≤ count (is_of send_once p) tokens
-    go false is more = let z : (if came_by_once e then suc zero else zero) ≡ zero = rw is in let h = more tokens (later p k e es tokens apart) in omega (arith, z, h)
-    go true is more =
-        let here : 0 < lying_among tokens send_once p (in_message p k) = subst (λ (n : ℕ). 0 < lying_among tokens send_once p (in_message p n)) (omega arith) (apart 0 e refl is) in
-        let right : Token = token send_once p (in_message p k) in
-        let others : List Token = without right tokens in
-        let rest : AreApart p (suc k) es others = λ i x at once.
-        let was = later p k e es tokens apart i x at once in
-        let m = without_weigh right tokens here (λ y. if is_of send_once p y && same_place (in_message p (suc k + i)) y.place then 1 else 0) in
-        let none = elsewhere p k i in omega (arith, was, m, none) in
-        let h = more others rest in
-        let all = without_weigh right tokens here (λ y. if is_of send_once p y then 1 else 0) in
-        let one : (if is_of send_once p right then suc zero else zero) ≡ suc zero = rw (eq-eqb p p refl) refl in
-        let this : (if came_by_once e then suc zero else zero) ≡ suc zero = rw is in
-        omega (arith, h, all, one, this)
 
 -- ---- sums over ports
 
@@ -108,21 +66,9 @@ once_summed n (x ∷ xs) none = go (same_kind send_once x.kind) refl (once_summe
 
 module _ (s : State) (ports : LawfulPorts s.live_port s.ports_made s.ledger) (logs : LawfulLogs s.ports_made s.log s.taken)
     (messages : LawfulMessages s.live_port s.log s.taken s.ledger) where
-  by_its_kind : (p : ℕ) (message : Message) → message.destination ≡ p → same_kind send_once message.kind ≡ true → 0 < message_count send_once p message
-  by_its_kind p message to once =
-      let one : mark_count send_once p message.kind (to_port message.destination) ≡ 1 = rw (once, eq-eqb message.destination p to) refl in
-      omega (arith, one)
-
-  are_apart : (p : ℕ) → s.live_port p ≡ true → AreApart p (s.taken p) (queue s p) s.ledger
-  are_apart p lives i e is once =
-      let c = messages.carried p i e lives is send_once p lives in
-      let to = (logs.sent_here p (s.taken p + i) e (sym (slice_get_drop (s.taken p) (s.log p) i) ∙ is)).0 in
-      let some = by_its_kind p e.message to once in
-      omega (arith, c, some)
-
   at_port : (p : ℕ) (b : Bool) → s.live_port p ≡ b → waiting s p + unused_at s p ≡ count (is_of send_once p) s.ledger + by_send_at s p
   at_port p true lives =
-      let few = once_apart p (s.taken p) (queue s p) s.ledger (are_apart p lives) in
+      let few = apart_count p (λ x. false) (λ x e. absurd (cc)) (s.taken p) (queue s p) s.ledger (λ i. refl) (are_apart s.live_port s.ports_made s.log s.taken s.ledger logs messages p lives) in
       let all = tally_both came_by_once (queue s p) in
       let a : waiting s p ≡ length (queue s p) = rw lives refl in
       let b : by_send_at s p ≡ tally (λ e. not (came_by_once e)) (queue s p) = rw lives refl in

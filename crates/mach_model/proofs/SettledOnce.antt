@@ -1,15 +1,23 @@
--- A step's end loses no send-once right of a port that lives, and makes none: each stays, or goes to its port in a notice.
-use Rattle.std.proofs.Common.{◌≡◌, ℕ, ◌+◌, List, [], ◌∷◌, refl, ap, ◌∙◌, arith, true, false, Bool, inl, inr}
-use Rattle.std.specs.Prelude.{if◌then◌else◌, All, ◌==◌, ◌&&◌, filter, map as list_map}
+-- A step's end loses no send-once right of a port that lives, and makes none: each stays, or goes to its port in a notice. Each queued message
+-- that goes by one has it at its own entry.
+use Rattle.std.proofs.Common.{◌≡◌, ℕ, suc, ◌+◌, ◌<◌, ◌≤◌, List, [], ◌∷◌, Some, refl, sym, ap, subst, ◌∙◌, arith, true, false, Bool, inl, inr, drop}
+use Rattle.std.specs.Prelude.{if◌then◌else◌, All, ◌==◌, ◌&&◌, filter, slice_get, map as list_map}
 use Rattle.std.proofs.lemmas.List.Elements.{All-head, All-tail}
-use Rattle.std.proofs.lemmas.Bool.{eqb-true}
-use Rattle.mach_types.specs.Tokens.{Kind, send_once, in_message, Token, count, is_of, same_kind}
+use Rattle.std.proofs.lemmas.Bool.{eq-eqb, eqb-true}
+use Rattle.mach_types.specs.Tokens.{Kind, send_once, Place, in_message, Token, token, count, is_of, same_kind}
+use Rattle.mach_types.specs.Messages.{Entry, Message}
 use Rattle.mach_model.specs.State.{State}
-use Rattle.mach_model.specs.Notices.{Notice, port_deleted, port_sent, no_more_senders, right_unused, name_died, Owed, Posted, posted_tokens, all_posted_tokens, carried_by}
+use Rattle.mach_model.specs.Death.{same_place}
+use Rattle.mach_model.specs.Carried.{lying_among, message_count}
+use Rattle.mach_model.specs.Lawful.{tally, LawfulLogs, LawfulMessages}
+use Rattle.mach_model.specs.Unused.{came_by_once}
+use Rattle.mach_model.specs.Notices.{Notice, Owed, Posted, all_posted_tokens}
 use Rattle.mach_model.specs.Settles.{PaysFor, GoesFrom, due_notices, tokens_of, Settles}
 use Rattle.mach_model.specs.SameEnd.{sum}
 use Rattle.mach_model.specs.Midway.{IsOwed, MidLawful}
-use Rattle.mach_model.proofs.Weigh.{weigh-append}
+use Rattle.mach_model.proofs.At.{elsewhere, slice_get_drop}
+use Rattle.mach_model.proofs.TurnsMade.{without, without_weigh}
+use Rattle.mach_model.proofs.Weigh.{weigh-append, count_le, left_of}
 use Rattle.mach_model.proofs.SettledParts.{of_kind, parts, made_of, goes_if}
 use Rattle.mach_model.proofs.SettledDetermined.{sum-append, map-append}
 
@@ -59,9 +67,50 @@ module _ (now : ℕ) (old mid : State) (owed : Owed) (new : State) (l : MidLawfu
       lost x (inr h) is = h.0 is.0
 
   pub once_kept : count (is_of send_once p) new.ledger ≡ count (is_of send_once p) mid.ledger + count (is_of send_once p) (tokens_of owed)
-  once_kept = grind (arith,
-      parts now old mid owed new s (is_of send_once p), made_of now old mid owed new s (is_of send_once p), none_goes,
-      posted_once p s.notices.posted ∙ ap (for_port p) s.notices.due
-      ∙ ap (for_port p) (map-append (λ (x : Token × Notice). (x.0.port, x.1)) s.rights.paying (filter (λ x. new.live_port x.0.port) owed))
-      ∙ sum-append (λ (y : ℕ × Notice). if y.0 == p then 1 else 0) (due_notices s.rights.paying) (due_notices (filter (λ x. new.live_port x.0.port) owed)),
-      paid_once p mid new s.rights.paying s.rights.pay, owed_once p mid.live_port new.live_port owed live l.are_owed)
+  once_kept = grind (arith, parts now old mid owed new s (is_of send_once p), made_of now old mid owed new s (is_of send_once p), none_goes, posted_once p s.notices.posted ∙ ap (for_port p) s.notices.due ∙ ap (for_port p) (map-append (λ (x : Token × Notice). (x.0.port, x.1)) s.rights.paying (filter (λ x. new.live_port x.0.port) owed)) ∙ sum-append (λ (y : ℕ × Notice). if y.0 == p then 1 else 0) (due_notices s.rights.paying) (due_notices (filter (λ x. new.live_port x.0.port) owed)), paid_once p mid new s.rights.paying s.rights.pay, owed_once p mid.live_port new.live_port owed live l.are_owed)
+
+-- ---- each queued message that goes by a send-once right has it at its own entry
+
+-- the rights that lie at these entries, one by one
+abbrev pub AreApart : (p k : ℕ) → List Entry → List Token → Type 0
+AreApart p k es tokens = (i : ℕ) (e : Entry) → slice_get es i ≡ Some e → came_by_once e ≡ true → 0 < lying_among tokens send_once p (in_message p (k + i))
+
+pub by_its_kind : (p : ℕ) (message : Message) → message.destination ≡ p → same_kind send_once message.kind ≡ true → 0 < message_count send_once p message
+by_its_kind p message to once = grind (arith, eq-eqb)
+
+pub are_apart : (live : ℕ → Bool) (made : ℕ) (log : ℕ → List Entry) (taken : ℕ → ℕ) (ledger : List Token) → LawfulLogs made log taken → LawfulMessages live log taken ledger → (p : ℕ) → live p ≡ true →
+    AreApart p (taken p) (drop (taken p) (log p)) ledger
+are_apart live made log taken ledger logs messages p lives i e is once =
+    let c = messages.carried p i e lives is send_once p lives in
+    let to = (logs.sent_here p (taken p + i) e (sym (slice_get_drop (taken p) (log p) i) ∙ is)).0 in
+    let some = by_its_kind p e.message to once in
+    omega (arith, c, some)
+
+-- rights that pass a test come besides, where none at these entries passes it
+pub apart_count : (p : ℕ) (test : Token → Bool) → ((x : Token) → test x ≡ true → is_of send_once p x ≡ true) → (k : ℕ) (es : List Entry) (tokens : List Token) →
+    ((i : ℕ) → test (token send_once p (in_message p (k + i))) ≡ false) → AreApart p k es tokens → count test tokens + tally came_by_once es ≤ count (is_of send_once p) tokens
+apart_count p test of k [] tokens not apart = let h = count_le test (is_of send_once p) of tokens in omega (arith, h)
+apart_count p test of k (e ∷ es) tokens not apart = go (came_by_once e) refl (λ others so. apart_count p test of (suc k) es others not_next so)
+  where
+    not_next : (i : ℕ) → test (token send_once p (in_message p (suc k + i))) ≡ false
+    not_next i = subst (λ (n : ℕ). test (token send_once p (in_message p n)) ≡ false) (omega arith) (not (suc i))
+
+    later : AreApart p (suc k) es tokens
+    later i x is once = subst (λ (n : ℕ). 0 < lying_among tokens send_once p (in_message p n)) (omega arith) (apart (suc i) x is once)
+
+    go : (b : Bool) → came_by_once e ≡ b → ((others : List Token) → AreApart p (suc k) es others → count test others + tally came_by_once es ≤ count (is_of send_once p) others) →
+        count test tokens + ((if came_by_once e then 1 else 0) + tally came_by_once es) ≤ count (is_of send_once p) tokens
+    go false is more = grind (arith, more tokens later)
+    go true is more =
+        let x : Token = token send_once p (in_message p k) in
+        let here : 0 < lying_among tokens send_once p (in_message p k) = subst (λ (n : ℕ). 0 < lying_among tokens send_once p (in_message p n)) (omega arith) (apart 0 e refl is) in
+        let not_here : test x ≡ false = subst (λ (n : ℕ). test (token send_once p (in_message p n)) ≡ false) (omega arith) (not 0) in
+        let rest : AreApart p (suc k) es (without x tokens) = λ i y at once.
+        let m = without_weigh x tokens here (λ y. if is_of send_once p y && same_place (in_message p (suc k + i)) y.place then 1 else 0) in
+        grind (arith, later i y at once, m, elsewhere p p (suc k + i) k) in
+        grind (arith, more (without x tokens) rest, without_weigh x tokens here (λ y. if is_of send_once p y then 1 else 0), without_weigh x tokens here (λ y. if test y then 1 else 0), not_here, is, eq-eqb)
+
+-- ... such as those at another place
+pub placed_apart : (p : ℕ) (place : Place) (k : ℕ) (es : List Entry) (tokens : List Token) → ((i : ℕ) → same_place place (in_message p (k + i)) ≡ false) → AreApart p k es tokens →
+    lying_among tokens send_once p place + tally came_by_once es ≤ count (is_of send_once p) tokens
+placed_apart p place k es tokens off apart = apart_count p (λ x. is_of send_once p x && same_place place x.place) (λ x. left_of (is_of send_once p x) (same_place place x.place)) k es tokens (λ i. grind (arith, off i)) apart
