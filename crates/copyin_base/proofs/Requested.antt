@@ -1,6 +1,6 @@
 -- Requests stand on names and ports that are there, after names, ports and requests have changed.
-use Rattle.std.proofs.Common.{◌≡◌, ℕ, ◌+◌, ◌-◌, ◌<◌, ◌^◌, List, [], ◌∷◌, ◌++◌, Option, Some, None, refl, sym, ap, subst, ◌∙◌, arith, ◌⊎◌, inl, inr, true, false, length}
-use Rattle.std.specs.Prelude.{◌≢◌, is_some, slice_set}
+use Rattle.std.proofs.Common.{◌≡◌, ℕ, ◌-◌, List, Option, Some, None, refl, sym, ap, subst, ◌∙◌, inl, inr, true, false}
+use Rattle.std.specs.Prelude.{is_some, slice_set}
 use Rattle.std.specs.FinMap as map
 use Rattle.std.specs.Ordering.{nat_cmp}
 use Rattle.std.proofs.lemmas.Bool.Decides.{eqb_tells}
@@ -14,15 +14,14 @@ use Rattle.port.specs.declared.Holder.{Holder}
 use Rattle.port.specs.Ports.{PortView, PortsView, IsLive}
 use Rattle.number_map.specs.Maps.{MapView}
 use Rattle.request_table.specs.declared.Request.{Request}
-use Rattle.request_table.specs.Requests.{RequestsView, name_key, key_of}
+use Rattle.request_table.specs.Requests.{name_key, key_of}
 use Rattle.copyin_base.specs.Kept.{Kept}
 use Rattle.copyin_base.specs.Changes.{PutsLeft, InsertsEntry, SetsAttributes, SetsHolder, SameButRoom}
-use Rattle.copyin_base.specs.Requests.{RequestTablesView, none_requested, left_by, requests_after}
-use Rattle.copyin_base.specs.Worlds.{WorldView, no_world, space_in, space_at, with_space, entry_in, entry_at, port_at, put}
+use Rattle.copyin_base.specs.Requests.{RequestTablesView, left_by}
+use Rattle.copyin_base.specs.Worlds.{WorldView, no_world, space_in, space_at, entry_in, entry_at, put}
 use Rattle.copyin_base.specs.Shows.{IsOnName, RequestsStand}
-use Rattle.copyin_base.proofs.Gets.{same_found}
 use Rattle.copyin_base.proofs.Putting.{each_put, get_removed, put_own, put_other}
-use Rattle.copyin_base.proofs.Spaces.{each-space-set, space-push_same, space-push_other}
+use Rattle.copyin_base.proofs.Spaces.{each-space-set}
 
 -- at the start
 pub requested_none : RequestsStand no_world
@@ -81,18 +80,19 @@ module _ (w w2 : WorldView) (a : RequestsStand w) where
       record { own = o.own; small = o.small; entry = k.0; found = k.1; for_port = k.2; live = live r.port o.live }
 
   -- The requests that stand did, the ports that were there are, and a right stands under each name that had one with a request that stands.
-  pub requested_stay : ((p : ℕ) → IsLive w.ports p → IsLive w2.ports p) → w2.requests.no_senders ≡ w.requests.no_senders → w2.requests.port_destroyed ≡ w.requests.port_destroyed →
+  pub requested_stay : ((p : ℕ) → IsLive w.ports p → IsLive w2.ports p) →
+      ((p : ℕ) → map.contains_key w2.requests.no_senders.map p ≡ true → map.contains_key w.requests.no_senders.map p ≡ true) → w2.requests.port_destroyed ≡ w.requests.port_destroyed →
       ((key : ℕ) (r : Request) → map.get w2.requests.names.requests key ≡ Some r → map.get w.requests.names.requests key ≡ Some r) →
       ((key : ℕ) (r : Request) → map.get w2.requests.names.requests key ≡ Some r → key_of r ≡ key → KeepsRight (entry_at w r.task r.name) (entry_at w2 r.task r.name)) → RequestsStand w2
   requested_stay live senders destroyed fewer rights = record {
     on_names = λ key r is. let o = a.on_names key r (fewer key r is) in on_name key r o (rights key r is o.own) live;
-    no_senders = λ p is. live p (a.no_senders p (subst (λ (x : MapView ℕ). map.contains_key x.map p ≡ true) senders is));
+    no_senders = λ p is. live p (a.no_senders p (senders p is));
     port_destroyed = λ p is. live p (a.port_destroyed p (subst (λ (x : MapView ℕ). map.contains_key x.map p ≡ true) destroyed is));
   }
 
   -- The requests are as they were, and a right stands under each name that had one.
   pub requested_kept : ((p : ℕ) → IsLive w.ports p → IsLive w2.ports p) → w2.requests ≡ w.requests → ((u n : ℕ) → KeepsRight (entry_at w u n) (entry_at w2 u n)) → RequestsStand w2
-  requested_kept live requests rights = requested_stay live (ap (λ (x : RequestTablesView). x.no_senders) requests) (ap (λ (x : RequestTablesView). x.port_destroyed) requests)
+  requested_kept live requests rights = requested_stay live (λ p is. subst (λ (x : RequestTablesView). map.contains_key x.no_senders.map p ≡ true) requests is) (ap (λ (x : RequestTablesView). x.port_destroyed) requests)
       (λ key r is. ap (λ (x : RequestTablesView). map.get x.names.requests key) (sym requests) ∙ is) (λ key r is own. rights r.task r.name)
 
   -- ... as where only ports or rights changed
@@ -130,7 +130,7 @@ module _ (w w2 : WorldView) (a : RequestsStand w) where
 
     -- The name went, and the request on it.
     pub requested_removed : PutsLeft w task name None w2 → RequestsStand w2
-    requested_removed puts = requested_stay (same_live (ap (λ (x : WorldView). x.ports) puts.rest)) (ap (λ (x : WorldView). x.requests.no_senders) puts.rest) (ap (λ (x : WorldView). x.requests.port_destroyed) puts.rest)
+    requested_removed puts = requested_stay (same_live (ap (λ (x : WorldView). x.ports) puts.rest)) (λ p is. subst (λ (x : WorldView). map.contains_key x.requests.no_senders.map p ≡ true) puts.rest is) (ap (λ (x : WorldView). x.requests.port_destroyed) puts.rest)
         (λ key r is. (was key r is).0)
         (λ key r is own. keeps_same (entry_at w r.task r.name) (entry_at w2 r.task r.name) (left_other w w2 task name None puts r.task r.name (λ e f. (was key r is).1 (sym own ∙ (λ i. name_key (e i) (f i))))))
       where

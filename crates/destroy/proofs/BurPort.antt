@@ -34,6 +34,7 @@ use Rattle.destroy.proofs.BurPaying.{among_more}
 use Rattle.destroy.proofs.BurState.{same_request_is}
 use Rattle.destroy.proofs.BurStep.{can_post, step, step_spare}
 use Rattle.destroy.proofs.Rooms.{same_rooms, pays_spaces}
+use Rattle.destroy.proofs.LoseFrames.{kept_has}
 
 or_false : (b : Bool) → (b || false) ≡ b
 or_false true = refl
@@ -46,10 +47,6 @@ names_same now mid e rs s so r off task name = grind (arith, among_more, or_fals
 
 pub no_bare : (q : ℕ) → ¬ (CarriesReceive (notice_kept SendOnce) q)
 no_bare q (i, below, is) = absurd (omega (arith, below))
-
--- tables of which one key was taken
-kept_has : (m : map.FinMap nat_cmp ℕ) (k p : ℕ) → map.contains_key (map.remove m k) p ≡ true → map.contains_key m p ≡ true
-kept_has m k p h = grind (arith, removed_own, get_removed)
 
 -- as many ports are there after a notice was posted
 pub pays_ports : (w : WorldView) (n : ℕ) (notice : Notice) (v : WorldView) → Pays w n notice v → (LivesIn w n ⊎ ¬ (LivesIn w n)) → map.len v.ports.ports ≡ map.len w.ports.ports

@@ -77,7 +77,7 @@ module _ (s s2 : State) (destroyed : List (ℕ × ℕ)) (same : SameReceives s.l
   holder_stays p holder.Doomed h = nobody_stays p h
 
   pub holders_stay : (w v : WorldView) → SameShape w v → HoldersTell w s destroyed → HoldersTell v s2 destroyed
-  holders_stay w v shape h p u there = grind (arith, shape.back p u there)
+  holders_stay w v shape h p u there = let b = shape.back p u there in subst (IsHolder s2 destroyed p) b.is (holder_stays p b.v.attributes.holder (h p b.v b.there))
 
 -- ---- a notice is posted
 

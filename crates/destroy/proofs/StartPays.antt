@@ -9,7 +9,6 @@ use Rattle.mach_model.specs.Notices.{Notice, Owed, port_deleted}
 use Rattle.mach_model.specs.Turns.{PaidForName}
 use Rattle.mach_model.proofs.TurnsSettle.{tokens_joined}
 use Rattle.mach_model.proofs.TurnsSound.{one_all}
-use Rattle.port.specs.declared.Attributes.{Attributes}
 use Rattle.port.specs.declared.Holder.TheVariants as holder
 use Rattle.port.specs.Holding.{IsHeldBy}
 use Rattle.port.specs.Ports.{PortView, PortsView}
@@ -97,7 +96,7 @@ module _ (w v v1 : WorldView) (on : PaysOn w v) (r : NameRequest) (takes : Takes
             rights = λ h. let a = s.rights h in let b = more.parts h in let d = tokens_joined h paid (this ∷ []) in omega (arith, a, b, d);
             shows = subst (ShowsMid now tables (with_told v r y) (record mid { ledger = more.left })) (append_assoc owed paid (this ∷ [])) more.shows;
             spare = grind (arith, some, s.spare, length-append paid (this ∷ []));
-            undoomed = λ q z at. let b = shape.back q z at in λ doomed. s.undoomed q b.was b.there (ap (λ (a : Attributes). a.holder) (sym b.attributes) ∙ doomed);
+            undoomed = λ q z at. let b = shape.back q z at in λ doomed. s.undoomed q b.v b.there (b.is ∙ doomed);
             tells = λ q. ((λ c. shape_held (without_first v) (with_told v r y) shape q holder.Nobody ((s.tells q).0 c)), (λ h. (s.tells q).1 (shape_was_held (without_first v) (with_told v r y) shape q holder.Nobody h)));
           },
         )

@@ -28,7 +28,7 @@ use Rattle.copyin_base.specs.Shows.{Agrees, RequestsStand}
 use Rattle.copyin_base.specs.Worlds.{WorldView, port_at}
 use Rattle.copyin_base.proofs.Carriers.{carriers_queued}
 use Rattle.copyin_base.proofs.Holders.{holders_ports, put_holders}
-use Rattle.copyin_base.proofs.Requested.{requested_put}
+use Rattle.copyin_base.proofs.Requested.{requested_stay, keeps_same, requested_put}
 use Rattle.copyin_base.proofs.SendersNoted.{counts_own, counts_other, keeps_senders, senders_kept, sends_shifted}
 use Rattle.notifications.specs.SoFar.{posted_from}
 use Rattle.notifications.proofs.Changed.{requests_changed}
@@ -112,11 +112,7 @@ module _ (now : ℕ) (tables v : WorldView) (m : State) (owed : Owed) (s : Shows
   shown = with_posted now m owed
 
   unasked : RequestsStand (without_first v)
-  unasked = record {
-    on_names = λ key q is. let o = s.requested.on_names key q is in record { own = o.own; small = o.small; entry = o.entry; found = o.found; for_port = o.for_port; live = o.live };
-    no_senders = s.requested.no_senders;
-    port_destroyed = s.requested.port_destroyed;
-  }
+  unasked = requested_stay v (without_first v) s.requested (λ p lives. lives) (λ p is. is) refl (λ key q is. is) (λ key q is own. keeps_same _ _ refl)
 
   -- its port is gone
   pub passes_over : port_at v p ≡ None → ShowsMid now tables (without_first v) m owed

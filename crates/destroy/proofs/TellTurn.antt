@@ -26,19 +26,18 @@ use Rattle.copyin_base.specs.Shows.{CarriesReceive}
 use Rattle.copyin_base.proofs.Listed.{none_listed}
 use Rattle.copyin_base.specs.Worlds.{WorldView, port_at}
 use Rattle.copyin_base.specs.Requests.{rights_kept}
-use Rattle.copyin_base.proofs.Putting.{get_removed}
 use Rattle.notifications.specs.SoFar.{buried_alone, AgreesOf}
 use Rattle.notifications.proofs.Agreeing.{PaysFrom, filter_weigh}
 use Rattle.destroy.specs.Between.{IsUnlost}
 use Rattle.destroy.specs.Paying.{LivesIn}
 use Rattle.destroy.specs.Telling.{without_no_senders, CanTell}
 use Rattle.destroy.proofs.LoseChain.{left_within}
-use Rattle.destroy.proofs.LoseFrames.{same_ports, framed_stays, SameShape}
+use Rattle.destroy.proofs.LoseFrames.{same_ports, framed_stays, kept_has, SameShape}
 use Rattle.destroy.proofs.LosePaid.{can_pay}
 use Rattle.destroy.specs.Losing.{Loose}
 use Rattle.destroy.proofs.LosePosting.{Goes, rekept, loose_posted, with_notice}
 use Rattle.destroy.proofs.LoseStage.{lives_is, lives_there, undoomed, not_emptied}
-use Rattle.destroy.proofs.TellRights.{request_ends, right_there, none_other, stood, untold, kept_there, kept_is, none_kept, left_is, only_own, own_ended}
+use Rattle.destroy.proofs.TellRights.{request_ends, right_there, none_other, stood, untold, kept_there, kept_is, none_kept, left_is, only_own}
 
 -- The right of the request may pay where its port lives.
 module _ (now : ℕ) (tables : WorldView) (old mid : State) (owed : Owed) (e : Ending) (w : WorldView) (l : Loose now tables old mid owed e w) (emptied front : List (ℕ × ℕ))
@@ -62,7 +61,7 @@ module _ (now : ℕ) (tables : WorldView) (old mid : State) (owed : Owed) (e : E
     s = l.state
 
     pub shape : SameShape w w1
-    shape = grind (arith, same_ports, own_ended, get_removed)
+    shape = same_ports w w1 refl refl refl refl (λ q h. kept_has w.requests.no_senders.map p q h) refl
 
     -- the request stands no more
     abbrev pub told2 : List ℕ
