@@ -1,7 +1,8 @@
 -- A message that is sent: the machine's step, and tables that agree with the state after it.
-use Rattle.std.proofs.Common.{◌≡◌, ℕ, zero, suc, ◌+◌, ◌-◌, ◌<◌, ◌≤◌, Bool, true, false, List, [], ◌∷◌, ◌++◌, Some, refl, sym, ap, subst, ◌∙◌, arith, inl, inr, length, drop}
+use Rattle.std.proofs.Common.{◌≡◌, ℕ, ◌+◌, ◌-◌, ◌<◌, ◌≤◌, Bool, true, false, List, [], ◌∷◌, ◌++◌, Some, refl, sym, ap, subst, ◌∙◌, arith, inl, inr, length, drop}
 use Rattle.std.specs.Prelude.{◌^◌, ◌↔◌, is_some, if◌then◌else◌, Contains}
-use Rattle.std.proofs.lemmas.Bool.Decides.{eqb_tells}
+use Rattle.std.specs.FinMap as map
+use Rattle.std.specs.Ordering.{nat_cmp}
 use Rattle.std.proofs.lemmas.List.{drop-append-le}
 use Rattle.mach_types.specs.Numbers.{most_rights, msg_number, kind_sent}
 use Rattle.mach_types.specs.declared.codes.MsgReturn.TheVariants.{SendTimedOut, SendInvalidRight, SendNoBuffer}
@@ -17,7 +18,7 @@ use Rattle.mach_model.specs.Lawful.{tally}
 use Rattle.mach_model.proofs.At.{at_own, at_other}
 use Rattle.mach_model.proofs.SettledReceives.{tally-append}
 use Rattle.mach_model.proofs.CopyingWords.{Adds, Copied-adds}
-use Rattle.mach_model.proofs.Moving.{IsMoving, moving, shape}
+use Rattle.mach_model.proofs.Moving.{moving, shape}
 use Rattle.message_codec.specs.declared.text.Parsed.{Parsed}
 use Rattle.message_codec.specs.Parses.{Parses}
 use Rattle.message_codec.specs.Words.{body_words}
@@ -25,7 +26,7 @@ use Rattle.message_codec.proofs.Spelling.{laid_out-parsed}
 use Rattle.port.specs.Ports.{PortView, with_port}
 use Rattle.copyin_base.specs.Kept.{Kept, Keeps}
 use Rattle.copyin_base.specs.Worlds.{WorldView, port_at}
-use Rattle.rights.specs.Ledger.{LedgerView, counts_of}
+use Rattle.rights.specs.Ledger.{counts_of}
 use Rattle.copyin_base.specs.Shows.{AllKept, came_by_once, onces_queued, ShowsPort, CountsAgree, Agrees, HoldersAgree, CarriersAgree, RequestsStand, Shows}
 use Rattle.copyin_base.proofs.Counting.{once_queued, queues_same}
 use Rattle.copyin_base.proofs.Holders.{ReceivesAt, unheld, unheld_lying}
@@ -54,39 +55,46 @@ all_kept_length p (m ∷ ms) (e ∷ es) h = let n = all_kept_length p ms es h.1 
 all_kept_length p [] (e ∷ es) h = absurd h
 all_kept_length p (m ∷ ms) [] h = absurd h
 
-all_kept_append : (p : ℕ) (ms : List Kept) (es : List Entry) (m : Kept) (e : Entry) → AllKept p ms es → Keeps p m e.message → AllKept p (ms ++ m ∷ []) (es ++ e ∷ [])
+-- ---- a queue with one message more
+
+pub all_kept_append : (p : ℕ) (ms : List Kept) (es : List Entry) (m : Kept) (e : Entry) → AllKept p ms es → Keeps p m e.message → AllKept p (ms ++ m ∷ []) (es ++ e ∷ [])
 all_kept_append p [] [] m e h k = (k, tt)
 all_kept_append p (x ∷ ms) (y ∷ es) m e h k = (h.0, all_kept_append p ms es m e h.1 k)
 all_kept_append p [] (y ∷ es) m e h k = absurd h
 all_kept_append p (x ∷ ms) [] m e h k = absurd h
 
+-- The entry is at the end of the port's log.
+module _ (s : State) (p : ℕ) (entry : Entry) (within : s.taken p ≤ length (s.log p)) where
+  abbrev pub with_entry : State
+  with_entry = record s { log = at s.log p (s.log p ++ entry ∷ []) }
+
+  queue_is : queue with_entry p ≡ queue s p ++ entry ∷ []
+  queue_is = ap (drop (s.taken p)) (at_own s.log p (s.log p ++ entry ∷ [])) ∙ drop-append-le (s.taken p) (s.log p) (entry ∷ []) within
+
+  queue_other : (q : ℕ) → (q ≡ p → ⊥) → queue with_entry q ≡ queue s q
+  queue_other q not = ap (drop (s.taken q)) (at_other s.log p (s.log p ++ entry ∷ []) q not)
+
+  pub once_more : onces_queued with_entry p ≡ onces_queued s p + (if came_by_once entry then 1 else 0)
+  once_more = grind (arith, queue_is, tally-append)
+
+  pub onces_other : (q : ℕ) → (q ≡ p → ⊥) → onces_queued s q ≡ onces_queued with_entry q
+  onces_other q not = ap (tally came_by_once) (sym (queue_other q not))
+
+  pub ports_longer : (ports : map.FinMap nat_cmp (PortView Kept)) → ((q : ℕ) (y : PortView Kept) → map.get ports q ≡ Some y → ShowsPort y s q) → (v : PortView Kept) → map.get ports p ≡ Some v →
+      (m : Kept) → Keeps p m entry.message → (q : ℕ) (y : PortView Kept) → map.get (map.insert ports p (record v { queue = v.queue ++ m ∷ [] })) q ≡ Some y → ShowsPort y with_entry q
+  ports_longer ports shows v there m keeps = ports_put ports p (record v { queue = v.queue ++ m ∷ [] }) with_entry
+      (let b = shows p v there in let kept = subst (AllKept p (v.queue ++ m ∷ [])) (sym queue_is) (all_kept_append p v.queue (queue s p) m entry b.waiting keeps) in assumption (b, kept))
+      (λ q y not is. let b = shows q y is in let kept = subst (AllKept q y.queue) (sym (queue_other q not)) b.waiting in assumption (b, kept))
+
 -- ---- a message is appended
 
 module _ (w : WorldView) (s : State) (a : Agrees w s) (p : ℕ) (v : PortView Kept) (there : port_at w p ≡ Some v) (m : Kept) (now : ℕ) (x : Message) (keeps : Keeps p m x)
     (within : s.taken p ≤ length (s.log p)) (spare : ℕ) (unused : m.by_once ≡ true → 0 < (counts_of w.ledger p).send_once) where
-  abbrev pub longer : PortView Kept
-  longer = record v { queue = v.queue ++ m ∷ [] }
-
   abbrev pub appended : WorldView
-  appended = record w { ports = record (with_port w.ports p longer) { spare = spare }; ledger = ledger_queued m.by_once p w.ledger }
+  appended = record w { ports = record (with_port w.ports p (record v { queue = v.queue ++ m ∷ [] })) { spare = spare }; ledger = ledger_queued m.by_once p w.ledger }
 
-  abbrev pub with_entry : State
-  with_entry = record s { log = at s.log p (s.log p ++ logged now x ∷ []) }
-
-  queue_is : queue with_entry p ≡ queue s p ++ logged now x ∷ []
-  queue_is = ap (drop (s.taken p)) (at_own s.log p (s.log p ++ logged now x ∷ [])) ∙ drop-append-le (s.taken p) (s.log p) (logged now x ∷ []) within
-
-  queue_other : (q : ℕ) → (q ≡ p → ⊥) → queue with_entry q ≡ queue s q
-  queue_other q not = ap (drop (s.taken q)) (at_other s.log p (s.log p ++ logged now x ∷ []) q not)
-
-  own_port : ShowsPort longer with_entry p
-  own_port = let b = a.ports p v there in record {
-    waiting = subst (AllKept p (v.queue ++ m ∷ [])) (sym queue_is) (all_kept_append p v.queue (queue s p) m (logged now x) b.waiting keeps);
-    limit = b.limit;
-    make_send = b.make_send;
-    sequence = b.sequence;
-    sets = b.sets;
-  }
+  abbrev pub logged_state : State
+  logged_state = with_entry s p (logged now x) within
 
   -- the right that it goes by, if that is a send-once right, is unused no more
   by_right : (b : Bool) → same_kind send_once (if b then send_once else send) ≡ b
@@ -96,38 +104,29 @@ module _ (w : WorldView) (s : State) (a : Agrees w s) (p : ℕ) (v : PortView Ke
   came : came_by_once (logged now x) ≡ m.by_once
   came = ap (λ (y : Message). same_kind send_once y.kind) keeps.message_is ∙ by_right m.by_once
 
-  once_more : onces_queued with_entry p ≡ onces_queued s p + (if m.by_once then 1 else 0)
-  once_more = grind (arith, queue_is, tally-append, came)
-
   lives : s.live_port p ≡ true
   lives = sym (a.live_port p) ∙ ap is_some there
 
-  onces_other : (q : ℕ) → (q ≡ p → ⊥) → onces_queued s q ≡ onces_queued with_entry q
-  onces_other q not = ap (tally came_by_once) (sym (queue_other q not))
+  others : (q : ℕ) → (q ≡ p → ⊥) → onces_queued s q ≡ onces_queued logged_state q
+  others = onces_other s p (logged now x) within
 
-  counted : (b : Bool) → (b ≡ true → 0 < (counts_of w.ledger p).send_once) → onces_queued with_entry p ≡ onces_queued s p + (if b then 1 else 0) →
-      (q : ℕ) → CountsAgree (ledger_queued b p w.ledger) s.live_port s.ledger (onces_queued with_entry) q
-  counted true some more = once_queued w.ledger s.live_port s.ledger (onces_queued s) a.counts (onces_queued with_entry) p lives onces_other (some refl) more
-  counted false some more = grind (arith, queues_same, onces_other)
+  counted : (b : Bool) → (b ≡ true → 0 < (counts_of w.ledger p).send_once) → onces_queued logged_state p ≡ onces_queued s p + (if b then 1 else 0) →
+      (q : ℕ) → CountsAgree (ledger_queued b p w.ledger) s.live_port s.ledger (onces_queued logged_state) q
+  counted true some more = once_queued w.ledger s.live_port s.ledger (onces_queued s) a.counts (onces_queued logged_state) p lives others (some refl) more
+  counted false some more = grind (arith, queues_same, others)
 
   total_queued : (b : Bool) → (ledger_queued b p w.ledger).total ≡ w.ledger.total
   total_queued true = refl
   total_queued false = refl
 
-  pub appended_agrees : Agrees appended with_entry
+  pub appended_agrees : Agrees appended logged_state
   appended_agrees = record {
     spaces = a.spaces;
     rights = a.rights;
-    live_port = live_put w.ports.ports p longer s.live_port (sym (a.live_port p) ∙ ap is_some there) a.live_port;
+    live_port = live_put w.ports.ports p (record v { queue = v.queue ++ m ∷ [] }) s.live_port lives a.live_port;
     ports_made = a.ports_made;
-    ports = ports_put w.ports.ports p longer with_entry own_port (λ q y not is. let b = a.ports q y is in record {
-      waiting = subst (AllKept q y.queue) (sym (queue_other q not)) b.waiting;
-      limit = b.limit;
-      make_send = b.make_send;
-      sequence = b.sequence;
-      sets = b.sets;
-    });
-    counts = counted m.by_once unused once_more;
+    ports = ports_longer s p (logged now x) within w.ports.ports a.ports v there m keeps;
+    counts = counted m.by_once unused (once_more s p (logged now x) within ∙ ap (λ (b : Bool). onces_queued s p + (if b then 1 else 0)) came);
     total = total_queued m.by_once ∙ a.total;
     in_sets = a.in_sets;
     of_requests = a.of_requests;

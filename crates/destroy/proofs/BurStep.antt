@@ -203,12 +203,7 @@ module _ (now : ℕ) (tables : WorldView) (old mid : State) (owed : Owed) (e : E
         so_far = paid_so_far now old mid owed e port rs s w b.can b.so_far b.agrees b.around.went r n was naming names alive (notice_of notice) tells none;
         agrees = posted_agrees (lives_after mid e) ended (state_ended xs) (agrees xs goes) n x is_there notice now
             (within now old mid owed e port rs s w b.can b.so_far b.agrees b.around.went r n was alive) alive
-            (may_pay now old mid owed e port rs s w b.can b.so_far b.agrees b.around.went r n was alive) xs (request_at s.stands r false) record {
-              counts = λ kind q. refl;
-              held = λ task kind q. refl;
-              total = refl;
-              of_requests = (agrees xs goes).of_requests;
-            };
+            (may_pay now old mid owed e port rs s w b.can b.so_far b.agrees b.around.went r n was alive);
         holders = holders_stay (state_ended xs) paid e.destroyed (record { all = λ p. refl; each = λ p place. refl }) ended posted shape (holders xs goes);
         slots = slots_posted ended n notice posted b.slots (record { v = x; there = is_there; rest = refl });
         around = posted_around;

@@ -250,12 +250,7 @@ module _ (now : ℕ) (tables : WorldView) (old mid : State) (owed : Owed) (e : E
   s1 = record s { log = at s.log n (s.log n ++ entry ∷ []) }
 
   noticed : AgreesOf (lives_after mid e) w1 s1
-  noticed = posted_agrees (lives_after mid e) w s b.tied.agrees n u goes.with_task.1.there (PortDestroyed p) now within (target_lives now tables old mid owed e w b p n lost goes) paid s.ledger s.stands record {
-    counts = λ kind q. refl;
-    held = λ task kind q. refl;
-    total = refl;
-    of_requests = b.tied.agrees.of_requests;
-  }
+  noticed = posted_agrees (lives_after mid e) w s b.tied.agrees n u goes.with_task.1.there (PortDestroyed p) now within (target_lives now tables old mid owed e w b p n lost goes) paid
 
   few : (counts_of (shifted w.ledger n) p).receive ≤ 1
   few =

@@ -26,7 +26,7 @@ use Rattle.copyin_base.specs.declared.notice.Notice.{Notice}
 use Rattle.copyin_base.specs.Kept.{Kept}
 use Rattle.copyin_base.specs.Queued.{notice_kept, notice_of}
 use Rattle.copyin_base.specs.Requests.{RequestTablesView}
-use Rattle.copyin_base.specs.Shows.{CarriesReceive, SlotsSuffice}
+use Rattle.copyin_base.specs.Shows.{ReferencesAgree, CarriesReceive, SlotsSuffice}
 use Rattle.copyin_base.specs.Worlds.{WorldView, port_at}
 use Rattle.copyin_base.proofs.Counting.{counts_same}
 use Rattle.copyin_base.proofs.SendersNoted.{counts_own, counts_other}
@@ -46,17 +46,11 @@ Goes now tables old mid owed s f u = (l : Loose now tables old mid owed f u) × 
 
 pub rekept : (lives : ℕ → Bool) (w : WorldView) (s : State) (r : RequestTablesView) (tokens : List Token) (stands : Request → Bool) → AgreesOf lives w s →
     PaysFrom lives (record w { requests = r }) s tokens stands → AgreesOf lives (record w { requests = r }) (record s { ledger = tokens; stands = stands })
-rekept lives w s r tokens stands a pays = record {
-  spaces = a.spaces;
-  rights = record { references = λ task name e q is named. let x = a.rights.references task name e q is named in (pays.held task receive q ∙ x.0, pays.held task send q ∙ x.1) };
-  live_port = a.live_port;
-  ports_made = a.ports_made;
-  ports = λ p v is. let b = a.ports p v is in record { waiting = b.waiting; limit = b.limit; make_send = b.make_send; sequence = b.sequence; sets = b.sets };
-  counts = counts_same w.ledger s.live_port s.ledger (λ q. if lives q then onces_queued s q else (counts_of w.ledger q).destination) a.counts tokens pays.counts;
-  total = a.total ∙ pays.total;
-  in_sets = a.in_sets;
-  of_requests = pays.of_requests;
-}
+rekept lives w s r tokens stands a pays =
+    let rights : ReferencesAgree w.spaces tokens = record { references = λ task name e q is named. let x = a.rights.references task name e q is named in (pays.held task receive q ∙ x.0, pays.held task send q ∙ x.1) } in
+    let counts = counts_same w.ledger s.live_port s.ledger (λ q. if lives q then onces_queued s q else (counts_of w.ledger q).destination) a.counts tokens pays.counts in
+    let total = a.total ∙ pays.total in
+    assumption (a, rights, counts, total, pays)
 
 -- ---- holders
 
@@ -185,12 +179,7 @@ module _ (now : ℕ) (tables : WorldView) (old mid : State) (owed : Owed) (e : E
       reached = turns e f reached turn;
       state = noticed now mid e s so p there_is place (notice_of notice) none left2 told2 ended2 turns2 tokens stands;
       so_far = noticed_so_far now mid e s so p there_is place (notice_of notice) none left2 told2 ended2 turns2 tokens stands parts moved stood;
-      agrees = posted_agrees (lives_after mid e) w (record s { ledger = tokens; stands = stands }) agrees p v there notice now within alive paid tokens stands record {
-        counts = λ kind q. refl;
-        held = λ task kind q. refl;
-        total = refl;
-        of_requests = agrees.of_requests;
-      };
+      agrees = posted_agrees (lives_after mid e) w (record s { ledger = tokens; stands = stands }) agrees p v there notice now within alive paid;
       holders = holders_stay s (record s { ledger = tokens }) e.destroyed (same_receives moved) w _ shape holders;
       slots = slots_posted w p notice _ slots (record { v = v; there = there; rest = refl });
       framed = framed_stays w _ shape mid e f refl refl refl framed;

@@ -33,7 +33,7 @@ use Rattle.copyin_base.proofs.SendersNoted.{counts_own, counts_other, keeps_send
 use Rattle.notifications.specs.SoFar.{posted_from}
 use Rattle.notifications.proofs.Changed.{requests_changed}
 use Rattle.notifications.proofs.Owing.{brought, entry_with, posted_is, logs_more, rights_more, logs_longer, rights_with, rights_weigh}
-use Rattle.notifications.proofs.Told.{told_agrees}
+use Rattle.notifications.proofs.Posted.{told_agrees}
 use Rattle.notifications.proofs.Written.{with_message, slots_posted}
 use Rattle.destroy.proofs.StartCan.{may_pay}
 use Rattle.destroy.proofs.StartPosted.{posted_ledger}
@@ -198,7 +198,7 @@ module _ (now : ℕ) (tables v : WorldView) (m : State) (owed : Owed) (s : Shows
     shows : ShowsMid now tables v2 after (owed ++ paid ∷ [])
     shows = record {
       agrees = subst (Agrees v2) (sym posted_state) (told_agrees (without_first v) (record shown { ledger = on_way ∷ tokens }) taken_out p (PortDeleted r.name) v2 (record { v = y; there = there; rest = refl })
-          now within pays_yet 0 0 (length (shown.log p)) (came ∷ tokens) (λ h. omega arith));
+          now within pays_yet (in_message 0 0) (λ r. refl) (length (shown.log p)) (came ∷ tokens) (λ h. omega arith));
       holders = holders_ports v v2 s.holders refl (put_holders v.ports.ports p y (record y { queue = y.queue ++ notice_kept (PortDeleted r.name) ∷ [] }) there refl);
       carriers = carriers_queued v v2 s.carriers p y (record y { queue = y.queue ++ notice_kept (PortDeleted r.name) ∷ [] }) (notice_kept (PortDeleted r.name)) there refl refl refl refl
           (λ q carries. absurd (let below = carries.1 in omega (arith, below)));

@@ -45,7 +45,7 @@ use Rattle.copyin_base.proofs.Spares.{keeps_trans, keeps_names, left_keeps}
 use Rattle.copyin_base.proofs.Taking.{Without, take_held}
 use Rattle.copyin_base.proofs.Told.{found}
 use Rattle.copyin_base.proofs.Unused.{once_unused}
-use Rattle.notifications.proofs.Posted.{posted_whole}
+use Rattle.notifications.proofs.Posted.{told_agrees}
 use Rattle.kernel_core_base.specs.References.{LosesOnce}
 
 no_set : (p set : ℕ) → Target.once p ≡ Target.set set → ⊥
@@ -162,9 +162,8 @@ module _ (w : WorldView) (task name p : ℕ) (v : WorldView) (r : LosesOnce w ta
         (once_unused s sh.lawful w.ledger task name p (sh.agrees.counts p) is_once_named)
 
     once_agrees : (now : ℕ) → Agrees v (with_posted now mid (unused_once p task))
-    once_agrees now = subst (λ (x : WorldView). Agrees x (with_posted now mid (unused_once p task))) (sym r.posts.rest)
-        (posted_whole r.named (without_name task name s) name_gone p r.posts.v r.posts.there notice.SendOnce now (sh.lawful.within p) paid
-        (token send_once p (in_message p (length (s.log p))) ∷ taken.others) task (length (s.log p)) (λ h. let a = taken.parts h in omega (arith, a)))
+    once_agrees now = told_agrees r.named (without_name task name s) name_gone p notice.SendOnce v r.posts now (sh.lawful.within p) paid
+        (in_task task) (λ q. refl) (length (s.log p)) (token send_once p (in_message p (length (s.log p))) ∷ taken.others) (λ h. let a = taken.parts h in omega (arith, a))
 
     unlost : (q : ℕ) → ¬ (IsOrphan mid q)
     unlost q o =

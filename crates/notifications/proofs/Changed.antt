@@ -1,7 +1,7 @@
 -- Tables that agree with a state still do where only requests, and the places of rights with them, changed.
 use Rattle.std.proofs.Common.{◌≡◌, ℕ, List, Option, Some, refl, sym, subst, ◌∙◌, ◌+◌, ◌<◌, Bool, true, false, length}
 use Rattle.std.specs.Prelude.{is_some, ◌&&◌}
-use Rattle.mach_types.specs.Tokens.{Kind, receive, send, Request, in_request, Token, count, is_of, is_held}
+use Rattle.mach_types.specs.Tokens.{Kind, receive, send, send_once, same_kind, Request, in_request, Token, count, is_of, is_held}
 use Rattle.mach_model.specs.State.{State, same_request, request_at}
 use Rattle.mach_model.specs.Carried.{lying_among}
 use Rattle.mach_model.specs.Death.{same_place}
@@ -9,30 +9,24 @@ use Rattle.mach_model.proofs.Rekeeping.{Rekeeps}
 use Rattle.mach_model.specs.Unused.{onces_queued}
 use Rattle.copyin_base.specs.Requests.{RequestTablesView, notify_of, rights_kept, rights_went, RequestsAgree, AreEnded}
 use Rattle.copyin_base.specs.Worlds.{WorldView}
-use Rattle.copyin_base.specs.Shows.{Agrees}
+use Rattle.copyin_base.specs.Shows.{ReferencesAgree, Agrees}
 use Rattle.copyin_base.proofs.Counting.{counts_same}
 use Rattle.request_table.specs.declared.Request.{Request as NameRequest}
 use Rattle.notifications.proofs.Away.{agree_at}
 
--- As many rights of each kind are for each port, and as many with each task.
+-- As many rights of each kind are for each port, and as many receive and send rights with each task.
 pub record SameCounts (s : State) (tokens : List Token) : Type 0 where
   pub counts : (kind : Kind) (q : ℕ) → count (is_of kind q) tokens ≡ count (is_of kind q) s.ledger
-  pub held : (task : ℕ) (kind : Kind) (q : ℕ) → count (is_held task kind q) tokens ≡ count (is_held task kind q) s.ledger
+  pub held : (task : ℕ) (kind : Kind) (q : ℕ) → same_kind kind send_once ≡ false → count (is_held task kind q) tokens ≡ count (is_held task kind q) s.ledger
   pub total : length s.ledger ≡ length tokens
 
 pub requests_changed : (w : WorldView) (s : State) (requests : RequestTablesView) (tokens : List Token) (stands : Request → Bool) → Agrees w s → SameCounts s tokens →
     RequestsAgree (notify_of requests) requests.names.went w.ports.made stands s.live_port tokens → Agrees (record w { requests = requests }) (record s { stands = stands; ledger = tokens })
-requests_changed w s requests tokens stands a same of_requests = record {
-  spaces = a.spaces;
-  rights = record { references = λ task name e q is named. let r = a.rights.references task name e q is named in (same.held task receive q ∙ r.0, same.held task send q ∙ r.1) };
-  live_port = a.live_port;
-  ports_made = a.ports_made;
-  ports = a.ports;
-  counts = counts_same w.ledger s.live_port s.ledger (onces_queued s) a.counts tokens same.counts;
-  total = a.total ∙ same.total;
-  in_sets = a.in_sets;
-  of_requests = of_requests;
-}
+requests_changed w s requests tokens stands a same of_requests =
+    let rights : ReferencesAgree w.spaces tokens = record { references = λ task name e q is named. let r = a.rights.references task name e q is named in (same.held task receive q refl ∙ r.0, same.held task send q refl ∙ r.1) } in
+    let counts = counts_same w.ledger s.live_port s.ledger (onces_queued s) a.counts tokens same.counts in
+    let total = a.total ∙ same.total in
+    assumption (a, rights, counts, total, of_requests)
 
 and_false : (a b : Bool) → b ≡ false → (a && b) ≡ false
 and_false true b e = e
@@ -43,7 +37,7 @@ module _ (w : WorldView) (s : State) (a : Agrees w s) (o k : ℕ) (r : Request) 
   pub rekept_counts : SameCounts s tokens
   rekept_counts = record {
     counts = v.of;
-    held = λ task kind q. v.far (is_held task kind q) (λ p. and_false _ _ refl) (λ p. and_false _ _ refl);
+    held = λ task kind q _. v.far (is_held task kind q) (λ p. and_false _ _ refl) (λ p. and_false _ _ refl);
     total = total;
   }
 

@@ -44,7 +44,7 @@ reordered : (w : WorldView) (t : State) (tokens : List Token) → Agrees w t →
 reordered w t tokens a same = requests_changed w t w.requests tokens t.stands a
     (record {
       counts = λ kind q. same (λ x. if is_of kind q x then 1 else 0);
-      held = λ task kind q. same (λ x. if is_held task kind q x then 1 else 0);
+      held = λ task kind q _. same (λ x. if is_held task kind q x then 1 else 0);
       total = (let m = same (λ x. 1) in let b = length-weigh t.ledger in let c = length-weigh tokens in omega (arith, m, b, c));
     })
     (requests_stay (notify_of w.requests) w.requests.names.went w.ports.made w.ports.made t.stands t.stands t.live_port t.live_port t.ledger tokens a.of_requests (omega arith) (λ r. refl) (λ n h. refl)

@@ -39,7 +39,8 @@ use Rattle.notifications.proofs.Doing.{leaves}
 use Rattle.notifications.proofs.Ready.{begun, bk, can_post, can_put}
 use Rattle.notifications.proofs.Refusing.{event_of}
 use Rattle.notifications.proofs.Renewed.{requests}
-use Rattle.notifications.proofs.Told.{told_agrees, told_sound}
+use Rattle.notifications.proofs.Posted.{told_agrees}
+use Rattle.notifications.proofs.Told.{told_sound}
 
 module _ (w : WorldView) (task name : ℕ) (asked : Asked) (g : Paying) (n : ℕ) (previous : Option ℕ) (below : HasTask w task) (may : MayRequest w task name asked (Some g) (Dead n) previous)
     (ready : WorldView) (rdy : Readies w task (Dead n) (Some g) previous ready) (s : State) (sh : Shows w s) (mid : WorldView) (c : Goes ready task g mid) (word : ℕ) (out : WorldView)
@@ -112,11 +113,11 @@ module _ (w : WorldView) (task name : ℕ) (asked : Asked) (g : Paying) (n : ℕ
         subst (λ (z : WorldView). 0 < (counts_of z.ledger g.port).send_once) (sym tells.more.rest) (can_post w task name asked g (Dead n) previous below may ready rdy s sh mid c word out ends).paid in
         let j = length (t3.log g.port) in
         let a : Agrees new (with_notice now (record (died_state t3) { ledger = spent.others }) (y, name_died name)) =
-        told_agrees tells.mid (died_state t3) agreed g.port (notice.DeadName name) new tells.posts now (it.keeps.within g.port) paid 0 k j (token send_once g.port (in_message g.port j) ∷ spent.others) (λ h. let z = spent.parts h in omega (arith, z)) in
+        told_agrees tells.mid (died_state t3) agreed g.port (notice.DeadName name) new tells.posts now (it.keeps.within g.port) paid (in_message 0 k) (λ r. refl) j (token send_once g.port (in_message g.port j) ∷ spent.others) (λ h. let z = spent.parts h in omega (arith, z)) in
         leaves w s task name (Dead n) previous (Some g) mid b word out it (event_of task name asked) (Reply.Previous word) now new after owed
         (requests w task name asked g (Dead n) previous below may ready rdy s sh mid c word out ends after owed (inr (inl (n, refl, dead_in, spends, refl, refl))))
         (subst (λ (z : State). Agrees new (with_notice now (record (died_state z) { ledger = spent.others }) (y, name_died name))) (sym it.rest) a)
-        (told_sound tells.mid (died_state t3) agreed g.port (notice.DeadName name) new tells.posts refl died_sound)
+        (told_sound tells.mid g.port (notice.DeadName name) new tells.posts refl died_sound)
         slots
         (λ q zero_sends.
         let u = sends_shifted tells.mid.ledger g.port q (ap (λ (z : WorldView). (counts_of z.ledger q).send) (sym tells.posts.rest) ∙ zero_sends) in

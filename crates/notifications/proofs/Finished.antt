@@ -29,7 +29,8 @@ use Rattle.notifications.proofs.Doing.{leaves}
 use Rattle.notifications.proofs.Ready.{begun, bk, can_post}
 use Rattle.notifications.proofs.Refusing.{event_of}
 use Rattle.notifications.proofs.Renewed.{requests}
-use Rattle.notifications.proofs.Told.{told_agrees, told_sound}
+use Rattle.notifications.proofs.Posted.{told_agrees}
+use Rattle.notifications.proofs.Told.{told_sound}
 
 module _ (w : WorldView) (task name : ℕ) (asked : Asked) (g : Paying) (p : ℕ) (previous : Option ℕ) (below : HasTask w task) (may : MayRequest w task name asked (Some g) (Senders p) previous)
     (ready : WorldView) (rdy : Readies w task (Senders p) (Some g) previous ready) (s : State) (sh : Shows w s) (mid : WorldView) (c : Goes ready task g mid) (word : ℕ) (out : WorldView)
@@ -95,12 +96,12 @@ module _ (w : WorldView) (task name : ℕ) (asked : Asked) (g : Paying) (p : ℕ
         let paid = (can_post w task name asked g (Senders p) previous below may ready rdy s sh mid c word out ends).paid in
         let j = length (t3.log g.port) in
         let a : Agrees new (with_notice now (record t3 { ledger = spent.others }) (y, no_more_senders number)) =
-        told_agrees out t3 it.agrees g.port (notice.NoSenders number) new posts now within paid 0 k j (token send_once g.port (in_message g.port j) ∷ spent.others) (λ h. let z = spent.parts h in omega (arith, z)) in
+        told_agrees out t3 it.agrees g.port (notice.NoSenders number) new posts now within paid (in_message 0 k) (λ r. refl) j (token send_once g.port (in_message g.port j) ∷ spent.others) (λ h. let z = spent.parts h in omega (arith, z)) in
         leaves w s task name (Senders p) previous (Some g) mid b word out it (event_of task name asked) (Reply.Previous word) now new after owed
         (requests w task name asked g (Senders p) previous below may ready rdy s sh mid c word out ends after owed
         (inl (p, refl, (none, few), spends, refl, ap (λ (n : ℕ). (y, no_more_senders n) ∷ []) (sym same_number))))
         (subst (λ (z : State). Agrees new (with_notice now (record z { ledger = spent.others }) (y, no_more_senders number))) (sym it.rest) a)
-        (told_sound out t3 it.agrees g.port (notice.NoSenders number) new posts refl it.sound)
+        (told_sound out g.port (notice.NoSenders number) new posts refl it.sound)
         slots (λ q zero_sends. sends_shifted out.ledger g.port q (ap (λ (z : WorldView). (counts_of z.ledger q).send) (sym posts.rest) ∙ zero_sends))
         (ap (λ (z : WorldView). z.ports.noted) posts.rest)
         (λ q. ap (λ (z : State). z.live_port q) it.rest)

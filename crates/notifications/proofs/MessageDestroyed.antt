@@ -1,12 +1,12 @@
 -- A port's front message is destroyed: the machine's own part, with which the tables agree once what it owes was posted.
 use Rattle.std.proofs.Common.{◌≡◌, ℕ, zero, ◌+◌, ◌<◌, ◌≤◌, Bool, true, false, List, [], ◌∷◌, ◌++◌, refl, sym, ap, subst, ◌∙◌, arith, inl, inr, length}
-use Rattle.std.specs.Prelude.{is_some, if◌then◌else◌, ◌==◌, ◌&&◌, map as list_map, filter, All, MatchBool}
+use Rattle.std.specs.Prelude.{is_some, if◌then◌else◌, ◌==◌, ◌&&◌, All, MatchBool}
 use Rattle.std.proofs.lemmas.Bool.{ne_eqb, cases_Bool}
 use Rattle.std.proofs.lemmas.Bool.Decides.{eqb_tells}
 use Rattle.std.proofs.lemmas.List.{append-nil, map-append, length-append}
 use Rattle.std.proofs.lemmas.List.Elements.{All-push, filter-append}
 use Rattle.mach_types.specs.Numbers.{kind_sent}
-use Rattle.mach_types.specs.Tokens.{Kind, receive, send, send_once, same_kind, in_message, Token, token, weigh, is_of}
+use Rattle.mach_types.specs.Tokens.{Kind, receive, send, send_once, same_kind, in_message, Token, token, weigh}
 use Rattle.mach_types.specs.Messages.{Entry}
 use Rattle.mach_model.specs.State.{State}
 use Rattle.mach_model.specs.Death.{same_place}
@@ -17,6 +17,7 @@ use Rattle.mach_model.proofs.At.{at_own, at_other}
 use Rattle.mach_model.proofs.CopyingIn.{at_entry}
 use Rattle.mach_model.proofs.Settling.{place_refl}
 use Rattle.mach_model.proofs.Weigh.{weigh-append}
+use Rattle.copyin_base.specs.declared.notice.Notice.TheVariants as notice
 use Rattle.copyin_base.specs.declared.message.Carried.{Carried}
 use Rattle.copyin_base.specs.declared.message.Mark.{Mark}
 use Rattle.copyin_base.specs.declared.message.Mark.TheVariants as mark
@@ -29,7 +30,8 @@ use Rattle.rights.specs.declared.RightKind.TheVariants as right
 use Rattle.rights.specs.Ledger.{taken}
 use Rattle.notifications.specs.Destroying.{LosesRight, LosesMark, CanLoseRight, one_for, rights_for, CanLoseAll}
 use Rattle.notifications.proofs.Destroying.{can_kind, can_later}
-use Rattle.notifications.proofs.MessageLost.{send_lost, receive_lost, once_lost}
+use Rattle.notifications.proofs.MessageLost.{send_lost, receive_lost}
+use Rattle.notifications.proofs.Posted.{told_agrees}
 
 -- ---- notices that were posted
 
@@ -168,12 +170,13 @@ module _ (now o k : ℕ) (t : State) (within : (q : ℕ) → t.taken q ≤ lengt
         (receive_lost u before_posted x.agrees o k p (live_same p live) (without receive e) loses.v loses.there (u.ports.lost ++ p ∷ [])))
     by_kind send_once e can v loses =
         let grown = posted_within now x.mid (unused x.gone) p (subst (λ (s : State). s.taken p ≤ length (s.log p)) (sym x.rest) (within p)) in
-        let told = once_lost u before_posted x.agrees o k p (live_same p live) (without send_once e) now loses.v loses.there grown can.paid in
+        let told = told_agrees u before_posted x.agrees p notice.SendOnce v loses now grown can.paid (in_message o k) (λ r. refl) (length (before_posted.log p))
+        (token send_once p (in_message p (length (before_posted.log p))) ∷ (without send_once e).others) (λ h. let m = (without send_once e).parts h in omega (arith, m)) in
         let one : unused (going ∷ []) ≡ (going, right_unused) ∷ [] = once (ap (same_kind send_once) e) in
         let owed : unused (x.gone ++ going ∷ []) ≡ unused x.gone ++ (going, right_unused) ∷ [] = unused_push x.gone going ∙ ap (λ (ys : Owed). unused x.gone ++ ys) one in
         let is : with_posted now after (unused (x.gone ++ going ∷ [])) ≡ with_notice now (record before_posted { ledger = after_posted.ledger }) (going, right_unused) =
         ap (with_posted now after) owed ∙ posted_push now after (unused x.gone) (going, right_unused) ∙ ap (λ (s : State). with_notice now s (going, right_unused)) swapped in
-        subst (Agrees v) (sym is) (subst (λ (w : WorldView). Agrees w (with_notice now (record before_posted { ledger = after_posted.ledger }) (going, right_unused))) (sym loses.rest) told)
+        subst (Agrees v) (sym is) told
       where
         once : same_kind send_once kind ≡ true → unused (going ∷ []) ≡ (going, right_unused) ∷ []
         once e = rw e refl

@@ -29,7 +29,7 @@ module _ (out : WorldView) (t : State) (a : Agrees out t) (task name : ℕ) (sma
   kept_agrees kept made apart_from = requests_changed out t (with_kept out.requests task name subject p) tokens (request_at t.stands r true) a
       (record {
         counts = λ kind q. (let m = moves (λ x. if is_of kind q x then 1 else 0) in omega (arith, m));
-        held = λ u kind q. (let m = moves (λ x. if is_held u kind q x then 1 else 0) in omega (arith, m));
+        held = λ u kind q _. (let m = moves (λ x. if is_held u kind q x then 1 else 0) in omega (arith, m));
         total = (let m = moves (λ x. 1) in let b = length-weigh t.ledger in let c = length-weigh tokens in omega (arith, m, b, c));
       })
       (subst (λ xs. RequestsAgree (notify_of (with_kept out.requests task name subject p)) xs out.ports.made (request_at t.stands r true) t.live_port tokens) (sym (kept_went out.requests task name small subject p))

@@ -41,7 +41,7 @@ use Rattle.copyin_base.proofs.SendersNoted.{keeps_senders, sends_shifted, sender
 use Rattle.copyin_base.proofs.Taking.{Without, take_held}
 use Rattle.notifications.proofs.Removing.{Part, with_part, IsPart, ShowsPart, OnceGoes}
 use Rattle.notifications.proofs.Owing.{brought, logs_longer, log_with, logs_with, logs_more, rights_with, rights_more, rights_weigh, posted_is, unused_append}
-use Rattle.notifications.proofs.Posted.{posted_whole}
+use Rattle.notifications.proofs.Posted.{told_agrees}
 use Rattle.notifications.proofs.Parts.{shown, shown_is, lawful_naming, looked_up}
 use Rattle.notifications.proofs.RightsGone.{stood_left, fewer_left}
 
@@ -151,8 +151,8 @@ module _ (now : ℕ) (start : WorldView) (task : ℕ) (s : State) (sh : Shows st
   paid = subst (λ (l : LedgerView). 0 < (counts_of l p).send_once) (sym ledger_same) (let o = sp.onces p in let n = some in omega (arith, o, n))
 
   posted : Agrees v (with_posted now (with_part s task part) (unused part.gone))
-  posted = subst (Agrees v) (sym then_is) (subst (λ (y : WorldView). Agrees y (record moved { log = log_with now log due; ledger = ledger })) (sym r.posts.rest)
-      (posted_whole r.named moved moved_agrees p r.posts.v r.posts.there notice.SendOnce now within paid ledger task (length (log p)) (λ h. let m = weighs h in omega (arith, m))))
+  posted = subst (Agrees v) (sym then_is)
+      (told_agrees r.named moved moved_agrees p notice.SendOnce v r.posts now within paid (in_task task) (λ q. refl) (length (log p)) ledger (λ h. let m = weighs h in omega (arith, m)))
 
   once_gone : (q : ℕ) → count (is_held task send_once q) kept + (if p == q then suc zero else zero) ≡ count (is_held task send_once q) x.kept
   once_gone q = let m = taken.parts (λ y. if is_held task send_once q y then 1 else 0) in let z = own_task task (p == q) in omega (arith, m, z)
