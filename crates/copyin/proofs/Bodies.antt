@@ -1,12 +1,12 @@
 -- The words of a body copied in, one after the other, and the body that their rights make.
-use Rattle.std.proofs.Common.{◌≡◌, ℕ, suc, ◌+◌, List, [], ◌∷◌, ◌++◌, refl, sym, ap, subst, ◌∙◌, arith, length, take, drop, All}
+use Rattle.std.proofs.Common.{◌≡◌, ℕ, ◌+◌, List, [], ◌∷◌, refl, sym, ap, subst, ◌∙◌, arith, length, drop, All}
 use Rattle.std.specs.Prelude.{map as list_map, replicate, flat_map}
 use Rattle.std.proofs.lemmas.List.{map-append}
-use Rattle.mach_types.specs.Numbers.{disposition, disposition_number, kind_sent}
+use Rattle.mach_types.specs.Numbers.{disposition}
 use Rattle.mach_types.specs.Tokens.{Kind, in_message}
 use Rattle.mach_types.specs.Messages.{Mark as MachineMark}
 use Rattle.mach_types.specs.Grammar.{Wire, data_item, port_item, WireBody, IsWire, IsWireBody}
-use Rattle.mach_types.specs.Bodies.{wire_words, item_rights, body_rights, AllZip, SameItem, Through}
+use Rattle.mach_types.specs.Bodies.{wire_words, AllZip, SameItem, Through}
 use Rattle.mach_types.specs.Bodies.{body_words as machine_words}
 use Rattle.mach_model.specs.State.{State}
 use Rattle.mach_model.specs.SentMeans.{IsSent}
@@ -17,22 +17,17 @@ use Rattle.message_codec.specs.Words.{named, items_words, body_words}
 use Rattle.message_codec.proofs.Shapes.{All-head, All-tail}
 use Rattle.name_space.specs.Names.{Names}
 use Rattle.copyin_base.specs.declared.message.Carried.{Carried}
-use Rattle.copyin_base.specs.Kept.{mark_of, marks_of, kind_of, items_of, body_of, items_given, body_given}
+use Rattle.copyin_base.specs.Kept.{items_of, body_of, items_given, body_given}
+use Rattle.copyin_base.proofs.KeptEntries.{numbers, rights_of, item_kept, body_kept}
 use Rattle.copyin_base.specs.Worlds.{WorldView}
 use Rattle.copyin.specs.Judging.{CopiesBody, made_by_all}
 use Rattle.copyin.specs.Plans.{ChangesWords}
 use Rattle.copyin.proofs.Stepping.{Along, stepped}
-use Rattle.copyin.proofs.Numbering.{of_number, number_of, kind_given, given_ports}
+use Rattle.copyin.proofs.Numbering.{number_of, kind_given, given_ports}
 
 -- words and rights as the machine has them
 abbrev pub pairs : List PortWord → List (ℕ × ℕ)
 pairs ws = list_map (λ w. (w.disposition, w.name)) ws
-
-abbrev pub rights_of : List Carried → List (Kind × MachineMark)
-rights_of cs = list_map (λ c. (kind_sent c.given, mark_of c.mark)) cs
-
-abbrev pub numbers : List Carried → List ℕ
-numbers cs = list_map (λ c. disposition_number c.given) cs
 
 abbrev pub dispositions : List PortWord → List ℕ
 dispositions ws = list_map (λ w. w.disposition) ws
@@ -95,47 +90,13 @@ items_numbers (port_item f n words ∷ xs) = grind (arith, items_numbers xs, map
 
 -- ---- and so are the rights
 
--- those of one item, and those that come after them
-record Front (n : ℕ) (words : List ℕ) (cs : List Carried) (more : List ℕ) : Type 0 where
-  rights : rights_of cs ≡ list_map (λ (m : MachineMark). (kind_of n, m)) (marks_of (take (length words) cs)) ++ rights_of (drop (length words) cs)
-  later : numbers (drop (length words) cs) ≡ more
-  many : length (marks_of (take (length words) cs)) ≡ length words
-
-front : (n : ℕ) (words : List ℕ) (cs : List Carried) (more : List ℕ) → numbers cs ≡ replicate (length words) n ++ more → Front n words cs more
-front n [] cs more e = record { rights = refl; later = e; many = refl }
-front n (w ∷ ws) [] more e = absurd (let f : [] ≡ n ∷ (replicate (length ws) n ++ more) = e in cc)
-front n (w ∷ ws) (c ∷ cs) more e =
-    let both : disposition_number c.given ∷ numbers cs ≡ n ∷ (replicate (length ws) n ++ more) = e in
-    let one : disposition_number c.given ≡ n = cc in
-    let rest : numbers cs ≡ replicate (length ws) n ++ more = cc in
-    let y = front n ws cs more rest in
-    let kind : kind_sent c.given ≡ kind_of n = sym (kind_given n c.given (ap disposition (sym one) ∙ of_number c.given)) in
-    record {
-      rights = ap (λ (x : Kind). (x, mark_of c.mark) ∷ rights_of cs) kind ∙ ap (λ (rs : List (Kind × MachineMark)). (kind_of n, mark_of c.mark) ∷ rs) y.rights;
-      later = y.later;
-      many = ap suc y.many;
-    }
-
-items_rights : (xs : List Wire) (cs : List Carried) → numbers cs ≡ items_given xs → rights_of cs ≡ flat_map item_rights (items_of xs cs)
-items_rights [] [] e = refl
-items_rights [] (c ∷ cs) e = absurd (let f : disposition_number c.given ∷ numbers cs ≡ [] = e in cc)
-items_rights (data_item f n z c bytes padding ∷ xs) cs e = items_rights xs cs e
-items_rights (port_item f n words ∷ xs) cs e =
-    let x = front n words cs (items_given xs) e in
-    x.rights ∙ ap (λ (rs : List (Kind × MachineMark)). list_map (λ (m : MachineMark). (kind_of n, m)) (marks_of (take (length words) cs)) ++ rs) (items_rights xs (drop (length words) cs) x.later)
-
 same_items : (xs : List Wire) (cs : List Carried) → All IsWire xs → numbers cs ≡ items_given xs → AllZip (SameItem IsSent) xs (items_of xs cs)
 same_items [] cs are e = tt
 same_items (data_item f n z c bytes padding ∷ xs) cs are e = (refl, same_items xs cs (All-tail IsWire (data_item f n z c bytes padding) xs are) e)
 same_items (port_item f n words ∷ xs) cs are e =
-    let x = front n words cs (items_given xs) e in
+    let x = item_kept n (length words) cs (items_given xs) e in
     let d = given_ports n (All-head IsWire (port_item f n words) xs are).1 in
-    ((refl, (d.0, d.1, kind_given n d.0 d.1), x.many), same_items xs (drop (length words) cs) (All-tail IsWire (port_item f n words) xs are) x.later)
-
-pub whole_rights : (written : WireBody) (cs : List Carried) → numbers cs ≡ body_given written → body_rights (body_of written cs) ≡ rights_of cs
-whole_rights (WireBody.raw bytes) [] e = refl
-whole_rights (WireBody.raw bytes) (c ∷ cs) e = absurd (let f : disposition_number c.given ∷ numbers cs ≡ [] = e in cc)
-whole_rights (WireBody.items xs) cs e = sym (items_rights xs cs e)
+    ((refl, (d.0, d.1, kind_given n d.0 d.1), x.many), same_items xs (drop (length words) cs) (All-tail IsWire (port_item f n words) xs are) x.left)
 
 -- ---- the whole body
 
@@ -164,7 +125,7 @@ whole_body w s o k task names (WireBody.items xs) cs left at fits b =
       w2 = x.w2;
       t = x.t;
       along = x.along;
-      copy = (same_items xs cs fits given, subst (λ (rs : List (Kind × MachineMark)). Through (CopyCarried task (in_message o k)) s (flat_map wire_words xs) rs x.t) (items_rights xs cs given) words);
+      copy = (same_items xs cs fits given, subst (λ (rs : List (Kind × MachineMark)). Through (CopyCarried task (in_message o k)) s (flat_map wire_words xs) rs x.t) (sym (body_kept (WireBody.items xs) cs given)) words);
       changes = x.changes;
       rest = x.rest;
       given = given;

@@ -35,7 +35,8 @@ use Rattle.copyin.specs.Planned.{CanGo}
 use Rattle.copyin.specs.Plans.{destination_word, reply_words, option_list, message_for, Judged, made_in, ChangesWord, ChangesWords, Commits}
 use Rattle.copyin.proofs.Committing.{judged_go, mark_lives, words_live, null_no_port, dead_no_port, same_options}
 use Rattle.copyin.proofs.Going.{go_on}
-use Rattle.copyin.proofs.Holding.{receive_right, held_made, held_carriers, all_held}
+use Rattle.copyin_base.proofs.KeptEntries.{receive_right}
+use Rattle.copyin.proofs.Holding.{held_made, held_carriers, all_held}
 use Rattle.copyin.proofs.HoldersKept.{copied_ports, word_holders}
 use Rattle.copyin.proofs.Keeping.{else_copied}
 use Rattle.copyin.proofs.Walking.{IsKept, over_word, over_words}

@@ -26,7 +26,8 @@ use Rattle.copyin_base.proofs.Gets.{same_found}
 use Rattle.copyin_base.proofs.Holders.{IsReceive, ReceivesAt, receives_at, none_receives, left_receives, KeepHolders, same_holders, put_holders, holders_left, holders_ports}
 use Rattle.copyin.specs.Copies.{attributes_copied, copied_from, ports_copied, port_copied, CopiesRight}
 use Rattle.copyin.specs.Plans.{destination_word, reply_words, option_list, Judged, ChangesWord, ChangesWords, Commits}
-use Rattle.copyin.proofs.Holding.{receive_right, held_holders}
+use Rattle.copyin_base.proofs.KeptEntries.{receive_right}
+use Rattle.copyin.proofs.Holding.{held_holders}
 use Rattle.copyin.proofs.Keeping.{keeps, if_either}
 
 -- ---- what is left

@@ -7,42 +7,25 @@ use Rattle.std.specs.Ordering.{nat_cmp}
 use Rattle.std.proofs.lemmas.Bool.Decides.{eqb_tells}
 use Rattle.std.proofs.lemmas.List.{drop_more}
 use Rattle.std.proofs.lemmas.List.Elements.{Contains-append_cases}
-use Rattle.mach_types.specs.declared.rights.Disposition.{Disposition}
-use Rattle.mach_types.specs.declared.rights.Disposition.TheVariants.{MoveReceive, MoveSend, MoveSendOnce, CopySend, MakeSend, MakeSendOnce}
 use Rattle.mach_model.specs.State.{State}
 use Rattle.name_space.specs.Names.{SpaceView}
 use Rattle.port.specs.declared.Holder.TheVariants as by
 use Rattle.port.specs.Ports.{PortView, IsLive, with_port}
 use Rattle.copyin_base.specs.declared.message.Carried.{Carried}
-use Rattle.copyin_base.specs.declared.message.Mark.{Mark}
-use Rattle.copyin_base.specs.declared.message.Mark.TheVariants as mark
 use Rattle.copyin_base.specs.Changes.{SetsHolder}
-use Rattle.copyin_base.specs.Kept.{Kept, receive_of, receive_moved}
+use Rattle.copyin_base.specs.Kept.{Kept, receive_of}
 use Rattle.copyin_base.specs.Shows.{Agrees, HoldersAgree, CarriersAgree, RequestsStand}
 use Rattle.copyin_base.specs.Worlds.{WorldView, NoneLost, space_in, entry_in, entry_at, port_at}
 use Rattle.copyin_base.proofs.AttributesSet.{holder_agrees}
 use Rattle.copyin_base.proofs.Carriers.{KeepQueues, IsCarried, same_queues, put_queue, carriers_held}
 use Rattle.copyin_base.proofs.Holders.{ReceivesAt, ChangesHolder, same_receives, put_holder, holder_set}
 use Rattle.copyin_base.proofs.Idle.{none_lost_held}
+use Rattle.copyin_base.proofs.KeptEntries.{receive_right, moved_is}
 use Rattle.copyin_base.proofs.Listed.{none_listed, listed_one, listed_later}
 use Rattle.copyin_base.proofs.Requested.{requested_held}
 use Rattle.copyin.specs.Loops.{HoldsRight, HoldsRights}
 use Rattle.copyin.specs.Planned.{CanHoldAll}
 use Rattle.copyin.proofs.Keeping.{still}
-
--- the receive right of the port, as a message carries it
-abbrev pub receive_right : (port : ℕ) → Carried
-receive_right p = record { given = MoveReceive; mark = mark.Port p }
-
-moved_is : (given : Disposition) (m : Mark) (p : ℕ) → receive_moved given m ≡ Some p → record { given = given; mark = m } ≡ receive_right p
-moved_is MoveReceive (mark.Port q) p e = let f : q ≡ p = cc in ap receive_right f
-moved_is MoveReceive mark.Null p e = absurd (cc)
-moved_is MoveReceive mark.Dead p e = absurd (cc)
-moved_is MoveSend m p e = absurd (cc)
-moved_is MoveSendOnce m p e = absurd (cc)
-moved_is CopySend m p e = absurd (cc)
-moved_is MakeSend m p e = absurd (cc)
-moved_is MakeSendOnce m p e = absurd (cc)
 
 pub receive_is : (c : Carried) (p : ℕ) → receive_of c ≡ Some p → c ≡ receive_right p
 receive_is c p e = moved_is c.given c.mark p e

@@ -12,7 +12,8 @@ use Rattle.copyin_base.specs.declared.message.Carried.{Carried}
 use Rattle.copyin_base.specs.Kept.{Kept, receive_of}
 use Rattle.copyin_base.proofs.Listed.{none_listed, listed_one, listed_later}
 use Rattle.copyin.specs.Loops.{MakesLoop}
-use Rattle.copyin.proofs.Holding.{receive_right, receive_is}
+use Rattle.copyin_base.proofs.KeptEntries.{receive_right}
+use Rattle.copyin.proofs.Holding.{receive_is}
 
 -- ---- the ports whose receive rights are among some rights
 

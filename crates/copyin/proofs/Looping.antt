@@ -1,16 +1,14 @@
 -- A message that would close a loop, in the tables and in the machine: the way from its destination is the same before and after its rights
 -- are copied in, until it comes to a port whose receive right it carries.
-use Rattle.std.proofs.Common.{◌≡◌, ℕ, suc, zero, ◌+◌, ◌-◌, ◌<◌, ◌≤◌, Bool, true, false, List, [], ◌∷◌, Some, None, refl, sym, ap, subst, ◌∙◌, ◌⊎◌, inl, inr, arith, length}
-use Rattle.std.specs.Prelude.{◌↔◌, if◌then◌else◌, ◌&&◌, Contains, slice_get, is_some, option_map}
+use Rattle.std.proofs.Common.{◌≡◌, ℕ, ◌+◌, ◌-◌, ◌<◌, ◌≤◌, true, List, [], Some, sym, ap, subst, ◌∙◌, inl, inr, arith, length}
+use Rattle.std.specs.Prelude.{◌↔◌, Contains, slice_get, is_some}
 use Rattle.std.proofs.lemmas.Bool.{true_from_ne_false}
-use Rattle.std.proofs.lemmas.Bool.Decides.{eqb_tells}
 use Rattle.circularity.specs.Chains.{Leads}
-use Rattle.mach_types.specs.Tokens.{receive, Place, in_task, in_message, in_request, is_of, is_held, is_in_task}
+use Rattle.mach_types.specs.Tokens.{receive, in_task, in_message}
 use Rattle.mach_types.specs.Messages.{Entry}
-use Rattle.mach_model.specs.State.{State, Target, lookup, queue, held}
-use Rattle.mach_model.specs.Death.{same_place, LiesAt, CarriedAt, Reaches}
+use Rattle.mach_model.specs.State.{State, queue, held}
+use Rattle.mach_model.specs.Death.{LiesAt, CarriedAt, Reaches}
 use Rattle.mach_model.specs.Carried.{lying}
-use Rattle.mach_model.specs.ReceiveRight.{one_if}
 use Rattle.mach_model.specs.Send.{ClosesLoop, place_at}
 use Rattle.mach_model.proofs.At.{slice_get_drop}
 use Rattle.mach_model.proofs.Grounding.{Where, with_task, nowhere, queued, where_is, unmade}
@@ -18,33 +16,17 @@ use Rattle.mach_model.proofs.Midway.{mid_lawful}
 use Rattle.mach_model.proofs.Moving.{Apart}
 use Rattle.mach_model.proofs.SettledDetermined.{weigh-same}
 use Rattle.mach_model.proofs.SettledParts.{eq_symm}
-use Rattle.name_space.specs.declared.Entry.{Entry as Named}
-use Rattle.name_space.specs.Entry.{has_receive}
 use Rattle.port.specs.declared.Holder.TheVariants as holder
 use Rattle.port.specs.Holding.{IsHeldBy}
 use Rattle.port.specs.Ports.{PortView, PortsView}
 use Rattle.copyin_base.specs.declared.message.Carried.{Carried}
-use Rattle.copyin_base.specs.Kept.{Kept, Keeps}
-use Rattle.copyin_base.specs.Shows.{AllKept, target_of, Shows}
-use Rattle.copyin_base.specs.Worlds.{WorldView, port_at, entry_at}
-use Rattle.copyin_base.proofs.Gets.{seen, same_found}
-use Rattle.copyin_base.proofs.Told.{port_of, port_got}
+use Rattle.copyin_base.specs.Kept.{Kept}
+use Rattle.copyin_base.specs.Shows.{Shows}
+use Rattle.copyin_base.specs.Worlds.{WorldView, port_at}
+use Rattle.copyin_base.proofs.KeptEntries.{kept_at, some_at, receive_right}
+use Rattle.copyin_base.proofs.Told.{port_got, task_holds}
 use Rattle.copyin.specs.Loops.{MakesLoop}
-use Rattle.copyin.proofs.Holding.{receive_right}
 use Rattle.copyin.proofs.Moved.{kept_carries}
-
--- the message that is kept of an entry
-kept_at : (p : ℕ) (ms : List Kept) (es : List Entry) (i : ℕ) (e : Entry) → AllKept p ms es → slice_get es i ≡ Some e → (m : Kept) × (Contains ms m) × Keeps p m e.message
-kept_at p [] [] i e all at = absurd (let f : None ≡ Some e = at in cc)
-kept_at p (m ∷ ms) [] i e all at = absurd all
-kept_at p [] (x ∷ es) i e all at = absurd all
-kept_at p (m ∷ ms) (x ∷ es) zero e all at = (m, (zero, omega arith, refl), subst (λ (y : Entry). Keeps p m y.message) (same_found (Some x) x e refl at) all.0)
-kept_at p (m ∷ ms) (x ∷ es) (suc i) e all at = let r = kept_at p ms es i e all.1 at in (r.0, (let c = r.1 in let below = c.1 in (suc c.0, omega (arith, below), c.2)), r.2)
-
-some_at : {A : Type 0} (xs : List A) (k : ℕ) → k < length xs → (x : A) × (slice_get xs k ≡ Some x)
-some_at [] k below = absurd (omega (arith, below))
-some_at (x ∷ xs) zero below = (x, refl)
-some_at (x ∷ xs) (suc k) below = some_at xs k (omega (arith, below))
 
 -- ---- the holder of a port is where its receive right lies
 
@@ -59,19 +41,7 @@ module _ (w : WorldView) (s : State) (sh : Shows w s) (p : ℕ) (v : PortView Ke
   by_task t lies =
       let some = task_has t lies in
       let named = (sh.lawful.naming t).is_named p (omega (arith, some)) in
-      go named.0 named.1 some (seen (entry_at w t named.0))
-    where
-      go : (name : ℕ) → lookup s t name ≡ Some (Target.port p) → 0 < held s t receive p → ((e : Named) × (entry_at w t name ≡ Some e)) ⊎ (entry_at w t name ≡ None) → v.attributes.holder ≡ holder.Task t
-      go name at some (inr none) = absurd (let a : lookup s t name ≡ None = sh.agrees.naming t name ∙ ap (option_map target_of) none in let b : None ≡ Some (Target.port p) = sym a ∙ at in cc)
-      go name at some (inl (e, is)) =
-          let target : target_of e ≡ Target.port p = same_found (lookup s t name) (target_of e) (Target.port p) (sh.agrees.naming t name ∙ ap (option_map target_of) is) at in
-          let named = port_of e p target in
-          let has = (sh.agrees.references t name e p is named).0 in
-          sh.holders.held t name e p is named (received (has_receive e) (omega (arith, has, some))) v there_is
-        where
-          received : (b : Bool) → 0 < one_if b → b ≡ true
-          received true h = refl
-          received false h = absurd (omega (arith, h))
+      task_holds w s sh.agrees sh.holders p v there_is t named.0 named.1 some
 
   by_queue : (q k : ℕ) → LiesAt s receive p (in_message q k) → v.attributes.holder ≡ holder.QueueOf q
   by_queue q k lies = go (port_got (port_at w q) (sh.agrees.live_port q ∙ live)) (some_at (s.log q) k within)

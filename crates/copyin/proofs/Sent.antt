@@ -34,7 +34,8 @@ use Rattle.copyin_base.proofs.Tied.{stands_tied, stands_is_tied}
 use Rattle.copyin.specs.Copies.{ledger_queued}
 use Rattle.copyin.specs.Loops.{MakesLoop}
 use Rattle.copyin.proofs.CarriersKept.{commits_carriers}
-use Rattle.copyin.proofs.Holding.{receive_right, held_ledger, held_agrees}
+use Rattle.copyin_base.proofs.KeptEntries.{receive_right}
+use Rattle.copyin.proofs.Holding.{held_ledger, held_agrees}
 use Rattle.copyin.proofs.HoldersKept.{commits_holders}
 use Rattle.copyin.proofs.Looping.{closes, closed}
 use Rattle.copyin.proofs.Moved.{kept_carries, carries_counted}

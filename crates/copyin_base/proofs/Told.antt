@@ -1,5 +1,5 @@
 -- What the tables tell of a state that they agree with.
-use Rattle.std.proofs.Common.{◌≡◌, ℕ, ◌≤◌, Option, Some, None, refl, sym, ap, ◌∙◌, arith, true, false, inl, inr}
+use Rattle.std.proofs.Common.{◌≡◌, ℕ, ◌<◌, ◌≤◌, ◌⊎◌, Option, Some, None, refl, sym, ap, ◌∙◌, arith, true, false, inl, inr}
 use Rattle.std.specs.Prelude.{is_some, ◌≢◌}
 use Rattle.std.specs.Option.{option_map}
 use Rattle.std.specs.FinMap as map
@@ -7,7 +7,7 @@ use Rattle.std.proofs.lemmas.Bool.{false_from_ne_true}
 use Rattle.std.proofs.lemmas.Bool.Decides.{eqb_tells}
 use Rattle.mach_types.specs.Numbers.{null_word, dead_word}
 use Rattle.mach_types.specs.Tokens.{receive}
-use Rattle.mach_model.specs.State.{State, Target, lookup, Holds}
+use Rattle.mach_model.specs.State.{State, Target, lookup, held, Holds}
 use Rattle.mach_model.specs.Tasks.{IsNoTask}
 use Rattle.mach_model.specs.ReceiveRight.{NamesReceive, one_if}
 use Rattle.mach_model.specs.Refusals.{IsNoName}
@@ -17,10 +17,12 @@ use Rattle.name_space.specs.declared.Entry.{Entry}
 use Rattle.name_space.specs.declared.Entry.TheVariants as entry
 use Rattle.name_space.specs.Entry.{port_named, has_receive, receive_named}
 use Rattle.name_space.specs.Names.{SpaceView}
+use Rattle.port.specs.declared.Holder.TheVariants as holder
 use Rattle.port.specs.Ports.{PortView}
 use Rattle.copyin_base.specs.Kept.{Kept}
 use Rattle.copyin_base.specs.Worlds.{WorldView, HasTask, space_at, entry_at, port_at}
-use Rattle.copyin_base.specs.Shows.{target_of, Agrees}
+use Rattle.copyin_base.specs.Shows.{target_of, Agrees, HoldersAgree}
+use Rattle.copyin_base.proofs.Gets.{seen, same_found}
 
 -- only a receive or send right's name shows as a port's
 pub port_of : (e : Entry) (p : ℕ) → target_of e ≡ Target.port p → port_named e ≡ Some p
@@ -106,6 +108,18 @@ module _ (w : WorldView) (s : State) (a : Agrees w s) where
     where
       the_same : (x y : Target) → Some x ≡ Some y → x ≡ y
       the_same x y e = cc
+
+  -- a task that has a port's receive right is its holder
+  pub task_holds : HoldersAgree w → (p : ℕ) (v : PortView Kept) → port_at w p ≡ Some v → (task name : ℕ) → lookup s task name ≡ Some (Target.port p) → 0 < held s task receive p → v.attributes.holder ≡ holder.Task task
+  task_holds h p v there task name at some = go (seen (entry_at w task name))
+    where
+      go : ((e : Entry) × (entry_at w task name ≡ Some e)) ⊎ (entry_at w task name ≡ None) → v.attributes.holder ≡ holder.Task task
+      go (inr none) = absurd (let b : None ≡ Some (Target.port p) = sym (unused task name none) ∙ at in cc)
+      go (inl (e, is)) =
+          let named = port_of e p (same_found (lookup s task name) (target_of e) (Target.port p) (found task name e is) at) in
+          let has = (a.references task name e p is named).0 in
+          let receives : has_receive e ≡ true = grind (arith, has, some) in
+          h.held task name e p is named receives v there
 
   -- a live port is in the tables
   pub port_there : (p : ℕ) → s.live_port p ≡ true → (v : PortView Kept) × (port_at w p ≡ Some v)

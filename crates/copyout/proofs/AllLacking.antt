@@ -30,7 +30,7 @@ use Rattle.copyin_base.proofs.Counting.{counts_same}
 use Rattle.copyout.specs.Giving.{joined, alone, ledger_joined, ports_given, GivesPort, GivesMark, free_names, NoneLeft, NeedsOwn, MarkLacks, LackNames}
 use Rattle.copyout.proofs.Given.{port_given, option_named, same_there}
 use Rattle.copyout.proofs.GivenAll.{AreLying, mark_given, own_mark, later}
-use Rattle.copyout.proofs.Rights.{rights_of}
+use Rattle.copyin_base.proofs.KeptEntries.{rights_of}
 
 -- ---- the order of tokens
 

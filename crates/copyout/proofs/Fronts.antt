@@ -12,7 +12,7 @@ use Rattle.copyin_base.specs.Kept.{Kept, Keeps}
 use Rattle.copyin_base.specs.Worlds.{WorldView, port_at}
 use Rattle.copyin_base.specs.Shows.{AllKept, Agrees}
 use Rattle.copyout.proofs.GivenAll.{AreLying}
-use Rattle.copyout.proofs.Rights.{message_counted}
+use Rattle.copyin_base.proofs.KeptEntries.{message_counted}
 use Rattle.copyout.specs.Ready.{carried_by}
 
 -- The queue begins with an entry that is this message.

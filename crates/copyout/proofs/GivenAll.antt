@@ -22,7 +22,8 @@ use Rattle.copyin_base.specs.Shows.{Agrees}
 use Rattle.copyout.specs.Giving.{GivesPort, GivesMark, GivesAll}
 use Rattle.copyout.proofs.Given.{port_given}
 use Rattle.copyout.proofs.GivenSound.{AreSound, StaySound, stay_same, stay_trans, port_given_sound}
-use Rattle.copyout.proofs.Rights.{right_of, rights_of, seconds}
+use Rattle.copyin_base.proofs.KeptEntries.{right_of, rights_of}
+use Rattle.copyout.proofs.Rights.{seconds}
 
 -- As many rights for live ports lie at the entry, or more.
 abbrev pub AreLying : State → (o k : ℕ) → List Carried → Type 0

@@ -26,14 +26,13 @@ use Rattle.copyin_base.specs.Shows.{CarriersAgree, Agrees}
 use Rattle.copyin_base.specs.Worlds.{WorldView, port_at}
 use Rattle.copyin_base.proofs.Carriers.{IsCarried, carriers_same, carriers_held}
 use Rattle.copyin_base.proofs.Counting.{one_of}
-use Rattle.copyin_base.proofs.KeptEntries.{kept_of}
+use Rattle.copyin_base.proofs.KeptEntries.{kept_of, rights_of, message_counted}
 use Rattle.copyin_base.proofs.Taking.{Without, take_lying}
 use Rattle.copyin_base.proofs.Told.{port_there}
 use Rattle.copyout.specs.Giving.{port_held, ports_given}
 use Rattle.copyout.specs.Putting.{PutsPort}
 use Rattle.copyout.specs.Ready.{carried_by}
 use Rattle.copyout.proofs.Given.{lives}
-use Rattle.copyout.proofs.Rights.{rights_of, message_counted}
 
 -- ---- a receive right that a queued message carries
 

@@ -44,7 +44,8 @@ use Rattle.copyout.proofs.GivenSound.{AreSound}
 use Rattle.copyout.proofs.FrontNoted.{by_note, front_notes}
 use Rattle.copyout.specs.Giving.{GivesAll}
 use Rattle.copyout.proofs.Delivered.{gives_length}
-use Rattle.copyout.proofs.Rights.{rights_of, seconds, message_kept, BodyReceived, body_received, reply_received, words_received}
+use Rattle.copyin_base.proofs.KeptEntries.{rights_of, message_kept}
+use Rattle.copyout.proofs.Rights.{seconds, BodyReceived, body_received, reply_received, words_received}
 use Rattle.copyout.proofs.GivenWords.{each_keeps, IsWord, each_fits, body_words_count, rights_length, length-body}
 use Rattle.copyout.proofs.Fronts.{HasFront, shown_is_front}
 use Rattle.copyout.proofs.FrontTaken.{kind_by, front, port_lives, kind_of_front, taken_state, taken_moves, front_agrees, front_holders, front_carriers, front_requested}

@@ -25,7 +25,7 @@ use Rattle.copyin_base.specs.Worlds.{WorldView, port_at}
 use Rattle.copyin_base.specs.Shows.{Agrees, Shows}
 use Rattle.copyout.specs.Giving.{LackNames}
 use Rattle.copyout.proofs.Fronts.{HasFront, shown_empty, shown_front, shown_is_front, shown_lying}
-use Rattle.copyout.proofs.Rights.{numbers, item_kept, message_kept}
+use Rattle.copyin_base.proofs.KeptEntries.{numbers, item_kept, message_kept}
 use Rattle.copyout.proofs.AllLacking.{all_lack, all_lack_too}
 
 -- ---- how long a message is

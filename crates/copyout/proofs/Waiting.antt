@@ -21,7 +21,7 @@ use Rattle.copyin_base.specs.Worlds.{WorldView, port_at}
 use Rattle.copyin_base.specs.Shows.{came_by_once, onces_queued, Shows}
 use Rattle.copyout.specs.Ready.{send_for, sends_for, carried_by, AllEntered, Waits}
 use Rattle.copyout.specs.Takes.{destination_right}
-use Rattle.copyout.proofs.Rights.{rights_of, message_counted}
+use Rattle.copyin_base.proofs.KeptEntries.{rights_of, message_counted}
 use Rattle.copyout.proofs.GivenWords.{rights_length, body_words_count}
 use Rattle.copyout.proofs.Fronts.{HasFront, shown_front, shown_lives}
 

@@ -5,33 +5,20 @@ use Rattle.std.specs.Option.{option_and_then}
 use Rattle.std.specs.FinMap as map
 use Rattle.std.specs.Ordering.{nat_cmp}
 use Rattle.std.proofs.lemmas.Bool.Decides.{eqb_tells}
-use Rattle.mach_types.specs.declared.rights.Disposition.{Disposition}
-use Rattle.mach_types.specs.declared.rights.Disposition.TheVariants.{MoveReceive, MoveSend, MoveSendOnce, CopySend, MakeSend, MakeSendOnce}
 use Rattle.mach_model.proofs.SettledParts.{less}
 use Rattle.port.specs.declared.Holder.{Holder}
 use Rattle.port.specs.declared.Holder.TheVariants as holder
 use Rattle.port.specs.Holding.{held}
 use Rattle.port.specs.Ports.{PortView, with_port}
 use Rattle.copyin_base.specs.declared.message.Carried.{Carried}
-use Rattle.copyin_base.specs.declared.message.Mark.{Mark}
-use Rattle.copyin_base.specs.declared.message.Mark.TheVariants as mark
-use Rattle.copyin_base.specs.Kept.{Kept, receive_of, receive_moved}
+use Rattle.copyin_base.specs.Kept.{Kept, receive_of}
 use Rattle.copyin_base.specs.Worlds.{WorldView, port_at}
 use Rattle.copyin_base.proofs.Gets.{of_some, same_found}
+use Rattle.copyin_base.proofs.KeptEntries.{moved_is}
 use Rattle.copyin_base.proofs.Putting.{each_put}
 use Rattle.destroy.specs.Judging.{IsQueued, LosesPort, receive_right, CarriesAmong, LosesAt, LosesAmong, last_destroyed}
 
 -- ---- which right it is
-
-moved_is : (given : Disposition) (m : Mark) (p : ℕ) → receive_moved given m ≡ Some p → record { given = given; mark = m } ≡ receive_right p
-moved_is MoveReceive (mark.Port q) p e = let f : q ≡ p = cc in ap receive_right f
-moved_is MoveReceive mark.Null p e = absurd (cc)
-moved_is MoveReceive mark.Dead p e = absurd (cc)
-moved_is MoveSend m p e = absurd (cc)
-moved_is MoveSendOnce m p e = absurd (cc)
-moved_is CopySend m p e = absurd (cc)
-moved_is MakeSend m p e = absurd (cc)
-moved_is MakeSendOnce m p e = absurd (cc)
 
 pub receive_is : (o : Option Carried) (p : ℕ) → option_and_then (λ c. receive_of c) o ≡ Some p → o ≡ Some (receive_right p)
 receive_is None p e = absurd (cc)

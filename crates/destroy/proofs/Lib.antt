@@ -38,7 +38,6 @@ pub mod BurName
 pub mod BurNamed
 pub mod BurLoop
 pub mod LoseAmid
-pub mod LoseMarks
 pub mod LoseMessage
 pub mod LoseStage
 pub mod LoseSteps

@@ -12,6 +12,7 @@ use Rattle.mach_model.specs.Notices.{Notice, notice_message, Posted, Owed, poste
 use Rattle.mach_model.specs.Turns.{Ending, listed, lives_after, IsWaiting, Turn, IsReached, begins, turns}
 use Rattle.mach_model.proofs.At.{at_own, at_other}
 use Rattle.mach_model.proofs.SettledDetermined.{map-append}
+use Rattle.mach_model.proofs.SettledPosting.{front_stays}
 use Rattle.mach_model.proofs.TurnsCounted.{reached_counted}
 use Rattle.mach_model.proofs.TurnsSound.{listed_later, one_more, reached_sound}
 use Rattle.mach_model.proofs.Weigh.{weigh-append}
@@ -100,10 +101,5 @@ front_or_behind (y ∷ xs) ys zero x is = inl is
 front_or_behind (y ∷ xs) ys (suc k) x is = grind (arith, front_or_behind xs ys k x is)
 
 -- Entries stay where an entry comes to the end of a log.
-pub in_front : {A : Type 0} (xs ys : List A) (k : ℕ) (x : A) → slice_get xs k ≡ Some x → slice_get (xs ++ ys) k ≡ Some x
-in_front [] ys k x is = absurd (cc)
-in_front (z ∷ xs) ys zero x is = is
-in_front (z ∷ xs) ys (suc k) x is = in_front xs ys k x is
-
 pub log_longer : (log : ℕ → List Entry) (p : ℕ) (own : Entry) (q k : ℕ) (x : Entry) → slice_get (log q) k ≡ Some x → slice_get (at log p (log p ++ own ∷ []) q) k ≡ Some x
-log_longer log p own q k x is = grind (arith, at_own, in_front, at_other)
+log_longer log p own q k x is = grind (arith, at_own, front_stays, at_other)

@@ -26,6 +26,7 @@ use Rattle.port.specs.declared.Holder.TheVariants as holder
 use Rattle.copyin_base.specs.declared.message.Carried.{Carried}
 use Rattle.copyin_base.specs.Kept.{Kept, Keeps}
 use Rattle.copyin_base.specs.Worlds.{WorldView}
+use Rattle.copyin_base.proofs.KeptEntries.{message_kept}
 use Rattle.copyin_base.proofs.Listed.{listed_later}
 use Rattle.notifications.specs.SoFar.{due_so_far, entries_at, AreEntries, IsHolder}
 use Rattle.destroy.specs.Between.{Between}
@@ -34,7 +35,6 @@ use Rattle.destroy.specs.Paying.{LivesIn}
 use Rattle.destroy.specs.Stages.{IsJudged, AreLost, IsAt, Continues, IsCount, SameSlots}
 use Rattle.destroy.proofs.LoseAmid.{own_doomed, last_reversed, reversed}
 use Rattle.destroy.proofs.LoseChain.{left_within, front_or_behind}
-use Rattle.destroy.proofs.LoseMarks.{message_kept}
 use Rattle.destroy.proofs.LosePaid.{went_none}
 use Rattle.destroy.proofs.LoseStage.{loose_of, loose_noted, between_of, live_mid, undoomed, lives_there}
 

@@ -1,6 +1,6 @@
 -- As a step's end starts each port knows who has its receive right.
-use Rattle.std.proofs.Common.{◌≡◌, ℕ, suc, zero, ◌+◌, ◌-◌, ◌<◌, ◌≤◌, List, [], ◌∷◌, Some, None, refl, sym, ap, subst, ◌∙◌, arith, true, Bool, inl, inr, ◌⊎◌, length}
-use Rattle.std.specs.Prelude.{◌≢◌, ◌↔◌, if◌then◌else◌, ◌&&◌, All, Contains, slice_get, is_some, option_map}
+use Rattle.std.proofs.Common.{◌≡◌, ℕ, ◌+◌, ◌-◌, ◌<◌, ◌≤◌, [], ◌∷◌, Some, refl, sym, ap, subst, ◌∙◌, arith, true, Bool, inl, inr, ◌⊎◌, length}
+use Rattle.std.specs.Prelude.{◌≢◌, ◌↔◌, if◌then◌else◌, ◌&&◌, All, Contains, slice_get, is_some}
 use Rattle.std.proofs.lemmas.Option.{get_or_from_slice_get}
 use Rattle.std.proofs.lemmas.List.Elements.{All-head, All-tail}
 use Rattle.mach_types.specs.declared.rights.Disposition.TheVariants.{MoveReceive}
@@ -15,46 +15,29 @@ use Rattle.mach_model.specs.Settles.{due_notices}
 use Rattle.mach_model.proofs.At.{slice_get_drop}
 use Rattle.mach_model.proofs.Grounding.{Where, with_task, nowhere, queued, where_is}
 use Rattle.mach_model.proofs.SettledParts.{eq_symm}
+use Rattle.mach_model.proofs.SettledPosting.{front_stays}
 use Rattle.mach_model.proofs.SettledDetermined.{weigh-same}
 use Rattle.mach_model.proofs.Weigh.{weigh-append}
 use Rattle.mach_model.specs.State.{at}
-use Rattle.name_space.specs.declared.Entry.{Entry as Named}
-use Rattle.name_space.specs.Entry.{has_receive}
 use Rattle.port.specs.declared.Holder.TheVariants as holder
 use Rattle.port.specs.Holding.{IsHeldBy}
 use Rattle.port.specs.Ports.{PortView}
 use Rattle.copyin_base.specs.declared.message.Carried.{Carried}
 use Rattle.copyin_base.specs.declared.message.Mark.TheVariants as mark
 use Rattle.copyin_base.specs.Acts.{ShowsMid}
-use Rattle.copyin_base.specs.Kept.{Kept, Keeps}
+use Rattle.copyin_base.specs.Kept.{Kept}
 use Rattle.copyin_base.specs.Posted.{with_posted}
-use Rattle.copyin_base.specs.Shows.{AllKept, target_of}
-use Rattle.copyin_base.specs.Worlds.{WorldView, port_at, entry_at}
-use Rattle.copyin_base.proofs.Gets.{seen, same_found}
-use Rattle.copyin_base.proofs.Told.{port_of, port_got}
+use Rattle.copyin_base.specs.Worlds.{WorldView, port_at}
+use Rattle.copyin_base.proofs.Told.{port_got, task_holds}
 use Rattle.notifications.specs.SoFar.{posted_from, IsHolder, entries_at}
 use Rattle.destroy.proofs.JudgeCarried.{counted_carries}
 use Rattle.notifications.proofs.Owing.{posted_is}
-use Rattle.copyin_base.proofs.KeptEntries.{kept_of}
-use Rattle.destroy.proofs.LoseChain.{in_front}
+use Rattle.copyin_base.proofs.KeptEntries.{kept_of, kept_at, some_at}
 use Rattle.destroy.proofs.StartPosted.{posted_log, posted_ledger}
 
 -- Of a port that is there, just those that were lost have nobody.
 abbrev pub TellsLost : WorldView → Type 0
 TellsLost w = (port : ℕ) → Contains w.ports.lost port ↔ IsHeldBy w.ports port holder.Nobody
-
--- the message that is kept of an entry
-pub kept_at : (p : ℕ) (ms : List Kept) (es : List Entry) (i : ℕ) (e : Entry) → AllKept p ms es → slice_get es i ≡ Some e → (m : Kept) × (Contains ms m) × Keeps p m e.message
-kept_at p [] [] i e all at = absurd (let f : None ≡ Some e = at in cc)
-kept_at p (m ∷ ms) [] i e all at = absurd all
-kept_at p [] (x ∷ es) i e all at = absurd all
-kept_at p (m ∷ ms) (x ∷ es) zero e all at = (m, (zero, omega arith, refl), subst (λ (y : Entry). Keeps p m y.message) (same_found (Some x) x e refl at) all.0)
-kept_at p (m ∷ ms) (x ∷ es) (suc i) e all at = let r = kept_at p ms es i e all.1 at in (r.0, (let c = r.1 in let below = c.1 in (suc c.0, omega (arith, below), c.2)), r.2)
-
-some_at : {A : Type 0} (xs : List A) (k : ℕ) → k < length xs → (x : A) × (slice_get xs k ≡ Some x)
-some_at [] k below = absurd (omega (arith, below))
-some_at (x ∷ xs) zero below = (x, refl)
-some_at (x ∷ xs) (suc k) below = some_at xs k (omega (arith, below))
 
 -- What is owed brings no right but those that pay.
 none_owed : (lives : ℕ → Bool) (h : Token → ℕ) → ((p : ℕ) (place : Place) → h (token send_once p place) ≡ 0) → (ends : ℕ → ℕ) (owed : Owed) → All (IsOwed lives) owed →
@@ -101,16 +84,7 @@ module _ (now : ℕ) (tables w : WorldView) (mid : State) (owed : Owed) (shows :
         let mid_some : 0 < held mid t receive p = (let a = receives (λ x. if is_held t receive p x then 1 else 0) (λ q place. refl) in omega (arith, a, some)) in
         let named = (l.naming t).is_named p (omega (arith, mid_some)) in
         let at : lookup s t named.0 ≡ Some (Target.port p) = ap (λ (x : State). lookup x t named.0) (posted_is now mid owed) ∙ named.1 in
-        go t named.0 at some (seen (entry_at w t named.0))
-      where
-        go : (t name : ℕ) → lookup s t name ≡ Some (Target.port p) → 0 < held s t receive p → ((e : Named) × (entry_at w t name ≡ Some e)) ⊎ (entry_at w t name ≡ None) → v.attributes.holder ≡ holder.Task t
-        go t name at some (inr none) = absurd (let a : lookup s t name ≡ None = shows.agrees.naming t name ∙ ap (option_map target_of) none in let b : None ≡ Some (Target.port p) = sym a ∙ at in cc)
-        go t name at some (inl (e, is)) =
-            let target : target_of e ≡ Target.port p = same_found (lookup s t name) (target_of e) (Target.port p) (shows.agrees.naming t name ∙ ap (option_map target_of) is) at in
-            let named = port_of e p target in
-            let has = (shows.agrees.references t name e p is named).0 in
-            let receives_it : has_receive e ≡ true = grind (arith, has, some) in
-            shows.holders.held t name e p is named receives_it v there
+        task_holds w s shows.agrees shows.holders p v there t named.0 at some
 
     -- ---- in a queue
 
@@ -137,7 +111,7 @@ module _ (now : ℕ) (tables w : WorldView) (mid : State) (owed : Owed) (shows :
             let taken : s.taken q ≡ mid.taken q = ap (λ (x : State). x.taken q) (posted_is now mid owed) in
             let in_queue : slice_get (queue s q) (k - mid.taken q) ≡ Some e = slice_get_drop (s.taken q) (s.log q) (k - mid.taken q)
             ∙ (λ i. slice_get (posted_log now mid owed q i) (taken i + (k - mid.taken q)))
-            ∙ in_front (mid.log q) (entries_at now q (due_notices owed)) (mid.taken q + (k - mid.taken q)) e log in
+            ∙ front_stays (mid.log q) (entries_at now q (due_notices owed)) (mid.taken q + (k - mid.taken q)) e log in
             let m = kept_at q u.queue (queue s q) (k - mid.taken q) e (shows.agrees.ports q u at).waiting in_queue in
             carried u at m.0 m.1 (counted_carries q m.0 e.message m.2 p (omega (arith, counted, lying)))
           where

@@ -41,7 +41,7 @@ posts_append now front [] p = record { added = []; is = sym (append-nil (front p
 posts_append now front (y ∷ ys) p = grind (arith, posts_append now (with_notice now front y) ys p, at_same, append_assoc, at_other)
 
 -- what stood stands
-front_stays : {A : Type 0} (xs ys : List A) (k : ℕ) (x : A) → slice_get xs k ≡ Some x → slice_get (xs ++ ys) k ≡ Some x
+pub front_stays : {A : Type 0} (xs ys : List A) (k : ℕ) (x : A) → slice_get xs k ≡ Some x → slice_get (xs ++ ys) k ≡ Some x
 front_stays [] ys k x e = absurd (cc)
 front_stays (y ∷ xs) ys zero x e = e
 front_stays (y ∷ xs) ys (suc k) x e = front_stays xs ys k x e

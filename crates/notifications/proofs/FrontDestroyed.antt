@@ -34,7 +34,7 @@ use Rattle.copyout.proofs.FrontNoted.{by_note, front_notes}
 use Rattle.copyout.proofs.Fronts.{HasFront, shown_is_front}
 use Rattle.copyout.proofs.FrontTaken.{front, port_lives, left, taken_state, taken_moves, front_agrees, front_holders, front_carriers, front_requested}
 use Rattle.copyout.proofs.GivenCarriers.{none_carries}
-use Rattle.copyout.proofs.Rights.{rights_of, message_kept}
+use Rattle.copyin_base.proofs.KeptEntries.{rights_of, message_kept}
 use Rattle.copyout.proofs.Rooms.{front_none_lost}
 use Rattle.copyout.proofs.Slots.{front_slots}
 use Rattle.copyout.proofs.Waiting.{waits}
