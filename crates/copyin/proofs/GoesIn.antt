@@ -4,6 +4,7 @@ use Rattle.std.specs.Prelude.{is_some, if◌then◌else◌, ◌||◌, nat_lt}
 use Rattle.std.specs.Option.{option_map}
 use Rattle.std.specs.FinMap as map
 use Rattle.std.proofs.lemmas.Bool.{ltb-true, ltb-false}
+use Rattle.std.proofs.Math.Bool.{or-false as or_false, or-true as or_true}
 use Rattle.mach_types.specs.declared.rights.Disposition.{Disposition}
 use Rattle.mach_types.specs.declared.rights.Disposition.TheVariants.{MoveReceive, MoveSend, MoveSendOnce, CopySend, MakeSend, MakeSendOnce}
 use Rattle.mach_types.specs.Tokens.{receive, send, Request}
@@ -136,14 +137,6 @@ module _ (w : WorldView) (s : State) (a : Agrees w s) (o k : ℕ) (l : IsMoving 
   }
 
 -- ---- all of them
-
-or_false : (b : Bool) → (b || false) ≡ b
-or_false true = refl
-or_false false = refl
-
-or_true : (b : Bool) → (b || true) ≡ true
-or_true true = refl
-or_true false = refl
 
 is_above : (m n : ℕ) → m < n → (b : Bool) → nat_lt m n ≡ b → nat_lt m n ≡ true
 is_above m n lt true e = e

@@ -198,22 +198,7 @@ module _ (w w2 : WorldView) (s t : State) (a : Agrees w s) (task : ℕ) (space s
   made = near.made
 
   pub near_agrees : Agrees w2 t
-  near_agrees = near_by_agrees w w2 s t a task space space2 there
-      record {
-        spaces = near.spaces;
-        rest = near.rest;
-        naming_others = near.naming_others;
-        names = near.names;
-        held_others = near.held_others;
-        references = near.references;
-        made = near.made;
-        live = near.live;
-        ports = near.ports;
-        counts = near.counts;
-        total = near.total;
-        sets = near.sets;
-        set_names = near.set_names;
-      }
+  near_agrees = near_by_agrees w w2 s t a task space space2 there (assumption (near))
       (subst (λ (x : RequestTablesView). RequestsAgree (notify_of x) x.names.went w2.ports.made t.stands t.live_port t.ledger) (sym near.kept_requests)
       (requests_stay (notify_of w.requests) w.requests.names.went w.ports.made w2.ports.made s.stands t.stands s.live_port t.live_port s.ledger t.ledger a.of_requests
       (omega (arith, made)) near.stands (λ q less. ap (λ (x : State). x.live_port q) near.rest) near.requests))

@@ -139,17 +139,7 @@ room_entry w v same task name = same_entry (space_at v task) (space_at w task) n
 
 -- spare slots are of no account to the machine
 pub slots_agree : (w : WorldView) (s : State) (n : ℕ) → Agrees w s → Agrees (with_slots w n) s
-slots_agree w s n a = record {
-  spaces = a.spaces;
-  rights = a.rights;
-  live_port = a.live_port;
-  ports_made = a.ports_made;
-  ports = a.ports;
-  counts = a.counts;
-  total = a.total;
-  in_sets = a.in_sets;
-  of_requests = a.of_requests;
-}
+slots_agree w s n a = assumption (a)
 
 pub slots_requested : (w : WorldView) (n : ℕ) → RequestsStand w → RequestsStand (with_slots w n)
 slots_requested w n r = requested_ports w (with_slots w n) r (λ p lives. lives) refl refl

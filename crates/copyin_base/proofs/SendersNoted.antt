@@ -1,6 +1,6 @@
 -- Ports that lost their last send right are noted: what each change of the tables does to that.
-use Rattle.std.proofs.Common.{◌≡◌, ℕ, zero, suc, ◌+◌, ◌-◌, ◌<◌, ◌≤◌, List, [], Some, None, Option, refl, sym, ap, subst, ◌∙◌, arith, ◌⊎◌, inl, inr, true}
-use Rattle.std.specs.Prelude.{Contains, is_some}
+use Rattle.std.proofs.Common.{◌≡◌, ℕ, zero, ◌<◌, ◌≤◌, List, [], Some, Option, refl, sym, ap, subst, ◌∙◌, arith, ◌⊎◌, inl, inr, true}
+use Rattle.std.specs.Prelude.{Contains}
 use Rattle.std.specs.Option.{unwrap_or}
 use Rattle.std.specs.FinMap as map
 use Rattle.std.proofs.lemmas.Bool.Decides.{eqb_tells}
@@ -11,12 +11,12 @@ use Rattle.rights.specs.declared.RightKind.{RightKind}
 use Rattle.rights.specs.declared.RightKind.TheVariants as right
 use Rattle.rights.specs.Counts.{no_rights, with_more, with_fewer, one_shifted}
 use Rattle.rights.specs.Ledger.{LedgerView, counts_of, made, taken, shifted}
-use Rattle.port.specs.Ports.{IsLive}
 use Rattle.copyin_base.specs.Changes.{IsSenderless, NotesSenderless, NotesSenders}
 use Rattle.copyin_base.specs.Wanted.{KeepsSpares}
 use Rattle.copyin_base.specs.Worlds.{WorldView, NoneLost}
 use Rattle.copyin_base.specs.Shows.{Agrees, HoldersAgree, CarriersAgree, SlotsSuffice, RequestsStand}
 use Rattle.copyin_base.proofs.Listed.{none_listed}
+use Rattle.copyin_base.proofs.Requested.{requested_ports}
 use Rattle.copyin_base.proofs.Putting.{put_own, put_other}
 use Rattle.copyin_base.proofs.Spares.{keeps_names}
 
@@ -27,24 +27,10 @@ module _ (w : WorldView) (noted : List ℕ) where
   with_noted = record w { ports = record w.ports { noted = noted } }
 
   with_noted_agrees : (s : State) → Agrees w s → Agrees with_noted s
-  with_noted_agrees s a = record {
-    spaces = a.spaces;
-    rights = a.rights;
-    live_port = a.live_port;
-    ports_made = a.ports_made;
-    ports = a.ports;
-    counts = a.counts;
-    total = a.total;
-    in_sets = a.in_sets;
-    of_requests = a.of_requests;
-  }
+  with_noted_agrees s a = assumption (a)
 
   with_noted_requested : RequestsStand w → RequestsStand with_noted
-  with_noted_requested r = record {
-    on_names = λ key x is. let o = r.on_names key x is in record { own = o.own; small = o.small; entry = o.entry; found = o.found; for_port = o.for_port; live = o.live };
-    no_senders = r.no_senders;
-    port_destroyed = r.port_destroyed;
-  }
+  with_noted_requested r = requested_ports w with_noted r (λ p lives. lives) refl refl
 
 module _ (old new : WorldView) (p : ℕ) (n : NotesSenderless old p new) where
   pub noted_agrees : (s : State) → Agrees old s → Agrees new s

@@ -6,6 +6,7 @@ use Rattle.std.proofs.lemmas.Bool.{cases_lt, eqb-true}
 use Rattle.std.proofs.lemmas.Bool.Decides.{eqb_tells}
 use Rattle.std.specs.Cmp.{nat_cmp_total}
 use Rattle.std.specs.FinMap as map
+use Rattle.std.proofs.Math.Bool.{or-false as or_false}
 use Rattle.mach_types.specs.Numbers.{kind_sent}
 use Rattle.mach_types.specs.Tokens.{Kind, receive, send, send_once}
 use Rattle.mach_model.proofs.Names.{many_names}
@@ -64,10 +65,6 @@ named_there (Some e) p h = (e, refl, h)
 or_assoc : (a b c : Bool) → (a || b) || c ≡ a || (b || c)
 or_assoc true b c = refl
 or_assoc false b c = refl
-
-or_false : (a : Bool) → a || false ≡ a
-or_false true = refl
-or_false false = refl
 
 pub named_by-push : (xs : List Carried) (c : Carried) (p : ℕ) → named_by (xs ++ c ∷ []) p ≡ named_by xs p || names_port (kind_sent c.given) c.mark p
 named_by-push [] c p = or_false (names_port (kind_sent c.given) c.mark p)

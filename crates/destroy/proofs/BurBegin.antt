@@ -2,6 +2,7 @@
 use Rattle.std.proofs.Common.{◌≡◌, ℕ, zero, suc, List, [], ◌∷◌, ◌++◌, Option, Some, None, refl, sym, ap, subst, ◌∙◌, arith, true, false, Bool, length}
 use Rattle.std.specs.Prelude.{All, Contains, ◌&&◌, ◌||◌, not, is_some, reverse, option_map, filter}
 use Rattle.std.proofs.lemmas.List.{append-nil}
+use Rattle.std.proofs.Math.Bool.{and-true as and_true}
 use Rattle.mach_types.specs.Tokens.{Request, no_senders, port_destroyed, dead_name, in_message, weigh}
 use Rattle.mach_model.specs.State.{State, Target, lookup, same_request}
 use Rattle.mach_model.specs.Notices.{Owed, Posted, all_posted_tokens}
@@ -23,10 +24,6 @@ use Rattle.destroy.proofs.BurEnd.{dead_never}
 use Rattle.destroy.proofs.BurState.{same_request_is}
 
 -- ---- the beginning
-
-and_true : (b : Bool) → (b && true) ≡ b
-and_true true = refl
-and_true false = refl
 
 none_waiting : (s : State) (ms : List Kept) (xs : List (ℕ × ℕ)) → ms ≡ [] → AreEntries s ms xs → xs ≡ []
 none_waiting s [] [] is h = refl

@@ -5,6 +5,7 @@ use Rattle.std.specs.Option.{option_map}
 use Rattle.std.specs.FinMap as map
 use Rattle.std.proofs.lemmas.Bool.{eq-eqb, lt-ltb, ltb-true}
 use Rattle.std.proofs.lemmas.Bool.Decides.{eqb_tells}
+use Rattle.std.proofs.Math.Bool.{or-false as or_false, or-true as or_true}
 use Rattle.mach_types.specs.Numbers.{most_references}
 use Rattle.mach_types.specs.Tokens.{send, Request, no_senders, port_destroyed, dead_name}
 use Rattle.mach_model.specs.State.{State, Target, Names, lookup, held, at, same_request}
@@ -46,14 +47,6 @@ use Rattle.destroy.proofs.BurSoFar.{held_same}
 use Rattle.destroy.proofs.BurState.{same_request_is}
 use Rattle.destroy.proofs.BurStep.{can_post, step, step_spare}
 use Rattle.destroy.proofs.LosePosting.{holder_stays}
-
-or_false : (b : Bool) → (b || false) ≡ b
-or_false true = refl
-or_false false = refl
-
-or_true : (b : Bool) → (b || true) ≡ true
-or_true true = refl
-or_true false = refl
 
 counts_dead : (n : ℕ) → 0 < n → dead_count n ≡ min (n + 1) most_references
 counts_dead n some = omega (arith, some)

@@ -1,9 +1,10 @@
 -- The two requests of a doomed port itself end.
 use Rattle.std.proofs.Common.{◌≡◌, ℕ, zero, suc, ◌+◌, ◌%◌, ◌^◌, List, [], ◌∷◌, ◌++◌, Option, Some, None, refl, sym, ap, subst, ◌∙◌, arith, true, false, Bool, ◌⊎◌, inl, inr, length}
-use Rattle.std.specs.Prelude.{Contains, ◌||◌, nat_lt, if◌then◌else◌}
+use Rattle.std.specs.Prelude.{Contains, nat_lt, if◌then◌else◌}
 use Rattle.std.specs.FinMap as map
 use Rattle.std.specs.Ordering.{nat_cmp}
 use Rattle.std.proofs.lemmas.Bool.{eq-eqb}
+use Rattle.std.proofs.Math.Bool.{or-false as or_false}
 use Rattle.mach_types.specs.Tokens.{Request, no_senders, port_destroyed, dead_name}
 use Rattle.mach_model.specs.State.{State, same_request}
 use Rattle.mach_model.specs.Notices.{Owed}
@@ -35,10 +36,6 @@ use Rattle.destroy.proofs.BurState.{same_request_is}
 use Rattle.destroy.proofs.BurStep.{can_post, step, step_spare}
 use Rattle.destroy.proofs.Rooms.{same_rooms, pays_spaces}
 use Rattle.destroy.proofs.LoseFrames.{kept_has}
-
-or_false : (b : Bool) → (b || false) ≡ b
-or_false true = refl
-or_false false = refl
 
 -- a request that isn't on a name changes no name
 pub names_same : (now : ℕ) (mid : State) (e : Ending) (rs : List Request) (s : State) → IsPartway now mid e rs s → (r : Request) → ((task name : ℕ) → same_request (dead_name task name) r ≡ false) →

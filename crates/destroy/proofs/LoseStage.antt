@@ -77,17 +77,7 @@ loose_noted now tables old mid owed e w l noted spare destroyed enough = record 
   reached = l.reached;
   state = l.state;
   so_far = l.so_far;
-  agrees = let a = l.agrees in record {
-    spaces = a.spaces;
-    rights = a.rights;
-    live_port = a.live_port;
-    ports_made = a.ports_made;
-    ports = a.ports;
-    counts = a.counts;
-    total = a.total;
-    in_sets = a.in_sets;
-    of_requests = a.of_requests;
-  };
+  agrees = let a = l.agrees in assumption (a);
   holders = l.holders;
   slots = enough;
   framed = framed_stays w _ (same_ports w _ refl refl refl refl (λ p h. h) refl) mid e e refl refl refl l.framed;

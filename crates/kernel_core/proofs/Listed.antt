@@ -1,14 +1,8 @@
 -- A listing has no more names, and a set no more members, than the task has names.
-use Rattle.std.proofs.Common.{◌≡◌, ◌⊎◌, ◌≤◌, ℕ, zero, suc, ◌<◌, Bool, true, false, ◌&&◌, T, List, [], ◌∷◌, length, Option, Some, None, refl, sym, ap, ◌∙◌, arith, inl, inr, map as list_map}
-use Rattle.std.specs.Prelude.{AllPairs, All, Contains, is_some}
-use Rattle.std.specs.declared.cmp.Ordering.{Ordering}
-use Rattle.std.specs.declared.cmp.Ordering.TheVariants.{Less, Equal, Greater}
-use Rattle.std.specs.Ordering.{nat_cmp, eq_by_cmp, is_lt, is_eq}
-use Rattle.std.specs.Cmp.{ranked}
+use Rattle.std.proofs.Common.{◌≡◌, ◌⊎◌, ◌≤◌, ℕ, zero, suc, ◌<◌, true, List, [], ◌∷◌, length, Option, Some, None, refl, sym, ap, ◌∙◌, arith, inl, inr, map as list_map}
+use Rattle.std.specs.Prelude.{AllPairs, Contains, is_some}
+use Rattle.std.specs.Ordering.{nat_cmp}
 use Rattle.std.specs.FinMap as map
-use Rattle.std.specs.FinMap.{nat_cmp-IsAntisymmetric}
-use Rattle.std.specs.FinMap.Entries.{is_sorted, below_all}
-use Rattle.std.proofs.lemmas.List.Kept.{AllPairs-cons}
 use Rattle.std.proofs.lemmas.Map.Views.{Contains-from_any}
 use mathlib.Core.Logic.{dite}
 use native.Mathlib.Decide.{ℕ_discrete}
@@ -20,6 +14,7 @@ use Rattle.name_space.specs.Names.{SpaceView}
 use Rattle.copyin_base.specs.Shows.{Shows}
 use Rattle.copyin_base.specs.Worlds.{WorldView, space_at}
 use Rattle.transfer.specs.Transfer.{names_in}
+use Rattle.kernel_core_base.proofs.Filtered.{keys_in, rising, same_key}
 
 -- ---- rising lists
 
@@ -81,42 +76,6 @@ fewer (x ∷ xs) (y ∷ ys) a b f = dite (ℕ_discrete x y)
 
 -- ---- the keys of a map
 
-first : (a b : Bool) → T (a && b) → T a
-first true b p = tt
-first false b p = p
-
-second : (a b : Bool) → T (a && b) → T b
-second true b p = p
-second false b p = absurd p
-
-less : (a b : ℕ) → T (is_lt (nat_cmp a b)) → a < b
-less a b h = go (nat_cmp a b) refl h
-  where
-    go : (r : Ordering) → nat_cmp a b ≡ r → T (is_lt r) → a < b
-    go Less e h = ranked a b Less (sym e)
-    go Equal e h = absurd h
-    go Greater e h = absurd h
-
-abbrev keys_in : {X : Type 0} → List (ℕ × X) → List ℕ
-keys_in es = list_map (λ e. e.0) es
-
-above_all : {X : Type 0} (k : ℕ) (es : List (ℕ × X)) → T (below_all nat_cmp k es) → All (λ q. k < q) (keys_in es)
-above_all k [] h i d within = absurd (omega (arith, within))
-above_all k (e ∷ es) h zero d within = less k e.0 (first _ _ h)
-above_all k (e ∷ es) h (suc i) d within = above_all k es (second _ _ h) i d (omega (arith, within))
-
-keys_rise : {X : Type 0} (es : List (ℕ × X)) → T (is_sorted nat_cmp es) → IsRising (keys_in es)
-keys_rise [] h = λ i j d lt within. absurd (omega (arith, within))
-keys_rise (e ∷ es) h = AllPairs-cons (λ a b. a < b) e.0 (keys_in es) (above_all e.0 es (first _ _ h)) (keys_rise es (second _ _ h))
-
-is_equal : (r : Ordering) → is_eq r ≡ true → r ≡ Equal
-is_equal Less e = absurd (cc)
-is_equal Equal e = refl
-is_equal Greater e = absurd (cc)
-
-same_key : (x y : ℕ) → eq_by_cmp nat_cmp x y ≡ true → x ≡ y
-same_key x y e = nat_cmp-IsAntisymmetric x y (is_equal (nat_cmp x y) e)
-
 is_key : {X : Type 0} (m : map.FinMap nat_cmp X) (n : ℕ) → is_some (map.get m n) ≡ true → Contains (map.keys m) n
 is_key m n some = Contains-from_any same_key n (map.keys m) (sym (map.contains_key-keys m n) ∙ some)
 
@@ -146,6 +105,6 @@ names_few w s task names sh lives is =
 pub members_few : (w : WorldView) (s : State) (task name : ℕ) (members : List ℕ) → Shows w s → ¬ (IsNoTask s task) → TellsMembers s task name members → length members ≤ names_in (space_at w task)
 members_few w s task name members sh lives tells =
     let m = s.naming task in
-    let h = fewer members (map.keys m) tells.rising (keys_rise (map.entries m) (map.entries_sorted m))
+    let h = fewer members (map.keys m) tells.rising (rising (map.entries m) (map.entries_sorted m))
     (λ n in_it. let p = (tells.each n).0 in_it in is_key m n (ap is_some p.1)) in
     omega (arith, h, keys_len (map.entries m), map.len-entries m, names_are w s task sh lives)

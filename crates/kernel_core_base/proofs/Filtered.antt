@@ -13,15 +13,15 @@ use Rattle.std.specs.FinMap.Entries.{is_sorted, below_all}
 use Rattle.std.proofs.lemmas.List.Kept.{AllPairs-cons, AllPairs-filter, IsStrictlySortedBy-filter}
 use Rattle.std.proofs.lemmas.Map.Views.{any-filter_same, Contains-from_any}
 
-first : (a b : Bool) → T (a && b) → T a
+pub first : (a b : Bool) → T (a && b) → T a
 first true b p = tt
 first false b p = p
 
-second : (a b : Bool) → T (a && b) → T b
+pub second : (a b : Bool) → T (a && b) → T b
 second true b p = p
 second false b p = absurd p
 
-less : (a b : ℕ) → T (is_lt (nat_cmp a b)) → a < b
+pub less : (a b : ℕ) → T (is_lt (nat_cmp a b)) → a < b
 less a b h = go (nat_cmp a b) refl h
   where
     go : (r : Ordering) → nat_cmp a b ≡ r → T (is_lt r) → a < b
@@ -29,7 +29,7 @@ less a b h = go (nat_cmp a b) refl h
     go Equal e h = absurd h
     go Greater e h = absurd h
 
-abbrev keys_in : {X : Type 0} → List (ℕ × X) → List ℕ
+abbrev pub keys_in : {X : Type 0} → List (ℕ × X) → List ℕ
 keys_in es = list_map (λ e. e.0) es
 
 above : {X : Type 0} (k : ℕ) (es : List (ℕ × X)) → T (below_all nat_cmp k es) → All (λ q. k < q) (keys_in es)
@@ -37,7 +37,7 @@ above k [] h i d within = absurd (omega (arith, within))
 above k (e ∷ es) h zero d within = less k e.0 (first _ _ h)
 above k (e ∷ es) h (suc i) d within = above k es (second _ _ h) i d (omega (arith, within))
 
-rising : {X : Type 0} (es : List (ℕ × X)) → T (is_sorted nat_cmp es) → AllPairs (λ a b. a < b) (keys_in es)
+pub rising : {X : Type 0} (es : List (ℕ × X)) → T (is_sorted nat_cmp es) → AllPairs (λ a b. a < b) (keys_in es)
 rising [] h = λ i j d lt within. absurd (omega (arith, within))
 rising (e ∷ es) h = AllPairs-cons (λ a b. a < b) e.0 (keys_in es) (above e.0 es (first _ _ h)) (rising es (second _ _ h))
 

@@ -13,6 +13,7 @@ use Rattle.name_space.specs.declared.Entry.{Entry}
 use Rattle.name_space.specs.Names.{Names as TableNames}
 use Rattle.copyin_base.specs.Requests.{RequestTablesView}
 use Rattle.copyin_base.specs.Shows.{target_of}
+use Rattle.kernel_core_base.proofs.Filtered.{first, second}
 use Rattle.kernel_core_base.specs.Names.{type_of_entry, type_found, types_of}
 
 -- ---- each entry of a sorted list is found by its key
@@ -28,14 +29,6 @@ each_by P Q (e ∷ es) f h = (f e.0 e.1 h.0, each_by P Q es f h.1)
 both_each : {X : Type 0} (P Q : ℕ → X → Type 0) (es : List (ℕ × X)) → Each P es → Each Q es → Each (λ k v. P k v × Q k v) es
 both_each P Q [] h g = tt
 both_each P Q (e ∷ es) h g = ((h.0, g.0), both_each P Q es h.1 g.1)
-
-first : (a b : Bool) → T (a && b) → T a
-first true b p = tt
-first false b p = p
-
-second : (a b : Bool) → T (a && b) → T b
-second true b p = p
-second false b p = absurd p
 
 less : (o : Ordering) → T (is_lt o) → is_eq o ≡ false
 less Less p = refl

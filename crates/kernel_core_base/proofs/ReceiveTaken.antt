@@ -37,7 +37,7 @@ use Rattle.copyin_base.proofs.Taking.{Without, take_held}
 use Rattle.copyin_base.proofs.Told.{receive_has, found}
 use Rattle.kernel_core_base.specs.declared.references.Loss.{Loss}
 use Rattle.kernel_core_base.specs.References.{CanKill, TakesReceive}
-use Rattle.kernel_core_base.proofs.TokensMoved.{weigh_alike, weigh_unlike, WithoutMany, take_many}
+use Rattle.notifications.proofs.Parts.{weigh_alike, weigh_unlike, Takes, take_many}
 
 -- What the machine does: the receive right goes with so many send rights, and the name with the last.
 pub record TakesSo (task name : ℕ) (l : Loss) (s t : State) : Type 0 where
@@ -70,7 +70,7 @@ module _ (w : WorldView) (task name : ℕ) (l : Loss) (can : CanKill w task name
   pub first : Without right_gone s.ledger
   first = take_held task receive l.port s.ledger (let h = kill_held.0 in omega (arith, h))
 
-  pub others : WithoutMany send_gone (l.held - l.left) first.others
+  pub others : Takes send_gone (l.held - l.left) first.others
   others = take_many task send l.port (l.held - l.left) first.others refl
       (let m = first.parts (λ x. if is_held task send l.port x then 1 else 0) in let h = kill_held.1 in omega (arith, m, h))
 

@@ -40,7 +40,7 @@ use Rattle.kernel_core_base.proofs.ReceiveTaken.{TakesSo, kill_held}
 use Rattle.kernel_core_base.proofs.ReceiveLost.{receive_lost}
 use Rattle.kernel_core_base.proofs.ReferencesSet.{Comes, send_set, both_set, dead_set}
 use Rattle.kernel_core_base.proofs.SetRemoved.{removed_agrees}
-use Rattle.kernel_core_base.proofs.TokensMoved.{weigh_alike, weigh_unlike}
+use Rattle.notifications.proofs.Parts.{weigh_alike, weigh_unlike}
 
 test_same : (a b c d : ℕ) → (a < b → c < d) → (c < d → a < b) → nat_lt a b ≡ nat_lt c d
 test_same a b c d f g = go (nat_lt a b) (nat_lt c d) refl refl

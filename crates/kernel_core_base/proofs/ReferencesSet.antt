@@ -32,7 +32,8 @@ use Rattle.copyin_base.proofs.NamesChanged.{names_agree, left_requests}
 use Rattle.copyin_base.proofs.Putting.{put_other, put_same}
 use Rattle.copyin_base.proofs.Requesting.{stands_after}
 use Rattle.kernel_core_base.specs.References.{left_with, recounted, CountsReferences}
-use Rattle.kernel_core_base.proofs.TokensMoved.{weigh_alike, weigh_unlike, Recounts, recount}
+use Rattle.notifications.proofs.Parts.{weigh_alike, weigh_unlike}
+use Rattle.kernel_core_base.proofs.TokensMoved.{Recounts, recount}
 
 -- The machine comes to a state that the tables agree with.
 pub record Comes (P : State → Type 0) (v : WorldView) : Type 0 where

@@ -17,17 +17,10 @@ same_notify v a b c (dead_name task name) = refl
 -- room for requests is of no account to the machine
 requests_show : (w : WorldView) (s : State) (a b c : ℕ) → Shows w s → Shows (record w { requests = with_rooms w.requests a b c }) s
 requests_show w s a b c sh = record {
-  agrees = record {
-    spaces = sh.agrees.spaces;
-    rights = sh.agrees.rights;
-    live_port = sh.agrees.live_port;
-    ports_made = sh.agrees.ports_made;
-    ports = sh.agrees.ports;
-    counts = sh.agrees.counts;
-    total = sh.agrees.total;
-    in_sets = sh.agrees.in_sets;
-    of_requests = subst (λ (f : Request → Option ℕ). RequestsAgree f w.requests.names.went w.ports.made s.stands s.live_port s.ledger) (λ i r. same_notify w.requests a b c r i) sh.agrees.of_requests;
-  };
+  agrees =
+      let x = sh.agrees in
+      let of_requests = subst (λ (f : Request → Option ℕ). RequestsAgree f w.requests.names.went w.ports.made s.stands s.live_port s.ledger) (λ i r. same_notify w.requests a b c r i) x.of_requests in
+      assumption (x, of_requests);
   holders = record { held = sh.holders.held };
   carriers = record { given = sh.carriers.given; carried = sh.carriers.carried };
   slots = sh.slots;
