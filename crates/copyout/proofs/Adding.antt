@@ -1,5 +1,5 @@
 -- A send reference came to what a task keeps under its name for a port that is there: the tables then.
-use Rattle.std.proofs.Common.{◌≡◌, ◌≢◌, ℕ, List, Option, Some, None, get_or, refl, sym, ap, subst, ◌∙◌}
+use Rattle.std.proofs.Common.{arith, ◌≡◌, ◌≢◌, ℕ, List, Option, Some, None, get_or, refl, sym, ap, subst, ◌∙◌}
 use Rattle.std.specs.Prelude.{IfSome, IfNone, slice_set}
 use Rattle.std.specs.Option.{option_map}
 use Rattle.std.specs.FinMap as map
@@ -43,11 +43,10 @@ module _ (old : WorldView) (task port : ℕ) (space : SpaceView) (spaces : List 
   -- What the task keeps of it was for the port and still is; all is as it was where there was none.
   module _ (live : IsLive old.ports port) where
     live_here : IsLive ports port
-    live_here = subst (λ (x : PortsView Kept). IsLive x port) (sym (ports_there old task space spaces ports ledger sets requests i read lent there view index is some)) live
+    live_here = grind (arith, ports_there)
 
     added_lives : (x : Entry) → port_named x ≡ Some port → (e : Entry) → Some (with_send x) ≡ Some e → (p : ℕ) → port_of e ≡ Some p → IsLive ports p
-    added_lives x named = of_some (with_send x) (λ e. (p : ℕ) → port_of e ≡ Some p → IsLive ports p)
-        (λ p for. subst (IsLive ports) (for_named x port p named for) live_here)
+    added_lives x named = grind (arith, of_some, for_named, live_here)
 
     pub added_given : AreGiven spaces ports → (o : Option PortName) → IfSome o (λ n. port_named n.entry ≡ Some port) →
         IfSome o (λ n. after ≡ record lent { names = map.insert lent.names n.name (with_send n.entry) }) → IfNone o (after ≡ lent) → AreGiven (slice_set spaces i (Some after)) ports
@@ -75,5 +74,4 @@ module _ (old : WorldView) (task port : ℕ) (space : SpaceView) (spaces : List 
   pub none_added : (o : Option PortName) → IfNone o ((name : ℕ) → port_at lent.names name ≢ Some port) →
       IfNone o ((x : SpaceView) → space_at old task ≡ Some x → HasNone x.names port)
   none_added (Some n) none = tt
-  none_added None none = λ x at name named. none name (named_kept (live_in ports) lent.names name port
-      (ap (λ (y : SpaceView). port_at y.names name) (sym names_read ∙ sym (same_found (space_at old task) x space at there)) ∙ named))
+  none_added None none = grind (arith, named_kept, names_read, same_found)

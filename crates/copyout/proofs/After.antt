@@ -40,15 +40,7 @@ pub entered-taken : (m : LedgerView) (p q : ℕ) → IsEntered m q → IsEntered
 entered-taken m p q h = entered-put m p q (with_fewer right.Send 1 (counts_of m p)) h
 
 pub sends-taken : (m : LedgerView) (p q : ℕ) → (counts_of m q).send ≤ (counts_of (taken m p right.Send 1) q).send + (if p == q then 1 else 0)
-sends-taken m p q = elim (eqb_tells p q) [
-  | inl h ↦ let e : (counts_of (taken m p right.Send 1) q).send ≡ (counts_of m p).send - 1 = subst (λ (k : ℕ). (counts_of (taken m p right.Send 1) k).send ≡ (counts_of m p).send - 1) h.1
-      (ap (λ (o : Option Counts). (unwrap_or o no_rights).send) (put_here m.counts p (with_fewer right.Send 1 (counts_of m p)))) in
-      let f : (counts_of m q).send ≡ (counts_of m p).send = ap (λ (k : ℕ). (counts_of m k).send) (sym h.1) in
-      rw (h.0, e, f) (omega arith)
-  | inr h ↦ let e : (counts_of (taken m p right.Send 1) q).send ≡ (counts_of m q).send =
-      ap (λ (o : Option Counts). (unwrap_or o no_rights).send) (put_other m.counts p (with_fewer right.Send 1 (counts_of m p)) q (λ x. h.1 (sym x))) in
-      rw (h.0, e) (omega arith)
-]
+sends-taken m p q = grind (arith, put_here, put_other)
 
 entered-if : (b : Bool) (m : LedgerView) (p q : ℕ) → IsEntered m q → IsEntered (if b then taken m p right.Send 1 else m) q
 entered-if true m p q h = entered-taken m p q h
@@ -137,10 +129,7 @@ can_give_rest w mid task c cs word g gives =
     }
 
 send_own : (kind : Kind) (one : Mark) (p : ℕ) → kind ≡ send → one ≡ mark.Port p → send_for kind one p ≡ 1
-send_own kind one p e f = subst (λ (k : Kind). send_for k one p ≡ 1) (sym e) (subst (λ (m : Mark). send_for send m p ≡ 1) (sym f) (own p))
-  where
-    own : (p : ℕ) → send_for send (mark.Port p) p ≡ 1
-    own p = elim (eqb_tells p p) [ inl h ↦ rw h.0 | inr h ↦ absurd (h.1 refl) ]
+send_own kind one p e f = grind arith
 
 -- something is left where the right needs a name of its own
 some_left : (left : SpaceView → ℕ) (w : WorldView) (task : ℕ) (c : Carried) (p : ℕ) → c.mark ≡ mark.Port p → is_some (map.get w.ports.ports p) ≡ true →

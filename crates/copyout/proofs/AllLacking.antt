@@ -66,11 +66,7 @@ named_alike send_once task name p s a b x y = x.rest ∙ sym y.rest
 
 -- but for the order of the tokens
 right_alike : (task : ℕ) (place : Place) (kind : Kind) (p : ℕ) (s : State) (name : ℕ) (a b : State) → GiveRight task place kind p s name a → GiveRight task place kind p s name b → IsReordered a b
-right_alike task place kind p s name a b x y = record {
-  rest = y.rest ∙ ap (λ (n : State). record n { ledger = b.ledger }) (named_alike kind task name p s y.named_state x.named_state y.named x.named)
-      ∙ sym (ap (λ (n : State). record n { ledger = b.ledger }) x.rest);
-  tokens = λ h. let m = x.tokens h in let n = y.tokens h in omega (arith, m, n);
-}
+right_alike task place kind p s name a b x y = grind (arith, named_alike)
 
 -- ---- from the machine's right to the tables'
 

@@ -1,5 +1,5 @@
 -- A message that carries one right at most beside that of its destination: the name that the right comes under.
-use Rattle.std.proofs.Common.{◌≡◌, ◌≢◌, ℕ, ◌+◌, ◌*◌, ◌^◌, ◌++◌, List, [], ◌∷◌, Bool, true, false, Option, Some, None, refl, sym, ap, subst, ◌∙◌, inl, inr, length}
+use Rattle.std.proofs.Common.{arith, ◌≡◌, ◌≢◌, ℕ, ◌+◌, ◌*◌, ◌^◌, ◌++◌, List, [], ◌∷◌, Bool, true, false, Option, Some, None, refl, sym, ap, subst, ◌∙◌, inl, inr, length}
 use Rattle.std.specs.Prelude.{MatchBool, MatchOption, if◌then◌else◌, max, is_some}
 use Rattle.std.specs.Option.{option_to_list}
 use Rattle.mach_types.specs.Grammar.{WireBody, body_text}
@@ -34,40 +34,19 @@ use Rattle.copyout.proofs.Rooms.{front_live, front_there}
 
 -- what is carried is the right, if there is one
 pub carries_right : (m : Kept) (b : Bare) → IsBare m b → carried_by m ≡ option_to_list b.right
-carries_right m b is =
-    ap (λ (o : Option Carried). option_to_list o ++ m.rights) is.reply
-    ∙ ap (λ (cs : List Carried). option_to_list (reply_held b.in_body b.right) ++ cs) is.rights ∙ held b.in_body b.right
-  where
-    held : (in_body : Bool) (right : Option Carried) → option_to_list (reply_held in_body right) ++ rights_held in_body right None ≡ option_to_list right
-    held true None = refl
-    held true (Some c) = refl
-    held false None = refl
-    held false (Some c) = refl
+carries_right m b is = grind arith
 
 pub bare_needs : (ports : PortsView Kept) (names : Names) (m : Kept) (b : Bare) (n : ℕ) → IsBare m b → Needs ports names [] (option_to_list b.right) n → Needs ports names [] (carried_by m) n
 bare_needs ports names m b n is = subst (λ (cs : List Carried). Needs ports names [] cs n) (sym (carries_right m b is))
 
 -- With a right to answer with, or with none, the body has none.
 pub answers_only : (m : Kept) (b : Bare) → IsBare m b → lone_right b ≡ None → (b.right ≡ m.reply) × (m.spans ≡ []) × (m.rights ≡ [])
-answers_only m b is none =
-    let h = held b.in_body b.right none in (sym h.0 ∙ sym is.reply, is.spans ∙ h.1, is.rights ∙ h.2)
-  where
-    held : (in_body : Bool) (right : Option Carried) → (if in_body then right else None) ≡ None →
-        (reply_held in_body right ≡ right) × (spans_held in_body right None ≡ []) × (rights_held in_body right None ≡ [])
-    held true None e = (refl, refl, refl)
-    held true (Some c) e = absurd (some_or_none c (Some c) refl e)
-    held false right e = (refl, refl, refl)
+answers_only m b is none = grind (arith, some_or_none)
 
 -- The right is the body's only one.
 pub lone_only : (m : Kept) (b : Bare) (c : Carried) → IsBare m b → lone_right b ≡ Some c →
     (b.right ≡ Some c) × (m.reply ≡ None) × (m.spans ≡ lone_span (disposition_number c.given) ∷ []) × (m.rights ≡ c ∷ [])
-lone_only m b c is one =
-    let h = held b.in_body b.right one in (h.0, is.reply ∙ h.1, is.spans ∙ h.2, is.rights ∙ h.3)
-  where
-    held : (in_body : Bool) (right : Option Carried) → (if in_body then right else None) ≡ Some c →
-        (right ≡ Some c) × (reply_held in_body right ≡ None) × (spans_held in_body right None ≡ lone_span (disposition_number c.given) ∷ []) × (rights_held in_body right None ≡ c ∷ [])
-    held true right e = (e, refl, ap spans_for e, ap rights_for e)
-    held false right e = absurd (some_or_none c None e refl)
+lone_only m b c is one = grind (arith, some_or_none)
 
 -- A right that is given alone has one word, which is its name.
 pub gives_one : (w new : WorldView) (task : ℕ) (right : Option Carried) (c : Carried) → right ≡ Some c → (words : List ℕ) (name : ℕ) →

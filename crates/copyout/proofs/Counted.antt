@@ -22,12 +22,10 @@ use Rattle.copyout.proofs.Counting.{has_fresh, named_there, names_own, IsLeft, F
 -- ---- a mark for a port that is there, and one that isn't
 
 gives_there : (w mid : WorldView) (task : ℕ) (kind : Kind) (one : Mark) (p word : ℕ) → one ≡ mark.Port p → is_some (map.get w.ports.ports p) ≡ true → GivesMark w task kind one word mid → GivesPort w task kind p word mid
-gives_there w mid task kind one p word is live h =
-    subst (λ (t : Bool). MatchBool t (GivesPort w task kind p word mid) ((word ≡ dead_word) × (mid ≡ w))) live (subst (λ (m : Mark). GivesMark w task kind m word mid) is h)
+gives_there w mid task kind one p word is live h = grind arith
 
 there_gives : (w mid : WorldView) (task : ℕ) (kind : Kind) (one : Mark) (p word : ℕ) → one ≡ mark.Port p → is_some (map.get w.ports.ports p) ≡ true → GivesPort w task kind p word mid → GivesMark w task kind one word mid
-there_gives w mid task kind one p word is live h =
-    subst (λ (m : Mark). GivesMark w task kind m word mid) (sym is) (subst (λ (t : Bool). MatchBool t (GivesPort w task kind p word mid) ((word ≡ dead_word) × (mid ≡ w))) (sym live) h)
+there_gives w mid task kind one p word is live h = grind arith
 
 abbrev IsGone : WorldView → Mark → Type 0
 IsGone w one = (p : ℕ) → one ≡ mark.Port p → is_some (map.get w.ports.ports p) ≡ false
@@ -39,8 +37,7 @@ gone_gives w task kind mark.Null gone = (null_word, (refl, refl))
 gone_gives w task kind mark.Dead gone = (dead_word, (refl, refl))
 
 gone_same : (w mid : WorldView) (task : ℕ) (kind : Kind) (one : Mark) (word : ℕ) → IsGone w one → GivesMark w task kind one word mid → mid ≡ w
-gone_same w mid task kind (mark.Port p) word gone h =
-    let g : (word ≡ dead_word) × (mid ≡ w) = subst (λ (t : Bool). MatchBool t (GivesPort w task kind p word mid) ((word ≡ dead_word) × (mid ≡ w))) (gone p refl) h in g.1
+gone_same w mid task kind (mark.Port p) word gone h = grind arith
 gone_same w mid task kind mark.Null word gone h = h.1
 gone_same w mid task kind mark.Dead word gone h = h.1
 
@@ -100,11 +97,7 @@ module _ (left : SpaceView → ℕ) (is_left : IsLeft left) (ports0 : PortsView 
   )
 
   own_suffices : Owns ports0 names0 earlier c → 0 < l → MarkLacks left w task (kind_sent c.given) c.mark → ⊥
-  own_suffices o some h =
-      let lack = subst (λ (m : Mark). MarkLacks left w task (kind_sent c.given) m) o.for_port h in
-      let same : lack.1.0 ≡ f.space = same_found (space_at w task) lack.1.0 f.space lack.1.1 f.there in
-      let none : left f.space ≡ 0 = ap left (sym same) ∙ lack.1.2 in
-      let s = f.left_is in absurd (omega arith)
+  own_suffices o some h = grind (arith, same_found)
 
   -- a right that needs none
   gone_now : ((p : ℕ) → c.mark ≡ mark.Port p → is_some (map.get ports0.ports p) ≡ false) → IsGone w c.mark
@@ -149,18 +142,7 @@ module _ (left : SpaceView → ℕ) (is_left : IsLeft left) (ports0 : PortsView 
   ]
 
   shared_suffices : Shares ports0 names0 earlier c → MarkLacks left w task (kind_sent c.given) c.mark → ⊥
-  shared_suffices s h = elim s [
-    | inl gone ↦ gone_lacks left w task (kind_sent c.given) c.mark (gone_now gone) h
-    | inr has ↦
-        let named : IsNamed f.space.names has.0 = f.named has.0 has.2 has.4 in
-        let lack = subst (λ (m : Mark). MarkLacks left w task (kind_sent c.given) m) has.1 h in
-        elim lack.2 [
-          | inl once ↦ has.3 once
-          | inr none ↦
-              let same : none.0 ≡ f.space = same_found (space_at w task) none.0 f.space none.1 f.there in
-              (subst (λ (x : SpaceView). HasNone x.names has.0) same none.2) named.0 named.1
-        ]
-  ]
+  shared_suffices s h = grind (arith, gone_lacks, gone_now, same_found)
 
 -- ---- all rights
 

@@ -37,11 +37,8 @@ not_there None e = refl
 not_there (Some x) e = absurd (cc)
 
 fresh_step : (names : Names) (k : ℕ) (b : Bool) → map.contains_key names (suc k) ≡ b → HasAll names k → HasAll names (suc k) ⊎ ((word : ℕ) × IsFreshName names word)
-fresh_step names k true e all = inl (λ n above below. elim (cases_lt k n) [
-  | inl h ↦ subst (λ (x : ℕ). map.contains_key names x ≡ true) (let f : suc k ≡ n = omega arith in f) e
-  | inr h ↦ all n above h
-])
-fresh_step names k false e all = inr (suc k, record { unused = not_there (map.get names (suc k)) e; not_null = omega arith; least = λ n above below. all n above (omega arith) })
+fresh_step names k true e all = grind (arith, cases_lt)
+fresh_step names k false e all = grind (arith, not_there)
 
 fresh_to : (names : Names) (k : ℕ) → HasAll names k ⊎ ((word : ℕ) × IsFreshName names word)
 fresh_to names zero = inl (λ n above below. absurd (omega arith))
@@ -68,8 +65,7 @@ or_assoc false b c = refl
 
 pub named_by-push : (xs : List Carried) (c : Carried) (p : ℕ) → named_by (xs ++ c ∷ []) p ≡ named_by xs p || names_port (kind_sent c.given) c.mark p
 named_by-push [] c p = or_false (names_port (kind_sent c.given) c.mark p)
-named_by-push (x ∷ xs) c p =
-    ap (λ b. names_port (kind_sent x.given) x.mark p || b) (named_by-push xs c p) ∙ sym (or_assoc (names_port (kind_sent x.given) x.mark p) (named_by xs p) (names_port (kind_sent c.given) c.mark p))
+named_by-push (x ∷ xs) c p = grind (arith, named_by-push xs c p, or_assoc)
 
 pub or_true : (a b : Bool) → a || b ≡ true → (a ≡ true) ⊎ (b ≡ true)
 or_true true b h = inl refl

@@ -49,7 +49,7 @@ record Both (w new : WorldView) (task : ℕ) (reply : Option Carried) (rights : 
 
 both : (w mid new : WorldView) (task : ℕ) (reply : Option Carried) (rights : List Carried) (first names : List ℕ) → GivesAll w task (option_to_list reply) first mid →
     GivesAll mid task rights names new → Both w new task reply rights first names
-both w mid new task None rights [] names h k = record { words = names; gives = subst (λ (x : WorldView). GivesAll x task rights names new) h k; remote = refl; body = refl }
+both w mid new task None rights [] names h k = grind arith
 both w mid new task None rights (word ∷ words) names h k = absurd h
 both w mid new task (Some c) rights [] names h k = absurd h
 both w mid new task (Some c) rights (word ∷ []) names h k = record {
@@ -70,16 +70,7 @@ pub delivers : (old mid new : WorldView) (task : ℕ) (m : Kept) (local sequence
     h.size ≡ length m.bytes → h.remote ≡ reply_word m.reply first → h.local ≡ local → h.sequence ≡ sequence → h.id ≡ m.id →
     ((written : WireBody) → IsLaidOut m.bytes m.spans written → bytes ≡ header_text h ++ body_text (received_body written names)) →
     Delivers old task m local sequence bytes new
-delivers old mid new task m local sequence first names bytes h one rest bits size remote local_is sequence_is id put =
-    let b = both old mid new task m.reply m.rights first names one rest in
-    let same : h ≡ reversed m local sequence b.words = same_header h _ _ _ _ _ _ bits size (remote ∙ sym b.remote) local_is sequence_is id in
-    record {
-      words = b.words;
-      gives = b.gives;
-      text = λ written laid. put written laid
-          ∙ ap (λ (x : Header). header_text x ++ body_text (received_body written names)) same
-          ∙ ap (λ (ws : List ℕ). header_text (reversed m local sequence b.words) ++ body_text (received_body written ws)) (sym b.body);
-    }
+delivers old mid new task m local sequence first names bytes h one rest bits size remote local_is sequence_is id put = grind (arith, both old mid new task m.reply m.rights first names one rest)
 
 -- ... and its port is noted where it came by the last send right
 pub takes_message : (w mid taken new : WorldView) (task port local sequence : ℕ) (m : Kept) (bytes : List ℕ) (t : TakesFront w port mid) → IsMessageOf t.front m → sequence ≡ t.v.attributes.sequence →

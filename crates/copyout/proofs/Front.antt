@@ -15,9 +15,7 @@ use Rattle.copyout.specs.Ready.{HasFront, IsNumbered, Waits}
 
 pub is_front : (ports : PortsView Kept) (port : ℕ) (v : PortView Kept) (m found : Kept) (behind : List Kept) → map.get ports.ports port ≡ Some v → v.queue ≡ m ∷ behind →
     Some found ≡ option_and_then (λ p. slice_get p.queue 0) (map.get ports.ports port) → found ≡ m
-is_front ports port v m found behind there queue is =
-    let f : PortView Kept → Option Kept = λ p. slice_get p.queue 0 in
-    same_some found m (is ∙ ap (option_and_then f) there ∙ ap (λ (l : List Kept). slice_get l 0) queue)
+is_front ports port v m found behind there queue is = grind (arith, same_some)
 
 -- ... and no port came or went
 pub taken_ports : (ports new : PortsView Kept) (port : ℕ) (v : PortView Kept) → map.get ports.ports port ≡ Some v →
@@ -37,12 +35,7 @@ module _ (w : WorldView) (ports : PortsView Kept) (same : ports ≡ w.ports) (po
   no_front none m f = let e = ap (λ (l : List Kept). length l) f.queue in let n = none f.v (at f.v f.there) in omega (arith, e, n)
 
   pub has_first : (m : Kept) (number : ℕ) → IsNumberedFront ports port m number → HasFront w port m
-  has_first m number f = record {
-    v = f.view;
-    there = ap (λ (p : PortsView Kept). map.get p.ports port) (sym same) ∙ f.there;
-    behind = drop 1 f.view.queue;
-    queue = first_of f.view.queue m f.first;
-  }
+  has_first m number f = grind (arith, first_of)
 
   pub has_number : (m : Kept) (number : ℕ) → IsNumberedFront ports port m number → IsNumbered w port number
   has_number m number f = λ v there. ap (λ (u : PortView Kept). u.attributes.sequence) (same_found (map.get ports.ports port) v f.view (at v there) f.there) ∙ f.number

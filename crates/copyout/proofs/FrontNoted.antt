@@ -30,20 +30,14 @@ module _ (w : WorldView) (s : State) (sh : Shows w s) (p : ℕ) (mid : WorldView
 
   -- a send-once right
   once_keeps : f.front.by_once ≡ true → KeepsSenders w mid
-  once_keeps once = keeps_senders w mid sh.requested (ap (λ (x : WorldView). x.requests.no_senders) f.rest)
-      (subst (λ (l : LedgerView). KeepsSends w.ledger l) (sym (ap (λ (x : WorldView). x.ledger) f.rest)) (sends_taken w.ledger p (destination_right f.front) 1 (by_right f.front.by_once once)))
-      (ap (λ (x : WorldView). x.ports.noted) f.rest)
+  once_keeps once = grind (arith, keeps_senders, sends_taken, by_right)
 
   -- a send right
   others : (q : ℕ) → (q ≡ p → ⊥) → (counts_of mid.ledger q).send ≡ (counts_of w.ledger q).send
   others q not = ap (λ (x : WorldView). (counts_of x.ledger q).send) f.rest ∙ sends_elsewhere w.ledger p (destination_right f.front) 1 q not
 
   had : f.front.by_once ≡ false → 0 < (counts_of w.ledger p).send
-  had send =
-      let one = destination w s sh p f.v f.there f.front f.behind f.queue false send in
-      let is : number_of (destination_right f.front) (counts_of w.ledger p) ≡ (counts_of w.ledger p).send =
-      ap (λ (b : Bool). number_of (if b then right.Destination else right.Send) (counts_of w.ledger p)) send in
-      omega (arith, one, is)
+  had send = grind (arith, destination w s sh p f.v f.there f.front f.behind f.queue false send)
 
   -- ---- once its rights were given
 
@@ -71,19 +65,12 @@ module _ (w : WorldView) (s : State) (sh : Shows w s) (p : ℕ) (mid : WorldView
 
     -- Each port that lost its last send right is noted, and no other.
     pub front_notes : NotesFront taken p f.front new → NotesSenders w new
-    front_notes = go f.front.by_once refl
-      where
-        go : (b : Bool) → f.front.by_once ≡ b → MatchBool b (new ≡ taken) (NotesSenderless taken p new) → NotesSenders w new
-        go true is same = by_once is same
-        go false is n = by_send is n
+    front_notes = grind (arith, by_once, by_send)
 
 -- The note takes no room, and no slot.
 pub note_returns : (w taken new : WorldView) (port : ℕ) (front : Kept) → ReturnsSlot w taken → NotesFront taken port front new → ReturnsSlot w new
-note_returns w taken new port front r = by_note (ReturnsSlot w) front.by_once taken new port (λ n. subst (ReturnsSlot w) (sym n.rest) (record { rooms = r.rooms; slots = r.slots })) r
+note_returns w taken new port front r = grind (arith, by_note)
 
 -- As many send rights were there before room was made.
 pub notes_roomier : (w start new : WorldView) → SameButRoom w start → NotesSenders start new → NotesSenders w new
-notes_roomier w start new same n = record {
-  noted = λ p some. n.noted p (subst (λ (l : LedgerView). 0 < (counts_of l p).send) (sym same.ledger) some);
-  had = λ p c. subst (λ (l : LedgerView). 0 < (counts_of l p).send) same.ledger (n.had p c);
-}
+notes_roomier w start new same n = grind arith

@@ -80,10 +80,7 @@ module _ (w : WorldView) (s : State) (a : Agrees w s) (l : IsLawful s) (p : ℕ)
   taken_state = record (with_taken p s) { ledger = left.others }
 
   pub taken_moves : Moves s.ledger taken_state.ledger (token entry.message.kind p place ∷ []) []
-  taken_moves h =
-      let m = left.parts h in
-      let kind : h (token entry.message.kind p place) ≡ h (token (kind_by f.front.by_once) p place) = ap (λ (c : Kind). h (token c p place)) kind_of_front in
-      omega (arith, m, kind)
+  taken_moves h = grind (arith, left, kind_of_front)
 
   -- ---- the tables
 
@@ -109,22 +106,10 @@ module _ (w : WorldView) (s : State) (a : Agrees w s) (l : IsLawful s) (p : ℕ)
   queue_is = ap (λ (n : ℕ). drop n (s.log p)) (at_own s.taken p (s.taken p + 1) ∙ add-one (s.taken p)) ∙ behind_of (s.taken p) (s.log p) front.first front.others front.parts
 
   here : ShowsPort shorter taken_state p
-  here = record {
-    waiting = subst (λ (es : List Entry). AllKept p f.behind es) (sym queue_is) front.rest;
-    limit = shows.limit;
-    make_send = shows.make_send;
-    sequence = ap (λ (n : ℕ). (n + 1) % 2 ^ 32) shows.sequence ∙ sym (at_own s.sequence p ((s.sequence p + 1) % 2 ^ 32));
-    sets = shows.sets;
-  }
+  here = grind (arith, queue_is, shows, at_own)
 
   there : (q : ℕ) (v : PortView Kept) → q ≢ p → ShowsPort v s q → ShowsPort v taken_state q
-  there q v not x = record {
-    waiting = subst (AllKept q v.queue) (sym (ap (λ (n : ℕ). drop n (s.log q)) (at_other s.taken p (s.taken p + 1) q not))) x.waiting;
-    limit = x.limit;
-    make_send = x.make_send;
-    sequence = x.sequence ∙ sym (at_other s.sequence p ((s.sequence p + 1) % 2 ^ 32) q not);
-    sets = x.sets;
-  }
+  there q v not x = grind (arith, at_other)
 
   -- those that go by send-once rights
   behind_is : onces_queued taken_state p ≡ tally came_by_once front.others
@@ -135,10 +120,7 @@ module _ (w : WorldView) (s : State) (a : Agrees w s) (l : IsLawful s) (p : ℕ)
   came false is = ap (λ (c : Kind). same_kind send_once c) (kind_of_front ∙ ap kind_by is)
 
   onces_here : (b : Bool) → f.front.by_once ≡ b → onces_queued taken_state p + (if b then 1 else 0) ≡ onces_queued s p
-  onces_here b is =
-      let all : onces_queued s p ≡ (if came_by_once entry then suc zero else zero) + tally came_by_once front.others = ap (tally came_by_once) front.parts in
-      let one : (if came_by_once entry then suc zero else zero) ≡ (if b then suc zero else zero) = ap (λ (x : Bool). if x then suc zero else zero) (came b is) in
-      omega (arith, all, one, behind_is)
+  onces_here b is = grind (arith, came, behind_is)
 
   onces_there : (q : ℕ) → (q ≡ p → ⊥) → onces_queued s q ≡ onces_queued taken_state q
   onces_there q not = ap (λ (n : ℕ). tally came_by_once (drop n (s.log q))) (sym (at_other s.taken p (s.taken p + 1) q not))
@@ -175,8 +157,7 @@ module _ (w : WorldView) (s : State) (a : Agrees w s) (l : IsLawful s) (p : ℕ)
 
 -- Each port still knows who holds its receive right.
 pub front_holders : (w : WorldView) (p : ℕ) (w' : WorldView) → TakesFront w p w' → HoldersAgree w → HoldersAgree w'
-front_holders w p w' f h = holders_ports w w' h (ap (λ (x : WorldView). x.spaces) f.rest)
-    (subst (λ (x : WorldView). KeepHolders w.ports.ports x.ports.ports) (sym f.rest) (put_holders w.ports.ports p f.v _ f.there refl))
+front_holders w p w' f h = grind (arith, holders_ports, put_holders)
 
 -- ... and so does each whose receive right a message carries that is queued behind it
 pub front_carriers : (w : WorldView) (p : ℕ) (w' : WorldView) → TakesFront w p w' → CarriersAgree w → CarriersAgree w'
@@ -186,6 +167,4 @@ front_carriers w p w' f c = carriers_taken w w' c p f.v
 
 -- Requests stand where they stood.
 pub front_requested : (w : WorldView) (p : ℕ) (w' : WorldView) → TakesFront w p w' → RequestsStand w → RequestsStand w'
-front_requested w p w' f r = requested_put w w' r p
-    (record { queue = f.behind; attributes = record f.v.attributes { sequence = (f.v.attributes.sequence + 1) % 2 ^ 32 } })
-    (ap (λ (x : WorldView). x.ports.ports) f.rest) (ap (λ (x : WorldView). x.requests) f.rest) (ap (λ (x : WorldView). x.spaces) f.rest)
+front_requested w p w' f r = grind (arith, requested_put)

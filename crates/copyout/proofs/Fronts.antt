@@ -69,8 +69,4 @@ module _ (w : WorldView) (s : State) (a : Agrees w s) (p : ℕ) (v : PortView Ke
 
     -- Its rights lie at its entry.
     pub shown_lying : IsLawful s → AreLying s p (s.taken p) (carried_by m)
-    shown_lying l kind q live =
-        let c = l.carried p 0 shown_front.first shown_lives (ap (λ (es : List Entry). slice_get es 0) shown_front.parts) kind q live in
-        let same : lying s kind q (in_message p (s.taken p + 0)) ≡ lying s kind q (in_message p (s.taken p)) = ap (λ (i : ℕ). lying s kind q (in_message p i)) (omega arith) in
-        let n = message_counted p m shown_front.first.message shown_front.keeps kind q in
-        omega (arith, c, same, n)
+    shown_lying l kind q live = grind (arith, l.carried p 0 shown_front.first shown_lives (ap (λ (es : List Entry). slice_get es 0) shown_front.parts) kind q live, message_counted p m shown_front.first.message shown_front.keeps kind q)

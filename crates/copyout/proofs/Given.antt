@@ -73,8 +73,8 @@ joined_rights receive (entry.Receive q) p r n not named a b few one = absurd (le
 joined_rights receive (entry.Send q m) p r n not named a b few one = (omega (arith, a), omega (arith, b))
 joined_rights receive (entry.ReceiveAndSend q m) p r n not named a b few one = absurd (let z = one refl in omega (arith, z, a))
 joined_rights send (entry.Receive q) p r n not named a b few one = (omega (arith, a), rw b refl)
-joined_rights send (entry.Send q m) p r n not named a b few one = (omega (arith, a), counted_up n (nat_lt n most_references) refl few ∙ ap (λ (i : ℕ). min (i + 1) most_references) b)
-joined_rights send (entry.ReceiveAndSend q m) p r n not named a b few one = (omega (arith, a), counted_up n (nat_lt n most_references) refl few ∙ ap (λ (i : ℕ). min (i + 1) most_references) b)
+joined_rights send (entry.Send q m) p r n not named a b few one = grind (arith, counted_up)
+joined_rights send (entry.ReceiveAndSend q m) p r n not named a b few one = grind (arith, counted_up)
 
 -- ---- tokens that come
 
@@ -85,11 +85,7 @@ and_false false b e = refl
 given_none : (test : Token → Bool) (kind : Kind) (p task : ℕ) (s : State) → (test (token kind p (in_task task)) ≡ false) → count test (given_to kind p task s) ≡ 0
 given_none test receive p task s e = rw e refl
 given_none test send_once p task s e = rw e refl
-given_none test send p task s e = go (nat_lt (held s task send p) most_references)
-  where
-    go : (b : Bool) → count test (if b then token send p (in_task task) ∷ [] else []) ≡ 0
-    go true = rw e refl
-    go false = refl
+given_none test send p task s e = grind arith
 
 given_receive : (kind : Kind) (p task : ℕ) (s : State) → count (is_held task receive p) (given_to kind p task s) ≡ more_receive kind
 given_receive receive p task s = let a = own_right task receive p refl in omega (arith, a)
@@ -98,11 +94,7 @@ given_receive send_once p task s = refl
 
 given_send : (kind : Kind) (p task : ℕ) (s : State) → count (is_held task send p) (given_to kind p task s) ≡ more_send kind (held s task send p)
 given_send receive p task s = refl
-given_send send p task s = go (nat_lt (held s task send p) most_references)
-  where
-    go : (b : Bool) → count (is_held task send p) (if b then token send p (in_task task) ∷ [] else []) ≡ (if b then 1 else 0)
-    go true = let a = own_right task send p refl in omega (arith, a)
-    go false = refl
+given_send send p task s = grind (arith, own_right)
 given_send send_once p task s = refl
 
 -- Rights of a task change as one comes from an entry.
@@ -111,20 +103,10 @@ module _ (s t : State) (o k task : ℕ) (kind : Kind) (p : ℕ) (moves : Moves s
   held_more x c q = let m = moves (λ x'. if is_held x c q x' then 1 else 0) in let z = not_held c q o k kind p x in omega (arith, m, z)
 
   held_other_task : (x : ℕ) → x ≢ task → (c : Kind) (q : ℕ) → held t x c q ≡ held s x c q
-  held_other_task x not c q =
-      let m = held_more x c q in
-      let z = given_none (is_held x c q) kind p task s (and_false (is_of c q (token kind p (in_task task))) (task == x) (ne_eqb task x (λ e. not (sym e)))) in
-      omega (arith, m, z)
+  held_other_task x not c q = grind (arith, held_more, given_none, and_false, ne_eqb)
 
   held_other_port : (c : Kind) (q : ℕ) → q ≢ p → held t task c q ≡ held s task c q
-  held_other_port c q not =
-      let m = held_more task c q in
-      let z = given_none (is_held task c q) kind p task s (first_false (is_of c q (token kind p (in_task task))) (task == task) (and_false (same_kind c kind) (p == q) (ne_eqb p q (λ e. not (sym e))))) in
-      omega (arith, m, z)
-    where
-      first_false : (x y : Bool) → x ≡ false → (x && y) ≡ false
-      first_false true y e = absurd (cc)
-      first_false false y e = refl
+  held_other_port c q not = grind (arith, held_more, given_none, and_false, ne_eqb)
 
   held_receive : held t task receive p ≡ held s task receive p + more_receive kind
   held_receive = let m = held_more task receive p in let g = given_receive kind p task s in omega (arith, m, g)
@@ -133,11 +115,7 @@ module _ (s t : State) (o k task : ℕ) (kind : Kind) (p : ℕ) (moves : Moves s
   held_send = let m = held_more task send p in let g = given_send kind p task s in omega (arith, m, g)
 
   lying_kept : (r : Request) (c : Kind) (q : ℕ) → lying t c q (in_request r) ≡ lying s c q (in_request r)
-  lying_kept r c q =
-      let m = moves (λ x. if is_of c q x && same_place (in_request r) x.place then 1 else 0) in
-      let z = both_test (is_of c q (token kind p (in_message o k))) false (inr refl) in
-      let g = given_none (λ x. is_of c q x && same_place (in_request r) x.place) kind p task s (and_false (is_of c q (token kind p (in_task task))) false refl) in
-      omega (arith, m, z, g)
+  lying_kept r c q = grind (arith, both_test, given_none, and_false)
 
 -- ---- the ledger's counts
 
@@ -154,22 +132,13 @@ module _ (w : WorldView) (s : State) (a : Agrees w s) (tokens : List Token) (o k
   without goes h = let m = moves h in let e : weigh h (given_to kind p task s) ≡ 0 = ap (weigh h) goes in omega (arith, m, e)
 
   settled_counts : (l : LedgerView) → Settled s task kind p w.ledger l → (q : ℕ) → CountsAgree l s.live_port tokens (onces_queued s) q
-  settled_counts l (inl h) q = subst (λ (x : LedgerView). CountsAgree x s.live_port tokens (onces_queued s) q) (sym h.1) (counts_same w.ledger s.live_port s.ledger (onces_queued s) a.counts tokens
-      (λ c q. let m = moves (λ x. if is_of c q x then 1 else 0) in
-      let e : count (is_of c q) (given_to kind p task s) ≡ count (is_of c q) (token kind p (in_task task) ∷ []) = ap (count (is_of c q)) h.0 in omega (arith, m, e)) q)
+  settled_counts l (inl h) q = grind (arith, counts_same)
   settled_counts l (inr h) q = subst (λ (x : LedgerView). CountsAgree x s.live_port tokens (onces_queued s) q) (sym h.2)
       (subst (λ (c : Kind). CountsAgree (taken w.ledger p (right_of c) 1) s.live_port tokens (onces_queued s) q) h.0 (right_taken w.ledger s.live_port s.ledger (onces_queued s) a.counts kind p (in_message o k) is_live (λ e. let f : send ≡ send_once = sym h.0 ∙ e in cc) tokens (without h.1) q))
 
   settled_total : (l : LedgerView) → Settled s task kind p w.ledger l → l.total ≡ length tokens
-  settled_total l (inl h) =
-      let m = moves (λ x. 1) in
-      let e : weigh (λ x. 1) (given_to kind p task s) ≡ 1 = ap (weigh (λ x. 1)) h.0 in
-      let f : l.total ≡ w.ledger.total = ap (λ (x : LedgerView). x.total) h.1 in
-      omega (arith, m, e, f, a.total, length-weigh s.ledger, length-weigh tokens)
-  settled_total l (inr h) =
-      let m = without h.1 (λ x. 1) in
-      let f : l.total ≡ w.ledger.total - 1 = ap (λ (x : LedgerView). x.total) h.2 in
-      omega (arith, m, f, a.total, length-weigh s.ledger, length-weigh tokens)
+  settled_total l (inl h) = grind (arith, length-weigh)
+  settled_total l (inr h) = grind (arith, without, length-weigh)
 
 -- ---- the right is given
 
@@ -220,11 +189,7 @@ gives_puts w task kind p word w' g = record {
 
 module _ (w : WorldView) (s : State) (a : Agrees w s) (o k : ℕ) (l : IsMoving s o k) (task : ℕ) (kind : Kind) (p word : ℕ) (w' : WorldView) (some : 0 < lying s kind p (in_message o k)) where
   pub lives : s.live_port p ≡ true
-  lives = go (s.live_port p) refl
-    where
-      go : (b : Bool) → s.live_port p ≡ b → s.live_port p ≡ true
-      go true e = e
-      go false e = absurd (let n = l.no_rights p e kind in let le = lying_le_of s kind p (in_message o k) in omega (arith, n, le, some))
+  lives = grind (arith, lying_le_of)
 
   left : Without (token kind p (in_message o k)) s.ledger
   left = take_lying o k kind p s.ledger some
@@ -237,16 +202,7 @@ module _ (w : WorldView) (s : State) (a : Agrees w s) (o k : ℕ) (l : IsMoving 
 
   -- the task can't have the receive right that comes
   not_twice : kind ≡ receive → held s task receive p ≡ 0
-  not_twice is =
-      let parts : (h : Token → ℕ) → weigh h left.others + h (token receive p (in_message o k)) ≡ weigh h s.ledger =
-      subst (λ (c : Kind). (h : Token → ℕ) → weigh h left.others + h (token c p (in_message o k)) ≡ weigh h s.ledger) is left.parts in
-      let all = parts (λ x. if is_of receive p x then 1 else 0) in
-      let own : (if is_of receive p (token receive p (in_message o k)) then suc zero else zero) ≡ suc zero = rw (eq-eqb p p refl) refl in
-      let mine = parts (λ x. if is_held task receive p x then 1 else 0) in
-      let none = not_held receive p o k receive p task in
-      let le = held_le_of task receive p left.others in
-      let one = l.one_receive p lives in
-      omega (arith, all, own, mine, none, le, one)
+  not_twice is = grind (arith, left, eq-eqb, not_held, held_le_of, lives)
 
   module _ (g : PutsPort w task kind p word w') where
     entry_is : (name : ℕ) → entry_at w task name ≡ map.get g.space.names name
@@ -282,9 +238,7 @@ module _ (w : WorldView) (s : State) (a : Agrees w s) (o k : ℕ) (l : IsMoving 
       rights = a.references task word j.entry p (entry_is word ∙ j.found) j.named
 
       joined_now : (held same_name task receive p ≡ one_if (has_receive (joined kind j.entry))) × (held same_name task send p ≡ send_references (joined kind j.entry))
-      joined_now =
-          let x = joined_rights kind j.entry p (held s task receive p) (held s task send p) j.not_once j.named rights.0 rights.1 was_few not_twice in
-          (held_receive s same_name o k task kind p moves ∙ x.0, held_send s same_name o k task kind p moves ∙ x.1)
+      joined_now = grind (arith, joined_rights, rights, was_few, not_twice, held_receive, moves, held_send)
 
       join_references : CountRights g.after task tokens
       join_references = subst (λ (m : Names). CountRights m task tokens) (sym j.rest) (each_put g.space.names word (Some (joined kind j.entry))
@@ -314,29 +268,8 @@ module _ (w : WorldView) (s : State) (a : Agrees w s) (o k : ℕ) (l : IsMoving 
           (put_names g.space.names (s.naming task) old word (Some (joined kind j.entry)) (of_some (joined kind j.entry) HasCount ((joined_keeps kind j.entry).2 (old.counted word j.entry j.found)))))
 
       join_settled : (c : Kind) → c ≡ kind → Settled s task kind p w.ledger g.ledger
-      join_settled receive is = inl (
-        subst (λ (x : Kind). given_to x p task s ≡ token x p (in_task task) ∷ []) is refl,
-        e ∙ subst (λ (x : Kind). ledger_joined x p j.entry w.ledger ≡ w.ledger) is refl,
-      )
-      join_settled send is = elim (eqb_tells (send_references j.entry) most_references) [
-        | inl h ↦
-            let full : nat_lt (held s task send p) most_references ≡ false = le-ltb (held s task send p) most_references (let b = rights.1 in omega (arith, h.1, b)) in
-            inr (
-              sym is,
-              subst (λ (x : Kind). given_to x p task s ≡ []) is (rw full refl),
-              e ∙ subst (λ (x : Kind). ledger_joined x p j.entry w.ledger ≡ taken w.ledger p right.Send 1) is (rw h.0 refl),
-            )
-        | inr h ↦
-            let below : held s task send p < most_references = below_most (held s task send p) (send_references j.entry) rights.1 was_few h.1 in
-            let some_left : nat_lt (held s task send p) most_references ≡ true = lt-ltb (held s task send p) most_references below in
-            inl (
-              subst (λ (x : Kind). given_to x p task s ≡ token x p (in_task task) ∷ []) is (rw some_left refl),
-              e ∙ subst (λ (x : Kind). ledger_joined x p j.entry w.ledger ≡ w.ledger) is (rw h.0 refl),
-            )
-      ]
-        where
-          below_most : (m n : ℕ) → m ≡ n → m ≤ most_references → (n ≡ most_references → ⊥) → m < most_references
-          below_most m n same few not = omega (arith, same, few, not)
+      join_settled receive is = grind arith
+      join_settled send is = grind (arith, le-ltb, rights, was_few, lt-ltb)
       join_settled send_once is = absurd (j.not_once (sym is))
 
       join_changes : Near w w' s same_name task (record g.space { names = g.after; room = g.room })
@@ -417,17 +350,7 @@ module _ (w : WorldView) (s : State) (a : Agrees w s) (o k : ℕ) (l : IsMoving 
 
       -- a right under a name of its own is the only one of its port that is under a port's name
       own_rights : kind ≢ send_once → (held new_name task receive p ≡ one_if (has_receive (alone kind p))) × (held new_name task send p ≡ send_references (alone kind p))
-      own_rights not =
-          let none = none_held not in
-          let r : held s task receive p ≡ 0 = omega (arith, none) in
-          let n : held s task send p ≡ 0 = omega (arith, none) in
-          let y = alone_rights kind p not in
-          let a = held_receive s new_name o k task kind p moves in
-          let b = held_send s new_name o k task kind p moves in
-          let c : more_send kind (held s task send p) ≡ more_send kind 0 = ap (more_send kind) n in
-          let y0 = y.0 in
-          let y1 = y.1 in
-          (omega (arith, a, r, y0), omega (arith, b, c, n, y1))
+      own_rights not = grind (arith, none_held, alone_rights, held_receive, moves, held_send)
 
       is_once : (c : Kind) → ((c ≡ send_once) ⊎ (c ≢ send_once))
       is_once receive = inr (λ f. cc)
@@ -435,16 +358,7 @@ module _ (w : WorldView) (s : State) (a : Agrees w s) (o k : ℕ) (l : IsMoving 
       is_once send_once = inl refl
 
       other_rights : (q : ℕ) → (kind ≢ send_once → q ≢ p) → (held new_name task receive q ≡ held s task receive q) × (held new_name task send q ≡ held s task send q)
-      other_rights q not = elim (is_once kind) [
-        | inl h ↦
-            let none : (c : Kind) → same_kind c send_once ≡ false → held new_name task c q ≡ held s task c q =
-            λ c other.
-            let m = held_more s new_name o k task kind p moves task c q in
-            let z = given_none (is_held task c q) kind p task s (subst (λ (y : Kind). is_held task c q (token y p (in_task task)) ≡ false) (sym h) (rw other refl)) in
-            omega (arith, m, z) in
-            (none receive refl, none send refl)
-        | inr h ↦ (held_other_port s new_name o k task kind p moves receive q (not h), held_other_port s new_name o k task kind p moves send q (not h))
-      ]
+      other_rights q not = grind (arith, is_once, held_more, moves, given_none, held_other_port)
 
       new_references : CountRights g.after task tokens
       new_references = subst (λ (m : Names). CountRights m task tokens) (sym x.rest) (each_put g.space.names word (Some (alone kind p))
@@ -466,10 +380,7 @@ module _ (w : WorldView) (s : State) (a : Agrees w s) (o k : ℕ) (l : IsMoving 
 
       new_settled : (c : Kind) → c ≡ kind → given_to kind p task s ≡ token kind p (in_task task) ∷ []
       new_settled receive is = subst (λ (y : Kind). given_to y p task s ≡ token y p (in_task task) ∷ []) is refl
-      new_settled send is =
-          let none = none_held (λ f. let h : send ≡ send_once = is ∙ f in cc) in
-          let below : nat_lt (held s task send p) most_references ≡ true = lt-ltb (held s task send p) most_references (omega (arith, none)) in
-          subst (λ (y : Kind). given_to y p task s ≡ token y p (in_task task) ∷ []) is (rw below refl)
+      new_settled send is = grind (arith, none_held, lt-ltb)
       new_settled send_once is = subst (λ (y : Kind). given_to y p task s ≡ token y p (in_task task) ∷ []) is refl
 
       new_changes : Near w w' s new_name task (record g.space { names = g.after; room = g.room })
@@ -508,18 +419,14 @@ module _ (w : WorldView) (s : State) (a : Agrees w s) (o k : ℕ) (l : IsMoving 
 
       module _ (fresh_name : IsFreshName g.space.names word) (room : map.len g.space.names < most_names) where
         fresh : IsFresh (s.naming task) word
-        fresh = record {
-          unused = unused;
-          not_null = fresh_name.not_null;
-          least = λ n above below. ap (λ (o : Option Target). is_some o) (lookup_is n) ∙ same_there (map.get g.space.names n) ∙ fresh_name.least n above below;
-        }
+        fresh = grind (arith, unused, lookup_is, same_there)
 
         named_new : Named task word target s (with_name task word target s)
         named_new = record { room = omega (arith, room, len_is); fresh = fresh; rest = refl }
 
         new_for : (c : Kind) → c ≡ kind → NamedFor c task word p s (with_name task word (target_of (alone c p)) s)
-        new_for receive is = inr (no_name (λ f. let h : receive ≡ send_once = is ∙ f in cc), subst (λ (y : Kind). Named task word (target_of (alone y p)) s (with_name task word (target_of (alone y p)) s)) (sym is) named_new)
-        new_for send is = inr (no_name (λ f. let h : send ≡ send_once = is ∙ f in cc), subst (λ (y : Kind). Named task word (target_of (alone y p)) s (with_name task word (target_of (alone y p)) s)) (sym is) named_new)
+        new_for receive is = grind (arith, no_name, named_new)
+        new_for send is = grind (arith, no_name, named_new)
         new_for send_once is = subst (λ (y : Kind). Named task word (target_of (alone y p)) s (with_name task word (target_of (alone y p)) s)) (sym is) named_new
 
         new_given : Given s o k task kind p word w'

@@ -100,14 +100,7 @@ one_removes task o k c s word mid l is_task g = words_remove task o k ((0, word)
 -- what is so once one was given
 pub later : (task o k : ℕ) (c : Carried) (cs : List Carried) (s : State) (word : ℕ) (mid : State) → IsMoving s o k → s.live_task task ≡ true → AreLying s o k (c ∷ cs) →
     GiveMark task (in_message o k) (kind_sent c.given) (mark_of c.mark) s word mid → IsMoving mid o k × (mid.live_task task ≡ true) × AreLying mid o k cs
-later task o k c cs s word mid l is_task lie g =
-    let less = one_removes task o k c s word mid l is_task g in (
-      less.keeps,
-      ap (λ (x : State). x.live_task task) less.rest ∙ is_task,
-      λ kind q live.
-          let live' : s.live_port q ≡ true = sym (ap (λ (x : State). x.live_port q) less.rest) ∙ live in
-          let m = less.lies kind q live' in let n = lie kind q live' in omega (arith, m, n),
-    )
+later task o k c cs s word mid l is_task lie g = grind (arith, one_removes)
 
 -- What is so while rights are given: they are on their way from an entry that isn't queued, and as many lie there.
 pub record IsGiving (s : State) (task o k : ℕ) (cs : List Carried) : Type 0 where
@@ -118,10 +111,7 @@ pub record IsGiving (s : State) (task o k : ℕ) (cs : List Carried) : Type 0 wh
 
 gives_on : (task o k : ℕ) (c : Carried) (cs : List Carried) (s : State) (word : ℕ) (mid : State) → IsGiving s task o k (c ∷ cs) →
     GiveMark task (in_message o k) (kind_sent c.given) (mark_of c.mark) s word mid → IsGiving mid task o k cs
-gives_on task o k c cs s word mid i g =
-    let next = later task o k c cs s word mid i.moving i.is_task i.lie g in
-    let less = one_removes task o k c s word mid i.moving i.is_task g in
-    record { moving = next.0; outside = subst (λ (x : State). IsOutside x o k) (sym less.rest) i.outside; is_task = next.1; lie = next.2 }
+gives_on task o k c cs s word mid i g = grind (arith, later, one_removes)
 
 -- The state once all were given, the words being these but for their numbers.
 pub record AllGiven (task o k : ℕ) (cs : List Carried) (w : WorldView) (s : State) (ws : List (ℕ × ℕ)) (w' : WorldView) : Type 0 where

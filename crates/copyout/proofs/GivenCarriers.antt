@@ -38,11 +38,7 @@ use Rattle.copyout.proofs.Given.{lives}
 
 carries_one : (cs : List Carried) (p : ℕ) → Contains cs (record { given = MoveReceive; mark = mark.Port p }) → 1 ≤ rights_count receive p (rights_of cs)
 carries_one [] p (i, below, is) = absurd (omega (arith, below))
-carries_one (c ∷ cs) p (zero, below, is) =
-    let one : mark_count receive p (kind_sent c.given) (mark_of c.mark) ≡ 1 = ap (λ (x : Carried). mark_count receive p (kind_sent x.given) (mark_of x.mark)) is ∙ own in omega (arith, one)
-  where
-    own : mark_count receive p receive (mark_of (mark.Port p)) ≡ 1
-    own = rw (eq-eqb p p refl) refl
+carries_one (c ∷ cs) p (zero, below, is) = grind (arith, eq-eqb)
 carries_one (c ∷ cs) p (suc i, below, is) = let rest = carries_one cs p (i, omega (arith, below), is) in omega (arith, rest)
 
 -- ---- none is carried of a port whose receive right is on its way
@@ -64,15 +60,7 @@ module _ (w : WorldView) (s : State) (a : Agrees w s) (o k : ℕ) (l : IsMoving 
 
   -- an entry that is queued isn't the one from which it comes
   apart : (q i : ℕ) (e : Entry) → slice_get (queue s q) i ≡ Some e → q ≡ o → s.taken q + i ≡ k → ⊥
-  apart q i e is same at =
-      let b = slice_get_within (queue s q) i e is in
-      let c = length-drop (s.taken q) (s.log q) in
-      let d : s.taken q ≡ s.taken o = ap s.taken same in
-      let f : length (s.log q) ≡ length (s.log o) = ap (λ (x : ℕ). length (s.log x)) same in
-      elim outside [
-        | inl h ↦ omega (arith, b, c, d, f, at, h)
-        | inr h ↦ omega (arith, b, c, d, f, at, h)
-      ]
+  apart q i e is same at = grind (arith, slice_get_within, length-drop)
 
   pub none_carries : (q : ℕ) → IsCarried w q p → ⊥
   none_carries q x =

@@ -26,9 +26,7 @@ use Rattle.copyout.proofs.PortsGiven.{given_changes}
 -- ---- what comes under a name
 
 one_port : (x : Entry) (p q : ℕ) → port_named x ≡ Some p → IsReceive (Some x) q → q ≡ p
-one_port x p q named i =
-    let same : i.entry ≡ x = same_found (Some x) i.entry x i.is refl in
-    let e : Some p ≡ Some q = sym named ∙ sym (ap port_named same) ∙ i.named in cc
+one_port x p q named i = grind (arith, same_found)
 
 -- of a port other than this no receive right comes
 put_others : (names : Names) (name : ℕ) (x : Entry) (p : ℕ) → port_named x ≡ Some p → (q : ℕ) → q ≢ p → ReceivesIn (map.insert names name x) q → ReceivesIn names q
@@ -37,14 +35,7 @@ put_others names name x p named q not = put_receives names name (Some x) q (Rece
 -- the entry with one right more, which is no receive right
 joined_had : (names : Names) (name : ℕ) (kind : Kind) (x : Entry) → map.get names name ≡ Some x → (has_receive (joined kind x) ≡ true → has_receive x ≡ true) →
     (q : ℕ) → IsReceive (Some (joined kind x)) q → ReceivesIn names q
-joined_had names name kind x found fewer q i =
-    let same : i.entry ≡ joined kind x = same_found (Some (joined kind x)) i.entry (joined kind x) i.is refl in
-    receives_at (λ n. map.get names n) name q (record {
-      entry = x;
-      is = found;
-      named = sym ((joined_keeps kind x).0) ∙ sym (ap port_named same) ∙ i.named;
-      receives = fewer (sym (ap has_receive same) ∙ i.receives);
-    })
+joined_had names name kind x found fewer q i = grind (arith, same_found, receives_at, joined_keeps)
 
 send_fewer : (x : Entry) → has_receive (joined send x) ≡ true → has_receive x ≡ true
 send_fewer (entry.Receive p) h = refl

@@ -35,10 +35,7 @@ last_stays l p some q none = elim (eqb_tells q p) [
 keeps_joined : (kind : Kind) (p : ℕ) (x : Entry) (l : LedgerView) → (send_references x ≡ most_references → 2 ≤ (counts_of l p).send) → KeepsSends l (ledger_joined kind p x l)
 keeps_joined receive p x l many = λ q none. none
 keeps_joined send_once p x l many = λ q none. none
-keeps_joined send p x l many = elim (eqb_tells (send_references x) most_references) [
-  | inl h ↦ subst (λ (b : Bool). KeepsSends l (if b then taken l p right.Send 1 else l)) (sym h.0) (last_stays l p (many h.1))
-  | inr h ↦ subst (λ (b : Bool). KeepsSends l (if b then taken l p right.Send 1 else l)) (sym h.0) (λ q none. none)
-]
+keeps_joined send p x l many = grind (arith, last_stays)
 
 -- ---- in the tables
 
@@ -53,12 +50,8 @@ module _ (w : WorldView) (s : State) (a : Agrees w s) (r : RequestsStand w) (w' 
       omega (arith, held, le, all, full)
 
   sends : KeepsSends w.ledger g.ledger
-  sends = elim g.given [
-    | inl h ↦ subst (λ (l : LedgerView). KeepsSends w.ledger l) (sym h.1) (keeps_joined kind p h.0.entry w.ledger (many h.0.entry h.0.found h.0.named))
-    | inr h ↦ subst (λ (l : LedgerView). KeepsSends w.ledger l) (sym h.1) (λ q none. none)
-  ]
+  sends = grind (arith, keeps_joined, many)
 
   -- It comes under the name.
   pub port_put_senders : KeepsSenders w w'
-  port_put_senders = keeps_senders w w' r (ap (λ (x : WorldView). x.requests.no_senders) g.rest)
-      (subst (λ (l : LedgerView). KeepsSends w.ledger l) (sym (ap (λ (x : WorldView). x.ledger) g.rest)) sends) (put_lists w w' task kind p word g).noted
+  port_put_senders = grind (arith, keeps_senders, sends, put_lists)

@@ -33,8 +33,7 @@ given_found : (task name : ℕ) (x : Target) (old new : State) → Named task na
 given_found task name x old new n = ap (λ (m : Names). names.get m name) (given_naming task name x old new n) ∙ get_own (old.naming task) name x
 
 given_keeps : (task name : ℕ) (x : Target) (old new : State) → Named task name x old new → (other : ℕ) (y : Target) → lookup old task other ≡ Some y → lookup new task other ≡ Some y
-given_keeps task name x old new n other y is =
-    ap (λ (m : Names). names.get m other) (given_naming task name x old new n) ∙ kept (old.naming task) name x other y n.fresh.unused is
+given_keeps task name x old new n other y is = grind (arith, given_naming, kept)
 
 named_found : (kind : Kind) (task name p : ℕ) (old new : State) → NamedFor kind task name p old new → (x : Target) × (lookup new task name ≡ Some x)
 named_found receive task name p old new (inl h) = (Target.port p, ap (λ (s : State). lookup s task name) h.1 ∙ h.0)
@@ -51,13 +50,11 @@ named_keeps send task name p old new (inr h) other y is = given_keeps task name 
 named_keeps send_once task name p old new n other y is = given_keeps task name (Target.once p) old new n other y is
 
 right_found : (task : ℕ) (place : Place) (kind : Kind) (p : ℕ) (old : State) (name : ℕ) (new : State) → GiveRight task place kind p old name new → (x : Target) × (lookup new task name ≡ Some x)
-right_found task place kind p old name new g =
-    let n = named_found kind task name p old g.named_state g.named in (n.0, ap (λ (s : State). lookup s task name) g.rest ∙ n.1)
+right_found task place kind p old name new g = grind (arith, named_found)
 
 right_keeps : (task : ℕ) (place : Place) (kind : Kind) (p : ℕ) (old : State) (name : ℕ) (new : State) → GiveRight task place kind p old name new →
     (other : ℕ) (y : Target) → lookup old task other ≡ Some y → lookup new task other ≡ Some y
-right_keeps task place kind p old name new g other y is =
-    ap (λ (s : State). lookup s task other) g.rest ∙ named_keeps kind task name p old g.named_state g.named other y is
+right_keeps task place kind p old name new g other y is = grind (arith, named_keeps)
 
 -- ---- the words
 
@@ -68,17 +65,13 @@ either false P Q R f g h = g h
 mark_fits : (task o k : ℕ) (kind : Kind) (m : MachineMark) (old : State) (word : ℕ) (new : State) → IsMoving new o k → GiveMark task (in_message o k) kind m old word new → word < 2 ^ 32
 mark_fits task o k kind null old word new l g = let e = g.0 in omega (arith, e)
 mark_fits task o k kind dead old word new l g = let e = g.0 in omega (arith, e)
-mark_fits task o k kind (to_port p) old word new l g = either (old.live_port p) _ _ _
-    (λ r. let n = right_found task (in_message o k) kind p old word new r in (l.naming task).name_fits word n.0 n.1)
-    (λ d. let e = d.0 in omega (arith, e)) g
+mark_fits task o k kind (to_port p) old word new l g = grind (arith, either, right_found)
 
 mark_keeps : (task : ℕ) (place : Place) (kind : Kind) (m : MachineMark) (old : State) (word : ℕ) (new : State) → GiveMark task place kind m old word new →
     (other : ℕ) (y : Target) → lookup old task other ≡ Some y → lookup new task other ≡ Some y
 mark_keeps task place kind null old word new g other y is = ap (λ (s : State). lookup s task other) g.1 ∙ is
 mark_keeps task place kind dead old word new g other y is = ap (λ (s : State). lookup s task other) g.1 ∙ is
-mark_keeps task place kind (to_port p) old word new g other y is = either (old.live_port p) _ _ _
-    (λ r. right_keeps task place kind p old word new r other y is)
-    (λ d. ap (λ (s : State). lookup s task other) d.1 ∙ is) g
+mark_keeps task place kind (to_port p) old word new g other y is = grind (arith, either, right_keeps)
 
 -- The task keeps its names.
 pub each_keeps : (task : ℕ) (place : Place) (old : State) (ws : List (ℕ × ℕ)) (rs : List (Kind × MachineMark)) (new : State) → Through (GiveWord task place) old ws rs new →
@@ -111,11 +104,7 @@ length-replicate (suc n) x = let e = length-replicate n x in omega (arith, e)
 items_words_count : (at : ℕ) (xs : List Wire) → length (items_given xs) ≡ word_count (spans_at at xs)
 items_words_count at [] = refl
 items_words_count at (data_item form name size number bytes padding ∷ xs) = items_words_count (at + length (wire_text (data_item form name size number bytes padding))) xs
-items_words_count at (port_item form number sent ∷ xs) =
-    let more = items_words_count (at + length (wire_text (port_item form number sent))) xs in
-    let a = length-append (replicate (length sent) number) (items_given xs) in
-    let b = length-replicate (length sent) number in
-    omega (arith, more, a, b)
+items_words_count at (port_item form number sent ∷ xs) = grind (arith, items_words_count (at + length (wire_text (port_item form number sent))) xs, length-append, length-replicate)
 
 -- there is a disposition for each word
 pub body_words_count : (written : WireBody) → length (body_given written) ≡ word_count (body_spans written)

@@ -90,9 +90,7 @@ can_replace w task kind port name entry put space there is found own live = reco
 
 -- it is for no port, or the task has no other name for it
 pub no_other : (names : Names) (kind : Kind) (port : ℕ) (x : Entry) → x ≡ alone kind port → (kind ≢ send_once → (name : ℕ) → port_at names name ≢ Some port) → HasNoOther names x
-no_other names kind port x is lone p name named here =
-    let a = alone_port kind port p (sym (ap port_named is) ∙ named) in
-    lone a.0 name (here ∙ ap (λ (q : ℕ). Some q) (sym a.1))
+no_other names kind port x is lone p name named here = grind (arith, alone_port)
 
 -- under the task's name for the port
 module _ (w w1 w2 : WorldView) (task : ℕ) (kind : Kind) (port name : ℕ) (entry left : Entry) (space : SpaceView)
@@ -100,13 +98,10 @@ module _ (w w1 w2 : WorldView) (task : ℕ) (kind : Kind) (port name : ℕ) (ent
     (dropped : w1 ≡ record w { ports = ports_given kind task port w.ports; ledger = ledger_joined kind port entry w.ledger })
     (puts : PutsLeft w1 task name (Some left) w2) where
   replaced : w2 ≡ with_space w1 task (record space { names = map.insert space.names name left })
-  replaced = subst (λ (x : SpaceView). w2 ≡ with_space w1 task (record x { names = map.insert x.names name left }))
-      (same_found (space_at w1 task) puts.space space puts.there (ap (λ (x : WorldView). space_at x task) dropped ∙ there)) puts.rest
+  replaced = grind (arith, same_found)
 
   pub rest-joined : w2 ≡ record (with_space w task (record space { names = map.insert space.names name (joined kind entry) })) { ports = ports_given kind task port w.ports; ledger = ledger_joined kind port entry w.ledger }
-  rest-joined =
-      let g : Entry → WorldView → WorldView = λ e x. with_space x task (record space { names = map.insert space.names name e }) in
-      replaced ∙ ap (g left) dropped ∙ ap (λ (e : Entry). g e (record w { ports = ports_given kind task port w.ports; ledger = ledger_joined kind port entry w.ledger })) is
+  rest-joined = grind (arith, replaced)
 
   pub gives-joined : kind ≢ send_once → map.get space.names name ≡ Some entry → port_named entry ≡ Some port → GivesPort w task kind port name w2
   gives-joined not_once found named = record {
@@ -160,8 +155,7 @@ gives-added w w1 w2 task kind port name entry sent adds dropped = record {
 module _ (w w1 : WorldView) (task : ℕ) (kind : Kind) (port name : ℕ) (space : SpaceView)
     (there : space_at w task ≡ Some space) (puts : InsertsEntry (record w { ports = ports_given kind task port w.ports }) task name (alone kind port) w1) where
   pub rest-taken : w1 ≡ record (with_space w task (record space { names = map.insert space.names name (alone kind port); room = space.room - 1 })) { ports = ports_given kind task port w.ports; ledger = w.ledger }
-  rest-taken = puts.rest ∙ ap (λ (y : SpaceView). with_space (record w { ports = ports_given kind task port w.ports }) task (record y { names = map.insert y.names name (alone kind port); room = y.room - 1 }))
-      (same_found (space_at w task) puts.space space puts.there there)
+  rest-taken = grind (arith, same_found)
 
   pub gives-taken : IsFreshName space.names name → map.len space.names < most_names → (kind ≢ send_once → (n : ℕ) → port_at space.names n ≢ Some port) → GivesPort w task kind port name w1
   gives-taken fresh room lone = record {

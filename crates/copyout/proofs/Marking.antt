@@ -1,5 +1,5 @@
 -- The ports that rights name, marked.
-use Rattle.std.proofs.Common.{◌≡◌, ◌≢◌, ℕ, ◌<◌, ◌%◌, List, [], ◌∷◌, ◌++◌, Option, Some, None, refl, sym, ap, subst, ◌∙◌, true, false, Bool, inl, inr, ◌⊎◌, length, get_or}
+use Rattle.std.proofs.Common.{arith, ◌≡◌, ◌≢◌, ℕ, ◌<◌, ◌%◌, List, [], ◌∷◌, ◌++◌, Option, Some, None, refl, sym, ap, subst, ◌∙◌, true, false, Bool, inl, inr, ◌⊎◌, length, get_or}
 use Rattle.std.specs.Prelude.{slice_get, slice_set, is_some, IfSome, IfNone}
 use Rattle.std.specs.FinMap as map
 use Rattle.std.proofs.lemmas.Option.{slice_get-get_or}
@@ -20,7 +20,7 @@ use Rattle.copyout.proofs.Counting.{named_by-push, or_true, names_own, same_port
 module _ (marks : List Bool) (names : Names) (earlier : List Carried) (c : Carried) where
   -- the right's port is marked, if the right gives it a name and the task has none
   more : Marks marks names earlier → ((p : ℕ) → HasNone names p → names_port (kind_sent c.given) c.mark p ≡ true → IsMarked marks p) → Marks marks names (earlier ++ c ∷ [])
-  more m own p none h = elim (or_true (named_by earlier p) (names_port (kind_sent c.given) c.mark p) (sym (named_by-push earlier c p) ∙ h)) [ inl x ↦ m p none x | inr y ↦ own p none y ]
+  more m own p none h = grind (arith, or_true, named_by-push)
 
   -- it is for no port
   pub marks_none : Marks marks names earlier → ((p : ℕ) → c.mark ≢ mark.Port p) → Marks marks names (earlier ++ c ∷ [])
@@ -45,10 +45,7 @@ module _ (marks : List Bool) (names : Names) (earlier : List Carried) (c : Carri
 -- A mark more.
 module _ (marks : List Bool) (port : ℕ) (old : Bool) (there : slice_get marks (port % length marks) ≡ Some old) where
   still : (place : ℕ) → slice_get marks place ≡ Some true → slice_get (slice_set marks (port % length marks) true) place ≡ Some true
-  still place h = elim (equal_or_not place (port % length marks)) [
-    | inl e ↦ subst (λ (k : ℕ). slice_get (slice_set marks (port % length marks) true) k ≡ Some true) (sym e) (get-set_same marks (port % length marks) true old there)
-    | inr n ↦ get-set_other marks (port % length marks) true place n ∙ h
-  ]
+  still place h = grind (arith, equal_or_not, get-set_same, get-set_other)
 
   at_length : (p : ℕ) → slice_get (slice_set marks (port % length marks) true) (p % length marks) ≡ Some true → IsMarked (slice_set marks (port % length marks) true) p
   at_length p h = subst (λ (l : ℕ). slice_get (slice_set marks (port % length marks) true) (p % l) ≡ Some true) (sym (length-set marks (port % length marks) true)) h
@@ -83,14 +80,13 @@ shared_none None P is h = h
 -- With none before it, a right needs a name of its own where its port is there and it shares no name.
 module _ (ports : PortsView Kept) (names : Names) (c : Carried) (port : ℕ) where
   pub owns_alone : c.mark ≡ mark.Port port → (kind_sent c.given ≢ send_once → HasNone names port) → is_some (map.get ports.ports port) ≡ true → OwnsAlone ports names c port
-  owns_alone is none there =
-      record { for_port = is; there = there; own = elim (kind_cases (kind_sent c.given)) [ inl once ↦ inl once | inr not ↦ inr (none not) ] }
+  owns_alone is none there = grind (arith, kind_cases)
 
   pub shares_gone : c.mark ≡ mark.Port port → is_some (map.get ports.ports port) ≡ false → Shares ports names [] c
   shares_gone is gone = inl (λ p e. subst (λ (q : ℕ). is_some (map.get ports.ports q) ≡ false) (same_port port p (sym is ∙ e)) gone)
 
   pub needs_alone : OwnsAlone ports names c port → Needs ports names [] (c ∷ []) 1
-  needs_alone o = inl (record { port = port; for_port = o.for_port; there = o.there; own = elim o.own [ inl once ↦ inl once | inr none ↦ inr (none, refl) ] }, (0, refl, refl))
+  needs_alone o = grind arith
 
 pub place_there : (marks : List Bool) (port : ℕ) → 0 < length marks → (old : Bool) × (slice_get marks (port % length marks) ≡ Some old)
 place_there marks port some = (get_or marks (port % length marks) false, slice_get-get_or marks (port % length marks) false (mod_below port (length marks) some))

@@ -65,12 +65,7 @@ reply_fits (Some c) (w ∷ ws) fit = fit 0 w (omega arith)
 
 number_fits : (reply : Option Carried) → reply_number reply < 2 ^ 8
 number_fits None = omega arith
-number_fits (Some c) = kind_small (kind_sent c.given)
-  where
-    kind_small : (k : Kind) → kind_number k < 2 ^ 8
-    kind_small receive = omega arith
-    kind_small send = omega arith
-    kind_small send_once = omega arith
+number_fits (Some c) = grind arith
 
 abbrev local_number : Bool → ℕ
 local_number b = if b then 18 else 17
@@ -158,11 +153,7 @@ module _ (w : WorldView) (s : State) (sh : Shows w s) (task port local : ℕ) (b
   long = let e = words_length in omega (arith, e, length-append (option_to_list kept.reply) kept.rights)
 
   names_long : length names ≡ length kept.rights
-  names_long = by_reply kept.reply m.words words_length
-    where
-      by_reply : (reply : Option Carried) (words : List ℕ) → length words ≡ length (option_to_list reply ++ kept.rights) → length (body_names reply words) ≡ length kept.rights
-      by_reply None words e = e
-      by_reply (Some c) words e = omega (arith, e, length-drop 1 words)
+  names_long = grind (arith, words_length, length-drop)
 
   body_first : BodyReceived written kept.rights names
   body_first = body_received written is.keeps.laid_out.fits kept.rights names is.keeps.given names_long
@@ -218,15 +209,7 @@ module _ (w : WorldView) (s : State) (sh : Shows w s) (task port local : ℕ) (b
 
   -- A message is as long as it was when it was sent.
   pub length_is : length bytes ≡ length kept.bytes
-  length_is =
-      let e : length bytes ≡ length (header_text head ++ body_text (received_body written names)) = ap (λ (t : List ℕ). length t) text_is in
-      let b = length-append (header_text head) (body_text (received_body written names)) in
-      let h = length-header head in
-      let c = length-body written names names_count in
-      let d : length (drop 24 kept.bytes) ≡ length (body_text written) = ap (λ (t : List ℕ). length t) is.keeps.laid_out.body in
-      let f = length-drop 24 kept.bytes in
-      let g = is.keeps.laid_out.room in
-      omega (arith, e, b, h, c, d, f, g)
+  length_is = grind (arith, length-append (header_text head) (body_text (received_body written names)), length-header head, length-body written names names_count, length-drop 24 kept.bytes, is.keeps.laid_out.room)
 
   sequence_is : m.takes.v.attributes.sequence ≡ s.sequence port
   sequence_is = (a.ports port m.takes.v m.takes.there).sequence

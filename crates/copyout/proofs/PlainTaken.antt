@@ -73,9 +73,7 @@ module _ (w : WorldView) (task port room local : ℕ) (is_task : HasTask w task)
       (0, w, x.0, room_is, x.1, subst (λ (k : Kept). length k.bytes ≤ min room most_bytes) front fits, x.2)
 
   pub returned : (bytes : List ℕ) (new : WorldView) → length m.bytes ≤ min room most_bytes → Receives bytes new → ReturnsSlot w new
-  returned bytes new fits all =
-      let x = all task in
-      note_returns w x.0 new port x.1.takes.front (returns_slot w w x.0 task port room 0 local bytes (may fits) room_is x.1) x.2
+  returned bytes new fits all = grind (arith, all task)
 
   pub refused_large : (size : ℕ) (refusal : Refusal) → size ≡ length m.bytes → refusal ≡ refused.TooLarge size → min room most_bytes < size → IsRefusedBy w task m room refusal
   refused_large size refusal long is above = subst (IsRefusedBy w task m room) (sym is) (long, subst (λ (n : ℕ). min room most_bytes < n) long above)

@@ -1,5 +1,5 @@
 -- A right put under a name that the caller chose: the tables after its steps.
-use Rattle.std.proofs.Common.{◌≡◌, ◌≢◌, ℕ, ◌-◌, ◌<◌, Option, Some, None, refl, sym, ap, ◌∙◌, true, false, inl, inr}
+use Rattle.std.proofs.Common.{arith, ◌≡◌, ◌≢◌, ℕ, ◌-◌, ◌<◌, Option, Some, None, refl, sym, ap, ◌∙◌, true, false, inl, inr}
 use Rattle.std.specs.Prelude.{is_some}
 use Rattle.std.specs.Option.{option_and_then}
 use Rattle.std.specs.FinMap as map
@@ -31,14 +31,7 @@ pub record IsFree (names : Names) (kind : Kind) (port word : ℕ) : Type 0 where
   pub lone : kind ≢ send_once → (name : ℕ) → port_at names name ≢ Some port
 
 pub is_free : (w : WorldView) (task : ℕ) (kind : Kind) (port word : ℕ) → (r : CanPut w task kind port word) → is_some (entry_at w task word) ≡ false → IsFree r.space.names kind port word
-is_free w task kind port word r unused = elim r.may [
-  | inl h ↦ absurd (used (map.get r.space.names word) h.1 (sym (ap is_some (entry_is w task word r.space r.there)) ∙ unused))
-  | inr h ↦ record { unused = h.0; room = h.1; lone = h.2 }
-]
-  where
-    used : (o : Option Entry) → option_and_then port_named o ≡ Some port → is_some o ≡ false → ⊥
-    used None e f = let e' : None ≡ Some port = e in cc
-    used (Some x) e f = cc
+is_free w task kind port word r unused = grind (arith, entry_is)
 
 pub can_insert : (w : WorldView) (task : ℕ) (kind : Kind) (port word : ℕ) → (r : CanPut w task kind port word) → is_some (entry_at w task word) ≡ false → CanInsert w task word (alone kind port)
 can_insert w task kind port word r unused =

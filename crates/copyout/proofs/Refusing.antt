@@ -36,13 +36,7 @@ length-descriptor long name size number = refl
 
 items_long : (xs : List Wire) (cs : List Carried) → numbers cs ≡ items_given xs → items_length (items_of xs cs) ≡ length (wires_text xs)
 items_long [] cs e = refl
-items_long (data_item form name size number bytes padding ∷ xs) cs e =
-    let more = items_long xs cs e in
-    let d = length-descriptor form name size number in
-    let a = length-append (descriptor_text form name size number ++ bytes) padding in
-    let b = length-append (descriptor_text form name size number) bytes in
-    let c = length-append (wire_text (data_item form name size number bytes padding)) (wires_text xs) in
-    omega (arith, more, d, a, b, c)
+items_long (data_item form name size number bytes padding ∷ xs) cs e = grind (arith, items_long xs cs e, length-descriptor, length-append)
 items_long (port_item form number sent ∷ xs) cs e =
     let x = item_kept number (length sent) cs (items_given xs) e in
     let more = items_long xs (drop (length sent) cs) x.left in
@@ -59,13 +53,7 @@ body_long (WireBody.items xs) cs e = items_long xs cs e
 
 -- A message has as many bytes as are kept of it.
 pub kept_length : (port : ℕ) (m : Kept) (message : Message) → Keeps port m message → message_length message ≡ length m.bytes
-kept_length port m message k =
-    let is : message_length message ≡ message_length (message_of port m k.written) = ap message_length k.message_is in
-    let b = body_long k.written m.rights k.given in
-    let t : length (drop 24 m.bytes) ≡ length (body_text k.written) = ap (λ (xs : List ℕ). length xs) k.laid_out.body in
-    let d = length-drop 24 m.bytes in
-    let r = k.laid_out.room in
-    omega (arith, is, b, t, d, r)
+kept_length port m message k = grind (arith, body_long k.written m.rights k.given, length-drop 24 m.bytes, k.laid_out.room)
 
 -- ---- want of names
 
@@ -100,24 +88,10 @@ module _ (w : WorldView) (s : State) (sh : Shows w s) (task port : ℕ) (is_task
     message_fits = let e = kept_length port m message front.keeps in omega (arith, e, fits)
 
     pub refuses_names : LackNames w task carried → ReceiptRefuses s task waited room (msg_number ReceiveBodyErrorNames)
-    refuses_names h = record {
-      port = port;
-      from = from;
-      e = front.first;
-      front = shown_is_front w s sh.agrees port v there m behind queued;
-      fits = message_fits;
-      refused = inl (names_lack h, refl);
-    }
+    refuses_names h = grind (arith, shown_is_front, message_fits, names_lack)
 
     pub refuses_memory : ¬ (LackNames w task carried) → ReceiptRefuses s task waited room (msg_number ReceiveBodyErrorMemory)
-    refuses_memory none = record {
-      port = port;
-      from = from;
-      e = front.first;
-      front = shown_is_front w s sh.agrees port v there m behind queued;
-      fits = message_fits;
-      refused = inr (names_suffice none, refl);
-    }
+    refuses_memory none = grind (arith, shown_is_front, message_fits, names_suffice)
 
   -- It is too long for the room, and was asked to stay.
   pub receipt_large : (waited : Waited) → TakesFrom s task waited port → (room : ℕ) (n : ℕ) → n ≡ length m.bytes → min room most_bytes < n →
@@ -128,5 +102,4 @@ module _ (w : WorldView) (s : State) (sh : Shows w s) (task port : ℕ) (is_task
 -- No message waits at the port.
 pub receipt_empty : (w : WorldView) (s : State) → Agrees w s → (task port : ℕ) (v : PortView Kept) → port_at w port ≡ Some v → v.queue ≡ [] → (room : ℕ) (large : Bool) →
     Receipt s task (Waited.Port port) room large (Reply.Empty (Waited.Port port)) s []
-receipt_empty w s a task port v there none room large =
-    (refl, (λ p from. subst (λ (x : ℕ). queue s x ≡ []) (sym from.0) (shown_empty w s a port v there none)), refl, refl)
+receipt_empty w s a task port v there none room large = grind (arith, shown_empty)

@@ -77,9 +77,7 @@ pub record BodyReceived (written : WireBody) (cs : List Carried) (words : List �
 
 items_received : (xs : List Wire) → All IsWire xs → (cs : List Carried) (words : List ℕ) → numbers cs ≡ items_given xs → length words ≡ length cs → BodyReceived (WireBody.items xs) cs words
 items_received [] fits cs words e long = record { same = tt; are = sym (no_words words (long ∙ ap length (none_kept cs e))) }
-items_received (data_item form name size number bytes padding ∷ xs) fits cs words e long =
-    let rest = items_received xs (All-tail IsWire (data_item form name size number bytes padding) xs fits) cs words e long in
-    record { same = (refl, rest.same); are = rest.are }
+items_received (data_item form name size number bytes padding ∷ xs) fits cs words e long = grind (arith, items_received xs (All-tail IsWire (data_item form name size number bytes padding) xs fits) cs words e long)
 items_received (port_item form number sent ∷ xs) fits cs words e long =
     let n : ℕ = length sent in
     let x = item_kept number (length sent) cs (items_given xs) e in
@@ -106,5 +104,4 @@ pub words_received : (reply : Option Carried) (words : List ℕ) (body : List (�
     seconds (reply_words (reply_number reply) (reply_word reply words) ++ body) ≡ words
 words_received None words body long e = e
 words_received (Some c) [] body long e = absurd (omega (arith, long))
-words_received (Some c) (w ∷ ws) body long e =
-    ap (λ (xs : List (ℕ × ℕ)). seconds (xs ++ body)) (one_reply (kind_number (kind_sent c.given)) w (kind_sent c.given) refl) ∙ ap (λ (xs : List ℕ). w ∷ xs) e
+words_received (Some c) (w ∷ ws) body long e = grind (arith, one_reply)

@@ -54,9 +54,7 @@ waits_kept w xs port x = record {
 }
 
 pub same_front : (w : WorldView) (port : ℕ) (x : Waits w port) (m : Kept) → HasFront w port m → x.front ≡ m
-same_front w port x m f =
-    let v : x.v ≡ f.v = same_found (port_at w port) x.v f.v x.there f.there in
-    same_head f.v.queue x.front m x.behind f.behind (ap (λ (v : PortView Kept). v.queue) (sym v) ∙ x.queue) f.queue
+same_front w port x m f = grind (arith, same_found, same_head)
 
 pub ready_after : (w w2 : WorldView) (task port room capacity needed : ℕ) (x : Waits w port) (m : MayReceive w task port room needed) → (r : MakesRoom w task needed w2) →
     length m.front.rights ≤ capacity → ReadyFor w2 task port capacity
@@ -86,16 +84,12 @@ front_there w mid task port t space there = ap (λ (x : WorldView). space_at x t
 
 -- no port is lost
 pub front_none_lost : (w mid : WorldView) (port : ℕ) → TakesFront w port mid → NoneLost w → NoneLost mid
-front_none_lost w mid port t none = none_lost_by w mid none (ap (λ (x : WorldView). x.ports.lost) t.rest) (ap (λ (x : WorldView). x.ports.doomed) t.rest) (ap (λ (x : WorldView). x.ports.destroyed) t.rest)
+front_none_lost w mid port t none = grind (arith, none_lost_by)
 
 sends_dest : (once : Bool) (m : LedgerView) (p q : ℕ) →
     (counts_of m q).send ≤ (counts_of (taken m p (if once then right.Destination else right.Send) 1) q).send + (if once then 0 else if p == q then 1 else 0)
 sends_dest false m p q = sends-taken m p q
-sends_dest true m p q = elim (equal_or_not q p) [
-  | inl e ↦ subst (λ (k : ℕ). (counts_of m k).send ≤ (counts_of (taken m p right.Destination 1) k).send + 0) (sym e)
-      (let f : (counts_of (taken m p right.Destination 1) p).send ≡ (counts_of m p).send = ap (λ (o : Option Counts). (unwrap_or o no_rights).send) (put_here m.counts p (with_fewer right.Destination 1 (counts_of m p))) in omega arith)
-  | inr n ↦ let f : (counts_of (taken m p right.Destination 1) q).send ≡ (counts_of m q).send = ap (λ (o : Option Counts). (unwrap_or o no_rights).send) (put_other m.counts p (with_fewer right.Destination 1 (counts_of m p)) q n) in omega arith
-]
+sends_dest true m p q = grind (arith, equal_or_not, put_here, put_other)
 
 pub can_deliver : (w mid : WorldView) (task port capacity : ℕ) (r : ReadyFor w task port capacity) (t : TakesFront w port mid) → CanGive mid task (carried_by t.front)
 can_deliver w mid task port capacity r t =
@@ -120,10 +114,7 @@ can_deliver w mid task port capacity r t =
 
 -- the front message is the one that was judged
 pub front_after : (w w2 : WorldView) (task port number : ℕ) (m now : Kept) → HasFront w port m → MakesRoom w task number w2 → HasFront w2 port now → m ≡ now
-front_after w w2 task port number m now f r t =
-    let there : port_at w port ≡ Some t.v = ap (λ (y : WorldView). port_at y port) (sym r.rest) ∙ t.there in
-    let v : f.v ≡ t.v = same_found (port_at w port) f.v t.v f.there there in
-    same_head t.v.queue m now f.behind t.behind (ap (λ (v : PortView Kept). v.queue) (sym v) ∙ f.queue) t.queue
+front_after w w2 task port number m now f r t = grind (arith, same_found, same_head)
 
 -- and so is the message that was taken
 pub judged_front : (w w2 : WorldView) (task port number : ℕ) (m : Kept) → HasFront w port m → MakesRoom w task number w2 → (mid : WorldView) (t : TakesFront w2 port mid) → m ≡ t.front
@@ -140,10 +131,7 @@ beside_same : (task : ℕ) (w new : WorldView) → new ≡ w → Beside task w n
 beside_same task w new e = record { others = λ n not. ap (λ (x : WorldView). space_at x n) e; spare = ap (λ (x : WorldView). x.ports.spare) e }
 
 beside_port : (b : Bool) (task : ℕ) (w new : WorldView) (kind : Kind) (port word dead : ℕ) → MatchBool b (GivesPort w task kind port word new) ((word ≡ dead) × (new ≡ w)) → Beside task w new
-beside_port true task w new kind port word dead g = record {
-  others = λ n not. ap (λ (x : WorldView). space_at x n) g.rest ∙ space-set_other w.spaces task (record g.space { names = g.after; room = g.room }) n not;
-  spare = ap (λ (x : WorldView). x.ports.spare) g.rest ∙ given_spare task port w.ports kind;
-}
+beside_port true task w new kind port word dead g = grind (arith, space-set_other, given_spare)
 beside_port false task w new kind port word dead h = beside_same task w new h.1
 
 beside_mark : (task : ℕ) (w new : WorldView) (kind : Kind) (one : Mark) (word : ℕ) → GivesMark w task kind one word new → Beside task w new
@@ -155,10 +143,7 @@ beside_all : (task : ℕ) (w new : WorldView) (carried : List Carried) (words : 
 beside_all task w new [] [] h = beside_same task w new h
 beside_all task w new [] (word ∷ words) h = absurd h
 beside_all task w new (c ∷ cs) [] h = absurd h
-beside_all task w new (c ∷ cs) (word ∷ words) h =
-    let one = beside_mark task w h.0 (kind_sent c.given) c.mark word h.1 in
-    let rest = beside_all task h.0 new cs words h.2 in
-    record { others = λ n not. rest.others n not ∙ one.others n not; spare = rest.spare ∙ one.spare }
+beside_all task w new (c ∷ cs) (word ∷ words) h = grind (arith, beside_all task h.0 new cs words h.2, beside_mark)
 
 -- Just so much room was made as the names need: no more is left than there was, and the message's slot is spare.
 pub returns_slot : (w w2 new : WorldView) (task port room needed local : ℕ) (bytes : List ℕ) (m : MayReceive w task port room needed) (r : MakesRoom w task needed w2) →
@@ -202,9 +187,7 @@ may_enough w task m room needed may = (may.fits, names_enough w task m may.space
 
 -- the message in front is one
 pub same_front_as : (w : WorldView) (port : ℕ) (m now : Kept) → HasFront w port m → HasFront w port now → m ≡ now
-same_front_as w port m now f g =
-    let v : f.v ≡ g.v = same_found (port_at w port) f.v g.v f.there g.there in
-    same_head g.v.queue m now f.behind g.behind (ap (λ (v : PortView Kept). v.queue) (sym v) ∙ f.queue) g.queue
+same_front_as w port m now f g = grind (arith, same_found, same_head)
 
 pub one_front : (w : WorldView) (port : ℕ) (m now : Kept) → HasFront w port m → HasFront w port now → length m.bytes ≤ most_bytes → length now.bytes ≤ most_bytes
 one_front w port m now f g few = subst (λ (k : Kept). length k.bytes ≤ most_bytes) (same_front_as w port m now f g) few
@@ -213,17 +196,7 @@ one_front w port m now f g few = subst (λ (k : Kept). length k.bytes ≤ most_b
 pub told_receivable : (w : WorldView) (task port : ℕ) (m now : Kept) → HasFront w port m → HasFront w port now → (room : ℕ) (judged : Result ℕ Refusal) (b : Bool) →
     IfOk judged (λ needed. MayHave w task now room needed) → IfErr judged (λ refusal. IsRefusedBy w task now room refusal × (refusal ≢ refused.Memory)) → b ≡ is_ok judged →
     MatchBool b (IsRefusedBy w task m room refused.Memory) (¬ (IsRefusedBy w task m room refused.Memory))
-told_receivable w task port m now f g room judged b ok err is =
-    subst (λ (k : Kept). MatchBool b (IsRefusedBy w task k room refused.Memory) (¬ (IsRefusedBy w task k room refused.Memory))) (sym (same_front_as w port m now f g)) (go judged b ok err is)
-  where
-    go : (judged : Result ℕ Refusal) (b : Bool) → IfOk judged (λ needed. MayHave w task now room needed) → IfErr judged (λ refusal. IsRefusedBy w task now room refusal × (refusal ≢ refused.Memory)) →
-        b ≡ is_ok judged → MatchBool b (IsRefusedBy w task now room refused.Memory) (¬ (IsRefusedBy w task now room refused.Memory))
-    go (Ok needed) true may err is = may_enough w task now room needed may
-    go (Ok needed) false may err is = absurd (cc)
-    go (Err refusal) true ok err is = absurd (cc)
-    go (Err (refused.TooLarge n)) false ok err is = λ h. let less = err.0.1 in let fits = h.0 in omega (arith, less, fits)
-    go (Err refused.Names) false ok err is = λ h. h.1 err.0.1
-    go (Err refused.Memory) false ok err is = λ h. err.1 refl
+told_receivable w task port m now f g room judged b ok err is = grind (arith, same_front_as, may_enough)
 
 -- ---- where memory is wanted
 

@@ -25,27 +25,13 @@ use Rattle.copyout.proofs.Spared.{put_keeps, given_keeps}
 unused_joined : (kind : Kind) (p : ℕ) (x : Entry) (l : LedgerView) → (ledger_joined kind p x l).unused ≡ l.unused
 unused_joined receive p x l = refl
 unused_joined send_once p x l = refl
-unused_joined send p x l = go (send_references x == most_references)
-  where
-    go : (b : Bool) → (if b then taken l p right.Send 1 else l).unused ≡ l.unused
-    go true = omega arith
-    go false = refl
+unused_joined send p x l = grind arith
 
 pub put_unused : (w new : WorldView) (task : ℕ) (kind : Kind) (port word : ℕ) → PutsPort w task kind port word new → new.ledger.unused ≡ w.ledger.unused
-put_unused w new task kind port word g = ap (λ (x : WorldView). x.ledger.unused) g.rest ∙ same
-  where
-    same : g.ledger.unused ≡ w.ledger.unused
-    same = elim g.given [
-      | inl h ↦ ap (λ (l : LedgerView). l.unused) h.1 ∙ unused_joined kind port h.0.entry w.ledger
-      | inr h ↦ ap (λ (l : LedgerView). l.unused) h.1
-    ]
+put_unused w new task kind port word g = grind (arith, unused_joined)
 
 pub mark_unused : (w new : WorldView) (task : ℕ) (kind : Kind) (one : Mark) (word : ℕ) → GivesMark w task kind one word new → new.ledger.unused ≡ w.ledger.unused
-mark_unused w new task kind (mark.Port p) word h = go (is_some (map.get w.ports.ports p)) _ h
-  where
-    go : (b : Bool) (dead : ℕ) → MatchBool b (GivesPort w task kind p word new) ((word ≡ dead) × (new ≡ w)) → new.ledger.unused ≡ w.ledger.unused
-    go true dead g = put_unused w new task kind p word (gives_puts w task kind p word new g)
-    go false dead g = ap (λ (x : WorldView). x.ledger.unused) g.1
+mark_unused w new task kind (mark.Port p) word h = grind (arith, put_unused, gives_puts)
 mark_unused w new task kind mark.Null word h = ap (λ (x : WorldView). x.ledger.unused) h.1
 mark_unused w new task kind mark.Dead word h = ap (λ (x : WorldView). x.ledger.unused) h.1
 
@@ -65,11 +51,4 @@ all_slots (c ∷ cs) [] w new task g enough = absurd g
 
 -- the slot of the front message is spare again
 pub front_slots : (w : WorldView) (port : ℕ) (new : WorldView) → TakesFront w port new → SlotsSuffice w → SlotsSuffice new
-front_slots w port new f enough =
-    let spare : new.ports.spare ≡ w.ports.spare + 1 = ap (λ (x : WorldView). x.ports.spare) f.rest in
-    let unused : new.ledger.unused ≡ w.ledger.unused = ap (λ (x : WorldView). x.ledger.unused) f.rest ∙ by_right f.front.by_once in
-    omega (arith, enough, spare, unused)
-  where
-    by_right : (b : Bool) → (taken w.ledger port (if b then right.Destination else right.Send) 1).unused ≡ w.ledger.unused
-    by_right true = omega arith
-    by_right false = omega arith
+front_slots w port new f enough = grind arith

@@ -49,11 +49,7 @@ module _ (w : WorldView) (s : State) (sh : Shows w s) (p : ℕ) (v : PortView Ke
 
   -- what lies at its entry is counted
   lies : (kind : Kind) (q : ℕ) → s.live_port q ≡ true → mark_count kind q (if m.by_once then send_once else send) (to_port p) + rights_count kind q (rights_of (carried_by m)) ≤ count (is_of kind q) s.ledger
-  lies kind q live =
-      let c = sh.lawful.carried p 0 front.first (shown_lives w s sh.agrees p v there m behind queued) (ap (λ (es : List Entry). slice_get es 0) front.parts) kind q live in
-      let n = message_counted p m front.first.message front.keeps kind q in
-      let le = lying_le_of s kind q (in_message p (s.taken p + 0)) in
-      omega (arith, c, n, le)
+  lies kind q live = grind (arith, sh.lawful.carried p 0 front.first (shown_lives w s sh.agrees p v there m behind queued) (ap (λ (es : List Entry). slice_get es 0) front.parts) kind q live, message_counted p m front.first.message front.keeps kind q, lying_le_of s kind q (in_message p (s.taken p + 0)))
 
   by_kind : (b : Bool) → mark_count (if b then send_once else send) p (if b then send_once else send) (to_port p) ≡ 1
   by_kind true = rw (eq-eqb p p refl) refl
@@ -65,11 +61,7 @@ module _ (w : WorldView) (s : State) (sh : Shows w s) (p : ℕ) (v : PortView Ke
 
   -- the right by which it goes is counted
   pub destination : (b : Bool) → m.by_once ≡ b → 1 ≤ number_of (destination_right m) (counts_of w.ledger p)
-  destination true e =
-      let once : came_by_once front.first ≡ true = ap (λ (x : Message). same_kind send_once x.kind) front.keeps.message_is ∙ ap (λ (x : Bool). same_kind send_once (if x then send_once else send)) e in
-      let all : onces_queued s p ≡ (if came_by_once front.first then suc zero else zero) + tally came_by_once front.others = ap (tally came_by_once) front.parts in
-      let one : (if came_by_once front.first then suc zero else zero) ≡ suc zero = rw once in
-      let c = (sh.agrees.counts p).destinations (shown_lives w s sh.agrees p v there m behind queued) in rw e (omega (arith, all, one, c))
+  destination true e = grind (arith, front, shown_lives)
   destination false e =
       let live = shown_lives w s sh.agrees p v there m behind queued in
       let l = lies send p live in

@@ -56,10 +56,7 @@ full_for w s a task new_right.Set many = inr (inr (refl, let t = a.sets_made in 
 full_for w s a task new_right.DeadName f = absurd f
 
 pub full : (w : WorldView) (s : State) → Agrees w s → (task : ℕ) (r : NewRight) → IsFullOf w task r → IsFull s task (right_made r)
-full w s a task r f = elim f.full [
-  | inl many ↦ inl (let n = a.names_kept task f.space f.there in omega (arith, n, many))
-  | inr more ↦ full_for w s a task r more
-]
+full w s a task r f = grind (arith, full_for)
 
 not_full_for : (w : WorldView) (s : State) → Agrees w s → (r : NewRight) → HasRoomFor w r →
     ¬ ((right_made r ≡ 1) × ((most_rights ≤ length s.ledger) ⊎ (most_identities ≤ s.ports_made)) ⊎ (right_made r ≡ 3) × (most_identities ≤ s.sets_made))
@@ -196,23 +193,12 @@ module _ (w v : WorldView) (s : State) (a : Agrees w s) (l : IsLawful s) (task n
   pub made_holders : (r : NewRight) → Adds w task r name v → HoldersAgree w → HoldersAgree v
   made_holders new_right.Port adds h = holders_made w v h task adds.space (with_entry adds.space name (entry.Receive w.ports.made)) adds.there (ap (λ (x : WorldView). x.spaces) adds.rest)
       w.ports.made name (first_port task) refl (ap (λ (x : WorldView). x.ports.ports) adds.rest) refl nobody
-  made_holders new_right.Set adds h = holders_added w v h task adds.space (with_entry adds.space name (entry.Set w.sets.made)) adds.there (ap (λ (x : WorldView). x.spaces) adds.rest)
-      name (entry.Set w.sets.made) refl refl (same_ports (ap (λ (x : WorldView). x.ports) adds.rest))
-  made_holders new_right.DeadName adds h = holders_added w v h task adds.space (with_entry adds.space name (entry.DeadName 1)) adds.there (ap (λ (x : WorldView). x.spaces) adds.rest)
-      name (entry.DeadName 1) refl refl (same_ports (ap (λ (x : WorldView). x.ports) adds.rest))
+  made_holders new_right.Set adds h = grind (arith, holders_added, same_ports)
+  made_holders new_right.DeadName adds h = grind (arith, holders_added, same_ports)
 
 -- a fresh name in the tables is one in the machine
 pub fresh : (w : WorldView) (s : State) → Agrees w s → (task : ℕ) (space : SpaceView) → space_at w task ≡ Some space → (name : ℕ) → IsFreshName space.names name → IsFresh (s.naming task) name
-fresh w s a task space there name f =
-    let named : (n : ℕ) → map.get (s.naming task) n ≡ option_map target_of (map.get space.names n) = (own_names w s a task space there).naming in record {
-      unused = named name ∙ ap (option_map target_of) f.unused;
-      not_null = f.not_null;
-      least = λ n above below. keeps (map.get space.names n) (map.get (s.naming task) n) (named n) (f.least n above below);
-    }
-  where
-    keeps : (o : Option Entry) (t : Option Target) → t ≡ option_map target_of o → is_some o ≡ true → is_some t ≡ true
-    keeps (Some x) t is some = ap is_some is
-    keeps None t is some = absurd (cc)
+fresh w s a task space there name f = grind (arith, own_names)
 
 -- ---- what Allocate and AllocateName promise
 

@@ -1,5 +1,5 @@
 -- Attributes of a port are set, but for who holds its receive right: a call does this.
-use Rattle.std.proofs.Common.{◌≡◌, ℕ, [], refl, sym, ap, ◌∙◌}
+use Rattle.std.proofs.Common.{arith, ◌≡◌, ℕ, [], refl, sym, ap, ◌∙◌}
 use Rattle.mach_types.specs.declared.calls.Event.{Event}
 use Rattle.mach_types.specs.declared.calls.Reply.{Reply}
 use Rattle.mach_model.specs.State.{State}
@@ -23,7 +23,7 @@ use Rattle.copyin_base.proofs.Slots.{slots_set}
 
 module _ (w : WorldView) (p : ℕ) (x : Attributes) (has : HasAttributes w p x) (y : Attributes) (same : y.holder ≡ x.holder) where
   pub keeps_holder : KeepsHolder w.ports p y
-  keeps_holder v there = same ∙ ap (λ (a : Attributes). a.holder) (sym has.are) ∙ ap (λ (u : PortView Kept). u.attributes.holder) (same_found (port_at w p) has.v v has.there there)
+  keeps_holder v there = grind (arith, same_found)
 
   pub sets_so : (new : WorldView) → SetsAttributes w p y new → (event : Event) (now : ℕ) (s mid : State) → Shows w s → Does now s event (Reply.Code 0) mid [] → LosesNone s event (Reply.Code 0) → Agrees new mid →
       Does-so w event (Reply.Code 0) new now s

@@ -70,13 +70,7 @@ same_senders v task name (Some e) = refl
 -- ---- the members of a set stay ports that are there
 
 disbanded_live : (old new : PortsView Kept) (set : ℕ) → IsDisbanded old new set → (p : ℕ) → IsLive old p → IsLive new p
-disbanded_live old new set d p lives = elim (seen (map.get old.ports p)) [
-  | inl h ↦ elim (same_port h.0.attributes.set set) [
-    | inl e ↦ ap is_some (d.members p h.0 h.1 e)
-    | inr not ↦ ap is_some (d.others p h.0 h.1 not)
-  ]
-  | inr none ↦ absurd (let f : false ≡ true = sym (ap is_some none) ∙ lives in cc)
-]
+disbanded_live old new set d p lives = grind (arith, seen, same_port)
 
 -- ---- in the tables
 
@@ -113,8 +107,7 @@ module _ (w v : WorldView) (task name : ℕ) where
 
   pub carried_none_lost : (due : Due) → IsPlain due → Carries w task name due v → NoneLost w → NoneLost v
   carried_none_lost Nothing plain same n = subst NoneLost (sym same) n
-  carried_none_lost (References e m) plain r n = fewer_keeps NoneLost r.counted v e m r.notes (λ p x. noted_none_lost r.counted v p x)
-      (none_lost_same w r.counted n (ap (λ (y : WorldView). y.ports) r.counts.rest))
+  carried_none_lost (References e m) plain r n = grind (arith, fewer_keeps, noted_none_lost, none_lost_same)
   carried_none_lost (Disbanding set) plain r n = none_lost_disbanded w v n set r.disbanded
   carried_none_lost (LosingOnce p) plain r n = absurd plain
   carried_none_lost (Killing loss) plain r n = absurd plain
@@ -133,10 +126,7 @@ module _ (w v : WorldView) (task name : ℕ) where
 
     -- the port has at least the send rights that the entry counts
     has_sends : (e : Entry) (m : ℕ) → CountsReferences w task name e m v → (p : ℕ) → port_named e ≡ Some p → send_references e ≤ (counts_of w.ledger p).send
-    has_sends e m r p is =
-        let h = (sh.agrees.references task name e p (ap (λ (o : Option SpaceView). entry_in o name) r.there ∙ r.found) is).1 in
-        let c = (sh.agrees.counts p).senders in
-        let le = held_le_of task send p s.ledger in omega (arith, h, c, le)
+    has_sends e m r p is = grind (arith, (sh.agrees.references task name e p (ap (λ (o : Option SpaceView). entry_in o name) r.there ∙ r.found) is).1, (sh.agrees.counts p).senders, held_le_of task send p s.ledger)
 
 module _ (w : WorldView) (s : State) (sh : Shows w s) (task name : ℕ) (e : Entry) (m : ℕ) (counted v : WorldView) (r : CountsReferences w task name e m counted) where
   no_senders : counted.requests.no_senders ≡ w.requests.no_senders
@@ -146,17 +136,11 @@ module _ (w : WorldView) (s : State) (sh : Shows w s) (task name : ℕ) (e : Ent
   noted = ap (λ (y : WorldView). y.ports.noted) r.rest
 
   kept : KeepsSends w.ledger counted.ledger → v ≡ counted → NotesSenders w v
-  kept sends same = subst (NotesSenders w) (sym same) (senders_kept w w counted (senders_same w sh.idle.noted) (keeps_senders w counted sh.requested no_senders sends noted))
+  kept sends same = grind (arith, senders_kept, senders_same, keeps_senders, no_senders, noted)
 
   notes_lost : (o : Option ℕ) → port_named e ≡ o → (went : Bool) → nat_lt m (send_references e) ≡ went → NotesLost counted o went v → NotesSenders w v
-  notes_lost None is went less same = kept (λ q none. ap (λ (l : LedgerView). (counts_of l q).send) (sym ledger) ∙ none) same
-    where
-      ledger : counted.ledger ≡ w.ledger
-      ledger = ap (λ (y : WorldView). y.ledger) r.rest ∙ ap (λ (o : Option ℕ). recounted_at w.ledger o (send_references e) m) is
-  notes_lost (Some p) is false less same = kept (subst (KeepsSends w.ledger) (sym ledger) (more_sends w.ledger p (send_references e) m less)) same
-    where
-      ledger : counted.ledger ≡ recounted w.ledger p (send_references e) m
-      ledger = ap (λ (y : WorldView). y.ledger) r.rest ∙ ap (λ (o : Option ℕ). recounted_at w.ledger o (send_references e) m) is
+  notes_lost None is went less same = grind (arith, kept)
+  notes_lost (Some p) is false less same = grind (arith, kept, more_sends)
   notes_lost (Some p) is true less notes = senders_fallen w w v (senders_same w sh.idle.noted) p counted no_senders noted sh.requested
       (subst (λ (l : LedgerView). (q : ℕ) → (q ≡ p → ⊥) → (counts_of l q).send ≡ (counts_of w.ledger q).send) (sym ledger) (fewer_elsewhere w.ledger p (send_references e) m less))
       (λ none. let h = has_sends w counted task name s sh e m r p is in let some = ltb-true m (send_references e) less in omega (arith, h, some)) notes
@@ -168,7 +152,6 @@ module _ (w v : WorldView) (s : State) (sh : Shows w s) (task name : ℕ) where
   pub carried_notes : (due : Due) → IsPlain due → Carries w task name due v → NotesSenders w v
   carried_notes Nothing plain same = subst (NotesSenders w) (sym same) (senders_same w sh.idle.noted)
   carried_notes (References e m) plain r = notes_lost w s sh task name e m r.counted v r.counts (port_named e) refl (nat_lt m (send_references e)) refl r.notes
-  carried_notes (Disbanding set) plain r = senders_kept w w v (senders_same w sh.idle.noted)
-      (keeps_senders_same w v sh.requested (ap (λ (y : WorldView). y.requests.no_senders) r.rest) (ap (λ (y : WorldView). y.ledger) r.rest) r.disbanded.noted)
+  carried_notes (Disbanding set) plain r = grind (arith, senders_kept, senders_same, keeps_senders_same)
   carried_notes (LosingOnce p) plain r = absurd plain
   carried_notes (Killing loss) plain r = absurd plain

@@ -30,10 +30,7 @@ same_ledger : (l : LedgerView) (m : map.FinMap nat_cmp Counts) (t u : ℕ) → m
 same_ledger l m t u e f g = λ i. record { counts = e i; total = f i; unused = g i }
 
 pub came_and_left : (l : LedgerView) (p : ℕ) → map.get l.counts p ≡ None → left (came l p) p ≡ l
-came_and_left l p none =
-    let is : counts_of (came l p) p ≡ with_more right.Receive 1 no_rights =
-    ap (λ (o : Option Counts). unwrap_or o no_rights) (get_own (map.insert l.counts p no_rights) p (counted l p)) ∙ counted_is l p in
-    same_ledger l _ _ _ (no_more l.counts p (counted l p) none) (rw is (omega arith)) (rw is (omega arith))
+came_and_left l p none = grind (arith, get_own, counted_is, same_ledger, no_more)
 
 pub came_there : (l m : LedgerView) (p : ℕ) → m ≡ came l p → IsEntered m p
 came_there l m p is = rw is (ap is_some (get_own (map.insert l.counts p no_rights) p (counted l p)))

@@ -1,5 +1,5 @@
 -- What a task keeps under one name goes under another, as it is kept; what is read there is what was read.
-use Rattle.std.proofs.Common.{◌≡◌, ℕ, ◌-◌, ◌<◌, List, Option, Some, None, refl, sym, ap, ◌∙◌, Bool, true}
+use Rattle.std.proofs.Common.{arith, ◌≡◌, ℕ, ◌-◌, ◌<◌, List, Option, Some, None, refl, sym, ap, ◌∙◌, Bool, true}
 use Rattle.std.specs.Prelude.{get_or, slice_set, is_some}
 use Rattle.std.specs.Option.{option_map}
 use Rattle.std.specs.FinMap as map
@@ -25,11 +25,7 @@ space_of None name e is = absurd (cc)
 
 -- what is kept where this is read
 kept_entry : (live : ℕ → Bool) (m : Names) (n : ℕ) (e : Entry) → map.get (read_names live m) n ≡ Some e → (k : Entry) × (map.get m n ≡ Some k) × (reading live k ≡ e)
-kept_entry live m n e is = go (map.get m n) refl (sym (get_read live m n) ∙ is)
-  where
-    go : (o : Option Entry) → map.get m n ≡ o → option_map (reading live) o ≡ Some e → (k : Entry) × (map.get m n ≡ Some k) × (reading live k ≡ e)
-    go (Some k) at f = (k, at, same_found (Some (reading live k)) (reading live k) e refl f)
-    go None at f = absurd (let g : None ≡ Some e = f in cc)
+kept_entry live m n e is = grind (arith, get_read, same_found)
 
 module _ (old : WorldView) (task : ℕ) (space : SpaceView) (spaces : List (Option SpaceView)) (ports : PortsView Kept) (ledger : LedgerView) (sets : SetsView) (requests : RequestTablesView)
     (i : ℕ) (read : Option SpaceView) (lent : SpaceView)

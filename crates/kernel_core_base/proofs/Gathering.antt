@@ -44,27 +44,12 @@ keeps true old e = refl
 keeps false old e = e
 
 pub noted_some : (old new : BTreeSet ℕ) (k : ℕ) → IsOrdered nat_cmp new → Updates nat_cmp old new k true → IsNoted old new (Some k)
-noted_some old new k ordered up = record {
-  ordered = ordered;
-  only = λ n has. elim (either (eq_by_cmp nat_cmp k n) (contains nat_cmp old n) (sym (up.0 n) ∙ has)) [
-    | inl was ↦ inl was
-    | inr is ↦ inr (ap Some (same_key k n is))
-  ];
-  kept = λ n has. up.0 n ∙ keeps (eq_by_cmp nat_cmp k n) (contains nat_cmp old n) has;
-  has = λ n e. subst (λ m. contains nat_cmp new m ≡ true) (same_some k n e) up.1;
-}
-  where
-    same_some : (a b : ℕ) → Some a ≡ Some b → a ≡ b
-    same_some a b e = cc
+noted_some old new k ordered up = grind (arith, either, same_key, keeps)
 
 -- ---- all names
 
 pub gathered_none : (w : WorldView) (set : ℕ) (names : Names) (numbers : BTreeSet ℕ) → IsOrdered nat_cmp numbers → IsEmpty numbers → AreGathered w set names [] numbers
-gathered_none w set names numbers ordered empty = record {
-  ordered = ordered;
-  only = λ n has. absurd (no_true (rw empty at has));
-  all = λ p n c named is. absurd (let less : c.0 < 0 = c.1 in omega arith);
-}
+gathered_none w set names numbers ordered empty = grind (arith, no_true)
 
 pub gathered_more : (w : WorldView) (set : ℕ) (names : Names) (ports : List ℕ) (p : ℕ) (old new : BTreeSet ℕ) (name : Option ℕ) → AreGathered w set names ports old → IsNoted old new name
     → IfSome name (λ n. is_member w set (map.get names n) ≡ true)
@@ -85,10 +70,7 @@ gathered_more w set names ports p old new name g noted found only = record {
 -- what a member's name is for is one of the set's ports
 named_port : (w : WorldView) (set : ℕ) (names : Names) (ports : List ℕ) → ((p : ℕ) (v : PortView Kept) → world.port_at w p ≡ Some v → v.attributes.set ≡ Some set → Contains ports p)
     → (n : ℕ) → is_member w set (map.get names n) ≡ true → (p : ℕ) × Contains ports p × (port_at names n ≡ Some p)
-named_port w set names ports all n is =
-    let m = member_is w set (map.get names n) is in
-    let i = in_set_by w m.p set m.in_it in
-    (m.p, all m.p i.v i.there i.is, ap (option_and_then port_named) m.under ∙ (receive_has m.e m.p m.named).0)
+named_port w set names ports all n is = grind (arith, member_is, in_set_by, receive_has)
 
 pub gathered_all : (w : WorldView) (set : ℕ) (names : Names) (ports : List ℕ) (numbers : BTreeSet ℕ) → AreGathered w set names ports numbers
     → ((p : ℕ) (v : PortView Kept) → world.port_at w p ≡ Some v → v.attributes.set ≡ Some set → Contains ports p) → numbers.keys ≡ members_in w set names

@@ -1,5 +1,5 @@
 -- What is due to a name leaves each port's holder as it was, and no name gets a receive right by it.
-use Rattle.std.proofs.Common.{◌≡◌, ℕ, Bool, true, false, Option, Some, None, refl, sym, ap, subst, ◌∙◌}
+use Rattle.std.proofs.Common.{arith, ◌≡◌, ℕ, Bool, true, false, Option, Some, None, refl, sym, ap, subst, ◌∙◌}
 use Rattle.std.specs.Prelude.{if◌then◌else◌, nat_lt}
 use Rattle.std.specs.FinMap as map
 use Rattle.name_space.specs.declared.Entry.{Entry}
@@ -19,26 +19,12 @@ use Rattle.kernel_core_base.proofs.PlainDues.{IsPlain}
 -- ---- what is left has the receive right only if the entry had it
 
 same_right : (e x : Entry) → port_named x ≡ port_named e → has_receive x ≡ has_receive e → (p : ℕ) → IsReceive (Some x) p → IsReceive (Some e) p
-same_right e x port receives p i =
-    let same : i.entry ≡ x = same_found (Some x) i.entry x i.is refl in
-    record { entry = e; is = refl; named = sym port ∙ ap port_named (sym same) ∙ i.named; receives = sym receives ∙ ap has_receive (sym same) ∙ i.receives }
+same_right e x port receives p i = grind (arith, same_found)
 
 left_receive : (e : Entry) (m p : ℕ) → IsReceive (left_with e m) p → IsReceive (Some e) p
-left_receive (entry_of.Send q n) m p = go (nat_lt 0 m)
-  where
-    go : (b : Bool) → IsReceive (if b then Some (entry_of.Send q m) else None) p → IsReceive (Some (entry_of.Send q n)) p
-    go true i = same_right (entry_of.Send q n) (entry_of.Send q m) refl refl p i
-    go false i = absurd (none_receives p i)
-left_receive (entry_of.ReceiveAndSend q n) m p = go (nat_lt 0 m)
-  where
-    go : (b : Bool) → IsReceive (if b then Some (entry_of.ReceiveAndSend q m) else Some (entry_of.Receive q)) p → IsReceive (Some (entry_of.ReceiveAndSend q n)) p
-    go true i = same_right (entry_of.ReceiveAndSend q n) (entry_of.ReceiveAndSend q m) refl refl p i
-    go false i = same_right (entry_of.ReceiveAndSend q n) (entry_of.Receive q) refl refl p i
-left_receive (entry_of.DeadName n) m p = go (nat_lt 0 m)
-  where
-    go : (b : Bool) → IsReceive (if b then Some (entry_of.DeadName m) else None) p → IsReceive (Some (entry_of.DeadName n)) p
-    go true i = same_right (entry_of.DeadName n) (entry_of.DeadName m) refl refl p i
-    go false i = absurd (none_receives p i)
+left_receive (entry_of.Send q n) m p = grind (arith, same_right, none_receives)
+left_receive (entry_of.ReceiveAndSend q n) m p = grind (arith, same_right)
+left_receive (entry_of.DeadName n) m p = grind (arith, same_right, none_receives)
 left_receive (entry_of.Receive q) m p = λ i. i
 left_receive (entry_of.SendOnce q) m p = λ i. i
 left_receive (entry_of.Set set) m p = λ i. i
@@ -53,8 +39,7 @@ module _ (w v : WorldView) (h : HoldersAgree w) (task name : ℕ) where
       (subst (λ (x : WorldView). KeepHolders w.ports.ports x.ports.ports) (sym r.rest) (same_holders w.ports.ports))
 
   set_holders : (set : ℕ) → RemovesSet w task name set v → HoldersAgree v
-  set_holders set r = holders_left w v h task r.space (record r.space { names = put r.space.names name None }) r.there (ap (λ (x : WorldView). x.spaces) r.rest)
-      (removed_receives r.space.names name) (disbanded_holders w.ports v.ports set r.disbanded)
+  set_holders set r = grind (arith, holders_left, removed_receives, disbanded_holders)
 
 module _ (w v : WorldView) (h : HoldersAgree w) (task name : ℕ) where
   pub carried_holders : (due : Due) → IsPlain due → Carries w task name due v → HoldersAgree v

@@ -35,33 +35,14 @@ two_tests : (t u : ℕ) → (t ≡ u → ⊥) → (b : Bool) (place : Place) →
 two_tests t u not false place = omega arith
 two_tests t u not true (in_message p k) = omega arith
 two_tests t u not true (in_request r) = omega arith
-two_tests t u not true (in_task x) = elim (eqb_tells x t) [
-  | inl h ↦ elim (eqb_tells x u) [
-    | inl g ↦ absurd (not (sym h.1 ∙ g.1))
-    | inr g ↦ rw (h.0, g.0) (omega arith)
-  ]
-  | inr h ↦ elim (eqb_tells x u) [
-    | inl g ↦ rw (h.0, g.0) (omega arith)
-    | inr g ↦ rw (h.0, g.0) (omega arith)
-  ]
-]
+two_tests t u not true (in_task x) = grind arith
 
 two_held : (t u : ℕ) → (t ≡ u → ⊥) → (kind : Kind) (p : ℕ) (xs : List Token) → count (is_held t kind p) xs + count (is_held u kind p) xs ≤ count (is_of kind p) xs
 two_held t u not kind p [] = omega arith
-two_held t u not kind p (x ∷ xs) =
-    let more = two_held t u not kind p xs in
-    let this = two_tests t u not (is_of kind p x) x.place in
-    omega (arith, more, this)
+two_held t u not kind p (x ∷ xs) = grind (arith, two_held t u not kind p xs, two_tests)
 
 pub one_holder : (s : State) → IsLawful s → (t u p : ℕ) → Holds s t receive p → Holds s u receive p → t ≡ u
-one_holder s l t u p a b = elim (eqb_tells t u) [
-  | inl h ↦ h.1
-  | inr h ↦ absurd (
-      let two = two_held t u h.1 receive p s.ledger in
-      let le = held_le_of t receive p s.ledger in
-      let one = l.one_receive p (alive s l receive p (omega (arith, a, le))) in
-      omega (arith, a, b, two, one))
-]
+one_holder s l t u p a b = grind (arith, two_held, held_le_of, alive)
 
 pub held_lives : (s : State) → IsLawful s → (task p : ℕ) → Holds s task receive p → s.live_port p ≡ true
 held_lives s l task p holds = let le = held_le_of task receive p s.ledger in alive s l receive p (omega (arith, holds, le))

@@ -1,5 +1,5 @@
 -- What is made under a name keeps what is true of the tables alone, and so does a task that is made.
-use Rattle.std.proofs.Common.{◌≡◌, ℕ, ◌-◌, ◌∷◌, ◌++◌, [], Option, Some, None, refl, sym, ap, subst, ◌∙◌, inl, inr, length}
+use Rattle.std.proofs.Common.{arith, ◌≡◌, ℕ, ◌-◌, ◌∷◌, ◌++◌, [], Option, Some, None, refl, sym, ap, subst, ◌∙◌, inl, inr, length}
 use Rattle.std.specs.Option.{unwrap_or}
 use Rattle.std.specs.FinMap as map
 use Rattle.std.proofs.lemmas.Bool.Decides.{eqb_tells}
@@ -40,12 +40,12 @@ port_sends l p unknown q none = entered_sends l p unknown q (sends_made (entered
 
 module _ (w v : WorldView) (task name : ℕ) where
   pub made_carriers : (r : NewRight) → Adds w task r name v → CarriersAgree w → CarriersAgree v
-  made_carriers new_right.Port adds a = carriers_made w v a (first_port task) (ap (λ (x : WorldView). x.ports.made) adds.rest) (ap (λ (x : WorldView). x.ports.ports) adds.rest) refl
+  made_carriers new_right.Port adds a = grind (arith, carriers_made)
   made_carriers new_right.Set adds a = carriers_same w v a (ap (λ (x : WorldView). x.ports.made) adds.rest) (ap (λ (x : WorldView). x.ports.ports) adds.rest)
   made_carriers new_right.DeadName adds a = carriers_same w v a (ap (λ (x : WorldView). x.ports.made) adds.rest) (ap (λ (x : WorldView). x.ports.ports) adds.rest)
 
   pub made_none_lost : (r : NewRight) → Adds w task r name v → NoneLost w → NoneLost v
-  made_none_lost new_right.Port adds n = none_lost_by w v n (ap (λ (x : WorldView). x.ports.lost) adds.rest) (ap (λ (x : WorldView). x.ports.doomed) adds.rest) (ap (λ (x : WorldView). x.ports.destroyed) adds.rest)
+  made_none_lost new_right.Port adds n = grind (arith, none_lost_by)
   made_none_lost new_right.Set adds n = none_lost_same w v n (ap (λ (x : WorldView). x.ports) adds.rest)
   made_none_lost new_right.DeadName adds n = none_lost_same w v n (ap (λ (x : WorldView). x.ports) adds.rest)
 
@@ -65,20 +65,18 @@ module _ (w v : WorldView) (task name : ℕ) where
         w.ports.made (first_port task) (ap (λ (x : WorldView). x.ports.ports) adds.rest) (ap (λ (x : WorldView). x.requests) adds.rest) (ap (λ (x : WorldView). x.spaces) adds.rest)
     made_requested new_right.Set adds unused = requested_ports (named adds.space (entry_of.Set w.sets.made)) v (named_requested unused adds.space adds.there (entry_of.Set w.sets.made))
         (live (ap (λ (x : WorldView). x.ports) adds.rest)) (ap (λ (x : WorldView). x.requests) adds.rest) (ap (λ (x : WorldView). x.spaces) adds.rest)
-    made_requested new_right.DeadName adds unused = requested_ports (named adds.space (entry_of.DeadName 1)) v (named_requested unused adds.space adds.there (entry_of.DeadName 1))
-        (live (ap (λ (x : WorldView). x.ports) adds.rest)) (ap (λ (x : WorldView). x.requests) adds.rest) (ap (λ (x : WorldView). x.spaces) adds.rest)
+    made_requested new_right.DeadName adds unused = grind (arith, requested_ports, named_requested, live)
 
     pub made_senders : (r : NewRight) → Adds w task r name v → map.get w.ledger.counts w.ports.made ≡ None → KeepsSenders w v
-    made_senders new_right.Port adds unknown = keeps_senders w v requested (ap (λ (x : WorldView). x.requests.no_senders) adds.rest)
-        (subst (KeepsSends w.ledger) (sym (ap (λ (x : WorldView). x.ledger) adds.rest)) (port_sends w.ledger w.ports.made unknown)) (ap (λ (x : WorldView). x.ports.noted) adds.rest)
-    made_senders new_right.Set adds unknown = keeps_senders_same w v requested (ap (λ (x : WorldView). x.requests.no_senders) adds.rest) (ap (λ (x : WorldView). x.ledger) adds.rest) (ap (λ (x : WorldView). x.ports.noted) adds.rest)
-    made_senders new_right.DeadName adds unknown = keeps_senders_same w v requested (ap (λ (x : WorldView). x.requests.no_senders) adds.rest) (ap (λ (x : WorldView). x.ledger) adds.rest) (ap (λ (x : WorldView). x.ports.noted) adds.rest)
+    made_senders new_right.Port adds unknown = grind (arith, keeps_senders, port_sends)
+    made_senders new_right.Set adds unknown = grind (arith, keeps_senders_same)
+    made_senders new_right.DeadName adds unknown = grind (arith, keeps_senders_same)
 
 -- ---- only room
 
 -- places that were made leave the ports without senders as they were
 pub room_senders : (w v : WorldView) → SameButRoom w v → RequestsStand w → KeepsSenders w v
-room_senders w v same requested = keeps_senders_same w v requested (ap (λ (x : RequestTablesView). x.no_senders) same.requests) same.ledger (ap (λ (x : PortsView Kept). x.noted) same.ports)
+room_senders w v same requested = grind (arith, keeps_senders_same)
 
 -- ---- a task
 
@@ -90,13 +88,7 @@ module _ (w : WorldView) where
   no_entry e f = cc
 
   pub task_requested : RequestsStand w → RequestsStand with_new_task
-  task_requested requested = requested_kept w with_new_task requested (λ p lives. lives) refl rights
-    where
-      rights : (u n : ℕ) → KeepsRight (entry_at w u n) (entry_at with_new_task u n)
-      rights u n = elim (eqb_tells u (length w.spaces)) [
-        | inl h ↦ record { keeps = λ e p is. absurd (no_entry e (sym (ap (λ (k : ℕ). entry_at w k n) h.1 ∙ ap (λ (o : Option SpaceView). entry_in o n) (space-end w.spaces)) ∙ is)) }
-        | inr h ↦ record { keeps = λ e p is for. (e, ap (λ (o : Option SpaceView). entry_in o n) (space-push_other w.spaces no_names u h.1) ∙ is, for) }
-      ]
+  task_requested requested = grind (arith, requested_kept, no_entry, space-end, space-push_other)
 
   pub task_carriers : CarriersAgree w → CarriersAgree with_new_task
   task_carriers a = carriers_same w with_new_task a refl refl

@@ -28,13 +28,7 @@ use Rattle.kernel_core_base.proofs.AttributesKept.{sets_so}
 use Rattle.kernel_core_base.proofs.Members.{is_set_target, sets_are, sets_none}
 
 one_port : (p q : ℕ) (o : Option Target) → o ≡ Some (Target.port p) → o ≡ Some (Target.port q) → p ≡ q
-one_port p q o e f = the_port p q (the_same (Target.port p) (Target.port q) (sym e ∙ f))
-  where
-    the_same : (x y : Target) → Some x ≡ Some y → x ≡ y
-    the_same x y e = cc
-
-    the_port : (p q : ℕ) → Target.port p ≡ Target.port q → p ≡ q
-    the_port p q e = cc
+one_port p q o e f = grind arith
 
 some_set : (set : ℕ) → set ∷ [] ≡ [] → ⊥
 some_set set e = let f : 1 ≡ 0 = ap length e in omega (arith, f)
@@ -44,83 +38,30 @@ some_set set e = let f : 1 ≡ 0 = ap length e in omega (arith, f)
 module _ (w : WorldView) (task member : ℕ) where
   -- a port that is to leave its set
   pub leaving_refused : (code : ℕ) → IsRefused w (λ s. receive_guards s task member) code → IsRefused w (λ s. move_guards s task member 0) code
-  leaving_refused code r = record { refused = λ s sh. go s (r.refused s sh) }
-    where
-      go : (s : State) → FirstIs (receive_guards s task member) code → FirstIs (move_guards s task member 0) code
-      go s (inl h) = inl (inl h.0, h.1)
-      go s (inr (there, inl h)) = inr ((λ e. elim e [ inl none ↦ there none | inr h ↦ h.0 refl ]), inl (inl h.0, h.1))
-      go s (inr (there, inr (right, none))) = absurd none
+  leaving_refused code r = grind arith
 
   module _ (p : ℕ) (f : FindsReceive w task member p) where
     pub not_in_set : (o : Option ℕ) → o ≡ set_of_port w p → o ≡ None → IsRefused w (λ s. move_guards s task member 0) (kern_number NotInSet)
-    not_in_set o is none = record {
-      refused = λ s sh.
-          inr (
-            (λ e. elim e [ inl u ↦ finds_used w task member p f s sh.agrees u | inr h ↦ h.0 refl ]),
-            inr (
-              (λ e. elim e [ inl n ↦ n (finds_receive w task member p f s sh.agrees) | inr h ↦ h.0 refl ]),
-              inl ((refl, (p, (finds_port w task member p f s sh.agrees), sets_none w s sh.agrees p (receive_port_lives w task member p f s sh) (sym is ∙ none))), refl),
-            ),
-          );
-    }
+    not_in_set o is none = grind (arith, finds_used, finds_receive, finds_port, sets_none, receive_port_lives)
 
     pub may_leave : (o : Option ℕ) (set : ℕ) → o ≡ set_of_port w p → o ≡ Some set → MayMove w task member 0 p None
-    may_leave o set is some = record {
-      finds = f;
-      goes = refl;
-      allowed = record {
-        allowed = λ s sh. (
-          (λ e. elim e [ inl u ↦ finds_used w task member p f s sh.agrees u | inr h ↦ h.0 refl ]),
-          (
-            (λ e. elim e [ inl n ↦ n (finds_receive w task member p f s sh.agrees) | inr h ↦ h.0 refl ]),
-            ((λ e. is_in s sh.agrees e.1), tt),
-          ),
-        );
-      };
-    }
-      where
-        is_in : (s : State) → Agrees w s → ¬ ((q : ℕ) × (lookup s task member ≡ Some (Target.port q)) × (s.sets_of q ≡ []))
-        is_in s a (q, named, none) =
-            some_set set (sym (sets_are w s a p set (sym is ∙ some)) ∙ ap s.sets_of (one_port p q (lookup s task member) (finds_port w task member p f s a) named) ∙ none)
+    may_leave o set is some = grind (arith, finds_used, finds_receive, some_set, sets_are, one_port, finds_port)
 
   -- a port that is to go into the set under another name
   module _ (after : ℕ) (some : after ≢ 0) where
     pub after_unused : (code : ℕ) → IsRefused w (λ s. used_guards s task after) code → IsRefused w (λ s. move_guards s task member after) code
-    after_unused code r = record { refused = λ s sh. go s (r.refused s sh) }
-      where
-        go : (s : State) → FirstIs (used_guards s task after) code → FirstIs (move_guards s task member after) code
-        go s (inl h) = inl (inr (some, h.0), h.1)
-        go s (inr (there, none)) = absurd none
+    after_unused code r = grind arith
 
     pub joining_refused : (other : Entry) → entry_at w task after ≡ Some other → (code : ℕ) → IsRefused w (λ s. receive_guards s task member) code →
         IsRefused w (λ s. move_guards s task member after) code
-    joining_refused other is code r = record { refused = λ s sh. go s sh.agrees (r.refused s sh) }
-      where
-        go : (s : State) → Agrees w s → FirstIs (receive_guards s task member) code → FirstIs (move_guards s task member after) code
-        go s a (inl h) = inl (inl h.0, h.1)
-        go s a (inr (there, inl h)) = inr ((λ e. elim e [ inl none ↦ there none | inr h ↦ used w s a task after other is h.1 ]), inl (inl h.0, h.1))
-        go s a (inr (there, inr (right, none))) = absurd none
+    joining_refused other is code r = grind (arith, used)
 
     module _ (p : ℕ) (f : FindsReceive w task member p) where
       pub not_to_set : (code : ℕ) → IsRefused w (λ s. set_guards s task after) code → IsRefused w (λ s. move_guards s task member after) code
-      not_to_set code r = record { refused = λ s sh. go s sh.agrees (r.refused s sh) }
-        where
-          go : (s : State) → Agrees w s → FirstIs (set_guards s task after) code → FirstIs (move_guards s task member after) code
-          go s a (inl h) = inl (inr (some, h.0), h.1)
-          go s a (inr (there, inl h)) = inr ((λ e. elim e [ inl none ↦ finds_used w task member p f s a none | inr h ↦ there h.1 ]), inl (inr (some, h.0), h.1))
-          go s a (inr (there, inr (right, none))) = absurd none
+      not_to_set code r = grind (arith, finds_used)
 
       pub may_join : (set : ℕ) → entry_at w task after ≡ Some (entry.Set set) → IsAllowed w (λ s. move_guards s task member after)
-      may_join set is = record {
-        allowed = λ s sh.
-            let a = sh.agrees in (
-              (λ e. elim e [ inl u ↦ finds_used w task member p f s a u | inr h ↦ used w s a task after (entry.Set set) is h.1 ]),
-              (
-                (λ e. elim e [ inl n ↦ n (finds_receive w task member p f s a) | inr h ↦ is_set_target w task after set is s a h.1 ]),
-                ((λ e. some e.0), tt),
-              ),
-            );
-      }
+      may_join set is = grind (arith, finds_used, used, finds_receive, is_set_target)
 
 -- ---- what it does
 

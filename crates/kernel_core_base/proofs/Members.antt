@@ -43,25 +43,17 @@ none_is set e = cc
 
 same_set : (o : Option ℕ) (set : ℕ) → is_set o set ≡ true → o ≡ Some set
 same_set None set e = absurd (none_is set e)
-same_set (Some t) set e = elim (eqb_tells t set) [
-  | inl h ↦ ap Some h.1
-  | inr h ↦ absurd (let f = h.0 in let g : t == set ≡ true = e in cc)
-]
+same_set (Some t) set e = grind arith
 
 is_itself : (set : ℕ) → is_set (Some set) set ≡ true
 is_itself set = elim (eqb_tells set set) [ inl h ↦ h.0 | inr h ↦ absurd (h.1 refl) ]
 
 pub member_is : (w : WorldView) (set : ℕ) (o : Option Entry) → is_member w set o ≡ true → Member w set o
 member_is w set None e = absurd (none_is set e)
-member_is w set (Some x) e = go (receive_named x) refl e
-  where
-    go : (r : Option ℕ) → receive_named x ≡ r → is_set (option_and_then (set_of_port w) r) set ≡ true → Member w set (Some x)
-    go None named f = absurd (none_is set f)
-    go (Some p) named f = record { e = x; under = refl; p = p; named = named; in_it = same_set (set_of_port w p) set f }
+member_is w set (Some x) e = grind (arith, none_is, same_set)
 
 pub is_one : (w : WorldView) (set : ℕ) (o : Option Entry) → Member w set o → is_member w set o ≡ true
-is_one w set o m =
-    ap (is_member w set) m.under ∙ ap (λ (r : Option ℕ). is_set (option_and_then (set_of_port w) r) set) m.named ∙ ap (λ (r : Option ℕ). is_set r set) m.in_it ∙ is_itself set
+is_one w set o m = grind (arith, is_itself)
 
 -- ---- the sets of a port
 
@@ -71,11 +63,7 @@ pub record InSet (w : WorldView) (p set : ℕ) : Type 0 where
   pub is : v.attributes.set ≡ Some set
 
 pub in_set_by : (w : WorldView) (p set : ℕ) → set_of_port w p ≡ Some set → InSet w p set
-in_set_by w p set e = go (port_at w p) refl e
-  where
-    go : (o : Option (PortView Kept)) → port_at w p ≡ o → option_and_then (λ (v : PortView Kept). v.attributes.set) o ≡ Some set → InSet w p set
-    go None there f = absurd (let g : None ≡ Some set = f in cc)
-    go (Some v) there f = record { v = v; there = there; is = f }
+in_set_by w p set e = grind arith
 
 pub sets_are : (w : WorldView) (s : State) → Agrees w s → (p set : ℕ) → set_of_port w p ≡ Some set → s.sets_of p ≡ set ∷ []
 sets_are w s a p set e = let h = in_set_by w p set e in sym ((a.ports p h.v h.there).sets) ∙ ap option_to_list h.is
@@ -101,10 +89,7 @@ set_found w s a p set live in_it =
 
 entry_by : (o : Option Entry) (t : Target) → Some t ≡ option_map target_of o → (e : Entry) × (o ≡ Some e) × (target_of e ≡ t)
 entry_by None t is = absurd (cc)
-entry_by (Some e) t is = (e, refl, the_same (target_of e) t is)
-  where
-    the_same : (x y : Target) → Some y ≡ Some x → x ≡ y
-    the_same x y e = cc
+entry_by (Some e) t is = grind arith
 
 has_it : (e : Entry) (p : ℕ) → port_named e ≡ Some p → 0 < one_if (has_receive e) → receive_named e ≡ Some p
 has_it (entry.Receive q) p is some = is
@@ -128,12 +113,7 @@ module _ (w : WorldView) (s : State) (sh : Shows w s) (task name set : ℕ) (spa
   IsNamed n = (p : ℕ) × (lookup s task n ≡ Some (Target.port p)) × Contains (s.sets_of p) set
 
   only : (n : ℕ) → Contains (members_in w set space.names) n → IsNamed n
-  only n c =
-      let passes : is_member w set (map.get space.names n) ≡ true =
-      All-contains (λ (k : ℕ). is_member w set (map.get space.names k) ≡ true) (members_in w set space.names) n (filter_passes (λ (k : ℕ). is_member w set (map.get space.names k)) (map.keys space.names)) c in
-      let m = member_is w set (map.get space.names n) passes in
-      let sets = sets_are w s sh.agrees m.p set m.in_it in
-      (m.p, names_port w s sh.agrees task n m.e m.p (under n ∙ m.under) m.named, subst (λ (xs : List ℕ). Contains xs set) (sym sets) (0, omega arith, refl))
+  only n c = grind (arith, filter_passes, member_is, sets_are, names_port, under)
 
   all : (n : ℕ) → IsNamed n → Contains (members_in w set space.names) n
   all n (p, named, in_it) =
@@ -152,12 +132,7 @@ module _ (w : WorldView) (s : State) (sh : Shows w s) (task name set : ℕ) (spa
       (is_one w set (map.get space.names n) record { e = x.0; under = there_is; p = p; named = has_it x.0 p of some; in_it = set_found w s a p set live in_it })
 
   pub members_told : TellsMembers s task name (members_in w set space.names)
-  members_told = record {
-    set = set;
-    found = under_set;
-    rising = keys_rise space.names (λ (k : ℕ). is_member w set (map.get space.names k));
-    each = λ n. (only n, all n);
-  }
+  members_told = grind (arith, found, under_set, keys_rise, only, all)
 
 -- ---- what SetStatus promises
 

@@ -32,9 +32,7 @@ some_bit n bit some = grind (arith, nat_tests)
 
 -- the bits of what is held
 bits : (w : WorldView) (s : State) → Agrees w s → (task name : ℕ) (e : Entry) → entry_at w task name ≡ Some e → type_in e ≡ target_bits s task (target_of e)
-bits w s a task name (entry.Receive p) is =
-    let r = a.references task name (entry.Receive p) p is refl in
-    let h : held s task receive p ≡ 1 = r.0 in let g : held s task send p ≡ 0 = r.1 in rw (h, g) refl
+bits w s a task name (entry.Receive p) is = grind arith
 bits w s a task name (entry.Send p n) is =
     let r = a.references task name (entry.Send p n) p is refl in
     let some : 0 < n = a.counted task name (entry.Send p n) is in
@@ -50,21 +48,11 @@ bits w s a task name (entry.Set set) is = refl
 -- the bit for a request on a name that is in use
 request_whole : (w : WorldView) (s : State) → Shows w s → (task name : ℕ) (e : Entry) → entry_at w task name ≡ Some e →
     bit_requested (map.get w.requests.names.requests (name_key task name)) ≡ (if s.stands (dead_name task name) then request_bit else 0)
-request_whole w s sh task name e is = go (map.get w.requests.names.requests (name_key task name)) (sh.agrees.standing (dead_name task name) ∙ ap is_some (notify_small w.requests task name small))
-  where
-    small : name < 2 ^ 32
-    small = (sh.lawful.naming task).space.name_fits name (target_of e) (found w s sh.agrees task name e is)
-
-    go : (o : Option Request) → s.stands (dead_name task name) ≡ is_some (option_map (λ (r : Request). r.notify) o) → bit_requested o ≡ (if s.stands (dead_name task name) then request_bit else 0)
-    go None stands = sym (ap (λ (b : Bool). if b then request_bit else 0) stands)
-    go (Some r) stands = sym (ap (λ (b : Bool). if b then request_bit else 0) stands)
+request_whole w s sh task name e is = grind (arith, notify_small, found)
 
 -- the type in the tables is the machine's
 type_whole : (w : WorldView) (s : State) → Shows w s → (task name : ℕ) (e : Entry) → entry_at w task name ≡ Some e → type_of_entry w.requests task name e ≡ type_of s task name (target_of e)
-type_whole w s sh task name e is =
-    let b = bits w s sh.agrees task name e is in
-    let n = request_whole w s sh task name e is in
-    omega (arith, b, n)
+type_whole w s sh task name e is = grind (arith, bits, request_whole)
 
 pub type_told : (w : WorldView) (task name : ℕ) (e : Entry) → HasTask w task → entry_at w task name ≡ Some e → Acts w (Event.NameType task name) (Reply.NameType (type_of_entry w.requests task name e)) w
 type_told w task name e below is = done w (Event.NameType task name) (Reply.NameType (type_of_entry w.requests task name e)) w below record { allowed = λ s sh. (used w s sh.agrees task name e is, tt) }

@@ -69,30 +69,20 @@ module _ (w : WorldView) (task name p : ℕ) (v : WorldView) (r : LosesOnce w ta
       (subst (λ (m : map.FinMap nat_cmp (PortView Kept)). KeepHolders r.named.ports.ports m) (sym ports_are) (put_holders r.named.ports.ports p r.posts.v told r.posts.there refl))
 
   once_carriers : CarriersAgree w → CarriersAgree v
-  once_carriers c = carriers_queued r.named v
-      (carriers_same w r.named c (ap (λ (x : WorldView). x.ports.made) r.puts.rest) (ap (λ (x : WorldView). x.ports.ports) r.puts.rest))
-      p r.posts.v told (notice_kept notice.SendOnce) r.posts.there (ap (λ (x : WorldView). x.ports.made) r.posts.rest) ports_are refl refl
-      (λ q carries. absurd (none_listed (notice_kept notice.SendOnce).rights refl _ carries))
+  once_carriers c = grind (arith, carriers_queued, carriers_same, ports_are, none_listed)
 
   once_requested : RequestsStand w → RequestsStand v
   once_requested a = requested_put r.named v (requested_removed w r.named a task name r.puts) p told ports_are
       (ap (λ (x : WorldView). x.requests) r.posts.rest) (ap (λ (x : WorldView). x.spaces) r.posts.rest)
 
   once_none_lost : NoneLost w → NoneLost v
-  once_none_lost n = none_lost_by w v n
-      (ap (λ (x : WorldView). x.ports.lost) r.posts.rest ∙ ap (λ (x : WorldView). x.ports.lost) r.puts.rest)
-      (ap (λ (x : WorldView). x.ports.doomed) r.posts.rest ∙ ap (λ (x : WorldView). x.ports.doomed) r.puts.rest)
-      (ap (λ (x : WorldView). x.ports.destroyed) r.posts.rest ∙ ap (λ (x : WorldView). x.ports.destroyed) r.puts.rest)
+  once_none_lost n = grind (arith, none_lost_by)
 
   ledger_is : v.ledger ≡ shifted w.ledger p
   ledger_is = ap (λ (x : WorldView). x.ledger) r.posts.rest ∙ ap (λ (x : WorldView). shifted x.ledger p) r.puts.rest
 
   once_notes : (s : State) → Shows w s → NotesSenders w v
-  once_notes s sh = senders_kept w w v (senders_same w sh.idle.noted)
-      (keeps_senders w v sh.requested
-      (ap (λ (x : WorldView). x.requests.no_senders) r.posts.rest ∙ ap (λ (x : WorldView). x.requests.no_senders) r.puts.rest)
-      (subst (KeepsSends w.ledger) (sym ledger_is) (sends_shifted w.ledger p))
-      (ap (λ (x : WorldView). x.ports.noted) r.posts.rest ∙ ap (λ (x : WorldView). x.ports.noted) r.puts.rest))
+  once_notes s sh = grind (arith, senders_kept, senders_same, keeps_senders, ledger_is, sends_shifted)
 
   pub once_spares : SlotsSuffice w → UsesSpares w v
   once_spares enough =
@@ -120,10 +110,7 @@ module _ (w : WorldView) (task name p : ℕ) (v : WorldView) (r : LosesOnce w ta
     is_once_named = found w s sh.agrees task name (SendOnce p) r.found
 
     some : 0 < held s task send_once p
-    some =
-        let one = some_tally (is_once p) (s.naming task) name (Target.once p) is_once_named (eq-eqb p p refl) in
-        let names = (sh.lawful.naming task).once_names p in
-        omega (arith, one, names)
+    some = grind (arith, some_tally, is_once_named, eq-eqb)
 
     taken : Without (token send_once p (in_task task)) s.ledger
     taken = take_held task send_once p s.ledger some
@@ -141,9 +128,7 @@ module _ (w : WorldView) (task name p : ℕ) (v : WorldView) (r : LosesOnce w ta
     in_space = sym (ap (λ (o : Option SpaceView). entry_in o name) r.puts.there) ∙ r.found
 
     in_sets : SetsAgree w.sets s.set_owner s.sets_made (at s.naming task own)
-    in_sets = sets_stay w.sets s.set_owner s.sets_made s.naming (at s.naming task own) sh.agrees.in_sets task (at_other s.naming task own)
-        (λ n set is. ap (λ (m : Names). map.get m n) (at_own s.naming task own)
-        ∙ get_removed (s.naming task) name n (λ same. no_set p set (same_found (lookup s task name) (Target.once p) (Target.set set) is_once_named (ap (lookup s task) (sym same) ∙ is))) ∙ is)
+    in_sets = grind (arith, sets_stay, at_other, at_own, get_removed, no_set, same_found, is_once_named)
 
     -- the name alone went
     name_gone : Agrees r.named (without_name task name s)
@@ -158,19 +143,14 @@ module _ (w : WorldView) (task name p : ℕ) (v : WorldView) (r : LosesOnce w ta
         (put_rights space.names task s.ledger (own_rights w s a task space there) name None (λ e q is. absurd (no_entry e is))) in_sets)
 
     paid : 0 < (counts_of r.named.ledger p).send_once
-    paid = subst (λ (l : LedgerView). 0 < (counts_of l p).send_once) (sym (ap (λ (x : WorldView). x.ledger) r.puts.rest))
-        (once_unused s sh.lawful w.ledger task name p (sh.agrees.counts p) is_once_named)
+    paid = grind (arith, once_unused, is_once_named)
 
     once_agrees : (now : ℕ) → Agrees v (with_posted now mid (unused_once p task))
     once_agrees now = told_agrees r.named (without_name task name s) name_gone p notice.SendOnce v r.posts now (sh.lawful.within p) paid
         (in_task task) (λ q. refl) (length (s.log p)) (token send_once p (in_message p (length (s.log p))) ∷ taken.others) (λ h. let a = taken.parts h in omega (arith, a))
 
     unlost : (q : ℕ) → ¬ (IsOrphan mid q)
-    unlost q o =
-        let one = sh.lawful.one_receive q o.0 in
-        let none = o.1 in
-        let a = taken.parts (λ x. if is_of receive q x then 1 else 0) in
-        omega (arith, one, none, a)
+    unlost q o = grind (arith, taken)
 
     once_left : IsLeft v mid
     once_left = none_left v mid (once_none_lost sh.idle.none_lost) unlost

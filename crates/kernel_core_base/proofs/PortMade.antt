@@ -67,14 +67,10 @@ module _ (w : WorldView) (s : State) (a : Agrees w s) (l : IsLawful s) where
 
   -- the ledger doesn't know the next port, and no name is for it
   pub unknown : map.get w.ledger.counts w.ports.made ≡ None
-  unknown = not_entered (map.get w.ledger.counts w.ports.made) ((a.counts w.ports.made).entered ∙ subst (λ (p : ℕ). s.live_port p ≡ false) (sym a.ports_made) new_not_live)
+  unknown = grind (arith, not_entered, new_not_live)
 
   pub not_made : (u n : ℕ) (x : Entry) (q : ℕ) → entry_in (space_at w u) n ≡ Some x → port_named x ≡ Some q → q ≢ new
-  not_made u n x q e named is =
-      let some = (l.naming u).has_right n q (a.naming u n ∙ ap (option_map target_of) e ∙ ap Some (target_named x q named)) in
-      let c = held_none u receive q is in
-      let b = held_none u send q is in
-      omega (arith, some, c, b)
+  not_made u n x q e named is = grind (arith, (l.naming u).has_right n q (a.naming u n ∙ ap (option_map target_of) e ∙ ap Some (target_named x q named)), held_none u receive q is, held_none u send q is)
 
   module _ (task name : ℕ) (space : SpaceView) (room : ℕ) (there : space_at w task ≡ Some space) (unused : map.get space.names name ≡ None) where
     abbrev right : Entry
@@ -102,18 +98,11 @@ module _ (w : WorldView) (s : State) (a : Agrees w s) (l : IsLawful s) where
         (omega (arith, y, r.0), omega (arith, r.1))
 
     new_rights : (x : Entry) (q : ℕ) → Some right ≡ Some x → port_named x ≡ Some q → (count (is_held task receive q) t.ledger ≡ one_if (has_receive x)) × (count (is_held task send q) t.ledger ≡ send_references x)
-    new_rights x q is named =
-        let same : new ≡ q = same_some new q (ap port_named (same_some right x is) ∙ named) in
-        let y = both_same new q task task same refl in
-        let c = held_none task receive q (sym same) in
-        let b = held_none task send q (sym same) in
-        let one : one_if (has_receive x) ≡ 1 = ap (λ (z : Entry). one_if (has_receive z)) (sym (same_some right x is)) in
-        let none : send_references x ≡ 0 = ap send_references (sym (same_some right x is)) in
-        (omega (arith, y, c, one), omega (arith, b, none))
+    new_rights x q is named = grind (arith, same_some, both_same, held_none)
 
     -- other tasks hold what they held
     others_hold : (u : ℕ) → (u ≡ task → ⊥) → (kind : Kind) (q : ℕ) → count (is_held u kind q) t.ledger ≡ count (is_held u kind q) s.ledger
-    others_hold u not kind q = let z = both_test (is_of kind q (token receive new (in_task task))) (task == u) (inr (ne_eqb task u (λ e. not (sym e)))) in omega (arith, z)
+    others_hold u not kind q = grind (arith, both_test, ne_eqb)
 
     -- ---- ports
 

@@ -27,27 +27,13 @@ at_most_one false = omega arith
 
 not_behind : (p from n q k : ℕ) → from + n ≤ k → among p from n (in_message q k) ≡ 0
 not_behind p from zero q k behind = refl
-not_behind p from (suc n) q k behind =
-    let rest = not_behind p from n q k (omega (arith, behind)) in
-    let off : (p == q && from + n == k) ≡ false = elsewhere p q (from + n) k (λ a e. omega (arith, e, behind)) in
-    let z : (if p == q && from + n == k then suc zero else zero) ≡ zero = rw off refl in
-    omega (arith, z, rest)
+not_behind p from (suc n) q k behind = grind (arith, not_behind p from n q k (omega (arith, behind)), elsewhere)
 
 among_once : (p from n : ℕ) (place : Place) → among p from n place ≤ 1
 among_once p from zero place = omega arith
 among_once p from (suc n) (in_task task) = let h = among_once p from n (in_task task) in omega (arith, h)
 among_once p from (suc n) (in_request r) = let h = among_once p from n (in_request r) in omega (arith, h)
-among_once p from (suc n) (in_message q k) = elim (eqb_tells (from + n) k) [
-  | inl h ↦
-      let none = not_behind p from n q k (let e = h.1 in omega (arith, e)) in
-      let one = at_most_one (p == q && from + n == k) in
-      omega (arith, none, one)
-  | inr h ↦
-      let rest = among_once p from n (in_message q k) in
-      let off : (p == q && from + n == k) ≡ false = elsewhere p q (from + n) k (λ a e. h.1 e) in
-      let z : (if p == q && from + n == k then suc zero else zero) ≡ zero = rw off refl in
-      omega (arith, z, rest)
-]
+among_once p from (suc n) (in_message q k) = grind (arith, among_once p from n (in_message q k), not_behind, at_most_one, elsewhere)
 
 weigh_sum : (f g : Token → ℕ) (xs : List Token) → weigh (λ x. f x + g x) xs ≡ weigh f xs + weigh g xs
 weigh_sum f g [] = omega arith
@@ -55,11 +41,7 @@ weigh_sum f g (x ∷ xs) = let h = weigh_sum f g xs in omega (arith, h)
 
 each_one : (p from n : ℕ) (xs : List Token) → ((i : ℕ) → i < n → 0 < count (λ x. same_place (in_message p (from + i)) x.place) xs) → n ≤ weigh (λ x. among p from n x.place) xs
 each_one p from zero xs each = omega arith
-each_one p from (suc n) xs each =
-    let rest = each_one p from n xs (λ i below. each i (omega (arith, below))) in
-    let one = each n (omega arith) in
-    let sum = weigh_sum (λ (x : Token). if same_place (in_message p (from + n)) x.place then 1 else 0) (λ (x : Token). among p from n x.place) xs in
-    omega (arith, rest, one, sum)
+each_one p from (suc n) xs each = grind (arith, each_one p from n xs (λ i below. each i (omega (arith, below))), each n (omega arith), weigh_sum (λ (x : Token). if same_place (in_message p (from + n)) x.place then 1 else 0) (λ (x : Token). among p from n x.place) xs)
 
 module _ (s : State) (l : IsLawful s) (p : ℕ) (live : s.live_port p ≡ true) where
   lies : (i : ℕ) (e : Entry) → slice_get (queue s p) i ≡ Some e → 0 < count (λ x. same_place (in_message p (s.taken p + i)) x.place) s.ledger

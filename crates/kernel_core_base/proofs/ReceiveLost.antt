@@ -52,11 +52,7 @@ use Rattle.kernel_core_base.proofs.ReceiveTaken.{TakesSo, kill_held, orphaned, o
 
 -- what is left has no receive right, and is for the port
 rest_right : (l : Loss) (x : Entry) → sends_left l ≡ Some x → (has_receive x ≡ false) × (port_of x ≡ Some l.port)
-rest_right l x is = go (nat_lt 0 l.left) is
-  where
-    go : (b : Bool) → (if b then Some (entry_of.Send l.port l.left) else None) ≡ Some x → (has_receive x ≡ false) × (port_of x ≡ Some l.port)
-    go true e = of_some (entry_of.Send l.port l.left) (λ y. (has_receive y ≡ false) × (port_of y ≡ Some l.port)) (refl, refl) x e
-    go false e = absurd (cc)
+rest_right l x is = grind (arith, of_some)
 
 rest_receives : (l : Loss) (p : ℕ) → IsReceive (sends_left l) p → ⊥
 rest_receives l p i = no_receive i.entry (rest_right l i.entry i.is).0 p (record { entry = i.entry; is = refl; named = i.named; receives = i.receives })
@@ -136,10 +132,7 @@ module _ (w : WorldView) (task name : ℕ) (l : Loss) (v : WorldView) (can : Can
 
     -- so many send rights were there
     had_sends : l.held ≤ (counts_of w.ledger l.port).send
-    had_sends =
-        let h = (kill_held w task name l can s sh).1 in
-        let c = (sh.agrees.counts l.port).senders in
-        let le = held_le_of task send l.port s.ledger in omega (arith, h, c, le)
+    had_sends = grind (arith, (kill_held w task name l can s sh).1, (sh.agrees.counts l.port).senders, held_le_of task send l.port s.ledger)
 
   -- the name alone
   abbrev named : WorldView
@@ -162,13 +155,7 @@ module _ (w : WorldView) (task name : ℕ) (l : Loss) (v : WorldView) (can : Can
   taken_slots enough = slots_kept w v enough unused_same (ap (λ (x : WorldView). x.ports.spare) r.rest)
 
   pub taken_spares : UsesSpares w v
-  taken_spares =
-      let k = keeps_space w v task r.space (record r.space { names = put r.space.names name rest }) r.there spaces_are (omega arith) (ap (λ (x : WorldView). x.ports.spare) r.rest) in
-      record {
-        rooms = k.rooms;
-        fewer = omega (arith, unused_same);
-        slots = let spare = k.slots in omega (arith, unused_same, spare);
-      }
+  taken_spares = grind (arith, keeps_space w v task r.space (record r.space { names = put r.space.names name rest }) r.there spaces_are (omega arith) (ap (λ (x : WorldView). x.ports.spare) r.rest))
 
   -- ---- send rights that went
 
@@ -190,8 +177,7 @@ module _ (w : WorldView) (task name : ℕ) (l : Loss) (v : WorldView) (can : Can
       ∙ sends_elsewhere (taken w.ledger l.port right.Receive 1) l.port right.Send (l.held - l.left) q not ∙ sends_elsewhere w.ledger l.port right.Receive 1 q not
 
   taken_notes : (s : State) → Shows w s → (went : Bool) → nat_lt l.left l.held ≡ went → (new : WorldView) → NotesLost v (Some l.port) went new → NotesSenders w new
-  taken_notes s sh false less new same = subst (NotesSenders w) (sym same)
-      (senders_kept w w v (senders_same w sh.idle.noted) (keeps_senders w v sh.requested no_senders (keeps (let h = ltb-false l.left l.held less in omega (arith, h))) noted))
+  taken_notes s sh false less new same = grind (arith, senders_kept, senders_same, keeps_senders, no_senders, keeps, ltb-false, noted)
   taken_notes s sh true less new notes = senders_fallen w w new (senders_same w sh.idle.noted) l.port v no_senders noted sh.requested other_sends
       (λ none. let h = had_sends s sh in let some = ltb-true l.left l.held less in omega (arith, h, some)) notes
 
@@ -199,18 +185,7 @@ module _ (w : WorldView) (task name : ℕ) (l : Loss) (v : WorldView) (can : Can
 
   taken_left : (s : State) (sh : Shows w s) (t : State) → ((q : ℕ) → (q ≡ l.port → ⊥) → ¬ (IsOrphan t q)) → IsOrphan t l.port → (new : WorldView) →
       new.ports.lost ≡ v.ports.lost → new.ports.doomed ≡ v.ports.doomed → new.ports.destroyed ≡ v.ports.destroyed → IsLeft new t
-  taken_left s sh t none orphan new lost doomed destroyed = record {
-    doomed = doomed ∙ ap (λ (x : WorldView). x.ports.doomed) r.rest ∙ sh.idle.none_lost.doomed;
-    destroyed = destroyed ∙ ap (λ (x : WorldView). x.ports.destroyed) r.rest ∙ sh.idle.none_lost.destroyed;
-    lost = λ q c. subst (IsOrphan t) (sym (listed_one l.port q (subst (λ (xs : List ℕ). Contains xs q) one c))) orphan;
-    orphans = λ q o. elim (eqb_tells q l.port) [
-      | inl h ↦ subst (λ (xs : List ℕ). Contains xs q) (sym one) (0, omega arith, sym h.1)
-      | inr h ↦ absurd (none q h.1 o)
-    ];
-  }
-    where
-      one : new.ports.lost ≡ l.port ∷ []
-      one = lost ∙ ap (λ (x : WorldView). x.ports.lost) r.rest ∙ ap (λ (xs : List ℕ). xs ++ l.port ∷ []) sh.idle.none_lost.lost
+  taken_left s sh t none orphan new lost doomed destroyed = grind (arith, listed_one)
 
 -- ---- all together
 

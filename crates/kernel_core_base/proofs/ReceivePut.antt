@@ -56,27 +56,17 @@ module _ (w : WorldView) (stands : Stands w) (task name : ℕ) (l : Loss) (can :
   named = (receive_has can.e l.port can.receive).0
 
   lives : stands.state.live_port l.port ≡ true
-  lives = named_lives stands.state stands.shown.lawful task name l.port (found w stands.state stands.shown.agrees task name can.e can.found ∙ ap Some (target_named can.e l.port named))
+  lives = grind (arith, named_lives, found, target_named, named)
 
   view : (v : PortView Kept) × (port_at w l.port ≡ Some v)
   view = port_got (port_at w l.port) (stands.shown.agrees.live_port l.port ∙ lives)
 
   pub can_kill : CanLose w l.port
-  can_kill = record {
-    v = view.0;
-    there = view.1;
-    held = subst CanHold (sym (stands.shown.holders.held task name can.e l.port can.found named (receive_has can.e l.port can.receive).1 view.0 view.1)) tt;
-    entered = port_entered w stands.state stands.shown.agrees l.port lives;
-    counted = let c = (stands.shown.agrees.counts l.port).receivers in let one = stands.shown.lawful.one_receive l.port lives in omega (arith, c, one);
-  }
+  can_kill = grind (arith, view, named, receive_has, port_entered, lives)
 
   -- so many send rights are there
   sends : l.held ≤ (counts_of w.ledger l.port).send
-  sends =
-      let h = (stands.shown.agrees.references task name can.e l.port can.found named).1 in
-      let n = can.sends in
-      let c = (stands.shown.agrees.counts l.port).senders in
-      let le = held_le_of task send l.port stands.state.ledger in omega (arith, h, n, c, le)
+  sends = grind (arith, (stands.shown.agrees.references task name can.e l.port can.found named).1, can.sends, (stands.shown.agrees.counts l.port).senders, held_le_of task send l.port stands.state.ledger)
 
   -- where nobody holds it
   module _ (killed : WorldView) (kill : LosesPort w l.port killed) where
@@ -103,9 +93,7 @@ module _ (w : WorldView) (stands : Stands w) (task name : ℕ) (l : Loss) (can :
       still_entered = subst (λ (y : LedgerView). IsEntered y l.port) (sym ledger_is) (ap is_some (put_own w.ledger.counts l.port (Some (with_fewer right.Receive 1 (counts_of w.ledger l.port)))))
 
       pub still_enough : l.held - l.left ≤ (counts_of x.ledger l.port).send
-      still_enough = subst (λ (y : LedgerView). l.held - l.left ≤ (counts_of y l.port).send) (sym ledger_is)
-          (let own = ap (λ (c : Counts). c.send) (counts_own w.ledger l.port (with_fewer right.Receive 1 (counts_of w.ledger l.port)) (taken w.ledger l.port right.Receive 1) refl) in
-          let h = sends in omega (arith, own, h))
+      still_enough = grind (arith, ledger_is, counts_own, sends)
 
 some_counts : (o : Option Counts) → is_some o ≡ true → (c : Counts) × (o ≡ Some c)
 some_counts (Some c) e = (c, refl)
@@ -113,15 +101,7 @@ some_counts None e = absurd (false≢true e)
 
 -- where no send rights go the counts stay
 pub none_taken : (ledger : LedgerView) (port gone : ℕ) → IsEntered ledger port → gone ≡ 0 → ledger ≡ taken ledger port right.Send gone
-none_taken ledger port gone entered none =
-    let c = some_counts (map.get ledger.counts port) entered in
-    let sends : c.0.send - 0 ≡ c.0.send = omega arith in
-    let same : with_fewer right.Send 0 c.0 ≡ c.0 = λ i. record { receive = c.0.receive; send = sends i; send_once = c.0.send_once; destination = c.0.destination } in
-    let back : map.insert ledger.counts port (with_fewer right.Send 0 (counts_of ledger port)) ≡ ledger.counts =
-    ap (λ (o : Option Counts). map.insert ledger.counts port (with_fewer right.Send 0 (unwrap_or o no_rights))) c.1 ∙ ap (map.insert ledger.counts port) same ∙ put_same ledger.counts port c.0 c.1 in
-    let total : ledger.total ≡ ledger.total - 0 = omega arith in
-    let unused : ledger.unused ≡ ledger.unused - 0 = omega arith in
-    subst (λ (n : ℕ). ledger ≡ taken ledger port right.Send n) (sym none) (λ i. record { counts = sym back i; total = total i; unused = unused i })
+none_taken ledger port gone entered none = grind (arith, some_counts, put_same)
 
 -- it was taken so
 pub receive_taken : (old killed mid x : WorldView) (task name : ℕ) (l : Loss) (left : Option Entry) (ledger : LedgerView) → LosesPort old l.port killed → PutsLeft killed task name left mid → left ≡ sends_left l → x ≡ mid →

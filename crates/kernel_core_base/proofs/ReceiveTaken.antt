@@ -52,9 +52,7 @@ module _ (w : WorldView) (task name : ℕ) (l : Loss) (can : CanKill w task name
   target = found w s sh.agrees task name can.e can.found ∙ ap Some (target_named can.e l.port named)
 
   pub kill_held : (held s task receive l.port ≡ 1) × (held s task send l.port ≡ l.held)
-  kill_held =
-      let h = sh.agrees.references task name can.e l.port can.found named in
-      (h.0 ∙ ap one_if (receive_has can.e l.port can.receive).1, h.1 ∙ can.sends)
+  kill_held = grind (arith, named, receive_has)
 
   pub kill_lives : s.live_port l.port ≡ true
   kill_lives = named_lives s sh.lawful task name l.port target
@@ -85,43 +83,24 @@ module _ (w : WorldView) (task name : ℕ) (l : Loss) (can : CanKill w task name
 
   -- of another port, or with another task
   port_weight : (c : Kind) (q : ℕ) → (q ≡ l.port → ⊥) → count (is_of c q) rights_left ≡ count (is_of c q) s.ledger
-  port_weight c q not = same_weight (λ x. if is_of c q x then 1 else 0) (none_of_port receive c l.port q (in_task task) not) (none_of_port send c l.port q (in_task task) not)
+  port_weight c q not = grind (arith, same_weight, none_of_port)
 
   task_weight : (u : ℕ) → (u ≡ task → ⊥) → (c : Kind) (q : ℕ) → count (is_held u c q) rights_left ≡ count (is_held u c q) s.ledger
-  task_weight u not c q = same_weight (λ x. if is_held u c q x then 1 else 0)
-      (both_test (is_of c q right_gone) (task == u) (inr (ne_eqb task u (λ e. not (sym e))))) (both_test (is_of c q send_gone) (task == u) (inr (ne_eqb task u (λ e. not (sym e)))))
+  task_weight u not c q = grind (arith, same_weight, both_test, ne_eqb)
 
   pub sends_weight : count (is_held task send l.port) rights_left ≡ l.left
-  sends_weight =
-      let e = rights_moved (λ x. if is_held task send l.port x then 1 else 0) in
-      let g = weigh_alike (λ x. if is_held task send l.port x then 1 else 0) (l.held - l.left) send_gone (own_right task send l.port refl) in
-      let h = kill_held.1 in
-      let few = can.fewer in omega (arith, e, g, h, few)
+  sends_weight = grind (arith, rights_moved, weigh_alike, own_right, kill_held)
 
   pub receives_weight : count (is_held task receive l.port) rights_left ≡ 0
-  receives_weight =
-      let e = rights_moved (λ x. if is_held task receive l.port x then 1 else 0) in
-      let g = weigh_unlike (λ x. if is_held task receive l.port x then 1 else 0) (l.held - l.left) send_gone refl in
-      let o = own_right task receive l.port refl in
-      let h = kill_held.0 in omega (arith, e, g, o, h)
+  receives_weight = grind (arith, rights_moved, weigh_unlike, own_right, kill_held)
 
   -- ---- the port is an orphan, and no other is
 
   pub orphaned : (t : State) → t.live_port ≡ s.live_port → t.ledger ≡ rights_left → IsOrphan t l.port
-  orphaned t live ledger = (
-    ap (λ (f : ℕ → Bool). f l.port) live ∙ kill_lives,
-    ap (count (is_of receive l.port)) ledger
-        ∙ (let e = rights_moved (λ x. if is_of receive l.port x then 1 else 0) in
-        let g = weigh_unlike (λ x. if is_of receive l.port x then 1 else 0) (l.held - l.left) send_gone refl in
-        let o = one_of receive l.port (in_task task) refl in
-        let one = sh.lawful.one_receive l.port kill_lives in omega (arith, e, g, o, one)),
-  )
+  orphaned t live ledger = grind (arith, kill_lives, rights_moved, weigh_unlike, one_of)
 
   pub others_kept : (t : State) → t.live_port ≡ s.live_port → t.ledger ≡ rights_left → (q : ℕ) → (q ≡ l.port → ⊥) → ¬ (IsOrphan t q)
-  others_kept t live ledger q not o =
-      let one = sh.lawful.one_receive q (sym (ap (λ (f : ℕ → Bool). f q) live) ∙ o.0) in
-      let none = sym (ap (count (is_of receive q)) ledger) ∙ o.1 in
-      let same = port_weight receive q not in omega (arith, one, none, same)
+  others_kept t live ledger q not o = grind (arith, port_weight)
 
   -- ---- the counts
 
@@ -149,12 +128,7 @@ module _ (w : WorldView) (task name : ℕ) (l : Loss) (can : CanKill w task name
       unlike h z = let g = weigh_unlike h (l.held - l.left) send_gone z in let e = others.parts h in omega (arith, g, e)
 
   total : counts_left.total ≡ length rights_left
-  total =
-      let t = sh.agrees.total in
-      let m = rights_moved (λ x. 1) in
-      let g = weigh_alike (λ x. 1) (l.held - l.left) send_gone refl in
-      let y = length-weigh s.ledger in
-      let z = length-weigh rights_left in omega (arith, t, m, g, y, z)
+  total = grind (arith, rights_moved, weigh_alike, length-weigh)
 
   -- ---- all together
 

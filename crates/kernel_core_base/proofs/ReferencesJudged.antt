@@ -66,21 +66,8 @@ not_both j k e = cc
 -- nothing changes, all goes, or the number is one that such a right can't have
 pub whole_cases : (change : Change) (whole r : Result Due KernReturn) (delta : ℤ) → IsChange change delta → changed_whole change whole ≡ r →
     ((delta ≡ pos 0) × (r ≡ Ok Nothing)) ⊎ ((delta ≡ negsuc 0) × (r ≡ whole)) ⊎ ((delta ≢ pos 0) × (delta ≢ negsuc 0) × (r ≡ Err InvalidValue))
-whole_cases (More k) whole r delta is e = elim (eqb_tells k 0) [
-  | inl h ↦ inl (is ∙ ap pos h.1, sym e ∙ ap (λ (b : Bool). if b then Ok Nothing else Err InvalidValue) h.0)
-  | inr h ↦ inr (inr ((λ z. h.1 (pos_same k 0 (sym is ∙ z))), (λ z. not_both k 0 (sym is ∙ z)), sym e ∙ ap (λ (b : Bool). if b then Ok Nothing else Err InvalidValue) h.0))
-]
-whole_cases (Fewer k) whole r delta is e = elim (eqb_tells k 1) [
-  | inl h ↦ inr (inl (
-    (let j = is.1 in let one = h.1 in let z : is.0 ≡ 0 = omega (arith, j, one) in is.2 ∙ ap negsuc z),
-    sym e ∙ ap (λ (b : Bool). if b then whole else Err InvalidValue) h.0,
-  ))
-  | inr h ↦ inr (inr (
-    (λ z. not_both 0 is.0 (sym z ∙ is.2)),
-    (λ z. let j = is.1 in let n = h.1 in let y = negsuc_same is.0 0 (sym is.2 ∙ z) in n (omega (arith, j, y))),
-    sym e ∙ ap (λ (b : Bool). if b then whole else Err InvalidValue) h.0,
-  ))
-]
+whole_cases (More k) whole r delta is e = grind (arith, pos_same, not_both)
+whole_cases (Fewer k) whole r delta is e = grind (arith, not_both, negsuc_same)
 
 the_code : (x y : KernReturn) → ◌≡◌ {A = Result Due KernReturn} (Err x) (Err y) → x ≡ y
 the_code x y e = cc
@@ -91,13 +78,7 @@ not_ok due code e = cc
 -- what is done is nothing or the whole
 pub whole_due : (change : Change) (whole : Result Due KernReturn) (due : Due) (delta : ℤ) → IsChange change delta → changed_whole change whole ≡ Ok due →
     ((delta ≡ pos 0) × (◌≡◌ {A = Result Due KernReturn} (Ok due) (Ok Nothing))) ⊎ ((delta ≡ negsuc 0) × (Ok due ≡ whole))
-whole_due change whole due delta is e = elim (whole_cases change whole (Ok due) delta is e) [
-  | inl h ↦ inl h
-  | inr h ↦ elim h [
-    | inl g ↦ inr g
-    | inr g ↦ absurd (not_ok due InvalidValue g.2)
-  ]
-]
+whole_due change whole due delta is e = grind (arith, whole_cases, not_ok)
 
 -- ---- the guards
 
@@ -141,92 +122,34 @@ not_send number u e = not_counted number u (inl e)
 
 module _ (w : WorldView) (s : State) (a : Agrees w s) (task name : ℕ) (delta : ℤ) where
   fine_sends : (n m : ℕ) (change : Change) → IsChange change delta → CanSum n change m → w.ledger.total + more_in change ≤ most_rights → IsFine s 0 n delta
-  fine_sends n m change is can few = record {
-    few = λ h. omega (arith, h);
-    not_below = λ c. not_below n m change delta is can;
-    whole = λ u. absurd (uncounted_0 u);
-    not_above = λ c. not_above n m change delta is can;
-    room = λ e. let t = a.total in let d = same_added change delta is in omega (arith, t, d, few);
-  }
+  fine_sends n m change is can few = grind (arith, not_below, uncounted_0, not_above, same_added)
 
   fine_dead : (n m : ℕ) (change : Change) → IsChange change delta → CanSum n change m → IsFine s 4 n delta
-  fine_dead n m change is can = record {
-    few = λ h. omega (arith, h);
-    not_below = λ c. not_below n m change delta is can;
-    whole = λ u. absurd (uncounted_4 u);
-    not_above = λ c. not_above n m change delta is can;
-    room = λ e. absurd (omega (arith, e));
-  }
+  fine_dead n m change is can = grind (arith, not_below, uncounted_4, not_above)
 
   fine_whole : (number n : ℕ) → ¬ (4 < number) → IsUncounted number → (delta ≡ pos 0) ⊎ (delta ≡ negsuc 0) → IsFine s number n delta
-  fine_whole number n few u which = record {
-    few = few;
-    not_below = λ c. absurd (not_counted number u c);
-    whole = λ _. which;
-    not_above = λ c. absurd (not_counted number u c);
-    room = λ e. absurd (not_send number u e);
-  }
+  fine_whole number n few u which = grind (arith, not_below, not_counted, not_above, not_send)
 
   fine : (r : Right) (e : Entry) (change : Change) (due : Due) → IsChange change delta → CanChange w.ledger.total r e change due → IsFine s (right_number r) (references_in r e) delta
   fine right.Send e change due is can = fine_sends (references_in right.Send e) can.0 change is can.2 can.3
   fine right.DeadName e change due is can = fine_dead (references_in right.DeadName e) can.0 change is can.2
-  fine right.PortSet e change due is can = fine_whole 3 (references_in right.PortSet e) (few_numbers right.PortSet) (inr (inr refl)) (elim (whole_due change (Ok (Disbanding can.0)) due delta is can.2) [
-    | inl h ↦ inl h.0
-    | inr h ↦ inr h.0
-  ])
-  fine right.Receive e change due is can = fine_whole 1 (references_in right.Receive e) (few_numbers right.Receive) (inl refl) (elim (whole_due change (Ok (Killing (receive_loss e can.0))) due delta is can.2) [
-    | inl h ↦ inl h.0
-    | inr h ↦ inr h.0
-  ])
-  fine right.SendOnce e change due is can = fine_whole 2 (references_in right.SendOnce e) (few_numbers right.SendOnce) (inr (inl refl)) (elim (whole_due change (Ok (LosingOnce can.0)) due delta is can.2) [
-    | inl h ↦ inl h.0
-    | inr h ↦ inr h.0
-  ])
+  fine right.PortSet e change due is can = grind (arith, fine_whole, few_numbers, whole_due)
+  fine right.Receive e change due is can = grind (arith, fine_whole, few_numbers, whole_due)
+  fine right.SendOnce e change due is can = grind (arith, fine_whole, few_numbers, whole_due)
 
   none_holds : (number n : ℕ) (e : Entry) → entry_at w task name ≡ Some e → references_at s task name number ≡ n → 0 < n → IsFine s number n delta → NoneHolds (modify_guards s task name number delta)
-  none_holds number n e is refs some f =
-      (f.few, (used w s a task name e is, ((λ z. omega (arith, refs, some, z)), (wrong, ((λ h. f.not_above h.0 (subst (λ (x : ℕ). IsAbove x delta) refs h.1)), (crowded, tt))))))
-    where
-      wrong : (IsCounted number × IsBelowZero (references_at s task name number) delta) ⊎ (IsUncounted number × (delta ≢ pos 0) × (delta ≢ negsuc 0)) → ⊥
-      wrong (inl h) = f.not_below h.0 (subst (λ (x : ℕ). IsBelowZero x delta) refs h.1)
-      wrong (inr h) = elim (f.whole h.0) [
-        | inl z ↦ h.1 z
-        | inr z ↦ h.2 z
-      ]
-
-      crowded : (number ≡ 0) × (most_rights < length s.ledger + added_rights delta) → ⊥
-      crowded h = let r = f.room h.0 in let m = h.1 in omega (arith, r, m)
+  none_holds number n e is refs some f = grind (arith, used)
 
   -- ---- refused
 
   sum_fails : (number n : ℕ) (change : Change) (code : KernReturn) → references_at s task name number ≡ n → 0 < n → IsCounted number → IsChange change delta → CannotSum n change code →
       FirstIs (later_guards s task name number delta) (kern_number code)
-  sum_fails number n change code refs some c is (inl h) =
-      inr ((λ z. omega (arith, refs, some, z)), inl (inl (c, subst (λ (x : ℕ). IsBelowZero x delta) (sym refs) (too_few n change delta is h.0)), ap kern_number h.1))
-  sum_fails number n change code refs some c is (inr h) =
-      inr ((λ z. omega (arith, refs, some, z)), inr (fits, inl ((c, subst (λ (x : ℕ). IsAbove x delta) (sym refs) (too_many n change delta is h.0)), ap kern_number h.1)))
-    where
-      fits : (IsCounted number × IsBelowZero (references_at s task name number) delta) ⊎ (IsUncounted number × (delta ≢ pos 0) × (delta ≢ negsuc 0)) → ⊥
-      fits (inl x) = many_not_few n change delta is h.0 (subst (λ (x : ℕ). IsBelowZero x delta) refs x.1)
-      fits (inr x) = not_counted number x.0 c
+  sum_fails number n change code refs some c is (inl h) = grind (arith, too_few)
+  sum_fails number n change code refs some c is (inr h) = grind (arith, too_many, many_not_few, not_counted)
 
   room_fails : (n m : ℕ) (change : Change) (code : KernReturn) → references_at s task name 0 ≡ n → 0 < n → IsChange change delta → CanSum n change m → most_rights < w.ledger.total + more_in change → code ≡ NoSpace →
       FirstIs (later_guards s task name 0 delta) (kern_number code)
-  room_fails n m change code refs some is can many code_is =
-      inr (
-        (λ z. omega (arith, refs, some, z)),
-        inr (
-          fits,
-          inr (
-            (λ h. not_above n m change delta is can (subst (λ (x : ℕ). IsAbove x delta) refs h.1)),
-            inl ((refl, (let t = a.total in let d = same_added change delta is in omega (arith, t, d, many))), ap kern_number code_is),
-          ),
-        ),
-      )
-    where
-      fits : (IsCounted 0 × IsBelowZero (references_at s task name 0) delta) ⊎ (IsUncounted 0 × (delta ≢ pos 0) × (delta ≢ negsuc 0)) → ⊥
-      fits (inl x) = not_below n m change delta is can (subst (λ (x : ℕ). IsBelowZero x delta) refs x.1)
-      fits (inr x) = uncounted_0 x.0
+  room_fails n m change code refs some is can many code_is = grind (arith, not_above, same_added, not_below, uncounted_0)
 
   -- by a number that such a right can't have
   wrong_fails : (number n : ℕ) (code : KernReturn) → references_at s task name number ≡ n → 0 < n → IsUncounted number → delta ≢ pos 0 → delta ≢ negsuc 0 → code ≡ InvalidValue →
@@ -273,14 +196,11 @@ module _ (w : WorldView) (s : State) (a : Agrees w s) (task name : ℕ) (delta :
   later_fails right.Send e change code refs some is (inr h) = room_fails (references_in right.Send e) h.0 change code refs some is h.1 h.2 h.3
   later_fails right.DeadName e change code refs some is h = sum_fails 4 (references_in right.DeadName e) change code refs some (inr refl) is h
   later_fails right.PortSet e change code refs some is (inl h) = absurd (no_set e h some)
-  later_fails right.PortSet e change code refs some is (inr h) = whole_fails 3 (references_in right.PortSet e) change (Ok (Disbanding h.0)) code refs some (inr (inr refl)) is h.1
-      (λ gone f. absurd (not_ok (Disbanding h.0) code (sym f)))
+  later_fails right.PortSet e change code refs some is (inr h) = grind (arith, whole_fails, not_ok)
   later_fails right.Receive e change code refs some is (inl h) = absurd (no_receive e h some)
-  later_fails right.Receive e change code refs some is (inr h) = whole_fails 1 (references_in right.Receive e) change (Ok (Killing (receive_loss e h.0))) code refs some (inl refl) is h.1
-      (λ gone f. absurd (not_ok (Killing (receive_loss e h.0)) code (sym f)))
+  later_fails right.Receive e change code refs some is (inr h) = grind (arith, whole_fails, not_ok)
   later_fails right.SendOnce e change code refs some is (inl h) = absurd (no_once e h some)
-  later_fails right.SendOnce e change code refs some is (inr h) = whole_fails 2 (references_in right.SendOnce e) change (Ok (LosingOnce h.0)) code refs some (inr (inl refl)) is h.1
-      (λ gone f. absurd (not_ok (LosingOnce h.0) code (sym f)))
+  later_fails right.SendOnce e change code refs some is (inr h) = grind (arith, whole_fails, not_ok)
 
 module _ (w : WorldView) (task name number : ℕ) (delta : ℤ) where
   pub not_a_right : ((r : Right) → right_number r ≢ number) → IsRefused w (λ s. call_guards s (Event.ModRefs task name number delta)) (kern_number InvalidValue)
@@ -288,10 +208,7 @@ module _ (w : WorldView) (task name number : ℕ) (delta : ℤ) where
 
   module _ (r : Right) (e : Entry) (f : FindsRight w task name number r e) (change : Change) (is : IsChange change delta) where
     pub modify_allowed : (due : Due) → CanChange w.ledger.total r e change due → IsAllowed w (λ s. call_guards s (Event.ModRefs task name number delta))
-    modify_allowed due can = record {
-      allowed = λ s sh. subst (λ (k : ℕ). NoneHolds (modify_guards s task name k delta)) f.number_is
-          (none_holds w s sh.agrees task name delta (right_number r) (references_in r e) e f.found (references_are w s sh.agrees task name r e f.found) f.some (fine w s sh.agrees task name delta r e change due is can));
-    }
+    modify_allowed due can = grind (arith, none_holds, references_are, fine)
 
     pub modify_refused : (code : KernReturn) → CannotChange w.ledger.total r e change code → IsRefused w (λ s. call_guards s (Event.ModRefs task name number delta)) (kern_number code)
     modify_refused code cannot = record {

@@ -43,55 +43,17 @@ use Rattle.kernel_core_base.proofs.SetRemoved.{removed_agrees}
 use Rattle.notifications.proofs.Parts.{weigh_alike, weigh_unlike}
 
 test_same : (a b c d : ℕ) → (a < b → c < d) → (c < d → a < b) → nat_lt a b ≡ nat_lt c d
-test_same a b c d f g = go (nat_lt a b) (nat_lt c d) refl refl
-  where
-    go : (x y : Bool) → nat_lt a b ≡ x → nat_lt c d ≡ y → x ≡ y
-    go true true e k = refl
-    go false false e k = refl
-    go true false e k = absurd (let h = f (ltb-true a b e) in let l = ltb-false c d k in omega (arith, h, l))
-    go false true e k = absurd (let h = g (ltb-true c d k) in let l = ltb-false a b e in omega (arith, h, l))
+test_same a b c d f g = grind (arith, ltb-true, ltb-false)
 
 one_send : (s : State) (task name m p : ℕ) (t : State) → lookup s task name ≡ Some (Target.port p) → held s task send p ≡ m + 1 → SetsSends task name p m s t → LosesOne task name MoveSend (Target.port p) s t
-one_send s task name m p t found n sets = record {
-  found = found;
-  rest = sets.rest ∙ ap (λ (b : Bool). record (name_kept (b || nat_lt 0 (held s task receive p)) task name s) { ledger = t.ledger }) (test_same 0 m 1 (held s task send p) (λ h. omega (arith, h, n)) (λ h. omega (arith, h, n)));
-  tokens = λ h.
-      let one : held s task send p - m ≡ 1 = omega (arith, n) in
-      let none : m - held s task send p ≡ 0 = omega (arith, n) in
-      let a : weigh h (replicate (held s task send p - m) (token send p (in_task task))) ≡ h (token send p (in_task task)) + 0 = ap (λ (k : ℕ). weigh h (replicate k (token send p (in_task task)))) one in
-      let b : weigh h (replicate (m - held s task send p) (token send p (in_task task))) ≡ 0 = ap (λ (k : ℕ). weigh h (replicate k (token send p (in_task task)))) none in
-      let e = sets.tokens h in omega (arith, a, b, e);
-}
+one_send s task name m p t found n sets = grind (arith, found, test_same)
 
 one_dead : (s : State) (task name n : ℕ) → 0 < n → lookup s task name ≡ Some (Target.dead n) → LosesOne task name MoveSend (Target.dead n) s (with_dead task name (n - 1) s)
-one_dead s task name n some found = record {
-  found = found;
-  rest = go (nat_lt 0 (n - 1)) (nat_lt 1 n) (test_same 0 (n - 1) 1 n (λ h. omega (arith, h, some)) (λ h. omega (arith, h, some)));
-  tokens = λ h. kept (nat_lt 0 (n - 1)) h;
-}
-  where
-    after : Bool → State
-    after b = if b then with_name task name (Target.dead (n - 1)) s else without_name task name s
-
-    go : (b c : Bool) → b ≡ c → after b ≡ record (after c) { ledger = (after b).ledger }
-    go true true e = refl
-    go false false e = refl
-    go true false e = absurd (cc)
-    go false true e = absurd (cc)
-
-    kept : (b : Bool) (h : Token → ℕ) → weigh h (after b).ledger + 0 ≡ weigh h s.ledger + 0
-    kept true h = refl
-    kept false h = refl
+one_dead s task name n some found = grind (arith, found, test_same)
 
 count_either : (f g : Token → Bool) (xs : List Token) → count (λ x. f x || g x) xs ≤ count f xs + count g xs
 count_either f g [] = omega arith
-count_either f g (x ∷ xs) = let r = count_either f g xs in let one = go (f x) (g x) in omega (arith, r, one)
-  where
-    go : (a b : Bool) → (if a || b then suc zero else zero) ≤ (if a then suc zero else zero) + (if b then suc zero else zero)
-    go true true = omega arith
-    go true false = omega arith
-    go false true = omega arith
-    go false false = omega arith
+count_either f g (x ∷ xs) = grind (arith, count_either f g xs)
 
 either_passes : (task p : ℕ) → is_either task p (token send p (in_task task)) ≡ true
 either_passes task p = rw (eq-eqb p p refl, eq-eqb task task refl) refl
@@ -162,9 +124,7 @@ module _ (w : WorldView) (s : State) (a : Agrees w s) (task name : ℕ) (e : Ent
 -- a name that may be deallocated, and one that may be destroyed
 may_deallocate : (w : WorldView) (task name : ℕ) (e : Entry) → entry_at w task name ≡ Some e → ((s : State) → Shows w s → HasReference s task (Some (target_of e))) →
     IsAllowed w (λ s. call_guards s (Event.Deallocate task name))
-may_deallocate w task name e is has = record {
-  allowed = λ s sh. (used w s sh.agrees task name e is, (referred w s sh.agrees task name e is (has s sh), tt));
-}
+may_deallocate w task name e is has = grind (arith, used)
 
 may_destroy : (w : WorldView) (task name : ℕ) (e : Entry) → entry_at w task name ≡ Some e → IsAllowed w (λ s. call_guards s (Event.Destroy task name))
 may_destroy w task name e is = record { allowed = λ s sh. (used w s sh.agrees task name e is, tt) }
@@ -273,15 +233,9 @@ module _ (w : WorldView) (task name : ℕ) (below : HasTask w task) (v : WorldVi
       (subst (λ (x : Due). Carries w task name x v) (the_due (References (entry_of.Send p n) (n - 1)) due d) c)
   deallocates (entry_of.ReceiveAndSend p n) due is d c = lose_one (entry_of.ReceiveAndSend p n) p n is refl refl (λ s sh. sh.agrees.counted task name (entry_of.ReceiveAndSend p n) is) (λ s t b. b) tt
       (subst (λ (x : Due). Carries w task name x v) (the_due (References (entry_of.ReceiveAndSend p n) (n - 1)) due d) c)
-  deallocates (entry_of.DeadName n) due is d c = carried w (Event.Deallocate task name) task name (References (entry_of.DeadName n) (n - 1)) v below
-      (may_deallocate w task name (entry_of.DeadName n) is (λ s sh. tt)) tt
-      (λ now s sh t b. let at = named w s sh.agrees task name (entry_of.DeadName n) is in
-      (refl, inr (inr (n, subst (LosesOne task name MoveSend (Target.dead n) s) (sym b) (one_dead s task name n ((sh.lawful.naming task).references name (Target.dead n) at).0 at), refl))))
-      (λ s sh. not_once w s sh.agrees task name (entry_of.DeadName n) is (λ q once. dead_not_once n q once))
-      (subst (λ (x : Due). Carries w task name x v) (the_due (References (entry_of.DeadName n) (n - 1)) due d) c)
+  deallocates (entry_of.DeadName n) due is d c = grind (arith, carried, may_deallocate, named, one_dead, not_once, dead_not_once, the_due)
   deallocates (entry_of.Receive p) due is d c = absurd (no_due due d)
-  deallocates (entry_of.SendOnce p) due is d c = once_lost w task name p v (subst (λ (x : Due). Carries w task name x v) (the_due (LosingOnce p) due d) c) (Event.Deallocate task name) below
-      (may_deallocate w task name (entry_of.SendOnce p) is (λ s sh. tt)) (λ now s t sh loses. (refl, inr (inl (p, loses, refl))))
+  deallocates (entry_of.SendOnce p) due is d c = grind (arith, once_lost, the_due, may_deallocate)
   deallocates (entry_of.Set set) due is d c = absurd (no_due due d)
 
   -- the receive right goes with all send references

@@ -86,9 +86,7 @@ more_sum n m (Fewer k) can = omega (arith, can)
 
 module _ (w : WorldView) (stands : Stands w) (task name : ℕ) where
   few_sends : (e : Entry) → entry_at w task name ≡ Some e → (p : ℕ) → port_named e ≡ Some p → send_references e ≤ most_references
-  few_sends e is p of =
-      let h = (of_port w stands.state stands.shown.agrees task name e is p of).1 in
-      let f = (stands.shown.lawful.naming task).few_references p in omega (arith, h, f)
+  few_sends e is p of = grind (arith, (of_port w stands.state stands.shown.agrees task name e is p of).1, (stands.shown.lawful.naming task).few_references p)
 
   few_dead : (n : ℕ) → entry_at w task name ≡ Some (entry_of.DeadName n) → n ≤ most_references
   few_dead n is = ((stands.shown.lawful.naming task).references name (Target.dead n) (named w stands.state stands.shown.agrees task name (entry_of.DeadName n) is)).1
@@ -101,8 +99,7 @@ module _ (w : WorldView) (stands : Stands w) (task name : ℕ) where
       record { found = is; few = (let f : n ≤ most_references = few_sends (entry_of.Send p n) is p refl in omega (arith, f)); room = λ q of. let t = few_total in omega (arith, t) }
   can_deallocate (entry_of.ReceiveAndSend p n) due is d = subst (CanCarry w task name) (the_due (References (entry_of.ReceiveAndSend p n) (n - 1)) due d)
       record { found = is; few = (let f : n ≤ most_references = few_sends (entry_of.ReceiveAndSend p n) is p refl in omega (arith, f)); room = λ q of. let t = few_total in omega (arith, t) }
-  can_deallocate (entry_of.DeadName n) due is d = subst (CanCarry w task name) (the_due (References (entry_of.DeadName n) (n - 1)) due d)
-      record { found = is; few = (let f = few_dead n is in omega (arith, f)); room = λ q of. absurd (no_port q of) }
+  can_deallocate (entry_of.DeadName n) due is d = grind (arith, the_due, few_dead, no_port)
   can_deallocate (entry_of.Receive p) due is d = absurd (no_due due d)
   can_deallocate (entry_of.SendOnce p) due is d = subst (CanCarry w task name) (the_due (LosingOnce p) due d) is
   can_deallocate (entry_of.Set set) due is d = absurd (no_due due d)

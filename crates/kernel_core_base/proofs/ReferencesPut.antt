@@ -57,21 +57,9 @@ can_put w task name e left is same = let x = at w task name e is in record {
 
 -- what is left is for the port that was named
 pub left_alike : (e : Entry) (m : ℕ) (x : Entry) → left_with e m ≡ Some x → (port_named x ≡ port_named e) × (port_of x ≡ port_of e)
-left_alike (entry_of.Send q n) m x is = go (nat_lt 0 m) is
-  where
-    go : (b : Bool) → (if b then Some (entry_of.Send q m) else None) ≡ Some x → (port_named x ≡ Some q) × (port_of x ≡ Some q)
-    go true e = of_some (entry_of.Send q m) (λ y. (port_named y ≡ Some q) × (port_of y ≡ Some q)) (refl, refl) x e
-    go false e = absurd (cc)
-left_alike (entry_of.ReceiveAndSend q n) m x is = go (nat_lt 0 m) is
-  where
-    go : (b : Bool) → (if b then Some (entry_of.ReceiveAndSend q m) else Some (entry_of.Receive q)) ≡ Some x → (port_named x ≡ Some q) × (port_of x ≡ Some q)
-    go true e = of_some (entry_of.ReceiveAndSend q m) (λ y. (port_named y ≡ Some q) × (port_of y ≡ Some q)) (refl, refl) x e
-    go false e = of_some (entry_of.Receive q) (λ y. (port_named y ≡ Some q) × (port_of y ≡ Some q)) (refl, refl) x e
-left_alike (entry_of.DeadName n) m x is = go (nat_lt 0 m) is
-  where
-    go : (b : Bool) → (if b then Some (entry_of.DeadName m) else None) ≡ Some x → (port_named x ≡ None) × (port_of x ≡ None)
-    go true e = of_some (entry_of.DeadName m) (λ y. (port_named y ≡ None) × (port_of y ≡ None)) (refl, refl) x e
-    go false e = absurd (cc)
+left_alike (entry_of.Send q n) m x is = grind (arith, of_some)
+left_alike (entry_of.ReceiveAndSend q n) m x is = grind (arith, of_some)
+left_alike (entry_of.DeadName n) m x is = grind (arith, of_some)
 left_alike (entry_of.Receive q) m x is = of_some (entry_of.Receive q) (λ y. (port_named y ≡ Some q) × (port_of y ≡ Some q)) (refl, refl) x is
 left_alike (entry_of.SendOnce q) m x is = of_some (entry_of.SendOnce q) (λ y. (port_named y ≡ None) × (port_of y ≡ Some q)) (refl, refl) x is
 left_alike (entry_of.Set q) m x is = of_some (entry_of.Set q) (λ y. (port_named y ≡ None) × (port_of y ≡ None)) (refl, refl) x is

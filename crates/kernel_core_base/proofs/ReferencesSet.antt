@@ -70,16 +70,10 @@ module _ (w : WorldView) (s : State) (sh : Shows w s) (task name : ℕ) (space :
     ledger = recounts.ys
 
     same_weight : (h : Token → ℕ) → h (token send p (in_task task)) ≡ 0 → weigh h ledger ≡ weigh h s.ledger
-    same_weight h z =
-        let g = weigh_unlike h (held s task send p - m) (token send p (in_task task)) z in
-        let c = weigh_unlike h (m - held s task send p) (token send p (in_task task)) z in
-        let e = recounts.moves h in omega (arith, g, c, e)
+    same_weight h z = grind (arith, weigh_unlike, recounts)
 
     more_weight : (h : Token → ℕ) → h (token send p (in_task task)) ≡ 1 → weigh h ledger + (held s task send p - m) ≡ weigh h s.ledger + (m - held s task send p)
-    more_weight h o =
-        let g = weigh_alike h (held s task send p - m) (token send p (in_task task)) o in
-        let c = weigh_alike h (m - held s task send p) (token send p (in_task task)) o in
-        let e = recounts.moves h in omega (arith, g, c, e)
+    more_weight h o = grind (arith, weigh_alike, recounts)
 
     -- the counts become those of the ledger
     counted : (q : ℕ) → CountsAgree (recounted w.ledger p (held s task send p) m) s.live_port ledger (onces_queued s) q
@@ -108,14 +102,7 @@ module _ (w : WorldView) (s : State) (sh : Shows w s) (task name : ℕ) (space :
             (let above = ltb-false (held s task send p) m e in let k = sends in let le = held_le_of task send p s.ledger in let c = (sh.agrees.counts p).senders in omega (arith, above, k, le, c)) onces ((sh.agrees.counts p).destinations live) others
 
     total : (recounted w.ledger p (held s task send p) m).total ≡ length ledger
-    total =
-        let k = more_weight (λ x. 1) refl in
-        let c = sh.agrees.total in let y = length-weigh s.ledger in let z = length-weigh ledger in go (nat_lt (held s task send p) m) refl (omega (arith, k, c, y, z))
-      where
-        go : (b : Bool) → nat_lt (held s task send p) m ≡ b → length ledger + (held s task send p - m) ≡ w.ledger.total + (m - held s task send p) →
-            (if b then made w.ledger p right.Send (m - held s task send p) else taken w.ledger p right.Send (held s task send p - m)).total ≡ length ledger
-        go true e k = let below = ltb-true (held s task send p) m e in omega (arith, below, k)
-        go false e k = let above = ltb-false (held s task send p) m e in omega (arith, above, k)
+    total = grind (arith, more_weight, length-weigh, ltb-true, ltb-false)
 
     -- this is left under the name
     abbrev IsLeft : Entry → Type 0

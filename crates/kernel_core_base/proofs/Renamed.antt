@@ -1,5 +1,5 @@
 -- What is under a name moves to another, in the tables and in the machine alike; what is kept of a set goes along.
-use Rattle.std.proofs.Common.{◌≡◌, ℕ, ◌-◌, ◌<◌, ◌^◌, [], Option, Some, None, refl, sym, ap, subst, ◌∙◌, Bool}
+use Rattle.std.proofs.Common.{arith, ◌≡◌, ℕ, ◌-◌, ◌<◌, ◌^◌, [], Option, Some, None, refl, sym, ap, subst, ◌∙◌, Bool}
 use Rattle.std.specs.Prelude.{is_some}
 use Rattle.std.specs.Option.{option_map}
 use Rattle.std.specs.FinMap as map
@@ -44,9 +44,7 @@ use Rattle.copyin_base.proofs.Spaces.{space-set_same}
 
 module _ (w w1 : WorldView) (task to : ℕ) (m : KeepsPlace w task to w1) where
   pub may_still : (from : ℕ) (e : Entry) → MayRename w task from to e → MayRename w1 task from to e
-  may_still from e may =
-      let same = place_kept w w1 task to m in
-      record { found = room_entry w w1 same task from ∙ may.found; unused = room_entry w w1 same task to ∙ may.unused; usable = may.usable }
+  may_still from e may = grind (arith, place_kept w w1 task to m)
 
   pub is_kept : kept_of w1 task ≡ Some to
   is_kept = ap (λ (x : WorldView). kept_of x task) m.rest ∙ ap kept_in (space-set_same w.spaces task (record m.space { kept = Some to }) m.space m.there)
@@ -65,17 +63,14 @@ set_kept w s a l task name set named = set_of (map.get w.sets.sets set) task (sy
 module _ (w w1 : WorldView) (task from to : ℕ) (small : to < 2 ^ 32) (e : Entry) (may : MayRename w task from to e) (moves : MovesEntry w task from to e w1) where
   -- no request is on the new name
   pub no_request_to : Stands w → map.get w1.requests.names.requests (name_key task to) ≡ None
-  no_request_to stands = ap (λ (x : WorldView). map.get x.requests.names.requests (name_key task to)) moves.rest ∙ none_on w stands.shown.requested task to small may.unused
+  no_request_to stands = grind (arith, none_on)
 
   names_set : (s : State) → Agrees w s → (set : ℕ) → e ≡ entry.Set set → lookup s task from ≡ Some (Target.set set)
   names_set s a set kind = found w s a task from e may.found ∙ ap (λ (x : Entry). Some (target_of x)) kind
 
   -- a set that stands under the name is there, after the names changed too
   pub set_there : Stands w → (set : ℕ) → e ≡ entry.Set set → IsThere w1.sets set
-  set_there stands set kind =
-      let a = stands.shown.agrees in
-      subst (λ (x : SetsView). IsThere x set) (sym (ap (λ (x : WorldView). x.sets) moves.rest))
-      (ap is_some (set_kept w stands.state a stands.shown.lawful task from set (names_set stands.state a set kind)).1)
+  set_there stands set kind = grind (arith, set_kept, names_set)
 
   here : map.get moves.space.names from ≡ Some e
   here = sym (ap (λ (o : Option SpaceView). entry_in o from) moves.there) ∙ may.found
@@ -89,8 +84,7 @@ module _ (w w1 : WorldView) (task from to : ℕ) (small : to < 2 ^ 32) (e : Entr
 
   -- what was done one after the other
   pub named_from : (x : WorldView) → x ≡ w1 → (requests : RequestTablesView) → requests ≡ request_moved x.requests task from to → (v : WorldView) → v ≡ record x { sets = sets_named e to x.sets; requests = requests } → v ≡ named_so
-  named_from x view requests moved v named =
-      named ∙ (λ i. record (view i) { sets = sets_named e to (view i).sets; requests = (moved ∙ ap (λ (y : WorldView). request_moved y.requests task from to) view) i })
+  named_from x view requests moved v named = grind arith
 
   abbrev after : State → State
   after s = record s {
@@ -104,12 +98,7 @@ module _ (w w1 : WorldView) (task from to : ℕ) (small : to < 2 ^ 32) (e : Entr
     stands = renamed_requests task from to s.stands
 
     renames : Renames task from to s (after s)
-    renames = record {
-      target = target_of e;
-      found = target_found w s sh.agrees task moves.space moves.there from to e (moves.space.room - 1) stands here free;
-      rest = refl;
-      tokens = λ h. moved_weigh task from to h s.ledger;
-    }
+    renames = grind (arith, found, target_found, here, free, moved_weigh)
 
     small_from : from < 2 ^ 32
     small_from = (sh.lawful.naming task).space.name_fits from (target_of e) (found w s sh.agrees task from e may.found)
@@ -125,10 +114,7 @@ module _ (w w1 : WorldView) (task from to : ℕ) (small : to < 2 ^ 32) (e : Entr
     other not = kept_sets w s sh.agrees task moves.space moves.there from to e (moves.space.room - 1) stands here free not
 
     own : (set : ℕ) → e ≡ entry.Set set → Go (renamed_in (map.get w.sets.sets set) w.sets set to)
-    own set kind =
-        let k = set_kept w s sh.agrees sh.lawful task from set (names_set s sh.agrees set kind) in
-        subst (λ (o : Option SetRecord). Go (renamed_in o w.sets set to)) (sym k.1)
-        (sets_go w s sh.agrees task moves.space moves.there from to e (moves.space.room - 1) stands here free set k.0 (ap target_of kind) k.1 k.2)
+    own set kind = grind (arith, set_kept, names_set, sets_go, here, free)
 
     in_sets : (x : Entry) → e ≡ x → Go (sets_named x to w.sets)
     in_sets (entry.Set set) kind = own set kind
@@ -145,9 +131,7 @@ module _ (w w1 : WorldView) (task from to : ℕ) (small : to < 2 ^ 32) (e : Entr
 
   -- a receive right goes along with its name
   holders : (v : WorldView) → v ≡ named_so → HoldersAgree w → HoldersAgree v
-  holders v named h = holders_left w v h task moves.space (record moves.space { names = map.insert (map.remove moves.space.names from) to e; room = moves.space.room - 1 }) moves.there
-      (ap (λ (x : WorldView). x.spaces) named ∙ ap (λ (x : WorldView). x.spaces) moves.rest) (moved_receives moves.space.names from to e here)
-      (subst (λ (x : PortsView Kept). KeepHolders w.ports.ports x.ports) (sym (ap (λ (x : WorldView). x.ports) named ∙ ap (λ (x : WorldView). x.ports) moves.rest)) (same_holders w.ports.ports))
+  holders v named h = grind (arith, holders_left, moved_receives, here, same_holders)
 
   -- from the tables before a place was kept
   pub rename_done : (old : WorldView) → SameButRoom old w → HasTask old task → IsAllowed old (λ s. call_guards s (Event.Rename task from to)) → (v : WorldView) → v ≡ named_so → Acts old (Event.Rename task from to) (Reply.Code 0) v

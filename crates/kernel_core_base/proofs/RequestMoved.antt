@@ -45,8 +45,7 @@ none_on w requested task name small unused = go (map.get w.requests.names.reques
 
 -- The request on a name is that name's.
 pub own_on : (w : WorldView) → RequestsStand w → (task name : ℕ) → name < 2 ^ 32 → (r : NameRequest) → map.get w.requests.names.requests (name_key task name) ≡ Some r → (r.task ≡ task) × (r.name ≡ name)
-own_on w requested task name small r is =
-    let on = requested.on_names (name_key task name) r is in same_key r.task r.name task name on.small small on.own
+own_on w requested task name small r is = grind (arith, requested.on_names (name_key task name) r is)
 
 -- a name that is in use isn't one that isn't
 pub names_differ : (w : WorldView) (task from to : ℕ) (e : Entry) → entry_at w task from ≡ Some e → entry_at w task to ≡ None → from ≡ to → ⊥
@@ -54,11 +53,7 @@ names_differ w task from to e found unused same = no_request e (sym unused ∙ a
 
 -- the notify port of the request on a name, which is less than 2^32
 pub notify_small : (v : RequestTablesView) (t m : ℕ) → m < 2 ^ 32 → notify_of v (dead_name t m) ≡ option_map (λ (r : NameRequest). r.notify) (map.get v.names.requests (name_key t m))
-notify_small v t m small = go (nat_lt m (2 ^ 32)) (lt-ltb m (2 ^ 32) small)
-  where
-    go : (b : Bool) → b ≡ true → (if b then option_map (λ (r : NameRequest). r.notify) (map.get v.names.requests (name_key t m)) else None) ≡ option_map (λ (r : NameRequest). r.notify) (map.get v.names.requests (name_key t m))
-    go true e = refl
-    go false e = absurd (cc)
+notify_small v t m small = grind (arith, lt-ltb)
 
 module _ (v : RequestTablesView) (task o n : ℕ) (small_from : o < 2 ^ 32) (small_to : n < 2 ^ 32) (differs : o ≡ n → ⊥)
     (own : (r : NameRequest) → map.get v.names.requests (name_key task o) ≡ Some r → (r.task ≡ task) × (r.name ≡ o))
@@ -88,11 +83,7 @@ module _ (v : RequestTablesView) (task o n : ℕ) (small_from : o < 2 ^ 32) (sma
 
   to_in : (x : Option NameRequest) → map.get v.names.requests key_from ≡ x → map.get (renamed_by v.names n x).requests key_to ≡ option_map with_name x
   to_in None is = none
-  to_in (Some g) is =
-      let at = own g is in
-      let new : key_of (with_name g) ≡ key_to = λ i. name_key (at.0 i) n in
-      subst (λ (k : ℕ). map.get (map.insert (map.remove v.names.requests (key_of g)) (key_of (with_name g)) (with_name g)) k ≡ Some (with_name g)) new
-      (get_own (map.remove v.names.requests (key_of g)) (key_of (with_name g)) (with_name g))
+  to_in (Some g) is = grind (arith, get_own)
 
   other_in : (x : Option NameRequest) → map.get v.names.requests key_from ≡ x → (k : ℕ) → (k ≡ key_from → ⊥) → (k ≡ key_to → ⊥) → map.get (renamed_by v.names n x).requests k ≡ map.get v.names.requests k
   other_in None is k a b = refl
@@ -135,7 +126,7 @@ module _ (v : RequestTablesView) (task o n : ℕ) (small_from : o < 2 ^ 32) (sma
   notify_from = notify_small v2 task o small_from ∙ ap (option_map (λ (r : NameRequest). r.notify)) gone_from
 
   notify_to : notify_of v2 to ≡ notify_of v from
-  notify_to = notify_small v2 task n small_to ∙ ap (option_map (λ (r : NameRequest). r.notify)) come_to ∙ same_notify (map.get v.names.requests key_from) ∙ sym (notify_small v task o small_from)
+  notify_to = grind (arith, notify_small, come_to, same_notify)
 
   none_to : notify_of v to ≡ None
   none_to = notify_small v task n small_to ∙ ap (option_map (λ (r : NameRequest). r.notify)) none
@@ -143,18 +134,7 @@ module _ (v : RequestTablesView) (task o n : ℕ) (small_from : o < 2 ^ 32) (sma
   notify_other : (r : Request) → same_request r from ≡ false → same_request r to ≡ false → notify_of v2 r ≡ notify_of v r
   notify_other (no_senders p) a b = refl
   notify_other (port_destroyed p) a b = refl
-  notify_other (dead_name t m) a b = go (nat_lt m (2 ^ 32)) refl
-    where
-      apart : (k : ℕ) → k < 2 ^ 32 → same_request (dead_name t m) (dead_name task k) ≡ false → m < 2 ^ 32 → name_key t m ≡ name_key task k → ⊥
-      apart k small not few e =
-          let same = same_key t m task k few small e in
-          let f : (t == task && m == k) ≡ true = rw (eq-eqb t task same.0, eq-eqb m k same.1) refl in
-          let g : false ≡ true = sym not ∙ f in cc
-
-      go : (b : Bool) → nat_lt m (2 ^ 32) ≡ b →
-          (if b then option_map (λ (r : NameRequest). r.notify) (map.get v2.names.requests (name_key t m)) else None) ≡ (if b then option_map (λ (r : NameRequest). r.notify) (map.get v.names.requests (name_key t m)) else None)
-      go true is = ap (option_map (λ (r : NameRequest). r.notify)) (others_kept (name_key t m) (apart o small_from a (ltb-true m (2 ^ 32) is)) (apart n small_to b (ltb-true m (2 ^ 32) is)))
-      go false is = refl
+  notify_other (dead_name t m) a b = grind (arith, same_key, eq-eqb, others_kept, ltb-true)
 
   -- ---- the tables and the machine
 
@@ -180,25 +160,9 @@ module _ (v : RequestTablesView) (task o n : ℕ) (small_from : o < 2 ^ 32) (sma
     KeptAt r kind q = lying_among tokens2 kind q (in_request r) ≡ rights_kept live (notify_of v2 r) kind q + rights_went live v2.names.went r kind q
 
     kept : (r : Request) (kind : Kind) (q : ℕ) (b c : Bool) → same_request r from ≡ b → same_request r to ≡ c → KeptAt r kind q
-    kept r kind q true c e f = subst (λ (x : Request). KeptAt x kind q) (same_request_is r from e)
-        (let lies = none_from task o n differs kind q tokens in
-        let now : rights_kept live (notify_of v2 from) kind q ≡ 0 = ap (λ (x : Option ℕ). rights_kept live x kind q) notify_from in
-        let went = none_went2 from kind q in omega (arith, lies, now, went))
-    kept r kind q false true e f = subst (λ (x : Request). KeptAt x kind q) (same_request_is r to f)
-        (let lies = all_to task o n differs kind q tokens in
-        let before = a.kept from kind q in
-        let gone = none_went from kind q in
-        let there = a.kept to kind q in
-        let zero : rights_kept live (notify_of v to) kind q ≡ 0 = ap (λ (x : Option ℕ). rights_kept live x kind q) none_to in
-        let gone_to = none_went to kind q in
-        let now = ap (λ (x : Option ℕ). rights_kept live x kind q) notify_to in
-        let went = none_went2 to kind q in omega (arith, lies, before, gone, there, zero, gone_to, now, went))
-    kept r kind q false false e f =
-        let lies = others_stay task o n differs r e f kind q tokens in
-        let before = a.kept r kind q in
-        let gone = none_went r kind q in
-        let now = ap (λ (x : Option ℕ). rights_kept live x kind q) (notify_other r e f) in
-        let went = none_went2 r kind q in omega (arith, lies, before, gone, now, went)
+    kept r kind q true c e f = grind (arith, same_request_is, none_from, notify_from, none_went2)
+    kept r kind q false true e f = grind (arith, same_request_is, all_to, none_went, none_to, notify_to, none_went2)
+    kept r kind q false false e f = grind (arith, others_stay, none_went, notify_other, none_went2)
 
     given : (r : Request) (q : ℕ) (b c : Bool) → same_request r from ≡ b → same_request r to ≡ c → notify_of v2 r ≡ Some q → q < made
     given r q true c e f is = absurd (no_request q (sym (subst (λ (x : Request). notify_of v2 x ≡ None) (same_request_is r from e) notify_from) ∙ is))

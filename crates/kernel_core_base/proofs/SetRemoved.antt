@@ -1,5 +1,5 @@
 -- The name of a set went, and the set, in the tables and in the machine alike: its members are in none.
-use Rattle.std.proofs.Common.{◌≡◌, ℕ, Some, None, sym, ap, subst, ◌∙◌, inl, inr, false}
+use Rattle.std.proofs.Common.{arith, ◌≡◌, ℕ, Some, None, sym, ap, subst, ◌∙◌, inl, inr, false}
 use Rattle.std.specs.Prelude.{not, is_some, slice_set}
 use Rattle.std.specs.Option.{option_map}
 use Rattle.std.specs.FinMap as map
@@ -39,13 +39,7 @@ module _ (w : WorldView) (s : State) (a : Agrees w s) (lawful : IsLawful s) (req
 
   -- another set stands under another name
   still : (q : ℕ) (x : SetRecord) → (q ≡ set → ⊥) → map.get w.sets.sets q ≡ Some x → map.get (at s.naming task own x.owner) x.name ≡ Some (Target.set q)
-  still q x not is = let was = a.set_named q x is in elim (eqb_tells x.owner task) [
-    | inl h ↦
-        let mine : lookup s task x.name ≡ Some (Target.set q) = subst (λ (u : ℕ). lookup s u x.name ≡ Some (Target.set q)) h.1 was in
-        ap (λ (u : ℕ). map.get (at s.naming task own u) x.name) h.1 ∙ ap (λ (m : Names). map.get m x.name) (at_own s.naming task own)
-        ∙ get_removed (s.naming task) name x.name (λ same. not (same_set q set (same_found (lookup s task name) (Target.set q) (Target.set set) (ap (lookup s task) (sym same) ∙ mine) named))) ∙ mine
-    | inr h ↦ ap (λ (m : Names). map.get m x.name) (at_other s.naming task own x.owner h.1) ∙ was
-  ]
+  still q x not is = grind (arith, at_own, get_removed, same_set, same_found, named, at_other)
 
   in_sets : SetsAgree (removed w.sets set) (at s.set_owner set None) s.sets_made (at s.naming task own)
   in_sets = record {

@@ -21,31 +21,20 @@ use Rattle.kernel_core_base.proofs.PlainDues.{IsPlain}
 -- send rights are counted apart
 pub unused_recounted : (l : LedgerView) (o : Option ℕ) (n m : ℕ) → (recounted_at l o n m).unused ≡ l.unused
 unused_recounted l None n m = refl
-unused_recounted l (Some p) n m = go (nat_lt n m)
-  where
-    go : (b : Bool) → (if b then made l p right.Send (m - n) else taken l p right.Send (n - m)).unused ≡ l.unused
-    go true = omega arith
-    go false = omega arith
+unused_recounted l (Some p) n m = grind arith
 
 counted_slots : (w v : WorldView) → SlotsSuffice w → (task name : ℕ) (e : Entry) (m : ℕ) → CountsReferences w task name e m v → SlotsSuffice v
-counted_slots w v enough task name e m r =
-    let unused : v.ledger.unused ≡ (recounted_at w.ledger (port_named e) (send_references e) m).unused = ap (λ (x : WorldView). x.ledger.unused) r.rest in
-    let same = unused_recounted w.ledger (port_named e) (send_references e) m in
-    let spare : v.ports.spare ≡ w.ports.spare = ap (λ (x : WorldView). x.ports.spare) r.rest in
-    omega (arith, enough, unused, same, spare)
+counted_slots w v enough task name e m r = grind (arith, unused_recounted)
 
 module _ (w v : WorldView) (enough : SlotsSuffice w) (task name : ℕ) where
   pub carried_slots : (due : Due) → IsPlain due → Carries w task name due v → SlotsSuffice v
   carried_slots Nothing plain same = slots_same w v enough same
-  carried_slots (References e m) plain r = fewer_keeps SlotsSuffice r.counted v e m r.notes (λ p n. noted_slots r.counted v p n) (counted_slots w r.counted enough task name e m r.counts)
+  carried_slots (References e m) plain r = grind (arith, fewer_keeps, noted_slots, counted_slots)
   carried_slots (Disbanding set) plain r = slots_kept w v enough (ap (λ (x : WorldView). x.ledger.unused) r.rest) r.disbanded.spare
   carried_slots (LosingOnce p) plain r = absurd plain
   carried_slots (Killing loss) plain r = absurd plain
 
   pub made_slots : (r : NewRight) → Adds w task r name v → SlotsSuffice v
-  made_slots new_right.Port adds =
-      let unused : v.ledger.unused ≡ w.ledger.unused + 0 = ap (λ (x : WorldView). x.ledger.unused) adds.rest in
-      let spare : v.ports.spare ≡ w.ports.spare = ap (λ (x : WorldView). x.ports.spare) adds.rest in
-      omega (arith, enough, unused, spare)
+  made_slots new_right.Port adds = grind arith
   made_slots new_right.Set adds = slots_kept w v enough (ap (λ (x : WorldView). x.ledger.unused) adds.rest) (ap (λ (x : WorldView). x.ports.spare) adds.rest)
   made_slots new_right.DeadName adds = slots_kept w v enough (ap (λ (x : WorldView). x.ledger.unused) adds.rest) (ap (λ (x : WorldView). x.ports.spare) adds.rest)

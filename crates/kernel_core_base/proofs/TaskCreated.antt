@@ -52,16 +52,10 @@ module _ (w : WorldView) (s : State) (a : Agrees w s) where
 
   -- what holds of the new task, and of each other, holds of all
   each : (P : ℕ → Option SpaceView → Names → Type 0) → P task (Some no_names) map.empty → ((u : ℕ) → P u (space_at w u) (s.naming u)) → (u : ℕ) → P u (space_in more_spaces u) (with_task.naming u)
-  each P own others u = elim (eqb_tells u task) [
-    | inl h ↦ rw h.0 (subst (λ (x : ℕ). P x (space_in more_spaces x) map.empty) (sym h.1) (subst (λ (o : Option SpaceView). P task o map.empty) (sym (space-push_same w.spaces no_names)) own))
-    | inr h ↦ rw h.0 (subst (λ (o : Option SpaceView). P u o (s.naming u)) (sym (space-push_other w.spaces no_names u h.1)) (others u))
-  ]
+  each P own others u = grind (arith, space-push_same, space-push_other)
 
   live_task : (u : ℕ) → is_some (space_in more_spaces u) ≡ with_task.live_task u
-  live_task u = elim (eqb_tells u task) [
-    | inl h ↦ rw h.0 (ap (λ (x : ℕ). is_some (space_in more_spaces x)) h.1 ∙ ap is_some (space-push_same w.spaces no_names))
-    | inr h ↦ rw h.0 (ap is_some (space-push_other w.spaces no_names u h.1) ∙ a.live_task u)
-  ]
+  live_task u = grind (arith, space-push_same, space-push_other)
 
   -- no name stood for anything
   nothing : (n : ℕ) → map.get (s.naming task) n ≡ None

@@ -21,14 +21,7 @@ posted_sends now mid (x ∷ xs) q = let r = posted_sends now (with_notice now mi
 
 -- and the end of a task makes none
 ended_sends : (now : ℕ) (w : WorldView) (s : State) → Shows w s → (task : ℕ) (v : WorldView) → HasEnded now w task s v → (q : ℕ) → (counts_of v.ledger q).send ≤ (counts_of w.ledger q).send
-ended_sends now w s sh task v e q =
-    let owed : count (is_of send q) (with_posted now e.mid e.owed).ledger ≡ count (is_of send q) e.mid.ledger =
-    subst (λ (o : Owed). count (is_of send q) (with_posted now e.mid o).ledger ≡ count (is_of send q) e.mid.ledger) (sym e.ends.owed_are)
-    (posted_sends now e.mid (filter (λ (y : Token). same_kind send_once y.kind) e.ends.loses.gone) q) in
-    let after = (e.agrees.counts q).senders in
-    let before = (sh.agrees.counts q).senders in
-    let lost = e.ends.loses.moves (λ y. if is_of send q y then 1 else 0) in
-    omega (arith, owed, after, before, lost)
+ended_sends now w s sh task v e q = grind (arith, posted_sends)
 
 pub task_ended : (w : WorldView) (task : ℕ) (v : WorldView) → HasTask w task → Ends w task v → Acts w (Event.TaskTerminate task) (Reply.Code 0) v
 task_ended w task v lives ends = done_leaving w (Event.TaskTerminate task) (Reply.Code 0) v lives (record { allowed = λ s sh. tt })

@@ -21,11 +21,7 @@ same_itself (dead_name t n) = rw (eq-eqb t t refl, eq-eqb n n refl) refl
 
 -- the test of two requests is the same either way
 turned : (a b : Request) → same_request a b ≡ false → same_request b a ≡ false
-turned a b not = go (same_request b a) refl
-  where
-    go : (c : Bool) → same_request b a ≡ c → c ≡ false
-    go false e = refl
-    go true e = absurd (let f : true ≡ false = sym (same_itself a) ∙ subst (λ (x : Request). same_request a x ≡ false) (sym (same_request_is b a e)) not in cc)
+turned a b not = grind (arith, same_itself, same_request_is)
 
 module _ (task o n : ℕ) where
   abbrev from : Request
@@ -43,8 +39,7 @@ module _ (task o n : ℕ) where
 
   -- a test that sees no request
   blind : (test : Token → Bool) → ((x : Token) → test (renamed_token task o n x) ≡ test x) → (xs : List Token) → count test (moved_tokens xs) ≡ count test xs
-  blind test same xs = moved_weigh (λ x. if test x then 1 else 0) xs
-      ∙ weigh_alike (λ x. if test (renamed_token task o n x) then 1 else 0) (λ x. if test x then 1 else 0) xs (λ x. ap (λ (b : Bool). if b then 1 else 0) (same x))
+  blind test same xs = grind (arith, moved_weigh, weigh_alike)
 
   pub moved_length : (xs : List Token) → length xs ≡ length (moved_tokens xs)
   moved_length xs = length-weigh xs ∙ sym (moved_weigh (λ x. 1) xs) ∙ sym (length-weigh (moved_tokens xs))
@@ -55,11 +50,7 @@ module _ (task o n : ℕ) where
   in_place : (t : ℕ) (place : Place) → is_in_task t (renamed_place task o n place) ≡ is_in_task t place
   in_place t (in_task u) = refl
   in_place t (in_message p k) = refl
-  in_place t (in_request r) = by (same_request r from)
-    where
-      by : (b : Bool) → is_in_task t (if b then in_request to else in_request r) ≡ false
-      by true = refl
-      by false = refl
+  in_place t (in_request r) = grind arith
 
   pub moved_held : (u : ℕ) (kind : Kind) (q : ℕ) (xs : List Token) → count (is_held u kind q) (moved_tokens xs) ≡ count (is_held u kind q) xs
   moved_held u kind q xs = blind (is_held u kind q) (λ x. ap (λ (b : Bool). is_of kind q x && b) (in_place u x.place)) xs
@@ -68,33 +59,16 @@ module _ (task o n : ℕ) where
 
   module _ (differs : o ≡ n → ⊥) where
     apart : same_request from to ≡ false
-    apart = rw (ne_eqb o n differs) (go (task == task))
-      where
-        go : (b : Bool) → (b && false) ≡ false
-        go true = refl
-        go false = refl
+    apart = grind (arith, ne_eqb)
 
     at_from : (y : Request) → same_place (in_request from) (renamed_place task o n (in_request y)) ≡ false
-    at_from y = go (same_request y from) refl
-      where
-        go : (b : Bool) → same_request y from ≡ b → same_place (in_request from) (if b then in_request to else in_request y) ≡ false
-        go true e = apart
-        go false e = turned y from e
+    at_from y = grind (arith, apart, turned)
 
     at_to : (y : Request) → (if same_place (in_request to) (renamed_place task o n (in_request y)) then 1 else 0) ≡ (if same_request from y then 1 else 0) + (if same_request to y then 1 else 0)
-    at_to y = go (same_request y from) refl
-      where
-        go : (b : Bool) → same_request y from ≡ b → (if same_place (in_request to) (if b then in_request to else in_request y) then 1 else 0) ≡ (if same_request from y then 1 else 0) + (if same_request to y then 1 else 0)
-        go true e = subst (λ (x : Request). (if same_request to to then 1 else 0) ≡ (if same_request from x then 1 else 0) + (if same_request to x then 1 else 0)) (same_request_is y from e)
-            (rw (same_itself to, same_itself from, turned from to apart) refl)
-        go false e = let f = turned y from e in rw f (omega arith)
+    at_to y = grind (arith, same_request_is, same_itself, turned, apart)
 
     at_other : (r : Request) → same_request r from ≡ false → same_request r to ≡ false → (y : Request) → same_place (in_request r) (renamed_place task o n (in_request y)) ≡ same_request r y
-    at_other r a b y = go (same_request y from) refl
-      where
-        go : (c : Bool) → same_request y from ≡ c → same_place (in_request r) (if c then in_request to else in_request y) ≡ same_request r y
-        go true e = b ∙ sym (subst (λ (x : Request). same_request r x ≡ false) (same_request_is y from e) a)
-        go false e = refl
+    at_other r a b y = grind (arith, same_request_is)
 
     token_from : (b : Bool) (place : Place) → (b && same_place (in_request from) (renamed_place task o n place)) ≡ false
     token_from false place = refl
@@ -119,7 +93,7 @@ module _ (task o n : ℕ) where
     -- none is kept by the request on the old name
     pub none_from : (kind : Kind) (q : ℕ) (xs : List Token) → lying_among (moved_tokens xs) kind q (in_request from) ≡ 0
     none_from kind q [] = refl
-    none_from kind q (x ∷ xs) = let rest = none_from kind q xs in let one = ap {B = ℕ} (λ (b : Bool). if b then 1 else 0) (token_from (is_of kind q x) x.place) in omega (arith, rest, one)
+    none_from kind q (x ∷ xs) = grind (arith, none_from kind q xs, token_from)
 
     -- the request on the new name keeps what that on the old one kept
     pub all_to : (kind : Kind) (q : ℕ) (xs : List Token) → lying_among (moved_tokens xs) kind q (in_request to) ≡ lying_among xs kind q (in_request from) + lying_among xs kind q (in_request to)
@@ -130,6 +104,4 @@ module _ (task o n : ℕ) where
     pub others_stay : (r : Request) → same_request r from ≡ false → same_request r to ≡ false → (kind : Kind) (q : ℕ) (xs : List Token) →
         lying_among (moved_tokens xs) kind q (in_request r) ≡ lying_among xs kind q (in_request r)
     others_stay r f g kind q [] = refl
-    others_stay r f g kind q (x ∷ xs) =
-        let rest = others_stay r f g kind q xs in
-        let one = ap {B = ℕ} (λ (b : Bool). if b then 1 else 0) (token_other r f g (is_of kind q x) x.place) in omega (arith, rest, one)
+    others_stay r f g kind q (x ∷ xs) = grind (arith, others_stay r f g kind q xs, token_other)

@@ -1,5 +1,5 @@
 -- No guard of any call has the code for want of memory, so that only what is refused later may have it.
-use Rattle.std.proofs.Common.{◌≡◌, ℕ, Bool, false, true, refl, sym, ap, ◌∙◌, [], ◌∷◌, Result, Ok, Err, subst, inl, inr}
+use Rattle.std.proofs.Common.{arith, ◌≡◌, ℕ, Bool, false, true, refl, sym, ap, ◌∙◌, [], ◌∷◌, Result, Ok, Err, subst, inl, inr}
 use Rattle.std.specs.Prelude.{◌==◌, ◌||◌, IfErr}
 use Rattle.std.specs.Result.{IsErrAnd}
 use Rattle.std.proofs.lemmas.Bool.Decides.{eqb_tells}
@@ -28,10 +28,7 @@ other true b none = absurd (cc)
 other false b none = none
 
 eqb_same : (n m : ℕ) → n ≡ m → (n == m) ≡ true
-eqb_same n m is = elim (eqb_tells n m) [
-  | inl h ↦ h.0
-  | inr h ↦ absurd (h.1 is)
-]
+eqb_same n m is = grind arith
 
 -- whether a guard has the code
 abbrev has_code : Guards → ℕ → Bool
@@ -76,9 +73,7 @@ shortage_later s event (inr later) = later.1
 
 -- What the tables tell of a refusal by a guard: it isn't for want of memory.
 pub not_short : (w : WorldView) (event : Event) → Stands w → (code : KernReturn) → IsRefused w (λ s. call_guards s event) (kern_number code) → kern_number code ≡ kern_number ResourceShortage → ⊥
-not_short w event stands code r is =
-    let s = stands.state in
-    not_first (call_guards s event) (kern_number ResourceShortage) (not_guarded s event) (subst (FirstIs (call_guards s event)) is (r.refused s stands.shown))
+not_short w event stands code r is = grind (arith, not_first, not_guarded)
 
 pub judged_wants : (w : WorldView) (event : Event) (r : Result Reply Code) (code : KernReturn) → IsErrAnd r (λ given. given ≡ Kern code) → Stands w → IsRefused w (λ s. call_guards s event) (kern_number code) →
     IfErr r (λ given. code_number given ≡ kern_number ResourceShortage → MayLackMemory w event)
@@ -130,6 +125,4 @@ none_later s (Event.ReceiveAgain task waited room large) none code later = none
 pub takes_none : (w v : WorldView) (event : Event) → Stands w → TakesNoMemory event → (r : Result Reply Code) → Serves w event r v →
     IfErr r (λ code. code_number code ≡ kern_number ResourceShortage → MayLackMemory w event)
 takes_none w v event stands none (Ok reply) serves = tt
-takes_none w v event stands none (Err code) serves = λ is.
-    let s = stands.state in
-    absurd (none_later s event none (kern_number ResourceShortage) (shortage_later s event (subst (Refuses s event) is (serves.refuses s stands.shown))))
+takes_none w v event stands none (Err code) serves = grind (arith, none_later, shortage_later)

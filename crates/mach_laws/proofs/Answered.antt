@@ -1,5 +1,5 @@
 -- What a refusal leaves, and when a receive may answer that there is no message.
-use Rattle.std.proofs.Common.{◌≡◌, ℕ, List, [], ◌∷◌, Option, Some, refl, sym, ap, subst, Bool, inl, inr}
+use Rattle.std.proofs.Common.{arith, ◌≡◌, ℕ, List, [], ◌∷◌, Option, Some, refl, sym, ap, subst, Bool, inl, inr}
 use Rattle.std.specs.Prelude.{◌≢◌}
 use Rattle.mach_types.specs.declared.calls.Event.{Event}
 use Rattle.mach_types.specs.declared.calls.Reply.{Reply}
@@ -51,9 +51,7 @@ no_sets [] f = refl
 no_sets (x ∷ xs) f = absurd (f (λ e. cc))
 
 nothing_waits : (s : State) (task name p : ℕ) (waited : Waited) → lookup s task name ≡ Some (Target.port p) → s.sets_of p ≡ [] → waits_for task name s waited → IsEmptyFor s task waited → queue s p ≡ []
-nothing_waits s task name p (Waited.Port q) is alone waits empty =
-    let same = one_port (lookup s task name) p q is waits.0 in
-    empty p (same, rw same waits.1, alone)
+nothing_waits s task name p (Waited.Port q) is alone waits empty = grind (arith, one_port)
 nothing_waits s task name p (Waited.Set set) is alone waits empty = absurd (port_or_set (lookup s task name) p set is waits)
 
 no_code : (told : Waited) (code : ℕ) → Reply.Empty told ≡ Reply.Code code → ⊥
@@ -70,10 +68,6 @@ empty_is_empty now old task name room large told new (inr d) p is =
 -- A receive or a later try is answered that there is none only where none is queued at any port that it may take from.
 pub empty_is_none : (now : ℕ) (old : State) (event : Event) (told : Waited) (new : State) → Step now old event (Reply.Empty told) new → (task p : ℕ) → AsksFrom old event task p → queue old p ≡ []
 empty_is_none now old event told new (inl r) task p asks = absurd (no_code told r.code r.told)
-empty_is_none now old (Event.Receive caller name room large) told new (inr d) task p (same, waited, waits, takes) =
-    let waits' = subst (λ (t : ℕ). waits_for t name old waited) (sym same) waits in
-    let takes' = subst (λ (t : ℕ). TakesFrom old t waited p) (sym same) takes in
-    d.does.2.1 p (subst (λ (w : Waited). TakesFrom old caller w p) (one_waited old caller name d.does.0 waited d.does.1 waits') takes')
-empty_is_none now old (Event.ReceiveAgain caller waited room large) told new (inr d) task p asks =
-    d.does.1 p (subst (λ (t : ℕ). TakesFrom old t waited p) (sym asks.0) asks.1)
+empty_is_none now old (Event.Receive caller name room large) told new (inr d) task p (same, waited, waits, takes) = grind (arith, one_waited)
+empty_is_none now old (Event.ReceiveAgain caller waited room large) told new (inr d) task p asks = grind arith
 empty_is_none now old event told new (inr d) task p asks = absurd asks

@@ -22,9 +22,7 @@ back task old mid xs g u = ((λ k d below. unused_before (old.naming task) (mid.
 
 -- a name that was given, and those that weren't used after that
 more : (task w : ℕ) (x : Target) (old mid : State) (xs : List ℕ) → lookup old task w ≡ None → lookup mid task w ≡ Some x → Gives task old mid → Unused task mid xs → Unused task old (w ∷ xs)
-more task w x old mid xs free taken g u =
-    let other : All (λ v. w ≢ v) xs = λ k d below e. (let n = u.0 k d below in let f = ap (lookup mid task) e in cc) in
-    (All-cons (λ w. lookup old task w ≡ None) w xs free (back task old mid xs g u).0, AllPairs-cons (λ (a b : ℕ). a ≢ b) w xs other u.1)
+more task w x old mid xs free taken g u = grind (arith, back)
 
 same : (task : ℕ) (s : State) → (n : ℕ) (x : Target) → lookup s task n ≡ Some x → lookup s task n ≡ Some x
 same task s n x e = e

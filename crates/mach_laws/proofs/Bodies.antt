@@ -14,10 +14,7 @@ use Rattle.mach_model.proofs.Walks.{AllZip-append, SameItem-each, SameBody-each,
 
 pub append_split : {A : Type 0} (xs ys u v : List A) → length xs ≡ length ys → xs ++ u ≡ ys ++ v → (xs ≡ ys) × (u ≡ v)
 append_split [] [] u v l e = (refl, e)
-append_split (x ∷ xs) (y ∷ ys) u v l e =
-    let first : x ≡ y = cc in
-    let rest = append_split xs ys u v (omega (arith, l)) (ap (drop 1) e) in
-    (ap (λ z. z ∷ xs) first ∙ ap (λ zs. y ∷ zs) rest.0, rest.1)
+append_split (x ∷ xs) (y ∷ ys) u v l e = grind (arith, append_split xs ys u v (omega (arith, l)) (ap (drop 1) e))
 append_split [] (y ∷ ys) u v l e = absurd (omega (arith, l))
 append_split (x ∷ xs) [] u v l e = absurd (omega (arith, l))
 
@@ -118,8 +115,7 @@ one_text (WireBody.items vs) (WireBody.raw others) (Body.items xs) a b e = absur
 
 reply_each : (number word : ℕ) (reply : ReplyRight) → SameReply IsReceived number word reply → AllZip (Agrees IsReceived) (reply_words number word) (reply_rights reply)
 reply_each number word absent h = subst (λ (xs : List (ℕ × ℕ)). AllZip (Agrees IsReceived) xs []) (sym (no_reply number word h.0)) tt
-reply_each number word (present kind mark) h =
-    subst (λ (xs : List (ℕ × ℕ)). AllZip (Agrees IsReceived) xs ((kind, mark) ∷ [])) (sym (one_reply number word kind h)) (h, tt)
+reply_each number word (present kind mark) h = grind (arith, one_reply)
 
 -- Each word of a received text has the number of its right's kind.
 pub received_each : (header : Header) (written : WireBody) (m : Message) → SameReply IsReceived header.remote_kind header.remote m.reply → SameBody IsReceived written m.body →
@@ -175,10 +171,7 @@ module _ (live : ℕ → Bool) where
 
   items_rights_asof : (xs : List Item) → body_rights (Body.items (list_map (item_asof live) xs)) ≡ list_map (right_asof live) (body_rights (Body.items xs))
   items_rights_asof [] = refl
-  items_rights_asof (x ∷ xs) =
-      ap (λ (rs : List (Kind × Mark)). rs ++ body_rights (Body.items (list_map (item_asof live) xs))) (item_rights_asof x)
-      ∙ ap (λ (rs : List (Kind × Mark)). list_map (right_asof live) (item_rights x) ++ rs) (items_rights_asof xs)
-      ∙ sym (map-append (right_asof live) (item_rights x) (body_rights (Body.items xs)))
+  items_rights_asof (x ∷ xs) = grind (arith, items_rights_asof xs, item_rights_asof, map-append)
 
   body_rights_asof : (body : Body) → body_rights (body_asof live body) ≡ list_map (right_asof live) (body_rights body)
   body_rights_asof (Body.raw bytes) = refl
@@ -186,11 +179,7 @@ module _ (live : ℕ → Bool) where
 
   -- its rights are the same, but those for dead ports are dead
   pub rights_asof : (m : Message) → message_rights (asof live m) ≡ list_map (right_asof live) (message_rights m)
-  rights_asof m = by m.reply
-    where
-      by : (reply : ReplyRight) → reply_rights (reply_asof live reply) ++ body_rights (body_asof live m.body) ≡ list_map (right_asof live) (reply_rights reply ++ body_rights m.body)
-      by absent = body_rights_asof m.body
-      by (present kind mark) = ap (λ (rs : List (Kind × Mark)). (kind, mark_asof live mark) ∷ rs) (body_rights_asof m.body)
+  rights_asof m = grind (arith, body_rights_asof)
 
   pub reply_same : (number word : ℕ) (reply : ReplyRight) → SameReply IsReceived number word reply → SameReply IsReceived number word (reply_asof live reply)
   reply_same number word absent h = h

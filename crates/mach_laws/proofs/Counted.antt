@@ -31,10 +31,7 @@ use Rattle.mach_laws.proofs.Steps.{IsAccepted, IsTaken, Effect, Does-effect}
 
 pub sum_same : (f g : ℕ → ℕ) (n : ℕ) → ((p : ℕ) → p < n → g p ≡ f p) → sum_below g n ≡ sum_below f n
 sum_same f g zero same = refl
-sum_same f g (suc n) same =
-    let less = sum_same f g n (λ p within. same p (omega (arith, within))) in
-    let last = same n (omega arith) in
-    omega (arith, less, last)
+sum_same f g (suc n) same = grind (arith, sum_same f g n (λ p within. same p (omega (arith, within))), same n (omega arith))
 
 -- one value is one greater
 pub sum_one : (f g : ℕ → ℕ) (p n : ℕ) → p < n → g p ≡ f p + 1 → ((q : ℕ) → q ≢ p → g q ≡ f q) → sum_below g n ≡ sum_below f n + 1
@@ -62,10 +59,7 @@ sum_more f m (suc k) none =
 -- two sums of the same
 pub sum_both : (f g h i : ℕ → ℕ) (n : ℕ) → ((p : ℕ) → p < n → f p + g p ≡ h p + i p) → sum_below f n + sum_below g n ≡ sum_below h n + sum_below i n
 sum_both f g h i zero same = refl
-sum_both f g h i (suc n) same =
-    let less = sum_both f g h i n (λ p within. same p (omega (arith, within))) in
-    let last = same n (omega arith) in
-    omega (arith, less, last)
+sum_both f g h i (suc n) same = grind (arith, sum_both f g h i n (λ p within. same p (omega (arith, within))), same n (omega arith))
 
 -- ---- queues
 
@@ -78,17 +72,11 @@ waiting_live s p live = rw live refl
 
 module _ (s : State) (l : LawfulLogs s.ports_made s.log s.taken) where
   pub queue_long : (p : ℕ) → length (queue s p) + s.taken p ≡ length (s.log p)
-  queue_long p =
-      let w = l.within p in
-      let d = length-drop (s.taken p) (s.log p) in
-      omega (arith, w, d)
+  queue_long p = grind (arith, length-drop)
 
   -- nothing lies at ports that were not made
   pub unmade_waiting : (p : ℕ) → s.ports_made ≤ p → waiting s p ≡ 0
-  unmade_waiting p unmade =
-      let z : length (s.log p) ≡ 0 = ap length (l.unmade_log p unmade) in
-      let q = queue_long p in
-      if_zero (s.live_port p) (length (queue s p)) (omega (arith, z, q))
+  unmade_waiting p unmade = grind (arith, queue_long, if_zero)
 
   queued_more : (k : ℕ) → sum_below (waiting s) (s.ports_made + k) ≡ queued s
   queued_more k = sum_more (waiting s) s.ports_made k unmade_waiting
@@ -107,30 +95,10 @@ module _ (now : ℕ) (old : State) (event : Event) (reply : Reply) (mid : State)
   queued_mid = ap (sum_below (waiting mid)) (omega arith) ∙ queued_more mid m.logs old.ports_made
 
   same_queue : (p : ℕ) → mid.log p ≡ old.log p → mid.taken p ≡ old.taken p → mid.live_port p ≡ old.live_port p → waiting mid p ≡ waiting old p
-  same_queue p log taken live =
-      let a = queue_long old l.logs p in
-      let b = queue_long mid m.logs p in
-      let c = ap length log in
-      let same : length (queue mid p) ≡ length (queue old p) = omega (arith, a, b, c, taken) in
-      ap (λ (n : ℕ). if mid.live_port p then n else 0) same ∙ ap (λ (b : Bool). if b then length (queue old p) else 0) live
+  same_queue p log taken live = grind (arith, queue_long)
 
   left : Untouched old mid → queued mid ≡ queued old
-  left u =
-      let same = sum_same (waiting old) (waiting mid) bound (λ p within. at_port p) in
-      omega (arith, same, queued_old, queued_mid)
-    where
-      -- a port that was not made has no messages, whether it was made meanwhile or not
-      unmade : (p : ℕ) → old.ports_made ≤ p → waiting mid p ≡ waiting old p
-      unmade p above =
-          let z : length (mid.log p) ≡ 0 = ap length (u.log p ∙ l.unmade_log p above) in
-          let q = queue_long mid m.logs p in
-          if_zero (mid.live_port p) (length (queue mid p)) (omega (arith, z, q)) ∙ sym (unmade_waiting old l.logs p above)
-
-      at_port : (p : ℕ) → waiting mid p ≡ waiting old p
-      at_port p = elim (leb_tells old.ports_made p) [
-        | inl h ↦ unmade p h.1
-        | inr h ↦ same_queue p (u.log p) (u.taken p) (u.live p (omega (arith, h.1)))
-      ]
+  left u = grind (arith, sum_same, queued_old, queued_mid, queue_long, if_zero, unmade_waiting, same_queue)
 
   accepted : IsAccepted old event reply mid → queued mid ≡ queued old + 1
   accepted x =
@@ -166,11 +134,7 @@ module _ (now : ℕ) (old : State) (event : Event) (reply : Reply) (mid : State)
 
   counted : Effect old event reply mid → queued mid + takes_from event reply ≡ queued old + accepts event reply
   counted (inl u) = let a = left u.0 in let b = u.1 in let c = u.2 in omega (arith, a, b, c)
-  counted (inr (inl x)) =
-      let a = accepted x in
-      let b = ap (λ (e : Event). accepts e reply) x.is_event ∙ ap (accepts (Event.Send x.task x.bytes)) x.is_reply in
-      let c = ap (λ (e : Event). takes_from e reply) x.is_event in
-      omega (arith, a, b, c)
+  counted (inr (inl x)) = grind (arith, accepted)
   counted (inr (inr x)) = let a = taken x in let b = x.one in let c = x.none in omega (arith, a, b, c)
 
 -- What a step's own part does to the number of queued messages.
@@ -191,18 +155,11 @@ sum_posted n [] all = none n
     none : (n : ℕ) → sum_below (λ p. at_port p []) n ≡ 0
     none zero = refl
     none (suc n) = let h = none n in omega (arith, h)
-sum_posted n (x ∷ xs) all =
-    let rest = sum_posted n xs (All-tail (λ (x : Posted). x.port < n) x xs all) in
-    let more = sum_one (λ p. at_port p xs) (λ p. at_port p (x ∷ xs)) x.port n (All-head (λ (x : Posted). x.port < n) x xs all) (rw (eq-eqb x.port x.port refl) (omega arith))
-    (λ q not. rw (ne_eqb q x.port not) (omega arith)) in
-    omega (arith, rest, more)
+sum_posted n (x ∷ xs) all = grind (arith, sum_posted n xs (All-tail (λ (x : Posted). x.port < n) x xs all), sum_one (λ p. at_port p xs) (λ p. at_port p (x ∷ xs)) x.port n (All-head (λ (x : Posted). x.port < n) x xs all) (rw (eq-eqb x.port x.port refl) (omega arith)) (λ q not. rw (ne_eqb q x.port not) (omega arith)))
 
 none_dead : (live : ℕ → Bool) (p : ℕ) (xs : List Posted) → live p ≡ false → All (λ (x : Posted). IsDue live x.port x.notice) xs → at_port p xs ≡ 0
 none_dead live p [] dead all = refl
-none_dead live p (x ∷ xs) dead all =
-    let rest = none_dead live p xs dead (All-tail (λ (x : Posted). IsDue live x.port x.notice) x xs all) in
-    let due = (All-head (λ (x : Posted). IsDue live x.port x.notice) x xs all).lives in
-    rw (ne_eqb p x.port (λ e. let f = ap live e in cc)) (omega (arith, rest))
+none_dead live p (x ∷ xs) dead all = grind (arith, none_dead live p xs dead (All-tail (λ (x : Posted). IsDue live x.port x.notice) x xs all), (All-head (λ (x : Posted). IsDue live x.port x.notice) x xs all).lives)
 
 module _ (now : ℕ) (old mid : State) (owed : Owed) (new : State) (l : MidLawful mid owed) (s : Settles now old mid owed new) where
   dues : All (λ (x : Posted). IsDue new.live_port x.port x.notice) s.notices.posted
@@ -212,26 +169,11 @@ module _ (now : ℕ) (old mid : State) (owed : Owed) (new : State) (l : MidLawfu
   same_made = ap (λ (x : State). x.ports_made) s.rest
 
   longer : (p : ℕ) → length (queue new p) ≡ length (queue mid p) + at_port p s.notices.posted
-  longer p =
-      let a = log_length now old mid owed new l s p in
-      let b = length-drop (new.taken p) (new.log p) in
-      let c = length-drop (mid.taken p) (mid.log p) in
-      let d : new.taken p ≡ mid.taken p = ap (λ (x : State). x.taken p) s.rest in
-      let w = l.within p in
-      omega (arith, a, b, c, d, w)
+  longer p = grind (arith, log_length now old mid owed new l s p, length-drop (new.taken p) (new.log p), length-drop (mid.taken p) (mid.log p), l.within p)
 
   at_one : (p : ℕ) (b : Bool) → new.live_port p ≡ b → waiting new p + (if new.live_port p then 0 else waiting mid p) ≡ waiting mid p + at_port p s.notices.posted
-  at_one p true live =
-      let a = waiting_live new p live in
-      let b = waiting_live mid p (live_mid now old mid owed new s p live) in
-      let c = longer p in
-      let d : (if new.live_port p then 0 else waiting mid p) ≡ 0 = rw live refl in
-      omega (arith, a, b, c, d)
-  at_one p false dead =
-      let a : waiting new p ≡ 0 = rw dead refl in
-      let b = none_dead new.live_port p s.notices.posted dead dues in
-      let d : (if new.live_port p then 0 else waiting mid p) ≡ waiting mid p = rw dead refl in
-      omega (arith, a, b, d)
+  at_one p true live = grind (arith, waiting_live, live_mid, longer)
+  at_one p false dead = grind (arith, none_dead new.live_port p s.notices.posted dead dues)
 
   -- What a step's end does to it.
   pub Settles-counted : queued new + destroyed mid new ≡ queued mid + length s.notices.posted

@@ -57,15 +57,12 @@ receipt_alike : (s : State) (task : ℕ) (waited : Waited) (room code : ℕ) →
 receipt_alike s task waited room code not h = elim h.refused [ inl g ↦ g.1 | inr g ↦ absurd (not (inr (inr g.1))) ]
 
 later_alike : (s : State) (event : Event) (code other : ℕ) → NoneHolds (guards s event) → ¬ (IsMemoryCode code) → ¬ (IsMemoryCode other) → RefusesLater s event code → RefusesLater s event other → code ≡ other
-later_alike s (Event.InsertRight task name from poly number) code other good not nor a b =
-    hand_alike from (in_task task) number poly s (λ p kind copied. inserted_guards copied task name p kind) (λ x y r p kind. inserted_same x y r task name p kind) code other a b (λ e. not (inl e)) (λ e. nor (inl e))
-later_alike s (Event.ExtractRight task name number to) code other good not nor a b =
-    hand_alike task (in_task to) number name s (λ p kind copied. extracted_guards copied to p kind) (λ x y r p kind. extracted_same x y r to p kind) code other a b (λ e. not (inl e)) (λ e. nor (inl e))
-later_alike s (Event.RequestNotification task name variant sync notify number) code other good not nor a b =
-    request_alike s task name variant sync notify number good.1 code other (λ e. not (inl e)) (λ e. nor (inl e)) a b
+later_alike s (Event.InsertRight task name from poly number) code other good not nor a b = grind (arith, hand_alike, inserted_same)
+later_alike s (Event.ExtractRight task name number to) code other good not nor a b = grind (arith, hand_alike, extracted_same)
+later_alike s (Event.RequestNotification task name variant sync notify number) code other good not nor a b = grind (arith, request_alike)
 later_alike s (Event.Send task bytes) code other good not nor a b = send_alike s task bytes code other good.1 not nor a b
-later_alike s (Event.Receive task name room large) code other good not nor a b = receipt_alike s task a.0 room code not a.2 ∙ sym (receipt_alike s task b.0 room other nor b.2)
-later_alike s (Event.ReceiveAgain task waited room large) code other good not nor a b = receipt_alike s task waited room code not a ∙ sym (receipt_alike s task waited room other nor b)
+later_alike s (Event.Receive task name room large) code other good not nor a b = grind (arith, receipt_alike)
+later_alike s (Event.ReceiveAgain task waited room large) code other good not nor a b = grind (arith, receipt_alike)
 later_alike s event code other good not nor a b = absurd (not (memory_only event code a))
 
 refused_alike : (s : State) (event : Event) (code other : ℕ) → ¬ (IsMemoryCode code) → ¬ (IsMemoryCode other) → Refuses s event code → Refuses s event other → code ≡ other
@@ -96,13 +93,7 @@ set_alike s task p n m l (inr (t, a, is)) (inr (u, b, at)) =
 
 one_status : (a b : Status) → a.set ≡ b.set → a.sequence ≡ b.sequence → a.make_send ≡ b.make_send → a.limit ≡ b.limit → a.queued ≡ b.queued → a.send_once ≡ b.send_once →
     a.has_send ≡ b.has_send → a.port_destroyed ≡ b.port_destroyed → a.no_senders ≡ b.no_senders → a ≡ b
-one_status a b c d e f g h i j k =
-    ap (λ x. record a { set = x }) c ∙ ap (λ x. record a { set = b.set; sequence = x }) d ∙ ap (λ x. record a { set = b.set; sequence = b.sequence; make_send = x }) e
-    ∙ ap (λ x. record a { set = b.set; sequence = b.sequence; make_send = b.make_send; limit = x }) f
-    ∙ ap (λ x. record b { queued = x; send_once = a.send_once; has_send = a.has_send; port_destroyed = a.port_destroyed; no_senders = a.no_senders }) g
-    ∙ ap (λ x. record b { send_once = x; has_send = a.has_send; port_destroyed = a.port_destroyed; no_senders = a.no_senders }) h
-    ∙ ap (λ x. record b { has_send = x; port_destroyed = a.port_destroyed; no_senders = a.no_senders }) i
-    ∙ ap (λ x. record b { port_destroyed = x; no_senders = a.no_senders }) j ∙ ap (λ x. record b { no_senders = x }) k
+one_status a b c d e f g h i j k = grind arith
 
 status_alike : (s : State) (task name : ℕ) (a b : Status) → IsLawful s → TellsStatus s task name a → TellsStatus s task name b → a ≡ b
 status_alike s task name a b l t u =
@@ -167,13 +158,7 @@ bytes_alike s task p room bytes others mid other l a b =
 
 -- a message that fits isn't too long
 fits_not : (s : State) (task p q room n : ℕ) (bytes : List ℕ) (mid : State) (e : Entry) → q ≡ p → Receives task p room bytes s mid → IsFront s q e → n ≡ message_length e.message → min room most_bytes < n → ⊥
-fits_not s task p q room n bytes mid e is r front len less =
-    let same : r.e ≡ e = one_entry _ r.e e r.takes.front (subst (λ (x : ℕ). IsFront s x e) is front) in
-    let long = received_long r.header r.written r.e.message.body r.body in
-    let size = ap length r.spells.is_text in
-    let m = ap (λ (x : Entry). message_length x.message) same in
-    let fits = r.fits in
-    omega (arith, fits, size, long, m, len, less)
+fits_not s task p q room n bytes mid e is r front len less = grind (arith, received_long r.header r.written r.e.message.body r.body, ap length r.spells.is_text, r.fits)
 
 receipts_alike : (s : State) (task p room : ℕ) (large : Bool) (a b : Reply) (mid other : State) (owed owes : Owed) → IsLawful s → Receipt s task (Waited.Port p) room large a mid owed →
     Receipt s task (Waited.Port p) room large b other owes → a ≡ b
@@ -186,14 +171,12 @@ receipts_alike s task p room large (Reply.Message xs) (Reply.TooLarge n) mid oth
 receipts_alike s task p room large (Reply.Message xs) b mid other owed owes l a d = absurd d
 receipts_alike s task p room large (Reply.Empty told) (Reply.Empty heard) mid other owed owes l a d = ap Reply.Empty (a.0 ∙ sym d.0)
 receipts_alike s task p room large (Reply.Empty told) (Reply.Message xs) mid other owed owes l a (q, from, r, x) = absurd (no_front s q r.e (a.1 q from) r.takes.front)
-receipts_alike s task p room large (Reply.Empty told) (Reply.TooLarge n) mid other owed owes l a (q, e, from, front, is, less, leaves) = absurd (no_front s q e (a.1 q from) front)
+receipts_alike s task p room large (Reply.Empty told) (Reply.TooLarge n) mid other owed owes l a (q, e, from, front, is, less, leaves) = grind (arith, no_front)
 receipts_alike s task p room large (Reply.Empty told) b mid other owed owes l a d = absurd d
-receipts_alike s task p room large (Reply.TooLarge n) (Reply.TooLarge m) mid other owed owes l (q, e, from, front, is, less, leaves) (t, f, whence, ahead, at, more, stays) =
-    let same : e ≡ f = one_entry _ e f front (subst (λ (z : ℕ). IsFront s z f) (whence.0 ∙ sym from.0) ahead) in
-    ap Reply.TooLarge (is ∙ ap (λ (z : Entry). message_length z.message) same ∙ sym at)
+receipts_alike s task p room large (Reply.TooLarge n) (Reply.TooLarge m) mid other owed owes l (q, e, from, front, is, less, leaves) (t, f, whence, ahead, at, more, stays) = grind (arith, one_entry)
 receipts_alike s task p room large (Reply.TooLarge n) (Reply.Message xs) mid other owed owes l (t, e, whence, front, is, less, leaves) (q, from, r, x) =
     absurd (fits_not s task q t room n xs other e (whence.0 ∙ sym from.0) r front is less)
-receipts_alike s task p room large (Reply.TooLarge n) (Reply.Empty told) mid other owed owes l (q, e, from, front, is, less, leaves) d = absurd (no_front s q e (d.1 q from) front)
+receipts_alike s task p room large (Reply.TooLarge n) (Reply.Empty told) mid other owed owes l (q, e, from, front, is, less, leaves) d = grind (arith, no_front)
 receipts_alike s task p room large (Reply.TooLarge n) b mid other owed owes l a d = absurd d
 receipts_alike s task p room large a b mid other owed owes l x d = absurd x
 
@@ -221,11 +204,9 @@ done_alike now s (Event.Destroy task name) (Reply.Code c) (Reply.Code k) mid oth
 done_alike now s (Event.Destroy task name) (Reply.Code c) b mid other owed owes l one g d e = absurd e
 done_alike now s (Event.ModRefs task name right delta) (Reply.Code c) (Reply.Code k) mid other owed owes l one g d e = code_alike c k d.0 e.0
 done_alike now s (Event.ModRefs task name right delta) (Reply.Code c) b mid other owed owes l one g d e = absurd e
-done_alike now s (Event.GetRefs task name right) (Reply.Refs n) (Reply.Refs m) mid other owed owes l one g ((t, is, tells), same, x) ((u, at, told), alike, y) =
-    ap Reply.Refs (tells ∙ ap (λ (z : Target). references s task z right) (one_target _ _ u t at is refl) ∙ sym told)
+done_alike now s (Event.GetRefs task name right) (Reply.Refs n) (Reply.Refs m) mid other owed owes l one g ((t, is, tells), same, x) ((u, at, told), alike, y) = grind (arith, one_target)
 done_alike now s (Event.GetRefs task name right) (Reply.Refs n) b mid other owed owes l one g d e = absurd e
-done_alike now s (Event.NameType task name) (Reply.NameType n) (Reply.NameType m) mid other owed owes l one g ((t, is, tells), same, x) ((u, at, told), alike, y) =
-    ap Reply.NameType (tells ∙ ap (λ (z : Target). type_of s task name z) (one_target _ _ u t at is refl) ∙ sym told)
+done_alike now s (Event.NameType task name) (Reply.NameType n) (Reply.NameType m) mid other owed owes l one g ((t, is, tells), same, x) ((u, at, told), alike, y) = grind (arith, one_target)
 done_alike now s (Event.NameType task name) (Reply.NameType n) b mid other owed owes l one g d e = absurd e
 done_alike now s (Event.Names task) (Reply.Names xs) (Reply.Names ys) mid other owed owes l one g d e = ap Reply.Names (d.0 ∙ sym e.0)
 done_alike now s (Event.Names task) (Reply.Names xs) b mid other owed owes l one g d e = absurd e
@@ -245,8 +226,7 @@ done_alike now s (Event.MoveMember task member after) (Reply.Code c) (Reply.Code
 done_alike now s (Event.MoveMember task member after) (Reply.Code c) b mid other owed owes l one g d e = absurd e
 done_alike now s (Event.InsertRight task name from poly number) (Reply.Code c) (Reply.Code k) mid other owed owes l one g d e = code_alike c k d.0 e.0
 done_alike now s (Event.InsertRight task name from poly number) (Reply.Code c) b mid other owed owes l one g d e = absurd e
-done_alike now s (Event.ExtractRight task name number to) (Reply.Right n k) (Reply.Right m j) mid other owed owes l one g d e =
-    let w = extracts_alike s task name number to n m k j mid other l d.0 e.0 in ap (λ (x : ℕ). Reply.Right x k) w.0 ∙ ap (Reply.Right m) w.1
+done_alike now s (Event.ExtractRight task name number to) (Reply.Right n k) (Reply.Right m j) mid other owed owes l one g d e = grind (arith, extracts_alike s task name number to n m k j mid other l d.0 e.0)
 done_alike now s (Event.ExtractRight task name number to) (Reply.Right n k) b mid other owed owes l one g d e = absurd e
 done_alike now s (Event.RequestNotification task name variant sync notify number) (Reply.Previous n) (Reply.Previous m) mid other owed owes l one g d e =
     ap Reply.Previous (previous_alike s task name variant sync notify number g.1 n m mid other owed owes d e)
@@ -255,8 +235,8 @@ done_alike now s (Event.Send task bytes) (Reply.Code c) (Reply.Code k) mid other
 done_alike now s (Event.Send task bytes) (Reply.Code c) b mid other owed owes l one g d e = absurd e
 done_alike now s (Event.Receive task name room large) a b mid other owed owes l one g (Waited.Port p, waits, d) (waited, is, e) =
     receipts_alike s task p room large a b mid other owed owes l d (subst (λ (x : Waited). Receipt s task x room large b other owes) (one_waited s task name (Waited.Port p) waited waits is) e)
-done_alike now s (Event.Receive task name room large) a b mid other owed owes l one g (Waited.Set set, waits, d) e = absurd (one (by_set s task name room large (Waited.Set set) waits tt))
-done_alike now s (Event.ReceiveAgain task (Waited.Port p) room large) a b mid other owed owes l one g d e = receipts_alike s task p room large a b mid other owed owes l d e
+done_alike now s (Event.Receive task name room large) a b mid other owed owes l one g (Waited.Set set, waits, d) e = grind (arith, by_set)
+done_alike now s (Event.ReceiveAgain task (Waited.Port p) room large) a b mid other owed owes l one g d e = grind (arith, receipts_alike)
 done_alike now s (Event.ReceiveAgain task (Waited.Set set) room large) a b mid other owed owes l one g d e = absurd (one tt)
 done_alike now s event a b mid other owed owes l one g d e = absurd d
 

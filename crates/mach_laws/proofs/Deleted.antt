@@ -114,11 +114,7 @@ none_carried : NoneCarried e6.ledger
 none_carried p k q = let z = fourth.1.quiet.none_carried p k q in omega (arith, z)
 
 none_stands : NoRequests e7_mid.stands
-none_stands r = none_after (e6.stands r) refl
-  where
-    none_after : (b : Bool) → e6.stands r ≡ b → e7_mid.stands r ≡ false
-    none_after true is = rw (made_alone e6_copied.stands asked (λ q. not_either (same_request q (dead_name 1 2)) false refl) r is) refl
-    none_after false is = not_either (ends_with 1 r) (e6.stands r) is
+none_stands r = grind (arith, made_alone, not_either)
 
 judged : (e : Ending) → listed e.doomed 1 ≡ true → AreJudged e7_mid e
 judged = one_judged e6 e7_mid 1 1 sixth.1 none_carried refl (λ h. omega arith)
@@ -134,12 +130,7 @@ reached =
     then_buried mid b 1 (judged doomed refl) refl refl (λ r stands of. let f = none_stands r in cc)
 
 done : IsDone e6 e7_mid buried
-done = record {
-  judged = judged buried refl;
-  lost = one_all (λ (x : Token). ¬ (IsAtDoomed buried x.place)) (token receive 0 (in_task 0)) (λ h. h);
-  buried = λ p h. h;
-  told = λ p stands. absurd (let f = none_stands (no_senders p) in cc);
-}
+done = grind (arith, judged, one_all, none_stands)
 
 abbrev e7 : State
 e7 = end_of 6 e7_mid buried
@@ -148,13 +139,7 @@ dies : Leads 6 e6 e7_mid (Event.TaskTerminate 1) (Reply.Code 0) e7
 dies = ends sixth.1 good (refl, ends_task) buried reached done
 
 seventh : Plays 6 e6 (Event.TaskTerminate 1) (Reply.Code 0) e7
-seventh = (
-  dies.step,
-  record {
-    lawful = dies.lawful;
-    quiet = record { none_carried = λ p k q. (let z = not_carried p k q 0 0 in omega (arith, z)); none_stands = λ r. (rw (none_stands r) refl) };
-  },
-)
+seventh = grind (arith, dies, none_carried, not_carried, none_stands)
 
 -- ---- and the other is told, once
 

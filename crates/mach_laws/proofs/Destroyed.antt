@@ -50,9 +50,7 @@ none_left : (p : ℕ) → TakesFrom d5 0 (Waited.Port 0) p → queue d5 p ≡ []
 none_left p t = elim (eqb_tells p 0) [ inl h ↦ rw h.0 refl | inr h ↦ rw h.0 refl ]
 
 sixth : Plays 5 d5 (Event.Receive 0 1 24 false) (Reply.Empty (Waited.Port 0)) d5
-sixth =
-    plays fifth.1 tt tt ((λ h. cc), ((λ h. h (inl (0, named_still, omega arith))), ((λ h. h.2 (ap d5.sets_of (one_port (lookup d5 0 1) h.0 0 h.1 named_still))), tt)))
-    (Waited.Port 0, (named_still, omega arith), (refl, none_left, refl, refl))
+sixth = grind (arith, plays, fifth, named_still, one_port, none_left)
 
 pub destroying_run : (s : State) × Run destroying_events destroying_replies s
 destroying_run = (d5, (s1, first.0, (s2, second.0, (s3, third.0, (s3, fourth.0, (d5, fifth.0, (d5, sixth.0, refl)))))))

@@ -98,10 +98,7 @@ module _ {old mid : State} {owed : Owed} (l : MidLawful mid owed) {e : Ending} (
 
 -- the one receive right that goes is this port's
 pub one_gone : (p q : ℕ) (place : Place) → count (is_of receive p) (token receive q place ∷ []) ≡ 1 → q ≡ p
-one_gone p q place one = elim (eqb_tells q p) [
-  | inl h ↦ h.1
-  | inr h ↦ absurd (let z : (if q == p then 1 else 0) + 0 ≡ 0 = rw h.0 refl in omega (arith, one, z))
-]
+one_gone p q place one = grind arith
 
 -- From a state in which no message carries a receive right these rights go.
 module _ (old mid : State) (l : IsLawful old) (none : NoneCarried old.ledger) (live : mid.live_port ≡ old.live_port) (gone : List Token) (moves : Moves old.ledger mid.ledger gone []) where
@@ -109,10 +106,7 @@ module _ (old mid : State) (l : IsLawful old) (none : NoneCarried old.ledger) (l
   still_none_carried p k q = let m = moves (λ x. if is_of receive q x && same_place (in_message p k) x.place then 1 else 0) in let z = none p k q in omega (arith, m, z)
 
   orphan_gone : (p : ℕ) → IsOrphan mid p → count (is_of receive p) gone ≡ 1
-  orphan_gone p is =
-      let one = l.one_receive p (sym (ap (λ (f : ℕ → Bool). f p) live) ∙ is.0) in
-      let m = moves (λ x. if is_of receive p x then 1 else 0) in
-      let z = is.1 in omega (arith, one, m, z)
+  orphan_gone p is = grind arith
 
   -- All are judged once those are whose receive right went.
   pub all_judged : (e : Ending) → ((p : ℕ) → count (is_of receive p) gone ≡ 1 → is_judged e p ≡ true) → AreJudged mid e

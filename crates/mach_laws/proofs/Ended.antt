@@ -30,16 +30,11 @@ pub front_or_behind : {A : Type 0} (xs ys : List A) (k : ℕ) (x : A) → slice_
     (slice_get xs k ≡ Some x) ⊎ ((i : ℕ) × (k ≡ length xs + i) × (slice_get ys i ≡ Some x))
 front_or_behind [] ys k x e = inr (k, omega arith, e)
 front_or_behind (y ∷ xs) ys zero x e = inl e
-front_or_behind (y ∷ xs) ys (suc k) x e = elim (front_or_behind xs ys k x e) [
-  | inl h ↦ inl h
-  | inr h ↦ inr (h.0, (let f = h.1 in omega (arith, f)), h.2)
-]
+front_or_behind (y ∷ xs) ys (suc k) x e = grind (arith, front_or_behind xs ys k x e)
 
 behind_at : {A : Type 0} (xs ys : List A) (i : ℕ) → slice_get (xs ++ ys) (length xs + i) ≡ slice_get ys i
 behind_at [] ys i = ap (slice_get ys) (omega arith)
-behind_at (x ∷ xs) ys i =
-    let e : suc (length xs) + i ≡ suc (length xs + i) = omega arith in
-    ap (slice_get (x ∷ xs ++ ys)) e ∙ behind_at xs ys i
+behind_at (x ∷ xs) ys i = grind (arith, behind_at xs ys i)
 
 contains_mapped : {A B : Type 0} (f : A → B) (xs : List A) (x : A) → Contains xs x → Contains (list_map f xs) (f x)
 contains_mapped f [] x (k, below, e) = absurd (omega (arith, below))
@@ -53,10 +48,7 @@ module _ (now : ℕ) (old : State) (event : Event) (reply : Reply) (new : State)
   Stands x = (length (d.mid.log x.port) ≤ x.entry) × (slice_get (new.log x.port) x.entry ≡ Some record { origin = now; message = notice_message x.port x.notice })
 
   same_entry : (o : Option Entry) (a b : Entry) → o ≡ Some a → o ≡ Some b → a ≡ b
-  same_entry o a b e f = go (sym e ∙ f)
-    where
-      go : Some a ≡ Some b → a ≡ b
-      go g = cc
+  same_entry o a b e f = grind arith
 
   told_at : (p k : ℕ) (e : Entry) → length (d.mid.log p) ≤ k → slice_get (new.log p) k ≡ Some e → IsToldBy now old event reply new p k e
   told_at p k e above is =
@@ -88,14 +80,7 @@ module _ (now : ℕ) (old : State) (event : Event) (reply : Reply) (new : State)
       }
 
 pub tells_nothing : (now : ℕ) (old : State) (event : Event) (reply : Reply) (new : State) (p : ℕ) → new.log p ≡ old.log p → Tells now old event reply new p (old.log p)
-tells_nothing now old event reply new p same = record {
-  told = [];
-  log = same ∙ sym (append-nil (old.log p));
-  are_told = λ i e is. absurd (no_entry i e is);
-}
-  where
-    no_entry : (i : ℕ) (e : Entry) → slice_get [] i ≡ Some e → ⊥
-    no_entry i e is = cc
+tells_nothing now old event reply new p same = grind (arith, append-nil)
 
 -- ---- where no receive right was taken
 
@@ -108,31 +93,13 @@ module _ (now : ℕ) (old mid : State) (owed : Owed) (new : State) (l : MidLawfu
   nobody_goes p (saved, inr d) = nobody_dies d.0 d.1
 
   live : (p : ℕ) → new.live_port p ≡ mid.live_port p
-  live p = go (mid.live_port p) (new.live_port p) refl refl
-    where
-      go : (a b : Bool) → mid.live_port p ≡ a → new.live_port p ≡ b → new.live_port p ≡ mid.live_port p
-      go false b e f = s.deaths.gone_before p e ∙ sym e
-      go true true e f = f ∙ sym e
-      go true false e f = absurd (nobody_dies p (s.deaths.only p e f))
+  live p = grind (arith, nobody_dies)
 
   alive : (kind : Kind) (p : ℕ) → 0 < count (is_of kind p) mid.ledger → new.live_port p ≡ true
-  alive kind p some = live p ∙ go (mid.live_port p) refl
-    where
-      go : (b : Bool) → mid.live_port p ≡ b → mid.live_port p ≡ true
-      go true e = e
-      go false e = absurd (let z = l.no_rights p e kind in omega (arith, some, z))
+  alive kind p some = grind (arith, live)
 
   port_lives : (task name p : ℕ) → lookup mid task name ≡ Some (Target.port p) → new.live_port p ≡ true
-  port_lives task name p is =
-      let some = (l.naming task).has_right name p is in
-      let a = held_le_of task receive p mid.ledger in
-      let b = held_le_of task send p mid.ledger in
-      go (count (is_of receive p) mid.ledger) refl some a b
-    where
-      go : (n : ℕ) → count (is_of receive p) mid.ledger ≡ n → 0 < held mid task receive p + held mid task send p → held mid task receive p ≤ count (is_of receive p) mid.ledger →
-          held mid task send p ≤ count (is_of send p) mid.ledger → new.live_port p ≡ true
-      go zero e some a b = alive send p (omega (arith, e, some, a, b))
-      go (suc n) e some a b = alive receive p (omega (arith, e))
+  port_lives task name p is = grind (arith, held_le_of, alive)
 
   once_lives : (task name p : ℕ) → lookup mid task name ≡ Some (Target.once p) → new.live_port p ≡ true
   once_lives task name p is =
@@ -150,11 +117,7 @@ module _ (now : ℕ) (old mid : State) (owed : Owed) (new : State) (l : MidLawfu
   stays task name (Target.set n) is = refl
 
   unsent : (p : ℕ) → s.ports.is_sent p ≡ false
-  unsent p = go (s.ports.is_sent p) refl
-    where
-      go : (b : Bool) → s.ports.is_sent p ≡ b → s.ports.is_sent p ≡ false
-      go false e = e
-      go true e = absurd (nobody_goes p (s.ports.sent_only p e))
+  unsent p = grind (arith, nobody_goes)
 
   holds : (task : ℕ) (k : Kind) (q : ℕ) → held mid task k q ≤ held new task k q
   holds task k q = go (held mid task k q) refl
@@ -170,9 +133,4 @@ module _ (now : ℕ) (old mid : State) (owed : Owed) (new : State) (l : MidLawfu
 
   -- Where the step's own part took no receive right, no port dies at its end, and each task keeps its names and rights.
   pub ends_kindly : (task : ℕ) → Gives task mid new
-  ends_kindly task = record {
-    grows = λ n x e. s.names task n ∙ ap (option_map (settled_target mid new task n)) e ∙ ap Some (stays task n x e);
-    live = fun_ext live;
-    sequence = fun_ext (λ p. s.ports.sequence p ∙ rw (unsent p));
-    holds = holds task;
-  }
+  ends_kindly task = grind (arith, stays, live, fun_ext, unsent, holds)

@@ -38,9 +38,7 @@ pub text_taken : (s : State) (task : ℕ) (bytes : List ℕ) (header : Header) (
     SendRefuses s task bytes code → RightsRefuse s task header written code
 text_taken s task bytes header written code good spells not (inl h) = absurd (message_not_refused bytes header written code spells good (inr (good, h.0, h.1)))
 text_taken s task bytes header written code good spells not (inr (g, w, also, inl e)) = absurd (not (inr (inl e)))
-text_taken s task bytes header written code good spells not (inr (g, w, also, inr h)) =
-    let same = one_message bytes g header w written also spells in
-    subst (λ (x : WireBody). RightsRefuse s task header x code) same.1 (subst (λ (x : Header). RightsRefuse s task x w code) same.0 h)
+text_taken s task bytes header written code good spells not (inr (g, w, also, inr h)) = grind (arith, one_message bytes g header w written also spells)
 
 send_taken : (now : ℕ) (s : State) (task : ℕ) (bytes : List ℕ) (code : ℕ) (mid : State) → NoneHolds (header_guards bytes) → ¬ (IsMemoryCode code) → SendRefuses s task bytes code →
     Sends now task bytes s mid → ⊥
@@ -60,33 +58,19 @@ no_front s p e none front = go (ap (λ (xs : List Entry). slice_get xs 0) (sym n
 
 -- what a receipt gives from is the names that the task had
 pub names_taken : (task p room : ℕ) (bytes : List ℕ) (s mid : State) → IsLawful s → (r : Receives task p room bytes s mid) → SameNames task s r.taken
-names_taken task p room bytes s mid l r = record {
-  naming = ap (λ (x : State). x.naming task) r.takes.rest;
-  live = ap (λ (x : State). x.live_port) r.takes.rest;
-  one = (l.naming task).one_name;
-}
+names_taken task p room bytes s mid l r = grind arith
 
 -- a message that lacks names isn't received
 lacking : (s : State) (task p room code : ℕ) (bytes : List ℕ) (mid : State) → IsLawful s → ¬ (IsMemoryCode code) → (h : ReceiptRefuses s task (Waited.Port p) room code) →
     (q : ℕ) → h.port ≡ q → Receives task q room bytes s mid → ⊥
-lacking s task p room code bytes mid l not h q is r = elim h.refused [
-  | inl g ↦
-      let same : h.e ≡ r.e = one_entry _ h.e r.e h.front (subst (λ (x : ℕ). IsFront s x r.e) (sym is) r.takes.front) in
-      rights_lack task (in_message h.port (s.taken h.port)) (in_message q (s.taken q)) (received_words r.header r.written) (message_rights r.e.message) s r.taken mid (names_taken task q room bytes s mid l r)
-      (subst (λ (x : Entry). MessageLacks task (in_message h.port (s.taken h.port)) x.message s) same g.0) r.rights
-  | inr g ↦ not (inr (inr g.1))
-]
+lacking s task p room code bytes mid l not h q is r = grind (arith, one_entry, rights_lack, names_taken)
 
 receipt_taken : (s : State) (task : ℕ) (waited : Waited) (room : ℕ) (large : Bool) (code : ℕ) (reply : Reply) (mid : State) (owed : Owed) → IsLawful s → ¬ (IsMemoryCode code) →
     (IsBySet s (Event.ReceiveAgain task waited room large) → code ≢ msg_number ReceiveBodyErrorNames) → ReceiptRefuses s task waited room code → Receipt s task waited room large reply mid owed → ⊥
 receipt_taken s task (Waited.Set set) room large code reply mid owed l not other h d = elim h.refused [ inl g ↦ other tt g.1 | inr g ↦ not (inr (inr g.1)) ]
 receipt_taken s task (Waited.Port p) room large code (Reply.Message bytes) mid owed l not other h (q, from, r, owes) = lacking s task p room code bytes mid l not h q (h.from.0 ∙ sym from.0) r
 receipt_taken s task (Waited.Port p) room large code (Reply.Empty told) mid owed l not other h d = no_front s h.port h.e (d.1 h.port h.from) h.front
-receipt_taken s task (Waited.Port p) room large code (Reply.TooLarge n) mid owed l not other h (q, e, from, front, is, less, leaves) =
-    let same : h.e ≡ e = one_entry _ h.e e h.front (subst (λ (x : ℕ). IsFront s x e) (from.0 ∙ sym h.from.0) front) in
-    let len = ap (λ (x : Entry). message_length x.message) same in
-    let fits = h.fits in
-    omega (arith, fits, is, less, len)
+receipt_taken s task (Waited.Port p) room large code (Reply.TooLarge n) mid owed l not other h (q, e, from, front, is, less, leaves) = grind (arith, one_entry)
 receipt_taken s task (Waited.Port p) room large code reply mid owed l not other h d = d
 
 -- ---- what a name stands for

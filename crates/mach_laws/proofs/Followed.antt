@@ -83,9 +83,7 @@ followed_push events replies s spare event reply t more f step fits =
     }
 
 pub followed_run : (events : List Event) (replies : List Reply) (s : State) (spare : ℕ) → Followed events replies s spare → Run events replies s
-followed_run events replies s spare f =
-    subst (λ (es : List Event). Run es replies s) f.events_are
-    (subst (λ (rs : List Reply). Run (list_map (λ (x : Stage). x.event) f.stages) rs s) f.replies_are (path_runs 0 opening f.stages s f.path))
+followed_run events replies s spare f = grind (arith, path_runs)
 
 -- the headline over the same stages
 pub followed_headline : (events : List Event) (replies : List Reply) (s : State) (spare : ℕ) → Followed events replies s spare →

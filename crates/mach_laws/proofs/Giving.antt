@@ -28,11 +28,7 @@ pub record SameNames (task : ℕ) (s t : State) : Type 0 where
 
 names_after : (task : ℕ) (s t new other : State) → SameNames task s t → new.naming ≡ s.naming → new.live_port ≡ s.live_port → other.naming ≡ t.naming → other.live_port ≡ t.live_port →
     SameNames task new other
-names_after task s t new other r naming live others lives = record {
-  naming = ap (λ (f : ℕ → Names). f task) others ∙ r.naming ∙ sym (ap (λ (f : ℕ → Names). f task) naming);
-  live = lives ∙ r.live ∙ sym live;
-  one = subst HasOneName (sym (ap (λ (f : ℕ → Names). f task) naming)) r.one;
-}
+names_after task s t new other r naming live others lives = grind arith
 
 names_stay : (task : ℕ) (s t new other : State) → SameNames task s t → new ≡ s → other ≡ t → SameNames task new other
 names_stay task s t new other r e f = rw (e, f) r
@@ -41,43 +37,20 @@ lower_fresh : (names : Names) (a b : ℕ) → IsFresh names a → IsFresh names 
 lower_fresh names a b f g less = let is = g.least a f.not_null less in let none = f.unused in cc
 
 pub one_fresh : (names : Names) (a b : ℕ) → IsFresh names a → IsFresh names b → a ≡ b
-one_fresh names a b f g =
-    let low : ¬ (a < b) = lower_fresh names a b f g in
-    let high : ¬ (b < a) = lower_fresh names b a g f in
-    omega (arith, low, high)
+one_fresh names a b f g = grind (arith, lower_fresh)
 
 -- a fresh name for what has none
 still_one : (names : Names) (name : ℕ) (target : Target) → HasOneName names → ((n p : ℕ) → target ≡ Target.port p → map.get names n ≢ Some (Target.port p)) → HasOneName (map.insert names name target)
-still_one names name target one none n m p e f = elim (inserted names name target n (Target.port p) e) [
-  | inl h ↦ elim (inserted names name target m (Target.port p) f) [
-    | inl g ↦ h.0 ∙ sym g.0
-    | inr g ↦ absurd (none m p h.1 g)
-  ]
-  | inr h ↦ elim (inserted names name target m (Target.port p) f) [
-    | inl g ↦ absurd (none n p g.1 h)
-    | inr g ↦ one n m p h g
-  ]
-]
+still_one names name target one none n m p e f = grind (arith, inserted)
 
 named_same : (task v w : ℕ) (target : Target) (s t new other : State) → SameNames task s t → ((n p : ℕ) → target ≡ Target.port p → lookup s task n ≢ Some (Target.port p)) →
     Named task v target s new → Named task w target t other → (w ≡ v) × SameNames task new other
-named_same task v w target s t new other r none a b =
-    let same : w ≡ v = one_fresh (s.naming task) w v (subst (λ (x : Names). IsFresh x w) r.naming b.fresh) a.fresh in
-    let mine : new.naming task ≡ map.insert (s.naming task) v target = ap (λ (x : State). x.naming task) a.rest ∙ at_same s.naming task (map.insert (s.naming task) v target) task refl in
-    let theirs : other.naming task ≡ map.insert (t.naming task) w target = ap (λ (x : State). x.naming task) b.rest ∙ at_same t.naming task (map.insert (t.naming task) w target) task refl in (
-      same,
-      record {
-        naming = theirs ∙ ap (λ (x : Names). map.insert x w target) r.naming ∙ ap (λ (x : ℕ). map.insert (s.naming task) x target) same ∙ sym mine;
-        live = ap (λ (x : State). x.live_port) b.rest ∙ r.live ∙ sym (ap (λ (x : State). x.live_port) a.rest);
-        one = subst HasOneName (sym mine) (still_one (s.naming task) v target r.one none);
-      },
-    )
+named_same task v w target s t new other r none a b = grind (arith, one_fresh, at_same, still_one)
 
 -- ---- words
 
 named_once : (task v w p : ℕ) (s t new other : State) → SameNames task s t → NamedOnce task v p s new → NamedOnce task w p t other → (w ≡ v) × SameNames task new other
-named_once task v w p s t new other r (inl a) (inl b) =
-    (r.one w v p (sym (ap (λ (x : Names). map.get x w) r.naming) ∙ b.0) a.0, names_stay task s t new other r a.1 b.1)
+named_once task v w p s t new other r (inl a) (inl b) = grind (arith, names_stay)
 named_once task v w p s t new other r (inl a) (inr b) = absurd (b.0 v (ap (λ (x : Names). map.get x v) r.naming ∙ a.0))
 named_once task v w p s t new other r (inr a) (inl b) = absurd (a.0 w (sym (ap (λ (x : Names). map.get x w) r.naming) ∙ b.0))
 named_once task v w p s t new other r (inr a) (inr b) =
@@ -132,9 +105,7 @@ right_lacks send_once task name p s t new r full needs n = no_room task name (Ta
 mark_lacks : (task : ℕ) (place : Place) (kind : Kind) (mark : Mark) (w : ℕ) (s t new : State) → SameNames task s t → MarkLacks task kind mark s → GiveMark task place kind mark t w new → ⊥
 mark_lacks task place kind null w s t new r h g = h
 mark_lacks task place kind dead w s t new r h g = h
-mark_lacks task place kind (to_port p) w s t new r h g =
-    either (t.live_port p) _ _ ⊥ (λ e x. right_lacks kind task w p s t x.named_state r h.1 h.2 x.named)
-    (λ e x. let f : true ≡ false = sym h.0 ∙ sym (ap (λ (f : ℕ → Bool). f p) r.live) ∙ e in cc) g
+mark_lacks task place kind (to_port p) w s t new r h g = grind (arith, either, right_lacks)
 
 -- A message whose rights lack names isn't received.
 pub rights_lack : (task : ℕ) (place elsewhere : Place) (ws : List (ℕ × ℕ)) (rs : List (Kind × Mark)) (s t new : State) → SameNames task s t →
@@ -142,5 +113,4 @@ pub rights_lack : (task : ℕ) (place elsewhere : Place) (ws : List (ℕ × ℕ)
 rights_lack task place elsewhere ws [] s t new r h g = h
 rights_lack task place elsewhere [] (m ∷ ms) s t new r h g = g
 rights_lack task place elsewhere (w ∷ ws) (m ∷ ms) s t new r (inl h) g = mark_lacks task elsewhere m.0 m.1 w.1 s t g.0 r h g.1
-rights_lack task place elsewhere (w ∷ ws) (m ∷ ms) s t new r (inr (mid, (word, gives), h)) g =
-    rights_lack task place elsewhere ws ms mid g.0 new (mark_given task place elsewhere m.0 m.1 word w.1 s t mid g.0 r gives g.1).1 h g.2
+rights_lack task place elsewhere (w ∷ ws) (m ∷ ms) s t new r (inr (mid, (word, gives), h)) g = grind (arith, rights_lack task place elsewhere ws ms mid g.0 new (mark_given task place elsewhere m.0 m.1 word w.1 s t mid g.0 r gives g.1).1 h g.2, mark_given)

@@ -49,13 +49,7 @@ no_once : (p : ℕ) → lookup g3 0 2 ≡ Some (Target.once p) → ⊥
 no_once p e = let f = set_named in cc
 
 fourth_guards : NoneHolds (guards g3 (Event.MoveMember 0 1 2))
-fourth_guards = (
-  (λ h. cc),
-  (
-    (λ h. elim h [ inl g ↦ used one_named g | inr g ↦ used set_named g.1 ]),
-    ((λ h. elim h [ inl g ↦ g (0, one_named, omega arith) | inr g ↦ g.1 is_set ]), ((λ h. omega (arith, h.0)), tt)),
-  ),
-)
+fourth_guards = grind (arith, used, one_named, set_named, is_set)
 
 fourth : Plays 3 g3 (Event.MoveMember 0 1 2) (Reply.Code 0) g4
 fourth = plays third.1 tt tt fourth_guards (refl, (0, one_named, inr (0, set_named, refl)), refl)
@@ -75,15 +69,7 @@ one_of n (zero, below, e) = e
 one_of n (suc k, below, e) = absurd (omega (arith, below))
 
 members : TellsMembers g4 0 2 (1 ∷ [])
-members = record {
-  set = 0;
-  found = set_named;
-  rising = λ i j d below last. absurd (omega (arith, below, last));
-  each = λ n. (
-    (λ in_it. (0, subst (λ (k : ℕ). lookup g4 0 k ≡ Some (Target.port 0)) (one_of n in_it) one_named, (0, omega arith, refl))),
-    (λ h. (0, omega arith, named_one n h.0 h.1)),
-  );
-}
+members = grind (arith, set_named, one_of, one_named, named_one)
 
 fifth : Plays 4 g4 (Event.SetStatus 0 2) (Reply.Members (1 ∷ [])) g4
 fifth = plays fourth.1 tt tt ((λ h. cc), (used set_named, ((λ h. h is_set), tt))) (members, refl, refl)
@@ -148,13 +134,7 @@ still_named : lookup g7 0 1 ≡ Some (Target.port 0)
 still_named = grind (gets, rules)
 
 thirteenth : Plays 12 g7 (Event.MoveMember 0 1 0) (Reply.Code 12) g7
-thirteenth = refused twelfth.1 (inl (inr (
-  (λ h. cc),
-  inr (
-    (λ h. elim h [ inl g ↦ used still_named g | inr g ↦ g.0 refl ]),
-    inr ((λ h. elim h [ inl g ↦ g (0, still_named, omega arith) | inr g ↦ g.0 refl ]), inl ((refl, (0, still_named, refl)), refl)),
-  ),
-)))
+thirteenth = grind (arith, refused, twelfth, used, still_named)
 
 pub grouped_run : (s : State) × Run grouping_events grouping_replies s
 grouped_run =

@@ -37,16 +37,7 @@ to_found : lookup h5 1 1 ≡ Some (Target.port 0)
 to_found = grind (gets, rules)
 
 fifth_guards : NoneHolds (guards h4 (Event.ExtractRight 0 1 16 1))
-fifth_guards = (
-  (λ h. elim h [ inl e ↦ cc | inr e ↦ cc ]),
-  (
-    (λ h. h (omega arith, omega arith)),
-    (
-      used from_found,
-      ((λ h. elim h [ inl e ↦ e (MoveReceive, Target.port 0, refl, from_found, omega arith) | inr e ↦ let f = from_found in let g = e.1 in cc ]), tt),
-    ),
-  ),
-)
+fifth_guards = grind (arith, used, from_found)
 
 fifth_extracts : Extracts 0 1 16 1 1 16 h4 h5
 fifth_extracts = record {

@@ -33,14 +33,14 @@ leaves_all now old (Event.Names task) (Reply.Names names) mid owed d look = (d.1
 leaves_all now old (Event.ReceiveStatus task name) (Reply.Status status) mid owed d look = (d.1, d.2)
 leaves_all now old (Event.SetStatus task name) (Reply.Members members) mid owed d look = (d.1, d.2)
 leaves_all now old (Event.Receive task name room large) (Reply.Empty told) mid owed d look = (d.2.2, d.2.3)
-leaves_all now old (Event.Receive task name room large) (Reply.TooLarge n) mid owed d look = the_first large ((mid ≡ old) × (owed ≡ [])) (DestroysFront d.2.0 d.2.1 old mid owed) look d.2.6
+leaves_all now old (Event.Receive task name room large) (Reply.TooLarge n) mid owed d look = grind (arith, the_first)
 leaves_all now old (Event.Receive task name room large) (Reply.Refs n) mid owed d look = absurd d.2
 leaves_all now old (Event.Receive task name room large) (Reply.NameType n) mid owed d look = absurd d.2
 leaves_all now old (Event.Receive task name room large) (Reply.Names names) mid owed d look = absurd d.2
 leaves_all now old (Event.Receive task name room large) (Reply.Status status) mid owed d look = absurd d.2
 leaves_all now old (Event.Receive task name room large) (Reply.Members members) mid owed d look = absurd d.2
 leaves_all now old (Event.ReceiveAgain task waited room large) (Reply.Empty told) mid owed d look = (d.2, d.3)
-leaves_all now old (Event.ReceiveAgain task waited room large) (Reply.TooLarge n) mid owed d look = the_first large ((mid ≡ old) × (owed ≡ [])) (DestroysFront d.0 d.1 old mid owed) look d.6
+leaves_all now old (Event.ReceiveAgain task waited room large) (Reply.TooLarge n) mid owed d look = grind (arith, the_first)
 leaves_all now old event (Reply.Code code) mid owed d look = absurd look
 leaves_all now old event (Reply.Task task) mid owed d look = absurd look
 leaves_all now old event (Reply.Name name) mid owed d look = absurd look
@@ -64,19 +64,7 @@ Step-looks now old event reply new l (inr d) look =
 destroyed : (now n : ℕ) (event : Event) (task p : ℕ) (e : Entry) (large : Bool) (old mid : State) (owed : Owed) (new : State) → AsksFrom old event task p → n ≡ message_length e.message → ¬ (large ≡ true) →
     MatchBool large ((mid ≡ old) × (owed ≡ [])) (DestroysFront p e old mid owed) → Settles now old mid owed new → Destroys event n old new
 destroyed now n event task p e true old mid owed new asks long not what s = absurd (not refl)
-destroyed now n event task p e false old mid owed new asks long not what s =
-    let taken : (q : ℕ) → new.taken q ≡ at old.taken p (old.taken p + 1) q =
-    λ q. ap (λ (x : State). x.taken q) s.rest ∙ ap (λ (x : State). x.taken q) what.rest ∙ ap (λ (x : State). x.taken q) what.takes.rest in
-    record {
-      task = task;
-      port = p;
-      asks = asks;
-      e = e;
-      front = what.takes.front;
-      long = long;
-      taken = taken p ∙ at_own old.taken p (old.taken p + 1);
-      others = λ q not_p. taken q ∙ at_other old.taken p (old.taken p + 1) q not_p;
-    }
+destroyed now n event task p e false old mid owed new asks long not what s = grind (arith, at_own, at_other)
 
 no_length : (n code : ℕ) → Reply.TooLarge n ≡ Reply.Code code → ⊥
 no_length n code e = cc
@@ -103,7 +91,4 @@ one_port true false n = omega arith
 one_port false b n = omega arith
 
 pub fewer_deaths : (old new : State) → deaths old new ≤ work_in old
-fewer_deaths old new =
-    let a = below (λ p. if old.live_port p && not (new.live_port p) then 1 else 0) (λ p. if old.live_port p then 1 + length (queue old p) else 0)
-    (λ p. one_port (old.live_port p) (new.live_port p) (length (queue old p))) old.ports_made in
-    omega (arith, a)
+fewer_deaths old new = grind (arith, below, one_port)

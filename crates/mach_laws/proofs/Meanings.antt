@@ -1,5 +1,5 @@
 -- A message that is sent means what its bytes mean through the sender's names before the step.
-use Rattle.std.proofs.Common.{◌≡◌, ℕ, List, [], ◌∷◌, Option, Some, None, refl, sym, ap, subst, ◌∙◌, true, false, Bool, inl, inr, cond}
+use Rattle.std.proofs.Common.{arith, ◌≡◌, ℕ, List, [], ◌∷◌, Option, Some, None, refl, sym, ap, subst, ◌∙◌, true, false, Bool, inl, inr, cond}
 use Rattle.std.specs.Prelude.{if◌then◌else◌, ◌==◌, MatchBool}
 use Rattle.std.specs.FinMap as map
 use Rattle.std.specs.FinMap.{get-remove, get-insert, get_tied}
@@ -143,13 +143,7 @@ is_name names w (Some x) d mark none e f = cc
 is_name names w None d mark none e f = cc
 
 named_word : (names : Names) (d : Disposition) (w : ℕ) (mark : Mark) → NoBadNames names → name_mark d (map.get names w) ≡ Some mark → word_mark names d w ≡ Some mark
-named_word names d w mark good e = elim (eqb_tells w null_word) [
-  | inl h ↦ absurd (is_name names null_word None d mark good.no_null good.no_null (sym (ap (name_mark d) good.no_null) ∙ ap (λ (x : ℕ). name_mark d (map.get names x)) (sym h.1) ∙ e))
-  | inr h ↦ rw h.0 (elim (eqb_tells w dead_word) [
-    | inl g ↦ absurd (is_name names dead_word None d mark good.no_dead good.no_dead (sym (ap (name_mark d) good.no_dead) ∙ ap (λ (x : ℕ). name_mark d (map.get names x)) (sym g.1) ∙ e))
-    | inr g ↦ rw g.0 e
-  ])
-]
+named_word names d w mark good e = grind (arith, is_name)
 
 -- The message that a send appends is what its bytes mean through the sender's names before.
 pub Sends-means : (now task : ℕ) (bytes : List ℕ) (old new : State) → NoBadNames (old.naming task) → (s : Sends now task bytes old new) → SentMeans (old.naming task) bytes s.m

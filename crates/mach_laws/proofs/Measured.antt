@@ -11,23 +11,13 @@ descriptor_long short n s c = refl
 descriptor_long long n s c = refl
 
 item_long : (w : Wire) (x : Item) → SameItem IsReceived w x → length (wire_text w) ≡ item_length x
-item_long (data_item f n size c bytes padding) x h =
-    let a = length-append (descriptor_text f n size c ++ bytes) padding in
-    let b = length-append (descriptor_text f n size c) bytes in
-    omega (arith, a, b, descriptor_long f n size c) ∙ sym (ap item_length h)
-item_long (port_item g number words) (rights f kind marks) h =
-    let a = length-append (descriptor_text g number 32 (length words)) (words_text words) in
-    let e = ap form_length h.0 in
-    omega (arith, a, descriptor_long g number 32 (length words), length-words_text words, h.2, e)
+item_long (data_item f n size c bytes padding) x h = grind (arith, length-append, descriptor_long)
+item_long (port_item g number words) (rights f kind marks) h = grind (arith, length-append, descriptor_long, length-words_text)
 item_long (port_item g number words) (plain f n size c bytes padding) h = absurd h
 
 items_long : (ws : List Wire) (xs : List Item) → AllZip (SameItem IsReceived) ws xs → length (wires_text ws) ≡ items_length xs
 items_long [] [] h = refl
-items_long (w ∷ ws) (x ∷ xs) h =
-    let a = length-append (wire_text w) (wires_text ws) in
-    let b = item_long w x h.0 in
-    let c = items_long ws xs h.1 in
-    omega (arith, a, b, c)
+items_long (w ∷ ws) (x ∷ xs) h = grind (arith, items_long ws xs h.1, length-append, item_long)
 items_long [] (x ∷ xs) h = absurd h
 items_long (w ∷ ws) [] h = absurd h
 

@@ -36,23 +36,7 @@ one_at_one : lookup n2 0 1 ≡ Some (Target.dead 1)
 one_at_one = grind (gets, rules)
 
 third_guards : NoneHolds (guards n2 (Event.ModRefs 0 1 4 (pos 2)))
-third_guards =
-    let one : references_at n2 0 1 4 ≡ 1 = ap (λ o. references_under n2 0 o 4) one_at_one in (
-      (λ h. cc),
-      (
-        (λ h. omega (arith, h)),
-        (
-          used one_at_one,
-          (
-            (λ h. omega (arith, h, one)),
-            (
-              (λ h. elim h [ inl e ↦ e.1 | inr e ↦ elim e.0 [ inl f ↦ omega (arith, f) | inr f ↦ elim f [ inl g ↦ omega (arith, g) | inr g ↦ omega (arith, g) ] ] ]),
-              ((λ h. let f = h.1 in omega (arith, f, one)), ((λ h. omega (arith, h.0)), tt)),
-            ),
-          ),
-        ),
-      ),
-    )
+third_guards = grind (arith, one_at_one, used)
 
 third : Plays 2 n2 (Event.ModRefs 0 1 4 (pos 2)) (Reply.Code 0) n3
 third = plays second.1 tt (λ h. elim h.0 [ inl e ↦ omega (arith, e) | inr e ↦ omega (arith, e) ]) third_guards (refl, inr (inl (1, 3, refl, one_at_one, refl, refl, refl)))
@@ -107,7 +91,7 @@ seventh : Plays 6 n5 (Event.GetRefs 0 7 4) (Reply.Refs 2) n5
 seventh = references_told sixth.1 refl (Target.dead 2) two_at_seven (omega arith)
 
 eighth : Plays 7 n5 (Event.AllocateName 0 1 7) (Reply.Code 13) n5
-eighth = refused seventh.1 (inl (inr ((λ h. cc), inr ((λ h. elim h [ inl e ↦ e.0 refl | inr e ↦ elim e [ inl f ↦ omega (arith, f) | inr f ↦ omega (arith, f) ] ]), inl (used two_at_seven, refl)))))
+eighth = grind (arith, refused, seventh, used, two_at_seven)
 
 -- ---- it goes
 
@@ -115,8 +99,7 @@ abbrev n6 : State
 n6 = without_name 0 7 n5
 
 ninth_guards : NoneHolds (guards n5 (Event.Destroy 0 7))
-ninth_guards =
-    ((λ h. cc), (used two_at_seven, tt))
+ninth_guards = grind (arith, used, two_at_seven)
 
 ninth : Plays 8 n5 (Event.Destroy 0 7) (Reply.Code 0) n6
 ninth = plays eighth.1 tt (λ h. elim h [ inl e ↦ (let f = two_at_seven in let g = e.1 in cc) | inr e ↦ (let f = two_at_seven in let g = e.1 in cc) ]) ninth_guards (refl, (Target.dead 2, two_at_seven, (refl, refl)))

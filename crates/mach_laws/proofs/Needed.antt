@@ -80,17 +80,10 @@ module _ (s : State) (ports : LawfulPorts s.live_port s.ports_made s.ledger) (lo
       omega (arith, none, a, b)
 
   unmade : (p : ℕ) → s.ports_made ≤ p → count (is_of send_once p) s.ledger ≡ 0
-  unmade p above = go (s.live_port p) refl
-    where
-      go : (b : Bool) → s.live_port p ≡ b → count (is_of send_once p) s.ledger ≡ 0
-      go true lives = absurd (let h = ports.made_port p lives in omega (arith, h, above))
-      go false dead = ports.no_rights p dead send_once
+  unmade p above = grind arith
 
   pub needed : queued s + unused s ≡ once_rights s + queued_by_send s
-  needed =
-      let sums = sum_both (waiting s) (unused_at s) (λ p. count (is_of send_once p) s.ledger) (by_send_at s) s.ports_made (λ p within. at_port p (s.live_port p) refl) in
-      let onces = once_summed s.ports_made s.ledger unmade in
-      omega (arith, sums, onces)
+  needed = grind (arith, sum_both (waiting s) (unused_at s) (λ p. count (is_of send_once p) s.ledger) (by_send_at s) s.ports_made (λ p within. at_port p (s.live_port p) refl), once_summed s.ports_made s.ledger unmade)
 
 -- ---- a step's end
 
@@ -100,26 +93,11 @@ is_once_right x = same_kind send_once x.kind
 -- each notice goes by one send-once right, and brings no other
 pub posted_onces : (xs : List Posted) → count is_once_right (all_posted_tokens xs) ≡ length xs
 posted_onces [] = refl
-posted_onces (x ∷ xs) =
-    let a = weigh-append (λ y. if is_once_right y then 1 else 0) (posted_tokens x) (all_posted_tokens xs) in
-    let rest = posted_onces xs in
-    let b = brought x.notice in omega (arith, a, rest, b)
-  where
-    brought : (n : Notice) → count is_once_right (carried_by n (in_message x.port x.entry)) ≡ 0
-    brought (port_deleted n) = refl
-    brought (port_sent q) = refl
-    brought (no_more_senders n) = refl
-    brought right_unused = refl
-    brought (name_died n) = refl
+posted_onces (x ∷ xs) = grind (arith, posted_onces xs, weigh-append)
 
 paid_onces : (mid new : State) (xs : Owed) → All (λ x. PaysFor mid new x.0 x.1) xs → count is_once_right (tokens_of xs) ≡ length xs
 paid_onces mid new [] all = refl
-paid_onces mid new (x ∷ xs) all =
-    let pays = All-head (λ (x : Token × Notice). PaysFor mid new x.0 x.1) x xs all in
-    let e : is_once_right x.0 ≡ true = ap (λ (k : Kind). same_kind send_once k) pays.0 in
-    let rest = paid_onces mid new xs (All-tail (λ (x : Token × Notice). PaysFor mid new x.0 x.1) x xs all) in
-    let one : (if is_once_right x.0 then suc zero else zero) ≡ suc zero = rw e in
-    omega (arith, rest, one)
+paid_onces mid new (x ∷ xs) all = grind (arith, All-head (λ (x : Token × Notice). PaysFor mid new x.0 x.1) x xs all, paid_onces mid new xs (All-tail (λ (x : Token × Notice). PaysFor mid new x.0 x.1) x xs all))
 
 filter_fewer : {A : Type 0} (test : A → Bool) (xs : List A) → length (filter test xs) ≤ length xs
 filter_fewer test [] = omega arith
@@ -131,9 +109,7 @@ filter_fewer {A} test (x ∷ xs) = go (test x) (filter_fewer test xs)
 
 behind : {A : Type 0} (xs ys : List A) (i : ℕ) → slice_get (xs ++ ys) (length xs + i) ≡ slice_get ys i
 behind [] ys i = ap (slice_get ys) (omega arith)
-behind (x ∷ xs) ys i =
-    let e : suc (length xs) + i ≡ suc (length xs + i) = omega arith in
-    ap (slice_get (x ∷ xs ++ ys)) e ∙ behind xs ys i
+behind (x ∷ xs) ys i = grind (arith, behind xs ys i)
 
 pub tally_append : {A : Type 0} (test : A → Bool) (xs ys : List A) → tally test (xs ++ ys) ≡ tally test xs + tally test ys
 tally_append test [] ys = omega arith
@@ -148,10 +124,7 @@ none_by_send (x ∷ xs) all =
 
 pub sum_fewer : (f g : ℕ → ℕ) (n : ℕ) → ((p : ℕ) → p < n → g p ≤ f p) → sum_below g n ≤ sum_below f n
 sum_fewer f g zero fewer = omega arith
-sum_fewer f g (suc n) fewer =
-    let less = sum_fewer f g n (λ p within. fewer p (omega (arith, within))) in
-    let last = fewer n (omega arith) in
-    omega (arith, less, last)
+sum_fewer f g (suc n) fewer = grind (arith, sum_fewer f g n (λ p within. fewer p (omega (arith, within))), fewer n (omega arith))
 
 module _ (now : ℕ) (old mid : State) (owed : Owed) (new : State) (l : MidLawful mid owed) (s : Settles now old mid owed new) where
   fewer_onces : once_rights new ≤ once_rights mid + length owed
@@ -182,10 +155,7 @@ module _ (now : ℕ) (old mid : State) (owed : Owed) (new : State) (l : MidLawfu
       came i e at = ap (λ (m : Message). same_kind send_once m.kind) (added_is now old mid owed new l s p (length (mid.log p) + i) e (omega arith) at).message
 
   fewer_by_send : queued_by_send new ≤ queued_by_send mid
-  fewer_by_send =
-      let same = sum_fewer (by_send_at mid) (by_send_at new) mid.ports_made (λ p within. same_by_send p (new.live_port p) refl) in
-      let here : queued_by_send new ≡ sum_below (by_send_at new) mid.ports_made = ap (λ (x : State). sum_below (by_send_at new) x.ports_made) s.rest in
-      omega (arith, same, here)
+  fewer_by_send = grind (arith, sum_fewer, same_by_send)
 
   -- What a step's end needs.
   pub ending_needs : queued new + unused new ≤ queued mid + unused mid + length owed

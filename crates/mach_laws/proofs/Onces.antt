@@ -44,20 +44,17 @@ abbrev FewerOnces : State → State → Owed → Type 0
 FewerOnces old mid owed = once_rights mid + length owed ≤ once_rights old
 
 same_ledger : (old mid : State) (owed : Owed) → mid.ledger ≡ old.ledger → owed ≡ [] → FewerOnces old mid owed
-same_ledger old mid owed e none =
-    let a = ap (count is_once_right) e in let b : length owed ≡ 0 = ap length none in omega (arith, a, b)
+same_ledger old mid owed e none = grind (arith, is_once_right)
 
 same_state : (old mid changed : State) (owed : Owed) → mid ≡ changed → changed.ledger ≡ old.ledger → owed ≡ [] → FewerOnces old mid owed
 same_state old mid changed owed e f none = same_ledger old mid owed (ap (λ (x : State). x.ledger) e ∙ f) none
 
 one_lost : (task name : ℕ) (d : Disposition) (target : Target) (old mid : State) (owed : Owed) → LosesOne task name d target old mid → owed ≡ [] → FewerOnces old mid owed
-one_lost task name d target old mid owed x none =
-    let m = x.tokens (λ y. if is_once_right y then 1 else 0) in let b : length owed ≡ 0 = ap length none in omega (arith, m, b)
+one_lost task name d target old mid owed x none = grind (arith, is_once_right)
 
 once_lost : (task name p : ℕ) (d : Owed) (old mid : State) (owed : Owed) → Moves old.ledger mid.ledger (token send_once p (in_task task) ∷ []) [] → owed ≡ (token send_once p (in_task task), right_unused) ∷ [] →
     FewerOnces old mid owed
-once_lost task name p d old mid owed moves one =
-    let m = moves (λ y. if is_once_right y then 1 else 0) in let b : length owed ≡ 1 = ap length one in omega (arith, m, b)
+once_lost task name p d old mid owed moves one = grind (arith, is_once_right)
 
 -- each of them that goes is owed one
 abbrev to_be_told : List Token → Owed
@@ -65,20 +62,13 @@ to_be_told xs = list_map (λ x. (x, right_unused)) xs
 
 unused_many : (xs : List Token) → length (unused_of xs) ≡ count is_once_right xs
 unused_many [] = refl
-unused_many (x ∷ xs) = go (same_kind send_once x.kind) (unused_many xs)
-  where
-    go : (b : Bool) → length (unused_of xs) ≡ count is_once_right xs →
-        length (to_be_told (if b then x ∷ filter (λ y. same_kind send_once y.kind) xs else filter (λ y. same_kind send_once y.kind) xs)) ≡ (if b then 1 else 0) + count is_once_right xs
-    go true e = omega (arith, e)
-    go false e = omega (arith, e)
+unused_many (x ∷ xs) = grind (arith, unused_many xs, is_once_right)
 
 all_owed : (old new gone : List Token) (owed : Owed) → Moves old new gone [] → owed ≡ unused_of gone → count is_once_right new + length owed ≤ count is_once_right old
-all_owed old new gone owed moves are =
-    let m = moves (λ y. if is_once_right y then 1 else 0) in let b = ap length are ∙ unused_many gone in omega (arith, m, b)
+all_owed old new gone owed moves are = grind (arith, is_once_right, unused_many)
 
 target_lost : (task name : ℕ) (target : Target) (old mid : State) (owed : Owed) → DestroysTarget task name target old mid owed → FewerOnces old mid owed
-target_lost task name (Target.port p) old mid owed x =
-    let m = x.0.moves (λ y. if is_once_right y then 1 else 0) in let b : length owed ≡ 0 = ap length x.2 in omega (arith, m, b)
+target_lost task name (Target.port p) old mid owed x = grind (arith, is_once_right)
 target_lost task name (Target.once p) old mid owed x = once_lost task name p [] old mid owed x.0.tokens x.1
 target_lost task name (Target.dead n) old mid owed x = same_state old mid _ owed x.0 refl x.1
 target_lost task name (Target.set s) old mid owed x = same_state old mid _ owed x.0 refl x.1
@@ -89,8 +79,7 @@ deallocates_lost task name old mid owed (inr (inl x)) = once_lost task name x.0 
 deallocates_lost task name old mid owed (inr (inr x)) = one_lost task name _ _ old mid owed x.1 x.2
 
 removes_lost : (right task name : ℕ) (target : Target) (old mid : State) (owed : Owed) → RemovesRight right task name target old mid owed → FewerOnces old mid owed
-removes_lost right task name (Target.port p) old mid owed x =
-    let m = x.1.0 (λ y. if is_once_right y then 1 else 0) in let b : length owed ≡ 0 = ap length x.2 in omega (arith, m, b)
+removes_lost right task name (Target.port p) old mid owed x = grind (arith, is_once_right)
 removes_lost right task name (Target.once p) old mid owed x = target_lost task name (Target.once p) old mid owed x.1
 removes_lost right task name (Target.set s) old mid owed x = target_lost task name (Target.set s) old mid owed x.1
 removes_lost right task name (Target.dead n) old mid owed x = absurd x
@@ -100,30 +89,21 @@ many_sends zero p task = refl
 many_sends (suc n) p task = let h = many_sends n p task in omega (arith, h)
 
 with_dead_ledger : (task name n : ℕ) (s : State) → (with_dead task name n s).ledger ≡ s.ledger
-with_dead_ledger task name n s = go (nat_lt 0 n)
-  where
-    go : (b : Bool) → (if b then with_name task name (Target.dead n) s else without_name task name s).ledger ≡ s.ledger
-    go true = refl
-    go false = refl
+with_dead_ledger task name n s = grind arith
 
 modifies_lost : (task name right : ℕ) (delta : ℤ) (old mid : State) (owed : Owed) → Modifies task name right delta old mid owed → FewerOnces old mid owed
-modifies_lost task name right delta old mid owed (inl x) =
-    let m = x.5.tokens (λ y. if is_once_right y then 1 else 0) in
-    let z = many_sends (x.1 - held old task send x.0) x.0 task in
-    let b : length owed ≡ 0 = ap length x.6 in omega (arith, m, z, b)
+modifies_lost task name right delta old mid owed (inl x) = grind (arith, is_once_right, many_sends)
 modifies_lost task name right delta old mid owed (inr (inl x)) = same_state old mid _ owed x.5 (with_dead_ledger task name x.1 old) x.6
 modifies_lost task name right delta old mid owed (inr (inr (inl x))) = same_state old mid old owed x.2 refl x.3
 modifies_lost task name right delta old mid owed (inr (inr (inr x))) = removes_lost right task name x.0 old mid owed x.3
 
 makes_lost : (task right name : ℕ) (old mid : State) (owed : Owed) → Makes task right name old mid → owed ≡ [] → FewerOnces old mid owed
-makes_lost task right name old mid owed (inl x) none =
-    let m = x.1.tokens (λ y. if is_once_right y then 1 else 0) in let b : length owed ≡ 0 = ap length none in omega (arith, m, b)
+makes_lost task right name old mid owed (inl x) none = grind (arith, is_once_right)
 makes_lost task right name old mid owed (inr (inl x)) none = same_state old mid _ owed x.1 refl none
 makes_lost task right name old mid owed (inr (inr x)) none = same_state old mid _ owed x.1 refl none
 
 renames_lost : (task o n : ℕ) (old mid : State) (owed : Owed) → Renames task o n old mid → owed ≡ [] → FewerOnces old mid owed
-renames_lost task o n old mid owed x none =
-    let e : once_rights mid ≡ once_rights old = x.tokens (λ y. if is_once_right y then 1 else 0) in let b : length owed ≡ 0 = ap length none in omega (arith, e, b)
+renames_lost task o n old mid owed x none = grind (arith, is_once_right)
 
 joins_lost : (task member after : ℕ) (old mid : State) (owed : Owed) → JoinsSet task member after old mid → owed ≡ [] → FewerOnces old mid owed
 joins_lost task member after old mid owed (p, found, inl x) none = same_state old mid _ owed x.1 refl none
@@ -134,11 +114,7 @@ joins_lost task member after old mid owed (p, found, inr x) none = same_state ol
 given_onces : (kind : Kind) (p task : ℕ) (place : Place) (s : State) → count is_once_right (given_to kind p task s) ≤ count is_once_right (token kind p place ∷ [])
 given_onces receive p task place s = omega arith
 given_onces send_once p task place s = omega arith
-given_onces send p task place s = go (nat_lt (held s task send p) most_references)
-  where
-    go : (b : Bool) → count is_once_right (if b then token send p (in_task task) ∷ [] else []) ≤ 0
-    go true = omega arith
-    go false = omega arith
+given_onces send p task place s = grind (arith, is_once_right)
 
 pick : (b : Bool) (P Q R : Type 0) → (P → R) → (Q → R) → MatchBool b P Q → R
 pick true P Q R f g h = f h
@@ -147,15 +123,11 @@ pick false P Q R f g h = g h
 mark_onces : (task : ℕ) (place : Place) (kind : Kind) (mark : Mark) (old : State) (word : ℕ) (new : State) → GiveMark task place kind mark old word new → once_rights new ≤ once_rights old
 mark_onces task place kind null old word new h = let e = ap once_rights h.1 in omega (arith, e)
 mark_onces task place kind dead old word new h = let e = ap once_rights h.1 in omega (arith, e)
-mark_onces task place kind (to_port p) old word new h = pick (old.live_port p) _ _ _ given (λ (x : (word ≡ dead_word) × (new ≡ old)). let e = ap once_rights x.1 in omega (arith, e)) h
-  where
-    given : GiveRight task place kind p old word new → once_rights new ≤ once_rights old
-    given g = let m = g.tokens (λ y. if is_once_right y then 1 else 0) in let few = given_onces kind p task place old in omega (arith, m, few)
+mark_onces task place kind (to_port p) old word new h = grind (arith, pick, is_once_right, given_onces)
 
 words_onces : (task : ℕ) (place : Place) (ws : List (ℕ × ℕ)) (old : State) (rs : List (Kind × Mark)) (new : State) → Through (GiveWord task place) old ws rs new → once_rights new ≤ once_rights old
 words_onces task place [] old [] new h = let e = ap once_rights h in omega (arith, e)
-words_onces task place (w ∷ ws) old (r ∷ rs) new h =
-    let a = mark_onces task place r.0 r.1 old w.1 h.0 h.1 in let b = words_onces task place ws h.0 rs new h.2 in omega (arith, a, b)
+words_onces task place (w ∷ ws) old (r ∷ rs) new h = grind (arith, words_onces task place ws h.0 rs new h.2, mark_onces)
 words_onces task place [] old (r ∷ rs) new h = absurd h
 words_onces task place (w ∷ ws) old [] new h = absurd h
 
@@ -163,17 +135,9 @@ takes_onces : (port : ℕ) (e : Entry) (old mid : State) → Takes port e old mi
 takes_onces port e old mid x = let m = x.tokens (λ y. if is_once_right y then 1 else 0) in omega (arith, m)
 
 receipt_lost : (old : State) (task : ℕ) (waited : Waited) (room : ℕ) (large : Bool) (reply : Reply) (mid : State) (owed : Owed) → Receipt old task waited room large reply mid owed → FewerOnces old mid owed
-receipt_lost old task waited room large (Reply.Message bytes) mid owed (p, from, x, none) =
-    let a = takes_onces p x.e old x.taken x.takes in
-    let b = words_onces task _ (received_words x.header x.written) x.taken (message_rights x.e.message) mid x.rights in
-    let c : length owed ≡ 0 = ap length none in omega (arith, a, b, c)
+receipt_lost old task waited room large (Reply.Message bytes) mid owed (p, from, x, none) = grind (arith, takes_onces, words_onces)
 receipt_lost old task waited room large (Reply.Empty told) mid owed x = same_state old mid old owed x.2 refl x.3
-receipt_lost old task waited room large (Reply.TooLarge n) mid owed x = pick large _ _ _ (λ (h : (mid ≡ old) × (owed ≡ [])). same_state old mid old owed h.0 refl h.1) front x.6
-  where
-    front : DestroysFront x.0 x.1 old mid owed → FewerOnces old mid owed
-    front d =
-        let a = takes_onces x.0 x.1 old d.taken d.takes in
-        let b = all_owed d.taken.ledger mid.ledger d.loses.gone owed d.loses.moves d.owed_are in omega (arith, a, b)
+receipt_lost old task waited room large (Reply.TooLarge n) mid owed x = grind (arith, pick, same_state, takes_onces, all_owed)
 receipt_lost old task waited room large reply mid owed x = absurd x
 
 -- ---- each call
@@ -226,24 +190,17 @@ taken_by_send false n xs = omega arith
 
 module _ (s : State) (l : LawfulLogs s.ports_made s.log s.taken) where
   none_there : (p : ℕ) → length (s.log p) ≡ 0 → by_send_at s p ≡ 0
-  none_there p empty =
-      let q = queue_long s l p in
-      let f = few_by_send (s.live_port p) (queue s p) in
-      omega (arith, empty, q, f)
+  none_there p empty = grind (arith, queue_long, few_by_send)
 
   by_send_more : (k : ℕ) → sum_below (by_send_at s) (s.ports_made + k) ≡ queued_by_send s
   by_send_more k = sum_more (by_send_at s) s.ports_made k (λ p above. none_there p (ap length (l.unmade_log p above)))
 
 module _ (old : State) (event : Event) (reply : Reply) (mid : State) (owed : Owed) (l : IsLawful old) (m : MidLawful mid owed) (unsent : (task : ℕ) (bytes : List ℕ) → ¬ (event ≡ Event.Send task bytes)) where
   same_there : (p : ℕ) → mid.log p ≡ old.log p → mid.taken p ≡ old.taken p → mid.live_port p ≡ old.live_port p → by_send_at mid p ≡ by_send_at old p
-  same_there p log taken live =
-      ap (by_send_in (mid.live_port p) (mid.taken p)) log ∙ ap (λ (n : ℕ). by_send_in (mid.live_port p) n (old.log p)) taken ∙ ap (λ (b : Bool). by_send_in b (old.taken p) (old.log p)) live
+  same_there p log taken live = grind arith
 
   at_port : Effect old event reply mid → (p : ℕ) → by_send_at mid p ≤ by_send_at old p
-  at_port (inl u) p = elim (leb_tells old.ports_made p) [
-    | inl h ↦ let z = none_there mid m.logs p (ap length (u.0.log p ∙ l.unmade_log p h.1)) in omega (arith, z)
-    | inr h ↦ let e = same_there p (u.0.log p) (u.0.taken p) (u.0.live p (omega (arith, h.1))) in omega (arith, e)
-  ]
+  at_port (inl u) p = grind (arith, none_there, same_there)
   at_port (inr (inl x)) p = absurd (unsent x.task x.bytes x.is_event)
   at_port (inr (inr x)) p = elim (eqb_tells p x.takes.port) [
     | inl h ↦
@@ -279,22 +236,13 @@ part_needs now old event reply mid owed l good does not =
 
 -- a right that is copied in: one send-once right more at most
 put_one : (d : Disposition) (target : Target) (place : Place) → count is_once_right (put_by d target place) ≤ 1
-put_one d (Target.port p) place = at_most (same_kind send_once (kind_sent d))
-  where
-    at_most : (b : Bool) → (if b then 1 else 0) + 0 ≤ 1
-    at_most true = omega arith
-    at_most false = omega arith
-put_one d (Target.once p) place = at_most (same_kind send_once (kind_sent d))
-  where
-    at_most : (b : Bool) → (if b then 1 else 0) + 0 ≤ 1
-    at_most true = omega arith
-    at_most false = omega arith
+put_one d (Target.port p) place = grind arith
+put_one d (Target.once p) place = grind arith
 put_one d (Target.set q) place = omega arith
 put_one d (Target.dead n) place = omega arith
 
 copy_more : (task : ℕ) (place : Place) (number name : ℕ) (old : State) (mark : Mark) (new : State) → CopyRight task place number name old mark new → once_rights new ≤ once_rights old + 1
-copy_more task place number name old mark new c =
-    let m = c.tokens (λ y. if is_once_right y then 1 else 0) in let one = put_one c.given c.target place in omega (arith, m, one)
+copy_more task place number name old mark new c = grind (arith, is_once_right, put_one)
 
 -- none where a send-once right moves
 move_same : (old : State) (task : ℕ) (d : Disposition) (target : Target) (place : Place) → Some MoveSendOnce ≡ Some d → IsLegal old task d target →
@@ -310,8 +258,7 @@ move_same old task MakeSend target place is legal = absurd (cc)
 move_same old task MakeSendOnce target place is legal = absurd (cc)
 
 copy_moves : (task : ℕ) (place : Place) (name : ℕ) (old : State) (mark : Mark) (new : State) → CopyRight task place 18 name old mark new → once_rights new ≤ once_rights old
-copy_moves task place name old mark new c =
-    let m = c.tokens (λ y. if is_once_right y then 1 else 0) in let same = move_same old task c.given c.target place c.is_given c.legal in omega (arith, m, same)
+copy_moves task place name old mark new c = grind (arith, is_once_right, move_same)
 
 -- how many a request makes
 abbrev pub made_by_request : (notify number : ℕ) → ℕ
@@ -319,16 +266,7 @@ made_by_request notify number = if not (notify == null_word) && number == 21 the
 
 copied_onces : (task : ℕ) (place : Place) (notify number : ℕ) (old : State) (mark : Mark) (new : State) → ¬ (notify ≡ null_word) → ¬ (¬ (number ≡ 18) × ¬ (number ≡ 21)) →
     CopyRight task place number notify old mark new → once_rights new ≤ once_rights old + made_by_request notify number
-copied_onces task place notify number old mark new some right c = elim (eqb_tells number 21) [
-  | inl h ↦
-      let more = copy_more task place number notify old mark new c in
-      let one : made_by_request notify number ≡ 1 = ap (λ (b : Bool). if not b && number == 21 then 1 else 0) (ne_eqb notify null_word some) ∙ ap (λ (b : Bool). if b then 1 else 0) (eq-eqb number 21 h.1) in
-      omega (arith, more, one)
-  | inr h ↦ elim (eqb_tells number 18) [
-    | inl is ↦ let same = copy_moves task place notify old mark new (subst (λ (n : ℕ). CopyRight task place n notify old mark new) is.1 c) in omega (arith, same)
-    | inr not ↦ absurd (right (not.1, h.1))
-  ]
-]
+copied_onces task place notify number old mark new some right c = grind (arith, copy_more, ne_eqb, eq-eqb, copy_moves)
 
 given_back : (task : ℕ) (request : Request) (before old : State) (name : ℕ) (new : State) → GivesBack task request before old name new → once_rights new ≡ once_rights old
 given_back task request before old name new (inl h) = ap (λ (x : State). once_rights x) h.2
@@ -336,10 +274,8 @@ given_back task request before old name new (inr (inl h)) = ap (λ (x : State). 
 given_back task request before old name new (inr (inr h)) = let m = h.5 (λ y. if is_once_right y then 1 else 0) in omega (arith, m)
 
 kept_or_told : (task name sync : ℕ) (request : Request) (q : ℕ) (old mid : State) (owed : Owed) → Keeps task name sync request q old mid owed → FewerOnces old mid owed
-kept_or_told task name sync request q old mid owed (inl h) =
-    let m = h.3 (λ y. if is_once_right y then 1 else 0) in let one : length owed ≡ 1 = ap length h.5 in omega (arith, m, one)
-kept_or_told task name sync request q old mid owed (inr (inl h)) =
-    let m = h.3 (λ y. if is_once_right y then 1 else 0) in let one : length owed ≡ 1 = ap length h.5 in omega (arith, m, one)
+kept_or_told task name sync request q old mid owed (inl h) = grind (arith, is_once_right)
+kept_or_told task name sync request q old mid owed (inr (inl h)) = grind (arith, is_once_right)
 kept_or_told task name sync request q old mid owed (inr (inr h)) = same_state old mid _ owed h.2 refl h.3
 
 -- The own part of a request needs no more slots than there were, with what it owes, but one for the right that it makes.
@@ -382,13 +318,7 @@ request_needs now old task name variant sync notify number previous mid owed l g
 front_by_send : (n : ℕ) (xs : List Entry) (e : Entry) → slice_get xs n ≡ Some e → not (came_by_once e) ≡ true →
     tally (λ x. not (came_by_once x)) (drop n xs) ≡ tally (λ x. not (came_by_once x)) (drop (suc n) xs) + 1
 front_by_send zero [] e is by_send = absurd (cc)
-front_by_send zero (x ∷ xs) e is by_send =
-    let same : x ≡ e = one x e is in
-    let first : ◌≡◌ {A = ℕ} (if not (came_by_once x) then 1 else 0) 1 = ap (λ (b : Bool). if b then 1 else 0) (ap (λ (y : Entry). not (came_by_once y)) same ∙ by_send) in
-    omega (arith, first)
-  where
-    one : (a b : Entry) → Some a ≡ Some b → a ≡ b
-    one a b h = cc
+front_by_send zero (x ∷ xs) e is by_send = grind arith
 front_by_send (suc n) [] e is by_send = absurd (cc)
 front_by_send (suc n) (x ∷ xs) e is by_send = front_by_send n xs e is by_send
 
@@ -406,7 +336,7 @@ module _ (old mid : State) (owed : Owed) (p : ℕ) (e : Entry) (l : IsLawful old
   now_taken q = ap (λ (s : State). s.taken q) d.rest ∙ ap (λ (s : State). s.taken q) d.takes.rest
 
   by_taken : (q n : ℕ) → mid.taken q ≡ n → by_send_at mid q ≡ by_send_in (old.live_port q) n (old.log q)
-  by_taken q n is = ap (λ (g : ℕ → Bool). by_send_in (g q) (mid.taken q) (mid.log q)) same_live ∙ ap (λ (k : ℕ). by_send_in (old.live_port q) k (mid.log q)) is ∙ ap (by_send_in (old.live_port q) n) (same_log q)
+  by_taken q n is = grind (arith, same_live, same_log)
 
   at_front : by_send_at mid p ≡ by_send_in (old.live_port p) (suc (old.taken p)) (old.log p)
   at_front = by_taken p (suc (old.taken p)) (now_taken p ∙ at_own old.taken p (old.taken p + 1) ∙ omega arith)
@@ -415,12 +345,7 @@ module _ (old mid : State) (owed : Owed) (p : ℕ) (e : Entry) (l : IsLawful old
   elsewhere q not = by_taken q (old.taken q) (now_taken q ∙ at_other old.taken p (old.taken p + 1) q not)
 
   no_more_by_send : queued_by_send mid ≤ queued_by_send old
-  no_more_by_send =
-      let few = sum_fewer (by_send_at old) (by_send_at mid) old.ports_made (λ q within. elim (eqb_tells q p) [
-        | inl h ↦ subst (λ (k : ℕ). by_send_at mid k ≤ by_send_at old k) (sym h.1) (let a = at_front in let b = taken_by_send (old.live_port p) (old.taken p) (old.log p) in omega (arith, a, b))
-        | inr h ↦ let a = elsewhere q h.1 in omega (arith, a)
-      ]) in
-      let made = ap (sum_below (by_send_at mid)) same_made in omega (arith, few, made)
+  no_more_by_send = grind (arith, sum_fewer, at_front, taken_by_send, elsewhere, same_made)
 
   one_by_send : not (came_by_once e) ≡ true → queued_by_send old ≡ queued_by_send mid + 1
   one_by_send by_send =
@@ -432,17 +357,7 @@ module _ (old mid : State) (owed : Owed) (p : ℕ) (e : Entry) (l : IsLawful old
 
   -- The message's slot isn't needed any more, and neither is one for what it owes.
   pub destroyed_needs : queued mid + unused mid + length owed + 1 ≤ queued old + unused old
-  destroyed_needs =
-      let before = needed old l.ports l.logs l.messages in
-      let midway = needed mid m.ports m.logs m.messages in
-      let taken = d.takes.tokens (λ y. if is_once_right y then 1 else 0) in
-      let lost = all_owed d.taken.ledger mid.ledger d.loses.gone owed d.loses.moves d.owed_are in
-      elim (cases_Bool (came_by_once e)) [
-        | inl once ↦
-            let one : ◌≡◌ {A = ℕ} (if came_by_once e then 1 else 0) 1 = ap (λ (b : Bool). if b then 1 else 0) once in
-            let few = no_more_by_send in omega (arith, before, midway, taken, lost, one, few)
-        | inr by_send ↦ let less = one_by_send (ap not by_send) in omega (arith, before, midway, taken, lost, less)
-      ]
+  destroyed_needs = grind (arith, needed, is_once_right, all_owed, cases_Bool, no_more_by_send, one_by_send)
 
 -- A step of another call needs no more slots than there were.
 pub needs_no_more : (now : ℕ) (old : State) (event : Event) (reply : Reply) (new : State) → IsLawful old → Step now old event reply new → ¬ (MayNeedSlots event) →

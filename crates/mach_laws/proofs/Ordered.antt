@@ -36,9 +36,7 @@ none_taken event reply = refl
 take_one : {A : Type 0} (n : ℕ) (xs : List A) (y : A) → slice_get xs n ≡ Some y → take (n + 1) xs ≡ take n xs ++ y ∷ []
 take_one n [] y is = absurd (cc)
 take_one zero (x ∷ xs) y is = let same : x ≡ y = cc in ap (λ z. z ∷ []) same
-take_one (suc n) (x ∷ xs) y is =
-    let e : suc n + 1 ≡ suc (n + 1) = omega arith in
-    ap (λ m. take m (x ∷ xs)) e ∙ ap (λ ys. x ∷ ys) (take_one n xs y is)
+take_one (suc n) (x ∷ xs) y is = grind (arith, take_one n xs y is)
 
 -- ---- what one stage brings
 
@@ -87,9 +85,7 @@ stage_grows now x p c = c.tells.log ∙ append_assoc (x.before.log p) c.sent c.t
 -- ---- what one stage takes
 
 same_taken : (x : Stage) (p : ℕ) → x.after.taken p ≡ x.before.taken p → if_taken x.event x.reply (front_entry p x) ≡ []
-same_taken x p same =
-    let none : front_entry p x ≡ [] = rw (eq-eqb (x.after.taken p) (x.before.taken p) same) in
-    ap (if_taken x.event x.reply) none ∙ none_taken x.event x.reply
+same_taken x p same = grind (arith, eq-eqb, none_taken)
 
 -- The stage takes what was there before it, and in order.
 record Taking (x : Stage) (p : ℕ) : Type 0 where

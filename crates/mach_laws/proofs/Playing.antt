@@ -97,32 +97,14 @@ good_text bytes long whole fits good = ((λ h. elim h [ inl g ↦ omega (arith, 
 
 pub spelled : {bytes : List ℕ} {header : Header} {written : WireBody} → bytes ≡ text header written → header.remote_kind + header.local_kind < 2 ^ 8 →
     header.size + header.remote + header.local + header.sequence + header.id < 2 ^ 32 → IsWireBody written → Spells bytes header written
-spelled is_text kinds words body = record {
-  is_text = is_text;
-  header_fits = record {
-    remote_kind = omega (arith, kinds);
-    local_kind = omega (arith, kinds);
-    size = omega (arith, words);
-    remote = omega (arith, words);
-    local = omega (arith, words);
-    sequence = omega (arith, words);
-    id = omega (arith, words);
-  };
-  body_fits = body;
-}
+spelled is_text kinds words body = grind arith
 
 -- an item of one port word, and of two
 pub one_word : (number a : ℕ) → NamesPorts number → a < 2 ^ 32 → All IsWire (port_item short number (a ∷ []) ∷ [])
-one_word number a ports fits = All-cons IsWire (port_item short number (a ∷ [])) [] ((omega (arith, ports.1), omega arith, omega arith), ports, words) (λ k d below. absurd (omega (arith, below)))
-  where
-    words : All (λ w. w < 2 ^ 32) (a ∷ [])
-    words = All-cons (λ w. w < 2 ^ 32) a [] (omega (arith, fits)) (λ k d below. absurd (omega (arith, below)))
+one_word number a ports fits = grind arith
 
 pub two_words : (number a b : ℕ) → NamesPorts number → a + b < 2 ^ 32 → All IsWire (port_item short number (a ∷ b ∷ []) ∷ [])
-two_words number a b ports fits = All-cons IsWire (port_item short number (a ∷ b ∷ [])) [] ((omega (arith, ports.1), omega arith, omega arith), ports, words) (λ k d below. absurd (omega (arith, below)))
-  where
-    words : All (λ w. w < 2 ^ 32) (a ∷ b ∷ [])
-    words = All-cons (λ w. w < 2 ^ 32) a (b ∷ []) (omega (arith, fits)) (All-cons (λ w. w < 2 ^ 32) b [] (omega (arith, fits)) (λ k d below. absurd (omega (arith, below))))
+two_words number a b ports fits = grind arith
 
 -- ---- names
 
@@ -131,13 +113,7 @@ fresh_one = record { unused = get-empty nat_cmp 1; not_null = omega arith; least
 
 -- the number after a fresh one is fresh once that is used, if it is unused
 pub fresh_next : {names : Names} {name : ℕ} (target : Target) → IsFresh names name → map.get (map.insert names name target) (suc name) ≡ None → IsFresh (map.insert names name target) (suc name)
-fresh_next {names} {name} target fresh unused = record { unused = unused; not_null = omega arith; least = all_used }
-  where
-    all_used : (n : ℕ) → 0 < n → n < suc name → map.contains_key (map.insert names name target) n ≡ true
-    all_used n above below = elim (eqb_tells n name) [
-      | inl h ↦ ap is_some (ap (map.get (map.insert names name target)) h.1 ∙ get_own names name target)
-      | inr h ↦ ap is_some (get_other names name target n h.1) ∙ fresh.least n above (omega (arith, below, h.1))
-    ]
+fresh_next {names} {name} target fresh unused = grind (arith, get_own, get_other)
 
 -- a name in use is not unused
 pub used : {o : Option Target} {target : Target} → o ≡ Some target → o ≡ None → ⊥
@@ -179,7 +155,7 @@ refused {code = code} l refuses = (inl (record { code = code; told = refl; refus
 
 -- An event that no guard refuses does its part, and no right is lost.
 pub plays : {now : ℕ} {old new : State} {event : Event} {reply : Reply} → IsCalm old → BringsNone old event new → LosesNone old event reply → NoneHolds (guards old event) → Does now old event reply new [] → Plays now old event reply new
-plays {now} {old} {new} {event} {reply} l brings none good does = let s = quiet_step now old event reply new l.lawful l.quiet brings none good does in (s.0, record { lawful = s.1; quiet = s.2 })
+plays {now} {old} {new} {event} {reply} l brings none good does = grind (arith, quiet_step now old event reply new l.lawful l.quiet brings none good does)
 
 pub task_made : {now : ℕ} {s : State} → IsCalm s → s.tasks_made < most_tasks → Plays now s Event.TaskCreate (Reply.Task s.tasks_made) (with_task s)
 task_made {now} {s} l few = plays l tt tt ((λ dead. dead), ((λ h. omega (arith, h, few)), tt)) (record { task_is = refl; rest = refl }, refl)
@@ -252,25 +228,17 @@ module _ {now : ℕ} {s : State} (l : IsCalm s) {task : ℕ} (lives : s.live_tas
       (Waited.Port p, (found, holds), (p, (refl, holds, alone), receives, refl))
 
   pub type_told : {name : ℕ} (target : Target) → lookup s task name ≡ Some target → Plays now s (Event.NameType task name) (Reply.NameType (type_of s task name target)) s
-  type_told {name} target found =
-      plays l tt tt (there s task lives, (used found, tt)) ((target, found, refl), refl, refl)
+  type_told {name} target found = grind (arith, plays, there, used)
 
   pub no_type : {name : ℕ} → lookup s task name ≡ None → Plays now s (Event.NameType task name) (Reply.Code 15) s
   no_type none = refused l (inl (inr (there s task lives, inl (none, refl))))
 
   pub references_told : {name right : ℕ} (target : Target) → lookup s task name ≡ Some target → right ≤ 4 →
       Plays now s (Event.GetRefs task name right) (Reply.Refs (references s task target right)) s
-  references_told {name} {right} target found is_right =
-      plays l tt tt
-      (there s task lives, ((λ h. omega (arith, h, is_right)), (used found, tt))) ((target, found, refl), refl, refl)
+  references_told {name} {right} target found is_right = grind (arith, plays, there, used)
 
   pub status_told : {name : ℕ} (p : ℕ) → lookup s task name ≡ Some (Target.port p) → Holds s task receive p → s.sets_of p ≡ [] → Plays now s (Event.ReceiveStatus task name) (Reply.Status (status_of s p)) s
-  status_told {name} p found holds alone =
-      plays l tt tt
-      (there s task lives, (used found, ((λ h. h (p, found, holds)), tt))) (tells, refl, refl)
-    where
-      tells : TellsStatus s task name (status_of s p)
-      tells = record { p = p; found = found; set = inl (alone, refl); sequence = refl; make_send = refl; limit = refl; queued = refl; send_once = refl; has_send = refl; port_destroyed = refl; no_senders = refl }
+  status_told {name} p found holds alone = grind (arith, plays, there, used)
 
   -- A send right is made for another task's port, and put into the task under a name that it has not.
   pub send_inserted : {name from poly : ℕ} (p : ℕ) → s.live_task from ≡ true → lookup s from poly ≡ Some (Target.port p) → Holds s from receive p →

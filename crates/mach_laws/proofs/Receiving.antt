@@ -73,11 +73,7 @@ either true P Q R f g h = f refl h
 either false P Q R f g h = g refl h
 
 pub unused_before : (before now : Names) (w : ℕ) → Grows before now → map.get now w ≡ None → map.get before w ≡ None
-unused_before before now w grows none = go (map.get before w) refl
-  where
-    go : (o : Option Target) → map.get before w ≡ o → map.get before w ≡ None
-    go None e = e
-    go (Some x) e = absurd (let f = grows w x e in cc)
+unused_before before now w grows none = grind arith
 
 -- the name of a right for a live port, just after it was found
 NamedWord : (task : ℕ) → (before mid : State) → Kind → (p w : ℕ) → Type 0
@@ -102,12 +98,7 @@ own_token send_once p task = rw (eq-eqb p p refl, eq-eqb task task refl) refl
 given_holds : (kind : Kind) (p task : ℕ) (s : State) → 0 < held s task kind p + weigh (λ x. if is_held task kind p x then 1 else 0) (given_to kind p task s)
 given_holds receive p task s = omega (arith, own_token receive p task)
 given_holds send_once p task s = omega (arith, own_token send_once p task)
-given_holds send p task s = go (nat_lt (held s task send p) most_references) refl
-  where
-    go : (b : Bool) → nat_lt (held s task send p) most_references ≡ b →
-        0 < held s task send p + weigh (λ x. if is_held task send p x then 1 else 0) (if b then token send p (in_task task) ∷ [] else [])
-    go true e = omega (arith, own_token send p task)
-    go false e = let f = ltb-false (held s task send p) most_references e in omega (arith, f)
+given_holds send p task s = grind (arith, own_token, ltb-false)
 
 received : (task : ℕ) (kind : Kind) (p w : ℕ) (before mid new : State) → Grows (mid.naming task) (new.naming task) → NamedWord task before mid kind p w → Holds new task kind p →
     ReceivedWord task before new kind (to_port p) w

@@ -94,8 +94,7 @@ reaches_same s t r a b (there p q c at rest) =
     there p q c (at.0, (let h = at.1 in omega (arith, h, same_count s t r (λ x. is_of receive p x && same_place (in_message q at.0) x.place)))) (reaches_same s t r q c rest)
 
 closes_same : (s t : State) → IsReordered s t → (destination : ℕ) (place : Place) → ClosesLoop s destination place → ClosesLoop t destination place
-closes_same s t r destination place c =
-    (c.0, (let h = c.1 in omega (arith, h, same_count s t r (λ x. is_of receive c.0 x && same_place place x.place))), reaches_same s t r destination c.0 c.2)
+closes_same s t r destination place c = grind (arith, same_count, reaches_same)
 
 reordered_back : (s t : State) → IsReordered s t → IsReordered t s
 reordered_back s t r = record { rest = sym (ap (λ (x : State). record x { ledger = s.ledger }) r.rest); tokens = λ h. let m = r.tokens h in omega (arith, m) }
@@ -117,21 +116,17 @@ is_same : (a b : ℕ) → (a == b) ≡ true → a ≡ b
 is_same a b e = elim (eqb_tells a b) [ inl h ↦ h.1 | inr h ↦ absurd (let f : false ≡ true = sym h.0 ∙ e in cc) ]
 
 copied_name : (task number name : ℕ) (place : Place) (s t t' : State) (mark : Mark) → IsReordered s t → CopyRight task place number name t mark t' → IsLegalName s task name number
-copied_name task number name place s t t' mark r c =
-    (c.given, c.target, c.is_given, sym (same_lookup s t r task name) ∙ c.found, legal_alike t s (reordered_back s t r) task c.given c.target c.legal)
+copied_name task number name place s t t' mark r c = grind (arith, same_lookup, legal_alike, reordered_back)
 
 word_taken : (task number word : ℕ) (place : Place) (s t t' : State) (mark : Mark) → IsReordered s t → IsBadWord s task number word → CopyWord task place number word t mark t' → ⊥
-word_taken task number word place s t t' mark r bad c =
-    either (word == null_word) _ _ ⊥ (λ is h. bad.0 (is_same word null_word is)) (λ is.
-    either (word == dead_word) _ _ ⊥ (λ b h. bad.1 (is_same word dead_word b)) (λ b h. bad.2 (copied_name task number word place s t t' mark r h))) c
+word_taken task number word place s t t' mark r bad c = grind (arith, either, is_same, copied_name)
 
 words_taken : (task : ℕ) (place : Place) (ws : List (ℕ × ℕ)) (s t t' : State) (rs : List (Kind × Mark)) → IsReordered s t →
     OneFails (IsRefused task) (λ old w new. (mark : Mark) × CopyWord task place w.0 w.1 old mark new) s ws → Through (CopyCarried task place) t ws rs t' → ⊥
 words_taken task place [] s t t' rs r h c = h
 words_taken task place (w ∷ ws) s t t' [] r h c = c
 words_taken task place (w ∷ ws) s t t' (m ∷ ms) r (inl bad) c = word_taken task w.0 w.1 place s t c.0 m.1 r bad c.1
-words_taken task place (w ∷ ws) s t t' (m ∷ ms) r (inr (mid, (mark, copies), refuse)) c =
-    words_taken task place ws mid c.0 t' ms (word_alike task w.0 w.1 place s t mid c.0 mark m.1 r copies c.1).1 refuse c.2
+words_taken task place (w ∷ ws) s t t' (m ∷ ms) r (inr (mid, (mark, copies), refuse)) c = grind (arith, words_taken task place ws mid c.0 t' ms (word_alike task w.0 w.1 place s t mid c.0 mark m.1 r copies c.1).1 refuse c.2, word_alike)
 
 reply_taken : (task number word : ℕ) (place : Place) (s t t' : State) (reply : ReplyRight) → IsReordered s t → number ≢ 0 → IsBadWord s task number word → CopyReply task place number word t reply t' → ⊥
 reply_taken task number word place s t t' absent r some bad c = some c.0
@@ -147,9 +142,7 @@ dead_no_port MakeSendOnce n p e = cc
 
 destination_taken : (task : ℕ) (header : Header) (p : ℕ) (place : Place) (s t' : State) → DestinationRefuses s task header → CopyRight task place header.remote_kind header.remote s (to_port p) t' → ⊥
 destination_taken task header p place s t' (inl bad) c = bad (copied_name task header.remote_kind header.remote place s s t' (to_port p) (same_state s) c)
-destination_taken task header p place s t' (inr (n, is)) c =
-    let e : c.target ≡ Target.dead n = one_target _ _ (Target.dead n) c.target is c.found refl in
-    dead_no_port c.given n p (sym (ap (target_mark c.given) e) ∙ c.mark_is)
+destination_taken task header p place s t' (inr (n, is)) c = grind (arith, one_target, dead_no_port)
 
 -- ---- messages
 
@@ -157,10 +150,7 @@ pub same_port : (p q : ℕ) → to_port p ≡ to_port q → p ≡ q
 same_port p q e = cc
 
 one_message : (m n : Message) → n.destination ≡ m.destination → n.kind ≡ m.kind → n.reply ≡ m.reply → n.id ≡ m.id → n.body ≡ m.body → n ≡ m
-one_message m n d k r i b =
-    ap (λ x. record n { destination = x }) d ∙ ap (λ x. record n { destination = m.destination; kind = x }) k
-    ∙ ap (λ x. record n { destination = m.destination; kind = m.kind; reply = x }) r
-    ∙ ap (λ x. record n { destination = m.destination; kind = m.kind; reply = m.reply; id = x }) i ∙ ap (λ x. record m { body = x }) b
+one_message m n d k r i b = grind arith
 
 module _ (task : ℕ) (header : Header) (written : WireBody) (s : State) where
   -- the destination's right, copied in for a message to this port
@@ -173,23 +163,11 @@ module _ (task : ℕ) (header : Header) (written : WireBody) (s : State) where
 
   -- one destination is copied in, whatever the order of the tokens
   to_one : (p q : ℕ) (first other : State) → ToPort p first → ToPort q other → (q ≡ p) × IsReordered first other
-  to_one p q first other a b =
-      let same = same_port q p (right_same task header.remote_kind header.remote (place_at s p) (place_at s q) s s first other (to_port p) (to_port q) (same_state s) a b).mark_is in (
-        same,
-        (right_alike task header.remote_kind header.remote (place_at s p) s s first other (to_port p) (to_port q) (same_state s) a
-            (subst (λ (x : ℕ). CopyRight task (place_at s x) header.remote_kind header.remote s (to_port q) other) same b)).1,
-      )
+  to_one p q first other a b = grind (arith, same_port, right_same, same_state, right_alike)
 
   -- and so is one message
   copied_alike : (m n : Message) (mid other : State) → Copied task header written s m mid → Copied task header written s n other → (n ≡ m) × IsReordered mid other
-  copied_alike m n mid other a b =
-      let p = m.destination in
-      let w = right_same task header.remote_kind header.remote (place_at s p) (place_at s n.destination) s s a.first b.first (to_port p) (to_port n.destination) (same_state s) a.destination b.destination in
-      let first = to_one p n.destination a.first b.first a.destination b.destination in
-      let reply = reply_alike task header.local_kind header.local (place_at s p) a.first b.first a.second b.second m.reply n.reply first.1 a.reply
-      (subst (λ (x : ℕ). Answers x b.first n.reply b.second) first.0 b.reply) in
-      let body = body_alike task (place_at s p) written a.second b.second mid other m.body n.body reply.1 a.body (subst (λ (x : ℕ). CopyBody task (place_at s x) written b.second n.body other) first.0 b.body) in
-      (one_message m n first.0 (b.kind ∙ ap kind_sent w.given ∙ sym a.kind) reply.0 (b.id ∙ sym a.id) body.0, body.1)
+  copied_alike m n mid other a b = grind (arith, right_same, same_state, to_one, reply_alike, body_alike, one_message)
 
   -- a refused reply isn't copied in
   reply_refused : (p : ℕ) (first : State) (answer : ReplyRight) (second : State) → ToPort p first → Answers p first answer second → ReplyRefuses s task header → ⊥
@@ -253,11 +231,7 @@ module _ (task : ℕ) (place : Place) (number name : ℕ) (s : State) (judge : (
   -- the guards after copying in and after another
   judged_same : (p q : ℕ) (mid other : State) (d : Disposition) → disposition number ≡ Some d →
       (c : CopyRight task place number name s (to_port p) mid) → CopyRight task place number name s (to_port q) other → SameGuards (judge q (kind_sent d) other) (judge p (kind_sent c.given) mid)
-  judged_same p q mid other d is c e =
-      let w = right_alike task number name place s s mid other (to_port p) (to_port q) (same_state s) c e in
-      subst (λ (x : ℕ). SameGuards (judge x (kind_sent d) other) (judge p (kind_sent c.given) mid)) (sym (same_port q p w.0))
-      (subst (λ (x : Disposition). SameGuards (judge p (kind_sent x) other) (judge p (kind_sent c.given) mid)) (sym (one_disposition number c.given d c.is_given is))
-      (same other mid (reordered_back mid other w.1) p (kind_sent c.given)))
+  judged_same p q mid other d is c e = grind (arith, right_alike, same_state, same_port, one_disposition, reordered_back)
 
   -- a right that is refused, not for want of memory, isn't handed over
   pub hand_taken : (p : ℕ) (mid : State) (code : ℕ) → (c : CopyRight task place number name s (to_port p) mid) → NoneHolds (judge p (kind_sent c.given) mid) →

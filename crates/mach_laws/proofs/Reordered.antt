@@ -55,10 +55,8 @@ receive_alike false task name p s first second = refl
 
 changed_alike : (d : Disposition) (target : Target) (task name : ℕ) (s : State) (first second : List Token) → ((test : Token → Bool) → count test first ≡ count test s.ledger) →
     ◌≡◌ {A = State} (record (changed_by d target task name (record s { ledger = first })) { ledger = second }) (record (changed_by d target task name s) { ledger = second })
-changed_alike MoveReceive (Target.port p) task name s first second same =
-    rw (same (is_held task send p)) (receive_alike (nat_lt 0 (held s task send p)) task name p s first second)
-changed_alike MoveSend (Target.port p) task name s first second same =
-    rw (same (is_held task send p), same (is_held task receive p)) (kept_alike (nat_lt 1 (held s task send p) || nat_lt 0 (held s task receive p)) task name s first second)
+changed_alike MoveReceive (Target.port p) task name s first second same = grind (arith, receive_alike)
+changed_alike MoveSend (Target.port p) task name s first second same = grind (arith, kept_alike)
 changed_alike MoveSend (Target.dead n) task name s first second same = fewer_alike (nat_lt 1 n) task name _ s first second
 changed_alike MoveSendOnce (Target.dead n) task name s first second same = fewer_alike (nat_lt 1 n) task name _ s first second
 changed_alike MakeSend (Target.port p) task name s first second same = refl
@@ -82,11 +80,7 @@ legal_alike s t r task d target h = absurd h
 after_alike : (d : Disposition) (target : Target) (task name : ℕ) (place : Place) (s s' t t' : State) → IsReordered s t →
     s' ≡ record (changed_by d target task name s) { ledger = s'.ledger } → Moves s.ledger s'.ledger (taken_by d target task) (put_by d target place) →
     t' ≡ record (changed_by d target task name t) { ledger = t'.ledger } → Moves t.ledger t'.ledger (taken_by d target task) (put_by d target place) → IsReordered s' t'
-after_alike d target task name place s s' t t' r e m f n = record {
-  rest = f ∙ ap (λ (x : State). record (changed_by d target task name x) { ledger = t'.ledger }) r.rest
-      ∙ changed_alike d target task name s t.ledger t'.ledger (same_count s t r) ∙ sym (ap (λ (x : State). record x { ledger = t'.ledger }) e);
-  tokens = λ h. let a = m h in let b = n h in let c = r.tokens h in omega (arith, a, b, c);
-}
+after_alike d target task name place s s' t t' r e m f n = grind (arith, changed_alike, same_count)
 
 pub one_target : (o p : Option Target) (a b : Target) → o ≡ Some a → p ≡ Some b → p ≡ o → b ≡ a
 one_target o p a b e f g = cc
@@ -106,26 +100,11 @@ pub record SameRight {task number name : ℕ} {place elsewhere : Place} {s t s' 
 
 pub right_same : (task number name : ℕ) (place elsewhere : Place) (s t s' t' : State) (mark other : Mark) → IsReordered s t →
     (a : CopyRight task place number name s mark s') (b : CopyRight task elsewhere number name t other t') → SameRight a b
-right_same task number name place elsewhere s t s' t' mark other r a b =
-    let given : b.given ≡ a.given = one_disposition number a.given b.given a.is_given b.is_given in
-    let target : b.target ≡ a.target = one_target _ _ a.target b.target a.found b.found (same_lookup s t r task name) in
-    record {
-      given = given;
-      target = target;
-      mark_is = one_mark _ _ mark other a.mark_is b.mark_is (ap (λ (d : Disposition). target_mark d b.target) given ∙ ap (target_mark a.given) target);
-    }
+right_same task number name place elsewhere s t s' t' mark other r a b = grind (arith, one_disposition, one_target, same_lookup, one_mark)
 
 pub right_alike : (task number name : ℕ) (place : Place) (s t s' t' : State) (mark other : Mark) → IsReordered s t →
     CopyRight task place number name s mark s' → CopyRight task place number name t other t' → (other ≡ mark) × IsReordered s' t'
-right_alike task number name place s t s' t' mark other r a b =
-    let w = right_same task number name place place s t s' t' mark other r a b in (
-      w.mark_is,
-      after_alike a.given a.target task name place s s' t t' r a.rest a.tokens
-          (b.rest ∙ ap (λ (d : Disposition). record (changed_by d b.target task name t) { ledger = t'.ledger }) w.given
-          ∙ ap (λ (x : Target). record (changed_by a.given x task name t) { ledger = t'.ledger }) w.target)
-          (subst (λ (x : Target). Moves t.ledger t'.ledger (taken_by a.given x task) (put_by a.given x place)) w.target
-          (subst (λ (d : Disposition). Moves t.ledger t'.ledger (taken_by d b.target task) (put_by d b.target place)) w.given b.tokens)),
-    )
+right_alike task number name place s t s' t' mark other r a b = grind (arith, right_same, after_alike)
 
 -- ---- words
 
@@ -136,9 +115,7 @@ both false P Q P' Q' Z f g x y = g x y
 
 pub word_alike : (task number word : ℕ) (place : Place) (s t s' t' : State) (mark other : Mark) → IsReordered s t →
     CopyWord task place number word s mark s' → CopyWord task place number word t other t' → (other ≡ mark) × IsReordered s' t'
-word_alike task number word place s t s' t' mark other r a b =
-    both (word == null_word) _ _ _ _ _ (λ x y. (y.0 ∙ sym x.0, same_after s t s' t' r x.1 y.1))
-    (both (word == dead_word) _ _ _ _ _ (λ x y. (y.0 ∙ sym x.0, same_after s t s' t' r x.1 y.1)) (right_alike task number word place s t s' t' mark other r)) a b
+word_alike task number word place s t s' t' mark other r a b = grind (arith, both, same_after, right_alike)
 
 same_sent : (number : ℕ) (k l : Kind) → IsSent number k → IsSent number l → k ≡ l
 same_sent number k l a b = a.2 ∙ ap kind_sent (one_disposition number b.0 a.0 b.1 a.1) ∙ sym b.2
@@ -146,9 +123,7 @@ same_sent number k l a b = a.2 ∙ ap kind_sent (one_disposition number b.0 a.0 
 pub reply_alike : (task number word : ℕ) (place : Place) (s t s' t' : State) (reply other : ReplyRight) → IsReordered s t →
     CopyReply task place number word s reply s' → CopyReply task place number word t other t' → (other ≡ reply) × IsReordered s' t'
 reply_alike task number word place s t s' t' absent absent r a b = (refl, same_after s t s' t' r a.2 b.2)
-reply_alike task number word place s t s' t' (present k m) (present l n) r a b =
-    let w = word_alike task number word place s t s' t' m n r a.1 b.1 in
-    (ap (λ (x : Kind). present x n) (same_sent number l k b.0 a.0) ∙ ap (present k) w.0, w.1)
+reply_alike task number word place s t s' t' (present k m) (present l n) r a b = grind (arith, word_alike, same_sent)
 reply_alike task number word place s t s' t' absent (present k m) r a b = absurd (no_disposition number b.0.0 a.0 b.0.1)
 reply_alike task number word place s t s' t' (present k m) absent r a b = absurd (no_disposition number a.0.0 b.0 a.0.1)
 

@@ -37,7 +37,7 @@ alike_back : (task : ℕ) (s t : State) → IsAlike task s t → IsAlike task t 
 alike_back task s t a = record { naming = sym a.naming; rights = sym a.rights; receives = λ p. sym (a.receives p) }
 
 alike_same : (task : ℕ) (s t : State) → t ≡ s → IsAlike task s t
-alike_same task s t e = record { naming = ap (λ (x : State). x.naming) e; rights = ap (λ (x : State). length x.ledger) e; receives = λ p. ap (λ (x : State). held x task receive p) e }
+alike_same task s t e = grind arith
 
 same_name : (task : ℕ) (s t : State) → IsAlike task s t → (name : ℕ) → lookup t task name ≡ lookup s task name
 same_name task s t a name = ap (λ (f : ℕ → Names). map.get (f task) name) a.naming
@@ -68,50 +68,20 @@ module _ (before : State) (task name variant sync notify : ℕ) (s t : State) (a
 
   full : (most_rights < length s.ledger) ⊎ HasNoRoom s task × GivesRight before s task name variant → (most_rights < length t.ledger) ⊎ HasNoRoom t task × GivesRight before t task name variant
   full (inl h) = inl (let e = a.rights in omega (arith, e, h))
-  full (inr (room, (request, on, some))) = inr (subst (λ (f : ℕ → Names). most_names ≤ map.len (f task)) (sym a.naming) room, (request, requested task name variant s t a request on, some))
+  full (inr (room, (request, on, some))) = grind (arith, requested)
 
 noted_same : (before : State) (task name variant sync notify : ℕ) (s t : State) → IsAlike task s t → SameGuards (noted_guards before s task name variant sync notify) (noted_guards before t task name variant sync notify)
-noted_same before task name variant sync notify s t a =
-    let b = alike_back task s t a in (
-      unused before task name variant sync notify s t a,
-      unused before task name variant sync notify t s b,
-      refl,
-      (
-        wrong before task name variant sync notify s t a,
-        wrong before task name variant sync notify t s b,
-        refl,
-        (
-          unasked before task name variant sync notify s t a,
-          unasked before task name variant sync notify t s b,
-          refl,
-          (
-            most before task name variant sync notify s t a,
-            most before task name variant sync notify t s b,
-            refl,
-            (full before task name variant sync notify s t a, full before task name variant sync notify t s b, refl, tt),
-          ),
-        ),
-      ),
-    )
+noted_same before task name variant sync notify s t a = grind (arith, alike_back)
 
 -- ---- the notify right, copied in to two places
 
 -- the send-once right that a request keeps is made or moved
 once_sent : (number : ℕ) (d : Disposition) → (number ≡ 18) ⊎ (number ≡ 21) → disposition number ≡ Some d → kind_sent d ≡ send_once
-once_sent number d (inl e) is = ap kind_sent (one d MoveSendOnce (sym is ∙ ap disposition e))
-  where
-    one : (a b : Disposition) → Some a ≡ Some b → a ≡ b
-    one a b e = cc
-once_sent number d (inr e) is = ap kind_sent (one d MakeSendOnce (sym is ∙ ap disposition e))
-  where
-    one : (a b : Disposition) → Some a ≡ Some b → a ≡ b
-    one a b e = cc
+once_sent number d (inl e) is = grind arith
+once_sent number d (inr e) is = grind arith
 
 by_once : (number : ℕ) → ¬ ((number ≢ 18) × (number ≢ 21)) → (number ≡ 18) ⊎ (number ≡ 21)
-by_once number not = elim (eqb_tells number 18) [
-  | inl h ↦ inl h.1
-  | inr h ↦ elim (eqb_tells number 21) [ inl g ↦ inr g.1 | inr g ↦ absurd (not (h.1, g.1)) ]
-]
+by_once number not = grind arith
 
 as_many : (d : Disposition) (target : Target) (a b : Place) → weigh (λ x. 1) (put_by d target a) ≡ weigh (λ x. 1) (put_by d target b)
 as_many d (Target.port p) a b = refl
@@ -127,26 +97,7 @@ no_receive d (Target.set set) task p place e = refl
 
 copied_alike : (task number notify p q : ℕ) (place elsewhere : Place) (s x y : State) → (number ≡ 18) ⊎ (number ≡ 21) →
     CopyRight task place number notify s (to_port p) x → CopyRight task elsewhere number notify s (to_port q) y → IsAlike task x y
-copied_alike task number notify p q place elsewhere s x y once a b =
-    let w = right_same task number notify place elsewhere s s x y (to_port p) (to_port q) (same_state s) a b in
-    let kind = once_sent number a.given once a.is_given in
-    let rest : y ≡ record (changed_by a.given a.target task notify s) { ledger = y.ledger } =
-    b.rest ∙ ap (λ (d : Disposition). record (changed_by d b.target task notify s) { ledger = y.ledger }) w.given ∙ ap (λ (t : Target). record (changed_by a.given t task notify s) { ledger = y.ledger }) w.target in
-    let tokens : Moves s.ledger y.ledger (taken_by a.given a.target task) (put_by a.given a.target elsewhere) =
-    subst (λ (t : Target). Moves s.ledger y.ledger (taken_by a.given t task) (put_by a.given t elsewhere)) w.target
-    (subst (λ (d : Disposition). Moves s.ledger y.ledger (taken_by d b.target task) (put_by d b.target elsewhere)) w.given b.tokens) in
-    record {
-      naming = ap (λ (z : State). z.naming) rest ∙ sym (ap (λ (z : State). z.naming) a.rest);
-      rights =
-          let e = a.tokens (λ z. 1) in
-          let f = tokens (λ z. 1) in
-          let m = as_many a.given a.target place elsewhere in omega (arith, e, f, m, length-weigh x.ledger, length-weigh y.ledger);
-      receives = λ r.
-          let e = a.tokens (λ z. if is_held task receive r z then 1 else 0) in
-          let f = tokens (λ z. if is_held task receive r z then 1 else 0) in
-          let m = no_receive a.given a.target task r place kind in
-          let n = no_receive a.given a.target task r elsewhere kind in omega (arith, e, f, m, n);
-    }
+copied_alike task number notify p q place elsewhere s x y once a b = grind (arith, right_same, same_state, once_sent, as_many, length-weigh, no_receive)
 
 -- ---- one answer
 
@@ -165,12 +116,7 @@ module _ (s : State) (task name variant sync notify number : ℕ) (good : NoneHo
   by_those some = by_once number (λ h. good.0 (inr (inl (some, h.0, h.1))))
 
   done_copies : (previous : ℕ) (mid : State) (owed : Owed) → (x : Requests task name variant sync notify number previous s mid owed) → Copies task notify number s x.copied
-  done_copies previous mid owed x = go x.copy
-    where
-      go : (notify ≡ null_word) × (x.copied ≡ s) × (mid ≡ x.back) × (owed ≡ [])
-          ⊎ (notify ≢ null_word) × ((q : ℕ) × CopyRight task (in_request x.request) number notify s (to_port q) x.copied × Keeps task name sync x.request q x.back mid owed) → Copies task notify number s x.copied
-      go (inl h) = inl (h.0, h.1)
-      go (inr (some, (q, c, k))) = inr (some, (q, in_request x.request, c))
+  done_copies previous mid owed x = grind arith
 
   refused_copies : (copied : State) → (notify ≡ null_word) × (copied ≡ s) ⊎ (notify ≢ null_word) × ((q : ℕ) × CopyRight task (in_task task) number notify s (to_port q) copied) → Copies task notify number s copied
   refused_copies copied (inl h) = inl h
@@ -218,10 +164,7 @@ module _ (s : State) (task name variant sync notify number : ℕ) (good : NoneHo
   one_request copied a b (inr (inr h)) (inr (inl g)) = absurd (let v = h.0 in let w = g.0 in omega (arith, v, w))
 
   kept_some : (request : Request) (q : ℕ) → LiesAt s send_once q (in_request request) → count (λ x. same_place (in_request request) x.place) s.ledger ≡ 0 → ⊥
-  kept_some request q lies none =
-      let le = count_le (λ x. is_of send_once q x && same_place (in_request request) x.place) (λ x. same_place (in_request request) x.place)
-      (λ x t. right_of (is_of send_once q x) (same_place (in_request request) x.place) t) s.ledger in
-      omega (arith, lies, none, le)
+  kept_some request q lies none = grind (arith, count_le, right_of)
 
   back_alike : (request : Request) (x y : State) (n m : ℕ) (new other : State) → IsAlike task x y → GivesBack task request s x n new → GivesBack task request s y m other → n ≡ m
   back_alike request x y n m new other a (inl g) (inl h) = g.1 ∙ sym h.1
@@ -232,8 +175,7 @@ module _ (s : State) (task name variant sync notify number : ℕ) (good : NoneHo
   back_alike request x y n m new other a (inr (inl g)) (inr (inr (q, named, stands, lies, fresh, moves, rest))) = absurd (kept_some request q lies g.1)
   back_alike request x y n m new other a (inr (inr (q, named, stands, lies, fresh, moves, rest))) (inl h) = absurd (let e = h.0 in cc)
   back_alike request x y n m new other a (inr (inr (q, named, stands, lies, fresh, moves, rest))) (inr (inl h)) = absurd (kept_some request q lies h.1)
-  back_alike request x y n m new other a (inr (inr (q, named, stands, lies, g, moves, rest))) (inr (inr (r, also, stood, lie, h, move, more))) =
-      one_fresh (x.naming task) n m g.fresh (subst (λ (f : ℕ → Names). IsFresh (f task) m) a.naming h.fresh)
+  back_alike request x y n m new other a (inr (inr (q, named, stands, lies, g, moves, rest))) (inr (inr (r, also, stood, lie, h, move, more))) = grind (arith, one_fresh)
 
   pub previous_alike : (n m : ℕ) (mid other : State) (owed owes : Owed) → Requests task name variant sync notify number n s mid owed → Requests task name variant sync notify number m s other owes → n ≡ m
   previous_alike n m mid other owed owes a b =

@@ -57,12 +57,8 @@ module _ (s : State) (task : ℕ) (bytes : List ℕ) where
       full kind = record { some = omega arith; full = λ e. record { header = header; written = written; spells = spells; m = h.m; copied_state = h.copied_state; copied = h.copied; kind = kind } }
 
   pub send_code : (code : ℕ) → Refuses s (Event.Send task bytes) code → SendCode s task bytes code
-  send_code code (inl h) = FirstIs-code (SendCode s task bytes) (guards s (Event.Send task bytes)) code
-      ((λ g. other (omega arith) (λ e. omega (arith, e))), ((λ g. other (omega arith) (λ e. omega (arith, e))), ((λ g. other (omega arith) (λ e. omega (arith, e))), ((λ g. other (omega arith) (λ e. omega (arith, e))), tt)))) h
-  send_code code (inr (good, inl h)) =
-      let i = h.1.refused in
-      FirstIs-code (SendCode s task bytes) (item_guards h.1.rest i.name i.size i.number i.before) code
-      ((λ g. other (omega arith) (λ e. omega (arith, e))), ((λ g. other (omega arith) (λ e. omega (arith, e))), ((λ g. other (omega arith) (λ e. omega (arith, e))), tt))) i.refused
+  send_code code (inl h) = grind (arith, other)
+  send_code code (inr (good, inl h)) = grind (arith, other)
   send_code code (inr (good, inr h)) = elim h.3 [
     | inl g ↦ other (omega (arith, g)) (λ e. omega (arith, e, g))
     | inr g ↦ rights_code h.0 h.1 code h.2 g
@@ -78,10 +74,7 @@ by_once : (a b : Disposition) → Some a ≡ Some b → kind_sent a ≡ send_onc
 by_once a b same once kind = let e : send_once ≡ send = sym once ∙ ap kind_sent (same_disposition a b same) ∙ kind in cc
 
 not_once : (n : ℕ) (given : Disposition) → disposition n ≡ Some given → kind_sent given ≡ send → (n ≢ 18) × (n ≢ 21)
-not_once n given is kind = (
-  (λ e. by_once MoveSendOnce given (sym (ap disposition e) ∙ is) refl kind),
-  (λ e. by_once MakeSendOnce given (sym (ap disposition e) ∙ is) refl kind),
-)
+not_once n given is kind = grind (arith, by_once)
 
 -- A send that is told so has a destination by a send right.
 pub never_full : (now : ℕ) (old new : State) (task : ℕ) (bytes : List ℕ) → Step now old (Event.Send task bytes) (Reply.Code 0x10000004) new →

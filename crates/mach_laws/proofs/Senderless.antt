@@ -171,13 +171,7 @@ port_of : (a b : ℕ) → no_senders a ≡ no_senders b → a ≡ b
 port_of a b e = cc
 
 done : IsDone w8 w10_mid told
-done = record {
-  judged = judged told refl;
-  lost = All-cons (λ (x : Token). ¬ (IsAtDoomed told x.place)) (token receive 2 (in_task 0)) (token receive 0 (in_task 0) ∷ []) (λ h. h)
-      (one_all (λ (x : Token). ¬ (IsAtDoomed told x.place)) (token receive 0 (in_task 0)) (λ h. h));
-  buried = λ p h. h;
-  told = λ p stands lives had none. subst (λ (q : ℕ). listed (2 ∷ []) q ≡ true) (sym (port_of p 2 (alone (no_senders p) stands))) refl;
-}
+done = grind (arith, judged, one_all, port_of, alone)
 
 abbrev w10 : State
 w10 = end_of 9 w10_mid told
@@ -186,16 +180,7 @@ dies : Leads 9 w8 w10_mid (Event.Destroy 1 1) (Reply.Code 0) w10
 dies = ends eighth.1 good (refl, destroys) told reached done
 
 tenth : Plays 9 w8 (Event.Destroy 1 1) (Reply.Code 0) w10
-tenth = (
-  dies.step,
-  record {
-    lawful = dies.lawful;
-    quiet = record {
-      none_carried = λ p k q. (let a = not_carried p k q 2 0 in let b = not_carried p k q 0 0 in omega (arith, a, b));
-      none_stands = none_stand_after w10_mid told asked alone refl;
-    };
-  },
-)
+tenth = grind (arith, dies, none_carried, not_carried, none_stand_after, alone)
 
 -- ---- and whoever asked is told
 

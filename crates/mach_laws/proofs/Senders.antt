@@ -38,11 +38,7 @@ module _ (now : ℕ) (old mid : State) (owed : Owed) (new : State) (l : MidLawfu
   -- one of the port that goes lay in a message of a dead port
   goes_there : (place : Place) → ((r : Request) → place ≡ in_request r → ⊥) → ¬ (PlaceStays new place) → is_lost_at new p place ≡ true
   goes_there (in_task task) elsewhere gone = absurd (gone tt)
-  goes_there (in_message o k) elsewhere gone = go (new.live_port o) refl
-    where
-      go : (b : Bool) → new.live_port o ≡ b → not (new.live_port o && new.live_port p) ≡ true
-      go true e = absurd (gone e)
-      go false e = rw e refl
+  goes_there (in_message o k) elsewhere gone = grind arith
   goes_there (in_request r) elsewhere gone = absurd (elsewhere r refl)
 
   -- no request keeps a send right

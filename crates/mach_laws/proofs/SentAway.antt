@@ -150,26 +150,16 @@ abbrev buried : Ending
 buried = bury 2 [] sent
 
 alone : (r : Request) → z_mid.stands r ≡ true → r ≡ asked
-alone r is = made_alone y9_copied.stands asked (λ q. not_either (same_request q (dead_name 1 3)) false refl) r (stood (ends_with 1 r) (y9.stands r) is)
-  where
-    stood : (a b : Bool) → (if a then false else b) ≡ true → b ≡ true
-    stood true b e = absurd (cc)
-    stood false b e = e
+alone r is = grind (arith, made_alone, not_either)
 
 none_carried : NoneCarried y9.ledger
 none_carried p k q = let z = seventh.1.quiet.none_carried p k q in omega (arith, z)
 
 either_gone : (p : ℕ) → count (is_of receive p) lost ≡ 1 → (2 ≡ p) ⊎ (1 ≡ p)
-either_gone p one = elim (eqb_tells 2 p) [
-  | inl h ↦ inl h.1
-  | inr h ↦ inr (one_gone p 1 (in_task 1) (let z : ◌≡◌ {A = ℕ} (if 2 == p then 1 else 0) 0 = rw h.0 refl in omega (arith, one, z)))
-]
+either_gone p one = grind (arith, one_gone)
 
 judged : (e : Ending) → e.doomed ≡ 2 ∷ [] → e.saved ≡ 1 ∷ [] → AreJudged z_mid e
-judged e dead kept = all_judged y9 z_mid ninth.1 none_carried refl lost (λ h. omega arith) e (λ p one. elim (either_gone p one) [
-  | inl h ↦ subst (λ (q : ℕ). is_judged e q ≡ true) h (rw dead refl)
-  | inr h ↦ subst (λ (q : ℕ). is_judged e q ≡ true) h (rw (dead, kept) refl)
-])
+judged e dead kept = grind (arith, all_judged, ninth, none_carried, either_gone)
 
 reached : IsReached y9 z_mid [] buried
 reached =
@@ -179,13 +169,7 @@ reached =
     then_buried mid c 2 (judged sent refl refl) refl refl (λ r stands of. let e = subst (IsRequestOf z_mid 2) (alone r stands) of in omega (arith, e))
 
 done : IsDone y9 z_mid buried
-done = record {
-  judged = judged buried refl refl;
-  lost = All-cons (λ (x : Token). ¬ (IsAtDoomed buried x.place)) (token send 1 (in_task 0)) (token receive 0 (in_task 0) ∷ []) (λ h. h)
-      (one_all (λ (x : Token). ¬ (IsAtDoomed buried x.place)) (token receive 0 (in_task 0)) (λ h. h));
-  buried = λ p h. h;
-  told = λ p stands. absurd (let f = alone (no_senders p) stands in cc);
-}
+done = grind (arith, judged, one_all, alone)
 
 abbrev z : State
 z = end_of 9 z_mid buried
@@ -243,10 +227,7 @@ eleventh =
     (λ h. omega arith) refl (λ p. omega arith) (λ r is. off_requests r) (λ p is. absurd (let f = none_stands (no_senders p) in cc))
 
 calm : IsCalm z11
-calm = record {
-  lawful = eleventh.1;
-  quiet = record { none_carried = λ p k q. (let a = not_carried p k q 1 0 in let b = not_carried p k q 0 0 in omega (arith, a, b)); none_stands = none_stands };
-}
+calm = grind (arith, eleventh, none_carried, not_carried, none_stands)
 
 twelfth : Plays 11 z11 (Event.NameType 0 2) (Reply.NameType 0x00030000) z11
 twelfth = type_told calm refl (Target.port 1) sender_still

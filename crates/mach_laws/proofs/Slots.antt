@@ -72,18 +72,11 @@ at_most_all f (suc n) few = let a = at_most_all f n few in let b = few n in omeg
 
 -- Entries that are apart are no more than places.
 few_places : (first many : ℕ → ℕ) (n : ℕ) (ms : List (ℕ × ℕ)) → All (IsWithin first many n) ms → ((m : ℕ × ℕ) → tally (λ (n : ℕ × ℕ). m.0 == n.0 && m.1 == n.1) ms ≤ 1) → length ms ≤ sum_below many n
-few_places first many n ms all once =
-    let a = all_within first many n ms all in
-    let b = sum_fewer many (λ p. times_from ms (first p) (many p) p) n (λ p within. at_most_all (λ j. times_at ms p (first p + j)) (many p) (λ j. once (p, first p + j))) in
-    omega (arith, a, b)
+few_places first many n ms all once = grind (arith, all_within first many n ms all, sum_fewer many (λ p. times_from ms (first p) (many p) p) n (λ p within. at_most_all (λ j. times_at ms p (first p + j)) (many p) (λ j. once (p, first p + j))))
 
 contained_times : (ms : List (ℕ × ℕ)) (m : ℕ × ℕ) → Contains ms m → 0 < times_at ms m.0 m.1
 contained_times [] m (i, below, is) = absurd (omega (arith, below))
-contained_times (x ∷ ms) m (zero, below, is) =
-    let same : x ≡ m = is in
-    let a : m.0 ≡ x.0 = ap (λ (y : ℕ × ℕ). y.0) (sym same) in
-    let b : m.1 ≡ x.1 = ap (λ (y : ℕ × ℕ). y.1) (sym same) in
-    rw (eq-eqb m.0 x.0 a, eq-eqb m.1 x.1 b) (omega arith)
+contained_times (x ∷ ms) m (zero, below, is) = grind (arith, eq-eqb)
 contained_times (x ∷ ms) m (suc i, below, is) = let h = contained_times ms m (i, omega (arith, below), is) in omega (arith, h)
 
 at_least_all : (f : ℕ → ℕ) (n : ℕ) → ((j : ℕ) → j < n → 0 < f j) → n ≤ sum_below f n
@@ -92,10 +85,7 @@ at_least_all f (suc n) some = let a = at_least_all f n (λ j less. some j (omega
 
 -- Where each place has one they are no fewer.
 all_places : (first many : ℕ → ℕ) (n : ℕ) (ms : List (ℕ × ℕ)) → All (IsWithin first many n) ms → ((p j : ℕ) → p < n → j < many p → 0 < times_at ms p (first p + j)) → sum_below many n ≤ length ms
-all_places first many n ms all each =
-    let a = all_within first many n ms all in
-    let b = sum_fewer (λ p. times_from ms (first p) (many p) p) many n (λ p within. at_least_all (λ j. times_at ms p (first p + j)) (many p) (λ j less. each p j within less)) in
-    omega (arith, a, b)
+all_places first many n ms all each = grind (arith, all_within first many n ms all, sum_fewer (λ p. times_from ms (first p) (many p) p) many n (λ p within. at_least_all (λ j. times_at ms p (first p + j)) (many p) (λ j less. each p j within less)))
 
 -- ---- notices that the step's own part posted
 
@@ -104,11 +94,7 @@ abbrev begun_at : (ℕ → Bool) → Begun → ℕ → ℕ
 begun_at test ys p = if test p then tally (λ (y : Bool × (Token × Notice)). y.1.0.port == p) ys else 0
 
 none_begun : (test : ℕ → Bool) (p : ℕ) → begun_at test [] p ≡ 0
-none_begun test p = go (test p)
-  where
-    go : (b : Bool) → (if b then zero else zero) ≡ zero
-    go true = refl
-    go false = refl
+none_begun test p = grind arith
 
 all_begun : (test : ℕ → Bool) (n : ℕ) → ((p : ℕ) → test p ≡ true → p < n) → (ys : Begun) →
     sum_below (begun_at test ys) n ≡ tally (λ (y : Bool × (Token × Notice)). test y.1.0.port) ys
@@ -137,24 +123,7 @@ begun_parts : (live doomed : ℕ → Bool) (ys : Begun) →
     tally (λ (y : Bool × (Token × Notice)). doomed y.1.0.port) ys + length (filter (λ (x : Token × Notice). live x.0.port && not (doomed x.0.port)) (owed_in ys))
     + length (filter (λ (x : Token × Notice). live x.0.port && not (doomed x.0.port)) (went_in ys)) ≤ length (owed_in ys) + length (went_in ys)
 begun_parts live doomed [] = omega arith
-begun_parts live doomed (y ∷ ys) = go y.0 (live y.1.0.port) (doomed y.1.0.port) refl refl refl (begun_parts live doomed ys)
-  where
-    T : Token × Notice → Bool
-    T x = live x.0.port && not (doomed x.0.port)
-
-    go : (a b c : Bool) → y.0 ≡ a → live y.1.0.port ≡ b → doomed y.1.0.port ≡ c →
-        tally (λ (y : Bool × (Token × Notice)). doomed y.1.0.port) ys + length (filter (λ (x : Token × Notice). live x.0.port && not (doomed x.0.port)) (owed_in ys))
-        + length (filter (λ (x : Token × Notice). live x.0.port && not (doomed x.0.port)) (went_in ys)) ≤ length (owed_in ys) + length (went_in ys) →
-        tally (λ (y : Bool × (Token × Notice)). doomed y.1.0.port) (y ∷ ys) + length (filter (λ (x : Token × Notice). live x.0.port && not (doomed x.0.port)) (owed_in (y ∷ ys)))
-        + length (filter (λ (x : Token × Notice). live x.0.port && not (doomed x.0.port)) (went_in (y ∷ ys))) ≤ length (owed_in (y ∷ ys)) + length (went_in (y ∷ ys))
-    go true true true e f g ih = rw (e, f, g) (omega (arith, ih))
-    go true true false e f g ih = rw (e, f, g) (omega (arith, ih))
-    go true false true e f g ih = rw (e, f, g) (omega (arith, ih))
-    go true false false e f g ih = rw (e, f, g) (omega (arith, ih))
-    go false true true e f g ih = rw (e, f, g) (omega (arith, ih))
-    go false true false e f g ih = rw (e, f, g) (omega (arith, ih))
-    go false false true e f g ih = rw (e, f, g) (omega (arith, ih))
-    go false false false e f g ih = rw (e, f, g) (omega (arith, ih))
+begun_parts live doomed (y ∷ ys) = grind (arith, begun_parts live doomed ys)
 
 -- Where all are for ports that lived, they are all.
 begun_whole : (live doomed : ℕ → Bool) (ys : Begun) → All (λ (x : Token × Notice). live x.0.port ≡ true) (owed_in ys) → All (λ (x : Token × Notice). live x.0.port ≡ true) (went_in ys) →
@@ -210,25 +179,11 @@ once_not send_once h = absurd (h refl)
 
 pay_most : (new : State) (xs : Owed) → weigh (pay new) (tokens_of xs) ≤ length xs
 pay_most new [] = omega arith
-pay_most new (x ∷ xs) = let a = pay_most new xs in let b = one (pays new x.0) in omega (arith, a, b)
-  where
-    one : (b : Bool) → (if b then suc zero else zero) ≤ 1
-    one true = omega arith
-    one false = omega arith
+pay_most new (x ∷ xs) = grind (arith, pay_most new xs, pays)
 
 pay_live : (new : State) (xs : Owed) → weigh (pay new) (tokens_of xs) ≤ length (filter (λ (x : Token × Notice). new.live_port x.0.port) xs)
 pay_live new [] = omega arith
-pay_live new (x ∷ xs) = go (new.live_port x.0.port) refl (pay_live new xs)
-  where
-    one : (a c : Bool) → (if a && (true && c) then suc zero else zero) ≤ 1
-    one true true = omega arith
-    one true false = omega arith
-    one false c = omega arith
-
-    go : (b : Bool) → new.live_port x.0.port ≡ b → weigh (pay new) (tokens_of xs) ≤ length (filter (λ (x : Token × Notice). new.live_port x.0.port) xs) →
-        pay new x.0 + weigh (pay new) (tokens_of xs) ≤ length (if new.live_port x.0.port then x ∷ filter (λ (x : Token × Notice). new.live_port x.0.port) xs else filter (λ (x : Token × Notice). new.live_port x.0.port) xs)
-    go true is ih = let a = one (same_kind send_once x.0.kind) (if place_stays new x.0.place then false else true) in rw is (omega (arith, ih, a))
-    go false is ih = let a = no_pay (same_kind send_once x.0.kind) in rw is (omega (arith, ih, a))
+pay_live new (x ∷ xs) = grind (arith, pay_live new xs, place_stays, no_pay)
 
 -- a right pays that leaves its place
 pays_here : (new : State) (x : Token) → x.kind ≡ send_once → new.live_port x.port ≡ true → place_stays new x.place ≡ false → pay new x ≡ 1
@@ -281,11 +236,7 @@ module _ (now : ℕ) (old mid : State) (owed : Owed) (e : Ending) (new : State) 
   -- ---- what was destroyed
 
   doomed_lived : (p : ℕ) → listed e.doomed p ≡ true → mid.live_port p ≡ true
-  doomed_lived p h = go (dead_cases mid p (sound.doomed p h))
-    where
-      go : IsOrphan mid p ⊎ ((q : ℕ) × CarriedAt mid p q) → mid.live_port p ≡ true
-      go (inl o) = o.0
-      go (inr (q, at)) = lives l.ports receive p (let a = lying_le_of mid receive p (in_message q at.0) in let b = at.1 in omega (arith, a, b))
+  doomed_lived p h = grind (arith, dead_cases, sound, lives, lying_le_of)
 
   doomed_made : (p : ℕ) → listed e.doomed p ≡ true → p < mid.ports_made
   doomed_made p h = l.made_port p (doomed_lived p h)
@@ -295,20 +246,11 @@ module _ (now : ℕ) (old mid : State) (owed : Owed) (e : Ending) (new : State) 
   lost_at p = if listed e.doomed p then length (queue mid p) + tally (λ y. y.1.0.port == p) e.begun else 0
 
   are_within : All (IsWithin mid.taken lost_at mid.ports_made) e.destroyed
-  are_within k d' below =
-      let h = counted.destroyed k d' below in
-      let m = get_or e.destroyed k d' in
-      let q = queue_long mid l.logs m.0 in
-      let many : lost_at m.0 ≡ length (queue mid m.0) + tally (λ y. y.1.0.port == m.0) e.begun = rw h.0 refl in
-      let high = h.1.1 in
-      (doomed_made m.0 h.0, h.1.0, omega (arith, q, many, high))
+  are_within k d' below = grind (arith, counted, queue_long, doomed_made)
 
   lost_parts : (p : ℕ) (b : Bool) → listed e.doomed p ≡ b → lost_at p ≤ (if new.live_port p then 0 else waiting mid p) + begun_at (listed e.doomed) e.begun p
   lost_parts p false is = rw is (omega arith)
-  lost_parts p true is =
-      let dead : new.live_port p ≡ false = s.deaths.dies p (sound.doomed p is) in
-      let lived = doomed_lived p is in
-      rw (is, dead, lived) (omega arith)
+  lost_parts p true is = grind (arith, sound, doomed_lived)
 
   many_destroyed : length e.destroyed ≤ destroyed mid new + tally (λ (y : Bool × (Token × Notice)). listed e.doomed y.1.0.port) e.begun
   many_destroyed =
@@ -327,10 +269,7 @@ module _ (now : ℕ) (old mid : State) (owed : Owed) (e : Ending) (new : State) 
   gone_pays x (inr h) = rw (once_not x.kind h.0) refl
 
   left_pays : weigh (pay (end_of now mid e)) e.left ≡ 0
-  left_pays =
-      let a = none_weigh (StaysWith (end_of now mid e)) (pay (end_of now mid e)) (staying_pays (end_of now mid e)) (end_of now mid e).ledger (stays_with (end_of now mid e) whole.1) in
-      let b = weigh-append (pay (end_of now mid e)) e.left (all_posted_tokens (all_posted now mid e)) in
-      omega (arith, a, b)
+  left_pays = grind (arith, none_weigh (StaysWith (end_of now mid e)) (pay (end_of now mid e)) (staying_pays (end_of now mid e)) (end_of now mid e).ledger (stays_with (end_of now mid e) whole.1), weigh-append (pay (end_of now mid e)) e.left (all_posted_tokens (all_posted now mid e)))
 
   same_many : length s.notices.posted ≡ length whole.0.notices.posted
   same_many =
@@ -371,16 +310,9 @@ module _ (now : ℕ) (old mid : State) (owed : Owed) (e : Ending) (new : State) 
   survives p undoomed lived = same.live p ∙ (rw (lived, undoomed) refl)
 
   lost_whole : (p : ℕ) (b a : Bool) → listed e.doomed p ≡ b → mid.live_port p ≡ a → (if new.live_port p then 0 else waiting mid p) + begun_at (listed e.doomed) e.begun p ≤ lost_at p
-  lost_whole p true a is lived =
-      let dead : new.live_port p ≡ false = s.deaths.dies p (sound.doomed p is) in
-      let live = doomed_lived p is in
-      rw (is, dead, live) (omega arith)
+  lost_whole p true a is lived = grind (arith, sound, doomed_lived)
   lost_whole p false true is lived = rw (is, survives p is lived) (omega arith)
-  lost_whole p false false is lived = rw (is, lived) (none (new.live_port p))
-    where
-      none : (b : Bool) → (if b then 0 else 0) + 0 ≤ 0
-      none true = omega arith
-      none false = omega arith
+  lost_whole p false false is lived = grind arith
 
   all_destroyed : ((p k : ℕ) → listed e.doomed p ≡ true → IsWaiting mid e (p, k) → Contains e.destroyed (p, k)) →
       destroyed mid new + tally (λ (y : Bool × (Token × Notice)). listed e.doomed y.1.0.port) e.begun ≤ length e.destroyed
@@ -485,22 +417,14 @@ fewer_onces new xs = count_le (live_once new) is_once_right (λ x h. left_of (is
 
 onces_most : (xs : Owed) → count is_once_right (tokens_of xs) ≤ length xs
 onces_most [] = omega arith
-onces_most (x ∷ xs) = let a = onces_most xs in let b = one (is_once_right x.0) in omega (arith, a, b)
-  where
-    one : (b : Bool) → (if b then suc zero else zero) ≤ 1
-    one true = omega arith
-    one false = omega arith
+onces_most (x ∷ xs) = grind (arith, onces_most xs, is_once_right)
 
 module _ (now : ℕ) (old mid : State) (owed : Owed) (new : State) (l : MidLawful mid owed) (s : Settles now old mid owed new) (none : (p : ℕ) → ¬ (IsOrphan mid p)) where
   pub none_dies : (p : ℕ) → ¬ (Dies mid p)
   none_dies p dies = Dies-least mid (λ q. ⊥) (record { orphans = λ q orphan unsaved. none q orphan; carried = λ q via dead at unsaved. dead }) p dies
 
   still_lives : (p : ℕ) → mid.live_port p ≡ true → new.live_port p ≡ true
-  still_lives p lived = go (new.live_port p) refl
-    where
-      go : (b : Bool) → new.live_port p ≡ b → new.live_port p ≡ true
-      go true is = is
-      go false is = absurd (none_dies p (s.deaths.only p lived is))
+  still_lives p lived = grind (arith, none_dies)
 
   all_live : All (λ x. new.live_port x.port ≡ true) mid.ledger
   all_live k d below =
@@ -539,10 +463,7 @@ module _ (now : ℕ) (old mid : State) (owed : Owed) (new : State) (l : MidLawfu
       omega (arith, a, b, c)
 
   all_by_send : queued_by_send mid ≤ queued_by_send new
-  all_by_send =
-      let same = sum_fewer (by_send_at new) (by_send_at mid) mid.ports_made (λ p within. more_by_send p (mid.live_port p) refl) in
-      let here : queued_by_send new ≡ sum_below (by_send_at new) mid.ports_made = ap (λ (x : State). sum_below (by_send_at new) x.ports_made) s.rest in
-      omega (arith, same, here)
+  all_by_send = grind (arith, sum_fewer, more_by_send)
 
   -- Where a step's own part lost no port, its end needs just the slots that this part needs, with what it owes.
   pub ending_needs_all : queued new + unused new ≡ queued mid + unused mid + length owed

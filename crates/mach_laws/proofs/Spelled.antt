@@ -44,50 +44,16 @@ one_form long short e = absurd (omega (arith, e))
 
 same_front : (f g : Form) (n m s t c d : ℕ) (u v : List ℕ) → FitsForm f n s c → FitsForm g m t d → (NamesPorts n → s ≡ 32) → (NamesPorts m → t ≡ 32) →
     descriptor_text f n s c ++ u ≡ descriptor_text g m t d ++ v → SameFront f g n m s t c d u v
-same_front f g n m s t c d u v fits fits' right right' e =
-    let other = front_of g m t d v fits' right' in
-    let front : IsFront (descriptor_text g m t d ++ v) f n s c = subst (λ (xs : List ℕ). IsFront xs f n s c) e (front_of f n s c u fits right) in
-    let same = other.only n s c front.has in
-    let len : form_length f ≡ form_length g = other.before_only (form_length f) front.before_is in
-    record {
-      form = one_form f g len;
-      name = same.0;
-      size = same.1;
-      number = same.2;
-      after = (append_split (descriptor_text f n s c) (descriptor_text g m t d) u v (length-descriptor_text f n s c ∙ len ∙ sym (length-descriptor_text g m t d)) e).1;
-    }
+same_front f g n m s t c d u v fits fits' right right' e = grind (arith, front_of, one_form, append_split, length-descriptor_text)
 
 data_text : (f : Form) (n s c : ℕ) (bytes padding u : List ℕ) → wire_text (data_item f n s c bytes padding) ++ u ≡ descriptor_text f n s c ++ (bytes ++ (padding ++ u))
 data_text f n s c bytes padding u = append_assoc (descriptor_text f n s c ++ bytes) padding u ∙ append_assoc (descriptor_text f n s c) bytes (padding ++ u)
 
 one_wire : (x y : Wire) → IsWire x → IsWire y → (u v : List ℕ) → wire_text x ++ u ≡ wire_text y ++ v → (x ≡ y) × (u ≡ v)
-one_wire (data_item f n s c bytes padding) (data_item g m t d others more) is are u v e =
-    let w = same_front f g n m s t c d (bytes ++ (padding ++ u)) (others ++ (more ++ v)) is.0 are.0 (λ h. absurd (is.1 h)) (λ h. absurd (are.1 h))
-    (sym (data_text f n s c bytes padding u) ∙ e ∙ data_text g m t d others more v) in
-    let len : length bytes ≡ length others = is.2 ∙ ap (λ k. (k * s + 7) / 8) w.number ∙ ap (λ k. (d * k + 7) / 8) w.size ∙ sym are.2 in
-    let text = append_split bytes others (padding ++ u) (more ++ v) len w.after in
-    let a = is.3 in
-    let b = is.4 in
-    let i = are.3 in
-    let j = are.4 in
-    let rest = append_split padding more u v (omega (arith, len, a, b, i, j)) text.1 in (
-      ap (λ k. data_item k n s c bytes padding) w.form ∙ ap (λ k. data_item g k s c bytes padding) w.name ∙ ap (λ k. data_item g m k c bytes padding) w.size
-          ∙ ap (λ k. data_item g m t k bytes padding) w.number ∙ ap (λ k. data_item g m t d k padding) text.0 ∙ ap (data_item g m t d others) rest.0,
-      rest.1,
-    )
-one_wire (port_item f n words) (port_item g m others) is are u v e =
-    let w = same_front f g n m 32 32 (length words) (length others) (words_text words ++ u) (words_text others ++ v) is.0 are.0 (λ h. refl) (λ h. refl)
-    (sym (append_assoc (descriptor_text f n 32 (length words)) (words_text words) u) ∙ e ∙ append_assoc (descriptor_text g m 32 (length others)) (words_text others) v) in
-    let rest = one_words words others u v is.2 are.2 w.number w.after in
-    (ap (λ k. port_item k n words) w.form ∙ ap (λ k. port_item g k words) w.name ∙ ap (port_item g m) rest.0, rest.1)
-one_wire (data_item f n s c bytes padding) (port_item g m others) is are u v e =
-    let w = same_front f g n m s 32 c (length others) (bytes ++ (padding ++ u)) (words_text others ++ v) is.0 are.0 (λ h. absurd (is.1 h)) (λ h. refl)
-    (sym (data_text f n s c bytes padding u) ∙ e ∙ append_assoc (descriptor_text g m 32 (length others)) (words_text others) v) in
-    absurd (is.1 (subst NamesPorts (sym w.name) are.1))
-one_wire (port_item f n words) (data_item g m t d others more) is are u v e =
-    let w = same_front f g n m 32 t (length words) d (words_text words ++ u) (others ++ (more ++ v)) is.0 are.0 (λ h. refl) (λ h. absurd (are.1 h))
-    (sym (append_assoc (descriptor_text f n 32 (length words)) (words_text words) u) ∙ e ∙ data_text g m t d others more v) in
-    absurd (are.1 (subst NamesPorts w.name is.1))
+one_wire (data_item f n s c bytes padding) (data_item g m t d others more) is are u v e = grind (arith, same_front, data_text, append_split)
+one_wire (port_item f n words) (port_item g m others) is are u v e = grind (arith, same_front, append_assoc, one_words)
+one_wire (data_item f n s c bytes padding) (port_item g m others) is are u v e = grind (arith, same_front, data_text, append_assoc)
+one_wire (port_item f n words) (data_item g m t d others more) is are u v e = grind (arith, same_front, append_assoc, data_text)
 
 some_text : (x : Wire) (u : List ℕ) → [] ≡ wire_text x ++ u → ⊥
 some_text (data_item short n s c bytes padding) u e = cc
@@ -106,11 +72,7 @@ one_wires (x ∷ xs) [] are were e = absurd (some_text x (wires_text xs) (sym e)
 -- ---- messages
 
 pub one_header : (g h : Header) → g.remote_kind ≡ h.remote_kind → g.local_kind ≡ h.local_kind → g.size ≡ h.size → g.remote ≡ h.remote → g.local ≡ h.local → g.sequence ≡ h.sequence → g.id ≡ h.id → g ≡ h
-one_header g h a b c d e f i =
-    ap (λ x. record g { remote_kind = x }) a ∙ ap (λ x. record g { remote_kind = h.remote_kind; local_kind = x }) b
-    ∙ ap (λ x. record g { remote_kind = h.remote_kind; local_kind = h.local_kind; size = x }) c
-    ∙ ap (λ x. record h { remote = x; local = g.local; sequence = g.sequence; id = g.id }) d ∙ ap (λ x. record h { local = x; sequence = g.sequence; id = g.id }) e
-    ∙ ap (λ x. record h { sequence = x; id = g.id }) f ∙ ap (λ x. record h { id = x }) i
+one_header g h a b c d e f i = grind arith
 
 -- the two kinds, and whether there are items
 record SameBits (g h : Header) (v w : WireBody) : Type 0 where
@@ -119,9 +81,7 @@ record SameBits (g h : Header) (v w : WireBody) : Type 0 where
   whole : IsWireBody v → IsWireBody w → body_text v ≡ body_text w → v ≡ w
 
 same_bits : (g h : Header) (v w : WireBody) → IsHeader g → IsHeader h → bits g v ≡ bits h w → SameBits g h v w
-same_bits g h (WireBody.raw xs) (WireBody.raw ys) a b e =
-    let i = a.remote_kind in let j = b.remote_kind in
-    record { remote = omega (arith, e, i, j); local = omega (arith, e, i, j); whole = λ is are same. ap WireBody.raw same }
+same_bits g h (WireBody.raw xs) (WireBody.raw ys) a b e = grind arith
 same_bits g h (WireBody.items xs) (WireBody.items ys) a b e =
     let i = a.remote_kind in let j = b.remote_kind in
     record { remote = omega (arith, e, i, j); local = omega (arith, e, i, j); whole = λ is are same. ap WireBody.items (one_wires xs ys is are same) }
@@ -158,14 +118,7 @@ one_length : (bytes : List ℕ) (n m : ℕ) → IsDescriptorLength bytes n → I
 one_length bytes n m a b = elim (eqb_tells (word_at bytes 0 / 2 ^ 29 % 2) 1) [ inl h ↦ a.0 h.1 ∙ sym (b.0 h.1) | inr h ↦ a.1 h.1 ∙ sym (b.1 h.1) ]
 
 item_alike : (bytes : List ℕ) (code other : ℕ) → ItemRefuses bytes code → ItemRefuses bytes other → code ≡ other
-item_alike bytes code other a b =
-    let f = one_fields bytes a.name b.name a.size b.size a.number b.number a.fields b.fields in
-    let before = one_length bytes a.before b.before a.before_is b.before_is in
-    one_first (item_guards bytes b.name b.size b.number b.before) (item_guards bytes b.name b.size b.number b.before) code other (itself (item_guards bytes b.name b.size b.number b.before))
-    (subst (λ n. FirstIs (item_guards bytes n b.size b.number b.before) code) f.0
-    (subst (λ n. FirstIs (item_guards bytes a.name n b.number b.before) code) f.1
-    (subst (λ n. FirstIs (item_guards bytes a.name a.size n b.before) code) f.2
-    (subst (λ n. FirstIs (item_guards bytes a.name a.size a.number n) code) before a.refused)))) b.refused
+item_alike bytes code other a b = grind (arith, one_fields, one_length, one_first, itself)
 
 items_alike : (xs ys : List Wire) (u v : List ℕ) (code other : ℕ) → All IsWire xs → All IsWire ys → wires_text xs ++ u ≡ wires_text ys ++ v → ItemRefuses u code → ItemRefuses v other → code ≡ other
 items_alike [] [] u v code other are were e a b = item_alike v code other (subst (λ t. ItemRefuses t code) e a) b

@@ -81,34 +81,20 @@ record Received (port : ℕ) (old mid : State) : Type 0 where
   made : mid.ports_made ≡ old.ports_made
 
 received_state : (task port room : ℕ) (bytes : List ℕ) (old mid : State) → IsLawful old → old.live_port port ≡ true → old.live_task task ≡ true → Receives task port room bytes old mid → Received port old mid
-received_state task port room bytes old mid l live is_task r =
-    let x = (Receives-removes task port room bytes old mid l live is_task r).rest in
-    record {
-      log = λ q. ap (λ (s : State). s.log q) x ∙ ap (λ (s : State). s.log q) r.takes.rest;
-      taken = λ q. ap (λ (s : State). s.taken q) x ∙ ap (λ (s : State). s.taken q) r.takes.rest;
-      live = ap (λ (s : State). s.live_port) x ∙ ap (λ (s : State). s.live_port) r.takes.rest;
-      made = ap (λ (s : State). s.ports_made) x ∙ ap (λ (s : State). s.ports_made) r.takes.rest;
-    }
+received_state task port room bytes old mid l live is_task r = grind (arith, (Receives-removes task port room bytes old mid l live is_task r).rest)
 
 -- ---- what an event leaves of the logs, and takes from them
 
 inserted_shape : (task name from poly number : ℕ) (old mid : State) → IsLawful old → NoneHolds (guards old (Event.InsertRight task name from poly number)) → Inserts task name from poly number old mid →
     mid ≡ shape old mid
-inserted_shape task name from poly number old mid l g i =
-    hands_shape old mid _ _ _ _ (Inserts-hands task name from poly number old mid l (not_false (old.live_task task) (λ e. g.0 (inl e))) (λ e. g.1.0 (inl e)) i)
+inserted_shape task name from poly number old mid l g i = grind (arith, hands_shape, not_false)
 
 extracted_shape : (task name number to new_name kind : ℕ) (old mid : State) → IsLawful old → NoneHolds (guards old (Event.ExtractRight task name number to)) → Extracts task name number to new_name kind old mid →
     mid ≡ shape old mid
-extracted_shape task name number to new_name kind old mid l g x =
-    hands_shape old mid _ _ _ _ (Extracts-hands task name number to new_name kind old mid l (not_false (old.live_task to) (λ e. g.0 (inr e))) x)
+extracted_shape task name number to new_name kind old mid l g x = grind (arith, hands_shape, not_false)
 
 joined_rest : (task member after : ℕ) (old mid : State) → JoinsSet task member after old mid → mid ≡ record old { sets_of = mid.sets_of }
-joined_rest task member after old mid j = by j.2
-  where
-    by : (after ≡ 0) × (mid ≡ record old { sets_of = at old.sets_of j.0 [] })
-        ⊎ ((set : ℕ) × (lookup old task after ≡ Some (Target.set set)) × (mid ≡ record old { sets_of = at old.sets_of j.0 (set ∷ []) })) → mid ≡ record old { sets_of = mid.sets_of }
-    by (inl h) = h.1 ∙ ap (λ (x : State). record old { sets_of = x.sets_of }) (sym h.1)
-    by (inr h) = h.2 ∙ ap (λ (x : State). record old { sets_of = x.sets_of }) (sym h.2)
+joined_rest task member after old mid j = grind arith
 
 -- a send that is answered with 0
 pub record IsAccepted (old : State) (event : Event) (reply : Reply) (mid : State) : Type 0 where
@@ -174,11 +160,7 @@ too_long : (old : State) (event : Event) (n : ℕ) (mid : State) (owed : Owed) (
     ((entries : List Entry) → if_taken event (Reply.TooLarge n) entries ≡ unless_large large entries) → takes_from event (Reply.TooLarge n) ≡ (if large then 0 else 1) → accepts event (Reply.TooLarge n) ≡ 0 →
     MatchBool large ((mid ≡ old) × (owed ≡ [])) (DestroysFront p e old mid owed) → Effect old event (Reply.TooLarge n) mid
 too_long old event n mid owed task p e true asks lives counts one none d = inl (by_same old mid old d.0 (λ p. refl) (λ p. refl) (λ p. refl) refl, one, none)
-too_long old event n mid owed task p e false asks lives counts one none d = taken_by old event (Reply.TooLarge n) mid task p e asks lives d.takes.front counts one none
-    (λ q. ap (λ (s : State). s.log q) d.rest ∙ ap (λ (s : State). s.log q) d.takes.rest)
-    (λ q. ap (λ (s : State). s.taken q) d.rest ∙ ap (λ (s : State). s.taken q) d.takes.rest)
-    (ap (λ (s : State). s.live_port) d.rest ∙ ap (λ (s : State). s.live_port) d.takes.rest)
-    (ap (λ (s : State). s.ports_made) d.rest ∙ ap (λ (s : State). s.ports_made) d.takes.rest)
+too_long old event n mid owed task p e false asks lives counts one none d = grind (arith, taken_by, lives)
 
 pub Does-effect : (now : ℕ) (old : State) (event : Event) (reply : Reply) (mid : State) (owed : Owed) → IsLawful old → NoneHolds (guards old event) →
     Does now old event reply mid owed → Effect old event reply mid
@@ -280,9 +262,7 @@ leaves_logs now old event reply mid owed l does same task bytes is_send is_done 
     longer (old.log p) (entry now s.m) (sym (same p) ∙ sent_log now task bytes old mid l s p ∙ at_own old.log p (old.log p ++ entry now s.m ∷ []))
 
 refused_is_none : (old : State) (event : Event) (reply : Reply) (new : State) → Refused old event reply new → IsNoSend event reply
-refused_is_none old event reply new r task bytes is_send is_done =
-    let some = (send_code old task bytes r.code (subst (λ (e : Event). Refuses old e r.code) is_send r.refuses)).some in
-    let none : 0 ≡ r.code = same_code 0 r.code (sym is_done ∙ r.told) in omega (arith, some, none)
+refused_is_none old event reply new r task bytes is_send is_done = grind (arith, send_code, same_code)
 
 pub Step-logs : (now : ℕ) (old : State) (event : Event) (reply : Reply) (new : State) → IsLawful old → Step now old event reply new →
     ((p : ℕ) → Tells now old event reply new p (old.log p)) × IsNoSend event reply ⊎ AcceptsBy now old event reply new
@@ -306,8 +286,7 @@ Step-logs now old event reply new l (inr d) = by (Does-effect now old event repl
 -- what such a stage leaves of a log
 pub stage_tells : (now : ℕ) (x : Stage) (a : AcceptsBy now x.before x.event x.reply x.after) (p : ℕ) (entries : List Entry) →
     Tells now x.before (Event.Send a.task a.bytes) (Reply.Code 0) x.after p entries → Tells now x.before x.event x.reply x.after p entries
-stage_tells now x a p entries t = subst (λ (e : Event). Tells now x.before e x.reply x.after p entries) (sym a.is_event)
-    (subst (λ (r : Reply). Tells now x.before (Event.Send a.task a.bytes) r x.after p entries) (sym a.is_reply) t)
+stage_tells now x a p entries t = grind arith
 
 -- ---- receipts
 
@@ -322,11 +301,7 @@ numbered task port room bytes old mid r =
 
 -- a receiver loses no receive right
 still_holds : (task port room : ℕ) (bytes : List ℕ) (old mid : State) (r : Receives task port room bytes old mid) (q : ℕ) → Holds old task receive q → Holds mid task receive q
-still_holds task port room bytes old mid r q holds =
-    let g = (given task port room bytes old mid r).holds receive q in
-    let m = r.takes.tokens (λ x. if is_held task receive q x then 1 else 0) in
-    let z = both_test (is_of receive q (token r.e.message.kind port (in_message port (old.taken port)))) false (inr refl) in
-    omega (arith, holds, m, z, g)
+still_holds task port room bytes old mid r q holds = grind (arith, (given task port room bytes old mid r).holds receive q, r.takes.tokens (λ x. if is_held task receive q x then 1 else 0), both_test (is_of receive q (token r.e.message.kind port (in_message port (old.taken port)))) false (inr refl))
 
 module _ (now task room : ℕ) (bytes : List ℕ) (old mid : State) (owed : Owed) (new : State) (waited : Waited) (p : ℕ) (l : IsLawful old) (is_task : old.live_task task ≡ true)
     (t : TakesFrom old task waited p) (r : Receives task p room bytes old mid) (lawful : MidLawful mid owed) (s : Settles now old mid owed new) where

@@ -66,13 +66,7 @@ module _ (now : ℕ) (old mid : State) (kind : Kind) (p : ℕ) (place : Place) (
   ]
 
   cover : (q k : ℕ) → length (mid.log q) ≤ k → k < length (new.log q) → Any (λ (x : Posted). (x.port ≡ q) × (x.entry ≡ k)) (stood ∷ [])
-  cover q k above below = elim (eqb_tells q p) [
-    | inl h ↦
-        let a = ap (λ (r : ℕ). length (mid.log r)) h.1 in
-        let b = ap (λ (r : ℕ). length (new.log r)) h.1 ∙ ap length log_own ∙ length-append (mid.log p) (notice_entry now p notice ∷ []) in
-        (0, stood, omega arith, refl, (sym h.1, omega (arith, a, b, above, below)))
-    | inr h ↦ absurd (let a = ap length (log_other q h.1) in omega (arith, a, above, below))
-  ]
+  cover q k above below = grind (arith, log_own, length-append, log_other)
 
   abbrev Stands : Posted → Type 0
   Stands x = (length (mid.log x.port) ≤ x.entry) × (slice_get (new.log x.port) x.entry ≡ Some record { origin = now; message = notice_message x.port x.notice })
@@ -118,21 +112,7 @@ module _ (now : ℕ) (old mid : State) (kind : Kind) (p : ℕ) (place : Place) (
 
 -- what is owed may be left out of what is true midway
 unowed : (s : State) (owed : Owed) → MidLawful s owed → MidLawful s []
-unowed s owed m = record {
-  tasks = m.tasks;
-  naming = m.naming;
-  ports = m.ports;
-  numbers = m.numbers;
-  receivers = m.receivers;
-  room = record { orphans = m.orphans; each_orphan = m.each_orphan; few_rights = let h = m.few_rights in omega (arith, h); are_owed = λ k d below. absurd (omega arith) };
-  sets = m.sets;
-  membership = m.membership;
-  logs = m.logs;
-  messages = m.messages;
-  requests = m.requests;
-  standing = m.standing;
-  ground = m.ground;
-}
+unowed s owed m = grind arith
 
 -- a send-once right of a task goes
 pub loses_once : {old mid : State} → IsCalm old → (p task : ℕ) → Moves old.ledger mid.ledger (token send_once p (in_task task) ∷ []) [] → mid.live_port ≡ old.live_port → NoRequests mid.stands → Quietly old mid

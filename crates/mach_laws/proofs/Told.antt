@@ -128,10 +128,7 @@ stays_known full now x is step known = record {
     ]
 
 nothing_known : (full : List Stage) → Known full 0 opening
-nothing_known full = record { lawful = opening-lawful; from = λ p k e at. absurd (no_entry k e at) }
-  where
-    no_entry : (k : ℕ) (e : Entry) → slice_get [] k ≡ Some e → ⊥
-    no_entry k e is = cc
+nothing_known full = grind (arith, opening-lawful)
 
 -- what a stage delivers was accepted before, or told
 delivered : (full : List Stage) (k : ℕ) (bytes : List ℕ) (x : Stage) → Known full k x.before → (d : Delivers x.event bytes x.before x.after) → WasSentOrTold full k bytes x

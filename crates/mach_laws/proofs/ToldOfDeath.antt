@@ -109,12 +109,7 @@ reached =
     then_buried_one mid b 1 asked (judged doomed refl) refl refl refl (subst (IsNameOf 1) (sym sender_mid) refl) alone
 
 done : IsDone t6 t8_mid buried
-done = record {
-  judged = judged buried refl;
-  lost = one_all (λ (x : Token). ¬ (IsAtDoomed buried x.place)) (token receive 0 (in_task 0)) (λ h. h);
-  buried = λ p h. h;
-  told = λ p stands. absurd (cc);
-}
+done = grind (arith, judged, one_all)
 
 abbrev t8 : State
 t8 = end_of 7 t8_mid buried
@@ -123,16 +118,7 @@ dies : Leads 7 t6 t8_mid (Event.Destroy 1 1) (Reply.Code 0) t8
 dies = ends sixth.1 good (refl, destroys) buried reached done
 
 eighth : Plays 7 t6 (Event.Destroy 1 1) (Reply.Code 0) t8
-eighth = (
-  dies.step,
-  record {
-    lawful = dies.lawful;
-    quiet = record {
-      none_carried = λ p k q. (let z = not_carried p k q 0 0 in omega (arith, z));
-      none_stands = none_stand_after t8_mid buried asked alone (ap (became_dead t8_mid buried) sender_mid);
-    };
-  },
-)
+eighth = grind (arith, dies, none_carried, not_carried, none_stand_after, alone, sender_mid)
 
 -- ---- and whoever asked is told
 

@@ -106,12 +106,7 @@ reached =
     then_buried mid c 1 (judged answer_lost refl) refl refl (λ r stands of. let e = none_stands r in cc)
 
 done : IsDone u6 u7_mid buried
-done = record {
-  judged = judged buried refl;
-  lost = one_all (λ (x : Token). ¬ (IsAtDoomed buried x.place)) (token receive 0 (in_task 0)) (λ h. h);
-  buried = λ p h. h;
-  told = λ p stands. absurd (let e = none_stands (no_senders p) in cc);
-}
+done = grind (arith, judged, one_all, none_stands)
 
 abbrev u7 : State
 u7 = end_of 6 u7_mid buried
@@ -120,13 +115,7 @@ dies : Leads 6 u6 u7_mid (Event.Destroy 1 1) (Reply.Code 0) u7
 dies = ends sixth.1.lawful good (refl, destroys) buried reached done
 
 seventh : Plays 6 u6 (Event.Destroy 1 1) (Reply.Code 0) u7
-seventh = (
-  dies.step,
-  record {
-    lawful = dies.lawful;
-    quiet = record { none_carried = λ p k q. (let z = not_carried p k q 0 0 in omega (arith, z)); none_stands = λ r. (rw (none_stands r) refl) };
-  },
-)
+seventh = grind (arith, dies, not_carried, none_stands)
 
 -- ---- and whoever waits is told
 

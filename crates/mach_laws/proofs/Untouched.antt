@@ -29,12 +29,7 @@ pub record Untouched (old mid : State) : Type 0 where
 -- a state is the other but for what touches none of these
 by_rest : (old mid new : State) → mid ≡ new → ((p : ℕ) → new.log p ≡ old.log p) → ((p : ℕ) → new.taken p ≡ old.taken p) →
     ((p : ℕ) → p < old.ports_made → new.live_port p ≡ old.live_port p) → old.ports_made ≤ new.ports_made → Untouched old mid
-by_rest old mid new e log taken live made = record {
-  log = λ p. ap (λ (x : State). x.log p) e ∙ log p;
-  taken = λ p. ap (λ (x : State). x.taken p) e ∙ taken p;
-  live = λ p within. ap (λ (x : State). x.live_port p) e ∙ live p within;
-  made = subst (λ (x : State). old.ports_made ≤ x.ports_made) (sym e) made;
-}
+by_rest old mid new e log taken live made = grind arith
 
 -- no port was made
 pub by_same : (old mid new : State) → mid ≡ new → ((p : ℕ) → new.log p ≡ old.log p) → ((p : ℕ) → new.taken p ≡ old.taken p) → ((p : ℕ) → new.live_port p ≡ old.live_port p) →
@@ -44,23 +39,13 @@ by_same old mid new e log taken live made = by_rest old mid new e log taken (λ 
 -- ---- making: a new port's log was empty
 
 made_log : (old : State) → IsLawful old → (p : ℕ) → at old.log old.ports_made [] p ≡ old.log p
-made_log old l p = elim (eqb_tells p old.ports_made) [
-  | inl h ↦ at_same old.log old.ports_made [] p h.1 ∙ sym (l.unmade_log p (omega (arith, h.1)))
-  | inr h ↦ at_other old.log old.ports_made [] p h.1
-]
+made_log old l p = grind (arith, at_same, at_other)
 
 made_taken : (old : State) → IsLawful old → (p : ℕ) → at old.taken old.ports_made 0 p ≡ old.taken p
-made_taken old l p = elim (eqb_tells p old.ports_made) [
-  | inl h ↦
-      let w = l.within p in
-      let z : length (old.log p) ≡ 0 = ap length (l.unmade_log p (omega (arith, h.1))) in
-      let none : 0 ≡ old.taken p = omega (arith, w, z) in
-      at_same old.taken old.ports_made 0 p h.1 ∙ none
-  | inr h ↦ at_other old.taken old.ports_made 0 p h.1
-]
+made_taken old l p = grind (arith, at_same, at_other)
 
 pub makes_untouched : (task right name : ℕ) (old mid : State) → IsLawful old → Makes task right name old mid → Untouched old mid
-makes_untouched task right name old mid l (inl (is, m)) = by_rest old mid _ m.rest (made_log old l) (made_taken old l) (λ p within. at_other old.live_port old.ports_made true p (λ e. omega (arith, e, within))) (omega arith)
+makes_untouched task right name old mid l (inl (is, m)) = grind (arith, by_rest, made_log, made_taken, at_other)
 makes_untouched task right name old mid l (inr (inl (is, m))) = by_same old mid _ m (λ p. refl) (λ p. refl) (λ p. refl) refl
 makes_untouched task right name old mid l (inr (inr (is, m))) = by_same old mid _ m (λ p. refl) (λ p. refl) (λ p. refl) refl
 
@@ -79,7 +64,7 @@ dead_untouched true task name n old mid e = by_same old mid _ e (λ p. refl) (λ
 dead_untouched false task name n old mid e = by_same old mid _ e (λ p. refl) (λ p. refl) (λ p. refl) refl
 
 pub deallocates_untouched : (task name : ℕ) (old mid : State) (owed : Owed) → Deallocates task name old mid owed → Untouched old mid
-deallocates_untouched task name old mid owed (inl (p, d, owes)) = kept_untouched (nat_lt 1 (held old task send p) || nat_lt 0 (held old task receive p)) task name old mid d.rest
+deallocates_untouched task name old mid owed (inl (p, d, owes)) = grind (arith, kept_untouched)
 deallocates_untouched task name old mid owed (inr (inl (p, d, owes))) = kept_untouched false task name old mid d.rest
 deallocates_untouched task name old mid owed (inr (inr (n, d, owes))) = fewer_untouched (nat_lt 1 n) task name _ old mid d.rest
 
@@ -99,8 +84,7 @@ removes_untouched task name right (Target.set set) old mid owed d = target_untou
 removes_untouched task name right (Target.dead n) old mid owed d = absurd d
 
 pub modifies_untouched : (task name right : ℕ) (delta : ℤ) (old mid : State) (owed : Owed) → Modifies task name right delta old mid owed → Untouched old mid
-modifies_untouched task name right delta old mid owed (inl (p, m, is_send, is, adds, d, owes)) =
-    kept_untouched (nat_lt 0 m || nat_lt 0 (held old task receive p)) task name old mid d.rest
+modifies_untouched task name right delta old mid owed (inl (p, m, is_send, is, adds, d, owes)) = grind (arith, kept_untouched)
 modifies_untouched task name right delta old mid owed (inr (inl (n, m, is_dead, is, adds, rest, owes))) = dead_untouched (nat_lt 0 m) task name m old mid rest
 modifies_untouched task name right delta old mid owed (inr (inr (inl (uncounted, none, rest, owes)))) = by_same old mid old rest (λ p. refl) (λ p. refl) (λ p. refl) refl
 modifies_untouched task name right delta old mid owed (inr (inr (inr (target, one, is, d)))) = removes_untouched task name right target old mid owed d
@@ -135,7 +119,7 @@ received_untouched false task name p old mid e = by_same old mid _ e (λ p. refl
 
 changed_untouched : (d : Disposition) (target : Target) (task name : ℕ) (old mid : State) → mid ≡ record (changed_by d target task name old) { ledger = mid.ledger } → Untouched old mid
 changed_untouched MoveReceive (Target.port p) task name old mid e = received_untouched (nat_lt 0 (held old task send p)) task name p old mid e
-changed_untouched MoveSend (Target.port p) task name old mid e = kept_untouched (nat_lt 1 (held old task send p) || nat_lt 0 (held old task receive p)) task name old mid e
+changed_untouched MoveSend (Target.port p) task name old mid e = grind (arith, kept_untouched)
 changed_untouched MakeSend (Target.port p) task name old mid e = by_same old mid _ e (λ p. refl) (λ p. refl) (λ p. refl) refl
 changed_untouched MoveSendOnce (Target.once p) task name old mid e = kept_untouched false task name old mid e
 changed_untouched MoveSend (Target.dead n) task name old mid e = fewer_untouched (nat_lt 1 n) task name _ old mid e
@@ -148,8 +132,7 @@ copies_untouched task place number name old mark new r = changed_untouched r.giv
 gives_untouched : (task : ℕ) (r : Request) (before old : State) (name : ℕ) (new : State) → GivesBack task r before old name new → Untouched old new
 gives_untouched task r before old name new (inl (stands, null, same)) = same_untouched old new same
 gives_untouched task r before old name new (inr (inl (stands, none, dead, rest))) = by_same old new _ rest (λ p. refl) (λ p. refl) (λ p. refl) refl
-gives_untouched task r before old name new (inr (inr (q, named, stands, lies, n, moves, rest))) =
-    Untouched-trans old named new (by_same old named _ n.rest (λ p. refl) (λ p. refl) (λ p. refl) refl) (by_same named new _ rest (λ p. refl) (λ p. refl) (λ p. refl) refl)
+gives_untouched task r before old name new (inr (inr (q, named, stands, lies, n, moves, rest))) = grind (arith, by_same)
 
 keeps_untouched : (task name sync : ℕ) (r : Request) (q : ℕ) (old mid : State) (owed : Owed) → Keeps task name sync r q old mid owed → Untouched old mid
 keeps_untouched task name sync r q old mid owed (inl (p, is, has, spends, rest, owes)) = by_same old mid _ rest (λ p. refl) (λ p. refl) (λ p. refl) refl

@@ -56,11 +56,7 @@ module _ (full : List Stage) (P : ℕ → State → Type 0)
     (keeps : (now : ℕ) (x : Stage) → slice_get full now ≡ Some x → Step now x.before x.event x.reply x.after → P now x.before → P (now + 1) x.after) where
   walk : (now : ℕ) (old : State) (rest : List Stage) (new : State) → ((j : ℕ) → slice_get rest j ≡ slice_get full (now + j)) → PathFrom now old rest new → P now old →
       ((j : ℕ) (x : Stage) → slice_get rest j ≡ Some x → P (now + j) x.before × Step (now + j) x.before x.event x.reply x.after) × P (now + length rest) new
-  walk now old [] new same path holds =
-      ((λ j x is. absurd (no_stage j x is)), subst (λ (n : ℕ). P n new) (omega arith) (subst (P now) (sym path) holds))
-    where
-      no_stage : (j : ℕ) (x : Stage) → slice_get [] j ≡ Some x → ⊥
-      no_stage j x is = cc
+  walk now old [] new same path holds = grind arith
   walk now old (y ∷ ys) new same path holds =
       let before : P now y.before = subst (P now) (sym path.0) holds in
       let is_y : slice_get full now ≡ Some y = ap (slice_get full) (omega arith) ∙ sym (same 0) in

@@ -64,81 +64,46 @@ module _ (m : Kept) where
   all_len = len-with_values (λ (b : BothEnds). b.all) m
 
   pub all_held : (l : ℕ) → map.contains_key (all_ends m) l ≡ map.contains_key m l
-  all_held l = ap is_some (all_get l) ∙ by (map.get m l)
-    where
-      by : (o : Option BothEnds) → is_some (option_map (λ (b : BothEnds). b.all) o) ≡ is_some o
-      by None = refl
-      by (Some b) = refl
+  all_held l = grind (arith, is_some, all_get)
 
   pub all_at : (l : ℕ) (none : BothEnds) → none.all ≡ blank_ends → (unwrap_or (map.get m l) none).all ≡ ends_at (all_ends m) l
-  all_at l none blank = by (map.get m l) refl
-    where
-      by : (o : Option BothEnds) → map.get m l ≡ o → (unwrap_or o none).all ≡ ends_at (all_ends m) l
-      by None at = blank ∙ sym (ap (λ g. unwrap_or g blank_ends) (all_get l ∙ ap (option_map (λ b. b.all)) at))
-      by (Some b) at = sym (ap (λ g. unwrap_or g blank_ends) (all_get l ∙ ap (option_map (λ b. b.all)) at))
+  all_at l none blank = grind (arith, all_get)
 
   or_blank : (o : Option ℕ) (e : Ends) → e.first ≡ o → (e.first ≡ None → e ≡ blank_ends) → unwrap_or (some_if o e) blank_ends ≡ e
   or_blank None e is blank = sym (blank is)
   or_blank (Some x) e is blank = refl
 
   pub marked_at : AreBlank m → (l : ℕ) (none : BothEnds) → none.marked ≡ blank_ends → (unwrap_or (map.get m l) none).marked ≡ ends_at (marked_ends m) l
-  marked_at are l none blank = by (map.get m l) refl
-    where
-      by : (o : Option BothEnds) → map.get m l ≡ o → (unwrap_or o none).marked ≡ ends_at (marked_ends m) l
-      by None at = blank ∙ sym (ap (λ g. unwrap_or g blank_ends) (told l None at))
-      by (Some b) at = sym (ap (λ g. unwrap_or g blank_ends) (told l (Some b) at) ∙ or_blank b.marked.first b.marked refl (are l b at))
+  marked_at are l none blank = grind (arith, told, or_blank)
 
 -- ---- a list has other ends
 
 module _ (m : Kept) (l : ℕ) where
   pub all_put : (b : BothEnds) → all_ends (map.insert m l b) ≡ map.insert (all_ends m) l b.all
-  all_put b = same_gets _ _ (λ q. elim (equal_or_not q l) [
-    | inl e ↦ all_get (map.insert m l b) q ∙ ap (λ k. option_map (λ (c : BothEnds). c.all) (map.get (map.insert m l b) k)) e ∙ ap (option_map (λ (c : BothEnds). c.all)) (put_here m l b) ∙ sym (put_here (all_ends m) l b.all) ∙ sym (ap (map.get (map.insert (all_ends m) l b.all)) e)
-    | inr d ↦ all_get (map.insert m l b) q ∙ ap (option_map (λ (c : BothEnds). c.all)) (put_other m l b q d) ∙ sym (all_get m q) ∙ sym (put_other (all_ends m) l b.all q d)
-  ])
+  all_put b = grind (arith, same_gets, equal_or_not, all_get, put_here, put_other)
 
   pub all_out : all_ends (map.remove m l) ≡ map.remove (all_ends m) l
-  all_out = same_gets _ _ (λ q. elim (equal_or_not q l) [
-    | inl e ↦ all_get (map.remove m l) q ∙ ap (λ k. option_map (λ (c : BothEnds). c.all) (map.get (map.remove m l) k)) e ∙ ap (option_map (λ (c : BothEnds). c.all)) (out_here m l) ∙ sym (out_here (all_ends m) l) ∙ sym (ap (map.get (map.remove (all_ends m) l)) e)
-    | inr d ↦ all_get (map.remove m l) q ∙ ap (option_map (λ (c : BothEnds). c.all)) (out_other m l q d) ∙ sym (all_get m q) ∙ sym (out_other (all_ends m) l q d)
-  ])
+  all_out = grind (arith, same_gets, equal_or_not, all_get, out_here, out_other)
 
   -- another map where only this list may have others
   module _ (n : Kept) (same : (q : ℕ) → q ≢ l → map.get n q ≡ map.get m q) where
     pub marked_same : seen (map.get n l) ≡ seen (map.get m l) → marked_ends n ≡ marked_ends m
-    marked_same here = same_gets _ _ (λ q. elim (equal_or_not q l) [
-      | inl e ↦ marked_get n q ∙ ap (λ k. seen (map.get n k)) e ∙ here ∙ sym (ap (λ k. seen (map.get m k)) e) ∙ sym (marked_get m q)
-      | inr d ↦ marked_get n q ∙ ap seen (same q d) ∙ sym (marked_get m q)
-    ])
+    marked_same here = grind (arith, same_gets, equal_or_not, marked_get)
 
     pub marked_put : (f : Ends) → seen (map.get n l) ≡ Some f → marked_ends n ≡ map.insert (marked_ends m) l f
-    marked_put f here = same_gets _ _ (λ q. elim (equal_or_not q l) [
-      | inl e ↦ marked_get n q ∙ ap (λ k. seen (map.get n k)) e ∙ here ∙ sym (put_here (marked_ends m) l f) ∙ sym (ap (map.get (map.insert (marked_ends m) l f)) e)
-      | inr d ↦ marked_get n q ∙ ap seen (same q d) ∙ sym (marked_get m q) ∙ sym (put_other (marked_ends m) l f q d)
-    ])
+    marked_put f here = grind (arith, same_gets, equal_or_not, marked_get, put_here, put_other)
 
     pub marked_out : seen (map.get n l) ≡ None → marked_ends n ≡ map.remove (marked_ends m) l
-    marked_out here = same_gets _ _ (λ q. elim (equal_or_not q l) [
-      | inl e ↦ marked_get n q ∙ ap (λ k. seen (map.get n k)) e ∙ here ∙ sym (out_here (marked_ends m) l) ∙ sym (ap (map.get (map.remove (marked_ends m) l)) e)
-      | inr d ↦ marked_get n q ∙ ap seen (same q d) ∙ sym (marked_get m q) ∙ sym (out_other (marked_ends m) l q d)
-    ])
+    marked_out here = grind (arith, same_gets, equal_or_not, marked_get, out_here, out_other)
 
 -- ---- where no list has a last marked item without a first
 
 module _ (m : Kept) (are : AreBlank m) (l : ℕ) where
   pub blank_put : (b : BothEnds) → (b.marked.first ≡ None → b.marked ≡ blank_ends) → AreBlank (map.insert m l b)
-  blank_put b blank q c at none = elim (equal_or_not q l) [
-    | inl e ↦
-        let is : b ≡ c = same_some b c (sym (put_here m l b) ∙ ap (map.get (map.insert m l b)) (sym e) ∙ at) in
-        sym (ap (λ (x : BothEnds). x.marked) is) ∙ blank (ap (λ (x : BothEnds). x.marked.first) is ∙ none)
-    | inr d ↦ are q c (sym (put_other m l b q d) ∙ at) none
-  ]
+  blank_put b blank q c at none = grind (arith, equal_or_not, same_some, put_here, put_other)
 
   pub blank_out : AreBlank (map.remove m l)
-  blank_out q c at none = elim (equal_or_not q l) [
-    | inl e ↦ absurd (none_some c (sym (out_here m l) ∙ ap (map.get (map.remove m l)) (sym e) ∙ at))
-    | inr d ↦ are q c (sym (out_other m l q d) ∙ at) none
-  ]
+  blank_out q c at none = grind (arith, equal_or_not, none_some, out_here, out_other)
 
 -- ---- as the map of ends is seen
 
@@ -150,10 +115,7 @@ module _ (v : MapView BothEnds) (are : AreBlank v.map) (w : EndsMapView) (is : r
   gone_in none = none_in v.map l (held_in ∙ none)
 
   pub len_in : map.len v.map + v.room ≡ map.len w.all + w.room
-  len_in =
-      let a = all_len v.map in
-      let b = ap (λ (u : EndsMapView). map.len u.all) is in
-      let c = ap (λ (u : EndsMapView). u.room) is in omega arith
+  len_in = grind (arith, all_len)
 
   -- an entry is changed
   module _ (b c : BothEnds) (at : map.get v.map l ≡ Some b) where
@@ -167,23 +129,16 @@ module _ (v : MapView BothEnds) (are : AreBlank v.map) (w : EndsMapView) (is : r
     all_set = all_put v.map l c ∙ ap (λ (u : EndsMapView). map.insert u.all l c.all) is
 
     pub len_set : map.len (all_ends now) + v.room ≡ map.len w.all + w.room
-    len_set =
-        let a = all_len now in
-        let b = total_set v (record { map = now; room = v.room }) l c (ap is_some at) refl in
-        let t = len_in in omega arith
+    len_set = grind (arith, all_len now, total_set v (record { map = now; room = v.room }) l c (ap is_some at) refl, len_in)
 
     pub all_stays : c.all ≡ b.all → all_ends now ≡ w.all
-    all_stays same = same_gets _ _ (λ q. elim (equal_or_not q l) [
-      | inl e ↦ all_get now q ∙ ap (λ k. option_map (λ (c : BothEnds). c.all) (map.get now k)) e ∙ ap (option_map (λ (c : BothEnds). c.all)) (put_here v.map l c) ∙ ap (λ f. Some f) same
-          ∙ sym (all_get v.map q ∙ ap (λ k. option_map (λ (c : BothEnds). c.all) (map.get v.map k)) e ∙ ap (option_map (λ (c : BothEnds). c.all)) at)
-      | inr d ↦ all_get now q ∙ ap (option_map (λ (c : BothEnds). c.all)) (other q d) ∙ sym (all_get v.map q)
-    ]) ∙ ap (λ (u : EndsMapView). u.all) is
+    all_stays same = grind (arith, same_gets, equal_or_not, all_get, put_here, other)
 
     pub marks_stay : c.marked ≡ b.marked → marked_ends now ≡ w.marked
     marks_stay same = marked_same v.map l now other (ap seen (put_here v.map l c) ∙ ap (λ (f : Ends). some_if f.first f) same ∙ sym (ap seen at)) ∙ ap (λ (u : EndsMapView). u.marked) is
 
     pub marks_put : (x : ℕ) → c.marked.first ≡ Some x → marked_ends now ≡ map.insert w.marked l c.marked
-    marks_put x some = marked_put v.map l now other c.marked (ap seen (put_here v.map l c) ∙ ap (λ o. some_if o c.marked) some) ∙ ap (λ (u : EndsMapView). map.insert u.marked l c.marked) is
+    marks_put x some = grind (arith, marked_put, other, put_here, some_if)
 
     pub marks_out : c.marked.first ≡ None → marked_ends now ≡ map.remove w.marked l
     marks_out none = marked_out v.map l now other (ap seen (put_here v.map l c) ∙ ap (λ o. some_if o c.marked) none) ∙ ap (λ (u : EndsMapView). map.remove u.marked l) is
@@ -201,11 +156,7 @@ module _ (v : MapView BothEnds) (are : AreBlank v.map) (w : EndsMapView) (is : r
         (ap seen (put_here v.map l c) ∙ ap (λ (f : Ends). some_if f.first f) blank ∙ sym (ap seen (gone_in none))) ∙ ap (λ (u : EndsMapView). u.marked) is
 
     pub len_new : map.len (all_ends n.map) + n.room ≡ map.len w.all + w.room
-    len_new =
-        let a = all_len n.map in
-        let r = ap (λ (u : EndsMapView). u.room) is in
-        let b = total_put v n l c (held_in ∙ none) (omega arith) put in
-        let t = len_in in omega arith
+    len_new = grind (arith, all_len, total_put, held_in, len_in)
 
     pub blank_new : AreBlank n.map
     blank_new q d at = blank_put v.map are l c (λ e. blank) q d (sym (ap (λ (m : Kept). map.get m q) map_is) ∙ at)
@@ -219,14 +170,10 @@ module _ (v : MapView BothEnds) (are : AreBlank v.map) (w : EndsMapView) (is : r
     all_gone = ap all_ends gone_is ∙ all_out v.map l ∙ ap (λ (u : EndsMapView). map.remove u.all l) is
 
     pub marks_gone : map.get w.marked l ≡ None → marked_ends n.map ≡ w.marked
-    marks_gone none = ap marked_ends gone_is ∙ marked_same v.map l (map.remove v.map l) (λ q d. out_other v.map l q d)
-        (ap seen (out_here v.map l) ∙ sym none ∙ sym (ap (λ (u : EndsMapView). map.get u.marked l) is) ∙ marked_get v.map l) ∙ ap (λ (u : EndsMapView). u.marked) is
+    marks_gone none = grind (arith, gone_is, marked_same, out_other, out_here, marked_get)
 
     pub len_gone : (f : BothEnds) → map.len (all_ends n.map) + n.room ≡ map.len w.all + w.room
-    len_gone f =
-        let a = all_len n.map in
-        let b = total_out v n l f (held_in ∙ held) out in
-        let t = len_in in omega arith
+    len_gone f = grind (arith, all_len, total_out, held_in, len_in)
 
     pub blank_gone : AreBlank n.map
     blank_gone q d at = blank_out v.map are l q d (sym (ap (λ (m : Kept). map.get m q) gone_is) ∙ at)
@@ -247,7 +194,4 @@ module _ (v : MapView BothEnds) (none : v ≡ record { map = map.empty; room = 0
   marks_none = same_gets _ _ (λ q. marked_get v.map q ∙ ap seen (nothing q) ∙ sym (map.get-empty {X = Ends} nat_cmp q))
 
   pub ends_none : ◌≡◌ {A = EndsMapView} (record { all = all_ends v.map; marked = marked_ends v.map; room = v.room }) (record { all = map.empty; marked = map.empty; room = 0 })
-  ends_none =
-      ap (λ (a : map.FinMap nat_cmp Ends). let u : EndsMapView = record { all = a; marked = marked_ends v.map; room = v.room } in u) all_none
-      ∙ ap (λ (a : map.FinMap nat_cmp Ends). let u : EndsMapView = record { all = map.empty; marked = a; room = v.room } in u) marks_none
-      ∙ ap (λ (m : MapView BothEnds). let u : EndsMapView = record { all = map.empty; marked = map.empty; room = m.room } in u) none
+  ends_none = grind (arith, all_none, marks_none)

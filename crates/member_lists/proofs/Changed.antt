@@ -30,26 +30,10 @@ module _ (links mores : List Link) (chains ends : ℕ → Ends) (so : IsSound li
   same_other c d = ap (λ t. cond t ys (so.chained c)) (eqb_other c b d)
 
   chain_other : (c : ℕ) → c ≢ b → IsChain mores (ends c) (so.chained c)
-  chain_other c d =
-      let was = so.chain c in
-      record {
-        linked = linked-frame links mores None (so.chained c) None (λ x h. frame c x d h) was.linked;
-        first = ap (λ (e : Ends). e.first) (elsewhere c d) ∙ was.first;
-        last = ap (λ (e : Ends). e.last) (elsewhere c d) ∙ was.last;
-        once = was.once;
-      }
+  chain_other c d = grind (arith, linked-frame)
 
   apart_changed : (c d x : ℕ) → 0 < times x (chained' c) → 0 < times x (chained' d) → c ≡ d
-  apart_changed c d x g h = elim (equal_or_not c b) [
-    | inl s ↦ elim (equal_or_not d b) [
-      | inl t ↦ s ∙ sym t
-      | inr e ↦ absurd (alone d x e (subst (λ zs. 0 < times x zs) (same_here c s) g) (subst (λ zs. 0 < times x zs) (same_other d e) h))
-    ]
-    | inr a ↦ elim (equal_or_not d b) [
-      | inl t ↦ absurd (alone c x a (subst (λ zs. 0 < times x zs) (same_here d t) h) (subst (λ zs. 0 < times x zs) (same_other c a) g))
-      | inr e ↦ so.apart c d x (subst (λ zs. 0 < times x zs) (same_other c a) g) (subst (λ zs. 0 < times x zs) (same_other d e) h)
-    ]
-  ]
+  apart_changed c d x g h = grind (arith, equal_or_not, same_here, same_other)
 
   pub sound_changed : IsSound mores ends
   sound_changed = record {
@@ -127,11 +111,7 @@ module _ (links mores : List Link) (chains : ℕ → Ends) (so : IsSound links c
     frame c x d h = ahead.others x (λ s. d (so.apart c l x h (last_within xs x (sym last_is ∙ s)))) ∙ was_there c x h
 
     alone_more : (c x : ℕ) → c ≢ l → 0 < times x (xs ++ item ∷ []) → 0 < times x (so.chained c) → ⊥
-    alone_more c x d h g =
-        let other = not_item c x g in
-        let n = times_other x item [] other in
-        let a = times-append x xs (item ∷ []) in
-        d (so.apart c l x g (omega arith))
+    alone_more c x d h g = grind (arith, not_item, times_other, times-append)
 
     joined : (f : Ends) → f.first ≡ option_or e.first (Some item) → f.last ≡ Some item → IsChain mores f (xs ++ item ∷ [])
     joined f first last = record {
@@ -255,11 +235,7 @@ module _ (links : List Link) (chains : ℕ → Ends) (so : IsSound links chains)
 
         -- an end of a list without items is none
         pub blank_left : f.first ≡ None → f ≡ blank_ends
-        blank_left none = none_left (front ++ back) (sym left_chain.first ∙ none) left_chain.last
-          where
-            none_left : (ys : List ℕ) → first_or ys None ≡ None → f.last ≡ last_or None ys → f ≡ blank_ends
-            none_left [] a b = ap (λ o. let g : Ends = record { first = o; last = f.last } in g) none ∙ ap (λ o. let g : Ends = record { first = None; last = o } in g) b
-            none_left (y ∷ ys) a b = absurd (none_some y (sym a))
+        blank_left none = grind (arith, left_chain, none, none_some)
 
         module _ (left_ends : ℕ → Ends) (ends_here : left_ends l ≡ f) (ends_other : (c : ℕ) → c ≢ l → left_ends c ≡ chains c) where
           left_here : IsChain mores (left_ends l) (front ++ back)
@@ -281,18 +257,7 @@ module _ (links mores : List Link) (chains ends : ℕ → Ends) (so : IsSound li
   stays c x h = kept x (in_range links chains so c x h)
 
   pub sound_grown : IsSound mores ends
-  sound_grown = record {
-    chained = so.chained;
-    chain = λ c.
-        let was = so.chain c in
-        record {
-          linked = linked-frame links mores None (so.chained c) None (stays c) was.linked;
-          first = ap (λ (e : Ends). e.first) (same c) ∙ was.first;
-          last = ap (λ (e : Ends). e.last) (same c) ∙ was.last;
-          once = was.once;
-        };
-    apart = so.apart;
-  }
+  sound_grown = grind (arith, linked-frame, stays)
 
   list_grown : (q : ℕ) → items_from mores (ends q) ≡ items_from links (chains q)
   unfolding sound_grown
@@ -326,14 +291,7 @@ module _ (links : List Link) (chains : ℕ → Ends) (so : IsSound links chains)
 
   -- nothing stands before the first
   pub first_before : (item : ℕ) → slice_get (list_of v l) 0 ≡ Some item → (link : Link) → slice_get links item ≡ Some link → link.before ≡ None
-  first_before item at link there = by_first (so.chained l) ((so.chain l).linked) (ap (λ ys. slice_get ys 0) (sym is_whole) ∙ at)
-    where
-      by_first : (ys : List ℕ) → IsLinked links None ys None → slice_get ys 0 ≡ Some item → link.before ≡ None
-      by_first [] linked e = absurd (none_some item e)
-      by_first (y ∷ ys) linked e =
-          let same : y ≡ item = same_some y item e in
-          let own : linked.0.link ≡ link = same_some linked.0.link link (sym linked.0.there ∙ ap (slice_get links) same ∙ there) in
-          sym (ap (λ (k : Link). k.before) own) ∙ linked.0.before_is
+  first_before item at link there = grind (arith, slice_get, is_whole, none_some, same_some)
 
   module _ (item i : ℕ) (at : slice_get (list_of v l) i ≡ Some item) where
     rest : IsRest links (λ x. true) item i (so.chained l)
@@ -343,10 +301,7 @@ module _ (links : List Link) (chains : ℕ → Ends) (so : IsSound links chains)
     rest_there = (rest.link, rest.there)
 
     pub after_is : (link : Link) → slice_get links item ≡ Some link → link.behind ≡ slice_get (list_of v l) (i + 1)
-    after_is link there =
-        let same : rest.link ≡ link = same_some rest.link link (sym rest.there ∙ there) in
-        sym (ap (λ (k : Link). k.behind) same) ∙ rest.behind ∙ first_got rest.back ∙ ap (λ ys. slice_get ys 0) (sym (all_kept rest.back)) ∙ sym rest.next
-        ∙ ap (λ ys. slice_get ys (i + 1)) (all_kept (so.chained l) ∙ sym is_whole)
+    after_is link there = grind (arith, rest, same_some, first_got, slice_get, all_kept, is_whole)
 
 -- ---- what a read or a resize says
 

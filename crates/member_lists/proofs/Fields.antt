@@ -64,13 +64,7 @@ pub record AreIn (w : Ended) (of_zero of_one : Ends) : Type 0 where
   pub at_other : (c : ℕ) → c ≢ 0 → c ≢ 1 → map.get w c ≡ None
 
 same_in : (w v : Ended) (of_zero of_one : Ends) → AreIn w of_zero of_one → AreIn v of_zero of_one → w ≡ v
-same_in w v of_zero of_one a b = same_gets w v (λ q. elim (equal_or_not q 0) [
-  | inl e ↦ ap (map.get w) e ∙ a.at_zero ∙ sym b.at_zero ∙ sym (ap (map.get v) e)
-  | inr d ↦ elim (equal_or_not q 1) [
-    | inl e ↦ ap (map.get w) e ∙ a.at_one ∙ sym b.at_one ∙ sym (ap (map.get v) e)
-    | inr f ↦ a.at_other q d f ∙ sym (b.at_other q d f)
-  ]
-])
+same_in w v of_zero of_one a b = grind (arith, same_gets, equal_or_not)
 
 module _ (of_zero of_one : Ends) where
   abbrev both : Ended
@@ -80,23 +74,13 @@ module _ (of_zero of_one : Ends) where
   no_one = if_other of_zero.first none_yet 0 of_zero 1 one_zero ∙ nothing_yet 1
 
   both_in : AreIn both of_zero of_one
-  both_in = record {
-    at_zero = if_other of_one.first (put_if of_zero.first none_yet 0 of_zero) 1 of_one 0 zero_one ∙ if_here of_zero.first none_yet 0 of_zero (nothing_yet 0);
-    at_one = if_here of_one.first (put_if of_zero.first none_yet 0 of_zero) 1 of_one no_one;
-    at_other = λ c d f. if_other of_one.first (put_if of_zero.first none_yet 0 of_zero) 1 of_one c f ∙ if_other of_zero.first none_yet 0 of_zero c d ∙ nothing_yet c;
-  }
+  both_in = grind (arith, if_other, zero_one, if_here, nothing_yet, no_one)
 
   both_len : map.len both ≡ taken of_zero.first + taken of_one.first
-  both_len =
-      let none = map.len-empty nat_cmp Ends in
-      let a = if_len of_zero.first none_yet 0 of_zero (nothing_yet 0) in
-      let b = if_len of_one.first (put_if of_zero.first none_yet 0 of_zero) 1 of_one no_one in
-      omega arith
+  both_len = grind (arith, map.len-empty nat_cmp Ends, if_len of_zero.first none_yet 0 of_zero (nothing_yet 0), if_len of_one.first (put_if of_zero.first none_yet 0 of_zero) 1 of_one no_one)
 
   pub empty_in : (a b : Bool) → a ≡ eqb (taken of_zero.first) 0 → b ≡ eqb (taken of_one.first) 0 → (w : Ended) → both ≡ w → (a && b) ≡ eqb (map.len w) 0
-  empty_in a b a_is b_is w is =
-      ap (λ x. x && b) a_is ∙ ap (λ y. eqb (taken of_zero.first) 0 && y) b_is ∙ none_taken of_zero.first of_one.first
-      ∙ ap (λ n. eqb n 0) (sym both_len) ∙ ap (λ m. eqb (map.len m) 0) is
+  empty_in a b a_is b_is w is = grind (arith, eqb, none_taken, both_len)
 
   module _ (k : AreEnds of_zero of_one) where
     pub zero_is : of_zero ≡ ends_at both 0
@@ -165,26 +149,16 @@ module _ (of_zero of_one : Ends) (k : AreEnds of_zero of_one) where
 
   module _ (item : ℕ) (now : Ends) where
     pub zero_joined : now ≡ joined_by item of_zero → both_ends now of_one ≡ map.insert ended 0 (joined_by item (ends_at ended 0))
-    zero_joined is =
-        let some = joined_some of_zero.first item in
-        ap (λ (e : Ends). both_ends e of_one) is ∙ zero_put of_zero of_one (joined_by item of_zero) some.0 some.1 ∙ ap (λ (e : Ends). map.insert ended 0 (joined_by item e)) (zero_is of_zero of_one k)
+    zero_joined is = grind (arith, joined_some, zero_put, zero_is)
 
     pub one_joined : now ≡ joined_by item of_one → both_ends of_zero now ≡ map.insert ended 1 (joined_by item (ends_at ended 1))
-    one_joined is =
-        let some = joined_some of_one.first item in
-        ap (λ (e : Ends). both_ends of_zero e) is ∙ one_put of_zero of_one (joined_by item of_one) some.0 some.1 ∙ ap (λ (e : Ends). map.insert ended 1 (joined_by item e)) (one_is of_zero of_one k)
+    one_joined is = grind (arith, joined_some, one_put, one_is)
 
     pub zero_joined_are : now ≡ joined_by item of_zero → AreEnds now of_one
-    zero_joined_are is = let some = joined_some of_zero.first item in record {
-      blank_zero = λ none. absurd (no_first now.first some.0 (ap (λ (e : Ends). e.first) is ∙ some.1) none);
-      blank_one = k.blank_one;
-    }
+    zero_joined_are is = grind (arith, joined_some, no_first)
 
     pub one_joined_are : now ≡ joined_by item of_one → AreEnds of_zero now
-    one_joined_are is = let some = joined_some of_one.first item in record {
-      blank_zero = k.blank_zero;
-      blank_one = λ none. absurd (no_first now.first some.0 (ap (λ (e : Ends). e.first) is ∙ some.1) none);
-    }
+    one_joined_are is = grind (arith, joined_some, no_first)
 
   module _ (before behind : Option ℕ) (now : Ends) where
     module _ (is : now ≡ left_by before behind of_zero) where

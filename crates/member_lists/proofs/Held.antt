@@ -40,9 +40,7 @@ nothing_in m none = ap (λ (n : Ended). map.len n) (same_gets m no_ends (λ q. c
 module _ (owner : ℕ → ℕ) where
   -- a key that a map without one has, it has too
   still : (m : Ended) (c k : ℕ) (e : Ends) → map.get (map.remove m c) k ≡ Some e → (k ≢ c) × (map.get m k ≡ Some e)
-  still m c k e at =
-      let d : k ≢ c = (λ s. none_some e (sym (out_here m c) ∙ ap (map.get (map.remove m c)) (sym s) ∙ at)) in
-      (d, sym (out_other m c k d) ∙ at)
+  still m c k e at = grind (arith, none_some, out_here, out_other)
 
   shorter : (m : Ended) (c : ℕ) → map.len m ≤ map.len (map.remove m c) + 1
   shorter m c = one (map.contains_key m c) (map.len-remove nat_cmp_total m c)
@@ -174,19 +172,11 @@ no_first (y ∷ xs) x none h = none_some y (sym none)
 
 -- a list that has an item stands in the map
 pub ends_held : (links : List Link) (ends : Ended) (k : IsKept links ends) (l x : ℕ) → 0 < times x (k.sound.chained l) → map.contains_key ends l ≡ true
-ends_held links ends k l x h = case (map.get ends l) refl
-  where
-    case : (o : Option Ends) → map.get ends l ≡ o → map.contains_key ends l ≡ true
-    case (Some e) at = ap is_some at
-    case None at = absurd (no_first (k.sound.chained l) x (sym ((k.sound.chain l).first) ∙ ap (λ o. (unwrap_or o blank_ends).first) at) h)
+ends_held links ends k l x h = grind (arith, is_some, no_first)
 
 -- a list has a first item where it stands in the map
 pub first_told : (links : List Link) (ends : Ended) (k : IsKept links ends) (l : ℕ) (e : Ends) → e ≡ ends_at ends l → is_some e.first ≡ map.contains_key ends l
-first_told links ends k l e is = ap (λ (f : Ends). is_some f.first) is ∙ case (map.get ends l) refl
-  where
-    case : (o : Option Ends) → map.get ends l ≡ o → is_some (unwrap_or o blank_ends).first ≡ is_some o
-    case (Some f) at = let some = k.filled l f at in ap is_some some.1
-    case None at = refl
+first_told links ends k l e is = grind (arith, is_some)
 
 -- ---- a list has fewer items
 
@@ -227,11 +217,7 @@ some_in {X} m l h = more (map.len m) refl
 
 -- a list that isn't in the map has no ends there
 pub none_in : {X : Type 0} (m : map.FinMap nat_cmp X) (l : ℕ) → map.contains_key m l ≡ false → map.get m l ≡ None
-none_in {X} m l h = case (map.get m l) refl
-  where
-    case : (o : Option X) → map.get m l ≡ o → map.get m l ≡ None
-    case None at = at
-    case (Some e) at = absurd (no_true (sym h ∙ ap is_some at))
+none_in {X} m l h = grind (arith, no_true, is_some)
 
 module _ {X : Type 0} (v w : MapView X) (l : ℕ) (f : X) where
   pub total_set : map.contains_key v.map l ≡ true → w ≡ record { map = map.insert v.map l f; room = v.room } → map.len w.map + w.room ≡ map.len v.map + v.room
@@ -262,8 +248,4 @@ kept_none links ends e f =
     }
 
 pub kept_grown : (links mores : List Link) (ends ends' : Ended) → IsKept links ends → ends' ≡ ends → length mores < 2 ^ 32 → ((x : ℕ) → x < length links → slice_get mores x ≡ slice_get links x) → IsKept mores ends'
-kept_grown links mores ends ends' k is few kept = record {
-  sound = sound_grown links mores (ends_at ends) (ends_at ends') k.sound (λ c. ap (λ m. ends_at m c) is) kept;
-  filled = λ l g at. k.filled l g (ap (λ m. map.get m l) (sym is) ∙ at);
-  few = few;
-}
+kept_grown links mores ends ends' k is few kept = grind (arith, sound_grown)

@@ -8,17 +8,11 @@ use Rattle.member_lists.proofs.Times.{same_some, none_some, equal_or_not, true_o
 
 pub linked-append : (links : List Link) (p : Option ℕ) (xs ys : List ℕ) (n : Option ℕ) → IsLinked links p xs (first_or ys n) → IsLinked links (last_or p xs) ys n → IsLinked links p (xs ++ ys) n
 linked-append links p [] ys n a b = b
-linked-append links p (x ∷ xs) ys n a b = (
-  record { link = a.0.link; there = a.0.there; before_is = a.0.before_is; behind_is = a.0.behind_is ∙ sym (first-append xs ys n) },
-  linked-append links (Some x) xs ys n a.1 b,
-)
+linked-append links p (x ∷ xs) ys n a b = grind (arith, linked-append links (Some x) xs ys n a.1 b, first-append)
 
 pub linked-front : (links : List Link) (p : Option ℕ) (xs ys : List ℕ) (n : Option ℕ) → IsLinked links p (xs ++ ys) n → IsLinked links p xs (first_or ys n)
 linked-front links p [] ys n a = tt
-linked-front links p (x ∷ xs) ys n a = (
-  record { link = a.0.link; there = a.0.there; before_is = a.0.before_is; behind_is = a.0.behind_is ∙ first-append xs ys n },
-  linked-front links (Some x) xs ys n a.1,
-)
+linked-front links p (x ∷ xs) ys n a = grind (arith, linked-front links (Some x) xs ys n a.1, first-append)
 
 pub linked-back : (links : List Link) (p : Option ℕ) (xs ys : List ℕ) (n : Option ℕ) → IsLinked links p (xs ++ ys) n → IsLinked links (last_or p xs) ys n
 linked-back links p [] ys n a = a
@@ -46,15 +40,7 @@ pub linked-end : (old new : List Link) (p : Option ℕ) (xs : List ℕ) (m n : O
     → ((x : ℕ) → 0 < times x xs → last_or p xs ≢ Some x → slice_get new x ≡ slice_get old x)
     → ((x : ℕ) → times x xs ≤ 1) → IsLinked old p xs m → IsLinked new p xs n
 linked-end old new p [] m n set others once a = tt
-linked-end old new p (x ∷ []) m n set others once a = (
-  record {
-    link = record a.0.link { behind = n };
-    there = set x a.0.link (let e = times_here x x [] refl in omega arith) refl a.0.there;
-    before_is = a.0.before_is;
-    behind_is = refl;
-  },
-  tt,
-)
+linked-end old new p (x ∷ []) m n set others once a = grind (arith, times_here)
 linked-end old new p (x ∷ y ∷ xs) m n set others once a =
     let here = times_here x x (y ∷ xs) refl in
     let first : last_or (Some x) (y ∷ xs) ≢ Some x = (λ e. let inside = last_inside (Some x) y xs x e in let one = once x in omega arith) in (
@@ -71,17 +57,7 @@ pub linked-start : (old new : List Link) (p q : Option ℕ) (xs : List ℕ) (n :
     → ((x : ℕ) → 0 < times x xs → first_or xs None ≢ Some x → slice_get new x ≡ slice_get old x)
     → ((x : ℕ) → times x xs ≤ 1) → IsLinked old p xs n → IsLinked new q xs n
 linked-start old new p q [] n set others once a = tt
-linked-start old new p q (x ∷ xs) n set others once a =
-    let here = times_here x x xs refl in (
-      record {
-        link = record a.0.link { before = q };
-        there = set x a.0.link (omega arith) refl a.0.there;
-        before_is = refl;
-        behind_is = a.0.behind_is;
-      },
-      linked-frame old new (Some x) xs n (λ y h. others y (let more = times_more y x xs in omega arith)
-          (λ e. let same : x ≡ y = same_some x y e in let twice = times_here y x xs (sym same) in let one = once y in omega arith)) a.1,
-    )
+linked-start old new p q (x ∷ xs) n set others once a = grind (arith, times_here, linked-frame, times_more, same_some)
 
 -- ---- going along
 
@@ -89,10 +65,7 @@ pub walk-linked : (links : List Link) (p : Option ℕ) (xs : List ℕ) (n : ℕ)
 walk-linked links p [] zero a few = refl
 walk-linked links p [] (suc n) a few = refl
 walk-linked links p (x ∷ xs) zero a few = absurd (omega arith)
-walk-linked links p (x ∷ xs) (suc n) a few =
-    let less : suc (length xs) ≤ suc n = few in
-    let rest : walk links n (first_or xs None) ≡ xs = walk-linked links (Some x) xs n a.1 (omega arith) in
-    ap (λ o. option_map_or (λ (link : Link). x ∷ walk links n link.behind) o []) a.0.there ∙ ap (λ b. x ∷ walk links n b) a.0.behind_is ∙ ap (λ l. x ∷ l) rest
+walk-linked links p (x ∷ xs) (suc n) a few = grind (arith, walk-linked links (Some x) xs n a.1 (omega arith))
 
 one_on : (x : ℕ) (xs : List ℕ) (j : ℕ) → slice_get (x ∷ xs) (suc j + 1) ≡ slice_get xs (j + 1)
 one_on x xs j = ap (slice_get (x ∷ xs)) (let e : suc j + 1 ≡ suc (j + 1) = omega arith in e)
@@ -109,37 +82,13 @@ pub record IsRest (links : List Link) (q : ℕ → Bool) (item i : ℕ) (xs : Li
 
 module _ (links : List Link) (q : ℕ → Bool) (item : ℕ) (p : Option ℕ) (x : ℕ) (xs : List ℕ) (a : IsLinked links p (x ∷ xs) None) where
   here : q x ≡ true → x ≡ item → IsRest links q item 0 (x ∷ xs)
-  here t same = record {
-    back = xs;
-    link = a.0.link;
-    there = ap (slice_get links) (sym same) ∙ a.0.there;
-    behind = a.0.behind_is;
-    linked = rw (← same) a.1;
-    few = omega arith;
-    next = ap (λ b. slice_get (cond b (x ∷ filter q xs) (filter q xs)) 1) t;
-  }
+  here t same = grind (arith, slice_get)
 
   later : (j : ℕ) → q x ≡ true → IsRest links q item j xs → IsRest links q item (suc j) (x ∷ xs)
-  later j t rest = record {
-    back = rest.back;
-    link = rest.link;
-    there = rest.there;
-    behind = rest.behind;
-    linked = rest.linked;
-    few = let few = rest.few in omega arith;
-    next = ap (λ b. slice_get (cond b (x ∷ filter q xs) (filter q xs)) (suc j + 1)) t ∙ one_on x (filter q xs) j ∙ rest.next;
-  }
+  later j t rest = grind (arith, slice_get, one_on)
 
   passed : (j : ℕ) → q x ≡ false → IsRest links q item j xs → IsRest links q item j (x ∷ xs)
-  passed j f rest = record {
-    back = rest.back;
-    link = rest.link;
-    there = rest.there;
-    behind = rest.behind;
-    linked = rest.linked;
-    few = let few = rest.few in omega arith;
-    next = ap (λ b. slice_get (cond b (x ∷ filter q xs) (filter q xs)) (j + 1)) f ∙ rest.next;
-  }
+  passed j f rest = grind (arith, slice_get)
 
   kept : (j : ℕ) → q x ≡ true → slice_get (filter q (x ∷ xs)) j ≡ Some item → slice_get (x ∷ filter q xs) j ≡ Some item
   kept j t is = ap (λ b. slice_get (cond b (x ∷ filter q xs) (filter q xs)) j) (sym t) ∙ is
@@ -179,9 +128,7 @@ module _ (old new : List Link) (xs : List ℕ) (item : ℕ) (link : Link) (once 
     (set : (x : ℕ) (l : Link) → 0 < times x xs → last_or None xs ≡ Some x → slice_get old x ≡ Some l → slice_get new x ≡ Some (record l { behind = Some item }))
     (others : (x : ℕ) → 0 < times x xs → last_or None xs ≢ Some x → slice_get new x ≡ slice_get old x) where
   pub linked-pushed : IsLinked old None xs None → IsLinked new None (xs ++ item ∷ []) None
-  linked-pushed a = linked-append new None xs (item ∷ []) None
-      (linked-end old new None xs None (Some item) set others once a)
-      (record { link = link; there = there; before_is = before; behind_is = behind }, tt)
+  linked-pushed a = grind (arith, linked-append, linked-end)
 
 -- ---- without an item
 

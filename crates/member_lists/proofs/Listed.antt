@@ -67,10 +67,7 @@ told_more xs told x was next t is after =
     }
 
 pub told_fewer : (xs told : List ℕ) (x : ℕ) (was : Option ℕ) → IsTold xs told was → was ≡ Some x → length xs - length (told ++ x ∷ []) < length xs - length told
-told_fewer xs told x was t is =
-    let long : length (told ++ x ∷ []) ≡ length told + 1 = length_push told x in
-    let inside : length told < length xs = slice_get_within xs (length told) x (sym t.next_is ∙ is) in
-    omega arith
+told_fewer xs told x was t is = grind (arith, length_push, slice_get_within)
 
 past_end : (xs : List ℕ) (i : ℕ) → None ≡ slice_get xs i → length xs ≤ i
 past_end [] i e = omega arith

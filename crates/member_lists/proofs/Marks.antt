@@ -131,10 +131,7 @@ module _ (links marks : List Link) (ends : EndsMapView) (k : IsMarked links mark
     }
 
     pub all_shown : record { all = lists_in mores ends'.all; marked = lists_in marks ends'.marked } ≡ record v { all = a }
-    all_shown =
-        ap (λ (w : ListsView). let u : MarkedView = record { all = w; marked = lists_in marks ends'.marked } in u) lists
-        ∙ ap (λ (m : map.FinMap nat_cmp Ends). let u : MarkedView = record { all = a; marked = lists_in marks m } in u) same
-        ∙ ap (λ (w : ListsView). let u : MarkedView = record { all = a; marked = w } in u) marked_is
+    all_shown = grind (arith, marked_is)
 
   -- ---- others marked
 
@@ -150,10 +147,7 @@ module _ (links marks : List Link) (ends : EndsMapView) (k : IsMarked links mark
     }
 
     pub marks_shown : record { all = lists_in links ends'.all; marked = lists_in mores ends'.marked } ≡ record v { marked = b }
-    marks_shown =
-        ap (λ (w : ListsView). let u : MarkedView = record { all = lists_in links ends'.all; marked = w } in u) lists
-        ∙ ap (λ (m : map.FinMap nat_cmp Ends). let u : MarkedView = record { all = lists_in links m; marked = b } in u) same
-        ∙ ap (λ (w : ListsView). let u : MarkedView = record { all = w; marked = b } in u) all_is
+    marks_shown = grind (arith, all_is)
 
   -- ---- room for more lists, and for more items
 
@@ -186,9 +180,7 @@ module _ (links marks : List Link) (ends : EndsMapView) (k : IsMarked links mark
     }
 
     pub shown_longer : record { all = lists_in links' ends'.all; marked = lists_in marks' ends'.marked } ≡ with_room v items
-    shown_longer =
-        ap (λ (w : ListsView). let u : MarkedView = record { all = w; marked = lists_in marks' ends'.marked } in u) (lists_more links ends.all k.all v.all all_is links' ends'.all items all_same longer.len few more longer.first)
-        ∙ ap (λ (w : ListsView). let u : MarkedView = record { all = record v.all { items = max v.all.items items }; marked = w } in u) (lists_more marks ends.marked k.marked v.marked marked_is marks' ends'.marked items marked_same longer'.len few more_marks longer'.first)
+    shown_longer = grind (arith, lists_more, all_is, max, marked_is, more_marks)
 
 -- ---- no lists yet
 
@@ -212,6 +204,4 @@ module _ (links marks : List Link) (ends : EndsMapView) (a : links ≡ []) (b : 
   }
 
   pub view_none : ◌≡◌ {A = MarkedView} (record { all = lists_in links ends.all; marked = lists_in marks ends.marked }) (record { all = record { lists = map.empty; items = 0 }; marked = record { lists = map.empty; items = 0 } })
-  view_none =
-      ap (λ (w : ListsView). let u : MarkedView = record { all = w; marked = lists_in marks ends.marked } in u) (lists_none links ends.all a all_empty)
-      ∙ ap (λ (w : ListsView). let u : MarkedView = record { all = record { lists = map.empty; items = 0 }; marked = w } in u) (lists_none marks ends.marked b marked_empty)
+  view_none = grind (arith, lists_none, all_empty, marked_empty)

@@ -31,9 +31,7 @@ pub times_here : (x y : ℕ) (ys : List ℕ) → x ≡ y → times x (y ∷ ys) 
 times_here x y ys e = ap (λ b. cond b 1 0 + times x ys) (eqb_same x y e)
 
 pub times_other : (x y : ℕ) (ys : List ℕ) → x ≢ y → times x (y ∷ ys) ≡ times x ys
-times_other x y ys d =
-    let e : times x (y ∷ ys) ≡ 0 + times x ys = ap (λ b. cond b 1 0 + times x ys) (eqb_other x y d) in
-    omega arith
+times_other x y ys d = grind (arith, eqb_other)
 
 pub times_more : (x y : ℕ) (ys : List ℕ) → times x ys ≤ times x (y ∷ ys)
 times_more x y ys = omega arith
@@ -45,10 +43,7 @@ times-append x (z ∷ xs) ys = let e = times-append x xs ys in omega arith
 pub times_from_Contains : (x : ℕ) (xs : List ℕ) → Contains xs x → 0 < times x xs
 times_from_Contains x [] c = absurd (omega (arith, c.1))
 times_from_Contains x (y ∷ xs) (zero, within, is) = let e = times_here x y xs (sym is) in omega arith
-times_from_Contains x (y ∷ xs) (suc k, within, is) =
-    let less : suc k < suc (length xs) = within in
-    let e = times_from_Contains x xs (k, omega arith, is) in
-    let f = times_more x y xs in omega arith
+times_from_Contains x (y ∷ xs) (suc k, within, is) = grind (arith, times_from_Contains x xs (k, omega arith, is), times_more)
 
 pub Contains_from_times : (x : ℕ) (xs : List ℕ) → 0 < times x xs → Contains xs x
 Contains_from_times x [] h = absurd (omega arith)
@@ -63,12 +58,7 @@ Contains_from_times x (y ∷ xs) h = elim (equal_or_not x y) [
 
 pub times-filter_in : (q : ℕ → Bool) (x : ℕ) (xs : List ℕ) → q x ≡ true → times x (filter q xs) ≡ times x xs
 times-filter_in q x [] is = refl
-times-filter_in q x (y ∷ xs) is = elim (true_or_false (q y)) [
-  | inl t ↦ ap (λ b. times x (cond b (y ∷ filter q xs) (filter q xs))) t ∙ ap (λ n. cond (eqb x y) 1 0 + n) (times-filter_in q x xs is)
-  | inr f ↦
-      let d : x ≢ y = λ e. (let g : true ≡ false = sym is ∙ ap q e ∙ f in cc) in
-      ap (λ b. times x (cond b (y ∷ filter q xs) (filter q xs))) f ∙ times-filter_in q x xs is ∙ sym (times_other x y xs d)
-]
+times-filter_in q x (y ∷ xs) is = grind (arith, times-filter_in q x xs is, true_or_false, eqb, times_other)
 
 pub times-filter_passes : (q : ℕ → Bool) (x : ℕ) (xs : List ℕ) → 0 < times x (filter q xs) → q x ≡ true
 times-filter_passes q x [] h = absurd (omega arith)
@@ -87,12 +77,7 @@ times-filter_passes q x (y ∷ xs) h = elim (true_or_false (q y)) [
 
 pub times-filter_most : (q : ℕ → Bool) (x : ℕ) (xs : List ℕ) → times x (filter q xs) ≤ times x xs
 times-filter_most q x [] = omega arith
-times-filter_most q x (y ∷ xs) =
-    let rest = times-filter_most q x xs in
-    elim (true_or_false (q y)) [
-      | inl t ↦ let a : times x (filter q (y ∷ xs)) ≡ times x (y ∷ filter q xs) = ap (λ b. times x (cond b (y ∷ filter q xs) (filter q xs))) t in omega arith
-      | inr f ↦ let a : times x (filter q (y ∷ xs)) ≡ times x (filter q xs) = ap (λ b. times x (cond b (y ∷ filter q xs) (filter q xs))) f in omega arith
-    ]
+times-filter_most q x (y ∷ xs) = grind (arith, times-filter_most q x xs, true_or_false)
 
 -- two tests that agree on the items
 pub filter_same : (q r : ℕ → Bool) (xs : List ℕ) → ((x : ℕ) → 0 < times x xs → q x ≡ r x) → filter q xs ≡ filter r xs
@@ -104,12 +89,7 @@ filter_same q r (y ∷ xs) h =
 
 pub filter-append : (q : ℕ → Bool) (xs ys : List ℕ) → filter q (xs ++ ys) ≡ filter q xs ++ filter q ys
 filter-append q [] ys = refl
-filter-append q (x ∷ xs) ys = elim (true_or_false (q x)) [
-  | inl t ↦ ap (λ b. cond b (x ∷ filter q (xs ++ ys)) (filter q (xs ++ ys))) t ∙ ap (λ l. x ∷ l) (filter-append q xs ys)
-      ∙ sym (ap (λ b. cond b (x ∷ filter q xs) (filter q xs) ++ filter q ys) t)
-  | inr f ↦ ap (λ b. cond b (x ∷ filter q (xs ++ ys)) (filter q (xs ++ ys))) f ∙ filter-append q xs ys
-      ∙ sym (ap (λ b. cond b (x ∷ filter q xs) (filter q xs) ++ filter q ys) f)
-]
+filter-append q (x ∷ xs) ys = grind (arith, filter-append q xs ys, true_or_false)
 
 -- without an item that is not there
 pub without_none : (item : ℕ) (xs : List ℕ) → times item xs ≡ 0 → without item xs ≡ xs
@@ -152,20 +132,7 @@ split_at item (x ∷ xs) h = elim (equal_or_not item x) [
 -- one test after the other, either way round
 pub filter_turned : (q : ℕ → Bool) (item : ℕ) (xs : List ℕ) → filter q (without item xs) ≡ without item (filter q xs)
 filter_turned q item [] = refl
-filter_turned q item (x ∷ xs) = elim (true_or_false (q x)) [
-  | inl t ↦ elim (true_or_false (eqb x item)) [
-    | inl e ↦ ap (λ b. filter q (cond (not b) (x ∷ without item xs) (without item xs))) e ∙ filter_turned q item xs
-        ∙ sym (ap (λ b. cond (not b) (x ∷ without item (filter q xs)) (without item (filter q xs))) e) ∙ sym (ap (λ b. without item (cond b (x ∷ filter q xs) (filter q xs))) t)
-    | inr e ↦ ap (λ b. filter q (cond (not b) (x ∷ without item xs) (without item xs))) e ∙ ap (λ b. cond b (x ∷ filter q (without item xs)) (filter q (without item xs))) t ∙ ap (λ l. x ∷ l) (filter_turned q item xs)
-        ∙ sym (ap (λ b. cond (not b) (x ∷ without item (filter q xs)) (without item (filter q xs))) e) ∙ sym (ap (λ b. without item (cond b (x ∷ filter q xs) (filter q xs))) t)
-  ]
-  | inr f ↦ elim (true_or_false (eqb x item)) [
-    | inl e ↦ ap (λ b. filter q (cond (not b) (x ∷ without item xs) (without item xs))) e ∙ filter_turned q item xs
-        ∙ sym (ap (λ b. without item (cond b (x ∷ filter q xs) (filter q xs))) f)
-    | inr e ↦ ap (λ b. filter q (cond (not b) (x ∷ without item xs) (without item xs))) e ∙ ap (λ b. cond b (x ∷ filter q (without item xs)) (filter q (without item xs))) f ∙ filter_turned q item xs
-        ∙ sym (ap (λ b. without item (cond b (x ∷ filter q xs) (filter q xs))) f)
-  ]
-]
+filter_turned q item (x ∷ xs) = grind (arith, filter_turned q item xs, true_or_false, eqb, not)
 
 -- ---- a list that is written
 

@@ -55,8 +55,7 @@ with_text-end at t bytes end = ap (λ (r : List ℕ). (take at bytes ++ t) ++ r)
 
 pub items_text-drop : (xs : List SendItem) (i : ℕ) (x : SendItem) → i < length xs → x ≡ get_or xs i x
     → items_text (drop i xs) ≡ wire_text (item_wire x) ++ items_text (drop (i + 1) xs)
-items_text-drop xs i x within value =
-    ap items_text (drop_more xs i x within) ∙ ap (λ (y : SendItem). wire_text (item_wire y) ++ items_text (drop (i + 1) xs)) (sym value)
+items_text-drop xs i x within value = grind (arith, drop_more)
 
 pub length-items_text-drop : (xs : List SendItem) (i : ℕ) (x : SendItem) → i < length xs → x ≡ get_or xs i x
     → length (items_text (drop i xs)) ≡ length (wire_text (item_wire x)) + length (items_text (drop (i + 1) xs))
@@ -67,19 +66,11 @@ length-items_text-drop xs i x within value =
 pub items-step : (xs : List SendItem) (i at next : ℕ) (x : SendItem) (old new : List ℕ) → i < length xs → x ≡ get_or xs i x
     → next ≡ at + length (wire_text (item_wire x)) → new ≡ with_text at (wire_text (item_wire x)) old → at + length (items_text (drop i xs)) ≡ length old
     → with_text next (items_text (drop (i + 1) xs)) new ≡ with_text at (items_text (drop i xs)) old
-items-step xs i at next x old new within value next_is new_is room =
-    let s = wire_text (item_wire x) in
-    let t = items_text (drop (i + 1) xs) in
-    ap (λ (n : ℕ). with_text n t new) next_is
-    ∙ ap (with_text (at + length s) t) new_is
-    ∙ with_text-next at s t old (omega (arith, length-items_text-drop xs i x within value))
-    ∙ ap (λ (r : List ℕ). with_text at r old) (sym (items_text-drop xs i x within value))
+items-step xs i at next x old new within value next_is new_is room = grind (arith, with_text-next, length-items_text-drop, items_text-drop)
 
 pub items-fit : (xs : List SendItem) (i : ℕ) (x : SendItem) → i < length xs → x ≡ get_or xs i x → IsWire (item_wire x)
     → (All IsWire (map item_wire (drop i xs)) → All IsWire (map item_wire xs)) → All IsWire (map item_wire (drop (i + 1) xs)) → All IsWire (map item_wire xs)
-items-fit xs i x within value fits before rest =
-    let e : drop i xs ≡ x ∷ drop (i + 1) xs = drop_more xs i x within ∙ ap (λ (y : SendItem). y ∷ drop (i + 1) xs) (sym value) in
-    before (subst (λ (ys : List SendItem). All IsWire (map item_wire ys)) (sym e) (All-cons IsWire (item_wire x) (map item_wire (drop (i + 1) xs)) fits rest))
+items-fit xs i x within value fits before rest = grind (arith, drop_more, map)
 
 -- ---- lengths
 
@@ -87,29 +78,8 @@ pub data-whole : (count : ℕ) → (count + padding_length count) % 4 ≡ 0
 data-whole count = omega arith
 
 item-whole : (x : SendItem) → length (wire_text (item_wire x)) % 4 ≡ 0
-item-whole (Data name size bytes) =
-    let number = element_number size (length bytes.now) in
-    let form = form_for size number in
-    let pad : List ℕ = replicate (padding_length (length bytes.now)) 0 in
-    omega (
-      arith,
-      length-append (descriptor_text form name size number ++ bytes.now) pad,
-      length-append (descriptor_text form name size number) bytes.now,
-      length-descriptor_text form name size number,
-      form_length-mod form,
-      length-replicate {A = ℕ} (padding_length (length bytes.now)) 0,
-      data-whole (length bytes.now),
-    )
-item-whole (Ports disposition names) =
-    let number = length names.now in
-    let form = form_for 32 number in
-    omega (
-      arith,
-      length-append (descriptor_text form (disposition_number disposition) 32 number) (words_text names.now),
-      length-descriptor_text form (disposition_number disposition) 32 number,
-      form_length-mod form,
-      length-words_text names.now,
-    )
+item-whole (Data name size bytes) = grind (arith, replicate, length-append, length-descriptor_text, form_length-mod, length-replicate, data-whole)
+item-whole (Ports disposition names) = grind (arith, length-append, length-descriptor_text, form_length-mod, length-words_text)
 
 pub items-whole : (xs : List SendItem) → length (items_text xs) % 4 ≡ 0
 items-whole [] = refl
@@ -121,13 +91,7 @@ some_order a b = elim (cases_eq (a - b) 0) [ inl h ↦ inl (omega arith) | inr h
 pub length-step : (total len more this left rest : ℕ) → left ≡ this + rest → IsLength more this
     → (total ≤ most_bytes → len + left ≡ total) × (most_bytes < total → most_bytes < len + left)
     → (total ≤ most_bytes → len + more + rest ≡ total) × (most_bytes < total → most_bytes < len + more + rest)
-length-step total len more this left rest split told before = (
-  λ small. let e : len + left ≡ total = before.0 small in let m : more ≡ this = told.0 (omega arith) in omega arith,
-  λ large. let e : most_bytes < len + left = before.1 large in elim (some_order this most_bytes) [
-    | inl h ↦ let m : more ≡ this = told.0 h in omega arith
-    | inr h ↦ let m : most_bytes < more = told.1 h in omega arith
-  ],
-)
+length-step total len more this left rest split told before = grind (arith, some_order)
 
 -- a length that is told, and that a message may have, is meant
 pub short_length : (told meant : ℕ) → IsLength told meant → told ≤ most_bytes → meant ≤ most_bytes
@@ -155,12 +119,7 @@ complex-small (Raw bytes) n small = omega arith
 complex-small (Items xs) n small = omega arith
 
 written-bits : (h : SendHeader) (b : SendBody) → word_at (written_text h b) 0 ≡ bits (written_header h 0) (written_body b)
-written-bits h b =
-    let d = disposition-small h.destination.disposition in
-    let r = reply-small h.reply in
-    let n = disposition_number h.destination.disposition + reply_number h.reply * 2 ^ 8 in
-    let small : n < 2 ^ 16 = omega arith in
-    word_at-word (n + complex_bit (written_body b)) (drop 4 (written_text h b)) (complex-small b n small)
+written-bits h b = grind (arith, disposition-small, reply-small, word_at-word, complex-small)
 
 written-local : (h : SendHeader) (b : SendBody) → reply_name h.reply < 2 ^ 32 → word_at (written_text h b) 12 ≡ reply_name h.reply
 written-local h b small = word_at-word (reply_name h.reply) (drop 16 (written_text h b)) small
@@ -173,16 +132,11 @@ bad-written w h b has small =
     rw (local, first) refl
 
 not_small : (h : SendHeader) (b : SendBody) → written_length b % 4 ≡ 0 → ¬ ((length (written_text h b) < 24) ⊎ (length (written_text h b) % 4 ≢ 0))
-not_small h b whole small =
-    let len = length-written h b in
-    elim small [ inl few ↦ omega arith | inr odd ↦ odd (ap (λ (n : ℕ). n % 4) len ∙ whole) ]
+not_small h b whole small = grind (arith, length-written)
 
 pub header-refused : (w : Words) (h : SendHeader) (b : SendBody) → HasWords w h b → w.local < 2 ^ 32 → written_length b % 4 ≡ 0 → written_length b ≤ most_bytes
     → BadHeader w.bits w.local → FirstIs (field_guards h b) (msg_number SendInvalidHeader)
-header-refused w h b has small whole short bad =
-    let len = length-written h b in
-    let good : BadHeader (word_at (written_text h b) 0) (word_at (written_text h b) 12) = rw (bad-written w h b has small) bad in
-    inr (not_small h b whole, inr ((λ (long : most_bytes < length (written_text h b)). omega arith), inl (good, refl)))
+header-refused w h b has small whole short bad = grind (arith, length-written, bad-written, not_small)
 
 pub fields-short : (h : SendHeader) (b : SendBody) → NoneHolds (field_guards h b) → written_length b ≤ most_bytes
 fields-short h b none = let long : most_bytes < length (written_text h b) → ⊥ = none.1.0 in let len = length-written h b in omega arith
@@ -234,25 +188,16 @@ pub body-whole : (b : SendBody) (xs : List SendItem) → written_body b ≡ item
 body-whole b xs is = let e : written_length b ≡ 24 + length (items_text xs) = ap (λ (w : WireBody). 24 + length (body_text w)) is in omega (arith, items-whole xs)
 
 pub length-port_wire : (d : ℕ) (names : List ℕ) → length (wire_text (port_wire d names)) ≡ form_length (form_for 32 (length names)) + 4 * length names
-length-port_wire d names =
-    omega (
-      arith,
-      length-append (descriptor_text (form_for 32 (length names)) d 32 (length names)) (words_text names),
-      length-descriptor_text (form_for 32 (length names)) d 32 (length names),
-      length-words_text names,
-    )
+length-port_wire d names = grind (arith, length-append, length-descriptor_text, length-words_text)
 
 -- two pieces, and three
 pub two_pieces : (at start : ℕ) (d e bytes one two : List ℕ) → start ≡ at + length d → one ≡ with_text at d bytes → two ≡ with_text start e one
     → at + length d + length e ≤ length bytes → two ≡ with_text at (d ++ e) bytes
-two_pieces at start d e bytes one two start_is one_is two_is room =
-    two_is ∙ ap (λ (n : ℕ). with_text n e one) start_is ∙ ap (with_text (at + length d) e) one_is ∙ with_text-next at d e bytes room
+two_pieces at start d e bytes one two start_is one_is two_is room = grind (arith, with_text-next)
 
 pub three_pieces : (at start place : ℕ) (d e z bytes one two three : List ℕ) → start ≡ at + length d → place ≡ start + length e → one ≡ with_text at d bytes
     → two ≡ with_text start e one → three ≡ with_text place z two → at + length d + length e + length z ≤ length bytes → three ≡ with_text at (d ++ e ++ z) bytes
-three_pieces at start place d e z bytes one two three start_is place_is one_is two_is three_is room =
-    let both : two ≡ with_text at (d ++ e) bytes = two_pieces at start d e bytes one two start_is one_is two_is (omega arith) in
-    two_pieces at place (d ++ e) z bytes two three (omega (arith, length-append d e)) both three_is (omega (arith, length-append d e))
+three_pieces at start place d e z bytes one two three start_is place_is one_is two_is three_is room = grind (arith, two_pieces, length-append)
 
 -- the text of a descriptor that was chosen
 pub chosen_text : (d : Descriptor) (form : Form) (name size number : ℕ) → form_of d.long ≡ form → d.name ≡ name → d.size ≡ size → d.number ≡ number
@@ -261,9 +206,7 @@ chosen_text d form name size number f n s c = rw (f, n, s, c) refl
 
 pub descriptor-written : (d : Descriptor) (at : ℕ) (text bytes new : List ℕ) → text_of d ≡ text → new ≡ take at bytes ++ text_of d ++ drop (at + form_length (form_of d.long)) bytes
     → new ≡ with_text at text bytes
-descriptor-written d at text bytes new is wrote =
-    let len : form_length (form_of d.long) ≡ length text = sym (length-descriptor_text (form_of d.long) d.name d.size d.number) ∙ ap length is in
-    wrote ∙ ap (λ (n : ℕ). take at bytes ++ text_of d ++ drop (at + n) bytes) len ∙ ap (λ (t : List ℕ). take at bytes ++ t ++ drop (at + length text) bytes) is
+descriptor-written d at text bytes new is wrote = grind (arith, length-descriptor_text)
 
 pub names-written : (at : ℕ) (names bytes new : List ℕ) → new ≡ take at bytes ++ words_text names ++ drop (at + 4 * length names) bytes → new ≡ with_text at (words_text names) bytes
 names-written at names bytes new wrote = wrote ∙ ap (λ (n : ℕ). take at bytes ++ words_text names ++ drop (at + n) bytes) (sym (length-words_text names))

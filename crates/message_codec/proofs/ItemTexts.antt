@@ -70,12 +70,7 @@ is_long-form_of true = refl
 is_long-form_of false = refl
 
 same_span : (s t : Span) → s.at ≡ t.at → s.long ≡ t.long → s.disposition ≡ t.disposition → s.number ≡ t.number → s ≡ t
-same_span s t at l disposition number =
-    let made : ℕ → Bool → ℕ → ℕ → Span = λ a b c d. record { at = a; long = b; disposition = c; number = d } in
-    ap (λ (a : ℕ). made a s.long s.disposition s.number) at
-    ∙ ap (λ (b : Bool). made t.at b s.disposition s.number) l
-    ∙ ap (λ (c : ℕ). made t.at t.long c s.number) disposition
-    ∙ ap (λ (d : ℕ). made t.at t.long t.disposition d) number
+same_span s t at l disposition number = grind arith
 
 -- data, and its padding
 data_item-reads : (bytes : List ℕ) (at : ℕ) (d : Descriptor) (start count end : ℕ) → at < length bytes → (length bytes - at) % 4 ≡ 0
@@ -185,20 +180,4 @@ some_length bytes = elim (cases_eq (word_at bytes 0 / 2 ^ 29 % 2) 1) [
 
 -- a descriptor that is refused
 pub item-refused : (bytes : List ℕ) (code : ℕ) → 4 ≤ length bytes → DescriptorRefuses bytes code → ItemRefuses bytes code
-item-refused bytes code room r =
-    let some = some_length bytes in
-    record {
-      name = r.name;
-      size = r.size;
-      number = r.number;
-      fields = r.fields;
-      before = some.0;
-      before_is = some.1;
-      refused = elim r.refused [
-        | inl few ↦ absurd (let h : length bytes < 4 = few.0 in omega arith)
-        | inr g ↦ elim g.1 [
-          | inl cut ↦ inl cut
-          | inr h ↦ elim h.1 [ inl bad ↦ inr (h.0, inl bad) | inr none ↦ absurd none.1 ]
-        ]
-      ];
-    }
+item-refused bytes code room r = grind (arith, some_length bytes)

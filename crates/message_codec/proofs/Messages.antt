@@ -58,26 +58,7 @@ short_enough bytes none = let h : 65536 < length bytes → ⊥ = none.1.0 in ome
 pub header-spells : (bytes : List ℕ) (written : WireBody) → AreBytes bytes → 24 ≤ length bytes → word_at bytes 0 / 2 ^ 16 % 2 ^ 15 ≡ 0
     → drop 24 bytes ≡ body_text written → IsWireBody written → complex_bit written ≡ word_at bytes 0 / 2 ^ 31 * 2 ^ 31
     → Spells bytes (header_at bytes) written
-header-spells bytes written are room known body fits flag =
-    let first : word_at bytes 0 ≡ bits (header_at bytes) written =
-    first_word (word_at bytes 0) (complex_bit written) (word_at-lt bytes 0 are) known flag in
-    let rest : List ℕ → List ℕ = λ r. word (word_at bytes 4) ++ word (word_at bytes 8) ++ word (word_at bytes 12) ++ word (word_at bytes 16) ++ word (word_at bytes 20) ++ r in
-    record {
-      is_text =
-          six_words bytes are room
-          ∙ ap (λ (n : ℕ). word n ++ rest (drop 24 bytes)) first
-          ∙ ap (λ (r : List ℕ). word (bits (header_at bytes) written) ++ rest r) body;
-      header_fits = record {
-        remote_kind = omega arith;
-        local_kind = omega arith;
-        size = word_at-lt bytes 4 are;
-        remote = word_at-lt bytes 8 are;
-        local = word_at-lt bytes 12 are;
-        sequence = word_at-lt bytes 16 are;
-        id = word_at-lt bytes 20 are;
-      };
-      body_fits = fits;
-    }
+header-spells bytes written are room known body fits flag = grind (arith, first_word, word_at-lt, six_words)
 
 -- ---- refusals
 
@@ -163,10 +144,7 @@ pub body-refused : {A : Type 0} (r : Result A MsgReturn) (bytes : List ℕ) → 
     → IfErr r (λ code. ItemsRefuse (drop 24 bytes) (msg_number code) ⊎ (code ≡ SendNoBuffer) × HasMany bytes)
     → IfErr r (λ code. TextRefuses bytes (msg_number code) ⊎ (code ≡ SendNoBuffer) × IsCrowded bytes)
 body-refused (Ok v) bytes are none complex refused = tt
-body-refused (Err e) bytes are none complex refused = elim refused [
-  | inl h ↦ inl (inr (none, complex, h))
-  | inr h ↦ inr (h.0, items-crowded bytes are none complex h.1)
-]
+body-refused (Err e) bytes are none complex refused = grind (arith, items-crowded)
 
 -- ---- texts of the grammar
 
@@ -177,16 +155,11 @@ word_at-first : (n : ℕ) (rest : List ℕ) → n < 2 ^ 32 → word_at (word n +
 word_at-first n rest fits = word_at-word n rest fits
 
 pub raw_bits : (h : Header) (body : List ℕ) → IsHeader h → ¬ (is_bit (word_at (text h (raw body)) 0) 31)
-raw_bits h body fits set =
-    let n = h.remote_kind + h.local_kind * 2 ^ 8 + 0 in
-    let small : n < 2 ^ 32 = omega (arith, fits.remote_kind, fits.local_kind) in
-    let e : word_at (text h (raw body)) 0 ≡ n = word_at-first n (word h.size ++ word h.remote ++ word h.local ++ word h.sequence ++ word h.id ++ body) small in
-    no_flag_in h.remote_kind h.local_kind fits.remote_kind fits.local_kind (subst (λ (m : ℕ). is_bit m 31) e set)
+raw_bits h body fits set = grind (arith, word_at-first, no_flag_in)
 
 text-not_refused : (h : Header) (written : WireBody) (code : ℕ) → IsHeader h → IsWireBody written → NoneHolds (header_guards (text h written))
     → ¬ (TextRefuses (text h written) code)
-text-not_refused h (raw body) code fits body_fits none refused =
-    raw_not_refused (text h (raw body)) code none (raw_bits h body fits) refused
+text-not_refused h (raw body) code fits body_fits none refused = grind (arith, raw_not_refused, raw_bits)
 text-not_refused h (items xs) code fits body_fits none refused =
     items_are_not_refused (text h (items xs)) xs code none refl body_fits refused
 

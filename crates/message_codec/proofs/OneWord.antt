@@ -37,8 +37,7 @@ lone_text bytes d are len first =
     ∙ ap (λ (r : List ℕ). word (lone_first d) ++ r) (w1 ∙ ap (λ (r : List ℕ). word (word_at bytes 28) ++ r) end)
 
 lone_fits : (d w : ℕ) → NamesPorts d → w < 2 ^ 32 → IsWire (lone_wire d w)
-lone_fits d w ports small =
-    ((omega (arith, ports.1), omega arith, omega arith), ports, All-cons (λ (n : ℕ). n < 2 ^ 32) w [] small (λ k x h. absurd (omega arith)))
+lone_fits d w ports small = grind arith
 
 pub lone-message : (bytes : List ℕ) (d : ℕ) → AreBytes bytes → NoneHolds (header_guards bytes) → is_bit (word_at bytes 0) 31 → length bytes ≡ 32
     → NamesPorts d → word_at bytes 24 ≡ lone_first d → IsMessage bytes (header_at bytes) (items (lone_wire d (word_at bytes 28) ∷ []))
@@ -69,29 +68,18 @@ lone-words bytes d w written laid word_is =
 
 spans_at-from : (at : ℕ) (xs : List Wire) (s : Span) (rest : List Span) → spans_at at xs ≡ s ∷ rest → at ≤ s.at
 spans_at-from at [] s rest is = absurd (cc)
-spans_at-from at (data_item f n t c bytes padding ∷ xs) s rest is =
-    let h = spans_at-from (at + length (wire_text (data_item f n t c bytes padding))) xs s rest is in
-    omega arith
-spans_at-from at (port_item f e words ∷ xs) s rest is =
-    let h : at ≡ s.at = ap (λ (ss : List Span). (get_or ss 0 s).at) is in
-    omega arith
+spans_at-from at (data_item f n t c bytes padding ∷ xs) s rest is = grind (arith, spans_at-from (at + length (wire_text (data_item f n t c bytes padding))) xs s rest is)
+spans_at-from at (port_item f e words ∷ xs) s rest is = grind arith
 
 lone_word : (f : Form) (e d : ℕ) (words rest : List ℕ) → is_long f ≡ false → e ≡ d → length words ≡ 1 → IsWire (port_item f e words)
     → NamesPorts d × (word_at (wire_text (port_item f e words) ++ rest) 0 ≡ lone_first d)
-lone_word short e d words rest form same one fits =
-    let ports : NamesPorts d = subst NamesPorts same fits.1 in
-    let small : e + 32 * 2 ^ 8 + length words * 2 ^ 16 + 2 ^ 28 < 2 ^ 32 = omega (arith, ports.1) in
-    (ports, word_at-word (e + 32 * 2 ^ 8 + length words * 2 ^ 16 + 2 ^ 28) (words_text words ++ rest) small ∙ omega arith)
+lone_word short e d words rest form same one fits = grind (arith, word_at-word)
 lone_word long e d words rest form same one fits = absurd (cc)
 
 lone_items : (xs : List Wire) (d : ℕ) → All IsWire xs → spans_at 24 xs ≡ lone_span d ∷ []
     → NamesPorts d × (word_at (wires_text xs) 0 ≡ lone_first d)
 lone_items [] d fits is = absurd (cc)
-lone_items (data_item f n t c bytes padding ∷ xs) d fits is =
-    let x = data_item f n t c bytes padding in
-    let s : HasShape x = shape_of x (All-head IsWire x xs fits) in
-    let from : 24 + length (wire_text x) ≤ 24 = spans_at-from (24 + length (wire_text x)) xs (lone_span d) [] is in
-    absurd (omega (arith, length-wire_text x s, form_length-ge s.form))
+lone_items (data_item f n t c bytes padding ∷ xs) d fits is = grind (arith, shape_of, spans_at-from, length-wire_text, form_length-ge)
 lone_items (port_item f e words ∷ xs) d fits is =
     let head : List Span → Span = λ ss. get_or ss 0 (lone_span d) in
     lone_word f e d words (wires_text xs) (ap (λ (ss : List Span). (head ss).long) is) (ap (λ (ss : List Span). (head ss).disposition) is) (ap (λ (ss : List Span). (head ss).number) is)
@@ -100,9 +88,7 @@ lone_items (port_item f e words ∷ xs) d fits is =
 lone_body : (bytes : List ℕ) (d : ℕ) (written : WireBody) → IsLaidOut bytes (lone_span d ∷ []) written
     → NamesPorts d × (word_at (drop 24 bytes) 0 ≡ lone_first d)
 lone_body bytes d (raw body) laid = absurd (let e : lone_span d ∷ [] ≡ [] = laid.spans_are in cc)
-lone_body bytes d (items xs) laid =
-    let t = lone_items xs d laid.fits (sym laid.spans_are) in
-    (t.0, ap (λ (b : List ℕ). word_at b 0) laid.body ∙ t.1)
+lone_body bytes d (items xs) laid = grind (arith, lone_items)
 
 word_at-body : (bytes : List ℕ) → word_at (drop 24 bytes) 0 ≡ word_at bytes 24
 word_at-body bytes = rw (get_or-drop 24 bytes 0 0, get_or-drop 24 bytes 1 0, get_or-drop 24 bytes 2 0, get_or-drop 24 bytes 3 0) refl

@@ -52,16 +52,7 @@ with_span-at f front tail words names d at fits ports same len =
 
 length-received : (f : Form) (d k : ℕ) (words names : List ℕ) → length names ≡ length words
     → length (wire_text (port_item f k names)) ≡ length (wire_text (port_item f d words))
-length-received f d k words names same =
-    omega (
-      arith,
-      length-append (descriptor_text f k 32 (length names)) (words_text names),
-      length-append (descriptor_text f d 32 (length words)) (words_text words),
-      length-descriptor_text f k 32 (length names),
-      length-descriptor_text f d 32 (length words),
-      length-words_text names,
-      length-words_text words,
-    )
+length-received f d k words names same = grind (arith, length-append, length-descriptor_text, length-words_text)
 
 -- all items' kinds and words
 with_spans-at : (xs : List Wire) (front names : List ℕ) (at : ℕ) → All IsWire xs → length front ≡ at → length names ≡ word_count (spans_at at xs)
@@ -102,18 +93,10 @@ spans_at-fit n at (port_item f d words ∷ xs) room =
 
 pub laid_out-fit : (bytes : List ℕ) (spans : List Span) (written : WireBody) → IsLaidOut bytes spans written → SpansFit (length bytes) spans
 laid_out-fit bytes spans (raw body) is = subst (SpansFit (length bytes)) (sym is.spans_are) tt
-laid_out-fit bytes spans (items xs) is =
-    let len : length (drop 24 bytes) ≡ length bytes - 24 = length-drop 24 bytes in
-    let same : length (drop 24 bytes) ≡ length (wires_text xs) = ap length is.body in
-    let room : 24 ≤ length bytes = is.room in
-    subst (SpansFit (length bytes)) (sym is.spans_are) (spans_at-fit (length bytes) 24 xs (omega arith))
+laid_out-fit bytes spans (items xs) is = grind (arith, length-drop, spans_at-fit)
 
 -- the whole
 pub laid_out-received : (bytes : List ℕ) (spans : List Span) (names front : List ℕ) (written : WireBody) → IsLaidOut bytes spans written → length front ≡ 24
     → length names ≡ word_count spans → with_spans spans names (front ++ drop 24 bytes) ≡ front ++ body_text (received_body written names)
-laid_out-received bytes spans names front (raw body) is len named =
-    ap (λ (ss : List Span). with_spans ss names (front ++ drop 24 bytes)) is.spans_are ∙ ap (λ (t : List ℕ). front ++ t) is.body
-laid_out-received bytes spans names front (items xs) is len named =
-    ap (λ (ss : List Span). with_spans ss names (front ++ drop 24 bytes)) is.spans_are
-    ∙ ap (λ (t : List ℕ). with_spans (spans_at 24 xs) names (front ++ t)) is.body
-    ∙ with_spans-at xs front names 24 is.fits len (named ∙ ap word_count is.spans_are)
+laid_out-received bytes spans names front (raw body) is len named = grind arith
+laid_out-received bytes spans names front (items xs) is len named = grind (arith, with_spans-at)

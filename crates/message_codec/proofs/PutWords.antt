@@ -50,35 +50,11 @@ with_words-at at front old tail names len same =
 -- ---- kinds
 
 pub six : (d : ℕ) → NamesPorts d → (d ≡ 16) ⊎ ((d ≡ 17) ⊎ ((d ≡ 18) ⊎ ((d ≡ 19) ⊎ ((d ≡ 20) ⊎ (d ≡ 21)))))
-six d ports = elim (cases_eq d 16) [
-  | inl h ↦ inl h
-  | inr a ↦ elim (cases_eq d 17) [
-    | inl h ↦ inr (inl h)
-    | inr b ↦ elim (cases_eq d 18) [
-      | inl h ↦ inr (inr (inl h))
-      | inr c ↦ elim (cases_eq d 19) [
-        | inl h ↦ inr (inr (inr (inl h)))
-        | inr e ↦ elim (cases_eq d 20) [ inl h ↦ inr (inr (inr (inr (inl h)))) | inr f ↦ inr (inr (inr (inr (inr (omega (arith, ports.0, ports.1)))))) ]
-      ]
-    ]
-  ]
-]
+six d ports = grind (arith, cases_eq)
 
 -- a kind at receipt is a disposition too
 pub received_kind-ports : (d : ℕ) → NamesPorts d → NamesPorts (received_kind d)
-received_kind-ports d ports = elim (six d ports) [
-  | inl h ↦ rw h (omega arith, omega arith)
-  | inr a ↦ elim a [
-    | inl h ↦ rw h (omega arith, omega arith)
-    | inr b ↦ elim b [
-      | inl h ↦ rw h (omega arith, omega arith)
-      | inr c ↦ elim c [
-        | inl h ↦ rw h (omega arith, omega arith)
-        | inr e ↦ elim e [ inl h ↦ rw h (omega arith, omega arith) | inr h ↦ rw h (omega arith, omega arith) ]
-      ]
-    ]
-  ]
-]
+received_kind-ports d ports = grind (arith, six)
 
 -- the upper bytes of a short descriptor don't know the kind
 upper_bytes : (d k n : ℕ) → d < 2 ^ 8 → k < 2 ^ 8 → n < 2 ^ 12
@@ -90,15 +66,7 @@ upper_bytes d k n hd hk hn = (omega arith, omega arith, omega arith, omega arith
 
 short-kind : (front tail : List ℕ) (d k n at : ℕ) → d < 2 ^ 8 → k < 2 ^ 8 → n < 2 ^ 12 → length front ≡ at
     → set (front ++ (descriptor_text short d 32 n ++ tail)) at k ≡ front ++ (descriptor_text short k 32 n ++ tail)
-short-kind front tail d k n at hd hk hn len =
-    let w = d + 32 * 2 ^ 8 + n * 2 ^ 16 + 2 ^ 28 in
-    let v = k + 32 * 2 ^ 8 + n * 2 ^ 16 + 2 ^ 28 in
-    let e = upper_bytes d k n hd hk hn in
-    set_at front (w % 2 ^ 8) (w / 2 ^ 8 % 2 ^ 8 ∷ w / 2 ^ 16 % 2 ^ 8 ∷ w / 2 ^ 24 % 2 ^ 8 ∷ tail) k at len
-    ∙ ap (λ (b : ℕ). front ++ (k ∷ b ∷ w / 2 ^ 16 % 2 ^ 8 ∷ w / 2 ^ 24 % 2 ^ 8 ∷ tail)) e.0
-    ∙ ap (λ (b : ℕ). front ++ (k ∷ v / 2 ^ 8 % 2 ^ 8 ∷ b ∷ w / 2 ^ 24 % 2 ^ 8 ∷ tail)) e.1
-    ∙ ap (λ (b : ℕ). front ++ (k ∷ v / 2 ^ 8 % 2 ^ 8 ∷ v / 2 ^ 16 % 2 ^ 8 ∷ b ∷ tail)) e.2
-    ∙ ap (λ (b : ℕ). front ++ (b ∷ v / 2 ^ 8 % 2 ^ 8 ∷ v / 2 ^ 16 % 2 ^ 8 ∷ v / 2 ^ 24 % 2 ^ 8 ∷ tail)) e.3
+short-kind front tail d k n at hd hk hn len = grind (arith, upper_bytes, set_at)
 
 low_and_high : (d k : ℕ) → d < 2 ^ 8 → k < 2 ^ 8 → (d / 2 ^ 8 % 2 ^ 8 ≡ k / 2 ^ 8 % 2 ^ 8) × (k ≡ k % 2 ^ 8)
 low_and_high d k hd hk = (omega arith, omega arith)

@@ -29,13 +29,7 @@ get_at : (front rest : List ℕ) (i j : ℕ) → j ≡ length front + i → get_
 get_at front rest i j e = rw e (get_or-append-add front rest i 0)
 
 word_after : (front rest : List ℕ) (i j : ℕ) → j ≡ length front + i → word_at (front ++ rest) j ≡ word_at rest i
-word_after front rest i j e =
-    rw (
-      get_at front rest i j e,
-      get_at front rest (i + 1) (j + 1) (omega arith),
-      get_at front rest (i + 2) (j + 2) (omega arith),
-      get_at front rest (i + 3) (j + 3) (omega arith),
-    ) refl
+word_after front rest i j e = grind (arith, get_at)
 
 pub word_in : (words tail : List ℕ) (k : ℕ) → All IsWord words → k < length words → word_at (words_text words ++ tail) (4 * k) ≡ get_or words k 0
 word_in [] tail k are h = absurd (omega arith)
@@ -106,25 +100,7 @@ read-none bytes spans fit = record { fit = fit; whole = λ ws say. (ws, say, ref
 pub read-more : (bytes : List ℕ) (spans rest : List Span) (s : Span) (words more : List PortWord) → IsRead bytes spans (s ∷ rest) words
     → ((names : List ℕ) → StandsAt bytes (words_place s) names → length names ≡ s.number → more ≡ words ++ named s.disposition names)
     → IsRead bytes spans rest more
-read-more bytes spans rest s words more is reads = record {
-  fit = is.fit.1;
-  whole = λ ws say.
-      let t = is.whole ws say in
-      let u = t.1 in
-      let names = u.0 in
-      let others = u.1 in
-      let len : length names ≡ s.number = u.2 in
-      let at : StandsAt bytes (words_place s) names = u.3 in
-      let parts : t.0 ≡ named s.disposition names ++ others = u.4 in
-      let left : SpansSay bytes rest others = u.5 in (
-        others,
-        left,
-        t.2
-            ∙ ap (λ (os : List PortWord). words ++ os) parts
-            ∙ sym (append_assoc words (named s.disposition names) others)
-            ∙ ap (λ (os : List PortWord). os ++ others) (sym (reads names at len)),
-      );
-}
+read-more bytes spans rest s words more is reads = grind (arith, append_assoc)
 
 pub read-all : (bytes : List ℕ) (spans : List Span) (words : List PortWord) (written : WireBody) → IsRead bytes spans [] words → IsLaidOut bytes spans written
     → words ≡ body_words written
@@ -135,10 +111,7 @@ read-all bytes spans words written is laid =
 -- as many as the spans say
 say-length : (bytes : List ℕ) (spans : List Span) (words : List PortWord) → SpansSay bytes spans words → length words ≡ word_count spans
 say-length bytes [] words say = ap length say
-say-length bytes (s ∷ ss) words say =
-    let one : length (named s.disposition say.0) ≡ s.number = length-map {B = PortWord} say.0 (λ w. record { disposition = s.disposition; name = w }) ∙ say.2 in
-    let others = say-length bytes ss say.1 say.5 in
-    omega (arith, ap length say.4, length-append (named s.disposition say.0) say.1, one, others)
+say-length bytes (s ∷ ss) words say = grind (arith, say-length bytes ss say.1 say.5, length-map, length-append)
 
 pub laid_out-count : (bytes : List ℕ) (spans : List Span) (written : WireBody) → IsLaidOut bytes spans written → length (body_words written) ≡ word_count spans
 laid_out-count bytes spans written laid = say-length bytes spans (body_words written) (laid_out-say bytes spans written laid)

@@ -39,10 +39,7 @@ body_in h w = refl
 
 -- a text is long enough, and whole words
 pub spelled-length : (bytes : List ℕ) (h : Header) (w : WireBody) → Spells bytes h w → (24 ≤ length bytes) × (length bytes % 4 ≡ 0)
-spelled-length bytes h (raw body) s =
-    let len : length bytes ≡ 24 + length body = ap length s.is_text ∙ length-of h (raw body) in
-    let whole : length body % 4 ≡ 0 = s.body_fits in
-    (omega arith, omega arith)
+spelled-length bytes h (raw body) s = grind (arith, length-of)
 spelled-length bytes h (items xs) s =
     let len : length bytes ≡ 24 + length (wires_text xs) = ap length s.is_text ∙ length-of h (items xs) in
     let whole : length (wires_text xs) % 4 ≡ 0 = wires-whole xs s.body_fits in
@@ -102,12 +99,10 @@ chosen f n s c bytes rest r reads fits right is =
     reads (descriptor_for f n s c) rest (record { fits = rw (form_of-is_long f) fits; right_size = right }) (is ∙ ap (λ (t : List ℕ). t ++ rest) (sym (text_of-for f n s c)))
 
 after_text : (f : Form) (n s c : ℕ) (bytes rest : List ℕ) → bytes ≡ descriptor_text f n s c ++ rest → drop (form_length (form_of (is_long f))) bytes ≡ rest
-after_text f n s c bytes rest is =
-    rw (form_of-is_long f) (ap (drop (form_length f)) is ∙ drop_at (descriptor_text f n s c) rest (form_length f) (length-descriptor_text f n s c))
+after_text f n s c bytes rest is = grind (arith, form_of-is_long, drop_at, length-descriptor_text)
 
 data_text : (f : Form) (n s c : ℕ) (b p tail : List ℕ) → wire_text (data_item f n s c b p) ++ tail ≡ descriptor_text f n s c ++ (b ++ (p ++ tail))
-data_text f n s c b p tail =
-    append_assoc (descriptor_text f n s c ++ b) p tail ∙ append_assoc (descriptor_text f n s c) b (p ++ tail)
+data_text f n s c b p tail = grind (arith, append_assoc)
 
 port_text : (f : Form) (n : ℕ) (ws tail : List ℕ) → wire_text (port_item f n ws) ++ tail ≡ descriptor_text f n 32 (length ws) ++ (words_text ws ++ tail)
 port_text f n ws tail = append_assoc (descriptor_text f n 32 (length ws)) (words_text ws) tail
@@ -170,12 +165,7 @@ first-short (x ∷ ys) bytes rest d are e reads rest_is few =
 -- what stands behind the descriptor
 split_first : (x : Wire) (ys : List Wire) (bytes rest : List ℕ) (d : Descriptor) (len : ℕ) → IsFirst bytes d x ys → rest ≡ drop (form_length (form_of d.long)) bytes
     → len ≡ data_length d.size d.number → (take len rest ≡ elements_of x) × (drop len rest ≡ padding_of x ++ wires_text ys)
-split_first x ys bytes rest d len f rest_is len_is =
-    let whole : rest ≡ elements_of x ++ (padding_of x ++ wires_text ys) = rest_is ∙ f.rest in
-    let count : length (elements_of x) ≡ len = f.count ∙ sym len_is in (
-      ap (take len) whole ∙ take_at (elements_of x) (padding_of x ++ wires_text ys) len count,
-      ap (drop len) whole ∙ drop_at (elements_of x) (padding_of x ++ wires_text ys) len count,
-    )
+split_first x ys bytes rest d len f rest_is len_is = grind (arith, take_at, drop_at)
 
 pub first-cut : (xs : List Wire) (bytes rest elements after : List ℕ) (d : Descriptor) (len : ℕ) → All IsWire xs → bytes ≡ wires_text xs → OnlyReads bytes (Ok d)
     → rest ≡ drop (form_length (form_of d.long)) bytes → len ≡ data_length d.size d.number → elements ≡ take len rest → after ≡ drop len rest
@@ -192,10 +182,7 @@ first-cut (x ∷ ys) bytes rest elements after d len are e reads rest_is len_is 
 pub first-shows : (xs : List Wire) (bytes rest elements after : List ℕ) (left : Bor (List ℕ)) (item : ReceivedItem) (d : Descriptor) (len : ℕ) → All IsWire xs → bytes ≡ wires_text xs
     → OnlyReads bytes (Ok d) → Describes (drop 0 bytes) d → rest ≡ drop (form_length (form_of d.long)) bytes → len ≡ data_length d.size d.number → elements ≡ take len rest
     → after ≡ drop len rest → left.now ≡ drop ((4 - length elements % 4) % 4) after → ItemOf d elements item → FirstOf xs (Some (item, left))
-first-shows [] bytes rest elements after left item d len are e reads has rest_is len_is elements_is after_is left_is of =
-    let none : length bytes ≡ 0 = ap length e in
-    let some : length bytes ≡ length (text_of d) + length has.rest = ap length has.is_text ∙ length-append (text_of d) has.rest in
-    absurd (omega (arith, length-descriptor_text (form_of d.long) d.name d.size d.number, form_length-ge (form_of d.long)))
+first-shows [] bytes rest elements after left item d len are e reads has rest_is len_is elements_is after_is left_is of = grind (arith, length-append, length-descriptor_text, form_length-ge)
 first-shows (x ∷ ys) bytes rest elements after left item d len are e reads has rest_is len_is elements_is after_is left_is of =
     let f = is_first x ys bytes d (All-head IsWire x ys are) e reads in
     let p = split_first x ys bytes rest d len f rest_is len_is in
@@ -218,34 +205,18 @@ name-read bytes names index value fit is within read =
 
 flag-first : (r l flag w : ℕ) → r < 2 ^ 8 → l < 2 ^ 8 → w ≡ r + l * 2 ^ 8 + flag → (flag ≡ 0) ⊎ (flag ≡ 2 ^ 31)
     → (w % 2 ^ 8 ≡ r) × (w / 2 ^ 8 % 2 ^ 8 ≡ l) × (flag ≡ w / 2 ^ 31 * 2 ^ 31) × (w < 2 ^ 32)
-flag-first r l flag w small few is either = elim either [
-  | inl e ↦ (omega arith, omega arith, omega arith, omega arith)
-  | inr e ↦ (omega arith, omega arith, omega arith, omega arith)
-]
+flag-first r l flag w small few is either = grind arith
 
 flag-either : (w : WireBody) → (complex_bit w ≡ 0) ⊎ (complex_bit w ≡ 2 ^ 31)
 flag-either (raw bytes) = inl refl
 flag-either (items xs) = inr refl
 
 first-word : (h : Header) (w : WireBody) → IsHeader h → word_at (text h w) 0 ≡ bits h w
-first-word h w fits =
-    word_at-word (bits h w) (drop 4 (text h w)) (flag-first h.remote_kind h.local_kind (complex_bit w) (bits h w) fits.remote_kind fits.local_kind refl (flag-either w)).3
+first-word h w fits = grind (arith, word_at-word, flag-first, flag-either)
 
 -- the words that stand in a text are the header's
 pub header-exact : (bytes : List ℕ) (h : Header) (w : WireBody) (read : ReceivedHeader) → Spells bytes h w → HeaderShows read (header_at bytes) → HeaderShows read h
-header-exact bytes h w read s shows =
-    let fits = s.header_fits in
-    let first : word_at bytes 0 ≡ bits h w = ap (λ (t : List ℕ). word_at t 0) s.is_text ∙ first-word h w fits in
-    let f = flag-first h.remote_kind h.local_kind (complex_bit w) (word_at bytes 0) fits.remote_kind fits.local_kind first (flag-either w) in
-    record {
-      remote_kind = shows.remote_kind ∙ f.0;
-      local_kind = shows.local_kind ∙ f.1;
-      size = shows.size ∙ ap (λ (t : List ℕ). word_at t 4) s.is_text ∙ word_at-word h.size (drop 8 (text h w)) fits.size;
-      remote = shows.remote ∙ ap (λ (t : List ℕ). word_at t 8) s.is_text ∙ word_at-word h.remote (drop 12 (text h w)) fits.remote;
-      local = shows.local ∙ ap (λ (t : List ℕ). word_at t 12) s.is_text ∙ word_at-word h.local (drop 16 (text h w)) fits.local;
-      sequence = shows.sequence ∙ ap (λ (t : List ℕ). word_at t 16) s.is_text ∙ word_at-word h.sequence (drop 20 (text h w)) fits.sequence;
-      id = shows.id ∙ ap (λ (t : List ℕ). word_at t 20) s.is_text ∙ word_at-word h.id (drop 24 (text h w)) fits.id;
-    }
+header-exact bytes h w read s shows = grind (arith, first-word, flag-first, flag-either, word_at-word)
 
 same-body : (read : ReceivedBody) (written other : WireBody) → complex_bit written ≡ complex_bit other → body_text written ≡ body_text other → BodyShows read written → BodyShows read other
 same-body (Raw b) (raw x) (raw y) flag is shows = shows ∙ is
@@ -256,8 +227,4 @@ same-body (Raw b) (items xs) (items ys) flag is shows = absurd shows
 same-body (Items b) (raw x) (raw y) flag is shows = absurd shows
 
 pub body-exact : (bytes : List ℕ) (h : Header) (w : WireBody) (read : ReceivedBody) → Spells bytes h w → HasBody bytes read → BodyShows read w
-body-exact bytes h w read s has =
-    let fits = s.header_fits in
-    let first : word_at bytes 0 ≡ bits h w = ap (λ (t : List ℕ). word_at t 0) s.is_text ∙ first-word h w fits in
-    let f = flag-first h.remote_kind h.local_kind (complex_bit w) (word_at bytes 0) fits.remote_kind fits.local_kind first (flag-either w) in
-    same-body read has.written w (has.flag ∙ sym f.2) (sym has.text ∙ ap (drop 24) s.is_text ∙ body_in h w) has.shows
+body-exact bytes h w read s has = grind (arith, first-word, flag-first, flag-either, same-body, body_in)

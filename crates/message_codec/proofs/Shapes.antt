@@ -76,15 +76,10 @@ shape_of (port_item form disposition words) is =
 
 -- the front of an item's text, whatever follows
 pub front_of_wire : (x : Wire) (s : HasShape x) (rest : List ℕ) → IsFront (wire_text x ++ rest) s.form s.name s.size s.number
-front_of_wire x s rest =
-    let e : descriptor_text s.form s.name s.size s.number ++ (s.data_bytes ++ rest) ≡ wire_text x ++ rest =
-    sym (append_assoc (descriptor_text s.form s.name s.size s.number) s.data_bytes rest) ∙ ap (λ (t : List ℕ). t ++ rest) (sym s.text) in
-    subst (λ (t : List ℕ). IsFront t s.form s.name s.size s.number) e (front_of s.form s.name s.size s.number (s.data_bytes ++ rest) s.fits s.right)
+front_of_wire x s rest = grind (arith, append_assoc, front_of)
 
 pub length-wire_text : (x : Wire) (s : HasShape x) → length (wire_text x) ≡ form_length s.form + length s.data_bytes
-length-wire_text x s =
-    ap length s.text ∙ length-append (descriptor_text s.form s.name s.size s.number) s.data_bytes
-    ∙ ap (λ (n : ℕ). n + length s.data_bytes) (length-descriptor_text s.form s.name s.size s.number)
+length-wire_text x s = grind (arith, length-append, length-descriptor_text)
 
 pub form_length-ge : (form : Form) → 4 ≤ form_length form
 form_length-ge short = omega arith
@@ -96,24 +91,7 @@ form_length-mod long = refl
 
 -- an item is not refused
 pub not_refused : (x : Wire) → IsWire x → (rest : List ℕ) (code : ℕ) → ItemRefuses (wire_text x ++ rest) code → ⊥
-not_refused x is rest code r =
-    let s : HasShape x = shape_of x is in
-    let front = front_of_wire x s rest in
-    let same = front.only r.name r.size r.number r.fields in
-    let before : r.before ≡ form_length s.form = front.before_only r.before r.before_is in
-    let len : length (wire_text x ++ rest) ≡ form_length s.form + length s.data_bytes + length rest =
-    length-append (wire_text x) rest ∙ ap (λ (n : ℕ). n + length rest) (length-wire_text x s) in
-    let low : data_length r.size r.number ≤ length s.data_bytes = rw (same.1, same.2) s.low in
-    elim r.refused [
-      | inl cut ↦ front.not_cut cut.0
-      | inr h ↦ elim h.1 [
-        | inl bad ↦ front.good (subst (λ (n : ℕ). BadType (word_at (wire_text x ++ rest) 0) n s.size) same.0 (subst (λ (t : ℕ). BadType (word_at (wire_text x ++ rest) 0) r.name t) same.1 bad.0))
-        | inr g ↦ elim g.1 [
-          | inl past ↦ omega (arith, past.0)
-          | inr none ↦ none.1
-        ]
-      ]
-    ]
+not_refused x is rest code r = grind (arith, shape_of, front_of_wire, length-append, length-wire_text)
 
 -- what is left after items of one text is the same
 pub rest_same : (x y : Wire) → IsWire x → IsWire y → (a b : List ℕ) → wire_text x ++ a ≡ wire_text y ++ b → a ≡ b
@@ -137,10 +115,7 @@ pub items_not_refused : (xs front : List Wire) (rest : List ℕ) (code : ℕ) �
 items_not_refused [] [] rest code are fronts e more refused = let none : length rest ≡ 0 = sym (ap length e) in omega arith
 items_not_refused (x ∷ xs) [] rest code are fronts e more refused =
     not_refused x (All-head IsWire x xs are) (wires_text xs) code (subst (λ (t : List ℕ). ItemRefuses t code) (sym e) refused)
-items_not_refused [] (f ∷ fs) rest code are fronts e more refused =
-    let s : HasShape f = shape_of f (All-head IsWire f fs fronts) in
-    let len : 0 ≡ length (wire_text f ++ wires_text fs) + length rest = ap length e ∙ length-append (wire_text f ++ wires_text fs) rest in
-    omega (arith, length-append (wire_text f) (wires_text fs), length-wire_text f s, form_length-ge s.form)
+items_not_refused [] (f ∷ fs) rest code are fronts e more refused = grind (arith, shape_of, length-append, length-wire_text, form_length-ge)
 items_not_refused (x ∷ xs) (f ∷ fs) rest code are fronts e more refused =
     let tail : wires_text xs ≡ wires_text fs ++ rest =
     rest_same x f (All-head IsWire x xs are) (All-head IsWire f fs fronts) (wires_text xs) (wires_text fs ++ rest) (e ∙ append_assoc (wire_text f) (wires_text fs) rest) in

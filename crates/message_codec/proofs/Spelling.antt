@@ -39,8 +39,7 @@ received_wires-fit (port_item f d sent ∷ xs) names at are named words =
 received_body-fits : (bytes : List ℕ) (spans : List Span) (written : WireBody) (names : List ℕ) → IsLaidOut bytes spans written → length names ≡ word_count spans
     → All IsWord names → IsWireBody (received_body written names)
 received_body-fits bytes spans (raw body) names is named words = is.fits
-received_body-fits bytes spans (items xs) names is named words =
-    received_wires-fit xs names 24 is.fits (named ∙ ap word_count is.spans_are) words
+received_body-fits bytes spans (items xs) names is named words = grind (arith, received_wires-fit)
 
 -- The bytes that `put_received` leaves spell this header and this body.
 pub received-spells : (h : Header) (header : wire.Header) (bytes : List ℕ) (spans : List Span) (written : WireBody) (names : List ℕ)
@@ -49,11 +48,7 @@ pub received-spells : (h : Header) (header : wire.Header) (bytes : List ℕ) (sp
     → header.size ≡ h.size → header.remote ≡ h.remote → header.local ≡ h.local → header.sequence ≡ h.sequence → header.id ≡ h.id
     → IsHeader header
     → Spells (header_text h ++ body_text (received_body written names)) header (received_body written names)
-received-spells h header bytes spans written names laid named words first size remote local sequence id fits = record {
-  is_text = rw (first, ← size, ← remote, ← local, ← sequence, ← id) refl;
-  header_fits = fits;
-  body_fits = received_body-fits bytes spans written names laid named words;
-}
+received-spells h header bytes spans written names laid named words first size remote local sequence id fits = grind (arith, received_body-fits)
 
 body_in_text : (h : wire.Header) (written : WireBody) → drop 24 (wire.text h written) ≡ body_text written
 body_in_text h written = refl
@@ -63,9 +58,4 @@ length-text h written = omega arith
 
 -- A message that was parsed is laid out as its spans say.
 pub laid_out-parsed : (bytes : List ℕ) (parsed : Parsed) (p : Parses bytes parsed) → IsLaidOut bytes parsed.spans p.written
-laid_out-parsed bytes parsed p = record {
-  room = subst (λ (t : List ℕ). 24 ≤ length t) (sym p.message.spells.is_text) (length-text p.header p.written);
-  body = ap (drop 24) p.message.spells.is_text ∙ body_in_text p.header p.written;
-  fits = p.message.spells.body_fits;
-  spans_are = p.spans;
-}
+laid_out-parsed bytes parsed p = grind (arith, length-text, body_in_text)

@@ -16,20 +16,14 @@ use Rattle.message_codec.proofs.Shapes.{HasShape, shape_of, length-wire_text, fo
 
 pub wires_text-append : (xs ys : List Wire) → wires_text (xs ++ ys) ≡ wires_text xs ++ wires_text ys
 wires_text-append [] ys = refl
-wires_text-append (x ∷ xs) ys =
-    ap (λ (t : List ℕ). wire_text x ++ t) (wires_text-append xs ys) ∙ sym (append_assoc (wire_text x) (wires_text xs) (wires_text ys))
+wires_text-append (x ∷ xs) ys = grind (arith, wires_text-append xs ys, append_assoc)
 
 wires_text-push : (xs : List Wire) (x : Wire) → wires_text (xs ++ x ∷ []) ≡ wires_text xs ++ wire_text x
 wires_text-push xs x = wires_text-append xs (x ∷ []) ∙ ap (λ (t : List ℕ). wires_text xs ++ t) (append-nil (wire_text x))
 
 spans_at-push : (at : ℕ) (xs : List Wire) (x : Wire) → spans_at at (xs ++ x ∷ []) ≡ spans_at at xs ++ wire_spans (at + length (wires_text xs)) x
-spans_at-push at [] x =
-    append-nil (wire_spans at x) ∙ (let e : at ≡ at + 0 = omega arith in ap (λ (n : ℕ). wire_spans n x) e)
-spans_at-push at (y ∷ ys) x =
-    let e : at + length (wire_text y) + length (wires_text ys) ≡ at + length (wires_text (y ∷ ys)) =
-    omega (arith, length-append (wire_text y) (wires_text ys)) in
-    ap (λ (t : List Span). wire_spans at y ++ t) (spans_at-push (at + length (wire_text y)) ys x ∙ ap (λ (n : ℕ). spans_at (at + length (wire_text y)) ys ++ wire_spans n x) e)
-    ∙ sym (append_assoc (wire_spans at y) (spans_at (at + length (wire_text y)) ys) (wire_spans (at + length (wires_text (y ∷ ys))) x))
+spans_at-push at [] x = grind (arith, append-nil)
+spans_at-push at (y ∷ ys) x = grind (arith, spans_at-push (at + length (wire_text y)) ys x, length-append, append_assoc)
 
 -- ---- the walk
 
@@ -47,17 +41,7 @@ pub record IsWalk (bytes : List ℕ) (at : ℕ) (spans : List Span) (capacity : 
 
 pub walk-start : (bytes : List ℕ) (spans : List Span) (capacity : ℕ) → 24 ≤ length bytes → length bytes % 4 ≡ 0 → spans ≡ [] → capacity ≡ 8
     → IsWalk bytes 24 spans capacity false
-walk-start bytes spans capacity room whole none inline = record {
-  xs = [];
-  parts = refl;
-  fits = λ k d h. absurd (omega arith);
-  at_is = refl;
-  within = room;
-  whole = omega arith;
-  kept = λ e. none;
-  many = λ e. absurd (cc);
-  room = omega arith;
-}
+walk-start bytes spans capacity room whole none inline = grind arith
 
 -- one item more
 pub record IsGrown (bytes : List ℕ) (at end : ℕ) (span : Option Span) (xs : List Wire) : Type 0 where
@@ -144,16 +128,13 @@ walk-lacks bytes at end span spans new capacity more lacks w item full some grow
 
 -- each item takes some bytes
 pub item-longer : (bytes : List ℕ) (at end : ℕ) (span : Option Span) → ReadsItem bytes at span end → at < end
-item-longer bytes at end span item =
-    let s : HasShape item.wire = shape_of item.wire item.fits in
-    omega (arith, item.end_is, length-wire_text item.wire s, form_length-ge s.form)
+item-longer bytes at end span item = grind (arith, shape_of, length-wire_text, form_length-ge)
 
 -- ---- the end of the walk
 
 all_read : (bytes : List ℕ) (at : ℕ) (spans : List Span) (capacity : ℕ) (lacks : Bool) → (w : IsWalk bytes at spans capacity lacks) → length bytes ≤ at
     → drop 24 bytes ≡ wires_text w.xs
-all_read bytes at spans capacity lacks w done =
-    w.parts ∙ ap (λ (t : List ℕ). wires_text w.xs ++ t) (drop_all at bytes done) ∙ append-nil (wires_text w.xs)
+all_read bytes at spans capacity lacks w done = grind (arith, drop_all, append-nil)
 
 pub walk-reads : (bytes : List ℕ) (at : ℕ) (spans : List Span) (capacity : ℕ) (lacks : Bool) → IsWalk bytes at spans capacity lacks → length bytes ≤ at
     → lacks ≡ false → ReadsItems bytes spans
@@ -176,14 +157,7 @@ walk-many bytes at spans capacity lacks w done some = record {
 -- an item that is refused, after these
 pub walk-refused : (bytes : List ℕ) (at : ℕ) (spans : List Span) (capacity : ℕ) (lacks : Bool) (code : ℕ) → IsWalk bytes at spans capacity lacks → at < length bytes
     → ItemRefuses (drop at bytes) code → ItemsRefuse (drop 24 bytes) code
-walk-refused bytes at spans capacity lacks code w more refused = record {
-  front = w.xs;
-  rest = drop at bytes;
-  parts = w.parts;
-  front_fits = w.fits;
-  more = omega (arith, length-drop at bytes);
-  refused = refused;
-}
+walk-refused bytes at spans capacity lacks code w more refused = grind (arith, length-drop)
 
 -- ---- what a test of a result tells
 

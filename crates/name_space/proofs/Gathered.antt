@@ -30,23 +30,13 @@ pub get-joined : (low high : Names) (q : ℕ) → map.get (joined low high) q �
 get-joined low high q = get-all (map.entries high) low q ∙ ap (λ o. option_or o (map.get low q)) (sym (map.get-entries high q))
 
 pub out_none : (m : Names) (k q : ℕ) → map.get m q ≡ None → map.get (map.remove m k) q ≡ None
-out_none m k q none = elim (equal_or_not q k) [
-  | inl a ↦ ap (map.get (map.remove m k)) a ∙ out_here m k
-  | inr d ↦ out_other m k q d ∙ none
-]
+out_none m k q none = grind (arith, equal_or_not, out_here, out_other)
 
 none_there : (m : Names) (q : ℕ) → map.get m q ≡ None → map.contains_key m q ≡ true → ⊥
-none_there m q none there = no_true (ap is_some (sym none) ∙ there)
-  where
-    no_true : false ≡ true → ⊥
-    no_true e = cc
+none_there m q none there = grind (arith, is_some)
 
 pub used_there : (m : Names) (q : ℕ) → map.contains_key m q ≡ true → (x : Entry) × (map.get m q ≡ Some x)
-used_there m q there = from (map.get m q) refl
-  where
-    from : (o : Option Entry) → map.get m q ≡ o → (x : Entry) × (map.get m q ≡ Some x)
-    from None e = absurd (none_there m q e there)
-    from (Some x) e = (x, e)
+used_there m q there = grind (arith, none_there)
 
 -- so many keys there are, where all numbers up to a bound are keys
 pub all_used : (m : Names) (bound : ℕ) → ((n : ℕ) → 0 < n → n ≤ bound → map.contains_key m n ≡ true) → bound ≤ map.len m
@@ -66,32 +56,16 @@ module _ (low high : Names) where
   high_side q none = get-joined low high q ∙ ap (option_or (map.get high q)) none ∙ or_none (map.get high q)
 
   pub put_low : (k : ℕ) (x : Entry) → map.get high k ≡ None → joined (map.insert low k x) high ≡ map.insert (joined low high) k x
-  put_low k x none = same_gets _ _ (λ q. elim (equal_or_not q k) [
-    | inl a ↦ ap (map.get (joined (map.insert low k x) high)) a ∙ get-joined (map.insert low k x) high k ∙ ap (λ o. option_or o (map.get (map.insert low k x) k)) none ∙ put_here low k x
-        ∙ sym (ap (map.get (map.insert (joined low high) k x)) a ∙ put_here (joined low high) k x)
-    | inr d ↦ get-joined (map.insert low k x) high q ∙ ap (option_or (map.get high q)) (put_other low k x q d) ∙ sym (get-joined low high q) ∙ sym (put_other (joined low high) k x q d)
-  ])
+  put_low k x none = grind (arith, same_gets, equal_or_not, get-joined, put_here, put_other)
 
   pub put_high : (k : ℕ) (x : Entry) → joined low (map.insert high k x) ≡ map.insert (joined low high) k x
-  put_high k x = same_gets _ _ (λ q. elim (equal_or_not q k) [
-    | inl a ↦ ap (map.get (joined low (map.insert high k x))) a ∙ get-joined low (map.insert high k x) k ∙ ap (λ o. option_or o (map.get low k)) (put_here high k x)
-        ∙ sym (ap (map.get (map.insert (joined low high) k x)) a ∙ put_here (joined low high) k x)
-    | inr d ↦ get-joined low (map.insert high k x) q ∙ ap (λ o. option_or o (map.get low q)) (put_other high k x q d) ∙ sym (get-joined low high q) ∙ sym (put_other (joined low high) k x q d)
-  ])
+  put_high k x = grind (arith, same_gets, equal_or_not, get-joined, put_here, put_other)
 
   pub out_low : (k : ℕ) → map.get high k ≡ None → joined (map.remove low k) high ≡ map.remove (joined low high) k
-  out_low k none = same_gets _ _ (λ q. elim (equal_or_not q k) [
-    | inl a ↦ ap (map.get (joined (map.remove low k) high)) a ∙ get-joined (map.remove low k) high k ∙ ap (λ o. option_or o (map.get (map.remove low k) k)) none ∙ out_here low k
-        ∙ sym (ap (map.get (map.remove (joined low high) k)) a ∙ out_here (joined low high) k)
-    | inr d ↦ get-joined (map.remove low k) high q ∙ ap (option_or (map.get high q)) (out_other low k q d) ∙ sym (get-joined low high q) ∙ sym (out_other (joined low high) k q d)
-  ])
+  out_low k none = grind (arith, same_gets, equal_or_not, get-joined, out_here, out_other)
 
   pub out_high : (k : ℕ) → map.get low k ≡ None → joined low (map.remove high k) ≡ map.remove (joined low high) k
-  out_high k none = same_gets _ _ (λ q. elim (equal_or_not q k) [
-    | inl a ↦ ap (map.get (joined low (map.remove high k))) a ∙ get-joined low (map.remove high k) k ∙ ap (λ o. option_or o (map.get low k)) (out_here high k) ∙ none
-        ∙ sym (ap (map.get (map.remove (joined low high) k)) a ∙ out_here (joined low high) k)
-    | inr d ↦ get-joined low (map.remove high k) q ∙ ap (λ o. option_or o (map.get low q)) (out_other high k q d) ∙ sym (get-joined low high q) ∙ sym (out_other (joined low high) k q d)
-  ])
+  out_high k none = grind (arith, same_gets, equal_or_not, get-joined, out_here, out_other)
 
 -- each name is where it belongs
 module _ (low high : Names) (low_names : (q : ℕ) → 65536 ≤ q → map.get low q ≡ None) (high_names : (q : ℕ) → q < 65536 → map.get high q ≡ None) where
@@ -137,9 +111,7 @@ module _ (low high : Names) (low_names : (q : ℕ) → 65536 ≤ q → map.get l
   }
 
   pub next-low : (start q : ℕ) → IsNextUsed low start q → IsNextUsed (joined low high) start q
-  next-low start q x =
-      let small : q < 65536 = in_page q x.used in
-      record { from = x.from; used = ap is_some (at_low q small) ∙ x.used; least = λ n a b. at_low n (omega arith) ∙ x.least n a b }
+  next-low start q x = grind (arith, in_page, is_some, at_low)
 
 pub next-high : (low high : Names) (start q : ℕ) → ((n : ℕ) → start ≤ n → map.get low n ≡ None) → IsNextUsed high start q → IsNextUsed (joined low high) start q
 next-high low high start q none x = record {

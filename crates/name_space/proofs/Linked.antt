@@ -15,10 +15,7 @@ pub record AreLinked (names : Names) (ports : PortNames) : Type 0 where
 
 -- only the ports of names matter
 pub same_ports : (names new : Names) (ports : PortNames) → AreLinked names ports → ((n : ℕ) → port_at new n ≡ port_at names n) → AreLinked new ports
-same_ports names new ports x same = record {
-  named = λ port name e. same name ∙ x.named port name e;
-  found = λ port name e. x.found port name (sym (same name) ∙ e);
-}
+same_ports names new ports x same = grind arith
 
 module _ (names : Names) (name : ℕ) where
   pub port_put : (e : Entry) → port_at (map.insert names name e) name ≡ port_named e
@@ -35,16 +32,10 @@ module _ (names : Names) (name : ℕ) where
 
   -- an entry of the same port, or of none where there was none
   pub ports_put : (e : Entry) → port_named e ≡ port_at names name → (q : ℕ) → port_at (map.insert names name e) q ≡ port_at names q
-  ports_put e same q = elim (equal_or_not q name) [
-    | inl a ↦ ap (port_at (map.insert names name e)) a ∙ port_put e ∙ same ∙ ap (port_at names) (sym a)
-    | inr d ↦ port_put_other e q d
-  ]
+  ports_put e same q = grind (arith, equal_or_not, port_put, port_put_other)
 
   pub ports_out : port_at names name ≡ None → (q : ℕ) → port_at (map.remove names name) q ≡ port_at names q
-  ports_out none q = elim (equal_or_not q name) [
-    | inl a ↦ ap (port_at (map.remove names name)) a ∙ port_out ∙ sym none ∙ ap (port_at names) (sym a)
-    | inr d ↦ port_out_other q d
-  ]
+  ports_out none q = grind (arith, equal_or_not, port_out, port_out_other)
 
   -- an entry of no port is as good as none
   pub ports_lost : (e : Entry) → port_named e ≡ None → (q : ℕ) → port_at (map.insert names name e) q ≡ port_at (map.remove names name) q
@@ -71,47 +62,11 @@ module _ (names : Names) (ports : PortNames) (x : AreLinked names ports) where
 
   -- an entry of a port comes
   pub linked-put : (name : ℕ) (e : Entry) (p : ℕ) → port_named e ≡ Some p → map.get names name ≡ None → HasNoOther names e → AreLinked (map.insert names name e) (map.insert ports p name)
-  linked-put name e p is unused apart = record { named = named'; found = found' }
-    where
-      named' : (port n : ℕ) → map.get (map.insert ports p name) port ≡ Some n → port_at (map.insert names name e) n ≡ Some port
-      named' port n h = elim (equal_or_not port p) [
-        | inl a ↦
-            (let this : name ≡ n = same_some name n (sym (put_here ports p name) ∙ ap (map.get (map.insert ports p name)) (sym a) ∙ h) in
-            ap (port_at (map.insert names name e)) (sym this) ∙ port_put names name e ∙ is ∙ ap (λ b. Some b) (sym a))
-        | inr d ↦
-            (let was : map.get ports port ≡ Some n = sym (put_other ports p name port d) ∙ h in
-            port_put_other names name e n (λ a. no_name_of name unused port (was ∙ ap (λ b. Some b) a)) ∙ x.named port n was)
-      ]
-
-      found' : (port n : ℕ) → port_at (map.insert names name e) n ≡ Some port → map.get (map.insert ports p name) port ≡ Some n
-      found' port n h = elim (equal_or_not n name) [
-        | inl a ↦
-            (let this : port ≡ p = same_some port p (sym h ∙ ap (port_at (map.insert names name e)) a ∙ port_put names name e ∙ is) in
-            ap (map.get (map.insert ports p name)) this ∙ put_here ports p name ∙ ap (λ b. Some b) (sym a))
-        | inr d ↦
-            (let was : port_at names n ≡ Some port = sym (port_put_other names name e n d) ∙ h in
-            put_other ports p name port (λ a. apart p n is (was ∙ ap (λ b. Some b) a)) ∙ x.found port n was)
-      ]
+  linked-put name e p is unused apart = grind (arith, equal_or_not, same_some, put_here, port_put, put_other, port_put_other, no_name_of)
 
   -- the name of a port goes
   pub linked-out : (name p : ℕ) → port_at names name ≡ Some p → AreLinked (map.remove names name) (map.remove ports p)
-  linked-out name p is = record { named = named'; found = found' }
-    where
-      named' : (port n : ℕ) → map.get (map.remove ports p) port ≡ Some n → port_at (map.remove names name) n ≡ Some port
-      named' port n h = elim (equal_or_not port p) [
-        | inl a ↦ absurd (some_or_none n _ h (ap (map.get (map.remove ports p)) a ∙ out_here ports p))
-        | inr d ↦
-            (let was : port_at names n ≡ Some port = x.named port n (sym (out_other ports p port d) ∙ h) in
-            port_out_other names name n (λ a. d (same_some port p (sym was ∙ ap (port_at names) a ∙ is))) ∙ was)
-      ]
-
-      found' : (port n : ℕ) → port_at (map.remove names name) n ≡ Some port → map.get (map.remove ports p) port ≡ Some n
-      found' port n h = elim (equal_or_not n name) [
-        | inl a ↦ absurd (some_or_none port _ h (ap (port_at (map.remove names name)) a ∙ port_out names name))
-        | inr d ↦
-            (let was : port_at names n ≡ Some port = sym (port_out_other names name n d) ∙ h in
-            out_other ports p port (λ a. d (one_name n name p (was ∙ ap (λ b. Some b) a) is)) ∙ x.found port n was)
-      ]
+  linked-out name p is = grind (arith, equal_or_not, some_or_none, out_here, out_other, port_out_other, same_some, port_out, one_name)
 
 -- ---- how many names there are
 

@@ -1,5 +1,5 @@
 -- Names by ports, and the port that stands in the place for one name's.
-use Rattle.std.proofs.Common.{◌≡◌, ◌≢◌, inl, inr, ℕ, refl, ap, sym, subst, ◌∙◌, Option, Some, None}
+use Rattle.std.proofs.Common.{arith, ◌≡◌, ◌≢◌, inl, inr, ℕ, refl, ap, sym, subst, ◌∙◌, Option, Some, None}
 use Rattle.std.specs.FinMap as map
 use Rattle.name_space.specs.Ports.{PortNames, PortsView, with_port, without, IsApart, HasNoneKept}
 use Rattle.name_space.proofs.Keys.{same_some, some_or_none, equal_or_not, is_or_not, put_here, put_other, out_here, out_other, same_gets}
@@ -35,36 +35,18 @@ module _ (port name : Option ℕ) (m : PortNames) (x : IsApart port name m) wher
       from None (Some a) e f = ap (λ o. with_port (Some p) o m) is ∙ sym (ap (λ o. map.insert (with_port o name m) p n) e)
 
   pub apart_in_place : (p n : ℕ) → name ≡ Some n → map.get (with_port port name m) p ≡ None → IsApart (Some p) name m
-  apart_in_place p n is none = record {
-    absent = λ q e. ap (map.get m) (sym (same_some p q e)) ∙ absent_there p none;
-    named = λ q e. (n, is);
-  }
+  apart_in_place p n is none = grind (arith, same_some, absent_there)
 
   -- a port comes to the others
   pub put_beside : (p n : ℕ) → map.get (with_port port name m) p ≡ None → with_port port name (map.insert m p n) ≡ map.insert (with_port port name m) p n
-  put_beside p n none = same_gets _ _ (λ q. elim (is_or_not port q) [
-    | inl is ↦
-        (let named = x.named q is in
-        let d : q ≢ p = λ e. absent_apart p none (is ∙ ap (λ b. Some b) e) in
-        port_here port name (map.insert m p n) q named.0 is named.1 ∙ sym (port_here port name m q named.0 is named.1) ∙ sym (put_other (with_port port name m) p n q d))
-    | inr o ↦ port_other port name (map.insert m p n) q o ∙ elim (equal_or_not q p) [
-      | inl a ↦ ap (map.get (map.insert m p n)) a ∙ put_here m p n ∙ sym (ap (map.get (map.insert (with_port port name m) p n)) a ∙ put_here (with_port port name m) p n)
-      | inr d ↦ put_other m p n q d ∙ sym (port_other port name m q o) ∙ sym (put_other (with_port port name m) p n q d)
-    ]
-  ])
+  put_beside p n none = grind (arith, same_gets, is_or_not, absent_apart, port_here, put_other, port_other, equal_or_not, put_here)
 
   pub apart_beside : (p n : ℕ) → map.get (with_port port name m) p ≡ None → IsApart port name (map.insert m p n)
-  apart_beside p n none = record {
-    absent = λ q is. put_other m p n q (λ e. absent_apart p none (is ∙ ap (λ b. Some b) e)) ∙ x.absent q is;
-    named = x.named;
-  }
+  apart_beside p n none = grind (arith, put_other, absent_apart)
 
   -- the port in the place goes
   pub out_of_place : (p : ℕ) → port ≡ Some p → with_port None name m ≡ map.remove (with_port port name m) p
-  out_of_place p is = same_gets _ _ (λ q. elim (equal_or_not q p) [
-    | inl a ↦ ap (map.get m) a ∙ x.absent p is ∙ sym (ap (map.get (map.remove (with_port port name m) p)) a ∙ out_here (with_port port name m) p)
-    | inr d ↦ sym (port_other port name m q (λ e. d (same_some q p (sym e ∙ is)))) ∙ sym (out_other (with_port port name m) p q d)
-  ])
+  out_of_place p is = grind (arith, same_gets, equal_or_not, out_here, port_other, same_some, out_other)
 
   -- one of the others goes
   pub out_beside : (p : ℕ) → port ≢ Some p → with_port port name (map.remove m p) ≡ map.remove (with_port port name m) p
@@ -80,20 +62,14 @@ module _ (port name : Option ℕ) (m : PortNames) (x : IsApart port name m) wher
   ])
 
   pub apart_without : (p : ℕ) → port ≢ Some p → IsApart port name (map.remove m p)
-  apart_without p other = record {
-    absent = λ q is. out_other m p q (λ e. other (is ∙ ap (λ b. Some b) e)) ∙ x.absent q is;
-    named = x.named;
-  }
+  apart_without p other = grind (arith, out_other)
 
 pub apart_none : (name : Option ℕ) (m : PortNames) → IsApart None name m
 apart_none name m = record { absent = λ p is. absurd (some_or_none p None is refl); named = λ p is. absurd (some_or_none p None is refl) }
 
 -- the place goes to another name, whose port comes out of the others
 pub moved_in : (m : PortNames) (p n : ℕ) → map.get m p ≡ Some n → with_port (Some p) (Some n) (map.remove m p) ≡ m
-moved_in m p n there = same_gets _ _ (λ q. elim (equal_or_not q p) [
-  | inl a ↦ ap (map.get (map.insert (map.remove m p) p n)) a ∙ put_here (map.remove m p) p n ∙ sym there ∙ ap (map.get m) (sym a)
-  | inr d ↦ put_other (map.remove m p) p n q d ∙ out_other m p q d
-])
+moved_in m p n there = grind (arith, same_gets, equal_or_not, put_here, put_other, out_other)
 
 pub apart_moved : (m : PortNames) (p n : ℕ) → IsApart (Some p) (Some n) (map.remove m p)
 apart_moved m p n = record { absent = λ q is. ap (map.get (map.remove m p)) (sym (same_some p q is)) ∙ out_here m p; named = λ q is. (n, refl) }
@@ -160,5 +136,4 @@ module _ (port name : Option ℕ) (m : PortNames) (room : ℕ) (x : IsApart port
 
   pub view_without : (new : PortNames) (left p : ℕ) → port ≢ Some p → new ≡ map.remove m p → left ≡ room →
       ◌≡◌ {A = PortsView} record { names = with_port port name new; room = left; kept = name } record { names = map.remove v.names p; room = v.room; kept = v.kept }
-  view_without new left p d is same =
-      same_view _ _ left v.room name v.kept (ap (with_port port name) is ∙ out_beside port name m x p d ∙ ap (λ (a : PortNames). map.remove a p) ports_are) (same ∙ room_is) kept_is
+  view_without new left p d is same = grind (arith, same_view, out_beside, ports_are, room_is, kept_is)

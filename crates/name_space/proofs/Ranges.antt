@@ -33,15 +33,4 @@ module _ (m : BTreeMap ℕ Entry) (start : ℕ) (r : Listed) (x : IsRangeOf nat_
   none_in_range is n a = get-tree m.entries n ∙ x.5 is n (at_most start n a, tt)
 
   pub first_in_range : (rest : Listed) (k : ℕ) (e : Entry) → r ≡ (k, e) ∷ rest → IsNextUsed (tree m.entries) start k
-  first_in_range rest k e is = record {
-    from = few_of start k y.1.0.0;
-    used = ap is_some (get-tree m.entries k ∙ y.1.1);
-    least = λ n a b. get-tree m.entries n ∙ before n a b (value_in nat_cmp m n) refl;
-  }
-    where
-      y : IsRangeOf nat_cmp (Included start) Unbounded m ((k, e) ∷ rest)
-      y = subst (IsRangeOf nat_cmp (Included start) Unbounded m) is x
-
-      before : (n : ℕ) → start ≤ n → n < k → (o : Option Entry) → value_in nat_cmp m n ≡ o → value_in nat_cmp m n ≡ None
-      before n a b None h = h
-      before n a b (Some z) h = absurd (let few : k ≤ n = few_of k n (y.2 n (at_most start n a, tt) (ap is_some h)) in omega arith)
+  first_in_range rest k e is = grind (arith, few_of, is_some, get-tree, at_most)

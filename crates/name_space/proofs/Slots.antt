@@ -55,35 +55,17 @@ kept_other (Some k) (Some x) m q d = put_other m k x q (λ a. d (ap (λ b. Some 
 module _ (kept : Option ℕ) (e : Option Entry) (m : Names) where
   -- what stands apart changes
   pub put_kept : (k : ℕ) (x : Entry) → kept ≡ Some k → with_kept kept (Some x) m ≡ map.insert (with_kept kept e m) k x
-  put_kept k x is = same_gets _ _ (λ q. elim (equal_or_not q k) [
-    | inl a ↦ kept_here kept (Some x) m q (is ∙ ap (λ b. Some b) (sym a)) ∙ sym (ap (map.get (map.insert (with_kept kept e m) k x)) a ∙ put_here (with_kept kept e m) k x)
-    | inr d ↦ kept_other kept (Some x) m q (λ a. d (same_some q k (sym a ∙ is))) ∙ sym (kept_other kept e m q (λ a. d (same_some q k (sym a ∙ is)))) ∙ sym (put_other (with_kept kept e m) k x q d)
-  ])
+  put_kept k x is = grind (arith, same_gets, equal_or_not, kept_here, put_here, kept_other, same_some, put_other)
 
   pub out_kept : (k : ℕ) → kept ≡ Some k → with_kept kept None m ≡ map.remove (with_kept kept e m) k
-  out_kept k is = same_gets _ _ (λ q. elim (equal_or_not q k) [
-    | inl a ↦ kept_here kept None m q (is ∙ ap (λ b. Some b) (sym a)) ∙ sym (ap (map.get (map.remove (with_kept kept e m) k)) a ∙ out_here (with_kept kept e m) k)
-    | inr d ↦ kept_other kept None m q (λ a. d (same_some q k (sym a ∙ is))) ∙ sym (kept_other kept e m q (λ a. d (same_some q k (sym a ∙ is)))) ∙ sym (out_other (with_kept kept e m) k q d)
-  ])
+  out_kept k is = grind (arith, same_gets, equal_or_not, kept_here, out_here, kept_other, same_some, out_other)
 
   -- one of the others changes
   pub put_beside : (k : ℕ) (x : Entry) → kept ≢ Some k → with_kept kept e (map.insert m k x) ≡ map.insert (with_kept kept e m) k x
-  put_beside k x d = same_gets _ _ (λ q. elim (is_or_not kept q) [
-    | inl is ↦ kept_here kept e (map.insert m k x) q is ∙ sym (kept_here kept e m q is) ∙ sym (put_other (with_kept kept e m) k x q (λ a. d (is ∙ ap (λ b. Some b) a)))
-    | inr o ↦ kept_other kept e (map.insert m k x) q o ∙ elim (equal_or_not q k) [
-      | inl a ↦ ap (map.get (map.insert m k x)) a ∙ put_here m k x ∙ sym (ap (map.get (map.insert (with_kept kept e m) k x)) a ∙ put_here (with_kept kept e m) k x)
-      | inr n ↦ put_other m k x q n ∙ sym (kept_other kept e m q o) ∙ sym (put_other (with_kept kept e m) k x q n)
-    ]
-  ])
+  put_beside k x d = grind (arith, same_gets, is_or_not, kept_here, put_other, kept_other, equal_or_not, put_here)
 
   pub out_beside : (k : ℕ) → kept ≢ Some k → with_kept kept e (map.remove m k) ≡ map.remove (with_kept kept e m) k
-  out_beside k d = same_gets _ _ (λ q. elim (is_or_not kept q) [
-    | inl is ↦ kept_here kept e (map.remove m k) q is ∙ sym (kept_here kept e m q is) ∙ sym (out_other (with_kept kept e m) k q (λ a. d (is ∙ ap (λ b. Some b) a)))
-    | inr o ↦ kept_other kept e (map.remove m k) q o ∙ elim (equal_or_not q k) [
-      | inl a ↦ ap (map.get (map.remove m k)) a ∙ out_here m k ∙ sym (ap (map.get (map.remove (with_kept kept e m) k)) a ∙ out_here (with_kept kept e m) k)
-      | inr n ↦ out_other m k q n ∙ sym (kept_other kept e m q o) ∙ sym (out_other (with_kept kept e m) k q n)
-    ]
-  ])
+  out_beside k d = grind (arith, same_gets, is_or_not, kept_here, out_other, kept_other, equal_or_not, out_here)
 
 -- the place goes to another name: what stands under that comes out of the others
 pub kept_moved : (m : Names) (k : ℕ) (e : Option Entry) → e ≡ map.get m k → with_kept (Some k) e (map.remove m k) ≡ m
@@ -95,10 +77,7 @@ kept_moved m k e is = same_gets _ _ (λ q. elim (equal_or_not q k) [
 -- where nothing stands apart, all is in the others
 pub none_apart : (kept : Option ℕ) (m : Names) → ((k : ℕ) → kept ≡ Some k → map.get m k ≡ None) → with_kept kept None m ≡ m
 none_apart None m absent = refl
-none_apart (Some k) m absent = same_gets _ _ (λ q. elim (equal_or_not q k) [
-  | inl a ↦ ap (map.get (map.remove m k)) a ∙ out_here m k ∙ sym (absent k refl) ∙ ap (map.get m) (sym a)
-  | inr d ↦ out_other m k q d
-])
+none_apart (Some k) m absent = grind (arith, same_gets, equal_or_not, out_here, out_other)
 
 no_true : false ≡ true → ⊥
 no_true e = cc
@@ -146,15 +125,14 @@ module _ (es : Listed) (kept : Option ℕ) (e : Option Entry) (v : HighView) (vi
 
   pub view_put : (fs : Listed) (k : ℕ) (x : Entry) → v.kept ≢ Some k → tree fs ≡ map.insert (tree es) k x →
       ◌≡◌ {A = HighView} record { names = with_kept kept e (tree fs); kept = kept } record { names = map.insert v.names k x; kept = v.kept }
-  view_put fs k x d is =
-      same_high _ _ kept v.kept (ap (with_kept kept e) is ∙ put_beside kept e (tree es) k x (λ h. d (sym kept_is ∙ h)) ∙ ap (λ (m : Names). map.insert m k x) names_are) kept_is
+  view_put fs k x d is = grind (arith, same_high, put_beside, kept_is, names_are)
 
   pub view_out_kept : (k : ℕ) → v.kept ≡ Some k → ◌≡◌ {A = HighView} record { names = with_kept kept None (tree es); kept = kept } record { names = map.remove v.names k; kept = v.kept }
   view_out_kept k h = same_high _ _ kept v.kept (out_kept kept e (tree es) k (kept_is ∙ h) ∙ ap (λ (m : Names). map.remove m k) names_are) kept_is
 
   pub view_out : (fs : Listed) (k : ℕ) → v.kept ≢ Some k → tree fs ≡ map.remove (tree es) k →
       ◌≡◌ {A = HighView} record { names = with_kept kept e (tree fs); kept = kept } record { names = map.remove v.names k; kept = v.kept }
-  view_out fs k d is = same_high _ _ kept v.kept (ap (with_kept kept e) is ∙ out_beside kept e (tree es) k (λ h. d (sym kept_is ∙ h)) ∙ ap (λ (m : Names). map.remove m k) names_are) kept_is
+  view_out fs k d is = grind (arith, same_high, out_beside, kept_is, names_are)
 
   pub apart_put : (fs : Listed) (k : ℕ) (x : Entry) → HasApart kept (tree es) → v.kept ≢ Some k → tree fs ≡ map.insert (tree es) k x → HasApart kept (tree fs)
   apart_put fs k x apart d is = λ n h. ap (λ (m : Names). map.get m n) is ∙ put_other (tree es) k x n (λ a. d (sym kept_is ∙ h ∙ ap (λ b. Some b) a)) ∙ apart n h
@@ -165,8 +143,7 @@ module _ (es : Listed) (kept : Option ℕ) (e : Option Entry) (v : HighView) (vi
   -- the place goes to another name
   pub view_moved : (fs gs : Listed) (k : ℕ) (x : Option Entry) → tree fs ≡ with_kept kept e (tree es) → tree gs ≡ map.remove (tree fs) k → x ≡ map.get (tree fs) k →
       ◌≡◌ {A = HighView} record { names = with_kept (Some k) x (tree gs); kept = Some k } record { names = v.names; kept = Some k }
-  view_moved fs gs k x back out there =
-      same_high _ _ (Some k) (Some k) (ap (with_kept (Some k) x) out ∙ kept_moved (tree fs) k x there ∙ back ∙ names_are) refl
+  view_moved fs gs k x back out there = grind (arith, same_high, kept_moved, names_are)
 
   -- ---- the next name
 

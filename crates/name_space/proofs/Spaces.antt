@@ -35,23 +35,7 @@ module _ (t : SpaceView) (p : PortsView) (len : ℕ) (x : IsSound t p len) where
     -- a name comes
     module _ (is : u ≡ record { names = map.insert t.names name e; room = t.room - 1; kept = t.kept }) (usable : IsUsable name) (unused : map.get t.names name ≡ None) (not_full : map.len t.names < most_names) where
       came : (q : PortsView) → AreLinked (map.insert t.names name e) q.names → q.kept ≡ p.kept → p.room ≤ q.room + 1 → IsSound u q (len + 1)
-      came q both kept room =
-          let names : u.names ≡ map.insert t.names name e = ap (λ (a : SpaceView). a.names) is in
-          let new : AreLinked u.names q.names = over _ _ _ _ names refl both in
-          let rooms : u.room ≡ t.room - 1 = ap (λ (a : SpaceView). a.room) is in
-          let had = x.has_room in
-          let long : map.len u.names ≡ map.len t.names + 1 = ap (λ (a : Names). map.len a) names ∙ len-new t.names name e unused in
-          let counted = x.counted in
-          record {
-            named = new.named;
-            found = new.found;
-            same_kept = kept ∙ x.same_kept ∙ sym (ap (λ (a : SpaceView). a.kept) is);
-            has_room = omega arith;
-            counted = omega arith;
-            few = omega arith;
-            not_null = ap (λ (a : Names). map.get a null_word) names ∙ put_none t.names name null_word e usable.not_null x.not_null;
-            not_dead = ap (λ (a : Names). map.get a dead_word) names ∙ put_none t.names name dead_word e usable.not_dead x.not_dead;
-          }
+      came q both kept room = grind (arith, over, len-new, put_none)
 
       pub sound-put : (q : PortsView) (port : ℕ) → port_named e ≡ Some port → HasNoOther t.names e → q.names ≡ map.insert p.names port name → q.kept ≡ p.kept → p.room ≤ q.room + 1 → IsSound u q (len + 1)
       sound-put q port named apart ports kept room = came q (over _ _ _ _ refl ports (linked-put t.names p.names links name e port named unused apart)) kept room
@@ -65,23 +49,7 @@ module _ (t : SpaceView) (p : PortsView) (len : ℕ) (x : IsSound t p len) where
       kept_out k none a = let e : true ≡ is_some (let o : Option Entry = None in o) = sym used ∙ ap (λ n. map.contains_key t.names n) a ∙ ap is_some none in cc
 
       renewed : (q : PortsView) → AreLinked (map.insert t.names name e) q.names → q.kept ≡ p.kept → p.room ≡ q.room → IsSound u q len
-      renewed q both kept room =
-          let names : u.names ≡ map.insert t.names name e = ap (λ (a : SpaceView). a.names) is in
-          let new : AreLinked u.names q.names = over _ _ _ _ names refl both in
-          let rooms : u.room ≡ t.room = ap (λ (a : SpaceView). a.room) is in
-          let had = x.has_room in
-          let long : map.len u.names ≡ map.len t.names = ap (λ (a : Names). map.len a) names ∙ len-over t.names name e used in
-          let counted = x.counted in
-          record {
-            named = new.named;
-            found = new.found;
-            same_kept = kept ∙ x.same_kept ∙ sym (ap (λ (a : SpaceView). a.kept) is);
-            has_room = omega arith;
-            counted = omega arith;
-            few = x.few;
-            not_null = ap (λ (a : Names). map.get a null_word) names ∙ put_none t.names name null_word e (kept_out null_word x.not_null) x.not_null;
-            not_dead = ap (λ (a : Names). map.get a dead_word) names ∙ put_none t.names name dead_word e (kept_out dead_word x.not_dead) x.not_dead;
-          }
+      renewed q both kept room = grind (arith, over, len-over, put_none, kept_out)
 
       pub sound-renewed : lost (port_at t.names name) (port_named e) ≡ None → ((port : ℕ) → port_named e ≡ Some port → port_at t.names name ≡ Some port) → IsSound u p len
       sound-renewed none same = renewed p (same_ports t.names _ p.names links (ports_put t.names name e (stays (port_named e) none same))) refl refl
@@ -110,24 +78,7 @@ module _ (t : SpaceView) (p : PortsView) (len : ℕ) (x : IsSound t p len) where
       some_name = let less : map.len (map.remove t.names name) + 1 ≡ map.len t.names = len-gone t.names name e there in let counted = x.counted in omega arith
 
       went : (q : PortsView) → AreLinked (map.remove t.names name) q.names → q.kept ≡ p.kept → p.room ≡ q.room → IsSound u q (len - 1)
-      went q both kept room =
-          let names : u.names ≡ map.remove t.names name = ap (λ (a : SpaceView). a.names) is in
-          let new : AreLinked u.names q.names = over _ _ _ _ names refl both in
-          let rooms : u.room ≡ t.room = ap (λ (a : SpaceView). a.room) is in
-          let had = x.has_room in
-          let long : map.len u.names + 1 ≡ map.len t.names = ap (λ (a : Names). map.len a + 1) names ∙ len-gone t.names name e there in
-          let counted = x.counted in
-          let few = x.few in
-          record {
-            named = new.named;
-            found = new.found;
-            same_kept = kept ∙ x.same_kept ∙ sym (ap (λ (a : SpaceView). a.kept) is);
-            has_room = omega arith;
-            counted = omega arith;
-            few = omega arith;
-            not_null = ap (λ (a : Names). map.get a null_word) names ∙ out_none t.names name null_word x.not_null;
-            not_dead = ap (λ (a : Names). map.get a dead_word) names ∙ out_none t.names name dead_word x.not_dead;
-          }
+      went q both kept room = grind (arith, over, len-gone, out_none)
 
       pub sound-out : (q : PortsView) (port : ℕ) → port_named e ≡ Some port → q ≡ record { names = map.remove p.names port; room = p.room; kept = p.kept } → IsSound u q (len - 1)
       sound-out q port named out =
@@ -140,13 +91,7 @@ module _ (t : SpaceView) (p : PortsView) (len : ℕ) (x : IsSound t p len) where
 
   -- a name that isn't in use is taken out
   pub nothing_out : (u : SpaceView) (name : ℕ) → u ≡ record { names = map.remove t.names name; room = t.room; kept = t.kept } → map.get t.names name ≡ None → IsSound u p len
-  nothing_out u name is none =
-      let same : map.remove t.names name ≡ t.names = same_gets _ _ (λ q. elim (equal_or_not q name) [
-        | inl a ↦ ap (map.get (map.remove t.names name)) a ∙ out_here t.names name ∙ sym none ∙ ap (map.get t.names) (sym a)
-        | inr d ↦ out_other t.names name q d
-      ]) in
-      let again : u ≡ t = is ∙ ap (λ (a : Names). let v : SpaceView = record { names = a; room = t.room; kept = t.kept } in v) same in
-      subst (λ (a : SpaceView). IsSound a p len) (sym again) x
+  nothing_out u name is none = grind (arith, same_gets, equal_or_not, out_here, out_other)
 
   -- what is taken out of use may be put back under another name
   pub no_other_left : (name : ℕ) (e : Entry) → map.get t.names name ≡ Some e → HasNoOther (map.remove t.names name) e
@@ -157,33 +102,11 @@ module _ (t : SpaceView) (p : PortsView) (len : ℕ) (x : IsSound t p len) where
 
 -- there comes more room for ports
 pub sound-roomier : (t : SpaceView) (p q : PortsView) (len : ℕ) → IsSound t p len → q ≡ record { names = p.names; room = q.room; kept = p.kept } → p.room ≤ q.room → IsSound t q len
-sound-roomier t p q len x is more = record {
-  named = λ port name h. x.named port name (ap (λ (a : PortsView). map.get a.names port) (sym is) ∙ h);
-  found = λ port name h. ap (λ (a : PortsView). map.get a.names port) is ∙ x.found port name h;
-  same_kept = ap (λ (a : PortsView). a.kept) is ∙ x.same_kept;
-  has_room = let had = x.has_room in omega arith;
-  counted = x.counted;
-  few = x.few;
-  not_null = x.not_null;
-  not_dead = x.not_dead;
-}
+sound-roomier t p q len x is more = grind arith
 
 -- the place goes to another name
 pub sound-kept : (t u : SpaceView) (p q : PortsView) (len name : ℕ) → IsSound t p len → u ≡ record { names = t.names; room = t.room; kept = Some name } → q.names ≡ p.names → q.kept ≡ Some name → t.room ≤ q.room → IsSound u q len
-sound-kept t u p q len name x is names kept fits =
-    let same : u.names ≡ t.names = ap (λ (a : SpaceView). a.names) is in
-    let links : AreLinked u.names q.names = over _ _ _ _ same names (record { named = x.named; found = x.found }) in
-    let rooms : u.room ≡ t.room = ap (λ (a : SpaceView). a.room) is in
-    record {
-      named = links.named;
-      found = links.found;
-      same_kept = kept ∙ sym (ap (λ (a : SpaceView). a.kept) is);
-      has_room = omega arith;
-      counted = x.counted ∙ ap (λ (a : Names). map.len a) (sym same);
-      few = x.few;
-      not_null = ap (λ (a : Names). map.get a null_word) same ∙ x.not_null;
-      not_dead = ap (λ (a : Names). map.get a dead_word) same ∙ x.not_dead;
-    }
+sound-kept t u p q len name x is names kept fits = grind (arith, over)
 
 -- where no port has the place of the table, none has that of the ports
 pub none_kept : (t : SpaceView) (p : PortsView) (len : ℕ) → IsSound t p len → ((kept : ℕ) → t.kept ≡ Some kept → port_at t.names kept ≡ None) → HasNoneKept p
@@ -191,11 +114,7 @@ none_kept t p len x none port name is h = some_or_none port _ (x.named port name
 
 -- the name that a port leads to is in use
 pub leads_to : (t : SpaceView) (p : PortsView) (len : ℕ) → IsSound t p len → (port name : ℕ) → map.get p.names port ≡ Some name → map.contains_key t.names name ≡ true
-leads_to t p len x port name is = used (map.get t.names name) (x.named port name is)
-  where
-    used : (o : Option Entry) → option_and_then port_named o ≡ Some port → is_some o ≡ true
-    used (Some e) h = refl
-    used None h = absurd (some_or_none port _ h refl)
+leads_to t p len x port name is = grind (arith, is_some, some_or_none)
 
 -- no name has the port
 pub leads_nowhere : (t : SpaceView) (p : PortsView) (len : ℕ) → IsSound t p len → (port : ℕ) → map.get p.names port ≡ None → (name : ℕ) → port_at t.names name ≢ Some port
@@ -233,11 +152,7 @@ module _ (t : SpaceView) (p : PortsView) (len : ℕ) (x : IsSound t p len) (u : 
   unused_after = ap (λ (a : SpaceView). map.get a.names to) is ∙ out_none t.names name to unused
 
   pub not_full_after : map.len u.names < most_names
-  not_full_after =
-      let long : map.len u.names + 1 ≡ map.len t.names = ap (λ (a : SpaceView). map.len a.names + 1) is ∙ len-gone t.names name e there in
-      let counted = x.counted in
-      let few = x.few in
-      omega arith
+  not_full_after = grind (arith, len-gone)
 
   apart_after : HasNoOther u.names e
   apart_after = subst (λ (a : SpaceView). HasNoOther a.names e) (sym is) (no_other_left t p len x name e there)

@@ -28,13 +28,7 @@ pub joined_empty : (low high : Names) → low ≡ map.empty → high ≡ map.emp
 joined_empty low high e f = map.same_map nat_cmp_total map.nat_cmp-IsAntisymmetric _ _ (λ q. low_side low high q (none_in high f q) ∙ ap (λ (a : Names). map.get a q) e)
 
 pub laid_empty : (low : PagesView Entry) (high : HighView) → low.values ≡ map.empty → high.names ≡ map.empty → IsLaid low high 0 None
-laid_empty low high e f = record {
-  low_names = λ q a. none_in low.values e q;
-  high_names = λ q a. none_in high.names f q;
-  has_room = omega arith;
-  low_place = λ q is a. absurd (some_or_none q None is refl);
-  high_place = λ q is a. absurd (some_or_none q None is refl);
-}
+laid_empty low high e f = grind (arith, none_in, some_or_none)
 
 page_put : (made : set.FinSet nat_cmp) (k : ℕ) → set.contains (set.insert made k) k ≡ true
 page_put made k = set.contains-insert nat_cmp_total made k k ∙ ap (λ b. b || set.contains made k) (unsigned_tied k k ∙ eqb-same k)
@@ -42,68 +36,35 @@ page_put made k = set.contains-insert nat_cmp_total made k k ∙ ap (λ b. b || 
 module _ (low : PagesView Entry) (high : HighView) (room : ℕ) (kept : Option ℕ) (x : IsLaid low high room kept) where
   -- one name changes
   pub low-changed : (new : PagesView Entry) (left : ℕ) → ((q : ℕ) → 65536 ≤ q → map.get new.values q ≡ None) → new.made ≡ low.made → left ≤ new.room → IsLaid new high left kept
-  low-changed new left low_names made fits = record {
-    low_names = low_names;
-    high_names = x.high_names;
-    has_room = fits;
-    low_place = λ q is a. ap (λ (s : set.FinSet nat_cmp). set.contains s (q / 256)) made ∙ x.low_place q is a;
-    high_place = x.high_place;
-  }
+  low-changed new left low_names made fits = grind arith
 
   pub high-changed : (new : HighView) (left : ℕ) → ((q : ℕ) → q < 65536 → map.get new.names q ≡ None) → new.kept ≡ high.kept → left ≤ room → IsLaid low new left kept
-  high-changed new left high_names same fits = record {
-    low_names = x.low_names;
-    high_names = high_names;
-    has_room = (let h = x.has_room in omega arith);
-    low_place = x.low_place;
-    high_place = λ q is a. same ∙ x.high_place q is a;
-  }
+  high-changed new left high_names same fits = grind arith
 
   put_none : (m : Names) (k q : ℕ) (e : Entry) → (q ≡ k → ⊥) → map.get m q ≡ None → map.get (map.insert m k e) q ≡ None
   put_none m k q e d none = put_other m k e q d ∙ none
 
   pub laid-put_low : (new : PagesView Entry) (left k : ℕ) (e : Entry) → new ≡ record { values = map.insert low.values k e; room = low.room - 1; made = low.made } → k < 65536 → left ≡ room - 1 → IsLaid new high left kept
-  laid-put_low new left k e is small less =
-      let fits : new.room ≡ low.room - 1 = ap (λ (a : PagesView Entry). a.room) is in
-      let had = x.has_room in
-      low-changed new left (λ q a. ap (λ (b : PagesView Entry). map.get b.values q) is ∙ put_none low.values k q e (λ c. omega arith) (x.low_names q a))
-      (ap (λ (a : PagesView Entry). a.made) is) (omega arith)
+  laid-put_low new left k e is small less = grind (arith, low-changed, put_none)
 
   pub laid-set_low : (new : PagesView Entry) (k : ℕ) (e : Entry) → new ≡ record { values = map.insert low.values k e; room = low.room; made = low.made } → k < 65536 → IsLaid new high room kept
-  laid-set_low new k e is small =
-      low-changed new room (λ q a. ap (λ (b : PagesView Entry). map.get b.values q) is ∙ put_none low.values k q e (λ c. omega arith) (x.low_names q a))
-      (ap (λ (a : PagesView Entry). a.made) is) (let fits : new.room ≡ low.room = ap (λ (a : PagesView Entry). a.room) is in let had = x.has_room in omega arith)
+  laid-set_low new k e is small = grind (arith, low-changed, put_none)
 
   pub laid-out_low : (new : PagesView Entry) (k : ℕ) → new ≡ record { values = map.remove low.values k; room = low.room; made = low.made } → IsLaid new high room kept
-  laid-out_low new k is =
-      low-changed new room (λ q a. ap (λ (b : PagesView Entry). map.get b.values q) is ∙ out_none low.values k q (x.low_names q a))
-      (ap (λ (a : PagesView Entry). a.made) is) (let fits : new.room ≡ low.room = ap (λ (a : PagesView Entry). a.room) is in let had = x.has_room in omega arith)
+  laid-out_low new k is = grind (arith, low-changed, out_none)
 
   pub laid-put_high : (new : HighView) (left k : ℕ) (e : Entry) → new ≡ record { names = map.insert high.names k e; kept = high.kept } → 65536 ≤ k → left ≤ room → IsLaid low new left kept
-  laid-put_high new left k e is great less =
-      high-changed new left (λ q a. ap (λ (b : HighView). map.get b.names q) is ∙ put_none high.names k q e (λ c. omega arith) (x.high_names q a)) (ap (λ (a : HighView). a.kept) is) less
+  laid-put_high new left k e is great less = grind (arith, high-changed, put_none)
 
   pub laid-out_high : (new : HighView) (k : ℕ) → new ≡ record { names = map.remove high.names k; kept = high.kept } → IsLaid low new room kept
-  laid-out_high new k is = high-changed new room (λ q a. ap (λ (b : HighView). map.get b.names q) is ∙ out_none high.names k q (x.high_names q a)) (ap (λ (a : HighView). a.kept) is) (omega arith)
+  laid-out_high new k is = grind (arith, high-changed, out_none)
 
   -- a place is made
   pub laid-page : (new : PagesView Entry) (k : ℕ) → new ≡ record { values = low.values; room = low.room; made = set.insert low.made (k / 256) } → k < 65536 → IsLaid new high room (Some k)
-  laid-page new k is small = record {
-    low_names = λ q a. ap (λ (b : PagesView Entry). map.get b.values q) is ∙ x.low_names q a;
-    high_names = x.high_names;
-    has_room = (let fits : new.room ≡ low.room = ap (λ (a : PagesView Entry). a.room) is in let had = x.has_room in omega arith);
-    low_place = λ q e a. ap (λ (b : PagesView Entry). set.contains b.made (q / 256)) is ∙ ap (λ n. set.contains (set.insert low.made (n / 256)) (q / 256)) (same_some k q e) ∙ page_put low.made (q / 256);
-    high_place = λ q e a. absurd (let same : k ≡ q = same_some k q e in omega arith);
-  }
+  laid-page new k is small = grind (arith, same_some, page_put)
 
   pub laid-kept : (new : HighView) (k : ℕ) → new ≡ record { names = high.names; kept = Some k } → 65536 ≤ k → IsLaid low new room (Some k)
-  laid-kept new k is great = record {
-    low_names = x.low_names;
-    high_names = λ q a. ap (λ (b : HighView). map.get b.names q) is ∙ x.high_names q a;
-    has_room = x.has_room;
-    low_place = λ q e a. absurd (let same : k ≡ q = same_some k q e in omega arith);
-    high_place = λ q e a. ap (λ (b : HighView). b.kept) is ∙ e;
-  }
+  laid-kept new k is great = grind (arith, same_some)
 
   -- ---- as a whole sees them
 
@@ -128,33 +89,26 @@ module _ (low : PagesView Entry) (high : HighView) (room : ℕ) (kept : Option �
 
     -- what the pages lack, the whole does
     pub no_neighbour : n < 65536 → pages.WantsPage low n → HasNoNeighbour v name
-    no_neighbour small w = record {
-      alone = λ q used same. w.alone q (let near : q / 256 ≡ n / 256 = same ∙ ap (λ k. k / 256) (sym number) in ap is_some (sym (at_low low.values high.names x.low_names x.high_names q (omega arith)) ∙ ap (λ (m : Names). map.get m q) names_are) ∙ used) (same ∙ ap (λ k. k / 256) (sym number));
-      apart = λ q is same. w.unmade (let near : q / 256 ≡ n / 256 = same ∙ ap (λ k. k / 256) (sym number) in ap (λ k. set.contains low.made k) (sym near) ∙ x.low_place q (kept_is ∙ is) (omega arith));
-    }
+    no_neighbour small w = grind (arith, is_some, at_low, names_are, kept_is)
 
     renamed : (f : Names → ℕ → Names) → f (joined low.values high.names) n ≡ f v.names name
     renamed f = ap (λ (m : Names). f m n) names_are ∙ ap (f v.names) number
 
     pub view-put_low : (values : Names) (left right : ℕ) (e : Entry) → values ≡ map.insert low.values n e → left ≡ right → n < 65536 →
         ◌≡◌ {A = SpaceView} record { names = joined values high.names; room = left; kept = kept } record { names = map.insert v.names name e; room = right; kept = v.kept }
-    view-put_low values left right e is same small =
-        same_space _ _ left right kept v.kept (ap (λ (m : Names). joined m high.names) is ∙ put_low low.values high.names n e (x.high_names n small) ∙ renamed (λ m k. map.insert m k e)) same kept_is
+    view-put_low values left right e is same small = grind (arith, same_space, put_low, renamed, kept_is)
 
     pub view-out_low : (values : Names) → values ≡ map.remove low.values n → n < 65536 →
         ◌≡◌ {A = SpaceView} record { names = joined values high.names; room = room; kept = kept } record { names = map.remove v.names name; room = v.room; kept = v.kept }
-    view-out_low values is small =
-        same_space _ _ room v.room kept v.kept (ap (λ (m : Names). joined m high.names) is ∙ out_low low.values high.names n (x.high_names n small) ∙ renamed (λ m k. map.remove m k)) room_is kept_is
+    view-out_low values is small = grind (arith, same_space, out_low, renamed, room_is, kept_is)
 
     pub view-put_high : (values : Names) (left right : ℕ) (e : Entry) → values ≡ map.insert high.names n e → left ≡ right →
         ◌≡◌ {A = SpaceView} record { names = joined low.values values; room = left; kept = kept } record { names = map.insert v.names name e; room = right; kept = v.kept }
-    view-put_high values left right e is same =
-        same_space _ _ left right kept v.kept (ap (joined low.values) is ∙ put_high low.values high.names n e ∙ renamed (λ m k. map.insert m k e)) same kept_is
+    view-put_high values left right e is same = grind (arith, same_space, put_high, renamed, kept_is)
 
     pub view-out_high : (values : Names) → values ≡ map.remove high.names n → 65536 ≤ n →
         ◌≡◌ {A = SpaceView} record { names = joined low.values values; room = room; kept = kept } record { names = map.remove v.names name; room = v.room; kept = v.kept }
-    view-out_high values is great =
-        same_space _ _ room v.room kept v.kept (ap (joined low.values) is ∙ out_high low.values high.names n (x.low_names n great) ∙ renamed (λ m k. map.remove m k)) room_is kept_is
+    view-out_high values is great = grind (arith, same_space, out_high, renamed, room_is, kept_is)
 
     fresh_here : IsFreshName v.names name → IsFreshName (joined low.values high.names) n
     fresh_here f = subst (λ (m : Names). IsFreshName m n) (sym names_are) (subst (IsFreshName v.names) (sym number) f)
@@ -164,14 +118,7 @@ module _ (low : PagesView Entry) (high : HighView) (room : ℕ) (kept : Option �
 
     -- a place for the name
     pub low_place_for : HasPlace v name → n < 65536 → pages.HasPlace low n
-    low_place_for place small = elim place [
-      | inl fresh ↦
-          inl (first-joined low.values high.names x.low_names x.high_names n (fresh_here fresh.0) small, (let had = x.has_room in let some = fresh.1 in let r = room_is in omega arith))
-      | inr is ↦ inr (x.low_place n (kept_is ∙ is ∙ ap (λ a. Some a) (sym number)) small)
-    ]
+    low_place_for place small = grind (arith, first-joined, fresh_here, room_is, kept_is)
 
     pub high_place_for : HasPlace v name → map.len v.names < most_names → 65536 ≤ n → high.kept ≡ Some n
-    high_place_for place few great = elim place [
-      | inl fresh ↦ absurd (let small = fresh-small low.values high.names x.low_names x.high_names n (fresh_here fresh.0) (few_here few) in omega arith)
-      | inr is ↦ x.high_place n (kept_is ∙ is ∙ ap (λ a. Some a) (sym number)) great
-    ]
+    high_place_for place few great = grind (arith, fresh-small, fresh_here, few_here, kept_is)

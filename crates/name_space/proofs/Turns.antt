@@ -87,9 +87,7 @@ remains_some m items turns start x few None none =
 
 next_of : (m : Names) (items : List ℕ) (turns start n : ℕ) (left : Listed) → items ++ map_list first_of left ≡ map.keys m → T (is_sorted nat_cmp left) → ((q : ℕ) → start ≤ q → find nat_cmp q left ≡ map.get m q) →
     ((q : ℕ) → q < start → find nat_cmp q left ≡ None) → turns + length left ≡ map.len m → IsNextUsed m start n → Remains m (items ++ n ∷ []) (turns + 1) (n + 1)
-next_of m items turns start n [] so_far sorted here before counted next =
-    let there = used_there m n next.used in
-    absurd (some_or_none there.0 _ there.1 (sym (here n next.from)))
+next_of m items turns start n [] so_far sorted here before counted next = grind (arith, used_there, some_or_none)
 next_of m items turns start n (e ∷ rest) so_far sorted here before counted next =
     let there : (x : Entry) × (map.get m n ≡ Some x) = used_there m n next.used in
     let low : T (below_all nat_cmp e.0 rest) = left_of (below_all nat_cmp e.0 rest) (is_sorted nat_cmp rest) sorted in

@@ -24,20 +24,7 @@ module _ {M : Type 0} where
   nothing_at s e k r h = some_or_none r _ h (ap (λ (l : List (Option (Record M))). get_or l k None) e)
 
   pub sound-empty : (s : Slab (Record M)) (keys : Keyed) (spare destroyed : List M) → s.slots ≡ [] → keys ≡ map.empty → spare ≡ [] → destroyed ≡ [] → IsSound s keys (Some 0) spare destroyed 0
-  sound-empty s keys spare destroyed e none g d =
-      let no_sum : sum_by queued_in s.slots ≡ 0 = ap (λ (l : List (Option (Record M))). sum_by queued_in l) e in
-      let no_spare : length spare ≡ 0 = ap length g in
-      let none_destroyed : length destroyed ≡ 0 = ap length d in
-      record {
-        indexed = record {
-          found = λ q k h. absurd (nothing_in _ none q k h);
-          held = λ k r h. absurd (nothing_at s e k r h);
-          given = λ q k h. absurd (nothing_in _ none q k h);
-        };
-        counted = omega arith;
-        few = omega arith;
-        next_fits = λ n h. let zero_is : 0 ≡ n = same_some 0 n h in omega arith;
-      }
+  sound-empty s keys spare destroyed e none g d = grind (arith, nothing_in, nothing_at, same_some)
 
   pub ports-empty : (at : ℕ → Option (Record M)) (n : Keyed) → n ≡ map.empty → ports_of at n ≡ map.empty
   ports-empty at n e = map.empty_of_len _ (len-with_values (λ k. port_in (at k)) n ∙ ap (λ (m : Keyed). map.len m) e ∙ map.len-empty nat_cmp ℕ)
@@ -67,14 +54,7 @@ module _ {M : Type 0} where
     pub view-came : {l d n : List ℕ} (now : ReadyLists) → now ≡ turns → AreSame l d n lost doomed noted →
         ◌≡◌ {A = PortsView M} record { ports = ports_of (get t) new_keys; ready = now; made = made_of then; spare = length spare; destroyed = destroyed; lost = l; doomed = d; noted = n }
         record { ports = map.insert v.ports v.made (port_of a); ready = v.ready; made = v.made + 1; spare = v.spare; destroyed = v.destroyed; lost = v.lost; doomed = v.doomed; noted = v.noted }
-    view-came {l} {d} {n} now same lists =
-        let mk : map.FinMap nat_cmp (PortView M) → ℕ → PortsView M = λ ports made. record { ports = ports; ready = turns; made = made; spare = length spare; destroyed = destroyed; lost = lost; doomed = doomed; noted = noted } in
-        let from : ReadyLists → PortsView M = λ r. record { ports = ports_of (get t) new_keys; ready = r; made = made_of then; spare = length spare; destroyed = destroyed; lost = l; doomed = d; noted = n } in
-        ap from same ∙ relisted (from turns) l d n lost doomed noted lists ∙
-        ap (λ (m : Keyed). mk (ports_of (get t) m) (made_of then)) put
-        ∙ ap (λ ports. mk ports (made_of then)) (ports-came (get s) (get t) keys (made_of next) so.indexed key a vacant turns-came id)
-        ∙ ap (mk (map.insert (ports_of (get s) keys) (made_of next) (port_of a))) more
-        ∙ ap (λ (b : PortsView M). let c : PortsView M = record { ports = map.insert b.ports b.made (port_of a); ready = b.ready; made = b.made + 1; spare = b.spare; destroyed = b.destroyed; lost = b.lost; doomed = b.doomed; noted = b.noted } in c) view_is
+    view-came {l} {d} {n} now same lists = grind (arith, relisted, ports-came, turns-came, port_of)
 
   -- ---- with one port less
 
@@ -126,7 +106,4 @@ exhausted (Some n) false e h = (λ t. absurd (no_true t), λ t. absurd (let few 
 
 -- taking out what is not there
 pub remove-absent : {X : Type 0} (m : map.FinMap nat_cmp X) (k : ℕ) → map.get m k ≡ None → map.remove m k ≡ m
-remove-absent m k none = same_gets _ _ (λ q. elim (equal_or_not q k) [
-  | inl e ↦ ap (map.get (map.remove m k)) e ∙ out_here m k ∙ sym none ∙ ap (map.get m) (sym e)
-  | inr d ↦ out_other m k q d
-])
+remove-absent m k none = grind (arith, same_gets, equal_or_not, out_here, out_other)

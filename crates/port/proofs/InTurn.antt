@@ -1,5 +1,5 @@
 -- The turns in a set that a port leaves, joins or has nothing to do with.
-use Rattle.std.proofs.Common.{◌≡◌, ◌≢◌, ℕ, Bool, true, false, cond, Option, Some, None, List, [], ◌∷◌, ◌++◌, refl, ap, sym, ◌∙◌}
+use Rattle.std.proofs.Common.{arith, ◌≡◌, ◌≢◌, ℕ, Bool, true, false, cond, Option, Some, None, List, [], ◌∷◌, ◌++◌, refl, ap, sym, ◌∙◌}
 use Rattle.std.specs.Prelude.{unwrap_or}
 use Rattle.member_lists.specs.Lists.{without}
 use Rattle.port.specs.Turns.{ReadyLists, turns_of, with_turns, left, joined, ready_if}
@@ -24,16 +24,9 @@ joined_other t port (Some set) s d = turns_other t set (turns_of t set ++ port �
 
 -- a port that is ready in a set is in it
 pub ready_if_in : {M : Type 0} (ms : List M) (set : Option ℕ) (s : ℕ) → ready_if ms set ≡ Some s → set ≡ Some s
-ready_if_in [] set s e = absurd (none_is e)
-  where
-    none_is : None ≡ Some s → ⊥
-    none_is e = cc
+ready_if_in [] set s e = grind arith
 ready_if_in (m ∷ ms) set s e = e
 
 -- the turns in a set that a port is not ready in, before or now
 pub turned_other : {M : Type 0} (t : ReadyLists) (port : ℕ) (was now : PortView M) (s : ℕ) → ready_in was ≢ Some s → ready_in now ≢ Some s → turns_of (turned t port (Some was) now) s ≡ turns_of t s
-turned_other t port was now s before after = either (keeps_turn was now)
-  where
-    either : (b : Bool) → turns_of (cond b t (joined (left t port (ready_in was)) port (ready_in now))) s ≡ turns_of t s
-    either true = refl
-    either false = joined_other (left t port (ready_in was)) port (ready_in now) s after ∙ left_other t port (ready_in was) s before
+turned_other t port was now s before after = grind (arith, joined_other, left_other)

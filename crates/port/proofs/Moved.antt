@@ -24,9 +24,7 @@ left_other x item ys d c =
     Contains_from_times x (without item ys) (omega arith)
 
 left_none : (item : ℕ) (ys : List ℕ) → Contains (without item ys) item → ⊥
-left_none item ys c =
-    let passes = times-filter_passes (λ y. not (eqb y item)) item ys (times_from_Contains item (without item ys) c) in
-    no_true (ap not (sym (eqb_same item item refl)) ∙ passes)
+left_none item ys c = grind (arith, times-filter_passes (λ y. not (eqb y item)) item ys (times_from_Contains item (without item ys) c))
 
 pub moved_none : (v : ListsView) (item : ℕ) (list : Option ℕ) → StandsIn v item list → IsMoved v v item list
 moved_none v item list s = record { stands = s; was = λ x l d c. c; stays = λ x l d c. c; items = refl }

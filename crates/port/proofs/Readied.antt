@@ -127,10 +127,7 @@ module _ {M : Type 0} where
   -- ---- the identities under keys
 
   pub ids_hold : (at : ℕ → Option (Record M)) (keys : List ℕ) (key : ℕ) → Contains keys key → Contains (ids_at at keys) (id_in (at key))
-  ids_hold at keys key c =
-      let long = length-map keys (λ k. id_in (at k)) in
-      let inside = c.1 in
-      (c.0, omega arith, get_or-map (λ k. id_in (at k)) keys c.0 key (id_in (at key)) c.1 ∙ ap (λ k. id_in (at k)) c.2)
+  ids_hold at keys key c = grind (arith, length-map, get_or-map)
 
   pub ids_held : (at : ℕ → Option (Record M)) (keys : List ℕ) (id : ℕ) → Contains (ids_at at keys) id → (key : ℕ) × Contains keys key × (id_in (at key) ≡ id)
   ids_held at keys id c =
@@ -236,19 +233,13 @@ module _ {M : Type 0} where
   listed-capacity home s t lists items e more so = listed-same home (get s) (get t) lists items so (λ k. ap (λ (u : Slab (Record M)). get u k) e) more
 
   pub sound-capacity : (s t : Slab (Record M)) (keys : Keyed) (next : Option ℕ) (spare destroyed : List M) (slots : ℕ) → t ≡ record s { capacity = t.capacity } → IsSound s keys next spare destroyed slots → IsSound t keys next spare destroyed slots
-  sound-capacity s t keys next spare destroyed slots e so = subst (λ (u : Slab (Record M)). IsSound u keys next spare destroyed slots) (sym e) (record { indexed = so.indexed; counted = so.counted; few = so.few; next_fits = so.next_fits })
+  sound-capacity s t keys next spare destroyed slots e so = grind arith
 
   -- the same ports, with room for more in their lists
   pub kept-wider : (s t : Slab (Record M)) (keys : Keyed) (next : Option ℕ) (spare destroyed : List M) (slots : ℕ) (ready members waiting noted : ListsView) (a b c d : ℕ) → t ≡ record s { capacity = t.capacity } →
       ready.items ≤ a → members.items ≤ b → waiting.items ≤ c → noted.items ≤ d → IsKept s keys next spare destroyed slots ready members waiting noted →
       IsKept t keys next spare destroyed slots (record ready { items = a }) (record members { items = b }) (record waiting { items = c }) (record noted { items = d })
-  kept-wider s t keys next spare destroyed slots ready members waiting noted a b c d e ma mb mc md k = record {
-    sound = sound-capacity s t keys next spare destroyed slots e k.sound;
-    readied = listed-capacity ready_set s t ready a e ma k.readied;
-    membered = listed-capacity member_set s t members b e mb k.membered;
-    awaited = listed-capacity waiting_list s t waiting c e mc k.awaited;
-    are_noted = listed-capacity noting_list s t noted d e md k.are_noted;
-  }
+  kept-wider s t keys next spare destroyed slots ready members waiting noted a b c d e ma mb mc md k = grind (arith, sound-capacity, listed-capacity)
 
   -- and where some of it was refused, which left all as it was
   pub kept-then : (s t : Slab (Record M)) (keys keys2 : Keyed) (next : Option ℕ) (spare destroyed : List M) (slots : ℕ) (ready ready2 members members2 waiting waiting2 noted noted2 : ListsView) (a b c d : ℕ) → t ≡ record s { capacity = t.capacity } → keys2 ≡ keys →

@@ -32,24 +32,14 @@ module _ {M : Type 0} where
     no_port_at q e = get-ports q ∙ ap (option_map (λ k. port_in (at k))) e
 
     pub live_key : (q : ℕ) → map.contains_key (ports_of at n) q ≡ true → (k : ℕ) × (map.get n q ≡ Some k)
-    live_key q e = some_of (map.get n q) (ap is_some (sym (get-ports q)) ∙ e)
-      where
-        no_true : false ≡ true → ⊥
-        no_true e = cc
-
-        some_of : (o : Option ℕ) → is_some (option_map (λ k. port_in (at k)) o) ≡ true → (k : ℕ) × (o ≡ Some k)
-        some_of None e = absurd (no_true e)
-        some_of (Some k) e = (k, refl)
+    live_key q e = grind (arith, is_some, get-ports)
 
   -- ---- a record changes
 
   module _ (at new : ℕ → Option (Record M)) (n : Keyed) (made : ℕ) (x : IsIndexed at n made) (id key : ℕ) (r s : Record M) (found : map.get n id ≡ Some key) (here : at key ≡ Some r)
       (turns : Turns at new key (Some s)) (same : s.id ≡ r.id) where
     only_key : (q : ℕ) → q ≢ id → (k : ℕ) → map.get n q ≡ Some k → k ≢ key
-    only_key q d k h e =
-        let there = x.found q k h in
-        let own = x.found id key found in
-        d (sym there.2 ∙ ap (λ (a : Record M). a.id) (same_some _ _ (sym there.1 ∙ ap at e ∙ own.1)) ∙ own.2)
+    only_key q d k h e = grind (arith, same_some)
 
     pub ports-changed : ports_of new n ≡ map.insert (ports_of at n) id (port_of s)
     ports-changed = same_gets _ _ (λ q. elim (equal_or_not q id) [
@@ -62,30 +52,14 @@ module _ {M : Type 0} where
         same_at q d (Some k) h = ap (λ a. Some (port_in a)) (turns.others k (only_key q d k h))
 
     pub indexed-changed : IsIndexed new n made
-    indexed-changed = record {
-      found = λ q k h. let there = x.found q k h in elim (equal_or_not k key) [
-        | inl e ↦ (s, ap new e ∙ turns.changed, same ∙ ap (λ (a : Record M). a.id) (same_some r _ (sym here ∙ ap at (sym e) ∙ there.1)) ∙ there.2)
-        | inr d ↦ (there.0, turns.others k d ∙ there.1, there.2)
-      ];
-      held = λ k a h. elim (equal_or_not k key) [
-        | inl e ↦
-            let is : a ≡ s = same_some a s (sym h ∙ ap new e ∙ turns.changed) in
-            ap (λ (b : Record M). map.get n b.id) is ∙ ap (map.get n) same ∙ x.held key r here ∙ ap (λ b. Some b) (sym e)
-        | inr d ↦ x.held k a (sym (turns.others k d) ∙ h)
-      ];
-      given = x.given;
-    }
+    indexed-changed = grind (arith, equal_or_not, same_some)
 
   -- ---- a record comes
 
   module _ (at new : ℕ → Option (Record M)) (n : Keyed) (made : ℕ) (x : IsIndexed at n made) (key : ℕ) (s : Record M) (vacant : at key ≡ None)
       (turns : Turns at new key (Some s)) (is_next : s.id ≡ made) where
     absent : map.get n made ≡ None
-    absent = from (map.get n made) refl
-      where
-        from : (o : Option ℕ) → map.get n made ≡ o → map.get n made ≡ None
-        from None h = h
-        from (Some k) h = absurd (let less : made < made = x.given made k h in omega arith)
+    absent = grind arith
 
     alive : (k : ℕ) (a : Record M) → at k ≡ Some a → k ≢ key
     alive k a h e = some_or_none a (at k) h (ap at e ∙ vacant)
@@ -103,35 +77,13 @@ module _ {M : Type 0} where
         same_at q (Some k) h = ap (λ a. Some (port_in a)) (turns.others k (let there = x.found q k h in alive k there.0 there.1))
 
     pub indexed-came : IsIndexed new (map.insert n made key) (made + 1)
-    indexed-came = record {
-      found = λ q k h. elim (equal_or_not q made) [
-        | inl e ↦
-            let is : key ≡ k = same_some key k (sym (put_here n made key) ∙ ap (map.get (map.insert n made key)) (sym e) ∙ h) in
-            (s, ap new (sym is) ∙ turns.changed, is_next ∙ sym e)
-        | inr d ↦ let there = x.found q k (sym (put_other n made key q d) ∙ h) in (there.0, turns.others k (alive k there.0 there.1) ∙ there.1, there.2)
-      ];
-      held = λ k a h. elim (equal_or_not k key) [
-        | inl e ↦
-            let is : a ≡ s = same_some a s (sym h ∙ ap new e ∙ turns.changed) in
-            ap (λ (b : Record M). map.get (map.insert n made key) b.id) is ∙ ap (map.get (map.insert n made key)) is_next ∙ put_here n made key ∙ ap (λ b. Some b) (sym e)
-        | inr d ↦
-            let there : map.get n a.id ≡ Some k = x.held k a (sym (turns.others k d) ∙ h) in
-            put_other n made key a.id (λ e. some_or_none k _ there (ap (map.get n) e ∙ absent)) ∙ there
-      ];
-      given = λ q k h. elim (equal_or_not q made) [
-        | inl e ↦ omega arith
-        | inr d ↦ let less : q < made = x.given q k (sym (put_other n made key q d) ∙ h) in omega arith
-      ];
-    }
+    indexed-came = grind (arith, equal_or_not, same_some, put_here, put_other, alive, some_or_none, absent)
 
   -- ---- a record goes
 
   module _ (at new : ℕ → Option (Record M)) (n : Keyed) (made : ℕ) (x : IsIndexed at n made) (id key : ℕ) (found : map.get n id ≡ Some key) (turns : Turns at new key None) where
     other_key : (q : ℕ) → q ≢ id → (k : ℕ) → map.get n q ≡ Some k → k ≢ key
-    other_key q d k h e =
-        let there = x.found q k h in
-        let own = x.found id key found in
-        d (sym there.2 ∙ ap (λ (a : Record M). a.id) (same_some _ _ (sym there.1 ∙ ap at e ∙ own.1)) ∙ own.2)
+    other_key q d k h e = grind (arith, same_some)
 
     pub ports-went : ports_of new (map.remove n id) ≡ map.remove (ports_of at n) id
     ports-went = same_gets _ _ (λ q. elim (equal_or_not q id) [
@@ -145,17 +97,4 @@ module _ {M : Type 0} where
         same_at q d (Some k) h = ap (λ a. Some (port_in a)) (turns.others k (other_key q d k h))
 
     pub indexed-went : IsIndexed new (map.remove n id) made
-    indexed-went = record {
-      found = λ q k h.
-          let d : q ≢ id = λ e. some_or_none k _ h (ap (map.get (map.remove n id)) e ∙ out_here n id) in
-          let was : map.get n q ≡ Some k = sym (out_other n id q d) ∙ h in
-          let there = x.found q k was in
-          (there.0, turns.others k (other_key q d k was) ∙ there.1, there.2);
-      held = λ k a h.
-          let d : k ≢ key = λ e. some_or_none a _ h (ap new e ∙ turns.changed) in
-          let there : map.get n a.id ≡ Some k = x.held k a (sym (turns.others k d) ∙ h) in
-          out_other n id a.id (λ e. d (same_some k key (sym there ∙ ap (map.get n) e ∙ found))) ∙ there;
-      given = λ q k h.
-          let d : q ≢ id = λ e. some_or_none k _ h (ap (map.get (map.remove n id)) e ∙ out_here n id) in
-          x.given q k (sym (out_other n id q d) ∙ h);
-    }
+    indexed-went = grind (arith, some_or_none, out_here, out_other, other_key, same_some)

@@ -25,9 +25,7 @@ pub record AreSame (l d n lost doomed noted : List ℕ) : Type 0 where
 
 pub relisted : {M : Type 0} (v : PortsView M) (l d n lost doomed noted : List ℕ) → AreSame l d n lost doomed noted →
     ◌≡◌ {A = PortsView M} (record v { lost = l; doomed = d; noted = n }) (record v { lost = lost; doomed = doomed; noted = noted })
-relisted {M} v l d n lost doomed noted same =
-    let mk : List ℕ → List ℕ → List ℕ → PortsView M = λ x y z. record v { lost = x; doomed = y; noted = z } in
-    ap (λ x. mk x d n) same.lost_is ∙ ap (λ y. mk lost y n) same.doomed_is ∙ ap (mk lost doomed) same.noted_is
+relisted {M} v l d n lost doomed noted same = grind arith
 
 module _ {M : Type 0} where
   pub within : (l : List (Option (Record M))) (k : ℕ) (r : Record M) → get_or l k None ≡ Some r → k < length l
@@ -37,16 +35,10 @@ module _ {M : Type 0} where
 
   module _ (s : Slab (Record M)) (key : ℕ) (r a : Record M) (here : get s key ≡ Some r) where
     pub turns-set : Turns (get s) (get (with_value s key a)) key (Some a)
-    turns-set = record {
-      changed = get_or-set_same s.slots key (Some a) None (within s.slots key r here);
-      others = λ other d. get_or-set_other s.slots key other (Some a) None d;
-    }
+    turns-set = grind (arith, get_or-set_same, within, get_or-set_other)
 
     pub sum-set : sum_by queued_in (with_value s key a).slots + length r.queue ≡ sum_by queued_in s.slots + length a.queue
-    sum-set =
-        let all = sum_by-set queued_in s.slots key (Some a) None (within s.slots key r here) in
-        let one : queued_in (get_or s.slots key None) ≡ length r.queue = ap queued_in here in
-        omega arith
+    sum-set = grind (arith, sum_by-set, within)
 
   -- ---- a port that changes, and slots that move
 

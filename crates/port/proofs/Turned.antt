@@ -67,17 +67,8 @@ module _ {M : Type 0} (at : ℕ → Option (Record M)) where
   turns-list v q = ap (λ o. unwrap_or o []) (get-turns v.lists q) ∙ of_mapped (map.get v.lists q)
 
   turns-with_list : (v : ListsView) (l : ℕ) (ys : List ℕ) → turns_at at (with_list v l ys).lists ≡ with_turns (turns_at at v.lists) l (ids_at at ys)
-  turns-with_list v l [] = same_gets _ _ (λ q. elim (equal_or_not q l) [
-    | inl e ↦ get-turns (map.remove v.lists l) q ∙ ap (λ n. option_map (ids_at at) (map.get (map.remove v.lists l) n)) e ∙ ap (option_map (ids_at at)) (out_here v.lists l)
-        ∙ sym (ap (map.get (map.remove (turns_at at v.lists) l)) e ∙ out_here (turns_at at v.lists) l)
-    | inr d ↦ get-turns (map.remove v.lists l) q ∙ ap (option_map (ids_at at)) (out_other v.lists l q d) ∙ sym (get-turns v.lists q) ∙ sym (out_other (turns_at at v.lists) l q d)
-  ])
-  turns-with_list v l (y ∷ ys) = same_gets _ _ (λ q. elim (equal_or_not q l) [
-    | inl e ↦ get-turns (map.insert v.lists l (y ∷ ys)) q ∙ ap (λ n. option_map (ids_at at) (map.get (map.insert v.lists l (y ∷ ys)) n)) e ∙ ap (option_map (ids_at at)) (put_here v.lists l (y ∷ ys))
-        ∙ sym (ap (map.get (map.insert (turns_at at v.lists) l (ids_at at (y ∷ ys)))) e ∙ put_here (turns_at at v.lists) l (ids_at at (y ∷ ys)))
-    | inr d ↦ get-turns (map.insert v.lists l (y ∷ ys)) q ∙ ap (option_map (ids_at at)) (put_other v.lists l (y ∷ ys) q d) ∙ sym (get-turns v.lists q)
-        ∙ sym (put_other (turns_at at v.lists) l (ids_at at (y ∷ ys)) q d)
-  ])
+  turns-with_list v l [] = grind (arith, same_gets, equal_or_not, get-turns, out_here, out_other)
+  turns-with_list v l (y ∷ ys) = grind (arith, same_gets, equal_or_not, get-turns, put_here, put_other)
 
   -- the same identities under the keys that stand in lists
   pub turns-same : (new : ℕ → Option (Record M)) (v : ListsView) → ((k l : ℕ) → Contains (list_of v l) k → id_in (new k) ≡ id_in (at k)) → turns_at new v.lists ≡ turns_at at v.lists
@@ -95,9 +86,7 @@ module _ {M : Type 0} (at : ℕ → Option (Record M)) where
 
   turns-in : (v : ListsView) (key id : ℕ) (o : Option ℕ) → id_in (at key) ≡ id → turns_at at (at_end v key o).lists ≡ joined (turns_at at v.lists) id o
   turns-in v key id None is = refl
-  turns-in v key id (Some l) is =
-      turns-with_list v l (list_of v l ++ key ∷ [])
-      ∙ ap (with_turns (turns_at at v.lists) l) (ids-pushed (list_of v l) key ∙ ap (λ n. ids_at at (list_of v l) ++ n ∷ []) is ∙ ap (λ xs. xs ++ id ∷ []) (sym (turns-list v l)))
+  turns-in v key id (Some l) is = grind (arith, turns-with_list, ids-pushed, turns-list)
 
   pub turns-none : (lists : ReadyLists) → lists ≡ map.empty → turns_at at lists ≡ map.empty
   turns-none lists e = map.empty_of_len _ (len-with_values (ids_at at) lists ∙ ap (λ (m : ReadyLists). map.len m) e ∙ map.len-empty nat_cmp (List ℕ))
@@ -120,13 +109,7 @@ module _ {M : Type 0} (at : ℕ → Option (Record M)) where
 
   -- no other port under a key has this identity
   pub own : (home : Record M → Option ℕ) (keys : Keyed) (made : ℕ) → IsIndexed at keys made → (v : ListsView) → IsListed home at v → (id key : ℕ) → map.get keys id ≡ Some key → (k l : ℕ) → Contains (list_of v l) k → eqb (id_in (at k)) id ≡ eqb k key
-  own home keys made x v readied id key found k l c =
-      let was = readied.held k l c in
-      let there = x.found id key found in
-      elim (equal_or_not k key) [
-        | inl e ↦ eqb_same (id_in (at k)) id (ap (λ n. id_in (at n)) e ∙ ap id_in there.1 ∙ there.2) ∙ sym (eqb_same k key e)
-        | inr d ↦ eqb_other (id_in (at k)) id (λ e. d (same_some k key (sym (x.held k was.0 was.1) ∙ ap (map.get keys) (sym (ap id_in was.1) ∙ e) ∙ found))) ∙ sym (eqb_other k key d)
-      ]
+  own home keys made x v readied id key found k l c = grind (arith, readied.held k l c, x.found id key found)
 
 module _ {M : Type 0} (s : Slab (Record M)) (keys : Keyed) (next : Option ℕ) (spare destroyed : List M) (slots : ℕ) (so : IsSound s keys next spare destroyed slots) (ready : ListsView)
     {lost doomed noted : List ℕ} (v : PortsView M) (view_is : record { ports = ports_of (get s) keys; ready = turns_at (get s) ready.lists; made = made_of next; spare = length spare; destroyed = destroyed; lost = lost; doomed = doomed; noted = noted } ≡ v) (readied : IsReadied (get s) ready) where
@@ -177,20 +160,12 @@ module _ {M : Type 0} (s : Slab (Record M)) (keys : Keyed) (next : Option ℕ) (
     -- it keeps its turn where it is ready in the same set
     pub turned-renewed : (then : ListsView) → length r.queue ≤ length a.queue → then ≡ cond (same_set (ready_set r) (ready_set a)) ready (at_end (out_of ready key (ready_set r)) key (ready_set a)) →
         turns_at (get (with_value s key a)) then.lists ≡ turned v.ready id (map.get v.ports id) (port_of a)
-    turned-renewed then longer is =
-        ap (λ (w : ListsView). turns_at (get (with_value s key a)) w.lists) is
-        ∙ either (same_set (ready_set r) (ready_set a)) (ready_set r) (ready_set a)
-        ∙ sym (ap (λ b. cond (b && same_set (ready_set r) (ready_set a)) v.ready (joined (left v.ready id (ready_set r)) id (ready_set a))) (leb_is (length r.queue) (length a.queue) longer))
-        ∙ sym (ap (λ o. turned v.ready id o (port_of a)) live)
+    turned-renewed then longer is = grind (arith, either, leb_is, port_of, live)
 
     -- it goes to the end where a message was taken
     pub turned-taken : (then : ListsView) → length a.queue < length r.queue → then ≡ at_end (out_of ready key (ready_set r)) key (ready_set a) →
         turns_at (get (with_value s key a)) then.lists ≡ turned v.ready id (map.get v.ports id) (port_of a)
-    turned-taken then shorter is =
-        ap (λ (w : ListsView). turns_at (get (with_value s key a)) w.lists) is
-        ∙ moved (ready_set r) (ready_set a)
-        ∙ sym (ap (λ b. cond (b && same_set (ready_set r) (ready_set a)) v.ready (joined (left v.ready id (ready_set r)) id (ready_set a))) (leb_not (length r.queue) (length a.queue) shorter))
-        ∙ sym (ap (λ o. turned v.ready id o (port_of a)) live)
+    turned-taken then shorter is = grind (arith, moved, leb_not, port_of, live)
 
     pub turned-same : ready_set a ≡ ready_set r → length r.queue ≤ length a.queue → turns_at (get (with_value s key a)) ready.lists ≡ turned v.ready id (map.get v.ports id) (port_of a)
-    turned-same e longer = turned-renewed ready longer (sym (ap (λ b. cond b ready (at_end (out_of ready key (ready_set r)) key (ready_set a))) (ap (same_set (ready_set r)) e ∙ same_set-same (ready_set r))))
+    turned-same e longer = grind (arith, turned-renewed, same_set-same)
