@@ -1,39 +1,192 @@
--- A plan that is carried out.
-use Rattle.std.proofs.Common.{◌≡◌, ℕ, ◌+◌, ◌-◌, ◌<◌, ◌≤◌, true, false, Option, Some, None, List, [], ◌∷◌, ◌++◌, suc, length, get_or, refl, sym, ap, subst, ◌∙◌, inl, inr, arith}
-use Rattle.std.specs.Prelude.{is_some, Contains}
-use Rattle.std.specs.Option.{option_to_list}
-use Rattle.std.proofs.lemmas.Bool.Decides.{eqb_tells}
-use Rattle.std.proofs.lemmas.List.Elements.{All-contains_itself, Contains-append_cases}
+-- A plan is carried out.
+use Rattle.std.proofs.Common.{◌≡◌, ℕ, ◌<◌, ◌≤◌, true, Option, Some, None, List, [], ◌∷◌, refl, sym, ap, subst, ◌∙◌, inl, inr, arith, zero, ◌+◌, ◌-◌, false, suc, length, get_or, Bool, ◌⊎◌}
+use Rattle.std.specs.Prelude.{is_some, ◌≢◌, ◌++◌, Contains, max, if◌then◌else◌, ◌==◌}
+use Rattle.std.specs.Option.{unwrap_or, option_to_list}
 use Rattle.std.specs.FinMap as map
-use Rattle.mach_types.specs.Grammar.{WireBody}
-use Rattle.mach_types.specs.Numbers.{null_word, dead_word, most_rights}
+use Rattle.std.proofs.lemmas.Bool.Decides.{eqb_tells}
+use Rattle.std.proofs.lemmas.List.Elements.{Contains-append_cases, All-contains_itself}
+use Rattle.std.proofs.lemmas.List.{nil_from_length}
+use Rattle.mach_types.specs.declared.rights.Disposition.{Disposition}
+use Rattle.mach_types.specs.declared.rights.Disposition.TheVariants.{MoveReceive, MoveSend, MoveSendOnce, CopySend, MakeSend, MakeSendOnce}
+use Rattle.mach_types.specs.Numbers.{kind_sent, null_word, dead_word, most_rights}
+use Rattle.mach_types.specs.Tokens.{send_once, same_kind, receive}
+use Rattle.mach_types.specs.Messages.{Message}
+use Rattle.mach_types.specs.Grammar.{WireBody, Wire, data_item, port_item, raw, items}
+use Rattle.mach_model.proofs.Names.{get_own, pos_or_zero}
+use Rattle.mach_model.specs.Carried.{mark_count, rights_count, message_count}
 use Rattle.mach_model.proofs.Walks.{Through-append}
-use Rattle.message_codec.specs.declared.text.Parsed.{Parsed}
 use Rattle.message_codec.specs.declared.words.PortWord.{PortWord}
-use Rattle.message_codec.specs.Words.{body_words}
-use Rattle.name_space.specs.Names.{Names, SpaceView}
+use Rattle.message_codec.specs.declared.text.Parsed.{Parsed}
+use Rattle.message_codec.specs.Words.{body_words, items_words}
+use Rattle.message_codec.specs.declared.spans.Span.{Span}
+use Rattle.message_codec.specs.declared.text.Lone.{Lone}
+use Rattle.message_codec.specs.declared.text.Request.{Request}
+use Rattle.message_codec.specs.Parses.{Parses}
+use Rattle.message_codec.specs.Plain.{parsed_request, parsed_lone, lone_span}
+use Rattle.message_codec.specs.Spans.{spans_at, body_spans}
+use Rattle.rights.specs.declared.RightKind.{RightKind}
+use Rattle.rights.specs.declared.RightKind.TheVariants.{Send, SendOnce}
+use Rattle.rights.specs.Counts.{no_rights, with_more}
+use Rattle.rights.specs.Ledger.{LedgerView, IsEntered, counts_of, made}
+use Rattle.rights.specs.Unused.{IsUnusedOfAll}
+use Rattle.name_space.specs.declared.Entry.{Entry}
+use Rattle.name_space.specs.declared.Entry.TheVariants as entry
+use Rattle.name_space.specs.Names.{SpaceView, Names}
 use Rattle.port.specs.Ports.{PortView, PortsView, IsLive, with_port}
-use Rattle.rights.specs.Ledger.{counts_of}
-use Rattle.copyin.specs.declared.judge.Plan.{Plan}
 use Rattle.copyin_base.specs.declared.message.Carried.{Carried}
+use Rattle.copyin_base.specs.declared.message.Mark.{Mark}
 use Rattle.copyin_base.specs.declared.message.Mark.TheVariants as mark
-use Rattle.copyin.specs.Judging.{CopiesWord, CopiesReply, made_by_reply, made_by_all}
-use Rattle.copyin_base.specs.Kept.{Kept}
-use Rattle.copyin.specs.Loops.{HoldsRights}
-use Rattle.copyin.specs.Planned.{CanGo, CopiesAll, CanHoldAll, IsPlan}
-use Rattle.copyin.specs.Plans.{destination_word, reply_words, Judged, ChangesWord, ChangesWords, Commits, option_list, made_in}
-use Rattle.copyin_base.specs.Stands.{AreTied, IsTied}
+use Rattle.copyin_base.specs.Stands.{IsTied, AreTied}
+use Rattle.copyin_base.specs.Worlds.{WorldView, space_at, NoneLost, space_in, port_at, put}
+use Rattle.copyin_base.proofs.Putting.{each_put}
+use Rattle.copyin_base.specs.Kept.{Kept, Keeps, mark_of}
+use Rattle.copyin_base.specs.Shows.{CarriesReceive, SlotsSuffice}
+use Rattle.copyin_base.proofs.Listed.{none_listed, listed_one, listed_later}
+use Rattle.copyin_base.proofs.KeptEntries.{rights_of, message_counted, receive_right, one_counted, own_counted}
 use Rattle.copyin_base.specs.Wanted.{room_in, room_of}
-use Rattle.copyin_base.specs.Worlds.{WorldView, NoneLost, space_in, port_at, put}
-use Rattle.copyin.specs.Copies.{ports_copied, ledger_queued, CopiesRight}
-use Rattle.copyin_base.proofs.Listed.{none_listed, listed_one}
 use Rattle.copyin_base.proofs.Spaces.{each-space-set}
+use Rattle.copyin_base.proofs.Slots.{slot_for_once}
+use Rattle.copyin_base.specs.Carrying.{spans_for}
+use Rattle.copyin.specs.declared.copies.Copied.{Copied}
+use Rattle.copyin.specs.Copies.{copied_from, ledger_copied, CopiesRight, ports_copied, ledger_queued}
+use Rattle.copyin.specs.Plans.{ChangesWord, ChangesWords, destination_word, reply_words, Judged, Commits, option_list, made_in}
+use Rattle.copyin.specs.declared.judge.Plan.{Plan}
+use Rattle.copyin.specs.Judging.{CopiesWord, CopiesReply, made_by_reply, made_by_all, CopiesBody}
+use Rattle.copyin.specs.Loops.{HoldsRights}
+use Rattle.copyin.specs.Planned.{CanGo, CopiesAll, CanHoldAll, IsPlan, AreWords}
 use Rattle.copyin.proofs.Going.{go_on}
-use Rattle.copyin.proofs.Judging.{by_name, goes_by_name}
-use Rattle.copyin.proofs.Holding.{receive_is, held_spaces, held_spare}
+use Rattle.copyin.proofs.Judging.{by_name, goes_by_name, not_equal, word_given, number_of}
+use Rattle.copyin.proofs.Holding.{receive_is, held_spaces, held_spare, held_ledger}
 use Rattle.copyin.proofs.Keeping.{keeps, live_copied, spare_copied}
-use Rattle.copyin.proofs.SendersKept.{words_none_lost}
-use Rattle.copyin.proofs.Unused.{once_stays}
+use Rattle.copyin.proofs.Copying.{words_none_lost}
+use Rattle.copyin.specs.Slots.{once_made_by_mark, once_made_by, once_made_by_reply, once_made_by_all, own_slot, slots_for}
+use Rattle.copyin.specs.declared.judge.Head.{Head}
+use Rattle.copyin.specs.declared.judge.Rights.{Rights}
+use Rattle.copyin.specs.declared.judge.Words.{Words}
+use Rattle.copyin.specs.Goes.{IsHead, IsBare, message_with}
+
+-- ---- A message that goes by a send-once right: once all its rights went, its port has one that no queued message goes by.
+
+-- a port with a right has its counts
+pub some_entered : (l : LedgerView) (p : ℕ) → 0 < (counts_of l p).send_once → IsEntered l p
+some_entered l p = grind arith
+
+-- ---- none goes as rights are copied in
+
+more_made : (l : LedgerView) (q : ℕ) (kind : RightKind) (p : ℕ) → (counts_of l q).send_once ≤ (with_more kind 1 (counts_of l q)).send_once →
+    (counts_of l p).send_once ≤ (counts_of (made l q kind 1) p).send_once
+more_made l q kind p own =
+    each_put l.counts q (Some (with_more kind 1 (counts_of l q))) (λ n o. (counts_of l n).send_once ≤ (unwrap_or o no_rights).send_once) own (λ n not. omega arith) p
+
+more_copied : (d : Disposition) (m : Mark) (l : LedgerView) (p : ℕ) → (counts_of l p).send_once ≤ (counts_of (ledger_copied d m l) p).send_once
+more_copied MoveReceive m l p = omega arith
+more_copied MoveSend m l p = omega arith
+more_copied MoveSendOnce m l p = omega arith
+more_copied CopySend (mark.Port q) l p = more_made l q Send p (omega arith)
+more_copied CopySend mark.Null l p = omega arith
+more_copied CopySend mark.Dead l p = omega arith
+more_copied MakeSend (mark.Port q) l p = more_made l q Send p (omega arith)
+more_copied MakeSend mark.Null l p = omega arith
+more_copied MakeSend mark.Dead l p = omega arith
+more_copied MakeSendOnce (mark.Port q) l p = more_made l q SendOnce p (omega arith)
+more_copied MakeSendOnce mark.Null l p = omega arith
+more_copied MakeSendOnce mark.Dead l p = omega arith
+
+as_many : (old new : WorldView) (p : ℕ) → new ≡ old → (counts_of old.ledger p).send_once ≤ (counts_of new.ledger p).send_once
+as_many old new p e = subst (λ (x : WorldView). (counts_of old.ledger p).send_once ≤ (counts_of x.ledger p).send_once) (sym e) (omega arith)
+
+more_word : (old new : WorldView) (task : ℕ) (w : PortWord) (c : Carried) → ChangesWord old task w c new → (p : ℕ) → (counts_of old.ledger p).send_once ≤ (counts_of new.ledger p).send_once
+more_word old new task w c ch p = grind (arith, as_many, more_copied)
+
+pub more_words : (old new : WorldView) (task : ℕ) (ws : List PortWord) (cs : List Carried) → ChangesWords old task ws cs new → (p : ℕ) →
+    (counts_of old.ledger p).send_once ≤ (counts_of new.ledger p).send_once
+more_words old new task [] [] ch p = as_many old new p ch
+more_words old new task [] (c ∷ cs) ch p = absurd ch
+more_words old new task (w ∷ ws) [] ch p = absurd ch
+more_words old new task (w ∷ ws) (c ∷ cs) ch p = grind (arith, more_words ch.0 new task ws cs ch.2 p, more_word)
+
+-- ---- the destination's right is one
+
+the_port : (p q : ℕ) (m : Mark) → m ≡ mark.Port p → m ≡ mark.Port q → p ≡ q
+the_port p q m a b = let e : mark.Port p ≡ mark.Port q = sym a ∙ b in cc
+
+no_copied : (k : Copied) → None ≡ Some k → ⊥
+no_copied k e = cc
+
+the_copied : (a b : Copied) → Some a ≡ Some b → a ≡ b
+the_copied a b e = cc
+
+once_copied : (d : Disposition) (e : Entry) (k : Copied) (p : ℕ) (l : LedgerView) → copied_from d e ≡ Some k → same_kind (kind_sent d) send_once ≡ true → k.mark ≡ mark.Port p →
+    ((q : ℕ) → e ≡ entry.SendOnce q → 0 < (counts_of l q).send_once) → 0 < (counts_of (ledger_copied d k.mark l) p).send_once
+once_copied MoveReceive e k p l is once to own = absurd (cc)
+once_copied MoveSend e k p l is once to own = absurd (cc)
+once_copied CopySend e k p l is once to own = absurd (cc)
+once_copied MakeSend e k p l is once to own = absurd (cc)
+once_copied MakeSendOnce e k p l is once to own = grind (arith, get_own)
+once_copied MoveSendOnce (entry.SendOnce q) k p l is once to own = grind (arith, the_copied, the_port)
+once_copied MoveSendOnce (entry.DeadName n) k p l is once to own = grind (arith, the_copied)
+once_copied MoveSendOnce (entry.Receive q) k p l is once to own = absurd (no_copied k is)
+once_copied MoveSendOnce (entry.Send q n) k p l is once to own = absurd (no_copied k is)
+once_copied MoveSendOnce (entry.ReceiveAndSend q n) k p l is once to own = absurd (no_copied k is)
+once_copied MoveSendOnce (entry.Set s) k p l is once to own = absurd (no_copied k is)
+
+-- once the word's right went, and others after it
+module _ (old : WorldView) (task : ℕ) (tied : IsTied old task) (space : SpaceView) (there : space_at old task ≡ Some space) (w : PortWord) (c : Carried) (e : Entry)
+    (found : map.get space.names w.name ≡ Some e) (once : same_kind (kind_sent c.given) send_once ≡ true) (p : ℕ) (to : c.mark ≡ mark.Port p) where
+  nothing : (n : ℕ) → map.get space.names n ≡ None → w.name ≡ n → ⊥
+  nothing n none is = let f : None ≡ Some e = sym none ∙ ap (λ (m : ℕ). map.get space.names m) (sym is) ∙ found in cc
+
+  pub once_went : (new : WorldView) → ChangesWord old task w c new → 0 < (counts_of new.ledger p).send_once
+  once_went new ch = elim (eqb_tells w.name null_word) [
+    | inl n ↦ absurd (nothing null_word (tied.tied space there).not_null n.1)
+    | inr n ↦ elim (eqb_tells w.name dead_word) [
+      | inl d ↦ absurd (nothing dead_word (tied.tied space there).not_dead d.1)
+      | inr d ↦ right (rw (n.0, d.0) at ch)
+    ]
+  ]
+    where
+      right : CopiesRight old task c.given w.name c.mark new → 0 < (counts_of new.ledger p).send_once
+      right r = subst (λ (x : WorldView). 0 < (counts_of x.ledger p).send_once) (sym r.rest)
+          (once_copied c.given r.entry r.copied p old.ledger r.is once (sym r.mark_is ∙ to) (λ q is. tied.unused r.space r.there w.name q (r.found ∙ ap Some is)))
+
+  pub once_stays : (one new : WorldView) → ChangesWord old task w c one → (ws : List PortWord) (cs : List Carried) → ChangesWords one task ws cs new → 0 < (counts_of new.ledger p).send_once
+  once_stays one new ch ws cs others = let a = once_went one ch in let b = more_words one new task ws cs others p in omega (arith, a, b)
+
+-- ---- Receive rights among those that a message carries, as the tables and as the machine have them.
+
+some_carried : (cs : List Carried) (p : ℕ) → 0 < rights_count receive p (rights_of cs) → Contains cs (receive_right p)
+some_carried [] p some = absurd (omega (arith, some))
+some_carried (c ∷ cs) p some = elim (pos_or_zero (mark_count receive p (kind_sent c.given) (mark_of c.mark))) [
+  | inl none ↦ listed_later c cs (receive_right p) (some_carried cs p (omega (arith, some, none)))
+  | inr own ↦ (zero, omega arith, one_counted c.given c.mark p own)
+]
+
+carried_some : (cs : List Carried) (p : ℕ) → Contains cs (receive_right p) → 0 < rights_count receive p (rights_of cs)
+carried_some [] p among = absurd (none_listed [] refl (receive_right p) among)
+carried_some (c ∷ cs) p among = elim (Contains-append_cases (c ∷ []) cs (receive_right p) among) [
+  | inl own ↦ let one = own_counted c p (sym (listed_one c (receive_right p) own)) in omega (arith, one)
+  | inr later ↦ let some = carried_some cs p later in omega (arith, some)
+]
+
+no_reply : (o : Option Carried) (cs : List Carried) (p : ℕ) → ((c : Carried) → o ≡ Some c → c.given ≢ MoveReceive) → rights_count receive p (rights_of (option_to_list o ++ cs)) ≡ rights_count receive p (rights_of cs)
+no_reply None cs p sent = refl
+no_reply (Some c) cs p sent = elim (pos_or_zero (mark_count receive p (kind_sent c.given) (mark_of c.mark))) [
+  | inl none ↦ omega (arith, none)
+  | inr own ↦ absurd (sent c refl (ap (λ (x : Carried). x.given) (one_counted c.given c.mark p own)))
+]
+
+module _ (q : ℕ) (m : Kept) (x : Message) (keeps : Keeps q m x) (p : ℕ) where
+  -- its receive rights for the port are among its body's
+  counted : message_count receive p x ≡ rights_count receive p (rights_of m.rights)
+  counted = grind (arith, message_counted q m x keeps receive p, no_reply m.reply m.rights p keeps.reply_sent)
+
+  pub kept_carries : 0 < message_count receive p x → CarriesReceive m p
+  kept_carries some = let n = counted in some_carried m.rights p (omega (arith, some, n))
+
+  pub carries_counted : CarriesReceive m p → 0 < message_count receive p x
+  carries_counted among = let n = counted in let some = carried_some m.rights p among in omega (arith, n, some)
+
+-- ---- A plan that is carried out.
 
 -- ---- the rights of a plan, in one list
 
@@ -296,3 +449,205 @@ commits_rooms old task parsed written j bytes new c u =
     ap (λ (x : WorldView). room_of x u) c.rest
     ∙ ap (λ (xs : List (Option SpaceView)). room_in (space_in xs u)) (held_spaces j.port j.rights c.mid c.held c.holds)
     ∙ (stay_words old c.mid task (destination_word parsed ∷ reply_words parsed ++ body_words written) (j.destination ∷ option_list j.reply ++ j.rights) c.changes).rooms u
+
+-- ---- How many spare slots and unused send-once rights there are once rights were copied in, and once a message was sent.
+
+-- As many slots are spare as before, and so many send-once rights more are unused.
+pub record MakesOnce (old new : WorldView) (made : ℕ) : Type 0 where
+  pub unused : new.ledger.unused ≡ old.ledger.unused + made
+  pub spare : new.ports.spare ≡ old.ports.spare
+
+none_made : (old new : WorldView) → new ≡ old → MakesOnce old new 0
+none_made old new same = grind arith
+
+-- ---- a right
+
+unused_copied : (d : Disposition) (m : Mark) (l : LedgerView) → (ledger_copied d m l).unused ≡ l.unused + once_made_by_mark d m
+unused_copied MoveReceive (mark.Port p) l = omega arith
+unused_copied MoveReceive mark.Null l = omega arith
+unused_copied MoveReceive mark.Dead l = omega arith
+unused_copied MoveSend (mark.Port p) l = omega arith
+unused_copied MoveSend mark.Null l = omega arith
+unused_copied MoveSend mark.Dead l = omega arith
+unused_copied MoveSendOnce (mark.Port p) l = omega arith
+unused_copied MoveSendOnce mark.Null l = omega arith
+unused_copied MoveSendOnce mark.Dead l = omega arith
+unused_copied CopySend (mark.Port p) l = omega arith
+unused_copied CopySend mark.Null l = omega arith
+unused_copied CopySend mark.Dead l = omega arith
+unused_copied MakeSend (mark.Port p) l = omega arith
+unused_copied MakeSend mark.Null l = omega arith
+unused_copied MakeSend mark.Dead l = omega arith
+unused_copied MakeSendOnce (mark.Port p) l = omega arith
+unused_copied MakeSendOnce mark.Null l = omega arith
+unused_copied MakeSendOnce mark.Dead l = omega arith
+
+pub copied_once : (old new : WorldView) (task : ℕ) (d : Disposition) (name : ℕ) (one : Mark) → CopiesRight old task d name one new → MakesOnce old new (once_made_by_mark d one)
+copied_once old new task d name one c = grind (arith, unused_copied, spare_copied)
+
+-- ---- words
+
+none_by : (d : Disposition) (m : Mark) → (m ≡ mark.Null) → once_made_by_mark d m ≡ 0
+none_by d m is = grind arith
+
+none_dead : (d : Disposition) (m : Mark) → (m ≡ mark.Dead) → once_made_by_mark d m ≡ 0
+none_dead d m is = grind arith
+
+word_once : (names after : Names) (old new : WorldView) (task : ℕ) (w : PortWord) (c : Carried) → CopiesWord names w c after → ChangesWord old task w c new → MakesOnce old new (once_made_by c)
+word_once names after old new task w c copies changes = grind (arith, none_by, none_made, none_dead, copied_once)
+
+words_once : (names after : Names) (old new : WorldView) (task : ℕ) (ws : List PortWord) (cs : List Carried) → CopiesAll names ws cs after → ChangesWords old task ws cs new →
+    MakesOnce old new (once_made_by_all cs)
+words_once names after old new task [] [] copies same = none_made old new same
+words_once names after old new task [] (c ∷ cs) copies changes = absurd changes
+words_once names after old new task (w ∷ ws) [] copies changes = absurd changes
+words_once names after old new task (w ∷ ws) (c ∷ cs) copies changes = grind (arith, words_once copies.0 after changes.0 new task ws cs copies.2 changes.2, word_once)
+
+-- ---- a message
+
+once_append : (cs ds : List Carried) → once_made_by_all (cs ++ ds) ≡ once_made_by_all cs + once_made_by_all ds
+once_append [] ds = omega arith
+once_append (c ∷ cs) ds = let e = once_append cs ds in omega arith
+
+once_option : (reply : Option Carried) → once_made_by_all (option_list reply) ≡ once_made_by_reply reply
+once_option None = refl
+once_option (Some c) = omega arith
+
+-- the right by which it goes, once it is queued, is unused no more
+queued_less : (b : Bool) (p : ℕ) (l : LedgerView) → (ledger_queued b p l).unused ≡ l.unused - (if b then 1 else 0)
+queued_less true p l = refl
+queued_less false p l = omega arith
+
+-- what it makes and uses at its destination leaves what it wants for itself, but for the slot that it takes
+own_balance : (d : Disposition) (m : Mark) (p : ℕ) → m ≡ mark.Port p → once_made_by_mark d m + 1 ≡ own_slot d + (if same_kind (kind_sent d) send_once then 1 else 0)
+own_balance d m p is = grind arith
+
+module _ (old : WorldView) (task : ℕ) (parsed : Parsed) (written : WireBody) (j : Judged old task parsed written) (tied : AreTied j.space.names old.ports old.ledger) (bytes : List ℕ) (new : WorldView)
+    (c : Commits old task parsed written j bytes new) where
+  -- There are as many unused send-once rights as there were, and as the slots that it wants less the one that it takes.
+  pub commits_unused : new.ledger.unused ≡ old.ledger.unused + slots_for j.destination j.reply j.rights - 1
+  commits_unused =
+      let made = words_once j.space.names j.last old c.mid task (destination_word parsed ∷ reply_words parsed ++ body_words written) (j.destination ∷ option_list j.reply ++ j.rights)
+      (subst (λ (cs : List Carried). CopiesAll j.space.names (destination_word parsed ∷ reply_words parsed ++ body_words written) (j.destination ∷ cs ++ j.rights) j.last)
+      (same_options j.reply) (judged_all old task parsed written j tied)) c.changes in
+      let all = made.unused in
+      let less : new.ledger.unused ≡ c.mid.ledger.unused - (if same_kind (kind_sent j.destination.given) send_once then 1 else 0) =
+      ap (λ (w : WorldView). w.ledger.unused) c.rest
+      ∙ ap (λ (l : LedgerView). (ledger_queued (same_kind (kind_sent j.destination.given) send_once) j.port l).unused) (held_ledger j.port j.rights c.mid c.held c.holds)
+      ∙ queued_less (same_kind (kind_sent j.destination.given) send_once) j.port c.mid.ledger in
+      let parts = once_append (option_list j.reply) j.rights in
+      let reply = once_option j.reply in
+      let balance = own_balance j.destination.given j.destination.mark j.port j.to_port in
+      omega (arith, all, less, parts, reply, balance)
+
+  pub commits_spare : new.ports.spare ≡ old.ports.spare - 1
+  commits_spare = ap (λ (w : WorldView). w.ports.spare) c.rest
+
+-- ---- a slot for the message
+
+-- a right that goes by the disposition that takes no slot of its own is a send-once right that was there
+own_or_there : (d : Disposition) (e : Entry) (k : Copied) (p : ℕ) → copied_from d e ≡ Some k → k.mark ≡ mark.Port p → (own_slot d ≡ 1) ⊎ ((q : ℕ) × (e ≡ entry.SendOnce q))
+own_or_there MoveSendOnce (entry.SendOnce q) k p is to = inr (q, refl)
+own_or_there MoveSendOnce (entry.DeadName n) k p is to = grind arith
+own_or_there MoveSendOnce (entry.Receive q) k p is to = absurd (let e : None ≡ Some k = is in cc)
+own_or_there MoveSendOnce (entry.Send q n) k p is to = absurd (let e : None ≡ Some k = is in cc)
+own_or_there MoveSendOnce (entry.ReceiveAndSend q n) k p is to = absurd (let e : None ≡ Some k = is in cc)
+own_or_there MoveSendOnce (entry.Set q) k p is to = absurd (let e : None ≡ Some k = is in cc)
+own_or_there MoveReceive e k p is to = inl refl
+own_or_there MoveSend e k p is to = inl refl
+own_or_there CopySend e k p is to = inl refl
+own_or_there MakeSend e k p is to = inl refl
+own_or_there MakeSendOnce e k p is to = inl refl
+
+-- Once the slots are made that it wants, the message has one: its own, or that of the right that it goes by.
+pub slot_there : (w : WorldView) → IsUnusedOfAll w.ledger → SlotsSuffice w → (task : ℕ) (parsed : Parsed) (written : WireBody) (j : Judged w task parsed written) → IsTied w task →
+    0 < max w.ports.spare (w.ledger.unused + slots_for j.destination j.reply j.rights)
+slot_there w all enough task parsed written j tied =
+    let d = j.copies_destination in
+    elim (own_or_there j.destination.given d.entry d.copied j.port d.is (sym d.mark ∙ j.to_port)) [
+      | inl own ↦ omega (arith, own)
+      | inr there ↦
+          let some = slot_for_once w all enough there.0 (tied.unused j.space j.there (destination_word parsed).name there.0 (d.found ∙ ap Some there.1)) in
+          omega (arith, some)
+    ]
+
+-- ---- The text of a message in whose body no port words stand, and what is queued of it.
+
+pub none_in : {X : Type 0} (xs : List X) → true ≡ (length xs == 0) → xs ≡ []
+none_in xs empty = elim (eqb_tells (length xs) 0) [ inl h ↦ nil_from_length xs h.1 | inr h ↦ absurd (let no : true ≡ false = empty ∙ h.0 in cc) ]
+
+no_items : (xs : List Wire) (at : ℕ) → spans_at at xs ≡ [] → items_words xs ≡ []
+no_items [] at none = refl
+no_items (data_item form name size number bytes padding ∷ xs) at none = no_items xs _ none
+no_items (port_item form disposition words ∷ xs) at none = absurd (cc)
+
+no_words : (written : WireBody) → body_spans written ≡ [] → body_words written ≡ []
+no_words (raw bytes) none = refl
+no_words (items xs) none = no_items xs 24 none
+
+-- the words of a plan for such a message
+pub bare_words : (bytes : List ℕ) (head : Head) (parsed : Parsed) (bare : IsBare bytes head parsed) (words : Words) → words.destination ≡ head.destination → words.reply ≡ head.reply
+    → words.body.items ≡ [] → AreWords parsed bare.parses.written words
+bare_words bytes head parsed bare words to answer none = record {
+  destination = to ∙ bare.says.destination;
+  reply = ap (λ (w : Option PortWord). option_to_list w) answer ∙ bare.says.reply;
+  body = none ∙ sym (no_words bare.parses.written (sym bare.parses.spans ∙ bare.spans));
+}
+
+-- the word of the right to answer with
+pub answer_words : (request : Request) → request.local_kind ≢ 0
+    → ◌≡◌ {A = List PortWord} (record { disposition = request.local_kind; name = request.local } ∷ []) (reply_words (parsed_request request))
+answer_words request answered = rw (not_equal request.local_kind 0 answered) refl
+
+-- what is queued of a text, by what was read of it
+abbrev pub queued_of : Parsed → (bytes : List ℕ) → Disposition → Option Carried → List Carried → Kept
+queued_of parsed bytes given reply carried = record {
+  bytes = bytes;
+  id = parsed.id;
+  is_complex = parsed.is_complex;
+  spans = parsed.spans;
+  by_once = same_kind (kind_sent given) send_once;
+  reply = reply;
+  rights = carried;
+  told = false;
+}
+
+pub queues : (parsed : Parsed) (head : Head) → IsHead parsed head → (bytes : List ℕ) (rights : Rights) (spans : List Span) (carried kept : List Carried)
+    → spans ≡ parsed.spans → kept ≡ carried → message_with head bytes rights spans kept ≡ queued_of parsed bytes rights.destination.given rights.reply carried
+queues parsed head is bytes rights spans carried kept stand go = λ i. record {
+  bytes = bytes;
+  id = is.id i;
+  is_complex = is.is_complex i;
+  spans = stand i;
+  by_once = same_kind (kind_sent rights.destination.given) send_once;
+  reply = rights.reply;
+  rights = go i;
+  told = false;
+}
+
+-- ---- a body of one word
+
+-- the words of a plan for a text with such a body
+pub one_words : (bytes : List ℕ) (lone : Lone) (p : Parses bytes (parsed_lone lone)) → body_words p.written ≡ lone.word ∷ [] → (words : Words)
+    → words.destination ≡ destination_word (parsed_lone lone) → words.reply ≡ None → words.body.items ≡ lone.word ∷ [] → AreWords (parsed_lone lone) p.written words
+one_words bytes lone p is words to answer one = record {
+  destination = to;
+  reply = ap (λ (w : Option PortWord). option_to_list w) answer;
+  body = one ∙ sym is;
+}
+
+-- where its word stands, by what was judged of it
+pub one_span : (second : Names) (ws : List PortWord) (w : PortWord) (c : Carried) (last : Names) → ws ≡ w ∷ [] → CopiesBody second ws (c ∷ []) last
+    → spans_for (Some c) ≡ lone_span w.disposition ∷ []
+one_span second ws w c last is goes =
+    let body : CopiesBody second (w ∷ []) (c ∷ []) last = subst (λ (xs : List PortWord). CopiesBody second xs (c ∷ []) last) is goes in
+    ap (λ (n : ℕ). lone_span n ∷ []) (number_of w.disposition c.given (word_given second w c body.0 body.1))
+
+pub one_head : (lone : Lone) (head : Head) → head ≡ record { destination = record { disposition = lone.remote_kind; name = lone.remote }; reply = None; id = lone.id; is_complex = true }
+    → IsHead (parsed_lone lone) head
+one_head lone head is = record {
+  destination = ap (λ (h : Head). h.destination) is;
+  reply = ap (λ (h : Head). option_to_list h.reply) is;
+  id = ap (λ (h : Head). h.id) is;
+  is_complex = ap (λ (h : Head). h.is_complex) is;
+}

@@ -27,9 +27,8 @@ use Rattle.copyin_base.specs.Worlds.{WorldView, entry_at, put, space_at}
 use Rattle.copyin_base.specs.Changes.{PutsLeft}
 use Rattle.copyin_base.proofs.Gets.{same_found}
 use Rattle.copyin_base.proofs.Spaces.{same_world, space-set_same}
-use Rattle.copyin.proofs.Judging.{by_name}
+use Rattle.copyin.proofs.Judging.{by_name, get_put, get_put_other}
 use Rattle.copyin.proofs.Keeping.{keeps, total_copied, entered_copied, live_copied}
-use Rattle.copyin.proofs.Overlays.{get_put, get_put_other}
 
 no_some : {X : Type 0} (x : X) → None ≡ Some x → ⊥
 no_some x e = cc

@@ -1,32 +1,12 @@
 pub mod Keeping
-pub mod Walking
+pub mod Copying
 pub mod Holding
 pub mod LoopFound
-pub mod RequestedKept
-pub mod PortCopied
 pub mod CopiedIn
-pub mod MovedIn
-pub mod GoesIn
-pub mod Stepping
-pub mod Numbering
-pub mod Bodies
-pub mod Texts
-pub mod Unused
-pub mod Planned
-mod Moved
-mod Looping
-pub mod Sent
-pub mod Refused
-pub mod RefusedWords
-pub mod Overlays
 pub mod Judging
-pub mod HoldersKept
-pub mod CarriersKept
-pub mod SendersKept
-pub mod Leaving
-pub mod Tables
-pub mod Going
 pub mod Planning
 pub mod Committing
-pub mod SlotsKept
-pub mod Bare
+pub mod Sent
+pub mod Refused
+pub mod HoldersKept
+pub mod Going

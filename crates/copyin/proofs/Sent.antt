@@ -15,9 +15,9 @@ use Rattle.mach_model.specs.Send.{entry as logged}
 use Rattle.mach_model.specs.Carried.{lying, message_count}
 use Rattle.mach_model.specs.Death.{LiesAt}
 use Rattle.mach_model.specs.Lawful.{tally}
-use Rattle.mach_model.proofs.At.{at_own, at_other}
+use Rattle.mach_model.proofs.Names.{at_own, at_other}
 use Rattle.mach_model.proofs.SettledReceives.{tally-append}
-use Rattle.mach_model.proofs.CopyingWords.{Adds, Copied-adds}
+use Rattle.mach_model.proofs.MessagesLawful.{Adds, Copied-adds}
 use Rattle.mach_model.proofs.Moving.{moving, shape}
 use Rattle.message_codec.specs.declared.text.Parsed.{Parsed}
 use Rattle.message_codec.specs.Parses.{Parses}
@@ -33,20 +33,15 @@ use Rattle.copyin_base.proofs.Holders.{ReceivesAt, unheld, unheld_lying}
 use Rattle.copyin_base.proofs.Tied.{stands_tied, stands_is_tied}
 use Rattle.copyin.specs.Copies.{ledger_queued}
 use Rattle.copyin.specs.Loops.{MakesLoop}
-use Rattle.copyin.proofs.CarriersKept.{commits_carriers}
+use Rattle.copyin.proofs.HoldersKept.{commits_carriers, commits_holders}
 use Rattle.copyin_base.proofs.KeptEntries.{receive_right}
 use Rattle.copyin.proofs.Holding.{held_ledger, held_agrees}
-use Rattle.copyin.proofs.HoldersKept.{commits_holders}
-use Rattle.copyin.proofs.Looping.{closes, closed}
-use Rattle.copyin.proofs.Moved.{kept_carries, carries_counted}
-use Rattle.copyin.proofs.Planning.{reply_sends}
-use Rattle.copyin.proofs.RequestedKept.{commits_requested}
-use Rattle.copyin.proofs.Unused.{once_stays}
+use Rattle.copyin.proofs.LoopFound.{closes, closed}
+use Rattle.copyin.proofs.Committing.{kept_carries, carries_counted, once_stays}
+use Rattle.copyin.proofs.Planning.{reply_sends, few_bytes, message, third, kind_is, copied, shape_is, total_is, all_changes}
+use Rattle.copyin.proofs.Copying.{commits_requested, words_once}
 use Rattle.copyin_base.proofs.Agreeing.{live_put, ports_put}
 use Rattle.copyin.specs.Plans.{destination_word, reply_words, option_list, Judged, made_in, message_for, HasSlot, HasNoSlot, Commits}
-use Rattle.copyin.proofs.Stepping.{words_once}
-use Rattle.copyin.proofs.Texts.{few_bytes}
-use Rattle.copyin.proofs.Planned.{message, third, kind_is, copied, shape_is, total_is, all_changes}
 
 -- ---- as many messages are kept as the queue has
 

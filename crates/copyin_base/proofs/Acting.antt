@@ -1,6 +1,5 @@
 -- How a call keeps its promise: refused by what was judged, or done up to the end of the step.
-use Rattle.std.proofs.Common.{◌≡◌, ℕ, List, [], ◌∷◌, Option, refl, sym, ap, subst, ◌∙◌, inl, inr, arith}
-use Rattle.std.specs.Prelude.{is_some}
+use Rattle.std.proofs.Common.{◌≡◌, ℕ, List, [], ◌∷◌, refl, sym, subst, inl, inr}
 use Rattle.mach_types.specs.declared.calls.Event.{Event}
 use Rattle.mach_types.specs.declared.calls.Reply.{Reply}
 use Rattle.mach_types.specs.Guards.{NoneHolds}
@@ -9,14 +8,14 @@ use Rattle.mach_model.specs.State.{State}
 use Rattle.mach_model.specs.Notices.{Owed}
 use Rattle.mach_model.specs.Refusals.{Refuses, RefusesLater, IsOneDead, guards, call_guards, tasks_of}
 use Rattle.mach_model.specs.Machine.{Does}
-use Rattle.mach_model.proofs.Quiet.{LosesNone}
+use Rattle.mach_model.proofs.Midway.{LosesNone}
 use Rattle.mach_model.proofs.StepLawful.{Does-mid}
 use Rattle.mach_model.proofs.StepReceives.{Does-receives}
 use Rattle.copyin_base.specs.Changes.{NotesSenders, MakesNoSends}
 use Rattle.copyin_base.specs.Posted.{with_posted, IsLeft}
 use Rattle.copyin_base.specs.Worlds.{WorldView, NoneLost}
 use Rattle.copyin_base.specs.Shows.{Agrees, HoldersAgree, CarriersAgree, SlotsSuffice, RequestsStand, Shows}
-use Rattle.copyin_base.specs.Acts.{ShowsMid, Acts, Declines, AreTasks, HasTasks, IsRefused, IsAllowed}
+use Rattle.copyin_base.specs.Acts.{Acts, Declines, AreTasks, HasTasks, IsRefused, IsAllowed}
 use Rattle.copyin_base.proofs.Listed.{none_listed}
 use Rattle.copyin_base.proofs.SendersNoted.{senders_same}
 use Rattle.copyin_base.proofs.Told.{among_tasks}

@@ -4,7 +4,7 @@ use Rattle.std.specs.Prelude.{◌≢◌, is_some}
 use Rattle.std.specs.Option.{option_to_list}
 use Rattle.std.specs.FinMap as map
 use Rattle.mach_model.specs.State.{State, at, queue}
-use Rattle.mach_model.proofs.At.{at_own, at_other}
+use Rattle.mach_model.proofs.Names.{at_own, at_other}
 use Rattle.port.specs.declared.Attributes.{Attributes}
 use Rattle.port.specs.declared.Holder.{Holder}
 use Rattle.port.specs.Ports.{PortView, with_port}

@@ -1,24 +1,23 @@
 -- Which queue holds the receive rights that messages carry, after queues and ports have changed.
-use Rattle.std.proofs.Common.{◌≡◌, ℕ, ◌+◌, ◌<◌, ◌≤◌, List, [], ◌∷◌, ◌++◌, Option, Some, None, refl, sym, ap, subst, ◌∙◌, arith, ◌⊎◌, inl, inr, zero, suc, drop}
-use Rattle.std.specs.Prelude.{◌≢◌, Contains}
+use Rattle.std.proofs.Common.{◌≡◌, ℕ, ◌+◌, ◌<◌, ◌≤◌, List, [], ◌∷◌, ◌++◌, Some, None, sym, ap, subst, ◌∙◌, arith, inl, inr}
+use Rattle.std.specs.Prelude.{Contains}
 use Rattle.std.specs.FinMap as map
 use Rattle.std.specs.Ordering.{nat_cmp}
-use Rattle.std.proofs.lemmas.Bool.Decides.{eqb_tells}
 use Rattle.std.proofs.lemmas.List.Elements.{Contains-append_cases}
 use Rattle.port.specs.declared.Attributes.{Attributes}
 use Rattle.port.specs.declared.Holder.{Holder}
 use Rattle.port.specs.declared.Holder.TheVariants as by
-use Rattle.port.specs.Ports.{PortView, PortsView, with_port}
-use Rattle.port_set.specs.Sets.{in_set, IsDisbanded}
+use Rattle.port.specs.Ports.{PortView, PortsView}
+use Rattle.port_set.specs.Sets.{IsDisbanded}
 use Rattle.copyin_base.specs.Kept.{Kept}
 use Rattle.copyin_base.specs.Changes.{HasAttributes, SetsAttributes, SetsHolder}
 use Rattle.copyin_base.specs.Worlds.{WorldView, no_world, port_at}
 use Rattle.copyin_base.specs.Shows.{CarriesReceive, CarriersAgree}
 use Rattle.copyin_base.proofs.Changing.{same_port}
 use Rattle.copyin_base.proofs.Gets.{of_some, same_found}
-use Rattle.copyin_base.proofs.Holders.{IsHeldBy, KeepHolders, put_holders, disbanded_holders}
+use Rattle.copyin_base.proofs.Holders.{KeepHolders, put_holders, disbanded_holders}
 use Rattle.copyin_base.proofs.Listed.{none_listed, listed_one, listed_later}
-use Rattle.copyin_base.proofs.Putting.{each_put, put_own, put_other}
+use Rattle.copyin_base.proofs.Putting.{each_put, put_other}
 
 abbrev Ports : Type 0
 Ports = map.FinMap nat_cmp (PortView Kept)

@@ -5,7 +5,7 @@ use Rattle.std.specs.Option.{unwrap_or}
 use Rattle.std.specs.FinMap as map
 use Rattle.std.proofs.lemmas.Bool.{eq-eqb, ne_eqb}
 use Rattle.mach_types.specs.Tokens.{Kind, receive, send, send_once, Place, Token, token, weigh, count, is_of, same_kind}
-use Rattle.mach_model.proofs.Weigh.{both_test}
+use Rattle.mach_model.proofs.Names.{both_test}
 use Rattle.rights.specs.declared.Counts.{Counts}
 use Rattle.rights.specs.declared.RightKind.{RightKind}
 use Rattle.rights.specs.declared.RightKind.TheVariants as right

@@ -1,5 +1,5 @@
 -- A set was disbanded, in the tables and in the machine alike: its members are in none.
-use Rattle.std.proofs.Common.{◌≡◌, ℕ, [], ◌∷◌, Option, Some, None, refl, sym, ap, subst, ◌∙◌, ◌⊎◌, inl, inr, false}
+use Rattle.std.proofs.Common.{◌≡◌, ℕ, [], ◌∷◌, Option, Some, None, refl, sym, ap, subst, ◌∙◌, ◌⊎◌, inl, inr}
 use Rattle.std.specs.Prelude.{◌==◌, not, filter, is_some}
 use Rattle.std.specs.Option.{option_to_list}
 use Rattle.std.specs.FinMap as map

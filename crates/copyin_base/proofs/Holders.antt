@@ -8,7 +8,7 @@ use Rattle.mach_types.specs.Tokens.{receive, in_message, token, count, is_of, is
 use Rattle.mach_model.specs.State.{State, held}
 use Rattle.mach_model.specs.ReceiveRight.{one_if}
 use Rattle.mach_model.specs.Carried.{lying}
-use Rattle.mach_model.proofs.Weigh.{both_test, held_le_of}
+use Rattle.mach_model.proofs.Names.{both_test, held_le_of}
 use Rattle.name_space.specs.declared.Entry.{Entry}
 use Rattle.name_space.specs.declared.Entry.TheVariants as entry
 use Rattle.name_space.specs.Entry.{port_named, has_receive}

@@ -1,5 +1,5 @@
 -- Nothing was lost: what each verb keeps of that.
-use Rattle.std.proofs.Common.{◌≡◌, ℕ, [], Option, refl, sym, ap, subst, ◌∙◌}
+use Rattle.std.proofs.Common.{◌≡◌, ℕ, Option, refl, ap, ◌∙◌}
 use Rattle.name_space.specs.declared.Entry.{Entry}
 use Rattle.port.specs.declared.Attributes.{Attributes}
 use Rattle.port.specs.declared.Holder.{Holder}

@@ -1,5 +1,5 @@
 -- Only names of one task have changed, and no right was made or lost: the tables still agree.
-use Rattle.std.proofs.Common.{◌≡◌, ℕ, ◌<◌, ◌^◌, true, List, length, Option, Some, None, refl, sym, ap, subst, ◌∙◌, Bool, inl, inr, arith}
+use Rattle.std.proofs.Common.{◌≡◌, ℕ, ◌<◌, ◌^◌, true, List, length, Option, Some, None, refl, sym, ap, subst, ◌∙◌, Bool, inl, inr}
 use Rattle.std.specs.Option.{option_map}
 use Rattle.std.specs.FinMap as map
 use Rattle.std.proofs.lemmas.Bool.Decides.{eqb_tells}
@@ -8,8 +8,7 @@ use Rattle.mach_model.specs.Lawful.{IsLawful}
 use Rattle.mach_model.specs.Unused.{onces_queued}
 use Rattle.request_table.specs.Requests.{name_key}
 use Rattle.mach_model.specs.State.{State, Target, Names, lookup, at}
-use Rattle.mach_model.proofs.At.{at_own, at_other}
-use Rattle.mach_model.proofs.Names.{get_own}
+use Rattle.mach_model.proofs.Names.{at_own, at_other, get_own}
 use Rattle.name_space.specs.declared.Entry.{Entry}
 use Rattle.name_space.specs.Entry.{port_named}
 use Rattle.name_space.specs.Names.{SpaceView}

@@ -1,18 +1,17 @@
 -- The requests that the tables keep still agree where they, the rights that they keep and what stands are as they were.
-use Rattle.std.proofs.Common.{◌≡◌, ℕ, ◌+◌, ◌<◌, ◌≤◌, ◌^◌, Bool, true, false, List, [], ◌∷◌, ◌++◌, Option, Some, None, refl, sym, ap, subst, ◌∙◌, arith, inl, inr}
-use Rattle.std.specs.Prelude.{is_some, if◌then◌else◌, ◌==◌, ◌&&◌, nat_lt}
+use Rattle.std.proofs.Common.{◌≡◌, ℕ, ◌+◌, ◌<◌, ◌≤◌, ◌^◌, Bool, true, false, List, [], ◌∷◌, ◌++◌, Option, Some, None, refl, sym, ap, subst, ◌∙◌, arith}
+use Rattle.std.specs.Prelude.{is_some, if◌then◌else◌, ◌==◌, ◌&&◌}
 use Rattle.std.specs.Option.{option_map}
 use Rattle.std.specs.FinMap as map
 use Rattle.std.specs.Ordering.{nat_cmp}
-use Rattle.std.proofs.lemmas.Bool.Decides.{eqb_tells}
 use Rattle.std.proofs.lemmas.Bool.{eq-eqb, lt-ltb, ltb-true}
 use Rattle.mach_types.specs.Tokens.{Kind, receive, send, send_once, Request, no_senders, port_destroyed, dead_name, in_request, Token}
-use Rattle.mach_model.specs.State.{State, same_request, request_at}
+use Rattle.mach_model.specs.State.{same_request, request_at}
 use Rattle.mach_model.specs.Carried.{lying_among}
 use Rattle.mach_model.proofs.Names.{removed_own}
 use Rattle.mach_model.proofs.Settling.{request_refl}
 use Rattle.request_table.specs.declared.Request.{Request as NameRequest}
-use Rattle.request_table.specs.Requests.{name_key, key_of}
+use Rattle.request_table.specs.Requests.{name_key}
 use Rattle.copyin_base.specs.Requests.{RequestTablesView, notify_of, rights_kept, was_on, rights_went, AreMade, AreEnded, RequestsAgree, left_by, request_left, requests_after}
 use Rattle.copyin_base.proofs.Gets.{of_some}
 use Rattle.copyin_base.proofs.Putting.{get_removed}

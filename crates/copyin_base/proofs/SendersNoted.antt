@@ -1,5 +1,5 @@
 -- Ports that lost their last send right are noted: what each change of the tables does to that.
-use Rattle.std.proofs.Common.{◌≡◌, ℕ, zero, ◌<◌, ◌≤◌, List, [], Some, Option, refl, sym, ap, subst, ◌∙◌, arith, ◌⊎◌, inl, inr, true}
+use Rattle.std.proofs.Common.{◌≡◌, ℕ, ◌<◌, ◌≤◌, List, [], Some, Option, refl, sym, ap, subst, ◌∙◌, arith, ◌⊎◌, inl, inr, true}
 use Rattle.std.specs.Prelude.{Contains}
 use Rattle.std.specs.Option.{unwrap_or}
 use Rattle.std.specs.FinMap as map

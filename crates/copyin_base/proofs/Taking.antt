@@ -4,7 +4,7 @@ use Rattle.std.specs.Prelude.{if◌then◌else◌, ◌==◌, ◌&&◌}
 use Rattle.std.proofs.lemmas.Bool.{eqb-true}
 use Rattle.mach_types.specs.Tokens.{Kind, receive, send, send_once, Place, in_task, in_message, in_request, Token, token, weigh, count, is_of, is_held, is_in_task, same_kind}
 use Rattle.mach_model.specs.Death.{same_place}
-use Rattle.mach_model.proofs.Weigh.{left_of, right_of}
+use Rattle.mach_model.proofs.Names.{left_of, right_of}
 
 -- A token that passes the test, and the others.
 record TakesOne (test : Token → Bool) (xs : List Token) : Type 0 where

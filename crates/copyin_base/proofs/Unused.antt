@@ -4,10 +4,9 @@ use Rattle.std.proofs.lemmas.Bool.{eq-eqb}
 use Rattle.mach_types.specs.Tokens.{send_once, count, is_of, is_held}
 use Rattle.mach_model.specs.State.{State, Target, lookup, held, queue}
 use Rattle.mach_model.specs.Lawful.{IsLawful, is_once}
-use Rattle.mach_model.proofs.Names.{some_tally}
+use Rattle.mach_model.proofs.Names.{some_tally, left_of}
 use Rattle.mach_model.proofs.Settling.{once_lives}
 use Rattle.mach_model.proofs.SettledOnce.{are_apart, apart_count}
-use Rattle.mach_model.proofs.Weigh.{left_of}
 use Rattle.rights.specs.Ledger.{LedgerView, counts_of}
 use Rattle.copyin_base.specs.Shows.{onces_queued, CountsAgree}
 

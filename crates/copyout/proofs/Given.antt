@@ -1,44 +1,57 @@
 -- A right that the tables give a task is given by the machine.
-use Rattle.std.proofs.Common.{◌≡◌, ℕ, ◌+◌, ◌-◌, ◌<◌, ◌≤◌, List, [], ◌∷◌, ◌++◌, Option, Some, None, refl, sym, ap, subst, ◌∙◌, arith, true, false, Bool, ◌⊎◌, inl, inr, length, zero, suc}
-use Rattle.std.specs.Prelude.{◌≢◌, if◌then◌else◌, ◌==◌, ◌&&◌, is_some, min, nat_lt}
+use Rattle.std.proofs.Common.{List, [], ◌∷◌, ◌++◌, arith, ◌≡◌, ℕ, ◌+◌, ◌-◌, ◌<◌, ◌≤◌, Option, Some, None, refl, sym, ap, subst, ◌∙◌, true, false, Bool, ◌⊎◌, inl, inr, length}
+use Rattle.std.specs.Prelude.{◌≢◌, if◌then◌else◌, ◌&&◌, is_some, min, nat_lt, max, MatchBool}
 use Rattle.std.specs.Option.{option_map, option_and_then}
 use Rattle.std.specs.FinMap as map
 use Rattle.std.proofs.lemmas.Bool.Decides.{eqb_tells}
 use Rattle.std.proofs.lemmas.Bool.{eq-eqb, ne_eqb, ltb-true, ltb-false, lt-ltb, le-ltb}
+use Rattle.mach_types.specs.Tokens.{Token, Moves, Kind, receive, send, send_once, Request, in_task, in_message, in_request, token, weigh, count, is_of, is_held}
 use Rattle.mach_types.specs.Numbers.{most_names, most_references}
-use Rattle.mach_types.specs.Tokens.{Kind, receive, send, send_once, Request, in_task, in_message, in_request, Token, token, weigh, count, is_of, is_held, same_kind, Moves}
+use Rattle.mach_model.proofs.Names.{weigh-append, pos_or_zero, both_test, length-weigh, held_le_of, lying_le_of, at_own, at_other, kept}
 use Rattle.mach_model.specs.State.{State, Target, Names as Targets, lookup, held, with_name, IsFresh}
-use Rattle.mach_model.specs.Death.{same_place}
 use Rattle.mach_model.specs.ReceiveRight.{one_if}
 use Rattle.mach_model.specs.Carried.{lying}
 use Rattle.mach_model.specs.CopyOut.{given_to, Named, NamedFor, GiveRight}
-use Rattle.mach_model.proofs.Weigh.{pos_or_zero, both_test, length-weigh, held_le_of, lying_le_of}
-use Rattle.mach_model.proofs.At.{at_own, at_other}
-use Rattle.mach_model.proofs.Names.{kept}
 use Rattle.mach_model.proofs.Moving.{IsMoving}
-use Rattle.mach_model.proofs.CopyingIn.{not_held, own_right}
+use Rattle.mach_model.proofs.Copying.{not_held, own_right}
+use Rattle.rights.specs.declared.RightKind.TheVariants as right
+use Rattle.rights.specs.Ledger.{LedgerView, taken, counts_of}
+use Rattle.rights.specs.Counts.{with_fewer}
+use Rattle.rights.specs.declared.Counts.{Counts}
 use Rattle.name_space.specs.declared.Entry.{Entry}
 use Rattle.name_space.specs.declared.Entry.TheVariants as entry
 use Rattle.name_space.specs.Entry.{port_named, has_receive, send_references}
 use Rattle.name_space.specs.Names.{Names, SpaceView, IsFreshName}
 use Rattle.port.specs.Ports.{PortView, PortsView}
-use Rattle.rights.specs.declared.RightKind.TheVariants as right
-use Rattle.rights.specs.Ledger.{LedgerView, taken}
+use Rattle.port.specs.declared.Holder.TheVariants as Holder
+use Rattle.copyin_base.proofs.Taking.{Without, take_lying}
 use Rattle.copyin_base.specs.Kept.{Kept}
 use Rattle.copyin_base.specs.Worlds.{WorldView, entry_in, entry_at, port_at}
-use Rattle.copyin_base.specs.Shows.{target_of, HasCount, onces_queued, ShowsPort, CountsAgree, Agrees}
-use Rattle.copyout.specs.Giving.{joined, alone, JoinsName, TakesName, ledger_joined, ports_given, GivesPort}
-use Rattle.copyout.specs.Putting.{NewName, PutsPort}
+use Rattle.copyin_base.specs.Shows.{target_of, HasCount, onces_queued, ShowsPort, CountsAgree, Agrees, HoldersAgree, RequestsStand}
 use Rattle.copyin_base.proofs.Agreeing.{NamesAgree, CountRights, own_names, put_names, Near, near_agrees}
 use Rattle.copyin_base.proofs.Counting.{right_of, right_taken, counts_same}
 use Rattle.copyin_base.proofs.Gets.{of_some, same_found}
 use Rattle.copyin_base.proofs.Putting.{each_put, put_same}
 use Rattle.copyin_base.proofs.Told.{port_of}
-use Rattle.copyout.proofs.Gives.{joined_keeps, alone_port}
-use Rattle.copyout.proofs.PortsGiven.{given_made, given_live, given_shows}
 use Rattle.copyin_base.proofs.Changing.{target_named}
-use Rattle.copyin_base.proofs.Taking.{Without, take_lying}
-use Rattle.copyout.proofs.Takings.{goes_comes}
+use Rattle.copyin_base.proofs.Holders.{IsReceive, ReceivesIn, ReceivesAt, receives_at, put_receives, left_receives, added_receives, KeepHolders, ChangesHolder, same_holders, unheld, unheld_lying, holders_left, holders_given}
+use Rattle.copyin_base.proofs.SendersNoted.{KeepsSends, KeepsSenders, keeps_senders, counts_own, sends_elsewhere}
+use Rattle.copyin_base.specs.declared.message.Mark.{Mark}
+use Rattle.copyin_base.specs.declared.message.Mark.TheVariants as mark
+use Rattle.copyin_base.specs.Wanted.{KeepsSpares}
+use Rattle.copyin_base.proofs.Spares.{keeps_same, keeps_space}
+use Rattle.copyout.specs.Giving.{joined, alone, JoinsName, TakesName, ledger_joined, ports_given, GivesPort, GivesMark}
+use Rattle.copyout.specs.Putting.{NewName, PutsPort}
+use Rattle.copyout.proofs.Gives.{joined_keeps, alone_port, put_lists}
+use Rattle.copyout.proofs.PortsGiven.{given_made, given_live, given_shows, given_changes, given_spare}
+
+-- ---- One token goes and others come.
+
+-- it goes, and others come
+pub goes_comes : (x : Token) (xs : List Token) (r : Without x xs) (come : List Token) → Moves xs (come ++ r.others) (x ∷ []) come
+goes_comes x xs r come h = let a = r.parts h in let b = weigh-append h come r.others in omega (arith, a, b)
+
+-- ---- A right that the tables give a task is given by the machine.
 
 -- ---- entries
 
@@ -453,3 +466,130 @@ module _ (w : WorldView) (s : State) (a : Agrees w s) (o k : ℕ) (l : IsMoving 
       | inl h ↦ join_given puts h.0 h.1
       | inr h ↦ new_given puts (new_of g.space.names kind p word g.after h.0) h.1 h.0.fresh h.0.room
     ]
+
+-- ---- A right that comes to a task: each port still knows who holds its receive right.
+
+-- ---- what comes under a name
+
+one_port : (x : Entry) (p q : ℕ) → port_named x ≡ Some p → IsReceive (Some x) q → q ≡ p
+one_port x p q named i = grind (arith, same_found)
+
+-- of a port other than this no receive right comes
+put_others : (names : Names) (name : ℕ) (x : Entry) (p : ℕ) → port_named x ≡ Some p → (q : ℕ) → q ≢ p → ReceivesIn (map.insert names name x) q → ReceivesIn names q
+put_others names name x p named q not = put_receives names name (Some x) q (ReceivesIn names q) (λ i. absurd (not (one_port x p q named i))) (λ r. r)
+
+-- the entry with one right more, which is no receive right
+joined_had : (names : Names) (name : ℕ) (kind : Kind) (x : Entry) → map.get names name ≡ Some x → (has_receive (joined kind x) ≡ true → has_receive x ≡ true) →
+    (q : ℕ) → IsReceive (Some (joined kind x)) q → ReceivesIn names q
+joined_had names name kind x found fewer q i = grind (arith, same_found, receives_at, joined_keeps)
+
+send_fewer : (x : Entry) → has_receive (joined send x) ≡ true → has_receive x ≡ true
+send_fewer (entry.Receive p) h = refl
+send_fewer (entry.Send p n) h = h
+send_fewer (entry.ReceiveAndSend p n) h = refl
+send_fewer (entry.SendOnce p) h = h
+send_fewer (entry.DeadName n) h = h
+send_fewer (entry.Set n) h = h
+
+-- ---- in the tables
+
+module _ (w w' : WorldView) (h : HoldersAgree w) (task p word : ℕ) where
+  -- a receive right, which no other task has
+  receive_comes : PutsPort w task receive p word w' → ((u : ℕ) → u ≢ task → ReceivesAt w u p → ⊥) → HoldersAgree w'
+  receive_comes g only = holders_given w w' h task g.space (record g.space { names = g.after; room = g.room }) g.there (ap (λ (x : WorldView). x.spaces) g.rest) p others only
+      (subst (λ (x : PortsView Kept). ChangesHolder w.ports.ports x.ports p (Holder.Task task)) (sym (ap (λ (x : WorldView). x.ports) g.rest)) (given_changes task p w.ports))
+    where
+      others : (q : ℕ) → q ≢ p → ReceivesIn g.after q → ReceivesIn g.space.names q
+      others q not r = elim g.given [
+        | inl j ↦ put_others g.space.names word (joined receive j.0.entry) p ((joined_keeps receive j.0.entry).0 ∙ j.0.named) q not (subst (λ (m : Names). ReceivesIn m q) j.0.rest r)
+        | inr n ↦ put_others g.space.names word (alone receive p) p refl q not (subst (λ (m : Names). ReceivesIn m q) n.0.rest r)
+      ]
+
+  -- a right of another kind
+  other_comes : (kind : Kind) → ((x : Entry) → has_receive (joined kind x) ≡ true → has_receive x ≡ true) → has_receive (alone kind p) ≡ false → ports_given kind task p w.ports ≡ w.ports →
+      PutsPort w task kind p word w' → HoldersAgree w'
+  other_comes kind fewer none same g = holders_left w w' h task g.space (record g.space { names = g.after; room = g.room }) g.there (ap (λ (x : WorldView). x.spaces) g.rest) had
+      (subst (λ (x : PortsView Kept). KeepHolders w.ports.ports x.ports) (sym (ap (λ (x : WorldView). x.ports) g.rest ∙ same)) (same_holders w.ports.ports))
+    where
+      had : (q : ℕ) → ReceivesIn g.after q → ReceivesIn g.space.names q
+      had q r = elim g.given [
+        | inl j ↦ left_receives g.space.names word (Some (joined kind j.0.entry)) (joined_had g.space.names word kind j.0.entry j.0.found (fewer j.0.entry)) q (subst (λ (m : Names). ReceivesIn m q) j.0.rest r)
+        | inr n ↦ added_receives g.space.names word (alone kind p) none q (subst (λ (m : Names). ReceivesIn m q) n.0.rest r)
+      ]
+
+  right_comes : (kind : Kind) → PutsPort w task kind p word w' → (kind ≡ receive → (u : ℕ) → ReceivesAt w u p → ⊥) → HoldersAgree w'
+  right_comes receive g none = receive_comes g (λ u not. none refl u)
+  right_comes send g none = other_comes send send_fewer refl refl g
+  right_comes send_once g none = other_comes send_once (λ x has. has) refl refl g
+
+-- ---- where the right lay in a message
+
+module _ (w : WorldView) (s : State) (a : Agrees w s) (h : HoldersAgree w) (o k : ℕ) (l : IsMoving s o k) (task : ℕ) (kind : Kind) (p word : ℕ) (w' : WorldView) (some : 0 < lying s kind p (in_message o k)) where
+  none_has : kind ≡ receive → (u : ℕ) → ReceivesAt w u p → ⊥
+  none_has is u =
+      let one = l.one_receive p (lives w s a o k l task kind p word w' some) in
+      let few : count (is_of receive p) s.ledger ≤ 1 = omega (arith, one) in
+      unheld w s a u p (unheld_lying s u p o k few (subst (λ (c : Kind). 0 < lying s c p (in_message o k)) is some))
+
+  -- It comes under the name.
+  pub port_put_holders : PutsPort w task kind p word w' → HoldersAgree w'
+  port_put_holders g = right_comes w w' h task p word kind g none_has
+
+-- ---- A right that comes to a task takes no port's last send right: one that goes is of a port of which the task has as many as there may be.
+
+-- ---- one that goes where there are others
+
+last_stays : (l : LedgerView) (p : ℕ) → 2 ≤ (counts_of l p).send → KeepsSends l (taken l p right.Send 1)
+last_stays l p some q none = elim (eqb_tells q p) [
+  | inl h ↦
+      let own : (counts_of (taken l p right.Send 1) p).send ≡ (counts_of l p).send - 1 =
+      ap (λ (c : Counts). c.send) (counts_own l p (with_fewer right.Send 1 (counts_of l p)) (taken l p right.Send 1) refl) in
+      let at : (counts_of (taken l p right.Send 1) p).send ≡ 0 = subst (λ (x : ℕ). (counts_of (taken l p right.Send 1) x).send ≡ 0) h.1 none in
+      absurd (omega (arith, some, own, at))
+  | inr h ↦ sym (sends_elsewhere l p right.Send 1 q h.1) ∙ none
+]
+
+keeps_joined : (kind : Kind) (p : ℕ) (x : Entry) (l : LedgerView) → (send_references x ≡ most_references → 2 ≤ (counts_of l p).send) → KeepsSends l (ledger_joined kind p x l)
+keeps_joined receive p x l many = λ q none. none
+keeps_joined send_once p x l many = λ q none. none
+keeps_joined send p x l many = grind (arith, last_stays)
+
+-- ---- in the tables
+
+module _ (w : WorldView) (s : State) (a : Agrees w s) (r : RequestsStand w) (w' : WorldView) (task : ℕ) (kind : Kind) (p word : ℕ) (g : PutsPort w task kind p word w') where
+  -- all of the name's references are counted
+  many : (x : Entry) → map.get g.space.names word ≡ Some x → port_named x ≡ Some p → send_references x ≡ most_references → 2 ≤ (counts_of w.ledger p).send
+  many x found named full =
+      let at : entry_at w task word ≡ Some x = ap (λ o. entry_in o word) g.there ∙ found in
+      let held = (a.references task word x p at named).1 in
+      let le = held_le_of task send p s.ledger in
+      let all = (a.counts p).senders in
+      omega (arith, held, le, all, full)
+
+  sends : KeepsSends w.ledger g.ledger
+  sends = grind (arith, keeps_joined, many)
+
+  -- It comes under the name.
+  pub port_put_senders : KeepsSenders w w'
+  port_put_senders = grind (arith, keeps_senders, sends, put_lists)
+
+-- ---- What giving one right keeps of the room for names, and of the spare slots.
+
+pub put_keeps : (w new : WorldView) (task : ℕ) (kind : Kind) (port word : ℕ) → PutsPort w task kind port word new → KeepsSpares w new
+put_keeps w new task kind port word g = keeps_space w new task g.space (record g.space { names = g.after; room = g.room }) g.there (ap (λ (x : WorldView). x.spaces) g.rest) few
+    (ap (λ (x : WorldView). x.ports.spare) g.rest ∙ given_spare task port w.ports kind)
+  where
+    few : g.room ≤ max g.space.room 1
+    few = elim g.given [
+      | inl h ↦ let e = h.2 in omega (arith, e)
+      | inr h ↦ let e = h.2 in omega (arith, e)
+    ]
+
+pub given_keeps : (w new : WorldView) (task : ℕ) (kind : Kind) (one : Mark) (word : ℕ) → GivesMark w task kind one word new → KeepsSpares w new
+given_keeps w new task kind (mark.Port p) word h = go (is_some (map.get w.ports.ports p)) _ h
+  where
+    go : (b : Bool) (dead : ℕ) → MatchBool b (GivesPort w task kind p word new) ((word ≡ dead) × (new ≡ w)) → KeepsSpares w new
+    go true dead g = put_keeps w new task kind p word (gives_puts w task kind p word new g)
+    go false dead g = keeps_same w new g.1
+given_keeps w new task kind mark.Null word h = keeps_same w new h.1
+given_keeps w new task kind mark.Dead word h = keeps_same w new h.1

@@ -1,21 +1,36 @@
 -- One right given: the tables after its steps.
-use Rattle.std.proofs.Common.{◌≡◌, ◌≢◌, ℕ, ◌-◌, ◌<◌, Option, Some, None, refl, sym, ap, subst, ◌∙◌, arith, inl, inr}
-use Rattle.std.specs.Prelude.{is_some, IfSome}
-use Rattle.std.specs.Option.{option_and_then}
+use Rattle.std.proofs.Common.{◌≡◌, ◌≢◌, ℕ, ◌-◌, ◌<◌, Option, Some, None, refl, sym, ap, subst, ◌∙◌, arith, inl, inr, List, get_or, true, false}
+use Rattle.std.specs.Prelude.{is_some, IfSome, IfNone, slice_set}
+use Rattle.std.specs.Option.{option_and_then, option_map}
 use Rattle.std.specs.FinMap as map
+use Rattle.std.proofs.lemmas.Bool.Decides.{eqb_tells}
 use Rattle.mach_types.specs.Numbers.{most_names}
 use Rattle.mach_types.specs.Tokens.{Kind, receive, send, send_once}
+use Rattle.rights.specs.Ledger.{LedgerView}
 use Rattle.name_space.specs.declared.Entry.{Entry}
 use Rattle.name_space.specs.declared.Entry.TheVariants as entry_of
 use Rattle.name_space.specs.Entry.{port_named, port_of, with_send}
 use Rattle.name_space.specs.Names.{Names, SpaceView, IsFreshName, HasNoOther, port_at}
-use Rattle.port.specs.Ports.{IsLive}
-use Rattle.copyin_base.specs.Worlds.{WorldView, entry_in, entry_at, space_at, with_space}
-use Rattle.copyin_base.specs.Shows.{target_of, HasCount}
-use Rattle.copyin_base.specs.Changes.{IsForLive, CanPutLeft, PutsLeft, InsertsEntry}
-use Rattle.copyin_base.proofs.Gets.{same_found}
-use Rattle.copyin_base.proofs.Reading.{named_port}
+use Rattle.name_space.specs.declared.PortName.{PortName}
+use Rattle.port.specs.Ports.{IsLive, PortsView}
+use Rattle.port_set.specs.Sets.{SetsView}
+use Rattle.copyin_base.specs.Worlds.{WorldView, entry_in, entry_at, space_at, with_space, NoneLost}
+use Rattle.copyin_base.specs.Shows.{target_of, HasCount, RequestsStand}
+use Rattle.copyin_base.specs.Changes.{IsForLive, CanPutLeft, PutsLeft, InsertsEntry, CanInsert}
+use Rattle.copyin_base.proofs.Gets.{same_found, of_some}
+use Rattle.copyin_base.proofs.Reading.{named_port, get_read, named_kept, put_reads, reads_as}
+use Rattle.copyin_base.specs.Kept.{Kept}
+use Rattle.copyin_base.proofs.Requested.{KeepsRight, keeps_same, requested_kept, entry_own, entry_other}
+use Rattle.copyin_base.specs.Reading.{reading, read_names, read_space, live_in, AreGiven}
+use Rattle.copyin_base.specs.Requests.{RequestTablesView}
+use Rattle.copyin_base.proofs.Written.{tables, lent_read, ports_there, space_written, given_written, given_same}
 use Rattle.copyout.specs.Giving.{joined, alone, ledger_joined, ports_given, AddsSend, GivesPort}
+use Rattle.copyout.specs.Putting.{PutsPort, CanPut}
+use Rattle.copyout.proofs.PortsGiven.{SameLists, lists_none_lost, given_live, given_lists}
+use Rattle.copyout.specs.Room.{HasNone}
+use Rattle.copyout.specs.Ready.{CanJoin}
+
+-- ---- One right given: the tables after its steps.
 
 pub found_in : (w : WorldView) (task name : ℕ) (space : SpaceView) (entry : Entry) → space_at w task ≡ Some space → entry_at w task name ≡ Some entry →
     map.get space.names name ≡ Some entry
@@ -167,3 +182,149 @@ module _ (w w1 : WorldView) (task : ℕ) (kind : Kind) (port name : ℕ) (space 
     given = inr (record { fresh = fresh; room = room; lone = lone; rest = refl }, refl, refl);
     rest = rest-taken;
   }
+
+-- ---- A right that comes to a task: each request still stands on a name or a port that is there, and no port is lost.
+
+module _ (w w' : WorldView) (task : ℕ) (kind : Kind) (p word : ℕ) (g : PutsPort w task kind p word w') where
+  -- the same ports are lost and noted
+  pub put_lists : SameLists w.ports w'.ports
+  put_lists = subst (SameLists w.ports) (sym (ap (λ (x : WorldView). x.ports) g.rest)) (given_lists task p w.ports kind)
+
+  pub put_none_lost : NoneLost w → NoneLost w'
+  put_none_lost = lists_none_lost w w' put_lists
+
+  live : (q : ℕ) → IsLive w.ports q → IsLive w'.ports q
+  live q lives = subst (λ (x : PortsView Kept). IsLive x q) (sym (ap (λ (x : WorldView). x.ports) g.rest)) (given_live task p w.ports kind q ∙ lives)
+
+  abbrev space2 : SpaceView
+  space2 = record g.space { names = g.after; room = g.room }
+
+  -- this stands under the name, and under each other what stood there
+  rights : (e : Entry) → g.after ≡ map.insert g.space.names word e → ((x : Entry) (q : ℕ) → map.get g.space.names word ≡ Some x → port_of x ≡ Some q → port_of e ≡ Some q) →
+      (u n : ℕ) → KeepsRight (entry_at w u n) (entry_at w' u n)
+  rights e names same u n = elim (eqb_tells u task) [
+    | inl h ↦ elim (eqb_tells n word) [
+      | inl k ↦ subst (λ (x : ℕ). KeepsRight (entry_at w x n) (entry_at w' x n)) (sym h.1) (subst (λ (x : ℕ). KeepsRight (entry_at w task x) (entry_at w' task x)) (sym k.1) own)
+      | inr k ↦ others u n (λ a b. k.1 b)
+    ]
+    | inr h ↦ others u n (λ a b. h.1 a)
+  ]
+    where
+      own : KeepsRight (entry_at w task word) (entry_at w' task word)
+      own = record {
+        keeps = λ x q is for. (
+          e,
+          entry_own w w' task word g.space space2 (Some e) g.there (ap (λ (y : WorldView). y.spaces) g.rest) names,
+          same x q (sym (ap (λ (o : Option SpaceView). entry_in o word) g.there) ∙ is) for,
+        );
+      }
+
+      others : (v m : ℕ) → (v ≡ task → m ≡ word → ⊥) → KeepsRight (entry_at w v m) (entry_at w' v m)
+      others v m not = keeps_same (entry_at w v m) (entry_at w' v m)
+          (entry_other w w' task word g.space space2 (Some e) g.there (ap (λ (y : WorldView). y.spaces) g.rest) names v m not)
+
+  kept : (u n : ℕ) → KeepsRight (entry_at w u n) (entry_at w' u n)
+  kept = elim g.given [
+    | inl h ↦ rights (joined kind h.0.entry) h.0.rest
+        (λ x q is for. joined_for kind h.0.entry ∙ ap port_of (same_found (map.get g.space.names word) h.0.entry x h.0.found is) ∙ for)
+    | inr h ↦ rights (alone kind p) h.0.rest (λ x q is for. absurd (let e : None ≡ Some x = sym h.0.unused ∙ is in cc))
+  ]
+
+  -- It comes under the name.
+  pub port_put_requested : RequestsStand w → RequestsStand w'
+  port_put_requested r = requested_kept w w' r live (ap (λ (x : WorldView). x.requests) g.rest) kept
+
+-- ---- A send reference came to what a task keeps under its name for a port that is there: the tables then.
+
+-- an entry with a send reference more is for the port that it was for
+with_send_for : (e : Entry) → port_of (with_send e) ≡ port_of e
+with_send_for (entry_of.Receive p) = refl
+with_send_for (entry_of.Send p n) = refl
+with_send_for (entry_of.ReceiveAndSend p n) = refl
+with_send_for (entry_of.SendOnce p) = refl
+with_send_for (entry_of.DeadName n) = refl
+with_send_for (entry_of.Set n) = refl
+
+for_named : (e : Entry) (port p : ℕ) → port_named e ≡ Some port → port_of (with_send e) ≡ Some p → port ≡ p
+for_named e port p named for = for_one port p (sym (named_port e port named) ∙ sym (with_send_for e) ∙ for)
+
+module _ (old : WorldView) (task port : ℕ) (space : SpaceView) (spaces : List (Option SpaceView)) (ports : PortsView Kept) (ledger : LedgerView) (sets : SetsView) (requests : RequestTablesView)
+    (i : ℕ) (read : Option SpaceView) (lent after : SpaceView)
+    (there : space_at old task ≡ Some space) (view : tables spaces ports ledger sets requests ≡ old) (index : i ≡ task) (is : read ≡ get_or spaces i read) (some : read ≡ Some lent) where
+  names_read : space ≡ read_space (live_in ports) lent
+  names_read = lent_read old task space spaces ports ledger sets requests i read lent there view index is some
+
+  -- What the task keeps of it was for the port and still is; all is as it was where there was none.
+  module _ (live : IsLive old.ports port) where
+    live_here : IsLive ports port
+    live_here = grind (arith, ports_there)
+
+    added_lives : (x : Entry) → port_named x ≡ Some port → (e : Entry) → Some (with_send x) ≡ Some e → (p : ℕ) → port_of e ≡ Some p → IsLive ports p
+    added_lives x named = grind (arith, of_some, for_named, live_here)
+
+    pub added_given : AreGiven spaces ports → (o : Option PortName) → IfSome o (λ n. port_named n.entry ≡ Some port) →
+        IfSome o (λ n. after ≡ record lent { names = map.insert lent.names n.name (with_send n.entry) }) → IfNone o (after ≡ lent) → AreGiven (slice_set spaces i (Some after)) ports
+    added_given g (Some n) named new same = given_written old task space spaces ports ledger sets requests i read lent there view index is some g after n.name (Some (with_send n.entry))
+        (ap (λ (x : SpaceView). x.names) new) (added_lives n.entry named)
+    added_given g None named new same = given_same old task space spaces ports ledger sets requests i read lent there view index is some g after (ap (λ (x : SpaceView). x.names) same)
+
+    pub added : (o : Option PortName) → IfSome o (λ n. map.get lent.names n.name ≡ Some n.entry) → IfSome o (λ n. port_named n.entry ≡ Some port) →
+        IfSome o (λ n. after ≡ record lent { names = map.insert lent.names n.name (with_send n.entry) }) →
+        IfSome o (λ n. AddsSend old task port n.name n.entry (tables (slice_set spaces i (Some after)) ports ledger sets requests))
+    added None found named new = tt
+    added (Some n) found named new = record {
+      space = space;
+      there = there;
+      found = ap (λ (x : SpaceView). map.get x.names n.name) names_read ∙ get_read (live_in ports) lent.names n.name ∙ ap (option_map (reading (live_in ports))) found
+          ∙ ap Some (reads_as (live_in ports) n.entry port (named_port n.entry port named) live_here);
+      named = named;
+      rest = space_written old task space spaces ports ledger sets requests i read lent there view index is some
+          (λ (y : SpaceView). record y { names = map.insert y.names n.name (with_send n.entry) }) after
+          (ap (λ (x : SpaceView). record x { names = read_names (live_in ports) x.names }) new
+          ∙ ap (λ m. record lent { names = m }) (put_reads (live_in ports) lent n.name (Some (with_send n.entry)) (added_lives n.entry named)));
+    }
+
+  -- The task has no name for the port where it keeps none.
+  pub none_added : (o : Option PortName) → IfNone o ((name : ℕ) → port_at lent.names name ≢ Some port) →
+      IfNone o ((x : SpaceView) → space_at old task ≡ Some x → HasNone x.names port)
+  none_added (Some n) none = tt
+  none_added None none = grind (arith, named_kept, names_read, same_found)
+
+-- ---- A right put under a name that the caller chose: the tables after its steps.
+
+entry_is : (w : WorldView) (task word : ℕ) (space : SpaceView) → space_at w task ≡ Some space → entry_at w task word ≡ map.get space.names word
+entry_is w task word space there = ap (λ (o : Option SpaceView). entry_in o word) there
+
+pub can_join : (w : WorldView) (task : ℕ) (kind : Kind) (port word : ℕ) → CanPut w task kind port word → is_some (entry_at w task word) ≡ true → CanJoin w task kind port word
+can_join w task kind port word r used = elim r.may [
+  | inl h ↦ record { space = r.space; there = r.there; not_once = h.0; named = h.1; live = r.live; entered = r.entered; counted = r.counted; none_lost = r.none_lost }
+  | inr h ↦ absurd (let e : false ≡ true = sym (ap is_some (entry_is w task word r.space r.there ∙ h.0)) ∙ used in cc)
+]
+
+-- What is so of a name that isn't in use.
+pub record IsFree (names : Names) (kind : Kind) (port word : ℕ) : Type 0 where
+  pub unused : map.get names word ≡ None
+  pub room : map.len names < most_names
+  pub lone : kind ≢ send_once → (name : ℕ) → port_at names name ≢ Some port
+
+pub is_free : (w : WorldView) (task : ℕ) (kind : Kind) (port word : ℕ) → (r : CanPut w task kind port word) → is_some (entry_at w task word) ≡ false → IsFree r.space.names kind port word
+is_free w task kind port word r unused = grind (arith, entry_is)
+
+pub can_insert : (w : WorldView) (task : ℕ) (kind : Kind) (port word : ℕ) → (r : CanPut w task kind port word) → is_some (entry_at w task word) ≡ false → CanInsert w task word (alone kind port)
+can_insert w task kind port word r unused =
+    let free = is_free w task kind port word r unused in
+    record { space = r.space; there = r.there; usable = r.usable; unused = free.unused; few = free.room; place = r.place free.unused; apart = no_other r.space.names kind port (alone kind port) refl free.lone; lives = alone_lives w kind port r.live }
+
+pub puts-new : (w w1 : WorldView) (task : ℕ) (kind : Kind) (port word : ℕ) → (r : CanPut w task kind port word) → is_some (entry_at w task word) ≡ false →
+    InsertsEntry (record w { ports = ports_given kind task port w.ports }) task word (alone kind port) w1 → PutsPort w task kind port word w1
+puts-new w w1 task kind port word r unused puts =
+    let free = is_free w task kind port word r unused in
+    record {
+      space = r.space;
+      there = r.there;
+      after = map.insert r.space.names word (alone kind port);
+      room = r.space.room - 1;
+      ledger = w.ledger;
+      given = inr (record { unused = free.unused; lone = free.lone; rest = refl }, refl, refl);
+      rest = rest-taken w w1 task kind port word r.space r.there puts;
+    }

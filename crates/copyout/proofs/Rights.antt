@@ -6,7 +6,7 @@ use Rattle.std.proofs.lemmas.Bool.Decides.{eqb_tells}
 use Rattle.std.proofs.lemmas.List.{length-take-le, length-drop}
 use Rattle.mach_types.specs.declared.rights.Disposition.{Disposition}
 use Rattle.mach_types.specs.declared.rights.Disposition.TheVariants.{MoveReceive, MoveSend, MoveSendOnce, CopySend, MakeSend, MakeSendOnce}
-use Rattle.mach_types.specs.Numbers.{kind_sent, kind_number, disposition_number}
+use Rattle.mach_types.specs.Numbers.{kind_number, disposition_number}
 use Rattle.mach_types.specs.Grammar.{Wire, data_item, port_item, WireBody, NamesPorts, IsWire, IsWireBody}
 use Rattle.mach_types.specs.Bodies.{body_words, reply_words, SameBody, SameReply}
 use Rattle.mach_model.specs.ReceivedMeans.{IsReceived}
@@ -77,7 +77,10 @@ pub record BodyReceived (written : WireBody) (cs : List Carried) (words : List �
 
 items_received : (xs : List Wire) → All IsWire xs → (cs : List Carried) (words : List ℕ) → numbers cs ≡ items_given xs → length words ≡ length cs → BodyReceived (WireBody.items xs) cs words
 items_received [] fits cs words e long = record { same = tt; are = sym (no_words words (long ∙ ap length (none_kept cs e))) }
-items_received (data_item form name size number bytes padding ∷ xs) fits cs words e long = grind (arith, items_received xs (All-tail IsWire (data_item form name size number bytes padding) xs fits) cs words e long)
+items_received (data_item form name size number bytes padding ∷ xs) fits cs words e long = grind (
+  arith,
+  items_received xs (All-tail IsWire (data_item form name size number bytes padding) xs fits) cs words e long,
+)
 items_received (port_item form number sent ∷ xs) fits cs words e long =
     let n : ℕ = length sent in
     let x = item_kept number (length sent) cs (items_given xs) e in

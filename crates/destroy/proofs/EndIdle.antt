@@ -8,10 +8,9 @@ use Rattle.port.specs.Idle.{IsIdle as AreIdle}
 use Rattle.request_table.specs.declared.Request.{Request as NameRequest}
 use Rattle.copyin_base.specs.Worlds.{WorldView, IsIdle}
 use Rattle.destroy.specs.Stages.{IsJudged, AreLost, AreTold, AreBuried, IsStarted, IsCount, Continues, Starts, SettlesIn}
-use Rattle.destroy.proofs.EndSettles.{TellsDoomed, settles}
-use Rattle.destroy.proofs.JudgeDone.{judges_all}
-use Rattle.destroy.proofs.StartHolders.{TellsLost}
-use Rattle.destroy.proofs.StartPays.{pays_all, pays_first}
+use Rattle.destroy.proofs.EndSteps.{TellsDoomed, settles}
+use Rattle.destroy.proofs.JudgeDoomed.{judges_all}
+use Rattle.destroy.proofs.PayTurns.{TellsLost, pays_all, pays_first}
 
 same_count : (n : ℕ) → IsCount n (n + 0)
 same_count n = omega arith

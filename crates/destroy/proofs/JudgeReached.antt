@@ -6,9 +6,9 @@ use Rattle.mach_types.specs.Tokens.{receive, send_once, port_destroyed, in_reque
 use Rattle.mach_model.specs.State.{State}
 use Rattle.mach_model.specs.Notices.{Notice, port_sent, Owed}
 use Rattle.mach_model.specs.Turns.{Ending, listed, is_judged, IsFound, AreJudged, IsAtDoomed, Begins, Dooms, Saves, Destroys, Turn, IsReached, begins, turns}
-use Rattle.mach_model.proofs.SettledParts.{or_cases, or_left, or_right}
+use Rattle.mach_model.proofs.SettledReceives.{or_cases, or_left, or_right}
 use Rattle.mach_model.proofs.TurnsSettle.{weaker}
-use Rattle.mach_model.proofs.TurnsSound.{listed_first, listed_later, one_more, one_all, judged_stays}
+use Rattle.mach_model.proofs.TurnsCounted.{listed_first, listed_later, one_more, one_all, judged_stays}
 use Rattle.destroy.specs.Judging.{HasSent, HasLeft, IsJudging}
 
 -- ---- a port is found before it is judged, and stays so

@@ -13,14 +13,10 @@ use Rattle.mach_model.specs.Carried.{lying_among, mark_count, rights_count}
 use Rattle.mach_model.specs.Lawful.{tally}
 use Rattle.mach_model.specs.Notices.{Notice, port_deleted, port_sent, no_more_senders, right_unused, name_died, Owed, notice_message}
 use Rattle.mach_model.specs.Turns.{Ending, listed, lives_after, is_judged, went_in, IsWaiting}
-use Rattle.mach_model.proofs.At.{both_same, slice_get_drop}
-use Rattle.mach_model.proofs.Settling.{own_test}
-use Rattle.mach_model.proofs.Settling.{lives as port_lives}
-use Rattle.mach_model.proofs.SettledParts.{two_le, dead_cases, place_is}
-use Rattle.mach_model.proofs.SettledReceives.{tally-append}
-use Rattle.mach_model.proofs.TurnsCounted.{reached_counted}
-use Rattle.mach_model.proofs.TurnsSound.{reached_sound}
-use Rattle.mach_model.proofs.Weigh.{both_test, count_some, lying_le_of, left_of}
+use Rattle.mach_model.proofs.Names.{both_same, slice_get_drop, both_test, count_some, lying_le_of, left_of}
+use Rattle.mach_model.proofs.Settling.{own_test, lives as port_lives}
+use Rattle.mach_model.proofs.SettledReceives.{two_le, dead_cases, place_is, tally-append}
+use Rattle.mach_model.proofs.TurnsCounted.{reached_counted, reached_sound}
 use Rattle.port.specs.declared.Holder.{Holder}
 use Rattle.port.specs.declared.Holder.TheVariants as holder
 use Rattle.copyin_base.specs.declared.message.Carried.{Carried}
@@ -33,10 +29,8 @@ use Rattle.destroy.specs.Between.{Between}
 use Rattle.destroy.specs.Losing.{Loose, Amid, IsLosing, LosesTo, rights_of, carried_in, without_first}
 use Rattle.destroy.specs.Paying.{LivesIn}
 use Rattle.destroy.specs.Stages.{IsJudged, AreLost, IsAt, Continues, IsCount, SameSlots}
-use Rattle.destroy.proofs.LoseAmid.{own_doomed, last_reversed, reversed}
-use Rattle.destroy.proofs.LoseChain.{left_within, front_or_behind}
-use Rattle.destroy.proofs.LosePaid.{went_none}
-use Rattle.destroy.proofs.LoseStage.{loose_of, loose_noted, between_of, live_mid, undoomed, lives_there}
+use Rattle.destroy.proofs.LoseRights.{own_doomed, last_reversed, reversed, loose_of, loose_noted, between_of, live_mid, undoomed, lives_there}
+use Rattle.destroy.proofs.LoseCounts.{left_within, front_or_behind, went_none}
 
 -- ---- it ends
 

@@ -24,11 +24,11 @@ use Rattle.copyin_base.specs.Worlds.{WorldView, space_in}
 use Rattle.copyin_base.proofs.Roomier.{room_made}
 use Rattle.copyout.specs.Giving.{GivesAll}
 use Rattle.copyout.specs.Takes.{TakesFront, TakesMessage, NotesFront}
-use Rattle.copyout.proofs.FrontNoted.{by_note}
-use Rattle.copyout.proofs.Slots.{mark_unused, front_slots}
+use Rattle.copyout.proofs.Fronts.{by_note}
+use Rattle.copyout.proofs.Delivered.{mark_unused, front_slots}
 use Rattle.notifications.specs.Destroying.{LosesRight, LosesMark, LosesAll, DestroysMessage}
-use Rattle.notifications.proofs.FrontEnded.{MessageDestroyed}
-use Rattle.kernel_core_base.proofs.TaskEnded.{posted_sends}
+use Rattle.notifications.proofs.MessageDestroyed.{MessageDestroyed}
+use Rattle.kernel_core_base.proofs.Refused.{posted_sends}
 
 -- ---- a message that is received
 

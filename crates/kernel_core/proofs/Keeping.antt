@@ -9,7 +9,7 @@ use Rattle.mach_types.specs.Numbers.{kern_number}
 use Rattle.mach_model.specs.State.{State}
 use Rattle.mach_model.specs.Notices.{Owed}
 use Rattle.mach_model.specs.Machine.{Does}
-use Rattle.mach_model.proofs.Quiet.{LosesNone}
+use Rattle.mach_model.proofs.Midway.{LosesNone}
 use Rattle.mach_model.proofs.StepReceives.{Does-receives}
 use Rattle.mach_laws.specs.Counts.{accepts, MayNeedSlots}
 use Rattle.mach_laws.proofs.Counted.{Does-counted}

@@ -16,11 +16,11 @@ use Rattle.mach_model.specs.State.{State}
 use Rattle.mach_model.specs.Send.{SendRefuses}
 use Rattle.mach_model.specs.Transfer.{inserted_guards, extracted_guards}
 use Rattle.mach_model.specs.Refusals.{RefusesLater, IsOneDead, guards, call_guards, tasks_of}
-use Rattle.mach_laws.proofs.Refusing.{itself, none_is_first, inserted_same, extracted_same, hand_short}
-use Rattle.mach_laws.proofs.Requested.{request_short}
+use Rattle.mach_laws.proofs.Refusals.{itself, none_is_first, inserted_same, extracted_same, hand_short}
+use Rattle.mach_laws.proofs.Deciding.{request_short}
 use Rattle.message_codec.specs.declared.text.Parsed.{Parsed}
 use Rattle.message_codec.specs.Parses.{Parses, IsCrowded}
-use Rattle.copyin.proofs.Texts.{good_header, none_first}
+use Rattle.copyin.proofs.Planning.{good_header, none_first}
 use Rattle.copyin_base.specs.Acts.{Declines, AreTasks, HasTasks, IsRefused, IsAllowed}
 use Rattle.copyin_base.specs.Shows.{Agrees, Shows}
 use Rattle.copyin_base.specs.Worlds.{WorldView}

@@ -14,7 +14,7 @@ use Rattle.name_space.specs.Names.{SpaceView}
 use Rattle.copyin_base.specs.Shows.{Shows}
 use Rattle.copyin_base.specs.Worlds.{WorldView, space_at}
 use Rattle.transfer.specs.Transfer.{names_in}
-use Rattle.kernel_core_base.proofs.Filtered.{keys_in, rising, same_key}
+use Rattle.kernel_core_base.proofs.Members.{keys_in, rising, same_key}
 
 -- ---- rising lists
 

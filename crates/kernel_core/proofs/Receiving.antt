@@ -18,7 +18,7 @@ use Rattle.mach_model.specs.Machine.{Does}
 use Rattle.mach_model.specs.ReceivedMeans.{message_length}
 use Rattle.mach_model.specs.Receive.{TakesFrom, IsEmptyFor, Receipt}
 use Rattle.mach_model.specs.Refusals.{again_guards, call_guards}
-use Rattle.mach_model.proofs.ReceiveLawful.{Receives-removes}
+use Rattle.mach_model.proofs.MessagesLawful.{Receives-removes}
 use Rattle.mach_model.proofs.StepLawful.{TakesFrom-live}
 use Rattle.name_space.specs.declared.Entry.{Entry}
 use Rattle.name_space.specs.declared.Entry.TheVariants as entry
@@ -41,18 +41,14 @@ use Rattle.copyin_base.proofs.SendersNoted.{senders_same}
 use Rattle.copyout.specs.Ready.{HasFront, Waits, carried_by}
 use Rattle.copyout.specs.Giving.{LackNames}
 use Rattle.copyout.specs.Takes.{TakesMessage, NotesFront}
-use Rattle.copyout.proofs.FrontNoted.{notes_roomier}
-use Rattle.copyout.proofs.Fronts.{shown_empty, shown_front, shown_is_front}
-use Rattle.copyout.proofs.MessageTaken.{message_received}
-use Rattle.copyout.proofs.Refusing.{refuses_names, refuses_memory, receipt_large, kept_length}
+use Rattle.copyout.proofs.Fronts.{notes_roomier, shown_empty, shown_front, shown_is_front, refuses_names, refuses_memory, receipt_large, kept_length, waits}
+use Rattle.copyout.proofs.FrontTaken.{message_received}
 use Rattle.notifications.specs.Destroying.{DestroysMessage, CanDestroy}
-use Rattle.notifications.proofs.FrontDestroyed.{can_destroy}
-use Rattle.notifications.proofs.FrontEnded.{message_destroyed}
+use Rattle.notifications.proofs.MessageDestroyed.{can_destroy, message_destroyed}
 use Rattle.kernel_core.proofs.Freed.{destroyed_sends, front_same}
 use Rattle.kernel_core.specs.Receive.{named_guards, Sources, IsMember, IsAlone, IsOf, IsFrom, HasMessage, NoneWaits, ReceiptOf, IsReceipt, StaysFor}
 use Rattle.kernel_core_base.proofs.Holding.{in_one, one_in, none_in, some_in, held_lives, one_true}
 use Rattle.transfer.proofs.Judged.{not_not}
-use Rattle.copyout.proofs.Waiting.{waits}
 
 -- ---- what isn't otherwise
 

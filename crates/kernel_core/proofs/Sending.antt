@@ -24,14 +24,12 @@ use Rattle.copyin_base.proofs.Tied.{stands_tied, stands_is_tied}
 use Rattle.copyin.specs.declared.judge.Plan.{Plan}
 use Rattle.copyin.specs.Planned.{IsPlan}
 use Rattle.copyin.specs.Plans.{Judged, CannotPlan, Commits}
-use Rattle.copyin.proofs.Texts.{good_header, none_first}
-use Rattle.copyin.proofs.RefusedWords.{cannot}
+use Rattle.copyin.proofs.Planning.{good_header, none_first}
+use Rattle.copyin.proofs.Refused.{cannot}
 use Rattle.copyin.proofs.Sent.{sent_state, sends, sent_agrees, sent_holders, sent_carriers}
 use Rattle.copyin.proofs.LoopFound.{loop_on}
-use Rattle.copyin.proofs.Committing.{commits_rooms}
-use Rattle.copyin.proofs.RequestedKept.{commits_requested}
-use Rattle.copyin.proofs.SendersKept.{commits_senders, commits_none_lost}
-use Rattle.copyin.proofs.SlotsKept.{slot_there, commits_unused, commits_spare}
+use Rattle.copyin.proofs.Committing.{commits_rooms, slot_there, commits_unused, commits_spare}
+use Rattle.copyin.proofs.Copying.{commits_requested, commits_senders, commits_none_lost}
 use Rattle.copyin.specs.Slots.{slots_for}
 use Rattle.rights.specs.Unused.{IsUnusedOfAll}
 use Rattle.transfer.specs.Room.{slotted}

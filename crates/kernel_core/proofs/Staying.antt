@@ -14,8 +14,8 @@ use Rattle.mach_model.specs.CopyOut.{MessageLacks}
 use Rattle.mach_model.specs.Receive.{ReceiptRefuses}
 use Rattle.mach_model.specs.ReceivedMeans.{message_length}
 use Rattle.mach_model.specs.Refusals.{again_guards}
-use Rattle.mach_laws.proofs.Answered.{one_waited}
-use Rattle.mach_laws.proofs.Excluding.{one_entry, no_front}
+use Rattle.mach_laws.proofs.Playing.{one_waited}
+use Rattle.mach_laws.proofs.Deciding.{one_entry, no_front}
 use Rattle.port.specs.Ports.{PortView, PortsView, IsIn}
 use Rattle.copyin_base.specs.Acts.{IsRefused, IsAllowed}
 use Rattle.copyin_base.specs.Kept.{Kept}
@@ -26,9 +26,7 @@ use Rattle.copyin_base.proofs.Acting.{tasks_live}
 use Rattle.copyin_base.proofs.Told.{port_there}
 use Rattle.copyout.specs.Ready.{HasFront, Waits, IsRefusedBy}
 use Rattle.copyout.specs.declared.receipt.Refusal.TheVariants.{Memory}
-use Rattle.copyout.proofs.Fronts.{shown_empty, shown_front, shown_is_front}
-use Rattle.copyout.proofs.Refusing.{kept_length, names_lack}
-use Rattle.copyout.proofs.Waiting.{waits}
+use Rattle.copyout.proofs.Fronts.{shown_empty, shown_front, shown_is_front, kept_length, names_lack, waits}
 use Rattle.kernel_core.specs.MemoryCodes.{NeverRefuses, TellsWant, NeverStays, IsReceivable}
 use Rattle.kernel_core.specs.Receive.{named_guards, Sources, StaysFor, IsOf, IsFrom}
 use Rattle.kernel_core.proofs.Lacking.{never_guarded, never_later}

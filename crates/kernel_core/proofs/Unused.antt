@@ -14,12 +14,10 @@ use Rattle.mach_model.specs.Notices.{Notice, port_deleted, port_sent, no_more_se
 use Rattle.mach_model.specs.Lawful.{tally}
 use Rattle.mach_model.specs.Midway.{IsOwed}
 use Rattle.mach_model.specs.Unused.{came_by_once, onces_queued, unused_at}
-use Rattle.mach_model.proofs.At.{at_own, at_other}
-use Rattle.mach_model.proofs.Weigh.{weigh-append}
-use Rattle.mach_model.proofs.Names.{all_unused}
+use Rattle.mach_model.proofs.Names.{at_own, at_other, weigh-append, all_unused}
 use Rattle.mach_laws.specs.Queued.{sum_below, unused}
 use Rattle.mach_laws.proofs.Counted.{sum_same}
-use Rattle.mach_laws.proofs.Needed.{tally_append}
+use Rattle.mach_laws.proofs.Slots.{tally_append}
 use Rattle.rights.specs.declared.Counts.{Counts}
 use Rattle.rights.specs.Counts.{no_rights}
 use Rattle.rights.specs.Unused.{IsUnusedOfAll}

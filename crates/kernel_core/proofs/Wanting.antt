@@ -7,8 +7,7 @@ use Rattle.mach_types.specs.Numbers.{msg_number}
 use Rattle.mach_types.specs.TextGuards.{TextRefuses}
 use Rattle.mach_model.specs.State.{State}
 use Rattle.mach_model.specs.Send.{RightsRefuse}
-use Rattle.mach_laws.proofs.Refusing.{rights_taken, rights_alike}
-use Rattle.mach_laws.proofs.Spelled.{one_message}
+use Rattle.mach_laws.proofs.Refusals.{rights_taken, rights_alike, one_text as one_message}
 use Rattle.message_codec.specs.declared.text.Parsed.{Parsed}
 use Rattle.message_codec.specs.Parses.{Parses, IsCrowded}
 use Rattle.message_codec.specs.Spans.{body_spans}
@@ -18,8 +17,8 @@ use Rattle.copyin_base.specs.Shows.{Shows}
 use Rattle.copyin_base.specs.Worlds.{WorldView}
 use Rattle.copyin.specs.Plans.{Plans, CannotPlan}
 use Rattle.copyin.specs.Wanted.{WantsToSend}
-use Rattle.copyin.proofs.Planned.{message, third, copied}
-use Rattle.copyin.proofs.RefusedWords.{cannot}
+use Rattle.copyin.proofs.Planning.{message, third, copied}
+use Rattle.copyin.proofs.Refused.{cannot}
 use Rattle.copyin.proofs.Sent.{unrefused}
 
 -- ---- the text

@@ -1,8 +1,9 @@
--- What is made under a name, in the tables and in the machine alike, and where nothing more can be.
+-- What is made under a name, and a right more of it.
 use Rattle.std.proofs.Common.{◌≡◌, ℕ, ◌+◌, ◌-◌, ◌<◌, ◌≤◌, List, [], Option, Some, None, refl, sym, ap, subst, ◌∙◌, arith, ◌⊎◌, inl, inr, length}
-use Rattle.std.specs.Prelude.{slice_set, is_some, true, max}
-use Rattle.std.specs.Option.{option_map, option_and_then}
+use Rattle.std.specs.Prelude.{slice_set, is_some, max}
+use Rattle.std.specs.Option.{option_and_then, unwrap_or}
 use Rattle.std.specs.FinMap as map
+use Rattle.std.specs.Ordering.{nat_cmp}
 use Rattle.mach_types.specs.declared.calls.Event.{Event}
 use Rattle.mach_types.specs.declared.calls.Reply.{Reply}
 use Rattle.mach_types.specs.Numbers.{most_names, most_rights, most_identities}
@@ -11,35 +12,40 @@ use Rattle.mach_model.specs.Names.{Makes, IsNoMaking, IsFull, with_set}
 use Rattle.mach_model.specs.Machine.{Does}
 use Rattle.mach_model.specs.Refusals.{call_guards}
 use Rattle.mach_model.specs.Lawful.{IsLawful}
-use Rattle.mach_model.proofs.Quiet.{LosesNone}
+use Rattle.mach_model.proofs.Midway.{LosesNone}
+use Rattle.mach_model.proofs.Names.{get_own, alike}
+use Rattle.rights.specs.declared.RightKind.TheVariants as right
+use Rattle.rights.specs.Ledger.{entered, made, LedgerView, IsEntered, counts_of, left}
+use Rattle.rights.specs.declared.Counts.{Counts}
+use Rattle.rights.specs.Counts.{no_rights, with_more}
 use Rattle.name_space.specs.declared.Entry.{Entry}
 use Rattle.name_space.specs.declared.Entry.TheVariants as entry
 use Rattle.name_space.specs.Entry.{port_named}
 use Rattle.name_space.specs.Names.{Names, SpaceView, IsFreshName, IsUsable, HasPlace, HasNoOther}
-use Rattle.port.specs.Ports.{PortsView}
-use Rattle.rights.specs.declared.RightKind.TheVariants as right
-use Rattle.rights.specs.Ledger.{entered, made}
+use Rattle.port.specs.Ports.{PortsView, IsLive}
 use Rattle.copyin_base.specs.Acts.{Acts, IsAllowed}
-use Rattle.copyin_base.specs.Changes.{MakesRoom, KeepsPlace, SameButRoom}
+use Rattle.copyin_base.specs.Changes.{MakesRoom, KeepsPlace, SameButRoom, IsForLive, CanInsert, InsertsEntry}
 use Rattle.copyin_base.specs.Kept.{Kept}
-use Rattle.copyin_base.specs.Worlds.{WorldView, entry_in, entry_at, space_at, HasTask}
-use Rattle.copyin_base.specs.Shows.{Agrees, HoldersAgree, Shows, target_of}
+use Rattle.copyin_base.specs.Worlds.{WorldView, entry_in, entry_at, space_at, HasTask, space_in}
+use Rattle.copyin_base.specs.Shows.{Agrees, HoldersAgree, Shows}
 use Rattle.copyin_base.specs.Stands.{Stands}
 use Rattle.copyin_base.proofs.Acting.{Does-so, done}
 use Rattle.copyin_base.proofs.Agreeing.{own_names}
-use Rattle.copyin_base.proofs.Gets.{same_found}
+use Rattle.copyin_base.proofs.Gets.{same_found, of_some}
 use Rattle.copyin_base.proofs.Holders.{ReceivesAt, KeepHolders, same_holders, holders_added, holders_made}
 use Rattle.copyin_base.proofs.NamesChanged.{added_agrees}
 use Rattle.copyin_base.proofs.Roomier.{room_made, place_kept, room_entry, room_agrees, room_shows}
+use Rattle.copyin_base.proofs.SendersNoted.{senders_same, senders_kept}
+use Rattle.copyin_base.proofs.Spaces.{space-set_same}
+use Rattle.copyin_base.proofs.Putting.{each_put, put_other, put_own}
 use Rattle.kernel_core_base.specs.declared.names.NewRight.{NewRight}
 use Rattle.kernel_core_base.specs.declared.names.NewRight.TheVariants as new_right
-use Rattle.kernel_core_base.specs.Names.{first_port, right_made, entry_made, HasRoomFor, IsFullFor, HasRoomOf, IsFullOf, CanAdd, Adds}
-use Rattle.copyin_base.proofs.SendersNoted.{senders_same, senders_kept}
+use Rattle.kernel_core_base.specs.Names.{first_port, right_made, entry_made, HasRoomFor, IsFullFor, HasRoomOf, IsFullOf, CanAdd, Adds, with_made, MakesRight}
 use Rattle.kernel_core_base.proofs.MadeKept.{made_carriers, made_none_lost, made_requested, made_senders, room_senders}
-use Rattle.kernel_core_base.proofs.PortMade.{allocated, allocates, allocated_agrees, not_made, unknown}
-use Rattle.kernel_core_base.proofs.SlotsKept.{made_slots}
-use Rattle.kernel_core_base.proofs.SetMade.{set_agrees}
-use Rattle.copyin_base.proofs.Spaces.{space-set_same}
+use Rattle.kernel_core_base.proofs.TaskCreated.{allocated, allocates, allocated_agrees, not_made, unknown, set_agrees}
+use Rattle.kernel_core_base.proofs.ReferencesLost.{made_slots}
+
+-- ---- What is made under a name, in the tables and in the machine alike, and where nothing more can be.
 
 -- ---- what can be made, and where it is full
 
@@ -236,3 +242,70 @@ module _ (w w1 v : WorldView) (same : SameButRoom w w1) (task number name : ℕ)
       Acts w (Event.AllocateName task number name) (Reply.Name name) v
   allocate_name_done good unused adds = done w (Event.AllocateName task number name) (Reply.Name name) v below good
       (λ now s sh. makes_so (Event.AllocateName task number name) now s sh (room_entry w w1 same task name ∙ unused) adds (refl, makes_number s, refl) tt)
+
+-- ---- A ledger that a port came to with its receive right, and left again.
+
+-- the ledger once the port came
+abbrev pub came : LedgerView → (port : ℕ) → LedgerView
+came l p = made (entered l p) p right.Receive 1
+
+-- what it counts of the port then
+abbrev counted : LedgerView → (port : ℕ) → Counts
+counted l p = with_more right.Receive 1 (counts_of (entered l p) p)
+
+counted_is : (l : LedgerView) (p : ℕ) → counted l p ≡ with_more right.Receive 1 no_rights
+counted_is l p = ap (λ (o : Option Counts). with_more right.Receive 1 (unwrap_or o no_rights)) (get_own l.counts p no_rights)
+
+no_more : (m : map.FinMap nat_cmp Counts) (p : ℕ) (c : Counts) → map.get m p ≡ None → map.remove (map.insert (map.insert m p no_rights) p c) p ≡ m
+no_more m p c none = alike (map.remove (map.insert (map.insert m p no_rights) p c) p) m
+    (each_put (map.insert (map.insert m p no_rights) p c) p None (λ n o. o ≡ map.get m n) (sym none) (λ n not. put_other (map.insert m p no_rights) p (Some c) n not ∙ put_other m p (Some no_rights) n not))
+
+same_ledger : (l : LedgerView) (m : map.FinMap nat_cmp Counts) (t u : ℕ) → m ≡ l.counts → t ≡ l.total → u ≡ l.unused → ◌≡◌ {A = LedgerView} (record { counts = m; total = t; unused = u }) l
+same_ledger l m t u e f g = λ i. record { counts = e i; total = f i; unused = g i }
+
+pub came_and_left : (l : LedgerView) (p : ℕ) → map.get l.counts p ≡ None → left (came l p) p ≡ l
+came_and_left l p none = grind (arith, get_own, counted_is, same_ledger, no_more)
+
+pub came_there : (l m : LedgerView) (p : ℕ) → m ≡ came l p → IsEntered m p
+came_there l m p is = rw is (ap is_some (get_own (map.insert l.counts p no_rights) p (counted l p)))
+
+-- ---- One right more, named by the task: what is made, and its name put together.
+
+-- what is made has no part in the names
+same_spaces : (w : WorldView) (task : ℕ) (r : NewRight) (name : ℕ) → (with_made w task r name).spaces ≡ w.spaces
+same_spaces w task new_right.Port name = refl
+same_spaces w task new_right.Set name = refl
+same_spaces w task new_right.DeadName name = refl
+
+-- a port that is made is there
+is_there : (w : WorldView) (task : ℕ) (r : NewRight) (name : ℕ) → IsForLive (with_made w task r name) (entry_made w r)
+is_there w task new_right.Port name p for = of_some w.ports.made (IsLive (with_made w task new_right.Port name).ports) (ap is_some (put_own w.ports.ports w.ports.made (Some (first_port task)))) p for
+is_there w task new_right.Set name p for = absurd (let f : None ≡ Some p = for in cc)
+is_there w task new_right.DeadName name p for = absurd (let f : None ≡ Some p = for in cc)
+
+module _ (w w2 : WorldView) (task name : ℕ) (r : NewRight) (e : Entry) (can : CanAdd w task r name) (made : MakesRight w task r name e w2) where
+  there : space_at w2 task ≡ Some can.has.space
+  there = ap (λ (x : WorldView). space_at x task) made.rest ∙ ap (λ (xs : List (Option SpaceView)). space_in xs task) (same_spaces w task r name) ∙ can.has.there
+
+  pub can_insert : CanInsert w2 task name e
+  can_insert = record {
+    space = can.has.space;
+    there = there;
+    usable = can.usable;
+    unused = can.unused;
+    few = can.has.room;
+    place = can.place;
+    apart = subst (HasNoOther can.has.space.names) (sym made.made) can.apart;
+    lives = subst (λ (x : WorldView). IsForLive x e) (sym made.rest) (subst (IsForLive (with_made w task r name)) (sym made.made) (is_there w task r name));
+  }
+
+  pub adds : (w3 : WorldView) → InsertsEntry w2 task name e w3 → Adds w task r name w3
+  adds w3 i =
+      let at : i.space ≡ can.has.space = same_found (space_at w2 task) i.space can.has.space i.there there in
+      record {
+        space = can.has.space;
+        there = can.has.there;
+        rest = i.rest ∙ (λ k. record (made.rest k) { spaces = slice_set (made.rest k).spaces task (Some (record (at k) { names = map.insert (at k).names name (made.made k); room = (at k).room - 1 })) })
+            ∙ ap (λ (xs : List (Option SpaceView)). record (with_made w task r name) { spaces = slice_set xs task (Some (record can.has.space { names = map.insert can.has.space.names name (entry_made w r); room = can.has.space.room - 1 })) })
+            (same_spaces w task r name);
+      }

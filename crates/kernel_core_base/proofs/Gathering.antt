@@ -1,16 +1,14 @@
 -- The names of a set's members, gathered from its ports.
-use Rattle.std.proofs.Common.{◌≡◌, inl, inr, ℕ, Bool, true, false, List, [], ◌∷◌, ◌++◌, Option, Some, None, is_some, IfSome, refl, sym, ap, subst, ◌∙◌, ◌<◌, ◌⊎◌, arith}
+use Rattle.std.proofs.Common.{◌≡◌, inl, inr, ℕ, Bool, true, false, List, [], ◌∷◌, ◌++◌, Option, Some, None, is_some, IfSome, refl, sym, ap, subst, ◌∙◌, ◌⊎◌, arith}
 use Rattle.std.specs.Prelude.{Contains, cond}
-use Rattle.std.specs.Option.{option_and_then}
 use Rattle.std.specs.BTreeSet.{BTreeSet, contains, IsOrdered, IsEmpty, Updates}
 use Rattle.std.specs.FinMap as map
 use Rattle.std.specs.declared.cmp.Ordering.TheVariants.{Equal}
-use Rattle.std.specs.Ordering.{nat_cmp, eq_by_cmp}
+use Rattle.std.specs.Ordering.{nat_cmp}
 use Rattle.std.proofs.lemmas.Cmp.{nat_cmp_total}
 use Rattle.std.proofs.lemmas.List.Elements.{All-contains, filter_passes, Contains-push_cases}
 use Rattle.std.proofs.lemmas.Map.Lookups.{btree_set_from_contains}
 use Rattle.std.proofs.lemmas.Map.Views.{btree_set_contains_iff}
-use Rattle.name_space.specs.Entry.{port_named}
 use Rattle.name_space.specs.Names.{Names, port_at}
 use Rattle.port.specs.Ports.{PortView}
 use Rattle.copyin_base.specs.Kept.{Kept}
@@ -19,8 +17,7 @@ use Rattle.copyin_base.specs.Worlds as world
 use Rattle.copyin_base.proofs.Told.{receive_has}
 use Rattle.kernel_core_base.specs.Gathered.{IsNoted, AreGathered}
 use Rattle.kernel_core_base.specs.Sets.{is_member, members_in}
-use Rattle.kernel_core_base.proofs.Filtered.{same_key, kept_key, kept_sorted}
-use Rattle.kernel_core_base.proofs.Members.{member_is, in_set_by}
+use Rattle.kernel_core_base.proofs.Members.{same_key, kept_key, kept_sorted, member_is, in_set_by}
 
 no_true : false ≡ true → ⊥
 no_true e = cc

@@ -1,14 +1,13 @@
 -- Sets of one or none, and the one task that holds a receive right.
-use Rattle.std.proofs.Common.{◌≡◌, ℕ, suc, zero, ◌+◌, ◌<◌, ◌≤◌, List, [], ◌∷◌, Some, None, Option, refl, sym, ap, subst, ◌∙◌, inl, inr, true, false, Bool, arith}
+use Rattle.std.proofs.Common.{◌≡◌, ℕ, suc, zero, ◌+◌, ◌<◌, ◌≤◌, List, [], ◌∷◌, Some, None, Option, refl, sym, ap, subst, true, false, Bool, arith}
 use Rattle.std.specs.Prelude.{◌≢◌, is_some, Contains, if◌then◌else◌, ◌&&◌}
 use Rattle.std.specs.Option.{option_to_list}
-use Rattle.std.proofs.lemmas.Bool.Decides.{eqb_tells}
 use Rattle.mach_types.specs.Tokens.{Kind, receive, Place, in_task, in_message, in_request, Token, count, is_of, is_held, is_in_task}
 use Rattle.mach_model.specs.State.{State, Holds}
 use Rattle.mach_model.specs.ReceiveRight.{one_if}
 use Rattle.mach_model.specs.Lawful.{IsLawful}
 use Rattle.mach_model.proofs.Settling.{alive}
-use Rattle.mach_model.proofs.Weigh.{held_le_of}
+use Rattle.mach_model.proofs.Names.{held_le_of}
 
 -- ---- a list of one or none
 

@@ -1,5 +1,5 @@
 -- What is made under a name keeps what is true of the tables alone, and so does a task that is made.
-use Rattle.std.proofs.Common.{arith, ◌≡◌, ℕ, ◌-◌, ◌∷◌, ◌++◌, [], Option, Some, None, refl, sym, ap, subst, ◌∙◌, inl, inr, length}
+use Rattle.std.proofs.Common.{arith, ◌≡◌, ℕ, ◌-◌, ◌∷◌, ◌++◌, [], Option, Some, None, refl, sym, ap, subst, ◌∙◌, inl, inr}
 use Rattle.std.specs.Option.{unwrap_or}
 use Rattle.std.specs.FinMap as map
 use Rattle.std.proofs.lemmas.Bool.Decides.{eqb_tells}
@@ -13,12 +13,11 @@ use Rattle.rights.specs.Counts.{no_rights}
 use Rattle.rights.specs.Ledger.{LedgerView, counts_of, entered, made}
 use Rattle.copyin_base.specs.Changes.{SameButRoom}
 use Rattle.copyin_base.specs.Kept.{Kept}
-use Rattle.copyin_base.specs.Requests.{RequestTablesView}
 use Rattle.copyin_base.specs.Shows.{CarriersAgree, RequestsStand}
-use Rattle.copyin_base.specs.Worlds.{WorldView, NoneLost, entry_in, entry_at, space_at, with_space}
+use Rattle.copyin_base.specs.Worlds.{WorldView, NoneLost, entry_at, space_at, with_space}
 use Rattle.copyin_base.proofs.Carriers.{carriers_same, carriers_made}
 use Rattle.copyin_base.proofs.Idle.{none_lost_by, none_lost_same}
-use Rattle.copyin_base.proofs.Requested.{KeepsRight, requested_inserted, requested_kept, requested_ports, requested_put}
+use Rattle.copyin_base.proofs.Requested.{requested_inserted, requested_kept, requested_ports, requested_put}
 use Rattle.copyin_base.proofs.SendersNoted.{KeepsSends, counts_other, sends_made, KeepsSenders, keeps_senders, keeps_senders_same}
 use Rattle.copyin_base.proofs.Spaces.{space-push_other, space-end}
 use Rattle.kernel_core_base.specs.declared.names.NewRight.{NewRight}

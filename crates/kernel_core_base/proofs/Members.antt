@@ -1,33 +1,113 @@
--- The names of a set's members, in the tables and in the machine alike.
+-- The names of a set's members.
+use Rattle.std.proofs.Common.{◌≡◌, ℕ, zero, suc, ◌<◌, Bool, true, false, ◌&&◌, T, List, [], ◌∷◌, refl, sym, ap, ◌∙◌, arith, map as list_map, Option, Some, None, subst, inl, inr, length}
+use Rattle.std.specs.Prelude.{AllPairs, All, Contains, filter, is_some, ◌≢◌}
+use Rattle.std.specs.declared.cmp.Ordering.{Ordering}
+use Rattle.std.specs.declared.cmp.Ordering.TheVariants.{Less, Equal, Greater}
+use Rattle.std.specs.Ordering.{nat_cmp, eq_by_cmp, is_lt, is_eq}
+use Rattle.std.specs.Cmp.{ranked}
+use Rattle.std.specs.List.{AllByRecursion}
+use Rattle.std.specs.List.Sorted.{IsStrictlySortedBy}
+use Rattle.std.specs.FinMap as map
+use Rattle.std.specs.FinMap.{nat_cmp-IsAntisymmetric}
+use Rattle.std.specs.FinMap.Entries.{is_sorted, below_all}
+use Rattle.std.proofs.lemmas.List.Kept.{AllPairs-cons, AllPairs-filter, IsStrictlySortedBy-filter}
+use Rattle.std.proofs.lemmas.Map.Views.{any-filter_same, Contains-from_any}
+use Rattle.std.specs.Option.{option_map, option_to_list, option_and_then}
+use Rattle.std.proofs.lemmas.Bool.Decides.{eqb_tells}
+use Rattle.std.proofs.lemmas.List.Elements.{filter_passes}
 use Rattle.mach_types.specs.declared.calls.Event.{Event}
 use Rattle.mach_types.specs.declared.calls.Reply.{Reply}
-use Rattle.mach_types.specs.declared.codes.KernReturn.TheVariants.{ResourceShortage}
+use Rattle.mach_types.specs.declared.codes.KernReturn.TheVariants.{ResourceShortage, NotInSet}
 use Rattle.mach_types.specs.Numbers.{kern_number}
-use Rattle.mach_model.specs.Refusals.{set_guards}
-use Rattle.copyin_base.specs.Acts.{IsAllowed, Acts, Declines}
-use Rattle.copyin_base.proofs.Acting.{done, looked, refused_later}
-use Rattle.std.proofs.Common.{◌≡◌, ℕ, zero, suc, ◌<◌, List, [], ◌∷◌, Option, Some, None, refl, sym, ap, subst, ◌∙◌, arith, true, inl, inr}
-use Rattle.std.specs.Prelude.{◌==◌, Contains, is_some}
-use Rattle.std.specs.Option.{option_map, option_to_list, option_and_then}
-use Rattle.std.specs.FinMap as map
-use Rattle.std.proofs.lemmas.Bool.Decides.{eqb_tells}
-use Rattle.std.proofs.lemmas.List.Elements.{All-contains, filter_passes}
 use Rattle.mach_types.specs.Tokens.{receive}
-use Rattle.mach_model.specs.State.{State, Target, lookup, Holds}
+use Rattle.mach_model.specs.Refusals.{set_guards, used_guards, receive_guards, move_guards}
+use Rattle.mach_model.specs.State.{State, Target, lookup, Holds, at}
 use Rattle.mach_model.specs.ReceiveRight.{one_if}
-use Rattle.mach_model.specs.Sets.{TellsMembers, IsSet}
+use Rattle.mach_model.specs.Sets.{TellsMembers, IsSet, JoinsSet}
 use Rattle.mach_model.proofs.Settling.{named_lives}
 use Rattle.name_space.specs.declared.Entry.{Entry}
 use Rattle.name_space.specs.declared.Entry.TheVariants as entry
 use Rattle.name_space.specs.Entry.{port_named, has_receive, receive_named}
 use Rattle.name_space.specs.Names.{SpaceView}
 use Rattle.port.specs.Ports.{PortView}
+use Rattle.port.specs.declared.Attributes.{Attributes}
+use Rattle.copyin_base.specs.Acts.{IsAllowed, Acts, Declines, IsRefused}
+use Rattle.copyin_base.proofs.Acting.{done, looked, refused_later}
 use Rattle.copyin_base.specs.Kept.{Kept}
 use Rattle.copyin_base.specs.Worlds.{WorldView, entry_in, entry_at, port_at, space_at, HasTask}
 use Rattle.copyin_base.specs.Shows.{target_of, Agrees, Shows}
-use Rattle.kernel_core_base.specs.Sets.{set_of_port, is_set, is_member, members_in}
 use Rattle.copyin_base.proofs.Told.{port_of, names_port, used, found, port_there}
-use Rattle.kernel_core_base.proofs.Filtered.{keys_rise, kept_key}
+use Rattle.copyin_base.specs.Changes.{HasAttributes, SetsAttributes}
+use Rattle.copyin_base.specs.Finds.{FindsReceive}
+use Rattle.copyin_base.specs.Stands.{Stands}
+use Rattle.copyin_base.proofs.AttributesSet.{set_agrees}
+use Rattle.copyin_base.proofs.Finding.{finds_used, finds_port, finds_receive, receive_port_lives, receive_port_there}
+use Rattle.kernel_core_base.specs.Sets.{set_of_port, is_set, is_member, members_in, GoesTo, MayMove}
+use Rattle.kernel_core_base.proofs.ReceiveRight.{sets_so}
+
+-- ---- The keys of a map that pass a test: they rise, and each key that passes is among them.
+
+pub first : (a b : Bool) → T (a && b) → T a
+first true b p = tt
+first false b p = p
+
+pub second : (a b : Bool) → T (a && b) → T b
+second true b p = p
+second false b p = absurd p
+
+pub less : (a b : ℕ) → T (is_lt (nat_cmp a b)) → a < b
+less a b h = go (nat_cmp a b) refl h
+  where
+    go : (r : Ordering) → nat_cmp a b ≡ r → T (is_lt r) → a < b
+    go Less e h = ranked a b Less (sym e)
+    go Equal e h = absurd h
+    go Greater e h = absurd h
+
+abbrev pub keys_in : {X : Type 0} → List (ℕ × X) → List ℕ
+keys_in es = list_map (λ e. e.0) es
+
+above : {X : Type 0} (k : ℕ) (es : List (ℕ × X)) → T (below_all nat_cmp k es) → All (λ q. k < q) (keys_in es)
+above k [] h i d within = absurd (omega (arith, within))
+above k (e ∷ es) h zero d within = less k e.0 (first _ _ h)
+above k (e ∷ es) h (suc i) d within = above k es (second _ _ h) i d (omega (arith, within))
+
+pub rising : {X : Type 0} (es : List (ℕ × X)) → T (is_sorted nat_cmp es) → AllPairs (λ a b. a < b) (keys_in es)
+rising [] h = λ i j d lt within. absurd (omega (arith, within))
+rising (e ∷ es) h = AllPairs-cons (λ a b. a < b) e.0 (keys_in es) (above e.0 es (first _ _ h)) (rising es (second _ _ h))
+
+pub keys_rise : {X : Type 0} (m : map.FinMap nat_cmp X) (test : ℕ → Bool) → AllPairs (λ a b. a < b) (filter test (map.keys m))
+keys_rise m test = AllPairs-filter (λ a b. a < b) test (map.keys m) (rising (map.entries m) (map.entries_sorted m))
+
+is_equal : (r : Ordering) → is_eq r ≡ true → r ≡ Equal
+is_equal Less e = absurd (cc)
+is_equal Equal e = refl
+is_equal Greater e = absurd (cc)
+
+pub same_key : (x y : ℕ) → eq_by_cmp nat_cmp x y ≡ true → x ≡ y
+same_key x y e = nat_cmp-IsAntisymmetric x y (is_equal (nat_cmp x y) e)
+
+pub kept_key : {X : Type 0} (m : map.FinMap nat_cmp X) (test : ℕ → Bool) (n : ℕ) → is_some (map.get m n) ≡ true → test n ≡ true → Contains (filter test (map.keys m)) n
+kept_key m test n some passes = Contains-from_any same_key n (filter test (map.keys m))
+    (any-filter_same (eq_by_cmp nat_cmp n) test true (λ k e. ap test (sym (same_key n k e)) ∙ passes) (map.keys m) ∙ sym (map.contains_key-keys m n) ∙ some)
+
+pub kept_sorted : {X : Type 0} (m : map.FinMap nat_cmp X) (test : ℕ → Bool) → IsStrictlySortedBy nat_cmp (filter test (map.keys m))
+unfolding IsStrictlySortedBy
+kept_sorted m test = IsStrictlySortedBy-filter nat_cmp test (map.keys m) (strictly (map.entries m) (map.entries_sorted m))
+  where
+    is_less : (r : Ordering) → T (is_lt r) → r ≡ Less
+    is_less Less h = refl
+    is_less Equal h = absurd h
+    is_less Greater h = absurd h
+
+    all_above : {X : Type 0} (k : ℕ) (es : List (ℕ × X)) → T (below_all nat_cmp k es) → AllByRecursion (λ y. nat_cmp k y ≡ Less) (keys_in es)
+    all_above k [] h = tt
+    all_above k (e ∷ es) h = (is_less (nat_cmp k e.0) (first _ _ h), all_above k es (second _ _ h))
+
+    strictly : {X : Type 0} (es : List (ℕ × X)) → T (is_sorted nat_cmp es) → IsStrictlySortedBy nat_cmp (keys_in es)
+    strictly [] h = tt
+    strictly (e ∷ es) h = (all_above e.0 es (first _ _ h), strictly es (second _ _ h))
+
+-- ---- The names of a set's members, in the tables and in the machine alike.
 
 -- ---- what is a member's name
 
@@ -150,3 +230,56 @@ module _ (w : WorldView) (task name set : ℕ) (is : entry_at w task name ≡ So
       Acts w (Event.SetStatus task name) (Reply.Members (members_in w set space.names)) w
   set_told below space there = done w (Event.SetStatus task name) (Reply.Members (members_in w set space.names)) w below set_allowed
       (λ now s sh. looked w (Event.SetStatus task name) (Reply.Members (members_in w set space.names)) now s sh tt (members_told w s sh task name set space there is, refl, refl))
+
+-- ---- MoveMember: what refuses it, and what it does.
+
+one_port : (p q : ℕ) (o : Option Target) → o ≡ Some (Target.port p) → o ≡ Some (Target.port q) → p ≡ q
+one_port p q o e f = grind arith
+
+some_set : (set : ℕ) → set ∷ [] ≡ [] → ⊥
+some_set set e = let f : 1 ≡ 0 = ap length e in omega (arith, f)
+
+-- ---- what is judged
+
+module _ (w : WorldView) (task member : ℕ) where
+  -- a port that is to leave its set
+  pub leaving_refused : (code : ℕ) → IsRefused w (λ s. receive_guards s task member) code → IsRefused w (λ s. move_guards s task member 0) code
+  leaving_refused code r = grind arith
+
+  module _ (p : ℕ) (f : FindsReceive w task member p) where
+    pub not_in_set : (o : Option ℕ) → o ≡ set_of_port w p → o ≡ None → IsRefused w (λ s. move_guards s task member 0) (kern_number NotInSet)
+    not_in_set o is none = grind (arith, finds_used, finds_receive, finds_port, sets_none, receive_port_lives)
+
+    pub may_leave : (o : Option ℕ) (set : ℕ) → o ≡ set_of_port w p → o ≡ Some set → MayMove w task member 0 p None
+    may_leave o set is some = grind (arith, finds_used, finds_receive, some_set, sets_are, one_port, finds_port)
+
+  -- a port that is to go into the set under another name
+  module _ (after : ℕ) (some : after ≢ 0) where
+    pub after_unused : (code : ℕ) → IsRefused w (λ s. used_guards s task after) code → IsRefused w (λ s. move_guards s task member after) code
+    after_unused code r = grind arith
+
+    pub joining_refused : (other : Entry) → entry_at w task after ≡ Some other → (code : ℕ) → IsRefused w (λ s. receive_guards s task member) code →
+        IsRefused w (λ s. move_guards s task member after) code
+    joining_refused other is code r = grind (arith, used)
+
+    module _ (p : ℕ) (f : FindsReceive w task member p) where
+      pub not_to_set : (code : ℕ) → IsRefused w (λ s. set_guards s task after) code → IsRefused w (λ s. move_guards s task member after) code
+      not_to_set code r = grind (arith, finds_used)
+
+      pub may_join : (set : ℕ) → entry_at w task after ≡ Some (entry.Set set) → IsAllowed w (λ s. move_guards s task member after)
+      may_join set is = grind (arith, finds_used, used, finds_receive, is_set_target)
+
+-- ---- what it does
+
+pub mover_there : (w : WorldView) (task member after p : ℕ) (set : Option ℕ) → Stands w → MayMove w task member after p set → is_some (port_at w p) ≡ true
+mover_there w task member after p set stands m = receive_port_there w task member p m.finds stands
+
+pub moved : (w : WorldView) (task member after p : ℕ) (set : Option ℕ) → HasTask w task → MayMove w task member after p set →
+    (b : Attributes) → HasAttributes w p b → (new : WorldView) → SetsAttributes w p (record b { set = set }) new → Acts w (Event.MoveMember task member after) (Reply.Code 0) new
+moved w task member after p set below m b h new r = done w (Event.MoveMember task member after) (Reply.Code 0) new below m.allowed
+    (λ now s sh. sets_so w p b h (record b { set = set }) refl new r (Event.MoveMember task member after) now s (record s { sets_of = at s.sets_of p (option_to_list set) }) sh
+    (refl, joins s sh.agrees set m.goes, refl) tt (set_agrees w s sh.agrees p b h set new r))
+  where
+    joins : (s : State) → Agrees w s → (set : Option ℕ) → GoesTo w task after set → JoinsSet task member after s (record s { sets_of = at s.sets_of p (option_to_list set) })
+    joins s a (Some set) goes = (p, (finds_port w task member p m.finds s a), inr (set, found w s a task after (entry.Set set) goes, refl))
+    joins s a None goes = (p, (finds_port w task member p m.finds s a), inl (goes, refl))

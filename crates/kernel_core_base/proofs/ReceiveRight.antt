@@ -1,38 +1,139 @@
 -- What a task asks of a receive right, and sets.
-use Rattle.std.proofs.Common.{◌≡◌, ℕ, ◌<◌, ◌≤◌, ◌^◌, true, List, Option, Some, None, refl, sym, ap, subst, ◌∙◌, arith, inl, inr}
-use Rattle.std.specs.Prelude.{min, nat_lt, Contains}
+use Rattle.std.proofs.Common.{◌≡◌, ℕ, ◌+◌, ◌<◌, ◌≤◌, List, [], ◌∷◌, Some, refl, sym, ap, ◌∙◌, arith, true, false, Bool, zero, suc, inl, inr, length, ◌^◌, Option, None, subst}
+use Rattle.std.specs.Prelude.{slice_get, if◌then◌else◌, ◌==◌, ◌&&◌, min, nat_lt, Contains}
+use Rattle.std.proofs.lemmas.Bool.{eq-eqb}
+use Rattle.std.proofs.lemmas.Bool.Decides.{nat_tests}
+use Rattle.std.proofs.lemmas.Option.{slice_get_cases}
 use Rattle.std.specs.Option.{option_map, option_to_list, unwrap_or}
 use Rattle.std.specs.FinMap as map
-use Rattle.std.proofs.lemmas.Bool.Decides.{nat_tests}
+use Rattle.mach_types.specs.Tokens.{Place, in_task, in_message, in_request, Token, weigh, count, is_of, same_kind, receive, send_once, no_senders, port_destroyed}
+use Rattle.mach_types.specs.Numbers.{most_rights, kern_number, greatest_limit}
+use Rattle.mach_types.specs.Messages.{Entry}
 use Rattle.mach_types.specs.declared.calls.Event.{Event}
 use Rattle.mach_types.specs.declared.calls.Reply.{Reply}
 use Rattle.mach_types.specs.declared.calls.Status.{Status}
 use Rattle.mach_types.specs.declared.codes.KernReturn.TheVariants.{InvalidValue}
-use Rattle.mach_types.specs.Numbers.{kern_number, greatest_limit}
-use Rattle.mach_types.specs.Tokens.{receive, send_once, is_of, no_senders, port_destroyed}
-use Rattle.mach_model.specs.State.{State, Target, lookup, Holds, queue, at}
+use Rattle.mach_model.specs.State.{State, queue, Target, lookup, Holds, at}
+use Rattle.mach_model.specs.Death.{same_place}
+use Rattle.mach_model.specs.Lawful.{IsLawful}
+use Rattle.mach_model.proofs.Names.{slice_get_drop, elsewhere, length-weigh, weigh-le, count_le, right_of}
+use Rattle.mach_model.proofs.Settling.{kind_refl}
+use Rattle.mach_model.specs.Machine.{Does}
+use Rattle.mach_model.proofs.Midway.{LosesNone}
 use Rattle.mach_model.specs.ReceiveRight.{NamesSetOf, TellsStatus, one_if}
 use Rattle.mach_model.specs.Refusals.{receive_guards, call_guards}
-use Rattle.mach_model.proofs.Weigh.{length-weigh, count_le}
+use Rattle.rights.specs.Ledger.{counts_of}
 use Rattle.port.specs.declared.Attributes.{Attributes}
+use Rattle.port.specs.Holding.{KeepsHolder}
 use Rattle.port.specs.Ports.{PortView}
 use Rattle.port_set.specs.declared.SetRecord.{SetRecord}
-use Rattle.rights.specs.Ledger.{counts_of}
-use Rattle.copyin_base.specs.Acts.{IsRefused, Acts, Declines}
-use Rattle.copyin_base.specs.Changes.{HasAttributes, SetsAttributes}
-use Rattle.copyin_base.specs.Finds.{FindsReceive}
 use Rattle.copyin_base.specs.Kept.{Kept}
-use Rattle.copyin_base.specs.Shows.{Shows}
-use Rattle.copyin_base.specs.Stands.{Stands}
+use Rattle.copyin_base.specs.Shows.{AllKept, Agrees, Shows}
+use Rattle.copyin_base.specs.Changes.{HasAttributes, SetsAttributes}
 use Rattle.copyin_base.specs.Worlds.{WorldView, port_at, HasTask}
-use Rattle.copyin_base.proofs.Acting.{done, looked, refused}
+use Rattle.copyin_base.proofs.Acting.{Does-so, done, looked, refused}
+use Rattle.copyin_base.proofs.Carriers.{carriers_kept}
+use Rattle.copyin_base.proofs.Gets.{same_found}
+use Rattle.copyin_base.proofs.Holders.{holders_kept}
+use Rattle.copyin_base.proofs.Idle.{none_lost_set}
+use Rattle.copyin_base.proofs.Requested.{requested_set}
+use Rattle.copyin_base.proofs.SendersNoted.{senders_same, senders_kept, keeps_senders_same}
+use Rattle.copyin_base.proofs.Slots.{slots_set}
+use Rattle.copyin_base.specs.Acts.{IsRefused, Acts, Declines}
+use Rattle.copyin_base.specs.Finds.{FindsReceive}
+use Rattle.copyin_base.specs.Stands.{Stands}
 use Rattle.copyin_base.proofs.AttributesSet.{limit_agrees, make_send_agrees, sequence_agrees}
 use Rattle.copyin_base.proofs.Finding.{finds_port, finds_held, receive_allowed, receive_port_lives}
 use Rattle.copyin_base.proofs.Told.{port_there, port_entered}
 use Rattle.kernel_core_base.specs.ReceiveRight.{set_name, status_of, HasPort, TellsPort}
-use Rattle.kernel_core_base.proofs.AttributesKept.{sets_so}
 use Rattle.kernel_core_base.proofs.Holding.{one_in, one_holder}
-use Rattle.kernel_core_base.proofs.Queued.{few_queued, as_many}
+
+-- ---- A queue has no more messages than there are rights: each message goes by a right that lies in it.
+
+-- how often the place is among the n entries of the port's log from this one on
+abbrev among : (p from n : ℕ) → Place → ℕ
+among p from zero place = 0
+among p from (suc n) place = (if same_place (in_message p (from + n)) place then 1 else 0) + among p from n place
+
+at_most_one : (b : Bool) → (if b then 1 else 0) ≤ 1
+at_most_one true = omega arith
+at_most_one false = omega arith
+
+not_behind : (p from n q k : ℕ) → from + n ≤ k → among p from n (in_message q k) ≡ 0
+not_behind p from zero q k behind = refl
+not_behind p from (suc n) q k behind = grind (arith, not_behind p from n q k (omega (arith, behind)), elsewhere)
+
+among_once : (p from n : ℕ) (place : Place) → among p from n place ≤ 1
+among_once p from zero place = omega arith
+among_once p from (suc n) (in_task task) = let h = among_once p from n (in_task task) in omega (arith, h)
+among_once p from (suc n) (in_request r) = let h = among_once p from n (in_request r) in omega (arith, h)
+among_once p from (suc n) (in_message q k) = grind (arith, among_once p from n (in_message q k), not_behind, at_most_one, elsewhere)
+
+weigh_sum : (f g : Token → ℕ) (xs : List Token) → weigh (λ x. f x + g x) xs ≡ weigh f xs + weigh g xs
+weigh_sum f g [] = omega arith
+weigh_sum f g (x ∷ xs) = let h = weigh_sum f g xs in omega (arith, h)
+
+each_one : (p from n : ℕ) (xs : List Token) → ((i : ℕ) → i < n → 0 < count (λ x. same_place (in_message p (from + i)) x.place) xs) → n ≤ weigh (λ x. among p from n x.place) xs
+each_one p from zero xs each = omega arith
+each_one p from (suc n) xs each = grind (arith, each_one p from n xs (λ i below. each i (omega (arith, below))), each n (omega arith), weigh_sum (λ (x : Token). if same_place (in_message p (from + n)) x.place then 1 else 0) (λ (x : Token). among p from n x.place) xs)
+
+module _ (s : State) (l : IsLawful s) (p : ℕ) (live : s.live_port p ≡ true) where
+  lies : (i : ℕ) (e : Entry) → slice_get (queue s p) i ≡ Some e → 0 < count (λ x. same_place (in_message p (s.taken p + i)) x.place) s.ledger
+  lies i e is =
+      let here = (l.sent_here p (s.taken p + i) e (sym (slice_get_drop (s.taken p) (s.log p) i) ∙ is)).0 in
+      let lying_one = l.carried p i e live is e.message.kind p live in
+      let one : (if same_kind e.message.kind e.message.kind && e.message.destination == p then suc zero else zero) ≡ suc zero =
+      rw (kind_refl e.message.kind, eq-eqb e.message.destination p here) refl in
+      let le = count_le (λ (x : Token). is_of e.message.kind p x && same_place (in_message p (s.taken p + i)) x.place) (λ (x : Token). same_place (in_message p (s.taken p + i)) x.place)
+      (λ x t. right_of (is_of e.message.kind p x) (same_place (in_message p (s.taken p + i)) x.place) t) s.ledger in
+      omega (arith, lying_one, one, le)
+
+  is_there : {A : Type 0} (xs : List A) (i : ℕ) → i < length xs → (x : A) × (slice_get xs i ≡ Some x)
+  is_there xs i below = elim (slice_get_cases xs i).1 [
+    | inl h ↦ (h.0, h.2)
+    | inr h ↦ absurd (omega (arith, h.0, below))
+  ]
+
+  pub few_queued : length (queue s p) ≤ most_rights
+  few_queued =
+      let some = each_one p (s.taken p) (length (queue s p)) s.ledger (λ i below. let e = is_there (queue s p) i below in lies i e.0 e.1) in
+      let le = weigh-le (λ (x : Token). among p (s.taken p) (length (queue s p)) x.place) (λ (x : Token). 1) (λ x. among_once p (s.taken p) (length (queue s p)) x.place) s.ledger in
+      let few = l.few_rights in
+      let all = length-weigh s.ledger in
+      omega (arith, some, le, few, all)
+
+-- as many messages are kept as there are
+pub as_many : (p : ℕ) (ms : List Kept) (es : List Entry) → AllKept p ms es → length ms ≡ length es
+as_many p [] [] a = refl
+as_many p (m ∷ ms) (e ∷ es) a = ap suc (as_many p ms es a.1)
+as_many p [] (e ∷ es) a = absurd a
+as_many p (m ∷ ms) [] a = absurd a
+
+-- ---- Attributes of a port are set, but for who holds its receive right: a call does this.
+
+module _ (w : WorldView) (p : ℕ) (x : Attributes) (has : HasAttributes w p x) (y : Attributes) (same : y.holder ≡ x.holder) where
+  pub keeps_holder : KeepsHolder w.ports p y
+  keeps_holder v there = grind (arith, same_found)
+
+  pub sets_so : (new : WorldView) → SetsAttributes w p y new → (event : Event) (now : ℕ) (s mid : State) → Shows w s → Does now s event (Reply.Code 0) mid [] → LosesNone s event (Reply.Code 0) → Agrees new mid →
+      Does-so w event (Reply.Code 0) new now s
+  sets_so new set event now s mid sh does none agrees = record {
+    mid = mid;
+    owed = [];
+    does = does;
+    loses_none = none;
+    none_owed = refl;
+    agrees = agrees;
+    holders = holders_kept w new sh.holders p x y has set same;
+    carriers = carriers_kept w new sh.carriers p x y has set same;
+    slots = slots_set w new sh.slots p y set;
+    requested = requested_set w new sh.requested p y set;
+    notes = senders_kept w w new (senders_same w sh.idle.noted)
+        (keeps_senders_same w new sh.requested (ap (λ (z : WorldView). z.requests.no_senders) set.rest) (ap (λ (z : WorldView). z.ledger) set.rest) (ap (λ (z : WorldView). z.ports.noted) set.rest));
+    none_lost = none_lost_set w new sh.idle.none_lost p y set;
+  }
+
+-- ---- What a task asks of a receive right, and sets.
 
 -- ---- ReceiveStatus
 

@@ -1,18 +1,22 @@
--- A receive right is taken from its name, with some of its send references or all: the tables and the machine alike.
-use Rattle.std.proofs.Common.{◌≡◌, ℕ, ◌-◌, List, [], ◌∷◌, ◌++◌, Option, Some, None, refl, sym, ap, subst, ◌∙◌, arith, Bool, true, false, inr, length}
-use Rattle.std.specs.Prelude.{is_some, if◌then◌else◌, ◌==◌, ◌&&◌, nat_lt, replicate, slice_set}
+-- A receive right is taken from its name.
+use Rattle.std.proofs.Common.{ℕ, ◌-◌, List, ◌++◌, refl, arith, ◌≡◌, Some, None, sym, ap, subst, ◌∙◌, inr, false, [], ◌∷◌, Option, Bool, true, length}
+use Rattle.std.specs.Prelude.{replicate, not, is_some, slice_set, if◌then◌else◌, ◌&&◌, nat_lt}
 use Rattle.std.specs.Option.{option_map}
 use Rattle.std.specs.FinMap as map
 use Rattle.std.proofs.lemmas.Bool.{ltb-true, ne_eqb}
-use Rattle.mach_types.specs.Tokens.{Kind, receive, send, send_once, Request, dead_name, in_task, in_request, Token, token, Moves, weigh, count, is_of, is_held}
-use Rattle.mach_model.specs.State.{State, Target, Names, lookup, held, at, request_at, without_name}
+use Rattle.mach_types.specs.Tokens.{send, in_task, Token, token, count, is_held, Moves, dead_name, Kind, receive, send_once, Request, in_request, weigh, is_of}
+use Rattle.mach_model.proofs.Names.{weigh-append, at_own, at_other, length-weigh, both_test}
+use Rattle.mach_model.specs.State.{State, Target, Names, lookup, at, request_at, without_name, held}
+use Rattle.mach_model.specs.Lawful.{IsLawful}
+use Rattle.mach_model.specs.Sets.{without_set}
 use Rattle.mach_model.specs.Death.{same_place, IsOrphan}
 use Rattle.mach_model.specs.ReceiveRight.{one_if}
 use Rattle.mach_model.specs.CopyIn.{name_kept}
-use Rattle.mach_model.proofs.At.{at_own, at_other}
-use Rattle.mach_model.proofs.CopyingIn.{other_port, own_right}
+use Rattle.mach_model.proofs.Copying.{other_port, own_right}
 use Rattle.mach_model.proofs.Settling.{named_lives}
-use Rattle.mach_model.proofs.Weigh.{length-weigh, both_test}
+use Rattle.rights.specs.Counts.{with_fewer}
+use Rattle.rights.specs.Ledger.{LedgerView, taken, counts_of}
+use Rattle.rights.specs.declared.RightKind.TheVariants as right
 use Rattle.name_space.specs.declared.Entry.{Entry}
 use Rattle.name_space.specs.declared.Entry.TheVariants as entry_of
 use Rattle.name_space.specs.Entry.{port_named, has_receive, send_references}
@@ -20,24 +24,94 @@ use Rattle.name_space.specs.Names.{SpaceView}
 use Rattle.port.specs.declared.Holder.TheVariants.{Nobody}
 use Rattle.port.specs.Holding.{held as held_port}
 use Rattle.port.specs.Ports.{PortView, PortsView, with_port}
-use Rattle.rights.specs.Counts.{with_fewer}
-use Rattle.rights.specs.Ledger.{LedgerView, taken, counts_of}
-use Rattle.rights.specs.declared.RightKind.TheVariants as right
-use Rattle.copyin_base.specs.Kept.{Kept}
-use Rattle.copyin_base.specs.Requests.{requests_after}
-use Rattle.copyin_base.specs.Shows.{target_of, HasCount, onces_queued, CountsAgree, Agrees, Shows}
+use Rattle.port_set.specs.declared.SetRecord.{SetRecord}
+use Rattle.port_set.specs.Sets.{removed}
+use Rattle.copyin_base.specs.Requests.{request_left, requests_after}
 use Rattle.copyin_base.specs.Worlds.{WorldView, put, space_at, entry_in, port_at}
-use Rattle.copyin_base.proofs.Agreeing.{ports_put}
+use Rattle.copyin_base.specs.Shows.{target_of, SetsAgree, Agrees, RequestsStand, HasCount, onces_queued, CountsAgree, Shows}
+use Rattle.copyin_base.proofs.Agreeing.{own_names, own_rights, put_names, put_rights, ports_put}
+use Rattle.copyin_base.proofs.Disbanded.{disbanded_agrees}
+use Rattle.copyin_base.proofs.Gets.{same_found, of_some}
+use Rattle.copyin_base.proofs.NamesChanged.{names_agree, left_requests}
+use Rattle.copyin_base.proofs.Putting.{each_put, get_removed, put_same}
+use Rattle.copyin_base.specs.Kept.{Kept}
 use Rattle.copyin_base.proofs.Changing.{named_no_set, target_named, changed_agrees}
 use Rattle.copyin_base.proofs.Counting.{one_of, none_of_port, counts_agree, right_taken}
-use Rattle.copyin_base.proofs.Gets.{of_some, same_found}
-use Rattle.copyin_base.proofs.Putting.{each_put, put_same}
 use Rattle.copyin_base.proofs.Requesting.{stands_after}
 use Rattle.copyin_base.proofs.Taking.{Without, take_held}
 use Rattle.copyin_base.proofs.Told.{receive_has, found}
+use Rattle.notifications.proofs.TaskEnded.{take_many, weigh_alike, weigh_unlike, Takes}
+use Rattle.kernel_core_base.specs.References.{RemovesSet, CanKill, TakesReceive}
 use Rattle.kernel_core_base.specs.declared.references.Loss.{Loss}
-use Rattle.kernel_core_base.specs.References.{CanKill, TakesReceive}
-use Rattle.notifications.proofs.Parts.{weigh_alike, weigh_unlike, Takes, take_many}
+
+-- ---- So many equal tokens, taken from the ledger or added to it.
+
+-- The task's send rights for a port become so many.
+pub record Recounts (task p n m : ℕ) (xs : List Token) : Type 0 where
+  pub ys : List Token
+  pub moves : Moves xs ys (replicate (n - m) (token send p (in_task task))) (replicate (m - n) (token send p (in_task task)))
+
+pub recount : (task p m : ℕ) (xs : List Token) → Recounts task p (count (is_held task send p) xs) m xs
+recount task p m xs =
+    let n = count (is_held task send p) xs in
+    let some = take_many task send p (n - m) xs refl (omega arith) in
+    record {
+      ys = replicate (m - n) (token send p (in_task task)) ++ some.others;
+      moves = λ h. let a = some.parts h in let b = weigh-append h (replicate (m - n) (token send p (in_task task))) some.others in omega (arith, a, b);
+    }
+
+-- ---- The name of a set went, and the set, in the tables and in the machine alike: its members are in none.
+
+no_some : {A : Type 0} (x : A) → None ≡ Some x → ⊥
+no_some x e = cc
+
+same_set : (x y : ℕ) → Target.set x ≡ Target.set y → x ≡ y
+same_set x y e = cc
+
+-- ---- the name and the set go
+
+module _ (w : WorldView) (s : State) (a : Agrees w s) (lawful : IsLawful s) (requested : RequestsStand w) (task name set : ℕ) (v : WorldView) (r : RemovesSet w task name set v) where
+  abbrev own : Names
+  own = map.remove (s.naming task) name
+
+  named : lookup s task name ≡ Some (Target.set set)
+  named = (own_names w s a task r.space r.there).naming name ∙ ap (option_map target_of) r.found
+
+  -- another set stands under another name
+  still : (q : ℕ) (x : SetRecord) → (q ≡ set → ⊥) → map.get w.sets.sets q ≡ Some x → map.get (at s.naming task own x.owner) x.name ≡ Some (Target.set q)
+  still q x not is = grind (arith, at_own, get_removed, same_set, same_found, named, at_other)
+
+  in_sets : SetsAgree (removed w.sets set) (at s.set_owner set None) s.sets_made (at s.naming task own)
+  in_sets = record {
+    set_owner = each_put w.sets.sets set None (λ q o. at s.set_owner set None q ≡ option_map (λ (x : SetRecord). x.owner) o) (at_own s.set_owner set None)
+        (λ q not. at_other s.set_owner set None q not ∙ a.set_owner q);
+    sets_made = a.sets_made;
+    set_named = each_put w.sets.sets set None (λ q o. (x : SetRecord) → o ≡ Some x → map.get (at s.naming task own x.owner) x.name ≡ Some (Target.set q)) (λ x is. absurd (no_some x is)) (λ q not x. still q x not);
+  }
+
+  nothing : (e : Entry) → None ≡ Some e → ⊥
+  nothing e is = no_some e is
+
+  abbrev without : WorldView
+  without = record w {
+    spaces = slice_set w.spaces task (Some (record r.space { names = map.remove r.space.names name }));
+    sets = removed w.sets set;
+    requests = request_left w.requests task name;
+  }
+
+  names_go : Agrees without
+      (record s { naming = at s.naming task own; stands = request_at s.stands (dead_name task name) false; set_owner = at s.set_owner set None })
+  names_go = names_agree w s a task r.space r.there (map.remove r.space.names name) r.space.room own (request_at s.stands (dead_name task name) false) (removed w.sets set) (at s.set_owner set None) s.sets_made
+      (request_left w.requests task name) (left_requests w s a task r.space r.there lawful requested name (ap is_some r.found) {A = Entry} None)
+      (put_names r.space.names (s.naming task) (own_names w s a task r.space r.there) name None (λ e is. absurd (nothing e is)))
+      (put_rights r.space.names task s.ledger (own_rights w s a task r.space r.there) name None (λ e p is. absurd (nothing e is))) in_sets
+
+  pub removed_agrees : Agrees v (without_set set (without_name task name s))
+  removed_agrees = subst (λ (x : WorldView). Agrees x (without_set set (without_name task name s))) (sym r.rest)
+      (disbanded_agrees without
+      (record s { naming = at s.naming task own; stands = request_at s.stands (dead_name task name) false; set_owner = at s.set_owner set None }) names_go set v.ports r.disbanded)
+
+-- ---- A receive right is taken from its name, with some of its send references or all: the tables and the machine alike.
 
 -- What the machine does: the receive right goes with so many send rights, and the name with the last.
 pub record TakesSo (task name : ℕ) (l : Loss) (s t : State) : Type 0 where
@@ -45,14 +119,14 @@ pub record TakesSo (task name : ℕ) (l : Loss) (s t : State) : Type 0 where
   pub rest : t ≡ record (name_kept (nat_lt 0 l.left) task name s) { ledger = t.ledger }
 
 module _ (w : WorldView) (task name : ℕ) (l : Loss) (can : CanKill w task name l) (s : State) (sh : Shows w s) where
-  named : port_named can.e ≡ Some l.port
-  named = (receive_has can.e l.port can.receive).0
+  named_taken : port_named can.e ≡ Some l.port
+  named_taken = (receive_has can.e l.port can.receive).0
 
   target : lookup s task name ≡ Some (Target.port l.port)
-  target = found w s sh.agrees task name can.e can.found ∙ ap Some (target_named can.e l.port named)
+  target = found w s sh.agrees task name can.e can.found ∙ ap Some (target_named can.e l.port named_taken)
 
   pub kill_held : (held s task receive l.port ≡ 1) × (held s task send l.port ≡ l.held)
-  kill_held = grind (arith, named, receive_has)
+  kill_held = grind (arith, named_taken, receive_has)
 
   pub kill_lives : s.live_port l.port ≡ true
   kill_lives = named_lives s sh.lawful task name l.port target
@@ -164,7 +238,7 @@ module _ (w : WorldView) (task name : ℕ) (l : Loss) (can : CanKill w task name
               subst (λ (y : ℕ). (count (is_held task receive y) rights_left ≡ one_if (has_receive e)) × (count (is_held task send y) rights_left ≡ send_references e)) q_is
               (receives_weight ∙ sym (ap one_if x.2), sends_weight ∙ sym x.3);
           other_references = λ q not.
-              let far : q ≡ l.port → ⊥ = (λ e. not (named ∙ ap Some (sym e))) in (
+              let far : q ≡ l.port → ⊥ = (λ e. not (named_taken ∙ ap Some (sym e))) in (
                 same_weight (λ x. if is_held task receive q x then 1 else 0) (other_port task task receive receive q l.port far) (other_port task task receive send q l.port far),
                 same_weight (λ x. if is_held task send q x then 1 else 0) (other_port task task send receive q l.port far) (other_port task task send send q l.port far),
               );
@@ -179,7 +253,7 @@ module _ (w : WorldView) (task name : ℕ) (l : Loss) (can : CanKill w task name
           stands = same;
           requests = λ r c q. same_weight (λ x. if is_of c q x && same_place (in_request r) x.place then 1 else 0)
               (both_test (is_of c q right_gone) false (inr refl)) (both_test (is_of c q send_gone) false (inr refl));
-          no_set = named_no_set can.e l.port named;
+          no_set = named_no_set can.e l.port named_taken;
         }
 
     abbrev pub Becomes : WorldView → Type 0

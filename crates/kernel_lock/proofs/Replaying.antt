@@ -5,7 +5,7 @@ use Rattle.mach_types.specs.declared.calls.Event.{Event}
 use Rattle.mach_types.specs.declared.calls.Reply.{Reply}
 use Rattle.mach_model.specs.State.{State, opening}
 use Rattle.mach_model.specs.Machine.{Step, Run}
-use Rattle.mach_model.proofs.Runs.{RunFrom-push}
+use Rattle.mach_model.proofs.StepLawful.{RunFrom-push}
 use Rattle.copyin_base.specs.Shows.{Shows}
 use Rattle.kernel_core.specs.Answers.{Answers}
 use Rattle.kernel_core.specs.Bounds.{IsWithin}

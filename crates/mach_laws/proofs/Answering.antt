@@ -13,8 +13,7 @@ use Rattle.mach_model.specs.CopyOut.{GiveWord}
 use Rattle.mach_model.specs.Send.{Copied, entry}
 use Rattle.mach_model.specs.Machine.{Run}
 use Rattle.mach_laws.specs.Answering.{asking_text, asked_text, answering_text, answered_text, answering_events, answering_replies}
-use Rattle.mach_laws.proofs.Playing.{Plays, with_receive, with_made, with_entry, without_front, good_text, spelled, fresh_next, makes, plain_message, copies_plain, port_allocated, sent, receives, received, type_told, no_type}
-use Rattle.mach_laws.proofs.First.{s1, s2, first, second, fresh_two}
+use Rattle.mach_laws.proofs.Playing.{Plays, with_receive, with_made, with_entry, without_front, good_text, spelled, fresh_next, makes, plain_message, copies_plain, port_allocated, sent, receives, received, type_told, no_type, s1, s2, first, second, fresh_two}
 
 abbrev a3 : State
 a3 = with_receive 0 2 s2

@@ -1,5 +1,5 @@
 -- A task that ends while a request stands on its name is a run: whoever asked is told that the name is deleted.
-use Rattle.std.proofs.Common.{◌≡◌, [], ◌∷◌, ◌++◌, Some, refl, ap, ◌∙◌, inl, inr, arith, false, true, Bool, rules}
+use Rattle.std.proofs.Common.{◌≡◌, [], ◌∷◌, ◌++◌, Some, refl, ap, ◌∙◌, inl, inr, arith, false, true, rules}
 use Rattle.std.specs.Prelude.{option_map}
 use Rattle.std.specs.FinMap.{gets}
 use Rattle.mach_types.specs.declared.calls.Event.{Event}
@@ -7,32 +7,29 @@ use Rattle.mach_types.specs.declared.calls.Reply.{Reply}
 use Rattle.mach_types.specs.declared.calls.Waited.{Waited}
 use Rattle.mach_types.specs.declared.rights.Disposition.TheVariants.{MoveSendOnce}
 use Rattle.mach_types.specs.Guards.{NoneHolds}
-use Rattle.mach_types.specs.Tokens.{receive, send_once, Request, no_senders, dead_name, in_task, in_request, is_in_task, Token, token}
+use Rattle.mach_types.specs.Tokens.{receive, send_once, Request, dead_name, in_task, in_request, is_in_task, token}
 use Rattle.mach_types.specs.Messages.{to_port}
 use Rattle.mach_types.specs.Grammar.{WireBody, word}
-use Rattle.mach_model.specs.State.{State, Target, lookup, without_name, same_request, request_at}
-use Rattle.mach_model.specs.Tasks.{ends_with, EndsTask}
+use Rattle.mach_model.specs.State.{State, Target, lookup, without_name, request_at}
+use Rattle.mach_model.specs.Tasks.{EndsTask}
 use Rattle.mach_model.specs.Notices.{port_deleted}
 use Rattle.mach_model.specs.Settles.{settled_target}
 use Rattle.mach_model.specs.CopyIn.{CopyRight}
 use Rattle.mach_model.specs.Requests.{Requests}
 use Rattle.mach_model.specs.Refusals.{guards}
 use Rattle.mach_model.specs.Machine.{Step, Run}
-use Rattle.mach_model.specs.Turns.{Begun, Ending, PaidForName, IsReached, begins, IsDone, IsAtDoomed, AreJudged, listed}
+use Rattle.mach_model.specs.Turns.{Begun, Ending, PaidForName, IsReached, begins, IsDone, AreJudged, listed}
 use Rattle.mach_model.specs.Lawful.{IsLawful}
 use Rattle.mach_model.specs.Midway.{MidLawful}
-use Rattle.mach_model.proofs.Quiet.{NoRequests, NoneCarried}
+use Rattle.mach_model.proofs.Midway.{NoRequests, NoneCarried}
 use Rattle.mach_model.proofs.StepLawful.{Does-mid}
 use Rattle.mach_model.proofs.TurnsMade.{start, start_is, doom, bury}
 use Rattle.mach_model.proofs.TurnsSettle.{end_of}
-use Rattle.mach_model.proofs.TurnsSound.{one_all}
+use Rattle.mach_model.proofs.TurnsCounted.{one_all}
 use Rattle.mach_laws.specs.Deleting.{name_deleted_text, deleting_events, deleting_replies}
-use Rattle.mach_laws.proofs.Playing.{Plays, with_extracted, without_front, spelled, fresh_one, fresh_next, once_extracted, receives, received}
-use Rattle.mach_laws.proofs.Telling.{notice_entry}
-use Rattle.mach_laws.proofs.First.{s1, first}
+use Rattle.mach_laws.proofs.Playing.{Plays, with_extracted, without_front, spelled, fresh_one, fresh_next, once_extracted, receives, received, s1, first}
+use Rattle.mach_laws.proofs.Dying.{notice_entry, asks_well, none_there, name_noted, requested, made_alone, not_made, not_either, Leads, ends, loses_one, then_doomed, then_buried, without_task, one_judged, not_carried}
 use Rattle.mach_laws.proofs.Gathering.{b2, b3, b4, second, third, fourth}
-use Rattle.mach_laws.proofs.Standing.{asks_well, none_there, name_noted, requested, made_alone, not_made, not_either}
-use Rattle.mach_laws.proofs.Dying.{Leads, ends, loses_one, then_doomed, then_buried, without_task, one_judged, not_carried}
 
 -- ---- the task gets a right to be told by, and asks about its name
 

@@ -12,10 +12,8 @@ use Rattle.mach_model.specs.Receive.{TakesFrom, DestroysFront}
 use Rattle.mach_model.specs.Refusals.{guards}
 use Rattle.mach_model.specs.Machine.{Run}
 use Rattle.mach_laws.specs.Destroying.{destroying_events, destroying_replies}
-use Rattle.mach_laws.proofs.Answered.{one_port}
-use Rattle.mach_laws.proofs.Playing.{Plays, without_front, plays}
-use Rattle.mach_laws.proofs.Telling.{loses_send, passes}
-use Rattle.mach_laws.proofs.First.{s1, s2, s3, first, second, third, greeting, port_named}
+use Rattle.mach_laws.proofs.Playing.{one_port, Plays, without_front, plays, s1, s2, s3, first, second, third, greeting, port_named}
+use Rattle.mach_laws.proofs.Dying.{loses_send, passes}
 
 named : lookup s3 0 1 ≡ Some (Target.port 0)
 named = port_named

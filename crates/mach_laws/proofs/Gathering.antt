@@ -13,8 +13,7 @@ use Rattle.mach_model.specs.CopyOut.{GiveWord}
 use Rattle.mach_model.specs.Send.{Copied, entry}
 use Rattle.mach_model.specs.Machine.{Run}
 use Rattle.mach_laws.specs.Gathering.{sharing_text, shared_text, shared_status, gathering_events, gathering_replies}
-use Rattle.mach_laws.proofs.Playing.{Plays, with_task, with_receive, with_made, with_inserted, with_entry, without_front, good_text, spelled, two_words, fresh_one, makes, task_made, port_allocated, send_inserted, sent, receives, received, references_told, status_told}
-use Rattle.mach_laws.proofs.First.{s1, first}
+use Rattle.mach_laws.proofs.Playing.{Plays, with_task, with_receive, with_made, with_inserted, with_entry, without_front, good_text, spelled, two_words, fresh_one, makes, task_made, port_allocated, send_inserted, sent, receives, received, references_told, status_told, s1, first}
 
 -- ---- two tasks with a port each
 

@@ -11,8 +11,7 @@ use Rattle.mach_model.specs.Transfer.{Extracts}
 use Rattle.mach_model.specs.Refusals.{guards}
 use Rattle.mach_model.specs.Machine.{Run}
 use Rattle.mach_laws.specs.Handed.{handed_status, handing_events, handing_replies}
-use Rattle.mach_laws.proofs.Playing.{Plays, plays, with_inserted, used, send_inserted, type_told, no_type, status_told}
-use Rattle.mach_laws.proofs.First.{s1, first}
+use Rattle.mach_laws.proofs.Playing.{Plays, plays, with_inserted, used, send_inserted, type_told, no_type, status_told, s1, first}
 use Rattle.mach_laws.proofs.Gathering.{b2, b3, second, third}
 
 abbrev h4 : State

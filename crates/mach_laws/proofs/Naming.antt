@@ -13,13 +13,12 @@ use Rattle.mach_types.specs.declared.calls.Reply.{Reply}
 use Rattle.mach_types.specs.Guards.{NoneHolds}
 use Rattle.mach_model.specs.State.{State, Target, at, lookup, with_name, without_name}
 use Rattle.mach_model.specs.Names.{type_of, names_of, renamed_requests}
-use Rattle.mach_model.specs.References.{HasReference, references_at, references_under}
+use Rattle.mach_model.specs.References.{HasReference}
 use Rattle.mach_model.specs.Refusals.{guards}
 use Rattle.mach_model.specs.Machine.{Run}
 use Rattle.mach_model.proofs.Names.{alike}
 use Rattle.mach_laws.specs.Naming.{naming_events, naming_replies}
-use Rattle.mach_laws.proofs.Playing.{Plays, plays, fresh_one, used, refused, allocated, references_told, no_type}
-use Rattle.mach_laws.proofs.First.{s1, first}
+use Rattle.mach_laws.proofs.Playing.{Plays, plays, fresh_one, used, refused, allocated, references_told, no_type, s1, first}
 
 -- ---- a dead name, and two more references
 

@@ -1,27 +1,25 @@
 -- Which calls may need a slot more: no other makes a send-once right, or queues a message that comes by a send right.
-use Rattle.std.proofs.Common.{◌≡◌, ℕ, ℤ, zero, suc, ◌+◌, ◌-◌, ◌≤◌, List, [], ◌∷◌, refl, sym, ap, subst, ◌∙◌, arith, true, false, Bool, inl, inr, length}
-use Rattle.std.specs.Prelude.{◌≢◌, ◌⊎◌, ◌==◌, ◌&&◌, Some, if◌then◌else◌, not, filter, drop, slice_get, replicate, nat_lt, MatchBool, map as list_map}
+use Rattle.std.proofs.Common.{◌≡◌, ℕ, ℤ, zero, suc, ◌+◌, ◌≤◌, List, [], ◌∷◌, refl, sym, ap, subst, ◌∙◌, arith, true, false, Bool, inl, inr, length}
+use Rattle.std.specs.Prelude.{◌≢◌, ◌⊎◌, ◌==◌, ◌&&◌, Some, if◌then◌else◌, not, drop, slice_get, replicate, MatchBool, map as list_map}
 use Rattle.std.proofs.lemmas.Bool.{cases_Bool, eq-eqb, ne_eqb}
-use Rattle.std.proofs.lemmas.Bool.Decides.{eqb_tells, leb_tells}
+use Rattle.std.proofs.lemmas.Bool.Decides.{eqb_tells}
 use Rattle.mach_types.specs.declared.calls.Event.{Event}
 use Rattle.mach_types.specs.declared.calls.Reply.{Reply}
 use Rattle.mach_types.specs.declared.calls.Waited.{Waited}
 use Rattle.mach_types.specs.declared.rights.Disposition.{Disposition}
 use Rattle.mach_types.specs.declared.rights.Disposition.TheVariants.{MoveReceive, MoveSend, MoveSendOnce, CopySend, MakeSend, MakeSendOnce}
-use Rattle.mach_types.specs.Numbers.{most_references, null_word, kind_sent}
-use Rattle.mach_types.specs.Tokens.{Kind, receive, send, send_once, Place, in_task, in_request, Request, Token, token, count, Moves, same_kind}
+use Rattle.mach_types.specs.Numbers.{null_word}
+use Rattle.mach_types.specs.Tokens.{Kind, receive, send, send_once, Place, in_task, in_request, Request, Token, token, count, Moves}
 use Rattle.mach_types.specs.Messages.{Mark, to_port, null, dead, Entry}
-use Rattle.mach_types.specs.Bodies.{message_rights, Through}
-use Rattle.mach_types.specs.Numbers.{dead_word}
-use Rattle.mach_model.specs.State.{State, Target, at, held, queue, with_name, without_name}
+use Rattle.mach_types.specs.Bodies.{Through}
+use Rattle.mach_model.specs.State.{State, Target, at}
 use Rattle.mach_model.specs.CopyIn.{IsLegal, taken_by, put_by, CopyRight}
-use Rattle.mach_model.specs.CopyOut.{given_to, GiveRight, GiveMark, GiveWord}
+use Rattle.mach_model.specs.CopyOut.{given_to, GiveMark, GiveWord}
 use Rattle.mach_model.specs.Notices.{Owed, right_unused}
 use Rattle.mach_model.specs.Sets.{JoinsSet}
 use Rattle.mach_model.specs.References.{LosesOne, Deallocates, DestroysTarget, with_dead, RemovesRight, Modifies, unused as unused_of}
 use Rattle.mach_model.specs.Names.{Makes, Renames}
-use Rattle.mach_model.specs.Requests.{GivesBack, Keeps, Requests}
-use Rattle.mach_model.specs.ReceivedMeans.{received_words}
+use Rattle.mach_model.specs.Requests.{GivesBack, Keeps}
 use Rattle.mach_model.specs.Receive.{Takes, DestroysFront, Receipt}
 use Rattle.mach_types.specs.Guards.{NoneHolds}
 use Rattle.mach_model.specs.Refusals.{guards}
@@ -29,13 +27,13 @@ use Rattle.mach_model.specs.Machine.{Does, Step}
 use Rattle.mach_model.specs.Lawful.{tally, LawfulLogs, IsLawful}
 use Rattle.mach_model.specs.Midway.{MidLawful}
 use Rattle.mach_model.specs.Unused.{came_by_once}
-use Rattle.mach_model.proofs.At.{at_own, at_other}
+use Rattle.mach_model.proofs.Names.{at_own, at_other}
 use Rattle.mach_model.proofs.StepLawful.{Does-mid}
 use Rattle.mach_laws.specs.Queued.{sum_below, queued, unused}
 use Rattle.mach_laws.specs.Counts.{once_rights, by_send_at, queued_by_send, MayNeedSlots}
 use Rattle.mach_laws.proofs.Steps.{Effect, Does-effect}
 use Rattle.mach_laws.proofs.Counted.{sum_one, sum_more, queue_long}
-use Rattle.mach_laws.proofs.Needed.{is_once_right, tally_both, sum_fewer, needed, ending_needs}
+use Rattle.mach_laws.proofs.Slots.{is_once_right, tally_both, sum_fewer, needed, ending_needs}
 
 -- ---- send-once rights
 

@@ -1,16 +1,14 @@
--- The steps that the example runs are made of, a lemma for each kind: what a lawful state must have that the event may be answered
--- so, and the state that it leads to, which is lawful again.
-use Rattle.std.proofs.Common.{◌≡◌, ℕ, suc, ◌+◌, ◌%◌, ◌^◌, ◌<◌, ◌≤◌, List, [], ◌∷◌, ◌++◌, Option, Some, None, refl, sym, ap, subst, ◌∙◌, inl, inr, arith, true, false, length}
-use Rattle.std.specs.Prelude.{min, nat_lt, is_some, All}
+-- The steps that the example runs are made of, and the first of these runs.
+use Rattle.std.proofs.Common.{arith, ◌≡◌, ℕ, List, [], ◌∷◌, Option, Some, refl, sym, ap, subst, Bool, inl, inr, suc, ◌+◌, ◌%◌, ◌^◌, ◌<◌, ◌≤◌, ◌++◌, None, ◌∙◌, true, false, length, rules, zero}
+use Rattle.std.specs.Prelude.{◌≢◌, min, nat_lt, All, Contains}
 use Rattle.std.specs.FinMap as map
-use Rattle.std.specs.FinMap.{get-empty}
+use Rattle.std.specs.FinMap.{get-empty, gets}
 use Rattle.std.specs.Ordering.{nat_cmp}
 use Rattle.std.proofs.lemmas.Bool.Decides.{eqb_tells}
-use Rattle.std.proofs.lemmas.List.Elements.{All-cons}
 use Rattle.mach_types.specs.declared.calls.Event.{Event}
 use Rattle.mach_types.specs.declared.calls.Reply.{Reply}
-use Rattle.mach_types.specs.declared.calls.Status.{Status}
 use Rattle.mach_types.specs.declared.calls.Waited.{Waited}
+use Rattle.mach_types.specs.declared.calls.Status.{Status}
 use Rattle.mach_types.specs.declared.rights.Disposition.{Disposition}
 use Rattle.mach_types.specs.declared.rights.Disposition.TheVariants.{MakeSend, MakeSendOnce}
 use Rattle.mach_types.specs.Numbers.{disposition, kind_sent, kind_number, null_word, dead_word, most_tasks, most_names, most_references, most_rights, most_bytes}
@@ -20,9 +18,12 @@ use Rattle.mach_types.specs.Grammar.{port_item, NamesPorts, IsWire, WireBody, He
 use Rattle.mach_types.specs.Bodies.{reply_words, body_words, message_rights, SameReply, SameBody, Through}
 use Rattle.mach_types.specs.Guards.{NoneHolds}
 use Rattle.mach_types.specs.TextGuards.{BadHeader, header_guards, word_at}
-use Rattle.mach_model.specs.State.{State, Target, Names, lookup, held, Holds, senders, queue, at, with_name, IsFresh}
+use Rattle.mach_model.specs.State.{State, Target, lookup, queue, Names, held, Holds, senders, at, with_name, IsFresh, opening, without_name}
+use Rattle.mach_model.specs.Receive.{waits_for, TakesFrom, IsEmptyFor, IsFront, with_taken, Receives}
+use Rattle.mach_model.specs.Notices.{Owed}
+use Rattle.mach_model.specs.Machine.{Does, Step, Run}
 use Rattle.mach_model.specs.Tasks.{IsNoTask}
-use Rattle.mach_model.specs.Names.{with_port, Makes, IsNoMaking, IsFull, type_of}
+use Rattle.mach_model.specs.Names.{with_port, Makes, IsNoMaking, IsFull, type_of, with_set}
 use Rattle.mach_model.specs.CopyIn.{IsLegal, taken_by, changed_by, CopyRight}
 use Rattle.mach_model.specs.SentMeans.{target_mark}
 use Rattle.mach_model.specs.CopyOut.{GiveWord}
@@ -30,17 +31,85 @@ use Rattle.mach_model.specs.ReceivedMeans.{IsReceived}
 use Rattle.mach_model.specs.Carried.{lying, message_count}
 use Rattle.mach_model.specs.Transfer.{Inserts, pegged, Extracts}
 use Rattle.mach_model.specs.Send.{place_at, entry, Copied, Sends}
-use Rattle.mach_model.specs.Receive.{IsFront, with_taken, Receives}
 use Rattle.mach_model.specs.References.{references}
-use Rattle.mach_model.specs.ReceiveRight.{one_if, TellsStatus}
+use Rattle.mach_model.specs.ReceiveRight.{one_if}
 use Rattle.mach_model.specs.Refusals.{guards, Refuses}
-use Rattle.mach_model.specs.Machine.{Does, Step}
-use Rattle.mach_model.proofs.CopyingWords.{Adds, Copied-adds}
+use Rattle.mach_model.proofs.MessagesLawful.{Adds, Copied-adds}
 use Rattle.mach_model.proofs.Moving.{moving}
 use Rattle.mach_model.proofs.Names.{get_own, get_other}
-use Rattle.mach_model.proofs.Quiet.{LosesNone}
-use Rattle.mach_model.proofs.StepQuiet.{IsCalm, BringsNone, quiet_step}
-use Rattle.mach_laws.proofs.Answered.{one_port}
+use Rattle.mach_model.proofs.Midway.{LosesNone}
+use Rattle.mach_model.proofs.StepLawful.{IsCalm, BringsNone, quiet_step, opening-calm}
+use Rattle.mach_model.specs.Sets.{without_set, TellsMembers, IsSet}
+use Rattle.mach_laws.specs.Received.{AsksFrom}
+use Rattle.mach_laws.specs.FirstMessage.{sent_text, received_text, status_after, first_events, first_replies}
+use Rattle.mach_laws.specs.Grouping.{grouping_events, grouping_replies}
+
+-- ---- What a refusal leaves, and when a receive may answer that there is no message.
+
+does_code : (now : ℕ) (old : State) (event : Event) (code : ℕ) (mid : State) (owed : Owed) → Does now old event (Reply.Code code) mid owed → code ≡ 0
+does_code now old (Event.TaskTerminate task) code mid owed d = d.0
+does_code now old (Event.Deallocate task name) code mid owed d = d.0
+does_code now old (Event.Destroy task name) code mid owed d = d.0
+does_code now old (Event.ModRefs task name right delta) code mid owed d = d.0
+does_code now old (Event.Rename task o n) code mid owed d = d.0
+does_code now old (Event.SetQlimit task name n) code mid owed d = d.0
+does_code now old (Event.SetMscount task name n) code mid owed d = d.0
+does_code now old (Event.SetSeqno task name n) code mid owed d = d.0
+does_code now old (Event.InsertRight task name from poly number) code mid owed d = d.0
+does_code now old (Event.Send task bytes) code mid owed d = d.0
+does_code now old (Event.Receive task name room large) code mid owed d = absurd d.2
+does_code now old (Event.MoveMember task member after) code mid owed d = d.0
+does_code now old event code mid owed d = absurd d
+
+-- A step that is answered with another code than 0 leaves the state.
+pub refusal_leaves : (now : ℕ) (old : State) (event : Event) (code : ℕ) (new : State) → Step now old event (Reply.Code code) new → code ≢ 0 → new ≡ old
+refusal_leaves now old event code new (inl r) some = r.same
+refusal_leaves now old event code new (inr d) some = absurd (some (does_code now old event code d.mid d.owed d.does))
+
+pub one_port : (o : Option Target) (p q : ℕ) → o ≡ Some (Target.port p) → o ≡ Some (Target.port q) → p ≡ q
+one_port o p q is other = cc
+
+pub one_set : (o : Option Target) (a b : ℕ) → o ≡ Some (Target.set a) → o ≡ Some (Target.set b) → a ≡ b
+one_set o a b is other = cc
+
+port_or_set : (o : Option Target) (p set : ℕ) → o ≡ Some (Target.port p) → o ≡ Some (Target.set set) → ⊥
+port_or_set o p set is other = cc
+
+-- a name is waited for as one thing
+pub one_waited : (s : State) (task name : ℕ) (a b : Waited) → waits_for task name s a → waits_for task name s b → b ≡ a
+one_waited s task name (Waited.Port p) (Waited.Port q) a b = ap Waited.Port (one_port _ q p b.0 a.0)
+one_waited s task name (Waited.Set p) (Waited.Set q) a b = ap Waited.Set (one_set _ q p b a)
+one_waited s task name (Waited.Port p) (Waited.Set q) a b = absurd (port_or_set _ p q a.0 b)
+one_waited s task name (Waited.Set p) (Waited.Port q) a b = absurd (port_or_set _ q p b.0 a)
+
+no_sets : (xs : List ℕ) → ¬ (xs ≢ []) → xs ≡ []
+no_sets [] f = refl
+no_sets (x ∷ xs) f = absurd (f (λ e. cc))
+
+nothing_waits : (s : State) (task name p : ℕ) (waited : Waited) → lookup s task name ≡ Some (Target.port p) → s.sets_of p ≡ [] → waits_for task name s waited → IsEmptyFor s task waited → queue s p ≡ []
+nothing_waits s task name p (Waited.Port q) is alone waits empty = grind (arith, one_port)
+nothing_waits s task name p (Waited.Set set) is alone waits empty = absurd (port_or_set (lookup s task name) p set is waits)
+
+no_code : (told : Waited) (code : ℕ) → Reply.Empty told ≡ Reply.Code code → ⊥
+no_code told code e = cc
+
+-- A receive by a port's name is answered that there is none only where none is queued.
+pub empty_is_empty : (now : ℕ) (old : State) (task name room : ℕ) (large : Bool) (told : Waited) (new : State) → Step now old (Event.Receive task name room large) (Reply.Empty told) new →
+    (p : ℕ) → lookup old task name ≡ Some (Target.port p) → queue old p ≡ []
+empty_is_empty now old task name room large told new (inl r) p is = absurd (no_code told r.code r.told)
+empty_is_empty now old task name room large told new (inr d) p is =
+    let x = d.does in
+    nothing_waits old task name p x.0 is (no_sets (old.sets_of p) (λ some. d.unrefused.1.1.0 (p, is, some))) x.1 x.2.1
+
+-- A receive or a later try is answered that there is none only where none is queued at any port that it may take from.
+pub empty_is_none : (now : ℕ) (old : State) (event : Event) (told : Waited) (new : State) → Step now old event (Reply.Empty told) new → (task p : ℕ) → AsksFrom old event task p → queue old p ≡ []
+empty_is_none now old event told new (inl r) task p asks = absurd (no_code told r.code r.told)
+empty_is_none now old (Event.Receive caller name room large) told new (inr d) task p (same, waited, waits, takes) = grind (arith, one_waited)
+empty_is_none now old (Event.ReceiveAgain caller waited room large) told new (inr d) task p asks = grind arith
+empty_is_none now old event told new (inr d) task p asks = absurd asks
+
+-- ---- The steps that the example runs are made of, a lemma for each kind: what a lawful state must have that the event may be answered
+-- so, and the state that it leads to, which is lawful again.
 
 -- the event may be answered so, and the new state is lawful
 abbrev pub Plays : (now : ℕ) → State → Event → Reply → State → Type 0
@@ -328,3 +397,179 @@ receives {p = p} {bytes = bytes} {old = old} remote_kind remote local e written 
   spells = spells;
   fits = fits;
 }
+
+-- ---- The first message is a run.
+
+-- ---- a task with a port
+
+abbrev pub s1 : State
+s1 = with_task opening
+
+abbrev pub s2 : State
+s2 = with_receive 0 1 s1
+
+pub first : Plays 0 opening Event.TaskCreate (Reply.Task 0) s1
+first = task_made opening-calm (omega arith)
+
+pub second : Plays 1 s1 (Event.Allocate 0 1) (Reply.Name 1) s2
+second = port_allocated first.1 refl fresh_one (grind (gets, rules)) (omega arith)
+
+pub port_named : lookup s2 0 1 ≡ Some (Target.port 0)
+port_named = grind (gets, rules)
+
+pub fresh_two : IsFresh (s2.naming 0) 2
+fresh_two = fresh_next (Target.port 0) fresh_one (grind (gets, rules))
+
+-- ---- a message, by a send right made for it
+
+abbrev pub greeting : Message
+greeting = plain_message send 0 7 []
+
+abbrev pub sent_header : Header
+sent_header = record { remote_kind = 20; local_kind = 0; size = 24; remote = 1; local = 0; sequence = 0; id = 7 }
+
+abbrev pub s3_copied : State
+s3_copied = with_made MakeSend 0 0 1 (in_message 0 0) s2
+
+abbrev pub s3 : State
+s3 = with_entry 2 greeting s3_copied
+
+pub third : Plays 2 s2 (Event.Send 0 sent_text) (Reply.Code 0) s3
+third =
+    sent second.1 refl sent_header (WireBody.raw []) greeting s3_copied (good_text sent_text (omega arith) refl (omega arith) (grind arith))
+    (spelled refl (omega arith) (omega arith) refl) (copies_plain refl refl (makes 0 MakeSend refl port_named (omega arith) refl refl) refl) (λ p. omega arith) (omega arith) (omega arith)
+
+abbrev s4 : State
+s4 = without_front 0 s2.ledger s3
+
+fourth : Plays 3 s3 (Event.Receive 0 1 24 false) (Reply.Message received_text) s4
+fourth =
+    received third.1 refl port_named (omega arith) refl
+    (receives 0 0 1 (entry 2 greeting) (WireBody.raw []) s2.ledger refl (λ h. omega arith) (refl, refl) refl refl port_named
+    (spelled refl (omega arith) (omega arith) refl) (omega arith))
+
+fifth : Plays 4 s4 (Event.ReceiveStatus 0 1) (Reply.Status status_after) s4
+fifth = status_told fourth.1 refl 0 port_named (omega arith) refl
+
+pub first_run : (s : State) × Run first_events first_replies s
+first_run = (s4, (s1, first.0, (s2, second.0, (s3, third.0, (s4, fourth.0, (s4, fifth.0, refl))))))
+
+-- ---- Receiving by a port set is a run.
+
+-- ---- a set, and a member
+
+abbrev g3 : State
+g3 = with_set 0 2 s2
+
+abbrev g4 : State
+g4 = record g3 { sets_of = at g3.sets_of 0 (0 ∷ []) }
+
+third_grouped : Plays 2 s2 (Event.Allocate 0 3) (Reply.Name 2) g3
+third_grouped = allocated second.1 refl fresh_two (grind (gets, rules)) (omega arith) (inr (inl (refl, refl)))
+
+one_named : lookup g3 0 1 ≡ Some (Target.port 0)
+one_named = grind (gets, rules)
+
+set_named : lookup g3 0 2 ≡ Some (Target.set 0)
+set_named = grind (gets, rules)
+
+is_set : IsSet (lookup g3 0 2)
+is_set = subst IsSet (sym set_named) tt
+
+no_port : (p : ℕ) → lookup g3 0 2 ≡ Some (Target.port p) → ⊥
+no_port p e = let f = set_named in cc
+
+no_once : (p : ℕ) → lookup g3 0 2 ≡ Some (Target.once p) → ⊥
+no_once p e = let f = set_named in cc
+
+fourth_guards : NoneHolds (guards g3 (Event.MoveMember 0 1 2))
+fourth_guards = grind (arith, used, one_named, set_named, is_set)
+
+fourth_grouped : Plays 3 g3 (Event.MoveMember 0 1 2) (Reply.Code 0) g4
+fourth_grouped = plays third_grouped.1 tt tt fourth_guards (refl, (0, one_named, inr (0, set_named, refl)), refl)
+
+-- no other name is a port's
+named_one : (n p : ℕ) → lookup g4 0 n ≡ Some (Target.port p) → 1 ≡ n
+named_one n p e = elim (eqb_tells n 1) [
+  | inl h ↦ sym h.1
+  | inr h ↦ elim (eqb_tells n 2) [
+    | inl g ↦ absurd (no_port p (subst (λ (k : ℕ). lookup g4 0 k ≡ Some (Target.port p)) g.1 e))
+    | inr g ↦ absurd (let f : lookup g4 0 n ≡ None = grind (gets, rules) in cc)
+  ]
+]
+
+one_of : (n : ℕ) → Contains (1 ∷ []) n → 1 ≡ n
+one_of n (zero, below, e) = e
+one_of n (suc k, below, e) = absurd (omega (arith, below))
+
+members : TellsMembers g4 0 2 (1 ∷ [])
+members = grind (arith, set_named, one_of, one_named, named_one)
+
+fifth_grouped : Plays 4 g4 (Event.SetStatus 0 2) (Reply.Members (1 ∷ [])) g4
+fifth_grouped = plays fourth_grouped.1 tt tt ((λ h. cc), (used set_named, ((λ h. h is_set), tt))) (members, refl, refl)
+
+-- ---- by the port there is none
+
+member : (xs : List ℕ) → 0 ∷ xs ≡ [] → ⊥
+member xs e = cc
+
+sixth : Plays 5 g4 (Event.ReceiveAgain 0 (Waited.Port 0) 24 false) (Reply.Code 0x10004006) g4
+sixth = refused fifth_grouped.1 (inl (inr ((λ h. cc), inr ((λ h. cc), inl (inr (member []), refl)))))
+
+abbrev g5_copied : State
+g5_copied = with_made MakeSend 0 0 1 (in_message 0 0) g4
+
+abbrev g5 : State
+g5 = with_entry 6 greeting g5_copied
+
+seventh : Plays 6 g4 (Event.Send 0 sent_text) (Reply.Code 0) g5
+seventh =
+    sent sixth.1 refl sent_header (WireBody.raw []) greeting g5_copied (good_text sent_text (omega arith) refl (omega arith) (grind arith))
+    (spelled refl (omega arith) (omega arith) refl) (copies_plain refl refl (makes 0 MakeSend refl one_named (omega arith) refl refl) refl) (λ p. omega arith) (omega arith) (omega arith)
+
+eighth : Plays 7 g5 (Event.Receive 0 1 24 false) (Reply.Code 0x1000400a) g5
+eighth = refused seventh.1 (inl (inr ((λ h. cc), inr ((λ h. h (inl (0, one_named, omega arith))), inl ((0, one_named, member []), refl)))))
+
+-- ---- by the set it is received
+
+abbrev g6 : State
+g6 = without_front 0 s2.ledger g5
+
+takes : Receives 0 0 24 received_text g5 g6
+takes =
+    receives 0 0 1 (entry 6 greeting) (WireBody.raw []) s2.ledger refl (λ h. omega arith) (refl, refl) refl refl one_named
+    (spelled refl (omega arith) (omega arith) refl) (omega arith)
+
+ninth : Plays 8 g5 (Event.Receive 0 2 24 false) (Reply.Message received_text) g6
+ninth =
+    plays eighth.1 tt tt ((λ h. cc), ((λ h. h (inr is_set)), ((λ h. no_port h.0 h.1), tt)))
+    (Waited.Set 0, set_named, (0, (refl, (0, omega arith, refl)), takes, refl))
+
+none_left : (p : ℕ) → TakesFrom g6 0 (Waited.Set 0) p → queue g6 p ≡ []
+none_left p t = elim (eqb_tells p 0) [ inl h ↦ rw h.0 refl | inr h ↦ rw h.0 refl ]
+
+tenth : Plays 9 g6 (Event.ReceiveAgain 0 (Waited.Set 0) 24 false) (Reply.Empty (Waited.Set 0)) g6
+tenth = plays ninth.1 tt tt ((λ h. cc), ((λ h. cc), ((λ h. h refl), tt))) (refl, none_left, refl, refl)
+
+-- ---- the set goes
+
+abbrev g7 : State
+g7 = without_set 0 (without_name 0 2 g6)
+
+eleventh : Plays 10 g6 (Event.Destroy 0 2) (Reply.Code 0) g7
+eleventh =
+    plays tenth.1 tt (λ h. elim h [ inl g ↦ no_port g.0 g.1 | inr g ↦ no_once g.0 g.1 ]) ((λ h. cc), (used set_named, tt))
+    (refl, (Target.set 0, set_named, (refl, refl)))
+
+twelfth : Plays 11 g7 (Event.ReceiveAgain 0 (Waited.Set 0) 24 false) (Reply.Code 0x10004009) g7
+twelfth = refused eleventh.1 (inl (inr ((λ h. cc), inl (refl, refl))))
+
+still_named : lookup g7 0 1 ≡ Some (Target.port 0)
+still_named = grind (gets, rules)
+
+thirteenth : Plays 12 g7 (Event.MoveMember 0 1 0) (Reply.Code 12) g7
+thirteenth = grind (arith, refused, twelfth, used, still_named)
+
+pub grouped_run : (s : State) × Run grouping_events grouping_replies s
+grouped_run =
+    (g7, (s1, first.0, (s2, second.0, (g3, third_grouped.0, (g4, fourth_grouped.0, (g4, fifth_grouped.0, (g4, sixth.0, (g5, seventh.0, (g5, eighth.0, (g6, ninth.0, (g6, tenth.0, (g7, eleventh.0, (g7, twelfth.0, (g7, thirteenth.0, refl))))))))))))))

@@ -7,9 +7,7 @@ use Rattle.mach_model.specs.State.{State, opening}
 use Rattle.mach_model.specs.Machine.{Run}
 use Rattle.mach_laws.specs.Paths.{Stage, Path}
 use Rattle.mach_laws.specs.Headline.{Headline}
-use Rattle.mach_laws.proofs.Walking.{run_stages, path_lawful}
-use Rattle.mach_laws.proofs.Told.{path_told}
-use Rattle.mach_laws.proofs.Ordered.{path_ordered}
+use Rattle.mach_laws.proofs.Steps.{run_stages, path_lawful, path_told, path_ordered}
 
 -- the headline over these stages
 pub path_headline : (events : List Event) (replies : List Reply) (s : State) (stages : List Stage) → Path stages s →

@@ -1,14 +1,13 @@
 -- A port that dies with the last send right of another in its queue is a run.
-use Rattle.std.proofs.Common.{◌≡◌, ℕ, [], ◌∷◌, ◌++◌, Some, refl, sym, ap, subst, ◌∙◌, inl, inr, arith, false, true, rules}
+use Rattle.std.proofs.Common.{◌≡◌, ℕ, [], ◌∷◌, ◌++◌, Some, refl, ap, subst, ◌∙◌, inl, inr, arith, false, true, rules}
 use Rattle.std.specs.Prelude.{option_map}
 use Rattle.std.specs.FinMap.{gets}
-use Rattle.std.proofs.lemmas.List.Elements.{All-cons}
 use Rattle.mach_types.specs.declared.calls.Event.{Event}
 use Rattle.mach_types.specs.declared.calls.Reply.{Reply}
 use Rattle.mach_types.specs.declared.calls.Waited.{Waited}
 use Rattle.mach_types.specs.declared.rights.Disposition.TheVariants.{CopySend, MakeSend, MakeSendOnce}
 use Rattle.mach_types.specs.Guards.{NoneHolds}
-use Rattle.mach_types.specs.Tokens.{receive, send, send_once, Request, no_senders, dead_name, in_task, in_message, in_request, Token, token}
+use Rattle.mach_types.specs.Tokens.{receive, send, send_once, Request, no_senders, dead_name, in_task, in_message, in_request, token}
 use Rattle.mach_types.specs.Messages.{to_port, present, Body, Message}
 use Rattle.mach_types.specs.Grammar.{WireBody, Header, word}
 use Rattle.mach_model.specs.State.{State, Target, lookup, without_name, request_at}
@@ -19,22 +18,18 @@ use Rattle.mach_model.specs.Requests.{Requests}
 use Rattle.mach_model.specs.References.{is_either, Destroys}
 use Rattle.mach_model.specs.Refusals.{guards}
 use Rattle.mach_model.specs.Machine.{Step, Run}
-use Rattle.mach_model.specs.Turns.{Ending, listed, IsRequestOf, IsReached, begins, IsDone, IsAtDoomed, AreJudged}
+use Rattle.mach_model.specs.Turns.{Ending, listed, IsRequestOf, IsReached, begins, IsDone, AreJudged}
 use Rattle.mach_model.specs.Lawful.{IsLawful}
 use Rattle.mach_model.specs.Midway.{MidLawful}
-use Rattle.mach_model.proofs.Quiet.{NoneCarried}
+use Rattle.mach_model.proofs.Midway.{NoneCarried}
 use Rattle.mach_model.proofs.StepLawful.{Does-mid}
 use Rattle.mach_model.proofs.TurnsMade.{start, start_is, doom, lose, bury, tell}
 use Rattle.mach_model.proofs.TurnsSettle.{end_of}
-use Rattle.mach_model.proofs.TurnsSound.{one_all}
+use Rattle.mach_model.proofs.TurnsCounted.{one_all}
 use Rattle.mach_laws.specs.Senderless.{lending_text, last_sender_text, senderless_events, senderless_replies}
-use Rattle.mach_laws.proofs.Playing.{Plays, with_receive, with_made, with_entry, without_front, good_text, spelled, makes, port_allocated, sent, receives, received, used}
-use Rattle.mach_laws.proofs.Telling.{notice_entry}
-use Rattle.mach_laws.proofs.First.{s1, first}
+use Rattle.mach_laws.proofs.Playing.{Plays, with_receive, with_made, with_entry, without_front, good_text, spelled, makes, port_allocated, sent, receives, received, used, s1, first}
+use Rattle.mach_laws.proofs.Dying.{notice_entry, x5, fifth, other_named, three_fresh, asks_well, none_there, port_noted, requested, made_alone, not_made, stood_before, none_stand_after, Leads, ends, loses_one, then_doomed, then_lost, then_buried, then_told, one_judged, not_carried}
 use Rattle.mach_laws.proofs.Gathering.{b2, b3, b4, second, third, fourth}
-use Rattle.mach_laws.proofs.Across.{x5, fifth, other_named, three_fresh}
-use Rattle.mach_laws.proofs.Standing.{asks_well, none_there, port_noted, requested, made_alone, not_made, stood_before, none_stand_after}
-use Rattle.mach_laws.proofs.Dying.{Leads, ends, loses_one, then_doomed, then_lost, then_buried, then_told, one_judged, not_carried}
 
 -- ---- a port's only send right goes into another's queue
 

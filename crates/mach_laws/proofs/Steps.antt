@@ -1,49 +1,46 @@
--- What one step from a lawful state does to the logs, and takes from them.
-use Rattle.std.proofs.Common.{◌≡◌, ℕ, zero, suc, ◌+◌, ◌%◌, ◌^◌, List, [], ◌∷◌, ◌++◌, Some, refl, sym, ap, subst, ◌∙◌, arith, true, false, Bool, ◌⊎◌, inl, inr, length}
-use Rattle.std.proofs.lemmas.List.{length-append}
-use Rattle.std.proofs.lemmas.Bool.{eq-eqb}
-use Rattle.std.specs.Prelude.{if◌then◌else◌, ◌≢◌, ◌==◌, ◌&&◌, MatchBool}
+-- What steps do to the logs, and so what holds along a run.
+use Rattle.std.proofs.Common.{◌≡◌, ℕ, zero, suc, ◌+◌, ◌%◌, ◌^◌, List, [], ◌∷◌, ◌++◌, Some, refl, sym, ap, subst, ◌∙◌, arith, true, false, Bool, ◌⊎◌, inl, inr, length, ◌<◌, ◌≤◌, take, append_assoc}
+use Rattle.std.proofs.lemmas.List.{length-append, append-nil, take-append-le, take-append-drop}
+use Rattle.std.proofs.lemmas.Bool.{eq-eqb, ne_eqb}
+use Rattle.std.specs.Prelude.{if◌then◌else◌, ◌≢◌, ◌==◌, ◌&&◌, MatchBool, slice_get, map as list_map, option_to_list, drop}
+use Rattle.std.proofs.lemmas.Bool.Decides.{eqb_tells}
+use Rattle.std.proofs.lemmas.Option.{slice_get_within}
 use Rattle.mach_types.specs.declared.calls.Event.{Event}
 use Rattle.mach_types.specs.declared.calls.Reply.{Reply}
 use Rattle.mach_types.specs.declared.calls.Waited.{Waited}
 use Rattle.mach_types.specs.Guards.{NoneHolds}
 use Rattle.mach_types.specs.Tokens.{receive, in_message, token, is_of, is_held, same_kind}
 use Rattle.mach_types.specs.Messages.{Message, Entry, asof}
-use Rattle.mach_model.specs.State.{State, Target, lookup, Holds, at}
+use Rattle.mach_model.specs.State.{State, Holds, at, opening, queue}
 use Rattle.mach_model.specs.Sets.{JoinsSet}
 use Rattle.mach_model.specs.Transfer.{Inserts, Extracts}
 use Rattle.mach_model.specs.Send.{Sends, entry}
-use Rattle.mach_model.specs.Receive.{TakesFrom, Receives}
-use Rattle.mach_model.specs.Receive.{IsFront}
-use Rattle.mach_model.specs.Receive.{DestroysFront}
+use Rattle.mach_model.specs.Receive.{TakesFrom, Receives, IsFront, DestroysFront}
 use Rattle.mach_model.specs.Notices.{Owed}
 use Rattle.mach_model.specs.Settles.{Settles}
 use Rattle.mach_model.specs.ReceivedMeans.{ReceivedMeans}
-use Rattle.mach_model.specs.Refusals.{guards, Refuses}
-use Rattle.mach_model.specs.Machine.{Does, Refused, Done, Step}
+use Rattle.mach_model.specs.Refusals.{guards}
+use Rattle.mach_model.specs.Machine.{Does, Refused, Done, Step, RunFrom}
 use Rattle.mach_model.specs.Lawful.{IsLawful}
 use Rattle.mach_model.specs.Midway.{MidLawful}
-use Rattle.mach_model.proofs.At.{at_other, at_own}
-use Rattle.mach_model.proofs.Weigh.{both_test, lying_le_of}
+use Rattle.mach_model.proofs.Names.{at_other, at_own, both_test, lying_le_of, snoc_cases}
 use Rattle.mach_model.proofs.Settling.{kind_refl, lives}
 use Rattle.mach_model.proofs.Moving.{shape}
-use Rattle.mach_model.proofs.SendLawful.{Sends-adds}
-use Rattle.mach_model.proofs.ReceiveLawful.{Receives-removes}
-use Rattle.mach_model.proofs.HandLawful.{hands_shape, Inserts-hands, Extracts-hands}
-use Rattle.mach_model.proofs.StepLawful.{Does-mid, TakesFrom-holds, TakesFrom-live, not_false}
-use Rattle.mach_laws.specs.Paths.{Stage}
-use Rattle.mach_laws.specs.Notices.{Tells}
+use Rattle.mach_model.proofs.MessagesLawful.{Sends-adds, Receives-removes, hands_shape}
+use Rattle.mach_model.proofs.StepLawful.{Does-mid, TakesFrom-holds, TakesFrom-live, not_false, opening-lawful, Step-lawful, Run-lawful}
+use Rattle.mach_model.specs.SentMeans.{SentMeans}
+use Rattle.mach_laws.specs.Paths.{Stage, PathFrom, Path}
+use Rattle.mach_laws.specs.Notices.{Tells, IsToldBy}
 use Rattle.mach_laws.specs.Sent.{Accepts}
-use Rattle.mach_laws.specs.Received.{AsksFrom}
+use Rattle.mach_laws.specs.Received.{AsksFrom, WasSentOrTold}
 use Rattle.mach_laws.specs.Delivered.{Delivers}
-use Rattle.mach_laws.specs.Order.{unless_large, if_taken}
+use Rattle.mach_laws.specs.Order.{unless_large, if_taken, new_entries, IsSentBy, Comes, came, front_entry, went, InOrder}
 use Rattle.mach_laws.specs.Counts.{accepts, takes_from}
-use Rattle.mach_laws.proofs.Untouched.{Untouched, by_same, makes_untouched, deallocates_untouched, destroys_untouched, modifies_untouched, renames_untouched, ends_untouched, requests_untouched}
-use Rattle.mach_laws.proofs.Ended.{done_tells, tells_nothing, ends_kindly}
-use Rattle.mach_laws.proofs.Meanings.{Sends-means}
-use Rattle.mach_laws.proofs.Receiving.{Gives, Receives-means}
-use Rattle.mach_laws.proofs.SendCodes.{same_code, send_code}
-use Rattle.mach_laws.proofs.Apart.{Receives-received, ReceivedMeans-later}
+use Rattle.mach_laws.proofs.Untouched.{Untouched, by_same, makes_untouched, deallocates_untouched, destroys_untouched, modifies_untouched, renames_untouched, ends_untouched, requests_untouched, one_destination, same_send}
+use Rattle.mach_laws.proofs.Meanings.{done_tells, tells_nothing, ends_kindly, front_or_behind, Sends-means, Gives, Receives-means, Receives-received, ReceivedMeans-later}
+use Rattle.mach_laws.proofs.Refusals.{same_code, send_code}
+
+-- ---- What one step from a lawful state does to the logs, and takes from them.
 
 -- ---- what an event leaves as it is
 
@@ -301,7 +298,12 @@ numbered task port room bytes old mid r =
 
 -- a receiver loses no receive right
 still_holds : (task port room : ℕ) (bytes : List ℕ) (old mid : State) (r : Receives task port room bytes old mid) (q : ℕ) → Holds old task receive q → Holds mid task receive q
-still_holds task port room bytes old mid r q holds = grind (arith, (given task port room bytes old mid r).holds receive q, r.takes.tokens (λ x. if is_held task receive q x then 1 else 0), both_test (is_of receive q (token r.e.message.kind port (in_message port (old.taken port)))) false (inr refl))
+still_holds task port room bytes old mid r q holds = grind (
+  arith,
+  (given task port room bytes old mid r).holds receive q,
+  r.takes.tokens (λ x. if is_held task receive q x then 1 else 0),
+  both_test (is_of receive q (token r.e.message.kind port (in_message port (old.taken port)))) false (inr refl),
+)
 
 module _ (now task room : ℕ) (bytes : List ℕ) (old mid : State) (owed : Owed) (new : State) (waited : Waited) (p : ℕ) (l : IsLawful old) (is_task : old.live_task task ≡ true)
     (t : TakesFrom old task waited p) (r : Receives task p room bytes old mid) (lawful : MidLawful mid owed) (s : Settles now old mid owed new) where
@@ -373,3 +375,378 @@ Step-taken now old event reply new l (inr d) = by (Does-effect now old event rep
           taken = same x.port ∙ x.taken;
           others = λ q not. same q ∙ x.others q not;
         })
+
+-- ---- Runs stage by stage: what holds of each state that a run passes.
+
+-- ---- runs and paths
+
+-- the stages of a run
+pub record Staged (now : ℕ) (old : State) (events : List Event) (replies : List Reply) (new : State) : Type 0 where
+  pub path : List Stage
+  pub is_path : PathFrom now old path new
+  pub events_are : list_map (λ (x : Stage). x.event) path ≡ events
+  pub replies_are : list_map (λ (x : Stage). x.reply) path ≡ replies
+
+pub run_stages : (now : ℕ) (old : State) (events : List Event) (replies : List Reply) (new : State) → RunFrom now old events replies new → Staged now old events replies new
+run_stages now old [] [] new r = record { path = []; is_path = r; events_are = refl; replies_are = refl }
+run_stages now old (e ∷ es) (x ∷ xs) new r =
+    let rest = run_stages (now + 1) r.0 es xs new r.2 in
+    let stage : Stage = record { before = old; event = e; reply = x; after = r.0 } in
+    record {
+      path = stage ∷ rest.path;
+      is_path = (refl, r.1, rest.is_path);
+      events_are = ap (λ (ys : List Event). e ∷ ys) rest.events_are;
+      replies_are = ap (λ (ys : List Reply). x ∷ ys) rest.replies_are;
+    }
+run_stages now old [] (x ∷ xs) new r = absurd r
+run_stages now old (e ∷ es) [] new r = absurd r
+
+pub path_runs : (now : ℕ) (old : State) (path : List Stage) (new : State) → PathFrom now old path new →
+    RunFrom now old (list_map (λ (x : Stage). x.event) path) (list_map (λ (x : Stage). x.reply) path) new
+path_runs now old [] new h = h
+path_runs now old (x ∷ xs) new h =
+    (x.after, subst (λ (s : State). Step now s x.event x.reply x.after) h.0 h.1, path_runs (now + 1) x.after xs new h.2)
+
+-- a path goes on by one stage
+pub path_push : (now : ℕ) (old : State) (path : List Stage) (s : State) (event : Event) (reply : Reply) (t : State) →
+    PathFrom now old path s → Step (now + length path) s event reply t → PathFrom now old (path ++ record { before = s; event = event; reply = reply; after = t } ∷ []) t
+path_push now old [] s event reply t path step = (path, subst (λ (n : ℕ). Step n s event reply t) (omega arith) step, refl)
+path_push now old (x ∷ xs) s event reply t path step =
+    (path.0, path.1, path_push (now + 1) x.after xs s event reply t path.2 (subst (λ (n : ℕ). Step n s event reply t) (omega arith) step))
+
+pub path_lawful : (path : List Stage) (s : State) → Path path s → IsLawful s
+path_lawful path s is = Run-lawful (list_map (λ (x : Stage). x.event) path) (list_map (λ (x : Stage). x.reply) path) s (path_runs 0 opening path s is)
+
+-- ---- what holds of each state
+
+-- What every step keeps holds before each stage of the path, and at its end.
+module _ (full : List Stage) (P : ℕ → State → Type 0)
+    (keeps : (now : ℕ) (x : Stage) → slice_get full now ≡ Some x → Step now x.before x.event x.reply x.after → P now x.before → P (now + 1) x.after) where
+  walk : (now : ℕ) (old : State) (rest : List Stage) (new : State) → ((j : ℕ) → slice_get rest j ≡ slice_get full (now + j)) → PathFrom now old rest new → P now old →
+      ((j : ℕ) (x : Stage) → slice_get rest j ≡ Some x → P (now + j) x.before × Step (now + j) x.before x.event x.reply x.after) × P (now + length rest) new
+  walk now old [] new same path holds = grind arith
+  walk now old (y ∷ ys) new same path holds =
+      let before : P now y.before = subst (P now) (sym path.0) holds in
+      let is_y : slice_get full now ≡ Some y = ap (slice_get full) (omega arith) ∙ sym (same 0) in
+      let after = keeps now y is_y path.1 before in
+      let shift : (j : ℕ) → now + 1 + j ≡ now + suc j = λ j. omega arith in
+      let rest = walk (now + 1) y.after ys new (λ j. same (suc j) ∙ ap (slice_get full) (sym (shift j))) path.2 after in
+      (at before rest.0, subst (λ (n : ℕ). P n new) (omega arith) rest.1)
+    where
+      at : P now y.before → ((j : ℕ) (x : Stage) → slice_get ys j ≡ Some x → P (now + 1 + j) x.before × Step (now + 1 + j) x.before x.event x.reply x.after) →
+          (j : ℕ) (x : Stage) → slice_get (y ∷ ys) j ≡ Some x → P (now + j) x.before × Step (now + j) x.before x.event x.reply x.after
+      at before rest zero x is =
+          let same : y ≡ x = first y x is in
+          let here : now ≡ now + zero = omega arith in
+          subst (λ (z : Stage). P (now + zero) z.before × Step (now + zero) z.before z.event z.reply z.after) same
+          (subst (λ (n : ℕ). P n y.before × Step n y.before y.event y.reply y.after) here (before, path.1))
+        where
+          first : (a b : Stage) → Some a ≡ Some b → a ≡ b
+          first a b e = cc
+      at before rest (suc j) x is =
+          subst (λ (n : ℕ). P n x.before × Step n x.before x.event x.reply x.after) (omega arith) (rest j x is)
+
+  pub at_stages : (s : State) → Path full s → P 0 opening → (k : ℕ) (x : Stage) → slice_get full k ≡ Some x → P k x.before × Step k x.before x.event x.reply x.after
+  at_stages s path holds k x is =
+      subst (λ (n : ℕ). P n x.before × Step n x.before x.event x.reply x.after) (omega arith)
+      ((walk 0 opening full s (λ j. ap (slice_get full) (omega arith)) path holds).0 k x is)
+
+  pub at_end : (s : State) → Path full s → P 0 opening → P (length full) s
+  at_end s path holds = subst (λ (n : ℕ). P n s) (omega arith) (walk 0 opening full s (λ j. ap (slice_get full) (omega arith)) path holds).1
+
+-- each state that a run passes is lawful
+pub stage_lawful : (path : List Stage) (s : State) → Path path s → (k : ℕ) (x : Stage) → slice_get path k ≡ Some x → IsLawful x.before × Step k x.before x.event x.reply x.after
+stage_lawful path s is = at_stages path (λ n t. IsLawful t) (λ now x at step l. Step-lawful now x.before x.event x.reply x.after step l) s is opening-lawful
+
+-- ---- Each message that is received was sent by an earlier stage of the run, or is a notice that one made.
+
+-- An entry of a port's log, at this place, was put there by a stage before.
+record WasAccepted (full : List Stage) (now p k : ℕ) (e : Entry) : Type 0 where
+  earlier : e.origin < now
+  sending : Stage
+  is_stage : slice_get full e.origin ≡ Some sending
+  sender : ℕ
+  sent : List ℕ
+  event : sending.event ≡ Event.Send sender sent
+  reply : sending.reply ≡ Reply.Code 0
+  meant : SentMeans (sending.before.naming sender) sent e.message
+  here : e.message.destination ≡ p
+  place : k ≡ length (sending.before.log p)
+
+-- An entry of a port's log, at this place, is a notice of a stage before.
+record WasPosted (full : List Stage) (now p k : ℕ) (e : Entry) : Type 0 where
+  earlier : e.origin < now
+  telling : Stage
+  is_stage : slice_get full e.origin ≡ Some telling
+  told : IsToldBy e.origin telling.before telling.event telling.reply telling.after p k e
+
+abbrev IsFrom : (full : List Stage) (now p k : ℕ) (e : Entry) → Type 0
+IsFrom full now p k e = WasAccepted full now p k e ⊎ WasPosted full now p k e
+
+record Known (full : List Stage) (now : ℕ) (s : State) : Type 0 where
+  lawful : IsLawful s
+  from : (p k : ℕ) (e : Entry) → slice_get (s.log p) k ≡ Some e → IsFrom full now p k e
+
+later : (full : List Stage) (now p k : ℕ) (e : Entry) → IsFrom full now p k e → IsFrom full (now + 1) p k e
+later full now p k e (inr w) = inr (record { earlier = let h = w.earlier in omega (arith, h); telling = w.telling; is_stage = w.is_stage; told = w.told })
+later full now p k e (inl w) = inl (record {
+  earlier = let h = w.earlier in omega (arith, h);
+  sending = w.sending;
+  is_stage = w.is_stage;
+  sender = w.sender;
+  sent = w.sent;
+  event = w.event;
+  reply = w.reply;
+  meant = w.meant;
+  here = w.here;
+  place = w.place;
+})
+
+-- the entry that a stage accepts
+just_accepted : (full : List Stage) (now : ℕ) (x : Stage) → slice_get full now ≡ Some x → (a : AcceptsBy now x.before x.event x.reply x.after) →
+    WasAccepted full (now + 1) a.accepts.m.destination (length (x.before.log a.accepts.m.destination)) (entry now a.accepts.m)
+just_accepted full now x is a = record {
+  earlier = omega arith;
+  sending = x;
+  is_stage = is;
+  sender = a.task;
+  sent = a.bytes;
+  event = a.is_event;
+  reply = a.is_reply;
+  meant = a.accepts.means;
+  here = refl;
+  place = refl;
+}
+
+-- the notices that a stage makes
+just_told : (full : List Stage) (now : ℕ) (x : Stage) (p k : ℕ) (e : Entry) → slice_get full now ≡ Some x → IsToldBy now x.before x.event x.reply x.after p k e → WasPosted full (now + 1) p k e
+just_told full now x p k e is told =
+    let same : e.origin ≡ now = ap (λ (y : Entry). y.origin) told.is_notice in
+    record {
+      earlier = omega (arith, same);
+      telling = x;
+      is_stage = ap (slice_get full) same ∙ is;
+      told = subst (λ (n : ℕ). IsToldBy n x.before x.event x.reply x.after p k e) (sym same) told;
+    }
+
+-- what stands behind these entries in a log after a stage
+from_log : (full : List Stage) (now : ℕ) (x : Stage) (p : ℕ) (before : List Entry) → slice_get full now ≡ Some x → Tells now x.before x.event x.reply x.after p before →
+    ((k : ℕ) (e : Entry) → slice_get before k ≡ Some e → IsFrom full (now + 1) p k e) → (k : ℕ) (e : Entry) → slice_get (x.after.log p) k ≡ Some e → IsFrom full (now + 1) p k e
+from_log full now x p before is t there k e at = elim (front_or_behind before t.told k e (ap (λ (xs : List Entry). slice_get xs k) (sym t.log) ∙ at)) [
+  | inl h ↦ there k e h
+  | inr h ↦ inr (just_told full now x p k e is (subst (λ (n : ℕ). IsToldBy now x.before x.event x.reply x.after p n e) (sym h.1) (t.are_told h.0 e h.2)))
+]
+
+stays_known : (full : List Stage) (now : ℕ) (x : Stage) → slice_get full now ≡ Some x → Step now x.before x.event x.reply x.after → Known full now x.before → Known full (now + 1) x.after
+stays_known full now x is step known = record {
+  lawful = Step-lawful now x.before x.event x.reply x.after step known.lawful;
+  from = λ p. by_logs p (Step-logs now x.before x.event x.reply x.after known.lawful step);
+}
+  where
+    old : (p k : ℕ) (e : Entry) → slice_get (x.before.log p) k ≡ Some e → IsFrom full (now + 1) p k e
+    old p k e at = later full now p k e (known.from p k e at)
+
+    -- the port that a send was accepted for
+    sent_there : (a : AcceptsBy now x.before x.event x.reply x.after) (k : ℕ) (e : Entry) →
+        slice_get (x.before.log a.accepts.m.destination ++ entry now a.accepts.m ∷ []) k ≡ Some e → IsFrom full (now + 1) a.accepts.m.destination k e
+    sent_there a k e at = elim (snoc_cases (x.before.log a.accepts.m.destination) (entry now a.accepts.m) k e at) [
+      | inl g ↦ old a.accepts.m.destination k e g.1
+      | inr g ↦ inl (subst (λ (f : Entry). WasAccepted full (now + 1) a.accepts.m.destination k f) (sym g.1)
+          (subst (λ (n : ℕ). WasAccepted full (now + 1) a.accepts.m.destination n (entry now a.accepts.m)) (sym g.0) (just_accepted full now x is a)))
+    ]
+
+    by_logs : (p : ℕ) → ((p : ℕ) → Tells now x.before x.event x.reply x.after p (x.before.log p)) × IsNoSend x.event x.reply ⊎ AcceptsBy now x.before x.event x.reply x.after →
+        (k : ℕ) (e : Entry) → slice_get (x.after.log p) k ≡ Some e → IsFrom full (now + 1) p k e
+    by_logs p (inl t) = from_log full now x p (x.before.log p) is (t.0 p) (old p)
+    by_logs p (inr a) = elim (eqb_tells p a.accepts.m.destination) [
+      | inl h ↦ subst (λ (q : ℕ). (k : ℕ) (e : Entry) → slice_get (x.after.log q) k ≡ Some e → IsFrom full (now + 1) q k e) (sym h.1)
+          (from_log full now x a.accepts.m.destination (x.before.log a.accepts.m.destination ++ entry now a.accepts.m ∷ []) is (stage_tells now x a a.accepts.m.destination _ a.accepts.appended) (sent_there a))
+      | inr h ↦ from_log full now x p (x.before.log p) is (stage_tells now x a p _ (a.accepts.others p h.1)) (old p)
+    ]
+
+nothing_known : (full : List Stage) → Known full 0 opening
+nothing_known full = grind (arith, opening-lawful)
+
+-- what a stage delivers was accepted before, or told
+delivered : (full : List Stage) (k : ℕ) (bytes : List ℕ) (x : Stage) → Known full k x.before → (d : Delivers x.event bytes x.before x.after) → WasSentOrTold full k bytes x
+delivered full k bytes x known d = by (known.from d.port (x.before.taken d.port) d.e d.front)
+  where
+    by : IsFrom full k d.port (x.before.taken d.port) d.e → WasSentOrTold full k bytes x
+    by (inl w) = inl (record {
+      origin = d.e.origin;
+      earlier = w.earlier;
+      sending = w.sending;
+      is_stage = w.is_stage;
+      sender = w.sender;
+      sent = w.sent;
+      event = w.event;
+      reply = w.reply;
+      m = d.e.message;
+      meant = w.meant;
+      receiver = d.task;
+      means = d.means;
+      front = subst (λ (p : ℕ). IsFront x.before p d.e) (sym w.here) d.front;
+      place = subst (λ (p : ℕ). x.before.taken p ≡ length (w.sending.before.log p)) (sym w.here) w.place;
+      asks = subst (AsksFrom x.before x.event d.task) (sym w.here) d.asks;
+      taken = subst (λ (p : ℕ). x.after.taken p ≡ x.before.taken p + 1) (sym w.here) d.taken;
+      others = subst (λ (p : ℕ). (q : ℕ) → q ≢ p → x.after.taken q ≡ x.before.taken q) (sym w.here) d.others;
+    })
+    by (inr w) = inr (record {
+      origin = d.e.origin;
+      earlier = w.earlier;
+      telling = w.telling;
+      is_stage = w.is_stage;
+      port = d.port;
+      e = d.e;
+      told = w.told;
+      front = d.front;
+      receiver = d.task;
+      means = subst (λ (m : Message). ReceivedMeans d.task x.before x.after bytes (asof x.after.live_port m)) (ap (λ (y : Entry). y.message) w.told.is_notice) d.means;
+      asks = d.asks;
+      taken = d.taken;
+      others = d.others;
+    })
+
+pub path_told : (path : List Stage) (s : State) → Path path s → (k : ℕ) (bytes : List ℕ) (x : Stage) → slice_get path k ≡ Some x → x.reply ≡ Reply.Message bytes → WasSentOrTold path k bytes x
+path_told path s is k bytes x at reply =
+    let h = at_stages path (Known path) (stays_known path) s is (nothing_known path) k x at in
+    let step = subst (λ (r : Reply). Step k x.before x.event r x.after) reply h.1 in
+    delivered path k bytes x h.0 (Step-delivers k x.before x.event bytes x.after h.0.lawful step)
+
+-- ---- A port's messages are taken in the order in which they came, each once.
+
+either_way : (b : Bool) → unless_large b [] ≡ []
+either_way true = refl
+either_way false = refl
+
+none_taken : (event : Event) (reply : Reply) → if_taken event reply [] ≡ []
+none_taken (Event.Receive task name room large) (Reply.Message bytes) = refl
+none_taken (Event.Receive task name room large) (Reply.TooLarge n) = either_way large
+none_taken (Event.ReceiveAgain task waited room large) (Reply.Message bytes) = refl
+none_taken (Event.ReceiveAgain task waited room large) (Reply.TooLarge n) = either_way large
+none_taken event reply = refl
+
+take_one : {A : Type 0} (n : ℕ) (xs : List A) (y : A) → slice_get xs n ≡ Some y → take (n + 1) xs ≡ take n xs ++ y ∷ []
+take_one n [] y is = absurd (cc)
+take_one zero (x ∷ xs) y is = let same : x ≡ y = cc in ap (λ z. z ∷ []) same
+take_one (suc n) (x ∷ xs) y is = grind (arith, take_one n xs y is)
+
+-- ---- what one stage brings
+
+drop_front : {A : Type 0} (xs ys : List A) → drop (length xs) (xs ++ ys) ≡ ys
+drop_front [] ys = refl
+drop_front (x ∷ xs) ys = drop_front xs ys
+
+brings : (now p : ℕ) (x : Stage) (sent : List Entry) → ((m : Message) → ¬ (IsSentBy x p m)) × (sent ≡ []) ⊎ ((m : Message) × IsSentBy x p m × (sent ≡ entry now m ∷ [])) →
+    Tells now x.before x.event x.reply x.after p (x.before.log p ++ sent) → Comes now p x
+brings now p x sent is t = record {
+  sent = sent;
+  is_sent = is;
+  tells = t;
+  are_new = ap (drop (length (x.before.log p))) (t.log ∙ append_assoc (x.before.log p) sent t.told) ∙ drop_front (x.before.log p) (sent ++ t.told);
+}
+
+only_told : (now p : ℕ) (x : Stage) → ((m : Message) → ¬ (IsSentBy x p m)) → Tells now x.before x.event x.reply x.after p (x.before.log p) → Comes now p x
+only_told now p x not t = brings now p x [] (inl (not, refl)) (subst (Tells now x.before x.event x.reply x.after p) (sym (append-nil (x.before.log p))) t)
+
+pub stage_comes : (now : ℕ) (x : Stage) (p : ℕ) → IsLawful x.before → Step now x.before x.event x.reply x.after → Comes now p x
+stage_comes now x p l step = go (Step-logs now x.before x.event x.reply x.after l step)
+  where
+    sent_here : (a : AcceptsBy now x.before x.event x.reply x.after) → Comes now a.accepts.m.destination x
+    sent_here a = brings now a.accepts.m.destination x (entry now a.accepts.m ∷ [])
+        (inr (a.accepts.m, record { sender = a.task; sent = a.bytes; event = a.is_event; reply = a.is_reply; meant = a.accepts.means; here = refl }, refl))
+        (stage_tells now x a a.accepts.m.destination _ a.accepts.appended)
+
+    -- to another port nothing was sent
+    elsewhere : (a : AcceptsBy now x.before x.event x.reply x.after) → (p ≡ a.accepts.m.destination → ⊥) → (m : Message) → ¬ (IsSentBy x p m)
+    elsewhere a not m s =
+        let same = same_send s.sender a.task s.sent a.bytes (sym s.event ∙ a.is_event) in
+        let meant = subst (λ (bytes : List ℕ). SentMeans (x.before.naming a.task) bytes m) same.1 (subst (λ (t : ℕ). SentMeans (x.before.naming t) s.sent m) same.0 s.meant) in
+        not (sym s.here ∙ one_destination (x.before.naming a.task) a.bytes m a.accepts.m meant a.accepts.means)
+
+    go : ((p : ℕ) → Tells now x.before x.event x.reply x.after p (x.before.log p)) × IsNoSend x.event x.reply ⊎ AcceptsBy now x.before x.event x.reply x.after → Comes now p x
+    go (inl t) = only_told now p x (λ m s. t.1 s.sender s.sent s.event s.reply) (t.0 p)
+    go (inr a) = elim (eqb_tells p a.accepts.m.destination) [
+      | inl h ↦ subst (λ (q : ℕ). Comes now q x) (sym h.1) (sent_here a)
+      | inr h ↦ only_told now p x (elsewhere a h.1) (stage_tells now x a p _ (a.accepts.others p h.1))
+    ]
+
+-- logs only grow
+stage_grows : (now : ℕ) (x : Stage) (p : ℕ) → Comes now p x → x.after.log p ≡ x.before.log p ++ new_entries p x
+stage_grows now x p c = c.tells.log ∙ append_assoc (x.before.log p) c.sent c.tells.told ∙ ap (λ (xs : List Entry). x.before.log p ++ xs) (sym c.are_new)
+
+-- ---- what one stage takes
+
+same_taken : (x : Stage) (p : ℕ) → x.after.taken p ≡ x.before.taken p → if_taken x.event x.reply (front_entry p x) ≡ []
+same_taken x p same = grind (arith, eq-eqb, none_taken)
+
+-- The stage takes what was there before it, and in order.
+record Taking (x : Stage) (p : ℕ) : Type 0 where
+  within : x.after.taken p ≤ length (x.before.log p)
+  takes : take (x.after.taken p) (x.before.log p) ≡ take (x.before.taken p) (x.before.log p) ++ if_taken x.event x.reply (front_entry p x)
+
+stage_takes : (now : ℕ) (x : Stage) (p : ℕ) → IsLawful x.before → Step now x.before x.event x.reply x.after → Taking x p
+stage_takes now x p l step = go (Step-taken now x.before x.event x.reply x.after l step)
+  where
+    none : x.after.taken p ≡ x.before.taken p → Taking x p
+    none same = record {
+      within = let w = l.within p in omega (arith, w, same);
+      takes = ap (λ (n : ℕ). take n (x.before.log p)) same ∙ sym (append-nil (take (x.before.taken p) (x.before.log p)))
+          ∙ ap (λ (xs : List Entry). take (x.before.taken p) (x.before.log p) ++ xs) (sym (same_taken x p same));
+    }
+
+    front : (d : TakesBy x.before x.event x.reply x.after) → Taking x d.port
+    front d =
+        let taken = d.taken in
+        let below = slice_get_within (x.before.log d.port) (x.before.taken d.port) d.e d.front in
+        let one : front_entry d.port x ≡ d.e ∷ [] = rw (ne_eqb (x.after.taken d.port) (x.before.taken d.port) (λ e. omega (arith, e, taken))) (ap option_to_list d.front) in
+        record {
+          within = omega (arith, taken, below);
+          takes = ap (λ (n : ℕ). take n (x.before.log d.port)) taken ∙ take_one (x.before.taken d.port) (x.before.log d.port) d.e d.front
+              ∙ ap (λ (xs : List Entry). take (x.before.taken d.port) (x.before.log d.port) ++ xs) (sym (d.counts (front_entry d.port x) ∙ one));
+        }
+
+    go : ((p : ℕ) → x.after.taken p ≡ x.before.taken p) ⊎ TakesBy x.before x.event x.reply x.after → Taking x p
+    go (inl same) = none (same p)
+    go (inr d) = elim (eqb_tells p d.port) [
+      | inl h ↦ subst (Taking x) (sym h.1) (front d)
+      | inr h ↦ none (d.others p h.1)
+    ]
+
+-- ---- over all stages
+
+path_comes : (now : ℕ) (old : State) (path : List Stage) (new : State) (p : ℕ) → IsLawful old → PathFrom now old path new → new.log p ≡ old.log p ++ came p path
+path_comes now old [] new p l path = ap (λ (s : State). s.log p) path ∙ sym (append-nil (old.log p))
+path_comes now old (x ∷ xs) new p l path =
+    let before : IsLawful x.before = subst IsLawful (sym path.0) l in
+    let one = stage_grows now x p (stage_comes now x p before path.1) in
+    let more = path_comes (now + 1) x.after xs new p (Step-lawful now x.before x.event x.reply x.after path.1 before) path.2 in
+    let all : new.log p ≡ x.before.log p ++ (new_entries p x ++ came p xs) =
+    more ∙ ap (λ (ys : List Entry). ys ++ came p xs) one ∙ append_assoc (x.before.log p) (new_entries p x) (came p xs) in
+    subst (λ (s : State). new.log p ≡ s.log p ++ (new_entries p x ++ came p xs)) path.0 all
+
+path_takes : (now : ℕ) (old : State) (path : List Stage) (new : State) (p : ℕ) → IsLawful old → PathFrom now old path new →
+    take (new.taken p) (new.log p) ≡ take (old.taken p) (old.log p) ++ went p path
+path_takes now old [] new p l path = ap (λ (s : State). take (s.taken p) (s.log p)) path ∙ sym (append-nil (take (old.taken p) (old.log p)))
+path_takes now old (x ∷ xs) new p l path =
+    let before : IsLawful x.before = subst IsLawful (sym path.0) l in
+    let after = Step-lawful now x.before x.event x.reply x.after path.1 before in
+    let one = stage_takes now x p before path.1 in
+    let more = path_takes (now + 1) x.after xs new p after path.2 in
+    -- a stage takes no entry that it brings itself
+    let kept : take (x.after.taken p) (x.after.log p) ≡ take (x.after.taken p) (x.before.log p) =
+    ap (take (x.after.taken p)) (stage_grows now x p (stage_comes now x p before path.1)) ∙ take-append-le (x.after.taken p) (x.before.log p) (new_entries p x) one.within in
+    let all : take (new.taken p) (new.log p) ≡ take (x.before.taken p) (x.before.log p) ++ (if_taken x.event x.reply (front_entry p x) ++ went p xs) =
+    more ∙ ap (λ (ys : List Entry). ys ++ went p xs) (kept ∙ one.takes) ∙ append_assoc (take (x.before.taken p) (x.before.log p)) (if_taken x.event x.reply (front_entry p x)) (went p xs) in
+    subst (λ (s : State). take (new.taken p) (new.log p) ≡ take (s.taken p) (s.log p) ++ (if_taken x.event x.reply (front_entry p x) ++ went p xs)) path.0 all
+
+pub path_ordered : (path : List Stage) (s : State) → Path path s → (p : ℕ) → InOrder p path s
+path_ordered path s is p =
+    let log : came p path ≡ s.log p = sym (path_comes 0 opening path s p opening-lawful is) in
+    let taken : went p path ≡ take (s.taken p) (s.log p) = sym (path_takes 0 opening path s p opening-lawful is) in
+    record {
+      log = log;
+      each = λ k x at. (let h = stage_lawful path s is k x at in stage_comes k x p h.0 h.1);
+      taken = taken;
+      whole = ap (λ (xs : List Entry). xs ++ queue s p) taken ∙ take-append-drop (s.taken p) (s.log p) ∙ sym log;
+    }

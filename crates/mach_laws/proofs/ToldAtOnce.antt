@@ -16,13 +16,11 @@ use Rattle.mach_model.specs.Requests.{Requests}
 use Rattle.mach_model.specs.Notices.{right_unused, no_more_senders, name_died}
 use Rattle.mach_model.specs.Refusals.{guards}
 use Rattle.mach_model.specs.Machine.{Run}
-use Rattle.mach_model.proofs.Quiet.{NoRequests}
-use Rattle.mach_model.proofs.StepQuiet.{without_stands}
+use Rattle.mach_model.proofs.Midway.{NoRequests}
+use Rattle.mach_model.proofs.StepLawful.{without_stands}
 use Rattle.mach_laws.specs.Telling.{unused_text, no_senders_text, name_died_text, telling_events, telling_replies}
-use Rattle.mach_laws.proofs.Playing.{Plays, with_made, with_extracted, without_front, spelled, makes, allocated, once_extracted, received, receives, references_told, used}
-use Rattle.mach_laws.proofs.Telling.{notice_entry, with_notice, loses_once, keeps_rights, tells}
-use Rattle.mach_laws.proofs.Standing.{asks_well, port_noted}
-use Rattle.mach_laws.proofs.First.{s1, s2, first, second, port_named, fresh_two}
+use Rattle.mach_laws.proofs.Playing.{Plays, with_made, with_extracted, without_front, spelled, makes, allocated, once_extracted, received, receives, references_told, used, s1, s2, first, second, port_named, fresh_two}
+use Rattle.mach_laws.proofs.Dying.{notice_entry, with_notice, loses_once, keeps_rights, tells, asks_well, port_noted}
 
 -- ---- a send-once right is made, and lost
 

@@ -7,7 +7,7 @@ use Rattle.mach_types.specs.declared.calls.Reply.{Reply}
 use Rattle.mach_types.specs.declared.rights.Disposition.TheVariants.{MakeSendOnce}
 use Rattle.mach_types.specs.Numbers.{request_bit}
 use Rattle.mach_types.specs.Guards.{NoneHolds}
-use Rattle.mach_types.specs.Tokens.{receive, send, send_once, Request, dead_name, in_task, in_request, Token, token}
+use Rattle.mach_types.specs.Tokens.{receive, send, send_once, Request, dead_name, in_task, in_request, token}
 use Rattle.mach_types.specs.Grammar.{WireBody, word}
 use Rattle.mach_model.specs.State.{State, Target, lookup, without_name, request_at}
 use Rattle.mach_model.specs.Notices.{name_died}
@@ -16,22 +16,18 @@ use Rattle.mach_model.specs.Requests.{Requests}
 use Rattle.mach_model.specs.References.{is_either, Destroys}
 use Rattle.mach_model.specs.Refusals.{guards}
 use Rattle.mach_model.specs.Machine.{Step, Run}
-use Rattle.mach_model.specs.Turns.{Ending, became_dead, IsNameOf, IsReached, begins, IsDone, IsAtDoomed, AreJudged, listed}
+use Rattle.mach_model.specs.Turns.{Ending, IsNameOf, IsReached, begins, IsDone, AreJudged, listed}
 use Rattle.mach_model.specs.Lawful.{IsLawful}
 use Rattle.mach_model.specs.Midway.{MidLawful}
-use Rattle.mach_model.proofs.Quiet.{NoneCarried}
+use Rattle.mach_model.proofs.Midway.{NoneCarried}
 use Rattle.mach_model.proofs.StepLawful.{Does-mid}
 use Rattle.mach_model.proofs.TurnsMade.{start, start_is, doom, bury}
 use Rattle.mach_model.proofs.TurnsSettle.{end_of}
-use Rattle.mach_model.proofs.TurnsSound.{one_all}
+use Rattle.mach_model.proofs.TurnsCounted.{one_all}
 use Rattle.mach_laws.specs.Dying.{port_died_text, dying_events, dying_replies}
-use Rattle.mach_laws.proofs.Playing.{Plays, with_made, without_front, spelled, makes, receives, received, references_told, type_told, used}
-use Rattle.mach_laws.proofs.Telling.{notice_entry}
-use Rattle.mach_laws.proofs.First.{s1, first}
+use Rattle.mach_laws.proofs.Playing.{Plays, with_made, without_front, spelled, makes, receives, received, references_told, type_told, used, s1, first}
+use Rattle.mach_laws.proofs.Dying.{notice_entry, x5, fifth, own_named, sender_named, other_named, asks_well, name_noted, requested, looked, made_alone, not_made, stood_before, none_stand_after, Leads, ends, loses_one, then_doomed, then_buried_one, one_judged, not_carried}
 use Rattle.mach_laws.proofs.Gathering.{b2, b3, b4, second, third, fourth}
-use Rattle.mach_laws.proofs.Across.{x5, fifth, own_named, sender_named, other_named}
-use Rattle.mach_laws.proofs.Standing.{asks_well, name_noted, requested, looked, made_alone, not_made, stood_before, none_stand_after}
-use Rattle.mach_laws.proofs.Dying.{Leads, ends, loses_one, then_doomed, then_buried_one, one_judged, not_carried}
 
 -- ---- asking to be told
 

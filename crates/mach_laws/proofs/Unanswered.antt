@@ -6,7 +6,7 @@ use Rattle.mach_types.specs.declared.calls.Event.{Event}
 use Rattle.mach_types.specs.declared.calls.Reply.{Reply}
 use Rattle.mach_types.specs.declared.rights.Disposition.TheVariants.{CopySend, MakeSendOnce}
 use Rattle.mach_types.specs.Guards.{NoneHolds}
-use Rattle.mach_types.specs.Tokens.{receive, send, send_once, no_senders, port_destroyed, in_task, in_message, Token, token}
+use Rattle.mach_types.specs.Tokens.{receive, send, send_once, port_destroyed, in_task, in_message, token}
 use Rattle.mach_types.specs.Messages.{to_port, present, Body, Message}
 use Rattle.mach_types.specs.Grammar.{WireBody, Header}
 use Rattle.mach_model.specs.State.{State, Target, lookup, without_name}
@@ -16,22 +16,18 @@ use Rattle.mach_model.specs.Send.{Copied}
 use Rattle.mach_model.specs.References.{is_either, Destroys}
 use Rattle.mach_model.specs.Refusals.{guards}
 use Rattle.mach_model.specs.Machine.{Run}
-use Rattle.mach_model.specs.Turns.{Ending, IsReached, begins, IsDone, IsAtDoomed, AreJudged, listed}
+use Rattle.mach_model.specs.Turns.{Ending, IsReached, begins, IsDone, AreJudged, listed}
 use Rattle.mach_model.specs.Midway.{MidLawful}
-use Rattle.mach_model.proofs.Quiet.{NoRequests}
-use Rattle.mach_model.proofs.StepLawful.{Does-mid}
-use Rattle.mach_model.proofs.StepQuiet.{without_stands}
+use Rattle.mach_model.proofs.Midway.{NoRequests}
+use Rattle.mach_model.proofs.StepLawful.{Does-mid, without_stands}
 use Rattle.mach_model.proofs.TurnsMade.{start, start_is, doom, lose, bury}
 use Rattle.mach_model.proofs.TurnsSettle.{end_of}
-use Rattle.mach_model.proofs.TurnsSound.{one_all}
+use Rattle.mach_model.proofs.TurnsCounted.{one_all}
 use Rattle.mach_laws.specs.Unanswered.{waiting_text, unanswered_events, unanswered_replies}
 use Rattle.mach_laws.specs.Telling.{unused_text}
-use Rattle.mach_laws.proofs.Playing.{Plays, with_made, with_entry, without_front, good_text, spelled, makes, sent, receives, received, type_told, used}
-use Rattle.mach_laws.proofs.Telling.{notice_entry}
-use Rattle.mach_laws.proofs.First.{s1, first}
+use Rattle.mach_laws.proofs.Playing.{Plays, with_made, with_entry, without_front, good_text, spelled, makes, sent, receives, received, type_told, used, s1, first}
+use Rattle.mach_laws.proofs.Dying.{notice_entry, x5, fifth, own_named, sender_named, other_named, Leads, ends, loses_one, then_doomed, then_lost, then_buried, one_judged, not_carried}
 use Rattle.mach_laws.proofs.Gathering.{b2, b3, b4, second, third, fourth}
-use Rattle.mach_laws.proofs.Across.{x5, fifth, own_named, sender_named, other_named}
-use Rattle.mach_laws.proofs.Dying.{Leads, ends, loses_one, then_doomed, then_lost, then_buried, one_judged, not_carried}
 
 -- ---- asking
 

@@ -1,23 +1,26 @@
--- The calls on names, and those that set a port's numbers, leave every log as it was, what was taken from it, and which ports live of
--- those that were made.
-use Rattle.std.proofs.Common.{◌≡◌, ℕ, ◌<◌, ◌≤◌, [], refl, sym, ap, subst, ◌∙◌, arith, true, false, Bool, ◌⊎◌, inl, inr, length}
-use Rattle.std.specs.Prelude.{ℤ, ◌≢◌, if◌then◌else◌, ◌||◌, nat_lt}
-use Rattle.std.proofs.lemmas.Bool.Decides.{eqb_tells}
+-- Calls that leave every log as it was; the bytes of a send mean messages for one port only.
+use Rattle.std.proofs.Common.{◌≡◌, ℕ, ◌<◌, ◌≤◌, [], refl, ◌∙◌, arith, true, false, Bool, ◌⊎◌, inl, inr, List, Option, Some}
+use Rattle.std.specs.Prelude.{ℤ, ◌≢◌, if◌then◌else◌, nat_lt}
 use Rattle.mach_types.specs.declared.rights.Disposition.{Disposition}
 use Rattle.mach_types.specs.declared.rights.Disposition.TheVariants.{MoveReceive, MoveSend, MoveSendOnce, MakeSend}
-use Rattle.mach_types.specs.Numbers.{null_word}
-use Rattle.mach_types.specs.Tokens.{receive, send, Request, Place, in_request}
-use Rattle.mach_types.specs.Messages.{Mark, to_port}
-use Rattle.mach_model.specs.State.{State, Target, held, at, without_name, with_name}
+use Rattle.mach_types.specs.Numbers.{null_word, disposition}
+use Rattle.mach_types.specs.Tokens.{send, Request, Place, in_request}
+use Rattle.mach_types.specs.Messages.{Mark, to_port, Message}
+use Rattle.mach_types.specs.declared.calls.Event.{Event}
+use Rattle.mach_model.specs.State.{State, Target, held, at, without_name, with_name, Names}
 use Rattle.mach_model.specs.CopyIn.{name_kept, changed_by, CopyRight}
-use Rattle.mach_model.specs.Names.{Makes}
+use Rattle.mach_model.specs.Names.{Makes, Renames}
 use Rattle.mach_model.specs.References.{Deallocates, DestroysTarget, Destroys, RemovesRight, Modifies}
-use Rattle.mach_model.specs.Names.{Renames}
 use Rattle.mach_model.specs.Tasks.{EndsTask}
 use Rattle.mach_model.specs.Requests.{GivesBack, Keeps, Requests}
 use Rattle.mach_model.specs.Notices.{Owed}
 use Rattle.mach_model.specs.Lawful.{IsLawful}
-use Rattle.mach_model.proofs.At.{at_same, at_other}
+use Rattle.mach_model.proofs.Names.{at_same, at_other}
+use Rattle.mach_model.specs.SentMeans.{SentMeans}
+use Rattle.mach_laws.proofs.Refusals.{one_text as one_message}
+
+-- ---- The calls on names, and those that set a port's numbers, leave every log as it was, what was taken from it, and which ports live of
+-- those that were made.
 
 pub record Untouched (old mid : State) : Type 0 where
   pub log : (p : ℕ) → mid.log p ≡ old.log p
@@ -151,3 +154,17 @@ requests_untouched task name variant sync notify number previous old mid owed x 
     by (inr (some, (q, copy, keeps))) =
         Untouched-trans old x.copied mid (copies_untouched task (in_request x.request) number notify old (to_port q) x.copied copy)
         (Untouched-trans x.copied x.back mid back (keeps_untouched task name sync x.request q x.back mid owed keeps))
+
+-- ---- The bytes of a send mean messages for one port only.
+
+same_given : (number : ℕ) (a b : Disposition) → disposition number ≡ Some a → disposition number ≡ Some b → a ≡ b
+same_given number a b e f = grind arith
+
+same_port : (o : Option Mark) (p q : ℕ) → o ≡ Some (to_port p) → o ≡ Some (to_port q) → p ≡ q
+same_port o p q e f = grind arith
+
+pub one_destination : (names : Names) (bytes : List ℕ) (m n : Message) → SentMeans names bytes m → SentMeans names bytes n → m.destination ≡ n.destination
+one_destination names bytes m n a b = grind (arith, one_message, same_given, same_port)
+
+pub same_send : (task other : ℕ) (bytes others : List ℕ) → Event.Send task bytes ≡ Event.Send other others → (task ≡ other) × (bytes ≡ others)
+same_send task other bytes others e = (cc, cc)

@@ -1,33 +1,31 @@
--- The end of a task, and of a message that is too long for its receiver, leaves a lawful state midway.
-use Rattle.std.proofs.Common.{◌≡◌, ℕ, ◌+◌, ◌<◌, List, [], ◌∷◌, Option, Some, None, refl, sym, ap, subst, ◌∙◌, arith, true, false, Bool, ◌⊎◌, inl, inr, get_or}
+-- The end of a task, and a new one, leave a lawful state.
+use Rattle.std.proofs.Common.{◌≡◌, ℕ, ◌+◌, ◌<◌, List, [], ◌∷◌, Option, Some, None, refl, sym, ap, subst, ◌∙◌, arith, true, false, Bool, ◌⊎◌, inl, inr}
 use Rattle.std.specs.Prelude.{if◌then◌else◌, ◌==◌, ◌&&◌, ◌≢◌, not, filter}
 use Rattle.std.specs.FinMap as map
 use Rattle.std.specs.FinMap.{get-empty, len-empty}
 use Rattle.std.specs.Ordering.{nat_cmp}
 use Rattle.std.proofs.lemmas.Bool.Decides.{eqb_tells}
-use Rattle.std.proofs.lemmas.Bool.{eq-eqb, ne_eqb}
-use Rattle.mach_types.specs.Tokens.{Kind, receive, send, send_once, Request, no_senders, port_destroyed, dead_name, Place, in_task, in_message, in_request, Token, token, count, is_of, is_held, is_in_task, same_kind, Moves}
+use Rattle.std.proofs.lemmas.Bool.{eq-eqb, ne_eqb, false_from_ne_true}
+use Rattle.std.proofs.Math.Path.{fun_ext}
+use Rattle.mach_types.specs.Tokens.{Kind, receive, send, send_once, Place, in_task, in_message, in_request, Token, token, count, is_of, is_held, is_in_task, same_kind, Moves}
 use Rattle.mach_types.specs.Messages.{Entry}
 use Rattle.mach_model.specs.State.{State, Target, Names, lookup, held, at}
 use Rattle.mach_model.specs.Death.{same_place}
 use Rattle.mach_model.specs.Carried.{lying}
 use Rattle.mach_model.specs.References.{LosesAll, unused}
 use Rattle.mach_model.specs.Receive.{IsFront, with_taken, DestroysFront}
-use Rattle.mach_model.specs.Tasks.{ends_with, is_owner, EndsTask}
+use Rattle.mach_model.specs.Tasks.{ends_with, is_owner, EndsTask, CreatesTask}
 use Rattle.mach_model.specs.Notices.{Owed}
-use Rattle.mach_model.specs.Lawful.{LawfulNames, LawfulSets, IsLawful, IsRight}
-use Rattle.mach_model.specs.Midway.{IsOnName, MidLawful}
-use Rattle.mach_model.proofs.Weigh.{count_le, count_none, both_test, left_of, right_of}
-use Rattle.mach_model.proofs.At.{at_same, at_other, at_all, elsewhere}
-use Rattle.mach_model.proofs.Names.{no_values}
-use Rattle.mach_model.proofs.Requests.{KeepsRequests, requests_stay}
-use Rattle.mach_model.proofs.Spaces.{same_naming}
-use Rattle.mach_model.proofs.SetsLawful.{filtered, fewer}
+use Rattle.mach_model.specs.Lawful.{LawfulNames, LawfulSets, IsLawful}
+use Rattle.mach_model.specs.Midway.{MidLawful}
+use Rattle.mach_model.proofs.Names.{count_le, count_none, both_test, left_of, right_of, at_same, at_other, at_all, elsewhere, no_values, all_unused, KeepsRequests, requests_stay, same_naming}
+use Rattle.mach_model.proofs.NamesLawful.{filtered, fewer}
 use Rattle.mach_model.proofs.Moving.{TaskNaming, IsMoving}
-use Rattle.mach_model.proofs.ReceiveLawful.{taken_moving}
-use Rattle.mach_model.proofs.HandLawful.{same_task}
+use Rattle.mach_model.proofs.MessagesLawful.{taken_moving, same_task}
 use Rattle.mach_model.proofs.Lost.{Loses, Loses-lawful}
-use Rattle.mach_model.proofs.LostNames.{AreOwn, held_far, far_carried, far_gone}
+use Rattle.mach_model.proofs.LosingLawful.{AreOwn, held_far, far_carried, far_gone}
+
+-- ---- The end of a task, and of a message that is too long for its receiver, leaves a lawful state midway.
 
 -- ---- a task
 
@@ -220,3 +218,31 @@ DestroysFront-mid port e old mid owed l live d =
     let rest : mid ≡ record (with_taken port old) { ledger = mid.ledger } = d.rest ∙ ap (λ (x : State). record x { ledger = mid.ledger }) d.takes.rest in
     subst (λ (x : State). MidLawful x owed) (sym rest)
     (subst (MidLawful (record (with_taken port old) { ledger = mid.ledger })) (sym d.owed_are) (front_mid old port e d.taken.ledger mid.ledger l live d.takes.front d.takes.tokens d.loses))
+
+-- ---- A new task leaves a lawful state.
+
+module _ (s : State) (l : IsLawful s) where
+  not_live : s.live_task s.tasks_made ≡ false
+  not_live = false_from_ne_true (s.live_task s.tasks_made) (λ e. let h = l.made_task s.tasks_made e in omega arith)
+
+  -- the new task had no name before
+  pub same_naming_created : at s.naming s.tasks_made map.empty ≡ s.naming
+  same_naming_created = fun_ext (λ (t : ℕ). elim (eqb_tells t s.tasks_made) [
+    | inl h ↦ at_same s.naming s.tasks_made map.empty t h.1
+        ∙ sym (all_unused (s.naming t) (λ n. l.no_task t n (ap s.live_task h.1 ∙ not_live)))
+    | inr h ↦ at_other s.naming s.tasks_made map.empty t h.1
+  ])
+
+  abbrev created : State
+  created = record s { live_task = at s.live_task s.tasks_made true; tasks_made = s.tasks_made + 1 }
+
+  created_lawful : IsLawful created
+  created_lawful = grind (arith, at_other, not_live)
+
+  pub CreatesTask-lawful : (t : ℕ) (mid : State) → CreatesTask s t mid → IsLawful mid
+  CreatesTask-lawful t mid c =
+      let e : mid ≡ record s { live_task = at s.live_task s.tasks_made true; tasks_made = s.tasks_made + 1; naming = at s.naming s.tasks_made map.empty } =
+      subst (λ (n : ℕ). mid ≡ record s { live_task = at s.live_task n true; tasks_made = n + 1; naming = at s.naming n map.empty }) c.task_is c.rest in
+      let f : record s { live_task = at s.live_task s.tasks_made true; tasks_made = s.tasks_made + 1; naming = at s.naming s.tasks_made map.empty } ≡ created =
+      ap (λ (names : ℕ → Names). record created { naming = names }) same_naming_created in
+      subst IsLawful (sym (e ∙ f)) created_lawful

@@ -15,10 +15,7 @@ use Rattle.mach_model.specs.Carried.{message_count, lying_among, lying}
 use Rattle.mach_model.specs.Notices.{Owed}
 use Rattle.mach_model.specs.Lawful.{LawfulTasks, LawfulNames, LawfulPorts, LawfulNumbers, LawfulReceivers, LawfulSets, LawfulMembership, LawfulLogs, LawfulRequests, LawfulGround, IsLawful}
 use Rattle.mach_model.specs.Midway.{IsOwed, MidRoom, MidStanding, MidLawful}
-use Rattle.mach_model.proofs.Requests.{KeepsRequests, stood, all_ground, requests_stay}
-use Rattle.mach_model.proofs.At.{at_same, at_other, elsewhere}
-use Rattle.mach_model.proofs.Spaces.{tasks_named, all_named}
-use Rattle.mach_model.proofs.SetNames.{SameSets, kept_set_law}
+use Rattle.mach_model.proofs.Names.{KeepsRequests, stood, all_ground, requests_stay, at_same, at_other, elsewhere, tasks_named, all_named, SameSets, kept_set_law}
 
 abbrev pub TaskNaming : State → (task : ℕ) → Type 0
 TaskNaming s task = LawfulNames (s.naming task) (held s task)

@@ -3,16 +3,16 @@
 use Rattle.std.proofs.Common.{◌≡◌, ℕ, suc, ◌+◌, ◌<◌, ◌≤◌, List, [], ◌∷◌, ◌++◌, Option, Some, None, refl, sym, ap, subst, ◌∙◌, arith, true, false, Bool, inl, inr, length, get_or}
 use Rattle.std.specs.Prelude.{if◌then◌else◌, All, ◌≢◌, ◌&&◌, map, filter, option_map}
 use Rattle.std.proofs.lemmas.Bool.{and_from, false_from_ne_true}
-use Rattle.mach_types.specs.Tokens.{Kind, receive, send, send_once, Request, no_senders, port_destroyed, dead_name, Place, in_task, in_message, in_request, Token, token, weigh, count, is_of, same_kind}
+use Rattle.mach_types.specs.Tokens.{Kind, receive, send, send_once, Request, no_senders, port_destroyed, dead_name, Place, in_task, in_message, in_request, Token, weigh, count, is_of, same_kind}
 use Rattle.mach_model.specs.State.{State, Target, lookup, senders}
-use Rattle.mach_model.specs.Notices.{Notice, port_deleted, port_sent, no_more_senders, right_unused, name_died, Owed, Posted, posted_tokens, all_posted_tokens, carried_by}
+use Rattle.mach_model.specs.Notices.{Notice, right_unused, Owed, Posted, all_posted_tokens}
 use Rattle.mach_model.specs.Settles.{PlaceStays, StaysWith, told_by, TellsAt, PaysFor, GoesFrom, BecameDead, Ends, settled_target, due_notices, tokens_of, Settles}
 use Rattle.mach_model.specs.Midway.{MidLawful}
 use Rattle.mach_model.specs.SameEnd.{Outside, sum, IsSameEnd}
 use Rattle.mach_model.specs.Death.{same_place}
-use Rattle.mach_model.proofs.Weigh.{weigh-append, count_some, count_none, left_of, right_of}
+use Rattle.mach_model.proofs.Names.{weigh-append, count_some, count_none, left_of, right_of}
 use Rattle.mach_model.proofs.Settling.{is_at, place_refl}
-use Rattle.mach_model.proofs.SettledParts.{and_false}
+use Rattle.mach_model.proofs.SettledReceives.{and_false}
 
 -- ---- the three fates, as tests
 
@@ -113,11 +113,13 @@ module _ (now : ℕ) (old mid : State) (owed : Owed) (new : State) (s : Settles 
   paying_none h (x ∷ xs) all = grind (arith, paying_none h xs (λ k d below. all (suc k) d (omega (arith, below))), pay_leaves mid new x.0 x.1 (all 0 x (omega arith)))
 
   pub staying_weigh : (h : Token → ℕ) → weigh h s.rights.staying ≡ weigh (stay_h h) mid.ledger
-  staying_weigh h = grind (arith,
-      s.rights.parts (stay_h h),
-      same_weigh (StaysWith new) (stay_h h) h (λ x p. ap (λ (b : Bool). if b then h x else 0) (stay_stays new x p)) s.rights.staying s.rights.stay,
-      paying_none h s.rights.paying s.rights.pay,
-      none_weigh (GoesFrom new) (stay_h h) (λ x p. ap (λ (b : Bool). if b then h x else 0) (go_leaves new x p)) s.rights.going s.rights.go)
+  staying_weigh h = grind (
+    arith,
+    s.rights.parts (stay_h h),
+    same_weigh (StaysWith new) (stay_h h) h (λ x p. ap (λ (b : Bool). if b then h x else 0) (stay_stays new x p)) s.rights.staying s.rights.stay,
+    paying_none h s.rights.paying s.rights.pay,
+    none_weigh (GoesFrom new) (stay_h h) (λ x p. ap (λ (b : Bool). if b then h x else 0) (go_leaves new x p)) s.rights.going s.rights.go,
+  )
 
   -- what pays
   abbrev pay_h : (ℕ × Notice → ℕ) → Token → ℕ
@@ -130,14 +132,16 @@ module _ (now : ℕ) (old mid : State) (owed : Owed) (new : State) (s : Settles 
   -- The notices that are sent: those that rights pay for, and those owed to live ports.
   pub notices_sum : (g : ℕ × Notice → ℕ) →
       sum g (map (λ x. (x.port, x.notice)) s.notices.posted) ≡ weigh (pay_h g) mid.ledger + sum g (due_notices (filter (λ x. new.live_port x.0.port) owed))
-  notices_sum g = grind (arith,
-      s.rights.parts (pay_h g),
-      none_weigh (StaysWith new) (pay_h g) (λ x p. ap (λ (b : Bool). if b then g (x.port, notice_of mid new x.place) else 0) (stay_unpaid new x p)) s.rights.staying s.rights.stay,
-      paying_sum g s.rights.paying s.rights.pay,
-      none_weigh (GoesFrom new) (pay_h g) (λ x p. ap (λ (b : Bool). if b then g (x.port, notice_of mid new x.place) else 0) (go_unpaid new x p)) s.rights.going s.rights.go,
-      ap (sum g) s.notices.due,
-      ap (sum g) (map-append (λ (x : Token × Notice). (x.0.port, x.1)) s.rights.paying (filter (λ x. new.live_port x.0.port) owed)),
-      sum-append g (due_notices s.rights.paying) (due_notices (filter (λ x. new.live_port x.0.port) owed)))
+  notices_sum g = grind (
+    arith,
+    s.rights.parts (pay_h g),
+    none_weigh (StaysWith new) (pay_h g) (λ x p. ap (λ (b : Bool). if b then g (x.port, notice_of mid new x.place) else 0) (stay_unpaid new x p)) s.rights.staying s.rights.stay,
+    paying_sum g s.rights.paying s.rights.pay,
+    none_weigh (GoesFrom new) (pay_h g) (λ x p. ap (λ (b : Bool). if b then g (x.port, notice_of mid new x.place) else 0) (go_unpaid new x p)) s.rights.going s.rights.go,
+    ap (sum g) s.notices.due,
+    ap (sum g) (map-append (λ (x : Token × Notice). (x.0.port, x.1)) s.rights.paying (filter (λ x. new.live_port x.0.port) owed)),
+    sum-append g (due_notices s.rights.paying) (due_notices (filter (λ x. new.live_port x.0.port) owed)),
+  )
 
 -- ---- two ends of the same step
 
@@ -208,12 +212,15 @@ weigh_two f g h le (x ∷ xs) = omega (arith, le x, weigh_two f g h le xs)
 -- how many send rights are left depends on the ports that live alone
 pub senders_left : (now : ℕ) (old mid : State) (owed : Owed) (new : State) → Settles now old mid owed new →
     (p : ℕ) → count (λ x. is_of send p x && is_kept x.place) mid.ledger ≡ 0 → senders new p ≡ weigh (sends_left new.live_port p) mid.ledger
-senders_left now old mid owed new s p none = grind (arith,
-    s.notices.ledger (λ x. if is_of send p x then 1 else 0), posted_sends p s.notices.posted,
-    staying_weigh now old mid owed new s (λ x. if is_of send p x then 1 else 0),
-    weigh_two _ (sends_left new.live_port p) _ (λ x. place_le new (is_of send p x) (new.live_port x.port) x.place) mid.ledger,
-    weigh_two (sends_left new.live_port p) (λ x. if stays new x then (if is_of send p x then 1 else 0) else 0) (λ x. 0) (λ x. omega (arith, place_ge new (is_of send p x) (new.live_port x.port) x.place)) mid.ledger,
-    none_weigh (λ x. Unit {0}) (λ x. 0) (λ x u. refl) mid.ledger (λ k d below. tt))
+senders_left now old mid owed new s p none = grind (
+  arith,
+  s.notices.ledger (λ x. if is_of send p x then 1 else 0),
+  posted_sends p s.notices.posted,
+  staying_weigh now old mid owed new s (λ x. if is_of send p x then 1 else 0),
+  weigh_two _ (sends_left new.live_port p) _ (λ x. place_le new (is_of send p x) (new.live_port x.port) x.place) mid.ledger,
+  weigh_two (sends_left new.live_port p) (λ x. if stays new x then (if is_of send p x then 1 else 0) else 0) (λ x. 0) (λ x. omega (arith, place_ge new (is_of send p x) (new.live_port x.port) x.place)) mid.ledger,
+  none_weigh (λ x. Unit {0}) (λ x. 0) (λ x u. refl) mid.ledger (λ k d below. tt),
+)
 
 module _ (now : ℕ) (old mid : State) (owed : Owed) (no_send_kept : NoSendKept mid) where
   module _ (a b : State) (s : Settles now old mid owed a) (t : Settles now old mid owed b) where

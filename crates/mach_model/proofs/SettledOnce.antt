@@ -15,10 +15,9 @@ use Rattle.mach_model.specs.Notices.{Notice, Owed, Posted, all_posted_tokens}
 use Rattle.mach_model.specs.Settles.{PaysFor, GoesFrom, due_notices, tokens_of, Settles}
 use Rattle.mach_model.specs.SameEnd.{sum}
 use Rattle.mach_model.specs.Midway.{IsOwed, MidLawful}
-use Rattle.mach_model.proofs.At.{elsewhere, slice_get_drop}
+use Rattle.mach_model.proofs.Names.{elsewhere, slice_get_drop, weigh-append, count_le, left_of}
 use Rattle.mach_model.proofs.TurnsMade.{without, without_weigh}
-use Rattle.mach_model.proofs.Weigh.{weigh-append, count_le, left_of}
-use Rattle.mach_model.proofs.SettledParts.{of_kind, parts, made_of, goes_if}
+use Rattle.mach_model.proofs.SettledReceives.{of_kind, parts, made_of, goes_if}
 use Rattle.mach_model.proofs.SettledDetermined.{sum-append, map-append}
 
 -- how many of these notices are for the port
@@ -35,9 +34,11 @@ own_port p x e = ap (λ (k : Kind). same_kind send_once k && x.port == p) e
 
 paid_once : (p : ℕ) (mid new : State) (xs : Owed) → All (λ x. PaysFor mid new x.0 x.1) xs → count (is_of send_once p) (tokens_of xs) ≡ for_port p (due_notices xs)
 paid_once p mid new [] all = refl
-paid_once p mid new (x ∷ xs) all = grind (arith,
-    All-head (λ (x : Token × Notice). PaysFor mid new x.0 x.1) x xs all,
-    paid_once p mid new xs (All-tail (λ (x : Token × Notice). PaysFor mid new x.0 x.1) x xs all))
+paid_once p mid new (x ∷ xs) all = grind (
+  arith,
+  All-head (λ (x : Token × Notice). PaysFor mid new x.0 x.1) x xs all,
+  paid_once p mid new xs (All-tail (λ (x : Token × Notice). PaysFor mid new x.0 x.1) x xs all),
+)
 
 -- those that are owed to the port are told, since it lives
 owed_once : (p : ℕ) (lives alive : ℕ → Bool) (xs : Owed) → alive p ≡ true → All (IsOwed lives) xs → count (is_of send_once p) (tokens_of xs) ≡ for_port p (due_notices (filter (λ x. alive x.0.port) xs))
@@ -67,7 +68,15 @@ module _ (now : ℕ) (old mid : State) (owed : Owed) (new : State) (l : MidLawfu
       lost x (inr h) is = h.0 is.0
 
   pub once_kept : count (is_of send_once p) new.ledger ≡ count (is_of send_once p) mid.ledger + count (is_of send_once p) (tokens_of owed)
-  once_kept = grind (arith, parts now old mid owed new s (is_of send_once p), made_of now old mid owed new s (is_of send_once p), none_goes, posted_once p s.notices.posted ∙ ap (for_port p) s.notices.due ∙ ap (for_port p) (map-append (λ (x : Token × Notice). (x.0.port, x.1)) s.rights.paying (filter (λ x. new.live_port x.0.port) owed)) ∙ sum-append (λ (y : ℕ × Notice). if y.0 == p then 1 else 0) (due_notices s.rights.paying) (due_notices (filter (λ x. new.live_port x.0.port) owed)), paid_once p mid new s.rights.paying s.rights.pay, owed_once p mid.live_port new.live_port owed live l.are_owed)
+  once_kept = grind (
+    arith,
+    parts now old mid owed new s (is_of send_once p),
+    made_of now old mid owed new s (is_of send_once p),
+    none_goes,
+    posted_once p s.notices.posted ∙ ap (for_port p) s.notices.due ∙ ap (for_port p) (map-append (λ (x : Token × Notice). (x.0.port, x.1)) s.rights.paying (filter (λ x. new.live_port x.0.port) owed)) ∙ sum-append (λ (y : ℕ × Notice). if y.0 == p then 1 else 0) (due_notices s.rights.paying) (due_notices (filter (λ x. new.live_port x.0.port) owed)),
+    paid_once p mid new s.rights.paying s.rights.pay,
+    owed_once p mid.live_port new.live_port owed live l.are_owed,
+  )
 
 -- ---- each queued message that goes by a send-once right has it at its own entry
 

@@ -5,19 +5,17 @@ use Rattle.std.proofs.Math.Path.{fun_ext}
 use Rattle.std.proofs.lemmas.List.{append-nil}
 use Rattle.std.proofs.lemmas.List.Elements.{All-tail}
 use Rattle.std.proofs.lemmas.Bool.{eq-eqb, and_from, false_from_ne_true, true_from_ne_false, cases_Bool}
-use Rattle.mach_types.specs.Tokens.{Kind, receive, send, send_once, Request, no_senders, port_destroyed, dead_name, Place, in_task, in_message, in_request, Token, count, weigh, Moves, is_of, is_held, same_kind}
+use Rattle.mach_types.specs.Tokens.{Kind, receive, send, send_once, Request, no_senders, port_destroyed, dead_name, Place, in_task, in_message, in_request, Token, count, Moves, is_of, is_held, same_kind}
 use Rattle.mach_types.specs.Messages.{Entry}
 use Rattle.mach_model.specs.State.{State, Target, lookup, held, senders, same_request}
 use Rattle.mach_model.specs.Death.{same_place, Dies, orphan, carried_at, IsOrphan, IsSentAway, IsClosed}
-use Rattle.mach_model.specs.Notices.{Notice, port_deleted, port_sent, no_more_senders, right_unused, name_died, Owed, Posted, posted_tokens, all_posted_tokens, carried_by}
-use Rattle.mach_model.specs.Settles.{PlaceStays, StaysWith, PaysFor, GoesFrom, settled_target, BecameDead, Ends, tokens_of, due_notices, Settles}
+use Rattle.mach_model.specs.Notices.{Notice, Owed, Posted, all_posted_tokens}
+use Rattle.mach_model.specs.Settles.{PlaceStays, StaysWith, PaysFor, GoesFrom, settled_target, Ends, tokens_of, Settles}
 use Rattle.mach_model.specs.Carried.{lying}
 use Rattle.mach_model.specs.Lawful.{IsLawful, LawfulPorts, is_once}
 use Rattle.mach_model.specs.Midway.{MidLawful}
-use Rattle.mach_model.proofs.Quiet.{IsQuiet, IsStill}
-use Rattle.mach_model.proofs.Weigh.{length-weigh, weigh-append, left_of, count_some, lying_le_of, held_le_of, pos_or_zero}
-use Rattle.mach_model.proofs.Names.{alike, some_tally}
-use Rattle.mach_model.proofs.Spaces.{same_naming}
+use Rattle.mach_model.proofs.Midway.{IsQuiet, IsStill}
+use Rattle.mach_model.proofs.Names.{length-weigh, weigh-append, left_of, count_some, lying_le_of, held_le_of, alike, some_tally, same_naming}
 use Rattle.mach_model.proofs.Moving.{same_receivers}
 
 -- ---- who dies

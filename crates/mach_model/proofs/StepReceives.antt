@@ -1,19 +1,17 @@
 -- By an answer by which no right is lost a step's own part leaves no live port without its receive right.
-use Rattle.std.proofs.Common.{◌≡◌, ℕ, zero, suc, ◌+◌, ◌-◌, ◌<◌, ◌≤◌, List, [], ◌∷◌, Some, refl, sym, ap, subst, ◌∙◌, arith, true, false, Bool, inl, inr, length, get_or}
-use Rattle.std.specs.Prelude.{ℤ, if◌then◌else◌, ◌==◌, ◌&&◌, ◌||◌, nat_lt, All, MatchBool}
+use Rattle.std.proofs.Common.{◌≡◌, ℕ, ◌-◌, List, [], Some, refl, sym, ap, ◌∙◌, arith, true, false, Bool, inl, inr, length}
+use Rattle.std.specs.Prelude.{ℤ, if◌then◌else◌, nat_lt, All, MatchBool}
 use Rattle.std.proofs.lemmas.Bool.{or_cases, eq-eqb, ne_eqb, false_from_ne_true}
-use Rattle.std.proofs.lemmas.Bool.Decides.{eqb_tells}
 use Rattle.mach_types.specs.declared.calls.Event.{Event}
 use Rattle.mach_types.specs.declared.calls.Reply.{Reply}
 use Rattle.mach_types.specs.Guards.{NoneHolds}
-use Rattle.mach_types.specs.TextGuards.{header_guards}
-use Rattle.mach_types.specs.Tokens.{Kind, receive, send, Request, in_task, Token, token, weigh, count, is_of, is_held, Moves}
-use Rattle.mach_model.specs.State.{State, Target, lookup, held, without_name, with_name}
+use Rattle.mach_types.specs.Tokens.{Kind, receive, Token, count, is_of, is_held, Moves}
+use Rattle.mach_model.specs.State.{State, Target, lookup, without_name, with_name}
 use Rattle.mach_model.specs.CopyIn.{name_kept}
 use Rattle.mach_model.specs.Death.{IsOrphan}
 use Rattle.mach_model.specs.Names.{AllocatesPort, Makes, Renames}
 use Rattle.mach_model.specs.ReceiveRight.{NamesReceive}
-use Rattle.mach_model.specs.References.{is_either, LosesAll, Deallocates, Destroys, RemovesRight, Modifies}
+use Rattle.mach_model.specs.References.{is_either, LosesAll, Deallocates, Destroys, Modifies}
 use Rattle.mach_model.specs.Sets.{JoinsSet}
 use Rattle.mach_model.specs.Send.{Sends}
 use Rattle.mach_model.specs.Receive.{Receives, DestroysFront}
@@ -21,12 +19,9 @@ use Rattle.mach_model.specs.Refusals.{guards}
 use Rattle.mach_model.specs.Notices.{Owed}
 use Rattle.mach_model.specs.Machine.{Does}
 use Rattle.mach_model.specs.Lawful.{IsLawful}
-use Rattle.mach_model.proofs.Quiet.{NamesOnce, LosesWhole, Removes, LosesNone}
-use Rattle.mach_model.proofs.Weigh.{count_none, count_some, pos_or_zero}
-use Rattle.mach_model.proofs.At.{at_other}
-use Rattle.mach_model.proofs.HandLawful.{is_it, Hands, hands_shape, Inserts-hands, Extracts-hands}
-use Rattle.mach_model.proofs.SendLawful.{Sends-adds}
-use Rattle.mach_model.proofs.ReceiveLawful.{Receives-removes}
+use Rattle.mach_model.proofs.Midway.{NamesOnce, LosesWhole, Removes, LosesNone}
+use Rattle.mach_model.proofs.Names.{count_none, count_some, pos_or_zero, at_other}
+use Rattle.mach_model.proofs.MessagesLawful.{is_it, Hands, Sends-adds, Receives-removes}
 use Rattle.mach_model.proofs.LosingLawful.{AreSends, no_sends, same_sends}
 use Rattle.mach_model.proofs.StepLawful.{not_false, TakesFrom-live}
 

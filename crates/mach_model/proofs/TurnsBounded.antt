@@ -12,15 +12,13 @@ use Rattle.mach_model.specs.Settles.{tokens_of, Settles}
 use Rattle.mach_model.specs.Lawful.{tally, IsLawful}
 use Rattle.mach_model.specs.Midway.{MidLawful}
 use Rattle.mach_model.specs.Turns.{Ending, listed, lives_after, IsReached, IsDone, AreJudged, IsWaiting, IsCounted, number, total, has_died, waiting_at, is_queued, lost_in, is_lost_at, is_lost, IsBounded}
-use Rattle.mach_model.proofs.Weigh.{lying_le_of}
+use Rattle.mach_model.proofs.Names.{lying_le_of}
 use Rattle.mach_model.proofs.Settling.{lives}
-use Rattle.mach_model.proofs.SettledParts.{and_false, or_cases, less, eq_symm, dead_cases}
-use Rattle.mach_model.proofs.TurnsDeaths.{IsPaidAt, HasPaid, DiesAround, HasGone, IsSound, dies_after}
-use Rattle.mach_model.proofs.TurnsSettle.{end_of, weaker}
-use Rattle.mach_model.proofs.TurnsSound.{listed_first, listed_later, reached_sound}
+use Rattle.mach_model.proofs.SettledReceives.{and_false, or_cases, less, eq_symm, dead_cases}
+use Rattle.mach_model.proofs.TurnsSettle.{IsPaidAt, HasPaid, DiesAround, HasGone, IsSound, dies_after, end_of, weaker}
+use Rattle.mach_model.proofs.TurnsCounted.{listed_first, listed_later, reached_sound, reached_counted}
 use Rattle.mach_model.proofs.SettledLawful.{settled_lawful}
-use Rattle.mach_model.proofs.TurnsCounted.{reached_counted}
-use Rattle.mach_model.proofs.TurnsLeft.{reached_settles}
+use Rattle.mach_model.proofs.TurnsMade.{reached_settles}
 
 -- ---- how many numbers are listed
 
@@ -206,9 +204,11 @@ module _ (now : ℕ) (old mid : State) (owed : Owed) (e : Ending) (l : MidLawful
           none (k ∷ ks) each = absurd (let h = (All-head (λ k. WasDestroyed (p, k)) k ks each).0 in let d = died_is p in cc)
 
   many_destroyed : length e.destroyed ≤ total (λ p. if has_died mid new p then waiting_at mid e p else 0) mid.ports_made
-  many_destroyed = grind (arith,
-      entries_length e.destroyed mid.ports_made (λ k d below. doomed_made _ (counted.destroyed k d below).0),
-      total_same (λ p. length (entries p e.destroyed)) (λ p. if has_died mid new p then waiting_at mid e p else 0) mid.ports_made (λ p h. few_entries p))
+  many_destroyed = grind (
+    arith,
+    entries_length e.destroyed mid.ports_made (λ k d below. doomed_made _ (counted.destroyed k d below).0),
+    total_same (λ p. length (entries p e.destroyed)) (λ p. if has_died mid new p then waiting_at mid e p else 0) mid.ports_made (λ p h. few_entries p),
+  )
 
   -- ---- rights in messages
 
@@ -246,9 +246,11 @@ module _ (now : ℕ) (old mid : State) (owed : Owed) (e : Ending) (l : MidLawful
 
     few_lost : lost_in e ≤ count (is_lost new) mid.ledger
     few_lost = grind (
-        arith,
-        lost_count (tokens_of e.paid) (All-map IsLost (λ (x : Token × Notice). x.0) e.paid (weaker (HasPaid mid e.told) (λ x. IsLost x.0) (λ x h. paid_lost x.0.port x.0.place x.1 h.1) e.paid sound.paid)),
-        lost_count e.gone (weaker (HasGone mid) IsLost gone_lost e.gone sound.gone), sound.parts (λ x. if is_lost new x then 1 else 0))
+      arith,
+      lost_count (tokens_of e.paid) (All-map IsLost (λ (x : Token × Notice). x.0) e.paid (weaker (HasPaid mid e.told) (λ x. IsLost x.0) (λ x h. paid_lost x.0.port x.0.place x.1 h.1) e.paid sound.paid)),
+      lost_count e.gone (weaker (HasGone mid) IsLost gone_lost e.gone sound.gone),
+      sound.parts (λ x. if is_lost new x then 1 else 0),
+    )
 
     pub reached_bounded : IsBounded mid new (listed e.saved) e
     reached_bounded = record {

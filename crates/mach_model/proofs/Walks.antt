@@ -1,8 +1,7 @@
 -- Walks over the words and rights of a message: put one after the other, and what the same bodies say of them.
 use Rattle.std.proofs.Common.{◌≡◌, ℕ, List, [], ◌∷◌, ◌++◌, refl, sym, subst, arith, inl, inr, length}
 use Rattle.std.specs.Prelude.{map}
-use Rattle.mach_types.specs.Numbers.{kind_number}
-use Rattle.mach_types.specs.Tokens.{Kind, receive, send, send_once}
+use Rattle.mach_types.specs.Tokens.{Kind}
 use Rattle.mach_types.specs.Messages.{Mark, Item, plain, rights, Body}
 use Rattle.mach_types.specs.Grammar.{Wire, data_item, port_item, WireBody}
 use Rattle.mach_types.specs.Bodies.{reply_words, wire_words, item_rights, body_words, body_rights, SameItem, SameBody, Through, OneFails, AllZip}

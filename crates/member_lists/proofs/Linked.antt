@@ -1,7 +1,6 @@
 -- Items that are linked both ways, and what a write leaves of them.
 use Rattle.std.proofs.Common.{◌≡◌, ◌≢◌, inl, inr, ℕ, zero, suc, ◌+◌, ◌<◌, ◌≤◌, Bool, true, false, cond, List, [], ◌∷◌, ◌++◌, length, Option, Some, None, slice_get, refl, sym, ◌∙◌, ap, arith}
 use Rattle.std.specs.List.{filter}
-use Rattle.std.specs.Option.{option_map_or}
 use Rattle.member_lists.specs.declared.Link.{Link}
 use Rattle.member_lists.specs.Chains.{times, first_or, last_or, walk, pick, IsLinked, IsBehindSet, IsBeforeSet}
 use Rattle.member_lists.proofs.Times.{same_some, none_some, equal_or_not, true_or_false, times_here, times_other, times_more, times-append, last_some, last_inside, last_within, first_within, last-append, first-append}

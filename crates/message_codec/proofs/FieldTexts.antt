@@ -23,10 +23,10 @@ use Rattle.message_codec.specs.declared.writer.PortRight.{PortRight}
 use Rattle.message_codec.specs.declared.header.Header.{Header as Words}
 use Rattle.message_codec.specs.Received.{header_text}
 use Rattle.message_codec.specs.Putting.{WordsFit}
-use Rattle.message_codec.specs.Writing.{IsItem, IsLength, HasWords, element_number, field_guards, form_for, item_wire, items_text, port_wire, IsWritten, padding_length, reply_number, reply_name, with_text, written_body, written_header, written_length, written_text}
+use Rattle.message_codec.specs.Writing.{IsItem, IsLength, HasWords, field_guards, form_for, item_wire, items_text, port_wire, IsWritten, padding_length, reply_number, reply_name, with_text, written_body, written_header, written_length, written_text}
 use Rattle.message_codec.proofs.Fronts.{length-descriptor_text}
 use Rattle.message_codec.proofs.Messages.{message_not_refused}
-use Rattle.message_codec.proofs.Shapes.{All-cons, form_length-mod, length-words_text}
+use Rattle.message_codec.proofs.Shapes.{form_length-mod, length-words_text}
 
 -- ---- pieces
 

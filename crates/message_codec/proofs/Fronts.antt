@@ -1,5 +1,5 @@
 -- What stands at the front of a descriptor's text.
-use Rattle.std.proofs.Common.{◌≡◌, ℕ, ◌+◌, ◌*◌, ◌/◌, ◌%◌, ◌^◌, ◌<◌, inl, inr, List, ◌++◌, length, refl, sym, ◌∙◌, arith}
+use Rattle.std.proofs.Common.{◌≡◌, ℕ, ◌+◌, ◌*◌, ◌/◌, ◌%◌, ◌^◌, ◌<◌, List, ◌++◌, length, refl, arith}
 use Rattle.mach_types.specs.Grammar.{descriptor_text, FitsForm, NamesPorts}
 use Rattle.mach_types.specs.Messages.{Form, short, long}
 use Rattle.mach_types.specs.TextGuards.{BadType, DescriptorFields, IsDescriptorLength, is_bit, word_at}

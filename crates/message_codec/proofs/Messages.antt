@@ -3,7 +3,7 @@ use Rattle.std.proofs.Common.{◌≡◌, ℕ, ◌+◌, ◌*◌, ◌/◌, ◌%◌
 use Rattle.std.proofs.lemmas.Bool.{cases_eq}
 use Rattle.std.proofs.lemmas.List.{length-drop}
 use Rattle.std.specs.Prelude.{◌↔◌}
-use Rattle.mach_types.specs.Grammar.{word, Header, WireBody, raw, items, text, bits, complex_bit, body_text, wires_text, Spells, IsHeader, IsWireBody, IsWire}
+use Rattle.mach_types.specs.Grammar.{word, Header, WireBody, raw, items, text, complex_bit, body_text, wires_text, Spells, IsHeader, IsWireBody, IsWire}
 use Rattle.mach_types.specs.Guards.{Guards, FirstIs, NoneHolds}
 use Rattle.mach_types.specs.declared.codes.MsgReturn.{MsgReturn}
 use Rattle.mach_types.specs.declared.codes.MsgReturn.TheVariants.{SendNoBuffer}

@@ -1,7 +1,7 @@
 -- A body of one port word in the short form.
-use Rattle.std.proofs.Common.{◌≡◌, false, ℕ, ◌+◌, ◌*◌, ◌^◌, ◌<◌, ◌≤◌, List, [], ◌∷◌, ◌++◌, length, drop, get_or, refl, sym, ap, subst, ◌∙◌, arith, All}
+use Rattle.std.proofs.Common.{◌≡◌, false, ℕ, ◌+◌, ◌*◌, ◌^◌, ◌<◌, ◌≤◌, List, [], ◌∷◌, ◌++◌, length, drop, get_or, refl, sym, ap, ◌∙◌, arith, All}
 use Rattle.std.proofs.lemmas.List.{drop_all, get_or-drop}
-use Rattle.mach_types.specs.Grammar.{word, Wire, data_item, port_item, wire_text, words_text, wires_text, IsWire, NamesPorts, WireBody, raw, items}
+use Rattle.mach_types.specs.Grammar.{word, Wire, data_item, port_item, wire_text, wires_text, IsWire, NamesPorts, WireBody, raw, items}
 use Rattle.mach_types.specs.Guards.{NoneHolds}
 use Rattle.mach_types.specs.Messages.{Form, short, long}
 use Rattle.mach_types.specs.TextGuards.{word_at, is_bit, header_guards}
@@ -15,7 +15,7 @@ use Rattle.message_codec.specs.Spans.{is_long, spans_at}
 use Rattle.message_codec.specs.Words.{named, body_words}
 use Rattle.message_codec.proofs.Messages.{items-message}
 use Rattle.message_codec.proofs.ReadWords.{laid_out-say}
-use Rattle.message_codec.proofs.Shapes.{All-head, All-cons, HasShape, shape_of, length-wire_text, form_length-ge}
+use Rattle.message_codec.proofs.Shapes.{All-head, All-cons, shape_of, length-wire_text, form_length-ge}
 
 -- the word of its descriptor
 abbrev pub lone_first : ℕ → ℕ

@@ -1,5 +1,5 @@
 -- What a receiver gets, item by item.
-use Rattle.std.proofs.Common.{◌≡◌, ℕ, ◌+◌, ◌-◌, ◌*◌, ◌^◌, ◌<◌, ◌≤◌, List, [], ◌∷◌, ◌++◌, length, take, drop, set, refl, sym, ap, subst, ◌∙◌, arith, length-append, append_assoc, All}
+use Rattle.std.proofs.Common.{◌≡◌, ℕ, ◌+◌, ◌*◌, ◌^◌, ◌<◌, ◌≤◌, List, [], ◌∷◌, ◌++◌, length, take, drop, set, refl, sym, ap, subst, ◌∙◌, arith, length-append, append_assoc, All}
 use Rattle.std.proofs.lemmas.List.{length-drop, length-take-le}
 use Rattle.mach_types.specs.Grammar.{words_text, Wire, data_item, port_item, wire_text, wires_text, IsWire, WireBody, raw, items, body_text, descriptor_text, FitsForm, NamesPorts}
 use Rattle.mach_types.specs.Messages.{Form, short, long}

@@ -1,9 +1,9 @@
 -- Items one after another: where each ends is told by its descriptor.
-use Rattle.std.proofs.Common.{◌≡◌, ℕ, zero, suc, ◌+◌, ◌*◌, ◌/◌, ◌%◌, ◌<◌, ◌≤◌, inl, inr, List, [], ◌∷◌, ◌++◌, length, drop, refl, sym, ap, subst, ◌∙◌, arith, length-append, append_assoc, All}
+use Rattle.std.proofs.Common.{◌≡◌, ℕ, zero, suc, ◌+◌, ◌*◌, ◌/◌, ◌%◌, ◌<◌, ◌≤◌, List, [], ◌∷◌, ◌++◌, length, drop, refl, sym, ap, subst, ◌∙◌, arith, length-append, append_assoc, All}
 use Rattle.std.proofs.lemmas.List.{drop_at}
 use Rattle.mach_types.specs.Grammar.{words_text, Wire, data_item, port_item, wire_text, wires_text, IsWire, descriptor_text, FitsForm, NamesPorts}
 use Rattle.mach_types.specs.Messages.{Form, short, long}
-use Rattle.mach_types.specs.TextGuards.{BadType, ItemRefuses, ItemsRefuse, word_at, data_length}
+use Rattle.mach_types.specs.TextGuards.{ItemRefuses, ItemsRefuse, data_length}
 use Rattle.type_descriptor.specs.Describes.{form_length}
 use Rattle.message_codec.proofs.Fronts.{IsFront, front_of, length-descriptor_text}
 

@@ -8,7 +8,7 @@ use Rattle.mach_types.specs.Tokens.{Kind, Request, no_senders, port_destroyed, d
 use Rattle.mach_model.specs.State.{same_request, request_at}
 use Rattle.mach_model.specs.Carried.{lying_among}
 use Rattle.mach_model.proofs.Names.{removed_own}
-use Rattle.mach_model.proofs.Rekeeping.{same_request_is}
+use Rattle.mach_model.proofs.Lost.{same_request_is}
 use Rattle.number_map.specs.Maps.{MapView}
 use Rattle.request_table.specs.declared.Request.{Request as NameRequest}
 use Rattle.request_table.specs.Requests.{RequestsView, name_key, key_of}

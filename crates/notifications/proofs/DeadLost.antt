@@ -6,8 +6,7 @@ use Rattle.std.specs.FinMap as map
 use Rattle.mach_types.specs.Tokens.{send_once, count, is_held}
 use Rattle.mach_model.specs.State.{State, Target, Names, at}
 use Rattle.mach_model.specs.References.{unused}
-use Rattle.mach_model.proofs.At.{at_own, at_other}
-use Rattle.mach_model.proofs.Spaces.{other_unnamed}
+use Rattle.mach_model.proofs.Names.{at_own, at_other, other_unnamed}
 use Rattle.name_space.specs.declared.Entry.{Entry}
 use Rattle.name_space.specs.declared.Entry.TheVariants as entry_of
 use Rattle.name_space.specs.Names.{SpaceView}
@@ -22,9 +21,8 @@ use Rattle.copyin_base.proofs.Requested.{requested_removed}
 use Rattle.copyin_base.proofs.Requesting.{stands_after}
 use Rattle.copyin_base.proofs.SendersNoted.{keeps_senders_same, senders_kept}
 use Rattle.notifications.proofs.Removing.{Part, with_part, ShowsPart}
-use Rattle.notifications.proofs.Owing.{posted_is}
-use Rattle.notifications.proofs.Parts.{shown, shown_is, lawful_naming, looked_up}
-use Rattle.notifications.proofs.RightsGone.{stood_left, fewer_left}
+use Rattle.notifications.proofs.MessageRights.{posted_is}
+use Rattle.notifications.proofs.TaskEnded.{shown, shown_is, lawful_naming, looked_up, stood_left, fewer_left}
 
 no_entry : (e : Entry) → None ≡ Some e → ⊥
 no_entry e f = cc

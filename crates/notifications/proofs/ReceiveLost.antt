@@ -1,45 +1,153 @@
--- A name lost its receive right and went: the tables show what is left of the task, and the port is one more of those that are orphans.
-use Rattle.std.proofs.Common.{◌≡◌, ℕ, ◌+◌, List, [], ◌∷◌, ◌++◌, Option, Some, None, refl, sym, ap, subst, ◌∙◌, arith, true, inl, inr}
-use Rattle.std.specs.Prelude.{if◌then◌else◌, Contains}
+-- A name lost its receive right as its task ends.
+use Rattle.std.proofs.Common.{◌≡◌, ℕ, ◌<◌, ◌≤◌, Option, Some, None, refl, sym, ap, subst, ◌∙◌, arith, true, inl, inr, ◌+◌, List, [], ◌∷◌, ◌++◌, Bool, false}
+use Rattle.std.specs.Prelude.{is_some, if◌then◌else◌, Contains, filter, not}
 use Rattle.std.specs.Option.{option_map}
 use Rattle.std.specs.FinMap as map
+use Rattle.std.proofs.lemmas.Bool.{eq-eqb}
 use Rattle.std.specs.Ordering.{nat_cmp}
 use Rattle.std.proofs.lemmas.Bool.Decides.{eqb_tells}
-use Rattle.std.proofs.lemmas.List.Elements.{Contains-append_left, Contains-append_right, Contains-append_cases}
-use Rattle.mach_types.specs.Tokens.{Kind, receive, send, send_once, Token, in_task, weigh, count, is_of, is_held}
-use Rattle.mach_model.specs.State.{State, Target}
-use Rattle.mach_model.specs.Lawful.{LawfulNames}
+use Rattle.std.proofs.lemmas.List.Elements.{Contains-append_left, Contains-append_right, Contains-append_cases, All-nil}
+use Rattle.std.proofs.Math.Path.{fun_ext}
+use Rattle.mach_types.specs.Tokens.{receive, send, Kind, send_once, Token, in_task, weigh, count, is_of, is_held, is_in_task}
+use Rattle.mach_model.specs.State.{State, Target, at}
+use Rattle.mach_model.specs.Lawful.{is_once, LawfulNames}
 use Rattle.mach_model.specs.ReceiveRight.{one_if}
+use Rattle.mach_model.proofs.Names.{some_tally, held_le_of, port_unnamed}
 use Rattle.mach_model.specs.References.{unused}
-use Rattle.mach_model.proofs.CopyingIn.{other_port}
-use Rattle.mach_model.proofs.Spaces.{port_unnamed}
-use Rattle.mach_model.proofs.Weigh.{held_le_of}
+use Rattle.mach_model.proofs.Copying.{other_port}
+use Rattle.rights.specs.Ledger.{IsEntered, counts_of, LedgerView, taken}
+use Rattle.rights.specs.declared.RightKind.TheVariants as right
 use Rattle.name_space.specs.declared.Entry.{Entry}
 use Rattle.name_space.specs.declared.Entry.TheVariants as entry_of
 use Rattle.name_space.specs.Entry.{port_named, has_receive, send_references}
 use Rattle.name_space.specs.Names.{SpaceView}
+use Rattle.port.specs.Holding.{CanHold, held as port_held}
+use Rattle.port.specs.Ports.{PortsView, IsLive, PortView, with_port}
 use Rattle.port.specs.declared.Holder.TheVariants as by
-use Rattle.port.specs.Ports.{PortView, PortsView, with_port}
-use Rattle.port.specs.Holding.{held as port_held}
-use Rattle.rights.specs.declared.RightKind.TheVariants as right
-use Rattle.rights.specs.Ledger.{LedgerView, counts_of, taken}
-use Rattle.copyin_base.specs.Changes.{SetsHolder}
+use Rattle.port_set.specs.Sets.{SetsView, removed, IsDisbanded}
 use Rattle.copyin_base.specs.Kept.{Kept}
+use Rattle.copyin_base.specs.Shows.{target_of, Agrees, Shows, HasCount, ShowsPort, HoldersAgree, CarriersAgree, RequestsStand, SlotsSuffice}
+use Rattle.copyin_base.specs.Worlds.{WorldView, space_at, entry_in, entry_at, port_at, space_in}
+use Rattle.copyin_base.proofs.Changing.{target_named}
+use Rattle.copyin_base.proofs.Gets.{seen}
+use Rattle.copyin_base.proofs.Told.{port_got}
+use Rattle.copyin_base.specs.Changes.{SetsHolder}
 use Rattle.copyin_base.specs.Posted.{with_posted}
-use Rattle.copyin_base.specs.Shows.{target_of, HasCount, ShowsPort, Agrees, HoldersAgree, CarriersAgree, RequestsStand, SlotsSuffice, Shows}
-use Rattle.copyin_base.specs.Worlds.{WorldView, space_in, entry_in, entry_at, port_at}
 use Rattle.copyin_base.proofs.Agreeing.{ports_put}
 use Rattle.copyin_base.proofs.Carriers.{carriers_same, carriers_held}
 use Rattle.copyin_base.proofs.Counting.{one_of, none_of_port}
 use Rattle.copyin_base.proofs.Holders.{ReceivesAt, same_receives, none_receives, unheld, KeepHolders, same_holders, put_holders_left, holder_set, holders_ports}
-use Rattle.copyin_base.proofs.Listed.{listed_one}
+use Rattle.copyin_base.proofs.Listed.{listed_one, none_listed}
 use Rattle.copyin_base.proofs.Reading.{same_put}
 use Rattle.copyin_base.proofs.Requested.{requested_removed, requested_put}
-use Rattle.copyin_base.proofs.SendersNoted.{keeps_senders, sends_taken, senders_kept}
-use Rattle.notifications.proofs.Removing.{Part, with_part, ShowsPart, ReceiveGoes}
-use Rattle.notifications.proofs.Parts.{shown, shown_is, held_shown, looked_up, part_lives}
-use Rattle.notifications.proofs.RightsGone.{kept_then, kept_unlike, kept_alike, none_held, part_then, is_part_then, tables_then, posted_then}
-use Rattle.notifications.proofs.SendsLost.{taken_counts}
+use Rattle.copyin_base.proofs.SendersNoted.{keeps_senders, sends_taken, senders_kept, senders_same}
+use Rattle.copyin_base.proofs.Unused.{held_and_queued}
+use Rattle.notifications.specs.Ending.{DropsSet}
+use Rattle.notifications.specs.Losing.{CanLose}
+use Rattle.notifications.specs.Posting.{CanPost}
+use Rattle.notifications.proofs.Removing.{ShowsPart, IsEnding, Part, with_part, ReceiveGoes, EndsFrom}
+use Rattle.notifications.proofs.TaskEnded.{shown, shown_is, looked_up, part_lives, part_once_lives, held_shown, kept_then, kept_unlike, kept_alike, none_held, part_then, is_part_then, tables_then, posted_then, taken_counts}
+
+-- ---- What the tables must be so that a name of a task that is ending can go: they are so, since they show what is left of it.
+
+pub entry_under : (w : WorldView) (task : ℕ) (space : SpaceView) → space_at w task ≡ Some space → (name : ℕ) → entry_at w task name ≡ map.get space.names name
+entry_under w task space there name = ap (λ (o : Option SpaceView). entry_in o name) there
+
+-- a name that is used has an entry
+pub named_there : (w : WorldView) (task : ℕ) (space : SpaceView) → space_at w task ≡ Some space → (name : ℕ) → map.contains_key space.names name ≡ true → is_some (entry_at w task name) ≡ true
+named_there w task space there name used = ap (λ (o : Option SpaceView). is_some (entry_in o name)) there ∙ used
+
+-- the space in which an entry stands
+pub record Stood (w : WorldView) (task name : ℕ) (e : Entry) : Type 0 where
+  pub space : SpaceView
+  pub there : space_at w task ≡ Some space
+  pub found : map.get space.names name ≡ Some e
+
+pub stood : (w : WorldView) (task name : ℕ) (e : Entry) → entry_at w task name ≡ Some e → Stood w task name e
+stood w task name e is = elim (seen (space_at w task)) [
+  | inl h ↦ record { space = h.0; there = h.1; found = sym (ap (λ (o : Option SpaceView). entry_in o name) h.1) ∙ is }
+  | inr h ↦ absurd (no_entry e (sym (ap (λ (o : Option SpaceView). entry_in o name) h) ∙ is))
+]
+  where
+    no_entry : (e : Entry) → None ≡ Some e → ⊥
+    no_entry e f = cc
+
+-- ---- what the tables show of a name
+
+module _ (w : WorldView) (task : ℕ) (ending : IsEnding w task) where
+  abbrev s : State
+  s = ending.stands.state
+
+  abbrev sh : Shows ending.start s
+  sh = ending.stands.shown
+
+  abbrev shows : ShowsPart 0 ending.start task s w
+  shows = ending.ends.shows 0 s sh
+
+  abbrev u : State
+  u = shown 0 s task shows.part
+
+  a : Agrees w u
+  a = subst (Agrees w) (shown_is 0 s task shows.part) shows.agrees
+
+  module _ (name : ℕ) (e : Entry) (found : entry_at w task name ≡ Some e) where
+    target_is : map.get shows.part.names name ≡ Some (target_of e)
+    target_is = sym (looked_up 0 s task shows.part sh.lawful shows.is_part name) ∙ a.naming task name ∙ ap (option_map target_of) found
+
+    module _ (p : ℕ) (named : port_named e ≡ Some p) where
+      lives : s.live_port p ≡ true
+      lives = part_lives 0 s task shows.part sh.lawful shows.is_part name p (target_is ∙ ap Some (target_named e p named))
+
+      pub port_lives : IsLive w.ports p
+      port_lives = a.live_port p ∙ lives
+
+      pub port_entered : IsEntered w.ledger p
+      port_entered = (a.counts p).entered ∙ lives
+
+      pub sends_counted : send_references e ≤ (counts_of w.ledger p).send
+      sends_counted =
+          let h = (a.references task name e p found named).1 in
+          let c = (a.counts p).senders in
+          let le = held_le_of task send p u.ledger in omega (arith, h, c, le)
+
+      pub receives_counted : has_receive e ≡ true → 0 < (counts_of w.ledger p).receive
+      receives_counted has =
+          let h = (a.references task name e p found named).0 in
+          let one : one_if (has_receive e) ≡ 1 = ap one_if has in
+          let c = (a.counts p).receivers in
+          let le = held_le_of task receive p u.ledger in omega (arith, h, one, c, le)
+
+      pub can_lose_port : has_receive e ≡ true → CanLose w p
+      can_lose_port has =
+          let v = port_got (port_at w p) port_lives in record {
+            v = v.0;
+            there = v.1;
+            held = subst CanHold (sym (shows.holders.held task name e p found named has v.0 v.1)) tt;
+            entered = port_entered;
+            counted = receives_counted has;
+          }
+
+  pub can_post_for : (name p : ℕ) → entry_at w task name ≡ Some (entry_of.SendOnce p) → CanPost w p
+  can_post_for name p found =
+      let is = target_is name (entry_of.SendOnce p) found in
+      let some = some_tally (is_once p) shows.part.names name (Target.once p) is (eq-eqb p p refl) in
+      let names = shows.is_part.named.once_names p in
+      let paid = shows.onces p in
+      record {
+        live = a.live_port p ∙ part_once_lives 0 s task shows.part sh.lawful shows.is_part name p is;
+        paid = omega (arith, some, names, paid);
+        slots = shows.slots;
+      }
+
+-- what losing a set writes
+pub set_dropped : (old x : WorldView) (set : ℕ) (ports : PortsView Kept) (sets : SetsView) → x ≡ old → sets ≡ removed x.sets set → IsDisbanded x.ports ports set →
+    DropsSet old set (record x { ports = ports; sets = sets })
+set_dropped old x set ports sets view gone disbanded = record {
+  disbanded = subst (λ (y : WorldView). IsDisbanded y.ports ports set) view disbanded;
+  rest = λ i. record (view i) { ports = ports; sets = (gone ∙ ap (λ (y : WorldView). removed y.sets set) view) i };
+}
+
+-- ---- A name lost its receive right and went: the tables show what is left of the task, and the port is one more of those that are orphans.
 
 pub receive_not_once : receive ≡ send_once → ⊥
 receive_not_once e = cc
@@ -67,16 +175,16 @@ module _ (now : ℕ) (start : WorldView) (task : ℕ) (s : State) (sh : Shows st
   abbrev x : Part
   x = sp.part
 
-  a : Agrees w (shown now s task x)
-  a = subst (Agrees w) (shown_is now s task x) sp.agrees
+  a_lost : Agrees w (shown now s task x)
+  a_lost = subst (Agrees w) (shown_is now s task x) sp.agrees
 
   held_before : (count (is_held task receive p) x.kept ≡ 1) × (count (is_held task send p) x.kept ≡ 0)
   held_before =
-      let h = a.references task name (entry_of.Receive p) p found refl in
+      let h = a_lost.references task name (entry_of.Receive p) p found refl in
       (sym (held_shown now s task x task receive p) ∙ h.0, sym (held_shown now s task x task send p) ∙ h.1)
 
   target : map.get x.names name ≡ Some (Target.port p)
-  target = sym (looked_up now s task x sh.lawful sp.is_part name) ∙ a.naming task name ∙ ap (option_map target_of) found
+  target = sym (looked_up now s task x sh.lawful sp.is_part name) ∙ a_lost.naming task name ∙ ap (option_map target_of) found
 
   live : s.live_port p ≡ true
   live = part_lives now s task x sh.lawful sp.is_part name p target
@@ -119,14 +227,14 @@ module _ (now : ℕ) (start : WorldView) (task : ℕ) (s : State) (sh : Shows st
 
   ports_show : (q : ℕ) (y : PortView Kept) → map.get lost_ports.ports q ≡ Some y → ShowsPort y (shown now s task x) q
   ports_show = ports_put w.ports.ports p (port_held vp by.Nobody) (shown now s task x)
-      (let b = a.ports p vp there in record { waiting = b.waiting; limit = b.limit; make_send = b.make_send; sequence = b.sequence; sets = b.sets })
-      (λ q y not is. a.ports q y is)
+      (let b = a_lost.ports p vp there in record { waiting = b.waiting; limit = b.limit; make_send = b.make_send; sequence = b.sequence; sets = b.sets })
+      (λ q y not is. a_lost.ports q y is)
 
   own_left : (e : Entry) → None ≡ Some e → HasCount e × (port_named e ≡ Some p) × (count (is_held task receive p) kept ≡ one_if (has_receive e)) × (count (is_held task send p) kept ≡ send_references e)
   own_left e is_e = absurd (no_entry e is_e)
 
   abbrev tables : WorldView
-  tables = tables_then now s task x sh.lawful sp.is_part receive receive_not_once p name None w a sp.requested space r.puts.there (entry_of.Receive p) at_name refl lost_ports refl
+  tables = tables_then now s task x sh.lawful sp.is_part receive receive_not_once p name None w a_lost sp.requested space r.puts.there (entry_of.Receive p) at_name refl lost_ports refl
       (same_put w.ports p vp (port_held vp by.Nobody) there) ports_show own_left
 
   tables_are : v ≡ tables
@@ -137,7 +245,7 @@ module _ (now : ℕ) (start : WorldView) (task : ℕ) (s : State) (sh : Shows st
 
   posted : Agrees v (with_posted now (with_part s task part) (unused part.gone))
   posted = subst (λ (y : WorldView). Agrees y (with_posted now (with_part s task part) (unused part.gone))) (sym tables_are)
-      (posted_then now s task x sh.lawful sp.is_part receive receive_not_once p name None w a sp.requested space r.puts.there (entry_of.Receive p) at_name refl lost_ports refl
+      (posted_then now s task x sh.lawful sp.is_part receive receive_not_once p name None w a_lost sp.requested space r.puts.there (entry_of.Receive p) at_name refl lost_ports refl
       (same_put w.ports p vp (port_held vp by.Nobody) there) ports_show own_left)
 
   lawful : LawfulNames (map.remove x.names name) (λ kind q. count (is_held task kind q) kept)
@@ -239,3 +347,67 @@ module _ (now : ℕ) (start : WorldView) (task : ℕ) (s : State) (sh : Shows st
         | inl h ↦ (o.0, ap (λ (k : ℕ). count (is_of receive k) kept) h.1 ∙ no_receive)
         | inr h ↦ (o.0, receives_other q h.1 ∙ o.1)
       ]
+
+-- ---- Before a task ends all of it is left.
+
+all_stay : (xs : List ℕ) → filter (λ k. not false) xs ≡ xs
+all_stay [] = refl
+all_stay (x ∷ xs) = ap (λ (ys : List ℕ). x ∷ ys) (all_stay xs)
+
+module _ (task : ℕ) (s : State) where
+  abbrev whole : Part
+  whole = record { names = s.naming task; stands = s.stands; disbanded = λ set. false; gone = []; kept = s.ledger }
+
+  naming_is : at s.naming task (s.naming task) ≡ s.naming
+  naming_is = fun_ext (λ q. elim (eqb_tells q task) [
+    | inl h ↦ rw h.0 (ap s.naming (sym h.1))
+    | inr h ↦ rw h.0 refl
+  ])
+
+  sets_are : ◌≡◌ {A = ℕ → List ℕ} (λ (p : ℕ). filter (λ k. not false) (s.sets_of p)) s.sets_of
+  sets_are = fun_ext (λ p. all_stay (s.sets_of p))
+
+  whole_is : with_part s task whole ≡ s
+  whole_is = λ i. record s { naming = naming_is i; sets_of = sets_are i }
+
+module _ (now : ℕ) (start : WorldView) (task : ℕ) (s : State) (sh : Shows start s) where
+  onces : (p : ℕ) (b : Bool) → s.live_port p ≡ b → count (is_held task send_once p) s.ledger ≤ (counts_of start.ledger p).send_once
+  onces p true live =
+      let h = held_and_queued s sh.lawful p live task in
+      let c = sh.agrees.counts p in
+      let r = c.once_rights in
+      let d = c.destinations live in omega (arith, h, r, d)
+  onces p false dead = let z = sh.lawful.no_rights p dead send_once in let le = held_le_of task send_once p s.ledger in omega (arith, z, le)
+
+  not_orphan : (p : ℕ) → (s.live_port p ≡ true) × (count (is_of receive p) s.ledger ≡ 0) → ⊥
+  not_orphan p o = let one = sh.lawful.one_receive p o.0 in let none = o.1 in omega (arith, one, none)
+
+  pub starts : ShowsPart now start task s start
+  starts = record {
+    part = whole task s;
+    is_part = record {
+      fewer = λ n t e. e;
+      named = sh.lawful.naming task;
+      stood = λ r. inl refl;
+      owned = λ set e. absurd (let f : false ≡ true = e in cc);
+      moves = λ h. omega arith;
+      own = All-nil (λ y. is_in_task task y.place ≡ true);
+    };
+    agrees = subst (Agrees start) (sym (whole_is task s)) sh.agrees;
+    holders = sh.holders;
+    carriers = sh.carriers;
+    slots = sh.slots;
+    requested = sh.requested;
+    notes = senders_same start sh.idle.noted;
+    left = record {
+      doomed = sh.idle.none_lost.doomed;
+      destroyed = sh.idle.none_lost.destroyed;
+      lost = λ p c. absurd (none_listed start.ports.lost sh.idle.none_lost.lost p c);
+      orphans = λ p o. absurd (not_orphan p o);
+    };
+    sends = λ p. omega arith;
+    onces = λ p. onces p (s.live_port p) refl;
+  }
+
+pub ends_first : (start : WorldView) (task : ℕ) → EndsFrom start task start
+ends_first start task = record { shows = λ now s sh. starts now start task s sh }

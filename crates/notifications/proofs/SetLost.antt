@@ -7,8 +7,7 @@ use Rattle.std.proofs.Math.Path.{fun_ext}
 use Rattle.mach_types.specs.Tokens.{send_once, count, is_held}
 use Rattle.mach_model.specs.State.{State, Target, Names, lookup, at}
 use Rattle.mach_model.specs.References.{unused}
-use Rattle.mach_model.proofs.At.{at_own, at_other}
-use Rattle.mach_model.proofs.Spaces.{other_unnamed}
+use Rattle.mach_model.proofs.Names.{at_own, at_other, other_unnamed}
 use Rattle.name_space.specs.declared.Entry.{Entry}
 use Rattle.name_space.specs.declared.Entry.TheVariants as entry_of
 use Rattle.name_space.specs.Names.{SpaceView}
@@ -33,9 +32,8 @@ use Rattle.copyin_base.proofs.Requesting.{same_key, stands_after, requests_left}
 use Rattle.copyin_base.proofs.SendersNoted.{keeps_senders_same, senders_kept}
 use Rattle.copyin_base.proofs.Written.{disbanded_ports}
 use Rattle.notifications.proofs.Removing.{Part, with_part, ShowsPart, SetGoes}
-use Rattle.notifications.proofs.Owing.{posted_is}
-use Rattle.notifications.proofs.Parts.{shown, shown_is, looked_up}
-use Rattle.notifications.proofs.RightsGone.{stood_left, fewer_left}
+use Rattle.notifications.proofs.MessageRights.{posted_is}
+use Rattle.notifications.proofs.TaskEnded.{shown, shown_is, looked_up, stood_left, fewer_left}
 
 no_some : {A : Type 0} (x : A) → None ≡ Some x → ⊥
 no_some x e = cc

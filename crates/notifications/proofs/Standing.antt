@@ -16,7 +16,7 @@ use Rattle.copyin_base.specs.Shows.{IsOnName, RequestsStand}
 use Rattle.copyin_base.specs.Worlds.{WorldView, entry_at}
 use Rattle.copyin_base.proofs.Gets.{same_found}
 use Rattle.copyin_base.proofs.Putting.{get_removed, put_own, put_other}
-use Rattle.copyout.proofs.GivenSound.{AreSound}
+use Rattle.copyout.proofs.GivenAll.{AreSound}
 use Rattle.notifications.specs.declared.request.Subject.{Subject}
 use Rattle.notifications.specs.declared.request.Subject.TheVariants.{Receive, Senders, Live, Dead}
 use Rattle.notifications.specs.Putting.{taken_at, name_taken, taken_away, with_kept}

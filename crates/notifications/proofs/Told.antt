@@ -6,7 +6,6 @@ use Rattle.std.specs.Ordering.{nat_cmp}
 use Rattle.mach_types.specs.declared.rights.Disposition.TheVariants.{MoveReceive}
 use Rattle.copyin_base.specs.declared.message.Carried.{Carried}
 use Rattle.copyin_base.specs.declared.message.Mark.TheVariants as mark
-use Rattle.mach_model.specs.State.{queue}
 use Rattle.port.specs.Ports.{PortView}
 use Rattle.copyin_base.specs.declared.notice.Notice.{Notice}
 use Rattle.copyin_base.specs.Kept.{Kept}
@@ -16,7 +15,7 @@ use Rattle.copyin_base.proofs.Carriers.{carriers_queued}
 use Rattle.copyin_base.proofs.Holders.{KeepHolders, holders_ports, put_holders}
 use Rattle.copyin_base.proofs.Idle.{none_lost_by}
 use Rattle.copyin_base.proofs.Requested.{requested_put}
-use Rattle.copyout.proofs.GivenSound.{AreSound}
+use Rattle.copyout.proofs.GivenAll.{AreSound}
 use Rattle.notifications.specs.Posting.{Posts}
 
 -- a notice that carries no right

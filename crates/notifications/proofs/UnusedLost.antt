@@ -12,11 +12,8 @@ use Rattle.mach_model.specs.State.{State, Target, Names, at}
 use Rattle.mach_model.specs.Lawful.{LawfulNames, is_once}
 use Rattle.mach_model.specs.Notices.{Notice, right_unused, Owed}
 use Rattle.mach_model.specs.References.{unused}
-use Rattle.mach_model.proofs.At.{at_own, at_other}
-use Rattle.mach_model.proofs.CopyingIn.{own_task}
-use Rattle.mach_model.proofs.Names.{some_tally}
-use Rattle.mach_model.proofs.Spaces.{other_unnamed}
-use Rattle.mach_model.proofs.Weigh.{weigh-append}
+use Rattle.mach_model.proofs.Names.{at_own, at_other, some_tally, other_unnamed, weigh-append}
+use Rattle.mach_model.proofs.Copying.{own_task}
 use Rattle.mach_types.specs.Messages.{Entry as LogEntry}
 use Rattle.name_space.specs.declared.Entry.{Entry}
 use Rattle.name_space.specs.declared.Entry.TheVariants as entry_of
@@ -40,10 +37,9 @@ use Rattle.copyin_base.proofs.Requesting.{stands_after}
 use Rattle.copyin_base.proofs.SendersNoted.{keeps_senders, sends_shifted, senders_kept, counts_own, counts_other}
 use Rattle.copyin_base.proofs.Taking.{Without, take_held}
 use Rattle.notifications.proofs.Removing.{Part, with_part, IsPart, ShowsPart, OnceGoes}
-use Rattle.notifications.proofs.Owing.{brought, logs_longer, log_with, logs_with, logs_more, rights_with, rights_more, rights_weigh, posted_is, unused_append}
-use Rattle.notifications.proofs.Posted.{told_agrees}
-use Rattle.notifications.proofs.Parts.{shown, shown_is, lawful_naming, looked_up}
-use Rattle.notifications.proofs.RightsGone.{stood_left, fewer_left}
+use Rattle.notifications.proofs.MessageRights.{brought, logs_longer, log_with, logs_with, logs_more, rights_with, rights_more, rights_weigh, posted_is, unused_append}
+use Rattle.notifications.proofs.NoticePosted.{told_agrees}
+use Rattle.notifications.proofs.TaskEnded.{shown, shown_is, lawful_naming, looked_up, stood_left, fewer_left}
 
 no_entry : (e : Entry) → None ≡ Some e → ⊥
 no_entry e f = cc

@@ -1,7 +1,6 @@
 -- Whole ports once a port came or went, and before any.
 use Rattle.std.proofs.Common.{◌≡◌, ◌≢◌, inl, inr, ℕ, ◌+◌, ◌<◌, ◌≤◌, ◌^◌, refl, ap, sym, subst, ◌∙◌, Option, Some, None, List, [], length, get_or, IsTrue, Bool, true, false, not, is_some, arith}
 use Rattle.std.specs.Option.{SomeIff}
-use Rattle.std.specs.List.{sum_by}
 use Rattle.std.specs.Ordering.{nat_cmp}
 use Rattle.std.specs.FinMap as map
 use Rattle.slab.specs.Slab.{Slab, get}

@@ -1,9 +1,9 @@
 -- The turns in a set that a port leaves, joins or has nothing to do with.
-use Rattle.std.proofs.Common.{arith, ◌≡◌, ◌≢◌, ℕ, Bool, true, false, cond, Option, Some, None, List, [], ◌∷◌, ◌++◌, refl, ap, sym, ◌∙◌}
+use Rattle.std.proofs.Common.{arith, ◌≡◌, ◌≢◌, ℕ, Option, Some, None, List, [], ◌∷◌, ◌++◌, refl, ap, sym}
 use Rattle.std.specs.Prelude.{unwrap_or}
 use Rattle.member_lists.specs.Lists.{without}
 use Rattle.port.specs.Turns.{ReadyLists, turns_of, with_turns, left, joined, ready_if}
-use Rattle.port.specs.Ports.{PortView, ready_in, keeps_turn, turned}
+use Rattle.port.specs.Ports.{PortView, ready_in, turned}
 use Rattle.port.proofs.Keys.{put_here, put_other, out_here, out_other}
 
 pub turns_here : (t : ReadyLists) (set : ℕ) (ys : List ℕ) → turns_of (with_turns t set ys) set ≡ ys

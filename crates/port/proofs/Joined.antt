@@ -1,5 +1,5 @@
 -- The list of a port's set once a message more lies in the port's queue.
-use Rattle.std.proofs.Common.{arith, ◌≡◌, ℕ, cond, Option, Some, None, IsSome, List, [], ◌∷◌, ◌++◌, ap, sym, subst, ◌∙◌}
+use Rattle.std.proofs.Common.{arith, ◌≡◌, ℕ, cond, Option, None, IsSome, List, [], ◌∷◌, ◌++◌}
 use Rattle.member_lists.specs.Lists.{ListsView}
 use Rattle.port.specs.Ready.{StandsIn, IsMoved, out_of, at_end}
 use Rattle.port.specs.Records.{readied_if}

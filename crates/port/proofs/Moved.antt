@@ -2,11 +2,10 @@
 use Rattle.std.proofs.Common.{◌≡◌, ◌≢◌, inl, inr, ℕ, not, eqb, Option, Some, None, List, [], ◌∷◌, ◌++◌, refl, ap, sym, subst, ◌∙◌, arith, Contains}
 use Rattle.std.proofs.lemmas.List.Elements.{Contains-append_left, Contains-push_cases}
 use Rattle.member_lists.specs.Lists.{ListsView, list_of, with_list, without, IsApart}
-use Rattle.member_lists.proofs.Times.{times_from_Contains, Contains_from_times, times-filter_in, times-filter_passes, times-filter_most, eqb_same, eqb_other}
+use Rattle.member_lists.proofs.Times.{times_from_Contains, Contains_from_times, times-filter_in, times-filter_passes, times-filter_most, eqb_other}
 use Rattle.member_lists.proofs.Listed.{list_same, list_other, items_same, in_pushed}
 use Rattle.port.specs.Ready.{StandsIn, IsMoved}
 use Rattle.port.proofs.Keys.{same_some, equal_or_not}
-use Rattle.port.proofs.Sound.{no_true}
 
 no_some : (l : ℕ) → None ≡ Some l → ⊥
 no_some l e = cc

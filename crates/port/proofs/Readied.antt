@@ -12,7 +12,7 @@ use Rattle.port.specs.Turns.{ReadyLists, turns_of, ready_if}
 use Rattle.port.specs.Ports.{PortView, PortsView, IsReadyIn, NoneReadyIn, IsIn, NoneIn}
 use Rattle.port.specs.Ready.{StandsIn, IsMoved}
 use Rattle.port.proofs.Moved.{moved_none}
-use Rattle.port.specs.Records.{ports_of, made_of, id_in, ids_at, ready_set, member_set, waiting_list, noting_list, IsListed, IsReadied, IsMembered, IsSound, IsKept}
+use Rattle.port.specs.Records.{ports_of, made_of, id_in, ids_at, ready_set, IsListed, IsReadied, IsMembered, IsSound, IsKept}
 use Rattle.port.proofs.Keys.{same_some, some_or_none, equal_or_not}
 use Rattle.port.proofs.Records.{Keyed, port_of, Turns}
 use Rattle.port.proofs.Sound.{turns-set, live_port, live_at, record_at}

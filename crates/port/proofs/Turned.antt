@@ -1,5 +1,5 @@
 -- The turns of the ready ports, from the lists of their keys.
-use Rattle.std.proofs.Common.{◌≡◌, ◌≢◌, inl, inr, ℕ, ◌<◌, ◌≤◌, Bool, true, false, cond, ◌&&◌, not, eqb, Option, Some, None, List, [], ◌∷◌, ◌++◌, length, slice_get, refl, ap, sym, subst, ◌∙◌, arith, Contains}
+use Rattle.std.proofs.Common.{◌≡◌, ◌≢◌, inl, inr, ℕ, ◌<◌, ◌≤◌, Bool, true, false, cond, not, eqb, Option, Some, None, List, [], ◌∷◌, ◌++◌, length, slice_get, refl, ap, sym, subst, ◌∙◌, arith, Contains}
 use Rattle.std.specs.Prelude.{unwrap_or, leb}
 use Rattle.std.specs.Option.{option_map}
 use Rattle.std.specs.FinMap as map
@@ -7,14 +7,14 @@ use Rattle.std.specs.Ordering.{nat_cmp}
 use Rattle.std.proofs.lemmas.Bool.Decides.{leb_tells}
 use Rattle.member_lists.specs.Lists.{ListsView, list_of, with_list, without}
 use Rattle.member_lists.specs.Chains.{times}
-use Rattle.member_lists.proofs.Times.{times_here, times_more, Contains_from_times, eqb_same, eqb_other}
+use Rattle.member_lists.proofs.Times.{times_here, times_more, Contains_from_times, eqb_same}
 use Rattle.slab.specs.Slab.{Slab, get, with_value}
 use Rattle.port.specs.declared.Record.{Record}
 use Rattle.port.specs.Turns.{ReadyLists, turns_of, with_turns, left, joined, same_set}
 use Rattle.port.specs.Ready.{out_of, at_end}
 use Rattle.port.specs.Ports.{PortsView, turned}
 use Rattle.port.specs.Records.{ports_of, id_in, ids_at, turns_at, made_of, ready_set, IsIndexed, IsListed, IsReadied, IsSound}
-use Rattle.port.proofs.Keys.{same_some, some_or_none, equal_or_not, put_here, put_other, out_here, out_other, same_gets}
+use Rattle.port.proofs.Keys.{some_or_none, equal_or_not, put_here, put_other, out_here, out_other, same_gets}
 use Rattle.member_lists.proofs.Values.{get-with_values, len-with_values}
 use Rattle.port.proofs.Records.{Keyed, port_of}
 use Rattle.port.proofs.Readied.{ready_none}

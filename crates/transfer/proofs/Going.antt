@@ -25,7 +25,7 @@ use Rattle.copyin_base.proofs.Gets.{same_found}
 use Rattle.copyin_base.proofs.Told.{found}
 use Rattle.copyin.specs.Copies.{copied_from}
 use Rattle.copyin.specs.declared.copies.Copied.{Copied}
-use Rattle.copyin.proofs.Numbering.{number_of, given_ports}
+use Rattle.copyin.proofs.Judging.{number_of, given_ports}
 use Rattle.copyin.proofs.Refused.{legal_copies}
 use Rattle.transfer.specs.Transfer.{going_guards}
 

@@ -18,9 +18,9 @@ use Rattle.mach_model.specs.CopyIn.{put_by, CopyRight}
 use Rattle.mach_model.specs.CopyOut.{HasNoRoom, NeedsName}
 use Rattle.mach_model.specs.Transfer.{inserted_guards, extracted_guards}
 use Rattle.mach_model.specs.Carried.{lying, mark_count}
-use Rattle.mach_model.proofs.Weigh.{length-weigh, lying_le_of}
+use Rattle.mach_model.proofs.Names.{length-weigh, lying_le_of}
 use Rattle.mach_model.proofs.Settling.{kind_refl}
-use Rattle.mach_model.proofs.CopyingIn.{not_held}
+use Rattle.mach_model.proofs.Copying.{not_held}
 use Rattle.name_space.specs.declared.Entry.{Entry}
 use Rattle.name_space.specs.Entry.{port_named, send_references}
 use Rattle.copyin_base.specs.Worlds.{WorldView}

@@ -11,10 +11,10 @@ use Rattle.mach_types.specs.Messages.{to_port}
 use Rattle.mach_model.specs.State.{State}
 use Rattle.mach_model.specs.CopyIn.{CopyRight}
 use Rattle.mach_model.specs.Carried.{mark_count}
-use Rattle.mach_model.proofs.Weigh.{lying_le_of}
+use Rattle.mach_model.proofs.Names.{lying_le_of}
 use Rattle.mach_model.proofs.Settling.{kind_refl}
 use Rattle.mach_model.proofs.Moving.{moving}
-use Rattle.mach_model.proofs.CopyingIn.{Copies, CopyRight-copies}
+use Rattle.mach_model.proofs.Copying.{Copies, CopyRight-copies}
 use Rattle.name_space.specs.declared.Entry.{Entry}
 use Rattle.name_space.specs.Names.{Names, SpaceView}
 use Rattle.copyin_base.specs.declared.message.Carried.{Carried}
@@ -27,13 +27,10 @@ use Rattle.copyin_base.proofs.SendersNoted.{KeepsSenders}
 use Rattle.copyin.specs.declared.copies.Copied.{Copied}
 use Rattle.copyin.specs.Copies.{copied_from, CopiesRight}
 use Rattle.copyin.specs.Planned.{CanCopy}
-use Rattle.copyin.proofs.CarriersKept.{copied_carriers}
+use Rattle.copyin.proofs.HoldersKept.{copied_carriers, copied_holders}
 use Rattle.copyin.proofs.CopiedIn.{after}
-use Rattle.copyin.proofs.HoldersKept.{copied_holders}
-use Rattle.copyin.proofs.RequestedKept.{copied_requested}
-use Rattle.copyin.proofs.SendersKept.{copied_senders, copied_none_lost}
-use Rattle.copyin.proofs.Stepping.{Went, went}
-use Rattle.copyout.proofs.GivenSound.{AreSound}
+use Rattle.copyin.proofs.Copying.{copied_requested, copied_senders, copied_none_lost, Went, went}
+use Rattle.copyout.proofs.GivenAll.{AreSound}
 use Rattle.transfer.specs.declared.judge.Going.{Going}
 use Rattle.transfer.specs.Transfer.{CanGo, left_at, names_in, fewer_if, names_left, rights_then}
 use Rattle.copyin_base.proofs.Spaces.{space-set_same, space-set_other}

@@ -9,7 +9,7 @@ use Rattle.mach_types.specs.Tokens.{Kind, receive, send, send_once, in_message}
 use Rattle.mach_types.specs.Guards.{NoneHolds}
 use Rattle.mach_model.specs.State.{State}
 use Rattle.mach_model.specs.Carried.{lying}
-use Rattle.mach_model.proofs.Weigh.{lying_le_of}
+use Rattle.mach_model.proofs.Names.{lying_le_of}
 use Rattle.name_space.specs.declared.Entry.{Entry}
 use Rattle.name_space.specs.Entry.{port_named}
 use Rattle.name_space.specs.Names.{SpaceView, IsUsable}

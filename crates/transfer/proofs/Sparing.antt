@@ -23,11 +23,11 @@ use Rattle.copyin_base.proofs.Spares.{keeps_same, keeps_space, place_keeps}
 use Rattle.rights.specs.Ledger.{LedgerView}
 use Rattle.copyin.specs.Copies.{CopiesRight, port_copied, ports_copied}
 use Rattle.copyin.specs.Slots.{once_made_by_mark}
-use Rattle.copyin.proofs.SlotsKept.{copied_once}
+use Rattle.copyin.proofs.Committing.{copied_once}
 use Rattle.copyout.specs.Giving.{GivesMark}
 use Rattle.copyout.specs.Putting.{PutsPort}
-use Rattle.copyout.proofs.Spared.{put_keeps, given_keeps}
-use Rattle.copyout.proofs.Slots.{put_unused, mark_unused}
+use Rattle.copyout.proofs.Given.{put_keeps, given_keeps}
+use Rattle.copyout.proofs.Delivered.{put_unused, mark_unused}
 use Rattle.transfer.specs.declared.judge.Handed.{Handed}
 use Rattle.transfer.specs.declared.judge.TaskName.{TaskName}
 use Rattle.transfer.specs.Transfer.{under_guards, out_guards, names_needed, MayInsert, MayExtract}

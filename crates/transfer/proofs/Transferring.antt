@@ -31,7 +31,7 @@ use Rattle.copyin_base.specs.Shows.{target_of, Agrees, SlotsSuffice, Shows}
 use Rattle.copyin_base.specs.Stands.{Stands}
 use Rattle.copyin_base.specs.Worlds.{WorldView, space_at, HasTask}
 use Rattle.copyin_base.specs.declared.message.Mark.TheVariants as mark
-use Rattle.mach_model.proofs.Quiet.{LosesNone}
+use Rattle.mach_model.proofs.Midway.{LosesNone}
 use Rattle.copyin_base.proofs.Acting.{Does-so, refused_later, done}
 use Rattle.copyin_base.proofs.Roomier.{room_made, place_kept, room_refl, room_entry, room_shows, slots_show}
 use Rattle.copyin_base.proofs.SendersNoted.{senders_same, senders_kept, keeps_senders_trans}
@@ -41,14 +41,14 @@ use Rattle.copyin.specs.Copies.{CopiesRight}
 use Rattle.copyin.specs.Judging.{made_by_mark}
 use Rattle.copyin.specs.Planned.{CanCopy}
 use Rattle.copyin.specs.Slots.{once_made_by_mark}
-use Rattle.copyin.proofs.SlotsKept.{copied_once}
+use Rattle.copyin.proofs.Committing.{copied_once}
 use Rattle.copyout.specs.Giving.{alone, GivesPort, GivesMark}
 use Rattle.copyout.specs.Putting.{CanPut, PutsPort}
 use Rattle.copyout.specs.Ready.{CanGive}
 use Rattle.copyout.proofs.Given.{Put, port_put, Given, port_given}
-use Rattle.copyout.proofs.FrontNoted.{notes_roomier}
-use Rattle.copyout.proofs.GivenSound.{StaySound, port_put_sound, port_given_sound}
-use Rattle.copyout.proofs.Slots.{put_slots, mark_slots}
+use Rattle.copyout.proofs.Fronts.{notes_roomier}
+use Rattle.copyout.proofs.GivenAll.{StaySound, port_put_sound, port_given_sound}
+use Rattle.copyout.proofs.Delivered.{put_slots, mark_slots}
 use Rattle.transfer.specs.declared.judge.Going.{Going}
 use Rattle.transfer.specs.declared.judge.Handed.{Handed}
 use Rattle.transfer.specs.declared.judge.TaskName.{TaskName}

@@ -1,14 +1,13 @@
 -- Descriptors and their texts.
-use Rattle.std.proofs.Common.{◌≡◌, ◌≢◌, ℕ, ◌+◌, ◌*◌, ◌/◌, ◌%◌, ◌^◌, ◌<◌, ◌≤◌, ◌⊎◌, inl, inr, Bool, true, false, List, [], ◌∷◌, ◌++◌, length, drop, refl, sym, ap, subst, ◌∙◌, arith}
+use Rattle.std.proofs.Common.{◌≡◌, ℕ, ◌+◌, ◌*◌, ◌/◌, ◌%◌, ◌^◌, ◌<◌, ◌≤◌, ◌⊎◌, inl, inr, Bool, true, false, List, ◌++◌, length, drop, refl, ap, subst, ◌∙◌, arith}
 use Rattle.std.proofs.lemmas.Bool.{cases_eq}
 use Rattle.mach_types.specs.declared.codes.MsgReturn.TheVariants.{SendMsgTooSmall, SendInvalidType}
-use Rattle.mach_types.specs.Grammar.{word, half, descriptor_text, FitsForm, NamesPorts}
-use Rattle.mach_types.specs.Guards.{FirstIs}
-use Rattle.mach_types.specs.Messages.{Form, short, long}
+use Rattle.mach_types.specs.Grammar.{word, half, descriptor_text, NamesPorts}
+use Rattle.mach_types.specs.Messages.{short, long}
 use Rattle.mach_types.specs.Numbers.{msg_number}
 use Rattle.mach_types.specs.TextGuards.{BadType, DescriptorFields, is_bit, word_at}
 use Rattle.type_descriptor.specs.declared.descriptor.Descriptor.{Descriptor}
-use Rattle.type_descriptor.specs.Describes.{Describes, DescriptorRefuses, IsDescriptor, form_of, form_length, text_of}
+use Rattle.type_descriptor.specs.Describes.{Describes, DescriptorRefuses, form_of, form_length}
 use Rattle.type_descriptor.specs.Fields.{HasFields, IsCutLong}
 use Rattle.type_descriptor.proofs.ByteWords.{AreBytes, word-word_at, word_at-lt}
 

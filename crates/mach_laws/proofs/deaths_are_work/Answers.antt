@@ -1,4 +1,4 @@
-use Rattle.mach_laws.proofs.Looking.{fewer_deaths}
+use Rattle.mach_laws.proofs.Meanings.{fewer_deaths}
 use Rattle.mach_laws.proofs.deaths_are_work.Goals as goal
 
 pub returns : goal.returns

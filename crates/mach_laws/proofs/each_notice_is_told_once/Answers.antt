@@ -1,6 +1,6 @@
 use Rattle.std.proofs.Common.{length}
 use Rattle.mach_model.proofs.StepLawful.{Run-lawful, Does-mid}
-use Rattle.mach_model.proofs.SettledNotices.{told_weight}
+use Rattle.mach_model.proofs.SettledLawful.{told_weight}
 use Rattle.mach_laws.proofs.each_notice_is_told_once.Goals as goal
 
 pub returns : goal.returns

@@ -1,4 +1,4 @@
-use Rattle.mach_laws.proofs.Answered.{empty_is_empty, empty_is_none}
+use Rattle.mach_laws.proofs.Playing.{empty_is_empty, empty_is_none}
 use Rattle.mach_laws.proofs.empty_means_empty.Goals as goal
 
 pub returns-clause-named : goal.returns-clause-named

@@ -1,4 +1,4 @@
-use Rattle.mach_laws.proofs.Grouped.{grouped_run}
+use Rattle.mach_laws.proofs.Playing.{grouped_run}
 use Rattle.mach_laws.proofs.grouped_port.Goals as goal
 
 pub returns : goal.returns

@@ -1,6 +1,6 @@
 use Rattle.std.proofs.Common.{length}
 use Rattle.mach_model.proofs.StepLawful.{Run-lawful}
-use Rattle.mach_laws.proofs.Looking.{Step-looks}
+use Rattle.mach_laws.proofs.Meanings.{Step-looks}
 use Rattle.mach_laws.proofs.looks_change_nothing.Goals as goal
 
 pub returns : goal.returns

@@ -1,6 +1,6 @@
 use Rattle.std.proofs.Common.{length}
 use Rattle.mach_model.proofs.StepLawful.{Run-lawful, Does-mid}
-use Rattle.mach_laws.proofs.Senders.{senders_kept}
+use Rattle.mach_laws.proofs.Counted.{senders_kept}
 use Rattle.mach_laws.proofs.no_sender_appears.Goals as goal
 
 pub returns : goal.returns

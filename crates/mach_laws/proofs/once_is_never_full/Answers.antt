@@ -1,4 +1,4 @@
-use Rattle.mach_laws.proofs.SendCodes.{never_full}
+use Rattle.mach_laws.proofs.Refusals.{never_full}
 use Rattle.mach_laws.proofs.once_is_never_full.Goals as goal
 
 pub returns : goal.returns

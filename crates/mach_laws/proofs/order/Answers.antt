@@ -1,4 +1,4 @@
-use Rattle.mach_laws.proofs.Ordered.{path_ordered}
+use Rattle.mach_laws.proofs.Steps.{path_ordered}
 use Rattle.mach_laws.proofs.order.Goals as goal
 
 pub returns : goal.returns

@@ -1,6 +1,6 @@
 use Rattle.mach_model.proofs.StepLawful.{Run-lawful}
 use Rattle.mach_model.proofs.EndingLawful.{EndsTask-mid, DestroysFront-mid}
-use Rattle.mach_model.proofs.RequestsLawful.{Requests-mid}
+use Rattle.mach_model.proofs.LosingLawful.{Requests-mid}
 use Rattle.mach_model.proofs.SettledEnd.{can_end}
 use Rattle.mach_model.proofs.SettledLawful.{settled_lawful}
 use Rattle.mach_laws.proofs.parts_can_end.Goals as goal

@@ -1,4 +1,4 @@
-use Rattle.mach_laws.proofs.Answered.{refusal_leaves}
+use Rattle.mach_laws.proofs.Playing.{refusal_leaves}
 use Rattle.mach_laws.proofs.refusals_change_nothing.Goals as goal
 
 pub returns : goal.returns

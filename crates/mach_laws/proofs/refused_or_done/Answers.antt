@@ -1,6 +1,6 @@
 use Rattle.std.proofs.Common.{length}
 use Rattle.mach_model.proofs.StepLawful.{Run-lawful}
-use Rattle.mach_laws.proofs.Excluding.{refused_not_done}
+use Rattle.mach_laws.proofs.Deciding.{refused_not_done}
 use Rattle.mach_laws.proofs.refused_or_done.Goals as goal
 
 pub returns : goal.returns

@@ -1,5 +1,5 @@
 use Rattle.mach_model.specs.State.{opening}
-use Rattle.mach_laws.proofs.Walking.{run_stages, path_runs}
+use Rattle.mach_laws.proofs.Steps.{run_stages, path_runs}
 use Rattle.mach_laws.proofs.runs_are_paths.Goals as goal
 
 pub returns-clause-stages : goal.returns-clause-stages

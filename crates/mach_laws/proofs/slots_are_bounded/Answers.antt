@@ -1,4 +1,4 @@
-use Rattle.mach_laws.proofs.Followed.{slots_bounded}
+use Rattle.mach_laws.proofs.Dying.{slots_bounded}
 use Rattle.mach_laws.proofs.slots_are_bounded.Goals as goal
 
 pub returns : goal.returns

@@ -1,5 +1,5 @@
 use Rattle.mach_model.proofs.StepLawful.{Run-lawful}
-use Rattle.mach_laws.proofs.Needed.{needed, ending_needs}
+use Rattle.mach_laws.proofs.Slots.{needed, ending_needs}
 use Rattle.mach_laws.proofs.slots_that_are_needed.Goals as goal
 
 pub returns-clause-needed : goal.returns-clause-needed

@@ -6,7 +6,7 @@ use Rattle.copyin_base.specs.Queued.{notice_kept}
 use Rattle.copyin_base.specs.Shows.{SlotsSuffice}
 use Rattle.copyin_base.specs.Worlds.{WorldView, port_at}
 use Rattle.copyin_base.proofs.Told.{port_got}
-use Rattle.notifications.proofs.Written.{with_message, some_spare, slots_posted, posted_given, posted_written}
+use Rattle.notifications.proofs.NoticePosted.{with_message, some_spare, slots_posted, posted_given, posted_written}
 use Rattle.notifications.proofs.post.Goals as goal
 
 pub enqueue-requires-clause-spare : goal.enqueue-requires-clause-spare

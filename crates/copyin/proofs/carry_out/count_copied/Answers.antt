@@ -1,5 +1,5 @@
 use Rattle.copyin.specs.Copies.{ledger_copied}
-use Rattle.copyin.proofs.Tables.{copied_given, copied_written}
+use Rattle.copyin.proofs.Copying.{copied_given, copied_written}
 use Rattle.copyin.proofs.carry_out.count_copied.Goals as goal
 
 pub invariant_of-world : goal.invariant_of-world

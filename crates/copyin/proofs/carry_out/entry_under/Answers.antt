@@ -1,7 +1,7 @@
 use Rattle.std.proofs.Common.{Option, IfSome, sym, subst}
 use Rattle.name_space.specs.declared.Entry.{Entry}
 use Rattle.copyin_base.specs.Changes.{IsForLive}
-use Rattle.copyin.proofs.Tables.{is_for_live}
+use Rattle.copyin.proofs.Copying.{is_for_live}
 use Rattle.copyin.proofs.carry_out.entry_under.Goals as goal
 
 pub returns-clause-lives : goal.returns-clause-lives

@@ -4,8 +4,8 @@ use Rattle.name_space.specs.declared.Entry.{Entry}
 use Rattle.copyin.specs.declared.copies.Copied.{Copied}
 use Rattle.copyin_base.specs.Changes.{IsForLive, PutsLeft}
 use Rattle.copyin.proofs.Going.{same_left, same_port}
-use Rattle.copyin.proofs.Leaving.{stays_put}
-use Rattle.copyin.proofs.Tables.{left_lives}
+use Rattle.copyin.proofs.HoldersKept.{stays_put}
+use Rattle.copyin.proofs.Copying.{left_lives}
 use Rattle.copyin.proofs.carry_out.leave_name.Goals as goal
 
 pub put_left-requires : goal.put_left-requires

@@ -6,7 +6,7 @@ use Rattle.copyin_base.specs.Kept.{Kept}
 use Rattle.copyin_base.specs.Worlds.{WorldView, port_at}
 use Rattle.copyin_base.proofs.Told.{port_got}
 use Rattle.copyin.specs.Copies.{ledger_queued}
-use Rattle.copyin.proofs.Tables.{with_message, queued_given, queued_written}
+use Rattle.copyin.proofs.Copying.{with_message, queued_given, queued_written}
 use Rattle.copyin.proofs.carry_out.queue_message.Goals as goal
 
 pub enqueue-requires-clause-live : goal.enqueue-requires-clause-live

@@ -1,5 +1,5 @@
 use Rattle.std.proofs.Common.{◌≡◌, ◌∙◌, sym, []}
-use Rattle.copyin.proofs.Bare.{none_in}
+use Rattle.copyin.proofs.Committing.{none_in}
 use Rattle.copyin.proofs.Judging.{ok_as, err_as}
 use Rattle.copyin.proofs.judge.check.Goals as goal
 

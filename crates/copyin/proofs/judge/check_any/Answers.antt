@@ -3,7 +3,7 @@ use Rattle.std.proofs.lemmas.Result.{err_from_is_err_and}
 use Rattle.mach_types.specs.Numbers.{msg_number}
 use Rattle.copyin_base.specs.Carrying.{spans_in, rights_in}
 use Rattle.copyin.specs.Plans.{Plans}
-use Rattle.copyin.proofs.Bare.{queues}
+use Rattle.copyin.proofs.Committing.{queues}
 use Rattle.copyin.proofs.Planning.{words_given, cannot_judge, cannot_admit, admitted, port_lives, destination_sends, remote_sendable}
 use Rattle.copyin.proofs.judge.check_any.Goals as goal
 

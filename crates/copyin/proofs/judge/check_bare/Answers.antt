@@ -3,7 +3,7 @@ use Rattle.std.proofs.lemmas.Result.{err_from_is_err_and}
 use Rattle.mach_types.specs.Numbers.{msg_number}
 use Rattle.copyin.specs.declared.judge.Words.{Words}
 use Rattle.copyin.specs.Plans.{Plans}
-use Rattle.copyin.proofs.Bare.{bare_words, queues}
+use Rattle.copyin.proofs.Committing.{bare_words, queues}
 use Rattle.copyin.proofs.Planning.{words_given, cannot_judge, cannot_admit, admitted, port_lives, destination_sends, remote_sendable}
 use Rattle.copyin.proofs.judge.check_bare.Goals as goal
 

@@ -1,5 +1,5 @@
 use Rattle.std.proofs.Common.{sym, ◌∙◌}
-use Rattle.copyin.proofs.Overlays.{overlays-same}
+use Rattle.copyin.proofs.Judging.{overlays-same}
 use Rattle.copyin.proofs.judge.leave.Goals as goal
 
 pub returns-then-makes_right-clause-ok : goal.returns-then-makes_right-clause-ok

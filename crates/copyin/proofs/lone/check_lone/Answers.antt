@@ -1,4 +1,4 @@
-use Rattle.std.proofs.Common.{[], ◌∷◌, refl, sym, ap, ◌∙◌, inl, inr}
+use Rattle.std.proofs.Common.{[], ◌∷◌, refl, ap, ◌∙◌, inl, inr}
 use Rattle.std.proofs.lemmas.Result.{err_from_is_err_and}
 use Rattle.mach_types.specs.Numbers.{msg_number}
 use Rattle.message_codec.specs.Parses.{Parses}
@@ -8,7 +8,7 @@ use Rattle.std.specs.Prelude.{Some}
 use Rattle.copyin.specs.declared.judge.Head.{Head}
 use Rattle.copyin.specs.Planned.{AreWords}
 use Rattle.copyin.specs.Plans.{Plans}
-use Rattle.copyin.proofs.Bare.{one_words, one_span, one_head, queues}
+use Rattle.copyin.proofs.Committing.{one_words, one_span, one_head, queues}
 use Rattle.copyin.proofs.Planning.{words_given, cannot_judge, cannot_admit, admitted, destination_sends, remote_sendable}
 use Rattle.copyin.proofs.lone.check_lone.Goals as goal
 

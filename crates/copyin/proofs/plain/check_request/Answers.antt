@@ -1,6 +1,6 @@
 use Rattle.std.proofs.Common.{refl}
 use Rattle.message_codec.specs.Plain.{parsed_request}
-use Rattle.copyin.proofs.Bare.{answer_words}
+use Rattle.copyin.proofs.Committing.{answer_words}
 use Rattle.copyin.proofs.Judging.{ok_as, err_as}
 use Rattle.copyin.proofs.plain.check_request.Goals as goal
 

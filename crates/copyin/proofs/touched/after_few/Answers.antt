@@ -3,7 +3,7 @@ use Rattle.std.specs.FinMap as map
 use Rattle.name_space.specs.Names.{Names}
 use Rattle.copyin.specs.Overlays.{puts}
 use Rattle.copyin_base.specs.Worlds.{put}
-use Rattle.copyin.proofs.Overlays.{get_put, get_put_other, puts-push}
+use Rattle.copyin.proofs.Judging.{get_put, get_put_other, puts-push}
 use Rattle.copyin.proofs.touched.after_few.Goals as goal
 
 pub returns-then-last-number : goal.returns-then-last-number

@@ -1,5 +1,5 @@
 use Rattle.std.proofs.Common.{◌≡◌, sym, ◌∙◌}
-use Rattle.copyin.proofs.Overlays.{get_put, get_put_other}
+use Rattle.copyin.proofs.Judging.{get_put, get_put_other}
 use Rattle.copyin.proofs.touched.standing_after.Goals as goal
 
 pub returns-then-number-touch : goal.returns-then-number-touch

@@ -1,4 +1,4 @@
-use Rattle.copyout.proofs.BareTaken.{own_told, can_name, named_own}
+use Rattle.copyout.proofs.Delivered.{own_told, can_name, named_own}
 use Rattle.copyout.proofs.bare.give_only.Goals as goal
 
 pub take_name-requires : goal.take_name-requires

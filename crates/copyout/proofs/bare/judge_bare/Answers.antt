@@ -1,6 +1,6 @@
 use Rattle.std.proofs.Common.{arith}
 use Rattle.copyout.specs.Bare.{own_names}
-use Rattle.copyout.proofs.BareTaken.{bare_needs, tells_own}
+use Rattle.copyout.proofs.Delivered.{bare_needs, tells_own}
 use Rattle.copyout.proofs.Rooms.{names_lack}
 use Rattle.copyout.proofs.bare.judge_bare.Goals as goal
 

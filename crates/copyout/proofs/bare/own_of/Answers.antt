@@ -3,7 +3,7 @@ use Rattle.std.specs.Option.{option_to_list}
 use Rattle.copyin_base.specs.declared.message.Carried.{Carried}
 use Rattle.copyout.specs.Bare.{own_names}
 use Rattle.copyout.specs.Room.{Needs}
-use Rattle.copyout.proofs.BareTaken.{one_needs, own_of}
+use Rattle.copyout.proofs.Delivered.{one_needs, own_of}
 use Rattle.copyout.proofs.bare.own_of.Goals as goal
 
 pub returns-in-Some-clause-needs : goal.returns-in-Some-clause-needs

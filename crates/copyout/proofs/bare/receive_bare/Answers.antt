@@ -4,8 +4,8 @@ use Rattle.mach_types.specs.Numbers.{most_bytes}
 use Rattle.copyin_base.specs.Kept.{Kept}
 use Rattle.copyout.specs.Bare.{IsBare}
 use Rattle.copyout.specs.Ready.{MayHave, MayReceive}
-use Rattle.copyout.proofs.BareTaken.{roomier_own, roomier_number}
-use Rattle.copyout.proofs.FrontNoted.{note_returns}
+use Rattle.copyout.proofs.Delivered.{roomier_own, roomier_number}
+use Rattle.copyout.proofs.Fronts.{note_returns}
 use Rattle.copyout.proofs.Rooms.{ready_after, front_after, judged_front, returns_slot, names_enough, same_front, wants_room}
 use Rattle.copyout.proofs.bare.receive_bare.Goals as goal
 

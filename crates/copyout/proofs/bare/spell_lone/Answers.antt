@@ -6,7 +6,7 @@ use Rattle.message_codec.specs.declared.spans.Span.{Span}
 use Rattle.message_codec.specs.Plain.{lone_span}
 use Rattle.message_codec.specs.Received.{IsLaidOut}
 use Rattle.copyin_base.specs.Kept.{Kept}
-use Rattle.copyout.proofs.BareTaken.{delivers_lone}
+use Rattle.copyout.proofs.Delivered.{delivers_lone}
 use Rattle.copyout.proofs.bare.spell_lone.Goals as goal
 
 pub spell-requires-clause-laid_out : goal.spell-requires-clause-laid_out

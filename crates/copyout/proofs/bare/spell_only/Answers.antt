@@ -3,7 +3,7 @@ use Rattle.std.specs.Option.{option_to_list}
 use Rattle.copyin_base.specs.declared.message.Carried.{Carried}
 use Rattle.copyout.specs.Giving.{GivesAll}
 use Rattle.copyout.specs.Takes.{reply_word}
-use Rattle.copyout.proofs.BareTaken.{answers_only, lone_only, gives_one}
+use Rattle.copyout.proofs.Delivered.{answers_only, lone_only, gives_one}
 use Rattle.copyout.proofs.bare.spell_only.Goals as goal
 
 pub spell_lone-requires-clause-alone : goal.spell_lone-requires-clause-alone

@@ -5,8 +5,7 @@ use Rattle.copyin_base.specs.Changes.{NotesSenderless}
 use Rattle.copyin_base.specs.Kept.{Kept, IsMessageOf}
 use Rattle.copyout.specs.Bare.{IsBare}
 use Rattle.copyout.specs.Ready.{CanGive}
-use Rattle.copyout.proofs.BareTaken.{carries_right, taken_own}
-use Rattle.copyout.proofs.Delivered.{takes_message}
+use Rattle.copyout.proofs.Delivered.{carries_right, taken_own, takes_message}
 use Rattle.copyout.proofs.Rooms.{can_deliver}
 use Rattle.copyout.proofs.bare.take_bare.Goals as goal
 

@@ -1,5 +1,5 @@
 use Rattle.copyin_base.proofs.Told.{space_there}
-use Rattle.copyout.proofs.Adding.{added_given, added, none_added}
+use Rattle.copyout.proofs.Gives.{added_given, added, none_added}
 use Rattle.copyout.proofs.give.add_send.Goals as goal
 
 pub invariant_of-world : goal.invariant_of-world

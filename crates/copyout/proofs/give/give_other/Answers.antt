@@ -2,7 +2,7 @@ use Rattle.std.proofs.Common.{◌∙◌, ap}
 use Rattle.std.specs.Option.{option_and_then}
 use Rattle.mach_types.specs.Numbers.{kind_sent}
 use Rattle.name_space.specs.Entry.{port_named}
-use Rattle.copyout.proofs.After.{can_take}
+use Rattle.copyout.proofs.PortsGiven.{can_take}
 use Rattle.copyout.proofs.Gives.{found_in}
 use Rattle.copyout.proofs.give.give_other.Goals as goal
 

@@ -1,5 +1,5 @@
 use Rattle.std.proofs.Common.{◌∙◌, sym}
-use Rattle.copyout.proofs.After.{can_give_port}
+use Rattle.copyout.proofs.PortsGiven.{can_give_port}
 use Rattle.copyout.proofs.give.give_right.Goals as goal
 
 pub give_port-requires : goal.give_port-requires

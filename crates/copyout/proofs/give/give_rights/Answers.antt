@@ -3,7 +3,7 @@ use Rattle.std.proofs.lemmas.List.{append-nil}
 use Rattle.copyin_base.specs.declared.message.Carried.{Carried}
 use Rattle.copyout.specs.Giving.{GivesAll}
 use Rattle.copyout.specs.Ready.{CanGive}
-use Rattle.copyout.proofs.After.{can_give_one, can_give_rest, next_item, no_item}
+use Rattle.copyout.proofs.PortsGiven.{can_give_one, can_give_rest, next_item, no_item}
 use Rattle.copyout.proofs.give.give_rights.Goals as goal
 
 pub give_right-name-requires : goal.give_right-name-requires

@@ -4,7 +4,7 @@ use Rattle.rights.specs.Ledger.{LedgerView, IsEntered, counts_of}
 use Rattle.copyin_base.specs.Worlds.{WorldView}
 use Rattle.copyout.specs.Giving.{GivesPort}
 use Rattle.copyout.specs.Ready.{CanTakeName}
-use Rattle.copyout.proofs.After.{can_take}
+use Rattle.copyout.proofs.PortsGiven.{can_take}
 use Rattle.copyout.proofs.Gives.{gives-added}
 use Rattle.copyout.proofs.give.give_send.Goals as goal
 

@@ -4,7 +4,7 @@ use Rattle.message_codec.specs.declared.header.Header.{Header}
 use Rattle.message_codec.specs.Received.{IsLaidOut}
 use Rattle.copyin_base.specs.Kept.{Kept}
 use Rattle.copyout.specs.Takes.{reply_number}
-use Rattle.copyout.proofs.PlainTaken.{delivers_bare}
+use Rattle.copyout.proofs.Delivered.{delivers_bare}
 use Rattle.copyout.proofs.plain.spell_bare.Goals as goal
 
 pub returns : goal.returns

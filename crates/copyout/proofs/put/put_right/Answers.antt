@@ -2,7 +2,7 @@ use Rattle.std.proofs.Common.{◌∙◌, sym, ap}
 use Rattle.std.specs.Prelude.{is_some}
 use Rattle.mach_types.specs.Numbers.{kind_sent}
 use Rattle.copyout.proofs.Given.{gives_puts}
-use Rattle.copyout.proofs.Puts.{can_join, can_insert, puts-new}
+use Rattle.copyout.proofs.Gives.{can_join, can_insert, puts-new}
 use Rattle.copyout.proofs.put.put_right.Goals as goal
 
 pub join-requires-clause-can : goal.join-requires-clause-can

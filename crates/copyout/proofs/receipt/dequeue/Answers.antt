@@ -5,7 +5,7 @@ use Rattle.copyin_base.specs.Kept.{Kept}
 use Rattle.copyin_base.specs.Worlds.{WorldView}
 use Rattle.copyin_base.proofs.Reading.{same_given}
 use Rattle.copyin_base.proofs.Written.{ports_written}
-use Rattle.copyout.proofs.Front.{is_front, taken_ports}
+use Rattle.copyout.proofs.Fronts.{is_front, taken_ports}
 use Rattle.copyout.proofs.receipt.dequeue.Goals as goal
 
 pub invariant_of-world : goal.invariant_of-world

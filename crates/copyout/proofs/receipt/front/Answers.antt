@@ -1,6 +1,6 @@
 use Rattle.std.proofs.Common.{ap}
 use Rattle.copyin_base.specs.Worlds.{WorldView}
-use Rattle.copyout.proofs.Front.{no_front, has_first, has_number}
+use Rattle.copyout.proofs.Fronts.{no_front, has_first, has_number}
 use Rattle.copyout.proofs.receipt.front.Goals as goal
 
 pub unreachable-requires : goal.unreachable-requires

@@ -3,7 +3,7 @@ use Rattle.std.specs.Prelude.{min}
 use Rattle.mach_types.specs.Numbers.{most_bytes}
 use Rattle.std.proofs.lemmas.Result.{IfOk-weaker, IfErr-weaker}
 use Rattle.copyout.specs.Ready.{IsNumbered}
-use Rattle.copyout.proofs.PlainTaken.{received, returned, refused_large, no_memory}
+use Rattle.copyout.proofs.Delivered.{received, returned, refused_large, no_memory}
 use Rattle.copyout.proofs.receipt.receive.Goals as goal
 
 pub receive_plain-requires-clause-plain : goal.receive_plain-requires-clause-plain

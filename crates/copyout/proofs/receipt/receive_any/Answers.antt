@@ -1,4 +1,4 @@
-use Rattle.copyout.proofs.FrontNoted.{note_returns}
+use Rattle.copyout.proofs.Fronts.{note_returns}
 use Rattle.std.proofs.Common.{◌≤◌, subst, length}
 use Rattle.std.specs.Prelude.{min}
 use Rattle.mach_types.specs.Numbers.{most_bytes}

@@ -6,7 +6,7 @@ use Rattle.rights.specs.Ledger.{LedgerView, counts_of, taken}
 use Rattle.copyin_base.specs.Kept.{Kept}
 use Rattle.copyin_base.specs.Worlds.{WorldView}
 use Rattle.copyout.specs.Takes.{destination_right}
-use Rattle.copyout.proofs.Front.{front_waits, takes_front}
+use Rattle.copyout.proofs.Fronts.{front_waits, takes_front}
 use Rattle.copyout.proofs.receipt.take_front.Goals as goal
 
 pub dequeue-queued-requires : goal.dequeue-queued-requires

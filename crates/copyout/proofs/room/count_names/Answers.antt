@@ -3,8 +3,8 @@ use Rattle.std.proofs.lemmas.List.{take_more}
 use Rattle.copyin_base.specs.declared.message.Carried.{Carried}
 use Rattle.std.specs.Option.{option_to_list}
 use Rattle.copyout.specs.Room.{Needs, Marks}
-use Rattle.copyout.proofs.After.{next_item, no_item}
-use Rattle.copyout.proofs.Counted.{counts_on}
+use Rattle.copyout.proofs.PortsGiven.{next_item, no_item}
+use Rattle.copyout.proofs.Counting.{counts_on}
 use Rattle.copyout.proofs.room.count_names.Goals as goal
 
 pub loop-i-preserved : goal.loop-i-preserved

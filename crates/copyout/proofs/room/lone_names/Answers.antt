@@ -1,4 +1,4 @@
-use Rattle.copyout.proofs.Marking.{needs_alone}
+use Rattle.copyout.proofs.Counting.{needs_alone}
 use Rattle.copyout.proofs.room.lone_names.Goals as goal
 
 pub returns-in-Some : goal.returns-in-Some

@@ -1,7 +1,7 @@
 use Rattle.std.proofs.Common.{List, Bool, sym, subst, ◌++◌, ◌∷◌, [], inl, inr, refl, ◌∙◌}
 use Rattle.std.specs.Option.{option_to_list}
 use Rattle.copyout.specs.Room.{Marks}
-use Rattle.copyout.proofs.Marking.{marks_none, marks_once, marks_named, marks_before, marks_own, shares_name, found_name, place_there}
+use Rattle.copyout.proofs.Counting.{marks_none, marks_once, marks_named, marks_before, marks_own, shares_name, found_name, place_there}
 use Rattle.copyout.proofs.room.needs_own.Goals as goal
 
 pub returns-in_default : goal.returns-in_default

@@ -1,6 +1,6 @@
 use Rattle.std.proofs.Common.{◌∙◌, sym, [], inl}
 use Rattle.mach_types.specs.Numbers.{kind_sent}
-use Rattle.copyout.proofs.Marking.{shared_found, shared_none, shares_name, owns_alone, shares_gone}
+use Rattle.copyout.proofs.Counting.{shared_found, shared_none, shares_name, owns_alone, shares_gone}
 use Rattle.copyout.proofs.room.own_port.Goals as goal
 
 pub returns-in_default : goal.returns-in_default

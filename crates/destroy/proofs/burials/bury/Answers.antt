@@ -7,7 +7,7 @@ use Rattle.copyin_base.specs.Kept.{Kept}
 use Rattle.copyin_base.specs.Worlds.{WorldView}
 use Rattle.copyin_base.proofs.Written.{tables}
 use Rattle.destroy.specs.Burying.{IsAny}
-use Rattle.destroy.proofs.BurLoop.{is_burying, still_burying, none_queued, is_entered, left_ports, left_given, port_left, bury_continues, bury_rooms, bury_fewer}
+use Rattle.destroy.proofs.BuryNames.{is_burying, still_burying, none_queued, is_entered, left_ports, left_given, port_left, bury_continues, bury_rooms, bury_fewer}
 use Rattle.destroy.proofs.burials.bury.Goals as goal
 
 pub end_requests-turns-requires : goal.end_requests-turns-requires

@@ -4,7 +4,7 @@ use Rattle.port.specs.declared.Holder.TheVariants as holder
 use Rattle.port.specs.Holding.{IsHeldBy, NoneHeldBy}
 use Rattle.copyin_base.specs.Worlds.{WorldView}
 use Rattle.copyin_base.proofs.Written.{tables}
-use Rattle.destroy.proofs.BurLoop.{continues_more, rooms_more, still_at, all_buried}
+use Rattle.destroy.proofs.BuryNames.{continues_more, rooms_more, still_at, all_buried}
 use Rattle.destroy.proofs.burials.bury_unasked.Goals as goal
 
 pub bury_silently-requires-clause-next : goal.bury_silently-requires-clause-next

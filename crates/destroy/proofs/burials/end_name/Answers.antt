@@ -8,7 +8,7 @@ use Rattle.notifications.specs.Posting.{CanPost}
 use Rattle.destroy.specs.Burying.{dead_count}
 use Rattle.destroy.specs.Paying.{LivesIn, Pays}
 use Rattle.copyin_base.specs.declared.notice.Notice.TheVariants as notice
-use Rattle.destroy.proofs.BurNamed.{name_taken, entry_there, can_put, named_post, named_ends, named_fewer}
+use Rattle.destroy.proofs.BuryNames.{name_taken, entry_there, can_put, named_post, named_ends, named_fewer}
 use Rattle.destroy.proofs.burials.end_name.Goals as goal
 use Rattle.destroy.proofs.burials.end_name.Goals.{in-Some, in_default}
 

@@ -3,7 +3,7 @@ use Rattle.request_table.specs.Requests.{IsOn, NoneOn}
 use Rattle.copyin_base.specs.Worlds.{WorldView}
 use Rattle.copyin_base.proofs.Written.{tables}
 use Rattle.destroy.specs.Burying.{IsNone}
-use Rattle.destroy.proofs.BurLoop.{still_burying, one_longer, names_gone}
+use Rattle.destroy.proofs.BuryNames.{still_burying, one_longer, names_gone}
 use Rattle.destroy.proofs.burials.end_names.Goals as goal
 
 pub end_name-requires : goal.end_name-requires

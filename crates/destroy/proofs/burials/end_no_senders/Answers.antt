@@ -7,8 +7,8 @@ use Rattle.copyin_base.specs.Worlds.{WorldView}
 use Rattle.copyin_base.proofs.Written.{tables}
 use Rattle.notifications.specs.Posting.{CanPost}
 use Rattle.destroy.specs.Paying.{LivesIn, Pays}
-use Rattle.destroy.proofs.BurPort.{senders_ended, senders_post, none_ended}
-use Rattle.destroy.proofs.BurTables.{is_none, senders_absent, senders_taken, senders_found}
+use Rattle.destroy.proofs.BurySteps.{senders_ended, senders_post, none_ended}
+use Rattle.destroy.proofs.BuryNames.{is_none, senders_absent, senders_taken, senders_found}
 use Rattle.destroy.proofs.burials.end_no_senders.Goals as goal
 
 pub returns-in_default : goal.returns-in_default

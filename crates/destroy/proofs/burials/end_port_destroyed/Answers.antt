@@ -7,8 +7,8 @@ use Rattle.copyin_base.specs.Worlds.{WorldView}
 use Rattle.copyin_base.proofs.Written.{tables}
 use Rattle.notifications.specs.Posting.{CanPost}
 use Rattle.destroy.specs.Paying.{LivesIn, Pays}
-use Rattle.destroy.proofs.BurPort.{saving_ended, saving_post, none_ended}
-use Rattle.destroy.proofs.BurTables.{is_none, saving_absent, saving_taken, saving_found}
+use Rattle.destroy.proofs.BurySteps.{saving_ended, saving_post, none_ended}
+use Rattle.destroy.proofs.BuryNames.{is_none, saving_absent, saving_taken, saving_found}
 use Rattle.destroy.proofs.burials.end_port_destroyed.Goals as goal
 
 pub returns-in_default : goal.returns-in_default

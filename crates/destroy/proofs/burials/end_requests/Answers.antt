@@ -1,7 +1,7 @@
 use Rattle.std.proofs.Common.{◌≡◌, ◌⊎◌}
 use Rattle.mach_types.specs.Tokens.{no_senders, port_destroyed}
 use Rattle.destroy.specs.Burying.{IsOnName}
-use Rattle.destroy.proofs.BurLoop.{still_burying, joined, all_kinds}
+use Rattle.destroy.proofs.BuryNames.{still_burying, joined, all_kinds}
 use Rattle.destroy.proofs.burials.end_requests.Goals as goal
 
 pub end_port_destroyed-requires : goal.end_port_destroyed-requires

@@ -1,7 +1,7 @@
 use Rattle.std.proofs.Common.{ap}
 use Rattle.copyin_base.specs.Worlds.{WorldView}
-use Rattle.destroy.proofs.EndSettles.{tells_doomed}
-use Rattle.destroy.proofs.StartPays.{tells_lost}
+use Rattle.destroy.proofs.EndSteps.{tells_doomed}
+use Rattle.destroy.proofs.PayTurns.{tells_lost}
 use Rattle.destroy.proofs.ending.are_ports_idle.Goals as goal
 
 pub returns-clause-lost : goal.returns-clause-lost

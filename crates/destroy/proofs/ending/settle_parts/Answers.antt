@@ -1,8 +1,8 @@
 use Rattle.std.proofs.Common.{ap, ◌∙◌}
 use Rattle.copyin_base.specs.Worlds.{WorldView}
 use Rattle.destroy.specs.Stages.{IsJudged, AreLost, AreTold, IsStarted}
-use Rattle.destroy.proofs.EndSettles.{started, continued, wrapped, tells_doomed, settles}
-use Rattle.destroy.proofs.BurLoop.{rooms_more}
+use Rattle.destroy.proofs.EndSteps.{started, continued, wrapped, tells_doomed, settles}
+use Rattle.destroy.proofs.BuryNames.{rooms_more}
 use Rattle.destroy.proofs.Rooms.{same_rooms}
 use Rattle.destroy.proofs.ending.settle_parts.Goals as goal
 

@@ -1,4 +1,4 @@
-use Rattle.destroy.proofs.JudgeWritten.{next_given, next_destroyed}
+use Rattle.destroy.proofs.JudgeSaved.{next_given, next_destroyed}
 use Rattle.destroy.proofs.judging.destroy_next.Goals as goal
 
 pub invariant_of-world : goal.invariant_of-world

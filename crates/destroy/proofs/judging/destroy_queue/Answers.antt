@@ -1,7 +1,7 @@
 use Rattle.std.proofs.Common.{ap, subst, sym, ◌∙◌, refl, length}
 use Rattle.copyin_base.specs.Worlds.{WorldView}
 use Rattle.destroy.specs.Judging.{CarriesAmong, LosesAmong, DestroysNext, Empties}
-use Rattle.destroy.proofs.JudgeEmptying.{last_is, remains, fewer, w2_is, empties_one, empties_more}
+use Rattle.destroy.proofs.JudgeQueue.{last_is, remains, fewer, w2_is, empties_one, empties_more}
 use Rattle.destroy.proofs.judging.destroy_queue.Goals as goal
 
 destroyed : (c : goal.After-lose_carried) → DestroysNext c.loop-port.world c.args.port c.destroy_next.new.world

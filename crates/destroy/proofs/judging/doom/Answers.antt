@@ -3,7 +3,7 @@ use Rattle.std.proofs.lemmas.Option.{slice_get_within}
 use Rattle.port.specs.declared.Holder.TheVariants as holder
 use Rattle.port.specs.Holding.{held}
 use Rattle.copyin_base.specs.Worlds.{WorldView}
-use Rattle.destroy.proofs.JudgeWritten.{waiting_given, waiting_somewhere, none_waiting}
+use Rattle.destroy.proofs.JudgeSaved.{waiting_given, waiting_somewhere, none_waiting}
 use Rattle.destroy.proofs.judging.doom.Goals as goal
 
 pub doom_first-requires : goal.doom_first-requires

@@ -1,6 +1,6 @@
 use Rattle.port.specs.declared.Holder.TheVariants as holder
 use Rattle.port.specs.Holding.{held}
-use Rattle.destroy.proofs.JudgeWritten.{waiting_given, waiting_somewhere}
+use Rattle.destroy.proofs.JudgeSaved.{waiting_given, waiting_somewhere}
 use Rattle.destroy.proofs.judging.hold_in.Goals as goal
 
 pub invariant_of-world : goal.invariant_of-world

@@ -1,7 +1,7 @@
 use Rattle.std.proofs.Common.{◌<◌, refl, sym, ap, subst, ◌∙◌}
 use Rattle.copyin_base.specs.Worlds.{WorldView}
 use Rattle.destroy.specs.Judging.{remaining}
-use Rattle.destroy.proofs.JudgeDone.{dooms_fewer, dooms_continues}
+use Rattle.destroy.proofs.JudgeDoomed.{dooms_fewer, dooms_continues}
 use Rattle.destroy.proofs.judging.judge.Goals as goal
 
 pub returns-in-None-clause-continues : goal.returns-in-None-clause-continues

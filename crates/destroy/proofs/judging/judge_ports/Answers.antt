@@ -1,5 +1,5 @@
 use Rattle.std.proofs.Common.{refl, ◌∙◌}
-use Rattle.destroy.proofs.JudgeDone.{continues_more, still_at, judges_all}
+use Rattle.destroy.proofs.JudgeDoomed.{continues_more, still_at, judges_all}
 use Rattle.destroy.proofs.judging.judge_ports.Goals as goal
 
 pub judge-turns-requires-clause-at : goal.judge-turns-requires-clause-at

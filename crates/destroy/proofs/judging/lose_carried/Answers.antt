@@ -1,5 +1,5 @@
 use Rattle.destroy.specs.Judging.{CarriesAmong}
-use Rattle.destroy.proofs.JudgeLosing.{still_last, loses_reply, loses_next}
+use Rattle.destroy.proofs.JudgeCarried.{still_last, loses_reply, loses_next}
 use Rattle.destroy.proofs.judging.lose_carried.Goals as goal
 
 pub loop-place-init : goal.loop-place-init

@@ -2,7 +2,7 @@ use Rattle.std.proofs.Common.{◌++◌, ◌∷◌, [], refl, ap, ◌∙◌}
 use Rattle.port.specs.declared.Holder.TheVariants as holder
 use Rattle.port.specs.Holding.{held}
 use Rattle.copyin_base.specs.Worlds.{WorldView}
-use Rattle.destroy.proofs.JudgeWritten.{with_waiting, waiting_given, waiting_written}
+use Rattle.destroy.proofs.JudgeSaved.{with_waiting, waiting_given, waiting_written}
 use Rattle.destroy.proofs.judging.lose_queued.Goals as goal
 
 pub invariant_of-world : goal.invariant_of-world

@@ -1,8 +1,8 @@
 use Rattle.std.proofs.Common.{ap, subst, ◌∙◌}
 use Rattle.rights.specs.Unused.{IsUnusedOfAll}
 use Rattle.copyin_base.specs.Worlds.{WorldView}
-use Rattle.destroy.proofs.JudgeSends.{can_post, live_then, held_then, entered_then, room_then, sends_fewer}
-use Rattle.destroy.proofs.JudgeSentDone.{sends_continues}
+use Rattle.destroy.proofs.JudgeSent.{can_post, live_then, held_then, entered_then, room_then, sends_fewer}
+use Rattle.destroy.proofs.JudgeCarried.{sends_continues}
 use Rattle.destroy.proofs.judging.send_away.Goals as goal
 
 pub post-requires : goal.post-requires

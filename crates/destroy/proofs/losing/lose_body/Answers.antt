@@ -1,8 +1,8 @@
 use Rattle.std.proofs.Common.{◌≡◌, ◌+◌, List, [], ◌∷◌, drop, subst, ◌∙◌}
 use Rattle.copyin_base.specs.declared.message.Carried.{Carried}
 use Rattle.destroy.specs.Losing.{LosesTo}
-use Rattle.destroy.proofs.LoseSteps.{next_item, no_item, can_next, loses_one}
-use Rattle.destroy.proofs.Spaces.{loses_spaces}
+use Rattle.destroy.proofs.LoseRights.{next_item, no_item, can_next, loses_one}
+use Rattle.destroy.proofs.BurySteps.{loses_spaces}
 use Rattle.destroy.proofs.losing.lose_body.Goals as goal
 
 pub lose_right-turns-requires : goal.lose_right-turns-requires

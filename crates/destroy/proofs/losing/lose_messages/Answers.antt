@@ -1,6 +1,6 @@
 use Rattle.std.proofs.Common.{◌∙◌}
 use Rattle.destroy.proofs.LoseMessage.{loop_losing, loop_next, loop_fewer, all_lost}
-use Rattle.destroy.proofs.Spaces.{taken_spaces, untaken_spaces}
+use Rattle.destroy.proofs.BurySteps.{taken_spaces, untaken_spaces}
 use Rattle.destroy.proofs.losing.lose_messages.Goals as goal
 
 pub lose_rights-turns-requires : goal.lose_rights-turns-requires

@@ -1,7 +1,7 @@
 use Rattle.std.proofs.Common.{subst}
 use Rattle.rights.specs.Unused.{IsUnusedOfAll}
 use Rattle.copyin_base.specs.Worlds.{WorldView}
-use Rattle.notifications.proofs.Written.{some_spare}
+use Rattle.notifications.proofs.NoticePosted.{some_spare}
 use Rattle.destroy.proofs.losing.lose_once.Goals as goal
 
 pub returns-clause-spare : goal.returns-clause-spare

@@ -2,8 +2,8 @@ use Rattle.std.proofs.Common.{[], sym, subst, Option}
 use Rattle.std.specs.Option.{option_to_list}
 use Rattle.copyin_base.specs.declared.message.Carried.{Carried}
 use Rattle.destroy.specs.Losing.{LosesTo, IsLosing}
-use Rattle.destroy.proofs.LoseSteps.{can_first, loses_single}
-use Rattle.destroy.proofs.Spaces.{loses_spaces}
+use Rattle.destroy.proofs.LoseRights.{can_first, loses_single}
+use Rattle.destroy.proofs.BurySteps.{loses_spaces}
 use Rattle.destroy.proofs.losing.lose_reply.Goals as goal
 
 pub lose_right-requires : goal.lose_right-requires

@@ -4,7 +4,7 @@ use Rattle.copyin_base.specs.declared.message.Carried.{Carried}
 use Rattle.copyin_base.specs.Kept.{Kept}
 use Rattle.copyin_base.specs.Queued.{kept_in, notice_kept}
 use Rattle.destroy.specs.Losing.{LosesTo, IsLosing, carried_in}
-use Rattle.destroy.proofs.LoseSteps.{losing_front, losing_back, loses_both, loses_told}
+use Rattle.destroy.proofs.LoseRights.{losing_front, losing_back, loses_both, loses_told}
 use Rattle.destroy.proofs.losing.lose_rights.Goals as goal
 
 pub returns-in_default-clause-loses : goal.returns-in_default-clause-loses

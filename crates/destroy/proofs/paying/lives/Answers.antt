@@ -3,7 +3,7 @@ use Rattle.std.specs.Option.{option_map}
 use Rattle.port.specs.Ports.{PortView}
 use Rattle.copyin_base.specs.Kept.{Kept}
 use Rattle.copyin_base.specs.Worlds.{WorldView, port_at}
-use Rattle.destroy.proofs.PaidLives.{is_doomed, is_undoomed, says_no, says_yes}
+use Rattle.destroy.proofs.PayLives.{is_doomed, is_undoomed, says_no, says_yes}
 use Rattle.destroy.proofs.paying.lives.Goals.{in-Doomed, in_default}
 use Rattle.destroy.proofs.paying.lives.Goals as goal
 

@@ -1,9 +1,9 @@
 use Rattle.std.proofs.Common.{refl, ap, ◌∙◌}
 use Rattle.copyin_base.specs.Worlds.{WorldView}
-use Rattle.destroy.proofs.EndSettles.{tells_doomed}
-use Rattle.destroy.proofs.StartPays.{pays_first, can_pay, pays_more, pays_last, tells_lost}
+use Rattle.destroy.proofs.EndSteps.{tells_doomed}
+use Rattle.destroy.proofs.PayTurns.{pays_first, can_pay, pays_more, pays_last, tells_lost}
 use Rattle.copyin_base.specs.declared.notice.Notice.TheVariants.{PortDeleted}
-use Rattle.destroy.proofs.BurPort.{lives_or_not}
+use Rattle.destroy.proofs.BurySteps.{lives_or_not}
 use Rattle.destroy.proofs.Rooms.{pays_spaces}
 use Rattle.destroy.proofs.paying.pay_for_names.Goals as goal
 

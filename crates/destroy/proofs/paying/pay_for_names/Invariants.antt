@@ -1,5 +1,5 @@
 use Rattle.std.proofs.Common.{◌≡◌, length}
-use Rattle.destroy.proofs.StartPays.{PaysOn}
+use Rattle.destroy.proofs.PayTurns.{PaysOn}
 use Rattle.destroy.proofs.paying.pay_for_names.Given as goal
 
 abbrev pub invariant-loop-request : goal.invariant-loop-request

@@ -1,7 +1,7 @@
 use Rattle.std.proofs.Common.{refl, subst}
 use Rattle.rights.specs.Unused.{IsUnusedOfAll}
 use Rattle.copyin_base.specs.Worlds.{WorldView}
-use Rattle.destroy.proofs.TellTables.{told_none, told_one}
+use Rattle.destroy.proofs.TellTurns.{told_none, told_one}
 use Rattle.destroy.proofs.telling.tell_no_senders.Goals as goal
 
 pub returns-in_default : goal.returns-in_default

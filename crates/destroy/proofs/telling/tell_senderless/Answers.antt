@@ -1,6 +1,6 @@
 use Rattle.std.proofs.Common.{◌∙◌}
-use Rattle.destroy.proofs.TellEnd.{loop_can, loop_fewer, loop_next, loop_done}
-use Rattle.destroy.proofs.Spaces.{tells_spaces, noted_spaces, untaken_spaces}
+use Rattle.destroy.proofs.TellTurns.{loop_can, loop_fewer, loop_next, loop_done}
+use Rattle.destroy.proofs.BurySteps.{tells_spaces, noted_spaces, untaken_spaces}
 use Rattle.destroy.proofs.telling.tell_senderless.Goals as goal
 
 pub tell_no_senders-turns-requires : goal.tell_no_senders-turns-requires

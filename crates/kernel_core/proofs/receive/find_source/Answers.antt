@@ -1,9 +1,5 @@
-use Rattle.std.proofs.Common.{◌≡◌, Some, sym, ap, subst, ◌∙◌}
-use Rattle.std.specs.Option.{option_and_then}
-use Rattle.mach_types.specs.declared.calls.Waited.{Waited}
-use Rattle.copyin_base.specs.Worlds.{entry_at}
+use Rattle.std.proofs.Common.{sym}
 use Rattle.transfer.proofs.Results.{if_ok, if_err}
-use Rattle.kernel_core.specs.Receive.{Sources, HasMessage, NoneWaits, waited_at}
 use Rattle.kernel_core.proofs.Ready.{source_is, source_found, source_ready}
 use Rattle.kernel_core.proofs.Receiving.{source_there, port_sources, in_set_refused}
 use Rattle.kernel_core.proofs.receive.find_source.Goals as goal

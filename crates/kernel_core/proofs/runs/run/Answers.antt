@@ -5,7 +5,7 @@ use Rattle.mach_types.specs.declared.calls.Event.{Event}
 use Rattle.mach_types.specs.declared.calls.Reply.{Reply}
 use Rattle.mach_model.specs.State.{opening}
 use Rattle.mach_laws.specs.Queued.{unused}
-use Rattle.mach_laws.proofs.Followed.{Followed, followed_start, followed_push, followed_run, followed_headline}
+use Rattle.mach_laws.proofs.Dying.{Followed, followed_start, followed_push, followed_run, followed_headline}
 use Rattle.kernel_core.proofs.runs.run.Goals as goal
 
 pub loop-event-init : goal.loop-event-init

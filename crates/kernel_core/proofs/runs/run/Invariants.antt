@@ -1,7 +1,7 @@
 use Rattle.std.specs.Prelude.{◌≤◌, take}
 use Rattle.mach_model.specs.State.{State}
 use Rattle.mach_laws.specs.Queued.{unused}
-use Rattle.mach_laws.proofs.Followed.{Followed}
+use Rattle.mach_laws.proofs.Dying.{Followed}
 use Rattle.copyin_base.specs.Shows.{Shows}
 use Rattle.kernel_core.proofs.runs.run.Given as goal
 

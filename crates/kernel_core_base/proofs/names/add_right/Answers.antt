@@ -1,4 +1,4 @@
-use Rattle.kernel_core_base.proofs.RightAdded.{can_insert, adds}
+use Rattle.kernel_core_base.proofs.Allocated.{can_insert, adds}
 use Rattle.kernel_core_base.proofs.names.add_right.Goals as goal
 
 pub insert_entry-requires : goal.insert_entry-requires

@@ -3,7 +3,7 @@ use Rattle.mach_types.specs.declared.calls.Event.{Event}
 use Rattle.copyin_base.specs.Changes.{SameButRoom}
 use Rattle.copyin_base.proofs.Roomier.{room_made, room_refl}
 use Rattle.kernel_core_base.proofs.Allocated.{can_add_fresh, allocate_done}
-use Rattle.kernel_core_base.proofs.Memory.{no_memory}
+use Rattle.kernel_core_base.proofs.Refused.{no_memory}
 use Rattle.kernel_core_base.proofs.names.allocate.Goals as goal
 
 pub returns-in_err-reserve_names-clause-serves : goal.returns-in_err-reserve_names-clause-serves

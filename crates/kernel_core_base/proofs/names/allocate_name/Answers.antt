@@ -3,7 +3,7 @@ use Rattle.mach_types.specs.declared.calls.Event.{Event}
 use Rattle.copyin_base.specs.Changes.{SameButRoom}
 use Rattle.copyin_base.proofs.Roomier.{place_kept, room_refl}
 use Rattle.kernel_core_base.proofs.Allocated.{can_add_kept, allocate_name_done}
-use Rattle.kernel_core_base.proofs.Memory.{no_memory}
+use Rattle.kernel_core_base.proofs.Refused.{no_memory}
 use Rattle.kernel_core_base.proofs.names.allocate_name.Goals as goal
 
 pub returns-in_err-reserve_name-clause-serves : goal.returns-in_err-reserve_name-clause-serves

@@ -4,7 +4,7 @@ use Rattle.mach_types.specs.declared.calls.Reply.{Reply}
 use Rattle.copyin_base.specs.Acts.{Acts}
 use Rattle.copyin_base.specs.Worlds.{WorldView}
 use Rattle.kernel_core_base.specs.Names.{types_of}
-use Rattle.kernel_core_base.proofs.NamesTold.{names_listed}
+use Rattle.kernel_core_base.proofs.NamesListed.{names_listed}
 use Rattle.kernel_core_base.proofs.names.list_names.Goals as goal
 
 pub returns-in-Ok-clause-serves : goal.returns-in-Ok-clause-serves

@@ -1,4 +1,4 @@
-use Rattle.std.proofs.Common.{◌≡◌, ℕ, None, sym, ap, ◌∙◌}
+use Rattle.std.proofs.Common.{◌≡◌, ℕ, None, ap, ◌∙◌}
 use Rattle.std.specs.FinMap as map
 use Rattle.port.specs.Ports.{PortsView}
 use Rattle.rights.specs.declared.RightKind.TheVariants as right
@@ -7,7 +7,7 @@ use Rattle.copyin_base.specs.Kept.{Kept}
 use Rattle.copyin_base.specs.Worlds.{WorldView}
 use Rattle.copyin_base.proofs.Written.{tables, made_given, made_written}
 use Rattle.kernel_core_base.specs.Names.{first_port}
-use Rattle.kernel_core_base.proofs.Entered.{came_there, came_and_left}
+use Rattle.kernel_core_base.proofs.Allocated.{came_there, came_and_left}
 use Rattle.kernel_core_base.proofs.names.make_port.Goals as goal
 
 pub leave-requires : goal.leave-requires

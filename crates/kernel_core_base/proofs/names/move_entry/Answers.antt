@@ -2,7 +2,7 @@ use Rattle.std.proofs.Common.{sym, Option, ap, ◌∙◌}
 use Rattle.name_space.specs.Names.{SpaceView}
 use Rattle.copyin_base.specs.Wanted.{kept_in}
 use Rattle.copyin_base.specs.Worlds.{WorldView, entry_in, space_at}
-use Rattle.kernel_core_base.proofs.EntryMoved.{space_of, kept_used, kept_unused, kept_place, moved_given, moved_entry}
+use Rattle.kernel_core_base.proofs.Renamed.{space_of, kept_used, kept_unused, kept_place, moved_given, moved_entry}
 use Rattle.kernel_core_base.proofs.names.move_entry.Goals as goal
 
 pub rename-requires-clause-used : goal.rename-requires-clause-used

@@ -1,6 +1,6 @@
 use Rattle.std.proofs.Common.{ap, sym, refl, ◌∙◌}
 use Rattle.copyin_base.specs.Requests.{RequestTablesView}
-use Rattle.kernel_core_base.proofs.RequestMoved.{none_moves}
+use Rattle.kernel_core_base.proofs.Renamed.{none_moves}
 use Rattle.kernel_core_base.proofs.names.move_request.Goals as goal
 
 pub returns-else-not-is_empty : goal.returns-else-not-is_empty

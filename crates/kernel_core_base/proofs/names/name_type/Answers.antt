@@ -1,7 +1,7 @@
 use Rattle.std.proofs.Common.{ap, ◌∙◌}
 use Rattle.copyin_base.specs.Worlds.{WorldView}
 use Rattle.kernel_core_base.specs.Names.{type_of_entry}
-use Rattle.kernel_core_base.proofs.NamesTold.{type_told}
+use Rattle.kernel_core_base.proofs.NamesListed.{type_told}
 use Rattle.kernel_core_base.proofs.names.name_type.Goals as goal
 
 pub returns : goal.returns

@@ -7,9 +7,9 @@ use Rattle.copyin_base.specs.Changes.{SameButRoom}
 use Rattle.copyin_base.specs.Worlds.{WorldView}
 use Rattle.copyin_base.proofs.Roomier.{place_kept, room_refl}
 use Rattle.copyin_base.proofs.Spares.{keeps_trans, place_keeps}
-use Rattle.kernel_core_base.proofs.Memory.{no_memory}
+use Rattle.kernel_core_base.proofs.Refused.{no_memory}
 use Rattle.kernel_core_base.proofs.Renamed.{may_still, is_kept, stand_still, no_request_to, set_there, named_from, rename_done}
-use Rattle.kernel_core_base.proofs.Spares.{moved_keeps}
+use Rattle.kernel_core_base.proofs.ReferencesSet.{moved_keeps}
 use Rattle.kernel_core_base.proofs.names.rename.Goals as goal
 
 pub returns-in_err-reserve_name-clause-serves : goal.returns-in_err-reserve_name-clause-serves

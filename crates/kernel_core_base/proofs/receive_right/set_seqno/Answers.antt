@@ -1,6 +1,5 @@
 use Rattle.std.proofs.Common.{refl, arith}
-use Rattle.kernel_core_base.proofs.AttributesKept.{keeps_holder}
-use Rattle.kernel_core_base.proofs.ReceiveRight.{sequence_set}
+use Rattle.kernel_core_base.proofs.ReceiveRight.{keeps_holder, sequence_set}
 use Rattle.kernel_core_base.proofs.receive_right.set_seqno.Goals as goal
 
 pub set_attributes-requires-clause-holder : goal.set_attributes-requires-clause-holder

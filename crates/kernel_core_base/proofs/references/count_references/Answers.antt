@@ -1,4 +1,4 @@
-use Rattle.kernel_core_base.proofs.ReferencesPut.{can_put_left, can_count, still_counts, references_set}
+use Rattle.kernel_core_base.proofs.ReferencesLost.{can_put_left, can_count, still_counts, references_set}
 use Rattle.kernel_core_base.proofs.references.count_references.Goals as goal
 
 pub put_left-requires : goal.put_left-requires

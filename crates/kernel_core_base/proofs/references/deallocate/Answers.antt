@@ -1,7 +1,6 @@
 use Rattle.std.proofs.Common.{sym, ◌∙◌}
-use Rattle.kernel_core_base.proofs.ReferencesLost.{deallocates}
-use Rattle.kernel_core_base.proofs.ReferencesModified.{can_deallocate}
-use Rattle.kernel_core_base.proofs.SparesUsed.{carried_uses}
+use Rattle.kernel_core_base.proofs.ReferencesSet.{deallocates, carried_uses}
+use Rattle.kernel_core_base.proofs.ReferencesJudged.{can_deallocate}
 use Rattle.kernel_core_base.proofs.references.deallocate.Goals as goal
 
 pub carry_out-requires-clause-can : goal.carry_out-requires-clause-can

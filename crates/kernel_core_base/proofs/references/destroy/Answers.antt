@@ -1,9 +1,8 @@
 use Rattle.std.proofs.Common.{sym, subst}
 use Rattle.kernel_core_base.specs.declared.references.Due.{Due}
 use Rattle.kernel_core_base.specs.References.{CanCarry, Carries}
-use Rattle.kernel_core_base.proofs.ReferencesLost.{destroys}
-use Rattle.kernel_core_base.proofs.ReferencesModified.{can_destroy}
-use Rattle.kernel_core_base.proofs.SparesUsed.{carried_uses}
+use Rattle.kernel_core_base.proofs.ReferencesSet.{destroys, carried_uses}
+use Rattle.kernel_core_base.proofs.ReferencesJudged.{can_destroy}
 use Rattle.kernel_core_base.proofs.references.destroy.Goals as goal
 
 pub carry_out-requires-clause-can : goal.carry_out-requires-clause-can

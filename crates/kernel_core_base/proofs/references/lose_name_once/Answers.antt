@@ -1,6 +1,5 @@
 use Rattle.name_space.specs.declared.Entry.TheVariants.{SendOnce}
-use Rattle.kernel_core_base.proofs.ReceivePut.{can_post}
-use Rattle.kernel_core_base.proofs.ReferencesPut.{can_put_none}
+use Rattle.kernel_core_base.proofs.ReferencesLost.{can_post, can_put_none}
 use Rattle.kernel_core_base.proofs.references.lose_name_once.Goals as goal
 
 pub put_left-requires : goal.put_left-requires

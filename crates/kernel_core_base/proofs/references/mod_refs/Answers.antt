@@ -4,9 +4,8 @@ use Rattle.mach_types.specs.declared.calls.Event.{Event}
 use Rattle.copyin_base.specs.Worlds.{WorldView}
 use Rattle.copyin_base.proofs.Exiting.{exits}
 use Rattle.kernel_core_base.specs.References.{IsChange, CanChange, CannotChange}
-use Rattle.kernel_core_base.proofs.ReferencesJudged.{modify_refused}
-use Rattle.kernel_core_base.proofs.ReferencesModified.{can_modify, modifies}
-use Rattle.kernel_core_base.proofs.SparesUsed.{carried_uses}
+use Rattle.kernel_core_base.proofs.ReferencesJudged.{modify_refused, can_modify, modifies}
+use Rattle.kernel_core_base.proofs.ReferencesSet.{carried_uses}
 use Rattle.kernel_core_base.proofs.references.mod_refs.Goals as goal
 
 pub returns-in_err-right-clause-serves : goal.returns-in_err-right-clause-serves

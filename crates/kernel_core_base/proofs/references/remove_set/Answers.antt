@@ -4,7 +4,7 @@ use Rattle.copyin_base.specs.Worlds.{WorldView}
 use Rattle.copyin_base.proofs.Reading.{same_given}
 use Rattle.copyin_base.proofs.Written.{disbanded_ports, ports_written}
 use Rattle.kernel_core_base.specs.References.{RemovesSet}
-use Rattle.kernel_core_base.proofs.ReferencesPut.{can_put_none, set_removed}
+use Rattle.kernel_core_base.proofs.ReferencesLost.{can_put_none, set_removed}
 use Rattle.kernel_core_base.proofs.references.remove_set.Goals as goal
 
 pub put_left-requires : goal.put_left-requires

@@ -1,4 +1,4 @@
-use Rattle.kernel_core_base.proofs.ReceivePut.{can_kill, can_leave, still_entered, still_enough, receive_taken}
+use Rattle.kernel_core_base.proofs.ReferencesLost.{can_kill, can_leave, still_entered, still_enough, receive_taken}
 use Rattle.kernel_core_base.proofs.references.take_receive.Goals as goal
 
 pub kill_port-requires : goal.kill_port-requires

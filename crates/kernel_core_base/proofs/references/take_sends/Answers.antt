@@ -1,5 +1,5 @@
-use Rattle.std.proofs.Common.{◌≡◌, arith}
-use Rattle.kernel_core_base.proofs.ReceivePut.{none_taken}
+use Rattle.std.proofs.Common.{arith}
+use Rattle.kernel_core_base.proofs.ReferencesLost.{none_taken}
 use Rattle.kernel_core_base.proofs.references.take_sends.Goals as goal
 
 pub returns-else-gone-gt0 : goal.returns-else-gone-gt0

@@ -1,4 +1,4 @@
-use Rattle.kernel_core_base.proofs.MemberMoved.{not_in_set, may_leave}
+use Rattle.kernel_core_base.proofs.Members.{not_in_set, may_leave}
 use Rattle.kernel_core_base.proofs.sets.judge_leaving.Goals as goal
 
 pub returns-in-Some-clause-ok : goal.returns-in-Some-clause-ok

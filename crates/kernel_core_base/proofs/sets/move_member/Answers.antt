@@ -1,8 +1,8 @@
 use Rattle.std.proofs.Common.{refl}
 use Rattle.mach_types.specs.declared.calls.Event.{Event}
 use Rattle.copyin_base.proofs.Exiting.{exits}
-use Rattle.kernel_core_base.proofs.AttributesKept.{keeps_holder}
-use Rattle.kernel_core_base.proofs.MemberMoved.{mover_there, moved}
+use Rattle.kernel_core_base.proofs.ReceiveRight.{keeps_holder}
+use Rattle.kernel_core_base.proofs.Members.{mover_there, moved}
 use Rattle.kernel_core_base.proofs.sets.move_member.Goals as goal
 
 pub returns-in_err-moving-clause-serves : goal.returns-in_err-moving-clause-serves

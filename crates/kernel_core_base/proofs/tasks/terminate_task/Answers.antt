@@ -1,4 +1,4 @@
-use Rattle.kernel_core_base.proofs.TaskEnded.{task_ended}
+use Rattle.kernel_core_base.proofs.Refused.{task_ended}
 use Rattle.kernel_core_base.proofs.tasks.terminate_task.Goals as goal
 
 pub returns-clause-serves : goal.returns-clause-serves

@@ -1,9 +1,7 @@
-use Rattle.std.proofs.Common.{◌≡◌, ℕ, Some, true, ap, sym, ◌∙◌}
-use Rattle.std.specs.Option.{option_and_then}
+use Rattle.std.proofs.Common.{◌≡◌, ℕ, Some, true, sym, ◌∙◌}
 use Rattle.std.specs.FinMap as map
 use Rattle.name_space.specs.Entry.{port_named}
 use Rattle.name_space.specs.Names.{SpaceView, port_at}
-use Rattle.name_space.specs.Sound.{lost}
 use Rattle.name_space.proofs.Spaces.{sound-renewed, sound-lost, inside}
 use Rattle.name_space.proofs.Space.replace.Goals as goal
 

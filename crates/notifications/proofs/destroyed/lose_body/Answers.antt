@@ -3,7 +3,7 @@ use Rattle.mach_types.specs.Numbers.{kind_sent}
 use Rattle.copyin_base.specs.declared.message.Carried.{Carried}
 use Rattle.notifications.specs.Destroying.{LosesMark, LosesAll}
 use Rattle.std.proofs.lemmas.List.{take_all}
-use Rattle.notifications.proofs.Destroying.{can_next, lost_next, none_past}
+use Rattle.notifications.proofs.MessageRights.{can_next, lost_next, none_past}
 use Rattle.notifications.proofs.destroyed.lose_body.Goals as goal
 use Rattle.notifications.proofs.destroyed.lose_body.Goals.{in-Some, in-None}
 

@@ -1,4 +1,4 @@
-use Rattle.notifications.proofs.Destroying.{body_can, message_lost, front_notes}
+use Rattle.notifications.proofs.MessageRights.{body_can, message_lost, front_notes}
 use Rattle.notifications.proofs.destroyed.lose_message.Goals as goal
 
 pub lose_body-requires : goal.lose_body-requires

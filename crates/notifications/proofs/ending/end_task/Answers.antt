@@ -1,6 +1,5 @@
-use Rattle.notifications.proofs.Ended.{closed_ends}
-use Rattle.notifications.proofs.GoneOver.{none_over, can_lose_next, not_dead, one_more, less_to_come, all_gone, closed_bare}
-use Rattle.notifications.proofs.SparesLeft.{closed_uses}
+use Rattle.notifications.proofs.TaskEnded.{closed_ends}
+use Rattle.notifications.proofs.NameLost.{none_over, can_lose_next, not_dead, one_more, less_to_come, all_gone, closed_bare, closed_uses}
 use Rattle.notifications.proofs.ending.end_task.Goals as goal
 
 pub loop-named-init : goal.loop-named-init

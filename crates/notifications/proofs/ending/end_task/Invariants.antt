@@ -1,5 +1,5 @@
 use Rattle.std.specs.Prelude.{◌-◌, ◌^◌}
-use Rattle.notifications.proofs.GoneOver.{IsGoneOver}
+use Rattle.notifications.proofs.NameLost.{IsGoneOver}
 use Rattle.notifications.proofs.ending.end_task.Given as goal
 
 -- what the names below stood for is lost, and only slots for that were used

@@ -1,7 +1,7 @@
 use Rattle.std.proofs.Common.{ℕ, sym, subst}
 use Rattle.name_space.specs.declared.Entry.{Entry}
 use Rattle.notifications.specs.Ending.{CanLoseEntry, LosesEntry, LosesSends}
-use Rattle.notifications.proofs.InPlace.{lose_then}
+use Rattle.notifications.proofs.NameLost.{lose_then}
 use Rattle.notifications.proofs.ending.lose_entry.Goals as goal
 
 pub kill_port-requires-in-ReceiveAndSend : goal.kill_port-requires-in-ReceiveAndSend

@@ -1,4 +1,4 @@
-use Rattle.notifications.proofs.KeptLost.{kept_held, kept_given, kept_entered, kept_counted, kept_lost, kept_gone}
+use Rattle.notifications.proofs.NameLost.{kept_held, kept_given, kept_entered, kept_counted, kept_lost, kept_gone}
 use Rattle.notifications.proofs.ending.lose_receive.Goals as goal
 
 pub lose_if_there-requires : goal.lose_if_there-requires

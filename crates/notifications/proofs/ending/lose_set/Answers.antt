@@ -3,7 +3,7 @@ use Rattle.copyin_base.specs.Worlds.{WorldView}
 use Rattle.copyin_base.proofs.Reading.{same_given}
 use Rattle.copyin_base.proofs.Written.{disbanded_ports, ports_written}
 use Rattle.notifications.specs.Ending.{DropsSet}
-use Rattle.notifications.proofs.Able.{set_dropped}
+use Rattle.notifications.proofs.ReceiveLost.{set_dropped}
 use Rattle.notifications.proofs.ending.lose_set.Goals as goal
 
 pub invariant_of-world : goal.invariant_of-world

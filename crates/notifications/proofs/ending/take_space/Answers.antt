@@ -3,7 +3,7 @@ use Rattle.std.specs.Prelude.{slice_set}
 use Rattle.name_space.specs.Names.{SpaceView}
 use Rattle.copyin_base.specs.Reading.{AreGiven}
 use Rattle.copyin_base.proofs.Written.{tables}
-use Rattle.notifications.proofs.Closing.{given_closed, closed_written}
+use Rattle.notifications.proofs.TaskEnded.{given_closed, closed_written}
 use Rattle.notifications.proofs.ending.take_space.Goals as goal
 
 pub invariant_of-world : goal.invariant_of-world

@@ -1,4 +1,4 @@
-use Rattle.notifications.proofs.Losing.{lost_given, lost_written}
+use Rattle.notifications.proofs.NameLost.{lost_given, lost_written}
 use Rattle.notifications.proofs.lost.kill_port.Goals as goal
 
 pub invariant_of-world : goal.invariant_of-world

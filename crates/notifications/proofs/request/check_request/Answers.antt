@@ -1,4 +1,4 @@
-use Rattle.notifications.proofs.Refusing.{short_may}
+use Rattle.notifications.proofs.RequestJudged.{short_may}
 use Rattle.notifications.proofs.request.check_request.Goals as goal
 
 pub returns-in-Ok-clause-ok : goal.returns-in-Ok-clause-ok

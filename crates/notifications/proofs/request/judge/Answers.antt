@@ -1,6 +1,6 @@
 use Rattle.std.proofs.lemmas.Result.{err_from_is_err_and}
-use Rattle.notifications.proofs.Asking.{unfit_at, full_at}
-use Rattle.notifications.proofs.Refusing.{incapable}
+use Rattle.notifications.proofs.Requested.{unfit_at, full_at}
+use Rattle.notifications.proofs.RequestJudged.{incapable}
 use Rattle.notifications.proofs.request.judge.Goals as goal
 
 pub returns-in_err-paying-clause-err : goal.returns-in_err-paying-clause-err

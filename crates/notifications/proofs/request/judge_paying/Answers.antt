@@ -1,5 +1,5 @@
 use Rattle.std.proofs.Common.{◌∙◌}
-use Rattle.notifications.proofs.Paying.{none_pays}
+use Rattle.notifications.proofs.RequestJudged.{none_pays}
 use Rattle.notifications.proofs.request.judge_paying.Goals as goal
 
 pub returns-in-None-clause-err : goal.returns-in-None-clause-err

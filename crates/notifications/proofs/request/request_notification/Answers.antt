@@ -1,7 +1,6 @@
 use Rattle.std.proofs.lemmas.Result.{err_from_is_err_and}
-use Rattle.notifications.proofs.Asking.{can_carry, carried}
-use Rattle.notifications.proofs.Leaving.{leaves_request}
-use Rattle.notifications.proofs.Refusing.{short_of}
+use Rattle.notifications.proofs.Requested.{can_carry, carried}
+use Rattle.notifications.proofs.RequestJudged.{leaves_request, short_of}
 use Rattle.notifications.proofs.request.request_notification.Goals as goal
 
 pub returns-in_err-reserve-clause-serves : goal.returns-in_err-reserve-clause-serves

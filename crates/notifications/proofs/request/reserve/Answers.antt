@@ -1,4 +1,4 @@
-use Rattle.notifications.proofs.Readying.{reserved, reserved_some}
+use Rattle.notifications.proofs.Requested.{reserved, reserved_some}
 use Rattle.notifications.proofs.Results.{if_err, on_ok}
 use Rattle.notifications.proofs.request.reserve.Goals as goal
 

@@ -1,4 +1,4 @@
-use Rattle.notifications.proofs.Telling.{can_tell, tells}
+use Rattle.notifications.proofs.Requested.{can_tell, tells}
 use Rattle.notifications.proofs.request.tell_dead.Goals as goal
 
 pub put_left-requires : goal.put_left-requires

@@ -1,4 +1,4 @@
-use Rattle.std.proofs.Common.{◌≡◌, ℕ, List, [], ◌∷◌, ◌++◌, Some, is_some, ap, sym, refl}
+use Rattle.std.proofs.Common.{is_some, ap, refl}
 use Rattle.member_lists.specs.Lists.{list_of}
 use Rattle.slab.specs.Slab.{get}
 use Rattle.port.specs.declared.Holder.TheVariants as Holder

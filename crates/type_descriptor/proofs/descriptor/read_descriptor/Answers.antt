@@ -1,4 +1,4 @@
-use Rattle.std.proofs.Common.{List, ℕ, ◌≡◌, [], drop, length, arith, sym}
+use Rattle.std.proofs.Common.{drop, arith}
 use Rattle.std.proofs.lemmas.List.{length-drop}
 use Rattle.type_descriptor.proofs.Texts.{refuses_short}
 use Rattle.type_descriptor.proofs.descriptor.read_descriptor.Goals as goal

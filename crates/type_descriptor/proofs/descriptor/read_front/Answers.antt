@@ -1,10 +1,8 @@
-use Rattle.std.proofs.Common.{IsTrue, false, List, ℕ, ◌≡◌, ap, sym, ◌∙◌, subst, arith, IfErr}
+use Rattle.std.proofs.Common.{List, ℕ, sym, subst, arith}
 use Rattle.std.proofs.lemmas.Result.{err_from_is_err_and}
 use Rattle.mach_types.specs.TextGuards.{BadType, word_at}
-use Rattle.mach_types.specs.Numbers.{msg_number}
-use Rattle.type_descriptor.specs.Describes.{DescriptorRefuses}
-use Rattle.type_descriptor.proofs.ByteWords.{AreBytes, not_true}
-use Rattle.type_descriptor.proofs.Texts.{Describes-from_fields, refuses_short, refuses_cut, refuses_type}
+use Rattle.type_descriptor.proofs.ByteWords.{not_true}
+use Rattle.type_descriptor.proofs.Texts.{Describes-from_fields, refuses_short, refuses_cut}
 use Rattle.type_descriptor.proofs.descriptor.read_front.Goals as goal
 
 pub returns-then-bytes-lt-SHORT_BYTES-clause-err :

@@ -1,7 +1,7 @@
-use Rattle.std.proofs.Common.{◌≡◌, ◌+◌, ◌*◌, ◌^◌, ◌++◌, ℕ, Bool, true, List, length, take, drop, ap, sym, subst, ◌∙◌, arith, ◌≤◌}
-use Rattle.mach_types.specs.Grammar.{word, FitsForm}
+use Rattle.std.proofs.Common.{◌≡◌, ◌+◌, ◌*◌, ◌^◌, ◌++◌, ℕ, Bool, true, List, length, take, drop, ap, subst, ◌∙◌, arith, ◌≤◌}
+use Rattle.mach_types.specs.Grammar.{FitsForm}
 use Rattle.mach_types.specs.Messages.{long}
-use Rattle.type_descriptor.specs.Describes.{form_of, form_length, text_of}
+use Rattle.type_descriptor.specs.Describes.{form_of, form_length}
 use Rattle.type_descriptor.proofs.ByteWords.{three_words}
 use Rattle.type_descriptor.proofs.Texts.{long_words}
 use Rattle.type_descriptor.proofs.descriptor.write_descriptor.Goals as goal

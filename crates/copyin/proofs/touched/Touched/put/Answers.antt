@@ -5,7 +5,7 @@ use Rattle.std.specs.Ordering.{nat_cmp}
 use Rattle.arrayvec.specs.ArrayVec.{array_vec_len}
 use Rattle.copyin.specs.declared.touched.Touched.{Touched}
 use Rattle.copyin.specs.Overlays.{inline_touched}
-use Rattle.copyin.proofs.Overlays.{overlays-few, overlays-many}
+use Rattle.copyin.proofs.Judging.{overlays-few, overlays-many}
 use Rattle.copyin.proofs.touched.Touched.put.Goals as goal
 
 pub returns-then-not-is_full-clause-ok : goal.returns-then-not-is_full-clause-ok

@@ -1,4 +1,4 @@
-use Rattle.std.proofs.Common.{◌≡◌, ℕ, Some, sym, ap, subst, ◌∙◌}
+use Rattle.std.proofs.Common.{◌≡◌, ℕ, Some, sym, ap, ◌∙◌}
 use Rattle.std.specs.FinMap as map
 use Rattle.name_space.specs.declared.Entry.{Entry}
 use Rattle.name_space.specs.Entry.{port_of}

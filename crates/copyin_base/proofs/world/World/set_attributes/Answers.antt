@@ -1,7 +1,5 @@
 use Rattle.std.proofs.Common.{sym, subst}
 use Rattle.port.specs.Holding.{KeepsHolder}
-use Rattle.port.specs.Ports.{PortsView}
-use Rattle.copyin_base.specs.Kept.{Kept}
 use Rattle.copyin_base.specs.Worlds.{WorldView, port_at}
 use Rattle.copyin_base.proofs.Told.{port_got}
 use Rattle.copyin_base.proofs.Written.{port_given, port_written}

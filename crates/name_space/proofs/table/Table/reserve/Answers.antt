@@ -1,4 +1,4 @@
-use Rattle.std.proofs.Common.{◌≡◌, ◌<◌, ℕ, refl}
+use Rattle.std.proofs.Common.{◌<◌, ℕ, refl}
 use Rattle.name_space_base.specs.Pages.{WantsPage}
 use Rattle.name_space.proofs.Keys.{for_err}
 use Rattle.name_space.proofs.Tables.{no_neighbour}

@@ -1,0 +1,688 @@
+-- A request on a name of a doomed port ends; burials come one after the other.
+use Rattle.std.proofs.Common.{◌≡◌, ℕ, List, Option, Some, None, refl, sym, ap, subst, ◌∙◌, inl, inr, ◌+◌, ◌<◌, [], ◌∷◌, ◌++◌, arith, true, false, Bool, ◌⊎◌, zero, ◌%◌, ◌^◌, length}
+use Rattle.std.specs.FinMap as map
+use Rattle.std.specs.Ordering.{nat_cmp}
+use Rattle.std.proofs.lemmas.Bool.Decides.{eqb_tells}
+use Rattle.std.specs.Prelude.{◌==◌, ◌&&◌, ◌||◌, not, is_some, min, slice_set, IfSome, Contains, ◌↔◌, nat_lt, if◌then◌else◌}
+use Rattle.std.specs.Option.{option_map}
+use Rattle.std.proofs.lemmas.Bool.{eq-eqb, lt-ltb, ltb-true}
+use Rattle.std.proofs.Math.Bool.{or-false as or_false, or-true as or_true}
+use Rattle.std.specs.FinMap.{len-insert}
+use Rattle.std.specs.Cmp.{nat_cmp_total}
+use Rattle.std.proofs.lemmas.List.{append-nil}
+use Rattle.mach_types.specs.Numbers.{most_references}
+use Rattle.mach_types.specs.Tokens.{send, Request, no_senders, port_destroyed, dead_name}
+use Rattle.mach_model.proofs.Names.{removed_own, alike, at_own, at_other, get_own, get_other, left_of}
+use Rattle.mach_model.specs.State.{State, Target, Names, lookup, held, at, same_request}
+use Rattle.mach_model.specs.Notices.{Owed}
+use Rattle.mach_model.specs.Settles.{settled_target}
+use Rattle.mach_model.specs.Turns.{Ending, lives_after, IsRequestOf, IsNameOf}
+use Rattle.mach_model.proofs.SettledEnd.{settled_port}
+use Rattle.mach_model.proofs.SettledReceives.{and_false}
+use Rattle.mach_model.proofs.TurnsMade.{bury}
+use Rattle.number_map.specs.Maps.{MapView}
+use Rattle.rights.specs.Ledger.{LedgerView, IsEntered, left}
+use Rattle.rights.specs.Unused.{IsUnusedOfAll}
+use Rattle.name_space.specs.Names.{SpaceView}
+use Rattle.name_space.specs.declared.Entry.{Entry}
+use Rattle.name_space.specs.declared.Entry.TheVariants as named
+use Rattle.name_space.specs.Entry.{port_of, port_named, has_receive, send_references}
+use Rattle.name_space.specs.declared.Entry.TheVariants.{Receive, Send, ReceiveAndSend, SendOnce, DeadName, Set}
+use Rattle.member_lists.specs.Lists.{without}
+use Rattle.port.specs.Ports.{PortsView, PortView}
+use Rattle.port.specs.declared.Holder.TheVariants as holder
+use Rattle.port.specs.Holding.{IsHeldBy, NoneHeldBy}
+use Rattle.port_set.specs.Sets.{SetsView}
+use Rattle.request_table.specs.Requests.{RequestsView, name_key, key_of, without_request as taken_out, NoneOn}
+use Rattle.request_table.specs.declared.Request.{Request as NameRequest}
+use Rattle.copyin_base.specs.Kept.{Kept}
+use Rattle.copyin_base.specs.Worlds.{WorldView, space_at, entry_in, entry_at, port_at, put}
+use Rattle.copyin_base.proofs.Putting.{get_removed, put_own, put_other}
+use Rattle.copyin_base.proofs.Written.{tables}
+use Rattle.copyin_base.specs.declared.notice.Notice.TheVariants as notice
+use Rattle.copyin_base.specs.Queued.{notice_kept}
+use Rattle.copyin_base.specs.Requests.{RequestTablesView, notify_of}
+use Rattle.copyin_base.specs.Shows.{target_of, CarriesReceive, IsOnName}
+use Rattle.copyin_base.proofs.Reading.{named_port, get_read}
+use Rattle.copyin_base.proofs.Requesting.{same_key}
+use Rattle.copyin_base.proofs.Spaces.{space-set_same, space-set_other}
+use Rattle.copyin_base.specs.Changes.{CanPutLeft, PutsLeft}
+use Rattle.copyin_base.specs.Reading.{reading, read_names, read_space, read_spaces, live_in, AreGiven}
+use Rattle.notifications.specs.Posting.{CanPost}
+use Rattle.destroy.specs.Burying.{dead_count, SameSpare, is_among, Around, Burying, IsDueOn, EndsRequests, IsNone, IsBurying, IsNextToBury, IsAny, IsOnName as IsRequestOnName, without_port, buried}
+use Rattle.destroy.specs.Paying.{LivesIn, Pays}
+use Rattle.destroy.proofs.BuryEnd.{named_once, of_settled, buried_between, buried_told, begins_burying, gone_ended}
+use Rattle.destroy.proofs.BuryRequest.{request_ended, ended_holders, request_refl, name_died_agrees, unrequested, without_request}
+use Rattle.destroy.proofs.BuryMore.{NamesSoFar}
+use Rattle.destroy.proofs.BuryState.{among_more, same_request_is}
+use Rattle.destroy.proofs.BurySoFar.{held_same}
+use Rattle.destroy.proofs.BurySteps.{can_post, step, step_spare, pays_ports, lives_or_not, counted_one, still_in, none_ended}
+use Rattle.destroy.proofs.LoseFrames.{holder_stays}
+use Rattle.destroy.proofs.Rooms.{renamed_rooms, pays_spaces, buried_rooms}
+use Rattle.destroy.specs.Between.{Between}
+use Rattle.destroy.specs.Stages.{IsCount, SameSlots, IsAt, Continues, AreTold, AreBuried, KeepsRooms}
+
+-- ---- A request was taken out of the tables.
+
+-- nothing is taken where nothing is
+pub absent_stays : (m : map.FinMap nat_cmp ℕ) (k : ℕ) → map.get m k ≡ None → map.remove m k ≡ m
+absent_stays m k none = alike (map.remove m k) m (λ n. elim (eqb_tells n k) [
+  | inl h ↦ subst (λ (j : ℕ). map.get (map.remove m k) j ≡ map.get m j) (sym h.1) (removed_own m k ∙ sym none)
+  | inr h ↦ get_removed m k n h.1
+])
+
+pub is_none : {A : Type 0} (o : Option A) → ((x : A) → o ≡ Some x → ⊥) → o ≡ None
+is_none None none = refl
+is_none (Some x) none = absurd (none x refl)
+
+abbrev pub no_senders_less : WorldView → ℕ → WorldView
+no_senders_less w p = record w { requests = record w.requests { no_senders = record w.requests.no_senders { map = map.remove w.requests.no_senders.map p } } }
+
+abbrev pub saving_less : WorldView → ℕ → WorldView
+saving_less w p = record w { requests = record w.requests { port_destroyed = record w.requests.port_destroyed { map = map.remove w.requests.port_destroyed.map p } } }
+
+pub senders_absent : (w : WorldView) (p : ℕ) → map.get w.requests.no_senders.map p ≡ None → no_senders_less w p ≡ w
+senders_absent w p none = ap (λ m. record w { requests = record w.requests { no_senders = record w.requests.no_senders { map = m } } }) (absent_stays w.requests.no_senders.map p none)
+
+pub saving_absent : (w : WorldView) (p : ℕ) → map.get w.requests.port_destroyed.map p ≡ None → saving_less w p ≡ w
+saving_absent w p none = ap (λ m. record w { requests = record w.requests { port_destroyed = record w.requests.port_destroyed { map = m } } }) (absent_stays w.requests.port_destroyed.map p none)
+
+module _ (old : WorldView) (spaces : List (Option SpaceView)) (ports : PortsView Kept) (ledger : LedgerView) (sets : SetsView) (names : RequestsView) (senders saving : MapView ℕ)
+    (view : tables spaces ports ledger sets (record { names = names; no_senders = senders; port_destroyed = saving }) ≡ old) (k p : ℕ) (key : k ≡ p) (new : MapView ℕ) where
+  pub senders_taken : new ≡ record senders { map = map.remove senders.map k } → tables spaces ports ledger sets (record { names = names; no_senders = new; port_destroyed = saving }) ≡ no_senders_less old p
+  senders_taken is = ap (λ (x : MapView ℕ). tables spaces ports ledger sets (record { names = names; no_senders = x; port_destroyed = saving })) is
+      ∙ ap (λ (w : WorldView). no_senders_less w k) view ∙ ap (no_senders_less old) key
+
+  pub saving_taken : new ≡ record saving { map = map.remove saving.map k } → tables spaces ports ledger sets (record { names = names; no_senders = senders; port_destroyed = new }) ≡ saving_less old p
+  saving_taken is = ap (λ (x : MapView ℕ). tables spaces ports ledger sets (record { names = names; no_senders = senders; port_destroyed = x })) is
+      ∙ ap (λ (w : WorldView). saving_less w k) view ∙ ap (saving_less old) key
+
+  pub senders_found : (o : Option ℕ) → o ≡ map.get senders.map k → o ≡ map.get old.requests.no_senders.map p
+  senders_found o is = is ∙ (λ i. map.get ((ap (λ (w : WorldView). w.requests.no_senders.map) view) i) (key i))
+
+  pub saving_found : (o : Option ℕ) → o ≡ map.get saving.map k → o ≡ map.get old.requests.port_destroyed.map p
+  saving_found o is = is ∙ (λ i. map.get ((ap (λ (w : WorldView). w.requests.port_destroyed.map) view) i) (key i))
+
+-- ---- A request on a name of a doomed port ends: the name is dead at once.
+
+counts_dead : (n : ℕ) → 0 < n → dead_count n ≡ min (n + 1) most_references
+counts_dead n some = omega (arith, some)
+
+bare : (name q : ℕ) → ¬ (CarriesReceive (notice_kept (notice.DeadName name)) q)
+bare name q (i, below, is) = absurd (omega (arith, below))
+
+-- the tables without the request
+abbrev pub name_less : WorldView → NameRequest → WorldView
+name_less w q = record w { requests = record w.requests { names = taken_out w.requests.names q } }
+
+module _ (now : ℕ) (tables : WorldView) (old mid : State) (owed : Owed) (e : Ending) (port : ℕ) (rs : List Request) (w : WorldView) (b : Burying now tables old mid owed e port rs w)
+    (q : NameRequest) (is_kept : map.get w.requests.names.requests (key_of q) ≡ Some q) (is_port : q.port ≡ port) where
+  abbrev s : State
+  s = b.state
+
+  abbrev r : Request
+  r = dead_name q.task q.name
+
+  abbrev rq : RequestTablesView
+  rq = record w.requests { names = taken_out w.requests.names q }
+
+  pub on : IsOnName w (key_of q) q
+  on = b.around.requested.on_names (key_of q) q is_kept
+
+  was : notify_of w.requests r ≡ Some q.notify
+  was = grind (arith, lt-ltb, on)
+
+  gone : notify_of rq r ≡ None
+  gone = grind (arith, removed_own)
+
+  others : (x : Request) → same_request x r ≡ false → notify_of rq x ≡ notify_of w.requests x
+  others (no_senders p) other = refl
+  others (port_destroyed p) other = refl
+  others (dead_name t n) other = grind (arith, same_key, on, eq-eqb, get_removed, ltb-true)
+
+  -- ---- the name
+
+  found_there : lookup s q.task q.name ≡ Some (target_of on.entry)
+  found_there = b.agrees.spaces.naming q.task q.name ∙ ap (option_map target_of) on.found
+
+  abbrev partly : State
+  partly = record mid { live_port = λ p. s.live_port p && not (is_among rs r) }
+
+  of_port : target_of on.entry ≡ Target.port q.port → lookup mid q.task q.name ≡ Some (Target.port q.port)
+  of_port is = (settled_port mid partly q.task q.name (lookup mid q.task q.name) q.port (sym (b.so_far.names q.task q.name) ∙ found_there ∙ ap Some is)).0
+
+  of_once : target_of on.entry ≡ Target.once q.port → lookup mid q.task q.name ≡ Some (Target.once q.port)
+  of_once is = of_settled mid partly q.task q.name (lookup mid q.task q.name) q.port (sym (b.so_far.names q.task q.name) ∙ found_there ∙ ap Some is)
+
+  pub is_of_port : IsRequestOf mid port r
+  is_of_port = grind (arith, named_once, on, of_port, of_once)
+
+  stood : mid.stands r ≡ true
+  stood = grind (arith, left_of, was)
+
+  port_there : (o : Option (PortView Kept)) → port_at w q.port ≡ o → is_some o ≡ true → (v : PortView Kept) × (port_at w q.port ≡ Some v)
+  port_there (Some v) at h = (v, at)
+  port_there None at h = absurd (cc)
+
+  -- no task has the port's receive right
+  no_receive : (x : Entry) → entry_at w q.task q.name ≡ Some x → port_named x ≡ Some q.port → has_receive x ≡ true → ⊥
+  no_receive x at is has = grind (arith, port_there, on)
+
+  same_held : held s q.task send q.port ≡ held mid q.task send q.port
+  same_held = subst (λ (p : ℕ). held s q.task send p ≡ held mid q.task send p) (sym is_port) (held_same now old mid owed e port rs s b.can b.ends b.so_far q.task send)
+
+  -- the references of a name of send rights are counted
+  counted : (x : Entry) → entry_at w q.task q.name ≡ Some x → port_of x ≡ Some q.port → target_of x ≡ Target.port q.port → dead_count (send_references x) ≡ min (held mid q.task send q.port + 1) most_references
+  counted (named.Receive p) at for t = absurd (no_receive (named.Receive p) at for refl)
+  counted (named.Send p n) at for t = counts_dead n (b.agrees.spaces.counted q.task q.name (named.Send p n) at) ∙ ap (λ (k : ℕ). min (k + 1) most_references) (sym (b.agrees.rights.references q.task q.name (named.Send p n) q.port at for).1 ∙ same_held)
+  counted (named.ReceiveAndSend p n) at for t = absurd (no_receive (named.ReceiveAndSend p n) at for refl)
+  counted (named.SendOnce p) at for t = absurd (cc)
+  counted (named.DeadName n) at for t = absurd (cc)
+  counted (named.Set n) at for t = absurd (cc)
+
+  once_counted : (x : Entry) → target_of x ≡ Target.once q.port → dead_count (send_references x) ≡ min (1 + 1) most_references
+  once_counted (named.Receive p) t = absurd (cc)
+  once_counted (named.Send p n) t = absurd (cc)
+  once_counted (named.ReceiveAndSend p n) t = absurd (cc)
+  once_counted (named.SendOnce p) t = refl
+  once_counted (named.DeadName n) t = absurd (cc)
+  once_counted (named.Set n) t = absurd (cc)
+
+  module _ (space : SpaceView) (there : space_at w q.task ≡ Some space) where
+    abbrev k : ℕ
+    k = dead_count (send_references on.entry)
+
+    abbrev dead_space : SpaceView
+    dead_space = record space { names = put space.names q.name (Some (named.DeadName k)) }
+
+    abbrev spaces : List (Option SpaceView)
+    spaces = slice_set w.spaces q.task (Some dead_space)
+
+    abbrev naming : ℕ → Names
+    naming = at s.naming q.task (map.insert (s.naming q.task) q.name (Target.dead k))
+
+    found : map.get space.names q.name ≡ Some on.entry
+    found = sym (ap (λ (o : Option SpaceView). entry_in o q.name) there) ∙ on.found
+
+    -- ---- names in the state
+
+    abbrev more : List Request
+    more = rs ++ r ∷ []
+
+    abbrev result : (task name : ℕ) → Bool → Option Target
+    result task name c = option_map (settled_target mid (record mid { live_port = λ p. s.live_port p && not c }) task name) (lookup mid task name)
+
+    own_among : is_among more r ≡ true
+    own_among = among_more rs r r ∙ ap (λ (c : Bool). is_among rs r || c) (request_refl r) ∙ or_true (is_among rs r)
+
+    own_result : Some (Target.dead k) ≡ result q.task q.name true
+    own_result = grind (arith, named_once, on, of_port, counted, of_once, once_counted, stood, and_false)
+
+    own_named : map.get (naming q.task) q.name ≡ result q.task q.name (is_among more r)
+    own_named = grind (arith, at_own, get_own, own_result, own_among)
+
+    other_named : (task name : ℕ) → same_request (dead_name task name) r ≡ false → map.get (naming task) name ≡ map.get (s.naming task) name → map.get (naming task) name ≡ result task name (is_among more (dead_name task name))
+    other_named task name off same = grind (arith, among_more, or_false)
+
+    names : NamesSoFar mid more s.live_port naming
+    names task name = elim (eqb_tells task q.task) [
+      | inl h ↦ elim (eqb_tells name q.name) [
+        | inl g ↦ subst (λ (t : ℕ). map.get (naming t) name ≡ result t name (is_among more (dead_name t name))) (sym h.1)
+            (subst (λ (n : ℕ). map.get (naming q.task) n ≡ result q.task n (is_among more (dead_name q.task n))) (sym g.1) own_named)
+        | inr g ↦ other_named task name (ap (λ (c : Bool). task == q.task && c) g.0 ∙ and_false (task == q.task))
+            (subst (λ (t : ℕ). map.get (naming t) name ≡ map.get (s.naming t) name) (sym h.1)
+            (ap (λ (m : Names). map.get m name) (at_own s.naming q.task (map.insert (s.naming q.task) q.name (Target.dead k))) ∙ get_other (s.naming q.task) q.name (Target.dead k) name g.1))
+      ]
+      | inr h ↦ other_named task name (ap (λ (c : Bool). c && name == q.name) h.0) (ap (λ (m : Names). map.get m name) (at_other s.naming q.task (map.insert (s.naming q.task) q.name (Target.dead k)) task h.1))
+    ]
+
+    -- ---- names in the tables
+
+    abbrev ended : WorldView
+    ended = record w { spaces = spaces; requests = rq }
+
+    entry_own : entry_at ended q.task q.name ≡ Some (named.DeadName k)
+    entry_own = ap (λ (o : Option SpaceView). entry_in o q.name) (space-set_same w.spaces q.task dead_space space there) ∙ put_own space.names q.name (Some (named.DeadName k))
+
+    entry_other : (t n : ℕ) → ((t ≡ q.task) × (n ≡ q.name) → ⊥) → entry_at ended t n ≡ entry_at w t n
+    entry_other t n not = elim (eqb_tells t q.task) [
+      | inl h ↦ subst (λ (u : ℕ). entry_at ended u n ≡ entry_at w u n) (sym h.1)
+          (ap (λ (o : Option SpaceView). entry_in o n) (space-set_same w.spaces q.task dead_space space there) ∙ put_other space.names q.name (Some (named.DeadName k)) n (λ is. not (h.1, is))
+          ∙ sym (ap (λ (o : Option SpaceView). entry_in o n) there))
+      | inr h ↦ ap (λ (o : Option SpaceView). entry_in o n) (space-set_other w.spaces q.task dead_space t h.1)
+    ]
+
+    entry_from : (t n : ℕ) (x : Entry) (p : ℕ) → entry_at ended t n ≡ Some x → port_of x ≡ Some p → entry_at w t n ≡ Some x
+    entry_from t n x p is for = grind (arith, entry_own, entry_other)
+
+    around : Around tables old mid e ended
+    around = record {
+      held = record { held = λ t n x p at is has v here. b.around.held.held t n x p (entry_from t n x p at (named_port x p is)) is has v here };
+      carriers = record { given = b.around.carriers.given; carried = b.around.carriers.carried };
+      requested = record {
+        on_names = λ key x is. on_name key x is;
+        no_senders = b.around.requested.no_senders;
+        port_destroyed = b.around.requested.port_destroyed;
+      };
+      went = b.around.went;
+      none_lost = b.around.none_lost;
+      none_destroyed = b.around.none_destroyed;
+      none_noted = b.around.none_noted;
+      emptied = b.around.emptied;
+      unjudged = b.around.unjudged;
+      doomed = b.around.doomed;
+      lost = b.around.lost;
+      senders = b.around.senders;
+      unnoted = λ p lives some is. b.around.unnoted p lives some (record { live = is.live; asked = is.asked; none = is.none });
+      receivers = b.around.receivers;
+    }
+      where
+        on_name : (key : ℕ) (x : NameRequest) → map.get (map.remove w.requests.names.requests (key_of q)) key ≡ Some x → IsOnName ended key x
+        on_name key x is =
+            let o = b.around.requested.on_names key x (sym (get_removed w.requests.names.requests (key_of q) key other) ∙ is) in
+            record {
+              own = o.own;
+              small = o.small;
+              entry = o.entry;
+              found = entry_other x.task x.name (λ c. other (sym o.own ∙ (λ i. name_key (c.0 i) (c.1 i)))) ∙ o.found;
+              for_port = o.for_port;
+              live = o.live;
+            }
+          where
+            other : key ≡ key_of q → ⊥
+            other same = let a : None ≡ Some x = sym (removed_own w.requests.names.requests (key_of q)) ∙ ap (map.get (map.remove w.requests.names.requests (key_of q))) (sym same) ∙ is in cc
+
+    -- ---- the step
+
+    pub name_post : LivesIn ended q.notify → CanPost ended q.notify
+    name_post = can_post now tables old mid owed e port rs w b r q.notify was is_of_port spaces rq naming names
+
+    pub name_end : (v : WorldView) → Pays ended q.notify (notice.DeadName q.name) v → Burying now tables old mid owed e port (rs ++ r ∷ []) v
+    name_end = step now tables old mid owed e port rs w b r q.notify was is_of_port spaces rq naming names around
+        (λ xs g. name_died_agrees (lives_after mid e) (unrequested w rq) (without_request s r xs)
+        (request_ended (lives_after mid e) w s b.agrees rq r q.notify xs gone was others b.around.went b.around.went g (λ x h. same_request_is x r h)) q.task q.name space there on.entry found q.port on.for_port k)
+        (λ xs g p v here. holder_stays (without_request s r xs) (record (without_request s r xs) { naming = naming }) e.destroyed (record { all = λ p. refl; each = λ p place. refl }) p v.attributes.holder
+        (ended_holders (lives_after mid e) w s b.agrees rq r q.notify xs gone was others b.around.went b.around.went g (λ x h. same_request_is x r h) e.destroyed b.holders p v here))
+        (notice.DeadName q.name) refl (λ at. refl) (bare q.name)
+
+    pub name_spare : IsUnusedOfAll w.ledger → (v : WorldView) → Pays ended q.notify (notice.DeadName q.name) v → SameSpare e rs w (rs ++ r ∷ []) v
+    name_spare = step_spare now tables old mid owed e port rs w b r q.notify was is_of_port spaces rq naming names around
+        (λ xs g. name_died_agrees (lives_after mid e) (unrequested w rq) (without_request s r xs)
+        (request_ended (lives_after mid e) w s b.agrees rq r q.notify xs gone was others b.around.went b.around.went g (λ x h. same_request_is x r h)) q.task q.name space there on.entry found q.port on.for_port k)
+        (λ xs g p v here. holder_stays (without_request s r xs) (record (without_request s r xs) { naming = naming }) e.destroyed (record { all = λ p. refl; each = λ p place. refl }) p v.attributes.holder
+        (ended_holders (lives_after mid e) w s b.agrees rq r q.notify xs gone was others b.around.went b.around.went g (λ x h. same_request_is x r h) e.destroyed b.holders p v here))
+        (notice.DeadName q.name) refl (λ at. refl) (bare q.name)
+
+-- ---- What ending a request on a name of a doomed port asks of the tables, and what it promises.
+
+-- the request was taken out of the tables
+module _ (old : WorldView) (spaces : List (Option SpaceView)) (ports : PortsView Kept) (ledger : LedgerView) (sets : SetsView) (names : RequestsView) (senders saving : MapView ℕ)
+    (view : tables spaces ports ledger sets (record { names = names; no_senders = senders; port_destroyed = saving }) ≡ old) (q : NameRequest) (is_kept : map.get old.requests.names.requests (key_of q) ≡ Some q) (new : RequestsView)
+    (o : Option NameRequest) (kept : o ≡ map.get names.requests (key_of q)) (some : IfSome o (λ r. new ≡ taken_out names r)) where
+  found_named : o ≡ Some q
+  found_named = kept ∙ ap (λ (w : WorldView). map.get w.requests.names.requests (key_of q)) view ∙ is_kept
+
+  is : new ≡ taken_out names q
+  is = subst (λ (x : Option NameRequest). IfSome x (λ r. new ≡ taken_out names r)) found_named some
+
+  pub name_taken : tables spaces ports ledger sets (record { names = new; no_senders = senders; port_destroyed = saving }) ≡ name_less old q
+  name_taken = ap (λ (x : RequestsView). tables spaces ports ledger sets (record { names = x; no_senders = senders; port_destroyed = saving })) is ∙ ap (λ (w : WorldView). name_less w q) view
+
+-- a map that has a key has more
+some_fewer : (m : map.FinMap nat_cmp NameRequest) (k : ℕ) (v : NameRequest) → map.get m k ≡ Some v → map.len (map.remove m k) < map.len m
+some_fewer m k v is =
+    let a : map.len (map.insert (map.remove m k) k v) ≡ map.len (map.remove m k) + 1 = len-insert nat_cmp_total (map.remove m k) k v ∙ rw (removed_own m k) refl in
+    let b : map.insert (map.remove m k) k v ≡ m = alike _ _ (same m k v is) in
+    let c : map.len (map.insert (map.remove m k) k v) ≡ map.len m = ap map.len b in
+    omega (arith, a, c)
+  where
+    same : (m : map.FinMap nat_cmp NameRequest) (k : ℕ) (v : NameRequest) → map.get m k ≡ Some v → (n : ℕ) → map.get (map.insert (map.remove m k) k v) n ≡ map.get m n
+    same m k v is n = elim (eqb_tells n k) [
+      | inl h ↦ subst (λ (j : ℕ). map.get (map.insert (map.remove m k) k v) j ≡ map.get m j) (sym h.1) (get_own (map.remove m k) k v ∙ sym is)
+      | inr h ↦ get_other (map.remove m k) k v n h.1 ∙ get_removed m k n h.1
+    ]
+
+space_of : (o : Option SpaceView) (name : ℕ) (x : Entry) → entry_in o name ≡ Some x → (space : SpaceView) × (o ≡ Some space) × (map.get space.names name ≡ Some x)
+space_of (Some space) name x is = (space, refl, is)
+space_of None name x is = absurd (let a : None ≡ Some x = is in cc)
+
+one_entry : (a b : Entry) → Some a ≡ Some b → a ≡ b
+one_entry a b e = cc
+
+-- something stands under the name
+pub entry_there : (port : ℕ) (q : NameRequest) (w : WorldView) → IsDueOn port q w → (u : WorldView) → u ≡ name_less w q → (x : Entry) × (entry_at u q.task q.name ≡ Some x)
+entry_there port q w due u is_u =
+    let b = due.burying in
+    let o = on b.now b.tables b.old b.mid b.owed b.ending port b.requests w b.burying q due.is_on.there due.is_on.is in
+    (o.entry, ap (λ (y : WorldView). entry_at y q.task q.name) is_u ∙ o.found)
+
+module _ (port : ℕ) (q : NameRequest) (w : WorldView) (due : IsDueOn port q w) (u : WorldView) (is_u : u ≡ name_less w q) (x : Entry) (at : entry_at u q.task q.name ≡ Some x)
+    (d : Entry) (is_d : d ≡ named.DeadName (dead_count (send_references x))) where
+  pub can_put : CanPutLeft u q.task q.name (Some d)
+  can_put =
+      let f = space_of (space_at u q.task) q.name x at in
+      record {
+        space = f.0;
+        there = f.1;
+        used = ap is_some f.2;
+        same = λ p named. absurd (let a : None ≡ Some p = ap port_named (sym is_d) ∙ named in cc);
+        lives = λ p for. absurd (let a : None ≡ Some p = ap port_of (sym is_d) ∙ for in cc);
+      }
+
+  here : entry_at w q.task q.name ≡ Some x
+  here = ap (λ (y : WorldView). entry_at y q.task q.name) (sym is_u) ∙ at
+
+  module _ (z : WorldView) (p : PutsLeft u q.task q.name (Some d) z) where
+    there : space_at w q.task ≡ Some p.space
+    there = ap (λ (y : WorldView). space_at y q.task) (sym is_u) ∙ p.there
+
+    abbrev dead_as : ℕ → WorldView
+    dead_as k = record w { spaces = slice_set w.spaces q.task (Some (record p.space { names = put p.space.names q.name (Some (named.DeadName k)) })); requests = record w.requests { names = taken_out w.requests.names q } }
+
+    z_is : z ≡ dead_as (dead_count (send_references x))
+    z_is = p.rest
+        ∙ ap (λ (y : WorldView). record y { spaces = slice_set y.spaces q.task (Some (record p.space { names = put p.space.names q.name (Some d) })) }) is_u
+        ∙ ap (λ (y : Entry). record w { spaces = slice_set w.spaces q.task (Some (record p.space { names = put p.space.names q.name (Some y) })); requests = record w.requests { names = taken_out w.requests.names q } }) is_d
+
+    module _ (now : ℕ) (tables : WorldView) (old mid : State) (owed : Owed) (e : Ending) (rs : List Request) (b : Burying now tables old mid owed e port rs w) where
+      same_entry : x ≡ (on now tables old mid owed e port rs w b q due.is_on.there due.is_on.is).entry
+      same_entry = one_entry x _ (sym here ∙ (on now tables old mid owed e port rs w b q due.is_on.there due.is_on.is).found)
+
+      z_as : z ≡ dead_as (dead_count (send_references (on now tables old mid owed e port rs w b q due.is_on.there due.is_on.is).entry))
+      z_as = z_is ∙ ap (λ (y : Entry). dead_as (dead_count (send_references y))) same_entry
+
+      post : LivesIn z q.notify → CanPost z q.notify
+      post = subst (λ (y : WorldView). LivesIn y q.notify → CanPost y q.notify) (sym z_as) (name_post now tables old mid owed e port rs w b q due.is_on.there due.is_on.is p.space there)
+
+      ends : (v : WorldView) → Pays z q.notify (notice.DeadName q.name) v → Burying now tables old mid owed e port (rs ++ dead_name q.task q.name ∷ []) v
+      ends v pays = name_end now tables old mid owed e port rs w b q due.is_on.there due.is_on.is p.space there v (subst (λ (y : WorldView). Pays y q.notify (notice.DeadName q.name) v) z_as pays)
+
+      spare : IsUnusedOfAll w.ledger → (v : WorldView) → Pays z q.notify (notice.DeadName q.name) v → SameSpare e rs w (rs ++ dead_name q.task q.name ∷ []) v
+      spare all v pays = name_spare now tables old mid owed e port rs w b q due.is_on.there due.is_on.is p.space there all v (subst (λ (y : WorldView). Pays y q.notify (notice.DeadName q.name) v) z_as pays)
+
+    pub named_post : LivesIn z q.notify → CanPost z q.notify
+    named_post = let b = due.burying in post b.now b.tables b.old b.mid b.owed b.ending b.requests b.burying
+
+    module _ (all : IsUnusedOfAll w.ledger) (v : WorldView) (pays : Pays z q.notify (notice.DeadName q.name) v) where
+      pub named_ends : EndsRequests port IsNone w 1 v
+      named_ends = record {
+        goes_on = λ now tables old mid owed e rs b. (
+          rs ++ dead_name q.task q.name ∷ [],
+          ends now tables old mid owed e rs b v pays,
+          counted_one rs (dead_name q.task q.name),
+          (λ r c. still_in rs (dead_name q.task q.name) r c),
+          (λ r none. absurd none),
+          spare now tables old mid owed e rs b all v pays,
+        );
+        ports = pays_ports z q.notify (notice.DeadName q.name) v pays (lives_or_not z q.notify) ∙ ap (λ (y : WorldView). map.len y.ports.ports) z_is;
+        rooms = renamed_rooms w v q.task p.space _ there (pays_spaces z q.notify (notice.DeadName q.name) v pays (lives_or_not z q.notify) ∙ ap (λ (y : WorldView). y.spaces) z_is);
+      }
+
+      same_requests : LivesIn z q.notify ⊎ ¬ (LivesIn z q.notify) → v.requests ≡ z.requests
+      same_requests (inl l) = let a = pays.posts l in ap (λ (y : WorldView). y.requests) a.rest
+      same_requests (inr l) = ap (λ (y : WorldView). y.requests) (pays.stays l)
+
+      pub named_fewer : map.len v.requests.names.requests < map.len w.requests.names.requests
+      named_fewer =
+          let a : map.len v.requests.names.requests ≡ map.len z.requests.names.requests = ap (λ r. map.len r.names.requests) (same_requests (lives_or_not z q.notify)) in
+          let b : map.len z.requests.names.requests ≡ map.len (map.remove w.requests.names.requests (key_of q)) = ap (λ (y : WorldView). map.len y.requests.names.requests) z_is in
+          let c = some_fewer w.requests.names.requests (key_of q) q due.is_on.there in
+          omega (arith, a, b, c)
+
+-- ---- Parts of a burial come one after the other, and so do burials.
+
+-- ---- counts
+
+count_joined : (a b c t n : ℕ) → IsCount b (c + t) → IsCount a (b + n) → IsCount a (c + (t + n) % 2 ^ 64)
+count_joined a b c t n h g = omega (arith, h, g)
+
+-- ---- parts of a burial
+
+pub still_burying : (port : ℕ) (these : Request → Type 0) (w : WorldView) (t : ℕ) (v : WorldView) → IsBurying port w → EndsRequests port these w t v → IsBurying port v
+still_burying port these w t v b e =
+    let g = e.goes_on b.now b.tables b.old b.mid b.owed b.ending b.requests b.burying in
+    record { now = b.now; tables = b.tables; old = b.old; mid = b.mid; owed = b.owed; ending = b.ending; requests = g.0; burying = g.1 }
+
+pub joined : (port : ℕ) (these those : Request → Type 0) (w : WorldView) (t : ℕ) (u : WorldView) (n : ℕ) (v : WorldView) → EndsRequests port these w t u → EndsRequests port those u n v →
+    EndsRequests port (λ r. these r ⊎ those r) w ((t + n) % 2 ^ 64) v
+joined port these those w t u n v e f = record {
+  goes_on = λ now tables old mid owed x rs b.
+      let g = e.goes_on now tables old mid owed x rs b in
+      let h = f.goes_on now tables old mid owed x g.0 g.1 in (
+        h.0,
+        h.1,
+        count_joined (length h.0) (length g.0) (length rs) t n g.2 h.2,
+        (λ r c. h.3 r (g.3 r c)),
+        (λ r is stood of. elim is [
+          | inl a ↦ h.3 r (g.4 r a stood of)
+          | inr a ↦ h.4 r a stood of
+        ]),
+        h.5 ∙ g.5,
+      );
+  ports = f.ports ∙ e.ports;
+  rooms = λ task. f.rooms task ∙ e.rooms task;
+}
+
+pub weaker_ends : (port : ℕ) (these those : Request → Type 0) (w : WorldView) (t : ℕ) (v : WorldView) → EndsRequests port these w t v →
+    ((mid : State) (r : Request) → those r → IsRequestOf mid port r → these r) → EndsRequests port those w t v
+weaker_ends port these those w t v e so = record {
+  goes_on = λ now tables old mid owed x rs b. let g = e.goes_on now tables old mid owed x rs b in (g.0, g.1, g.2, g.3, (λ r is stood of. g.4 r (so mid r is of) stood of), g.5);
+  ports = e.ports;
+  rooms = e.rooms;
+}
+
+pub none_yet : (port : ℕ) (w : WorldView) → EndsRequests port IsNone w 0 w
+none_yet port w = none_ended port IsNone w w refl (λ r none. absurd none)
+
+pub one_longer : (port : ℕ) (w : WorldView) (t : ℕ) (u v : WorldView) → EndsRequests port IsNone w t u → EndsRequests port IsNone u 1 v → EndsRequests port IsNone w ((t + 1) % 2 ^ 64) v
+one_longer port w t u v e f = weaker_ends port (λ r. IsNone r ⊎ IsNone r) IsNone w ((t + 1) % 2 ^ 64) v (joined port IsNone IsNone w t u 1 v e f) (λ mid r none of. absurd none)
+
+-- all three kinds
+pub all_kinds : (port : ℕ) (w : WorldView) (t : ℕ) (v : WorldView) → EndsRequests port (λ r. ((r ≡ no_senders port) ⊎ (r ≡ port_destroyed port)) ⊎ IsRequestOnName r) w t v → EndsRequests port IsAny w t v
+all_kinds port w t v e = weaker_ends port (λ r. ((r ≡ no_senders port) ⊎ (r ≡ port_destroyed port)) ⊎ IsRequestOnName r) IsAny w t v e kinds
+  where
+    kinds : (mid : State) (r : Request) → IsAny r → IsRequestOf mid port r → ((r ≡ no_senders port) ⊎ (r ≡ port_destroyed port)) ⊎ IsRequestOnName r
+    kinds mid (no_senders p) any of = inl (inl (ap no_senders of))
+    kinds mid (port_destroyed p) any of = inl (inr (ap port_destroyed of))
+    kinds mid (dead_name t n) any of = inr tt
+
+-- no request on a name of the port is kept any more
+name_gone : (now : ℕ) (tables : WorldView) (old mid : State) (owed : Owed) (e : Ending) (port : ℕ) (rs : List Request) (w : WorldView) → Burying now tables old mid owed e port rs w → NoneOn w.requests.names port →
+    (t n : ℕ) → IsNameOf port (lookup mid t n) → notify_of w.requests (dead_name t n) ≡ None
+name_gone now tables old mid owed e port rs w b none t n of = go (nat_lt n (2 ^ 32)) refl
+  where
+    kept : n < 2 ^ 32 → (o : Option NameRequest) → map.get w.requests.names.requests (name_key t n) ≡ o → o ≡ None
+    kept few None is = refl
+    kept few (Some q) is = absurd (none.apart (name_key t n) q is (elim (named_once on.entry q.port on.for_port) [
+      | inl h ↦ subst (IsNameOf port) (settled_port mid new t n (lookup mid t n) q.port (sym (b.so_far.names t n) ∙ found ∙ ap Some h)).0 of
+      | inr h ↦ subst (IsNameOf port) (of_settled mid new t n (lookup mid t n) q.port (sym (b.so_far.names t n) ∙ found ∙ ap Some h)) of
+    ]))
+      where
+        on : IsOnName w (name_key t n) q
+        on = b.around.requested.on_names (name_key t n) q is
+
+        key : (q.task ≡ t) × (q.name ≡ n)
+        key = same_key q.task q.name t n on.small few on.own
+
+        new : State
+        new = record mid { live_port = λ p. b.state.live_port p && not (is_among rs (dead_name t n)) }
+
+        found : lookup b.state t n ≡ Some (target_of on.entry)
+        found = b.agrees.spaces.naming t n ∙ ap (option_map target_of) (sym (λ i. entry_at w (key.0 i) (key.1 i)) ∙ on.found)
+
+    go : (c : Bool) → nat_lt n (2 ^ 32) ≡ c → (if c then option_map (λ (r : NameRequest). r.notify) (map.get w.requests.names.requests (name_key t n)) else None) ≡ None
+    go true is = ap (option_map (λ (r : NameRequest). r.notify)) (kept (ltb-true n (2 ^ 32) is) (map.get w.requests.names.requests (name_key t n)) refl)
+    go false is = refl
+
+pub names_gone : (port : ℕ) (w : WorldView) (t : ℕ) (v : WorldView) → EndsRequests port IsNone w t v → NoneOn v.requests.names port → EndsRequests port IsRequestOnName w t v
+names_gone port w t v e none = record {
+  goes_on = λ now tables old mid owed x rs b.
+      let g = e.goes_on now tables old mid owed x rs b in
+      (g.0, g.1, g.2, g.3, (λ r is stood of. gone_ended now tables old mid owed x port g.0 v g.1 r of stood (gone now tables old mid owed x g.0 g.1 r is of)), g.5);
+  ports = e.ports;
+  rooms = e.rooms;
+}
+  where
+    gone : (now : ℕ) (tables : WorldView) (old mid : State) (owed : Owed) (x : Ending) (rs : List Request) → Burying now tables old mid owed x port rs v → (r : Request) → IsRequestOnName r → IsRequestOf mid port r → notify_of v.requests r ≡ None
+    gone now tables old mid owed x rs b (no_senders p) is of = absurd is
+    gone now tables old mid owed x rs b (port_destroyed p) is of = absurd is
+    gone now tables old mid owed x rs b (dead_name t n) is of = name_gone now tables old mid owed x port rs v b none t n of
+
+-- ---- the port leaves
+
+-- the burial begins
+pub is_burying : (port : ℕ) (w : WorldView) → IsNextToBury port w → IsBurying port w
+is_burying port w n = record {
+  now = n.at.now;
+  tables = n.at.tables;
+  old = n.at.old;
+  mid = n.at.mid;
+  owed = n.at.owed;
+  ending = n.at.ending;
+  requests = [];
+  burying = begins_burying n.at.now n.at.tables n.at.old n.at.mid n.at.owed n.at.ending w n.at.between n.at.stage_is port n.doomed;
+}
+
+live_some : (o : Option (PortView Kept)) → is_some o ≡ true → (v : PortView Kept) × (o ≡ Some v)
+live_some (Some v) e = (v, refl)
+live_some None e = absurd (cc)
+
+-- the port is there yet, and has no message
+pub none_queued : (port : ℕ) (w : WorldView) → IsBurying port w → (p : PortView Kept) → port_at w port ≡ Some p → length p.queue ≡ 0
+none_queued port w i p is = let b = i.burying in let d = b.around.doomed port p is in ap (λ ms. length ms) (b.around.emptied port p is (d.1 b.can.doomed))
+
+pub is_entered : (port : ℕ) (w v : WorldView) (t : ℕ) → IsNextToBury port w → EndsRequests port IsAny w t v → IsEntered v.ledger port
+unfolding still_burying is_burying
+is_entered port w v t n e = grind (arith, still_burying port IsAny w t v (is_burying port w n) e, (is_burying port w n).burying)
+
+some_fewer_loop : (m : map.FinMap nat_cmp (PortView Kept)) (k : ℕ) (v : PortView Kept) → map.get m k ≡ Some v → map.len (map.remove m k) < map.len m
+some_fewer_loop m k v is =
+    let a : map.len (map.insert (map.remove m k) k v) ≡ map.len (map.remove m k) + 1 = len-insert nat_cmp_total (map.remove m k) k v ∙ rw (removed_own m k) refl in
+    let b : map.insert (map.remove m k) k v ≡ m = alike _ _ (same m k v is) in
+    let c : map.len (map.insert (map.remove m k) k v) ≡ map.len m = ap map.len b in
+    omega (arith, a, c)
+  where
+    same : (m : map.FinMap nat_cmp (PortView Kept)) (k : ℕ) (v : PortView Kept) → map.get m k ≡ Some v → (n : ℕ) → map.get (map.insert (map.remove m k) k v) n ≡ map.get m n
+    same m k v is n = elim (eqb_tells n k) [
+      | inl h ↦ subst (λ (j : ℕ). map.get (map.insert (map.remove m k) k v) j ≡ map.get m j) (sym h.1) (get_own (map.remove m k) k v ∙ sym is)
+      | inr h ↦ get_other (map.remove m k) k v n h.1 ∙ get_removed m k n h.1
+    ]
+
+module _ (port : ℕ) (w : WorldView) (next : IsNextToBury port w) (u : WorldView) (t : ℕ) (e : EndsRequests port IsAny w t u) (v : WorldView) (doomed : List ℕ) (is : v ≡ buried u port doomed) where
+  pub bury_continues : Continues AreTold AreTold w t v
+  bury_continues now tables old mid owed x b told =
+      let g = e.goes_on now tables old mid owed x [] (begins_burying now tables old mid owed x w b told port next.doomed) in
+      let every : (r : Request) → mid.stands r ≡ true → IsRequestOf mid port r → Contains g.0 r = λ r stood of. g.4 r tt stood of in
+      let c = g.2 in (
+        bury port g.0 x,
+        subst (Between now tables old mid owed (bury port g.0 x)) (sym is) (buried_between now tables old mid owed x port g.0 u g.1 every doomed),
+        counted x.turns (length g.0) t c,
+        slots now tables old mid owed x b told g.0 g.1 g.5,
+        subst (AreTold mid (bury port g.0 x)) (sym is) (buried_told now tables old mid owed x port g.0 u g.1 every doomed),
+      )
+    where
+      counted : (a n m : ℕ) → IsCount n (0 + m) → IsCount (a + n) (a + m)
+      counted a n m h = omega (arith, h)
+
+      slots : (now : ℕ) (tables : WorldView) (old mid : State) (owed : Owed) (x : Ending) → Between now tables old mid owed x w → AreTold mid x w → (more : List Request) → Burying now tables old mid owed x port more u → SameSpare x [] w more u →
+          SameSlots x w (bury port more x) v
+      slots now tables old mid owed x b told more g spare =
+          let a : v.ports.spare ≡ u.ports.spare = ap (λ (y : WorldView). y.ports.spare) is in
+          let d : length v.ports.destroyed ≡ 0 = ap (λ (y : WorldView). length y.ports.destroyed) is ∙ ap (λ (ms : List Kept). length ms) g.around.none_destroyed in
+          let f : length w.ports.destroyed ≡ 0 = ap (λ (ms : List Kept). length ms) told.lost.none_destroyed in
+          let h : length (x.paid ++ []) ≡ length x.paid = ap (λ (ys : Owed). length ys) (append-nil x.paid) in
+          omega (arith, a, d, f, h, spare)
+
+  pub bury_rooms : KeepsRooms w v
+  bury_rooms task = buried_rooms u v port doomed is task ∙ e.rooms task
+
+  pub bury_fewer : map.len v.ports.ports < map.len w.ports.ports
+  unfolding still_burying is_burying
+  bury_fewer =
+      let i = still_burying port IsAny w t u (is_burying port w next) e in
+      let first = (is_burying port w next).burying in
+      let b = i.burying in
+      let f = live_some (port_at u port) (b.agrees.live_port port ∙ b.so_far.live_port port ∙ sym (first.so_far.live_port port) ∙ sym (first.agrees.live_port port) ∙ ap is_some next.doomed.there) in
+      let a = some_fewer_loop u.ports.ports port f.0 f.1 in
+      let c : map.len v.ports.ports ≡ map.len (map.remove u.ports.ports port) = ap (λ (y : WorldView). map.len y.ports.ports) is in
+      let d = e.ports in
+      omega (arith, a, c, d)
+
+-- ---- burials
+
+pub rooms_kept : (w : WorldView) → KeepsRooms w w
+rooms_kept w task = refl
+
+pub rooms_more : (w u v : WorldView) → KeepsRooms w u → KeepsRooms u v → KeepsRooms w v
+rooms_more w u v a b task = b task ∙ a task
+
+pub continues_first : (w : WorldView) → Continues AreTold AreTold w 0 w
+continues_first w now tables old mid owed e b told = grind arith
+
+pub continues_more : (w : WorldView) (t : ℕ) (u : WorldView) (n : ℕ) (v : WorldView) → Continues AreTold AreTold w t u → Continues AreTold AreTold u n v → Continues AreTold AreTold w ((t + n) % 2 ^ 64) v
+continues_more w t u n v a c now tables old mid owed e b told =
+    let f = a now tables old mid owed e b told in
+    let g = c now tables old mid owed f.0 f.1 f.4 in
+    let x = f.3 in
+    let y = g.3 in
+    (g.0, g.1, count_joined g.0.turns f.0.turns e.turns t n f.2 g.2, omega (arith, x, y), g.4)
+
+pub still_at : (w : WorldView) (t : ℕ) (v : WorldView) → IsAt AreTold w → Continues AreTold AreTold w t v → IsAt AreTold v
+still_at w t v a c =
+    let f = c a.now a.tables a.old a.mid a.owed a.ending a.between a.stage_is in
+    record { now = a.now; tables = a.tables; old = a.old; mid = a.mid; owed = a.owed; ending = f.0; between = f.1; stage_is = f.4 }
+
+none_listed : (xs : List ℕ) → ((x : ℕ) → Contains xs x → ⊥) → xs ≡ []
+none_listed [] none = refl
+none_listed (x ∷ xs) none = absurd (none x (zero, omega arith, refl))
+
+pub all_buried : (w : WorldView) (t : ℕ) (v : WorldView) → Continues AreTold AreTold w t v → NoneHeldBy v.ports holder.Doomed → ((p : ℕ) → Contains v.ports.doomed p ↔ IsHeldBy v.ports p holder.Doomed) →
+    Continues AreTold AreBuried w t v
+all_buried w t v c none all now tables old mid owed e b told =
+    let f = c now tables old mid owed e b told in
+    (f.0, f.1, f.2, f.3, record { told = f.4; none_doomed = none_listed v.ports.doomed (λ p is. let a = all p in let h = a.0 is in none p h.view h.there h.holder_is) })
+
+-- ---- the tables of a port that left
+
+-- what is read with fewer ports is what is read of what was read before
+read_twice : (live live2 : ℕ → Bool) (x : Entry) → ((p : ℕ) → live2 p ≡ true → live p ≡ true) → reading live2 (reading live x) ≡ reading live2 x
+read_twice live live2 (Receive p) fewer = grind arith
+read_twice live live2 (Send p n) fewer = grind arith
+read_twice live live2 (ReceiveAndSend p n) fewer = grind arith
+read_twice live live2 (SendOnce p) fewer = grind arith
+read_twice live live2 (DeadName n) fewer = refl
+read_twice live live2 (Set x) fewer = refl
+
+spaces_twice : (live live2 : ℕ → Bool) → ((p : ℕ) → live2 p ≡ true → live p ≡ true) → (xs : List (Option SpaceView)) → read_spaces live2 (read_spaces live xs) ≡ read_spaces live2 xs
+spaces_twice live live2 fewer [] = refl
+spaces_twice live live2 fewer (x ∷ xs) = let h = one x in let t = spaces_twice live live2 fewer xs in λ i. h i ∷ t i
+  where
+    each : (o : Option Entry) → option_map (reading live2) (option_map (reading live) o) ≡ option_map (reading live2) o
+    each None = refl
+    each (Some y) = ap Some (read_twice live live2 y fewer)
+
+    one : (o : Option SpaceView) → option_map (read_space live2) (option_map (read_space live) o) ≡ option_map (read_space live2) o
+    one None = refl
+    one (Some y) = ap (λ m. Some (record y { names = m })) (alike _ _ (λ n. get_read live2 (read_names live y.names) n ∙ ap (option_map (reading live2)) (get_read live y.names n) ∙ each (map.get y.names n) ∙ sym (get_read live2 y.names n)))
+
+module _ (old : WorldView) (spaces : List (Option SpaceView)) (ports : PortsView Kept) (ledger : LedgerView) (sets : SetsView) (requests : RequestTablesView) (view : tables spaces ports ledger sets requests ≡ old)
+    (port : ℕ) (new : PortsView Kept) (doomed : List ℕ) (is : new ≡ without_port ports port doomed) where
+  fewer : (p : ℕ) → live_in new p ≡ true → live_in ports p ≡ true
+  fewer p h = grind (arith, removed_own, get_removed)
+
+  pub left_given : AreGiven spaces ports → AreGiven spaces new
+  left_given g = record {
+    kept = λ task name space entry p there found for. let h = g.kept task name space entry p there found for in let m : new.made ≡ ports.made = ap (λ (x : PortsView Kept). x.made) is in omega (arith, h, m);
+    there = λ p lives. let h = g.there p (fewer p lives) in let m : new.made ≡ ports.made = ap (λ (x : PortsView Kept). x.made) is in omega (arith, h, m);
+  }
+
+  pub port_left : (counts : LedgerView) → counts ≡ left ledger port → tables spaces new counts sets requests ≡ buried old port doomed
+  port_left counts e =
+      (λ i. record { spaces = sym (spaces_twice (live_in ports) (live_in new) fewer spaces) i; ports = new; ledger = e i; sets = sets; requests = requests })
+      ∙ (λ i. record { spaces = read_spaces (live_in (is i)) (read_spaces (live_in ports) spaces); ports = is i; ledger = left ledger port; sets = sets; requests = requests })
+      ∙ ap (λ (w : WorldView). buried w port doomed) view
+
+-- the ports that are left, where none was lost or noted
+pub left_ports : (w : WorldView) (spaces : List (Option SpaceView)) (ports : PortsView Kept) (ledger : LedgerView) (sets : SetsView) (requests : RequestTablesView) → tables spaces ports ledger sets requests ≡ w → (port : ℕ) → IsBurying port w →
+    (new : PortsView Kept) → new ≡ record ports { ports = map.remove ports.ports port; lost = without port ports.lost; doomed = without port ports.doomed; noted = without port ports.noted } → new ≡ without_port ports port (without port ports.doomed)
+left_ports w spaces ports ledger sets requests view port i new is = grind arith
