@@ -1,12 +1,9 @@
 //! Death and notices: scripts in which ports die, tasks end and rights are lost, by `perform` and by whole runs.
 use crate::worked::{gives, is_traced_legally, parts_give};
-use kernel_core::run;
-use mach_types::Event;
 use std::alloc::Global;
 use std::fmt::Write;
 use std::sync::Wait;
 use std::thread::Threads;
-use tracer_base::read_script;
 
 // A send right for a port that dies while the right lies in another port's queue.
 const DEAD_IN_A_QUEUE: (&str, &str) = (
@@ -312,36 +309,4 @@ fn a_port_that_many_tasks_name_is_dead_to_each(rt: HostRuntime) {
     let script = "destroy 0 1\nrefs 1 1 4\nrefs 500 1 4\nrefs 1000 1 4\ntype 1000 1\n";
     let replies = "code 00000000\nrefs 1\nrefs 1\nrefs 1\ntype 00100000\n";
     assert!(rt; is_answered_where_named(&rt, script, replies));
-}
-
-/// In how many turns the last step of a whole run of the script ended; `None` where it is no script or memory is refused.
-fn turns_of_run(alloc: Global, script: &str) -> Option<u64> {
-    let events = read_script(alloc, script.as_bytes()).ok()?;
-    turns_of(alloc, events)
-}
-
-/// The same, of these calls.
-fn turns_of(alloc: Global, events: Vec<Event>) -> Option<u64> {
-    match run(alloc, events) {
-        Ok((kernel, _)) => Some(kernel.last_turns()),
-        Err(_) => None,
-    }
-}
-
-/// In how many turns the port that many tasks name dies.
-fn turns_of_death(alloc: Global) -> Option<u64> {
-    let mut script = naming(alloc)?;
-    script.push_str("destroy 0 1\n").ok()?;
-    turns_of_run(alloc, script.as_str())
-}
-
-#[test]
-fn a_death_takes_no_turn_for_each_task_that_names_the_port(rt: HostRuntime) {
-    let turns = turns_of_death(rt.alloc()).unwrap_or(0);
-    assert!(rt; turns == 1 || turns == 2, "{turns}");
-}
-
-#[test]
-fn no_step_took_no_turns(rt: HostRuntime) {
-    assert!(rt; turns_of_run(rt.alloc(), "") == Some(0));
 }

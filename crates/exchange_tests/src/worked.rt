@@ -341,18 +341,6 @@ const MANY_RIGHTS: (&str, &str) = (
     status 0 0 2 5 0 1 1 0 0\n",
 );
 
-// A set of which two members have a message each: they come in either order, and then there is none.
-const READY_MEMBERS: &str = "task\nalloc 0 1\n\
-    alloc 0 1\n\
-    alloc 0 3\n\
-    move 0 1 3\n\
-    move 0 2 3\n\
-    send 0 140000001800000001000000000000000000000007000000\n\
-    send 0 140000001800000002000000000000000000000008000000\n\
-    recv 0 3 24 0\n\
-    recv 0 3 24 0\n\
-    recv 0 3 24 0\n";
-
 /// The exchanges that are answered so on a new kernel.
 const EXCHANGES: [(&str, &str); 14] = [
     SMALLEST_MESSAGE,
@@ -553,17 +541,4 @@ fn is_full_answered<R: AllocGlobal + Threads + Wait + Sync>(
 #[test]
 fn scarce_names_is_answered(rt: HostRuntime) {
     assert!(rt; is_full_answered(&rt, SCARCE_NAMES.0, SCARCE_NAMES.1));
-}
-
-#[test]
-fn ready_members_is_answered(rt: HostRuntime) {
-    let made =
-        "task 0\nname 1\nname 2\nname 3\ncode 00000000\ncode 00000000\ncode 00000000\ncode 00000000\n";
-    let first = "message 001100001800000000000000010000000000000007000000\n";
-    let second = "message 001100001800000000000000020000000000000008000000\n";
-    let forth = [made, first, second, "empty s 0\n"];
-    let back = [made, second, first, "empty s 0\n"];
-    let answered = parts_give(&rt, &[READY_MEMBERS], &forth)
-        || parts_give(&rt, &[READY_MEMBERS], &back);
-    assert!(rt; answered);
 }

@@ -1,0 +1,14 @@
+//! Tests of whole scripts: in how many turns a step ends, in which order a set gives its members' messages, and what is
+//! answered at size.
+//!
+//! They stand in a crate of their own, so that the crates that they test are proved once.
+#![tactic(auto)]
+
+#[cfg(test)]
+mod members;
+#[cfg(test)]
+mod playing;
+#[cfg(test)]
+mod sizes;
+#[cfg(test)]
+mod turns;
