@@ -255,7 +255,7 @@ fn never_back(rt: HostRuntime) -> Result<(), Fail> {
 }
 
 #[test]
-fn tries_listed(rt: HostRuntime) -> Result<(), Fail> {
+fn tries_of_four_callers(rt: HostRuntime) -> Result<(), Fail> {
     let shared = Shared::new(rt.alloc())?;
     let mut first = shared.pass(&rt)?;
     let mut watch = shared.watch(&rt);

@@ -1,8 +1,8 @@
 ghost use Rattle.std.specs.Prelude.{◌≡◌, IfOk};
 
 use super::*;
-use kernel_lock::{Pass, Shared};
-use mach_types::{Event, Name, TaskId};
+use kernel_lock::{Entry, Pass, Shared};
+use mach_types::{Event, Name, PortId, Reply, TaskId, Waited};
 use std::alloc::Global;
 use std::sync::Wait;
 use std::test::*;
@@ -205,7 +205,7 @@ fn a_long_message_stays(rt: HostRuntime) -> Result<(), Fail> {
 }
 
 #[test]
-fn receives_are_tried_as_the_gate_says(rt: HostRuntime) -> Result<(), Fail> {
+fn a_receive_with_a_timeout_is_tried_once(rt: HostRuntime) -> Result<(), Fail> {
     let shared = Shared::new(rt.alloc())?;
     let mut pass = one_port(&rt, &shared)?;
     let once = calls(
@@ -216,10 +216,42 @@ fn receives_are_tried_as_the_gate_says(rt: HostRuntime) -> Result<(), Fail> {
         receives(RECEIVE | RECEIVE_TIMEOUT, 3),
     );
     assert!(rt; once == empty(0x1000_4003, 0, (0, 0, 1)));
+    let held = shared.lock(&rt);
+    assert_eq!(rt; held.entries().len(), 3);
+    Ok(())
+}
+
+/// Whether the entry is this call, and found the first port empty.
+fn found_none(entry: &Entry, call: &Event) -> bool {
+    entry.event == *call && entry.reply == Reply::Empty(Waited::Port(PortId::new(0)))
+}
+
+/// Whether these are a receive by the name 1 and two later tries, in that order, each of which found no message.
+fn are_three_tries(entries: &[Entry]) -> bool {
+    let task = TaskId::new(0);
+    let first = Event::Receive(task, Name::new(1), 24, false);
+    let again = Event::ReceiveAgain(task, Waited::Port(PortId::new(0)), 24, false);
+    match entries {
+        [one, two, three] => {
+            found_none(one, &first) && found_none(two, &again) && found_none(three, &again)
+        }
+        _ => false,
+    }
+}
+
+/// With a gate that says yes twice and then no, a receipt from an empty port makes three calls, and tells the gate
+/// after each that nothing has changed. A call that gives up without asking its gate fails here.
+#[test]
+fn tries_listed(rt: HostRuntime) -> Result<(), Fail> {
+    let shared = Shared::new(rt.alloc())?;
+    let mut pass = one_port(&rt, &shared)?;
     let thrice = calls(&rt, rt.alloc(), &shared, &mut pass, receives(RECEIVE, 2));
     assert!(rt; thrice == empty(0x1000_4003, 0, (3, 0, 3)));
     let held = shared.lock(&rt);
-    assert_eq!(rt; held.entries().len(), 6);
+    match held.entries() {
+        [_, _, tries @ ..] => assert!(rt; are_three_tries(tries)),
+        _ => panic!(rt; "the calls before aren't there"),
+    }
     Ok(())
 }
 
