@@ -1,38 +1,100 @@
-// Refuses one growth of memory: loaded before the C library, it answers NULL to request number REFUSE_AT, from 1,
-// and writes into the file REFUSE_COUNT how many there were.
+// Refuses growths of memory, and threads; it is loaded before the C library.
+//
+// The environment asks for it: request number REFUSE_AT, from 1, is answered by NULL; thread number REFUSE_THREAD, from
+// 1, isn't started; the file REFUSE_COUNT gets how many requests there were.
+//
+// The program itself asks for it by a request for a block that no memory holds. Its size is n more than
+//   1 * 2^60   the next request is refused exactly where n requests or more were counted; it isn't counted itself
+//   2 * 2^60   the count begins again, and of what comes only request number n is refused; none where n is 0
+//   3 * 2^60   of what comes thread number n isn't started; each is where n is 0
+//   4 * 2^60   the count begins again, and of what comes request number n and all later ones are refused
+// and that request is answered by NULL, and counted nowhere.
 #define _GNU_SOURCE
 #include <dlfcn.h>
 #include <errno.h>
+#include <pthread.h>
+#include <stdatomic.h>
 #include <stdio.h>
 #include <stdlib.h>
 
-static long asked;
+static atomic_long asked;             // requests of the whole process
+static atomic_long counted;           // requests since the program last said what to refuse
+static atomic_long only, from;        // which of these are refused: 0 for none
+static atomic_long thread_left;       // how many threads more, up to the one that isn't started
+static atomic_int probe;              // what becomes of the next request: 1 given, 2 refused
 static int told;
 
-static int refused(void) {
+// Whether the size is none of a block but what the program says.
+static int hears(size_t size) {
+    long n = (long)(size & ((1ul << 60) - 1));
+    switch (size >> 60) {
+    case 1:
+        probe = counted >= n ? 2 : 1;
+        return 1;
+    case 2:
+        counted = 0;
+        only = n;
+        from = 0;
+        return 1;
+    case 3:
+        thread_left = n;
+        return 1;
+    case 4:
+        counted = 0;
+        only = 0;
+        from = n;
+        return 1;
+    default:
+        return 0;
+    }
+}
+
+static int is_asked_for(long number) {
     const char *at = getenv("REFUSE_AT");
+    return at != NULL && atol(at) == number;
+}
+
+static int refused(size_t size) {
+    int yes;
     if (told)
         return 0;
-    asked++;
-    if (at == NULL || atol(at) != asked)
-        return 0;
-    errno = ENOMEM;
-    return 1;
+    if (hears(size)) {
+        yes = 1;
+    } else if (probe != 0) {
+        yes = atomic_exchange(&probe, 0) == 2;
+    } else {
+        long number = atomic_fetch_add(&counted, 1) + 1;
+        yes = is_asked_for(atomic_fetch_add(&asked, 1) + 1) || number == only || (from != 0 && number >= from);
+    }
+    if (yes)
+        errno = ENOMEM;
+    return yes;
 }
 
 void *malloc(size_t size) {
     void *(*next)(size_t) = (void *(*)(size_t))dlsym(RTLD_NEXT, "malloc");
-    return refused() ? NULL : next(size);
+    return refused(size) ? NULL : next(size);
 }
 
 void *realloc(void *old, size_t size) {
     void *(*next)(void *, size_t) = (void *(*)(void *, size_t))dlsym(RTLD_NEXT, "realloc");
-    return refused() ? NULL : next(old, size);
+    return refused(size) ? NULL : next(old, size);
 }
 
 void *aligned_alloc(size_t align, size_t size) {
     void *(*next)(size_t, size_t) = (void *(*)(size_t, size_t))dlsym(RTLD_NEXT, "aligned_alloc");
-    return refused() ? NULL : next(align, size);
+    return refused(size) ? NULL : next(align, size);
+}
+
+int pthread_create(pthread_t *thread, const pthread_attr_t *attributes, void *(*start)(void *), void *with) {
+    int (*next)(pthread_t *, const pthread_attr_t *, void *(*)(void *), void *) =
+        (int (*)(pthread_t *, const pthread_attr_t *, void *(*)(void *), void *))dlsym(RTLD_NEXT, "pthread_create");
+    static atomic_long started;
+    const char *at = getenv("REFUSE_THREAD");
+    long number = atomic_fetch_add(&started, 1) + 1;
+    if ((at != NULL && atol(at) == number) || (thread_left > 0 && --thread_left == 0))
+        return EAGAIN;
+    return next(thread, attributes, start, with);
 }
 
 __attribute__((destructor)) static void tell(void) {
@@ -41,7 +103,7 @@ __attribute__((destructor)) static void tell(void) {
     FILE *file = name == NULL ? NULL : fopen(name, "w");
     if (file == NULL)
         return;
-    fprintf(file, "%ld\n", asked);
+    fprintf(file, "%ld\n", (long)asked);
     fclose(file);
 }
 
