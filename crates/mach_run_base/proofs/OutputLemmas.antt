@@ -1,6 +1,7 @@
 -- What is written of calls, one more at a time.
-use Rattle.std.proofs.Common.{◌≡◌, ℕ, List, [], ◌∷◌, ◌++◌, ◌+◌, length, Result, Ok, Err, OnOk, refl, sym, ap, ◌∙◌, subst, arith, append_assoc, append-nil}
+use Rattle.std.proofs.Common.{◌≡◌, ◌≢◌, ℕ, Bool, false, List, [], ◌∷◌, ◌++◌, ◌+◌, ◌<◌, ◌≤◌, ◌^◌, All, length, length-append, Result, Ok, Err, OnOk, refl, sym, ap, ◌∙◌, subst, arith, append_assoc, append-nil}
 use Rattle.std.proofs.lemmas.List.{length_push}
+use Rattle.std.proofs.lemmas.List.Elements.{All-push}
 use Rattle.mach_types.specs.declared.calls.Event.{Event}
 use Rattle.mach_types.specs.declared.calls.Reply.{Reply}
 use Rattle.mach_model.specs.State.{opening}
@@ -61,17 +62,43 @@ entries_push caller (e ∷ events) (r ∷ replies) event reply count =
     ap (λ t. entry_made caller e r ++ t) (entries_push caller events replies event reply (omega (arith, count)))
     ∙ sym (append_assoc (entry_made caller e r) (entries_made caller events replies) (entry_made caller event reply))
 
+-- no more calls are recorded than are made
+one_entry : (caller : ℕ) (event : Event) (reply : Reply) → length (entry_made caller event reply) ≤ 1
+one_entry caller event (Reply.Code a) = omega arith
+one_entry caller event (Reply.Task a) = omega arith
+one_entry caller event (Reply.Name a) = omega arith
+one_entry caller event (Reply.Refs a) = omega arith
+one_entry caller event (Reply.NameType a) = omega arith
+one_entry caller event (Reply.Names a) = omega arith
+one_entry caller event (Reply.Status a) = omega arith
+one_entry caller event (Reply.Members a) = omega arith
+one_entry caller event (Reply.Right a b) = omega arith
+one_entry caller event (Reply.Previous a) = omega arith
+one_entry caller event (Reply.Message a) = omega arith
+one_entry caller event (Reply.Empty a) = omega arith
+one_entry caller event (Reply.TooLarge a) = omega arith
+one_entry caller event Reply.NoRecord = omega arith
+
+few_entries : (caller : ℕ) (events : List Event) (replies : List Reply) → length (entries_made caller events replies) ≤ length events
+few_entries caller [] replies = omega arith
+few_entries caller (e ∷ events) [] = omega arith
+few_entries caller (e ∷ events) (r ∷ replies) =
+    let parts = length-append (entry_made caller e r) (entries_made caller events replies) in
+    let one = one_entry caller e r in
+    let rest = few_entries caller events replies in
+    omega (arith, parts, one, rest)
+
 none_legal : Legal []
 none_legal = record { state = opening; leads = refl }
 
 -- no call was made
-pub replies-none : (w : Known) → w.seen ≡ [] → AreReplies [] [] w
-replies-none w none = record { replies = []; count = refl; history = none; legal = subst Legal (sym none) none_legal; lines = refl }
+pub replies-none : (keeps : Bool) (w : Known) → w.seen ≡ [] → AreReplies keeps [] [] w
+replies-none keeps w none = record { replies = []; count = refl; history = none; legal = subst Legal (sym none) none_legal; recorded = λ _ _ k d below. absurd (omega (arith, below)); lines = refl }
 
 -- one more call was made
-pub replies-more : (calls : List Event) (text : List ℕ) (before after : List Entry) (v w : Known) (event : Event) (reply : Reply) → AreReplies calls text v → v.seen ≡ before → Stepped before after v w event reply
-    → AreReplies (calls ++ event ∷ []) (text ++ reply_line reply) w × (w.seen ≡ after)
-replies-more calls text before after v w event reply so_far seen step =
+pub replies-more : (keeps : Bool) (calls : List Event) (text : List ℕ) (before after : List Entry) (v w : Known) (event : Event) (reply : Reply) → AreReplies keeps calls text v → v.seen ≡ before
+    → Stepped before after v w event reply → (keeps ≡ false → length before < 2 ^ 63 → reply ≢ Reply.NoRecord) → AreReplies keeps (calls ++ event ∷ []) (text ++ reply_line reply) w × (w.seen ≡ after)
+replies-more keeps calls text before after v w event reply so_far seen step is_recorded =
     let grown = grows before after v w event reply step in
     let now = grown.seen seen in
     let count = so_far.count in
@@ -83,6 +110,11 @@ replies-more calls text before after v w event reply so_far seen step =
         count = length_push so_far.replies reply ∙ ap (λ n. n + 1) count ∙ sym (length_push calls event);
         history = now ∙ history;
         legal = subst Legal (sym now) (grown.legal (subst Legal seen so_far.legal));
+        recorded = λ none most.
+            let longer = length_push calls event in
+            let few = few_entries v.caller calls so_far.replies in
+            let before_few : length before ≤ length calls = omega (arith, few, ap length (sym seen ∙ so_far.history)) in
+            All-push (λ x. x ≢ Reply.NoRecord) so_far.replies reply (so_far.recorded none (omega (arith, most, longer))) (is_recorded none (omega (arith, most, longer, before_few)));
         lines = texts_push reply_line so_far.replies reply ∙ ap (λ t. t ++ reply_line reply) so_far.lines;
       },
       now,
@@ -109,15 +141,15 @@ answers-more v m w calls text call answer so_far one = record {
 
 -- ---- a whole script
 
-pub answered : (script : Script) (opening main blocks : List ℕ) (v w : Known) → AreReplies script.opening.items opening v → AreAnswers v script.main.items main w → (script.blocks.items ≡ [] → blocks ≡ [])
-    → IsAnswered script (opening ++ main ++ blocks)
-answered script opening main blocks v w first next last = record {
+pub answered : (keeps2 keeps : Bool) (script : Script) (opening main blocks : List ℕ) (v w : Known) → keeps2 ≡ keeps → AreReplies keeps2 script.opening.items opening v → AreAnswers v script.main.items main w → (script.blocks.items ≡ [] → blocks ≡ [])
+    → IsAnswered keeps script (opening ++ main ++ blocks)
+answered keeps2 keeps script opening main blocks v w same first next last = record {
   opening = opening;
   main = main;
   blocks = blocks;
   parts = refl;
   opened = v;
-  first = first;
+  first = subst (λ (b : Bool). AreReplies b script.opening.items opening v) same first;
   ended = w;
   next = next;
   last = last;

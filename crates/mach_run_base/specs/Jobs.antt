@@ -40,7 +40,7 @@ pub record IsHistory (warn : Bool) (text : List ℕ) : Type 0 where
 
 -- The text is what is shown of the script.
 abbrev pub IsMade : Shown → Script → (text : List ℕ) → Type 0
-IsMade Shown.Replies script text = IsAnswered script text
+IsMade Shown.Replies script text = IsAnswered false script text
 IsMade (Shown.History warn) script text = IsHistory warn text
 
 -- The text is what is shown of the script that these bytes spell, where they are known; of some script, where they aren't.

@@ -1,5 +1,5 @@
 -- What the program writes of a script, and the history that stands behind it.
-use Rattle.std.specs.Prelude.{◌≡◌, ℕ, List, [], ◌∷◌, ◌++◌, length, flat_map}
+use Rattle.std.specs.Prelude.{◌≡◌, ◌≢◌, ℕ, ◌≤◌, ◌^◌, Bool, false, List, [], ◌∷◌, ◌++◌, All, length, flat_map}
 use Rattle.mach_types.specs.declared.calls.Event.{Event}
 use Rattle.mach_types.specs.declared.calls.Reply.{Reply}
 use Rattle.kernel_lock.specs.declared.entry.Entry.{Entry}
@@ -21,12 +21,14 @@ abbrev pub entries_made : ℕ → List Event → List Reply → List Entry
 entries_made caller (event ∷ events) (reply ∷ replies) = entry_made caller event reply ++ entries_made caller events replies
 entries_made caller events replies = []
 
--- The text is the replies to these calls, one a line; those that were recorded are all that the legal history has, which the pass has seen.
-pub record AreReplies (calls : List Event) (text : List ℕ) (w : Known) : Type 0 where
+-- The text is the replies to these calls, one a line; those that were recorded are all that the legal history has, which the pass has seen. Where
+-- the kernel keeps no entries each call is recorded, up to as many as a history has at most.
+pub record AreReplies (keeps : Bool) (calls : List Event) (text : List ℕ) (w : Known) : Type 0 where
   pub replies : List Reply
   pub count : length replies ≡ length calls
   pub history : w.seen ≡ entries_made w.caller calls replies
   pub legal : Legal w.seen
+  pub recorded : keeps ≡ false → length calls ≤ 2 ^ 63 → All (λ reply. reply ≢ Reply.NoRecord) replies
   pub lines : flat_map reply_line replies ≡ text
 
 -- an answer, as its line says it
@@ -40,14 +42,14 @@ pub record AreAnswers (v : Known) (calls : List Call) (text : List ℕ) (w : Kno
   pub ran : Ran v calls answers w
   pub lines : flat_map answer_line answers ≡ text
 
--- The text is the answers to a script's calls: first those of the main thread.
-pub record IsAnswered (script : Script) (text : List ℕ) : Type 0 where
+-- The text is the answers to a script's calls: first those of the main thread. Its kernel keeps entries, or keeps none.
+pub record IsAnswered (keeps : Bool) (script : Script) (text : List ℕ) : Type 0 where
   pub opening : List ℕ
   pub main : List ℕ
   pub blocks : List ℕ
   pub parts : opening ++ main ++ blocks ≡ text
   pub opened : Known
-  pub first : AreReplies script.opening.items opening opened
+  pub first : AreReplies keeps script.opening.items opening opened
   pub ended : Known
   pub next : AreAnswers opened script.main.items main ended
   pub last : script.blocks.items ≡ [] → blocks ≡ []

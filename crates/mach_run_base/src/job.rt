@@ -1,5 +1,5 @@
 //! The jobs of the program, over any reader and writers.
-ghost use Rattle.std.specs.Prelude.{◌≡◌, ◌≢◌, ◌≤◌, ℕ, List, Some, Ok, IfOk, IsErr, OnOk};
+ghost use Rattle.std.specs.Prelude.{◌≡◌, ◌≢◌, ◌≤◌, ℕ, false, List, Some, Ok, IfOk, IsErr, OnOk};
 ghost use Rattle.std.specs.Io.KnownBytes.{Appends, Keeps};
 ghost use Rattle.mach_run_base.specs.Jobs.{IsBad, IsDone, IsMade, IsMadeOf, IsHistory, history_shown, head_shown, entry_shown};
 ghost use Rattle.mach_run_base.specs.Output.{IsAnswered};
@@ -136,14 +136,14 @@ fn make<S: Threads + Wait + Sync, W: Write>(
     }
 }
 
-/// Runs the script, and writes how its calls were answered. No history's entries are kept.
+/// Runs the script, and writes how its calls were answered. No history's entries are kept, so each call is recorded.
 fn answer_script<S: Threads + Wait + Sync, W: Write>(
     rt: &S,
     alloc: Global,
     script: Script,
     out: &mut W,
 ) -> Result<(), Fault<'static>>
-    ensures { OnOk result ((text : List ℕ) × IsAnswered script text × Appends (W.contents out.old) (W.contents out.new) text) }
+    ensures { OnOk result ((text : List ℕ) × IsAnswered false script text × Appends (W.contents out.old) (W.contents out.new) text) }
 {
     let shared = Shared::without_entries(alloc)?;
     run_script(rt, alloc, &shared, script, out)

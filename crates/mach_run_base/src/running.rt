@@ -1,5 +1,5 @@
 //! Scripts, run on one shared kernel.
-ghost use Rattle.std.specs.Prelude.{◌≡◌, ◌++◌, [], List, ℕ, IfOk, OnOk, flat_map};
+ghost use Rattle.std.specs.Prelude.{◌≡◌, ◌≢◌, ◌<◌, ◌^◌, ◌++◌, false, [], List, ℕ, length, IfOk, OnOk, flat_map};
 ghost use Rattle.std.specs.Io.KnownBytes.{Appends};
 ghost use Rattle.mach_types.specs.declared.calls.Reply.{Reply as AnyReply};
 ghost use Rattle.kernel_lock.specs.History.{Stepped};
@@ -35,7 +35,7 @@ pub(crate) fn run_script<R: Threads + Wait + Sync, W: Write>(
     script: Script,
     out: &mut W,
 ) -> Result<(), Fault<'static>>
-    ensures { OnOk result ((text : List ℕ) × IsAnswered script text × Appends (W.contents out.old) (W.contents out.new) text) }
+    ensures { OnOk result ((text : List ℕ) × IsAnswered shared.now.keeps script text × Appends (W.contents out.old) (W.contents out.new) text) }
 {
     let Script {
         opening,
@@ -55,6 +55,7 @@ pub(crate) fn run_script<R: Threads + Wait + Sync, W: Write>(
 /// The kernel, where nothing was made on it yet; on one that is new, at once.
 fn untouched<'a, R: Wait>(rt: &R, shared: &'a Shared) -> Held<'a>
     ensures tied { result.kernel.table ≡ shared.entry.now.table }
+    ensures keeps { result.kernel.keeps ≡ shared.entry.now.keeps }
     ensures empty { result.kernel.log ≡ [] }
 {
     for _ in rt.forever() {
@@ -80,7 +81,7 @@ fn run_opening<G: Gate, W: Write>(
     requires tied { (held.kernel.table ≡ shared.now.table) × (pass.old.table ≡ shared.now.table) }
     requires empty { (held.kernel.log ≡ []) × (pass.old.seen ≡ []) }
     ensures tied { pass.new.table ≡ shared.now.table }
-    ensures answered { OnOk result ((text : List ℕ) × AreReplies calls.items text pass.new × Appends (W.contents out.old) (W.contents out.new) text) }
+    ensures answered { OnOk result ((text : List ℕ) × AreReplies held.entry.kernel.keeps calls.items text pass.new × Appends (W.contents out.old) (W.contents out.new) text) }
 {
     for event in calls {
         run_event(&mut held, shared, pass, gate, event, out)?;
@@ -99,7 +100,9 @@ fn run_event<G: Gate, W: Write>(
 ) -> io::Result<()>
     requires { (held.old.kernel.table ≡ shared.now.table) × (pass.old.table ≡ shared.now.table) }
     ensures tied { (held.new.kernel.table ≡ shared.now.table) × (pass.new.table ≡ shared.now.table) }
+    ensures same { held.new.kernel.keeps ≡ held.old.kernel.keeps }
     ensures made { OnOk result ((reply : AnyReply) × Stepped held.old.kernel.log held.new.kernel.log pass.old pass.new event reply
+        × (held.old.kernel.keeps ≡ false → length held.old.kernel.log < 2 ^ 63 → reply ≢ AnyReply.NoRecord)
         × Appends (W.contents out.old) (W.contents out.new) (reply_line reply)) }
 {
     let reply = held.step_locked(shared.board(), pass, event);
