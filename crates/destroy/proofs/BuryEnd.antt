@@ -299,7 +299,7 @@ module _ (now : ℕ) (tables : WorldView) (old mid : State) (owed : Owed) (e : E
   there = there_other now mid e port rs s b.so_far w doomed b.agrees b.can.doomed b.around.held is_doomed
 
   turn_is : Buries mid e done
-  turn_is = bury_is old mid owed e port rs b.can.lawful b.can.reached b.can.judged b.can.doomed b.can.unburied b.ends b.once every
+  turn_is = bury_is old mid owed e port rs b.can.lawful b.can.reached b.can.judged b.can.doomed b.can.unburied b.ends every
 
   pub buried_turn : Turn old mid e done
   buried_turn = inr (inr (inr (inr (inl turn_is))))
@@ -571,7 +571,6 @@ module _ (now : ℕ) (tables : WorldView) (old mid : State) (owed : Owed) (e : E
   begins_burying = record {
     can = may_bury;
     ends = λ k d below. absurd (omega arith);
-    once = λ r. omega arith;
     state = s_begin;
     so_far = first_partway now mid e s_begin b.tied.so_far;
     agrees = b.tied.agrees;

@@ -1,5 +1,5 @@
 -- A request on a name of a doomed port ends; burials come one after the other.
-use Rattle.std.proofs.Common.{◌≡◌, ℕ, List, Option, Some, None, refl, sym, ap, subst, ◌∙◌, inl, inr, ◌+◌, ◌<◌, [], ◌∷◌, ◌++◌, arith, true, false, Bool, ◌⊎◌, zero, ◌%◌, ◌^◌, length}
+use Rattle.std.proofs.Common.{◌≡◌, ℕ, List, Option, Some, None, refl, sym, ap, subst, ◌∙◌, inl, inr, ◌+◌, ◌-◌, ◌<◌, [], ◌∷◌, ◌++◌, arith, true, false, Bool, ◌⊎◌, zero, ◌^◌, length, length-append}
 use Rattle.std.specs.FinMap as map
 use Rattle.std.specs.Ordering.{nat_cmp}
 use Rattle.std.proofs.lemmas.Bool.Decides.{eqb_tells}
@@ -16,10 +16,10 @@ use Rattle.mach_model.proofs.Names.{removed_own, alike, at_own, at_other, get_ow
 use Rattle.mach_model.specs.State.{State, Target, Names, lookup, held, at, same_request}
 use Rattle.mach_model.specs.Notices.{Owed}
 use Rattle.mach_model.specs.Settles.{settled_target}
-use Rattle.mach_model.specs.Turns.{Ending, lives_after, IsRequestOf, IsNameOf}
+use Rattle.mach_model.specs.Turns.{Ending, lives_after, IsRequestOf, IsNameOf, death_notice}
 use Rattle.mach_model.proofs.SettledEnd.{settled_port}
 use Rattle.mach_model.proofs.SettledReceives.{and_false}
-use Rattle.mach_model.proofs.TurnsMade.{bury}
+use Rattle.mach_model.proofs.TurnsMade.{bury, paying_of}
 use Rattle.number_map.specs.Maps.{MapView}
 use Rattle.rights.specs.Ledger.{LedgerView, IsEntered, left}
 use Rattle.rights.specs.Unused.{IsUnusedOfAll}
@@ -49,14 +49,15 @@ use Rattle.copyin_base.proofs.Spaces.{space-set_same, space-set_other}
 use Rattle.copyin_base.specs.Changes.{CanPutLeft, PutsLeft}
 use Rattle.copyin_base.specs.Reading.{reading, read_names, read_space, read_spaces, live_in, AreGiven}
 use Rattle.notifications.specs.Posting.{CanPost}
-use Rattle.destroy.specs.Burying.{dead_count, SameSpare, is_among, Around, Burying, IsDueOn, EndsRequests, IsNone, IsBurying, IsNextToBury, IsAny, IsOnName as IsRequestOnName, without_port, buried}
-use Rattle.destroy.specs.Paying.{LivesIn, Pays}
+use Rattle.destroy.specs.Burying.{dead_count, SameSpare, is_among, Around, Burying, IsDueOn, EndsRequests, IsNone, IsBurying, IsNextToBury, IsAny, IsOnName as IsRequestOnName, without_port, buried, partway}
+use Rattle.destroy.specs.Paying.{LivesIn, Pays, PaysMany}
 use Rattle.destroy.proofs.BuryEnd.{named_once, of_settled, buried_between, buried_told, begins_burying, gone_ended}
 use Rattle.destroy.proofs.BuryRequest.{request_ended, ended_holders, request_refl, name_died_agrees, unrequested, without_request}
 use Rattle.destroy.proofs.BuryMore.{NamesSoFar}
 use Rattle.destroy.proofs.BuryState.{among_more, same_request_is}
 use Rattle.destroy.proofs.BurySoFar.{held_same}
-use Rattle.destroy.proofs.BurySteps.{can_post, step, step_spare, pays_ports, lives_or_not, counted_one, still_in, none_ended}
+use Rattle.destroy.proofs.Counting.{count_none, count_joined}
+use Rattle.destroy.proofs.BurySteps.{can_post, step, step_spare, step_counts, pays_ports, lives_or_not, still_in, none_ended}
 use Rattle.destroy.proofs.LoseFrames.{holder_stays}
 use Rattle.destroy.proofs.Rooms.{renamed_rooms, pays_spaces, buried_rooms}
 use Rattle.destroy.specs.Between.{Between}
@@ -313,6 +314,14 @@ module _ (now : ℕ) (tables : WorldView) (old mid : State) (owed : Owed) (e : E
         (ended_holders (lives_after mid e) w s b.agrees rq r q.notify xs gone was others b.around.went b.around.went g (λ x h. same_request_is x r h) e.destroyed b.holders p v here))
         (notice.DeadName q.name) refl (λ at. refl) (bare q.name)
 
+    pub name_counts : (many : ℕ) → PaysMany ended q.notify many → IsCount (length (partway e rs).paid) (length (partway e (rs ++ r ∷ [])).paid) many
+    name_counts = step_counts now tables old mid owed e port rs w b r q.notify was is_of_port spaces rq naming names around
+        (λ xs g. name_died_agrees (lives_after mid e) (unrequested w rq) (without_request s r xs)
+        (request_ended (lives_after mid e) w s b.agrees rq r q.notify xs gone was others b.around.went b.around.went g (λ x h. same_request_is x r h)) q.task q.name space there on.entry found q.port on.for_port k)
+        (λ xs g p v here. holder_stays (without_request s r xs) (record (without_request s r xs) { naming = naming }) e.destroyed (record { all = λ p. refl; each = λ p place. refl }) p v.attributes.holder
+        (ended_holders (lives_after mid e) w s b.agrees rq r q.notify xs gone was others b.around.went b.around.went g (λ x h. same_request_is x r h) e.destroyed b.holders p v here))
+        (notice.DeadName q.name) refl (λ at. refl) (bare q.name)
+
 -- ---- What ending a request on a name of a doomed port asks of the tables, and what it promises.
 
 -- the request was taken out of the tables
@@ -400,16 +409,19 @@ module _ (port : ℕ) (q : NameRequest) (w : WorldView) (due : IsDueOn port q w)
       spare : IsUnusedOfAll w.ledger → (v : WorldView) → Pays z q.notify (notice.DeadName q.name) v → SameSpare e rs w (rs ++ dead_name q.task q.name ∷ []) v
       spare all v pays = name_spare now tables old mid owed e port rs w b q due.is_on.there due.is_on.is p.space there all v (subst (λ (y : WorldView). Pays y q.notify (notice.DeadName q.name) v) z_as pays)
 
+      counts : (many : ℕ) → PaysMany z q.notify many → IsCount (length (partway e rs).paid) (length (partway e (rs ++ dead_name q.task q.name ∷ [])).paid) many
+      counts many pays = name_counts now tables old mid owed e port rs w b q due.is_on.there due.is_on.is p.space there many (subst (λ (y : WorldView). PaysMany y q.notify many) z_as pays)
+
     pub named_post : LivesIn z q.notify → CanPost z q.notify
     named_post = let b = due.burying in post b.now b.tables b.old b.mid b.owed b.ending b.requests b.burying
 
     module _ (all : IsUnusedOfAll w.ledger) (v : WorldView) (pays : Pays z q.notify (notice.DeadName q.name) v) where
-      pub named_ends : EndsRequests port IsNone w 1 v
-      named_ends = record {
+      pub named_ends : (many : ℕ) → PaysMany z q.notify many → EndsRequests port IsNone w many v
+      named_ends many pays_many = record {
         goes_on = λ now tables old mid owed e rs b. (
           rs ++ dead_name q.task q.name ∷ [],
           ends now tables old mid owed e rs b v pays,
-          counted_one rs (dead_name q.task q.name),
+          counts now tables old mid owed e rs b many pays_many,
           (λ r c. still_in rs (dead_name q.task q.name) r c),
           (λ r none. absurd none),
           spare now tables old mid owed e rs b all v pays,
@@ -431,11 +443,6 @@ module _ (port : ℕ) (q : NameRequest) (w : WorldView) (due : IsDueOn port q w)
 
 -- ---- Parts of a burial come one after the other, and so do burials.
 
--- ---- counts
-
-count_joined : (a b c t n : ℕ) → IsCount b (c + t) → IsCount a (b + n) → IsCount a (c + (t + n) % 2 ^ 64)
-count_joined a b c t n h g = omega (arith, h, g)
-
 -- ---- parts of a burial
 
 pub still_burying : (port : ℕ) (these : Request → Type 0) (w : WorldView) (t : ℕ) (v : WorldView) → IsBurying port w → EndsRequests port these w t v → IsBurying port v
@@ -444,14 +451,14 @@ still_burying port these w t v b e =
     record { now = b.now; tables = b.tables; old = b.old; mid = b.mid; owed = b.owed; ending = b.ending; requests = g.0; burying = g.1 }
 
 pub joined : (port : ℕ) (these those : Request → Type 0) (w : WorldView) (t : ℕ) (u : WorldView) (n : ℕ) (v : WorldView) → EndsRequests port these w t u → EndsRequests port those u n v →
-    EndsRequests port (λ r. these r ⊎ those r) w ((t + n) % 2 ^ 64) v
-joined port these those w t u n v e f = record {
+    (m : ℕ) → m ≡ min (t + n) (2 ^ 64 - 1) → EndsRequests port (λ r. these r ⊎ those r) w m v
+joined port these those w t u n v e f m sum = record {
   goes_on = λ now tables old mid owed x rs b.
       let g = e.goes_on now tables old mid owed x rs b in
       let h = f.goes_on now tables old mid owed x g.0 g.1 in (
         h.0,
         h.1,
-        count_joined (length h.0) (length g.0) (length rs) t n g.2 h.2,
+        count_joined (length (partway x rs).paid) (length (partway x g.0).paid) (length (partway x h.0).paid) t n m g.2 h.2 sum,
         (λ r c. h.3 r (g.3 r c)),
         (λ r is stood of. elim is [
           | inl a ↦ h.3 r (g.4 r a stood of)
@@ -474,8 +481,8 @@ weaker_ends port these those w t v e so = record {
 pub none_yet : (port : ℕ) (w : WorldView) → EndsRequests port IsNone w 0 w
 none_yet port w = none_ended port IsNone w w refl (λ r none. absurd none)
 
-pub one_longer : (port : ℕ) (w : WorldView) (t : ℕ) (u v : WorldView) → EndsRequests port IsNone w t u → EndsRequests port IsNone u 1 v → EndsRequests port IsNone w ((t + 1) % 2 ^ 64) v
-one_longer port w t u v e f = weaker_ends port (λ r. IsNone r ⊎ IsNone r) IsNone w ((t + 1) % 2 ^ 64) v (joined port IsNone IsNone w t u 1 v e f) (λ mid r none of. absurd none)
+pub one_longer : (port : ℕ) (w : WorldView) (t : ℕ) (u : WorldView) (n : ℕ) (v : WorldView) → EndsRequests port IsNone w t u → EndsRequests port IsNone u n v → (m : ℕ) → m ≡ min (t + n) (2 ^ 64 - 1) → EndsRequests port IsNone w m v
+one_longer port w t u n v e f m sum = weaker_ends port (λ r. IsNone r ⊎ IsNone r) IsNone w m v (joined port IsNone IsNone w t u n v e f m sum) (λ mid r none of. absurd none)
 
 -- all three kinds
 pub all_kinds : (port : ℕ) (w : WorldView) (t : ℕ) (v : WorldView) → EndsRequests port (λ r. ((r ≡ no_senders port) ⊎ (r ≡ port_destroyed port)) ⊎ IsRequestOnName r) w t v → EndsRequests port IsAny w t v
@@ -576,13 +583,13 @@ module _ (port : ℕ) (w : WorldView) (next : IsNextToBury port w) (u : WorldVie
       let c = g.2 in (
         bury port g.0 x,
         subst (Between now tables old mid owed (bury port g.0 x)) (sym is) (buried_between now tables old mid owed x port g.0 u g.1 every doomed),
-        counted x.turns (length g.0) t c,
+        counted x.turns t x.paid (paying_of x death_notice g.0 x.left) c,
         slots now tables old mid owed x b told g.0 g.1 g.5,
         subst (AreTold mid (bury port g.0 x)) (sym is) (buried_told now tables old mid owed x port g.0 u g.1 every doomed),
       )
     where
-      counted : (a n m : ℕ) → IsCount n (0 + m) → IsCount (a + n) (a + m)
-      counted a n m h = omega (arith, h)
+      counted : (a n : ℕ) (xs ys : Owed) → IsCount (length (xs ++ [])) (length (xs ++ ys)) n → IsCount a (a + length ys) n
+      counted a n xs ys (many, is, told) = (many, (let p = length-append xs ys in let q = length-append xs [] in omega (arith, is, p, q)), told)
 
       slots : (now : ℕ) (tables : WorldView) (old mid : State) (owed : Owed) (x : Ending) → Between now tables old mid owed x w → AreTold mid x w → (more : List Request) → Burying now tables old mid owed x port more u → SameSpare x [] w more u →
           SameSlots x w (bury port more x) v
@@ -617,15 +624,15 @@ pub rooms_more : (w u v : WorldView) → KeepsRooms w u → KeepsRooms u v → K
 rooms_more w u v a b task = b task ∙ a task
 
 pub continues_first : (w : WorldView) → Continues AreTold AreTold w 0 w
-continues_first w now tables old mid owed e b told = grind arith
+continues_first w now tables old mid owed e b told = (e, b, count_none e.turns, refl, told)
 
-pub continues_more : (w : WorldView) (t : ℕ) (u : WorldView) (n : ℕ) (v : WorldView) → Continues AreTold AreTold w t u → Continues AreTold AreTold u n v → Continues AreTold AreTold w ((t + n) % 2 ^ 64) v
-continues_more w t u n v a c now tables old mid owed e b told =
+pub continues_more : (w : WorldView) (t : ℕ) (u : WorldView) (n : ℕ) (v : WorldView) → Continues AreTold AreTold w t u → Continues AreTold AreTold u n v → (m : ℕ) → m ≡ min (t + n) (2 ^ 64 - 1) → Continues AreTold AreTold w m v
+continues_more w t u n v a c m sum now tables old mid owed e b told =
     let f = a now tables old mid owed e b told in
     let g = c now tables old mid owed f.0 f.1 f.4 in
     let x = f.3 in
     let y = g.3 in
-    (g.0, g.1, count_joined g.0.turns f.0.turns e.turns t n f.2 g.2, omega (arith, x, y), g.4)
+    (g.0, g.1, count_joined e.turns f.0.turns g.0.turns t n m f.2 g.2 sum, omega (arith, x, y), g.4)
 
 pub still_at : (w : WorldView) (t : ℕ) (v : WorldView) → IsAt AreTold w → Continues AreTold AreTold w t v → IsAt AreTold v
 still_at w t v a c =

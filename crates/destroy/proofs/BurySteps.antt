@@ -1,5 +1,5 @@
 -- A request of a doomed port ends, and its right pays where its port lives.
-use Rattle.std.proofs.Common.{◌≡◌, ℕ, zero, suc, ◌+◌, ◌≤◌, List, [], ◌∷◌, ◌++◌, Option, Some, None, refl, sym, ap, subst, ◌∙◌, arith, true, false, Bool, inl, inr, length, ◌-◌, ◌%◌, ◌^◌, ◌⊎◌}
+use Rattle.std.proofs.Common.{◌≡◌, ℕ, zero, suc, ◌+◌, ◌≤◌, List, [], ◌∷◌, ◌++◌, Option, Some, None, refl, sym, ap, subst, ◌∙◌, arith, true, false, Bool, inl, inr, length, ◌-◌, ◌^◌, ◌⊎◌}
 use Rattle.std.specs.Prelude.{if◌then◌else◌, All, ◌||◌, not, is_some, Contains, nat_lt, IfSome, IfNone}
 use Rattle.std.specs.FinMap as map
 use Rattle.std.proofs.lemmas.Bool.{and_from, eq-eqb}
@@ -42,7 +42,7 @@ use Rattle.notifications.specs.SoFar.{AgreesOf, HoldersTell, buried_alone}
 use Rattle.notifications.proofs.NoticePosted.{posted_agrees, with_message, slots_posted, some_spare}
 use Rattle.destroy.proofs.BuryState.{paid_one, paid_none, among_more, may_pay, within, there, same_request_is}
 use Rattle.destroy.specs.Burying.{is_among, partway, SameSpare, Around, Burying, AsksNone, IsAny, IsPartway, EndsRequests}
-use Rattle.destroy.specs.Paying.{LivesIn, Pays}
+use Rattle.destroy.specs.Paying.{LivesIn, Pays, PaysMany}
 use Rattle.destroy.proofs.BuryRequest.{GoesOn, request_ended, ended_holders}
 use Rattle.destroy.proofs.BuryMore.{NamesSoFar, tokens, goes_on, state_paid, paid_so_far, stays_on, state_unpaid, unpaid_so_far}
 use Rattle.destroy.specs.Losing.{Framed, LosesOf, LosesMark, LosesRight, without_first}
@@ -53,19 +53,6 @@ use Rattle.destroy.proofs.Rooms.{same_rooms, pays_spaces}
 use Rattle.destroy.specs.Telling.{TellsOf, taken_out, without_no_senders}
 
 -- ---- A request of a doomed port ends, and its right pays where its port lives: the burial is a request further.
-
--- ---- lists of requests
-
-not_among : (rs : List Request) (q : Request) → is_among rs q ≡ false → tally (same_request q) rs ≡ 0
-not_among [] q none = refl
-not_among (x ∷ rs) q none = go (same_request q x) none (not_among rs q)
-  where
-    go : (b : Bool) → (b || is_among rs q) ≡ false → (is_among rs q ≡ false → tally (same_request q) rs ≡ 0) → (if b then suc zero else zero) + tally (same_request q) rs ≡ 0
-    go true h rest = absurd (cc)
-    go false h rest = let a = rest h in omega (arith, a)
-
-once_more : (rs : List Request) (r : Request) → is_among rs r ≡ false → ((q : Request) → tally (same_request q) rs ≤ 1) → (q : Request) → tally (same_request q) (rs ++ r ∷ []) ≤ 1
-once_more rs r new once q = grind (arith, tally-append, same_request_is, not_among)
 
 one_all : {A : Type 0} (P : A → Type 0) (x : A) → P x → All P (x ∷ [])
 one_all P x h = All-cons P x [] h (λ k d below. absurd (omega arith))
@@ -97,14 +84,8 @@ module _ (now : ℕ) (tables : WorldView) (old mid : State) (owed : Owed) (e : E
   stands_mid : mid.stands r ≡ true
   stands_mid = left_of (mid.stands r) _ (left_of ((outcome mid (buried_alone e)).stands r) (not (is_among rs r)) (sym (b.so_far.stands r) ∙ stood))
 
-  new_one : is_among rs r ≡ false
-  new_one = grind (arith, right_of, stood)
-
   ends : All (λ q. (mid.stands q ≡ true) × IsRequestOf mid port q) (rs ++ r ∷ [])
   ends = All-append (λ q. (mid.stands q ≡ true) × IsRequestOf mid port q) rs (r ∷ []) b.ends (one_all (λ q. (mid.stands q ≡ true) × IsRequestOf mid port q) r (stands_mid, is_of_port))
-
-  once : (q : Request) → tally (same_request q) (rs ++ r ∷ []) ≤ 1
-  once = once_more rs r new_one b.once
 
   alive_there : LivesIn ended n → lives_after mid e n ≡ true
   alive_there l = lives_now now tables old mid owed e port rs w b n (record { v = l.v; there = l.there; undoomed = l.undoomed })
@@ -209,7 +190,6 @@ module _ (now : ℕ) (tables : WorldView) (old mid : State) (owed : Owed) (e : E
       step_paid = record {
         can = b.can;
         ends = ends;
-        once = once;
         state = paid;
         so_far = paid_so_far now old mid owed e port rs s w b.can b.so_far b.agrees b.around.went r n was naming names alive (notice_of notice) tells none;
         agrees = posted_agrees (lives_after mid e) ended (state_ended xs) (agrees xs goes) n x is_there notice now
@@ -226,7 +206,6 @@ module _ (now : ℕ) (tables : WorldView) (old mid : State) (owed : Owed) (e : E
     step_unpaid dead = record {
       can = b.can;
       ends = ends;
-      once = once;
       state = state_unpaid now old mid owed e port rs s w b.can b.so_far b.agrees b.around.went r n was naming names dead;
       so_far = unpaid_so_far now old mid owed e port rs s w b.can b.so_far b.agrees b.around.went r n was naming names dead;
       agrees = agrees s.ledger (stays_on now old mid owed e port rs s w b.can b.so_far b.agrees b.around.went r n was naming names dead);
@@ -257,6 +236,18 @@ module _ (now : ℕ) (tables : WorldView) (old mid : State) (owed : Owed) (e : E
             let a : v.ports.spare ≡ w.ports.spare = ap (λ (x : WorldView). x.ports.spare) (pays.stays (λ l. let a : true ≡ false = sym (alive_there l) ∙ dead in cc)) in
             let c = paid_none now old mid owed e rs s w b.can.lawful b.can.reached b.so_far b.agrees b.around.went r n was dead in
             omega (arith, a, c)
+
+    -- it is a turn
+    pub step_counts : (many : ℕ) → PaysMany ended n many → IsCount (length (partway e rs).paid) (length (partway e (rs ++ r ∷ [])).paid) many
+    step_counts many pays = go (lives_after mid e n) refl
+      where
+        go : (c : Bool) → lives_after mid e n ≡ c → IsCount (length (partway e rs).paid) (length (partway e (rs ++ r ∷ [])).paid) many
+        go true alive =
+            let c = paid_one now old mid owed e rs s w b.can.lawful b.can.reached b.so_far b.agrees b.around.went r n was alive in
+            let is = pays.0 (is_there_now alive) in (1, omega (arith, c), omega (arith, is))
+        go false dead =
+            let c = paid_none now old mid owed e rs s w b.can.lawful b.can.reached b.so_far b.agrees b.around.went r n was dead in
+            let is = pays.1 (λ l. let a : true ≡ false = sym (alive_there l) ∙ dead in cc) in (0, omega (arith, c), omega (arith, is))
 
     pub step : (v : WorldView) → Pays ended n notice v → Burying now tables old mid owed e port (rs ++ r ∷ []) v
     step v pays = go (lives_after mid e n) refl
@@ -338,6 +329,12 @@ module _ (now : ℕ) (tables : WorldView) (old mid : State) (owed : Owed) (e : E
         (λ xs g. ended_holders (lives_after mid e) w s_port b.agrees without_senders (no_senders port) n xs (removed_own w.requests.no_senders.map port) was senders_other b.around.went b.around.went g (λ q h. same_request_is q (no_senders port) h) e.destroyed b.holders)
         SendOnce refl (λ at. refl) no_bare
 
+    pub senders_counts : (many : ℕ) → PaysMany (record w { requests = without_senders }) n many → IsCount (length (partway e rs).paid) (length (partway e (rs ++ no_senders port ∷ [])).paid) many
+    senders_counts = step_counts now tables old mid owed e port rs w b (no_senders port) n was refl w.spaces without_senders s_port.naming senders_names senders_around
+        (λ xs g. request_ended (lives_after mid e) w s_port b.agrees without_senders (no_senders port) n xs (removed_own w.requests.no_senders.map port) was senders_other b.around.went b.around.went g (λ q h. same_request_is q (no_senders port) h))
+        (λ xs g. ended_holders (lives_after mid e) w s_port b.agrees without_senders (no_senders port) n xs (removed_own w.requests.no_senders.map port) was senders_other b.around.went b.around.went g (λ q h. same_request_is q (no_senders port) h) e.destroyed b.holders)
+        SendOnce refl (λ at. refl) no_bare
+
   -- ---- to be sent away
 
   abbrev pub without_saving : RequestTablesView
@@ -389,14 +386,13 @@ module _ (now : ℕ) (tables : WorldView) (old mid : State) (owed : Owed) (e : E
         (λ xs g. ended_holders (lives_after mid e) w s_port b.agrees without_saving (port_destroyed port) n xs (removed_own w.requests.port_destroyed.map port) was saving_other b.around.went b.around.went g (λ q h. same_request_is q (port_destroyed port) h) e.destroyed b.holders)
         SendOnce refl (λ at. refl) no_bare
 
+    pub saving_counts : (many : ℕ) → PaysMany (record w { requests = without_saving }) n many → IsCount (length (partway e rs).paid) (length (partway e (rs ++ port_destroyed port ∷ [])).paid) many
+    saving_counts = step_counts now tables old mid owed e port rs w b (port_destroyed port) n was refl w.spaces without_saving s_port.naming saving_names saving_around
+        (λ xs g. request_ended (lives_after mid e) w s_port b.agrees without_saving (port_destroyed port) n xs (removed_own w.requests.port_destroyed.map port) was saving_other b.around.went b.around.went g (λ q h. same_request_is q (port_destroyed port) h))
+        (λ xs g. ended_holders (lives_after mid e) w s_port b.agrees without_saving (port_destroyed port) n xs (removed_own w.requests.port_destroyed.map port) was saving_other b.around.went b.around.went g (λ q h. same_request_is q (port_destroyed port) h) e.destroyed b.holders)
+        SendOnce refl (λ at. refl) no_bare
+
 -- ---- what that promises
-
-one_longer : {A : Type 0} (xs : List A) (x : A) → length (xs ++ x ∷ []) ≡ length xs + 1
-one_longer [] x = omega arith
-one_longer (y ∷ xs) x = let a = one_longer xs x in omega (arith, a)
-
-pub counted_one : (rs : List Request) (r : Request) → IsCount (length (rs ++ r ∷ [])) (length rs + 1)
-counted_one rs r = ap (λ (k : ℕ). k % 2 ^ 64) (one_longer rs r)
 
 pub last_in : (rs : List Request) (r : Request) → Contains (rs ++ r ∷ []) r
 last_in [] r = (zero, omega arith, refl)
@@ -428,12 +424,13 @@ lives_or_not w n = go (port_at w n) refl
         holds holder.Doomed at = inr (λ l. l.undoomed (sym (same l.v (sym is ∙ l.there)) ∙ at))
 
 pub senders_ended : (port : ℕ) (w : WorldView) → IsUnusedOfAll w.ledger → (n : ℕ) → map.get w.requests.no_senders.map port ≡ Some n → (v : WorldView) →
-    Pays (record w { requests = record w.requests { no_senders = record w.requests.no_senders { map = map.remove w.requests.no_senders.map port } } }) n SendOnce v → EndsRequests port (λ r. r ≡ no_senders port) w 1 v
-senders_ended port w all n was v pays = record {
+    Pays (record w { requests = record w.requests { no_senders = record w.requests.no_senders { map = map.remove w.requests.no_senders.map port } } }) n SendOnce v → (many : ℕ) → PaysMany (record w { requests = record w.requests { no_senders = record w.requests.no_senders { map = map.remove w.requests.no_senders.map port } } }) n many →
+    EndsRequests port (λ r. r ≡ no_senders port) w many v
+senders_ended port w all n was v pays many counts = record {
   goes_on = λ now tables old mid owed e rs b. (
     rs ++ no_senders port ∷ [],
     senders_end now tables old mid owed e port rs w b n was v pays,
-    counted_one rs (no_senders port),
+    senders_counts now tables old mid owed e port rs w b n was many counts,
     (λ r c. still_in rs (no_senders port) r c),
     (λ r is stood of. subst (Contains (rs ++ no_senders port ∷ [])) (sym is) (last_in rs (no_senders port))),
     senders_spare now tables old mid owed e port rs w b n was all v pays,
@@ -443,12 +440,13 @@ senders_ended port w all n was v pays = record {
 }
 
 pub saving_ended : (port : ℕ) (w : WorldView) → IsUnusedOfAll w.ledger → (n : ℕ) → map.get w.requests.port_destroyed.map port ≡ Some n → (v : WorldView) →
-    Pays (record w { requests = record w.requests { port_destroyed = record w.requests.port_destroyed { map = map.remove w.requests.port_destroyed.map port } } }) n SendOnce v → EndsRequests port (λ r. r ≡ port_destroyed port) w 1 v
-saving_ended port w all n was v pays = record {
+    Pays (record w { requests = record w.requests { port_destroyed = record w.requests.port_destroyed { map = map.remove w.requests.port_destroyed.map port } } }) n SendOnce v → (many : ℕ) → PaysMany (record w { requests = record w.requests { port_destroyed = record w.requests.port_destroyed { map = map.remove w.requests.port_destroyed.map port } } }) n many →
+    EndsRequests port (λ r. r ≡ port_destroyed port) w many v
+saving_ended port w all n was v pays many counts = record {
   goes_on = λ now tables old mid owed e rs b. (
     rs ++ port_destroyed port ∷ [],
     saving_end now tables old mid owed e port rs w b n was v pays,
-    counted_one rs (port_destroyed port),
+    saving_counts now tables old mid owed e port rs w b n was many counts,
     (λ r c. still_in rs (port_destroyed port) r c),
     (λ r is stood of. subst (Contains (rs ++ port_destroyed port ∷ [])) (sym is) (last_in rs (port_destroyed port))),
     saving_spare now tables old mid owed e port rs w b n was all v pays,
@@ -463,7 +461,7 @@ none_ended port these w v same gone = record {
   goes_on = λ now tables old mid owed e rs b. (
     rs,
     subst (Burying now tables old mid owed e port rs) (sym same) b,
-    ap (λ (k : ℕ). k % 2 ^ 64) (omega arith),
+    (0, omega arith, omega arith),
     (λ r c. c),
     (λ r is stood of. gone_ended now tables old mid owed e port rs w b r of stood (gone r is)),
     ap (λ (x : WorldView). x.ports.spare + length (partway e rs).paid) same,
@@ -511,7 +509,7 @@ loses_spaces w c turns v h = of_mark (kind_sent c.given) c.mark w turns v h
 -- ---- a port is told of
 
 pub tells_spaces : (w : WorldView) (port turns : ℕ) (v : WorldView) → TellsOf w port turns v → v.spaces ≡ w.spaces
-tells_spaces w port turns v (inl h) = let t = h.1 in pays_spaces (without_no_senders w port) t.notify (NoSenders t.v.attributes.make_send) v t.pays (lives_or_not (without_no_senders w port) t.notify)
+tells_spaces w port turns v (inl t) = pays_spaces (without_no_senders w port) t.notify (NoSenders t.v.attributes.make_send) v t.pays (lives_or_not (without_no_senders w port) t.notify)
 tells_spaces w port turns v (inr h) = same w v h.1
 
 -- ---- a message, or a port, is taken out, or none is

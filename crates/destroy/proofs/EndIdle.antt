@@ -1,5 +1,5 @@
 -- Where nothing is left to do, the step has ended: each part comes to nothing.
-use Rattle.std.proofs.Common.{◌≡◌, ℕ, ◌+◌, ◌&&◌, Bool, true, false, IsTrue, List, [], ◌∷◌, Option, slice_get, refl, ap, sym, ◌∙◌, arith}
+use Rattle.std.proofs.Common.{◌≡◌, ℕ, ◌&&◌, Bool, true, false, IsTrue, List, [], ◌∷◌, Option, slice_get, refl, ap, sym, ◌∙◌, arith}
 use Rattle.std.specs.Prelude.{◌↔◌, Contains, is_some, not}
 use Rattle.std.proofs.lemmas.Bool.{and_from, and_parts}
 use Rattle.port.specs.declared.Holder.TheVariants as holder
@@ -7,13 +7,11 @@ use Rattle.port.specs.Holding.{NoneHeldBy}
 use Rattle.port.specs.Idle.{IsIdle as AreIdle}
 use Rattle.request_table.specs.declared.Request.{Request as NameRequest}
 use Rattle.copyin_base.specs.Worlds.{WorldView, IsIdle}
-use Rattle.destroy.specs.Stages.{IsJudged, AreLost, AreTold, AreBuried, IsStarted, IsCount, Continues, Starts, SettlesIn}
+use Rattle.destroy.specs.Stages.{IsJudged, AreLost, AreTold, AreBuried, IsStarted, Continues, Starts, SettlesIn}
 use Rattle.destroy.proofs.EndSteps.{TellsDoomed, settles}
+use Rattle.destroy.proofs.Counting.{count_none}
 use Rattle.destroy.proofs.JudgeDoomed.{judges_all}
 use Rattle.destroy.proofs.PayTurns.{TellsLost, pays_all, pays_first}
-
-same_count : (n : ℕ) → IsCount n (n + 0)
-same_count n = omega arith
 
 -- ---- what is told of ports and of requests is told of the tables
 
@@ -54,16 +52,16 @@ module _ (w : WorldView) (idle : IsIdle w) (lost : TellsLost w) (doomed : TellsD
   starts = pays_all w w (pays_first w doomed lost) idle.went
 
   judges : Continues IsStarted IsJudged w 0 w
-  judges = judges_all w w 0 (λ now tables old mid owed e b s. (e, b, same_count e.turns, refl, s)) none_lost idle.none_lost.lost
+  judges = judges_all w w 0 (λ now tables old mid owed e b s. (e, b, count_none e.turns, refl, s)) none_lost idle.none_lost.lost
 
   loses : Continues IsJudged AreLost w 0 w
-  loses now tables old mid owed e b s = (e, b, same_count e.turns, refl, record { judged = s; none_destroyed = idle.none_lost.destroyed })
+  loses now tables old mid owed e b s = (e, b, count_none e.turns, refl, record { judged = s; none_destroyed = idle.none_lost.destroyed })
 
   tells : Continues AreLost AreTold w 0 w
-  tells now tables old mid owed e b s = (e, b, same_count e.turns, refl, record { lost = s; none_noted = idle.noted })
+  tells now tables old mid owed e b s = (e, b, count_none e.turns, refl, record { lost = s; none_noted = idle.noted })
 
   buries : Continues AreTold AreBuried w 0 w
-  buries now tables old mid owed e b s = (e, b, same_count e.turns, refl, record { told = s; none_doomed = idle.none_lost.doomed })
+  buries now tables old mid owed e b s = (e, b, count_none e.turns, refl, record { told = s; none_doomed = idle.none_lost.doomed })
 
   pub settles_idle : SettlesIn w 0 w
-  settles_idle = settles w w w w w w 0 0 0 0 0 starts judges loses tells buries doomed refl
+  settles_idle = settles w w w w w w 0 0 0 0 0 starts judges loses tells buries doomed (omega arith)

@@ -1,6 +1,6 @@
 -- The five parts of a step's end, one after the other, are the end of the step.
-use Rattle.std.proofs.Common.{◌≡◌, ℕ, suc, zero, ◌+◌, List, [], ◌∷◌, refl, ap, ◌∙◌, arith, true, false, Bool, inl, inr, length, ◌++◌, sym, Option, Some, None, subst, ◌<◌, ◌≤◌, ◌⊎◌, get_or, ◌%◌, ◌^◌}
-use Rattle.std.specs.Prelude.{if◌then◌else◌, All, not, ◌==◌, map, filter, ◌&&◌, ◌||◌, drop, is_some, option_map, Contains, reverse, ◌↔◌}
+use Rattle.std.proofs.Common.{◌≡◌, ℕ, suc, zero, ◌+◌, List, [], ◌∷◌, refl, ap, ◌∙◌, arith, true, false, Bool, inl, inr, length, ◌++◌, sym, Option, Some, None, subst, ◌<◌, ◌≤◌, ◌⊎◌, get_or, ◌^◌, ◌-◌}
+use Rattle.std.specs.Prelude.{if◌then◌else◌, All, not, ◌==◌, map, filter, ◌&&◌, ◌||◌, drop, is_some, option_map, Contains, reverse, ◌↔◌, min}
 use Rattle.std.proofs.lemmas.List.Elements.{All-head, All-tail, All-contains}
 use Rattle.std.proofs.lemmas.List.{length-append}
 use Rattle.std.proofs.lemmas.Bool.Decides.{eqb_tells}
@@ -42,7 +42,7 @@ use Rattle.notifications.specs.SoFar.{due_so_far, entries_at, posted_from, poste
 use Rattle.destroy.proofs.LoseCounts.{none_taken, buried_doomed}
 use Rattle.destroy.proofs.PayLives.{kept_live}
 use Rattle.destroy.specs.Between.{Between}
-use Rattle.destroy.specs.Stages.{AreBuried, IsJudged, AreLost, AreTold, IsStarted, IsAt, IsCount, SameSlots, Continues, IsMidway, Starts, SettlesIn}
+use Rattle.destroy.specs.Stages.{AreBuried, IsJudged, AreLost, AreTold, IsStarted, IsAt, SameSlots, Continues, IsMidway, Starts, SettlesIn}
 
 -- ---- How a chain of turns began.
 
@@ -60,22 +60,6 @@ module _ (old mid : State) (owed : Owed) where
   pub first_of : (e : Ending) → IsReached old mid owed e → (d : Ending) × Begins mid owed d × (e.begun ≡ d.begun)
   first_of e' (begins e b) = (e, b, refl)
   first_of f' (turns e f before t) = let a = first_of e before in (a.0, a.1, turn_begun e f t ∙ a.2)
-
-  -- A chain without turns is at its beginning.
-  some_turn : (e f : Ending) → Turn old mid e f → f.turns ≡ 0 → (e.turns ≡ 0) × (p : ℕ) × (listed e.doomed p ≡ true)
-  some_turn e f (inl t) none = absurd (let a = ap (λ (x : Ending). x.turns) t.rest in omega (arith, a, none))
-  some_turn e f (inr (inl t)) none = absurd (let a = ap (λ (x : Ending). x.turns) t.rest in omega (arith, a, none))
-  some_turn e f (inr (inr (inl t))) none = absurd (let a = ap (λ (x : Ending). x.turns) t.rest in omega (arith, a, none))
-  some_turn e f (inr (inr (inr (inl t)))) none = absurd (let a = ap (λ (x : Ending). x.turns) t.rest in omega (arith, a, none))
-  some_turn e f (inr (inr (inr (inr (inl t))))) none = let a = ap (λ (x : Ending). x.turns) t.rest in (omega (arith, a, none), t.port, t.doomed)
-  some_turn e f (inr (inr (inr (inr (inr t))))) none = absurd (let a = ap (λ (x : Ending). x.turns) t.rest in omega (arith, a, none))
-
-  pub begins_yet : (e : Ending) → IsReached old mid owed e → e.turns ≡ 0 → Begins mid owed e
-  begins_yet e' (begins e b) none = b
-  begins_yet f' (turns e f before t) none =
-      let a = some_turn e f t none in
-      let b = begins_yet e before a.0 in
-      absurd (let z : listed e.doomed a.1 ≡ false = ap (λ (x : Ending). listed x.doomed a.1) b.rest in let y = a.2 in cc)
 
   -- ---- how many rights of requests whose names went have paid
 
@@ -542,10 +526,6 @@ none_held w tells none port v there is = go w.ports.doomed none ((tells port).1 
     go [] e (i, below, at) = omega (arith, below)
     go (p ∷ ps) e one = cc
 
--- the turns of all parts, counted in 64 bits
-pub wrapped : (a b c d : ℕ) → IsCount (a + b + c + d) ((((a + b) % 2 ^ 64 + c) % 2 ^ 64 + d) % 2 ^ 64)
-wrapped a b c d = omega arith
-
 module _ (now : ℕ) (tables : WorldView) (old mid : State) (owed : Owed) where
   -- The tables show the state in which the step ends.
   pub end_shows : (e : Ending) (w : WorldView) → Between now tables old mid owed e w → AreBuried mid e w → NoneHeldBy w.ports holder.Doomed → Shows w (end_of now mid e)
@@ -567,7 +547,7 @@ module _ (now : ℕ) (tables : WorldView) (old mid : State) (owed : Owed) where
       }
 
 pub settles : (w w1 w2 w3 w4 v : WorldView) (t2 t3 t4 t5 so_many : ℕ) → Starts w w1 → Continues IsStarted IsJudged w1 t2 w2 → Continues IsJudged AreLost w2 t3 w3 → Continues AreLost AreTold w3 t4 w4 →
-    Continues AreTold AreBuried w4 t5 v → TellsDoomed v → IsCount (t2 + t3 + t4 + t5) so_many → SettlesIn w so_many v
+    Continues AreTold AreBuried w4 t5 v → TellsDoomed v → so_many ≡ min (t2 + t3 + t4 + t5) (2 ^ 64 - 1) → SettlesIn w so_many v
 settles w w1 w2 w3 w4 v t2 t3 t4 t5 so_many starts judges loses tells buries tells_doomed many now tables old mid owed shown shows =
     let a = starts now tables old mid owed shown shows in
     let b = judges now tables old mid owed a.0 a.1 a.5 in
@@ -578,8 +558,7 @@ settles w w1 w2 w3 w4 v t2 t3 t4 t5 so_many starts judges loses tells buries tel
     let none : NoneHeldBy v.ports holder.Doomed = none_held v tells_doomed e.4.none_doomed in
     let done = is_done now tables old mid owed e.0 v between none e.4 in
     let ended = turns_end now old mid owed e.0 between.lawful between.reached done in
-    let first : Between now tables old mid owed a.0 w1 = a.1 in
-    let begun = begins_yet old mid owed a.0 first.reached a.2 in
+    let begun : Begins mid owed a.0 = a.2 in
     let last = first_of old mid owed e.0 between.reached in (
       end_of now mid e.0,
       ended.0,
@@ -588,8 +567,13 @@ settles w w1 w2 w3 w4 v t2 t3 t4 t5 so_many starts judges loses tells buries tel
         ending = e.0;
         reached = between.reached;
         done = done;
-        number = (let h = a.2 in let i = b.2 in let j = c.2 in let k = d.2 in let l = e.2 in omega (arith, h, i, j, k, l, many));
+        number =
+            (let h : a.0.turns ≡ 0 = ap (λ (x : Ending). x.turns) begun.rest in
+            let i = b.2.1 in let j = c.2.1 in let k = d.2.1 in let l = e.2.1 in
+            let m = b.2.2 in let n = c.2.2 in let o = d.2.2 in let p = e.2.2 in
+            omega (arith, h, i, j, k, l, m, n, o, p, many));
         bounded = ended.2;
+        deaths_are = ended.3;
         slots =
             (let i : SameSlots a.0 w1 b.0 w2 = b.3 in
             let j : SameSlots b.0 w2 c.0 w3 = c.3 in

@@ -32,6 +32,7 @@ use Rattle.notifications.proofs.NoticePosted.{some_spare}
 use Rattle.destroy.specs.Judging.{receive_right, CarriesAmong, IsQueued, LosesPort, LosesAt, LosesAmong, last_destroyed, CanSend, EndsRequest, ResetsPort, HoldsPort, brought}
 use Rattle.destroy.specs.Between.{Between}
 use Rattle.destroy.specs.Stages.{IsStarted, IsEmptied, Continues}
+use Rattle.destroy.proofs.Counting.{count_one}
 use Rattle.destroy.proofs.JudgeSent.{can_post, own_after, told_after, others_after, after_is, sent_agrees, sent_slots, sent_between, own, told, after, each}
 use Rattle.destroy.proofs.JudgeSaved.{f}
 
@@ -254,7 +255,7 @@ module _ (w : WorldView) (p n : ℕ) (c : CanSend w p n) (all : IsUnusedOfAll w.
       (λ now tables old mid owed e b started. (
         f now tables old mid owed e w b p n c.lost c.goes,
         between now tables old mid owed e b started,
-        refl,
+        count_one e.turns _ refl,
         (let a = length-append e.paid ((kept_right n p, port_sent p) ∷ []) in let d = some in omega (arith, a, d)),
         emptied now tables old mid owed e b started,
       ))

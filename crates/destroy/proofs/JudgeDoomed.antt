@@ -1,6 +1,6 @@
 -- A port that nobody holds is doomed; then all ports are judged.
-use Rattle.std.proofs.Common.{◌≡◌, ℕ, zero, suc, ◌+◌, ◌<◌, List, [], ◌∷◌, ◌++◌, Some, refl, sym, ap, subst, ◌∙◌, arith, true, false, Bool, inl, inr, length, get_or, Option, None, ◌⊎◌, ◌≤◌, ◌%◌, ◌^◌}
-use Rattle.std.specs.Prelude.{if◌then◌else◌, All, Contains, ◌&&◌, not, filter, is_some, map as list_map, ◌||◌, ◌==◌}
+use Rattle.std.proofs.Common.{◌≡◌, ℕ, zero, suc, ◌+◌, ◌<◌, List, [], ◌∷◌, ◌++◌, Some, refl, sym, ap, subst, ◌∙◌, arith, true, false, Bool, inl, inr, length, get_or, Option, None, ◌⊎◌, ◌≤◌, ◌^◌, ◌-◌}
+use Rattle.std.specs.Prelude.{if◌then◌else◌, All, Contains, ◌&&◌, not, filter, is_some, map as list_map, ◌||◌, ◌==◌, min}
 use Rattle.std.proofs.lemmas.List.Elements.{All-head, All-tail}
 use Rattle.std.proofs.lemmas.Bool.{eqb-true, eq-eqb, cases_lt}
 use Rattle.std.specs.FinMap as map
@@ -11,7 +11,8 @@ use Rattle.mach_model.specs.Death.{LiesAt, Dies, same_place, IsSaved}
 use Rattle.mach_model.specs.Lawful.{tally}
 use Rattle.mach_model.specs.Notices.{Notice, port_sent, Owed, Posted, all_posted_tokens}
 use Rattle.mach_model.specs.Midway.{MidLawful}
-use Rattle.mach_model.specs.Turns.{Begun, Ending, owed_in, went_in, listed, is_judged, IsFound, AreJudged, PaidForName, IsReached, lives_after, Dooms, turns, IsWaiting, number}
+use Rattle.mach_model.specs.Turns.{Begun, Ending, owed_in, went_in, listed, is_judged, IsFound, AreJudged, PaidForName, IsReached, lives_after, Dooms, turns, IsWaiting}
+use Rattle.mach_model.specs.Work.{number}
 use Rattle.mach_model.proofs.Names.{left_of, count_le, count_some}
 use Rattle.mach_model.proofs.Settling.{is_at, own_test, place_refl, lives}
 use Rattle.mach_model.proofs.SettledReceives.{or_left, or_right, of_kind, place_is, two_le, none_pass, none_paid, is_port_sent, tally-map, tally-append, tally-filter, posted_receives, owed_brings, owed_none, at_place, less as less_than}
@@ -43,6 +44,7 @@ use Rattle.destroy.specs.Between.{Between, HasLost}
 use Rattle.destroy.proofs.JudgeReached.{judging, are_found, dooms_judging}
 use Rattle.destroy.specs.Judging.{HasSent, HasLeft, IsJudging, GoesTo, DoomsPort, NoneSaved, Emptying, Empties, can_be_doomed, is_undoomed, remaining}
 use Rattle.destroy.specs.Stages.{IsStarted, IsJudged, IsAt, Continues, SameSlots}
+use Rattle.destroy.proofs.Counting.{count_none, count_joined}
 use Rattle.destroy.proofs.EndSteps.{was_emptied}
 
 -- ---- What is true between turns of the receive right of a port that isn't judged yet: it is where it was after the step's own part.
@@ -657,12 +659,12 @@ module _ (w : WorldView) (p : ℕ) (lost : IsHeldBy w.ports p holder.Nobody) (no
     }
 
   -- once it is empty
-  pub dooms_continues : (n : ℕ) (w2 : WorldView) → Empties w1 p n w2 → NoneQueued w2.ports p → (m : ℕ) → m ≡ (n + 1) % 2 ^ 64 → Continues IsStarted IsStarted w m w2
+  pub dooms_continues : (n : ℕ) (w2 : WorldView) → Empties w1 p n w2 → NoneQueued w2.ports p → (m : ℕ) → m ≡ min (n + 1) (2 ^ 64 - 1) → Continues IsStarted IsStarted w m w2
   dooms_continues n w2 empties none m is now tables old mid owed e b started =
       let r = empties now tables old mid owed (f now tables old mid owed e w b p d.v d.there nobody nowhere) (doomed_emptying now tables old mid owed e b started) in (
         r.0,
         r.1.between,
-        (let c = r.2 in omega (arith, c, is)),
+        (r.2.0 + 1, (let c = r.2.1 in omega (arith, c)), (let c = r.2.2 in omega (arith, c, is))),
         slots r.0 r.3,
         λ q v there held_by. elim (eqb_tells q p) [
           | inl same ↦ no_message v.queue (none v (subst (λ (x : ℕ). port_at w2 x ≡ Some v) same.1 there))
@@ -683,13 +685,13 @@ module _ (w : WorldView) (p : ℕ) (lost : IsHeldBy w.ports p holder.Nobody) (no
 -- ---- several
 
 pub continues_none : (w : WorldView) → Continues IsStarted IsStarted w 0 w
-continues_none w now tables old mid owed e b s = (e, b, (let same : e.turns ≡ e.turns + 0 = omega arith in ap (λ (n : ℕ). n % 2 ^ 64) same), refl, s)
+continues_none w now tables old mid owed e b s = (e, b, count_none e.turns, refl, s)
 
-pub continues_more : (w v u : WorldView) (n m : ℕ) → Continues IsStarted IsStarted w n v → Continues IsStarted IsStarted v m u → (t : ℕ) → t ≡ (n + m) % 2 ^ 64 → Continues IsStarted IsStarted w t u
+pub continues_more : (w v u : WorldView) (n m : ℕ) → Continues IsStarted IsStarted w n v → Continues IsStarted IsStarted v m u → (t : ℕ) → t ≡ min (n + m) (2 ^ 64 - 1) → Continues IsStarted IsStarted w t u
 continues_more w v u n m a b t is now tables old mid owed e h s =
     let x = a now tables old mid owed e h s in
     let y = b now tables old mid owed x.0 x.1 x.4 in
-    (y.0, y.1, (let c = x.2 in let d = y.2 in omega (arith, c, d, is)), (let c = x.3 in let d = y.3 in omega (arith, c, d)), y.4)
+    (y.0, y.1, count_joined e.turns x.0.turns y.0.turns n m t x.2 y.2 is, (let c = x.3 in let d = y.3 in omega (arith, c, d)), y.4)
 
 pub still_at : (w v : WorldView) (n : ℕ) → IsAt IsStarted w → Continues IsStarted IsStarted w n v → IsAt IsStarted v
 still_at w v n a c =

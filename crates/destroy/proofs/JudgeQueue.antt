@@ -1,6 +1,6 @@
 -- What waits at a doomed port is destroyed, message by message.
-use Rattle.std.proofs.Common.{◌≡◌, ℕ, zero, suc, ◌+◌, ◌<◌, List, [], ◌∷◌, ◌++◌, Some, None, refl, sym, ap, subst, ◌∙◌, arith, true, false, Bool, inl, inr, length, ◌≤◌, Option, ◌⊎◌, drop, ◌-◌, ◌%◌, ◌^◌}
-use Rattle.std.specs.Prelude.{if◌then◌else◌, All, ◌&&◌, ◌==◌, filter, slice_get, map as list_map, Contains, not, is_some, ◌↔◌, ◌≢◌}
+use Rattle.std.proofs.Common.{◌≡◌, ℕ, zero, suc, ◌+◌, ◌<◌, List, [], ◌∷◌, ◌++◌, Some, None, refl, sym, ap, subst, ◌∙◌, arith, true, false, Bool, inl, inr, length, ◌≤◌, Option, ◌⊎◌, drop, ◌-◌, ◌^◌}
+use Rattle.std.specs.Prelude.{if◌then◌else◌, All, ◌&&◌, ◌==◌, filter, slice_get, map as list_map, Contains, not, is_some, ◌↔◌, ◌≢◌, min}
 use Rattle.std.proofs.lemmas.Bool.{eqb-true, eq-eqb, ne_eqb}
 use Rattle.std.proofs.lemmas.List.Elements.{All-cons, All-head, All-tail, All-map, All-append}
 use Rattle.std.specs.FinMap as map
@@ -16,7 +16,8 @@ use Rattle.mach_model.specs.Carried.{lying, message_count}
 use Rattle.mach_model.specs.Death.{LiesAt, same_place}
 use Rattle.mach_model.specs.Lawful.{tally}
 use Rattle.mach_model.specs.Notices.{Notice, port_deleted, port_sent, no_more_senders, right_unused, name_died, Owed, notice_message, Posted, posted_tokens, all_posted_tokens, carried_by}
-use Rattle.mach_model.specs.Turns.{Begun, Ending, owed_in, went_in, listed, PaidForName, IsWaiting, is_judged, lives_after, turns, number}
+use Rattle.mach_model.specs.Turns.{Begun, Ending, owed_in, went_in, listed, PaidForName, IsWaiting, is_judged, lives_after, turns}
+use Rattle.mach_model.specs.Work.{number}
 use Rattle.mach_model.proofs.Names.{slice_get_drop, weigh-append, at_own, at_other, left_of, count_le}
 use Rattle.mach_model.proofs.Settling.{is_at, lives}
 use Rattle.mach_model.proofs.SettledReceives.{or_left, is_port_sent, BringsNone, tally-map, tally-append, owed_brings, less as less_than}
@@ -43,6 +44,7 @@ use Rattle.destroy.specs.Between.{Between, HasLost}
 use Rattle.destroy.proofs.JudgeDoomed.{tally_none, sound, tasked_unjudged, one_place, lies_mid, mid_lies, there_mid, live_there}
 use Rattle.destroy.proofs.LoseCounts.{front_or_behind, left_within}
 use Rattle.destroy.specs.Judging.{HasSent, IsJudging, receive_right, CarriesAmong, LosesAt, NoneSaved, LosesAmong, DestroysNext, last_destroyed, Empties, can_be_doomed, is_undoomed, remaining, queued_at}
+use Rattle.destroy.proofs.Counting.{count_none, count_one, count_joined}
 use Rattle.destroy.proofs.JudgeReached.{destroys_judging}
 use Rattle.destroy.proofs.JudgeCarried.{counted_carries, carries_counted}
 
@@ -760,7 +762,7 @@ module _ (w : WorldView) (p : ℕ) (w1 : WorldView) (d : DestroysNext w p w1) wh
         unsaved = m.unsaved;
         others = λ q v is held_by differs. undisturbed q v is held_by differs (CarriesAmong first (length first.rights)) (each q) (λ u found. m.others q u found);
       },
-      refl,
+      count_one e.turns _ refl,
       (let a : w2.ports.spare ≡ w.ports.spare = ap (λ (x : WorldView). x.ports.spare) w2_is in
           let c : length w2.ports.destroyed ≡ length (w.ports.destroyed ++ first ∷ []) = ap (λ (x : WorldView). length x.ports.destroyed) w2_is in
           let g = length-append w.ports.destroyed (first ∷ []) in
@@ -770,10 +772,10 @@ module _ (w : WorldView) (p : ℕ) (w1 : WorldView) (d : DestroysNext w p w1) wh
 -- ---- several
 
 pub empties_none : (w : WorldView) (p : ℕ) → Empties w p 0 w
-empties_none w p now tables old mid owed e m = (e, m, (let same : e.turns ≡ e.turns + 0 = omega arith in ap (λ (n : ℕ). n % 2 ^ 64) same), refl)
+empties_none w p now tables old mid owed e m = (e, m, count_none e.turns, refl)
 
-pub empties_more : (w v u : WorldView) (p n : ℕ) → Empties w p n v → Empties v p 1 u → (m : ℕ) → m ≡ (n + 1) % 2 ^ 64 → Empties w p m u
+pub empties_more : (w v u : WorldView) (p n : ℕ) → Empties w p n v → Empties v p 1 u → (m : ℕ) → m ≡ min (n + 1) (2 ^ 64 - 1) → Empties w p m u
 empties_more w v u p n a b m is now tables old mid owed e h =
     let x = a now tables old mid owed e h in
     let y = b now tables old mid owed x.0 x.1 in
-    (y.0, y.1, (let c = x.2 in let d = y.2 in omega (arith, c, d, is)), (let c = x.3 in let d = y.3 in omega (arith, c, d)))
+    (y.0, y.1, count_joined e.turns x.0.turns y.0.turns n 1 m x.2 y.2 is, (let c = x.3 in let d = y.3 in omega (arith, c, d)))

@@ -15,7 +15,8 @@ use Rattle.mach_model.specs.State.{State, at, request_at}
 use Rattle.mach_model.specs.Death.{same_place, IsOrphan, LiesAt}
 use Rattle.mach_model.specs.Carried.{lying_among}
 use Rattle.mach_model.specs.Settles.{tokens_of}
-use Rattle.mach_model.specs.Turns.{Ending, number, listed, is_judged, lives_after, turns}
+use Rattle.mach_model.specs.Turns.{Ending, listed, is_judged, lives_after, turns}
+use Rattle.mach_model.specs.Work.{number}
 use Rattle.mach_model.proofs.SettledReceives.{at_place, of_kind, none_pass, none_paid, or_left, and_false}
 use Rattle.mach_model.proofs.TurnsSettle.{weaker}
 use Rattle.mach_model.proofs.Names.{left_of, at_own, at_other}

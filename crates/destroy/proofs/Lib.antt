@@ -21,3 +21,4 @@ pub mod JudgeDoomed
 pub mod JudgeQueue
 pub mod JudgeSent
 pub mod Rooms
+pub mod Counting

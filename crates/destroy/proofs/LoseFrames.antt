@@ -167,12 +167,12 @@ module _ (s s2 : State) (destroyed : List (ℕ × ℕ)) (same : SameReceives s.l
 -- ---- a notice is posted
 
 module _ (now : ℕ) (mid : State) (e : Ending) (s : State) (so : IsSoFar now mid e s) (p : ℕ) (alive : s.live_port p ≡ true) (place : Place) (n : MachineNotice) (none : (at : Place) → carried_by n at ≡ [])
-    (left2 : List Token) (told2 : List ℕ) (ended2 : List Request) (turns2 : ℕ) (tokens : List Token) (stands : Request → Bool) where
+    (left2 : List Token) (told2 : List ℕ) (turns2 : ℕ) (tokens : List Token) (stands : Request → Bool) where
   abbrev x : Token
   x = token send_once p place
 
   abbrev pub paid_for : Ending
-  paid_for = record e { told = told2; ended = ended2; left = left2; paid = e.paid ++ (x, n) ∷ []; turns = turns2 }
+  paid_for = record e { told = told2; left = left2; paid = e.paid ++ (x, n) ∷ []; turns = turns2 }
 
   abbrev own : Entry
   own = record { origin = now; message = notice_message p n }
@@ -237,9 +237,9 @@ module _ (now : ℕ) (tables : WorldView) (old mid : State) (owed : Owed) (e : E
     (had_senders : HadSenders old mid) (emptied : (q k : ℕ) → listed e.buried q ≡ true → IsWaiting mid e (q, k) → Contains e.destroyed (q, k))
     (p : ℕ) (v : PortView Kept) (there : port_at w p ≡ Some v) (notice : Notice) (alive : lives_after mid e p ≡ true) (paid : 0 < (counts_of w.ledger p).send_once)
     (bare : (q : ℕ) → ¬ (CarriesReceive (notice_kept notice) q)) (none : (at : Place) → carried_by (notice_of notice) at ≡ [])
-    (place : Place) (left2 : List Token) (told2 : List ℕ) (ended2 : List Request) (turns2 : ℕ) where
+    (place : Place) (left2 : List Token) (told2 : List ℕ) (turns2 : ℕ) where
   abbrev pub f : Ending
-  f = record e { told = told2; ended = ended2; left = left2; paid = e.paid ++ (token send_once p place, notice_of notice) ∷ []; turns = turns2 }
+  f = record e { told = told2; left = left2; paid = e.paid ++ (token send_once p place, notice_of notice) ∷ []; turns = turns2 }
 
   there_is : s.live_port p ≡ true
   there_is = so.live_port p ∙ alone_lives old mid owed e reached p alive
@@ -268,8 +268,8 @@ module _ (now : ℕ) (tables : WorldView) (old mid : State) (owed : Owed) (e : E
     record {
       lawful = lawful;
       reached = turns e f reached turn;
-      state = noticed now mid e s so p there_is place (notice_of notice) none left2 told2 ended2 turns2 tokens stands;
-      so_far = noticed_so_far now mid e s so p there_is place (notice_of notice) none left2 told2 ended2 turns2 tokens stands parts moved stood;
+      state = noticed now mid e s so p there_is place (notice_of notice) none left2 told2 turns2 tokens stands;
+      so_far = noticed_so_far now mid e s so p there_is place (notice_of notice) none left2 told2 turns2 tokens stands parts moved stood;
       agrees = posted_agrees (lives_after mid e) w (record s { ledger = tokens; stands = stands }) agrees p v there notice now within alive paid;
       holders = holders_stay s (record s { ledger = tokens }) e.destroyed (same_receives moved) w _ shape holders;
       slots = slots_posted w p notice _ slots (record { v = v; there = there; rest = refl });

@@ -1,6 +1,6 @@
 -- A destroyed message is taken out, with all its rights to be lost; and when they are, its place has none for a port that lives.
 use Rattle.std.proofs.Common.{◌≡◌, ℕ, zero, suc, ◌+◌, ◌-◌, ◌<◌, List, [], ◌∷◌, ◌++◌, Option, Some, None, refl, sym, ap, subst, ◌∙◌, arith, true, false, Bool, ◌⊎◌, inl, inr, length, get_or, drop}
-use Rattle.std.specs.Prelude.{◌≢◌, ◌%◌, ◌^◌, if◌then◌else◌, ◌==◌, ◌&&◌, not, reverse, slice_get, filter, map as list_map, All, Contains, IfSome, IfNone}
+use Rattle.std.specs.Prelude.{◌≢◌, ◌^◌, if◌then◌else◌, ◌==◌, ◌&&◌, not, reverse, slice_get, filter, map as list_map, All, Contains, IfSome, IfNone, min}
 use Rattle.std.proofs.lemmas.Bool.{ne_eqb, false_from_ne_true}
 use Rattle.std.proofs.lemmas.List.{append-nil, append_assoc}
 use Rattle.std.proofs.lemmas.List.Elements.{All-cons}
@@ -29,6 +29,7 @@ use Rattle.destroy.specs.Between.{Between}
 use Rattle.destroy.specs.Losing.{Loose, Amid, IsLosing, LosesTo, rights_of, carried_in, without_first}
 use Rattle.destroy.specs.Paying.{LivesIn}
 use Rattle.destroy.specs.Stages.{IsJudged, AreLost, IsAt, Continues, IsCount, SameSlots}
+use Rattle.destroy.proofs.Counting.{count_none, count_joined}
 use Rattle.destroy.proofs.LoseRights.{own_doomed, last_reversed, reversed, loose_of, loose_noted, between_of, live_mid, undoomed, lives_there}
 use Rattle.destroy.proofs.LoseCounts.{left_within, front_or_behind, went_none}
 
@@ -278,14 +279,14 @@ module _ (old : WorldView) (turns : ℕ) (w0 : WorldView) (so_far : Continues Is
         amid = begins at.now at.tables at.old at.mid at.owed r.0 w0 r.1 r.4 msg first;
       }
 
-  pub lost_next : (number : ℕ) (new : WorldView) → LosesTo (carried_in msg) [] (without_first w0) number new → Continues IsJudged IsJudged old ((turns + number) % 2 ^ 64) new
-  lost_next number new loses now tables s mid owed e b stage =
+  pub lost_next : (number : ℕ) (new : WorldView) → LosesTo (carried_in msg) [] (without_first w0) number new → (sum : ℕ) → sum ≡ min (turns + number) (2 ^ 64 - 1) → Continues IsJudged IsJudged old sum new
+  lost_next number new loses sum sum_is now tables s mid owed e b stage =
       let r = so_far now tables s mid owed e b stage in
       let g = loses now tables s mid owed r.0 (found now tables s mid owed r.0 w0 r.1 r.4 msg first).m [] (begins now tables s mid owed r.0 w0 r.1 r.4 msg first) in
       let long = one_less w0.ports.destroyed first in (
         g.0,
         ends now tables s mid owed g.0 (found now tables s mid owed r.0 w0 r.1 r.4 msg first).m new g.1,
-        (let x = r.2 in let y = g.2 in omega (arith, x, y)),
+        count_joined e.turns r.0.turns g.0.turns turns number sum r.2 g.2 sum_is,
         (let x = r.3 in let y = g.3 in omega (arith, x, y, long)),
         g.1.stage,
       )
@@ -295,7 +296,7 @@ module _ (old : WorldView) (turns : ℕ) (w0 : WorldView) (so_far : Continues Is
       one_less (x ∷ ms) h = omega arith
 
 pub none_lost : (w : WorldView) → Continues IsJudged IsJudged w 0 w
-none_lost w now tables old mid owed e b stage = (e, b, omega arith, refl, stage)
+none_lost w now tables old mid owed e b stage = (e, b, count_none e.turns, refl, stage)
 
 none_first : (ms : List Kept) → slice_get ms 0 ≡ None → ms ≡ []
 none_first [] e = refl
@@ -306,7 +307,7 @@ pub all_lost : (old : WorldView) (turns : ℕ) (w0 new : WorldView) (taken : Opt
 all_lost old turns w0 new taken so_far first none same now tables s mid owed e b stage =
     let is : new ≡ w0 = subst (λ (o : Option Kept). IfNone o (new ≡ w0)) none same in
     let r = so_far now tables s mid owed e b stage in
-    subst (λ (u : WorldView). (f : Ending) × Between now tables s mid owed f u × IsCount f.turns (e.turns + turns) × SameSlots e old f u × AreLost mid f u) (sym is)
+    subst (λ (u : WorldView). (f : Ending) × Between now tables s mid owed f u × IsCount e.turns f.turns turns × SameSlots e old f u × AreLost mid f u) (sym is)
     (r.0, r.1, r.2, r.3, record { judged = r.4; none_destroyed = none_first w0.ports.destroyed (sym first ∙ none) })
 
 -- ---- as the loop has it
@@ -322,7 +323,7 @@ module _ (w0 out : WorldView) (taken : Option Kept) (msg : Kept) (first : taken 
   pub loop_losing : IsAt IsJudged old → IsLosing (carried_in msg) out
   loop_losing at = subst (λ (u : WorldView). IsLosing (carried_in msg) u) (sym is_out) (loses_next old turns w0 so_far msg is_first at)
 
-  pub loop_next : (number : ℕ) (new : WorldView) → LosesTo (carried_in msg) [] out number new → Continues IsJudged IsJudged old ((turns + number) % 2 ^ 64) new
+  pub loop_next : (number : ℕ) (new : WorldView) → LosesTo (carried_in msg) [] out number new → (sum : ℕ) → sum ≡ min (turns + number) (2 ^ 64 - 1) → Continues IsJudged IsJudged old sum new
   loop_next number new loses = lost_next old turns w0 so_far msg is_first number new (subst (λ (u : WorldView). LosesTo (carried_in msg) [] u number new) is_out loses)
 
   pub loop_fewer : IsAt IsJudged old → (number : ℕ) (new : WorldView) → LosesTo (carried_in msg) [] out number new → length new.ports.destroyed < length w0.ports.destroyed

@@ -1,6 +1,6 @@
 -- The rights of a destroyed message are lost one after the other.
 use Rattle.std.proofs.Common.{◌≡◌, ℕ, ◌<◌, ◌≤◌, List, [], ◌∷◌, ◌++◌, Option, Some, None, refl, sym, ap, subst, ◌∙◌, true, false, Bool, inl, inr, get_or, zero, suc, ◌+◌, ◌-◌, arith, length, ◌⊎◌, length-append, drop}
-use Rattle.std.specs.Prelude.{◌≢◌, ◌&&◌, not, is_some, slice_get, All, Contains, if◌then◌else◌, ◌==◌, reverse, filter, ◌%◌, ◌^◌}
+use Rattle.std.specs.Prelude.{◌≢◌, ◌&&◌, not, is_some, slice_get, All, Contains, if◌then◌else◌, ◌==◌, reverse, filter, ◌^◌, min}
 use Rattle.std.proofs.lemmas.Bool.Decides.{eqb_tells}
 use Rattle.std.proofs.lemmas.List.Elements.{Contains-append_right, Contains-append_left}
 use Rattle.std.specs.Option.{option_map}
@@ -50,10 +50,11 @@ use Rattle.notifications.proofs.NoticePosted.{pays_from, filter_weigh}
 use Rattle.notifications.specs.Posting.{CanPost}
 use Rattle.destroy.specs.Between.{Between, IsUnlost}
 use Rattle.destroy.specs.Paying.{LivesIn}
-use Rattle.destroy.specs.Stages.{IsEmptied, SameSlots}
+use Rattle.destroy.specs.Stages.{IsEmptied, SameSlots, IsCount}
 use Rattle.destroy.proofs.LoseCounts.{alone_lives, left_within, can_pay}
 use Rattle.destroy.proofs.LoseFrames.{same_ports, framed_stays, SameShape, with_notice, Goes, SameReceives, holders_stay, rekept, loose_posted}
 use Rattle.destroy.specs.Losing.{Loose, Amid, CanLoseOf, CanLoseMark, CanLose, without_send, IsLosing, LosesOf, LosesMark, LosesRight, LosesTo, carried_in, rights_of}
+use Rattle.destroy.proofs.Counting.{count_none, count_one, count_joined}
 
 -- ---- What is so between turns: which ports live in the tables, which messages wait, and what a turn keeps of both.
 
@@ -303,7 +304,7 @@ module _ (now : ℕ) (tables : WorldView) (old mid : State) (owed : Owed) (e : E
     once_loose = loose_posted now tables old mid owed e l2.lawful l2.reached l2.state l2.so_far w tokens l2.state.stands
         (rekept (lives_after mid e) w l2.state w.requests tokens l2.state.stands l2.agrees (pays_from (lives_after mid e) w l2.state l2.agrees p m.0 m.1 (length (l2.state.log p)) tokens (λ h. let b = moved h in omega (arith, b))))
         l2.holders l2.slots l2.framed l2.senders l2.receivers l2.had_senders l2.emptied p v there SendOnce alive paid (λ q c. none_listed [] refl _ c) (λ at. refl)
-        (in_message m.0 m.1) (without x e.left) e.told e.ended (e.turns + 1) once_parts moved l2.so_far.stands (inr (inr (inr (inl once_turn))))
+        (in_message m.0 m.1) (without x e.left) e.told (e.turns + 1) once_parts moved l2.so_far.stands (inr (inr (inr (inl once_turn))))
 
   -- ---- the turn of a send right: it goes
 
@@ -447,7 +448,7 @@ module _ (now : ℕ) (tables : WorldView) (old mid : State) (owed : Owed) (e : E
   place_steps = in_message m.0 m.1
 
   abbrev pub Stepped : ℕ → WorldView → Type 0
-  Stepped so_many v = (f : Ending) × Amid now tables old mid owed f m rest v × (f.turns ≡ e.turns + so_many) × SameSlots e w f v
+  Stepped so_many v = (f : Ending) × Amid now tables old mid owed f m rest v × IsCount e.turns f.turns so_many × SameSlots e w f v
 
   -- the mark is of no right that was there
   pub unmarked : ((k2 : Kind) (q : ℕ) → k2 ≢ receive → lives_after mid e q ≡ true → mark_count k2 q kind (mark_of c.mark) ≡ 0) → Stepped 0 w
@@ -466,7 +467,7 @@ module _ (now : ℕ) (tables : WorldView) (old mid : State) (owed : Owed) (e : E
       unlost = a.unlost;
       there = λ k2 q other alive. let b = a.there k2 q other alive in let d = none k2 q other alive in omega (arith, b, d);
     },
-    omega arith,
+    count_none e.turns,
     refl,
   )
 
@@ -539,7 +540,7 @@ module _ (now : ℕ) (tables : WorldView) (old mid : State) (owed : Owed) (e : E
             unlost = unlost_f;
             there = there_f;
           },
-          refl,
+          count_one e.turns _ refl,
           refl,
         )
           where
@@ -606,7 +607,7 @@ module _ (now : ℕ) (tables : WorldView) (old mid : State) (owed : Owed) (e : E
           unlost = unlost_2;
           there = there_2;
         },
-        refl,
+        count_one e.turns _ refl,
         (let b = spare in let d = length-append e.paid ((x_steps, right_unused) ∷ []) in omega (arith, b, d)),
       )
 
@@ -639,14 +640,14 @@ right_keeps : (c : Carried) (w : WorldView) (so_many : ℕ) (v : WorldView) → 
 right_keeps c w so_many v loses = grind arith
 
 pub loses_none : (rights : List Carried) (w : WorldView) → LosesTo rights rights w 0 w
-loses_none rights w now tables old mid owed e m rest a = (e, a, omega arith, refl, refl)
+loses_none rights w now tables old mid owed e m rest a = (e, a, count_none e.turns, refl, refl)
 
 pub loses_one : (rights left : List Carried) (c : Carried) (w0 : WorldView) (so_many : ℕ) (w : WorldView) (number : ℕ) (v : WorldView) → LosesTo rights (c ∷ left) w0 so_many w → LosesRight w c number v →
-    LosesTo rights left w0 ((so_many + number) % 2 ^ 64) v
-loses_one rights left c w0 so_many w number v so_far is now tables old mid owed e m rest a =
+    (sum : ℕ) → sum ≡ min (so_many + number) (2 ^ 64 - 1) → LosesTo rights left w0 sum v
+loses_one rights left c w0 so_many w number v so_far is sum sum_is now tables old mid owed e m rest a =
     let r = so_far now tables old mid owed e m rest a in
     let g = step now tables old mid owed r.0 m c (left ++ rest) w r.1 number v is in
-    (g.0, g.1, (let x_steps = r.2 in let y = g.2 in omega (arith, x_steps, y)), (let x_steps = r.3 in let y = g.3 in omega (arith, x_steps, y)), right_keeps c w number v is ∙ r.4)
+    (g.0, g.1, count_joined e.turns r.0.turns g.0.turns so_many number sum r.2 g.2 sum_is, (let x_steps = r.3 in let y = g.3 in omega (arith, x_steps, y)), right_keeps c w number v is ∙ r.4)
 
 pub loses_single : (c : Carried) (w : WorldView) (number : ℕ) (v : WorldView) → LosesRight w c number v → LosesTo (c ∷ []) [] w number v
 loses_single c w number v is now tables old mid owed e m rest a = grind (arith, step now tables old mid owed e m c rest w a number v is)
@@ -688,11 +689,11 @@ losing_back front back w so_many u is loses =
       amid = r.1;
     }
 
-pub loses_both : (front back : List Carried) (w : WorldView) (so_many : ℕ) (u : WorldView) (more : ℕ) (v : WorldView) → LosesTo front [] w so_many u → LosesTo back [] u more v → LosesTo (front ++ back) [] w ((so_many + more) % 2 ^ 64) v
-loses_both front back w so_many u more v one two now tables old mid owed e m rest a =
+pub loses_both : (front back : List Carried) (w : WorldView) (so_many : ℕ) (u : WorldView) (more : ℕ) (v : WorldView) → LosesTo front [] w so_many u → LosesTo back [] u more v → (sum : ℕ) → sum ≡ min (so_many + more) (2 ^ 64 - 1) → LosesTo (front ++ back) [] w sum v
+loses_both front back w so_many u more v one two sum sum_is now tables old mid owed e m rest a =
     let r = one now tables old mid owed e m (back ++ rest) (subst (λ (cs : List Carried). Amid now tables old mid owed e m cs w) (append_assoc front back rest) a) in
     let g = two now tables old mid owed r.0 m rest r.1 in
-    (g.0, g.1, (let x_steps = r.2 in let y = g.2 in omega (arith, x_steps, y)), (let x_steps = r.3 in let y = g.3 in omega (arith, x_steps, y)), g.4 ∙ r.4)
+    (g.0, g.1, count_joined e.turns r.0.turns g.0.turns so_many more sum r.2 g.2 sum_is, (let x_steps = r.3 in let y = g.3 in omega (arith, x_steps, y)), g.4 ∙ r.4)
 
 receive_unmarked : (k2 : Kind) (q port : ℕ) → k2 ≢ receive → mark_count k2 q receive (to_port port) ≡ 0
 receive_unmarked receive q port other = absurd (other refl)
@@ -704,7 +705,7 @@ pub loses_told : (n : Notice) (w : WorldView) → LosesTo (carried_in (notice_ke
 loses_told (PortDeleted name) w = loses_none [] w
 loses_told (PortDestroyed port) w = λ now tables old mid owed e m rest a.
     let g = unmarked now tables old mid owed e m (record { given = MoveReceive; mark = mark.Port port }) rest w a (λ k2 q other living. receive_unmarked k2 q port other) in
-    (g.0, g.1, (let y = g.2 in omega (arith, y)), g.3, refl)
+    (g.0, g.1, g.2, g.3, refl)
 loses_told (NoSenders number) w = loses_none [] w
 loses_told SendOnce w = loses_none [] w
 loses_told (DeadName name) w = loses_none [] w

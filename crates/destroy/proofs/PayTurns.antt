@@ -12,7 +12,7 @@ use Rattle.mach_model.specs.State.{State, at, queue, held, Holds, Target, lookup
 use Rattle.mach_model.specs.Notices.{Notice, Owed, Posted, notice_message, all_posted_tokens, port_deleted, carried_by}
 use Rattle.mach_model.specs.Settles.{due_notices, tokens_of}
 use Rattle.mach_model.specs.Midway.{MidLawful, IsOwed}
-use Rattle.mach_model.specs.Turns.{Begun, Ending, owed_in, went_in, lives_after, is_judged, PaidForName, IsOnGone, IsReached, begins}
+use Rattle.mach_model.specs.Turns.{Begun, Ending, owed_in, went_in, lives_after, is_judged, PaidForName, IsOnGone, IsReached, begins, Begins}
 use Rattle.mach_model.proofs.Names.{at_same, at_other, weigh-append, same_naming, length-weigh, both_test, slice_get_drop, count_some, lying_le_of}
 use Rattle.mach_model.proofs.TurnsMade.{start, without, without_weigh}
 use Rattle.mach_model.specs.Death.{same_place, IsOrphan, LiesAt, Dies, orphan, carried_at}
@@ -547,14 +547,17 @@ module _ (now : ℕ) (tables : WorldView) (old mid : State) (owed : Owed) (shown
     not_gone (in_request (port_destroyed p)) at h = h
     not_gone (in_request (dead_name task name)) at h = not_at (dead_name task name) at h
 
-  reached : IsReached old mid owed e
-  reached = begins e record {
+  pub has_begun : Begins mid owed e
+  has_begun = record {
     owes = owed_begun owed paid;
     went = subst (λ (xs : Owed). All (PaidForName mid) xs) (sym (went_begun owed paid)) s.went;
     rights = λ h. let a = s.rights h in let b = ap (λ (xs : Owed). weigh h (tokens_of xs)) (went_begun owed paid) in omega (arith, a, b);
     all_went = λ k d below. not_gone k d below (get_or left k d).place refl;
     rest = refl;
   }
+
+  reached : IsReached old mid owed e
+  reached = begins e has_begun
 
   -- ---- send rights in messages of ports that die
 
@@ -710,7 +713,7 @@ pays_all w v on none now tables old mid owed shown shows =
     let (left_pays, paid_pays, s_pays) = on now tables mid owed shows in (
       e now tables old mid owed shown w v shows left_pays paid_pays s_pays none,
       starts now tables old mid owed shown w v shows left_pays paid_pays s_pays none,
-      refl,
+      has_begun now tables old mid owed shown w v shows left_pays paid_pays s_pays none,
       (let a = ap length (went_begun owed paid_pays) in let b = s_pays.spare in omega (arith, a, b)),
       s_pays.shows.left.destroyed,
       emptied now tables old mid owed shown w v shows left_pays paid_pays s_pays none,

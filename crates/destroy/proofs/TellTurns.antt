@@ -1,6 +1,6 @@
 -- Ports that lost their last sender are told of.
-use Rattle.std.proofs.Common.{◌≡◌, ℕ, zero, suc, ◌+◌, ◌<◌, List, [], Option, Some, None, refl, sym, ap, subst, ◌∙◌, arith, true, false, Bool, inl, inr, get_or, ◌∷◌, ◌++◌, length, ◌≤◌, ◌⊎◌, length-append}
-use Rattle.std.specs.Prelude.{if◌then◌else◌, ◌&&◌, ◌||◌, not, is_some, filter, All, IsTrue, ◌≢◌, ◌%◌, ◌^◌, eqb, reverse, slice_get, Contains, IfSome, IfNone}
+use Rattle.std.proofs.Common.{◌≡◌, ℕ, zero, suc, ◌+◌, ◌<◌, List, [], Option, Some, None, refl, sym, ap, subst, ◌∙◌, arith, true, false, Bool, inl, inr, get_or, ◌∷◌, ◌++◌, length, ◌≤◌, ◌⊎◌, length-append, ◌-◌}
+use Rattle.std.specs.Prelude.{if◌then◌else◌, ◌&&◌, ◌||◌, not, is_some, filter, All, IsTrue, ◌≢◌, ◌^◌, eqb, reverse, slice_get, Contains, IfSome, IfNone, min}
 use Rattle.std.specs.FinMap as map
 use Rattle.std.proofs.lemmas.Bool.{eq-eqb, false_from_ne_true, ne_eqb}
 use Rattle.std.proofs.lemmas.Bool.Decides.{eqb_tells}
@@ -41,13 +41,14 @@ use Rattle.copyin_base.proofs.SendersNoted.{sends_shifted}
 use Rattle.notifications.specs.SoFar.{buried_alone, posted_so_far, IsSoFar, AgreesOf}
 use Rattle.notifications.proofs.NoticePosted.{filter_weigh, PaysFrom, some_spare}
 use Rattle.destroy.proofs.LoseCounts.{left_within, can_pay}
-use Rattle.destroy.specs.Paying.{LivesIn, Pays}
+use Rattle.destroy.specs.Paying.{LivesIn, Pays, PaysMany}
 use Rattle.destroy.specs.Telling.{without_no_senders, CanTell, TellsOf, taken_out, TellsNoSenders}
 use Rattle.destroy.specs.Between.{IsUnlost, Between}
 use Rattle.destroy.proofs.LoseFrames.{same_ports, framed_stays, kept_has, SameShape, Goes, rekept, loose_posted, with_notice}
 use Rattle.destroy.specs.Losing.{Loose}
 use Rattle.destroy.proofs.LoseRights.{lives_is, lives_there, undoomed, not_emptied, loose_of, loose_noted, between_of, awaits_on, emptied_posted}
 use Rattle.destroy.specs.Stages.{AreLost, AreTold, IsAt, Continues, IsCount, SameSlots}
+use Rattle.destroy.proofs.Counting.{count_none, count_one, count_joined}
 
 -- ---- The right that a request to be told of no senders keeps, and what is left as the request ends.
 
@@ -230,20 +231,19 @@ module _ (old : WorldView) (port : ℕ) where
 
   pub told_one : (mid new : WorldView) (attributes : Attributes) (found : Option ℕ) (notify : ℕ) → LivesIn old port → (0 < (counts_of old.ledger port).send → IsTrue false) → HasAttributes old port attributes →
       found ≡ map.get old.requests.no_senders.map port → found ≡ Some notify → mid ≡ without_no_senders old port → IsUnusedOfAll mid.ledger → CanTell old port →
-      Pays mid notify (NoSenders attributes.make_send) new → TellsOf old port 1 new
-  told_one mid new attributes found notify lives none has is some ended all can pays = inl (
-    refl,
-    record {
-      v = has.v;
-      there = has.there;
-      lives = lives;
-      none = zero_of (λ some. no (none some));
-      notify = notify;
-      asked = sym is ∙ some;
-      spare = λ there. let c = can lives notify (sym is ∙ some) there in some_spare old notify (subst (λ (w : WorldView). IsUnusedOfAll w.ledger) ended all) c.paid c.slots;
-      pays = subst (λ (w : WorldView). Pays w notify (NoSenders has.v.attributes.make_send) new) ended (subst (λ (a : Attributes). Pays mid notify (NoSenders a.make_send) new) (sym has.are) pays);
-    },
-  )
+      Pays mid notify (NoSenders attributes.make_send) new → (number : ℕ) → PaysMany mid notify number → TellsOf old port number new
+  told_one mid new attributes found notify lives none has is some ended all can pays number many = inl
+      record {
+        v = has.v;
+        there = has.there;
+        lives = lives;
+        none = zero_of (λ some. no (none some));
+        notify = notify;
+        asked = sym is ∙ some;
+        spare = λ there. let c = can lives notify (sym is ∙ some) there in some_spare old notify (subst (λ (w : WorldView). IsUnusedOfAll w.ledger) ended all) c.paid c.slots;
+        pays = subst (λ (w : WorldView). Pays w notify (NoSenders has.v.attributes.make_send) new) ended (subst (λ (a : Attributes). Pays mid notify (NoSenders a.make_send) new) (sym has.are) pays);
+        many = subst (λ (w : WorldView). PaysMany w notify number) ended many;
+      }
     where
       no : IsTrue false → ⊥
       no e = cc
@@ -354,7 +354,7 @@ module _ (now : ℕ) (tables : WorldView) (old mid : State) (owed : Owed) (e : E
       own_alive = lives_is now tables old mid owed e w l p own_lives
 
       abbrev pub dead_ending : Ending
-      dead_ending = record e { told = told2; ended = r ∷ e.ended; turns = e.turns + 1 }
+      dead_ending = record e { told = told2; turns = e.turns + 0 }
 
       pub dead_turn : lives_after mid e notify ≡ false → TellsSenderless old mid e dead_ending
       dead_turn dead = record {
@@ -374,7 +374,7 @@ module _ (now : ℕ) (tables : WorldView) (old mid : State) (owed : Owed) (e : E
 
       module _ (alive : lives_after mid e notify ≡ true) where
         abbrev pub paid_ending : Ending
-        paid_ending = record e { told = told2; ended = r ∷ e.ended; left = without (x alive) e.left; paid = e.paid ++ (x alive, no_more_senders n) ∷ []; turns = e.turns + 1 }
+        paid_ending = record e { told = told2; left = without (x alive) e.left; paid = e.paid ++ (x alive, no_more_senders n) ∷ []; turns = e.turns + 1 }
 
         pub parts_left : (h : Token → ℕ) → weigh h e.left ≡ weigh h (without (x alive) e.left) + h (x alive)
         parts_left h = without_weigh (x alive) e.left (there alive) h
@@ -408,7 +408,7 @@ module _ (now : ℕ) (tables : WorldView) (old mid : State) (owed : Owed) (e : E
         -- The notice is posted.
         pub paid_loose : (v : PortView Kept) → port_at w notify ≡ Some v → Goes now tables old mid owed s paid_ending (with_notice w1 notify v (NoSenders n))
         paid_loose v is = loose_posted now tables old mid owed e l.lawful l.reached s l.so_far w1 (tokens alive) (request_at s.stands r false) (agrees_now alive) l.holders l.slots
-            (framed_stays w w1 shape mid e e refl refl refl l.framed) l.senders l.receivers l.had_senders l.emptied notify v is (NoSenders n) alive paid (λ q c. bare q c) (λ at. refl) (in_request r) (without (x alive) e.left) told2 (r ∷ e.ended) (e.turns + 1)
+            (framed_stays w w1 shape mid e e refl refl refl l.framed) l.senders l.receivers l.had_senders l.emptied notify v is (NoSenders n) alive paid (λ q c. bare q c) (λ at. refl) (in_request r) (without (x alive) e.left) told2 (e.turns + 1)
             parts_left (moved alive) stands_now (inr (inr (inr (inr (inr paid_turn)))))
           where
             paid : 0 < (counts_of w.ledger notify).send_once
@@ -523,7 +523,7 @@ module _ (now : ℕ) (tables : WorldView) (old mid : State) (owed : Owed) (e : E
 
   -- ---- it is told
 
-  module _ (new : WorldView) (t : TellsNoSenders w p new) where
+  module _ (new : WorldView) (number : ℕ) (t : TellsNoSenders w p number new) where
     had : 0 < senders old p
     had = let a = b.had p is_noted in let c = b.senders p in omega (arith, a, c)
 
@@ -536,8 +536,8 @@ module _ (now : ℕ) (tables : WorldView) (old mid : State) (owed : Owed) (e : E
     abbrev w1_end : WorldView
     w1_end = without_no_senders w p
 
-    abbrev pub Told : WorldView → Type 0
-    Told u = (f : Ending) × Between now tables old mid owed f u × (f.turns ≡ e.turns + 1) × SameSlots e w f u × AreLost mid f u
+    abbrev pub Told : (number : ℕ) → WorldView → Type 0
+    Told number u = (f : Ending) × Between now tables old mid owed f u × IsCount e.turns f.turns number × SameSlots e w f u × AreLost mid f u
 
     senderless_was : (u : WorldView) → u.requests ≡ w1_end.requests → ((q : ℕ) → (counts_of u.ledger q).send ≡ 0 → (counts_of w0.ledger q).send ≡ 0) → (q : ℕ) → IsSenderless u q → (q ≡ p → ⊥) × IsSenderless w0 q
     senderless_was u requests sends q s = grind (arith, own_ended, get_removed)
@@ -548,24 +548,24 @@ module _ (now : ℕ) (tables : WorldView) (old mid : State) (owed : Owed) (e : E
     emptied : List (ℕ × ℕ)
     emptied = b.tied.waiting.emptied
 
-    told_dead : lives_after mid e t.notify ≡ false → Told w1_end
+    told_dead : lives_after mid e t.notify ≡ false → Told 0 w1_end
     told_dead dead =
         let g = dead_loose now tables old mid owed e w l b.tied.waiting.emptied (reverse b.tied.waiting.waiting) b.tied.waiting.parts b.unlost p t.notify t.asked stage.judged.judged t.lives had t.none n made dead in (
-          record e { told = p ∷ e.told; ended = no_senders p ∷ e.ended; turns = e.turns + 1 },
+          record e { told = p ∷ e.told; turns = e.turns + 0 },
           between_of now tables old mid owed _ w1_end g.0 (awaits_on w0.ports.destroyed e _ b.tied.state g.0.state refl refl (λ h. omega arith) g.1 b.tied.waiting)
               (still_noted w1_end refl (λ q alive s. senderless_was w1_end refl (λ q none. none) q s)) (still_had w1_end refl) b.unlost,
-          refl,
+          (0, refl, omega arith),
           refl,
           record { judged = record { emptied = stage.judged.emptied; judged = stage.judged.judged; none_lost = stage.judged.none_lost }; none_destroyed = stage.none_destroyed },
         )
 
-    told_paid : lives_after mid e t.notify ≡ true → (v : PortView Kept) → port_at w t.notify ≡ Some v → LivesIn w t.notify → Told (with_notice w1_end t.notify v (NoSenders n))
+    told_paid : lives_after mid e t.notify ≡ true → (v : PortView Kept) → port_at w t.notify ≡ Some v → LivesIn w t.notify → Told 1 (with_notice w1_end t.notify v (NoSenders n))
     told_paid alive v there lives =
         let g = paid_loose now tables old mid owed e w l b.tied.waiting.emptied (reverse b.tied.waiting.waiting) b.tied.waiting.parts b.unlost p t.notify t.asked stage.judged.judged t.lives had t.none n made alive v there in (
-          record e { told = p ∷ e.told; ended = no_senders p ∷ e.ended; left = without right e.left; paid = e.paid ++ (right, no_more_senders n) ∷ []; turns = e.turns + 1 },
+          record e { told = p ∷ e.told; left = without right e.left; paid = e.paid ++ (right, no_more_senders n) ∷ []; turns = e.turns + 1 },
           between_of now tables old mid owed _ (with_notice w1_end t.notify v (NoSenders n)) g.0 (awaits_on w0.ports.destroyed e _ b.tied.state g.0.state refl refl fewer g.1 b.tied.waiting)
               (still_noted (with_notice w1_end t.notify v (NoSenders n)) refl (λ q alive s. senderless_was (with_notice w1_end t.notify v (NoSenders n)) refl (sends_shifted w0.ledger t.notify) q s)) (still_had (with_notice w1_end t.notify v (NoSenders n)) refl) unlost,
-          refl,
+          count_one e.turns _ refl,
           (let a = t.spare lives in let c = length-append e.paid ((right, no_more_senders n) ∷ []) in omega (arith, a, c)),
           record {
             judged = record { emptied = emptied_posted w1_end t.notify v (NoSenders n) there undoomed stage.judged.emptied; judged = stage.judged.judged; none_lost = stage.judged.none_lost };
@@ -596,18 +596,22 @@ module _ (now : ℕ) (tables : WorldView) (old mid : State) (owed : Owed) (e : E
                 get (Some y) = y
                 get None = a
 
-    pub told : Told new
+    pub told : Told number new
     told = go (lives_after mid e t.notify) refl
       where
-        go : (c : Bool) → lives_after mid e t.notify ≡ c → Told new
+        go : (c : Bool) → lives_after mid e t.notify ≡ c → Told number new
         go true alive =
             let there = lives_there now tables old mid owed e w l t.notify alive in
-            let posts = t.pays.posts (record { v = there.v; there = there.there; undoomed = there.undoomed }) in
-            subst Told (sym posts.rest) (told_paid alive posts.v posts.there there)
-        go false dead = subst Told (sym (t.pays.stays (λ h. no (sym (lives_is now tables old mid owed e w l t.notify (same_lives h)) ∙ dead)))) (told_dead dead)
+            let lives : LivesIn w1_end t.notify = record { v = there.v; there = there.there; undoomed = there.undoomed } in
+            let posts = t.pays.posts lives in
+            subst (λ (n : ℕ). Told n new) (sym (t.many.0 lives)) (subst (Told 1) (sym posts.rest) (told_paid alive posts.v posts.there there))
+        go false dead = subst (λ (n : ℕ). Told n new) (sym (t.many.1 dies)) (subst (Told 0) (sym (t.pays.stays dies)) (told_dead dead))
           where
             no : true ≡ false → ⊥
             no z = cc
+
+            dies : ¬ (LivesIn w1_end t.notify)
+            dies h = no (sym (lives_is now tables old mid owed e w l t.notify (same_lives h)) ∙ dead)
 
 -- ---- the loop
 
@@ -621,32 +625,32 @@ module _ (old : WorldView) (so_many : ℕ) (w0 : WorldView) (so_far : Continues 
       let r = so_far at.now at.tables at.old at.mid at.owed at.ending at.between at.stage_is in
       may_tell at.now at.tables at.old at.mid at.owed r.0 w0 r.1 r.4 p (first_noted w0.ports.noted p first)
 
-  pub told_next : (number : ℕ) (new : WorldView) → TellsOf (taken_out w0 p) p number new → Continues AreLost AreLost old ((so_many + number) % 2 ^ 64) new
-  told_next number new is now tables s mid owed e b stage = go is
+  pub told_next : (number : ℕ) (new : WorldView) → TellsOf (taken_out w0 p) p number new → (sum : ℕ) → sum ≡ min (so_many + number) (2 ^ 64 - 1) → Continues AreLost AreLost old sum new
+  told_next number new is sum sum_is now tables s mid owed e b stage = go is
     where
-      r : (f : Ending) × Between now tables s mid owed f w0 × IsCount f.turns (e.turns + so_many) × SameSlots e old f w0 × AreLost mid f w0
+      r : (f : Ending) × Between now tables s mid owed f w0 × IsCount e.turns f.turns so_many × SameSlots e old f w0 × AreLost mid f w0
       r = so_far now tables s mid owed e b stage
 
       go : TellsOf (taken_out w0 p) p number new →
-          (f : Ending) × Between now tables s mid owed f new × IsCount f.turns (e.turns + (so_many + number) % 2 ^ 64) × SameSlots e old f new × AreLost mid f new
-      go (inl (one, t)) =
+          (f : Ending) × Between now tables s mid owed f new × IsCount e.turns f.turns sum × SameSlots e old f new × AreLost mid f new
+      go (inl t) =
           let g = told_of t in
-          (g.0, g.1, (let a = r.2 in let c = g.2 in omega (arith, a, c, one)), (let a = r.3 in let c = g.3 in omega (arith, a, c)), g.4)
+          (g.0, g.1, count_joined e.turns r.0.turns g.0.turns so_many number sum r.2 g.2 sum_is, (let a = r.3 in let c = g.3 in omega (arith, a, c)), g.4)
         where
-          told_of : (t : TellsNoSenders (taken_out w0 p) p new) → (f : Ending) × Between now tables s mid owed f new × (f.turns ≡ r.0.turns + 1) × SameSlots r.0 (taken_out w0 p) f new × AreLost mid f new
-          told_of t = told now tables s mid owed r.0 w0 r.1 r.4 p (first_noted w0.ports.noted p first) new t
+          told_of : (t : TellsNoSenders (taken_out w0 p) p number new) → (f : Ending) × Between now tables s mid owed f new × IsCount r.0.turns f.turns number × SameSlots r.0 (taken_out w0 p) f new × AreLost mid f new
+          told_of t = told now tables s mid owed r.0 w0 r.1 r.4 p (first_noted w0.ports.noted p first) new number t
       go (inr (none, same, not)) =
           let g = nothing_told now tables s mid owed r.0 w0 r.1 r.4 p (first_noted w0.ports.noted p first) not in (
             r.0,
             subst (λ (u : WorldView). Between now tables s mid owed r.0 u) (sym same) g.0,
-            (let a = r.2 in omega (arith, a, none)),
+            (r.2.0, r.2.1, (let a = r.2.2 in omega (arith, a, none, sum_is))),
             subst (λ (u : WorldView). SameSlots e old r.0 u) (sym same) r.3,
             subst (λ (u : WorldView). AreLost mid r.0 u) (sym same) g.1,
           )
 
 -- Nothing was told yet, and when no port is noted all is.
 pub none_told : (w : WorldView) → Continues AreLost AreLost w 0 w
-none_told w now tables old mid owed e b stage = (e, b, omega arith, refl, stage)
+none_told w now tables old mid owed e b stage = (e, b, count_none e.turns, refl, stage)
 
 pub all_told : (old : WorldView) (so_many : ℕ) (w : WorldView) → Continues AreLost AreLost old so_many w → w.ports.noted ≡ [] → Continues AreLost AreTold old so_many w
 all_told old so_many w so_far none now tables s mid owed e b stage = grind (arith, so_far now tables s mid owed e b stage)
@@ -687,7 +691,7 @@ lives_or_not w p = go (port_at w p) refl
 -- Telling leaves the noted ports.
 noted_same : (w : WorldView) (p number : ℕ) (new : WorldView) → TellsOf w p number new → new.ports.noted ≡ w.ports.noted
 noted_same w p number new (inr (none, same, not)) = ap (λ (u : WorldView). u.ports.noted) same
-noted_same w p number new (inl (one, t)) = grind (arith, lives_or_not)
+noted_same w p number new (inl t) = grind (arith, lives_or_not)
 
 -- ---- as the loop has it
 
@@ -705,7 +709,7 @@ module _ (w0 taken : WorldView) (found : Option ℕ) (p : ℕ) (first : found �
     pub loop_can : IsAt AreLost old → CanTell taken p
     loop_can at = subst (λ (u : WorldView). CanTell u p) (sym is_out) (tells_next old so_many w0 so_far p is_first at)
 
-    pub loop_next : (number : ℕ) (new : WorldView) → TellsOf taken p number new → Continues AreLost AreLost old ((so_many + number) % 2 ^ 64) new
+    pub loop_next : (number : ℕ) (new : WorldView) → TellsOf taken p number new → (sum : ℕ) → sum ≡ min (so_many + number) (2 ^ 64 - 1) → Continues AreLost AreLost old sum new
     loop_next number new is = told_next old so_many w0 so_far p is_first number new (subst (λ (u : WorldView). TellsOf u p number new) is_out is)
 
 pub loop_done : (old : WorldView) (so_many : ℕ) (w0 new : WorldView) (found : Option ℕ) → Continues AreLost AreLost old so_many w0 → found ≡ slice_get w0.ports.noted 0 → found ≡ None → IfNone found (new ≡ w0) →

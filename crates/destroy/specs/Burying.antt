@@ -105,7 +105,6 @@ pub record CanBury (old mid : State) (owed : Owed) (e : Ending) (port : ℕ) : T
 pub record Burying (now : ℕ) (tables : WorldView) (old mid : State) (owed : Owed) (e : Ending) (port : ℕ) (rs : List Request) (w : WorldView) : Type 0 where
   pub can : CanBury old mid owed e port
   pub ends : All (λ r. (mid.stands r ≡ true) × IsRequestOf mid port r) rs
-  pub once : (r : Request) → tally (same_request r) rs ≤ 1
   pub state : State
   pub so_far : IsPartway now mid e rs state
   pub agrees : AgreesOf (lives_after mid e) w state
@@ -136,10 +135,10 @@ pub record IsBurying (port : ℕ) (w : WorldView) : Type 0 where
 abbrev pub SameSpare : Ending → List Request → WorldView → List Request → WorldView → Type 0
 SameSpare e rs w more v = v.ports.spare + length (partway e more).paid ≡ w.ports.spare + length (partway e rs).paid
 
--- From wherever the burial is, it goes on by so many requests; those that these are have then ended.
+-- From wherever the burial is, it goes on by so many requests whose rights pay; those that these are have then ended.
 abbrev pub GoesOn : (port : ℕ) → (these : Request → Type 0) → WorldView → (turns : ℕ) → WorldView → Type 0
 GoesOn port these w turns v = (now : ℕ) (tables : WorldView) (old mid : State) (owed : Owed) (e : Ending) (rs : List Request) → Burying now tables old mid owed e port rs w →
-    (more : List Request) × Burying now tables old mid owed e port more v × IsCount (length more) (length rs + turns)
+    (more : List Request) × Burying now tables old mid owed e port more v × IsCount (length (partway e rs).paid) (length (partway e more).paid) turns
     × ((r : Request) → Contains rs r → Contains more r) × ((r : Request) → these r → mid.stands r ≡ true → IsRequestOf mid port r → Contains more r) × SameSpare e rs w more v
 
 pub record EndsRequests (port : ℕ) (these : Request → Type 0) (old : WorldView) (turns : ℕ) (new : WorldView) : Type 0 where

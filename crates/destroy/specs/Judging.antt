@@ -6,7 +6,8 @@ use Rattle.mach_types.specs.Tokens.{receive, port_destroyed, in_task, in_message
 use Rattle.mach_model.specs.State.{State}
 use Rattle.mach_model.specs.Death.{LiesAt}
 use Rattle.mach_model.specs.Notices.{Notice, port_sent, Owed}
-use Rattle.mach_model.specs.Turns.{Ending, listed, number}
+use Rattle.mach_model.specs.Turns.{Ending, listed}
+use Rattle.mach_model.specs.Work.{number}
 use Rattle.port.specs.declared.Holder.{Holder}
 use Rattle.port.specs.declared.Holder.TheVariants as holder
 use Rattle.port.specs.Holding.{held, IsHeldBy}
@@ -112,7 +113,7 @@ pub record Emptying (now : ℕ) (tables : WorldView) (old mid : State) (owed : O
 -- From wherever that is so, it is so after so many turns.
 abbrev pub Empties : WorldView → (port turns : ℕ) → WorldView → Type 0
 Empties w port turns v = (now : ℕ) (tables : WorldView) (old mid : State) (owed : Owed) (e : Ending) →
-    Emptying now tables old mid owed e w port → (f : Ending) × Emptying now tables old mid owed f v port × IsCount f.turns (e.turns + turns) × SameSlots e w f v
+    Emptying now tables old mid owed e w port → (f : Ending) × Emptying now tables old mid owed f v port × IsCount e.turns f.turns turns × SameSlots e w f v
 
 -- ---- how much is left
 

@@ -118,7 +118,7 @@ pub record Amid (now : ℕ) (tables : WorldView) (old mid : State) (owed : Owed)
 -- Some of the rights have been lost, and those are left.
 abbrev pub LosesTo : (rights left : List Carried) → WorldView → (turns : ℕ) → WorldView → Type 0
 LosesTo rights left w turns v = (now : ℕ) (tables : WorldView) (old mid : State) (owed : Owed) (e : Ending) (message : ℕ × ℕ) (rest : List Carried) →
-    Amid now tables old mid owed e message (rights ++ rest) w → (f : Ending) × Amid now tables old mid owed f message (left ++ rest) v × IsCount f.turns (e.turns + turns) × SameSlots e w f v × (v.ports.destroyed ≡ w.ports.destroyed)
+    Amid now tables old mid owed e message (rights ++ rest) w → (f : Ending) × Amid now tables old mid owed f message (left ++ rest) v × IsCount e.turns f.turns turns × SameSlots e w f v × (v.ports.destroyed ≡ w.ports.destroyed)
 
 -- These rights are next.
 pub record IsLosing (rights : List Carried) (w : WorldView) : Type 0 where

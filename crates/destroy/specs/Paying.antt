@@ -20,6 +20,10 @@ pub record Pays (old : WorldView) (port : ℕ) (notice : Notice) (new : WorldVie
   pub posts : LivesIn old port → Posts old port notice new
   pub stays : ¬ (LivesIn old port) → new ≡ old
 
+-- So many rights pay: one where the port lives.
+abbrev pub PaysMany : (old : WorldView) (port many : ℕ) → Type 0
+PaysMany old port many = (LivesIn old port → many ≡ 1) × (¬ (LivesIn old port) → many ≡ 0)
+
 -- This request is no longer among those whose names went, of which it was the first.
 pub record TakesWent (old : WorldView) (r : Request) (new : WorldView) : Type 0 where
   pub went : old.requests.names.went ≡ r ∷ new.requests.names.went

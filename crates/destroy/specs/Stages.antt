@@ -1,9 +1,10 @@
 -- How far a step's end is, part by part, and what each part comes to (this project's own).
-use Rattle.std.specs.Prelude.{◌≡◌, ℕ, ◌+◌, ◌%◌, ◌^◌, [], length, Some}
+use Rattle.std.specs.Prelude.{◌≡◌, ℕ, ◌≤◌, ◌+◌, ◌-◌, ◌^◌, min, [], length, Some}
 use Rattle.mach_model.specs.State.{State}
 use Rattle.mach_model.specs.Notices.{Owed}
 use Rattle.mach_model.specs.Settles.{Settles}
-use Rattle.mach_model.specs.Turns.{Ending, IsReached, IsDone, AreJudged, listed, IsBounded, went_in}
+use Rattle.mach_model.specs.Turns.{Ending, IsReached, IsDone, AreJudged, Begins, went_in}
+use Rattle.mach_model.specs.Work.{IsBounded, deaths}
 use Rattle.port.specs.declared.Holder.TheVariants as holder
 use Rattle.port.specs.Ports.{PortView}
 use Rattle.copyin_base.specs.Acts.{ShowsMid}
@@ -56,9 +57,9 @@ pub record IsAt (stage : State → Ending → WorldView → Type 0) (w : WorldVi
   pub between : Between now tables old mid owed ending w
   pub stage_is : stage mid ending w
 
--- The turns are counted in 64 bits.
-abbrev pub IsCount : ℕ → ℕ → Type 0
-IsCount n m = n % 2 ^ 64 ≡ m % 2 ^ 64
+-- It went on from so many turns to so many, and this tells how many more they are: as many as 64 bits hold, where they are more.
+abbrev pub IsCount : (before after told : ℕ) → Type 0
+IsCount before after told = (many : ℕ) × (after ≡ before + many) × (told ≡ min many (2 ^ 64 - 1))
 
 -- No message slot is made or lost: each that is paid for takes a spare one, and one is spare again once a destroyed message was taken out.
 abbrev pub SameSlots : Ending → WorldView → Ending → WorldView → Type 0
@@ -71,7 +72,7 @@ KeepsRooms w v = (task : ℕ) → room_of v task ≡ room_of w task
 -- From wherever the tables are between parts, and so far, they are so after so many turns.
 abbrev pub Continues : (before after : State → Ending → WorldView → Type 0) → WorldView → (turns : ℕ) → WorldView → Type 0
 Continues before after w turns v = (now : ℕ) (tables : WorldView) (old mid : State) (owed : Owed) (e : Ending) →
-    Between now tables old mid owed e w → before mid e w → (f : Ending) × Between now tables old mid owed f v × IsCount f.turns (e.turns + turns) × SameSlots e w f v × after mid f v
+    Between now tables old mid owed e w → before mid e w → (f : Ending) × Between now tables old mid owed f v × IsCount e.turns f.turns turns × SameSlots e w f v × after mid f v
 
 -- A step's own part left the tables so.
 pub record IsMidway (w : WorldView) : Type 0 where
@@ -86,16 +87,17 @@ pub record IsMidway (w : WorldView) : Type 0 where
 -- The first part starts there, and no turn was made yet.
 abbrev pub Starts : WorldView → WorldView → Type 0
 Starts w v = (now : ℕ) (tables : WorldView) (old mid : State) (owed : Owed) → Shows tables old → ShowsMid now tables w mid owed →
-    (e : Ending) × Between now tables old mid owed e v × (e.turns ≡ 0) × (v.ports.spare + length (went_in e.begun) ≡ w.ports.spare) × (v.ports.destroyed ≡ []) × IsEmptied v
+    (e : Ending) × Between now tables old mid owed e v × Begins mid owed e × (v.ports.spare + length (went_in e.begun) ≡ w.ports.spare) × (v.ports.destroyed ≡ []) × IsEmptied v
 
--- A chain of turns with nothing left to do, of as many as this, within the machine's bound; and the message slots: as many as before, of which each notice
--- that was paid for took one.
+-- A chain of turns with nothing left to do, and how many there are, within the machine's bounds; and the message slots: as many as before, of which each
+-- notice that was paid for took one.
 pub record EndsIn (old mid : State) (owed : Owed) (new : State) (w : WorldView) (turns : ℕ) (v : WorldView) : Type 0 where
   pub ending : Ending
   pub reached : IsReached old mid owed ending
   pub done : IsDone old mid ending
-  pub number : IsCount ending.turns turns
-  pub bounded : IsBounded mid new (listed ending.saved) ending
+  pub number : turns ≡ min ending.turns (2 ^ 64 - 1)
+  pub bounded : IsBounded mid owed new ending.turns
+  pub deaths_are : deaths mid new ≤ ending.turns
   pub slots : v.ports.spare + length ending.paid + length (went_in ending.begun) ≡ w.ports.spare + length ending.destroyed
 
 -- From the tables that a step's own part left, its end leads to tables that show a state in which the machine's step ends.

@@ -8,7 +8,7 @@ use Rattle.copyin_base.specs.Changes.{IsSenderless}
 use Rattle.copyin_base.specs.Kept.{Kept}
 use Rattle.copyin_base.specs.Worlds.{WorldView, port_at}
 use Rattle.notifications.specs.Posting.{CanPost}
-use Rattle.destroy.specs.Paying.{LivesIn, Pays}
+use Rattle.destroy.specs.Paying.{LivesIn, Pays, PaysMany}
 
 -- The port is no longer among those noted.
 abbrev pub taken_out : WorldView → (port : ℕ) → WorldView
@@ -22,7 +22,7 @@ without_no_senders w port = record w { requests = record w.requests { no_senders
 abbrev pub CanTell : WorldView → (port : ℕ) → Type 0
 CanTell w port = LivesIn w port → (notify : ℕ) → map.get w.requests.no_senders.map port ≡ Some notify → LivesIn w notify → CanPost w notify
 
-pub record TellsNoSenders (old : WorldView) (port : ℕ) (new : WorldView) : Type 0 where
+pub record TellsNoSenders (old : WorldView) (port turns : ℕ) (new : WorldView) : Type 0 where
   pub v : PortView Kept
   pub there : port_at old port ≡ Some v
   pub lives : LivesIn old port
@@ -31,7 +31,8 @@ pub record TellsNoSenders (old : WorldView) (port : ℕ) (new : WorldView) : Typ
   pub asked : map.get old.requests.no_senders.map port ≡ Some notify
   pub spare : LivesIn old notify → 0 < old.ports.spare
   pub pays : Pays (without_no_senders old port) notify (NoSenders v.attributes.make_send) new
+  pub many : PaysMany (without_no_senders old port) notify turns
 
--- The port is told of, in one turn; or there is nothing to tell, and all stays.
+-- The port is told of, in a turn where the right of its request pays; or there is nothing to tell, and all stays.
 abbrev pub TellsOf : (old : WorldView) (port turns : ℕ) (new : WorldView) → Type 0
-TellsOf old port turns new = (turns ≡ 1) × TellsNoSenders old port new ⊎ (turns ≡ 0) × (new ≡ old) × ¬ (LivesIn old port × IsSenderless old port)
+TellsOf old port turns new = TellsNoSenders old port turns new ⊎ (turns ≡ 0) × (new ≡ old) × ¬ (LivesIn old port × IsSenderless old port)

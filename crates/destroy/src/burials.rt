@@ -14,7 +14,7 @@ use request_table::Request;
 use user_refs::UserRefs;
 
 /// Each doomed port leaves with all rights for it; its requests end, and those on its names. Answers how
-/// many requests.
+/// many of their rights paid for notices.
 pub(crate) fn bury_ports(world: &mut World) -> u64
     requires { IsAt AreTold world.old }
     ensures continues { Continues AreTold AreBuried world.old result world.new }
@@ -50,7 +50,7 @@ fn bury_asked(world: &mut World) -> u64
 {
     let mut turns: u64 = 0;
     while let Some(port) = world.ports.first_doomed() {
-        turns = turns.wrapping_add(bury(world, port));
+        turns = turns.saturating_add(bury(world, port));
     }
     turns
 }
@@ -101,8 +101,8 @@ fn end_requests(world: &mut World, port: PortId) -> u64
     ensures { EndsRequests port IsAny world.old result world.new }
 {
     end_no_senders(world, port)
-        .wrapping_add(end_port_destroyed(world, port))
-        .wrapping_add(end_names(world, port))
+        .saturating_add(end_port_destroyed(world, port))
+        .saturating_add(end_names(world, port))
 }
 
 // The right that a dead port's request kept is lost unused.
@@ -115,8 +115,7 @@ fn end_no_senders(world: &mut World, port: PortId) -> u64
     let Some(notify) = world.requests.no_senders.remove(port.number()) else {
         return 0;
     };
-    pay(world, notify, Notice::SendOnce);
-    1
+    pay(world, notify, Notice::SendOnce)
 }
 
 fn end_port_destroyed(world: &mut World, port: PortId) -> u64
@@ -128,8 +127,7 @@ fn end_port_destroyed(world: &mut World, port: PortId) -> u64
     let Some(notify) = world.requests.port_destroyed.remove(port.number()) else {
         return 0;
     };
-    pay(world, notify, Notice::SendOnce);
-    1
+    pay(world, notify, Notice::SendOnce)
 }
 
 fn end_names(world: &mut World, port: PortId) -> u64
@@ -138,16 +136,15 @@ fn end_names(world: &mut World, port: PortId) -> u64
 {
     let mut turns: u64 = 0;
     while let Some(request) = world.requests.names.first_of(port) {
-        end_name(world, port, request);
-        turns = turns.wrapping_add(1);
+        turns = turns.saturating_add(end_name(world, port, request));
     }
     turns
 }
 
 // The name of a dead port is dead at once, with a reference more, and its task is told.
-fn end_name(world: &mut World, port: PortId, request: Request)
+fn end_name(world: &mut World, port: PortId, request: Request) -> u64
     requires { IsDueOn port request world.old }
-    ensures ends { EndsRequests port IsNone world.old 1 world.new }
+    ensures ends { EndsRequests port IsNone world.old result world.new }
     ensures fewer { map.len world.new.requests.names.requests < map.len world.old.requests.names.requests }
 {
     let Request {
@@ -163,7 +160,7 @@ fn end_name(world: &mut World, port: PortId, request: Request)
     if let Some(entry) = entry {
         world.put_left(task, name, Some(dead_name(entry.send_references())));
     }
-    pay(world, notify, Notice::DeadName(name));
+    pay(world, notify, Notice::DeadName(name))
 }
 
 // The dead name that is left of a name with so many send rights, with the reference that a request adds.

@@ -16,11 +16,13 @@ use copyin_base::World;
 use request_table::Request;
 
 /// Ends a step: ports that lost their receive rights are sent away or die with all that is queued, rights
-/// that were lost are told of, and so are ports without senders. Answers in how many turns.
+/// that were lost are told of, and so are ports without senders. Answers in how many turns; 2^64 - 1 where
+/// there are more.
 ///
-/// A turn is a port judged, a message destroyed, a right of such a message lost, or a request ended. Each
-/// task keeps its room for names. Takes no memory and cannot fail. Linear in the turns and the rights that
-/// messages carry; constant where nothing was left to do.
+/// A turn is a port judged, a message destroyed, a right of such a message lost, or a right of a request
+/// that ends, where it pays for the notice. Each task keeps its room for names. Takes no memory and cannot
+/// fail. Linear in the turns, the requests that end and the rights that messages carry; constant where
+/// nothing was left to do.
 pub fn settle(world: &mut World) -> u64
     requires { IsMidway world.old }
     ensures settles { SettlesIn world.old result world.new }
@@ -72,7 +74,7 @@ fn settle_parts(world: &mut World) -> u64
     // So it is seen that no port that is there is doomed.
     let _ = world.ports.first_doomed();
     judged
-        .wrapping_add(lost)
-        .wrapping_add(told)
-        .wrapping_add(ended)
+        .saturating_add(lost)
+        .saturating_add(told)
+        .saturating_add(ended)
 }

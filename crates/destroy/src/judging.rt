@@ -25,7 +25,7 @@ pub(crate) fn judge_ports(world: &mut World) -> u64
 {
     let mut turns: u64 = 0;
     while let Some(port) = first_lost(world) {
-        turns = turns.wrapping_add(judge(world, port));
+        turns = turns.saturating_add(judge(world, port));
     }
     turns
 }
@@ -55,7 +55,7 @@ fn judge(world: &mut World, port: PortId) -> u64
         }
         None => {
             let has_messages = doom(world, port);
-            destroy_any(world, port, has_messages).wrapping_add(1)
+            destroy_any(world, port, has_messages).saturating_add(1)
         }
     }
 }
@@ -156,7 +156,7 @@ fn destroy_queue(world: &mut World, port: PortId) -> u64
 {
     let mut turns: u64 = 0;
     while destroy_next(world, port) {
-        turns = turns.wrapping_add(1);
+        turns = turns.saturating_add(1);
         lose_carried(world);
     }
     turns

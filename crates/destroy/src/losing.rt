@@ -24,7 +24,7 @@ pub(crate) fn lose_messages(world: &mut World) -> u64
 {
     let mut turns: u64 = 0;
     while let Some(queued) = take_destroyed(world) {
-        turns = turns.wrapping_add(lose_rights(world, &queued));
+        turns = turns.saturating_add(lose_rights(world, &queued));
     }
     turns
 }
@@ -48,7 +48,7 @@ fn lose_rights(world: &mut World, queued: &Queued) -> u64
         return 0;
     };
     let replied = lose_reply(world, message.reply());
-    replied.wrapping_add(lose_body(world, message.rights().as_slice()))
+    replied.saturating_add(lose_body(world, message.rights().as_slice()))
 }
 
 fn lose_reply(world: &mut World, reply: Option<Carried>) -> u64
@@ -69,7 +69,7 @@ fn lose_body(world: &mut World, rights: &[Carried]) -> u64
 {
     let mut turns: u64 = 0;
     for carried in rights {
-        turns = turns.wrapping_add(lose_right(world, carried));
+        turns = turns.saturating_add(lose_right(world, carried));
     }
     turns
 }

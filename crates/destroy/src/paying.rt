@@ -3,7 +3,7 @@ ghost use Rattle.std.specs.Prelude.{◌≡◌, ◌↔◌, [], IsTrue, IfSome, If
 ghost use Rattle.copyin_base.specs.declared.notice.Notice.{Notice as AnyNotice};
 ghost use Rattle.notifications.specs.Posting.{CanPost};
 ghost use Rattle.rights.specs.Unused.{IsUnusedOfAll};
-ghost use Rattle.destroy.specs.Paying.{LivesIn, Pays, TakesWent};
+ghost use Rattle.destroy.specs.Paying.{LivesIn, Pays, PaysMany, TakesWent};
 ghost use Rattle.destroy.specs.Stages.{IsMidway, Starts};
 
 use copyin_base::{Notice, World};
@@ -22,14 +22,18 @@ pub(crate) fn lives(world: &World, port: PortId) -> bool
     }
 }
 
-/// The right that a request kept pays for a notice, where its port lives. Constant time.
-pub(crate) fn pay(world: &mut World, notify: PortId, notice: Notice)
+/// The right that a request kept pays for a notice, where its port lives. Answers how many notices were
+/// paid for. Constant time.
+pub(crate) fn pay(world: &mut World, notify: PortId, notice: Notice) -> u64
     requires { LivesIn world.old notify → CanPost world.old notify }
-    ensures { Pays world.old notify notice world.new }
+    ensures pays { Pays world.old notify notice world.new }
+    ensures many { PaysMany world.old notify result }
 {
-    if lives(world, notify) {
-        post(world, notify, notice);
+    if !lives(world, notify) {
+        return 0;
     }
+    post(world, notify, notice);
+    1
 }
 
 /// The right of each request whose name went pays for a notice. Ports are judged later, so each port that

@@ -10,7 +10,7 @@ use copyin_base::{Notice, World};
 use mach_types::PortId;
 
 /// Tells each port that was noted, lives, and still has no senders, where that was asked for. Answers how
-/// many.
+/// many were told.
 pub(crate) fn tell_senderless(world: &mut World) -> u64
     requires { IsAt AreLost world.old }
     ensures continues { Continues AreLost AreTold world.old result world.new }
@@ -18,7 +18,7 @@ pub(crate) fn tell_senderless(world: &mut World) -> u64
 {
     let mut turns: u64 = 0;
     while let Some(port) = take_noted(world) {
-        turns = turns.wrapping_add(tell_no_senders(world, port));
+        turns = turns.saturating_add(tell_no_senders(world, port));
     }
     turns
 }
@@ -32,7 +32,8 @@ fn take_noted(world: &mut World) -> Option<PortId>
     world.ports.take_noted()
 }
 
-// Tells of a port that lives that it has no senders, where that was asked for.
+// Tells of a port that lives that it has no senders, where that was asked for and the notify port lives.
+// Answers how many were told.
 fn tell_no_senders(world: &mut World, port: PortId) -> u64
     requires { CanTell world.old port }
     ensures { TellsOf world.old port result world.new }
@@ -46,8 +47,7 @@ fn tell_no_senders(world: &mut World, port: PortId) -> u64
     };
     // So it is seen that a slot is spare.
     let _ = world.ledger.unused();
-    pay(world, notify, Notice::NoSenders(made));
-    1
+    pay(world, notify, Notice::NoSenders(made))
 }
 
 // The port's request to be told of no senders ends, if it stands. Answers its notify port.

@@ -102,7 +102,9 @@ impl Kernel {
     }
 
     /// In how many turns the last step ended: 0 before the first, and after a refusal. A turn is a port
-    /// judged, a message destroyed, a right of such a message lost, or a request ended. Constant time.
+    /// judged, a message destroyed, a right of such a message lost, or a right of a request that ends, where
+    /// it pays for the notice. There are at most as many as there were rights, live ports and messages
+    /// queued at them before the step. Constant time.
     pub fn last_turns(&self) -> u64
         ensures { result ≡ self.now.turns }
     {

@@ -1,13 +1,16 @@
 -- A step: a call's own part, and what settles after it; or a refusal. And the opening.
-use Rattle.std.proofs.Common.{◌≡◌, ℕ, ◌^◌, Bool, true, false, Option, Some, None, refl, sym, ap, ◌∙◌, arith, inl, inr}
-use Rattle.std.specs.Prelude.{is_some, if◌then◌else◌, nat_lt}
+use Rattle.std.proofs.Common.{◌≡◌, ℕ, ◌≤◌, ◌-◌, ◌^◌, Bool, true, false, Option, Some, None, refl, sym, ap, ◌∙◌, arith, inl, inr}
+use Rattle.std.specs.Prelude.{is_some, if◌then◌else◌, nat_lt, min}
 use Rattle.std.specs.FinMap as map
 use Rattle.std.specs.Option.{option_map}
 use Rattle.std.specs.Ordering.{nat_cmp}
 use Rattle.mach_types.specs.declared.calls.Event.{Event}
 use Rattle.mach_types.specs.declared.calls.Reply.{Reply}
 use Rattle.mach_types.specs.Tokens.{Request, no_senders, port_destroyed, dead_name}
-use Rattle.mach_model.specs.State.{opening}
+use Rattle.mach_model.specs.State.{State, opening}
+use Rattle.mach_model.specs.Lawful.{IsLawful}
+use Rattle.mach_model.specs.Machine.{Done}
+use Rattle.mach_model.specs.Work.{deaths, IsBounded}
 use Rattle.mach_model.proofs.StepLawful.{opening-lawful}
 use Rattle.port.specs.Ports.{PortView}
 use Rattle.port_set.specs.declared.SetRecord.{SetRecord}
@@ -27,7 +30,8 @@ use Rattle.copyin_base.proofs.Requested.{requested_none}
 use Rattle.copyin_base.proofs.Slots.{slots_none}
 use Rattle.destroy.specs.Stages.{SettlesIn}
 use Rattle.kernel_core.specs.Answers.{Answers}
-use Rattle.kernel_core.specs.Kernels.{TakesTurns}
+use Rattle.kernel_core.specs.Kernels.{EndsInTurns, TakesTurns}
+use Rattle.mach_laws.proofs.Working.{few_turns, same_deaths, few_deaths}
 
 -- What was done is settled: a step that is done.
 pub acted : (old mid new : WorldView) (event : Event) (reply : Reply) (turns : ℕ) → Acts old event reply mid → SettlesIn mid turns new → Answers old event reply new
@@ -36,18 +40,22 @@ acted old mid new event reply turns a settles = λ now s sh.
     let e = settles now old s d.mid d.owed sh d.shows in
     (e.0, inr (record { unrefused = d.unrefused; mid = d.mid; owed = d.owed; does = d.does; settles = e.1 }), e.2)
 
+-- What is told of the turns of a step's end is no more than they are, and no fewer than ports died: there are not so many rights.
+in_turns : (now : ℕ) (s : State) (event : Event) (reply : Reply) (t : State) → IsLawful s → (d : Done now s event reply t) → (many turns : ℕ) → turns ≡ min many (2 ^ 64 - 1) →
+    IsBounded d.mid d.owed t many → deaths d.mid t ≤ many → EndsInTurns s d.mid d.owed t turns
+in_turns now s event reply t l d many turns told b least = record {
+  most = let a = few_turns now s event reply t l d many b in omega (arith, told, a);
+  least = let a = same_deaths now s event reply t l d in let c = few_deaths s t l in let e = l.few_rights in omega (arith, told, least, a, c, e);
+  bounded = record { is_sent = b.is_sent; sent = b.sent; most = let a = b.most in omega (arith, told, a) };
+}
+
 -- It ends in the turns that settling took.
 pub acted_turns : (old mid new : WorldView) (event : Event) (reply : Reply) (turns : ℕ) → Acts old event reply mid → SettlesIn mid turns new → TakesTurns old event reply new turns
 acted_turns old mid new event reply turns a settles = λ now s sh.
     let d = a.acts now s sh in
-    let e = settles now old s d.mid d.owed sh d.shows in (
-      e.0,
-      e.2,
-      inr (
-        record { unrefused = d.unrefused; mid = d.mid; owed = d.owed; does = d.does; settles = e.1 },
-        record { ending = e.3.ending; reached = e.3.reached; done = e.3.done; number = e.3.number; bounded = e.3.bounded },
-      ),
-    )
+    let e = settles now old s d.mid d.owed sh d.shows in
+    let x : Done now s event reply e.0 = record { unrefused = d.unrefused; mid = d.mid; owed = d.owed; does = d.does; settles = e.1 } in
+    (e.0, e.2, inr (x, in_turns now s event reply e.0 sh.lawful x e.3.ending.turns turns e.3.number e.3.bounded e.3.deaths_are))
 
 pub declined_turns : (old new : WorldView) (event : Event) (code turns : ℕ) → turns ≡ 0 → Declines old event code new → TakesTurns old event (Reply.Code code) new turns
 declined_turns old new event code turns none d = λ now s sh. (s, d.shows s sh, inl (record { code = code; told = refl; refuses = d.refuses s sh; same = refl }, none))

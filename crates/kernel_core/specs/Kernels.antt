@@ -1,12 +1,12 @@
 -- A kernel as contracts see it, and the turns in which a step ends.
-use Rattle.std.specs.Prelude.{◌≡◌, ℕ, ◌%◌, ◌^◌, ◌⊎◌, refl}
+use Rattle.std.specs.Prelude.{◌≡◌, ℕ, ◌≤◌, ◌⊎◌, refl}
 use Rattle.std.specs.Coded.{Coded, code_by, coded×, coded_ℕ}
 use Rattle.mach_types.specs.declared.calls.Event.{Event}
 use Rattle.mach_types.specs.declared.calls.Reply.{Reply}
 use Rattle.mach_model.specs.State.{State}
 use Rattle.mach_model.specs.Machine.{Refused, Done}
 use Rattle.mach_model.specs.Notices.{Owed}
-use Rattle.mach_model.specs.Turns.{Ending, IsReached, IsDone, IsBounded, listed}
+use Rattle.mach_model.specs.Work.{work_in, deaths, IsBounded}
 use Rattle.copyin_base.specs.Shows.{Shows}
 use Rattle.copyin_base.specs.Worlds.{WorldView}
 
@@ -18,14 +18,12 @@ pub record KernelView : Type 0 where
 abbrev pub kernel_code : Coded WorldView → Coded KernelView
 kernel_code world = code_by (WorldView × ℕ) (coded× world coded_ℕ) (λ k. (k.tables, k.turns)) (λ x. record { tables = x.0; turns = x.1 }) (λ _. refl)
 
--- The machine's turns from the state midway to the new one are as many as this, and no more than what there was to do.
+-- So many turns are no more than there were rights, ports that live, and messages queued at them, together, before the step; no fewer than ports died in
+-- it; and no more than what its end did.
 pub record EndsInTurns (old mid : State) (owed : Owed) (new : State) (turns : ℕ) : Type 0 where
-  pub ending : Ending
-  pub reached : IsReached old mid owed ending
-  pub done : IsDone old mid ending
-  -- counted in 64 bits
-  pub number : ending.turns % 2 ^ 64 ≡ turns % 2 ^ 64
-  pub bounded : IsBounded mid new (listed ending.saved) ending
+  pub most : turns ≤ work_in old
+  pub least : deaths old new ≤ turns
+  pub bounded : IsBounded mid owed new turns
 
 -- A step that is refused ends in no turn; one that is done ends in so many.
 abbrev pub TakesTurns : (old : WorldView) → Event → Reply → (new : WorldView) → (turns : ℕ) → Type 0

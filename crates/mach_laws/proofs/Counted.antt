@@ -22,7 +22,7 @@ use Rattle.mach_model.proofs.SettledReceives.{IsDue, due_all, live_mid, owed_bri
 use Rattle.mach_model.proofs.SettledLawful.{log_length}
 use Rattle.mach_model.proofs.StepLawful.{Does-mid}
 use Rattle.mach_model.specs.Death.{same_place}
-use Rattle.mach_model.specs.Turns.{is_lost_at, is_lost}
+use Rattle.mach_laws.specs.Counts.{is_lost_at, is_lost}
 use Rattle.mach_model.proofs.Settling.{place_refl, is_at}
 use Rattle.mach_laws.specs.Queued.{sum_below, waiting, queued}
 use Rattle.mach_laws.specs.Counts.{accepts, takes_from, destroyed}

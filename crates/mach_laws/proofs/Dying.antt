@@ -352,7 +352,7 @@ module _ {old mid : State} {owed : Owed} (l : MidLawful mid owed) {e : Ending} (
   pub then_buried : (p : ℕ) → AreJudged mid e → listed e.doomed p ≡ true → listed e.buried p ≡ false → ((r : Request) → mid.stands r ≡ true → ¬ (IsRequestOf mid p r)) → IsReached old mid owed (bury p [] e)
   then_buried p judged doomed unburied none =
       turns e (bury p [] e) reached (inr (inr (inr (inr (inl
-      (bury_is old mid owed e p [] l reached judged doomed unburied (λ k d below. absurd (omega (arith, below))) (λ r. omega arith) (λ r stands of. absurd (none r stands of))))))))
+      (bury_is old mid owed e p [] l reached judged doomed unburied (λ k d below. absurd (omega (arith, below))) (λ r stands of. absurd (none r stands of))))))))
 
   -- one on which, or on a name of which, this request stands, and no other does
   pub then_buried_one : (p : ℕ) (request : Request) → AreJudged mid e → listed e.doomed p ≡ true → listed e.buried p ≡ false → mid.stands request ≡ true → IsRequestOf mid p request →
@@ -360,7 +360,7 @@ module _ {old mid : State} {owed : Owed} (l : MidLawful mid owed) {e : Ending} (
   then_buried_one p request judged doomed unburied stands of alone =
       turns e (bury p (request ∷ []) e) reached (inr (inr (inr (inr (inl
       (bury_is old mid owed e p (request ∷ []) l reached judged doomed unburied (one_all (λ r. (mid.stands r ≡ true) × IsRequestOf mid p r) request (stands, of))
-      (λ r. if_le (same_request r request)) (λ r is at. (0, omega arith, sym (alone r is)))))))))
+      (λ r is at. (0, omega arith, sym (alone r is)))))))))
 
   pub then_told : (p : ℕ) → AreJudged mid e → lives_after mid e p ≡ true → mid.stands (no_senders p) ≡ true → 0 < senders old p → count (is_of send p) e.left ≡ 0 → listed e.told p ≡ false →
       IsReached old mid owed (tell ((outcome mid e).make_send p) p e)

@@ -8,6 +8,7 @@ pub mod Onces
 pub mod Promised
 pub mod Playing
 pub mod Dying
+pub mod Working
 mod ToldAtOnce
 mod Destroyed
 mod ToldOfDeath

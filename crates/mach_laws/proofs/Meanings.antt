@@ -1,6 +1,6 @@
 -- What is sent and received means what its bytes mean through names; what a step's end adds to the logs.
 use Rattle.std.proofs.Common.{◌≡◌, ℕ, ◌+◌, ◌<◌, ◌≤◌, List, [], ◌∷◌, Option, Some, None, refl, sym, ap, subst, ◌∙◌, arith, true, false, Bool, inl, inr, cond, zero, suc, ◌++◌, ◌⊎◌, length}
-use Rattle.std.specs.Prelude.{if◌then◌else◌, MatchBool, map as list_map, ◌==◌, ◌≢◌, All, AllPairs, slice_get, Contains, filter, ◌&&◌, not}
+use Rattle.std.specs.Prelude.{if◌then◌else◌, MatchBool, map as list_map, ◌==◌, ◌≢◌, All, AllPairs, slice_get, Contains, filter, not}
 use Rattle.std.specs.FinMap as map
 use Rattle.std.proofs.lemmas.Bool.{eq-eqb, ltb-false}
 use Rattle.std.specs.FinMap.{get-remove, get-insert, get_tied}
@@ -40,9 +40,7 @@ use Rattle.mach_laws.proofs.Bodies.{right_asof, rights_asof, reply_same, body_sa
 use Rattle.mach_laws.specs.Notices.{IsToldBy, Tells}
 use Rattle.mach_laws.specs.Received.{AsksFrom}
 use Rattle.mach_laws.specs.Delivered.{Destroys}
-use Rattle.mach_laws.specs.Queued.{sum_below}
 use Rattle.mach_laws.specs.Looks.{IsLook, IsUnchanged}
-use Rattle.mach_laws.specs.Turns.{work_in, deaths}
 
 -- ---- A message that is received means, through the receiver's names after the step, what was queued, read with the ports that are dead.
 
@@ -637,17 +635,3 @@ Step-destroys now old (Event.ReceiveAgain task waited room large) n new (inr d) 
     let x = d.does in
     destroyed now n (Event.ReceiveAgain task waited room large) task x.0 x.1 large old d.mid d.owed new (refl, x.2) x.4 not x.6 d.settles
 Step-destroys now old event n new (inr d) not = absurd d.does
-
--- ---- how many ports die
-
-below : (f g : ℕ → ℕ) → ((p : ℕ) → f p ≤ g p) → (n : ℕ) → sum_below f n ≤ sum_below g n
-below f g le zero = omega arith
-below f g le (suc n) = let a = below f g le n in let b = le n in omega (arith, a, b)
-
-one_port : (a b : Bool) (n : ℕ) → (if a && not b then suc zero else zero) ≤ (if a then 1 + n else 0)
-one_port true true n = omega arith
-one_port true false n = omega arith
-one_port false b n = omega arith
-
-pub fewer_deaths : (old new : State) → deaths old new ≤ work_in old
-fewer_deaths old new = grind (arith, below, one_port)

@@ -19,11 +19,12 @@ use Rattle.mach_model.proofs.SettledReceives.{parts, made_of, live_mid, and_fals
 use Rattle.mach_model.proofs.SettledLawful.{added_is, settled_lawful}
 use Rattle.mach_model.specs.Death.{Dies, IsOrphan}
 use Rattle.mach_model.specs.SameEnd.{sum, IsSameEnd}
-use Rattle.mach_model.specs.Turns.{Begun, owed_in, went_in, Ending, listed, lives_after, became_dead, PaidForName, IsReached, IsDone, IsWaiting, IsCounted, IsBounded}
+use Rattle.mach_model.specs.Turns.{Begun, owed_in, went_in, Ending, listed, lives_after, became_dead, PaidForName, IsReached, IsDone, IsWaiting}
+use Rattle.mach_model.specs.Work.{IsBounded, deaths}
 use Rattle.mach_model.proofs.Settling.{Dies-least, kind_refl, lives, stays_with}
 use Rattle.mach_model.proofs.SettledDetermined.{pays, place_stays, none_weigh, notices_sum, determined}
 use Rattle.mach_model.proofs.TurnsSettle.{DiesUnder, IsPaidAt, HasGone, IsSound, all_saved, dies_after, end_of, all_posted}
-use Rattle.mach_model.proofs.TurnsCounted.{reached_sound, reached_counted}
+use Rattle.mach_model.proofs.TurnsCounted.{reached_sound, reached_counted, IsCounted}
 use Rattle.mach_model.proofs.TurnsBounded.{turns_end}
 use Rattle.mach_laws.specs.Queued.{sum_below, waiting, queued, unused}
 use Rattle.mach_laws.specs.Counts.{once_rights, by_send_at, queued_by_send, destroyed}
@@ -390,7 +391,7 @@ module _ (now : ℕ) (old mid : State) (owed : Owed) (e : Ending) (new : State) 
   chain : State
   chain = end_of now mid e
 
-  whole : Settles now old mid owed (end_of now mid e) × IsLawful (end_of now mid e) × IsBounded mid (end_of now mid e) (listed e.saved) e
+  whole : Settles now old mid owed (end_of now mid e) × IsLawful (end_of now mid e) × IsBounded mid owed (end_of now mid e) e.turns × deaths mid (end_of now mid e) ≤ e.turns
   whole = turns_end now old mid owed e l r d
 
   same : IsSameEnd new (end_of now mid e) s.notices.posted whole.0.notices.posted

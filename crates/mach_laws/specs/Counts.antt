@@ -1,8 +1,8 @@
 -- How many messages a step accepts, takes and destroys, and how many slots a state needs (this project's own).
-use Rattle.std.specs.Prelude.{ℕ, if◌then◌else◌, ◌==◌, not}
+use Rattle.std.specs.Prelude.{ℕ, Bool, false, if◌then◌else◌, ◌==◌, ◌&&◌, not}
 use Rattle.mach_types.specs.declared.calls.Event.{Event}
 use Rattle.mach_types.specs.declared.calls.Reply.{Reply}
-use Rattle.mach_types.specs.Tokens.{send_once, count, same_kind}
+use Rattle.mach_types.specs.Tokens.{send_once, Place, in_task, in_message, in_request, Token, count, same_kind}
 use Rattle.mach_model.specs.State.{State, queue}
 use Rattle.mach_model.specs.Lawful.{tally}
 use Rattle.mach_model.specs.Unused.{came_by_once}
@@ -25,6 +25,15 @@ takes_from event reply = 0
 -- how many lay at the ports that a step's end leaves dead
 abbrev pub destroyed : (mid new : State) → ℕ
 destroyed mid new = sum_below (λ p. if new.live_port p then 0 else waiting mid p) mid.ports_made
+
+-- The right lay in a message, and its port or the message's is dead.
+abbrev pub is_lost_at : State → (port : ℕ) → Place → Bool
+is_lost_at new p (in_task task) = false
+is_lost_at new p (in_message q k) = not (new.live_port q && new.live_port p)
+is_lost_at new p (in_request request) = false
+
+abbrev pub is_lost : State → Token → Bool
+is_lost new x = is_lost_at new x.port x.place
 
 -- how many send-once rights there are, for all ports and wherever they lie
 abbrev pub once_rights : State → ℕ

@@ -8,7 +8,6 @@ pub mod Counts
 pub mod Headline
 pub mod Notices
 pub mod Looks
-pub mod Turns
 pub mod Judging
 pub mod FirstMessage
 pub mod Answering

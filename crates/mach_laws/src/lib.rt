@@ -27,18 +27,18 @@ ghost use Rattle.mach_model.specs.Refusals.{Refuses, guards};
 ghost use Rattle.mach_model.specs.Machine.{Does, Done, Step, Run};
 ghost use Rattle.mach_model.specs.Lawful.{IsLawful};
 ghost use Rattle.mach_model.specs.Midway.{MidLawful};
-ghost use Rattle.mach_model.specs.Turns.{Ending, IsReached, IsDone, IsBounded, is_lost, listed};
+ghost use Rattle.mach_model.specs.Turns.{Ending, IsReached, IsDone};
+ghost use Rattle.mach_model.specs.Work.{work_in, deaths, IsBounded};
 ghost use Rattle.mach_laws.specs.Paths.{Stage, Path};
 ghost use Rattle.mach_laws.specs.Sent.{Accepts};
 ghost use Rattle.mach_laws.specs.Received.{AsksFrom, WasSentOrTold};
 ghost use Rattle.mach_laws.specs.Delivered.{Delivers, Destroys};
 ghost use Rattle.mach_laws.specs.Order.{InOrder};
 ghost use Rattle.mach_laws.specs.Queued.{queued, unused, MakesSlots, SlotsWithin};
-ghost use Rattle.mach_laws.specs.Counts.{accepts, takes_from, destroyed, once_rights, queued_by_send, MayNeedSlots};
+ghost use Rattle.mach_laws.specs.Counts.{accepts, takes_from, destroyed, is_lost, once_rights, queued_by_send, MayNeedSlots};
 ghost use Rattle.mach_laws.specs.Headline.{Headline};
 ghost use Rattle.mach_laws.specs.Notices.{TellsAll};
 ghost use Rattle.mach_laws.specs.Looks.{IsLook, IsUnchanged};
-ghost use Rattle.mach_laws.specs.Turns.{work_in, deaths};
 ghost use Rattle.mach_laws.specs.Judging.{IsMemoryCode, LacksMemory, IsBySet};
 ghost use Rattle.mach_laws.specs.FirstMessage.{first_events, first_replies};
 ghost use Rattle.mach_laws.specs.Answering.{answering_events, answering_replies};
@@ -124,18 +124,24 @@ pub fn no_sender_appears()
         count (is_of send p) done.mid.ledger ≡ count (is_of send p) new.ledger + count (λ x. is_of send p x && is_lost new x) done.mid.ledger }
 {}
 
-/// In a step no more ports die than there were rights, live ports and messages together before it.
-pub fn deaths_are_work()
-    ensures { (now : ℕ) (old new : State) (event : Event) (reply : Reply) → Step now old event reply new → deaths old new ≤ work_in old }
-{}
-
-/// The end of a step can be made in turns, of which each judges a port, destroys a message, loses a right, buries a
-/// port or tells one that it has no senders: a chain of them that has nothing left to do has come to an end of the
-/// step, which is lawful. It has at most a turn for each port that died or was sent away, each message that waited at a dead port, each
-/// right that was lost in a message and each request that ended, and at least one for each port that died.
+/// The end of a step can be made in turns, of which each judges a port, destroys a message, loses a right, or has the
+/// right of a request that ends pay for its notice: a chain of them that has nothing left to do has come to an end of
+/// the step, which is lawful. It has at most a turn for each port that died or was sent away, each message that waited
+/// at a port that died, each right that was lost in one, and each right of a request that ended; and at least one for
+/// each port that died.
 pub fn turns_end_a_step()
     ensures { (now : ℕ) (old mid : State) (owed : Owed) (ending : Ending) → MidLawful mid owed → IsReached old mid owed ending → IsDone old mid ending →
-        (new : State) × Settles now old mid owed new × IsLawful new × IsBounded mid new (listed ending.saved) ending }
+        (new : State) × Settles now old mid owed new × IsLawful new × IsBounded mid owed new ending.turns × deaths mid new ≤ ending.turns }
+{}
+
+/// After every run the end of a step takes no more turns than there were rights, ports that live, and messages queued at
+/// them, together, before the step. Its own part ends no port: whoever dies in the step, dies at its end.
+pub fn turns_are_work()
+    ensures most { (events : List Event) (replies : List Reply) (s : State) → Run events replies s →
+        (event : Event) (reply : Reply) (new : State) → (done : Done (length events) s event reply new) →
+        (turns : ℕ) → IsBounded done.mid done.owed new turns → turns ≤ work_in s }
+    ensures least { (events : List Event) (replies : List Reply) (s : State) → Run events replies s →
+        (event : Event) (reply : Reply) (new : State) → (done : Done (length events) s event reply new) → deaths s new ≤ deaths done.mid new }
 {}
 
 /// After every run, whatever an event may do can be made a step.

@@ -2,17 +2,19 @@
 use Rattle.std.proofs.Common.{◌≡◌, ℕ, ◌+◌, ◌≤◌, List, [], ◌∷◌, ◌++◌, Option, Some, None, refl, sym, ap, subst, ◌∙◌, arith, true, false, Bool, ◌⊎◌, inl, inr, suc, zero, ◌<◌, length}
 use Rattle.std.specs.Prelude.{if◌then◌else◌, All, ◌==◌, not, ◌≢◌, Contains, ◌&&◌, ◌||◌}
 use Rattle.std.proofs.lemmas.List.{append-nil, length-append}
-use Rattle.std.proofs.lemmas.List.Elements.{All-cons, All-append, All-head, All-tail}
-use Rattle.std.proofs.lemmas.Bool.{eq-eqb, eqb-true}
+use Rattle.std.proofs.lemmas.List.Elements.{All-cons, All-append}
+use Rattle.std.proofs.lemmas.Bool.{eq-eqb, eqb-true, false_from_ne_true}
 use Rattle.mach_types.specs.Tokens.{receive, send, send_once, Request, no_senders, port_destroyed, dead_name, Place, in_task, in_message, in_request, Token, token, weigh, is_of, count}
-use Rattle.mach_model.specs.State.{State, Target, lookup, same_request}
+use Rattle.mach_model.specs.State.{State, Target, lookup}
 use Rattle.mach_model.specs.Death.{Dies, IsSentAway}
 use Rattle.mach_model.specs.Notices.{Notice, port_sent, no_more_senders, right_unused, Owed}
 use Rattle.mach_model.specs.Settles.{tokens_of}
-use Rattle.mach_model.specs.Turns.{owed_in, went_in, Ending, listed, AreJudged, IsAtDoomed, IsNameOf, IsRequestOf, death_notice, Takes, PaidForName, Begins, Dooms, Saves, Destroys, Loses, PaysAtBurial, Buries, TellsSenderless, Turn, IsReached, begins, turns, Begun, lives_after, has_ended, is_queued, lost_in, IsWaiting, IsCounted}
-use Rattle.mach_model.proofs.Names.{left_of, right_of, weigh-append, pos_or_zero}
-use Rattle.mach_model.proofs.SettledReceives.{or_cases, or_right, or_left, place_is, tally-append}
-use Rattle.mach_model.proofs.TurnsSettle.{DiesUnder, IsToldOf, IsPaidAt, HasPaid, DiesAround, HasGone, WasTold, IsSound, found_is, found_dies, all_saved, survives, tokens_joined_settle as tokens_joined, weaker}
+use Rattle.mach_model.specs.Turns.{owed_in, went_in, Ending, listed, AreJudged, IsAtDoomed, IsNameOf, IsRequestOf, death_notice, Takes, PaidForName, Begins, Dooms, Saves, Destroys, Loses, PaysAtBurial, Buries, TellsSenderless, Turn, IsReached, begins, turns, Begun, IsWaiting}
+use Rattle.mach_model.specs.Midway.{MidLawful}
+use Rattle.mach_model.proofs.Names.{left_of, right_of, weigh-append, lying_le_of}
+use Rattle.mach_model.proofs.Settling.{lives}
+use Rattle.mach_model.proofs.SettledReceives.{or_cases, or_right, or_left, dead_cases}
+use Rattle.mach_model.proofs.TurnsSettle.{dies_after, DiesUnder, IsToldOf, IsPaidAt, HasPaid, DiesAround, HasGone, WasTold, IsSound, found_is, found_dies, all_saved, survives, tokens_joined_settle as tokens_joined, weaker}
 use Rattle.mach_model.specs.Lawful.{tally}
 
 -- ---- Each turn keeps what is true between turns.
@@ -254,8 +256,8 @@ module _ (old mid : State) (owed : Owed) where
 pub judged_stays : (old mid : State) (e f : Ending) → Turn old mid e f → AreJudged mid e → AreJudged mid f
 judged_stays old mid e f t judged = grind arith
 
--- ---- A chain has no more turns than ports that were judged, messages that were destroyed, rights in messages that were lost, and
--- requests that ended, each counted once.
+-- ---- A chain judges each port once, and destroys each message once; it has no more turns than it judged ports, destroyed messages, and
+-- had rights that paid or were lost.
 
 -- ---- lists in which each stands once
 
@@ -270,15 +272,6 @@ unlisted_none (q ∷ ps) p e = go (p == q) (listed ps p) refl e (unlisted_none p
 neither : (a b : Bool) → (a || b) ≡ false → (a ≡ false) × (b ≡ false)
 neither true b e = absurd (cc)
 neither false b e = (refl, e)
-
--- one that passes, of those that are so
-one_of : {A : Type 0} (P : A → Type 0) (test : A → Bool) (xs : List A) → All P xs → 0 < tally test xs → (x : A) × (P x) × (test x ≡ true)
-one_of P test [] all some = absurd (omega (arith, some))
-one_of {A} P test (x ∷ xs) all some = go (test x) refl (All-head P x xs all) some (λ more. one_of P test xs (All-tail P x xs all) more)
-  where
-    go : (b : Bool) → test x ≡ b → P x → 0 < (if b then suc zero else zero) + tally test xs → (0 < tally test xs → (y : A) × (P y) × (test y ≡ true)) → (y : A) × (P y) × (test y ≡ true)
-    go true e h some rest = (x, h, e)
-    go false e h some rest = rest (omega (arith, some))
 
 uncontained : (xs : List (ℕ × ℕ)) (m : ℕ × ℕ) → ¬ (Contains xs m) → tally (λ n. m.0 == n.0 && m.1 == n.1) xs ≡ 0
 uncontained [] m none = refl
@@ -297,47 +290,29 @@ uncontained (x ∷ xs) m none = go (m.0 == x.0 && m.1 == x.1) refl (uncontained 
     go true e rest = absurd (none (zero, omega arith, first e))
     go false e rest = omega (arith, rest)
 
-abbrev request_of : Request → Place → Request
-request_of other (in_request r) = r
-request_of other place = other
+abbrev pub is_queued : Place → Bool
+is_queued (in_task task) = false
+is_queued (in_message q k) = true
+is_queued (in_request request) = false
 
-same_is : (r s : Request) → same_request r s ≡ true → s ≡ r
-same_is r s e = ap (request_of r) (place_is (in_request r) (in_request s) e)
+-- how many of the rights that went lay in messages, but for those whose ports die
+abbrev pub lost_in : (dies : ℕ → Bool) → Ending → ℕ
+lost_in dies e = count (λ x. is_queued x.place && not (dies x.port)) e.gone
+
+-- a port that dies lived
+pub dead_lived : (mid : State) (owed : Owed) → MidLawful mid owed → (p : ℕ) → Dies mid p → mid.live_port p ≡ true
+dead_lived mid owed l p d = grind (arith, dead_cases, lives, lying_le_of)
+
+-- Each port is judged once, each message destroyed once, of those that waited at a doomed port; and each port that is judged takes a turn.
+pub record IsCounted (mid : State) (e : Ending) : Type 0 where
+  pub least : length e.doomed + length e.saved ≤ e.turns
+  pub port_once : (p : ℕ) → tally (λ q. p == q) e.doomed + tally (λ q. p == q) e.saved ≤ 1
+  pub destroyed : All (λ m. (listed e.doomed m.0 ≡ true) × IsWaiting mid e m) e.destroyed
+  pub message_once : (m : ℕ × ℕ) → tally (λ n. m.0 == n.0 && m.1 == n.1) e.destroyed ≤ 1
 
 module _ (old mid : State) (owed : Owed) where
-  -- ---- whose request it is
-
-  name_of_one : (p q : ℕ) (o : Option Target) → IsNameOf p o → IsNameOf q o → p ≡ q
-  name_of_one p q None a b = absurd a
-  name_of_one p q (Some (Target.port x)) a b = sym a ∙ b
-  name_of_one p q (Some (Target.once x)) a b = sym a ∙ b
-  name_of_one p q (Some (Target.dead n)) a b = absurd a
-  name_of_one p q (Some (Target.set n)) a b = absurd a
-
-  of_one : (p q : ℕ) (r : Request) → IsRequestOf mid p r → IsRequestOf mid q r → p ≡ q
-  of_one p q (no_senders x) a b = sym a ∙ b
-  of_one p q (port_destroyed x) a b = sym a ∙ b
-  of_one p q (dead_name task name) a b = name_of_one p q (lookup mid task name) a b
-
-  -- it ended with the burial of a port, or was told of no senders
-  abbrev IsEndedFor : Ending → Request → Type 0
-  IsEndedFor e r = ((q : ℕ) × (listed e.buried q ≡ true) × IsRequestOf mid q r) ⊎ ((q : ℕ) × (listed e.told q ≡ true) × (r ≡ no_senders q))
-
-  abbrev HasEnded : Ending → Request → Type 0
-  HasEnded e r = (mid.stands r ≡ true) × IsEndedFor e r
-
   abbrev WasDestroyed : Ending → ℕ × ℕ → Type 0
   WasDestroyed e m = (listed e.doomed m.0 ≡ true) × IsWaiting mid e m
-
-  record IsTallied (e : Ending) : Type 0 where
-    least : length e.doomed + length e.saved ≤ e.turns
-    turns : e.turns ≤ length e.doomed + length e.saved + length e.destroyed + lost_in e + length e.ended
-    port_once : (p : ℕ) → tally (λ q. p == q) e.doomed + tally (λ q. p == q) e.saved ≤ 1
-    destroyed : All (WasDestroyed e) e.destroyed
-    message_once : (m : ℕ × ℕ) → tally (λ n. m.0 == n.0 && m.1 == n.1) e.destroyed ≤ 1
-    buried : (p : ℕ) → listed e.buried p ≡ true → listed e.doomed p ≡ true
-    ended : All (HasEnded e) e.ended
-    request_once : (r : Request) → tally (same_request r) e.ended ≤ 1
 
   -- ---- the lists of before
 
@@ -345,178 +320,99 @@ module _ (old mid : State) (owed : Owed) where
   record Follows (e f : Ending) : Type 0 where
     begun : f.begun ≡ e.begun
     doomed : (p : ℕ) → listed e.doomed p ≡ true → listed f.doomed p ≡ true
-    buried : (p : ℕ) → listed e.buried p ≡ true → listed f.buried p ≡ true
-    told : (p : ℕ) → listed e.told p ≡ true → listed f.told p ≡ true
 
-  module _ (e f : Ending) (g : Follows e f) where
-    still_ended : (r : Request) → HasEnded e r → HasEnded f r
-    still_ended r (stands, inl (q, b, of)) = (stands, inl (q, g.buried q b, of))
-    still_ended r (stands, inr (q, t, is)) = (stands, inr (q, g.told q t, is))
-
-    still_destroyed : (m : ℕ × ℕ) → WasDestroyed e m → WasDestroyed f m
-    still_destroyed m (d, w) = (g.doomed m.0 d, (w.0, subst (λ (ys : Begun). m.1 < length (mid.log m.0) + tally (λ y. y.1.0.port == m.0) ys) (sym g.begun) w.1))
+  still_destroyed : (e f : Ending) → Follows e f → (m : ℕ × ℕ) → WasDestroyed e m → WasDestroyed f m
+  still_destroyed e f g m (d, w) = (g.doomed m.0 d, (w.0, subst (λ (ys : Begun). m.1 < length (mid.log m.0) + tally (λ y. y.1.0.port == m.0) ys) (sym g.begun) w.1))
 
   same_in : (ps qs : List ℕ) → qs ≡ ps → (p : ℕ) → listed ps p ≡ true → listed qs p ≡ true
   same_in ps qs is p h = ap (λ (xs : List ℕ). listed xs p) is ∙ h
 
-  -- how many rights in messages are lost
-  lost_takes : (e f : Ending) (paying : Owed) (going : List Token) → Takes e f paying going →
-      lost_in f ≡ lost_in e + count (λ x. is_queued x.place) (tokens_of paying) + count (λ x. is_queued x.place) going
-  lost_takes e f paying going t = grind (arith, tokens_joined, weigh-append)
-
   -- ---- each turn
 
-  module _ (e f : Ending) (s : IsSound old mid owed e) (t : IsTallied e) where
+  module _ (e f : Ending) (t : IsCounted mid e) where
     -- a port that wasn't judged before stands in one list more
     once_more : (port : ℕ) (ps qs : List ℕ) → listed ps port ≡ false → listed qs port ≡ false → ((p : ℕ) → tally (λ q. p == q) ps + tally (λ q. p == q) qs ≤ 1) →
         (p : ℕ) → tally (λ q. p == q) (port ∷ ps) + tally (λ q. p == q) qs ≤ 1
     once_more port ps qs none none_too once p = grind (arith, unlisted_none)
 
+    kept_destroyed : Follows e f → f.destroyed ≡ e.destroyed → All (WasDestroyed f) f.destroyed
+    kept_destroyed g is = subst (All (WasDestroyed f)) (sym is) (weaker (WasDestroyed e) (WasDestroyed f) (still_destroyed e f g) e.destroyed t.destroyed)
+
+    kept_once : f.destroyed ≡ e.destroyed → (m : ℕ × ℕ) → tally (λ n. m.0 == n.0 && m.1 == n.1) f.destroyed ≤ 1
+    kept_once is m = let a = t.message_once m in let b = ap (tally (λ n. m.0 == n.0 && m.1 == n.1)) is in omega (arith, a, b)
+
     -- what follows from a turn that judges no port and destroys no message
-    plain : (ended : List Request) → Follows e f → f.doomed ≡ e.doomed → f.saved ≡ e.saved → f.destroyed ≡ e.destroyed → f.ended ≡ ended ++ e.ended →
-        f.turns ≤ length e.doomed + length e.saved + length e.destroyed + lost_in f + (length ended + length e.ended) → e.turns ≤ f.turns → ((p : ℕ) → listed f.buried p ≡ true → listed f.doomed p ≡ true) →
-        All (HasEnded f) ended → ((r : Request) → tally (same_request r) ended + tally (same_request r) e.ended ≤ 1) → IsTallied f
-    plain ended g doomed saved destroyed is few no_fewer buried own once = record {
+    plain : f.begun ≡ e.begun → f.doomed ≡ e.doomed → f.saved ≡ e.saved → f.destroyed ≡ e.destroyed → e.turns ≤ f.turns → IsCounted mid f
+    plain begun doomed saved destroyed no_fewer = record {
       least = let a = ap length doomed in let b = ap length saved in let c = t.least in omega (arith, a, b, c, no_fewer);
-      turns =
-          let a = ap length doomed in
-          let b = ap length saved in
-          let c = ap length destroyed in
-          let d = ap length is ∙ length-append ended e.ended in
-          omega (arith, few, a, b, c, d);
       port_once = λ p.
           let a = t.port_once p in
           let b = ap (tally (λ q. p == q)) doomed in
           let c = ap (tally (λ q. p == q)) saved in
           omega (arith, a, b, c);
-      destroyed = subst (All (WasDestroyed f)) (sym destroyed) (weaker (WasDestroyed e) (WasDestroyed f) (still_destroyed e f g) e.destroyed t.destroyed);
-      message_once = λ m. let a = t.message_once m in let b = ap (tally (λ n. m.0 == n.0 && m.1 == n.1)) destroyed in omega (arith, a, b);
-      buried = buried;
-      ended = subst (All (HasEnded f)) (sym is) (All-append (HasEnded f) ended e.ended own (weaker (HasEnded e) (HasEnded f) (still_ended e f g) e.ended t.ended));
-      request_once = λ r.
-          let a = once r in
-          let b = ap (tally (same_request r)) is in
-          let c = tally-append (same_request r) ended e.ended in
-          omega (arith, a, b, c);
+      destroyed = kept_destroyed (record { begun = begun; doomed = same_in e.doomed f.doomed doomed }) destroyed;
+      message_once = kept_once destroyed;
     }
 
-    none_ended : All (HasEnded f) []
-    none_ended = λ k d below. absurd (omega arith)
-
-    dooms_tallied : Dooms mid e f → IsTallied f
-    dooms_tallied w =
+    dooms_counted : Dooms mid e f → IsCounted mid f
+    dooms_counted w =
         let now : f.doomed ≡ w.port ∷ e.doomed = ap (λ (x : Ending). x.doomed) w.rest in
-        let more : (p : ℕ) → listed e.doomed p ≡ true → listed f.doomed p ≡ true = λ p h. same_in (w.port ∷ e.doomed) f.doomed now p (listed_later w.port e.doomed p h) in
+        let saved : f.saved ≡ e.saved = ap (λ (x : Ending). x.saved) w.rest in
+        let n : f.turns ≡ e.turns + 1 = ap (λ (x : Ending). x.turns) w.rest in
+        let destroyed : f.destroyed ≡ e.destroyed = ap (λ (x : Ending). x.destroyed) w.rest in
         let g : Follows e f = record {
           begun = ap (λ (x : Ending). x.begun) w.rest;
-          doomed = more;
-          buried = same_in e.buried f.buried (ap (λ (x : Ending). x.buried) w.rest);
-          told = same_in e.told f.told (ap (λ (x : Ending). x.told) w.rest);
+          doomed = λ p h. same_in (w.port ∷ e.doomed) f.doomed now p (listed_later w.port e.doomed p h);
         } in
         let none = neither (listed e.doomed w.port) (listed e.saved w.port) w.unjudged in
         record {
-          least =
-              let a = ap length now in
-              let b : length f.saved ≡ length e.saved = ap (λ (x : Ending). length x.saved) w.rest in
-              let n : f.turns ≡ e.turns + 1 = ap (λ (x : Ending). x.turns) w.rest in
-              let c = t.least in omega (arith, a, b, n, c);
-          turns =
-              let a = ap length now in
-              let b : length f.saved ≡ length e.saved = ap (λ (x : Ending). length x.saved) w.rest in
-              let c : length f.destroyed ≡ length e.destroyed = ap (λ (x : Ending). length x.destroyed) w.rest in
-              let d : lost_in f ≡ lost_in e = ap lost_in w.rest in
-              let k : length f.ended ≡ length e.ended = ap (λ (x : Ending). length x.ended) w.rest in
-              let n : f.turns ≡ e.turns + 1 = ap (λ (x : Ending). x.turns) w.rest in
-              let few = t.turns in omega (arith, a, b, c, d, k, n, few);
+          least = let a = ap length now in let b = ap length saved in let c = t.least in omega (arith, a, b, n, c);
           port_once = λ p.
               let a = once_more w.port e.doomed e.saved none.0 none.1 t.port_once p in
               let b = ap (tally (λ q. p == q)) now in
-              let c : tally (λ q. p == q) f.saved ≡ tally (λ q. p == q) e.saved = ap (λ (x : Ending). tally (λ q. p == q) x.saved) w.rest in
+              let c = ap (tally (λ q. p == q)) saved in
               omega (arith, a, b, c);
-          destroyed = subst (All (WasDestroyed f)) (sym (ap (λ (x : Ending). x.destroyed) w.rest)) (weaker (WasDestroyed e) (WasDestroyed f) (still_destroyed e f g) e.destroyed t.destroyed);
-          message_once = λ m. let a = t.message_once m in
-              let b : tally (λ n. m.0 == n.0 && m.1 == n.1) f.destroyed ≡ tally (λ n. m.0 == n.0 && m.1 == n.1) e.destroyed = ap (λ (x : Ending). tally (λ n. m.0 == n.0 && m.1 == n.1) x.destroyed) w.rest in omega (arith, a, b);
-          buried = λ p h. more p (t.buried p (ap (λ (x : Ending). listed x.buried p) (sym w.rest) ∙ h));
-          ended = subst (All (HasEnded f)) (sym (ap (λ (x : Ending). x.ended) w.rest)) (weaker (HasEnded e) (HasEnded f) (still_ended e f g) e.ended t.ended);
-          request_once = λ r. let a = t.request_once r in
-              let b : tally (same_request r) f.ended ≡ tally (same_request r) e.ended = ap (λ (x : Ending). tally (same_request r) x.ended) w.rest in omega (arith, a, b);
+          destroyed = kept_destroyed g destroyed;
+          message_once = kept_once destroyed;
         }
 
-    saves_tallied : Saves mid e f → IsTallied f
-    saves_tallied w =
+    saves_counted : Saves mid e f → IsCounted mid f
+    saves_counted w =
         let now : f.saved ≡ w.port ∷ e.saved = ap (λ (x : Ending). x.saved) w.rest in
-        let g : Follows e f = record {
-          begun = ap (λ (x : Ending). x.begun) w.rest;
-          doomed = same_in e.doomed f.doomed (ap (λ (x : Ending). x.doomed) w.rest);
-          buried = same_in e.buried f.buried (ap (λ (x : Ending). x.buried) w.rest);
-          told = same_in e.told f.told (ap (λ (x : Ending). x.told) w.rest);
-        } in
+        let doomed : f.doomed ≡ e.doomed = ap (λ (x : Ending). x.doomed) w.rest in
+        let n : f.turns ≡ e.turns + 1 = ap (λ (x : Ending). x.turns) w.rest in
+        let destroyed : f.destroyed ≡ e.destroyed = ap (λ (x : Ending). x.destroyed) w.rest in
         let none = neither (listed e.doomed w.port) (listed e.saved w.port) w.unjudged in
         record {
-          least =
-              let a = ap length now in
-              let b : length f.doomed ≡ length e.doomed = ap (λ (x : Ending). length x.doomed) w.rest in
-              let n : f.turns ≡ e.turns + 1 = ap (λ (x : Ending). x.turns) w.rest in
-              let c = t.least in omega (arith, a, b, n, c);
-          turns =
-              let a = ap length now in
-              let b : length f.doomed ≡ length e.doomed = ap (λ (x : Ending). length x.doomed) w.rest in
-              let c : length f.destroyed ≡ length e.destroyed = ap (λ (x : Ending). length x.destroyed) w.rest in
-              let d = lost_takes e f _ _ w.takes in
-              let k : length f.ended ≡ length e.ended = ap (λ (x : Ending). length x.ended) w.rest in
-              let n : f.turns ≡ e.turns + 1 = ap (λ (x : Ending). x.turns) w.rest in
-              let few = t.turns in omega (arith, a, b, c, d, k, n, few);
+          least = let a = ap length now in let b = ap length doomed in let c = t.least in omega (arith, a, b, n, c);
           port_once = λ p.
               let a = once_more w.port e.saved e.doomed none.1 none.0 (λ q. let o = t.port_once q in omega (arith, o)) p in
               let b = ap (tally (λ q. p == q)) now in
-              let c : tally (λ q. p == q) f.doomed ≡ tally (λ q. p == q) e.doomed = ap (λ (x : Ending). tally (λ q. p == q) x.doomed) w.rest in
+              let c = ap (tally (λ q. p == q)) doomed in
               omega (arith, a, b, c);
-          destroyed = subst (All (WasDestroyed f)) (sym (ap (λ (x : Ending). x.destroyed) w.rest)) (weaker (WasDestroyed e) (WasDestroyed f) (still_destroyed e f g) e.destroyed t.destroyed);
-          message_once = λ m. let a = t.message_once m in
-              let b : tally (λ n. m.0 == n.0 && m.1 == n.1) f.destroyed ≡ tally (λ n. m.0 == n.0 && m.1 == n.1) e.destroyed = ap (λ (x : Ending). tally (λ n. m.0 == n.0 && m.1 == n.1) x.destroyed) w.rest in omega (arith, a, b);
-          buried = λ p h. g.doomed p (t.buried p (ap (λ (x : Ending). listed x.buried p) (sym w.rest) ∙ h));
-          ended = subst (All (HasEnded f)) (sym (ap (λ (x : Ending). x.ended) w.rest)) (weaker (HasEnded e) (HasEnded f) (still_ended e f g) e.ended t.ended);
-          request_once = λ r. let a = t.request_once r in
-              let b : tally (same_request r) f.ended ≡ tally (same_request r) e.ended = ap (λ (x : Ending). tally (same_request r) x.ended) w.rest in omega (arith, a, b);
+          destroyed = kept_destroyed (record { begun = ap (λ (x : Ending). x.begun) w.rest; doomed = same_in e.doomed f.doomed doomed }) destroyed;
+          message_once = kept_once destroyed;
         }
 
-    destroys_tallied : Destroys mid e f → IsTallied f
-    destroys_tallied w =
+    destroys_counted : Destroys mid e f → IsCounted mid f
+    destroys_counted w =
         let now : f.destroyed ≡ (w.port, w.entry) ∷ e.destroyed = ap (λ (x : Ending). x.destroyed) w.rest in
-        let g : Follows e f = record {
-          begun = ap (λ (x : Ending). x.begun) w.rest;
-          doomed = same_in e.doomed f.doomed (ap (λ (x : Ending). x.doomed) w.rest);
-          buried = same_in e.buried f.buried (ap (λ (x : Ending). x.buried) w.rest);
-          told = same_in e.told f.told (ap (λ (x : Ending). x.told) w.rest);
-        } in
+        let doomed : f.doomed ≡ e.doomed = ap (λ (x : Ending). x.doomed) w.rest in
+        let saved : f.saved ≡ e.saved = ap (λ (x : Ending). x.saved) w.rest in
+        let n : f.turns ≡ e.turns + 1 = ap (λ (x : Ending). x.turns) w.rest in
+        let g : Follows e f = record { begun = ap (λ (x : Ending). x.begun) w.rest; doomed = same_in e.doomed f.doomed doomed } in
         record {
-          least =
-              let a : length f.doomed ≡ length e.doomed = ap (λ (x : Ending). length x.doomed) w.rest in
-              let b : length f.saved ≡ length e.saved = ap (λ (x : Ending). length x.saved) w.rest in
-              let n : f.turns ≡ e.turns + 1 = ap (λ (x : Ending). x.turns) w.rest in
-              let c = t.least in omega (arith, a, b, n, c);
-          turns =
-              let a = ap length now in
-              let b : length f.doomed ≡ length e.doomed = ap (λ (x : Ending). length x.doomed) w.rest in
-              let c : length f.saved ≡ length e.saved = ap (λ (x : Ending). length x.saved) w.rest in
-              let d : lost_in f ≡ lost_in e = ap lost_in w.rest in
-              let k : length f.ended ≡ length e.ended = ap (λ (x : Ending). length x.ended) w.rest in
-              let n : f.turns ≡ e.turns + 1 = ap (λ (x : Ending). x.turns) w.rest in
-              let few = t.turns in omega (arith, a, b, c, d, k, n, few);
+          least = let a = ap length doomed in let b = ap length saved in let c = t.least in omega (arith, a, b, n, c);
           port_once = λ p.
               let a = t.port_once p in
-              let b : tally (λ q. p == q) f.doomed ≡ tally (λ q. p == q) e.doomed = ap (λ (x : Ending). tally (λ q. p == q) x.doomed) w.rest in
-              let c : tally (λ q. p == q) f.saved ≡ tally (λ q. p == q) e.saved = ap (λ (x : Ending). tally (λ q. p == q) x.saved) w.rest in
+              let b = ap (tally (λ q. p == q)) doomed in
+              let c = ap (tally (λ q. p == q)) saved in
               omega (arith, a, b, c);
           destroyed = subst (All (WasDestroyed f)) (sym now)
               (All-cons (WasDestroyed f) (w.port, w.entry) e.destroyed (still_destroyed e f g (w.port, w.entry) (w.doomed, (w.waits, w.within)))
               (weaker (WasDestroyed e) (WasDestroyed f) (still_destroyed e f g) e.destroyed t.destroyed));
           message_once = λ m. let b = ap (tally (λ n. m.0 == n.0 && m.1 == n.1)) now in
               let a = one m (m.0 == w.port && m.1 == w.entry) refl in omega (arith, a, b);
-          buried = λ p h. g.doomed p (t.buried p (ap (λ (x : Ending). listed x.buried p) (sym w.rest) ∙ h));
-          ended = subst (All (HasEnded f)) (sym (ap (λ (x : Ending). x.ended) w.rest)) (weaker (HasEnded e) (HasEnded f) (still_ended e f g) e.ended t.ended);
-          request_once = λ r. let a = t.request_once r in
-              let b : tally (same_request r) f.ended ≡ tally (same_request r) e.ended = ap (λ (x : Ending). tally (same_request r) x.ended) w.rest in omega (arith, a, b);
         }
       where
         one : (m : ℕ × ℕ) (b : Bool) → (m.0 == w.port && m.1 == w.entry) ≡ b → tally (λ n. m.0 == n.0 && m.1 == n.1) ((w.port, w.entry) ∷ e.destroyed) ≤ 1
@@ -528,155 +424,141 @@ module _ (old mid : State) (owed : Owed) where
             let z = uncontained e.destroyed m (λ c. w.undestroyed (subst (Contains e.destroyed) (sym same) c)) in
             rw is (omega (arith, z))
 
-    loses_tallied : Loses mid e f → IsTallied f
-    loses_tallied w = plain [] g (ap (λ (x : Ending). x.doomed) w.rest) (ap (λ (x : Ending). x.saved) w.rest) (ap (λ (x : Ending). x.destroyed) w.rest) (ap (λ (x : Ending). x.ended) w.rest)
-        (let n : f.turns ≡ e.turns + 1 = ap (λ (x : Ending). x.turns) w.rest in let few = t.turns in let d = lost w.takes in omega (arith, n, few, d))
+    turn_counted : Turn old mid e f → IsCounted mid f
+    turn_counted (inl w) = dooms_counted w
+    turn_counted (inr (inl w)) = saves_counted w
+    turn_counted (inr (inr (inl w))) = destroys_counted w
+    turn_counted (inr (inr (inr (inl w)))) = plain (ap (λ (x : Ending). x.begun) w.rest) (ap (λ (x : Ending). x.doomed) w.rest) (ap (λ (x : Ending). x.saved) w.rest) (ap (λ (x : Ending). x.destroyed) w.rest)
         (let n : f.turns ≡ e.turns + 1 = ap (λ (x : Ending). x.turns) w.rest in omega (arith, n))
-        (λ p h. g.doomed p (t.buried p (ap (λ (x : Ending). listed x.buried p) (sym w.rest) ∙ h))) none_ended (λ r. let a = t.request_once r in omega (arith, a))
-      where
-        g : Follows e f
-        g = record {
-          begun = ap (λ (x : Ending). x.begun) w.rest;
-          doomed = same_in e.doomed f.doomed (ap (λ (x : Ending). x.doomed) w.rest);
-          buried = same_in e.buried f.buried (ap (λ (x : Ending). x.buried) w.rest);
-          told = same_in e.told f.told (ap (λ (x : Ending). x.told) w.rest);
-        }
+    turn_counted (inr (inr (inr (inr (inl w))))) = plain (ap (λ (x : Ending). x.begun) w.rest) (ap (λ (x : Ending). x.doomed) w.rest) (ap (λ (x : Ending). x.saved) w.rest) (ap (λ (x : Ending). x.destroyed) w.rest)
+        (let n : f.turns ≡ e.turns + length w.paying = ap (λ (x : Ending). x.turns) w.rest in omega (arith, n))
+    turn_counted (inr (inr (inr (inr (inr w))))) = plain (ap (λ (x : Ending). x.begun) w.rest) (ap (λ (x : Ending). x.doomed) w.rest) (ap (λ (x : Ending). x.saved) w.rest) (ap (λ (x : Ending). x.destroyed) w.rest)
+        (let n : f.turns ≡ e.turns + length w.paying = ap (λ (x : Ending). x.turns) w.rest in omega (arith, n))
 
+  begins_counted : (e : Ending) → Begins mid owed e → IsCounted mid e
+  begins_counted e b = grind arith
+
+  pub reached_counted : (e : Ending) → IsReached old mid owed e → IsCounted mid e
+  reached_counted e' (begins e b) = begins_counted e b
+  reached_counted f' (turns e f before t) = turn_counted e f (reached_counted e before) t
+
+  -- ---- how many turns there are
+
+  module _ (l : MidLawful mid owed) (dies : ℕ → Bool) (dies_are : (p : ℕ) → dies p ≡ true → Dies mid p) where
+    abbrev is_lost_here : Token → Bool
+    is_lost_here x = is_queued x.place && not (dies x.port)
+
+    -- a right that lay in a message is for a port that lives
+    abbrev LivesOn : Token × Notice → Type 0
+    LivesOn x = is_queued x.0.place ≡ true → dies x.0.port ≡ false
+
+    pub record IsFew (e : Ending) : Type 0 where
+      pub most : e.turns ≤ length e.doomed + length e.saved + length e.destroyed + length e.paid + lost_in dies e
+      pub live : All LivesOn e.paid
+
+    -- more rights pay that lay in no message, or whose ports live
+    more_live : (e f : Ending) (paying : Owed) (going : List Token) → IsFew e → Takes e f paying going → All LivesOn paying → All LivesOn f.paid
+    more_live e f paying going few t all = subst (λ (xs : Owed). All LivesOn xs) (sym t.paid) (All-append LivesOn e.paid paying few.live all)
+
+    same_live : (e f : Ending) → IsFew e → f.paid ≡ e.paid → All LivesOn f.paid
+    same_live e f few is = subst (λ (xs : Owed). All LivesOn xs) (sym is) few.live
+
+    of_request : (r : Request) (x : Token × Notice) → x.0.place ≡ in_request r → LivesOn x
+    of_request r x at queued = absurd (let h : is_queued (in_request r) ≡ true = subst (λ (y : Place). is_queued y ≡ true) at queued in cc)
+
+    taken_paid : (e f : Ending) (paying : Owed) (going : List Token) → Takes e f paying going → length f.paid ≡ length e.paid + length paying
+    taken_paid e f paying going t = ap length t.paid ∙ length-append e.paid paying
+
+    taken_lost : (e f : Ending) (paying : Owed) (going : List Token) → Takes e f paying going → lost_in dies f ≡ lost_in dies e + count is_lost_here going
+    taken_lost e f paying going t = ap (count is_lost_here) t.gone ∙ weigh-append (λ x. if is_lost_here x then 1 else 0) e.gone going
+
+    turn_few : (e f : Ending) → IsReached old mid owed e → IsFew e → Turn old mid e f → IsFew f
+    turn_few e f r few (inl w) =
+        let before = few.most in
+        let a : length f.doomed ≡ suc (length e.doomed) = ap (λ (x : Ending). length x.doomed) w.rest in
+        let b : length f.saved + length f.destroyed + length f.paid + lost_in dies f ≡ length e.saved + length e.destroyed + length e.paid + lost_in dies e =
+        ap (λ (x : Ending). length x.saved + length x.destroyed + length x.paid + lost_in dies x) w.rest in
+        let n : f.turns ≡ e.turns + 1 = ap (λ (x : Ending). x.turns) w.rest in
+        record { most = omega (arith, a, b, n, before); live = same_live e f few (ap (λ (x : Ending). x.paid) w.rest) }
+    turn_few e f r few (inr (inl w)) =
+        let before = few.most in
+        let a : length f.saved ≡ suc (length e.saved) = ap (λ (x : Ending). length x.saved) w.rest in
+        let b : length f.doomed + length f.destroyed ≡ length e.doomed + length e.destroyed = ap (λ (x : Ending). length x.doomed + length x.destroyed) w.rest in
+        let c = taken_paid e f _ _ w.takes in
+        let d = taken_lost e f _ _ w.takes in
+        let n : f.turns ≡ e.turns + 1 = ap (λ (x : Ending). x.turns) w.rest in
+        record {
+          most = omega (arith, a, b, c, d, n, before);
+          live = more_live e f _ _ few w.takes
+              (one_all LivesOn (token send_once w.saved.notify (in_request (port_destroyed w.port)), port_sent w.port) (of_request (port_destroyed w.port) (token send_once w.saved.notify (in_request (port_destroyed w.port)), port_sent w.port) refl));
+        }
+    turn_few e f r few (inr (inr (inl w))) =
+        let before = few.most in
+        let a : length f.destroyed ≡ suc (length e.destroyed) = ap (λ (x : Ending). length x.destroyed) w.rest in
+        let b : length f.doomed + length f.saved + length f.paid + lost_in dies f ≡ length e.doomed + length e.saved + length e.paid + lost_in dies e =
+        ap (λ (x : Ending). length x.doomed + length x.saved + length x.paid + lost_in dies x) w.rest in
+        let n : f.turns ≡ e.turns + 1 = ap (λ (x : Ending). x.turns) w.rest in
+        record { most = omega (arith, a, b, n, before); live = same_live e f few (ap (λ (x : Ending). x.paid) w.rest) }
+    turn_few e f r few (inr (inr (inr (inl w)))) =
+        let before = few.most in
+        let b : length f.doomed + length f.saved + length f.destroyed ≡ length e.doomed + length e.saved + length e.destroyed =
+        ap (λ (x : Ending). length x.doomed + length x.saved + length x.destroyed) w.rest in
+        let n : f.turns ≡ e.turns + 1 = ap (λ (x : Ending). x.turns) w.rest in
+        let c = lost w.takes in
+        record { most = omega (arith, b, c, n, before); live = all w.takes }
+      where
         lies : (place : Place) → IsAtDoomed e place → is_queued place ≡ true
         lies (in_task task) h = absurd h
         lies (in_message q k) h = refl
         lies (in_request r) h = absurd h
 
-        lost : (w.right.kind ≡ send_once) × Takes e f ((w.right, right_unused) ∷ []) [] ⊎ (w.right.kind ≢ send_once) × Takes e f [] (w.right ∷ []) → lost_in f ≡ lost_in e + 1
-        lost (inl h) = let a = lost_takes e f ((w.right, right_unused) ∷ []) [] h.1 in
-            let b : (if is_queued w.right.place then suc zero else zero) ≡ suc zero = rw (lies w.right.place w.destroyed) refl in omega (arith, a, b)
-        lost (inr h) = let a = lost_takes e f [] (w.right ∷ []) h.1 in
-            let b : (if is_queued w.right.place then suc zero else zero) ≡ suc zero = rw (lies w.right.place w.destroyed) refl in omega (arith, a, b)
-
-    buries_tallied : Buries mid e f → IsTallied f
-    buries_tallied w = plain w.ended g (ap (λ (x : Ending). x.doomed) w.rest) (ap (λ (x : Ending). x.saved) w.rest) (ap (λ (x : Ending). x.destroyed) w.rest) (ap (λ (x : Ending). x.ended) w.rest)
-        (let n : f.turns ≡ e.turns + length w.ended = ap (λ (x : Ending). x.turns) w.rest in let few = t.turns in let d = lost_takes e f w.paying w.going w.takes in omega (arith, n, few, d))
-        (let n : f.turns ≡ e.turns + length w.ended = ap (λ (x : Ending). x.turns) w.rest in omega (arith, n))
-        (one_more (λ p. listed f.doomed p ≡ true) w.port e.buried f.buried now (g.doomed w.port w.doomed) (λ p h. g.doomed p (t.buried p h)))
-        (weaker Own (HasEnded f) (λ r h. (h.0, inl (w.port, own, h.1))) w.ended w.ends) once
-      where
-        now : f.buried ≡ w.port ∷ e.buried
-        now = ap (λ (x : Ending). x.buried) w.rest
-
-        own : listed f.buried w.port ≡ true
-        own = same_in (w.port ∷ e.buried) f.buried now w.port (listed_first w.port e.buried)
-
-        Own : Request → Type 0
-        Own r = (mid.stands r ≡ true) × IsRequestOf mid w.port r
-
-        g : Follows e f
-        g = record {
-          begun = ap (λ (x : Ending). x.begun) w.rest;
-          doomed = same_in e.doomed f.doomed (ap (λ (x : Ending). x.doomed) w.rest);
-          buried = λ p h. same_in (w.port ∷ e.buried) f.buried now p (listed_later w.port e.buried p h);
-          told = same_in e.told f.told (ap (λ (x : Ending). x.told) w.rest);
-        }
-
-        -- it hasn't ended before
-        apart : (r : Request) → IsRequestOf mid w.port r → IsEndedFor e r → ⊥
-        apart r of (inl (q, b, of_q)) =
-            let same = of_one w.port q r of of_q in
-            let a : listed e.buried w.port ≡ true = subst (λ (x : ℕ). listed e.buried x ≡ true) (sym same) b in
-            let c = w.unburied in cc
-        apart r of (inr (q, told, is)) =
-            let same : q ≡ w.port = subst (IsRequestOf mid w.port) is of in
-            (s.told q told).survives (s.doomed q (subst (λ (x : ℕ). listed e.doomed x ≡ true) (sym same) w.doomed))
-
-        once : (r : Request) → tally (same_request r) w.ended + tally (same_request r) e.ended ≤ 1
-        once r = elim (pos_or_zero (tally (same_request r) w.ended)) [
-          | inl z ↦ (let a = t.request_once r in omega (arith, z, a))
-          | inr some ↦ elim (pos_or_zero (tally (same_request r) e.ended)) [
-            | inl z ↦ (let a = w.each_once r in omega (arith, z, a))
-            | inr some_too ↦ absurd
-                (let x = one_of Own (same_request r) w.ended w.ends some in
-                let y = one_of (HasEnded e) (same_request r) e.ended t.ended some_too in
-                apart r (subst (IsRequestOf mid w.port) (same_is r x.0 x.2) x.1.1) (subst (IsEndedFor e) (same_is r y.0 y.2) y.1.1))
-          ]
-        ]
-
-    tells_tallied : TellsSenderless old mid e f → IsTallied f
-    tells_tallied w = plain (no_senders w.port ∷ []) g (ap (λ (x : Ending). x.doomed) w.rest) (ap (λ (x : Ending). x.saved) w.rest) (ap (λ (x : Ending). x.destroyed) w.rest) (ap (λ (x : Ending). x.ended) w.rest)
-        (let n : f.turns ≡ e.turns + 1 = ap (λ (x : Ending). x.turns) w.rest in let few = t.turns in let d = lost_takes e f w.paying [] w.takes in omega (arith, n, few, d))
-        (let n : f.turns ≡ e.turns + 1 = ap (λ (x : Ending). x.turns) w.rest in omega (arith, n))
-        (λ p h. g.doomed p (t.buried p (ap (λ (x : Ending). listed x.buried p) (sym w.rest) ∙ h)))
-        (All-cons (HasEnded f) (no_senders w.port) [] (w.stands, inr (w.port, own, refl)) none_ended) once
-      where
-        now : f.told ≡ w.port ∷ e.told
-        now = ap (λ (x : Ending). x.told) w.rest
-
-        own : listed f.told w.port ≡ true
-        own = same_in (w.port ∷ e.told) f.told now w.port (listed_first w.port e.told)
-
-        g : Follows e f
-        g = record {
-          begun = ap (λ (x : Ending). x.begun) w.rest;
-          doomed = same_in e.doomed f.doomed (ap (λ (x : Ending). x.doomed) w.rest);
-          buried = same_in e.buried f.buried (ap (λ (x : Ending). x.buried) w.rest);
-          told = λ p h. same_in (w.port ∷ e.told) f.told now p (listed_later w.port e.told p h);
-        }
-
-        apart : IsEndedFor e (no_senders w.port) → ⊥
-        apart (inl (q, b, of)) =
-            let d : listed e.doomed w.port ≡ true = subst (λ (x : ℕ). listed e.doomed x ≡ true) (sym of) (t.buried q b) in
-            let lives : (mid.live_port w.port && not (listed e.doomed w.port)) ≡ true = w.lives in
-            absurd (let h : not (listed e.doomed w.port) ≡ true = right_of (mid.live_port w.port) (not (listed e.doomed w.port)) lives in none (listed e.doomed w.port) d h)
+        -- its port lives
+        lives_on : dies w.right.port ≡ false
+        lives_on = false_from_ne_true (dies w.right.port) (λ is.
+            let d = dies_are w.right.port is in
+            let gone : (mid.live_port w.right.port && not (listed e.doomed w.right.port)) ≡ false = dies_after old mid owed e (reached_sound old mid owed e r) w.judged w.right.port d in
+            let live = dead_lived mid owed l w.right.port d in
+            let k = w.lives in
+            both (mid.live_port w.right.port) (listed e.doomed w.right.port) live k gone)
           where
-            none : (b : Bool) → b ≡ true → not b ≡ true → ⊥
-            none true e h = cc
-            none false e h = cc
-        apart (inr (q, told, is)) =
-            let same : w.port ≡ q = subst (IsRequestOf mid q) (sym is) refl in
-            let a : listed e.told w.port ≡ true = subst (λ (x : ℕ). listed e.told x ≡ true) (sym same) told in
-            let c = w.untold in cc
+            both : (a b : Bool) → a ≡ true → b ≡ false → (a && not b) ≡ false → ⊥
+            both true false x y z = absurd (cc)
+            both true true x y z = absurd (cc)
+            both false b x y z = absurd (cc)
 
-        once : (r : Request) → tally (same_request r) (no_senders w.port ∷ []) + tally (same_request r) e.ended ≤ 1
-        once r = go (same_request r (no_senders w.port)) refl
-          where
-            go : (b : Bool) → same_request r (no_senders w.port) ≡ b → ((if b then suc zero else zero) + 0) + tally (same_request r) e.ended ≤ 1
-            go false is = let a = t.request_once r in omega (arith, a)
-            go true is = elim (pos_or_zero (tally (same_request r) e.ended)) [
-              | inl z ↦ omega (arith, z)
-              | inr some ↦ absurd
-                  (let y = one_of (HasEnded e) (same_request r) e.ended t.ended some in
-                  apart (subst (IsEndedFor e) (same_is r y.0 y.2 ∙ sym (same_is r (no_senders w.port) is)) y.1.1))
-            ]
+        own : (if is_lost_here w.right then suc zero else zero) ≡ 1
+        own = rw (lies w.right.place w.destroyed, lives_on) refl
 
-    turn_tallied : Turn old mid e f → IsTallied f
-    turn_tallied (inl w) = dooms_tallied w
-    turn_tallied (inr (inl w)) = saves_tallied w
-    turn_tallied (inr (inr (inl w))) = destroys_tallied w
-    turn_tallied (inr (inr (inr (inl w)))) = loses_tallied w
-    turn_tallied (inr (inr (inr (inr (inl w))))) = buries_tallied w
-    turn_tallied (inr (inr (inr (inr (inr w))))) = tells_tallied w
+        lost : (w.right.kind ≡ send_once) × Takes e f ((w.right, right_unused) ∷ []) [] ⊎ (w.right.kind ≢ send_once) × Takes e f [] (w.right ∷ []) → length f.paid + lost_in dies f ≡ length e.paid + lost_in dies e + 1
+        lost (inl h) = let a = taken_paid e f _ _ h.1 in let b = taken_lost e f _ _ h.1 in omega (arith, a, b)
+        lost (inr h) = let a = taken_paid e f _ _ h.1 in let b = taken_lost e f _ _ h.1 in let c = own in omega (arith, a, b, c)
 
-  begins_tallied : (e : Ending) → Begins mid owed e → IsTallied e
-  begins_tallied e b = grind arith
+        all : (w.right.kind ≡ send_once) × Takes e f ((w.right, right_unused) ∷ []) [] ⊎ (w.right.kind ≢ send_once) × Takes e f [] (w.right ∷ []) → All LivesOn f.paid
+        all (inl h) = more_live e f _ _ few h.1 (one_all LivesOn (w.right, right_unused) (λ queued. lives_on))
+        all (inr h) = more_live e f _ _ few h.1 (none_all LivesOn)
+    turn_few e f r few (inr (inr (inr (inr (inl w))))) =
+        let before = few.most in
+        let b : length f.doomed + length f.saved + length f.destroyed ≡ length e.doomed + length e.saved + length e.destroyed =
+        ap (λ (x : Ending). length x.doomed + length x.saved + length x.destroyed) w.rest in
+        let c = taken_paid e f _ _ w.takes in
+        let d = taken_lost e f _ _ w.takes in
+        let n : f.turns ≡ e.turns + length w.paying = ap (λ (x : Ending). x.turns) w.rest in
+        record { most = omega (arith, b, c, d, n, before); live = more_live e f _ _ few w.takes (weaker (PaysAtBurial mid e w.port) LivesOn (λ x h. of_request h.request x h.kept) w.paying w.pays) }
+    turn_few e f r few (inr (inr (inr (inr (inr w))))) =
+        let before = few.most in
+        let b : length f.doomed + length f.saved + length f.destroyed ≡ length e.doomed + length e.saved + length e.destroyed =
+        ap (λ (x : Ending). length x.doomed + length x.saved + length x.destroyed) w.rest in
+        let c = taken_paid e f _ _ w.takes in
+        let d = taken_lost e f _ _ w.takes in
+        let n : f.turns ≡ e.turns + length w.paying = ap (λ (x : Ending). x.turns) w.rest in
+        record { most = omega (arith, b, c, d, n, before); live = more_live e f _ _ few w.takes (weaker (TellsFor old mid owed e w.port) LivesOn (λ x h. of_request (no_senders w.port) x h.1) w.paying w.pays) }
 
-  reached_tallied : (e : Ending) → IsReached old mid owed e → IsTallied e
-  reached_tallied e' (begins e b) = begins_tallied e b
-  reached_tallied f' (turns e f before t) = turn_tallied e f (reached_sound old mid owed e before) (reached_tallied e before) t
+    begins_few : (e : Ending) → Begins mid owed e → IsFew e
+    begins_few e b = record {
+      most = let n : e.turns ≡ 0 = ap (λ (x : Ending). x.turns) b.rest in omega (arith, n);
+      live = let is : e.paid ≡ [] = ap (λ (x : Ending). x.paid) b.rest in subst (λ (xs : Owed). All LivesOn xs) (sym is) (none_all LivesOn);
+    }
 
-  -- ---- the whole
-
-  -- a request that was counted has ended
-  ended_is : (e : Ending) → ((p : ℕ) → listed e.buried p ≡ true → listed e.doomed p ≡ true) → (r : Request) → IsEndedFor e r → has_ended mid e r ≡ true
-  ended_is e buried r (inr (q, told, is)) = subst (λ (x : Request). has_ended mid e x ≡ true) (sym is) (or_right (not (lives_after mid e q)) (listed e.told q) told)
-  ended_is e buried r (inl (q, b, of)) = grind (arith, or_left)
-
-  pub reached_counted : (e : Ending) → IsReached old mid owed e → IsCounted mid e
-  reached_counted e r =
-      let t = reached_tallied e r in
-      record {
-        least = t.least;
-        turns = t.turns;
-        port_once = t.port_once;
-        destroyed = t.destroyed;
-        message_once = t.message_once;
-        ended = weaker (HasEnded e) (λ r. (mid.stands r ≡ true) × (has_ended mid e r ≡ true)) (λ r h. (h.0, ended_is e t.buried r h.1)) e.ended t.ended;
-        request_once = t.request_once;
-      }
+    pub reached_few : (e : Ending) → IsReached old mid owed e → IsFew e
+    reached_few e' (begins e b) = begins_few e b
+    reached_few f' (turns e f before t) = turn_few e f before (reached_few e before) t

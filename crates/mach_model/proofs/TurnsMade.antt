@@ -5,12 +5,12 @@ use Rattle.std.proofs.lemmas.List.Elements.{All-head, All-tail, All-cons, All-ap
 use Rattle.std.proofs.lemmas.Bool.{eq-eqb, and_from, false_from_ne_true, eqb-true}
 use Rattle.std.proofs.lemmas.List.{append-nil}
 use Rattle.mach_types.specs.Tokens.{receive, send, send_once, Request, no_senders, port_destroyed, dead_name, Place, in_task, in_message, in_request, Token, weigh, count, Kind, token, is_of, same_kind}
-use Rattle.mach_model.specs.State.{State, Target, lookup, senders, same_request}
+use Rattle.mach_model.specs.State.{State, Target, lookup, senders}
 use Rattle.mach_model.specs.Death.{same_place, IsSaved}
 use Rattle.mach_model.specs.Notices.{right_unused, Owed, Notice, port_sent, no_more_senders}
 use Rattle.mach_model.specs.Settles.{PlaceStays, StaysWith, Settles, tokens_of}
 use Rattle.mach_model.specs.Carried.{lying}
-use Rattle.mach_model.specs.Lawful.{is_once, tally}
+use Rattle.mach_model.specs.Lawful.{is_once}
 use Rattle.mach_model.specs.Midway.{MidLawful}
 use Rattle.mach_model.specs.Turns.{Ending, listed, lives_after, became_dead, has_ended, outcome, IsNameOf, IsRequestOf, IsOnGone, IsOffPort, Takes, Begins, Dooms, Saves, Destroys, Loses, Buries, TellsSenderless, Turn, IsReached, begins, turns, IsDone, Begun, IsWaiting, is_judged, IsFound, AreJudged, IsAtDoomed, death_notice, PaysAtBurial, owed_in, went_in, PaidForName}
 use Rattle.mach_model.proofs.Names.{left_of, count_some, lying_le_of, held_le_of, right_of, some_tally}
@@ -499,23 +499,19 @@ burial_left p rs e = left_of_all e rs e.left
 abbrev pub bury : ℕ → List Request → Ending → Ending
 bury p rs e = record e {
   buried = p ∷ e.buried;
-  ended = rs ++ e.ended;
   left = filter (λ x. not (x.port == p)) (burial_left p rs e);
   paid = e.paid ++ paying_of e death_notice rs e.left;
   gone = e.gone ++ filter (λ x. x.port == p) (burial_left p rs e);
-  turns = e.turns + length rs;
+  turns = e.turns + length (paying_of e death_notice rs e.left);
 }
 
 pub bury_is : (old mid : State) (owed : Owed) (e : Ending) (p : ℕ) (rs : List Request) → MidLawful mid owed → IsReached old mid owed e → AreJudged mid e → listed e.doomed p ≡ true → listed e.buried p ≡ false →
-    All (λ r. (mid.stands r ≡ true) × IsRequestOf mid p r) rs → ((r : Request) → tally (same_request r) rs ≤ 1) → ((r : Request) → mid.stands r ≡ true → IsRequestOf mid p r → Contains rs r) → Buries mid e (bury p rs e)
-bury_is old mid owed e p rs l reached judged doomed unburied ends once every = record {
+    All (λ r. (mid.stands r ≡ true) × IsRequestOf mid p r) rs → ((r : Request) → mid.stands r ≡ true → IsRequestOf mid p r → Contains rs r) → Buries mid e (bury p rs e)
+bury_is old mid owed e p rs l reached judged doomed unburied ends every = record {
   port = p;
   judged = judged;
   doomed = doomed;
   unburied = unburied;
-  ended = rs;
-  ends = ends;
-  each_once = once;
   paying = paying_of e death_notice rs e.left;
   pays = weaker (IsPaying e death_notice rs) (PaysAtBurial mid e p) pays (paying_of e death_notice rs e.left)
       (all_paying e death_notice rs e.left (all_once_kept old mid owed e l (reached_sound old mid owed e reached)));
@@ -549,10 +545,9 @@ bury_is old mid owed e p rs l reached judged doomed unburied ends once every = r
 abbrev pub tell : (count p : ℕ) → Ending → Ending
 tell made p e = record e {
   told = p ∷ e.told;
-  ended = no_senders p ∷ e.ended;
   left = left_of_all e (no_senders p ∷ []) e.left;
   paid = e.paid ++ paying_of e (λ r. no_more_senders made) (no_senders p ∷ []) e.left;
-  turns = e.turns + 1;
+  turns = e.turns + length (paying_of e (λ r. no_more_senders made) (no_senders p ∷ []) e.left);
 }
 
 pub tell_is : (old mid : State) (owed : Owed) (e : Ending) (p : ℕ) → MidLawful mid owed → IsReached old mid owed e → AreJudged mid e → lives_after mid e p ≡ true → mid.stands (no_senders p) ≡ true →
@@ -587,7 +582,7 @@ tell_is old mid owed e p l reached judged lives stands had none untold = record 
 -- ---- the beginning, and a message
 
 abbrev pub start : Begun → List Token → Ending
-start begun left = record { doomed = []; saved = []; buried = []; told = []; destroyed = []; ended = []; begun = begun; left = left; paid = []; gone = []; turns = 0 }
+start begun left = record { doomed = []; saved = []; buried = []; told = []; destroyed = []; begun = begun; left = left; paid = []; gone = []; turns = 0 }
 
 abbrev pub is_on_gone : State → Place → Bool
 is_on_gone mid (in_task task) = false

@@ -473,7 +473,7 @@ module _ (now : ℕ) (old mid : State) (owed : Owed) (e : Ending) (l : MidLawful
   became (Some (Target.dead n)) h = absurd h
   became (Some (Target.set n)) h = absurd h
 
-  paid_leaves : (place : Place) (n : Notice) → IsPaidAt mid e.told place n → ¬ (PlaceStays new place)
+  pub paid_leaves : (place : Place) (n : Notice) → IsPaidAt mid e.told place n → ¬ (PlaceStays new place)
   paid_leaves (in_task task) n h = absurd h
   paid_leaves (in_message q k) n h = λ live. let f = dead q h.0 in cc
   paid_leaves (in_request (no_senders p)) n (inl h) = not_standing (no_senders p) (dead_ended p (listed e.told p) h.0)

@@ -23,3 +23,4 @@ pub mod Unused
 pub mod Midway
 pub mod SameEnd
 pub mod Turns
+pub mod Work

@@ -1,8 +1,8 @@
 -- The end of a step, turn by turn (this project's own): ports are judged, messages are destroyed, rights are lost, dead ports are
 -- buried, and ports are told that they have no senders. `Settles` says what a chain of turns comes to that has nothing left to do.
-use Rattle.std.specs.Prelude.{◌≡◌, ◌≢◌, ℕ, zero, suc, ◌+◌, ◌<◌, ◌≤◌, ◌⊎◌, Bool, true, false, List, [], ◌∷◌, ◌++◌, length, Option, Some, if◌then◌else◌, ◌==◌, ◌&&◌, ◌||◌, not, All, Contains}
-use Rattle.mach_types.specs.Tokens.{receive, send, send_once, Request, no_senders, port_destroyed, dead_name, Place, in_task, in_message, in_request, Token, token, weigh, count, is_of}
-use Rattle.mach_model.specs.State.{State, Target, lookup, queue, senders, same_request}
+use Rattle.std.specs.Prelude.{◌≡◌, ◌≢◌, ℕ, ◌+◌, ◌<◌, ◌≤◌, ◌⊎◌, Bool, true, false, List, [], ◌∷◌, ◌++◌, length, Option, Some, if◌then◌else◌, ◌==◌, ◌&&◌, ◌||◌, not, All, Contains}
+use Rattle.mach_types.specs.Tokens.{receive, send, send_once, Request, no_senders, port_destroyed, dead_name, Place, in_message, in_request, Token, token, weigh, count, is_of}
+use Rattle.mach_model.specs.State.{State, Target, lookup, senders}
 use Rattle.mach_model.specs.Death.{CarriedAt, IsOrphan, IsSaved}
 use Rattle.mach_model.specs.Notices.{Notice, port_deleted, port_sent, no_more_senders, right_unused, name_died, Owed}
 use Rattle.mach_model.specs.Settles.{tokens_of}
@@ -30,9 +30,8 @@ pub record Ending : Type 0 where
   pub saved : List ℕ
   pub buried : List ℕ
   pub told : List ℕ
-  -- the port and entry of each message that was destroyed, and the requests that ended with a burial or were told of no senders
+  -- the port and entry of each message that was destroyed
   pub destroyed : List (ℕ × ℕ)
-  pub ended : List Request
   pub begun : Begun
   -- of the rights after the step's own part those that nothing has become of, those that paid, and those that went
   pub left : List Token
@@ -135,7 +134,6 @@ pub record Begins (mid : State) (owed : Owed) (e : Ending) : Type 0 where
     buried = [];
     told = [];
     destroyed = [];
-    ended = [];
     begun = e.begun;
     left = e.left;
     paid = [];
@@ -197,24 +195,21 @@ pub record PaysAtBurial (mid : State) (e : Ending) (port : ℕ) (x : Token × No
 abbrev pub IsOffPort : State → Ending → ℕ → Token → Type 0
 IsOffPort mid e port x = (x.port ≢ port) × ((request : Request) → x.place ≡ in_request request → IsRequestOf mid port request → listed e.doomed x.port ≡ true)
 
--- A doomed port leaves with all rights for it; its requests end, and those on its names, a turn each.
+-- A doomed port leaves with all rights for it. Its requests end, and those on its names: a turn for each right that pays.
 pub record Buries (mid : State) (e f : Ending) : Type 0 where
   pub port : ℕ
   pub judged : AreJudged mid e
   pub doomed : listed e.doomed port ≡ true
   pub unburied : listed e.buried port ≡ false
-  pub ended : List Request
-  pub ends : All (λ r. (mid.stands r ≡ true) × IsRequestOf mid port r) ended
-  pub each_once : (r : Request) → tally (same_request r) ended ≤ 1
   pub paying : Owed
   pub pays : All (PaysAtBurial mid e port) paying
   pub going : List Token
   pub goes : All (λ x. x.port ≡ port) going
   pub takes : Takes e f paying going
   pub all_left : All (IsOffPort mid e port) f.left
-  pub rest : f ≡ record e { buried = port ∷ e.buried; ended = ended ++ e.ended; left = f.left; paid = f.paid; gone = f.gone; turns = e.turns + length ended }
+  pub rest : f ≡ record e { buried = port ∷ e.buried; left = f.left; paid = f.paid; gone = f.gone; turns = e.turns + length paying }
 
--- A port that lives, and had senders, is told that it has none.
+-- A port that lives, and had senders, is told that it has none: in a turn, where the right of its request pays.
 pub record TellsSenderless (old mid : State) (e f : Ending) : Type 0 where
   pub port : ℕ
   pub judged : AreJudged mid e
@@ -227,7 +222,7 @@ pub record TellsSenderless (old mid : State) (e f : Ending) : Type 0 where
   pub pays : All (λ x. (x.0.kind ≡ send_once) × (x.0.place ≡ in_request (no_senders port)) × (x.1 ≡ no_more_senders ((outcome mid e).make_send port))) paying
   pub takes : Takes e f paying []
   pub all_left : All (λ x. x.place ≡ in_request (no_senders port) → listed e.doomed x.port ≡ true) f.left
-  pub rest : f ≡ record e { told = port ∷ e.told; ended = no_senders port ∷ e.ended; left = f.left; paid = f.paid; gone = f.gone; turns = e.turns + 1 }
+  pub rest : f ≡ record e { told = port ∷ e.told; left = f.left; paid = f.paid; gone = f.gone; turns = e.turns + length paying }
 
 abbrev pub Turn : (old mid : State) → Ending → Ending → Type 0
 Turn old mid e f = Dooms mid e f ⊎ Saves mid e f ⊎ Destroys mid e f ⊎ Loses mid e f ⊎ Buries mid e f ⊎ TellsSenderless old mid e f
@@ -244,61 +239,6 @@ pub record IsDone (old mid : State) (e : Ending) : Type 0 where
   pub buried : (p : ℕ) → listed e.doomed p ≡ true → listed e.buried p ≡ true
   pub told : (p : ℕ) → mid.stands (no_senders p) ≡ true → lives_after mid e p ≡ true → 0 < senders old p → count (is_of send p) e.left ≡ 0 → listed e.told p ≡ true
 
--- ---- how many there are
-
-abbrev pub is_queued : Place → Bool
-is_queued (in_task task) = false
-is_queued (in_message q k) = true
-is_queued (in_request request) = false
-
--- how many of the rights that paid or went lay in messages
-abbrev pub lost_in : Ending → ℕ
-lost_in e = count (λ x. is_queued x.place) (tokens_of e.paid) + count (λ x. is_queued x.place) e.gone
-
 -- a message of the port that waits, or a notice that the step's own part posted there
 abbrev pub IsWaiting : State → Ending → ℕ × ℕ → Type 0
 IsWaiting mid e m = (mid.taken m.0 ≤ m.1) × (m.1 < length (mid.log m.0) + tally (λ y. y.1.0.port == m.0) e.begun)
-
--- There are no more turns than ports that were judged, messages that were destroyed, rights in messages that were lost, and requests
--- that ended; each of these was counted once. And there are no fewer than the ports that were judged.
-pub record IsCounted (mid : State) (e : Ending) : Type 0 where
-  pub least : length e.doomed + length e.saved ≤ e.turns
-  pub turns : e.turns ≤ length e.doomed + length e.saved + length e.destroyed + lost_in e + length e.ended
-  pub port_once : (p : ℕ) → tally (λ q. p == q) e.doomed + tally (λ q. p == q) e.saved ≤ 1
-  pub destroyed : All (λ m. (listed e.doomed m.0 ≡ true) × IsWaiting mid e m) e.destroyed
-  pub message_once : (m : ℕ × ℕ) → tally (λ n. m.0 == n.0 && m.1 == n.1) e.destroyed ≤ 1
-  pub ended : All (λ r. (mid.stands r ≡ true) × (has_ended mid e r ≡ true)) e.ended
-  pub request_once : (r : Request) → tally (same_request r) e.ended ≤ 1
-
--- how many of the first numbers pass, and what they have in all
-abbrev pub number : (ℕ → Bool) → ℕ → ℕ
-number f zero = 0
-number f (suc n) = (if f n then 1 else 0) + number f n
-
-abbrev pub total : (ℕ → ℕ) → ℕ → ℕ
-total f zero = 0
-total f (suc n) = f n + total f n
-
--- ports that died in the step
-abbrev pub has_died : (mid new : State) → ℕ → Bool
-has_died mid new p = mid.live_port p && not (new.live_port p)
-
--- the messages that waited at the port, with the notices that the step's own part posted there
-abbrev pub waiting_at : State → Ending → ℕ → ℕ
-waiting_at mid e p = length (queue mid p) + tally (λ y. y.1.0.port == p) e.begun
-
--- The right lay in a message, and its port or the message's is dead.
-abbrev pub is_lost_at : State → (port : ℕ) → Place → Bool
-is_lost_at new p (in_task task) = false
-is_lost_at new p (in_message q k) = not (new.live_port q && new.live_port p)
-is_lost_at new p (in_request request) = false
-
-abbrev pub is_lost : State → Token → Bool
-is_lost new x = is_lost_at new x.port x.place
-
--- The bound in the machine's own numbers: ports that died and ports that were sent away, messages of dead ports, rights in messages
--- that left, and requests that ended. Each port that died took a turn.
-pub record IsBounded (mid new : State) (is_sent : ℕ → Bool) (e : Ending) : Type 0 where
-  pub most : e.turns ≤ number (has_died mid new) mid.ports_made + number is_sent mid.ports_made
-      + total (λ p. if has_died mid new p then waiting_at mid e p else 0) mid.ports_made + count (is_lost new) mid.ledger + length e.ended
-  pub least : number (has_died mid new) mid.ports_made ≤ e.turns

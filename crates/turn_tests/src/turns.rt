@@ -40,3 +40,27 @@ fn a_death_takes_no_turn_for_each_task_that_names_the_port(rt: HostRuntime) {
 fn no_step_took_no_turns(rt: HostRuntime) {
     assert!(rt; turns_of_run(rt.alloc(), "") == Some(0));
 }
+
+// The right that a request kept is gone with its notify port: that the request ends is no turn.
+#[test]
+fn turns_within_the_work_there_was(rt: HostRuntime) {
+    let script =
+        "task\nalloc 0 1\nalloc 0 1\nnotify 0 1 70 1 2 21\nnotify 0 1 69 0 2 21\ndestroy 0 2\ndestroy 0 1\n";
+    let turns = turns_of_run(rt.alloc(), script).unwrap_or(99);
+    assert!(rt; turns <= 2, "turns {turns}");
+}
+
+#[test]
+fn turns_within_the_work_of_an_ending_task(rt: HostRuntime) {
+    let script =
+        "task\nalloc 0 1\nalloc 0 1\nalloc 0 1\nnotify 0 1 70 1 3 21\nnotify 0 1 69 0 3 21\nnotify 0 2 70 1 3 21\nnotify 0 2 69 0 3 21\ndestroy 0 3\nend 0\n";
+    let turns = turns_of_run(rt.alloc(), script).unwrap_or(99);
+    assert!(rt; turns <= 4, "turns {turns}");
+}
+
+// A right that pays for its notice takes one.
+#[test]
+fn a_request_that_is_told_takes_a_turn(rt: HostRuntime) {
+    let script = "task\nalloc 0 1\nalloc 0 1\nnotify 0 1 70 1 2 21\ndestroy 0 1\n";
+    assert!(rt; turns_of_run(rt.alloc(), script) == Some(2));
+}

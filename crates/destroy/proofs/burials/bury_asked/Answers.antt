@@ -7,8 +7,8 @@ use Rattle.copyin_base.proofs.Written.{tables}
 use Rattle.destroy.proofs.BuryNames.{continues_more, rooms_more, still_at, all_buried}
 use Rattle.destroy.proofs.burials.bury_asked.Goals as goal
 
-pub bury-turns-requires : goal.bury-turns-requires
-bury-turns-requires c =
+pub bury-requires : goal.bury-requires
+bury-requires c =
     let i = c.world.inside in
     let view : tables i.spaces.items i.ports i.ledger i.sets i.requests ≡ c.loop-port.world = c.world.view_is in
     record {
@@ -18,8 +18,8 @@ bury-turns-requires c =
 
 pub loop-port-preserved : goal.loop-port-preserved
 loop-port-preserved c = (
-  continues_more c.args.world.now c.loop-port.turns c.loop-port.world c.bury-turns.result c.bury-turns.new.world c.loop-port.invariant.0 c.bury-turns.ensures.turns,
-  rooms_more c.args.world.now c.loop-port.world c.bury-turns.new.world c.loop-port.invariant.1 c.bury-turns.ensures.rooms,
+  continues_more c.args.world.now c.loop-port.turns c.loop-port.world c.bury.result c.bury.new.world c.loop-port.invariant.0 c.bury.ensures.turns _ c.saturating_add-turns.ensures,
+  rooms_more c.args.world.now c.loop-port.world c.bury.new.world c.loop-port.invariant.1 c.bury.ensures.rooms,
 )
 
 pub returns-clause-continues : goal.returns-clause-continues

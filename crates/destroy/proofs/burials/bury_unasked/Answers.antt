@@ -1,4 +1,4 @@
-use Rattle.std.proofs.Common.{◌≡◌, subst, ℕ}
+use Rattle.std.proofs.Common.{◌≡◌, subst, ℕ, arith}
 use Rattle.std.specs.Prelude.{◌↔◌, Contains}
 use Rattle.port.specs.declared.Holder.TheVariants as holder
 use Rattle.port.specs.Holding.{IsHeldBy, NoneHeldBy}
@@ -18,7 +18,7 @@ bury_silently-requires-clause-next c =
 
 pub loop-port-preserved : goal.loop-port-preserved
 loop-port-preserved c = (
-  continues_more c.args.world.now 0 c.loop-port.world 0 c.bury_silently.new.world c.loop-port.invariant.0 c.bury_silently.ensures.turns,
+  continues_more c.args.world.now 0 c.loop-port.world 0 c.bury_silently.new.world c.loop-port.invariant.0 c.bury_silently.ensures.turns 0 (omega arith),
   rooms_more c.args.world.now c.loop-port.world c.bury_silently.new.world c.loop-port.invariant.1 c.bury_silently.ensures.rooms,
   c.bury_silently.ensures.unasked,
 )

@@ -6,7 +6,7 @@ use Rattle.copyin_base.specs.Worlds.{WorldView}
 use Rattle.copyin_base.proofs.Written.{tables}
 use Rattle.notifications.specs.Posting.{CanPost}
 use Rattle.destroy.specs.Burying.{dead_count}
-use Rattle.destroy.specs.Paying.{LivesIn, Pays}
+use Rattle.destroy.specs.Paying.{LivesIn, Pays, PaysMany}
 use Rattle.copyin_base.specs.declared.notice.Notice.TheVariants as notice
 use Rattle.destroy.proofs.BuryNames.{name_taken, entry_there, can_put, named_post, named_ends, named_fewer}
 use Rattle.destroy.proofs.burials.end_name.Goals as goal
@@ -50,7 +50,8 @@ returns-clause-ends c =
       | in-Some w ↦
           let dead : w.dead_name.result ≡ DeadName (dead_count (send_references w.in-Some.entry)) = w.dead_name.ensures ∙ ap (λ (n : ℕ). DeadName (dead_count n)) w.send_references.ensures.value in
           named_ends c.args.port c.args.request c.args.world.now c.requires _ taken w.in-Some.entry (sym c.lookup-entry.ensures ∙ w.in-Some.is) w.dead_name.result dead w.put_left.new.self w.put_left.ensures
-          (subst (λ (w : WorldView). IsUnusedOfAll w.ledger) view c.unused.ensures.all) c.pay.new.world (subst (λ (z : WorldView). Pays z c.args.request.notify (notice.DeadName c.args.request.name) c.pay.new.world) w.world-is c.pay.ensures)
+          (subst (λ (w : WorldView). IsUnusedOfAll w.ledger) view c.unused.ensures.all) c.pay.new.world (subst (λ (z : WorldView). Pays z c.args.request.notify (notice.DeadName c.args.request.name) c.pay.new.world) w.world-is c.pay.ensures.pays) c.pay.result
+          (subst (λ (z : WorldView). PaysMany z c.args.request.notify c.pay.result) w.world-is c.pay.ensures.many)
       | in_default w ↦ absurd (w.in_default.not-Some some.0 (c.lookup-entry.ensures ∙ some.1))
     ]
 
@@ -66,6 +67,6 @@ returns-clause-fewer c =
       | in-Some w ↦
           let dead : w.dead_name.result ≡ DeadName (dead_count (send_references w.in-Some.entry)) = w.dead_name.ensures ∙ ap (λ (n : ℕ). DeadName (dead_count n)) w.send_references.ensures.value in
           named_fewer c.args.port c.args.request c.args.world.now c.requires _ taken w.in-Some.entry (sym c.lookup-entry.ensures ∙ w.in-Some.is) w.dead_name.result dead w.put_left.new.self w.put_left.ensures
-          (subst (λ (w : WorldView). IsUnusedOfAll w.ledger) view c.unused.ensures.all) c.pay.new.world (subst (λ (z : WorldView). Pays z c.args.request.notify (notice.DeadName c.args.request.name) c.pay.new.world) w.world-is c.pay.ensures)
+          (subst (λ (w : WorldView). IsUnusedOfAll w.ledger) view c.unused.ensures.all) c.pay.new.world (subst (λ (z : WorldView). Pays z c.args.request.notify (notice.DeadName c.args.request.name) c.pay.new.world) w.world-is c.pay.ensures.pays)
       | in_default w ↦ absurd (w.in_default.not-Some some.0 (c.lookup-entry.ensures ∙ some.1))
     ]

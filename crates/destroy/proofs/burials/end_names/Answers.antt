@@ -18,7 +18,7 @@ end_name-requires c =
     }
 
 pub loop-request-preserved : goal.loop-request-preserved
-loop-request-preserved c = one_longer c.args.port c.args.world.now c.loop-request.turns c.loop-request.world c.end_name.new.world c.loop-request.invariant c.end_name.ensures.ends
+loop-request-preserved c = one_longer c.args.port c.args.world.now c.loop-request.turns c.loop-request.world c.end_name.result c.end_name.new.world c.loop-request.invariant c.end_name.ensures.ends _ c.saturating_add-turns.ensures
 
 pub returns : goal.returns
 returns c =

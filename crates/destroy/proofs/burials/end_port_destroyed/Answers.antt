@@ -6,7 +6,7 @@ use Rattle.rights.specs.Unused.{IsUnusedOfAll}
 use Rattle.copyin_base.specs.Worlds.{WorldView}
 use Rattle.copyin_base.proofs.Written.{tables}
 use Rattle.notifications.specs.Posting.{CanPost}
-use Rattle.destroy.specs.Paying.{LivesIn, Pays}
+use Rattle.destroy.specs.Paying.{LivesIn, Pays, PaysMany}
 use Rattle.destroy.proofs.BurySteps.{saving_ended, saving_post, none_ended}
 use Rattle.destroy.proofs.BuryNames.{is_none, saving_absent, saving_taken, saving_found}
 use Rattle.destroy.proofs.burials.end_port_destroyed.Goals as goal
@@ -45,4 +45,7 @@ returns c =
     saving_ended c.args.port c.args.world.now (subst (λ (w : WorldView). IsUnusedOfAll w.ledger) view c.unused.ensures.all) c.in-Some.notify (sym found ∙ c.in-Some.is) c.pay.new.world
     (subst (λ (w : WorldView). Pays w c.in-Some.notify SendOnce c.pay.new.world)
     (saving_taken c.args.world.now k.0.items k.1.0 k.1.1.0 k.1.1.1.0 r.names r.no_senders r.port_destroyed view c.number.result c.args.port c.number.ensures c.remove.new.self c.remove.ensures.after)
-    c.pay.ensures)
+    c.pay.ensures.pays)
+    c.pay.result (subst (λ (w : WorldView). PaysMany w c.in-Some.notify c.pay.result)
+    (saving_taken c.args.world.now k.0.items k.1.0 k.1.1.0 k.1.1.1.0 r.names r.no_senders r.port_destroyed view c.number.result c.args.port c.number.ensures c.remove.new.self c.remove.ensures.after)
+    c.pay.ensures.many)

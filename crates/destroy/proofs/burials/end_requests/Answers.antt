@@ -15,4 +15,4 @@ pub returns : goal.returns
 returns c = all_kinds c.args.port c.args.world.now _ c.end_names.new.world
     (joined c.args.port (λ r. (r ≡ no_senders c.args.port) ⊎ (r ≡ port_destroyed c.args.port)) IsOnName c.args.world.now _ c.end_port_destroyed.new.world c.end_names.result c.end_names.new.world
     (joined c.args.port (λ r. r ≡ no_senders c.args.port) (λ r. r ≡ port_destroyed c.args.port) c.args.world.now c.end_no_senders.result c.end_no_senders.new.world c.end_port_destroyed.result c.end_port_destroyed.new.world
-    c.end_no_senders.ensures c.end_port_destroyed.ensures) c.end_names.ensures)
+    c.end_no_senders.ensures c.end_port_destroyed.ensures _ c.saturating_add.ensures) c.end_names.ensures _ c.saturating_add-2.ensures)

@@ -1,7 +1,7 @@
-use Rattle.std.proofs.Common.{ap, ◌∙◌}
+use Rattle.std.proofs.Common.{ap, ◌∙◌, arith}
 use Rattle.copyin_base.specs.Worlds.{WorldView}
 use Rattle.destroy.specs.Stages.{IsJudged, AreLost, AreTold, IsStarted}
-use Rattle.destroy.proofs.EndSteps.{started, continued, wrapped, tells_doomed, settles}
+use Rattle.destroy.proofs.EndSteps.{started, continued, tells_doomed, settles}
 use Rattle.destroy.proofs.BuryNames.{rooms_more}
 use Rattle.destroy.proofs.Rooms.{same_rooms}
 use Rattle.destroy.proofs.ending.settle_parts.Goals as goal
@@ -29,7 +29,7 @@ returns-clause-settles c = settles c.args.world.now c.pay_for_names.new.world c.
     c.judge_ports-judged.result c.lose_messages-lost.result c.tell_senderless-told.result c.bury_ports-ended.result _
     c.pay_for_names.ensures.starts c.judge_ports-judged.ensures.continues c.lose_messages-lost.ensures.continues c.tell_senderless-told.ensures.continues c.bury_ports-ended.ensures.continues
     (tells_doomed c.bury_ports-ended.new.world c.world.inside.ports (ap (λ (w : WorldView). w.ports) c.world.view_is) c.first_doomed.ensures.all)
-    (wrapped c.judge_ports-judged.result c.lose_messages-lost.result c.tell_senderless-told.result c.bury_ports-ended.result)
+    (let a = c.saturating_add.ensures in let b = c.saturating_add-2.ensures in let d = c.saturating_add-3.ensures in omega (arith, a, b, d))
 
 pub returns-clause-rooms : goal.returns-clause-rooms
 returns-clause-rooms c = rooms_more c.args.world.now c.tell_senderless-told.new.world c.bury_ports-ended.new.world

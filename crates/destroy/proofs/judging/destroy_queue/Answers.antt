@@ -1,4 +1,4 @@
-use Rattle.std.proofs.Common.{ap, subst, sym, ◌∙◌, refl, length}
+use Rattle.std.proofs.Common.{ap, subst, sym, ◌∙◌, length}
 use Rattle.copyin_base.specs.Worlds.{WorldView}
 use Rattle.destroy.specs.Judging.{CarriesAmong, LosesAmong, DestroysNext, Empties}
 use Rattle.destroy.proofs.JudgeQueue.{last_is, remains, fewer, w2_is, empties_one, empties_more}
@@ -16,7 +16,7 @@ loop-port-smaller c = fewer c.loop-port.world c.args.port c.destroy_next.new.wor
 pub loop-port-preserved : goal.loop-port-preserved
 loop-port-preserved c = (
   empties_more c.args.world.now c.loop-port.world c.lose_carried.new.world c.args.port c.loop-port.turns c.loop-port.invariant.0
-      (empties_one c.loop-port.world c.args.port c.destroy_next.new.world (destroyed c) c.lose_carried.new.world (lost c)) _ refl,
+      (empties_one c.loop-port.world c.args.port c.destroy_next.new.world (destroyed c) c.lose_carried.new.world (lost c)) _ c.saturating_add-turns.ensures,
   remains c.loop-port.world c.args.port c.destroy_next.new.world (destroyed c) c.lose_carried.new.world (lost c) ∙ c.loop-port.invariant.1,
   ap (λ (w : WorldView). w.spaces) (w2_is c.loop-port.world c.args.port c.destroy_next.new.world (destroyed c) c.lose_carried.new.world (lost c)) ∙ c.loop-port.invariant.2,
 )

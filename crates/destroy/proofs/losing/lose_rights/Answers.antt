@@ -1,4 +1,4 @@
-use Rattle.std.proofs.Common.{◌≡◌, ◌+◌, ◌%◌, ◌^◌, [], List, Option, sym, ap, subst, ◌∙◌}
+use Rattle.std.proofs.Common.{◌≡◌, [], List, Option, sym, ap, subst, ◌∙◌}
 use Rattle.std.specs.Option.{option_to_list}
 use Rattle.copyin_base.specs.declared.message.Carried.{Carried}
 use Rattle.copyin_base.specs.Kept.{Kept}
@@ -29,10 +29,10 @@ lose_body-requires c =
 pub returns-clause-loses : goal.returns-clause-loses
 returns-clause-loses c =
     let is : c.args.queued.now ≡ c.in-Sent.message = sym c.queued.view_is ∙ ap kept_in c.in-Sent.is in
-    subst (λ (k : Kept). LosesTo (carried_in k) [] c.args.world.now ((c.lose_reply-replied.result + c.lose_body.result) % 2 ^ 64) c.lose_body.new.world) (sym is)
+    subst (λ (k : Kept). LosesTo (carried_in k) [] c.args.world.now c.saturating_add.result c.lose_body.new.world) (sym is)
     (loses_both (option_to_list c.in-Sent.message.reply) c.in-Sent.message.rights c.args.world.now c.lose_reply-replied.result c.lose_reply-replied.new.world c.lose_body.result c.lose_body.new.world
     (subst (λ (o : Option Carried). LosesTo (option_to_list o) [] c.args.world.now c.lose_reply-replied.result c.lose_reply-replied.new.world) c.reply.ensures c.lose_reply-replied.ensures.loses)
-    (subst (λ (cs : List Carried). LosesTo cs [] c.lose_reply-replied.new.world c.lose_body.result c.lose_body.new.world) (c.as_slice.ensures ∙ c.rights.ensures) c.lose_body.ensures.loses))
+    (subst (λ (cs : List Carried). LosesTo cs [] c.lose_reply-replied.new.world c.lose_body.result c.lose_body.new.world) (c.as_slice.ensures ∙ c.rights.ensures) c.lose_body.ensures.loses) _ c.saturating_add.ensures)
 
 pub returns-clause-spaces : goal.returns-clause-spaces
 returns-clause-spaces c = c.lose_body.ensures.spaces ∙ c.lose_reply-replied.ensures.spaces

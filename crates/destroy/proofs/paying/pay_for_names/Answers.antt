@@ -20,8 +20,8 @@ pay-requires c = can_pay c.args.world.now c.loop-request.world c.take_went.new.w
 
 pub loop-request-preserved : goal.loop-request-preserved
 loop-request-preserved c = (
-  pays_more c.args.world.now c.loop-request.world c.take_went.new.world c.loop-request.invariant.0 c.in-Some.request c.in-Some.ensures.some c.pay.new.world c.in-Some.ensures.unused c.pay.ensures,
-  pays_spaces c.take_went.new.world c.in-Some.request.notify (PortDeleted c.in-Some.request.name) c.pay.new.world c.pay.ensures (lives_or_not c.take_went.new.world c.in-Some.request.notify)
+  pays_more c.args.world.now c.loop-request.world c.take_went.new.world c.loop-request.invariant.0 c.in-Some.request c.in-Some.ensures.some c.pay.new.world c.in-Some.ensures.unused c.pay.ensures.pays,
+  pays_spaces c.take_went.new.world c.in-Some.request.notify (PortDeleted c.in-Some.request.name) c.pay.new.world c.pay.ensures.pays (lives_or_not c.take_went.new.world c.in-Some.request.notify)
       ∙ ap (λ (w : WorldView). w.spaces) c.in-Some.ensures.some.rest ∙ c.loop-request.invariant.1,
 )
 

@@ -10,4 +10,4 @@ returns-in_default c = told_none c.args.world.now c.args.port c.end_no_senders.n
 pub returns : goal.returns
 returns c = told_one c.args.world.now c.args.port c.end_no_senders.new.world c.pay.new.world c.attributes-made.result c.end_no_senders.result c.in-Some.notify
     (c.if-not-lives.ensures.0 refl) c.if-has_senders.ensures.1 c.attributes-made.ensures c.end_no_senders.ensures.notify c.in-Some.is c.end_no_senders.ensures.ended
-    (subst (λ (w : WorldView). IsUnusedOfAll w.ledger) c.world.view_is c.unused.ensures.all) c.requires c.pay.ensures
+    (subst (λ (w : WorldView). IsUnusedOfAll w.ledger) c.world.view_is c.unused.ensures.all) c.requires c.pay.ensures.pays c.pay.result c.pay.ensures.many

@@ -3,19 +3,19 @@ use Rattle.destroy.proofs.TellTurns.{loop_can, loop_fewer, loop_next, loop_done}
 use Rattle.destroy.proofs.BurySteps.{tells_spaces, noted_spaces, untaken_spaces}
 use Rattle.destroy.proofs.telling.tell_senderless.Goals as goal
 
-pub tell_no_senders-turns-requires : goal.tell_no_senders-turns-requires
-tell_no_senders-turns-requires c = loop_can c.loop-port.world c.take_noted.new.world c.take_noted.result c.in-Some.port c.take_noted.ensures.first c.in-Some.is c.take_noted.ensures.taken
+pub tell_no_senders-requires : goal.tell_no_senders-requires
+tell_no_senders-requires c = loop_can c.loop-port.world c.take_noted.new.world c.take_noted.result c.in-Some.port c.take_noted.ensures.first c.in-Some.is c.take_noted.ensures.taken
     c.args.world.now c.loop-port.turns c.loop-port.invariant.0 c.requires
 
 pub loop-port-smaller : goal.loop-port-smaller
 loop-port-smaller c = loop_fewer c.loop-port.world c.take_noted.new.world c.take_noted.result c.in-Some.port c.take_noted.ensures.first c.in-Some.is c.take_noted.ensures.taken
-    c.tell_no_senders-turns.result c.tell_no_senders-turns.new.world c.tell_no_senders-turns.ensures
+    c.tell_no_senders.result c.tell_no_senders.new.world c.tell_no_senders.ensures
 
 pub loop-port-preserved : goal.loop-port-preserved
 loop-port-preserved c = (
   loop_next c.loop-port.world c.take_noted.new.world c.take_noted.result c.in-Some.port c.take_noted.ensures.first c.in-Some.is c.take_noted.ensures.taken
-      c.args.world.now c.loop-port.turns c.loop-port.invariant.0 c.tell_no_senders-turns.result c.tell_no_senders-turns.new.world c.tell_no_senders-turns.ensures,
-  tells_spaces c.take_noted.new.world c.in-Some.port c.tell_no_senders-turns.result c.tell_no_senders-turns.new.world c.tell_no_senders-turns.ensures
+      c.args.world.now c.loop-port.turns c.loop-port.invariant.0 c.tell_no_senders.result c.tell_no_senders.new.world c.tell_no_senders.ensures _ c.saturating_add-turns.ensures,
+  tells_spaces c.take_noted.new.world c.in-Some.port c.tell_no_senders.result c.tell_no_senders.new.world c.tell_no_senders.ensures
       ∙ noted_spaces c.loop-port.world c.take_noted.new.world c.take_noted.result c.in-Some.port c.in-Some.is c.take_noted.ensures.taken ∙ c.loop-port.invariant.1,
 )
 
