@@ -22,3 +22,12 @@ mod Naming
 pub mod Refusals
 pub mod Deciding
 mod Rising
+mod MemoryFree
+mod Shrinking
+mod Asked
+mod Kept
+mod NoticeMeans
+mod OwedMeans
+mod Making
+mod Made
+mod Leaving

@@ -7,8 +7,11 @@ pub mod Queued
 pub mod Counts
 pub mod Headline
 pub mod Notices
+pub mod Meaning
 pub mod Looks
 pub mod Judging
+pub mod MemoryFree
+pub mod Making
 pub mod FirstMessage
 pub mod Answering
 pub mod Gathering

@@ -5,22 +5,22 @@
 //! `specs/` here need believe nothing else.
 #![tactic(auto)]
 
-ghost use Rattle.std.specs.Prelude.{◌≡◌, ◌≢◌, ◌↔◌, ◌+◌, ◌&&◌, ◌≤◌, ℕ, Bool, true, false, List, [], Some, length, map, slice_get};
+ghost use Rattle.std.specs.Prelude.{◌≡◌, ◌≢◌, ◌↔◌, ◌+◌, ◌&&◌, ◌≤◌, ℕ, Bool, true, false, List, [], Some, length, map, slice_get, Contains};
 ghost use Rattle.mach_types.specs.declared.calls.Event.{Event};
 ghost use Rattle.mach_types.specs.declared.calls.Reply.{Reply};
 ghost use Rattle.mach_types.specs.declared.calls.Waited.{Waited};
 ghost use Rattle.mach_types.specs.declared.codes.MsgReturn.TheVariants.{ReceiveBodyErrorNames};
 ghost use Rattle.mach_types.specs.Numbers.{msg_number};
-ghost use Rattle.mach_types.specs.Tokens.{count, is_of, send, send_once, receive as receive_kind};
+ghost use Rattle.mach_types.specs.Tokens.{Kind, count, is_of, send, send_once, receive as receive_kind};
 ghost use Rattle.mach_types.specs.Grammar.{Header, WireBody, Spells};
-ghost use Rattle.mach_types.specs.Guards.{NoneHolds};
+ghost use Rattle.mach_types.specs.Guards.{FirstIs, NoneHolds};
 ghost use Rattle.mach_types.specs.Messages.{Entry};
 ghost use Rattle.mach_model.specs.State.{State, Target, lookup, queue};
 ghost use Rattle.mach_model.specs.Tasks.{EndsTask};
 ghost use Rattle.mach_model.specs.Receive.{DestroysFront};
 ghost use Rattle.mach_model.specs.Requests.{notify_guards, Requests};
 ghost use Rattle.mach_model.specs.Death.{Dies, IsClosed, IsGrounded};
-ghost use Rattle.mach_model.specs.Notices.{Owed};
+ghost use Rattle.mach_model.specs.Notices.{Owed, Posted};
 ghost use Rattle.mach_model.specs.Settles.{tokens_of, Settles};
 ghost use Rattle.mach_model.specs.SameEnd.{IsSameEnd};
 ghost use Rattle.mach_model.specs.Refusals.{Refuses, guards};
@@ -38,8 +38,11 @@ ghost use Rattle.mach_laws.specs.Queued.{queued, unused, MakesSlots, SlotsWithin
 ghost use Rattle.mach_laws.specs.Counts.{accepts, takes_from, destroyed, is_lost, once_rights, queued_by_send, MayNeedSlots};
 ghost use Rattle.mach_laws.specs.Headline.{Headline};
 ghost use Rattle.mach_laws.specs.Notices.{TellsAll};
+ghost use Rattle.mach_laws.specs.Meaning.{Means};
 ghost use Rattle.mach_laws.specs.Looks.{IsLook, IsUnchanged};
 ghost use Rattle.mach_laws.specs.Judging.{IsMemoryCode, LacksMemory, IsBySet};
+ghost use Rattle.mach_laws.specs.MemoryFree.{TakesNoMemory};
+ghost use Rattle.mach_laws.specs.Making.{MakesRights, DropsSends};
 ghost use Rattle.mach_laws.specs.FirstMessage.{first_events, first_replies};
 ghost use Rattle.mach_laws.specs.Answering.{answering_events, answering_replies};
 ghost use Rattle.mach_laws.specs.Gathering.{gathering_events, gathering_replies};
@@ -372,4 +375,46 @@ pub fn deleted_name()
 /// other port dies.
 pub fn port_sent_away()
     ensures { (s : State) × Run sending_away_events sending_away_replies s }
+{}
+
+/// An event that takes no memory never runs out of it: its refusal is the code of the first guard that holds in the
+/// state before, which is no memory code, no step replies with such a code, and where no guard holds it is done.
+pub fn never_lacks()
+    ensures refused { (s : State) (event : Event) (code : ℕ) → TakesNoMemory event → Refuses s event code →
+        FirstIs (guards s event) code × ¬ (IsMemoryCode code) }
+    ensures reply { (now : ℕ) (s : State) (event : Event) (reply : Reply) (new : State) → TakesNoMemory event → Step now s event reply new →
+        ¬ (LacksMemory reply) }
+    ensures done { (now : ℕ) (s : State) (event : Event) (reply : Reply) (new : State) → TakesNoMemory event → NoneHolds (guards s event) →
+        Step now s event reply new → Done now s event reply new }
+{}
+
+/// After every run each notice that a step posts is true: what it says happened in that step, to whoever asked for it.
+/// Its notify port lives after the step.
+pub fn notice_means()
+    ensures { (events : List Event) (replies : List Reply) (s : State) → Run events replies s →
+        (event : Event) (reply : Reply) (new : State) → (done : Done (length events) s event reply new) →
+        (x : Posted) → Contains done.settles.notices.posted x →
+        (new.live_port x.port ≡ true) × Means s event done.mid new x.port x.entry x.notice }
+{}
+
+/// After every run rights are made by these events alone, and no more of them: a receive right where a port is
+/// allocated, send rights where `ModRefs` adds them, and by a send, a transfer or a request for a notice the right that
+/// each `COPY_SEND`, `MAKE_SEND` and `MAKE_SEND_ONCE` makes.
+pub fn rights_are_made_by_these()
+    ensures { (events : List Event) (replies : List Reply) (s : State) → Run events replies s →
+        (event : Event) (reply : Reply) (new : State) → Done (length events) s event reply new → (kind : Kind) (p : ℕ) →
+        (n : ℕ) × MakesRights s event kind p n × (count (is_of kind p) new.ledger ≤ count (is_of kind p) s.ledger + n) }
+{}
+
+/// After every run a send-once right of a port that lives leaves only with a message that is taken from that port. A
+/// send right of one leaves only by an event that drops it, or with a message of a port that died. (A receive right of
+/// one stays: `one_receive_right`.)
+pub fn rights_leave_by_these()
+    ensures once { (events : List Event) (replies : List Reply) (s : State) → Run events replies s →
+        (event : Event) (reply : Reply) (new : State) → Done (length events) s event reply new → (p : ℕ) → new.live_port p ≡ true →
+        count (is_of send_once p) s.ledger + s.taken p ≤ count (is_of send_once p) new.ledger + new.taken p }
+    ensures send { (events : List Event) (replies : List Reply) (s : State) → Run events replies s →
+        (event : Event) (reply : Reply) (new : State) → Done (length events) s event reply new → (p : ℕ) → new.live_port p ≡ true →
+        (n : ℕ) × DropsSends s event new p n ×
+        (count (is_of send p) s.ledger ≤ count (is_of send p) new.ledger + n + count (λ x. is_of send p x && is_lost new x) s.ledger) }
 {}
