@@ -62,6 +62,16 @@ empty_list (x ∷ xs) e = absurd (omega arith)
 pub no_calls : (counts : List ℕ) (log : List Entry) → CountsFit counts log → calls_by (length counts) log ≡ []
 no_calls counts log fit = empty_list (calls_by (length counts) log) (sym (fit (length counts)) ∙ past_end counts)
 
+past_any : (xs : List ℕ) (c : ℕ) → length xs ≤ c → get_or xs c 0 ≡ 0
+past_any [] zero le = refl
+past_any [] (suc c) le = refl
+past_any (x ∷ xs) zero le = absurd (omega (arith, le))
+past_any (x ∷ xs) (suc c) le = past_any xs c (omega (arith, le))
+
+-- nobody has called whose count isn't there
+pub no_calls_past : (counts : List ℕ) (log : List Entry) → CountsFit counts log → (c : ℕ) → length counts ≤ c → calls_by c log ≡ []
+no_calls_past counts log fit c le = empty_list (calls_by c log) (sym (fit c) ∙ past_any counts c le)
+
 push_zero : (xs : List ℕ) (c : ℕ) → get_or (xs ++ 0 ∷ []) c 0 ≡ get_or xs c 0
 push_zero [] zero = refl
 push_zero [] (suc c) = refl

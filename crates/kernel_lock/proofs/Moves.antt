@@ -13,7 +13,7 @@ use Rattle.kernel_lock.specs.declared.board.View.{View}
 use Rattle.mach_model.specs.State.{opening as nothing_made}
 use Rattle.kernel_lock.specs.History.{Legal, calls_by, StartsWith}
 use Rattle.kernel_lock.specs.Views.{desk_view, pass_view, watch_view, nobody, taken_in, published, desk_of, pass_of, desk_with_one_more, new_pass, copy_of, informed}
-use Rattle.kernel_lock.specs.Table.{Fits, Kept, Looks, Publishes, pick}
+use Rattle.kernel_lock.specs.Table.{Fits, Kept, Looks, Confirms, Publishes, pick}
 use Rattle.kernel_lock.proofs.Lists.{starts_self, starts_empty, starts_more, at_end, calls_own, calls_other}
 
 abbrev Seats : Type 0
@@ -210,6 +210,26 @@ looks slots id seen told s k homes at small =
       (k.log, refl, ap (λ (ws : List ℕ). slice_index ws 0) (sym k.words), k.legal, f.0, f.1),
     )
 
+-- the lock's seat looks with a pass in hand
+pub confirms : (slots id : ℕ) (v : View) → v.desk ≡ true → v.calls ≡ true → Allows Kept slots id (v, []) 0 (λ n. n) (Confirms (step slots 0 0 0 none) (v, []))
+confirms slots id v is_desk is_calling s k homes at small =
+    let f = k.fits id v at in
+    let g = f.2 is_desk in
+    let p = f.3 is_calling in (
+      v,
+      keeps,
+      tt,
+      record {
+        log = k.log;
+        desk = k.desk;
+        seat = k.seat;
+        words = subst (λ (ws : List ℕ). set ws 0 (slice_index ws 0) ≡ length k.log ∷ []) (sym k.words) refl;
+        legal = k.legal;
+        fits = fits_set k.seat k.desk k.log s.views id v (λ j u apart e. k.fits j u e) f;
+      },
+      (refl, subst (λ l. StartsWith l v.told) (sym g.1) f.1, ap (calls_by v.caller) g.1 ∙ p.1),
+    )
+
 -- the lock's seat publishes a call of the pass that it has in hand
 pub publishes : (slots id : ℕ) (v : View) (length_now : ℕ) (e : Entry) → v.desk ≡ true → v.calls ≡ true → length v.seen ≡ length_now → e.caller ≡ v.caller → Legal (v.seen ++ e ∷ [])
     → Allows Kept slots id (v, []) 0 (λ n. either (n == length_now) (length_now + 1) n) (Publishes (step slots 0 length_now (length_now + 1) (some e)) (v, []))
@@ -249,6 +269,13 @@ publishes slots id v n e is_desk is_calling len own legal s k homes at small =
 -- the same moves, at a view that is known
 pub looks_as : (slots id : ℕ) (me : Me Entry View) (seen told : List Entry) → me ≡ (watch_view seen told, []) → Allows Kept slots id me 0 (λ n. n) (Looks (step slots 0 0 0 none) me)
 looks_as slots id me seen told is = subst (λ (m : Me Entry View). Allows Kept slots id m 0 (λ n. n) (Looks (step slots 0 0 0 none) m)) (sym is) (looks slots id seen told)
+
+pub confirms_as : (slots id : ℕ) (me : Me Entry View) (v : View) → me ≡ (v, []) → v.desk ≡ true → v.calls ≡ true → Allows Kept slots id me 0 (λ n. n) (Confirms (step slots 0 0 0 none) me)
+confirms_as slots id me v is is_desk is_calling = subst (λ (m : Me Entry View). Allows Kept slots id m 0 (λ n. n) (Confirms (step slots 0 0 0 none) m)) (sym is) (confirms slots id v is_desk is_calling)
+
+-- a pass's view, by its own fields
+pub own_view : (me : Me Entry View) (caller : ℕ) (mine seen : List Entry) → me ≡ (pass_view caller mine seen, []) → me ≡ (pass_view me.0.caller me.0.mine me.0.seen, [])
+own_view me caller mine seen is = is ∙ (λ i. (pass_view (sym is i).0.caller (sym is i).0.mine (sym is i).0.seen, []))
 
 pub leaves_as : (id caller : ℕ) (v : View) (mine seen : List Entry) → v ≡ pass_view caller mine seen → Splits {S = Entry} Kept id v nobody v
 leaves_as id caller v mine seen is = subst (λ (u : View). Splits {S = Entry} Kept id u nobody u) (sym is) (leaves id caller mine seen)

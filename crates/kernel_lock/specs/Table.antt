@@ -45,6 +45,10 @@ IfSaid (some e) f = f e
 abbrev pub Publishes : Step Entry → Me Entry View → ℕ → Me Entry View → Type 0
 Publishes s v found w = IfSaid s.said (PublishesThis v w)
 
+-- a look with a pass in hand: it knows its own calls, and a beginning of the history
+abbrev pub Confirms : Step Entry → Me Entry View → ℕ → Me Entry View → Type 0
+Confirms s v found w = (w ≡ v) × StartsWith v.0.seen v.0.told × (calls_by v.0.caller v.0.seen ≡ v.0.mine)
+
 -- the function, changed at one place
 abbrev pub pick : Bool → Option ℕ → Option ℕ → Option ℕ
 pick true a b = a

@@ -40,6 +40,14 @@ impl Play<Entry, View> for Look {
     ghost then = { Looks };
 }
 
+pub struct Confirm;
+
+impl Play<Entry, View> for Confirm {
+    ghost use Rattle.kernel_lock.specs.Table.{Confirms};
+
+    ghost then = { Confirms };
+}
+
 pub struct Publish;
 
 impl Play<Entry, View> for Publish {
@@ -191,6 +199,22 @@ impl Board {
         let before = shared.split_seat::<Leave>(pass);
         shared.join_seat::<TakeIn>(desk, before);
         shared.compare_exchange_with::<Publish>(desk, 0, count, count + 1, entry);
+        *pass = shared.split_seat::<GiveBack>(desk);
+    }
+
+    // The lock's seat takes the pass in, looks, and gives it back: the pass has then seen the whole history.
+    pub(crate) fn show(&self, desk: &mut Place, pass: &mut Place)
+        requires desk { (desk.old.table_id ≡ self.now) × (desk.old.me ≡ (desk_view desk.old.me.0.seen desk.old.me.0.made, [])) }
+        requires pass { (pass.old.table_id ≡ self.now) × (pass.old.me ≡ (pass_view pass.old.me.0.caller pass.old.me.0.mine pass.old.me.0.seen, [])) }
+        ensures desk { (desk.new.table_id ≡ self.now) × (desk.new.me ≡ desk.old.me) }
+        ensures pass { (pass.new.table_id ≡ self.now) × (pass.new.me ≡ (pass_view pass.old.me.0.caller pass.old.me.0.mine desk.old.me.0.seen, [])) }
+        ensures seen { StartsWith desk.old.me.0.seen pass.old.me.0.seen }
+        ensures mine { calls_by pass.old.me.0.caller desk.old.me.0.seen ≡ pass.old.me.0.mine }
+    {
+        let shared = &self.table.shared;
+        let before = shared.split_seat::<Leave>(pass);
+        shared.join_seat::<TakeIn>(desk, before);
+        shared.load::<Confirm>(desk, 0);
         *pass = shared.split_seat::<GiveBack>(desk);
     }
 

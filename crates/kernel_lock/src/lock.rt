@@ -1,9 +1,9 @@
 //! The kernel behind its lock, with its history.
-ghost use Rattle.std.specs.Prelude.{◌≡◌, ◌≢◌, ◌+◌, ◌<◌, ◌≤◌, ◌^◌, true, false, [], ◌∷◌, length, None, IfOk, slice_index_or, slice_set};
+ghost use Rattle.std.specs.Prelude.{◌≡◌, ◌≢◌, ◌+◌, ◌<◌, ◌≤◌, ◌^◌, ℕ, true, false, [], ◌∷◌, length, None, IfOk, IfErr, slice_index_or, slice_set};
 ghost use Rattle.mach_types.specs.declared.calls.Reply.{Reply as AnyReply};
 ghost use Rattle.mach_model.specs.State.{opening};
 ghost use Rattle.copyin_base.specs.Shows.{Shows};
-ghost use Rattle.kernel_lock.specs.History.{Legal, StartsWith, Stepped, Called};
+ghost use Rattle.kernel_lock.specs.History.{Legal, StartsWith, Stepped, Called, calls_by};
 ghost use Rattle.kernel_lock.specs.Berth.{IsLike};
 ghost use Rattle.kernel_lock.specs.Replays.{Replays, kept_of};
 ghost use Rattle.kernel_lock.specs.Views.{desk_view};
@@ -50,8 +50,8 @@ impl Model for Pass {
 ///
 /// The type keeps that the history's events and replies are a run of the machine to a state that this
 /// kernel shows, and that each count is that of the caller's entries. The entries themselves are kept, or they
-/// aren't, from the first call on. To contracts it is its board, the history, whether its entries are kept, and the
-/// kernel's tables and turns.
+/// aren't, from the first call on. To contracts it is its board, the history, whether its entries are kept, how many
+/// passes were made, and the kernel's tables and turns.
 #[derive(Drop)]
 pub struct LockedKernel {
     alloc: Global,
@@ -75,7 +75,7 @@ impl Model for LockedKernel {
 
     ghost coded = { stored_code table_id_coded entry.the_row.coded machine.the_row.coded };
 
-    ghost view = { λ k. record { table = k.seat.table_id; log = k.seat.me.0.seen; keeps = k.entries.keeps; kernel = k.kernel } };
+    ghost view = { λ k. record { table = k.seat.table_id; log = k.seat.me.0.seen; keeps = k.entries.keeps; passes = length k.counts.items; kernel = k.kernel } };
 
     ghost invariant = { λ k. Replays k.seat.me.0.seen k.kernel × CountsFit k.counts.items k.seat.me.0.seen × (k.seat.me ≡ (desk_view k.seat.me.0.seen (length k.counts.items), []))
         × (k.events ≡ length k.seat.me.0.seen) × (k.entries.list.items ≡ kept_of k.entries.keeps k.seat.me.0.seen) };
@@ -88,6 +88,7 @@ impl LockedKernel {
         ensures tied { result.table ≡ seat.table_id }
         ensures keeps { result.keeps ≡ keeps }
         ensures empty { result.log ≡ [] }
+        ensures none { result.passes ≡ 0 }
         ensures opening { Shows result.kernel.tables opening }
     {
         LockedKernel {
@@ -116,6 +117,14 @@ impl LockedKernel {
         self.events
     }
 
+    /// How many passes were made. No other caller has a call in the history. Constant time.
+    pub fn passes(&self) -> u64
+        ensures count { result ≡ self.now.passes }
+        ensures others { (c : ℕ) → self.now.passes ≤ c → calls_by c self.now.log ≡ [] }
+    {
+        self.counts.len() as u64
+    }
+
     /// Makes one call of the pass's caller, whole, and puts it at the end of the history as it was answered.
     ///
     /// The history's growths come first: the entry's place, and room for a copy of the reply, as much as
@@ -127,6 +136,7 @@ impl LockedKernel {
         ensures tied { (self.new.table ≡ board.now) × (pass.new.table ≡ board.now) }
         ensures step { Stepped self.old.log self.new.log pass.old pass.new event result }
         ensures same { self.new.keeps ≡ self.old.keeps }
+        ensures passes { self.new.passes ≡ self.old.passes }
         ensures unmade { result ≡ AnyReply.NoRecord → self.new ≡ self.old }
         ensures recorded { self.old.keeps ≡ false → length self.old.log < 2 ^ 63 → result ≢ AnyReply.NoRecord }
         ensures full { 2 ^ 63 ≤ length self.old.log → result ≡ AnyReply.NoRecord }
@@ -153,8 +163,9 @@ impl LockedKernel {
 
     fn new_pass(&mut self, board: &Board) -> Result<Pass, AllocError>
         requires { self.old.table ≡ board.now }
-        ensures same { self.new ≡ self.old }
-        ensures new { IfOk result (λ p. (p.table ≡ board.now) × (p.seen ≡ [])) }
+        ensures same { (self.new.table ≡ self.old.table) × (self.new.log ≡ self.old.log) × (self.new.keeps ≡ self.old.keeps) × (self.new.kernel ≡ self.old.kernel) }
+        ensures new { IfOk result (λ p. (p.table ≡ board.now) × (p.caller ≡ self.old.passes) × (p.seen ≡ []) × (self.new.passes ≡ self.old.passes + 1)) }
+        ensures none { IfErr result (λ _. self.new.passes ≡ self.old.passes) }
     {
         let caller = self.counts.len() as u64;
         self.counts.push(0)?;
@@ -164,6 +175,20 @@ impl LockedKernel {
             count: 0,
             seat,
         })
+    }
+
+    /// Makes the pass see the whole history. Its own calls there are those that it had seen. Waits for nobody, and takes
+    /// no memory.
+    pub fn show(&mut self, board: &Board, pass: &mut Pass)
+        requires { (self.old.table ≡ board.now) × (pass.old.table ≡ board.now) }
+        ensures same { self.new ≡ self.old }
+        ensures tied { pass.new.table ≡ board.now }
+        ensures caller { pass.new.caller ≡ pass.old.caller }
+        ensures whole { pass.new.seen ≡ self.old.log }
+        ensures begins { StartsWith self.old.log pass.old.seen }
+        ensures own { calls_by pass.old.caller self.old.log ≡ calls_by pass.old.caller pass.old.seen }
+    {
+        board.show(&mut self.seat, &mut pass.seat);
     }
 
     fn new_watch(&mut self, board: &Board) -> Watch
@@ -238,12 +263,21 @@ impl<'a> Held<'a> {
         self.kernel.events()
     }
 
+    /// How many passes were made, as [`LockedKernel::passes`] tells.
+    pub fn passes(&self) -> u64
+        ensures count { result ≡ self.now.kernel.passes }
+        ensures others { (c : ℕ) → self.now.kernel.passes ≤ c → calls_by c self.now.kernel.log ≡ [] }
+    {
+        self.kernel.passes()
+    }
+
     /// One call, as [`LockedKernel::step_locked`] makes it.
     pub fn step_locked(&mut self, board: &Board, pass: &mut Pass, event: Event) -> Reply
         requires { (self.old.kernel.table ≡ board.now) × (pass.old.table ≡ board.now) }
         ensures tied { (self.new.kernel.table ≡ board.now) × (pass.new.table ≡ board.now) }
         ensures step { Stepped self.old.kernel.log self.new.kernel.log pass.old pass.new event result }
         ensures same { self.new.kernel.keeps ≡ self.old.kernel.keeps }
+        ensures passes { self.new.kernel.passes ≡ self.old.kernel.passes }
         ensures unmade { result ≡ AnyReply.NoRecord → self.new.kernel ≡ self.old.kernel }
         ensures recorded { self.old.kernel.keeps ≡ false → length self.old.kernel.log < 2 ^ 63 → result ≢ AnyReply.NoRecord }
         ensures full { 2 ^ 63 ≤ length self.old.kernel.log → result ≡ AnyReply.NoRecord }
@@ -251,12 +285,29 @@ impl<'a> Held<'a> {
         self.kernel.step_locked(board, pass, event)
     }
 
-    fn new_pass(&mut self, board: &Board) -> Result<Pass, AllocError>
+    /// A new caller, which has seen nothing. Its number is how many passes were made before. An error means that memory
+    /// for its count was refused, and there is no new caller.
+    pub fn pass(&mut self, board: &Board) -> Result<Pass, AllocError>
         requires { self.old.kernel.table ≡ board.now }
-        ensures same { self.new.kernel ≡ self.old.kernel }
-        ensures new { IfOk result (λ p. (p.table ≡ board.now) × (p.seen ≡ [])) }
+        ensures same { (self.new.kernel.table ≡ self.old.kernel.table) × (self.new.kernel.log ≡ self.old.kernel.log) × (self.new.kernel.keeps ≡ self.old.kernel.keeps)
+            × (self.new.kernel.kernel ≡ self.old.kernel.kernel) }
+        ensures new { IfOk result (λ p. (p.table ≡ board.now) × (p.caller ≡ self.old.kernel.passes) × (p.seen ≡ []) × (self.new.kernel.passes ≡ self.old.kernel.passes + 1)) }
+        ensures none { IfErr result (λ _. self.new.kernel.passes ≡ self.old.kernel.passes) }
     {
         self.kernel.new_pass(board)
+    }
+
+    /// Makes the pass see the whole history, as [`LockedKernel::show`] does.
+    pub fn show(&mut self, board: &Board, pass: &mut Pass)
+        requires { (self.old.kernel.table ≡ board.now) × (pass.old.table ≡ board.now) }
+        ensures same { self.new.kernel ≡ self.old.kernel }
+        ensures tied { pass.new.table ≡ board.now }
+        ensures caller { pass.new.caller ≡ pass.old.caller }
+        ensures whole { pass.new.seen ≡ self.old.kernel.log }
+        ensures begins { StartsWith self.old.kernel.log pass.old.seen }
+        ensures own { calls_by pass.old.caller self.old.kernel.log ≡ calls_by pass.old.caller pass.old.seen }
+    {
+        self.kernel.show(board, pass);
     }
 
     fn new_watch(&mut self, board: &Board) -> Watch
@@ -317,6 +368,23 @@ impl Shared {
         unreachable!()
     }
 
+    /// The same, as soon as the history has a place for one more call. Waits for ever where it has 2^63 of them.
+    fn lock_to_call<R: Wait>(&self, rt: &R) -> Held<'_>
+        ensures tied { result.kernel.table ≡ self.entry.now.table }
+        ensures keeps { result.kernel.keeps ≡ self.entry.now.keeps }
+        ensures place { length result.kernel.log < 2 ^ 63 }
+    {
+        for _ in rt.forever() {
+            let held = self.lock(rt);
+            if held.events() < MOST_CALLS {
+                return held;
+            }
+            drop(held);
+            thread::yield_now();
+        }
+        unreachable!()
+    }
+
     /// The board on which the history's length stands.
     pub fn board(&self) -> &Board
         ensures { result.now ≡ self.now.table }
@@ -329,7 +397,7 @@ impl Shared {
     pub fn pass<R: Wait>(&self, rt: &R) -> Result<Pass, AllocError>
         ensures { IfOk result (λ p. (p.table ≡ self.now.table) × (p.seen ≡ [])) }
     {
-        self.lock(rt).new_pass(&self.board)
+        self.lock(rt).pass(&self.board)
     }
 
     /// A new watch, which has seen nothing. May wait; takes no memory.
@@ -339,14 +407,16 @@ impl Shared {
         self.lock(rt).new_watch(&self.board)
     }
 
-    /// Makes one call under the lock, as [`LockedKernel::step_locked`] does. May wait.
+    /// Makes one call under the lock, as [`LockedKernel::step_locked`] does. May wait, and does so for ever where the
+    /// history has 2^63 calls. Where entries aren't kept each call is recorded.
     #[tactic(auto, using(crate::proofs::Lists::called_of))]
     pub fn call<R: Wait>(&self, rt: &R, pass: &mut Pass, event: Event) -> Reply
         requires { pass.old.table ≡ self.now.table }
         ensures tied { pass.new.table ≡ self.now.table }
         ensures call { Called pass.old pass.new event result }
+        ensures recorded { self.now.keeps ≡ false → result ≢ AnyReply.NoRecord }
     {
-        self.lock(rt).step_locked(&self.board, pass, event)
+        self.lock_to_call(rt).step_locked(&self.board, pass, event)
     }
 }
 

@@ -114,3 +114,10 @@ pub returns-clause-recorded : goal.returns-clause-recorded
 returns-clause-recorded c =
     let k = c.self.inside in
     λ keeps few e. absurd (is_answered k.seat.me.0.seen k.kernel c.step-reply.new.self c.args.event c.step-reply.result c.self.invariant.0 c.step-reply.ensures.answers (sym c.add.ensures.reply ∙ e))
+
+pub returns-clause-passes : goal.returns-clause-passes
+returns-clause-passes c =
+    let k = c.self.inside in
+    let counts = k.counts.items in
+    let caller = c.pass.inside.caller in
+    ap length c.count_one.ensures ∙ length-set counts caller (slice_index_or counts caller 0 + 1) ∙ ap (λ x. x.passes) c.self.view_is
