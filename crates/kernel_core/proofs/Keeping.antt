@@ -1,5 +1,5 @@
 -- What a call keeps, and which code it tells of want of memory by, made of what its parts promise.
-use Rattle.std.proofs.Common.{◌≡◌, ◌≢◌, ℕ, ◌+◌, ◌<◌, ◌≤◌, List, [], length, Result, Ok, Err, IfErr, sym, ap, subst, ◌∙◌, arith, inl, inr}
+use Rattle.std.proofs.Common.{◌≡◌, ◌≢◌, ℕ, ◌+◌, ◌<◌, ◌≤◌, List, [], length, Result, Ok, Err, IfErr, refl, sym, ap, subst, ◌∙◌, arith, inl, inr}
 use Rattle.std.specs.Prelude.{max, OnOk, OnErr}
 use Rattle.std.proofs.lemmas.Bool.Decides.{eqb_tells, leb_tells}
 use Rattle.mach_types.specs.declared.calls.Event.{Event}
@@ -26,6 +26,7 @@ use Rattle.copyin_base.proofs.Spares.{keeps_refl, keeps_same}
 use Rattle.rights.specs.Unused.{IsUnusedOfAll}
 use Rattle.notifications.specs.declared.request.Asked.{Asked}
 use Rattle.notifications.specs.Wanted.{WantsToRequest, LeavesRequest, LeavesSlots as AskedSlots}
+use Rattle.kernel_core.specs.InTurn.{KeepsTurns, told_by}
 use Rattle.kernel_core.specs.Send.{UsesSlot}
 use Rattle.transfer.specs.Room.{MakesSlots}
 use Rattle.kernel_core.specs.Wanted.{memory_code, WantsMemory, Wanted, UsesSlots, LeavesSlots, LeavesSpares, Performs}
@@ -192,19 +193,19 @@ asks task name a = Event.RequestNotification task name a.variant a.sync a.notify
 
 -- a call that accepts no message
 pub carried : (old : WorldView) (event : Event) (result : Result Reply Code) (new : WorldView) → Serves old event result new →
-    IfErr result (λ code. code_number code ≡ memory_code event → WantsMemory old event) → KeepsSpares old new → OwesNone event → ((reply : Reply) → accepts event reply ≡ 0) → Performs old event result new
-carried old event result new serves wanted keeps owes none = record { serves = serves; wanted = wanted; spares = spared old event result new keeps owes none }
+    IfErr result (λ code. code_number code ≡ memory_code event → WantsMemory old event) → KeepsSpares old new → OwesNone event → ((reply : Reply) → accepts event reply ≡ 0) → KeepsTurns old event (told_by result) new → Performs old event result new
+carried old event result new serves wanted keeps owes none turns = record { serves = serves; wanted = wanted; spares = spared old event result new keeps owes none; turns = turns }
 
 -- a call that loses a right
 pub lost : (old : WorldView) (event : Event) (result : Result Reply Code) (new : WorldView) → Serves old event result new →
-    IfErr result (λ code. code_number code ≡ memory_code event → WantsMemory old event) → UsesSpares old new → ¬ (MayNeedSlots event) → Performs old event result new
-lost old event result new serves wanted uses few = record { serves = serves; wanted = wanted; spares = used_spares old event result new uses few }
+    IfErr result (λ code. code_number code ≡ memory_code event → WantsMemory old event) → UsesSpares old new → ¬ (MayNeedSlots event) → KeepsTurns old event (told_by result) new → Performs old event result new
+lost old event result new serves wanted uses few turns = record { serves = serves; wanted = wanted; spares = used_spares old event result new uses few; turns = turns }
 
 -- a call that hands a right on
 pub handed_on : (old : WorldView) (event : Event) (result : Result Reply Code) (new : WorldView) → Serves old event result new →
     IfErr result (λ code. code_number code ≡ memory_code event → WantsMemory old event) → MakesSlots old new → ((reply : Reply) → accepts event reply ≡ 0) →
-    ((s : State) (reply : Reply) → LosesNone s event reply) → OwesNone event → Performs old event result new
-handed_on old event result new serves wanted keeps none loses owes = record { serves = serves; wanted = wanted; spares = handed_spares old event result new keeps none loses owes }
+    ((s : State) (reply : Reply) → LosesNone s event reply) → OwesNone event → KeepsTurns old event (told_by result) new → Performs old event result new
+handed_on old event result new serves wanted keeps none loses owes turns = record { serves = serves; wanted = wanted; spares = handed_spares old event result new keeps none loses owes; turns = turns }
 
 -- a request for a notice
 asked_slots : (old : WorldView) (task name : ℕ) (a : Asked) (reply : Reply) (new : WorldView) (now : ℕ) (s : State) → Shows old s → IsUnusedOfAll old.ledger → IsUnusedOfAll new.ledger →
@@ -225,7 +226,13 @@ asked_spares old task name a (Err code) new l = record { rooms = l.rooms; slots 
 
 pub asked : (old : WorldView) (task name : ℕ) (a : Asked) (result : Result Reply Code) (new : WorldView) → Serves old (asks task name a) result new →
     IfErr result (λ code. code_number code ≡ kern_number ResourceShortage → WantsToRequest old task name a) → LeavesRequest old a result new → Performs old (asks task name a) result new
-asked old task name a result new serves wanted leaves = record { serves = serves; wanted = wanted; spares = asked_spares old task name a result new leaves }
+asked old task name a result new serves wanted leaves = record { serves = serves; wanted = wanted; spares = asked_spares old task name a result new leaves; turns = tt }
+
+-- a refusal that leaves the tables
+refused_turns : (w : WorldView) (event : Event) (code : ℕ) → KeepsTurns w event (Reply.Code code) w
+refused_turns w (Event.Receive task name room large) code = refl
+refused_turns w (Event.ReceiveAgain task waited room large) code = refl
+refused_turns w event code = tt
 
 -- one of the tasks isn't there
 pub no_task : (w : WorldView) (event : Event) → Declines w event (kern_number InvalidTask) w → Performs w event (Err (Kern InvalidTask)) w
@@ -233,4 +240,5 @@ no_task w event declines = record {
   serves = declines;
   wanted = λ is. absurd ((code_apart event).1 (sym is));
   spares = refused_spares w event (Kern InvalidTask) w (keeps_refl w);
+  turns = refused_turns w event (kern_number InvalidTask);
 }

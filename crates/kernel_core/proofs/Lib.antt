@@ -13,5 +13,6 @@ mod Bounding
 mod Lacking
 mod Staying
 mod Chosen
+mod InTurn
 pub mod Named
 pub mod Carrying

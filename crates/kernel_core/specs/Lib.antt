@@ -2,6 +2,7 @@ pub mod Answers
 pub mod Kernels
 pub mod Send
 pub mod Receive
+pub mod InTurn
 pub mod Wanted
 pub mod MemoryCodes
 pub mod Bounds

@@ -21,6 +21,7 @@ use Rattle.copyout.specs.Wanted.{WantsToReceive}
 use Rattle.transfer.specs.Wanted.{WantsToInsert, WantsToExtract}
 use Rattle.notifications.specs.Wanted.{WantsToRequest}
 use Rattle.kernel_core_base.specs.Wanted.{MayLackMemory}
+use Rattle.kernel_core.specs.InTurn.{KeepsTurns, told_by}
 use Rattle.kernel_core.specs.Receive.{HasMessage, waited_at}
 
 -- ---- want of memory
@@ -82,8 +83,9 @@ pub record LeavesSpares (old : WorldView) (event : Event) (result : Result Reply
   pub rooms : (task : ℕ) → room_of new task ≤ max (room_of old task) 1
   pub slots : LeavesSlots old event result new
 
--- The call's part of a step is done or refused as the machine says, and wants and leaves no more than that.
+-- The call's part of a step is done or refused as the machine says, wants and leaves no more than that, and keeps the turns of a set's members.
 pub record Performs (old : WorldView) (event : Event) (result : Result Reply Code) (new : WorldView) : Type 0 where
   pub serves : Serves old event result new
   pub wanted : IfErr result (λ code. code_number code ≡ memory_code event → WantsMemory old event)
   pub spares : LeavesSpares old event result new
+  pub turns : KeepsTurns old event (told_by result) new

@@ -15,6 +15,7 @@ ghost use Rattle.copyin_base.specs.Worlds.{HasTask};
 ghost use Rattle.kernel_core.specs.Answers.{Answers};
 ghost use Rattle.kernel_core.specs.Bounds.{most_told, IsWithin};
 ghost use Rattle.kernel_core.specs.Choices.{SameButTurns};
+ghost use Rattle.kernel_core.specs.InTurn.{StepsInTurn};
 ghost use Rattle.kernel_core.specs.Kernels.{TakesTurns};
 ghost use Rattle.kernel_core.specs.MemoryCodes.{TellsMemoryCode};
 ghost use Rattle.kernel_core.specs.Wanted.{Wanted, Spares, Performs};
@@ -109,6 +110,9 @@ impl Kernel {
     /// queued message goes by, so that what comes by the right has one; slots are made only for an
     /// accepted message and for such rights that are made, where fewer are spare. An accepted message
     /// uses one, and so does a notice; it is spare again once the message was received or destroyed.
+    ///
+    /// A receipt by a set takes from the member whose turn it is, which then has its turn after all others
+    /// that are ready (`specs/InTurn`).
     #[inline(always)]
     pub fn step(&mut self, event: &Event) -> Reply
         ensures answers { Answers self.old.tables event.now result self.new.tables }
@@ -116,6 +120,7 @@ impl Kernel {
         ensures wanted { Wanted self.old.tables event.now result }
         ensures spares { Spares self.old.tables self.new.tables }
         ensures unused { (s : State) → Shows self.new.tables s → self.new.tables.ledger.unused ≡ unused s }
+        ensures in_turn { StepsInTurn self.old.tables event.now result self.new.tables }
     {
         check_slots(&self.world);
         match act(&mut self.world, self.alloc, event) {

@@ -10,6 +10,7 @@ ghost use Rattle.copyin_base.specs.Acts.{code_number, Serves, IsRefused, IsAllow
 ghost use Rattle.copyin_base.specs.Finds.{FindsReceive};
 ghost use Rattle.copyin_base.specs.Stands.{Stands};
 ghost use Rattle.copyin_base.specs.Worlds.{entry_at, port_at, HasTask};
+ghost use Rattle.kernel_core.specs.InTurn.{IsFirst, TakesInTurn, KeepsTurns, told_by};
 ghost use Rattle.kernel_core.specs.Receive.{named_guards, Sources, IsFrom, IsMember, IsAlone, HasMessage, NoneWaits, IsReceipt, StaysFor, waited_at, FreesSlot};
 ghost use Rattle.kernel_core.specs.Wanted.{WantsToTake, WantsMemory, LeavesSpares};
 ghost use Rattle.notifications.specs.Destroying.{CanDestroy, DestroysMessage};
@@ -40,9 +41,9 @@ impl Buffer {
 }
 
 /// `Receive` (IPC Interface, `mach_msg` with `MACH_RCV_MSG`): a message from the port whose receive
-/// right is under the name, or from any member of the port set under it that has one. A message that
-/// is longer than the room stays if that was asked for, and is destroyed otherwise. The task lives. A
-/// refusal leaves all as it was.
+/// right is under the name, or from the member of the port set under it whose turn it is
+/// (`specs/InTurn`). A message that is longer than the room stays if that was asked for, and is destroyed
+/// otherwise. The task lives. A refusal leaves all as it was.
 ///
 /// Errors, of which the first is answered: `MACH_RCV_INVALID_NAME` for a name without a receive right
 /// or a set; `MACH_RCV_IN_SET` for a port that is in a set; then as [`take`].
@@ -58,6 +59,7 @@ pub(crate) fn receive(
     ensures serves { Serves world.old (AnyEvent.Receive task name buffer.room buffer.large) result world.new }
     ensures wanted { IfErr result (λ code. code_number code ≡ msg_number msg.ReceiveBodyErrorMemory → WantsMemory world.old (AnyEvent.Receive task name buffer.room buffer.large)) }
     ensures spares { LeavesSpares world.old (AnyEvent.Receive task name buffer.room buffer.large) result world.new }
+    ensures turns { KeepsTurns world.old (AnyEvent.Receive task name buffer.room buffer.large) (told_by result) world.new }
 {
     let Source { waited, ready } = find_source(world, task, name)?;
     let name = known_name(&waited, name);
@@ -88,6 +90,7 @@ pub(crate) fn receive_again(
     ensures serves { Serves world.old (AnyEvent.ReceiveAgain task waited buffer.room buffer.large) result world.new }
     ensures wanted { IfErr result (λ code. code_number code ≡ msg_number msg.ReceiveBodyErrorMemory → WantsToTake world.old task waited) }
     ensures spares { LeavesSpares world.old (AnyEvent.ReceiveAgain task waited buffer.room buffer.large) result world.new }
+    ensures turns { KeepsTurns world.old (AnyEvent.ReceiveAgain task waited buffer.room buffer.large) (told_by result) world.new }
 {
     judge_again(world, task, &waited)?;
     let ready = ready(world, &waited);
@@ -109,7 +112,7 @@ struct Origin {
     waited: Waited,
     /// The task's name for the port, where the call goes by it: it isn't looked up then.
     name: Option<Name>,
-    /// A port that it takes from, and that has a message, if one has.
+    /// The port that it takes its message from, if one has any.
     ready: Option<PortId>,
 }
 
@@ -118,7 +121,7 @@ struct Origin {
 pub(crate) struct Source {
     /// What the task waits for.
     pub(crate) waited: Waited,
-    /// A port that it takes from, and that has a message, if one has.
+    /// The port that it takes its message from, if one has any.
     pub(crate) ready: Option<PortId>,
 }
 
@@ -139,6 +142,7 @@ pub(crate) fn find_source(world: &World, task: TaskId, name: Name) -> Result<Sou
     ensures ok { IfOk result (λ source. Sources world.now task name source.waited) }
     ensures found { IfOk result (λ source. option_and_then waited_at (entry_at world.now task name) ≡ Some source.waited) }
     ensures ready { IfOk result (λ source. MatchOption source.ready (NoneWaits world.now source.waited) (HasMessage world.now source.waited)) }
+    ensures first { IfOk result (λ source. IsFirst world.now source.waited source.ready) }
     ensures err { IfErr result (λ code. IsRefused world.now (λ s. named_guards s task name) (msg_number code)) }
 {
     let Some(entry) = world.lookup(task, name) else {
@@ -262,10 +266,12 @@ fn take(
     requires may { IsAllowed world.old (λ s. again_guards s task origin.waited) }
     requires known { IfSome origin.name (λ name. (port : ℕ) → IsFrom world.old origin.waited port → FindsReceive world.old task name port) }
     requires ready { MatchOption origin.ready (NoneWaits world.old origin.waited) (HasMessage world.old origin.waited) }
+    requires first { IsFirst world.old origin.waited origin.ready }
     ensures ok { IfOk result (λ reply. IsReceipt world.old task origin.waited buffer.room buffer.large reply world.new) }
     ensures err { IfErr result (λ code. (world.new ≡ world.old) × StaysFor world.old task origin.waited buffer.room (msg_number code)) }
     ensures wanted { IfErr result (λ code. msg_number code ≡ msg_number msg.ReceiveBodyErrorMemory → WantsToTake world.old task origin.waited) }
     ensures spares { IfOk result (λ reply. FreesSlot world.old buffer.large reply world.new) }
+    ensures turns { IfOk result (λ reply. TakesInTurn world.old origin.waited buffer.large reply world.new) }
 {
     let Some(port) = origin.ready else {
         return Ok(Reply::Empty(origin.waited));
@@ -292,10 +298,11 @@ fn lose_or_keep(world: &mut World, port: PortId, large: bool)
     }
 }
 
-/// A port that a receipt takes from, and that has a message: of a set's, any.
+/// The port that a receipt takes its message from, if one has any: of a set's, the one whose turn it is.
 #[inline(always)]
 fn ready(world: &World, waited: &Waited) -> Option<PortId>
-    ensures { MatchOption result (NoneWaits world.now waited.now) (HasMessage world.now waited.now) }
+    ensures ready { MatchOption result (NoneWaits world.now waited.now) (HasMessage world.now waited.now) }
+    ensures first { IsFirst world.now waited.now result }
 {
     match waited {
         Waited::Port(port) if world.ports.queued(*port) > 0 => Some(*port),

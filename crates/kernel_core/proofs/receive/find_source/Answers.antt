@@ -1,5 +1,6 @@
 use Rattle.std.proofs.Common.{sym}
 use Rattle.transfer.proofs.Results.{if_ok, if_err}
+use Rattle.kernel_core.proofs.InTurn.{port_first}
 use Rattle.kernel_core.proofs.Ready.{source_is, source_found, source_ready}
 use Rattle.kernel_core.proofs.Receiving.{source_there, port_sources, in_set_refused}
 use Rattle.kernel_core.proofs.receive.find_source.Goals as goal
@@ -19,3 +20,6 @@ returns-clause-ready c = if_ok c.port_source.result _ _ c.port_source.ensures.ok
 
 pub returns-clause-err : goal.returns-clause-err
 returns-clause-err c = if_err c.port_source.result _ _ c.port_source.ensures.err (λ code h. rw h.0 (in_set_refused c.args.world.now c.args.task c.args.name c.in-Some.entry (sym c.in-Some.ensures) c.in-Some-receive_port.port (sym c.in-Some-receive_port.ensures) h.1))
+
+pub returns-clause-first : goal.returns-clause-first
+returns-clause-first c = if_ok c.port_source.result _ _ c.port_source.ensures.ok (λ s h. port_first c.args.world.now c.in-Some-receive_port.port s.ready s.waited h.0)

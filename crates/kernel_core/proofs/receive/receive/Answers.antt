@@ -2,6 +2,7 @@ use Rattle.std.proofs.Common.{refl}
 use Rattle.std.proofs.lemmas.Result.{err_from_is_err_and}
 use Rattle.copyin_base.proofs.Spares.{keeps_same}
 use Rattle.kernel_core.proofs.Keeping.{refused_spares}
+use Rattle.kernel_core.proofs.InTurn.{named_turns}
 use Rattle.kernel_core.proofs.Named.{known_named}
 use Rattle.kernel_core.proofs.Receiving.{named_declined, named_stays, named_received}
 use Rattle.kernel_core.proofs.Sparing.{not_short_named, named_spares}
@@ -47,3 +48,16 @@ pub returns-in_err-take-clause-spares : goal.returns-in_err-take-clause-spares
 returns-in_err-take-clause-spares c =
     let p = err_from_is_err_and c.from_residual-in_err-take.result c.from_residual-in_err-take.ensures.1 in
     rw (p.1, p.2) (refused_spares _ _ _ _ (keeps_same c.args.world.now c.take.new.world c.in_err-take.ensures.err.0))
+
+pub returns-clause-turns : goal.returns-clause-turns
+returns-clause-turns c = named_turns c.args.world.now c.args.task c.args.name c.args.buffer.room c.args.buffer.large c.in_ok-waited.field-0.waited c.in_ok-take.field-0 c.take.new.world c.in_ok-waited.ensures.found c.in_ok-take.ensures.turns
+
+pub returns-in_err-waited-clause-turns : goal.returns-in_err-waited-clause-turns
+returns-in_err-waited-clause-turns c =
+    let p = err_from_is_err_and c.from_residual.result c.from_residual.ensures.1 in
+    rw p.1 refl
+
+pub returns-in_err-take-clause-turns : goal.returns-in_err-take-clause-turns
+returns-in_err-take-clause-turns c =
+    let p = err_from_is_err_and c.from_residual-in_err-take.result c.from_residual-in_err-take.ensures.1 in
+    rw p.1 c.in_err-take.ensures.err.0

@@ -4,6 +4,7 @@ use Rattle.copyin_base.specs.Worlds.{WorldView}
 use Rattle.notifications.specs.Destroying.{DestroysMessage, CanDestroy}
 use Rattle.kernel_core.proofs.Receiving.{message_finds, message_waits, receipt_empty, receipt_message, message_destroyable, large_ended, stays_for_names, stays_for_memory}
 use Rattle.kernel_core.proofs.Freed.{message_unused}
+use Rattle.kernel_core.proofs.InTurn.{empty_in_turn, message_in_turn, large_in_turn}
 use Rattle.kernel_core.proofs.Named.{known_here}
 use Rattle.kernel_core.proofs.Ready.{ready_one, ready_none}
 use Rattle.kernel_core.proofs.Sparing.{one_freed, large_freed}
@@ -63,4 +64,21 @@ returns-in-Err-TooLarge-clause-spares c =
     let x = rw c.in-Err-TooLarge.field-0-is at c.in-Err-TooLarge.ensures.err in
     let new = c.lose_or_keep.new.world in
     large_freed c.args.world.now new c.args.buffer.large c.in-Some.port c.in-Err-TooLarge.length c.requires.stands.shown.slots
+    (subst (λ (v : WorldView). MatchBool c.args.buffer.large (new ≡ v) (DestroysMessage v c.in-Some.port new)) x.0 c.lose_or_keep.ensures)
+
+pub returns-in_default-clause-turns : goal.returns-in_default-clause-turns
+returns-in_default-clause-turns c = empty_in_turn c.args.world.now c.args.origin.waited c.args.origin.ready c.requires.first c.args.buffer.large c.args.origin.waited c.in_default.is
+
+pub returns-in-Ok-clause-turns : goal.returns-in-Ok-clause-turns
+returns-in-Ok-clause-turns c =
+    let x = c.in-Ok.ensures.ok in
+    message_in_turn c.args.world.now c.args.origin.waited c.args.origin.ready c.requires.first c.in-Some.port c.in-Some.is (ready_one c.args.world.now c.args.origin.waited c.args.origin.ready c.in-Some.port c.in-Some.is c.requires.ready)
+    x.1 x.2 c.receive.new.world c.args.task x.0 c.name_of-name.result c.in-Ok.bytes c.args.buffer.large x.3 x.4 x.6
+
+pub returns-in-Err-TooLarge-clause-turns : goal.returns-in-Err-TooLarge-clause-turns
+returns-in-Err-TooLarge-clause-turns c =
+    let x = rw c.in-Err-TooLarge.field-0-is at c.in-Err-TooLarge.ensures.err in
+    let new = c.lose_or_keep.new.world in
+    large_in_turn c.args.world.now c.args.origin.waited c.args.origin.ready c.requires.first c.in-Some.port c.in-Some.is (ready_one c.args.world.now c.args.origin.waited c.args.origin.ready c.in-Some.port c.in-Some.is c.requires.ready)
+    c.args.buffer.large c.in-Err-TooLarge.length new
     (subst (λ (v : WorldView). MatchBool c.args.buffer.large (new ≡ v) (DestroysMessage v c.in-Some.port new)) x.0 c.lose_or_keep.ensures)

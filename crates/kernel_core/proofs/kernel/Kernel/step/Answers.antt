@@ -1,6 +1,9 @@
-use Rattle.std.proofs.Common.{◌≡◌, refl, sym, ap, subst}
+use Rattle.std.proofs.Common.{◌≡◌, refl, sym, ap, subst, inl, inr}
+use Rattle.mach_types.specs.declared.calls.Reply.{Reply}
+use Rattle.copyin_base.specs.Acts.{code_number}
 use Rattle.copyin_base.specs.Worlds.{WorldView}
 use Rattle.copyin_base.specs.Shows.{Shows}
+use Rattle.kernel_core.specs.InTurn.{StepsInTurn}
 use Rattle.kernel_core.specs.Kernels.{KernelView, TakesTurns}
 use Rattle.kernel_core.specs.Wanted.{Wanted, Spares}
 use Rattle.kernel_core.proofs.Ending.{acted_spares, declined_spares, is_midway}
@@ -55,3 +58,13 @@ returns-in-Ok-clause-unused c = λ s sh. shown_unused _ s sh c.check_slots-in-Ok
 
 pub returns-in-Err-clause-unused : goal.returns-in-Err-clause-unused
 returns-in-Err-clause-unused c = λ s sh. shown_unused _ s sh c.check_slots-in-Err.ensures
+
+pub returns-in-Ok-clause-in_turn : goal.returns-in-Ok-clause-in_turn
+returns-in-Ok-clause-in_turn c =
+    subst (λ (w : WorldView). StepsInTurn w c.args.event.now c.in-Ok.reply c.settle-self-inside.new.world) (ap (λ (k : KernelView). k.tables) c.self.view_is)
+    (record { mid = _; turns = c.in-Ok.ensures.turns; ends = inr (c.in-Ok.ensures.serves, (_, c.settle-self-inside.ensures.settles)) })
+
+pub returns-in-Err-clause-in_turn : goal.returns-in-Err-clause-in_turn
+returns-in-Err-clause-in_turn c =
+    rw c.number.ensures (subst (λ (w : WorldView). StepsInTurn w c.args.event.now (Reply.Code (code_number c.in-Err.code)) c.act.new.world) (ap (λ (k : KernelView). k.tables) c.self.view_is)
+    (record { mid = c.act.new.world; turns = c.in-Err.ensures.turns; ends = inl refl }))

@@ -1,0 +1,81 @@
+-- From which member of a set a receipt takes, and what becomes of the turns.
+use Rattle.std.specs.Prelude.{◌≡◌, ℕ, Bool, true, false, List, [], ◌∷◌, ◌++◌, Option, Some, Result, Ok, Err, All, slice_get, ◌⊎◌}
+use Rattle.std.specs.Option.{option_and_then, option_map}
+use Rattle.mach_types.specs.declared.calls.Event.{Event}
+use Rattle.mach_types.specs.declared.calls.Reply.{Reply}
+use Rattle.mach_types.specs.declared.calls.Waited.{Waited}
+use Rattle.member_lists.specs.Lists.{without}
+use Rattle.port.specs.Ports.{PortView}
+use Rattle.port.specs.Turns.{turns_of, with_turns}
+use Rattle.copyin_base.specs.declared.code.Code.{Code}
+use Rattle.copyin_base.specs.Acts.{code_number, Acts}
+use Rattle.copyin_base.specs.Kept.{Kept}
+use Rattle.copyin_base.specs.Worlds.{WorldView, entry_at, port_at}
+use Rattle.destroy.specs.Stages.{SettlesIn}
+use Rattle.kernel_core.specs.Receive.{waited_at}
+
+-- the members of the set that have messages, in their turns
+abbrev pub in_turn : WorldView → (set : ℕ) → List ℕ
+in_turn w set = turns_of w.ports.ready set
+
+-- The port is the one whose turn it is, where this is a set.
+abbrev pub IsFirst : WorldView → Waited → (port : Option ℕ) → Type 0
+IsFirst w (Waited.Set set) port = port ≡ slice_get (in_turn w set) 0
+IsFirst w (Waited.Port p) port = Unit {0}
+
+-- the messages of a port, if it is there
+abbrev pub queue_at : WorldView → (port : ℕ) → Option (List Kept)
+queue_at w port = option_map (λ (v : PortView Kept). v.queue) (port_at w port)
+
+-- the port, if it has messages
+abbrev pub if_ready : (port : ℕ) → List Kept → List ℕ
+if_ready port [] = []
+if_ready port (m ∷ ms) = port ∷ []
+
+-- The front message of the member whose turn it is leaves its queue. The member goes to the end of the turns, or has none where it has no more
+-- messages; the others keep their order, and those of other sets theirs.
+pub record TakesFirst (old : WorldView) (set : ℕ) (new : WorldView) : Type 0 where
+  pub member : ℕ
+  pub first : slice_get (in_turn old set) 0 ≡ Some member
+  pub front : Kept
+  pub behind : List Kept
+  pub queue : queue_at old member ≡ Some (front ∷ behind)
+  pub taken : queue_at new member ≡ Some behind
+  pub turns : new.ports.ready ≡ with_turns old.ports.ready set (without member (in_turn old set) ++ if_ready member behind)
+
+-- Messages come to the ends of queues: the turns stay, and behind them come members that had none.
+pub record JoinsTurns (old : WorldView) (set : ℕ) (new : WorldView) : Type 0 where
+  pub queues : (port : ℕ) → (more : List Kept) × (queue_at new port ≡ option_map (λ (ms : List Kept). ms ++ more) (queue_at old port))
+  pub joined : List ℕ
+  pub empty : All (λ port. queue_at old port ≡ Some []) joined
+  pub turns : in_turn new set ≡ in_turn old set ++ joined
+
+-- A receipt by a set takes from the member whose turn it is. A message that is too long stays, and its member keeps its turn; or it is destroyed, and
+-- notices of its rights come to queues. Where there is none, no member has a turn. A refusal changes nothing.
+abbrev pub TakesInTurn : (old : WorldView) → Waited → (large : Bool) → Reply → (new : WorldView) → Type 0
+TakesInTurn old (Waited.Set set) large (Reply.Message bytes) new = TakesFirst old set new
+TakesInTurn old (Waited.Set set) true (Reply.TooLarge n) new = new ≡ old
+TakesInTurn old (Waited.Set set) false (Reply.TooLarge n) new = (mid : WorldView) × TakesFirst old set mid × JoinsTurns mid set new
+TakesInTurn old (Waited.Set set) large (Reply.Empty told) new = (in_turn old set ≡ []) × (new ≡ old)
+TakesInTurn old waited large (Reply.Code code) new = new ≡ old
+TakesInTurn old waited large reply new = Unit {0}
+
+-- So does an event that receives by a set.
+abbrev pub KeepsTurns : (old : WorldView) → Event → Reply → (new : WorldView) → Type 0
+KeepsTurns old (Event.Receive task name room large) (Reply.Code code) new = new ≡ old
+KeepsTurns old (Event.Receive task name room large) reply new =
+    (waited : Waited) → option_and_then waited_at (entry_at old task name) ≡ Some waited → TakesInTurn old waited large reply new
+KeepsTurns old (Event.ReceiveAgain task waited room large) (Reply.Code code) new = new ≡ old
+KeepsTurns old (Event.ReceiveAgain task waited room large) reply new = TakesInTurn old waited large reply new
+KeepsTurns old event reply new = Unit {0}
+
+-- what a call is answered by
+abbrev pub told_by : Result Reply Code → Reply
+told_by (Ok reply) = reply
+told_by (Err code) = Reply.Code (code_number code)
+
+-- A step does so in its own part, and then ends.
+pub record StepsInTurn (old : WorldView) (event : Event) (reply : Reply) (new : WorldView) : Type 0 where
+  pub mid : WorldView
+  pub turns : KeepsTurns old event reply mid
+  pub ends : (new ≡ mid) ⊎ Acts old event reply mid × ((number : ℕ) × SettlesIn mid number new)
