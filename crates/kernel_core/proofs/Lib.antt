@@ -14,5 +14,6 @@ mod Lacking
 mod Staying
 mod Chosen
 mod InTurn
+pub mod Limited
 pub mod Named
 pub mod Carrying

@@ -5,5 +5,6 @@ pub mod Receive
 pub mod InTurn
 pub mod Wanted
 pub mod MemoryCodes
+pub mod Limits
 pub mod Bounds
 pub mod Choices

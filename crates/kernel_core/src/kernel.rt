@@ -17,10 +17,11 @@ ghost use Rattle.kernel_core.specs.Bounds.{most_told, IsWithin};
 ghost use Rattle.kernel_core.specs.Choices.{SameButTurns};
 ghost use Rattle.kernel_core.specs.InTurn.{StepsInTurn};
 ghost use Rattle.kernel_core.specs.Kernels.{TakesTurns};
+ghost use Rattle.kernel_core.specs.Limits.{HasRoomFor, IsNearLimit};
 ghost use Rattle.kernel_core.specs.MemoryCodes.{TellsMemoryCode};
 ghost use Rattle.kernel_core.specs.Wanted.{Wanted, Spares, Performs};
 
-use crate::memory::tell_memory_code;
+use crate::memory::{has_room_for, tell_memory_code};
 use crate::receive::{Buffer, receive, receive_again};
 use crate::send::send;
 use crate::{bound, choice};
@@ -158,6 +159,18 @@ impl Kernel {
         } else {
             Ok(None)
         }
+    }
+
+    /// Whether the limit of rights surely doesn't refuse the call by the code that tells of want of memory.
+    ///
+    /// A send is refused by `MACH_SEND_NO_BUFFER` at the limit, and where memory is wanted. This answers
+    /// `false` where the kernel's rights, with one more for each port word that the message's bytes have room
+    /// for, are more than 4,294,967,295. Every other call has a code of its own for the limit. Takes no
+    /// memory. Constant time.
+    pub fn has_room_for(&self, event: &Event) -> bool
+        ensures { MatchBool result (HasRoomFor self.now.tables event.now) (IsNearLimit self.now.tables event.now) }
+    {
+        has_room_for(&self.world, event)
     }
 
     /// Where the call receives by a set, gives the turn there to the member that its task has under this

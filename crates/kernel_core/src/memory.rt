@@ -1,10 +1,10 @@
 //! Where want of memory may refuse a call.
-ghost use Rattle.std.specs.Prelude.{◌≡◌, ℕ, Bool, IfOk, OnErr, MatchBool, Contains};
+ghost use Rattle.std.specs.Prelude.{◌≡◌, ℕ, ◌+◌, ◌-◌, ◌/◌, ◌<◌, ◌≤◌, Bool, IfOk, OnErr, MatchBool, Contains};
 ghost use Rattle.mach_types.specs.declared.calls.Event.{Event as AnyEvent};
 ghost use Rattle.mach_types.specs.declared.calls.Waited.TheVariants as AnyWaited;
 ghost use Rattle.mach_types.specs.declared.codes.MsgReturn.TheVariants as msg;
 ghost use Rattle.mach_types.specs.declared.codes.KernReturn.TheVariants as kern;
-ghost use Rattle.mach_types.specs.Numbers.{kern_number, msg_number};
+ghost use Rattle.mach_types.specs.Numbers.{kern_number, msg_number, most_rights};
 ghost use Rattle.mach_model.specs.State.{State, lookup};
 ghost use Rattle.mach_model.specs.Sets.{IsSet};
 ghost use Rattle.mach_model.specs.Refusals.{again_guards};
@@ -13,6 +13,7 @@ ghost use Rattle.copyin_base.specs.Acts.{code_number, HasTasks, IsAllowed};
 ghost use Rattle.copyin_base.specs.Shows.{Shows};
 ghost use Rattle.copyin_base.specs.Stands.{Stands};
 ghost use Rattle.copyin_base.specs.Worlds.{HasTask};
+ghost use Rattle.kernel_core.specs.Limits.{HasRoomFor, IsNearLimit, sent_length};
 ghost use Rattle.kernel_core.specs.MemoryCodes.{TellsMemoryCode, TellsWant, IsMessage, NeverStays, IsReceivable};
 ghost use Rattle.kernel_core.specs.Receive.{StaysFor};
 ghost use Rattle.kernel_core.specs.Wanted.{memory_code};
@@ -22,6 +23,7 @@ use copyin_base::{Code, World};
 use kernel_core_base::{
     check_allocate, check_allocate_name, check_create_task, check_rename, check_set_status,
 };
+use mach_types::limits::MOST_RIGHTS;
 use mach_types::{Bytes, Event, KernReturn, MsgReturn, Name, PortId, TaskId, Waited};
 use message_codec::parse;
 use notifications::{Asked, check_request};
@@ -130,6 +132,32 @@ fn is_message(alloc: Global, bytes: &Bytes) -> bool
         Ok(_) => true,
         Err(code) => matches!(code, MsgReturn::SendNoBuffer),
     }
+}
+
+/// Whether there may be as many rights more as a message has port words, where the call sends one: two
+/// of the header's six words, and those of the body.
+pub(crate) fn has_room_for(world: &World, event: &Event) -> bool
+    ensures { MatchBool result (HasRoomFor world.now event.now) (IsNearLimit world.now event.now) }
+{
+    has_room(world, sent_length(event))
+}
+
+/// How many bytes of a message the call sends.
+fn sent_length(event: &Event) -> usize
+    ensures { result ≡ sent_length event.now }
+{
+    match event {
+        Event::Send(_, bytes) => bytes.as_slice().len(),
+        _ => 0,
+    }
+}
+
+/// Whether there may be as many rights more as so many bytes of a message have port words.
+fn has_room(world: &World, bytes: usize) -> bool
+    ensures { MatchBool result (world.now.ledger.total + (bytes - 16) / 4 ≤ most_rights) (most_rights < world.now.ledger.total + (bytes - 16) / 4) }
+{
+    let words = bytes.saturating_sub(16) / 4;
+    world.ledger.total() as u64 + words as u64 <= MOST_RIGHTS as u64
 }
 
 // ---- receipts

@@ -16,7 +16,7 @@ use Rattle.kernel_lock.specs.declared.entry.Entry.{Entry}
 use Rattle.tracer.specs.Histories.{heading, entry_text, entry_line, history_text, FitsLine, HasNoHeading, StartsNoEntry, IsFirstBadLine}
 use Rattle.tracer.proofs.EntryLemmas.{Lacks-entry_text, history_push}
 use Rattle.tracer.proofs.CheckLemmas.{no-bad-line, replays-none, unconfirmed-last, unconfirmed-more}
-use Rattle.tracer.specs.Checks.{IsUnconfirmed}
+use Rattle.tracer.specs.Checks.{AnswersOtherwise, IsUnconfirmed}
 use Rattle.kernel_core.specs.Answers.{Answers}
 use Rattle.mach_run_base.specs.declared.checking.Judge.{Judge}
 use Rattle.mach_run_base.specs.declared.checking.Verdict.{Verdict}
@@ -122,12 +122,12 @@ seen-next old new entries e none kept step seen = record {
 }
 
 -- one more entry is the first that isn't
-pub seen-last : (old new : Judge) (entries : List Entry) (e : Entry) (n : ℕ) → old.unconfirmed ≡ None → new.unconfirmed ≡ Some n → length entries + 1 ≡ n → HasSeen old entries → HasSeen new (entries ++ e ∷ [])
-seen-last old new entries e n none is number seen =
-    let legal = legal_of entries old.kernel (replays-of old entries none seen) in
+pub seen-last : (old new : Judge) (entries : List Entry) (e : Entry) (n : ℕ) → old.unconfirmed ≡ None → new.unconfirmed ≡ Some n → length entries + 1 ≡ n → AnswersOtherwise old.kernel e.event e.reply → HasSeen old entries
+    → HasSeen new (entries ++ e ∷ [])
+seen-last old new entries e n none is number otherwise seen =
     record {
       legal = subst (λ (o : Option ℕ). IfNone o (Replays (entries ++ e ∷ []) new.kernel)) (sym is) tt;
-      not = subst (λ (o : Option ℕ). IfSome o (IsUnconfirmed (entries ++ e ∷ []))) (sym is) (unconfirmed-last entries e n number legal);
+      not = subst (λ (o : Option ℕ). IfSome o (IsUnconfirmed (entries ++ e ∷ []))) (sym is) (unconfirmed-last entries e n old.kernel number (replays-of old entries none seen) otherwise);
     }
 
 -- all are confirmed

@@ -1,23 +1,73 @@
 -- Entries that are confirmed one after another.
-use Rattle.std.proofs.Common.{◌≡◌, ℕ, ◌+◌, ◌<◌, List, [], ◌∷◌, ◌++◌, All, flat_map, inl, refl, sym, ap, ◌∙◌, subst, arith, append_assoc, length, take, drop, get_or}
+use Rattle.std.proofs.Common.{◌≡◌, ℕ, ◌+◌, ◌<◌, List, [], ◌∷◌, ◌++◌, All, Option, Some, None, flat_map, inl, refl, sym, ap, ◌∙◌, subst, arith, append_assoc, length, take, drop, get_or}
 use Rattle.std.proofs.lemmas.List.{take_more, take-append-drop, length-take-le}
 use Rattle.mach_types.specs.declared.calls.Event.{Event}
 use Rattle.mach_types.specs.declared.calls.Reply.{Reply}
-use Rattle.mach_model.specs.State.{opening}
+use Rattle.mach_model.specs.State.{State, opening}
 use Rattle.copyin_base.specs.Shows.{Shows}
 use Rattle.kernel_core.specs.Answers.{Answers}
 use Rattle.kernel_core.specs.Kernels.{KernelView}
+use Rattle.kernel_core.specs.Limits.{PassesLimit}
+use Rattle.kernel_core.specs.MemoryCodes.{TellsMemoryCode}
+use Rattle.kernel_core.specs.Wanted.{memory_code}
 use Rattle.kernel_lock.specs.declared.entry.Entry.{Entry}
 use Rattle.kernel_lock.specs.History.{Legal}
 use Rattle.kernel_lock.specs.Replays.{Replays}
 use Rattle.kernel_lock.proofs.Replaying.{replays_push}
-use Rattle.tracer.specs.Checks.{IsRefusal, IsUnconfirmed}
+use Rattle.tracer.specs.Checks.{AnswersOtherwise, IsNoWant, IsRefusal, IsUnconfirmed, MayLackMemory}
 use Rattle.tracer.specs.Histories.{entry_line, history_text, FitsLine, IsFirstBadLine, HasBadEntry}
 use Rattle.tracer.proofs.EntryLemmas.{next_line, behind}
 
 -- a refusal is answered, and the state stays
 pub refusal-answers : (kernel : KernelView) (event : Event) (reply : Reply) → IsRefusal kernel event reply → Answers kernel.tables event reply kernel.tables
 refusal-answers kernel event reply r = λ now s shown. (s, inl (record { code = r.code; told = r.told; refuses = r.refuses s shown; same = refl }), shown)
+
+-- no code tells of want of memory that is 0
+some_code : (event : Event) → memory_code event ≡ 0 → ⊥
+some_code Event.TaskCreate is = absurd (omega (arith, is))
+some_code (Event.TaskTerminate a) is = absurd (omega (arith, is))
+some_code (Event.Allocate a b) is = absurd (omega (arith, is))
+some_code (Event.AllocateName a b d) is = absurd (omega (arith, is))
+some_code (Event.Deallocate a b) is = absurd (omega (arith, is))
+some_code (Event.Destroy a b) is = absurd (omega (arith, is))
+some_code (Event.ModRefs a b d e) is = absurd (omega (arith, is))
+some_code (Event.GetRefs a b d) is = absurd (omega (arith, is))
+some_code (Event.NameType a b) is = absurd (omega (arith, is))
+some_code (Event.Names a) is = absurd (omega (arith, is))
+some_code (Event.Rename a b d) is = absurd (omega (arith, is))
+some_code (Event.ReceiveStatus a b) is = absurd (omega (arith, is))
+some_code (Event.SetQlimit a b d) is = absurd (omega (arith, is))
+some_code (Event.SetMscount a b d) is = absurd (omega (arith, is))
+some_code (Event.SetSeqno a b d) is = absurd (omega (arith, is))
+some_code (Event.SetStatus a b) is = absurd (omega (arith, is))
+some_code (Event.MoveMember a b d) is = absurd (omega (arith, is))
+some_code (Event.InsertRight a b d e f) is = absurd (omega (arith, is))
+some_code (Event.ExtractRight a b d e) is = absurd (omega (arith, is))
+some_code (Event.RequestNotification a b d e f g) is = absurd (omega (arith, is))
+some_code (Event.Send a b) is = absurd (omega (arith, is))
+some_code (Event.Receive a b d e) is = absurd (omega (arith, is))
+some_code (Event.ReceiveAgain a b d e) is = absurd (omega (arith, is))
+
+-- a reply that is no code is no refusal
+pub no_want_else : (kernel : KernelView) (event : Event) (reply : Reply) → ((code : ℕ) → reply ≡ Reply.Code code → ⊥) → IsNoWant kernel event reply
+no_want_else kernel event reply else = record { never = λ s shown told refuses. else (memory_code event) told }
+
+code_zero : (n : ℕ) → Reply.Code 0 ≡ Reply.Code n → n ≡ 0
+code_zero n same = cc
+
+-- nor is code 0
+pub no_want_zero : (kernel : KernelView) (event : Event) (reply : Reply) → reply ≡ Reply.Code 0 → IsNoWant kernel event reply
+no_want_zero kernel event reply is = record { never = λ s shown told refuses. some_code event (code_zero (memory_code event) (sym is ∙ told)) }
+
+same_code : (m n : ℕ) → Reply.Code m ≡ Reply.Code n → m ≡ n
+same_code m n same = cc
+
+-- nor one that isn't the code that is told for the event
+pub no_want_told : (kernel : KernelView) (event : Event) (reply : Reply) (code : ℕ) (found : Option ℕ) → reply ≡ Reply.Code code → TellsMemoryCode kernel.tables event found → (found ≡ Some code → ⊥)
+    → IsNoWant kernel event reply
+no_want_told kernel event reply code (Some other) is told apart =
+    record { never = λ s shown same refuses. apart (ap Some (told.0 ∙ sym (same_code code (memory_code event) (sym is ∙ same)))) }
+no_want_told kernel event reply code None is told apart = record { never = λ s shown same refuses. told.never s shown refuses }
 
 -- a new kernel shows what no entry leads to
 pub replays-none : (kernel : KernelView) → Shows kernel.tables opening → Replays [] kernel
@@ -34,8 +84,8 @@ pub legal-of : (log : List Entry) (kernel : KernelView) → Replays log kernel �
 legal-of log kernel r = record { state = r.state; leads = r.leads }
 
 -- the entry at a place isn't confirmed
-pub unconfirmed-at : (entries : List Entry) (i n : ℕ) (e : Entry) (kernel : KernelView) → i < length entries → get_or entries i e ≡ e → i + 1 ≡ n → Replays (take i entries) kernel → IsUnconfirmed entries n
-unconfirmed-at entries i n e kernel low here number so_far =
+pub unconfirmed-at : (entries : List Entry) (i n : ℕ) (e : Entry) (kernel : KernelView) → i < length entries → get_or entries i e ≡ e → i + 1 ≡ n → Replays (take i entries) kernel → AnswersOtherwise kernel e.event e.reply → IsUnconfirmed entries n
+unconfirmed-at entries i n e kernel low here number so_far otherwise =
     let more : take (i + 1) entries ≡ take i entries ++ e ∷ [] = take_more entries i e low ∙ ap (λ (x : Entry). take i entries ++ x ∷ []) here in
     let long : length (take i entries) ≡ i = length-take-le i entries (omega (arith, low)) in
     record {
@@ -45,11 +95,39 @@ unconfirmed-at entries i n e kernel low here number so_far =
       parts = sym (append_assoc (take i entries) (e ∷ []) (drop (i + 1) entries)) ∙ ap (λ (l : List Entry). l ++ drop (i + 1) entries) (sym more) ∙ take-append-drop (i + 1) entries;
       number = omega (arith, long, number);
       legal = legal-of (take i entries) kernel so_far;
+      kernel = kernel;
+      replays = so_far;
+      otherwise = otherwise;
+    }
+
+-- the entry at a place may lack memory
+pub lacking-at : (entries : List Entry) (i : ℕ) (e : Entry) (kernel : KernelView) → i < length entries → get_or entries i e ≡ e → Replays (take i entries) kernel →
+    ((s : State) → Shows kernel.tables s → ¬ (PassesLimit s e.event)) → MayLackMemory entries
+lacking-at entries i e kernel low here so_far room =
+    let more : take (i + 1) entries ≡ take i entries ++ e ∷ [] = take_more entries i e low ∙ ap (λ (x : Entry). take i entries ++ x ∷ []) here in
+    record {
+      before = take i entries;
+      entry = e;
+      behind = drop (i + 1) entries;
+      parts = sym (append_assoc (take i entries) (e ∷ []) (drop (i + 1) entries)) ∙ ap (λ (l : List Entry). l ++ drop (i + 1) entries) (sym more) ∙ take-append-drop (i + 1) entries;
+      state = so_far.state;
+      leads = so_far.leads;
+      room = room so_far.state so_far.shown;
     }
 
 -- the last entry isn't confirmed
-pub unconfirmed-last : (before : List Entry) (e : Entry) (n : ℕ) → length before + 1 ≡ n → Legal before → IsUnconfirmed (before ++ e ∷ []) n
-unconfirmed-last before e n number legal = record { before = before; entry = e; behind = []; parts = refl; number = number; legal = legal }
+pub unconfirmed-last : (before : List Entry) (e : Entry) (n : ℕ) (kernel : KernelView) → length before + 1 ≡ n → Replays before kernel → AnswersOtherwise kernel e.event e.reply → IsUnconfirmed (before ++ e ∷ []) n
+unconfirmed-last before e n kernel number so_far otherwise = record {
+  before = before;
+  entry = e;
+  behind = [];
+  parts = refl;
+  number = number;
+  legal = legal-of before kernel so_far;
+  kernel = kernel;
+  replays = so_far;
+  otherwise = otherwise;
+}
 
 -- there is one entry more behind one that isn't confirmed
 pub unconfirmed-more : (entries : List Entry) (e : Entry) (n : ℕ) → IsUnconfirmed entries n → IsUnconfirmed (entries ++ e ∷ []) n
@@ -60,6 +138,9 @@ unconfirmed-more entries e n u = record {
   parts = sym (append_assoc u.before (u.entry ∷ u.behind) (e ∷ [])) ∙ ap (λ (l : List Entry). l ++ e ∷ []) u.parts;
   number = u.number;
   legal = u.legal;
+  kernel = u.kernel;
+  replays = u.replays;
+  otherwise = u.otherwise;
 }
 
 some_left : (rest : List ℕ) → rest ≡ [] → 0 < length rest → ⊥

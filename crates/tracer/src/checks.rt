@@ -1,11 +1,12 @@
 //! Histories that are checked again: each call is made anew, on a kernel of the checker's own.
-ghost use Rattle.std.specs.Prelude.{◌≡◌, ℕ, true, IfOk, Ok, Err, length};
+ghost use Rattle.std.specs.Prelude.{◌≡◌, ℕ, true, false, IfOk, OnErr, Ok, Err, length};
 ghost use Rattle.mach_model.specs.State.{State};
 ghost use Rattle.copyin_base.specs.Shows.{Shows};
 ghost use Rattle.kernel_core.specs.Answers.{Answers};
+ghost use Rattle.kernel_core.specs.Limits.{PassesLimit};
 ghost use Rattle.kernel_lock.specs.History.{Legal};
 ghost use Rattle.tracer.specs.declared.checks.CheckFault.TheVariants.{Memory};
-ghost use Rattle.tracer.specs.Checks.{IsRefusal, IsUnconfirmed};
+ghost use Rattle.tracer.specs.Checks.{AnswersOtherwise, IsNoWant, IsRefusal, IsUnconfirmed, MayLackMemory};
 
 use crate::histories::History;
 use kernel_core::Kernel;
@@ -71,11 +72,13 @@ impl<'a> LegalHistory<'a> {
 /// Which ready member of a set a message was taken from is followed. Where the machine leaves another choice
 /// open, the kernel makes its own: which member's message is told as too long, or stays since the task's names don't
 /// suffice for its rights, and in which order the notices of one step are queued. A legal history in which another
-/// was made may be told as not confirmed. Time is that of the calls; memory that of the kernel, and of one reply.
+/// was made may be told as not confirmed. Where a message may pass the limit of rights, whose code is that of want
+/// of memory too, it is told as not confirmed. Time is that of the calls; memory that of the kernel, and of one reply.
 pub fn check<'a>(alloc: Global, history: &'a History) -> Result<LegalHistory<'a>, CheckFault>
     ensures same { IfOk result (λ legal. legal ≡ history.now) }
     ensures legal { IfOk result Legal }
     ensures not { (n : ℕ) → result ≡ Err (CheckFault.NotConfirmed n) → IsUnconfirmed history.now n }
+    ensures memory { result ≡ Err CheckFault.Memory → MayLackMemory history.now }
 {
     let mut kernel = Kernel::new(alloc);
     let mut number = 0;
@@ -94,17 +97,24 @@ pub fn check<'a>(alloc: Global, history: &'a History) -> Result<LegalHistory<'a>
 /// It is so where the call was refused for want of memory and the machine allows that, which changes nothing;
 /// and where the kernel makes the call and answers the same. Of a set's members it takes the message from the
 /// one that the message names as its receiver, whose turn that needn't have been. Else the kernel is of no further
-/// use to the history. An error comes where memory is refused. Time is that of the call, and of giving the turn.
+/// use to the history. An error comes where memory is refused, and only where the limit of rights surely
+/// doesn't refuse the call ([`Kernel::has_room_for`]). Time is that of the call, and of giving the turn.
 pub fn confirm(kernel: &mut Kernel, entry: &Entry) -> Result<bool, AllocError>
-    ensures { result ≡ Ok true → Answers kernel.old.tables entry.now.event entry.now.reply kernel.new.tables }
+    ensures confirmed { result ≡ Ok true → Answers kernel.old.tables entry.now.event entry.now.reply kernel.new.tables }
+    ensures not { result ≡ Ok false → AnswersOtherwise kernel.old entry.now.event entry.now.reply }
+    ensures memory { OnErr result ((s : State) → Shows kernel.old.tables s → ¬ (PassesLimit s entry.now.event)) }
 {
     if tells_want_of_memory(kernel, &entry.event, &entry.reply)? {
         return Ok(true);
     }
+    let has_room = kernel.has_room_for(&entry.event);
     follow(kernel, entry);
     let reply = kernel.step(&entry.event);
     if are_same(&reply, &entry.reply) {
         return Ok(true);
+    }
+    if !has_room {
+        return Ok(false);
     }
     if tells_want_of_memory(kernel, &entry.event, &reply)? {
         return Err(AllocError);
@@ -133,17 +143,23 @@ fn receiver(reply: &Reply) -> Option<Name> {
 
 /// Whether the reply is the code by which want of memory may refuse the call now.
 fn tells_want_of_memory(kernel: &Kernel, event: &Event, reply: &Reply) -> Result<bool, AllocError>
-    ensures { result ≡ Ok true → IsRefusal kernel.now event.now reply.now }
+    ensures may { result ≡ Ok true → IsRefusal kernel.now event.now reply.now }
+    ensures not { result ≡ Ok false → IsNoWant kernel.now event.now reply.now }
+    ensures err { OnErr result ((s : State) → Shows kernel.now.tables s → ¬ (PassesLimit s event.now)) }
 {
-    match reply {
-        Reply::Code(code) if *code != 0 => Ok(kernel.memory_code(event)? == Some(*code)),
-        _ => Ok(false),
+    let Reply::Code(code) = reply else {
+        return Ok(false);
+    };
+    if *code == 0 {
+        return Ok(false);
     }
+    Ok(kernel.memory_code(event)? == Some(*code))
 }
 
 /// Whether the two replies are the same.
 fn are_same(one: &Reply, other: &Reply) -> bool
-    ensures { result ≡ true → one.now ≡ other.now }
+    ensures same { result ≡ true → one.now ≡ other.now }
+    ensures other { one.now ≡ other.now → result ≡ true }
 {
     match (one, other) {
         (Reply::Code(a), Reply::Code(b)) => a == b,
@@ -159,20 +175,23 @@ fn are_same(one: &Reply, other: &Reply) -> bool
         (Reply::Message(a), Reply::Message(b)) => a == b,
         (Reply::Empty(a), Reply::Empty(b)) => are_same_waited(a, b),
         (Reply::TooLarge(a), Reply::TooLarge(b)) => a == b,
+        (Reply::NoRecord, Reply::NoRecord) => true,
         _ => false,
     }
 }
 
 /// Whether the two are the same names with the same types.
 fn are_same_names(one: &NameTypes, other: &NameTypes) -> bool
-    ensures { result ≡ true → one.now ≡ other.now }
+    ensures same { result ≡ true → one.now ≡ other.now }
+    ensures other { one.now ≡ other.now → result ≡ true }
 {
     one == other
 }
 
 /// Whether the two are the same status.
 fn are_same_status(one: &Status, other: &Status) -> bool
-    ensures { result ≡ true → one.now ≡ other.now }
+    ensures same { result ≡ true → one.now ≡ other.now }
+    ensures other { one.now ≡ other.now → result ≡ true }
 {
     one.set.number() == other.set.number()
         && one.sequence == other.sequence
@@ -187,7 +206,8 @@ fn are_same_status(one: &Status, other: &Status) -> bool
 
 /// Whether the two waited for the same.
 fn are_same_waited(one: &Waited, other: &Waited) -> bool
-    ensures { result ≡ true → one.now ≡ other.now }
+    ensures same { result ≡ true → one.now ≡ other.now }
+    ensures other { one.now ≡ other.now → result ≡ true }
 {
     match (one, other) {
         (Waited::Port(a), Waited::Port(b)) => a.number() == b.number(),

@@ -4,8 +4,8 @@ use Rattle.kernel_core.specs.Answers.{Answers}
 use Rattle.kernel_lock.specs.declared.entry.Entry.{Entry}
 use Rattle.kernel_lock.specs.History.{Legal}
 use Rattle.kernel_lock.proofs.Replaying.{legal_of}
-use Rattle.tracer.specs.Checks.{IsUnconfirmed}
-use Rattle.tracer.proofs.CheckLemmas.{replays-at, unconfirmed-at}
+use Rattle.tracer.specs.Checks.{IsUnconfirmed, MayLackMemory}
+use Rattle.tracer.proofs.CheckLemmas.{replays-at, unconfirmed-at, lacking-at}
 use Rattle.tracer.proofs.checks.check.Goals as goal
 
 pub returns-then-not-branch-clause-not : goal.returns-then-not-branch-clause-not
@@ -18,7 +18,7 @@ returns-then-not-branch-clause-not c =
     let low : i < length entries = c.loop-entry-test.true in
     let here : get_or entries i c.entry-item.result ≡ c.entry-item.result = search rules in
     let number : i + 1 ≡ n = search (rules, told, inv.1) in
-    subst (λ (l : List Entry). IsUnconfirmed l n) same (unconfirmed-at entries i n c.entry-item.result c.loop-entry.kernel low here number inv.0)
+    subst (λ (l : List Entry). IsUnconfirmed l n) same (unconfirmed-at entries i n c.entry-item.result c.loop-entry.kernel low here number inv.0 (c.in_ok-confirm.ensures.not (ap Ok c.if-not-branch.true)))
 
 pub loop-entry-preserved : goal.loop-entry-preserved
 loop-entry-preserved c =
@@ -28,7 +28,7 @@ loop-entry-preserved c =
     let e = c.entry-item.result in
     let low : i < length entries = c.loop-entry-test.true in
     let here : get_or entries i e ≡ e = search rules in
-    let step : Answers c.loop-entry.kernel.tables e.event e.reply c.confirm.new.kernel.tables = c.in_ok-confirm.ensures (ap Ok c.if-not-branch.false) in
+    let step : Answers c.loop-entry.kernel.tables e.event e.reply c.confirm.new.kernel.tables = c.in_ok-confirm.ensures.confirmed (ap Ok c.if-not-branch.false) in
     (replays-at entries i e c.loop-entry.kernel c.confirm.new.kernel low here inv.0 step, ap (λ n. n + 1) inv.1)
 
 pub invariant_of-result : goal.invariant_of-result
@@ -40,3 +40,13 @@ pub returns-clause-legal : goal.returns-clause-legal
 returns-clause-legal c =
     let whole = take_all c.loop-entry.entry-index c.entries-entry-items.result.now c.loop-entry-test.false ∙ c.entries-entry-items.ensures in
     subst Legal whole (legal_of _ c.loop-entry.kernel c.loop-entry.invariant.0)
+
+pub returns-in_err-confirm-clause-memory : goal.returns-in_err-confirm-clause-memory
+returns-in_err-confirm-clause-memory c =
+    λ told.
+    let entries = c.entries-entry-items.result.now in
+    let i = c.loop-entry.entry-index in
+    let same : entries ≡ c.args.history.now = c.entries-entry-items.ensures in
+    let low : i < length entries = c.loop-entry-test.true in
+    let here : get_or entries i c.entry-item.result ≡ c.entry-item.result = search rules in
+    subst MayLackMemory same (lacking-at entries i c.entry-item.result c.loop-entry.kernel low here c.loop-entry.invariant.0 c.in_err-confirm.ensures.memory)
