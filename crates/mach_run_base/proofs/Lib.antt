@@ -1,3 +1,4 @@
+mod BlockTexts
 pub mod HistoryLemmas
 pub mod LineLemmas
 pub mod OutputLemmas

@@ -1,5 +1,5 @@
 -- What is written of calls, one more at a time.
-use Rattle.std.proofs.Common.{◌≡◌, ◌≢◌, ℕ, Bool, false, List, [], ◌∷◌, ◌++◌, ◌+◌, ◌<◌, ◌≤◌, ◌^◌, All, length, length-append, Result, Ok, Err, OnOk, refl, sym, ap, ◌∙◌, subst, arith, append_assoc, append-nil}
+use Rattle.std.proofs.Common.{◌≡◌, ◌≢◌, ℕ, Bool, false, List, [], ◌∷◌, ◌++◌, ◌+◌, ◌<◌, ◌≤◌, ◌^◌, length, length-append, Result, Ok, Err, OnOk, refl, sym, ap, ◌∙◌, subst, arith, append_assoc, append-nil}
 use Rattle.std.proofs.lemmas.List.{length_push}
 use Rattle.std.proofs.lemmas.List.Elements.{All-push}
 use Rattle.mach_types.specs.declared.calls.Event.{Event}
@@ -13,7 +13,7 @@ use Rattle.mach_msg_threads.specs.Blocks.{Answered, Ran}
 use Rattle.tracer_base.specs.Replies.{reply_line}
 use Rattle.tracer_base.proofs.WordLemmas.{texts_push}
 use Rattle.mach_run_base.specs.declared.script.Script.{Script}
-use Rattle.mach_run_base.specs.Output.{entry_made, entries_made, answer_line, AreReplies, AreAnswers, IsAnswered}
+use Rattle.mach_run_base.specs.Output.{entry_made, entries_made, answer_line, AreReplies, AreAnswers, AreBlocks, IsAnswered}
 
 -- ---- calls with the kernel in hand
 
@@ -141,9 +141,9 @@ answers-more v m w calls text call answer so_far one = record {
 
 -- ---- a whole script
 
-pub answered : (keeps2 keeps : Bool) (script : Script) (opening main blocks : List ℕ) (v w : Known) → keeps2 ≡ keeps → AreReplies keeps2 script.opening.items opening v → AreAnswers v script.main.items main w → (script.blocks.items ≡ [] → blocks ≡ [])
+pub answered : (keeps2 keeps : Bool) (script : Script) (opening main blocks : List ℕ) (v w : Known) → keeps2 ≡ keeps → AreReplies keeps2 script.opening.items opening v → AreAnswers v script.main.items main w → (passes : List Known) → AreBlocks script.blocks.items blocks passes
     → IsAnswered keeps script (opening ++ main ++ blocks)
-answered keeps2 keeps script opening main blocks v w same first next last = record {
+answered keeps2 keeps script opening main blocks v w same first next passes last = record {
   opening = opening;
   main = main;
   blocks = blocks;
@@ -152,6 +152,7 @@ answered keeps2 keeps script opening main blocks v w same first next last = reco
   first = subst (λ (b : Bool). AreReplies b script.opening.items opening v) same first;
   ended = w;
   next = next;
+  passes = passes;
   last = last;
 }
 

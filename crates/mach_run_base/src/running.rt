@@ -2,12 +2,12 @@
 ghost use Rattle.std.specs.Prelude.{◌≡◌, ◌≢◌, ◌<◌, ◌^◌, ◌++◌, false, [], List, ℕ, length, IfOk, OnOk, flat_map};
 ghost use Rattle.std.specs.Io.KnownBytes.{Appends};
 ghost use Rattle.mach_types.specs.declared.calls.Reply.{Reply as AnyReply};
-ghost use Rattle.kernel_lock.specs.History.{Stepped};
+ghost use Rattle.kernel_lock.specs.History.{Known, Stepped};
 ghost use Rattle.mach_msg_threads.specs.declared.block.Answer.{Answer as AnyAnswer};
 ghost use Rattle.mach_msg_threads.specs.Blocks.{Answered};
 ghost use Rattle.tracer_base.specs.Blocks.{thread_line};
 ghost use Rattle.tracer_base.specs.Replies.{reply_line};
-ghost use Rattle.mach_run_base.specs.Output.{AreReplies, AreAnswers, IsAnswered, answer_line};
+ghost use Rattle.mach_run_base.specs.Output.{AreReplies, AreAnswers, AreBlocks, IsAnswered, answer_line, block_texts};
 
 use crate::fault::Fault;
 use crate::gate::{BlockGate, Hall};
@@ -157,7 +157,7 @@ fn run_threads<R: Threads + Wait + Sync, W: Write>(
     blocks: Vec<ThreadCalls>,
     out: &mut W,
 ) -> Result<(), Fault<'static>>
-    ensures { OnOk result ((text : List ℕ) × (blocks.items ≡ [] → text ≡ []) × Appends (W.contents out.old) (W.contents out.new) text) }
+    ensures { OnOk result ((text : List ℕ) × (passes : List Known) × AreBlocks blocks.items text passes × Appends (W.contents out.old) (W.contents out.new) text) }
 {
     if blocks.is_empty() {
         return Ok(());
@@ -169,9 +169,7 @@ fn run_threads<R: Threads + Wait + Sync, W: Write>(
         ready.push(prepare(rt, alloc, shared, hall, block)?)?;
     }
     let ran = run_blocks(rt, alloc, shared, ready)?;
-    for (number, (_, answers)) in numbers.iter().zip(ran.iter()) {
-        write_block(*number, answers.as_slice(), out)?;
-    }
+    write_blocks(numbers.as_slice(), ran.as_slice(), out)?;
     Ok(())
 }
 
@@ -183,7 +181,7 @@ fn prepare<'a, R: Wait>(
     hall: &'a Hall,
     block: ThreadCalls,
 ) -> Result<Block<BlockGate<'a, R>>, AllocError>
-    ensures { IfOk result (λ ready. ready.pass.table ≡ shared.now.table) }
+    ensures { IfOk result (λ ready. (ready.pass.table ≡ shared.now.table) × (ready.pass.seen ≡ []) × (ready.calls ≡ block.calls)) }
 {
     let ThreadCalls { number: _, calls } = block;
     let pass = shared.pass(rt)?;
@@ -191,10 +189,24 @@ fn prepare<'a, R: Wait>(
     Ok(Block { pass, calls, gate })
 }
 
+/// Writes each block's number, and how its calls were answered, one block after another.
+fn write_blocks<W: Write>(
+    numbers: &[u32],
+    ran: &[(Pass, Vec<Answer>)],
+    out: &mut W,
+) -> io::Result<()>
+    requires { length numbers.now ≡ length ran.now }
+    ensures { OnOk result (Appends (W.contents out.old) (W.contents out.new) (block_texts (λ one. one.1.items) numbers.now ran.now)) }
+{
+    for (place, one) in ran.iter().enumerate() {
+        write_block(numbers[place], one.1.as_slice(), out)?;
+    }
+    Ok(())
+}
+
 /// Writes a block's number, and how its calls were answered.
 fn write_block<W: Write>(number: u32, answers: &[Answer], out: &mut W) -> io::Result<()>
-    ensures { OnOk result ((text : List ℕ) × (thread_line number ++ flat_map answer_line answers.now ≡ text)
-        × Appends (W.contents out.old) (W.contents out.new) text) }
+    ensures { OnOk result (Appends (W.contents out.old) (W.contents out.new) (thread_line number ++ flat_map answer_line answers.now)) }
 {
     write_thread_line(number, out)?;
     write_answers(answers, out)

@@ -9,5 +9,5 @@ returns g c =
     let next = c.in_ok-run_calls.ensures in
     let written = appends-more _ _ _ first.0 next.0 first.2 next.2 in
     on-ok c.run_threads.result
-    (λ last. (first.0 ++ next.0 ++ last.0, answered _ _ c.args.script first.0 next.0 last.0 _ _ c.untouched-held.ensures.keeps first.1 next.1 last.1, appends-more _ _ _ (first.0 ++ next.0) last.0 written last.2))
+    (λ last. (first.0 ++ next.0 ++ last.0, answered _ _ c.args.script first.0 next.0 last.0 _ _ c.untouched-held.ensures.keeps first.1 next.1 last.1 last.2, appends-more _ _ _ (first.0 ++ next.0) last.0 written last.3))
     c.run_threads.ensures

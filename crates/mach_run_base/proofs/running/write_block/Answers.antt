@@ -1,4 +1,4 @@
-use Rattle.std.proofs.Common.{◌++◌, flat_map, refl}
+use Rattle.std.proofs.Common.{flat_map}
 use Rattle.tracer_base.specs.Blocks.{thread_line}
 use Rattle.tracer_base.proofs.ReplyLemmas.{appends-more}
 use Rattle.mach_run_base.specs.Output.{answer_line}
@@ -9,4 +9,4 @@ pub returns : goal.returns
 returns g c =
     let head = thread_line c.args.number in
     let rest = flat_map answer_line c.args.answers.now in
-    on-ok c.write_answers.result (λ written. (head ++ rest, refl, appends-more _ _ _ head rest c.in_ok-write_thread_line.ensures written)) c.write_answers.ensures
+    on-ok c.write_answers.result (λ written. appends-more _ _ _ head rest c.in_ok-write_thread_line.ensures written) c.write_answers.ensures
