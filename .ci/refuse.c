@@ -3,8 +3,8 @@
 // The environment asks for it: request number REFUSE_AT, from 1, is answered by NULL; thread number REFUSE_THREAD, from
 // 1, isn't started; the file REFUSE_COUNT gets how many requests there were.
 //
-// The program itself asks for it by a request for a block that no memory holds, as growth_tests does. Its size is n more
-// than
+// The program itself asks for it by a request for a block that no memory holds, as growth_tests does.
+// Its size is n more than
 //   1 * 2^60   the next request is refused exactly where n requests or more were counted; it isn't counted itself
 //   2 * 2^60   the count begins again, and of what comes only request number n is refused; none where n is 0
 //   3 * 2^60   of what comes thread number n isn't started; each is where n is 0
