@@ -30,9 +30,9 @@ use Rattle.mach_laws.proofs.Kept.{IsNew, kept_before}
 abbrev pub MeansThere : (old : State) → Event → (mid new : State) → (notify : ℕ) → Notice → Type 0
 MeansThere old event mid new notify (port_deleted name) = NameWent old mid new notify name
 MeansThere old event mid new notify (port_sent port) = WasAsked old new notify (port_destroyed port) × (new.live_port port ≡ true) × IsSentAway mid port
-MeansThere old event mid new notify (no_more_senders n) = LostSenders old new notify n ⊎ HasNoSendersYet old event n
+MeansThere old event mid new notify (no_more_senders n) = LostSenders old new notify n ⊎ HasNoSendersYet old event notify n
 MeansThere old event mid new notify right_unused = WentUnused old event new notify
-MeansThere old event mid new notify (name_died name) = NameDied old new notify name ⊎ IsDeadAlready old event name
+MeansThere old event mid new notify (name_died name) = NameDied old new notify name ⊎ IsDeadAlready old event notify name
 
 module _ (now : ℕ) (old : State) (event : Event) (reply : Reply) (new : State) (l : IsLawful old) (d : Done now old event reply new) where
   abbrev mid : State

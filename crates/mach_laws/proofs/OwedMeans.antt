@@ -23,6 +23,7 @@ use Rattle.mach_model.specs.References.{LosesAll, unused_once, unused, Deallocat
 use Rattle.mach_model.specs.Receive.{DestroysFront, Receipt}
 use Rattle.mach_model.specs.Requests.{RequestOn, GivesBack, HasNoSenders, Keeps, Requests}
 use Rattle.mach_model.specs.Refusals.{guards}
+use Rattle.mach_model.specs.Turns.{IsNameOf}
 use Rattle.mach_model.specs.Machine.{Does}
 use Rattle.mach_model.proofs.Names.{at_own, at_same, at_other, left, inserted, count_some}
 use Rattle.mach_model.proofs.Settling.{is_at, own_test}
@@ -34,8 +35,8 @@ use Rattle.mach_laws.proofs.Shrinking.{SameRights, NoOnce, IsNotify, not_moved, 
 abbrev pub OwedMeans : (old : State) → Event → (new : State) → (notify : ℕ) → Notice → Type 0
 OwedMeans old event new notify notice =
     (notice ≡ right_unused) × WentUnused old event new notify
-    ⊎ ((n : ℕ) × (notice ≡ no_more_senders n) × HasNoSendersYet old event n)
-    ⊎ ((name : ℕ) × (notice ≡ name_died name) × IsDeadAlready old event name)
+    ⊎ ((n : ℕ) × (notice ≡ no_more_senders n) × HasNoSendersYet old event notify n)
+    ⊎ ((name : ℕ) × (notice ≡ name_died name) × IsDeadAlready old event notify name)
 
 abbrev pub AllMean : (old : State) → Event → (new : State) → Owed → Type 0
 AllMean old event new owed = All (λ y. OwedMeans old event new y.0.port y.1) owed
@@ -134,7 +135,7 @@ module _ (old : State) (event : Event) (new : State) where
 
 -- ---- a request that is told of at once
 
--- a name that is there after a notify right was copied in was there before
+-- a dead name's right is for no port
 dead_no_port : (d : Disposition) (n q : ℕ) → target_mark d (Target.dead n) ≡ Some (to_port q) → ⊥
 dead_no_port MoveReceive n p e = cc
 dead_no_port MoveSend n p e = cc
@@ -143,6 +144,14 @@ dead_no_port CopySend n p e = cc
 dead_no_port MakeSend n p e = cc
 dead_no_port MakeSendOnce n p e = cc
 
+-- a name whose right is for a port is one of that port
+is_name : (d : Disposition) (target : Target) (q : ℕ) → target_mark d target ≡ Some (to_port q) → IsNameOf q (Some target)
+is_name d (Target.port p) q e = cc
+is_name d (Target.once p) q e = cc
+is_name d (Target.dead n) q e = absurd (dead_no_port d n q e)
+is_name d (Target.set s) q e = cc
+
+-- a name that is there after a notify right was copied in was there before
 without_kept : (t n : ℕ) (old : State) (task name : ℕ) (x : Target) → lookup (without_name t n old) task name ≡ Some x → lookup old task name ≡ Some x
 without_kept t n old task name x is = elim (eqb_tells task t) [
   | inl h ↦
@@ -188,11 +197,14 @@ module _ (task name variant sync notify number previous : ℕ) (old mid : State)
   asking = Event.RequestNotification task name variant sync notify number
 
   module _ (q : ℕ) (some : notify ≢ null_word) (c : CopyRight task (in_request r.request) number notify old (to_port q) r.copied) where
+    names_port : IsNameOf q (lookup old task notify)
+    names_port = subst (IsNameOf q) (sym c.found) (is_name c.given c.target q c.mark_is)
+
     same : (p : ℕ) → SameRights (is_of send p) old r.back
     same p = then_same (is_of send p) (no_send_once p) old r.copied r.back (copied (is_of send p) (no_send_once p) task number notify (in_request r.request) (to_port q) old r.copied (is some) c)
         (back_given (is_of send p) (no_send_once p) task r.request old r.copied previous r.back r.given_back)
 
-    senders_told : (p : ℕ) → r.request ≡ no_senders p → HasNoSenders r.back r.request sync → RequestOn r.copied task name variant r.request → HasNoSendersYet old asking (r.back.make_send p)
+    senders_told : (p : ℕ) → r.request ≡ no_senders p → HasNoSenders r.back r.request sync → RequestOn r.copied task name variant r.request → HasNoSendersYet old asking q (r.back.make_send p)
     senders_told p e none (inl (v, (o, named, f))) = absurd (let g = sym e ∙ f in cc)
     senders_told p e none (inr (inl (v, (o, named, f)))) =
         let one : o ≡ p = same_port o p (sym f ∙ e) in
@@ -205,7 +217,7 @@ module _ (task name variant sync notify number previous : ℕ) (old mid : State)
           task = task;
           name = name;
           sync = sync;
-          asks = (notify, number, ap (λ (v : ℕ). Event.RequestNotification task name v sync notify number) v);
+          asks = (notify, number, ap (λ (v : ℕ). Event.RequestNotification task name v sync notify number) v, names_port);
           port = p;
           named = copied_names task number notify q (in_request r.request) old r.copied (is some) c task name (Target.port p) (named ∙ ap (λ (x : ℕ). Some (Target.port x)) one);
           has_none = omega (arith, s, none_left);
@@ -217,13 +229,13 @@ module _ (task name variant sync notify number previous : ℕ) (old mid : State)
         same_port a b e = cc
     senders_told p e none (inr (inr (v, f))) = absurd (let g = sym e ∙ f in cc)
 
-    name_told : (n : ℕ) → r.request ≡ dead_name task name → lookup r.back task name ≡ Some (Target.dead n) → RequestOn r.copied task name variant r.request → IsDeadAlready old asking name
+    name_told : (n : ℕ) → r.request ≡ dead_name task name → lookup r.back task name ≡ Some (Target.dead n) → RequestOn r.copied task name variant r.request → IsDeadAlready old asking q name
     name_told n e was_dead (inl (v, (o, named, f))) = absurd (let g = sym e ∙ f in cc)
     name_told n e was_dead (inr (inl (v, (o, named, f)))) = absurd (let g = sym e ∙ f in cc)
     name_told n e was_dead (inr (inr (v, f))) = record {
       task = task;
       sync = sync;
-      asks = (notify, number, ap (λ (v : ℕ). Event.RequestNotification task name v sync notify number) v);
+      asks = (notify, number, ap (λ (v : ℕ). Event.RequestNotification task name v sync notify number) v, names_port);
       references = n;
       was_dead = copied_names task number notify q (in_request r.request) old r.copied (is some) c task name (Target.dead n)
           (back_names task r.request old r.copied previous r.back r.given_back name n was_dead);

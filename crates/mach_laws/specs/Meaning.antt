@@ -14,9 +14,10 @@ pub record WasAsked (old new : State) (notify : ℕ) (request : Request) : Type 
   pub kept : LiesAt old send_once notify (in_request request)
   pub ended : new.stands request ≡ false
 
--- The step's own event makes the request.
-abbrev pub AsksNow : Event → (task name variant sync : ℕ) → Type 0
-AsksNow event task name variant sync = (notify number : ℕ) × (event ≡ Event.RequestNotification task name variant sync notify number)
+-- The step's own event makes the request, with a right for the notify port: `own` is the task's name of that.
+abbrev pub AsksNow : State → Event → (task name variant sync notify : ℕ) → Type 0
+AsksNow old event task name variant sync notify =
+    (own number : ℕ) × (event ≡ Event.RequestNotification task name variant sync own number) × IsNameOf notify (lookup old task own)
 
 abbrev pub DiesIn : (old new : State) → (port : ℕ) → Type 0
 DiesIn old new p = (old.live_port p ≡ true) × (new.live_port p ≡ false)
@@ -44,11 +45,11 @@ pub record LostSenders (old new : State) (notify make_send : ℕ) : Type 0 where
   pub counted : make_send ≡ new.make_send port
 
 -- Or it has none already when that is asked, and was made as many as the caller names.
-pub record HasNoSendersYet (old : State) (event : Event) (make_send : ℕ) : Type 0 where
+pub record HasNoSendersYet (old : State) (event : Event) (notify make_send : ℕ) : Type 0 where
   pub task : ℕ
   pub name : ℕ
   pub sync : ℕ
-  pub asks : AsksNow event task name 70 sync
+  pub asks : AsksNow old event task name 70 sync notify
   pub port : ℕ
   pub named : lookup old task name ≡ Some (Target.port port)
   pub has_none : senders old port ≡ 0
@@ -89,10 +90,10 @@ pub record NameDied (old new : State) (notify name : ℕ) : Type 0 where
   pub is_dead : lookup new task name ≡ Some (Target.dead references)
 
 -- Or it was a dead name already when that is asked.
-pub record IsDeadAlready (old : State) (event : Event) (name : ℕ) : Type 0 where
+pub record IsDeadAlready (old : State) (event : Event) (notify name : ℕ) : Type 0 where
   pub task : ℕ
   pub sync : ℕ
-  pub asks : AsksNow event task name 72 sync
+  pub asks : AsksNow old event task name 72 sync notify
   pub references : ℕ
   pub was_dead : lookup old task name ≡ Some (Target.dead references)
 
@@ -100,6 +101,6 @@ pub record IsDeadAlready (old : State) (event : Event) (name : ℕ) : Type 0 whe
 abbrev pub Means : (old : State) → Event → (mid new : State) → (notify entry : ℕ) → Notice → Type 0
 Means old event mid new notify entry (port_deleted name) = NameWent old mid new notify name
 Means old event mid new notify entry (port_sent port) = WasSentAway old mid new notify entry port
-Means old event mid new notify entry (no_more_senders n) = LostSenders old new notify n ⊎ HasNoSendersYet old event n
+Means old event mid new notify entry (no_more_senders n) = LostSenders old new notify n ⊎ HasNoSendersYet old event notify n
 Means old event mid new notify entry right_unused = WentUnused old event new notify
-Means old event mid new notify entry (name_died name) = NameDied old new notify name ⊎ IsDeadAlready old event name
+Means old event mid new notify entry (name_died name) = NameDied old new notify name ⊎ IsDeadAlready old event notify name
