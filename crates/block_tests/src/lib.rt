@@ -1,8 +1,13 @@
-//! Tests of the blocks of `mach_msg_threads`, that they run at once, and of a kernel of `kernel_lock` that keeps no entries.
+//! Tests of the blocks of `mach_msg_threads`, that they run at once, and of `kernel_lock`: its history, its callers in
+//! threads of their own, and a kernel that keeps no entries.
 //!
 //! They stand in a crate of their own, so that the crates that they test are proved once.
 #![tactic(auto)]
 
+#[cfg(test)]
+mod callers;
+#[cfg(test)]
+mod history;
 #[cfg(test)]
 mod unkept;
 #[cfg(test)]

@@ -18,8 +18,3 @@ mod room;
 pub use board::{Board, Watch};
 pub use entry::Entry;
 pub use lock::{Held, LockedKernel, Pass, Shared};
-
-#[cfg(test)]
-mod tests;
-#[cfg(test)]
-mod thread_tests;

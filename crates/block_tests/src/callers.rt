@@ -1,7 +1,7 @@
 //! Callers in threads of their own, and a watch that is read beside them.
 ghost use Rattle.std.specs.Prelude.{◌≡◌, All, IfOk, IfSome};
 
-use super::*;
+use kernel_lock::{Entry, Pass, Shared, Watch};
 use mach_types::{Event, Name, PortId, Reply, TaskId, Waited};
 use std::alloc::{AllocError, Global};
 use std::snapshot::Snapshot;

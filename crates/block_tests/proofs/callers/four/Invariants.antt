@@ -1,5 +1,5 @@
 use Rattle.std.proofs.Common.{◌≡◌, All}
-use Rattle.kernel_lock.proofs.thread_tests.four.Given as goal
+use Rattle.block_tests.proofs.callers.four.Given as goal
 
 abbrev pub invariant-loop : goal.invariant-loop
 invariant-loop g l = All (λ p. p.table ≡ l.fn.shared.table) l.passes.items

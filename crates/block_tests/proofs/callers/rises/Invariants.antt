@@ -1,5 +1,5 @@
 use Rattle.std.proofs.Common.{◌≡◌}
-use Rattle.kernel_lock.proofs.thread_tests.rises.Given as goal
+use Rattle.block_tests.proofs.callers.rises.Given as goal
 
 abbrev pub invariant-loop : goal.invariant-loop
 invariant-loop l = l.watch.table ≡ l.fn.shared.table

@@ -1,4 +1,5 @@
-use super::*;
+//! What is read again of a history, and who made which entry of it.
+use kernel_lock::{Entry, Shared};
 use mach_types::{Bytes, Event, Name, Reply, TaskId};
 use std::test::*;
 
