@@ -1,34 +1,31 @@
 -- A burial from its beginning to the tables after it.
-use Rattle.std.proofs.Common.{◌≡◌, ℕ, ◌+◌, List, [], ◌∷◌, Option, Some, None, refl, sym, ap, subst, ◌∙◌, arith, true, false, Bool, inl, inr, length, zero, suc, ◌<◌, ◌≤◌, ◌++◌, ◌⊎◌, drop, get_or}
-use Rattle.std.specs.Prelude.{if◌then◌else◌, ◌==◌, ◌&&◌, not, filter, is_some, Contains, map as list_map, All, ◌||◌, reverse}
+use Rattle.std.proofs.Common.{length-append, ◌≡◌, ℕ, ◌+◌, List, [], ◌∷◌, Option, Some, None, refl, sym, ap, subst, ◌∙◌, arith, true, false, Bool, inl, inr, length, zero, suc, ◌<◌, ◌≤◌, ◌++◌, ◌⊎◌, drop}
+use Rattle.std.specs.Prelude.{if◌then◌else◌, ◌==◌, ◌&&◌, not, filter, is_some, Contains, map as list_map, ◌||◌}
 use Rattle.std.specs.Option.{unwrap_or, option_map}
-use Rattle.std.proofs.lemmas.Bool.{eq-eqb, ne_eqb, lt-ltb}
+use Rattle.std.proofs.lemmas.Bool.{eq-eqb, ne_eqb, lt-ltb, false_from_ne_true, true_from_ne_false}
 use Rattle.std.proofs.lemmas.Bool.Decides.{eqb_tells}
 use Rattle.std.specs.FinMap as map
-use Rattle.std.proofs.lemmas.List.{append-nil}
-use Rattle.std.proofs.Math.Bool.{and-true as and_true}
 use Rattle.mach_types.specs.Tokens.{Kind, receive, send, send_once, Request, Place, in_task, in_message, in_request, Token, weigh, count, is_of, is_held, is_in_task, no_senders, port_destroyed, dead_name}
 use Rattle.mach_types.specs.Messages.{Entry}
-use Rattle.mach_model.specs.State.{State, held, Target, lookup, queue, same_request}
+use Rattle.mach_model.specs.State.{State, held, Target, lookup, queue}
 use Rattle.mach_model.specs.Death.{same_place, LiesAt}
 use Rattle.mach_model.specs.Carried.{lying_among}
-use Rattle.mach_model.specs.Turns.{Ending, listed, lives_after, Begun, turns, IsWaiting, is_judged, IsNameOf, IsRequestOf, Buries, Turn, became_dead, has_ended, outcome}
+use Rattle.mach_model.specs.Turns.{Ending, listed, is_among, lives_after, Begun, turns, IsWaiting, is_judged, IsNameOf, IsRequestOf, Buries, Turn, became_dead, has_ended}
 use Rattle.mach_model.specs.Unused.{onces_queued}
-use Rattle.mach_model.proofs.Names.{removed_own, left_of, length-weigh, lying_le_of, weigh-append}
+use Rattle.mach_model.proofs.Names.{removed_own, length-weigh, weigh-append}
 use Rattle.mach_model.proofs.SettledEnd.{settled_port}
-use Rattle.mach_model.proofs.SettledReceives.{and_false, dead_cases}
-use Rattle.mach_model.proofs.TurnsMade.{parted, all_fewer, bury, bury_is}
-use Rattle.mach_model.specs.Notices.{Owed, Posted, all_posted_tokens}
-use Rattle.mach_model.specs.Settles.{due_notices, tokens_of, settled_target}
+use Rattle.mach_model.proofs.SettledReceives.{and_false}
+use Rattle.mach_model.proofs.TurnsMade.{parted, bury, bury_is}
+use Rattle.mach_model.specs.Notices.{Owed}
+use Rattle.mach_model.specs.Settles.{due_notices, settled_target}
 use Rattle.mach_model.specs.Lawful.{tally}
-use Rattle.mach_model.proofs.TurnsSettle.{tokens_joined_settle as tokens_joined, dies_unsaved}
+use Rattle.mach_model.proofs.TurnsSettle.{dies_unsaved}
 use Rattle.mach_model.proofs.TurnsCounted.{reached_sound, takes_less, listed_cases}
 use Rattle.rights.specs.declared.Counts.{Counts}
 use Rattle.rights.specs.Counts.{no_rights}
 use Rattle.rights.specs.Ledger.{counts_of}
 use Rattle.name_space.specs.declared.Entry.{Entry as Named}
-use Rattle.name_space.specs.Entry.{port_named, has_receive, port_of}
-use Rattle.name_space.specs.declared.Entry.TheVariants as named
+use Rattle.name_space.specs.Entry.{port_named, has_receive}
 use Rattle.port.specs.declared.Holder.{Holder}
 use Rattle.port.specs.declared.Holder.TheVariants as holder
 use Rattle.port.specs.Ports.{PortView, IsLive}
@@ -45,10 +42,14 @@ use Rattle.copyin_base.proofs.Requesting.{requests_stay}
 use Rattle.copyin_base.specs.Changes.{IsSenderless}
 use Rattle.copyin_base.proofs.Reading.{named_port, reads_as}
 use Rattle.notifications.proofs.NoticePosted.{filter_weigh}
-use Rattle.notifications.specs.SoFar.{AgreesOf, IsWithNobody, IsHolder, HoldersTell, AreEntries, due_so_far, entries_at, Tied, buried_alone, posted_from, posted_so_far, IsSoFar}
-use Rattle.destroy.specs.Burying.{without_port, buried, IsPartway, partway, is_among, CanBury, Burying}
-use Rattle.destroy.proofs.BurySoFar.{left_target, left_as_read, spaces_left, rights_left, sets_left, read_port, read_at, after_burial, next_so_far, none_passes, none_paid}
-use Rattle.destroy.proofs.BuryState.{weigh_same, is_off, count_else, none_here, none_stands, same_request_is}
+use Rattle.notifications.specs.SoFar.{AgreesOf, IsWithNobody, IsHolder, HoldersTell, due_so_far, entries_at, Tied, buried_alone, seen_for, IsSoFar}
+use Rattle.destroy.specs.Burying.{without_port, buried}
+use Rattle.destroy.proofs.BuryRequest.{named_once}
+use Rattle.destroy.proofs.LoseFrames.{stood_if}
+use Rattle.destroy.proofs.LoseRights.{awaits_on}
+use Rattle.destroy.proofs.BurySoFar.{left_target, left_as_read, spaces_left, rights_left, sets_left, read_port, read_at, after_burial, next_so_far}
+use Rattle.mach_model.proofs.SettledDetermined.{weigh-same}
+use Rattle.destroy.proofs.BuryState.{is_off, count_else, none_here, none_stands}
 use Rattle.destroy.specs.Between.{Between, IsUnlost}
 use Rattle.destroy.specs.Stages.{AreTold}
 
@@ -67,7 +68,7 @@ by_kinds : (port : ℕ) (xs : List Token) → weigh (λ x. if x.port == port the
 by_kinds port [] = refl
 by_kinds port (x ∷ xs) = grind (arith, by_kinds port xs)
 
-module _ (now : ℕ) (mid : State) (e : Ending) (port : ℕ) (rs : List Request) (s : State) (f : IsPartway now mid e rs s) (w : WorldView) (doomed : List ℕ)
+module _ (now : ℕ) (mid : State) (e : Ending) (port : ℕ) (s : State) (f : IsSoFar now mid e s) (w : WorldView) (doomed : List ℕ)
     (a : AgreesOf (lives_after mid e) w s) (is_doomed : listed e.doomed port ≡ true) (held_by : HoldersAgree w)
     (holder_is : (v : PortView Kept) → port_at w port ≡ Some v → v.attributes.holder ≡ holder.Doomed) where
   abbrev pub live : ℕ → Bool
@@ -94,7 +95,7 @@ module _ (now : ℕ) (mid : State) (e : Ending) (port : ℕ) (rs : List Request)
 
   -- a port of a name is there
   named_there : (task n : ℕ) (x : Named) (p : ℕ) → entry_at w task n ≡ Some x → port_named x ≡ Some p → s.live_port p ≡ true
-  named_there task n x p at named = grind (arith, target_named, settled_port, left_of)
+  named_there task n x p at named = grind (arith, target_named, settled_port, stood_if)
 
   dead_is : (p : ℕ) → s.live_port p ≡ true → live p ≡ false → p ≡ port
   dead_is p lives dead = grind (arith, live_is)
@@ -167,7 +168,7 @@ module _ (now : ℕ) (mid : State) (e : Ending) (port : ℕ) (rs : List Request)
   lying_same r kind q =
       filter_weigh g (λ x. lives_after mid e x.port) next.ledger
       ∙ filter_weigh (λ x. if lives_after mid e x.port then g x else 0) (is_off port) s.ledger
-      ∙ weigh_same (λ x. if is_off port x then (if lives_after mid e x.port then g x else 0) else 0) (λ x. if lives_after mid e x.port then g x else 0) same s.ledger
+      ∙ weigh-same (λ x. if is_off port x then (if lives_after mid e x.port then g x else 0) else 0) (λ x. if lives_after mid e x.port then g x else 0) same s.ledger
       ∙ sym (filter_weigh g (λ x. lives_after mid e x.port) s.ledger)
     where
       g : Token → ℕ
@@ -230,9 +231,6 @@ module _ (now : ℕ) (mid : State) (e : Ending) (port : ℕ) (rs : List Request)
 
 -- ---- lists
 
-heads : (x y : ℕ) (xs ys : List ℕ) → x ∷ xs ≡ y ∷ ys → x ≡ y
-heads x y xs ys e = cc
-
 none_dropped : {A : Type 0} (n : ℕ) (xs : List A) → drop n xs ≡ [] → length xs ≤ n
 none_dropped n [] is = omega arith
 none_dropped zero (x ∷ xs) is = absurd (cc)
@@ -242,22 +240,10 @@ no_entries : (p : ℕ) (es : List Entry) → AllKept p [] es → es ≡ []
 no_entries p [] h = refl
 no_entries p (x ∷ es) h = absurd h
 
-length-joined : {A : Type 0} (xs ys : List A) → length (xs ++ ys) ≡ length xs + length ys
-length-joined [] ys = omega arith
-length-joined (x ∷ xs) ys = let a = length-joined xs ys in omega (arith, a)
-
 -- what the step's own part posted at the port stands in its log
 begun_posted : (now p : ℕ) (ys : Begun) (xs : Owed) → tally (λ y. y.1.0.port == p) ys ≤ length (entries_at now p (due_notices (list_map (λ y. y.1) ys ++ xs)))
 begun_posted now p [] xs = omega arith
 begun_posted now p (y ∷ ys) xs = grind (arith, begun_posted now p ys xs)
-
-pub named_once : (x : Named) (p : ℕ) → port_of x ≡ Some p → (target_of x ≡ Target.port p) ⊎ (target_of x ≡ Target.once p)
-named_once (named.Receive q) p is = inl (cc)
-named_once (named.Send q n) p is = inl (cc)
-named_once (named.ReceiveAndSend q n) p is = inl (cc)
-named_once (named.SendOnce q) p is = inr (cc)
-named_once (named.DeadName n) p is = absurd (cc)
-named_once (named.Set n) p is = absurd (cc)
 
 module _ (mid new : State) (task name : ℕ) where
   -- a name of a port was one of it before
@@ -268,369 +254,30 @@ module _ (mid new : State) (task name : ℕ) where
   of_settled (Some (Target.dead n)) p e = absurd (cc)
   of_settled (Some (Target.set n)) p e = absurd (cc)
 
--- a port that is doomed was there
-pub dead_never : (old mid : State) (owed : Owed) (e : Ending) (port : ℕ) → CanBury old mid owed e port → mid.live_port port ≡ false → ⊥
-dead_never old mid owed e port can dead = grind (arith, dead_cases, reached_sound, lying_le_of)
-
-module _ (now : ℕ) (tables : WorldView) (old mid : State) (owed : Owed) (e : Ending) (port : ℕ) (rs : List Request) (w : WorldView) (b : Burying now tables old mid owed e port rs w)
-    (every : (r : Request) → mid.stands r ≡ true → IsRequestOf mid port r → Contains rs r) (doomed : List ℕ) where
-  abbrev s : State
-  s = b.state
-
-  abbrev done : Ending
-  done = bury port rs e
-
-  abbrev after_end : WorldView
-  after_end = buried w port doomed
-
-  abbrev lv : ℕ → Bool
-  lv = live_in (without_port w.ports port doomed)
-
-  is_doomed : (v : PortView Kept) → port_at w port ≡ Some v → v.attributes.holder ≡ holder.Doomed
-  is_doomed v there = let d = b.around.doomed port v there in d.1 b.can.doomed
-
-  lives : (q : ℕ) → lv q ≡ (s.live_port q && not (q == port))
-  lives = live_is now mid e port rs s b.so_far w doomed b.agrees b.can.doomed b.around.held is_doomed
-
-  other : (q : ℕ) → lv q ≡ true → q ≡ port → ⊥
-  other = live_other now mid e port rs s b.so_far w doomed b.agrees b.can.doomed b.around.held is_doomed
-
-  there : (q : ℕ) (v : PortView Kept) → port_at after_end q ≡ Some v → (q ≡ port → ⊥) × (port_at w q ≡ Some v)
-  there = there_other now mid e port rs s b.so_far w doomed b.agrees b.can.doomed b.around.held is_doomed
-
-  turn_is : Buries mid e done
-  turn_is = bury_is old mid owed e port rs b.can.lawful b.can.reached b.can.judged b.can.doomed b.can.unburied b.ends every
-
-  pub buried_turn : Turn old mid e done
-  buried_turn = inr (inr (inr (inr (inl turn_is))))
-
-  -- ---- requests
-
-  ended : (r : Request) → IsRequestOf mid port r → s.stands r ≡ false
-  ended = none_stands now old mid owed e port rs s b.can b.ends b.so_far every
-
-  unkept : (r : Request) → IsRequestOf mid port r → is_some (notify_of w.requests r) ≡ false
-  unkept r of = sym (b.agrees.of_requests.standing r) ∙ ended r of
-
-  kept_name : (key : ℕ) (r : NameRequest) → map.get w.requests.names.requests key ≡ Some r → IsOnName w key r → is_some (notify_of w.requests (dead_name r.task r.name)) ≡ true
-  kept_name key r at on = grind (arith, lt-ltb)
-
-  -- a request on a name isn't on one of the port
-  on_other : (key : ℕ) (r : NameRequest) → map.get w.requests.names.requests key ≡ Some r → (on : IsOnName w key r) → r.port ≡ port → ⊥
-  on_other key r at on is = let g : true ≡ false = sym (kept_name key r at on) ∙ unkept (dead_name r.task r.name) of in cc
-    where
-      found : lookup s r.task r.name ≡ Some (target_of on.entry)
-      found = b.agrees.spaces.naming r.task r.name ∙ ap (option_map target_of) on.found
-
-      new : State
-      new = record mid { live_port = λ q. s.live_port q && not (is_among rs (dead_name r.task r.name)) }
-
-      of : IsNameOf port (lookup mid r.task r.name)
-      of = elim (named_once on.entry r.port on.for_port) [
-        | inl h ↦ (let t = settled_port mid new r.task r.name (lookup mid r.task r.name) r.port (sym (b.so_far.names r.task r.name) ∙ found ∙ ap Some h) in subst (IsNameOf port) (sym t.0) is)
-        | inr h ↦ (let t = of_settled mid new r.task r.name (lookup mid r.task r.name) r.port (sym (b.so_far.names r.task r.name) ∙ found ∙ ap Some h) in subst (IsNameOf port) (sym t) is)
-      ]
-
-  still_live : (q : ℕ) → (q ≡ port → ⊥) → IsLive w.ports q → IsLive after_end.ports q
-  still_live q not is = ap is_some (get_removed w.ports.ports port q not) ∙ is
-
-  asked_other : (o : Option ℕ) (q : ℕ) → is_some o ≡ true → (q ≡ port → is_some o ≡ false) → q ≡ port → ⊥
-  asked_other o q some none is = let g : true ≡ false = sym some ∙ none is in cc
-
-  requested : RequestsStand after_end
-  requested = record {
-    on_names = λ key r at.
-        let on = b.around.requested.on_names key r at in
-        let not = on_other key r at on in
-        let live = still_live r.port not on.live in
-        record {
-          own = on.own;
-          small = on.small;
-          entry = on.entry;
-          found = read_at lv w.spaces r.task r.name ∙ ap (option_map (reading lv)) on.found ∙ ap Some (reads_as lv on.entry r.port on.for_port live);
-          for_port = on.for_port;
-          live = live;
-        };
-    no_senders = λ p has. still_live p (asked_other (notify_of w.requests (no_senders p)) p has (λ is. unkept (no_senders p) is)) (b.around.requested.no_senders p has);
-    port_destroyed = λ p has. still_live p (asked_other (notify_of w.requests (port_destroyed p)) p has (λ is. unkept (port_destroyed p) is)) (b.around.requested.port_destroyed p has);
-  }
-
-  -- ---- holders
-
-  held_end : HoldersAgree after_end
-  held_end = record {
-    held = λ task name x p at is has v is_there.
-        let r = read_port lv w.spaces task name x p at (named_port x p is) in
-        b.around.held.held task name x p r.0 is has v (there p v is_there).1;
-  }
-
-  carriers : CarriersAgree after_end
-  carriers = record {
-    given = λ q u m p at c carries. b.around.carriers.given q u m p (there q u at).1 c carries;
-    carried = λ q u m p at c carries v is. b.around.carriers.carried q u m p (there q u at).1 c carries v (there p v is).1;
-  }
-
-  held_before : (p : ℕ) → IsHeldBy after_end.ports p holder.Nobody → IsHeldBy w.ports p holder.Nobody
-  held_before p h = record { view = h.view; there = (there p h.view h.there).1; holder_is = h.holder_is }
-
-  -- ---- the port had no message left
-
-  port_emptied : (k : ℕ) → IsWaiting mid e (port, k) → Contains e.destroyed (port, k)
-  port_emptied k waits = (let d = b.so_far.destroyed port k in d.1 (
-    waits.0,
-    (
-        let a = none_dropped (s.taken port) (s.log port) none_queued in
-        let c = ap (λ (es : List Entry). length es) (b.so_far.log port) in
-        let d = length-joined (mid.log port) (entries_at now port (due_so_far (partway e rs))) in
-        let f = begun_posted now port e.begun (partway e rs).paid in
-        let g = waits.1 in omega (arith, a, c, d, f, g)),
-  ))
-    where
-      port_there : (o : Option (PortView Kept)) → port_at w port ≡ o → is_some o ≡ true → (v : PortView Kept) × (port_at w port ≡ Some v)
-      port_there (Some v) is h = (v, is)
-      port_there None is h = absurd (cc)
-
-      lives_now : s.live_port port ≡ true
-      lives_now = b.so_far.live_port port ∙ ap (λ (c : Bool). mid.live_port port && not c) b.can.unburied ∙ alive (mid.live_port port) refl
-        where
-          alive : (c : Bool) → mid.live_port port ≡ c → (c && true) ≡ true
-          alive true is = refl
-          alive false is = absurd (dead_never old mid owed e port b.can is)
-
-      found : (v : PortView Kept) × (port_at w port ≡ Some v)
-      found = port_there (port_at w port) refl (b.agrees.live_port port ∙ lives_now)
-
-      none_queued : queue s port ≡ []
-      none_queued = no_entries port (queue s port) (subst (λ (ms : List Kept). AllKept port ms (queue s port)) (b.around.emptied port found.0 found.1 (is_doomed found.0 found.1)) (b.agrees.ports port found.0 found.1).waiting)
-
-  emptied : (p k : ℕ) → listed done.buried p ≡ true → IsWaiting mid e (p, k) → Contains e.destroyed (p, k)
-  emptied p k h waits = grind (arith, listed_cases, port_emptied)
-
-  -- ---- all together
-
-  fewer : (h : Token → ℕ) → weigh h done.left ≤ weigh h e.left
-  fewer = takes_less e done turn_is.paying turn_is.going turn_is.takes
-
-  tied : Tied now mid done after_end
-  tied = record {
-    state = after_burial lv port s;
-    so_far = next_so_far now old mid owed e port rs s b.can b.ends b.so_far every lv lives;
-    agrees = buried_agrees now mid e port rs s b.so_far w doomed b.agrees b.can.doomed b.around.held is_doomed;
-    holders = holders_tell now mid e port rs s b.so_far w doomed b.agrees b.can.doomed b.around.held is_doomed e.destroyed b.holders;
-    slots = (let a = b.slots in omega (arith, a));
-    waiting = record {
-      waiting = [];
-      emptied = e.destroyed;
-      parts = refl;
-      are = subst (λ (ms : List Kept). AreEntries (after_burial lv port s) ms []) (sym b.around.none_destroyed) tt;
-      lost = λ k d below. all_fewer (λ x. x.place ≡ in_message (get_or e.destroyed k d).0 (get_or e.destroyed k d).1 → listed e.doomed x.port ≡ true) done.left e.left fewer (b.can.lost k d below);
-    };
-  }
-
-  counts_other_end : (q : ℕ) → (q ≡ port → ⊥) → counts_of after_end.ledger q ≡ counts_of w.ledger q
-  counts_other_end q not = ap (λ (o : Option Counts). unwrap_or o no_rights) (get_removed w.ledger.counts port q not)
-
-  unnoted : (p : ℕ) → lives_after mid e p ≡ true → 0 < (counts_of tables.ledger p).send → IsSenderless after_end p → ⊥
-  unnoted p alive some is = grind (arith, other, get_removed, counts_other_end)
-
-  receivers : (p : ℕ) → (counts_of after_end.ledger p).receive ≤ 1
-  receivers p = grind (arith, removed_own, counts_other_end)
-
-  port_same : port ≡ turn_is.port
-  port_same = heads port turn_is.port e.buried e.buried (ap (λ (x : Ending). x.buried) turn_is.rest)
-
-  unlost : IsUnlost done e.destroyed
-  unlost kind p q k not undoomed undestroyed =
-      let test : Token → Bool = λ x. is_of kind p x && same_place (in_message q k) x.place in
-      let a = b.can.unlost kind p q k not undoomed undestroyed in
-      let c : count test (tokens_of done.paid) ≡ count test (tokens_of (e.paid ++ turn_is.paying)) = ap (λ (xs : Owed). count test (tokens_of xs)) turn_is.takes.paid in
-      let d = tokens_joined (λ x. if test x then 1 else 0) e.paid turn_is.paying in
-      let f : count test done.gone ≡ count test (e.gone ++ turn_is.going) = ap (count test) turn_is.takes.gone in
-      let g = weigh-append (λ x. if test x then 1 else 0) e.gone turn_is.going in
-      let h = none_paid test turn_is.paying (λ i x below. off_request _ _ (turn_is.pays i x below).kept) in
-      let m = none_passes test turn_is.going (λ i x below. off_port _ (turn_is.goes i x below ∙ sym port_same)) in
-      omega (arith, a, c, d, f, g, h, m)
-    where
-      off_request : (x : Token) (r : Request) → x.place ≡ in_request r → (is_of kind p x && same_place (in_message q k) x.place) ≡ false
-      off_request x r at = ap (λ (place : Place). is_of kind p x && same_place (in_message q k) place) at ∙ and_false (is_of kind p x)
-
-      off_port : (x : Token) → x.port ≡ port → (is_of kind p x && same_place (in_message q k) x.place) ≡ false
-      off_port x is = ap (λ (c : Bool). c && same_place (in_message q k) x.place) (of_other kind p port (λ same. let g : true ≡ false = sym b.can.doomed ∙ subst (λ (r : ℕ). listed e.doomed r ≡ false) same undoomed in cc) x is)
-
-  pub buried_between : Between now tables old mid owed done after_end
-  unfolding tied
-  buried_between = record {
-    lawful = b.can.lawful;
-    reached = turns e done b.can.reached buried_turn;
-    tied = tied;
-    held = held_end;
-    carriers = carriers;
-    requested = requested;
-    went = b.around.went;
-    unjudged = λ p h. b.around.unjudged p (held_before p h);
-    doomed = λ p v is. b.around.doomed p v (there p v is).1;
-    lost = λ p h. elim (b.around.lost p h) [
-      | inl h ↦ inl h
-      | inr h ↦ lost_held p h
-    ];
-    emptied = emptied;
-    senders = b.around.senders;
-    noted = λ p alive some is. absurd (unnoted p alive some is);
-    had = λ p c. absurd (none_in p c);
-    receivers = receivers;
-    unlost = unlost;
-    had_senders = b.can.had_senders;
-  }
-    where
-      none_in : (p : ℕ) → Contains {X = ℕ} [] p → ⊥
-      none_in p (i, below, is) = omega (arith, below)
-
-      lost_held : (p : ℕ) → IsHeldBy w.ports p holder.Nobody → (is_judged e p ≡ true) ⊎ IsHeldBy after_end.ports p holder.Nobody
-      lost_held p h = elim (eqb_tells p port) [
-        | inl k ↦ absurd (let a = is_doomed h.view (subst (λ (q : ℕ). port_at w q ≡ Some h.view) k.1 h.there) in let c : holder.Nobody ≡ holder.Doomed = sym h.holder_is ∙ a in cc)
-        | inr k ↦ inr (record { view = h.view; there = get_removed w.ports.ports port p k.1 ∙ h.there; holder_is = h.holder_is })
-      ]
-
-  pub buried_told : AreTold mid done after_end
-  buried_told = grind (arith, emptied, there)
-
--- ---- As a burial begins the tables are between turns, and no request has ended; which requests stand then, and which are kept.
-
--- ---- the beginning
-
-none_waiting : (s_begin : State) (ms : List Kept) (xs : List (ℕ × ℕ)) → ms ≡ [] → AreEntries s_begin ms xs → xs ≡ []
-none_waiting s_begin [] [] is h = refl
-none_waiting s_begin [] (x ∷ xs) is h = absurd h
-none_waiting s_begin (m ∷ ms) xs is h = absurd (cc)
-
-module _ (now : ℕ) (mid : State) (e : Ending) (s_begin : State) (so : IsSoFar now mid e s_begin) where
-  names : (task name : ℕ) (o : Option Target) → option_map (settled_target mid s_begin task name) o ≡ option_map (settled_target mid (record mid { live_port = λ q. s_begin.live_port q && true }) task name) o
-  names task name None = refl
-  names task name (Some (Target.port q)) = let a = and_true (s_begin.live_port q) in rw a refl
-  names task name (Some (Target.once q)) = let a = and_true (s_begin.live_port q) in rw a refl
-  names task name (Some (Target.dead n)) = refl
-  names task name (Some (Target.set n)) = refl
-
-  due : due_so_far (partway e []) ≡ due_so_far e
-  due = ap (λ (ys : Owed). due_so_far (record e { paid = ys })) (append-nil e.paid)
-
-  pub first_partway : IsPartway now mid e [] s_begin
-  first_partway = record {
-    live_port = so.live_port;
-    stands = λ r. so.stands r ∙ sym (and_true ((outcome mid (buried_alone e)).stands r));
-    sets_of = so.sets_of;
-    make_send = so.make_send;
-    sequence = so.sequence;
-    names = λ task name. so.names task name ∙ names task name (lookup mid task name);
-    log = λ p. so.log p ∙ ap (λ ys. mid.log p ++ entries_at now p ys) (sym due);
-    taken = so.taken;
-    destroyed = so.destroyed;
-    ledger = λ h.
-        let a = so.ledger h in
-        let b : weigh h (all_posted_tokens (filter (λ (x : Posted). s_begin.live_port x.port) (posted_so_far mid (partway e [])))) ≡ weigh h (all_posted_tokens (filter (λ (x : Posted). s_begin.live_port x.port) (posted_so_far mid e))) =
-        ap (λ ys. weigh h (all_posted_tokens (filter (λ (x : Posted). s_begin.live_port x.port) (posted_from (λ q. length (mid.log q)) ys)))) due in
-        omega (arith, a, b);
-    rest = so.rest;
-  }
-
-module _ (now : ℕ) (tables : WorldView) (old mid : State) (owed : Owed) (e : Ending) (w : WorldView) (b : Between now tables old mid owed e w) (told : AreTold mid e w) (port : ℕ) (held : IsHeldBy w.ports port holder.Doomed) where
-  abbrev s_begin : State
-  s_begin = b.tied.state
-
-  all_emptied : e.destroyed ≡ b.tied.waiting.emptied
-  all_emptied = b.tied.waiting.parts ∙ ap (λ (xs : List (ℕ × ℕ)). reverse xs ++ b.tied.waiting.emptied) (none_waiting s_begin w.ports.destroyed b.tied.waiting.waiting told.lost.none_destroyed b.tied.waiting.are)
-
-  listed_now : listed e.doomed port ≡ true
+module _ (now : ℕ) (tables : WorldView) (old mid : State) (owed : Owed) (e : Ending) (w : WorldView) (b : Between now tables old mid owed e w) (port : ℕ) (held : IsHeldBy w.ports port holder.Doomed) where
+  pub listed_now : listed e.doomed port ≡ true
   listed_now = let d = b.doomed port held.view held.there in d.0 held.holder_is
 
-  unburied : listed e.buried port ≡ false
+  pub there_now : b.tied.state.live_port port ≡ true
+  there_now = sym (b.tied.agrees.live_port port) ∙ ap is_some held.there
+
+  pub unburied : listed e.buried port ≡ false
   unburied = go (listed e.buried port) refl
     where
       go : (c : Bool) → listed e.buried port ≡ c → c ≡ false
       go false is = refl
       go true is = absurd (
-          let a = b.tied.so_far.live_port port in
-          let d : s_begin.live_port port ≡ true = sym (b.tied.agrees.live_port port) ∙ ap is_some held.there in
           let f : lives_after mid (buried_alone e) port ≡ false = ap (λ (c : Bool). mid.live_port port && not c) is ∙ and_false (mid.live_port port) in
-          let g : true ≡ false = sym d ∙ a ∙ f in cc)
-
-  pub may_bury : CanBury old mid owed e port
-  may_bury = record {
-    lawful = b.lawful;
-    reached = b.reached;
-    judged = told.lost.judged.judged;
-    lost = subst (λ (ms : List (ℕ × ℕ)). All (λ m. All (λ x. x.place ≡ in_message m.0 m.1 → listed e.doomed x.port ≡ true) e.left) ms) (sym all_emptied) b.tied.waiting.lost;
-    doomed = listed_now;
-    unburied = unburied;
-    emptied = b.emptied;
-    unlost = subst (IsUnlost e) (sym all_emptied) b.unlost;
-    had_senders = b.had_senders;
-  }
-
-  pub begins_burying : Burying now tables old mid owed e port [] w
-  begins_burying = record {
-    can = may_bury;
-    ends = λ k d below. absurd (omega arith);
-    state = s_begin;
-    so_far = first_partway now mid e s_begin b.tied.so_far;
-    agrees = b.tied.agrees;
-    holders = b.tied.holders;
-    slots = b.tied.slots;
-    around = record {
-      held = b.held;
-      carriers = b.carriers;
-      requested = b.requested;
-      went = b.went;
-      none_lost = told.lost.judged.none_lost;
-      none_destroyed = told.lost.none_destroyed;
-      none_noted = told.none_noted;
-      emptied = told.lost.judged.emptied;
-      unjudged = b.unjudged;
-      doomed = b.doomed;
-      lost = b.lost;
-      senders = b.senders;
-      unnoted = λ p lives_begin some is. none_in p (subst (λ (ps : List ℕ). Contains ps p) told.none_noted (b.noted p lives_begin some is));
-      receivers = b.receivers;
-    };
-  }
-    where
-      none_in : (p : ℕ) → Contains {X = ℕ} [] p → ⊥
-      none_in p (i, below, is) = omega (arith, below)
-
--- ---- requests that stand
-
-pub of_list : (rs : List Request) (r : Request) → is_among rs r ≡ true → Contains rs r
-of_list [] r h = absurd (cc)
-of_list (q ∷ rs) r h = go (same_request r q) refl h (of_list rs r)
-  where
-    go : (b : Bool) → same_request r q ≡ b → (b || is_among rs r) ≡ true → (is_among rs r ≡ true → Contains rs r) → Contains (q ∷ rs) r
-    go true is h rest = (zero, omega arith, sym (same_request_is r q is))
-    go false is h rest = let c = rest h in let below = c.1 in (suc c.0, omega (arith, below), c.2)
-
-module _ (now : ℕ) (tables : WorldView) (old mid : State) (owed : Owed) (e : Ending) (port : ℕ) (rs : List Request) (w : WorldView) (b : Burying now tables old mid owed e port rs w) where
-  lives_begin : lives_after mid (buried_alone e) port ≡ true
-  lives_begin = ap (λ (c : Bool). mid.live_port port && not c) b.can.unburied ∙ and_true (mid.live_port port) ∙ live (mid.live_port port) refl
-    where
-      live : (c : Bool) → mid.live_port port ≡ c → mid.live_port port ≡ true
-      live true is = is
-      live false is = absurd (dead_never old mid owed e port b.can is)
+          let g : true ≡ false = sym there_now ∙ b.tied.so_far.live_port port ∙ f in cc)
 
   untold : listed e.told port ≡ false
-  untold = go (listed e.told port) refl
-    where
-      go : (c : Bool) → listed e.told port ≡ c → c ≡ false
-      go false is = refl
-      go true is = absurd (let s_begin = reached_sound old mid owed e b.can.reached in (s_begin.told port is).survives (s_begin.doomed port b.can.doomed))
+  untold = false_from_ne_true (listed e.told port) (λ is. let s = reached_sound old mid owed e b.reached in (s.told port is).survives (s.doomed port listed_now))
 
   unsaved : listed e.saved port ≡ false
-  unsaved = go (listed e.saved port) refl
-    where
-      go : (c : Bool) → listed e.saved port ≡ c → c ≡ false
-      go false is = refl
-      go true is = absurd (let s_begin = reached_sound old mid owed e b.can.reached in dies_unsaved mid port (s_begin.doomed port b.can.doomed) (s_begin.saved port is).0)
+  unsaved = false_from_ne_true (listed e.saved port) (λ is. let s = reached_sound old mid owed e b.reached in dies_unsaved mid port (s.doomed port listed_now) (s.saved port is).0)
 
   alive : (p : ℕ) → p ≡ port → lives_after mid (buried_alone e) p ≡ true
-  alive p is = subst (λ (k : ℕ). lives_after mid (buried_alone e) k ≡ true) (sym is) lives_begin
+  alive p is = subst (λ (k : ℕ). lives_after mid (buried_alone e) k ≡ true) (sym is) (sym (b.tied.so_far.live_port port) ∙ there_now)
 
   name_alive : (o : Option Target) → IsNameOf port o → became_dead mid (buried_alone e) o ≡ false
   name_alive None h = absurd h
@@ -645,15 +292,213 @@ module _ (now : ℕ) (tables : WorldView) (old mid : State) (owed : Owed) (e : E
   unended (dead_name t n) is = name_alive (lookup mid t n) is
 
   -- a request of the port that stood, and isn't kept any more, has ended
-  pub gone_ended : (r : Request) → IsRequestOf mid port r → mid.stands r ≡ true → notify_of w.requests r ≡ None → Contains rs r
-  gone_ended r of stood gone = of_list rs r (go (is_among rs r) refl)
-    where
-      standing : b.state.stands r ≡ false
-      standing = b.agrees.of_requests.standing r ∙ ap is_some gone
+  pub gone_ended : (r : Request) → IsRequestOf mid port r → mid.stands r ≡ true → notify_of w.requests r ≡ None → is_among e.ended r ≡ true
+  gone_ended r of stood gone = true_from_ne_false (is_among e.ended r) (λ is.
+      let a : b.tied.state.stands r ≡ false = b.tied.agrees.of_requests.standing r ∙ ap is_some gone in
+      let d : (if is_among e.ended r then false else (mid.stands r && not (has_ended mid (buried_alone e) r))) ≡ true = (λ i. if is i then false else (stood i && not (unended r of i))) in
+      let f : true ≡ false = sym (b.tied.so_far.stands r ∙ d) ∙ a in cc)
 
-      go : (c : Bool) → is_among rs r ≡ c → c ≡ true
-      go true is = refl
-      go false is = absurd (
-          let a = b.so_far.stands r in
-          let d : ((outcome mid (buried_alone e)).stands r && not (is_among rs r)) ≡ true = (λ i. (stood i && not (unended r of i)) && not (is i)) in
-          let f : true ≡ false = sym (a ∙ d) ∙ standing in cc)
+module _ (now : ℕ) (tables : WorldView) (old mid : State) (owed : Owed) (e : Ending) (w : WorldView) (b : Between now tables old mid owed e w) (told : AreTold mid e w) (port : ℕ) (held : IsHeldBy w.ports port holder.Doomed)
+    (every : (r : Request) → mid.stands r ≡ true → IsRequestOf mid port r → is_among e.ended r ≡ true) (doomed : List ℕ) where
+  abbrev s : State
+  s = b.tied.state
+
+  abbrev done : Ending
+  done = bury port e
+
+  abbrev after_end : WorldView
+  after_end = buried w port doomed
+
+  abbrev lv : ℕ → Bool
+  lv = live_in (without_port w.ports port doomed)
+
+  is_listed : listed e.doomed port ≡ true
+  is_listed = listed_now now tables old mid owed e w b port held
+
+  unburied_yet : listed e.buried port ≡ false
+  unburied_yet = unburied now tables old mid owed e w b port held
+
+  is_doomed : (v : PortView Kept) → port_at w port ≡ Some v → v.attributes.holder ≡ holder.Doomed
+  is_doomed v there = let d = b.doomed port v there in d.1 is_listed
+
+  lives : (q : ℕ) → lv q ≡ (s.live_port q && not (q == port))
+  lives = live_is now mid e port s b.tied.so_far w doomed b.tied.agrees is_listed b.held is_doomed
+
+  other : (q : ℕ) → lv q ≡ true → q ≡ port → ⊥
+  other = live_other now mid e port s b.tied.so_far w doomed b.tied.agrees is_listed b.held is_doomed
+
+  there : (q : ℕ) (v : PortView Kept) → port_at after_end q ≡ Some v → (q ≡ port → ⊥) × (port_at w q ≡ Some v)
+  there = there_other now mid e port s b.tied.so_far w doomed b.tied.agrees is_listed b.held is_doomed
+
+  turn_is : Buries mid e done
+  turn_is = bury_is mid e port told.lost.judged.judged is_listed unburied_yet every
+
+  pub buried_turn : Turn old mid e done
+  buried_turn = inr (inr (inr (inr (inr (inl turn_is)))))
+
+  -- ---- requests
+
+  ended : (r : Request) → IsRequestOf mid port r → s.stands r ≡ false
+  ended = none_stands now mid e port s b.tied.so_far every
+
+  unkept : (r : Request) → IsRequestOf mid port r → is_some (notify_of w.requests r) ≡ false
+  unkept r of = sym (b.tied.agrees.of_requests.standing r) ∙ ended r of
+
+  kept_name : (key : ℕ) (r : NameRequest) → map.get w.requests.names.requests key ≡ Some r → IsOnName w key r → is_some (notify_of w.requests (dead_name r.task r.name)) ≡ true
+  kept_name key r at on = grind (arith, lt-ltb)
+
+  -- a request on a name isn't on one of the port
+  on_other : (key : ℕ) (r : NameRequest) → map.get w.requests.names.requests key ≡ Some r → (on : IsOnName w key r) → r.port ≡ port → ⊥
+  on_other key r at on is = let g : true ≡ false = sym (kept_name key r at on) ∙ unkept (dead_name r.task r.name) of in cc
+    where
+      found : lookup s r.task r.name ≡ Some (target_of on.entry)
+      found = b.tied.agrees.spaces.naming r.task r.name ∙ ap (option_map target_of) on.found
+
+      new : State
+      new = seen_for mid e.ended s.live_port r.task r.name
+
+      of : IsNameOf port (lookup mid r.task r.name)
+      of = elim (named_once on.entry r.port on.for_port) [
+        | inl h ↦ (let t = settled_port mid new r.task r.name (lookup mid r.task r.name) r.port (sym (b.tied.so_far.names r.task r.name) ∙ found ∙ ap Some h) in subst (IsNameOf port) (sym t.0) is)
+        | inr h ↦ (let t = of_settled mid new r.task r.name (lookup mid r.task r.name) r.port (sym (b.tied.so_far.names r.task r.name) ∙ found ∙ ap Some h) in subst (IsNameOf port) (sym t) is)
+      ]
+
+  still_live : (q : ℕ) → (q ≡ port → ⊥) → IsLive w.ports q → IsLive after_end.ports q
+  still_live q not is = ap is_some (get_removed w.ports.ports port q not) ∙ is
+
+  asked_other : (o : Option ℕ) (q : ℕ) → is_some o ≡ true → (q ≡ port → is_some o ≡ false) → q ≡ port → ⊥
+  asked_other o q some none is = let g : true ≡ false = sym some ∙ none is in cc
+
+  requested : RequestsStand after_end
+  requested = record {
+    on_names = λ key r at.
+        let on = b.requested.on_names key r at in
+        let not = on_other key r at on in
+        let live = still_live r.port not on.live in
+        record {
+          own = on.own;
+          small = on.small;
+          entry = on.entry;
+          found = read_at lv w.spaces r.task r.name ∙ ap (option_map (reading lv)) on.found ∙ ap Some (reads_as lv on.entry r.port on.for_port live);
+          for_port = on.for_port;
+          live = live;
+        };
+    no_senders = λ p has. still_live p (asked_other (notify_of w.requests (no_senders p)) p has (λ is. unkept (no_senders p) is)) (b.requested.no_senders p has);
+    port_destroyed = λ p has. still_live p (asked_other (notify_of w.requests (port_destroyed p)) p has (λ is. unkept (port_destroyed p) is)) (b.requested.port_destroyed p has);
+  }
+
+  -- ---- holders
+
+  held_end : HoldersAgree after_end
+  held_end = record {
+    held = λ task name x p at is has v is_there.
+        let r = read_port lv w.spaces task name x p at (named_port x p is) in
+        b.held.held task name x p r.0 is has v (there p v is_there).1;
+  }
+
+  carriers : CarriersAgree after_end
+  carriers = record {
+    given = λ q u m p at c carries. b.carriers.given q u m p (there q u at).1 c carries;
+    carried = λ q u m p at c carries v is. b.carriers.carried q u m p (there q u at).1 c carries v (there p v is).1;
+  }
+
+  held_before : (p : ℕ) → IsHeldBy after_end.ports p holder.Nobody → IsHeldBy w.ports p holder.Nobody
+  held_before p h = record { view = h.view; there = (there p h.view h.there).1; holder_is = h.holder_is }
+
+  -- ---- the port had no message left
+
+  port_emptied : (k : ℕ) → IsWaiting mid e (port, k) → Contains e.destroyed (port, k)
+  port_emptied k waits = (let d = b.tied.so_far.destroyed port k in d.1 (
+    waits.0,
+    (
+        let a = none_dropped (s.taken port) (s.log port) none_queued in
+        let c = ap (λ (es : List Entry). length es) (b.tied.so_far.log port) in
+        let d = length-append (mid.log port) (entries_at now port (due_so_far e)) in
+        let f = begun_posted now port e.begun e.paid in
+        let g = waits.1 in omega (arith, a, c, d, f, g)),
+  ))
+    where
+      none_queued : queue s port ≡ []
+      none_queued = no_entries port (queue s port) (subst (λ (ms : List Kept). AllKept port ms (queue s port)) (told.lost.judged.emptied port held.view held.there held.holder_is) (b.tied.agrees.ports port held.view held.there).waiting)
+
+  emptied : (p k : ℕ) → listed done.buried p ≡ true → IsWaiting mid e (p, k) → Contains e.destroyed (p, k)
+  emptied p k h waits = grind (arith, listed_cases, port_emptied)
+
+  -- ---- all together
+
+  fewer : (h : Token → ℕ) → weigh h done.left ≤ weigh h e.left
+  fewer = takes_less e done [] turn_is.going turn_is.takes
+
+  tied : Tied now mid done after_end
+  tied = record {
+    state = after_burial lv port s;
+    so_far = next_so_far now old mid owed e port s b.lawful b.reached is_listed unburied_yet b.tied.so_far every lv lives;
+    agrees = buried_agrees now mid e port s b.tied.so_far w doomed b.tied.agrees is_listed b.held is_doomed;
+    holders = holders_tell now mid e port s b.tied.so_far w doomed b.tied.agrees is_listed b.held is_doomed e.destroyed b.tied.holders;
+    slots = (let a = b.tied.slots in omega (arith, a));
+    waiting = awaits_on w.ports.destroyed e done s (after_burial lv port s) refl refl fewer (λ q k x is. is) b.tied.waiting;
+  }
+
+  counts_other_end : (q : ℕ) → (q ≡ port → ⊥) → counts_of after_end.ledger q ≡ counts_of w.ledger q
+  counts_other_end q not = ap (λ (o : Option Counts). unwrap_or o no_rights) (get_removed w.ledger.counts port q not)
+
+  none_in : (p : ℕ) → Contains {X = ℕ} [] p → ⊥
+  none_in p (i, below, is) = omega (arith, below)
+
+  unnoted : (p : ℕ) → lives_after mid e p ≡ true → 0 < (counts_of tables.ledger p).send → IsSenderless after_end p → ⊥
+  unnoted p alive some is =
+      let not = other p is.live in
+      none_in p (subst (λ (ps : List ℕ). Contains ps p) told.none_noted (b.noted p alive some (record {
+        live = sym (ap is_some (get_removed w.ports.ports port p not)) ∙ is.live;
+        asked = is.asked;
+        none = (let a = ap (λ (c : Counts). c.send) (counts_other_end p not) in let c = is.none in sym a ∙ c);
+      })))
+
+  receivers : (p : ℕ) → (counts_of after_end.ledger p).receive ≤ 1
+  receivers p = grind (arith, removed_own, counts_other_end)
+
+  unlost : IsUnlost done b.tied.waiting.emptied
+  unlost kind p q k not undoomed undestroyed =
+      let test : Token → Bool = λ x. is_of kind p x && same_place (in_message q k) x.place in
+      let a = b.unlost kind p q k not undoomed undestroyed in
+      let g = weigh-append (λ x. if test x then 1 else 0) e.gone (filter (λ x. x.port == port) e.left) in
+      let m = parted (λ x. if test x then 1 else 0) (λ x. x.port == port) e.left in
+      let n = count_else port test off_port e.left in
+      omega (arith, a, g, m, n)
+    where
+      off_port : (x : Token) → x.port ≡ port → (is_of kind p x && same_place (in_message q k) x.place) ≡ false
+      off_port x is = ap (λ (c : Bool). c && same_place (in_message q k) x.place) (of_other kind p port (λ same. let g : true ≡ false = sym is_listed ∙ subst (λ (r : ℕ). listed e.doomed r ≡ false) same undoomed in cc) x is)
+
+  pub buried_between : Between now tables old mid owed done after_end
+  unfolding tied
+  buried_between = record {
+    lawful = b.lawful;
+    reached = turns e done b.reached buried_turn;
+    tied = tied;
+    held = held_end;
+    carriers = carriers;
+    requested = requested;
+    went = b.went;
+    unjudged = λ p h. b.unjudged p (held_before p h);
+    doomed = λ p v is. b.doomed p v (there p v is).1;
+    lost = λ p h. elim (b.lost p h) [
+      | inl h ↦ inl h
+      | inr h ↦ lost_held p h
+    ];
+    emptied = emptied;
+    senders = b.senders;
+    noted = λ p alive some is. absurd (unnoted p alive some is);
+    had = λ p c. absurd (none_in p c);
+    receivers = receivers;
+    unlost = unlost;
+    had_senders = b.had_senders;
+  }
+    where
+      lost_held : (p : ℕ) → IsHeldBy w.ports p holder.Nobody → (is_judged e p ≡ true) ⊎ IsHeldBy after_end.ports p holder.Nobody
+      lost_held p h = elim (eqb_tells p port) [
+        | inl k ↦ absurd (let a = is_doomed h.view (subst (λ (q : ℕ). port_at w q ≡ Some h.view) k.1 h.there) in let c : holder.Nobody ≡ holder.Doomed = sym h.holder_is ∙ a in cc)
+        | inr k ↦ inr (record { view = h.view; there = get_removed w.ports.ports port p k.1 ∙ h.there; holder_is = h.holder_is })
+      ]
+
+  pub buried_told : AreTold mid done after_end
+  buried_told = grind (arith, emptied, there)

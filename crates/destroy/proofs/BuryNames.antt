@@ -1,25 +1,23 @@
 -- A request on a name of a doomed port ends; burials come one after the other.
-use Rattle.std.proofs.Common.{◌≡◌, ℕ, List, Option, Some, None, refl, sym, ap, subst, ◌∙◌, inl, inr, ◌+◌, ◌-◌, ◌<◌, [], ◌∷◌, ◌++◌, arith, true, false, Bool, ◌⊎◌, zero, ◌^◌, length, length-append}
+use Rattle.std.proofs.Common.{◌≡◌, ℕ, List, Option, Some, None, refl, sym, ap, subst, ◌∙◌, inl, inr, ◌+◌, ◌-◌, ◌<◌, [], ◌∷◌, arith, true, false, Bool, ◌⊎◌, zero, ◌^◌, length}
 use Rattle.std.specs.FinMap as map
 use Rattle.std.specs.Ordering.{nat_cmp}
 use Rattle.std.proofs.lemmas.Bool.Decides.{eqb_tells}
 use Rattle.std.specs.Prelude.{◌==◌, ◌&&◌, ◌||◌, not, is_some, min, slice_set, IfSome, Contains, ◌↔◌, nat_lt, if◌then◌else◌}
 use Rattle.std.specs.Option.{option_map}
 use Rattle.std.proofs.lemmas.Bool.{eq-eqb, lt-ltb, ltb-true}
-use Rattle.std.proofs.Math.Bool.{or-false as or_false, or-true as or_true}
 use Rattle.std.specs.FinMap.{len-insert}
 use Rattle.std.specs.Cmp.{nat_cmp_total}
-use Rattle.std.proofs.lemmas.List.{append-nil}
 use Rattle.mach_types.specs.Numbers.{most_references}
-use Rattle.mach_types.specs.Tokens.{send, Request, no_senders, port_destroyed, dead_name}
-use Rattle.mach_model.proofs.Names.{removed_own, alike, at_own, at_other, get_own, get_other, left_of}
-use Rattle.mach_model.specs.State.{State, Target, Names, lookup, held, at, same_request}
+use Rattle.mach_types.specs.Tokens.{send, Request, Token, no_senders, port_destroyed, dead_name}
+use Rattle.mach_model.proofs.Names.{removed_own, alike, at_own, at_other, get_own, get_other}
+use Rattle.mach_model.specs.State.{State, Target, Names, lookup, held, at, same_request, request_at}
 use Rattle.mach_model.specs.Notices.{Owed}
-use Rattle.mach_model.specs.Settles.{settled_target}
-use Rattle.mach_model.specs.Turns.{Ending, lives_after, IsRequestOf, IsNameOf, death_notice}
+use Rattle.mach_model.specs.Settles.{settled_target, dead_references}
+use Rattle.mach_model.specs.Turns.{Ending, is_among, lives_after, IsRequestOf, IsNameOf}
 use Rattle.mach_model.proofs.SettledEnd.{settled_port}
-use Rattle.mach_model.proofs.SettledReceives.{and_false}
-use Rattle.mach_model.proofs.TurnsMade.{bury, paying_of}
+use Rattle.mach_model.proofs.SettledReceives.{and_false, or_left}
+use Rattle.mach_model.proofs.TurnsMade.{bury}
 use Rattle.number_map.specs.Maps.{MapView}
 use Rattle.rights.specs.Ledger.{LedgerView, IsEntered, left}
 use Rattle.rights.specs.Unused.{IsUnusedOfAll}
@@ -49,16 +47,19 @@ use Rattle.copyin_base.proofs.Spaces.{space-set_same, space-set_other}
 use Rattle.copyin_base.specs.Changes.{CanPutLeft, PutsLeft}
 use Rattle.copyin_base.specs.Reading.{reading, read_names, read_space, read_spaces, live_in, AreGiven}
 use Rattle.notifications.specs.Posting.{CanPost}
-use Rattle.destroy.specs.Burying.{dead_count, SameSpare, is_among, Around, Burying, IsDueOn, EndsRequests, IsNone, IsBurying, IsNextToBury, IsAny, IsOnName as IsRequestOnName, without_port, buried, partway}
+use Rattle.destroy.specs.Burying.{dead_count, IsDueOn, EndsRequests, IsNone, IsNextToBury, IsAny, IsOnName as IsRequestOnName, without_port, buried}
 use Rattle.destroy.specs.Paying.{LivesIn, Pays, PaysMany}
-use Rattle.destroy.proofs.BuryEnd.{named_once, of_settled, buried_between, buried_told, begins_burying, gone_ended}
-use Rattle.destroy.proofs.BuryRequest.{request_ended, ended_holders, request_refl, name_died_agrees, unrequested, without_request}
-use Rattle.destroy.proofs.BuryMore.{NamesSoFar}
-use Rattle.destroy.proofs.BuryState.{among_more, same_request_is}
+use Rattle.destroy.proofs.BuryEnd.{of_settled, buried_between, buried_told, gone_ended, listed_now, there_now, unburied}
+use Rattle.destroy.proofs.BuryRequest.{named_once, GoesOn, request_ended, request_refl, name_died_agrees, unrequested, without_request}
+use Rattle.destroy.proofs.RequestEnds.{lives_or_not, stood as stood_mid}
+use Rattle.mach_model.proofs.TurnsMade.{same_request_is}
 use Rattle.destroy.proofs.BurySoFar.{held_same}
 use Rattle.destroy.proofs.Counting.{count_none, count_joined}
-use Rattle.destroy.proofs.BurySteps.{can_post, step, step_spare, step_counts, pays_ports, lives_or_not, still_in, none_ended}
-use Rattle.destroy.proofs.LoseFrames.{holder_stays}
+use Rattle.destroy.proofs.BurySteps.{can_pay, ends_so, pays_ports, pays_doomed, none_ended}
+use Rattle.destroy.proofs.LoseFrames.{NamesSoFar}
+use Rattle.destroy.specs.Losing.{Framed}
+use Rattle.copyin_base.proofs.Gets.{same_found}
+use Rattle.notifications.specs.SoFar.{AgreesOf, seen_for}
 use Rattle.destroy.proofs.Rooms.{renamed_rooms, pays_spaces, buried_rooms}
 use Rattle.destroy.specs.Between.{Between}
 use Rattle.destroy.specs.Stages.{IsCount, SameSlots, IsAt, Continues, AreTold, AreBuried, KeepsRooms}
@@ -116,10 +117,10 @@ bare name q (i, below, is) = absurd (omega (arith, below))
 abbrev pub name_less : WorldView → NameRequest → WorldView
 name_less w q = record w { requests = record w.requests { names = taken_out w.requests.names q } }
 
-module _ (now : ℕ) (tables : WorldView) (old mid : State) (owed : Owed) (e : Ending) (port : ℕ) (rs : List Request) (w : WorldView) (b : Burying now tables old mid owed e port rs w)
+module _ (now : ℕ) (tables : WorldView) (old mid : State) (owed : Owed) (e : Ending) (w : WorldView) (b : Between now tables old mid owed e w) (told : AreTold mid e w) (port : ℕ) (held_by : IsHeldBy w.ports port holder.Doomed)
     (q : NameRequest) (is_kept : map.get w.requests.names.requests (key_of q) ≡ Some q) (is_port : q.port ≡ port) where
   abbrev s : State
-  s = b.state
+  s = b.tied.state
 
   abbrev r : Request
   r = dead_name q.task q.name
@@ -128,7 +129,7 @@ module _ (now : ℕ) (tables : WorldView) (old mid : State) (owed : Owed) (e : E
   rq = record w.requests { names = taken_out w.requests.names q }
 
   pub on : IsOnName w (key_of q) q
-  on = b.around.requested.on_names (key_of q) q is_kept
+  on = b.requested.on_names (key_of q) q is_kept
 
   was : notify_of w.requests r ≡ Some q.notify
   was = grind (arith, lt-ltb, on)
@@ -144,38 +145,40 @@ module _ (now : ℕ) (tables : WorldView) (old mid : State) (owed : Owed) (e : E
   -- ---- the name
 
   found_there : lookup s q.task q.name ≡ Some (target_of on.entry)
-  found_there = b.agrees.spaces.naming q.task q.name ∙ ap (option_map target_of) on.found
+  found_there = b.tied.agrees.spaces.naming q.task q.name ∙ ap (option_map target_of) on.found
 
   abbrev partly : State
-  partly = record mid { live_port = λ p. s.live_port p && not (is_among rs r) }
+  partly = seen_for mid e.ended s.live_port q.task q.name
 
   of_port : target_of on.entry ≡ Target.port q.port → lookup mid q.task q.name ≡ Some (Target.port q.port)
-  of_port is = (settled_port mid partly q.task q.name (lookup mid q.task q.name) q.port (sym (b.so_far.names q.task q.name) ∙ found_there ∙ ap Some is)).0
+  of_port is = (settled_port mid partly q.task q.name (lookup mid q.task q.name) q.port (sym (b.tied.so_far.names q.task q.name) ∙ found_there ∙ ap Some is)).0
 
   of_once : target_of on.entry ≡ Target.once q.port → lookup mid q.task q.name ≡ Some (Target.once q.port)
-  of_once is = of_settled mid partly q.task q.name (lookup mid q.task q.name) q.port (sym (b.so_far.names q.task q.name) ∙ found_there ∙ ap Some is)
+  of_once is = of_settled mid partly q.task q.name (lookup mid q.task q.name) q.port (sym (b.tied.so_far.names q.task q.name) ∙ found_there ∙ ap Some is)
 
   pub is_of_port : IsRequestOf mid port r
-  is_of_port = grind (arith, named_once, on, of_port, of_once)
+  is_of_port = elim (named_once on.entry q.port on.for_port) [
+    | inl h ↦ subst (IsNameOf port) (sym (of_port h)) is_port
+    | inr h ↦ subst (IsNameOf port) (sym (of_once h)) is_port
+  ]
 
   stood : mid.stands r ≡ true
-  stood = grind (arith, left_of, was)
-
-  port_there : (o : Option (PortView Kept)) → port_at w q.port ≡ o → is_some o ≡ true → (v : PortView Kept) × (port_at w q.port ≡ Some v)
-  port_there (Some v) at h = (v, at)
-  port_there None at h = absurd (cc)
+  stood = stood_mid now old mid owed e b.lawful b.reached s b.tied.so_far w b.tied.agrees b.went r q.notify was
 
   -- no task has the port's receive right
   no_receive : (x : Entry) → entry_at w q.task q.name ≡ Some x → port_named x ≡ Some q.port → has_receive x ≡ true → ⊥
-  no_receive x at is has = grind (arith, port_there, on)
+  no_receive x at is has =
+      let there : port_at w q.port ≡ Some held_by.view = ap (port_at w) is_port ∙ held_by.there in
+      let a : held_by.view.attributes.holder ≡ holder.Task q.task = b.held.held q.task q.name x q.port at is has held_by.view there in
+      let c : holder.Task q.task ≡ holder.Doomed = sym a ∙ held_by.holder_is in cc
 
   same_held : held s q.task send q.port ≡ held mid q.task send q.port
-  same_held = subst (λ (p : ℕ). held s q.task send p ≡ held mid q.task send p) (sym is_port) (held_same now old mid owed e port rs s b.can b.ends b.so_far q.task send)
+  same_held = subst (λ (p : ℕ). held s q.task send p ≡ held mid q.task send p) (sym is_port) (held_same now old mid owed e port s b.lawful b.reached (listed_now now tables old mid owed e w b port held_by) (unburied now tables old mid owed e w b port held_by) b.tied.so_far q.task send)
 
   -- the references of a name of send rights are counted
   counted : (x : Entry) → entry_at w q.task q.name ≡ Some x → port_of x ≡ Some q.port → target_of x ≡ Target.port q.port → dead_count (send_references x) ≡ min (held mid q.task send q.port + 1) most_references
   counted (named.Receive p) at for t = absurd (no_receive (named.Receive p) at for refl)
-  counted (named.Send p n) at for t = counts_dead n (b.agrees.spaces.counted q.task q.name (named.Send p n) at) ∙ ap (λ (k : ℕ). min (k + 1) most_references) (sym (b.agrees.rights.references q.task q.name (named.Send p n) q.port at for).1 ∙ same_held)
+  counted (named.Send p n) at for t = counts_dead n (b.tied.agrees.spaces.counted q.task q.name (named.Send p n) at) ∙ ap (λ (k : ℕ). min (k + 1) most_references) (sym (b.tied.agrees.rights.references q.task q.name (named.Send p n) q.port at for).1 ∙ same_held)
   counted (named.ReceiveAndSend p n) at for t = absurd (no_receive (named.ReceiveAndSend p n) at for refl)
   counted (named.SendOnce p) at for t = absurd (cc)
   counted (named.DeadName n) at for t = absurd (cc)
@@ -208,25 +211,31 @@ module _ (now : ℕ) (tables : WorldView) (old mid : State) (owed : Owed) (e : E
     -- ---- names in the state
 
     abbrev more : List Request
-    more = rs ++ r ∷ []
+    more = r ∷ e.ended
 
     abbrev result : (task name : ℕ) → Bool → Option Target
-    result task name c = option_map (settled_target mid (record mid { live_port = λ p. s.live_port p && not c }) task name) (lookup mid task name)
+    result task name c = option_map (settled_target mid (record mid { live_port = λ p. if c then false else s.live_port p }) task name) (lookup mid task name)
 
     own_among : is_among more r ≡ true
-    own_among = among_more rs r r ∙ ap (λ (c : Bool). is_among rs r || c) (request_refl r) ∙ or_true (is_among rs r)
+    own_among = or_left (same_request r r) (is_among e.ended r) (request_refl r)
 
     own_result : Some (Target.dead k) ≡ result q.task q.name true
-    own_result = grind (arith, named_once, on, of_port, counted, of_once, once_counted, stood, and_false)
+    own_result = elim (named_once on.entry q.port on.for_port) [
+      | inl h ↦ ap (λ (n : ℕ). Some (Target.dead n)) (counted on.entry on.found on.for_port h ∙ sym (ap (λ (c : Bool). dead_references c (held mid q.task send q.port)) stood)) ∙ sym (ap (option_map (settled_target mid gone_all q.task q.name)) (of_port h))
+      | inr h ↦ ap (λ (n : ℕ). Some (Target.dead n)) (once_counted on.entry h ∙ sym (ap (λ (c : Bool). dead_references c 1) stood)) ∙ sym (ap (option_map (settled_target mid gone_all q.task q.name)) (of_once h))
+    ]
+      where
+        gone_all : State
+        gone_all = record mid { live_port = λ p. false }
 
     own_named : map.get (naming q.task) q.name ≡ result q.task q.name (is_among more r)
     own_named = grind (arith, at_own, get_own, own_result, own_among)
 
     other_named : (task name : ℕ) → same_request (dead_name task name) r ≡ false → map.get (naming task) name ≡ map.get (s.naming task) name → map.get (naming task) name ≡ result task name (is_among more (dead_name task name))
-    other_named task name off same = grind (arith, among_more, or_false)
+    other_named task name off same = same ∙ b.tied.so_far.names task name ∙ ap (λ (c : Bool). result task name (c || is_among e.ended (dead_name task name))) (sym off)
 
-    names : NamesSoFar mid more s.live_port naming
-    names task name = elim (eqb_tells task q.task) [
+    named_so : NamesSoFar mid more s.live_port naming
+    named_so task name = elim (eqb_tells task q.task) [
       | inl h ↦ elim (eqb_tells name q.name) [
         | inl g ↦ subst (λ (t : ℕ). map.get (naming t) name ≡ result t name (is_among more (dead_name t name))) (sym h.1)
             (subst (λ (n : ℕ). map.get (naming q.task) n ≡ result q.task n (is_among more (dead_name q.task n))) (sym g.1) own_named)
@@ -256,31 +265,24 @@ module _ (now : ℕ) (tables : WorldView) (old mid : State) (owed : Owed) (e : E
     entry_from : (t n : ℕ) (x : Entry) (p : ℕ) → entry_at ended t n ≡ Some x → port_of x ≡ Some p → entry_at w t n ≡ Some x
     entry_from t n x p is for = grind (arith, entry_own, entry_other)
 
-    around : Around tables old mid e ended
-    around = record {
-      held = record { held = λ t n x p at is has v here. b.around.held.held t n x p (entry_from t n x p at (named_port x p is)) is has v here };
-      carriers = record { given = b.around.carriers.given; carried = b.around.carriers.carried };
+    framed : Framed mid e ended
+    framed = record {
+      held = record { held = λ t n x p at is has v here. b.held.held t n x p (entry_from t n x p at (named_port x p is)) is has v here };
+      carriers = record { given = b.carriers.given; carried = b.carriers.carried };
       requested = record {
         on_names = λ key x is. on_name key x is;
-        no_senders = b.around.requested.no_senders;
-        port_destroyed = b.around.requested.port_destroyed;
+        no_senders = b.requested.no_senders;
+        port_destroyed = b.requested.port_destroyed;
       };
-      went = b.around.went;
-      none_lost = b.around.none_lost;
-      none_destroyed = b.around.none_destroyed;
-      none_noted = b.around.none_noted;
-      emptied = b.around.emptied;
-      unjudged = b.around.unjudged;
-      doomed = b.around.doomed;
-      lost = b.around.lost;
-      senders = b.around.senders;
-      unnoted = λ p lives some is. b.around.unnoted p lives some (record { live = is.live; asked = is.asked; none = is.none });
-      receivers = b.around.receivers;
+      went = b.went;
+      unjudged = b.unjudged;
+      doomed = b.doomed;
+      lost = b.lost;
     }
       where
         on_name : (key : ℕ) (x : NameRequest) → map.get (map.remove w.requests.names.requests (key_of q)) key ≡ Some x → IsOnName ended key x
         on_name key x is =
-            let o = b.around.requested.on_names key x (sym (get_removed w.requests.names.requests (key_of q) key other) ∙ is) in
+            let o = b.requested.on_names key x (sym (get_removed w.requests.names.requests (key_of q) key other) ∙ is) in
             record {
               own = o.own;
               small = o.small;
@@ -295,32 +297,19 @@ module _ (now : ℕ) (tables : WorldView) (old mid : State) (owed : Owed) (e : E
 
     -- ---- the step
 
+    agrees : (xs : List Token) → GoesOn (lives_after mid e) q.notify r s.ledger xs → AgreesOf (lives_after mid e) ended (record s { naming = naming; stands = request_at s.stands r false; ledger = xs })
+    agrees xs g = name_died_agrees (lives_after mid e) (unrequested w rq) (without_request s r xs)
+        (request_ended (lives_after mid e) w s b.tied.agrees rq r q.notify xs gone was others b.went b.went g (λ x h. same_request_is x r h)) q.task q.name space there on.entry found q.port on.for_port k
+
     pub name_post : LivesIn ended q.notify → CanPost ended q.notify
-    name_post = can_post now tables old mid owed e port rs w b r q.notify was is_of_port spaces rq naming names
+    name_post there =
+        let c = can_pay now tables old mid owed e w b told port held_by r q.notify was is_of_port (record { v = there.v; there = there.there; undoomed = there.undoomed }) in
+        record { live = c.live; paid = c.paid; slots = c.slots }
 
-    pub name_end : (v : WorldView) → Pays ended q.notify (notice.DeadName q.name) v → Burying now tables old mid owed e port (rs ++ r ∷ []) v
-    name_end = step now tables old mid owed e port rs w b r q.notify was is_of_port spaces rq naming names around
-        (λ xs g. name_died_agrees (lives_after mid e) (unrequested w rq) (without_request s r xs)
-        (request_ended (lives_after mid e) w s b.agrees rq r q.notify xs gone was others b.around.went b.around.went g (λ x h. same_request_is x r h)) q.task q.name space there on.entry found q.port on.for_port k)
-        (λ xs g p v here. holder_stays (without_request s r xs) (record (without_request s r xs) { naming = naming }) e.destroyed (record { all = λ p. refl; each = λ p place. refl }) p v.attributes.holder
-        (ended_holders (lives_after mid e) w s b.agrees rq r q.notify xs gone was others b.around.went b.around.went g (λ x h. same_request_is x r h) e.destroyed b.holders p v here))
-        (notice.DeadName q.name) refl (λ at. refl) (bare q.name)
-
-    pub name_spare : IsUnusedOfAll w.ledger → (v : WorldView) → Pays ended q.notify (notice.DeadName q.name) v → SameSpare e rs w (rs ++ r ∷ []) v
-    name_spare = step_spare now tables old mid owed e port rs w b r q.notify was is_of_port spaces rq naming names around
-        (λ xs g. name_died_agrees (lives_after mid e) (unrequested w rq) (without_request s r xs)
-        (request_ended (lives_after mid e) w s b.agrees rq r q.notify xs gone was others b.around.went b.around.went g (λ x h. same_request_is x r h)) q.task q.name space there on.entry found q.port on.for_port k)
-        (λ xs g p v here. holder_stays (without_request s r xs) (record (without_request s r xs) { naming = naming }) e.destroyed (record { all = λ p. refl; each = λ p place. refl }) p v.attributes.holder
-        (ended_holders (lives_after mid e) w s b.agrees rq r q.notify xs gone was others b.around.went b.around.went g (λ x h. same_request_is x r h) e.destroyed b.holders p v here))
-        (notice.DeadName q.name) refl (λ at. refl) (bare q.name)
-
-    pub name_counts : (many : ℕ) → PaysMany ended q.notify many → IsCount (length (partway e rs).paid) (length (partway e (rs ++ r ∷ [])).paid) many
-    name_counts = step_counts now tables old mid owed e port rs w b r q.notify was is_of_port spaces rq naming names around
-        (λ xs g. name_died_agrees (lives_after mid e) (unrequested w rq) (without_request s r xs)
-        (request_ended (lives_after mid e) w s b.agrees rq r q.notify xs gone was others b.around.went b.around.went g (λ x h. same_request_is x r h)) q.task q.name space there on.entry found q.port on.for_port k)
-        (λ xs g p v here. holder_stays (without_request s r xs) (record (without_request s r xs) { naming = naming }) e.destroyed (record { all = λ p. refl; each = λ p place. refl }) p v.attributes.holder
-        (ended_holders (lives_after mid e) w s b.agrees rq r q.notify xs gone was others b.around.went b.around.went g (λ x h. same_request_is x r h) e.destroyed b.holders p v here))
-        (notice.DeadName q.name) refl (λ at. refl) (bare q.name)
+    pub name_ends : IsUnusedOfAll w.ledger → (number : ℕ) (new : WorldView) → Pays ended q.notify (notice.DeadName q.name) new → PaysMany ended q.notify number →
+        (f : Ending) × Between now tables old mid owed f new × IsCount e.turns f.turns number × SameSlots e w f new × AreTold mid f new
+        × ((x : Request) → is_among e.ended x ≡ true → is_among f.ended x ≡ true) × (is_among f.ended r ≡ true)
+    name_ends = ends_so now tables old mid owed e w b told port held_by r q.notify was is_of_port spaces rq naming named_so agrees framed (λ p h. h) (notice.DeadName q.name) refl (λ at. refl) (bare q.name)
 
 -- ---- What ending a request on a name of a doomed port asks of the tables, and what it promises.
 
@@ -361,8 +350,8 @@ one_entry a b e = cc
 -- something stands under the name
 pub entry_there : (port : ℕ) (q : NameRequest) (w : WorldView) → IsDueOn port q w → (u : WorldView) → u ≡ name_less w q → (x : Entry) × (entry_at u q.task q.name ≡ Some x)
 entry_there port q w due u is_u =
-    let b = due.burying in
-    let o = on b.now b.tables b.old b.mid b.owed b.ending port b.requests w b.burying q due.is_on.there due.is_on.is in
+    let a = due.next.at in
+    let o = a.between.requested.on_names (key_of q) q due.is_on.there in
     (o.entry, ap (λ (y : WorldView). entry_at y q.task q.name) is_u ∙ o.found)
 
 module _ (port : ℕ) (q : NameRequest) (w : WorldView) (due : IsDueOn port q w) (u : WorldView) (is_u : u ≡ name_less w q) (x : Entry) (at : entry_at u q.task q.name ≡ Some x)
@@ -393,39 +382,30 @@ module _ (port : ℕ) (q : NameRequest) (w : WorldView) (due : IsDueOn port q w)
         ∙ ap (λ (y : WorldView). record y { spaces = slice_set y.spaces q.task (Some (record p.space { names = put p.space.names q.name (Some d) })) }) is_u
         ∙ ap (λ (y : Entry). record w { spaces = slice_set w.spaces q.task (Some (record p.space { names = put p.space.names q.name (Some y) })); requests = record w.requests { names = taken_out w.requests.names q } }) is_d
 
-    module _ (now : ℕ) (tables : WorldView) (old mid : State) (owed : Owed) (e : Ending) (rs : List Request) (b : Burying now tables old mid owed e port rs w) where
-      same_entry : x ≡ (on now tables old mid owed e port rs w b q due.is_on.there due.is_on.is).entry
-      same_entry = one_entry x _ (sym here ∙ (on now tables old mid owed e port rs w b q due.is_on.there due.is_on.is).found)
+    module _ (now : ℕ) (tables : WorldView) (old mid : State) (owed : Owed) (e : Ending) (b : Between now tables old mid owed e w) (told : AreTold mid e w) where
+      same_entry : x ≡ (on now tables old mid owed e w b told port due.next.doomed q due.is_on.there due.is_on.is).entry
+      same_entry = one_entry x _ (sym here ∙ (on now tables old mid owed e w b told port due.next.doomed q due.is_on.there due.is_on.is).found)
 
-      z_as : z ≡ dead_as (dead_count (send_references (on now tables old mid owed e port rs w b q due.is_on.there due.is_on.is).entry))
+      z_as : z ≡ dead_as (dead_count (send_references (on now tables old mid owed e w b told port due.next.doomed q due.is_on.there due.is_on.is).entry))
       z_as = z_is ∙ ap (λ (y : Entry). dead_as (dead_count (send_references y))) same_entry
 
       post : LivesIn z q.notify → CanPost z q.notify
-      post = subst (λ (y : WorldView). LivesIn y q.notify → CanPost y q.notify) (sym z_as) (name_post now tables old mid owed e port rs w b q due.is_on.there due.is_on.is p.space there)
+      post = subst (λ (y : WorldView). LivesIn y q.notify → CanPost y q.notify) (sym z_as) (name_post now tables old mid owed e w b told port due.next.doomed q due.is_on.there due.is_on.is p.space there)
 
-      ends : (v : WorldView) → Pays z q.notify (notice.DeadName q.name) v → Burying now tables old mid owed e port (rs ++ dead_name q.task q.name ∷ []) v
-      ends v pays = name_end now tables old mid owed e port rs w b q due.is_on.there due.is_on.is p.space there v (subst (λ (y : WorldView). Pays y q.notify (notice.DeadName q.name) v) z_as pays)
-
-      spare : IsUnusedOfAll w.ledger → (v : WorldView) → Pays z q.notify (notice.DeadName q.name) v → SameSpare e rs w (rs ++ dead_name q.task q.name ∷ []) v
-      spare all v pays = name_spare now tables old mid owed e port rs w b q due.is_on.there due.is_on.is p.space there all v (subst (λ (y : WorldView). Pays y q.notify (notice.DeadName q.name) v) z_as pays)
-
-      counts : (many : ℕ) → PaysMany z q.notify many → IsCount (length (partway e rs).paid) (length (partway e (rs ++ dead_name q.task q.name ∷ [])).paid) many
-      counts many pays = name_counts now tables old mid owed e port rs w b q due.is_on.there due.is_on.is p.space there many (subst (λ (y : WorldView). PaysMany y q.notify many) z_as pays)
+      ends : IsUnusedOfAll w.ledger → (many : ℕ) (v : WorldView) → Pays z q.notify (notice.DeadName q.name) v → PaysMany z q.notify many →
+          (f : Ending) × Between now tables old mid owed f v × IsCount e.turns f.turns many × SameSlots e w f v × AreTold mid f v
+          × ((x : Request) → is_among e.ended x ≡ true → is_among f.ended x ≡ true) × (is_among f.ended (dead_name q.task q.name) ≡ true)
+      ends all many v pays counts = name_ends now tables old mid owed e w b told port due.next.doomed q due.is_on.there due.is_on.is p.space there all many v
+          (subst (λ (y : WorldView). Pays y q.notify (notice.DeadName q.name) v) z_as pays) (subst (λ (y : WorldView). PaysMany y q.notify many) z_as counts)
 
     pub named_post : LivesIn z q.notify → CanPost z q.notify
-    named_post = let b = due.burying in post b.now b.tables b.old b.mid b.owed b.ending b.requests b.burying
+    named_post = let a = due.next.at in post a.now a.tables a.old a.mid a.owed a.ending a.between a.stage_is
 
     module _ (all : IsUnusedOfAll w.ledger) (v : WorldView) (pays : Pays z q.notify (notice.DeadName q.name) v) where
       pub named_ends : (many : ℕ) → PaysMany z q.notify many → EndsRequests port IsNone w many v
       named_ends many pays_many = record {
-        goes_on = λ now tables old mid owed e rs b. (
-          rs ++ dead_name q.task q.name ∷ [],
-          ends now tables old mid owed e rs b v pays,
-          counts now tables old mid owed e rs b many pays_many,
-          (λ r c. still_in rs (dead_name q.task q.name) r c),
-          (λ r none. absurd none),
-          spare now tables old mid owed e rs b all v pays,
-        );
+        goes_on = λ now tables old mid owed e b told. let g = ends now tables old mid owed e b told all many v pays pays_many in (g.0, g.1, g.2, g.3, g.4, g.5, (λ r none. absurd none));
+        doomed = pays_doomed z q.notify (notice.DeadName q.name) v pays (lives_or_not z q.notify) port (subst (λ (y : WorldView). IsHeldBy y.ports port holder.Doomed) (sym z_is) (record { view = due.next.doomed.view; there = due.next.doomed.there; holder_is = due.next.doomed.holder_is }));
         ports = pays_ports z q.notify (notice.DeadName q.name) v pays (lives_or_not z q.notify) ∙ ap (λ (y : WorldView). map.len y.ports.ports) z_is;
         rooms = renamed_rooms w v q.task p.space _ there (pays_spaces z q.notify (notice.DeadName q.name) v pays (lives_or_not z q.notify) ∙ ap (λ (y : WorldView). y.spaces) z_is);
       }
@@ -445,27 +425,32 @@ module _ (port : ℕ) (q : NameRequest) (w : WorldView) (due : IsDueOn port q w)
 
 -- ---- parts of a burial
 
-pub still_burying : (port : ℕ) (these : Request → Type 0) (w : WorldView) (t : ℕ) (v : WorldView) → IsBurying port w → EndsRequests port these w t v → IsBurying port v
-still_burying port these w t v b e =
-    let g = e.goes_on b.now b.tables b.old b.mid b.owed b.ending b.requests b.burying in
-    record { now = b.now; tables = b.tables; old = b.old; mid = b.mid; owed = b.owed; ending = b.ending; requests = g.0; burying = g.1 }
+pub still_next : (port : ℕ) (these : Request → Type 0) (w : WorldView) (t : ℕ) (v : WorldView) → IsNextToBury port w → EndsRequests port these w t v → IsNextToBury port v
+still_next port these w t v n e =
+    let a = n.at in
+    let g = e.goes_on a.now a.tables a.old a.mid a.owed a.ending a.between a.stage_is in
+    record { at = record { now = a.now; tables = a.tables; old = a.old; mid = a.mid; owed = a.owed; ending = g.0; between = g.1; stage_is = g.4 }; doomed = e.doomed }
 
 pub joined : (port : ℕ) (these those : Request → Type 0) (w : WorldView) (t : ℕ) (u : WorldView) (n : ℕ) (v : WorldView) → EndsRequests port these w t u → EndsRequests port those u n v →
     (m : ℕ) → m ≡ min (t + n) (2 ^ 64 - 1) → EndsRequests port (λ r. these r ⊎ those r) w m v
 joined port these those w t u n v e f m sum = record {
-  goes_on = λ now tables old mid owed x rs b.
-      let g = e.goes_on now tables old mid owed x rs b in
-      let h = f.goes_on now tables old mid owed x g.0 g.1 in (
+  goes_on = λ now tables old mid owed x b told.
+      let g = e.goes_on now tables old mid owed x b told in
+      let h = f.goes_on now tables old mid owed g.0 g.1 g.4 in
+      let y = g.3 in
+      let z = h.3 in (
         h.0,
         h.1,
-        count_joined (length (partway x rs).paid) (length (partway x g.0).paid) (length (partway x h.0).paid) t n m g.2 h.2 sum,
-        (λ r c. h.3 r (g.3 r c)),
+        count_joined x.turns g.0.turns h.0.turns t n m g.2 h.2 sum,
+        omega (arith, y, z),
+        h.4,
+        (λ r c. h.5 r (g.5 r c)),
         (λ r is stood of. elim is [
-          | inl a ↦ h.3 r (g.4 r a stood of)
-          | inr a ↦ h.4 r a stood of
+          | inl a ↦ h.5 r (g.6 r a stood of)
+          | inr a ↦ h.6 r a stood of
         ]),
-        h.5 ∙ g.5,
       );
+  doomed = f.doomed;
   ports = f.ports ∙ e.ports;
   rooms = λ task. f.rooms task ∙ e.rooms task;
 }
@@ -473,13 +458,14 @@ joined port these those w t u n v e f m sum = record {
 pub weaker_ends : (port : ℕ) (these those : Request → Type 0) (w : WorldView) (t : ℕ) (v : WorldView) → EndsRequests port these w t v →
     ((mid : State) (r : Request) → those r → IsRequestOf mid port r → these r) → EndsRequests port those w t v
 weaker_ends port these those w t v e so = record {
-  goes_on = λ now tables old mid owed x rs b. let g = e.goes_on now tables old mid owed x rs b in (g.0, g.1, g.2, g.3, (λ r is stood of. g.4 r (so mid r is of) stood of), g.5);
+  goes_on = λ now tables old mid owed x b told. let g = e.goes_on now tables old mid owed x b told in (g.0, g.1, g.2, g.3, g.4, g.5, (λ r is stood of. g.6 r (so mid r is of) stood of));
+  doomed = e.doomed;
   ports = e.ports;
   rooms = e.rooms;
 }
 
-pub none_yet : (port : ℕ) (w : WorldView) → EndsRequests port IsNone w 0 w
-none_yet port w = none_ended port IsNone w w refl (λ r none. absurd none)
+pub none_yet : (port : ℕ) (w : WorldView) → IsNextToBury port w → EndsRequests port IsNone w 0 w
+none_yet port w next = none_ended port IsNone w w next refl (λ r none. absurd none)
 
 pub one_longer : (port : ℕ) (w : WorldView) (t : ℕ) (u : WorldView) (n : ℕ) (v : WorldView) → EndsRequests port IsNone w t u → EndsRequests port IsNone u n v → (m : ℕ) → m ≡ min (t + n) (2 ^ 64 - 1) → EndsRequests port IsNone w m v
 one_longer port w t u n v e f m sum = weaker_ends port (λ r. IsNone r ⊎ IsNone r) IsNone w m v (joined port IsNone IsNone w t u n v e f m sum) (λ mid r none of. absurd none)
@@ -494,28 +480,28 @@ all_kinds port w t v e = weaker_ends port (λ r. ((r ≡ no_senders port) ⊎ (r
     kinds mid (dead_name t n) any of = inr tt
 
 -- no request on a name of the port is kept any more
-name_gone : (now : ℕ) (tables : WorldView) (old mid : State) (owed : Owed) (e : Ending) (port : ℕ) (rs : List Request) (w : WorldView) → Burying now tables old mid owed e port rs w → NoneOn w.requests.names port →
+name_gone : (now : ℕ) (tables : WorldView) (old mid : State) (owed : Owed) (e : Ending) (port : ℕ) (w : WorldView) → Between now tables old mid owed e w → NoneOn w.requests.names port →
     (t n : ℕ) → IsNameOf port (lookup mid t n) → notify_of w.requests (dead_name t n) ≡ None
-name_gone now tables old mid owed e port rs w b none t n of = go (nat_lt n (2 ^ 32)) refl
+name_gone now tables old mid owed e port w b none t n of = go (nat_lt n (2 ^ 32)) refl
   where
     kept : n < 2 ^ 32 → (o : Option NameRequest) → map.get w.requests.names.requests (name_key t n) ≡ o → o ≡ None
     kept few None is = refl
     kept few (Some q) is = absurd (none.apart (name_key t n) q is (elim (named_once on.entry q.port on.for_port) [
-      | inl h ↦ subst (IsNameOf port) (settled_port mid new t n (lookup mid t n) q.port (sym (b.so_far.names t n) ∙ found ∙ ap Some h)).0 of
-      | inr h ↦ subst (IsNameOf port) (of_settled mid new t n (lookup mid t n) q.port (sym (b.so_far.names t n) ∙ found ∙ ap Some h)) of
+      | inl h ↦ subst (IsNameOf port) (settled_port mid new t n (lookup mid t n) q.port (sym (b.tied.so_far.names t n) ∙ found ∙ ap Some h)).0 of
+      | inr h ↦ subst (IsNameOf port) (of_settled mid new t n (lookup mid t n) q.port (sym (b.tied.so_far.names t n) ∙ found ∙ ap Some h)) of
     ]))
       where
         on : IsOnName w (name_key t n) q
-        on = b.around.requested.on_names (name_key t n) q is
+        on = b.requested.on_names (name_key t n) q is
 
         key : (q.task ≡ t) × (q.name ≡ n)
         key = same_key q.task q.name t n on.small few on.own
 
         new : State
-        new = record mid { live_port = λ p. b.state.live_port p && not (is_among rs (dead_name t n)) }
+        new = seen_for mid e.ended b.tied.state.live_port t n
 
-        found : lookup b.state t n ≡ Some (target_of on.entry)
-        found = b.agrees.spaces.naming t n ∙ ap (option_map target_of) (sym (λ i. entry_at w (key.0 i) (key.1 i)) ∙ on.found)
+        found : lookup b.tied.state t n ≡ Some (target_of on.entry)
+        found = b.tied.agrees.spaces.naming t n ∙ ap (option_map target_of) (sym (λ i. entry_at w (key.0 i) (key.1 i)) ∙ on.found)
 
     go : (c : Bool) → nat_lt n (2 ^ 32) ≡ c → (if c then option_map (λ (r : NameRequest). r.notify) (map.get w.requests.names.requests (name_key t n)) else None) ≡ None
     go true is = ap (option_map (λ (r : NameRequest). r.notify)) (kept (ltb-true n (2 ^ 32) is) (map.get w.requests.names.requests (name_key t n)) refl)
@@ -523,44 +509,27 @@ name_gone now tables old mid owed e port rs w b none t n of = go (nat_lt n (2 ^ 
 
 pub names_gone : (port : ℕ) (w : WorldView) (t : ℕ) (v : WorldView) → EndsRequests port IsNone w t v → NoneOn v.requests.names port → EndsRequests port IsRequestOnName w t v
 names_gone port w t v e none = record {
-  goes_on = λ now tables old mid owed x rs b.
-      let g = e.goes_on now tables old mid owed x rs b in
-      (g.0, g.1, g.2, g.3, (λ r is stood of. gone_ended now tables old mid owed x port g.0 v g.1 r of stood (gone now tables old mid owed x g.0 g.1 r is of)), g.5);
+  goes_on = λ now tables old mid owed x b told.
+      let g = e.goes_on now tables old mid owed x b told in
+      (g.0, g.1, g.2, g.3, g.4, g.5, (λ r is stood of. gone_ended now tables old mid owed g.0 v g.1 port e.doomed r of stood (gone now tables old mid owed g.0 g.1 r is of)));
+  doomed = e.doomed;
   ports = e.ports;
   rooms = e.rooms;
 }
   where
-    gone : (now : ℕ) (tables : WorldView) (old mid : State) (owed : Owed) (x : Ending) (rs : List Request) → Burying now tables old mid owed x port rs v → (r : Request) → IsRequestOnName r → IsRequestOf mid port r → notify_of v.requests r ≡ None
-    gone now tables old mid owed x rs b (no_senders p) is of = absurd is
-    gone now tables old mid owed x rs b (port_destroyed p) is of = absurd is
-    gone now tables old mid owed x rs b (dead_name t n) is of = name_gone now tables old mid owed x port rs v b none t n of
+    gone : (now : ℕ) (tables : WorldView) (old mid : State) (owed : Owed) (x : Ending) → Between now tables old mid owed x v → (r : Request) → IsRequestOnName r → IsRequestOf mid port r → notify_of v.requests r ≡ None
+    gone now tables old mid owed x b (no_senders p) is of = absurd is
+    gone now tables old mid owed x b (port_destroyed p) is of = absurd is
+    gone now tables old mid owed x b (dead_name t n) is of = name_gone now tables old mid owed x port v b none t n of
 
 -- ---- the port leaves
 
--- the burial begins
-pub is_burying : (port : ℕ) (w : WorldView) → IsNextToBury port w → IsBurying port w
-is_burying port w n = record {
-  now = n.at.now;
-  tables = n.at.tables;
-  old = n.at.old;
-  mid = n.at.mid;
-  owed = n.at.owed;
-  ending = n.at.ending;
-  requests = [];
-  burying = begins_burying n.at.now n.at.tables n.at.old n.at.mid n.at.owed n.at.ending w n.at.between n.at.stage_is port n.doomed;
-}
-
-live_some : (o : Option (PortView Kept)) → is_some o ≡ true → (v : PortView Kept) × (o ≡ Some v)
-live_some (Some v) e = (v, refl)
-live_some None e = absurd (cc)
-
 -- the port is there yet, and has no message
-pub none_queued : (port : ℕ) (w : WorldView) → IsBurying port w → (p : PortView Kept) → port_at w port ≡ Some p → length p.queue ≡ 0
-none_queued port w i p is = let b = i.burying in let d = b.around.doomed port p is in ap (λ ms. length ms) (b.around.emptied port p is (d.1 b.can.doomed))
+pub none_queued : (port : ℕ) (w : WorldView) → IsNextToBury port w → (p : PortView Kept) → port_at w port ≡ Some p → length p.queue ≡ 0
+none_queued port w i p is = ap (λ ms. length ms) (i.at.stage_is.lost.judged.emptied port p is (ap (λ (y : PortView Kept). y.attributes.holder) (same_found (port_at w port) p i.doomed.view is i.doomed.there) ∙ i.doomed.holder_is))
 
-pub is_entered : (port : ℕ) (w v : WorldView) (t : ℕ) → IsNextToBury port w → EndsRequests port IsAny w t v → IsEntered v.ledger port
-unfolding still_burying is_burying
-is_entered port w v t n e = grind (arith, still_burying port IsAny w t v (is_burying port w n) e, (is_burying port w n).burying)
+pub is_entered : (port : ℕ) (w : WorldView) → IsNextToBury port w → IsEntered w.ledger port
+is_entered port w n = grind (arith, n.at.between.tied.agrees.counts port, there_now n.at.now n.at.tables n.at.old n.at.mid n.at.owed n.at.ending w n.at.between port n.doomed)
 
 some_fewer_loop : (m : map.FinMap nat_cmp (PortView Kept)) (k : ℕ) (v : PortView Kept) → map.get m k ≡ Some v → map.len (map.remove m k) < map.len m
 some_fewer_loop m k v is =
@@ -575,42 +544,25 @@ some_fewer_loop m k v is =
       | inr h ↦ get_other (map.remove m k) k v n h.1 ∙ get_removed m k n h.1
     ]
 
-module _ (port : ℕ) (w : WorldView) (next : IsNextToBury port w) (u : WorldView) (t : ℕ) (e : EndsRequests port IsAny w t u) (v : WorldView) (doomed : List ℕ) (is : v ≡ buried u port doomed) where
+module _ (port : ℕ) (w : WorldView) (u : WorldView) (t : ℕ) (e : EndsRequests port IsAny w t u) (v : WorldView) (doomed : List ℕ) (is : v ≡ buried u port doomed) where
   pub bury_continues : Continues AreTold AreTold w t v
   bury_continues now tables old mid owed x b told =
-      let g = e.goes_on now tables old mid owed x [] (begins_burying now tables old mid owed x w b told port next.doomed) in
-      let every : (r : Request) → mid.stands r ≡ true → IsRequestOf mid port r → Contains g.0 r = λ r stood of. g.4 r tt stood of in
-      let c = g.2 in (
-        bury port g.0 x,
-        subst (Between now tables old mid owed (bury port g.0 x)) (sym is) (buried_between now tables old mid owed x port g.0 u g.1 every doomed),
-        counted x.turns t x.paid (paying_of x death_notice g.0 x.left) c,
-        slots now tables old mid owed x b told g.0 g.1 g.5,
-        subst (AreTold mid (bury port g.0 x)) (sym is) (buried_told now tables old mid owed x port g.0 u g.1 every doomed),
+      let g = e.goes_on now tables old mid owed x b told in
+      let every : (r : Request) → mid.stands r ≡ true → IsRequestOf mid port r → is_among g.0.ended r ≡ true = λ r stood of. g.6 r tt stood of in
+      let y = g.3 in (
+        bury port g.0,
+        subst (Between now tables old mid owed (bury port g.0)) (sym is) (buried_between now tables old mid owed g.0 u g.1 g.4 port e.doomed every doomed),
+        g.2,
+        (let a = ap (λ (y : WorldView). y.ports.spare + length y.ports.destroyed) is in omega (arith, a, y)),
+        subst (AreTold mid (bury port g.0)) (sym is) (buried_told now tables old mid owed g.0 u g.1 g.4 port e.doomed every doomed),
       )
-    where
-      counted : (a n : ℕ) (xs ys : Owed) → IsCount (length (xs ++ [])) (length (xs ++ ys)) n → IsCount a (a + length ys) n
-      counted a n xs ys (many, is, told) = (many, (let p = length-append xs ys in let q = length-append xs [] in omega (arith, is, p, q)), told)
-
-      slots : (now : ℕ) (tables : WorldView) (old mid : State) (owed : Owed) (x : Ending) → Between now tables old mid owed x w → AreTold mid x w → (more : List Request) → Burying now tables old mid owed x port more u → SameSpare x [] w more u →
-          SameSlots x w (bury port more x) v
-      slots now tables old mid owed x b told more g spare =
-          let a : v.ports.spare ≡ u.ports.spare = ap (λ (y : WorldView). y.ports.spare) is in
-          let d : length v.ports.destroyed ≡ 0 = ap (λ (y : WorldView). length y.ports.destroyed) is ∙ ap (λ (ms : List Kept). length ms) g.around.none_destroyed in
-          let f : length w.ports.destroyed ≡ 0 = ap (λ (ms : List Kept). length ms) told.lost.none_destroyed in
-          let h : length (x.paid ++ []) ≡ length x.paid = ap (λ (ys : Owed). length ys) (append-nil x.paid) in
-          omega (arith, a, d, f, h, spare)
 
   pub bury_rooms : KeepsRooms w v
   bury_rooms task = buried_rooms u v port doomed is task ∙ e.rooms task
 
   pub bury_fewer : map.len v.ports.ports < map.len w.ports.ports
-  unfolding still_burying is_burying
   bury_fewer =
-      let i = still_burying port IsAny w t u (is_burying port w next) e in
-      let first = (is_burying port w next).burying in
-      let b = i.burying in
-      let f = live_some (port_at u port) (b.agrees.live_port port ∙ b.so_far.live_port port ∙ sym (first.so_far.live_port port) ∙ sym (first.agrees.live_port port) ∙ ap is_some next.doomed.there) in
-      let a = some_fewer_loop u.ports.ports port f.0 f.1 in
+      let a = some_fewer_loop u.ports.ports port e.doomed.view e.doomed.there in
       let c : map.len v.ports.ports ≡ map.len (map.remove u.ports.ports port) = ap (λ (y : WorldView). map.len y.ports.ports) is in
       let d = e.ports in
       omega (arith, a, c, d)
@@ -690,6 +642,6 @@ module _ (old : WorldView) (spaces : List (Option SpaceView)) (ports : PortsView
       ∙ ap (λ (w : WorldView). buried w port doomed) view
 
 -- the ports that are left, where none was lost or noted
-pub left_ports : (w : WorldView) (spaces : List (Option SpaceView)) (ports : PortsView Kept) (ledger : LedgerView) (sets : SetsView) (requests : RequestTablesView) → tables spaces ports ledger sets requests ≡ w → (port : ℕ) → IsBurying port w →
+pub left_ports : (w : WorldView) (spaces : List (Option SpaceView)) (ports : PortsView Kept) (ledger : LedgerView) (sets : SetsView) (requests : RequestTablesView) → tables spaces ports ledger sets requests ≡ w → (port : ℕ) → IsNextToBury port w →
     (new : PortsView Kept) → new ≡ record ports { ports = map.remove ports.ports port; lost = without port ports.lost; doomed = without port ports.doomed; noted = without port ports.noted } → new ≡ without_port ports port (without port ports.doomed)
 left_ports w spaces ports ledger sets requests view port i new is = grind arith

@@ -1,16 +1,17 @@
 -- A request ends, and a name dies: the tables still agree.
-use Rattle.std.proofs.Common.{◌≡◌, ℕ, ◌+◌, ◌<◌, List, [], ◌∷◌, Option, Some, None, refl, sym, ap, subst, ◌∙◌, arith, true, false, Bool, length}
+use Rattle.std.proofs.Common.{◌⊎◌, inl, inr, ◌≡◌, ℕ, ◌+◌, ◌<◌, List, [], ◌∷◌, Option, Some, None, refl, sym, ap, subst, ◌∙◌, arith, true, false, Bool, length}
 use Rattle.std.specs.Prelude.{if◌then◌else◌, ◌&&◌, filter, is_some}
 use Rattle.std.specs.Option.{option_map}
 use Rattle.std.specs.FinMap as map
 use Rattle.std.proofs.lemmas.Bool.{eq-eqb}
-use Rattle.mach_types.specs.Tokens.{Kind, receive, send, send_once, Request, no_senders, port_destroyed, dead_name, Place, in_message, in_request, Token, token, Moves, weigh, count, is_of, is_held}
+use Rattle.mach_types.specs.Tokens.{Kind, receive, send, send_once, Request, no_senders, port_destroyed, dead_name, in_message, in_request, Token, token, Moves, weigh, count, is_of, is_held}
 use Rattle.mach_model.specs.State.{State, Target, at, same_request, request_at}
 use Rattle.mach_model.specs.Death.{same_place}
 use Rattle.mach_model.specs.Carried.{lying_among}
 use Rattle.mach_model.proofs.Names.{at_own, at_other, get_other, length-weigh, both_test}
 use Rattle.mach_model.proofs.SettledReceives.{and_false}
 use Rattle.name_space.specs.declared.Entry.{Entry}
+use Rattle.name_space.specs.declared.Entry.TheVariants as named
 use Rattle.name_space.specs.declared.Entry.TheVariants.{DeadName}
 use Rattle.name_space.specs.Entry.{port_of, port_named}
 use Rattle.name_space.specs.Names.{SpaceView}
@@ -22,8 +23,17 @@ use Rattle.copyin_base.specs.Worlds.{WorldView, space_at, with_space, entry_in, 
 use Rattle.copyin_base.proofs.Agreeing.{NamesAgree, CountRights, put_names, put_rights, spaces_agree, references_agree, sets_stay}
 use Rattle.copyin_base.proofs.Counting.{counts_same}
 use Rattle.notifications.proofs.NoticePosted.{filter_weigh}
-use Rattle.notifications.specs.SoFar.{AgreesOf, HoldersTell}
-use Rattle.destroy.proofs.BuryEnd.{named_once}
+use Rattle.notifications.specs.SoFar.{AgreesOf}
+
+-- ---- what a name that stands for a port means
+
+pub named_once : (x : Entry) (p : ℕ) → port_of x ≡ Some p → (target_of x ≡ Target.port p) ⊎ (target_of x ≡ Target.once p)
+named_once (named.Receive q) p is = inl (cc)
+named_once (named.Send q n) p is = inl (cc)
+named_once (named.ReceiveAndSend q n) p is = inl (cc)
+named_once (named.SendOnce q) p is = inr (cc)
+named_once (named.DeadName n) p is = absurd (cc)
+named_once (named.Set n) p is = absurd (cc)
 
 -- ---- a request ends
 
@@ -63,9 +73,6 @@ module _ (lives : ℕ → Bool) (w : WorldView) (s : State) (a : AgreesOf lives 
 
   total : length s.ledger ≡ length tokens
   total = let m = same_weight (λ x. 1) refl in let b = length-weigh s.ledger in let c = length-weigh tokens in omega (arith, m, b, c)
-
-  pub lies_same : (p : ℕ) (place : Place) → count (λ x. is_of receive p x && same_place place x.place) tokens ≡ count (λ x. is_of receive p x && same_place place x.place) s.ledger
-  lies_same p place = same_weight (λ x. if is_of receive p x && same_place place x.place then 1 else 0) refl
 
   -- ---- the requests
 
@@ -110,9 +117,6 @@ module _ (lives : ℕ → Bool) (w : WorldView) (s : State) (a : AgreesOf lives 
     in_sets = a.in_sets;
     of_requests = record { standing = standing; kept = kept; given = given; given_went = subst (λ xs. AreMade w.ports.made xs) (sym went_same) tt; ended_went = subst (λ xs. AreEnded (request_at s.stands r false) xs) (sym went_same) tt };
   }
-
-  pub ended_holders : (destroyed : List (ℕ × ℕ)) → HoldersTell w s destroyed → HoldersTell (unrequested w rq) (without_request s r tokens) destroyed
-  ended_holders destroyed h p v there = grind (arith, lies_same, counts)
 
 -- ---- a name dies
 

@@ -1,6 +1,6 @@
 -- As a port is buried its names are read as dead names, and rights of tasks stay until then.
 use Rattle.std.proofs.Common.{◌≡◌, ℕ, Bool, true, false, List, [], ◌∷◌, Option, Some, None, refl, sym, ap, subst, ◌∙◌, cond, zero, suc, arith, ◌⊎◌, inl, inr, ◌+◌, length}
-use Rattle.std.specs.Prelude.{is_some, if◌then◌else◌, option_map, All, ◌&&◌, ◌≢◌, Contains, ◌==◌, ◌||◌, not, filter}
+use Rattle.std.specs.Prelude.{is_some, if◌then◌else◌, option_map, All, ◌&&◌, ◌≢◌, ◌==◌, ◌||◌, not, filter}
 use Rattle.std.specs.FinMap as map
 use Rattle.std.specs.FinMap.{get-insert, get-empty}
 use Rattle.std.specs.FinMap.Entries.{find}
@@ -8,18 +8,19 @@ use Rattle.std.specs.declared.cmp.Ordering.{Ordering}
 use Rattle.std.specs.declared.cmp.Ordering.TheVariants.{Less, Equal, Greater}
 use Rattle.std.specs.Ordering.{nat_cmp, is_eq}
 use Rattle.std.specs.Cmp.{nat_cmp_total}
-use Rattle.std.proofs.lemmas.Bool.{ne_eqb, eq-eqb}
+use Rattle.std.proofs.lemmas.Bool.{ne_eqb, false_from_ne_true}
 use Rattle.std.proofs.lemmas.List.Elements.{All-head, All-tail, All-cons}
 use Rattle.std.proofs.lemmas.Bool.Decides.{eqb_tells}
 use Rattle.mach_types.specs.Tokens.{Kind, receive, send, Token, count, is_held, token, send_once, no_senders, port_destroyed, dead_name, Place, in_task, in_message, in_request, is_of, is_in_task, Request, weigh}
 use Rattle.mach_model.specs.State.{Target, Names, State, held, lookup}
 use Rattle.mach_model.proofs.SettledEnd.{mapped_length}
+use Rattle.mach_model.specs.Midway.{MidLawful}
 use Rattle.mach_model.specs.Notices.{right_unused, no_more_senders, port_sent, Owed, Posted, all_posted_tokens}
 use Rattle.mach_model.specs.Settles.{tokens_of, settled_target, dead_references}
-use Rattle.mach_model.specs.Turns.{Ending, outcome, went_in, listed, IsAtDoomed, Takes, PaidForName, Begins, PaysAtBurial, Turn, IsReached, begins, turns, IsNameOf, IsRequestOf}
+use Rattle.mach_model.specs.Turns.{Ending, outcome, went_in, listed, IsAtDoomed, Takes, PaidForName, Begins, PaysAtEnd, is_among, Turn, IsReached, begins, turns, IsNameOf, IsRequestOf}
 use Rattle.mach_model.proofs.TurnsCounted.{listed_later, listed_first}
-use Rattle.mach_model.proofs.SettledReceives.{and_false, none_tasked, with_task}
-use Rattle.mach_model.proofs.TurnsMade.{bury, left_of_all}
+use Rattle.mach_model.proofs.SettledReceives.{and_false, none_tasked}
+use Rattle.mach_model.proofs.TurnsMade.{bury}
 use Rattle.name_space.specs.declared.Entry.{Entry}
 use Rattle.name_space.specs.declared.Entry.TheVariants.{Receive, Send, ReceiveAndSend, SendOnce, DeadName, Set}
 use Rattle.name_space.specs.Entry.{port_of, port_named, has_receive, send_references}
@@ -30,9 +31,9 @@ use Rattle.copyin_base.specs.Shows.{target_of, HasCount, SpacesAgree, References
 use Rattle.copyin_base.specs.Worlds.{space_in, entry_in}
 use Rattle.copyin_base.proofs.Reading.{read_lives, reads_as, named_port, len_read, space_read_in, entry_read_in, length_read, kept_there}
 use Rattle.notifications.proofs.NoticePosted.{filter_weigh}
-use Rattle.notifications.specs.SoFar.{buried_alone, IsSoFar, posted_so_far, due_so_far}
-use Rattle.destroy.specs.Burying.{is_among, partway, IsPartway, CanBury}
-use Rattle.destroy.proofs.BuryState.{elsewhere, left_posted, all_fine, weigh_same, is_off, among_of, of_among, left_tasks, lives_else_after, of_port, own_ended, other_ended, none_stands}
+use Rattle.notifications.specs.SoFar.{buried_alone, seen_for, IsSoFar, posted_so_far, due_so_far}
+use Rattle.mach_model.proofs.SettledDetermined.{weigh-same}
+use Rattle.destroy.proofs.BuryState.{elsewhere, left_posted, all_fine, is_off, lives_else_after, of_port, own_ended, other_ended, none_stands}
 
 -- ---- As a port is buried its names are read as dead names.
 
@@ -266,10 +267,12 @@ module _ (task : ℕ) (kind : Kind) (p : ℕ) where
         go (inl h) = same_left e f _ _ h.1 (one_all (λ x. held_test x.0 ≡ false) _ (at_doomed e t.right t.destroyed)) (none_all _)
         go (inr h) = same_left e f _ _ h.1 (none_all _) (one_all (λ x. held_test x ≡ false) _ (at_doomed e t.right t.destroyed))
     turn_kept e f (inr (inr (inr (inr (inl t))))) none = (
+      ap (λ (x : Ending). listed x.buried p) (sym t.rest) ∙ none,
+      same_left e f t.paying [] t.takes (all_as (PaysAtEnd e t.request) (λ x. held_test x.0 ≡ false) (λ x h. kept_by x.0 (in_request t.request) h.kept refl) t.paying t.pays) (none_all _),
+    )
+    turn_kept e f (inr (inr (inr (inr (inr (inl t)))))) none = (
       was,
-      same_left e f t.paying t.going t.takes
-          (all_as (PaysAtBurial mid e t.port) (λ x. held_test x.0 ≡ false) (λ x h. kept_by x.0 (in_request h.request) h.kept refl) t.paying t.pays)
-          (all_as (λ x. x.port ≡ t.port) (λ x. held_test x ≡ false) (λ x h. other_port x t.port h not_it) t.going t.goes),
+      same_left e f [] t.going t.takes (none_all _) (all_as (λ x. x.port ≡ t.port) (λ x. held_test x ≡ false) (λ x h. other_port x t.port h not_it) t.going t.goes),
     )
       where
         list : listed f.buried p ≡ listed (t.port ∷ e.buried) p
@@ -284,7 +287,7 @@ module _ (task : ℕ) (kind : Kind) (p : ℕ) where
 
         not_it : p ≡ t.port → ⊥
         not_it is = let a : listed (t.port ∷ e.buried) p ≡ true = subst (λ (k : ℕ). listed (t.port ∷ e.buried) k ≡ true) (sym is) (listed_first t.port e.buried) in let c : true ≡ false = sym a ∙ sym list ∙ none in cc
-    turn_kept e f (inr (inr (inr (inr (inr t))))) none = (
+    turn_kept e f (inr (inr (inr (inr (inr (inr t)))))) none = (
       ap (λ (x : Ending). listed x.buried p) (sym t.rest) ∙ none,
       same_left e f t.paying [] t.takes (all_as (λ x. (x.0.kind ≡ send_once) × (x.0.place ≡ in_request (no_senders t.port)) × (x.1 ≡ no_more_senders ((outcome mid e).make_send t.port))) (λ x. held_test x.0 ≡ false) (λ x h. kept_by x.0 (in_request (no_senders t.port)) h.1 refl) t.paying t.pays) (none_all _),
     )
@@ -305,37 +308,33 @@ after_burial live port s = record s {
   ledger = filter (is_off port) s.ledger;
 }
 
-module _ (now : ℕ) (old mid : State) (owed : Owed) (e : Ending) (port : ℕ) (rs : List Request) (s : State) (can : CanBury old mid owed e port)
-    (ends : All (λ r. (mid.stands r ≡ true) × IsRequestOf mid port r) rs) (f : IsPartway now mid e rs s) where
+module _ (now : ℕ) (old mid : State) (owed : Owed) (e : Ending) (port : ℕ) (s : State) (lawful : MidLawful mid owed) (reached : IsReached old mid owed e) (doomed : listed e.doomed port ≡ true) (unburied : listed e.buried port ≡ false)
+    (f : IsSoFar now mid e s) where
   -- the rights of tasks for the port are those that they had
   pub held_same : (task : ℕ) (kind : Kind) → held s task kind port ≡ held mid task kind port
   held_same task kind =
       let a = f.ledger (λ x. if is_held task kind port x then 1 else 0) in
-      let b = none_tasked (is_held task kind port) (λ k p q n. and_false (is_of kind port (token k p (in_message q n)))) (filter (λ (x : Posted). s.live_port x.port) (posted_so_far mid (partway e rs))) in
-      let c = left_tasks e (is_held task kind port) (λ x t r at. let g : in_task task ≡ in_request r = sym (with_task task kind port x t).1 ∙ at in cc) rs e.left in
-      let d = held_left task kind port old mid owed e can.reached can.unburied in
-      omega (arith, a, b, c, d)
+      let b = none_tasked (is_held task kind port) (λ k p q n. and_false (is_of kind port (token k p (in_message q n)))) (filter (λ (x : Posted). s.live_port x.port) (posted_so_far mid e)) in
+      let d = held_left task kind port old mid owed e reached unburied in
+      omega (arith, a, b, d)
 
-  module _ (every : (r : Request) → mid.stands r ≡ true → IsRequestOf mid port r → Contains rs r) (live : ℕ → Bool) (lives : (q : ℕ) → live q ≡ (s.live_port q && not (q == port))) where
+  module _ (every : (r : Request) → mid.stands r ≡ true → IsRequestOf mid port r → is_among e.ended r ≡ true) (live : ℕ → Bool) (lives : (q : ℕ) → live q ≡ (s.live_port q && not (q == port))) where
     abbrev pub next : State
     next = after_burial live port s
 
     abbrev done : Ending
-    done = bury port rs e
+    done = bury port e
 
-    stands : (r : Request) → s.stands r ≡ (outcome mid (buried_alone done)).stands r
+    stands : (r : Request) → s.stands r ≡ (if is_among e.ended r then false else (outcome mid (buried_alone done)).stands r)
     stands r = elim (of_port mid e port r) [
-      | inl of ↦ none_stands now old mid owed e port rs s can ends f every r of ∙ sym (ap (λ (b : Bool). mid.stands r && not b) (own_ended mid e port r of) ∙ and_false (mid.stands r))
-      | inr not_of ↦ f.stands r ∙ none (is_among rs r) refl not_of ∙ sym (ap (λ (b : Bool). mid.stands r && not b) (other_ended mid e port r not_of))
+      | inl of ↦ none_stands now mid e port s f every r of
+          ∙ sym (ap (λ (b : Bool). if is_among e.ended r then false else mid.stands r && not b) (own_ended mid e port r of) ∙ ap (λ (b : Bool). if is_among e.ended r then false else b) (and_false (mid.stands r)) ∙ both (is_among e.ended r))
+      | inr not_of ↦ f.stands r ∙ sym (ap (λ (b : Bool). if is_among e.ended r then false else mid.stands r && not b) (other_ended mid e port r not_of))
     ]
       where
-        with_true : (a : Bool) → (a && true) ≡ a
-        with_true true = refl
-        with_true false = refl
-
-        none : (b : Bool) → is_among rs r ≡ b → (IsRequestOf mid port r → ⊥) → ((outcome mid (buried_alone e)).stands r && not b) ≡ (outcome mid (buried_alone e)).stands r
-        none true is not_of = absurd (not_of (of_among (λ r. (mid.stands r ≡ true) × IsRequestOf mid port r) rs r ends is).1)
-        none false is not_of = with_true ((outcome mid (buried_alone e)).stands r)
+        both : (c : Bool) → (if c then false else false) ≡ false
+        both true = refl
+        both false = refl
 
     sets_of : (p : ℕ) → next.sets_of p ≡ (outcome mid (buried_alone done)).sets_of p
     sets_of p = elim (eqb_tells p port) [
@@ -351,79 +350,43 @@ module _ (now : ℕ) (old mid : State) (owed : Owed) (e : Ending) (port : ℕ) (
 
     -- ---- names
 
-    abbrev partly : (task name : ℕ) → State
-    partly task name = record mid { live_port = λ q. s.live_port q && not (is_among rs (dead_name task name)) }
-
     -- a name of the port on which no request ended had none
-    unasked : (task name : ℕ) → IsNameOf port (lookup mid task name) → is_among rs (dead_name task name) ≡ false → mid.stands (dead_name task name) ≡ false
-    unasked task name of none = go (mid.stands (dead_name task name)) refl
-      where
-        go : (b : Bool) → mid.stands (dead_name task name) ≡ b → b ≡ false
-        go true is = absurd (let g : true ≡ false = sym (among_of rs (dead_name task name) (every (dead_name task name) is of)) ∙ none in cc)
-        go false is = refl
+    unasked : (task name : ℕ) → IsNameOf port (lookup mid task name) → is_among e.ended (dead_name task name) ≡ false → mid.stands (dead_name task name) ≡ false
+    unasked task name of none = false_from_ne_true (mid.stands (dead_name task name)) (λ is. let g : true ≡ false = sym (every (dead_name task name) is of) ∙ none in cc)
 
-    named : (task name : ℕ) → is_among rs (dead_name task name) ≡ true → IsNameOf port (lookup mid task name)
-    named task name is = (of_among (λ r. (mid.stands r ≡ true) × IsRequestOf mid port r) rs (dead_name task name) ends is).1
-
-    names : (task name : ℕ) → lookup next task name ≡ option_map (settled_target mid next task name) (lookup mid task name)
+    names : (task name : ℕ) → lookup next task name ≡ option_map (settled_target mid (seen_for mid e.ended next.live_port task name) task name) (lookup mid task name)
     names task name =
         mapped_get (left_target live (λ q. held s task send q)) (s.naming task) name
         ∙ ap (option_map (left_target live (λ q. held s task send q))) (f.names task name)
         ∙ go (lookup mid task name) refl
       where
         asked : Bool
-        asked = is_among rs (dead_name task name)
+        asked = is_among e.ended (dead_name task name)
+
+        -- a name of a port: it has so many references once the port is gone
+        turned : (q k n : ℕ) (t : Target) → left_target live (λ q. held s task send q) t ≡ (if live q then t else Target.dead k) → (asked ≡ false → q ≡ port → k ≡ n) →
+            left_target live (λ q. held s task send q) (if (if asked then false else s.live_port q) then t else Target.dead n) ≡ (if (if asked then false else (s.live_port q && not (q == port))) then t else Target.dead n)
+        turned q k n t read same = cases (s.live_port q) asked refl refl
+          where
+            cases : (a b : Bool) → s.live_port q ≡ a → asked ≡ b →
+                left_target live (λ q. held s task send q) (if (if b then false else a) then t else Target.dead n) ≡ (if (if b then false else (a && not (q == port))) then t else Target.dead n)
+            cases a true at h = refl
+            cases false false at h = refl
+            cases true false at h = elim (eqb_tells q port) [
+              | inl own ↦ read ∙ ap (λ (c : Bool). if c then t else Target.dead k) (lives q ∙ (λ i. at i && not (own.0 i))) ∙ ap (λ (m : ℕ). Target.dead m) (same h own.1) ∙ sym (ap (λ (c : Bool). if not c then t else Target.dead n) own.0)
+              | inr other ↦ read ∙ ap (λ (c : Bool). if c then t else Target.dead k) (lives q ∙ (λ i. at i && not (other.0 i))) ∙ sym (ap (λ (c : Bool). if not c then t else Target.dead n) other.0)
+            ]
 
         go : (o : Option Target) → lookup mid task name ≡ o →
-            option_map (left_target live (λ q. held s task send q)) (option_map (settled_target mid (partly task name) task name) o) ≡ option_map (settled_target mid next task name) o
+            option_map (left_target live (λ q. held s task send q)) (option_map (settled_target mid (seen_for mid e.ended s.live_port task name) task name) o) ≡ option_map (settled_target mid (seen_for mid e.ended next.live_port task name) task name) o
         go None is = refl
         go (Some (Target.dead n)) is = refl
         go (Some (Target.set n)) is = refl
-        go (Some (Target.port q)) is = ap Some (port_turned (s.live_port q) asked refl refl)
-          where
-            own : asked ≡ true → q ≡ port
-            own h = subst (IsNameOf port) is (named task name h)
-
-            references : ℕ
-            references = dead_references (mid.stands (dead_name task name)) (held mid task send q)
-
-            count_same : asked ≡ false → q ≡ port → held s task send q ≡ references
-            count_same none is_port =
-                let a = unasked task name (subst (IsNameOf port) (sym is) is_port) none in
-                subst (λ (k : ℕ). held s task send k ≡ held mid task send k) (sym is_port) (held_same task send)
-                ∙ ap (λ (b : Bool). dead_references b (held mid task send q)) (sym a)
-
-            port_turned : (a b : Bool) → s.live_port q ≡ a → asked ≡ b →
-                left_target live (λ q. held s task send q) (if a && not b then Target.port q else Target.dead references) ≡ (if a && not (q == port) then Target.port q else Target.dead references)
-            port_turned false b at h = refl
-            port_turned true true at h = sym (ap (λ (c : Bool). if not c then Target.port q else Target.dead references) (eq-eqb q port (own h)))
-            port_turned true false at h = elim (eqb_tells q port) [
-              | inl k ↦ ap (λ (c : Bool). if c then Target.port q else Target.dead (held s task send q)) (lives q ∙ (λ i. at i && not (k.0 i))) ∙ ap (λ (k : ℕ). Target.dead k) (count_same h k.1)
-                  ∙ sym (ap (λ (c : Bool). if not c then Target.port q else Target.dead references) k.0)
-              | inr k ↦ ap (λ (c : Bool). if c then Target.port q else Target.dead (held s task send q)) (lives q ∙ (λ i. at i && not (k.0 i))) ∙ sym (ap (λ (c : Bool). if not c then Target.port q else Target.dead references) k.0)
-            ]
-        go (Some (Target.once q)) is = ap Some (once_turned (s.live_port q) asked refl refl)
-          where
-            own : asked ≡ true → q ≡ port
-            own h = subst (IsNameOf port) is (named task name h)
-
-            references : ℕ
-            references = dead_references (mid.stands (dead_name task name)) 1
-
-            count_same : asked ≡ false → q ≡ port → 1 ≡ references
-            count_same none is_port =
-                let a = unasked task name (subst (IsNameOf port) (sym is) is_port) none in
-                ap (λ (b : Bool). dead_references b 1) (sym a)
-
-            once_turned : (a b : Bool) → s.live_port q ≡ a → asked ≡ b →
-                left_target live (λ q. held s task send q) (if a && not b then Target.once q else Target.dead references) ≡ (if a && not (q == port) then Target.once q else Target.dead references)
-            once_turned false b at h = refl
-            once_turned true true at h = sym (ap (λ (c : Bool). if not c then Target.once q else Target.dead references) (eq-eqb q port (own h)))
-            once_turned true false at h = elim (eqb_tells q port) [
-              | inl k ↦ ap (λ (c : Bool). if c then Target.once q else Target.dead 1) (lives q ∙ (λ i. at i && not (k.0 i))) ∙ ap (λ (k : ℕ). Target.dead k) (count_same h k.1)
-                  ∙ sym (ap (λ (c : Bool). if not c then Target.once q else Target.dead references) k.0)
-              | inr k ↦ ap (λ (c : Bool). if c then Target.once q else Target.dead 1) (lives q ∙ (λ i. at i && not (k.0 i))) ∙ sym (ap (λ (c : Bool). if not c then Target.once q else Target.dead references) k.0)
-            ]
+        go (Some (Target.port q)) is = ap Some (turned q (held s task send q) (dead_references (mid.stands (dead_name task name)) (held mid task send q)) (Target.port q) refl (λ none is_port.
+            subst (λ (k : ℕ). held s task send k ≡ held mid task send k) (sym is_port) (held_same task send)
+            ∙ ap (λ (b : Bool). dead_references b (held mid task send q)) (sym (unasked task name (subst (IsNameOf port) (sym is) is_port) none))))
+        go (Some (Target.once q)) is = ap Some (turned q 1 (dead_references (mid.stands (dead_name task name)) 1) (Target.once q) refl (λ none is_port.
+            ap (λ (b : Bool). dead_references b 1) (sym (unasked task name (subst (IsNameOf port) (sym is) is_port) none))))
 
     -- ---- rights
 
@@ -431,12 +394,12 @@ module _ (now : ℕ) (old mid : State) (owed : Owed) (e : Ending) (port : ℕ) (
     ledger h =
         let a : weigh h next.ledger ≡ weigh (elsewhere port h s.live_port) s.ledger = off s.ledger in
         let b = f.ledger (elsewhere port h s.live_port) in
-        let c : weigh h done.left ≡ weigh (elsewhere port h s.live_port) (left_of_all e rs e.left) = off (left_of_all e rs e.left) in
-        let d = left_posted port h s.live_port (due_so_far (partway e rs)) (λ p. length (mid.log p)) (all_fine old mid owed e can.lawful can.reached port can.doomed rs) in
+        let c : weigh h done.left ≡ weigh (elsewhere port h s.live_port) e.left = off e.left in
+        let d = left_posted port h s.live_port (due_so_far e) (λ p. length (mid.log p)) (all_fine old mid owed e lawful reached port doomed) in
         omega (arith, a, b, c, d)
       where
         off : (xs : List Token) → weigh h (filter (is_off port) xs) ≡ weigh (elsewhere port h s.live_port) xs
-        off xs = filter_weigh h (is_off port) xs ∙ weigh_same (λ x. if is_off port x then h x else 0) (elsewhere port h s.live_port) (λ x. swap (x.port == port) (h x)) xs
+        off xs = filter_weigh h (is_off port) xs ∙ weigh-same (λ x. if is_off port x then h x else 0) (elsewhere port h s.live_port) (λ x. swap (x.port == port) (h x)) xs
           where
             swap : (b : Bool) (n : ℕ) → (if not b then n else 0) ≡ (if b then 0 else n)
             swap true n = refl

@@ -1,35 +1,24 @@
 -- The state after a burial, and the rights that pay in it.
-use Rattle.std.proofs.Common.{◌≡◌, ℕ, zero, suc, ◌+◌, ◌<◌, ◌≤◌, List, [], ◌∷◌, ◌++◌, refl, sym, subst, ◌∙◌, arith, true, false, Bool, inl, inr, length, get_or, Option, Some, None, ap, ◌⊎◌, length-append}
-use Rattle.std.specs.Prelude.{if◌then◌else◌, All, ◌==◌, ◌&&◌, not, filter, map, Contains, ◌||◌, slice_get}
-use Rattle.std.proofs.lemmas.Bool.{ne_eqb, eqb-true, eq-eqb, and_from, true_from_ne_false}
+use Rattle.std.proofs.Common.{◌≡◌, ℕ, zero, suc, ◌+◌, ◌<◌, ◌≤◌, List, [], ◌∷◌, ◌++◌, refl, sym, subst, ◌∙◌, arith, true, false, Bool, inl, inr, length, get_or, Option, Some, None, ap, ◌⊎◌}
+use Rattle.std.specs.Prelude.{if◌then◌else◌, All, ◌==◌, ◌&&◌, not, filter, map, ◌||◌}
+use Rattle.std.proofs.lemmas.Bool.{ne_eqb, eqb-true, eq-eqb}
 use Rattle.std.proofs.lemmas.Bool.Decides.{eqb_tells}
 use Rattle.std.proofs.lemmas.List.Elements.{All-head, All-tail, All-cons, All-append, All-map}
-use Rattle.std.proofs.lemmas.List.{append-nil, append_assoc}
-use Rattle.std.proofs.lemmas.Option.{slice_get_within}
-use Rattle.mach_types.specs.Tokens.{Kind, receive, send_once, Request, no_senders, port_destroyed, dead_name, Place, in_task, in_message, in_request, Token, token, weigh, count, is_of, same_kind}
-use Rattle.mach_types.specs.Messages.{Entry}
-use Rattle.mach_model.specs.State.{State, at, Target, lookup, same_request, queue}
+use Rattle.mach_types.specs.Tokens.{Kind, receive, send_once, Request, no_senders, port_destroyed, dead_name, Place, in_task, in_message, in_request, Token, token, weigh, count, is_of}
+use Rattle.mach_model.specs.State.{State, at, Target, lookup}
 use Rattle.mach_model.specs.Death.{same_place, Dies, IsSaved}
 use Rattle.mach_model.specs.Notices.{Notice, port_deleted, port_sent, no_more_senders, right_unused, name_died, Owed, Posted, posted_tokens, all_posted_tokens, carried_by}
 use Rattle.mach_model.specs.Settles.{tokens_of}
 use Rattle.mach_model.specs.Midway.{MidLawful}
-use Rattle.mach_model.specs.Turns.{Begun, Ending, owed_in, went_in, listed, IsReached, death_notice, lives_after, became_dead, has_ended, IsNameOf, IsRequestOf}
-use Rattle.mach_model.proofs.Names.{weigh-append, count_le, left_of, right_of, count_some, slice_get_drop}
-use Rattle.mach_model.proofs.Settling.{is_at, own_test, place_refl}
-use Rattle.mach_model.proofs.SettledReceives.{dead_cases, place_is, of_kind, two_le, and_false, none_tasked, at_place}
+use Rattle.mach_model.specs.Turns.{Begun, Ending, owed_in, went_in, listed, is_among, IsReached, lives_after, became_dead, has_ended, IsNameOf, IsRequestOf}
+use Rattle.mach_model.proofs.Names.{weigh-append, count_le, left_of}
+use Rattle.mach_model.proofs.Settling.{is_at, own_test}
+use Rattle.mach_model.proofs.SettledDetermined.{weigh-same}
+use Rattle.mach_model.proofs.SettledReceives.{dead_cases, place_is, of_kind, two_le, and_false}
 use Rattle.mach_model.proofs.TurnsSettle.{IsSound, IsPaidAt, dies_unsaved}
-use Rattle.mach_model.proofs.TurnsMade.{paying_of, notes, is_paying, left_of_all, all_fewer, parted, all_once_kept}
 use Rattle.mach_model.proofs.TurnsCounted.{reached_sound}
-use Rattle.mach_model.specs.Carried.{lying_among}
-use Rattle.mach_model.specs.Unused.{onces_queued}
-use Rattle.mach_model.proofs.SettledOnce.{AreApart, by_its_kind, placed_apart}
-use Rattle.rights.specs.Ledger.{counts_of}
-use Rattle.copyin_base.specs.Requests.{notify_of, rights_kept}
-use Rattle.copyin_base.specs.Worlds.{WorldView}
-use Rattle.notifications.specs.SoFar.{due_so_far, posted_from, buried_alone, AgreesOf, posted_so_far, entries_at}
+use Rattle.notifications.specs.SoFar.{due_so_far, posted_from, buried_alone, IsSoFar}
 use Rattle.notifications.proofs.NoticePosted.{filter_weigh}
-use Rattle.destroy.specs.Burying.{partway, is_among, IsPartway, CanBury}
-use Rattle.destroy.proofs.LoseCounts.{due_more, alone_lives, none_taken, front_or_behind, posted_lies, went_none}
 
 -- ---- The rights that notices brought to ports that are there, once a port more has gone.
 
@@ -112,17 +101,6 @@ begun_all P (y ∷ ys) a b = go y.0 a b (begun_all P ys)
 
 owed_brings : (n : Notice) → ((place : Place) → carried_by n place ≡ []) → (r : ℕ) → n ≡ port_sent r → ⊥
 owed_brings n none r is = let a : token receive r (in_task 0) ∷ [] ≡ [] = subst (λ (m : Notice). carried_by m (in_task 0) ≡ []) is (none (in_task 0)) in cc
-
-death_brings : (q : Request) (r : ℕ) → death_notice q ≡ port_sent r → ⊥
-death_brings (no_senders p) r is = cc
-death_brings (port_destroyed p) r is = cc
-death_brings (dead_name task name) r is = cc
-
-fine_paying : (port : ℕ) (e : Ending) (rs : List Request) (xs : List Token) → All (Fine port) (paying_of e death_notice rs xs)
-fine_paying port e [] xs = λ k d below. absurd (omega arith)
-fine_paying port e (q ∷ rs) xs = All-append (Fine port) (notes (λ x. death_notice q) (filter (is_paying e q) xs)) (paying_of e death_notice rs (filter (λ x. not (is_paying e q x)) xs))
-    (All-map (Fine port) (λ x. (x, death_notice q)) (filter (is_paying e q) xs) (λ k d below. no_bring port _ (death_notice q) (death_brings q)))
-    (fine_paying port e rs (filter (λ x. not (is_paying e q x)) xs))
 
 same_sent : (p r : ℕ) → port_sent p ≡ port_sent r → p ≡ r
 same_sent p r e = cc
@@ -207,29 +185,23 @@ module _ (old mid : State) (owed : Owed) (e : Ending) (l : MidLawful mid owed) (
       (subst (λ (xs : Owed). All (Fine port) xs) (sym sound.owes) (λ k d below. no_bring port _ _ (owed_brings _ (l.are_owed k d below).carries)))
       (λ k d below. no_bring port _ _ (λ r is. let h = sound.went k d below in let a : port_deleted h.name ≡ port_sent r = sym h.tells ∙ is in cc))
 
-  pub all_fine : (rs : List Request) → All (IsFine port) (due_so_far (partway e rs))
-  all_fine rs = All-map (IsFine port) (λ x. (x.0.port, x.1)) (map (λ y. y.1) e.begun ++ (e.paid ++ paying_of e death_notice rs e.left))
-      (All-append (Fine port) (map (λ y. y.1) e.begun) (e.paid ++ paying_of e death_notice rs e.left) fine_begun
-      (All-append (Fine port) e.paid (paying_of e death_notice rs e.left) fine_paid (fine_paying port e rs e.left)))
+  pub all_fine : All (IsFine port) (due_so_far e)
+  all_fine = All-map (IsFine port) (λ x. (x.0.port, x.1)) (map (λ y. y.1) e.begun ++ e.paid) (All-append (Fine port) (map (λ y. y.1) e.begun) e.paid fine_begun fine_paid)
 
 -- ---- The state after a burial: the port is dead, with all rights for it.
 
 -- ---- lists of rights
-
-pub weigh_same : (g h : Token → ℕ) → ((x : Token) → g x ≡ h x) → (xs : List Token) → weigh g xs ≡ weigh h xs
-weigh_same g h same [] = refl
-weigh_same g h same (x ∷ xs) = λ i. same x i + weigh_same g h same xs i
 
 abbrev pub is_off : ℕ → Token → Bool
 is_off port x = not (x.port == port)
 
 -- rights for other ports stay
 pub count_else : (port : ℕ) (test : Token → Bool) → ((x : Token) → x.port ≡ port → test x ≡ false) → (xs : List Token) → count test (filter (is_off port) xs) ≡ count test xs
-count_else port test none xs = grind (arith, filter_weigh, weigh_same)
+count_else port test none xs = grind (arith, filter_weigh, weigh-same)
 
 pub none_here : (port : ℕ) (test : Token → Bool) → ((x : Token) → (x.port ≡ port → ⊥) → test x ≡ false) → (xs : List Token) → count test (filter (is_off port) xs) ≡ 0
 none_here port test none xs = filter_weigh (λ x. if test x then 1 else 0) (is_off port) xs
-    ∙ weigh_same (λ x. if is_off port x then (if test x then 1 else 0) else 0) (λ x. 0) same xs ∙ all_zero xs
+    ∙ weigh-same (λ x. if is_off port x then (if test x then 1 else 0) else 0) (λ x. 0) same xs ∙ all_zero xs
   where
     same : (x : Token) → (if is_off port x then (if test x then suc zero else zero) else zero) ≡ zero
     same x = elim (eqb_tells x.port port) [
@@ -241,62 +213,7 @@ none_here port test none xs = filter_weigh (λ x. if test x then 1 else 0) (is_o
     all_zero [] = refl
     all_zero (x ∷ xs) = omega (arith, all_zero xs)
 
--- ---- lists of requests
-
-same_request_refl : (r : Request) → same_request r r ≡ true
-same_request_refl (no_senders p) = eq-eqb p p refl
-same_request_refl (port_destroyed p) = eq-eqb p p refl
-same_request_refl (dead_name t n) = rw (eq-eqb t t refl, eq-eqb n n refl) refl
-
-pub same_request_is : (r q : Request) → same_request r q ≡ true → r ≡ q
-same_request_is (no_senders p) (no_senders q) e = ap no_senders (eqb-true p q e)
-same_request_is (port_destroyed p) (port_destroyed q) e = ap port_destroyed (eqb-true p q e)
-same_request_is (dead_name t n) (dead_name u m) e = grind (arith, eqb-true, left_of, right_of)
-same_request_is (no_senders p) (port_destroyed q) e = absurd (cc)
-same_request_is (no_senders p) (dead_name u m) e = absurd (cc)
-same_request_is (port_destroyed p) (no_senders q) e = absurd (cc)
-same_request_is (port_destroyed p) (dead_name u m) e = absurd (cc)
-same_request_is (dead_name t n) (no_senders q) e = absurd (cc)
-same_request_is (dead_name t n) (port_destroyed q) e = absurd (cc)
-
-pub among_of : (rs : List Request) (r : Request) → Contains rs r → is_among rs r ≡ true
-among_of [] r (i, below, is) = absurd (omega (arith, below))
-among_of (q ∷ qs) r (zero, below, is) = let a : same_request r q ≡ true = subst (λ (x : Request). same_request r x ≡ true) (sym is) (same_request_refl r) in rw a refl
-among_of (q ∷ qs) r (suc i, below, is) = grind (arith, among_of qs r (i, omega (arith, below), is))
-
-pub of_among : (P : Request → Type 0) (rs : List Request) (r : Request) → All P rs → is_among rs r ≡ true → P r
-of_among P [] r all h = absurd (cc)
-of_among P (q ∷ qs) r all h = go (same_request r q) refl h (λ more. of_among P qs r (All-tail P q qs all) more)
-  where
-    go : (b : Bool) → same_request r q ≡ b → (b || is_among qs r) ≡ true → (is_among qs r ≡ true → P r) → P r
-    go true is h rest = subst P (sym (same_request_is r q is)) (All-head P q qs all)
-    go false is h rest = rest h
-
--- requests that paid took no right of a task
-pub left_tasks : (e : Ending) (test : Token → Bool) → ((x : Token) → test x ≡ true → (r : Request) → x.place ≡ in_request r → ⊥) → (rs : List Request) (xs : List Token) → count test (left_of_all e rs xs) ≡ count test xs
-left_tasks e test none [] xs = refl
-left_tasks e test none (r ∷ rs) xs = left_tasks e test none rs (filter (λ x. not (is_paying e r x)) xs)
-    ∙ filter_weigh (λ x. if test x then 1 else 0) (λ x. not (is_paying e r x)) xs
-    ∙ weigh_same (λ x. if not (is_paying e r x) then (if test x then 1 else 0) else 0) (λ x. if test x then 1 else 0) same xs
-  where
-    same : (x : Token) → (if not (is_paying e r x) then (if test x then suc zero else zero) else zero) ≡ (if test x then suc zero else zero)
-    same x = go (is_paying e r x) (test x) refl refl
-      where
-        go : (b c : Bool) → is_paying e r x ≡ b → test x ≡ c → (if not b then (if c then suc zero else zero) else zero) ≡ (if c then suc zero else zero)
-        go false c is t = refl
-        go true false is t = refl
-        go true true is t = absurd (none x t r (place_is (in_request r) x.place (left_of _ _ is)))
-
 -- ---- what a dead port's requests are
-
-some_is : (a b : Target) → Some a ≡ Some b → a ≡ b
-some_is a b e = cc
-
-port_is : (p q : ℕ) → Target.port p ≡ Target.port q → p ≡ q
-port_is p q e = cc
-
-once_is : (p q : ℕ) → Target.once p ≡ Target.once q → p ≡ q
-once_is p q e = cc
 
 module _ (mid : State) (e : Ending) (port : ℕ) where
   abbrev before : Ending
@@ -353,298 +270,15 @@ module _ (mid : State) (e : Ending) (port : ℕ) where
   other_ended (port_destroyed p) h = ap (λ (b : Bool). not b || listed e.saved p) (lives_other p h)
   other_ended (dead_name t n) h = name_same (lookup mid t n) h
 
-module _ (now : ℕ) (old mid : State) (owed : Owed) (e : Ending) (port : ℕ) (rs : List Request) (s : State) (can : CanBury old mid owed e port)
-    (ends : All (λ r. (mid.stands r ≡ true) × IsRequestOf mid port r) rs) (f : IsPartway now mid e rs s)
-    (every : (r : Request) → mid.stands r ≡ true → IsRequestOf mid port r → Contains rs r) where
-  -- no request of the port stands
-  pub none_stands : (r : Request) → IsRequestOf mid port r → s.stands r ≡ false
-  none_stands r of = grind (arith, among_of, and_false)
-
--- ---- Of the rights that are left just the one that a request keeps pays as it ends, where its port lives.
-
--- ---- a request more
-
-pub left_more : (e : Ending) (rs : List Request) (r : Request) (xs : List Token) → left_of_all e (rs ++ r ∷ []) xs ≡ filter (λ x. not (is_paying e r x)) (left_of_all e rs xs)
-left_more e [] r xs = refl
-left_more e (q ∷ rs) r xs = left_more e rs r (filter (λ x. not (is_paying e q x)) xs)
-
-pub paying_more : (e : Ending) (n : Request → Notice) (rs : List Request) (r : Request) (xs : List Token) →
-    paying_of e n (rs ++ r ∷ []) xs ≡ paying_of e n rs xs ++ notes (λ x. n r) (filter (is_paying e r) (left_of_all e rs xs))
-paying_more e n [] r xs = append-nil (notes (λ x. n r) (filter (is_paying e r) xs))
-paying_more e n (q ∷ rs) r xs =
-    ap (λ (ys : Owed). notes (λ x. n q) (filter (is_paying e q) xs) ++ ys) (paying_more e n rs r (filter (λ x. not (is_paying e q x)) xs))
-    ∙ sym (append_assoc (notes (λ x. n q) (filter (is_paying e q) xs)) _ _)
-
-pub among_more : (rs : List Request) (r q : Request) → is_among (rs ++ r ∷ []) q ≡ (is_among rs q || same_request q r)
-among_more [] r q = grind arith
-among_more (x ∷ rs) r q = grind (arith, among_more rs r q)
-
-left_less : (e : Ending) (rs : List Request) (xs : List Token) (h : Token → ℕ) → weigh h (left_of_all e rs xs) ≤ weigh h xs
-left_less e [] xs h = omega arith
-left_less e (r ∷ rs) xs h = grind (arith, left_less e rs (filter (λ x. not (is_paying e r x)) xs) h, parted h (is_paying e r) xs)
-
--- ---- lists of which one passes
-
-filter_empty : (t : Token → Bool) (xs : List Token) → All (λ y. t y ≡ true → ⊥) xs → filter t xs ≡ []
-filter_empty t [] all = refl
-filter_empty t (y ∷ ys) all = go (t y) refl (filter_empty t ys (All-tail (λ y. t y ≡ true → ⊥) y ys all))
+-- no request of the port stands
+pub none_stands : (now : ℕ) (mid : State) (e : Ending) (port : ℕ) (s : State) → IsSoFar now mid e s → ((r : Request) → mid.stands r ≡ true → IsRequestOf mid port r → is_among e.ended r ≡ true) →
+    (r : Request) → IsRequestOf mid port r → s.stands r ≡ false
+none_stands now mid e port s f every r of = f.stands r ∙ go (mid.stands r) refl
   where
-    go : (b : Bool) → t y ≡ b → filter t ys ≡ [] → (if b then y ∷ filter t ys else filter t ys) ≡ []
-    go true is rest = absurd (All-head (λ y. t y ≡ true → ⊥) y ys all is)
-    go false is rest = rest
-
-filter_one : (t : Token → Bool) (x : Token) (xs : List Token) → t x ≡ true → All (λ y. t y ≡ true → y ≡ x) xs → count (is_at x.kind x.port x.place) xs ≡ 1 → filter t xs ≡ x ∷ []
-filter_one t x [] own all one = absurd (omega (arith, one))
-filter_one t x (y ∷ ys) own all one = go (t y) (is_at x.kind x.port x.place y) refl refl (λ fewer. filter_one t x ys own (All-tail (λ y. t y ≡ true → y ≡ x) y ys all) fewer)
-  where
-    at : Token → Bool
-    at z = is_at x.kind x.port x.place z
-
-    rest : All (λ y. t y ≡ true → y ≡ x) ys
-    rest = All-tail (λ y. t y ≡ true → y ≡ x) y ys all
-
-    none_more : count at ys ≡ 0 → All (λ z. t z ≡ true → ⊥) ys
-    none_more none k d below is = (
-        let same = rest k d below is in
-        let some = count_some at ys k d below (subst (λ (z : Token). at z ≡ true) (sym same) (own_test x)) in
-        omega (arith, none, some))
-
-    go : (b c : Bool) → t y ≡ b → at y ≡ c → (count at ys ≡ 1 → filter t ys ≡ x ∷ []) → (if b then y ∷ filter t ys else filter t ys) ≡ x ∷ []
-    go true true is here more =
-        let o : (if at y then suc zero else zero) ≡ suc zero = rw here refl in
-        let f = filter_empty t ys (none_more (omega (arith, one, o))) in
-        let same = All-head (λ y. t y ≡ true → y ≡ x) y ys all is in
-        λ i. same i ∷ f i
-    go true false is here more = absurd (let same = All-head (λ y. t y ≡ true → y ≡ x) y ys all is in let g : at y ≡ true = subst (λ (z : Token). at z ≡ true) (sym same) (own_test x) in let h : true ≡ false = sym g ∙ here in cc)
-    go false true is here more = absurd (
-        let k = (of_kind x.kind x.port y (left_of (is_of x.kind x.port y) (same_place x.place y.place) here)) in
-        let l = place_is x.place y.place (right_of (is_of x.kind x.port y) (same_place x.place y.place) here) in
-        let same : y ≡ x = λ i. token (k.0 i) (k.1 i) (l i) in
-        let g : true ≡ false = sym own ∙ ap t (sym same) ∙ is in cc)
-    go false false is here more = let o : (if at y then suc zero else zero) ≡ zero = rw here refl in more (omega (arith, one, o))
-
-module _ (now : ℕ) (old mid : State) (owed : Owed) (e : Ending) (rs : List Request) (s : State) (w : WorldView) (l : MidLawful mid owed) (reached : IsReached old mid owed e)
-    (f : IsPartway now mid e rs s) (a : AgreesOf (lives_after mid e) w s) (went : w.requests.names.went ≡ []) (r : Request) (n : ℕ) (was : notify_of w.requests r ≡ Some n) where
-  abbrev lives : ℕ → Bool
-  lives = lives_after mid e
-
-  abbrev pub still : List Token
-  still = left_of_all e rs e.left
-
-  abbrev pub the_right : Token
-  the_right = token send_once n (in_request r)
-
-  abbrev keeps : Kind → ℕ → Token → Bool
-  keeps kind p x = is_of kind p x && same_place (in_request r) x.place
-
-  abbrev weight : Kind → ℕ → Token → ℕ
-  weight kind p x = if lives x.port then (if keeps kind p x then 1 else 0) else 0
-
-  as_test : (kind : Kind) (p : ℕ) (x : Token) → weight kind p x ≡ (if lives x.port && keeps kind p x then 1 else 0)
-  as_test kind p x = grind arith
-
-  none_posted : (kind : Kind) (p : ℕ) (xs : List Posted) → weigh (weight kind p) (all_posted_tokens xs) ≡ 0
-  none_posted kind p xs = weigh_same (weight kind p) (λ x. if lives x.port && keeps kind p x then 1 else 0) (as_test kind p) (all_posted_tokens xs)
-      ∙ none_tasked (λ x. lives x.port && keeps kind p x) (λ k q t m. ap (λ (b : Bool). lives q && b) (and_false (is_of kind p (token k q (in_message t m)))) ∙ and_false (lives q)) xs
-
-  -- what it keeps in the tables is what is left of it
-  kept_in : (kind : Kind) (p : ℕ) → weigh (weight kind p) still ≡ rights_kept lives (Some n) kind p
-  kept_in kind p = grind (
-    arith,
-    a.of_requests.kept r kind p,
-    filter_weigh (λ x. if keeps kind p x then 1 else 0) (λ x. lives x.port) s.ledger,
-    f.ledger (weight kind p),
-    none_posted kind p (filter (λ (x : Posted). s.live_port x.port) (posted_so_far mid (partway e rs))),
-  )
-
-  once_left : All (λ x. (q : Request) → x.place ≡ in_request q → x.kind ≡ send_once) still
-  once_left = all_fewer (λ x. (q : Request) → x.place ≡ in_request q → x.kind ≡ send_once) still e.left (left_less e rs e.left) (all_once_kept old mid owed e l (reached_sound old mid owed e reached))
-
-  lived : All (λ x. mid.live_port x.port ≡ true) still
-  lived = grind (arith, all_fewer, left_less, true_from_ne_false, count_some, left_of, own_test, reached_sound)
-
-  -- what pays is this right, and its port lives
-  each : All (λ y. is_paying e r y ≡ true → (lives n ≡ true) × (y ≡ the_right)) still
-  each k d below is =
-      let y = get_or still k d in
-      let at = place_is (in_request r) y.place (left_of (same_place (in_request r) y.place) (not (listed e.doomed y.port)) is) in
-      let once = once_left k d below r at in
-      let alive : lives y.port ≡ true = and_from (mid.live_port y.port) (not (listed e.doomed y.port)) (lived k d below) (right_of (same_place (in_request r) y.place) (not (listed e.doomed y.port)) is) in
-      let test : (lives y.port && keeps send_once y.port y) ≡ true = and_from (lives y.port) (keeps send_once y.port y) alive (and_from (is_of send_once y.port y) (same_place (in_request r) y.place) (here y once) (left_of (same_place (in_request r) y.place) (not (listed e.doomed y.port)) is)) in
-      let some = count_some (λ x. lives x.port && keeps send_once y.port x) still k d below test in
-      let same = weigh_same (weight send_once y.port) (λ x. if lives x.port && keeps send_once y.port x then 1 else 0) (as_test send_once y.port) still in
-      let c = kept_in send_once y.port in
-      let is_n = kept_one y.port (omega (arith, some, same, c)) in
-      (subst (λ (q : ℕ). lives q ≡ true) (sym is_n) alive, λ i. token (once i) (sym is_n i) (at i))
-    where
-      here : (y : Token) → y.kind ≡ send_once → is_of send_once y.port y ≡ true
-      here y is = rw is (eq-eqb y.port y.port refl)
-
-      kept_one : (p : ℕ) → 0 < (if n == p && lives p then 1 else 0) → n ≡ p
-      kept_one p some = elim (eqb_tells n p) [
-        | inl h ↦ h.1
-        | inr h ↦ absurd (let z : (if n == p && lives p then suc zero else zero) ≡ zero = rw h.0 refl in omega (arith, z, some))
-      ]
-
-  -- ---- its port lives
-
-  pub one_right : lives n ≡ true → count (is_at send_once n (in_request r)) still ≡ 1
-  one_right alive = weigh_same (λ y. if keeps send_once n y then 1 else 0) (weight send_once n) same still ∙ kept_in send_once n ∙ one
-    where
-      one : (if n == n && lives n then suc zero else zero) ≡ suc zero
-      one = rw (eq-eqb n n refl, alive) refl
-
-      same : (y : Token) → (if keeps send_once n y then suc zero else zero) ≡ weight send_once n y
-      same y = elim (eqb_tells y.port n) [
-        | inl h ↦ here (subst (λ (q : ℕ). lives q ≡ true) (sym h.1) alive)
-        | inr h ↦ none h.0
-      ]
-        where
-          here : lives y.port ≡ true → (if keeps send_once n y then suc zero else zero) ≡ weight send_once n y
-          here is = sym (ap (λ (b : Bool). if b then (if keeps send_once n y then suc zero else zero) else zero) is)
-
-          none : (y.port == n) ≡ false → (if keeps send_once n y then suc zero else zero) ≡ weight send_once n y
-          none other =
-              let a : (if keeps send_once n y then suc zero else zero) ≡ zero = rw off refl in
-              let b : weight send_once n y ≡ zero = rw off (zeros (lives y.port)) in
-              a ∙ sym b
-            where
-              off : keeps send_once n y ≡ false
-              off = (let o : is_of send_once n y ≡ false = rw other (and_false (same_kind send_once y.kind)) in ap (λ (b : Bool). b && same_place (in_request r) y.place) o)
-
-              zeros : (b : Bool) → (if b then zero else zero) ≡ zero
-              zeros true = refl
-              zeros false = refl
-
-  own_paying : lives n ≡ true → is_paying e r the_right ≡ true
-  own_paying alive = grind (arith, and_from, place_refl, right_of)
-
-  pub pays_one : lives n ≡ true → filter (is_paying e r) still ≡ the_right ∷ []
-  pays_one alive = filter_one (is_paying e r) the_right still (own_paying alive) (λ k d below is. (each k d below is).1) (one_right alive)
-
-  pub pays_none : lives n ≡ false → filter (is_paying e r) still ≡ []
-  pays_none dead = filter_empty (is_paying e r) still (λ k d below is. let h = each k d below is in let g : true ≡ false = sym h.0 ∙ dead in cc)
-
-  -- ---- what that makes of it
-
-  abbrev next : Ending
-  next = partway e (rs ++ r ∷ [])
-
-  paid_is : (xs : List Token) → filter (is_paying e r) still ≡ xs → next.paid ≡ (partway e rs).paid ++ notes (λ x. death_notice r) xs
-  paid_is xs is = grind (arith, paying_more, append_assoc, paying_of, notes)
-
-  left_is : (h : Token → ℕ) → weigh h still ≡ weigh h next.left + weigh h (filter (is_paying e r) still)
-  left_is h =
-      let b = parted h (is_paying e r) still in
-      let c : weigh h next.left ≡ weigh h (filter (λ x. not (is_paying e r x)) still) = ap (weigh h) (left_more e rs r e.left) in
-      omega (arith, b, c)
-
-  pub due_one : lives n ≡ true → due_so_far next ≡ due_so_far (partway e rs) ++ (n, death_notice r) ∷ []
-  due_one alive = ap (λ (ys : Owed). due_so_far (record e { paid = ys })) (paid_is (the_right ∷ []) (pays_one alive)) ∙ due_more (partway e rs) the_right (death_notice r)
-
-  pub due_none : lives n ≡ false → due_so_far next ≡ due_so_far (partway e rs)
-  due_none dead = ap (λ (ys : Owed). due_so_far (record e { paid = ys })) (paid_is [] (pays_none dead) ∙ append-nil (partway e rs).paid)
-
-  pub left_one : lives n ≡ true → (h : Token → ℕ) → weigh h still ≡ weigh h next.left + h the_right
-  left_one alive h = grind (arith, left_is, is_paying, pays_one)
-
-  pub left_none : lives n ≡ false → (h : Token → ℕ) → weigh h still ≡ weigh h next.left
-  left_none dead h = grind (arith, left_is, is_paying, pays_none)
-
-  pub paid_one : lives n ≡ true → length next.paid ≡ length (partway e rs).paid + 1
-  paid_one alive = ap (λ (ys : Owed). length ys) (paid_is (the_right ∷ []) (pays_one alive)) ∙ one_longer (partway e rs).paid (the_right, death_notice r)
-    where
-      one_longer : (xs : Owed) (x : Token × Notice) → length (xs ++ x ∷ []) ≡ length xs + 1
-      one_longer [] x = omega arith
-      one_longer (y ∷ xs) x = let a = one_longer xs x in omega (arith, a)
-
-  pub paid_none : lives n ≡ false → length next.paid ≡ length (partway e rs).paid
-  paid_none dead = ap (λ (ys : Owed). length ys) (paid_is [] (pays_none dead) ∙ append-nil (partway e rs).paid)
-
--- ---- While a port is buried, the right that a request keeps is counted as one that may pay: so its port can get a notice.
-
-module _ (now : ℕ) (old mid : State) (owed : Owed) (e : Ending) (port : ℕ) (rs : List Request) (s : State) (w : WorldView) (can : CanBury old mid owed e port)
-    (so : IsPartway now mid e rs s) (agrees : AgreesOf (lives_after mid e) w s) (went : w.requests.names.went ≡ []) (r : Request) (p : ℕ) (was : notify_of w.requests r ≡ Some p)
-    (alive : lives_after mid e p ≡ true) where
-  pub there : s.live_port p ≡ true
-  there = so.live_port p ∙ alone_lives old mid owed e can.reached p alive
-
-  live : mid.live_port p ≡ true
-  live = left_of (mid.live_port p) _ alive
-
-  undoomed : listed e.doomed p ≡ false
-  undoomed = go (listed e.doomed p) refl
-    where
-      go : (b : Bool) → listed e.doomed p ≡ b → b ≡ false
-      go false is = refl
-      go true is = absurd (let a = right_of (mid.live_port p) (not (listed e.doomed p)) alive in let b : not (listed e.doomed p) ≡ false = ap not is in let c : true ≡ false = sym a ∙ b in cc)
-
-  pub taken_same : s.taken p ≡ mid.taken p
-  taken_same = let a = so.taken p in let b = none_taken old mid owed e can.reached p alive in omega (arith, a, b)
-
-  pub within : s.taken p ≤ length (s.log p)
-  within =
-      let a = taken_same in
-      let c = can.lawful.within p in
-      let d = length-append (mid.log p) (entries_at now p (due_so_far (partway e rs))) in
-      let g : length (s.log p) ≡ length (mid.log p ++ entries_at now p (due_so_far (partway e rs))) = ap length (so.log p) in
-      omega (arith, a, c, d, g)
-
-  abbrev mine : ℕ → Token → Bool
-  mine k x = is_of send_once p x && same_place (in_message p k) x.place
-
-  -- no message of a port that lives was destroyed
-  undestroyed : (k : ℕ) → Contains e.destroyed (p, k) → ⊥
-  undestroyed k c = let d = so.destroyed p k in let b = d.0 c in let x = b.0 in let y = b.1 in let a = taken_same in omega (arith, x, y, a)
-
-  kept : (k : ℕ) → lying_among mid.ledger send_once p (in_message p k) ≤ lying_among s.ledger send_once p (in_message p k)
-  kept k =
-      let i = reached_sound old mid owed e can.reached in
-      let a = i.parts (λ x. if mine k x then 1 else 0) in
-      let b = went_none mid send_once p p k (went_in e.begun) i.went in
-      let c = can.unlost send_once p p k (λ f. cc) undoomed (undestroyed k) in
-      let d = so.ledger (λ x. if mine k x then 1 else 0) in
-      let g = left_tasks e (mine k) (λ x t q at. let h : in_message p k ≡ in_request q = sym (at_place send_once p (in_message p k) x t).1 ∙ at in cc) rs e.left in
-      omega (arith, a, b, c, d, g)
-
-  brought : (k : ℕ) → length (mid.log p) ≤ k → k < length (s.log p) → 0 < lying_among s.ledger send_once p (in_message p k)
-  brought k least most =
-      let a : length (s.log p) ≡ length (mid.log p ++ entries_at now p (due_so_far (partway e rs))) = ap length (so.log p) in
-      let b = length-append (mid.log p) (entries_at now p (due_so_far (partway e rs))) in
-      let c = posted_lies s.live_port now (λ q. length (mid.log q)) (due_so_far (partway e rs)) p k there least (omega (arith, most, a, b)) in
-      let d = so.ledger (λ x. if mine k x then 1 else 0) in
-      omega (arith, c, d)
-
-  are_apart : AreApart p (s.taken p) (queue s p) s.ledger
-  are_apart i x is once = go (front_or_behind (mid.log p) (entries_at now p (due_so_far (partway e rs))) (s.taken p + i) x (ap (λ (es : List Entry). slice_get es (s.taken p + i)) (sym (so.log p)) ∙ at_log))
-    where
-      at_log : slice_get (s.log p) (s.taken p + i) ≡ Some x
-      at_log = sym (slice_get_drop (s.taken p) (s.log p) i) ∙ is
-
-      same_index : s.taken p + i ≡ mid.taken p + i
-      same_index = ap (λ (n : ℕ). n + i) taken_same
-
-      go : (slice_get (mid.log p) (s.taken p + i) ≡ Some x) ⊎ ((j : ℕ) × (s.taken p + i ≡ length (mid.log p) + j) × (slice_get (entries_at now p (due_so_far (partway e rs))) j ≡ Some x)) →
-          0 < lying_among s.ledger send_once p (in_message p (s.taken p + i))
-      go (inl h) =
-          let c = can.lawful.carried p i x live (slice_get_drop (mid.taken p) (mid.log p) i ∙ ap (λ (n : ℕ). slice_get (mid.log p) n) (sym same_index) ∙ h) send_once p live in
-          let to = (can.lawful.sent_here p (s.taken p + i) x h).0 in
-          let some = by_its_kind p x.message to once in
-          let d = kept (mid.taken p + i) in
-          subst (λ (n : ℕ). 0 < lying_among s.ledger send_once p (in_message p n)) (sym same_index) (omega (arith, c, some, d))
-      go (inr (j, at, h)) = brought (s.taken p + i) (omega (arith, at)) (slice_get_within (s.log p) (s.taken p + i) x at_log)
-
-  pub right_there : 0 < lying_among s.ledger send_once p (in_request r)
-  right_there =
-      let some = one_right now old mid owed e rs s w can.lawful can.reached so agrees went r p was alive in
-      let b = so.ledger (λ x. if is_of send_once p x && same_place (in_request r) x.place then 1 else 0) in
-      omega (arith, some, b)
-
-  pub may_pay : 0 < (counts_of w.ledger p).send_once
-  may_pay =
-      let c = agrees.counts p in
-      let a = placed_apart p (in_request r) (s.taken p) (queue s p) s.ledger (λ i. refl) are_apart in
-      let some = right_there in
-      let d : (counts_of w.ledger p).destination ≡ onces_queued s p = c.destinations there ∙ (rw alive refl) in
-      let g = c.once_rights in
-      omega (arith, some, a, d, g)
+    go : (b : Bool) → mid.stands r ≡ b → (if is_among e.ended r then false else mid.stands r && not (has_ended mid (buried_alone e) r)) ≡ false
+    go true is = rw (every r is of) refl
+    go false is = rw is (both (is_among e.ended r))
+      where
+        both : (c : Bool) → (if c then false else false) ≡ false
+        both true = refl
+        both false = refl

@@ -6,14 +6,14 @@ use Rattle.std.proofs.lemmas.List.{length-append}
 use Rattle.std.proofs.lemmas.Bool.Decides.{eqb_tells}
 use Rattle.std.specs.FinMap as map
 use Rattle.std.specs.Option.{unwrap_or}
-use Rattle.std.proofs.lemmas.Bool.{true_from_ne_false}
+use Rattle.std.proofs.lemmas.Bool.{true_from_ne_false, false_from_ne_true}
 use Rattle.mach_types.specs.Tokens.{no_senders, port_destroyed, dead_name, Place, in_task, in_message, in_request, Token, count, Kind, Request, weigh, is_of, is_held, receive, send, send_once}
 use Rattle.mach_types.specs.Messages.{Entry}
 use Rattle.mach_model.specs.State.{State, at, Target, Names, lookup, queue, senders}
 use Rattle.mach_model.specs.Notices.{Owed, Notice, notice_message, Posted, all_posted_tokens}
 use Rattle.mach_model.specs.Settles.{tokens_of, due_notices, settled_target}
-use Rattle.mach_model.specs.Turns.{Ending, listed, IsOnGone, PaidForName, went_in, Begins, Turn, IsReached, begins, turns, Begun, lives_after, became_dead, has_ended, AreJudged, IsAtDoomed, IsWaiting, IsDone}
-use Rattle.mach_model.proofs.TurnsMade.{is_on_gone}
+use Rattle.mach_model.specs.Turns.{Ending, listed, is_among, IsNameOf, outcome, IsOnGone, PaidForName, went_in, Begins, Turn, IsReached, begins, turns, Begun, lives_after, became_dead, has_ended, AreJudged, IsAtDoomed, IsWaiting, IsDone}
+use Rattle.mach_model.proofs.TurnsMade.{is_on_gone, EndedWell, reached_ended}
 use Rattle.mach_model.proofs.Names.{at_same, at_other, alike, weigh-append, length-weigh, count_some, count_le, left_of, lying_le_of}
 use Rattle.mach_model.proofs.SettledEnd.{post_all}
 use Rattle.mach_model.proofs.TurnsSettle.{due_in, with_paid, all_posted, posted_at, entries_at as listed_at, end_log, end_of, turns_names, IsSound}
@@ -24,7 +24,7 @@ use Rattle.mach_model.specs.Unused.{came_by_once, onces_queued}
 use Rattle.mach_model.proofs.TurnsCounted.{reached_sound}
 use Rattle.mach_model.specs.Death.{same_place, IsOrphan, CarriedAt}
 use Rattle.mach_model.proofs.Settling.{is_at, own_test, lives}
-use Rattle.mach_model.proofs.SettledReceives.{dead_cases, none_posted}
+use Rattle.mach_model.proofs.SettledReceives.{dead_cases, none_posted, and_false}
 use Rattle.mach_model.proofs.TurnsBounded.{turns_end}
 use Rattle.rights.specs.Ledger.{counts_of}
 use Rattle.rights.specs.declared.Counts.{Counts}
@@ -38,7 +38,7 @@ use Rattle.copyin_base.specs.Worlds.{WorldView, port_at}
 use Rattle.copyin_base.specs.Shows.{AllKept, ShowsPort, SpacesAgree, SetsAgree, CountsAgree, Agrees, Shows}
 use Rattle.copyin_base.proofs.Requesting.{requests_stay}
 use Rattle.copyin_base.proofs.Told.{port_got}
-use Rattle.notifications.specs.SoFar.{due_so_far, entries_at, posted_from, posted_so_far, IsSoFar, AgreesOf, buried_alone, AreEntries, Tied}
+use Rattle.notifications.specs.SoFar.{due_so_far, entries_at, posted_from, posted_so_far, IsSoFar, AgreesOf, buried_alone, seen_for, AreEntries, Tied}
 use Rattle.destroy.proofs.LoseCounts.{none_taken, buried_doomed}
 use Rattle.destroy.proofs.PayLives.{kept_live}
 use Rattle.destroy.specs.Between.{Between}
@@ -55,7 +55,8 @@ module _ (old mid : State) (owed : Owed) where
   turn_begun e f (inr (inr (inl t))) = ap (λ (x : Ending). x.begun) t.rest
   turn_begun e f (inr (inr (inr (inl t)))) = ap (λ (x : Ending). x.begun) t.rest
   turn_begun e f (inr (inr (inr (inr (inl t))))) = ap (λ (x : Ending). x.begun) t.rest
-  turn_begun e f (inr (inr (inr (inr (inr t))))) = ap (λ (x : Ending). x.begun) t.rest
+  turn_begun e f (inr (inr (inr (inr (inr (inl t)))))) = ap (λ (x : Ending). x.begun) t.rest
+  turn_begun e f (inr (inr (inr (inr (inr (inr t)))))) = ap (λ (x : Ending). x.begun) t.rest
 
   pub first_of : (e : Ending) → IsReached old mid owed e → (d : Ending) × Begins mid owed d × (e.begun ≡ d.begun)
   first_of e' (begins e b) = (e, b, refl)
@@ -196,8 +197,28 @@ module _ (now : ℕ) (old mid : State) (owed : Owed) (e : Ending) (l : MidLawful
   ended_same (port_destroyed p) = ap (λ (b : Bool). not b || listed e.saved p) (alive_alone p)
   ended_same (dead_name task name) = became_same (lookup mid task name)
 
+  -- a request that ended with a doomed port is one that ends
+  dead_port : (p q : ℕ) → p ≡ q → listed e.doomed q ≡ true → lives_after mid e p ≡ false
+  dead_port p q is doomed = ap (λ (b : Bool). mid.live_port p && not b) (subst (λ (k : ℕ). listed e.doomed k ≡ true) (sym is) doomed) ∙ and_false (mid.live_port p)
+
+  well_ended : (r : Request) → EndedWell mid e r → has_ended mid e r ≡ true
+  well_ended (no_senders p) h = ap (λ (b : Bool). not b || listed e.told p) (dead_port p h.port h.is_of h.doomed)
+  well_ended (port_destroyed p) h = ap (λ (b : Bool). not b || listed e.saved p) (dead_port p h.port h.is_of h.doomed)
+  well_ended (dead_name task name) h = became (lookup mid task name) h.is_of
+    where
+      became : (o : Option Target) → IsNameOf h.port o → became_dead mid e o ≡ true
+      became None is = absurd is
+      became (Some (Target.port q)) is = ap not (dead_port q h.port is h.doomed)
+      became (Some (Target.once q)) is = ap not (dead_port q h.port is h.doomed)
+      became (Some (Target.dead n)) is = absurd is
+      became (Some (Target.set n)) is = absurd is
+
   pub stands_same : (r : Request) → s.stands r ≡ new.stands r
-  stands_same r = f.stands r ∙ ap (λ (b : Bool). mid.stands r && not b) (ended_same r)
+  stands_same r = f.stands r ∙ go (is_among e.ended r) refl
+    where
+      go : (c : Bool) → is_among e.ended r ≡ c → (if c then false else (outcome mid (buried_alone e)).stands r) ≡ new.stands r
+      go true is = sym (ap (λ (b : Bool). mid.stands r && not b) (well_ended r (reached_ended old mid owed e reached r is)) ∙ and_false (mid.stands r))
+      go false is = ap (λ (b : Bool). mid.stands r && not b) (ended_same r)
 
   sets_same : (p : ℕ) → s.sets_of p ≡ new.sets_of p
   sets_same p = f.sets_of p ∙ ap (λ (b : Bool). if listed e.saved p then [] else if b then mid.sets_of p else []) (alive_alone p)
@@ -214,16 +235,23 @@ module _ (now : ℕ) (old mid : State) (owed : Owed) (e : Ending) (l : MidLawful
 
   -- ---- names
 
-  target_same : (task name : ℕ) (o : Option Target) → option_map (settled_target mid s task name) o ≡ option_map (settled_target mid new task name) o
-  target_same task name None = refl
-  target_same task name (Some (Target.port p)) = rw (alive p) refl
-  target_same task name (Some (Target.once p)) = rw (alive p) refl
-  target_same task name (Some (Target.dead n)) = refl
-  target_same task name (Some (Target.set n)) = refl
+  seen_same : (task name p : ℕ) → ((q : ℕ) → IsNameOf q (lookup mid task name) → p ≡ q) → (seen_for mid e.ended s.live_port task name).live_port p ≡ lives_after mid e p
+  seen_same task name p own = go (is_among e.ended (dead_name task name)) refl
+    where
+      go : (c : Bool) → is_among e.ended (dead_name task name) ≡ c → (if c then false else s.live_port p) ≡ lives_after mid e p
+      go true is = (let h = reached_ended old mid owed e reached (dead_name task name) is in sym (dead_port p h.port (own h.port h.is_of) h.doomed))
+      go false is = alive p
+
+  target_same : (task name : ℕ) (o : Option Target) → lookup mid task name ≡ o → option_map (settled_target mid (seen_for mid e.ended s.live_port task name) task name) o ≡ option_map (settled_target mid new task name) o
+  target_same task name None is = refl
+  target_same task name (Some (Target.port p)) is = rw (seen_same task name p (λ q h. subst (IsNameOf q) is h)) refl
+  target_same task name (Some (Target.once p)) is = rw (seen_same task name p (λ q h. subst (IsNameOf q) is h)) refl
+  target_same task name (Some (Target.dead n)) is = refl
+  target_same task name (Some (Target.set n)) is = refl
 
   naming_same : s.naming ≡ new.naming
   naming_same = λ i task. alike (s.naming task) (new.naming task)
-      (λ name. f.names task name ∙ target_same task name (lookup mid task name) ∙ sym (turns_names now old mid owed e l (reached_sound old mid owed e reached) judged task name)) i
+      (λ name. f.names task name ∙ target_same task name (lookup mid task name) refl ∙ sym (turns_names now old mid owed e l (reached_sound old mid owed e reached) judged task name)) i
 
   -- ---- queues
 
@@ -435,7 +463,9 @@ module _ (now : ℕ) (tables : WorldView) (old mid : State) (owed : Owed) (e : E
 
           left : listed e.told p ≡ false → ⊥
           left untold =
-              let stood : s.stands (no_senders p) ≡ true = b.tied.so_far.stands (no_senders p) ∙ rw (stands, sym (b.tied.so_far.live_port p) ∙ there, untold) refl in
+              let unended : is_among e.ended (no_senders p) ≡ false = false_from_ne_true (is_among e.ended (no_senders p)) (λ is. let h = reached_ended old mid owed e b.reached (no_senders p) is in
+              let z = dead_port now old mid owed e b.lawful b.reached stage.told.lost.judged.judged s b.tied.so_far all_buried p h.port h.is_of h.doomed in cc) in
+              let stood : s.stands (no_senders p) ≡ true = b.tied.so_far.stands (no_senders p) ∙ rw (unended, stands, sym (b.tied.so_far.live_port p) ∙ there, untold) refl in
               let noted = b.noted p live (let a = b.senders p in omega (arith, a, had)) (record {
                 live = b.tied.agrees.live_port p ∙ there;
                 asked = sym (b.tied.agrees.of_requests.standing (no_senders p)) ∙ stood;

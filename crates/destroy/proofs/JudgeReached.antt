@@ -77,8 +77,9 @@ judging old mid owed f' (turns e f before t) = go (judging old mid owed e before
     go (inr j) (inr (inl s)) = inr (saves_judging mid e f s j)
     go (inr j) (inr (inr (inl d))) = inr (destroys_judging mid e f d j)
     go (inr j) (inr (inr (inr (inl l)))) = stays l.judged
-    go (inr j) (inr (inr (inr (inr (inl b))))) = stays b.judged
-    go (inr j) (inr (inr (inr (inr (inr t))))) = stays t.judged
+    go (inr j) (inr (inr (inr (inr (inl r))))) = stays r.judged
+    go (inr j) (inr (inr (inr (inr (inr (inl b)))))) = stays b.judged
+    go (inr j) (inr (inr (inr (inr (inr (inr t)))))) = stays t.judged
 
 -- What is judged was found.
 pub are_found : (old mid : State) (owed : Owed) (e : Ending) → IsReached old mid owed e → AreFound mid e
@@ -116,4 +117,5 @@ are_found old mid owed f' (turns e f before t) = go t (are_found old mid owed e 
     go (inr (inr (inl d))) = same (ap (λ (x : Ending). x.doomed) d.rest) (ap (λ (x : Ending). x.saved) d.rest)
     go (inr (inr (inr (inl d)))) = same (ap (λ (x : Ending). x.doomed) d.rest) (ap (λ (x : Ending). x.saved) d.rest)
     go (inr (inr (inr (inr (inl d))))) = same (ap (λ (x : Ending). x.doomed) d.rest) (ap (λ (x : Ending). x.saved) d.rest)
-    go (inr (inr (inr (inr (inr d))))) = same (ap (λ (x : Ending). x.doomed) d.rest) (ap (λ (x : Ending). x.saved) d.rest)
+    go (inr (inr (inr (inr (inr (inl d)))))) = same (ap (λ (x : Ending). x.doomed) d.rest) (ap (λ (x : Ending). x.saved) d.rest)
+    go (inr (inr (inr (inr (inr (inr d)))))) = same (ap (λ (x : Ending). x.doomed) d.rest) (ap (λ (x : Ending). x.saved) d.rest)

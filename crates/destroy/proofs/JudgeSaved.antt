@@ -6,20 +6,19 @@ use Rattle.std.specs.FinMap as map
 use Rattle.std.proofs.lemmas.Bool.Decides.{eqb_tells}
 use Rattle.std.proofs.lemmas.List.{length-append, length-map, append-nil, append_assoc}
 use Rattle.std.proofs.lemmas.List.Elements.{All-head, All-tail}
-use Rattle.std.specs.Option.{option_map}
 use Rattle.mach_types.specs.Tokens.{Kind, receive, send_once, port_destroyed, in_task, in_message, in_request, Token, token, count, is_of, weigh, same_kind, Request, no_senders, dead_name, Place, is_held, is_in_task}
 use Rattle.mach_types.specs.Numbers.{most_rights}
 use Rattle.mach_types.specs.Messages.{Entry}
-use Rattle.mach_model.specs.State.{State, at, Target, lookup, request_at}
+use Rattle.mach_model.specs.State.{State, at, request_at}
 use Rattle.mach_model.specs.Death.{LiesAt, IsSaved, same_place, IsOrphan}
 use Rattle.mach_model.specs.Notices.{Owed, Posted, Notice, port_deleted, port_sent, no_more_senders, right_unused, name_died, all_posted_tokens, carried_by, notice_message, posted_tokens}
-use Rattle.mach_model.specs.Turns.{Ending, listed, is_judged, IsFound, lives_after, has_ended, Saves, Begun, owed_in, went_in, PaidForName, outcome}
+use Rattle.mach_model.specs.Turns.{Ending, listed, is_among, is_judged, IsFound, lives_after, has_ended, Saves, Begun, owed_in, went_in, PaidForName}
 use Rattle.mach_model.proofs.Names.{left_of, pos_or_zero, at_own, at_other, weigh-append, right_of, count_le, length-weigh}
 use Rattle.mach_model.proofs.Settling.{is_at}
 use Rattle.mach_model.proofs.SettledReceives.{none_tasked, tally-append, of_kind, place_is, and_false}
 use Rattle.mach_model.proofs.TurnsMade.{save, save_is, kept_right, is_carried_here, without, without_weigh, parted, all_fewer, is_at_doomed}
 use Rattle.mach_model.specs.Lawful.{tally}
-use Rattle.mach_model.specs.Settles.{tokens_of, settled_target}
+use Rattle.mach_model.specs.Settles.{tokens_of}
 use Rattle.mach_model.proofs.SettledLawful.{not_longer}
 use Rattle.mach_model.proofs.TurnsSettle.{HasPaid, weaker, tokens_joined_settle as tokens_joined}
 use Rattle.mach_model.specs.Carried.{lying_among}
@@ -42,6 +41,7 @@ use Rattle.copyin_base.proofs.Gets.{same_found as same_view}
 use Rattle.copyin_base.proofs.Counting.{one_of}
 use Rattle.notifications.specs.SoFar.{IsHolder, IsWithNobody, posted_so_far, buried_alone, due_so_far, posted_from, entries_at, IsSoFar, AreEntries, AwaitLoss}
 use Rattle.notifications.proofs.NoticePosted.{filter_weigh}
+use Rattle.destroy.proofs.LoseFrames.{StandsSoFar, stood_if}
 use Rattle.destroy.specs.Judging.{DestroysNext, GoesTo, IsJudging}
 use Rattle.destroy.specs.Between.{Between, IsUnlost}
 use Rattle.destroy.proofs.LoseCounts.{left_within, alone_lives, due_more, entries_more, ends_after, ends_are, posted_more}
@@ -174,7 +174,7 @@ module _ (now : ℕ) (tables : WorldView) (old mid : State) (owed : Owed) (e : E
 
   pub stands : mid.stands (port_destroyed p) ≡ true
   stands = left_of (mid.stands (port_destroyed p)) (not (has_ended mid (buried_alone e) (port_destroyed p)))
-      (sym (b.tied.so_far.stands (port_destroyed p)) ∙ b.tied.agrees.of_requests.standing (port_destroyed p) ∙ ap is_some goes.asked)
+      (stood_if (is_among e.ended (port_destroyed p)) _ (sym (b.tied.so_far.stands (port_destroyed p)) ∙ b.tied.agrees.of_requests.standing (port_destroyed p) ∙ ap is_some goes.asked))
 
   abbrev pub saved : IsSaved mid p
   saved = record {
@@ -419,13 +419,6 @@ module _ (now : ℕ) (tables : WorldView) (old mid : State) (owed : Owed) (e : E
       let d : place ≡ length (mid.log n ++ entries_at now n (due_so_far e)) = ap length (b.tied.so_far.log n) in
       omega (arith, a, c, d)
 
-  names_same : (task name : ℕ) (o : Option Target) → option_map (settled_target mid s_sent task name) o ≡ option_map (settled_target mid sent task name) o
-  names_same task name None = refl
-  names_same task name (Some (Target.port q)) = refl
-  names_same task name (Some (Target.once q)) = refl
-  names_same task name (Some (Target.dead m)) = refl
-  names_same task name (Some (Target.set m)) = refl
-
   brought : (h : Token → ℕ) → weigh h (all_posted_tokens (filter (λ (y : Posted). s_sent.live_port y.port) (posted_so_far mid f))) ≡ weigh h posted + h (token send_once n (in_message n place)) + h (token receive p (in_message n place))
   brought h =
       let a : weigh h (all_posted_tokens (filter (λ (y : Posted). s_sent.live_port y.port) (posted_so_far mid f))) ≡ weigh h (all_posted_tokens (filter (λ (y : Posted). s_sent.live_port y.port) (posted_from (λ q. length (mid.log q)) (due_so_far e ++ (n, port_sent p) ∷ [])))) =
@@ -435,20 +428,21 @@ module _ (now : ℕ) (tables : WorldView) (old mid : State) (owed : Owed) (e : E
       ap (λ (k : ℕ). h (token send_once n (in_message n k)) + (h (token receive p (in_message n k)) + 0)) entry_is in
       omega (arith, a, c, d)
 
-  stood : (r : Request) → request_at s_sent.stands (port_destroyed p) false r ≡ (outcome mid (buried_alone f)).stands r
+  stood : StandsSoFar mid f (request_at s_sent.stands (port_destroyed p) false)
   stood (no_senders q) = b.tied.so_far.stands (no_senders q)
   stood (dead_name task name) = b.tied.so_far.stands (dead_name task name)
-  stood (port_destroyed q) = go (q == p) (b.tied.so_far.stands (port_destroyed q))
+  stood (port_destroyed q) = go (q == p) (is_among e.ended (port_destroyed q)) (b.tied.so_far.stands (port_destroyed q))
     where
       none : (a l : Bool) → false ≡ (a && not (l || true))
       none true true = refl
       none true false = refl
       none false l = refl
 
-      go : (t : Bool) → s_sent.stands (port_destroyed q) ≡ (mid.stands (port_destroyed q) && not (not (lives_after mid (buried_alone e) q) || listed e.saved q)) →
-          (if t then false else s_sent.stands (port_destroyed q)) ≡ (mid.stands (port_destroyed q) && not (not (lives_after mid (buried_alone e) q) || (t || listed e.saved q)))
-      go true h = none (mid.stands (port_destroyed q)) (not (lives_after mid (buried_alone e) q))
-      go false h = h
+      go : (t c : Bool) → s_sent.stands (port_destroyed q) ≡ (if c then false else mid.stands (port_destroyed q) && not (not (lives_after mid (buried_alone e) q) || listed e.saved q)) →
+          (if t then false else s_sent.stands (port_destroyed q)) ≡ (if c then false else mid.stands (port_destroyed q) && not (not (lives_after mid (buried_alone e) q) || (t || listed e.saved q)))
+      go true true h = refl
+      go true false h = none (mid.stands (port_destroyed q)) (not (lives_after mid (buried_alone e) q))
+      go false c h = h
 
   if_own : {A : Type 0} (f g : ℕ → A) (a : A) (h : (q : ℕ) → Bool) (q : ℕ) → f q ≡ (if h q then a else g q) → at f p a q ≡ (if q == p || h q then a else g q)
   if_own f g a h q is = go (q == p)
@@ -464,7 +458,7 @@ module _ (now : ℕ) (tables : WorldView) (old mid : State) (owed : Owed) (e : E
     sets_of = λ q. if_own s_sent.sets_of (λ q. if lives_after mid (buried_alone e) q then mid.sets_of q else []) [] (listed e.saved) q (o.sets_of q);
     make_send = λ q. if_own s_sent.make_send mid.make_send 0 (listed e.saved) q (o.make_send q);
     sequence = λ q. if_own s_sent.sequence mid.sequence 0 (listed e.saved) q (o.sequence q);
-    names = λ task name. o.names task name ∙ names_same task name (lookup mid task name);
+    names = o.names;
     log = logs;
     taken = o.taken;
     destroyed = o.destroyed;

@@ -9,7 +9,7 @@ pub mod BurySoFar
 pub mod BuryState
 pub mod BuryEnd
 pub mod BuryRequest
-pub mod BuryMore
+pub mod RequestEnds
 pub mod BurySteps
 pub mod BuryNames
 pub mod LoseRights

@@ -46,8 +46,9 @@ module _ (old mid : State) (owed : Owed) where
   buried_turn e f (inr (inl t)) was = same_lists e f (ap (λ (x : Ending). x.buried) t.rest) (same_doomed e f (ap (λ (x : Ending). x.doomed) t.rest)) was
   buried_turn e f (inr (inr (inl t))) was = same_lists e f (ap (λ (x : Ending). x.buried) t.rest) (same_doomed e f (ap (λ (x : Ending). x.doomed) t.rest)) was
   buried_turn e f (inr (inr (inr (inl t)))) was = same_lists e f (ap (λ (x : Ending). x.buried) t.rest) (same_doomed e f (ap (λ (x : Ending). x.doomed) t.rest)) was
-  buried_turn e f (inr (inr (inr (inr (inl t))))) was = grind (arith, same_doomed, one_more)
-  buried_turn e f (inr (inr (inr (inr (inr t))))) was = same_lists e f (ap (λ (x : Ending). x.buried) t.rest) (same_doomed e f (ap (λ (x : Ending). x.doomed) t.rest)) was
+  buried_turn e f (inr (inr (inr (inr (inl t))))) was = same_lists e f (ap (λ (x : Ending). x.buried) t.rest) (same_doomed e f (ap (λ (x : Ending). x.doomed) t.rest)) was
+  buried_turn e f (inr (inr (inr (inr (inr (inl t)))))) was = grind (arith, same_doomed, one_more)
+  buried_turn e f (inr (inr (inr (inr (inr (inr t)))))) was = same_lists e f (ap (λ (x : Ending). x.buried) t.rest) (same_doomed e f (ap (λ (x : Ending). x.doomed) t.rest)) was
 
   pub buried_doomed : (e : Ending) → IsReached old mid owed e → (p : ℕ) → listed e.buried p ≡ true → listed e.doomed p ≡ true
   buried_doomed e' (begins e b) p h = absurd (let z : listed e.buried p ≡ false = ap (λ (x : Ending). listed x.buried p) b.rest in cc)

@@ -1,5 +1,5 @@
 -- A turn in which a right pays for a notice, and what it keeps.
-use Rattle.std.proofs.Common.{◌≡◌, ℕ, List, [], ◌∷◌, ◌++◌, Option, Some, refl, sym, ap, subst, ◌∙◌, arith, true, ◌⊎◌, inl, inr, ◌+◌, ◌<◌, ◌≤◌, None, Bool, length, length-append}
+use Rattle.std.proofs.Common.{◌≡◌, ℕ, List, [], ◌∷◌, ◌++◌, Option, Some, refl, sym, ap, subst, ◌∙◌, arith, true, false, ◌⊎◌, inl, inr, ◌+◌, ◌<◌, ◌≤◌, Bool, length, length-append}
 use Rattle.std.specs.Prelude.{◌||◌, Contains, if◌then◌else◌, ◌==◌, filter, slice_get}
 use Rattle.std.specs.FinMap as map
 use Rattle.std.specs.Ordering.{nat_cmp}
@@ -9,9 +9,9 @@ use Rattle.std.proofs.lemmas.Bool.{eq-eqb}
 use Rattle.std.proofs.lemmas.List.{append-nil, append_assoc}
 use Rattle.mach_types.specs.Tokens.{receive, send, send_once, Request, Place, in_task, in_message, Token, token, weigh, count, is_of}
 use Rattle.mach_types.specs.Messages.{Entry}
-use Rattle.mach_model.specs.State.{State, Target, lookup, at}
+use Rattle.mach_model.specs.State.{State, Names, lookup, at}
 use Rattle.mach_model.proofs.Names.{removed_own, at_own, at_other}
-use Rattle.mach_model.specs.Turns.{Ending, listed, is_judged, lives_after, outcome, IsWaiting, Turn, IsReached, turns}
+use Rattle.mach_model.specs.Turns.{Ending, listed, is_among, is_judged, lives_after, outcome, IsWaiting, Turn, IsReached, turns}
 use Rattle.mach_model.specs.Carried.{lying_among}
 use Rattle.mach_model.specs.Midway.{MidLawful}
 use Rattle.mach_model.specs.Notices.{notice_message, carried_by, Posted, posted_tokens, all_posted_tokens, Owed, Notice as MachineNotice}
@@ -38,7 +38,7 @@ use Rattle.copyin_base.specs.Queued.{notice_kept, notice_of}
 use Rattle.copyin_base.specs.Requests.{RequestTablesView}
 use Rattle.copyin_base.proofs.Counting.{counts_same}
 use Rattle.copyin_base.proofs.SendersNoted.{counts_own, counts_other}
-use Rattle.notifications.specs.SoFar.{due_so_far, entries_at, posted_so_far, posted_from, buried_alone, IsSoFar, AgreesOf, IsWithNobody, IsHolder, HoldersTell}
+use Rattle.notifications.specs.SoFar.{due_so_far, entries_at, posted_so_far, posted_from, buried_alone, seen_for, IsSoFar, AgreesOf, IsWithNobody, IsHolder, HoldersTell}
 use Rattle.notifications.proofs.NoticePosted.{PaysFrom, posted_agrees, with_message, slots_posted}
 use Rattle.destroy.specs.Between.{HasLost, TellsSenders, HadSenders}
 use Rattle.destroy.specs.Losing.{Framed, Loose}
@@ -164,21 +164,33 @@ module _ (s s2 : State) (destroyed : List (ℕ × ℕ)) (same : SameReceives s.l
   pub holders_stay : (w v : WorldView) → SameShape w v → HoldersTell w s destroyed → HoldersTell v s2 destroyed
   holders_stay w v shape h p u there = let b = shape.back p u there in subst (IsHolder s2 destroyed p) b.is (holder_stays p b.v.attributes.holder (h p b.v b.there))
 
+-- ---- which requests stand, and what names stand for
+
+abbrev pub StandsSoFar : State → Ending → (Request → Bool) → Type 0
+StandsSoFar mid e stands = (r : Request) → stands r ≡ (if is_among e.ended r then false else (outcome mid (buried_alone e)).stands r)
+
+pub stood_if : (c b : Bool) → (if c then false else b) ≡ true → b ≡ true
+stood_if true b e = absurd (cc)
+stood_if false b e = e
+
+abbrev pub NamesSoFar : State → (ended : List Request) → (live : ℕ → Bool) → (ℕ → Names) → Type 0
+NamesSoFar mid ended live naming = (task name : ℕ) → map.get (naming task) name ≡ option_map (settled_target mid (seen_for mid ended live task name) task name) (lookup mid task name)
+
 -- ---- a notice is posted
 
 module _ (now : ℕ) (mid : State) (e : Ending) (s : State) (so : IsSoFar now mid e s) (p : ℕ) (alive : s.live_port p ≡ true) (place : Place) (n : MachineNotice) (none : (at : Place) → carried_by n at ≡ [])
-    (left2 : List Token) (told2 : List ℕ) (turns2 : ℕ) (tokens : List Token) (stands : Request → Bool) where
+    (ended2 : List Request) (left2 : List Token) (told2 : List ℕ) (turns2 : ℕ) (naming : ℕ → Names) (tokens : List Token) (stands : Request → Bool) where
   abbrev x : Token
   x = token send_once p place
 
   abbrev pub paid_for : Ending
-  paid_for = record e { told = told2; left = left2; paid = e.paid ++ (x, n) ∷ []; turns = turns2 }
+  paid_for = record e { ended = ended2; told = told2; left = left2; paid = e.paid ++ (x, n) ∷ []; turns = turns2 }
 
   abbrev own : Entry
   own = record { origin = now; message = notice_message p n }
 
   abbrev pub noticed : State
-  noticed = record s { log = at s.log p (s.log p ++ own ∷ []); ledger = tokens; stands = stands }
+  noticed = record s { naming = naming; log = at s.log p (s.log p ++ own ∷ []); ledger = tokens; stands = stands }
 
   due : due_so_far paid_for ≡ due_so_far e ++ (p, n) ∷ []
   due = due_more e x n
@@ -192,13 +204,6 @@ module _ (now : ℕ) (mid : State) (e : Ending) (s : State) (so : IsSoFar now mi
   entry_is : ends_after (λ q. length (mid.log q)) (due_so_far e) p ≡ length (s.log p)
   entry_is = grind (arith, ends_are, length-append)
 
-  names_same : (task name : ℕ) (o : Option Target) → option_map (settled_target mid s task name) o ≡ option_map (settled_target mid noticed task name) o
-  names_same task name None = refl
-  names_same task name (Some (Target.port q)) = refl
-  names_same task name (Some (Target.once q)) = refl
-  names_same task name (Some (Target.dead m)) = refl
-  names_same task name (Some (Target.set m)) = refl
-
   brought : (h : Token → ℕ) → weigh h (all_posted_tokens (filter (λ (y : Posted). s.live_port y.port) (posted_so_far mid paid_for))) ≡
       weigh h (all_posted_tokens (filter (λ (y : Posted). s.live_port y.port) (posted_so_far mid e))) + h (token send_once p (in_message p (length (s.log p))))
   brought h =
@@ -209,19 +214,19 @@ module _ (now : ℕ) (mid : State) (e : Ending) (s : State) (so : IsSoFar now mi
       omega (arith, a, b, c)
 
   pub noticed_so_far : ((h : Token → ℕ) → weigh h e.left ≡ weigh h left2 + h x) → ((h : Token → ℕ) → weigh h tokens + h x ≡ weigh h s.ledger + h (token send_once p (in_message p (length (s.log p))))) →
-      ((r : Request) → stands r ≡ (outcome mid (buried_alone paid_for)).stands r) → IsSoFar now mid paid_for noticed
-  noticed_so_far parts moved stood = record {
+      StandsSoFar mid paid_for stands → NamesSoFar mid ended2 s.live_port naming → IsSoFar now mid paid_for noticed
+  noticed_so_far parts moved stood named = record {
     live_port = so.live_port;
     stands = stood;
     sets_of = so.sets_of;
     make_send = so.make_send;
     sequence = so.sequence;
-    names = λ task name. so.names task name ∙ names_same task name (lookup mid task name);
+    names = named;
     log = logs;
     taken = so.taken;
     destroyed = so.destroyed;
     ledger = λ h. let a = parts h in let b = moved h in let c = brought h in let d = so.ledger h in omega (arith, a, b, c, d);
-    rest = ap (λ (z : State). record z { log = at s.log p (s.log p ++ own ∷ []); ledger = tokens; stands = stands }) so.rest;
+    rest = ap (λ (z : State). record z { naming = naming; log = at s.log p (s.log p ++ own ∷ []); ledger = tokens; stands = stands }) so.rest;
   }
 
 -- ---- all together
@@ -232,14 +237,14 @@ with_notice w p v notice = record w { ports = with_message w.ports p v (notice_k
 
 -- Before the notice is posted the right that pays lies where the notice will bring it.
 module _ (now : ℕ) (tables : WorldView) (old mid : State) (owed : Owed) (e : Ending) (lawful : MidLawful mid owed) (reached : IsReached old mid owed e) (s : State) (so : IsSoFar now mid e s)
-    (w : WorldView) (tokens : List Token) (stands : Request → Bool) (agrees : AgreesOf (lives_after mid e) w (record s { ledger = tokens; stands = stands })) (holders : HoldersTell w s e.destroyed)
+    (w : WorldView) (naming : ℕ → Names) (tokens : List Token) (stands : Request → Bool) (agrees : AgreesOf (lives_after mid e) w (record s { naming = naming; ledger = tokens; stands = stands })) (holders : HoldersTell w s e.destroyed)
     (slots : SlotsSuffice w) (framed : Framed mid e w) (senders : TellsSenders tables old) (receivers : (q : ℕ) → (counts_of w.ledger q).receive ≤ 1)
     (had_senders : HadSenders old mid) (emptied : (q k : ℕ) → listed e.buried q ≡ true → IsWaiting mid e (q, k) → Contains e.destroyed (q, k))
     (p : ℕ) (v : PortView Kept) (there : port_at w p ≡ Some v) (notice : Notice) (alive : lives_after mid e p ≡ true) (paid : 0 < (counts_of w.ledger p).send_once)
     (bare : (q : ℕ) → ¬ (CarriesReceive (notice_kept notice) q)) (none : (at : Place) → carried_by (notice_of notice) at ≡ [])
-    (place : Place) (left2 : List Token) (told2 : List ℕ) (turns2 : ℕ) where
+    (place : Place) (ended2 : List Request) (left2 : List Token) (told2 : List ℕ) (turns2 : ℕ) where
   abbrev pub f : Ending
-  f = record e { told = told2; left = left2; paid = e.paid ++ (token send_once p place, notice_of notice) ∷ []; turns = turns2 }
+  f = record e { ended = ended2; told = told2; left = left2; paid = e.paid ++ (token send_once p place, notice_of notice) ∷ []; turns = turns2 }
 
   there_is : s.live_port p ≡ true
   there_is = so.live_port p ∙ alone_lives old mid owed e reached p alive
@@ -262,15 +267,15 @@ module _ (now : ℕ) (tables : WorldView) (old mid : State) (owed : Owed) (e : E
 
   pub loose_posted : ((h : Token → ℕ) → weigh h e.left ≡ weigh h left2 + h (token send_once p place)) →
       ((h : Token → ℕ) → weigh h tokens + h (token send_once p place) ≡ weigh h s.ledger + h (token send_once p (in_message p (length (s.log p))))) →
-      ((r : Request) → stands r ≡ (outcome mid (buried_alone f)).stands r) → Turn old mid e f →
+      StandsSoFar mid f stands → NamesSoFar mid ended2 s.live_port naming → Turn old mid e f →
       Goes now tables old mid owed s f (with_notice w p v notice)
-  loose_posted parts moved stood turn = (
+  loose_posted parts moved stood named turn = (
     record {
       lawful = lawful;
       reached = turns e f reached turn;
-      state = noticed now mid e s so p there_is place (notice_of notice) none left2 told2 turns2 tokens stands;
-      so_far = noticed_so_far now mid e s so p there_is place (notice_of notice) none left2 told2 turns2 tokens stands parts moved stood;
-      agrees = posted_agrees (lives_after mid e) w (record s { ledger = tokens; stands = stands }) agrees p v there notice now within alive paid;
+      state = noticed now mid e s so p there_is place (notice_of notice) none ended2 left2 told2 turns2 naming tokens stands;
+      so_far = noticed_so_far now mid e s so p there_is place (notice_of notice) none ended2 left2 told2 turns2 naming tokens stands parts moved stood named;
+      agrees = posted_agrees (lives_after mid e) w (record s { naming = naming; ledger = tokens; stands = stands }) agrees p v there notice now within alive paid;
       holders = holders_stay s (record s { ledger = tokens }) e.destroyed (same_receives moved) w _ shape holders;
       slots = slots_posted w p notice _ slots (record { v = v; there = there; rest = refl });
       framed = framed_stays w _ shape mid e f refl refl refl framed;

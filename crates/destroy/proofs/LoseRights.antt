@@ -3,14 +3,13 @@ use Rattle.std.proofs.Common.{◌≡◌, ℕ, ◌<◌, ◌≤◌, List, [], ◌�
 use Rattle.std.specs.Prelude.{◌≢◌, ◌&&◌, not, is_some, slice_get, All, Contains, if◌then◌else◌, ◌==◌, reverse, filter, ◌^◌, min}
 use Rattle.std.proofs.lemmas.Bool.Decides.{eqb_tells}
 use Rattle.std.proofs.lemmas.List.Elements.{Contains-append_right, Contains-append_left}
-use Rattle.std.specs.Option.{option_map}
 use Rattle.std.proofs.lemmas.Bool.{eq-eqb, ne_eqb}
 use Rattle.std.proofs.lemmas.List.{append-nil, reverse-append, append_assoc, at_drop_more, at_drop_all}
 use Rattle.mach_types.specs.Tokens.{Token, in_message, weigh, Kind, receive, send, send_once, Request, Place, in_request, token, count, is_of, is_held, same_kind}
 use Rattle.mach_types.specs.Messages.{Entry, to_port, Mark as MachineMark}
 use Rattle.mach_types.specs.Numbers.{kind_sent}
 use Rattle.mach_types.specs.declared.rights.Disposition.TheVariants.{MoveReceive}
-use Rattle.mach_model.specs.State.{State, Target, lookup}
+use Rattle.mach_model.specs.State.{State}
 use Rattle.mach_model.specs.Notices.{Owed, right_unused}
 use Rattle.mach_model.specs.Turns.{Ending, listed, lives_after, IsReached, turns, Loses}
 use Rattle.mach_model.proofs.TurnsCounted.{reached_counted, reached_sound}
@@ -18,7 +17,6 @@ use Rattle.mach_model.proofs.TurnsMade.{all_fewer, without, without_weigh}
 use Rattle.mach_model.proofs.Names.{left_of, both_test, count_le, length-weigh, elsewhere, weigh-append}
 use Rattle.mach_model.specs.Death.{same_place}
 use Rattle.mach_model.specs.Carried.{lying_among, mark_count, rights_count}
-use Rattle.mach_model.specs.Settles.{settled_target}
 use Rattle.mach_model.specs.Unused.{onces_queued}
 use Rattle.mach_model.proofs.Settling.{place_refl}
 use Rattle.mach_model.proofs.TurnsSettle.{tokens_joined_settle as tokens_joined}
@@ -301,10 +299,10 @@ module _ (now : ℕ) (tables : WorldView) (old mid : State) (owed : Owed) (e : E
     }
 
     pub once_loose : Goes now tables old mid owed l2.state told_ending (with_notice w p v SendOnce)
-    once_loose = loose_posted now tables old mid owed e l2.lawful l2.reached l2.state l2.so_far w tokens l2.state.stands
+    once_loose = loose_posted now tables old mid owed e l2.lawful l2.reached l2.state l2.so_far w l2.state.naming tokens l2.state.stands
         (rekept (lives_after mid e) w l2.state w.requests tokens l2.state.stands l2.agrees (pays_from (lives_after mid e) w l2.state l2.agrees p m.0 m.1 (length (l2.state.log p)) tokens (λ h. let b = moved h in omega (arith, b))))
         l2.holders l2.slots l2.framed l2.senders l2.receivers l2.had_senders l2.emptied p v there SendOnce alive paid (λ q c. none_listed [] refl _ c) (λ at. refl)
-        (in_message m.0 m.1) (without x e.left) e.told (e.turns + 1) once_parts moved l2.so_far.stands (inr (inr (inr (inl once_turn))))
+        (in_message m.0 m.1) e.ended (without x e.left) e.told (e.turns + 1) once_parts moved l2.so_far.stands l2.so_far.names (inr (inr (inr (inl once_turn))))
 
   -- ---- the turn of a send right: it goes
 
@@ -362,13 +360,6 @@ module _ (now : ℕ) (tables : WorldView) (old mid : State) (owed : Owed) (e : E
     abbrev s2 : State
     s2 = record l2.state { ledger = without z l2.state.ledger }
 
-    names_same : (task name : ℕ) (o : Option Target) → option_map (settled_target mid l2.state task name) o ≡ option_map (settled_target mid s2 task name) o
-    names_same task name None = refl
-    names_same task name (Some (Target.port q)) = refl
-    names_same task name (Some (Target.once q)) = refl
-    names_same task name (Some (Target.dead n)) = refl
-    names_same task name (Some (Target.set n)) = refl
-
     pub send_loose : Goes now tables old mid owed l2.state gone_ending fallen
     send_loose = (
       record {
@@ -381,7 +372,7 @@ module _ (now : ℕ) (tables : WorldView) (old mid : State) (owed : Owed) (e : E
           sets_of = so.sets_of;
           make_send = so.make_send;
           sequence = so.sequence;
-          names = λ task name. so.names task name ∙ names_same task name (lookup mid task name);
+          names = so.names;
           log = so.log;
           taken = so.taken;
           destroyed = so.destroyed;

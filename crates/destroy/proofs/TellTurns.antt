@@ -1,68 +1,39 @@
 -- Ports that lost their last sender are told of.
-use Rattle.std.proofs.Common.{◌≡◌, ℕ, zero, suc, ◌+◌, ◌<◌, List, [], Option, Some, None, refl, sym, ap, subst, ◌∙◌, arith, true, false, Bool, inl, inr, get_or, ◌∷◌, ◌++◌, length, ◌≤◌, ◌⊎◌, length-append, ◌-◌}
-use Rattle.std.specs.Prelude.{if◌then◌else◌, ◌&&◌, ◌||◌, not, is_some, filter, All, IsTrue, ◌≢◌, ◌^◌, eqb, reverse, slice_get, Contains, IfSome, IfNone, min}
+use Rattle.std.proofs.Common.{◌≡◌, ℕ, zero, suc, ◌+◌, ◌<◌, List, [], Option, Some, None, refl, sym, ap, subst, ◌∙◌, arith, true, false, Bool, inl, inr, ◌∷◌, length, ◌≤◌, ◌-◌}
+use Rattle.std.specs.Prelude.{if◌then◌else◌, ◌&&◌, ◌||◌, not, is_some, filter, All, IsTrue, ◌^◌, eqb, ◌==◌, slice_get, Contains, IfSome, IfNone, min}
 use Rattle.std.specs.FinMap as map
-use Rattle.std.proofs.lemmas.Bool.{eq-eqb, false_from_ne_true, ne_eqb}
+use Rattle.std.proofs.lemmas.Bool.{eq-eqb, ne_eqb}
 use Rattle.std.proofs.lemmas.Bool.Decides.{eqb_tells}
-use Rattle.std.specs.Option.{option_map}
-use Rattle.std.proofs.lemmas.List.{append-nil}
-use Rattle.mach_types.specs.Tokens.{Kind, receive, send, send_once, Request, no_senders, port_destroyed, dead_name, Place, in_message, in_request, Token, token, is_of, weigh, count, is_held}
-use Rattle.mach_model.specs.State.{State, same_request, request_at, Target, lookup, senders}
-use Rattle.mach_model.specs.Death.{same_place}
-use Rattle.mach_model.specs.Carried.{lying_among}
-use Rattle.mach_model.specs.Midway.{MidLawful}
-use Rattle.mach_model.specs.Notices.{Owed, Posted, Notice, no_more_senders}
-use Rattle.mach_model.specs.Turns.{Ending, listed, lives_after, has_ended, IsReached, AreJudged, outcome, TellsSenderless, turns}
-use Rattle.mach_model.proofs.Names.{removed_own, count_some, left_of, right_of, pos_or_zero, alike, both_test, length-weigh}
-use Rattle.mach_model.proofs.Settling.{own_test, lives as port_lives, place_refl}
-use Rattle.mach_model.proofs.SettledDetermined.{weigh-same}
-use Rattle.mach_model.proofs.SettledReceives.{none_tasked, at_place}
-use Rattle.mach_model.specs.Settles.{settled_target}
-use Rattle.mach_model.proofs.TurnsMade.{without, without_weigh}
+use Rattle.mach_types.specs.Tokens.{send, send_once, Request, no_senders, port_destroyed, dead_name, in_request, Token, token, is_of, count}
+use Rattle.mach_model.specs.State.{State, same_request, request_at, senders}
+use Rattle.mach_model.specs.Notices.{Owed, Notice, no_more_senders}
+use Rattle.mach_model.specs.Turns.{Ending, listed, is_among, lives_after, IsOffRequest, AreJudged, outcome, Takes, Turn}
+use Rattle.mach_model.proofs.Names.{removed_own, pos_or_zero, alike}
+use Rattle.mach_model.proofs.TurnsMade.{same_request_is}
 use Rattle.mach_model.proofs.TurnsCounted.{one_all}
-use Rattle.mach_model.proofs.TurnsSettle.{tokens_joined_settle as tokens_joined}
 use Rattle.rights.specs.Ledger.{counts_of}
 use Rattle.rights.specs.Unused.{IsUnusedOfAll}
 use Rattle.port.specs.declared.Attributes.{Attributes}
-use Rattle.port.specs.Ports.{PortView}
-use Rattle.port.specs.declared.Holder.{Holder}
-use Rattle.port.specs.declared.Holder.TheVariants as holder
-use Rattle.copyin_base.specs.Requests.{RequestTablesView, notify_of, rights_kept, rights_went, RequestsAgree}
-use Rattle.copyin_base.specs.Worlds.{WorldView, port_at}
-use Rattle.copyin_base.proofs.Requesting.{ended_more}
+use Rattle.copyin_base.specs.Requests.{RequestTablesView, notify_of}
+use Rattle.copyin_base.specs.Worlds.{WorldView}
 use Rattle.copyin_base.proofs.Putting.{get_removed}
 use Rattle.copyin_base.specs.declared.notice.Notice.TheVariants.{NoSenders}
 use Rattle.copyin_base.specs.Changes.{HasAttributes, IsSenderless}
-use Rattle.copyin_base.specs.Kept.{Kept}
-use Rattle.copyin_base.specs.Queued.{notice_kept}
-use Rattle.copyin_base.specs.Shows.{CarriesReceive}
 use Rattle.copyin_base.proofs.Listed.{none_listed, listed_later}
-use Rattle.copyin_base.proofs.SendersNoted.{sends_shifted}
-use Rattle.notifications.specs.SoFar.{buried_alone, posted_so_far, IsSoFar, AgreesOf}
-use Rattle.notifications.proofs.NoticePosted.{filter_weigh, PaysFrom, some_spare}
-use Rattle.destroy.proofs.LoseCounts.{left_within, can_pay}
+use Rattle.notifications.specs.SoFar.{buried_alone, AgreesOf, AwaitLoss}
+use Rattle.notifications.proofs.NoticePosted.{some_spare}
 use Rattle.destroy.specs.Paying.{LivesIn, Pays, PaysMany}
 use Rattle.destroy.specs.Telling.{without_no_senders, CanTell, TellsOf, taken_out, TellsNoSenders}
 use Rattle.destroy.specs.Between.{IsUnlost, Between}
-use Rattle.destroy.proofs.LoseFrames.{same_ports, framed_stays, kept_has, SameShape, Goes, rekept, loose_posted, with_notice}
-use Rattle.destroy.specs.Losing.{Loose}
-use Rattle.destroy.proofs.LoseRights.{lives_is, lives_there, undoomed, not_emptied, loose_of, loose_noted, between_of, awaits_on, emptied_posted}
+use Rattle.destroy.proofs.LoseFrames.{same_ports, framed_stays, kept_has, StandsSoFar}
+use Rattle.destroy.proofs.RequestEnds.{yet_stands, stood, may_post, all_off, none_off, dead_ending, paid_ending, dead_takes, paid_takes, Ended, ended as request_ends, lives_or_not}
+use Rattle.destroy.proofs.BuryRequest.{GoesOn, request_ended}
+use Rattle.destroy.specs.Losing.{Framed, Loose}
+use Rattle.destroy.proofs.LoseRights.{lives_is, lives_there, loose_of, loose_noted, between_of}
 use Rattle.destroy.specs.Stages.{AreLost, AreTold, IsAt, Continues, IsCount, SameSlots}
-use Rattle.destroy.proofs.Counting.{count_none, count_one, count_joined}
+use Rattle.destroy.proofs.Counting.{count_none, count_joined}
 
--- ---- The right that a request to be told of no senders keeps, and what is left as the request ends.
-
-abbrev pub kept_there : Request → Kind → ℕ → Token → ℕ
-kept_there r kind q x = if is_of kind q x && same_place (in_request r) x.place then 1 else 0
-
--- the request alone is p's
-pub only_own : (p : ℕ) (r : Request) → same_request r (no_senders p) ≡ true → r ≡ no_senders p
-only_own p (no_senders q) e = ap (λ (n : ℕ). no_senders n) (elim (eqb_tells q p) [
-  | inl h ↦ h.1
-  | inr h ↦ absurd (let a = h.0 in cc)
-])
-only_own p (port_destroyed q) e = absurd (cc)
-only_own p (dead_name t n) e = absurd (cc)
+-- ---- A request to be told of no senders was taken out of the tables.
 
 module _ (requests : RequestTablesView) (p : ℕ) where
   abbrev pub ended : RequestTablesView
@@ -78,139 +49,6 @@ module _ (requests : RequestTablesView) (p : ℕ) where
   ]
   others_stay (port_destroyed q) other = refl
   others_stay (dead_name t n) other = refl
-
-  module _ (made : ℕ) (stands : Request → Bool) (lives : ℕ → Bool) (tokens tokens2 : List Token) (a : RequestsAgree (notify_of requests) requests.names.went made stands lives tokens)
-      (none : requests.names.went ≡ [])
-      (own : (kind : Kind) (q : ℕ) → lying_among tokens2 kind q (in_request (no_senders p)) ≡ 0)
-      (others : (r : Request) (kind : Kind) (q : ℕ) → same_request r (no_senders p) ≡ false → lying_among tokens2 kind q (in_request r) ≡ lying_among tokens kind q (in_request r)) where
-    no_went : (r : Request) (kind : Kind) (q : ℕ) → rights_went lives requests.names.went r kind q ≡ 0
-    no_went r kind q = ap (λ went. rights_went lives went r kind q) none
-
-    pub request_ends : RequestsAgree (notify_of ended) requests.names.went made (request_at stands (no_senders p) false) lives tokens2
-    request_ends = record {
-      standing = λ r. standing r (same_request r (no_senders p)) refl;
-      kept = λ r kind q. kept r kind q (same_request r (no_senders p)) refl;
-      given = λ r q. given r q (same_request r (no_senders p)) refl;
-      given_went = a.given_went;
-      ended_went = ended_more stands (no_senders p) requests.names.went a.ended_went;
-    }
-      where
-        now_none : (r : Request) → same_request r (no_senders p) ≡ true → notify_of ended r ≡ None
-        now_none r e = ap (notify_of ended) (only_own p r e) ∙ own_ended
-
-        standing : (r : Request) (b : Bool) → same_request r (no_senders p) ≡ b → (if b then false else stands r) ≡ is_some (notify_of ended r)
-        standing r true e = sym (ap is_some (now_none r e))
-        standing r false e = a.standing r ∙ sym (ap is_some (others_stay r e))
-
-        given : (r : Request) (q : ℕ) (b : Bool) → same_request r (no_senders p) ≡ b → notify_of ended r ≡ Some q → q < made
-        given r q true e to = absurd (let f : None ≡ Some q = sym (now_none r e) ∙ to in cc)
-        given r q false e to = a.given r q (sym (others_stay r e) ∙ to)
-
-        kept : (r : Request) (kind : Kind) (q : ℕ) (b : Bool) → same_request r (no_senders p) ≡ b →
-            lying_among tokens2 kind q (in_request r) ≡ rights_kept lives (notify_of ended r) kind q + rights_went lives requests.names.went r kind q
-        kept r kind q true e =
-            let x = ap (λ (y : Request). lying_among tokens2 kind q (in_request y)) (only_own p r e) in
-            let y = own kind q in
-            let z : rights_kept lives (notify_of ended r) kind q ≡ 0 = ap (λ (o : Option ℕ). rights_kept lives o kind q) (now_none r e) in
-            let t = no_went r kind q in omega (arith, x, y, z, t)
-        kept r kind q false e =
-            let x = others r kind q e in
-            let y = a.kept r kind q in
-            let z = ap (λ (o : Option ℕ). rights_kept lives o kind q) (others_stay r e) in
-            omega (arith, x, y, z)
-
--- ---- in the state so far
-
-module _ (now : ℕ) (old mid : State) (owed : Owed) (e : Ending) (lawful : MidLawful mid owed) (reached : IsReached old mid owed e) (s : State) (so : IsSoFar now mid e s)
-    (w : WorldView) (agrees : AgreesOf (lives_after mid e) w s) (went : w.requests.names.went ≡ []) (p notify : ℕ) (asked : map.get w.requests.no_senders.map p ≡ Some notify) where
-  abbrev pub own_request : Request
-  own_request = no_senders p
-
-  abbrev pub lives : ℕ → Bool
-  lives = lives_after mid e
-
-  abbrev pub living : List Token
-  living = filter (λ x. lives x.port) s.ledger
-
-  -- what is kept for ports that live
-  pub kept_is : (kind : Kind) (q : ℕ) → lying_among living kind q (in_request own_request) ≡ rights_kept lives (Some notify) kind q
-  kept_is kind q =
-      let a = agrees.of_requests.kept own_request kind q in
-      let b : rights_kept lives (notify_of w.requests own_request) kind q ≡ rights_kept lives (Some notify) kind q = ap (λ (o : Option ℕ). rights_kept lives o kind q) asked in
-      let c : rights_went lives w.requests.names.went own_request kind q ≡ 0 = ap (λ went. rights_went lives went own_request kind q) went in
-      omega (arith, a, b, c)
-
-  -- rights of requests are no notices'
-  pub left_is : (r : Request) (kind : Kind) (q : ℕ) → lying_among s.ledger kind q (in_request r) ≡ lying_among e.left kind q (in_request r)
-  left_is r kind q =
-      let a = so.ledger (kept_there r kind q) in
-      let b = none_tasked (λ x. is_of kind q x && same_place (in_request r) x.place) (λ k n m i. and_no (is_of kind q (token k n (in_message m i)))) (filter (λ (x : Posted). s.live_port x.port) (posted_so_far mid e)) in
-      omega (arith, a, b)
-    where
-      and_no : (b : Bool) → (b && false) ≡ false
-      and_no true = refl
-      and_no false = refl
-
-  of_living : (kind : Kind) (q : ℕ) → lives q ≡ true → lying_among living kind q (in_request own_request) ≡ lying_among s.ledger kind q (in_request own_request)
-  of_living kind q alive = filter_weigh (kept_there own_request kind q) (λ x. lives x.port) s.ledger ∙ weigh-same (λ x. if lives x.port then kept_there own_request kind q x else 0) (kept_there own_request kind q) same s.ledger
-    where
-      same : (x : Token) → (if lives x.port then kept_there own_request kind q x else 0) ≡ kept_there own_request kind q x
-      same x = go (is_of kind q x && same_place (in_request own_request) x.place) refl
-        where
-          go : (b : Bool) → (is_of kind q x && same_place (in_request own_request) x.place) ≡ b → (if lives x.port then (if b then suc zero else zero) else zero) ≡ (if b then suc zero else zero)
-          go true is = rw (ap lives (at_place kind q (in_request own_request) x is).0 ∙ alive) refl
-          go false is = both (lives x.port)
-            where
-              both : (c : Bool) → (if c then zero else zero) ≡ zero
-              both true = refl
-              both false = refl
-
-  stands_is : (mid.stands own_request && not (has_ended mid (buried_alone e) own_request)) ≡ true
-  stands_is = sym (so.stands own_request) ∙ agrees.of_requests.standing own_request ∙ ap is_some asked
-
-  pub stood : mid.stands own_request ≡ true
-  stood = left_of (mid.stands own_request) (not (has_ended mid (buried_alone e) own_request)) stands_is
-
-  pub untold : listed e.told p ≡ false
-  untold = go (not (lives_after mid (buried_alone e) p)) (listed e.told p) (right_of (mid.stands own_request) (not (has_ended mid (buried_alone e) own_request)) stands_is)
-    where
-      go : (a b : Bool) → not (a || b) ≡ true → b ≡ false
-      go true b h = absurd (cc)
-      go false true h = absurd (cc)
-      go false false h = refl
-
-  -- Where the notify port lives its right is there, and none other for a port that lives.
-  pub right_there : lives notify ≡ true → 0 < lying_among e.left send_once notify (in_request own_request)
-  right_there alive =
-      let a = kept_is send_once notify in
-      let one : rights_kept lives (Some notify) send_once notify ≡ 1 = rw (eq-eqb notify notify refl, alive) refl in
-      let b = of_living send_once notify alive in
-      let c = left_is own_request send_once notify in
-      omega (arith, a, one, b, c)
-
-  pub none_kept : lives notify ≡ false → (kind : Kind) (q : ℕ) → rights_kept lives (Some notify) kind q ≡ 0
-  none_kept dead receive q = refl
-  none_kept dead send q = refl
-  none_kept dead send_once q = elim (eqb_tells notify q) [
-    | inl h ↦ rw (h.0, ap lives (sym h.1) ∙ dead) refl
-    | inr h ↦ rw h.0 refl
-  ]
-
-  pub none_other : lives notify ≡ false → All (λ (x : Token). x.place ≡ in_request own_request → listed e.doomed x.port ≡ true) e.left
-  none_other dead k d below at =
-      let x = get_or e.left k d in
-      let test : (is_of x.kind x.port x && same_place (in_request own_request) x.place) ≡ true = subst (λ (place : Place). (is_of x.kind x.port x && same_place place x.place) ≡ true) at (own_test x) in
-      let some = count_some (λ y. is_of x.kind x.port y && same_place (in_request own_request) y.place) e.left k d below test in
-      let all = count_some (is_of x.kind x.port) e.left k d below (left_of (is_of x.kind x.port x) (same_place (in_request own_request) x.place) test) in
-      let within = left_within old mid owed e reached (λ y. if is_of x.kind x.port y then 1 else 0) in
-      let live = port_lives lawful.ports x.kind x.port (omega (arith, all, within)) in
-      doomed_of (mid.live_port x.port) (listed e.doomed x.port) live (false_from_ne_true (lives x.port) (λ alive.
-      let a = kept_is x.kind x.port in let b = none_kept dead x.kind x.port in let c = of_living x.kind x.port alive in let g = left_is own_request x.kind x.port in omega (arith, some, a, b, c, g)))
-    where
-      doomed_of : (a b : Bool) → a ≡ true → (a && not b) ≡ false → b ≡ true
-      doomed_of true true e f = refl
-      doomed_of true false e f = absurd (cc)
-      doomed_of false b e f = absurd (cc)
 
 -- ---- What telling of a port comes to in the tables.
 
@@ -257,92 +95,50 @@ module _ (old : WorldView) (port : ℕ) where
 -- ---- A port that was noted is told of: a turn, after which the tables are between turns again.
 
 -- The right of the request may pay where its port lives.
-module _ (now : ℕ) (tables : WorldView) (old mid : State) (owed : Owed) (e : Ending) (w : WorldView) (l : Loose now tables old mid owed e w) (emptied front : List (ℕ × ℕ))
-    (parts : e.destroyed ≡ front ++ emptied) (unlost : IsUnlost e emptied) where
+module _ (now : ℕ) (tables : WorldView) (old mid : State) (owed : Owed) (e : Ending) (w : WorldView) (l : Loose now tables old mid owed e w) (waiting : AwaitLoss w.ports.destroyed e l.state) (unlost : IsUnlost e waiting.emptied) where
   pub can_tell : (p : ℕ) → CanTell w p
-  can_tell p own notify asked there =
-      let alive = lives_is now tables old mid owed e w l notify there in
-      can_pay now old mid owed e l.lawful l.reached l.state l.so_far w l.agrees notify alive
-      (λ k. unlost send_once notify notify k (λ h. cc) (undoomed mid e notify alive) (not_emptied old mid owed e l.reached front emptied parts notify k (undoomed mid e notify alive)))
-      l.slots (in_request (no_senders p)) (λ k. refl)
-      (right_there now old mid owed e l.lawful l.reached l.state l.so_far w l.agrees l.framed.went p notify asked alive)
+  can_tell p own notify asked there = may_post now tables old mid owed e w l waiting unlost (no_senders p) notify asked there
 
   module _ (p notify : ℕ) (asked : map.get w.requests.no_senders.map p ≡ Some notify) where
-    abbrev pub r : Request
+    abbrev r : Request
     r = no_senders p
 
-    abbrev pub w1 : WorldView
-    w1 = without_no_senders w p
+    abbrev rq : RequestTablesView
+    rq = ended w.requests p
 
-    abbrev pub s : State
+    abbrev s : State
     s = l.state
 
-    pub shape : SameShape w w1
-    shape = same_ports w w1 refl refl refl refl (λ q h. kept_has w.requests.no_senders.map p q h) refl
+    pub framed : Framed mid e (without_no_senders w p)
+    framed = framed_stays w (without_no_senders w p) (same_ports w (without_no_senders w p) refl refl refl refl (λ q h. kept_has w.requests.no_senders.map p q h) refl) mid e e refl refl refl l.framed
 
     -- the request stands no more
-    abbrev pub told2 : List ℕ
-    told2 = p ∷ e.told
+    pub stands_now : StandsSoFar mid (record e { told = p ∷ e.told }) (request_at s.stands r false)
+    stands_now (port_destroyed q) = l.so_far.stands (port_destroyed q)
+    stands_now (dead_name task name) = l.so_far.stands (dead_name task name)
+    stands_now (no_senders q) = go (q == p) (is_among e.ended (no_senders q)) (l.so_far.stands (no_senders q))
+      where
+        none : (a b : Bool) → false ≡ (a && not (b || true))
+        none true true = refl
+        none true false = refl
+        none false b = refl
 
-    pub stands_now : (q : Request) → request_at s.stands r false q ≡ (mid.stands q && not (has_ended mid (buried_alone (record e { told = told2 })) q))
-    stands_now q = grind (arith, only_own, eq-eqb)
+        go : (t c : Bool) → s.stands (no_senders q) ≡ (if c then false else mid.stands (no_senders q) && not (not (lives_after mid (buried_alone e) q) || listed e.told q)) →
+            (if t then false else s.stands (no_senders q)) ≡ (if c then false else mid.stands (no_senders q) && not (not (lives_after mid (buried_alone e) q) || (t || listed e.told q)))
+        go true true h = refl
+        go true false h = none (mid.stands (no_senders q)) (not (lives_after mid (buried_alone e) q))
+        go false c h = h
 
-    abbrev lives_turn : ℕ → Bool
-    lives_turn = lives_after mid e
+    pub agrees_now : (xs : List Token) → GoesOn (lives_after mid e) notify r s.ledger xs → AgreesOf (lives_after mid e) (without_no_senders w p) (record s { stands = request_at s.stands r false; ledger = xs })
+    agrees_now xs g = request_ended (lives_after mid e) w s l.agrees rq r notify xs (own_ended w.requests p) asked (others_stay w.requests p) l.framed.went l.framed.went g (λ q h. same_request_is q r h)
 
-    module _ (alive : lives_after mid e notify ≡ true) where
-      abbrev pub x : Token
-      x = token send_once notify (in_request r)
-
-      pub there : 0 < lying_among e.left send_once notify (in_request r)
-      there = right_there now old mid owed e l.lawful l.reached l.state l.so_far w l.agrees l.framed.went p notify asked alive
-
-      abbrev y : Token
-      y = token send_once notify (in_message notify (length (s.log notify)))
-
-      abbrev pub tokens : List Token
-      tokens = y ∷ without x s.ledger
-
-      pub moved : (h : Token → ℕ) → weigh h tokens + h x ≡ weigh h s.ledger + h y
-      moved h = grind (arith, left_is, there, without_weigh)
-
-      lived : Request → Kind → ℕ → Token → ℕ
-      lived r2 kind q z = if lives_turn z.port then kept_there r2 kind q z else 0
-
-      in_none : (r2 : Request) (kind : Kind) (q : ℕ) → (if lives_turn notify then (if is_of kind q y && false then 1 else 0) else 0) ≡ zero
-      in_none r2 kind q = rw alive (both_test (is_of kind q y) false (inr refl))
-
-      own : (kind : Kind) (q : ℕ) → lying_among (filter (λ z. lives_turn z.port) tokens) kind q (in_request r) ≡ 0
-      own kind q =
-          let a = filter_weigh (kept_there r kind q) (λ z. lives_turn z.port) tokens in
-          let b = filter_weigh (kept_there r kind q) (λ z. lives_turn z.port) s.ledger in
-          let m = moved (λ z. if lives_turn z.port then kept_there r kind q z else 0) in
-          let n = in_none r kind q in
-          let k = kept_is now old mid owed e l.lawful l.reached l.state l.so_far w l.agrees l.framed.went p notify asked kind q in
-          let c = this kind in
-          omega (arith, a, b, m, n, k, c)
-        where
-          this : (kind : Kind) → (if lives_turn notify then (if is_of kind q x && same_request r r then suc zero else zero) else zero) ≡ rights_kept lives_turn (Some notify) kind q
-          this receive = rw alive refl
-          this send = rw alive refl
-          this send_once = elim (eqb_tells notify q) [
-            | inl h ↦ rw (alive, h.0, eq-eqb p p refl, ap lives_turn (sym h.1) ∙ alive) refl
-            | inr h ↦ rw (alive, h.0) refl
-          ]
-
-      others : (r2 : Request) (kind : Kind) (q : ℕ) → same_request r2 r ≡ false → lying_among (filter (λ z. lives_turn z.port) tokens) kind q (in_request r2) ≡ lying_among (filter (λ z. lives_turn z.port) s.ledger) kind q (in_request r2)
-      others r2 kind q other = grind (arith, filter_weigh, kept_there, moved, in_none, both_test)
-
-      pays : PaysFrom (lives_after mid e) w1 s tokens (request_at s.stands r false)
-      pays = record {
-        counts = λ kind q. let m = moved (λ z. if is_of kind q z then 1 else 0) in omega (arith, m);
-        held = λ task kind q. let m = moved (λ z. if is_held task kind q z then 1 else 0) in omega (arith, m);
-        total = (let m = moved (λ z. 1) in let a = length-weigh s.ledger in let b = length-weigh tokens in omega (arith, m, a, b));
-        of_requests = request_ends w.requests p w.ports.made s.stands lives_turn (filter (λ z. lives_turn z.port) s.ledger) (filter (λ z. lives_turn z.port) tokens) l.agrees.of_requests l.framed.went own others;
-      }
-
-      pub agrees_now : AgreesOf (lives_after mid e) w1 (record s { ledger = tokens; stands = request_at s.stands r false })
-      agrees_now = rekept (lives_after mid e) w s w1.requests tokens (request_at s.stands r false) l.agrees pays
+    untold : listed e.told p ≡ false
+    untold = go (not (lives_after mid (buried_alone e) p)) (listed e.told p) (yet_stands now old mid owed e l.lawful l.reached s l.so_far w l.agrees l.framed.went r notify asked)
+      where
+        go : (a b : Bool) → not (a || b) ≡ true → b ≡ false
+        go true b h = absurd (cc)
+        go false true h = absurd (cc)
+        go false false h = refl
 
     -- ---- the turn
 
@@ -350,120 +146,43 @@ module _ (now : ℕ) (tables : WorldView) (old mid : State) (owed : Owed) (e : E
       has_none : count (is_of send p) e.left ≡ 0
       has_none = grind arith
 
-      own_alive : lives_after mid e p ≡ true
-      own_alive = lives_is now tables old mid owed e w l p own_lives
-
-      abbrev pub dead_ending : Ending
-      dead_ending = record e { told = told2; turns = e.turns + 0 }
-
-      pub dead_turn : lives_after mid e notify ≡ false → TellsSenderless old mid e dead_ending
-      dead_turn dead = record {
+      tells : (f : Ending) (paying : Owed) → All (λ (z : Token × Notice). (z.0.kind ≡ send_once) × (z.0.place ≡ in_request r) × (z.1 ≡ no_more_senders ((outcome mid e).make_send p))) paying → Takes e f paying [] →
+          All (IsOffRequest e r) f.left → f ≡ record e { told = p ∷ e.told; left = f.left; paid = f.paid; gone = f.gone; turns = e.turns + length paying } → Turn old mid e f
+      tells f paying pays takes all_left rest = inr (inr (inr (inr (inr (inr (record {
         port = p;
         judged = judged;
-        lives = own_alive;
-        stands = stood now old mid owed e l.lawful l.reached l.state l.so_far w l.agrees l.framed.went p notify asked;
+        lives = lives_is now tables old mid owed e w l p own_lives;
+        stands = stood now old mid owed e l.lawful l.reached s l.so_far w l.agrees l.framed.went r notify asked;
         had = had;
         has_none = has_none;
-        untold = untold now old mid owed e l.lawful l.reached l.state l.so_far w l.agrees l.framed.went p notify asked;
-        paying = [];
-        pays = λ k d below. absurd (omega arith);
-        takes = record { left = λ h. omega arith; paid = sym (append-nil e.paid); gone = sym (append-nil e.gone) };
-        all_left = none_other now old mid owed e l.lawful l.reached l.state l.so_far w l.agrees l.framed.went p notify asked dead;
-        rest = refl;
-      }
+        untold = untold;
+        paying = paying;
+        pays = pays;
+        takes = takes;
+        all_left = all_left;
+        rest = rest;
+      }))))))
 
-      module _ (alive : lives_after mid e notify ≡ true) where
-        abbrev pub paid_ending : Ending
-        paid_ending = record e { told = told2; left = without (x alive) e.left; paid = e.paid ++ (x alive, no_more_senders n) ∷ []; turns = e.turns + 1 }
+      pub dead_turn : lives_after mid e notify ≡ false → Turn old mid e (dead_ending now tables old mid owed e w l waiting unlost r notify asked w.spaces rq s.naming e.ended (p ∷ e.told) (NoSenders n))
+      dead_turn dead = tells _ [] (λ k d below. absurd (omega arith)) (dead_takes now tables old mid owed e w l waiting unlost r notify asked w.spaces rq s.naming e.ended (p ∷ e.told) (NoSenders n))
+          (none_off now tables old mid owed e w l waiting unlost r notify asked dead) refl
 
-        pub parts_left : (h : Token → ℕ) → weigh h e.left ≡ weigh h (without (x alive) e.left) + h (x alive)
-        parts_left h = without_weigh (x alive) e.left (there alive) h
+      pub paid_turn : lives_after mid e notify ≡ true → Turn old mid e (paid_ending now tables old mid owed e w l waiting unlost r notify asked w.spaces rq s.naming e.ended (p ∷ e.told) (NoSenders n))
+      paid_turn alive = tells _ ((token send_once notify (in_request r), no_more_senders n) ∷ [])
+          (one_all (λ (z : Token × Notice). (z.0.kind ≡ send_once) × (z.0.place ≡ in_request r) × (z.1 ≡ no_more_senders ((outcome mid e).make_send p))) (token send_once notify (in_request r), no_more_senders n)
+          (refl, refl, ap (λ (m : ℕ). no_more_senders m) made))
+          (paid_takes now tables old mid owed e w l waiting unlost r notify asked w.spaces rq s.naming e.ended (p ∷ e.told) (NoSenders n) alive)
+          (all_off now tables old mid owed e w l waiting unlost r notify asked alive) refl
 
-        all_gone : All (λ (z : Token). z.place ≡ in_request r → listed e.doomed z.port ≡ true) (without (x alive) e.left)
-        all_gone k d below at = grind (
-          arith,
-          count_some (λ z. same_place (in_request r) z.place) (without (x alive) e.left) k d below (subst (λ (place : Place). same_place (in_request r) place ≡ true) (sym at) (place_refl (in_request r))),
-          parts_left (λ z. if same_place (in_request r) z.place then 1 else 0),
-          left_within old mid owed e l.reached (λ z. if same_place (in_request r) z.place then 1 else 0),
-          l.lawful.one_kept r,
-        )
-
-        pub paid_turn : TellsSenderless old mid e paid_ending
-        paid_turn = record {
-          port = p;
-          judged = judged;
-          lives = own_alive;
-          stands = stood now old mid owed e l.lawful l.reached l.state l.so_far w l.agrees l.framed.went p notify asked;
-          had = had;
-          has_none = has_none;
-          untold = untold now old mid owed e l.lawful l.reached l.state l.so_far w l.agrees l.framed.went p notify asked;
-          paying = (x alive, no_more_senders n) ∷ [];
-          pays = one_all (λ (z : Token × Notice). (z.0.kind ≡ send_once) × (z.0.place ≡ in_request r) × (z.1 ≡ no_more_senders ((outcome mid e).make_send p))) (x alive, no_more_senders n)
-              (refl, refl, ap (λ (m : ℕ). no_more_senders m) made);
-          takes = record { left = λ h. let a = parts_left h in omega (arith, a); paid = refl; gone = sym (append-nil e.gone) };
-          all_left = all_gone;
-          rest = refl;
-        }
-
-        -- The notice is posted.
-        pub paid_loose : (v : PortView Kept) → port_at w notify ≡ Some v → Goes now tables old mid owed s paid_ending (with_notice w1 notify v (NoSenders n))
-        paid_loose v is = loose_posted now tables old mid owed e l.lawful l.reached s l.so_far w1 (tokens alive) (request_at s.stands r false) (agrees_now alive) l.holders l.slots
-            (framed_stays w w1 shape mid e e refl refl refl l.framed) l.senders l.receivers l.had_senders l.emptied notify v is (NoSenders n) alive paid (λ q c. bare q c) (λ at. refl) (in_request r) (without (x alive) e.left) told2 (e.turns + 1)
-            parts_left (moved alive) stands_now (inr (inr (inr (inr (inr paid_turn)))))
-          where
-            paid : 0 < (counts_of w.ledger notify).send_once
-            paid = (can_tell p own_lives notify asked (lives_there now tables old mid owed e w l notify alive)).paid
-
-            bare : (q : ℕ) → ¬ (CarriesReceive (notice_kept (NoSenders n)) q)
-            bare q c = none_listed [] refl _ c
-
-      -- Nothing is.
-      pub dead_loose : lives_after mid e notify ≡ false → Goes now tables old mid owed s dead_ending w1
-      dead_loose dead = (
-        record {
-          lawful = l.lawful;
-          reached = turns e dead_ending l.reached (inr (inr (inr (inr (inr (dead_turn dead))))));
-          state = record s { stands = request_at s.stands r false };
-          so_far = let so = l.so_far in record {
-            live_port = so.live_port;
-            stands = stands_now;
-            sets_of = so.sets_of;
-            make_send = so.make_send;
-            sequence = so.sequence;
-            names = λ task name. so.names task name ∙ names_same task name (lookup mid task name);
-            log = so.log;
-            taken = so.taken;
-            destroyed = so.destroyed;
-            ledger = so.ledger;
-            rest = ap (λ (z : State). record z { stands = request_at s.stands r false }) so.rest;
-          };
-          agrees = rekept (lives_after mid e) w s w1.requests s.ledger (request_at s.stands r false) l.agrees record {
-            counts = λ kind q. refl;
-            held = λ task kind q. refl;
-            total = refl;
-            of_requests = request_ends w.requests p w.ports.made s.stands lives_turn (filter (λ z. lives_turn z.port) s.ledger) (filter (λ z. lives_turn z.port) s.ledger) l.agrees.of_requests l.framed.went own (λ r2 kind q other. refl);
-          };
-          holders = l.holders;
-          slots = l.slots;
-          framed = framed_stays w w1 shape mid e dead_ending refl refl refl l.framed;
-          senders = l.senders;
-          receivers = l.receivers;
-          had_senders = l.had_senders;
-          emptied = l.emptied;
-        },
-        λ q k z is. is,
-      )
-        where
-          own : (kind : Kind) (q : ℕ) → lying_among (filter (λ z. lives_turn z.port) s.ledger) kind q (in_request r) ≡ 0
-          own kind q = kept_is now old mid owed e l.lawful l.reached l.state l.so_far w l.agrees l.framed.went p notify asked kind q
-              ∙ none_kept now old mid owed e l.lawful l.reached l.state l.so_far w l.agrees l.framed.went p notify asked dead kind q
-
-          names_same : (task name : ℕ) (o : Option Target) → option_map (settled_target mid s task name) o ≡ option_map (settled_target mid (record s { stands = request_at s.stands r false }) task name) o
-          names_same task name None = refl
-          names_same task name (Some (Target.port q)) = refl
-          names_same task name (Some (Target.once q)) = refl
-          names_same task name (Some (Target.dead m)) = refl
-          names_same task name (Some (Target.set m)) = refl
+      module _ (stage : AreLost mid e w)
+          (noted : (u : WorldView) → u.requests ≡ rq → ((q : ℕ) → (counts_of u.ledger q).send ≡ 0 → (counts_of w.ledger q).send ≡ 0) →
+          (q : ℕ) → lives_after mid e q ≡ true → 0 < (counts_of tables.ledger q).send → IsSenderless u q → Contains w.ports.noted q)
+          (had_noted : (q : ℕ) → Contains w.ports.noted q → 0 < (counts_of tables.ledger q).send) (spare : LivesIn w notify → 0 < w.ports.spare) where
+        pub told_ended : (number : ℕ) (new : WorldView) → Pays (without_no_senders w p) notify (NoSenders n) new → PaysMany (without_no_senders w p) notify number →
+            Ended now tables old mid owed e w l waiting unlost r notify asked w.spaces rq s.naming e.ended (p ∷ e.told) (NoSenders n) stands_now l.so_far.names agrees_now framed
+            (λ at. refl) (λ q c. none_listed [] refl _ c) paid_turn dead_turn stage noted had_noted spare number new
+        told_ended = request_ends now tables old mid owed e w l waiting unlost r notify asked w.spaces rq s.naming e.ended (p ∷ e.told) (NoSenders n) stands_now l.so_far.names agrees_now framed
+            (λ at. refl) (λ q c. none_listed [] refl _ c) paid_turn dead_turn stage noted had_noted spare
 
 -- ---- Each port that was noted is told of in turn: between two of them the tables are between turns.
 
@@ -500,25 +219,19 @@ module _ (now : ℕ) (tables : WorldView) (old mid : State) (owed : Owed) (e : E
   l = loose_noted now tables old mid owed e w0 (loose_of now tables old mid owed e w0 b) (without_end p w0.ports.noted) w0.ports.spare w0.ports.destroyed b.tied.slots
 
   pub may_tell : CanTell w p
-  may_tell = can_tell now tables old mid owed e w l b.tied.waiting.emptied (reverse b.tied.waiting.waiting) b.tied.waiting.parts b.unlost p
+  may_tell = can_tell now tables old mid owed e w l b.tied.waiting b.unlost p
 
-  -- ports that are senderless still are noted still
-  still_noted : (u : WorldView) → u.ports.noted ≡ without_end p w0.ports.noted → ((q : ℕ) → lives_after mid e q ≡ true → IsSenderless u q → (q ≡ p → ⊥) × IsSenderless w0 q) →
-      (q : ℕ) → lives_after mid e q ≡ true → 0 < (counts_of tables.ledger q).send → IsSenderless u q → Contains u.ports.noted q
-  still_noted u noted from q alive some s =
-      let f = from q alive s in
-      subst (λ (xs : List ℕ). Contains xs q) (sym noted) (contains_without p w0.ports.noted q f.0 (b.noted q alive some f.1))
-
-  still_had : (u : WorldView) → u.ports.noted ≡ without_end p w0.ports.noted → (q : ℕ) → Contains u.ports.noted q → 0 < (counts_of tables.ledger q).send
-  still_had u noted q c = b.had q (without_contains p w0.ports.noted q (subst (λ (xs : List ℕ). Contains xs q) noted c))
+  lost_still : AreLost mid e w
+  lost_still = record { judged = record { emptied = stage.judged.emptied; judged = stage.judged.judged; none_lost = stage.judged.none_lost }; none_destroyed = stage.none_destroyed }
 
   -- Nothing is told.
   pub nothing_told : ¬ (LivesIn w p × IsSenderless w p) → Between now tables old mid owed e w × AreLost mid e w
   nothing_told none = (
     between_of now tables old mid owed e w l b.tied.waiting
-        (still_noted w refl (λ q alive s. ((λ same. none (subst (λ (k : ℕ). LivesIn w k × IsSenderless w k) same (lives_there now tables old mid owed e w l q alive, s))), record { live = s.live; asked = s.asked; none = s.none })))
-        (still_had w refl) b.unlost,
-    record { judged = record { emptied = stage.judged.emptied; judged = stage.judged.judged; none_lost = stage.judged.none_lost }; none_destroyed = stage.none_destroyed },
+        (λ q alive some s. contains_without p w0.ports.noted q (λ same. none (subst (λ (k : ℕ). LivesIn w k × IsSenderless w k) same (lives_there now tables old mid owed e w l q alive, s)))
+        (b.noted q alive some (record { live = s.live; asked = s.asked; none = s.none })))
+        (λ q c. b.had q (without_contains p w0.ports.noted q c)) b.unlost,
+    lost_still,
   )
 
   -- ---- it is told
@@ -530,88 +243,15 @@ module _ (now : ℕ) (tables : WorldView) (old mid : State) (owed : Owed) (e : E
     made : t.v.attributes.make_send ≡ (outcome mid e).make_send p
     made = (b.tied.agrees.ports p t.v t.there).make_send ∙ b.tied.so_far.make_send p
 
-    abbrev n : ℕ
-    n = t.v.attributes.make_send
-
-    abbrev w1_end : WorldView
-    w1_end = without_no_senders w p
-
-    abbrev pub Told : (number : ℕ) → WorldView → Type 0
-    Told number u = (f : Ending) × Between now tables old mid owed f u × IsCount e.turns f.turns number × SameSlots e w f u × AreLost mid f u
-
-    senderless_was : (u : WorldView) → u.requests ≡ w1_end.requests → ((q : ℕ) → (counts_of u.ledger q).send ≡ 0 → (counts_of w0.ledger q).send ≡ 0) → (q : ℕ) → IsSenderless u q → (q ≡ p → ⊥) × IsSenderless w0 q
+    senderless_was : (u : WorldView) → u.requests ≡ ended w0.requests p → ((q : ℕ) → (counts_of u.ledger q).send ≡ 0 → (counts_of w0.ledger q).send ≡ 0) → (q : ℕ) → IsSenderless u q → (q ≡ p → ⊥) × IsSenderless w0 q
     senderless_was u requests sends q s = grind (arith, own_ended, get_removed)
 
-    same_lives : LivesIn w1_end t.notify → LivesIn w t.notify
-    same_lives h = record { v = h.v; there = h.there; undoomed = h.undoomed }
-
-    emptied : List (ℕ × ℕ)
-    emptied = b.tied.waiting.emptied
-
-    told_dead : lives_after mid e t.notify ≡ false → Told 0 w1_end
-    told_dead dead =
-        let g = dead_loose now tables old mid owed e w l b.tied.waiting.emptied (reverse b.tied.waiting.waiting) b.tied.waiting.parts b.unlost p t.notify t.asked stage.judged.judged t.lives had t.none n made dead in (
-          record e { told = p ∷ e.told; turns = e.turns + 0 },
-          between_of now tables old mid owed _ w1_end g.0 (awaits_on w0.ports.destroyed e _ b.tied.state g.0.state refl refl (λ h. omega arith) g.1 b.tied.waiting)
-              (still_noted w1_end refl (λ q alive s. senderless_was w1_end refl (λ q none. none) q s)) (still_had w1_end refl) b.unlost,
-          (0, refl, omega arith),
-          refl,
-          record { judged = record { emptied = stage.judged.emptied; judged = stage.judged.judged; none_lost = stage.judged.none_lost }; none_destroyed = stage.none_destroyed },
-        )
-
-    told_paid : lives_after mid e t.notify ≡ true → (v : PortView Kept) → port_at w t.notify ≡ Some v → LivesIn w t.notify → Told 1 (with_notice w1_end t.notify v (NoSenders n))
-    told_paid alive v there lives =
-        let g = paid_loose now tables old mid owed e w l b.tied.waiting.emptied (reverse b.tied.waiting.waiting) b.tied.waiting.parts b.unlost p t.notify t.asked stage.judged.judged t.lives had t.none n made alive v there in (
-          record e { told = p ∷ e.told; left = without right e.left; paid = e.paid ++ (right, no_more_senders n) ∷ []; turns = e.turns + 1 },
-          between_of now tables old mid owed _ (with_notice w1_end t.notify v (NoSenders n)) g.0 (awaits_on w0.ports.destroyed e _ b.tied.state g.0.state refl refl fewer g.1 b.tied.waiting)
-              (still_noted (with_notice w1_end t.notify v (NoSenders n)) refl (λ q alive s. senderless_was (with_notice w1_end t.notify v (NoSenders n)) refl (sends_shifted w0.ledger t.notify) q s)) (still_had (with_notice w1_end t.notify v (NoSenders n)) refl) unlost,
-          count_one e.turns _ refl,
-          (let a = t.spare lives in let c = length-append e.paid ((right, no_more_senders n) ∷ []) in omega (arith, a, c)),
-          record {
-            judged = record { emptied = emptied_posted w1_end t.notify v (NoSenders n) there undoomed stage.judged.emptied; judged = stage.judged.judged; none_lost = stage.judged.none_lost };
-            none_destroyed = stage.none_destroyed;
-          },
-        )
-      where
-        right : Token
-        right = token send_once t.notify (in_request (no_senders p))
-
-        fewer : (h : Token → ℕ) → weigh h (without right e.left) ≤ weigh h e.left
-        fewer h = let a = parts_left now tables old mid owed e w l b.tied.waiting.emptied (reverse b.tied.waiting.waiting) b.tied.waiting.parts b.unlost p t.notify t.asked stage.judged.judged t.lives had t.none n made alive h in omega (arith, a)
-
-        unlost : IsUnlost (record e { paid = e.paid ++ (right, no_more_senders n) ∷ [] }) b.tied.waiting.emptied
-        unlost kind q m k not_receive undoomed none =
-            let a = b.unlost kind q m k not_receive undoomed none in
-            let c = tokens_joined (λ z. if is_of kind q z && same_place (in_message m k) z.place then 1 else 0) e.paid ((right, no_more_senders n) ∷ []) in
-            let d = both_test (is_of kind q right) false (inr refl) in
-            omega (arith, a, c, d)
-
-        undoomed : v.attributes.holder ≢ holder.Doomed
-        undoomed is = lives.undoomed (ap (λ (y : PortView Kept). y.attributes.holder) (same lives.v v (sym lives.there ∙ there)) ∙ is)
-          where
-            same : (a b : PortView Kept) → Some a ≡ Some b → a ≡ b
-            same a b z = ap (λ (o : Option (PortView Kept)). get o) z
-              where
-                get : Option (PortView Kept) → PortView Kept
-                get (Some y) = y
-                get None = a
-
-    pub told : Told number new
-    told = go (lives_after mid e t.notify) refl
-      where
-        go : (c : Bool) → lives_after mid e t.notify ≡ c → Told number new
-        go true alive =
-            let there = lives_there now tables old mid owed e w l t.notify alive in
-            let lives : LivesIn w1_end t.notify = record { v = there.v; there = there.there; undoomed = there.undoomed } in
-            let posts = t.pays.posts lives in
-            subst (λ (n : ℕ). Told n new) (sym (t.many.0 lives)) (subst (Told 1) (sym posts.rest) (told_paid alive posts.v posts.there there))
-        go false dead = subst (λ (n : ℕ). Told n new) (sym (t.many.1 dies)) (subst (Told 0) (sym (t.pays.stays dies)) (told_dead dead))
-          where
-            no : true ≡ false → ⊥
-            no z = cc
-
-            dies : ¬ (LivesIn w1_end t.notify)
-            dies h = no (sym (lives_is now tables old mid owed e w l t.notify (same_lives h)) ∙ dead)
+    pub told : (f : Ending) × Between now tables old mid owed f new × IsCount e.turns f.turns number × SameSlots e w f new × AreLost mid f new
+    told =
+        let g = told_ended now tables old mid owed e w l b.tied.waiting b.unlost p t.notify t.asked stage.judged.judged t.lives had t.none t.v.attributes.make_send made lost_still
+        (λ u requests sends q alive some s. let f = senderless_was u requests sends q s in contains_without p w0.ports.noted q f.0 (b.noted q alive some f.1))
+        (λ q c. b.had q (without_contains p w0.ports.noted q c)) t.spare number new t.pays t.many in
+        (g.0, g.1, g.2, g.3, g.4)
 
 -- ---- the loop
 
@@ -666,27 +306,6 @@ no_more p (x ∷ xs) = grind (arith, no_more p xs, x)
 pub fewer_noted : (p : ℕ) (xs : List ℕ) → slice_get xs 0 ≡ Some p → length (without_end p xs) < length xs
 fewer_noted p [] e = absurd (let f : None ≡ Some p = e in cc)
 fewer_noted p (x ∷ xs) e = grind (arith, x, eq-eqb, no_more)
-
--- A port lives in the tables or it doesn't.
-lives_or_not : (w : WorldView) (p : ℕ) → LivesIn w p ⊎ ¬ (LivesIn w p)
-lives_or_not w p = go (port_at w p) refl
-  where
-    go : (o : Option (PortView Kept)) → port_at w p ≡ o → LivesIn w p ⊎ ¬ (LivesIn w p)
-    go None is = inr (λ h. let a = h.there in none (sym is ∙ a))
-      where
-        none : {v : PortView Kept} → None ≡ Some v → ⊥
-        none e = cc
-    go (Some v) is = held v.attributes.holder refl
-      where
-        held : (h : Holder) → v.attributes.holder ≡ h → LivesIn w p ⊎ ¬ (LivesIn w p)
-        held (holder.Task task) e = inl (record { v = v; there = is; undoomed = λ d. let a = sym e ∙ d in cc })
-        held (holder.QueueOf q) e = inl (record { v = v; there = is; undoomed = λ d. let a = sym e ∙ d in cc })
-        held holder.Nobody e = inl (record { v = v; there = is; undoomed = λ d. let a = sym e ∙ d in cc })
-        held holder.Doomed e = inr (λ h. h.undoomed (ap (λ (o : Option (PortView Kept)). get o) (sym h.there ∙ is) ∙ e))
-          where
-            get : Option (PortView Kept) → Holder
-            get (Some y) = y.attributes.holder
-            get None = holder.Doomed
 
 -- Telling leaves the noted ports.
 noted_same : (w : WorldView) (p number : ℕ) (new : WorldView) → TellsOf w p number new → new.ports.noted ≡ w.ports.noted

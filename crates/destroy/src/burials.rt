@@ -3,7 +3,7 @@ ghost use Rattle.std.specs.Prelude.{◌≡◌, ◌<◌, true};
 ghost use Rattle.std.specs.FinMap as map;
 ghost use Rattle.mach_types.specs.Tokens.{no_senders, port_destroyed};
 ghost use Rattle.name_space.specs.declared.Entry.TheVariants.{DeadName};
-ghost use Rattle.destroy.specs.Burying.{dead_count, AsksNone, IsAny, IsNone, IsOnName, IsBurying, IsDueOn, IsNextToBury, EndsRequests};
+ghost use Rattle.destroy.specs.Burying.{dead_count, AsksNone, IsAny, IsNone, IsOnName, IsDueOn, IsNextToBury, EndsRequests};
 ghost use Rattle.destroy.specs.Stages.{AreTold, AreBuried, IsAt, Continues, KeepsRooms};
 
 use crate::paying::pay;
@@ -97,7 +97,7 @@ fn bury(world: &mut World, port: PortId) -> u64
 
 // The requests of a doomed port end, and those on its names.
 fn end_requests(world: &mut World, port: PortId) -> u64
-    requires { IsBurying port world.old }
+    requires { IsNextToBury port world.old }
     ensures { EndsRequests port IsAny world.old result world.new }
 {
     end_no_senders(world, port)
@@ -107,7 +107,7 @@ fn end_requests(world: &mut World, port: PortId) -> u64
 
 // The right that a dead port's request kept is lost unused.
 fn end_no_senders(world: &mut World, port: PortId) -> u64
-    requires { IsBurying port world.old }
+    requires { IsNextToBury port world.old }
     ensures { EndsRequests port (λ r. r ≡ no_senders port) world.old result world.new }
 {
     // So it is seen that a slot is spare.
@@ -119,7 +119,7 @@ fn end_no_senders(world: &mut World, port: PortId) -> u64
 }
 
 fn end_port_destroyed(world: &mut World, port: PortId) -> u64
-    requires { IsBurying port world.old }
+    requires { IsNextToBury port world.old }
     ensures { EndsRequests port (λ r. r ≡ port_destroyed port) world.old result world.new }
 {
     // So it is seen that a slot is spare.
@@ -131,7 +131,7 @@ fn end_port_destroyed(world: &mut World, port: PortId) -> u64
 }
 
 fn end_names(world: &mut World, port: PortId) -> u64
-    requires { IsBurying port world.old }
+    requires { IsNextToBury port world.old }
     ensures { EndsRequests port IsOnName world.old result world.new }
 {
     let mut turns: u64 = 0;

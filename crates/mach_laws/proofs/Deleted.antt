@@ -105,7 +105,7 @@ abbrev doomed : Ending
 doomed = doom 1 begun
 
 abbrev buried : Ending
-buried = bury 1 [] doomed
+buried = bury 1 doomed
 
 none_carried : NoneCarried e6.ledger
 none_carried p k q = let z = fourth.1.quiet.none_carried p k q in omega (arith, z)

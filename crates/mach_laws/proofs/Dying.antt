@@ -26,19 +26,19 @@ use Rattle.mach_model.specs.Machine.{Does, Step, Run}
 use Rattle.mach_model.specs.Lawful.{IsLawful, IsRight}
 use Rattle.mach_model.specs.Midway.{MidLawful}
 use Rattle.mach_model.proofs.Names.{at_other, at_own}
-use Rattle.mach_model.proofs.Settling.{KeepsSenders, no_death, never_sent, named_lives, once_lives, mid_settles, same_target, kept_set, nothing_ends, stays_with, is_at, calm_settles}
+use Rattle.mach_model.proofs.Settling.{KeepsSenders, no_death, never_sent, named_lives, once_lives, mid_settles, same_target, place_refl, kept_set, nothing_ends, stays_with, is_at, calm_settles}
 use Rattle.mach_model.proofs.SettledLawful.{settled_lawful}
 use Rattle.mach_model.proofs.Midway.{NoRequests, calm_lawful, NoneCarried}
 use Rattle.mach_model.proofs.StepLawful.{Does-mid, IsCalm, Quietly, still, same_rights}
 use Rattle.mach_model.specs.Carried.{lying}
 use Rattle.mach_model.specs.CopyIn.{IsLegal, CopyRight}
 use Rattle.mach_model.specs.Requests.{IsVariant, noted_guards, Requests}
-use Rattle.mach_model.specs.Turns.{Ending, has_ended, outcome, listed, lives_after, is_judged, IsFound, AreJudged, IsAtDoomed, IsRequestOf, IsReached, turns, IsDone, begins}
+use Rattle.mach_model.specs.Turns.{Ending, has_ended, outcome, listed, is_among, lives_after, is_judged, IsFound, AreJudged, IsAtDoomed, IsRequestOf, IsReached, turns, IsDone, begins}
 use Rattle.mach_model.proofs.SettledReceives.{place_is, and_false, or_left}
 use Rattle.mach_model.specs.Tasks.{ends_with, is_owner, EndsTask}
 use Rattle.mach_model.specs.References.{LosesAll}
 use Rattle.mach_model.proofs.TurnsSettle.{end_of}
-use Rattle.mach_model.proofs.TurnsMade.{doom, doom_is, save, save_is, lose, lose_is, bury, bury_is, tell, tell_is, start, start_is}
+use Rattle.mach_model.proofs.TurnsMade.{doom, doom_is, save, save_is, lose, lose_is, end_request, end_is, bury, bury_is, tell, tell_is, start, start_is}
 use Rattle.mach_model.proofs.TurnsCounted.{one_all}
 use Rattle.mach_model.proofs.TurnsBounded.{turns_end}
 use Rattle.mach_model.specs.CopyOut.{GiveWord}
@@ -349,23 +349,22 @@ module _ {old mid : State} {owed : Owed} (l : MidLawful mid owed) {e : Ending} (
   then_lost x judged lives at there = turns e (lose x e) reached (inr (inr (inr (inl (lose_is mid e x judged lives at there)))))
 
   -- a port on which, and on a name of which, no request stands
-  pub then_buried : (p : ℕ) → AreJudged mid e → listed e.doomed p ≡ true → listed e.buried p ≡ false → ((r : Request) → mid.stands r ≡ true → ¬ (IsRequestOf mid p r)) → IsReached old mid owed (bury p [] e)
-  then_buried p judged doomed unburied none =
-      turns e (bury p [] e) reached (inr (inr (inr (inr (inl
-      (bury_is old mid owed e p [] l reached judged doomed unburied (λ k d below. absurd (omega (arith, below))) (λ r stands of. absurd (none r stands of))))))))
+  pub then_buried : (p : ℕ) → AreJudged mid e → listed e.doomed p ≡ true → listed e.buried p ≡ false → ((r : Request) → mid.stands r ≡ true → ¬ (IsRequestOf mid p r)) → IsReached old mid owed (bury p e)
+  then_buried p judged doomed unburied none = turns e (bury p e) reached (inr (inr (inr (inr (inr (inl (bury_is mid e p judged doomed unburied (λ r stands of. absurd (none r stands of)))))))))
 
   -- one on which, or on a name of which, this request stands, and no other does
-  pub then_buried_one : (p : ℕ) (request : Request) → AreJudged mid e → listed e.doomed p ≡ true → listed e.buried p ≡ false → mid.stands request ≡ true → IsRequestOf mid p request →
-      ((r : Request) → mid.stands r ≡ true → r ≡ request) → IsReached old mid owed (bury p (request ∷ []) e)
-  then_buried_one p request judged doomed unburied stands of alone =
-      turns e (bury p (request ∷ []) e) reached (inr (inr (inr (inr (inl
-      (bury_is old mid owed e p (request ∷ []) l reached judged doomed unburied (one_all (λ r. (mid.stands r ≡ true) × IsRequestOf mid p r) request (stands, of))
-      (λ r is at. (0, omega arith, sym (alone r is)))))))))
+  pub then_buried_one : (p : ℕ) (request : Request) → AreJudged mid e → listed e.doomed p ≡ true → listed e.buried p ≡ false → is_among e.ended request ≡ false → mid.stands request ≡ true → IsRequestOf mid p request →
+      ((r : Request) → mid.stands r ≡ true → r ≡ request) → IsReached old mid owed (bury p (end_request request e))
+  then_buried_one p request judged doomed unburied unended stands of alone =
+      turns (end_request request e) (bury p (end_request request e))
+      (turns e (end_request request e) reached (inr (inr (inr (inr (inl (end_is old mid owed e p request l reached judged doomed unburied stands of unended)))))))
+      (inr (inr (inr (inr (inr (inl (bury_is mid (end_request request e) p judged doomed unburied
+      (λ r is at. or_left (same_request r request) (is_among e.ended r) (subst (λ (q : Request). same_request r q ≡ true) (alone r is) (place_refl (in_request r)))))))))))
 
   pub then_told : (p : ℕ) → AreJudged mid e → lives_after mid e p ≡ true → mid.stands (no_senders p) ≡ true → 0 < senders old p → count (is_of send p) e.left ≡ 0 → listed e.told p ≡ false →
       IsReached old mid owed (tell ((outcome mid e).make_send p) p e)
   then_told p judged lives stands had none untold =
-      turns e (tell ((outcome mid e).make_send p) p e) reached (inr (inr (inr (inr (inr (tell_is old mid owed e p l reached judged lives stands had none untold))))))
+      turns e (tell ((outcome mid e).make_send p) p e) reached (inr (inr (inr (inr (inr (inr (tell_is old mid owed e p l reached judged lives stands had none untold)))))))
 
 -- ---- who is found
 
@@ -504,7 +503,7 @@ abbrev sent : Ending
 sent = save 0 1 doomed
 
 abbrev buried : Ending
-buried = bury 2 [] sent
+buried = bury 2 sent
 
 alone : (r : Request) → z_mid.stands r ≡ true → r ≡ asked
 alone r is = grind (arith, made_alone, not_either)

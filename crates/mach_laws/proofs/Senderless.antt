@@ -140,7 +140,7 @@ abbrev right_lost : Ending
 right_lost = lose (token send 2 (in_message 1 0)) doomed
 
 abbrev buried : Ending
-buried = bury 1 [] right_lost
+buried = bury 1 right_lost
 
 abbrev told : Ending
 told = tell 1 2 buried

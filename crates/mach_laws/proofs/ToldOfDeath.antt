@@ -21,7 +21,7 @@ use Rattle.mach_model.specs.Lawful.{IsLawful}
 use Rattle.mach_model.specs.Midway.{MidLawful}
 use Rattle.mach_model.proofs.Midway.{NoneCarried}
 use Rattle.mach_model.proofs.StepLawful.{Does-mid}
-use Rattle.mach_model.proofs.TurnsMade.{start, start_is, doom, bury}
+use Rattle.mach_model.proofs.TurnsMade.{start, start_is, doom, end_request, bury}
 use Rattle.mach_model.proofs.TurnsSettle.{end_of}
 use Rattle.mach_model.proofs.TurnsCounted.{one_all}
 use Rattle.mach_laws.specs.Dying.{port_died_text, dying_events, dying_replies}
@@ -87,7 +87,7 @@ abbrev doomed : Ending
 doomed = doom 1 begun
 
 abbrev buried : Ending
-buried = bury 1 (asked ∷ []) doomed
+buried = bury 1 (end_request asked doomed)
 
 alone : (r : Request) → t8_mid.stands r ≡ true → r ≡ asked
 alone r is = made_alone x5.stands asked fifth.1.quiet.none_stands r (stood_before t6.stands (dead_name 1 1) r is)
@@ -102,7 +102,7 @@ reached : IsReached t6 t8_mid [] buried
 reached =
     let a : IsReached t6 t8_mid [] begun = begins begun (start_is t8_mid [] [] refl (λ k d below. absurd (omega (arith, below))) (λ h. omega arith)) in
     let b : IsReached t6 t8_mid [] doomed = then_doomed mid a 1 (inl (refl, refl)) refl (λ s. let f = s.stands in cc) in
-    then_buried_one mid b 1 asked (judged doomed refl) refl refl refl (subst (IsNameOf 1) (sym sender_mid) refl) alone
+    then_buried_one mid b 1 asked (judged doomed refl) refl refl refl refl (subst (IsNameOf 1) (sym sender_mid) refl) alone
 
 done : IsDone t6 t8_mid buried
 done = grind (arith, judged, one_all)

@@ -86,7 +86,7 @@ abbrev answer_lost : Ending
 answer_lost = lose (token send_once 0 (in_message 1 0)) doomed
 
 abbrev buried : Ending
-buried = bury 1 [] answer_lost
+buried = bury 1 answer_lost
 
 none_stands : NoRequests u7_mid.stands
 none_stands = without_stands 1 1 u6.stands sixth.1.quiet.none_stands

@@ -9,7 +9,7 @@ use Rattle.mach_model.specs.State.{State, Target, lookup}
 use Rattle.mach_model.specs.Death.{Dies, IsSentAway}
 use Rattle.mach_model.specs.Notices.{Notice, port_sent, no_more_senders, right_unused, Owed}
 use Rattle.mach_model.specs.Settles.{tokens_of}
-use Rattle.mach_model.specs.Turns.{owed_in, went_in, Ending, listed, AreJudged, IsAtDoomed, IsNameOf, IsRequestOf, death_notice, Takes, PaidForName, Begins, Dooms, Saves, Destroys, Loses, PaysAtBurial, Buries, TellsSenderless, Turn, IsReached, begins, turns, Begun, IsWaiting}
+use Rattle.mach_model.specs.Turns.{owed_in, went_in, Ending, listed, AreJudged, IsAtDoomed, IsNameOf, IsRequestOf, death_notice, Takes, PaidForName, Begins, Dooms, Saves, Destroys, Loses, PaysAtEnd, EndsRequest, Buries, TellsSenderless, Turn, IsReached, begins, turns, Begun, IsWaiting}
 use Rattle.mach_model.specs.Midway.{MidLawful}
 use Rattle.mach_model.proofs.Names.{left_of, right_of, weigh-append, lying_le_of}
 use Rattle.mach_model.proofs.Settling.{lives}
@@ -195,22 +195,36 @@ module _ (old mid : State) (owed : Owed) where
             (one_all (HasPaid mid f.told) (t.right, right_unused) (once, paid_around f.told t.right.place (around e s t.right.place t.destroyed))) (none_all (HasGone mid))
         go (inr (not_once, takes)) = lost [] (t.right ∷ []) takes (none_all (HasPaid mid f.told)) (one_all (HasGone mid) t.right (inr (not_once, around e s t.right.place t.destroyed)))
 
-    buries_sound : Buries mid e f → IsSound old mid owed f
-    buries_sound t =
+    ends_sound : EndsRequest mid e f → IsSound old mid owed f
+    ends_sound t =
         let d : Dies mid t.port = s.doomed t.port t.doomed in
-        adds_sound e f t.paying t.going s record {
+        adds_sound e f t.paying [] s record {
           begun = ap (λ (x : Ending). x.begun) t.rest;
           doomed = was_doomed (ap (λ (x : Ending). x.doomed) t.rest);
           saved = was_saved (ap (λ (x : Ending). x.saved) t.rest);
           told = was_told (ap (λ (x : Ending). x.told) t.rest);
           more = still_told (ap (λ (x : Ending). x.told) t.rest);
           takes = t.takes;
-          pays = weaker (PaysAtBurial mid e t.port) (HasPaid mid f.told) (λ x h. (h.once, paid x.0.place x.1 h.request h.kept h.tells (paid_dead f.told t.port d h.request h.stands h.is_of))) t.paying t.pays;
-          goes = weaker (λ (x : Token). x.port ≡ t.port) (HasGone mid) (λ x is. inl (subst (Dies mid) (sym is) d)) t.going t.goes;
+          pays = weaker (PaysAtEnd e t.request) (HasPaid mid f.told) (λ x h. (h.once, paid x.0.place x.1 t.request h.kept h.tells (paid_dead f.told t.port d t.request t.stands t.is_of))) t.paying t.pays;
+          goes = none_all (HasGone mid);
         }
       where
         paid : (place : Place) (n : Notice) (r : Request) → place ≡ in_request r → n ≡ death_notice r → IsPaidAt mid f.told (in_request r) (death_notice r) → IsPaidAt mid f.told place n
         paid place n r at tells h = subst (λ (x : Place). IsPaidAt mid f.told x n) (sym at) (subst (λ (m : Notice). IsPaidAt mid f.told (in_request r) m) (sym tells) h)
+
+    buries_sound : Buries mid e f → IsSound old mid owed f
+    buries_sound t =
+        let d : Dies mid t.port = s.doomed t.port t.doomed in
+        adds_sound e f [] t.going s record {
+          begun = ap (λ (x : Ending). x.begun) t.rest;
+          doomed = was_doomed (ap (λ (x : Ending). x.doomed) t.rest);
+          saved = was_saved (ap (λ (x : Ending). x.saved) t.rest);
+          told = was_told (ap (λ (x : Ending). x.told) t.rest);
+          more = still_told (ap (λ (x : Ending). x.told) t.rest);
+          takes = t.takes;
+          pays = none_all (HasPaid mid f.told);
+          goes = weaker (λ (x : Token). x.port ≡ t.port) (HasGone mid) (λ x is. inl (subst (Dies mid) (sym is) d)) t.going t.goes;
+        }
 
     tells_sound : TellsSenderless old mid e f → IsSound old mid owed f
     tells_sound t =
@@ -245,8 +259,9 @@ module _ (old mid : State) (owed : Owed) where
     turn_sound (inr (inl t)) = saves_sound t
     turn_sound (inr (inr (inl t))) = destroys_sound t
     turn_sound (inr (inr (inr (inl t)))) = loses_sound t
-    turn_sound (inr (inr (inr (inr (inl t))))) = buries_sound t
-    turn_sound (inr (inr (inr (inr (inr t))))) = tells_sound t
+    turn_sound (inr (inr (inr (inr (inl t))))) = ends_sound t
+    turn_sound (inr (inr (inr (inr (inr (inl t)))))) = buries_sound t
+    turn_sound (inr (inr (inr (inr (inr (inr t)))))) = tells_sound t
 
   pub reached_sound : (e : Ending) → IsReached old mid owed e → IsSound old mid owed e
   reached_sound e' (begins e b) = begins_sound e b
@@ -432,7 +447,9 @@ module _ (old mid : State) (owed : Owed) where
         (let n : f.turns ≡ e.turns + 1 = ap (λ (x : Ending). x.turns) w.rest in omega (arith, n))
     turn_counted (inr (inr (inr (inr (inl w))))) = plain (ap (λ (x : Ending). x.begun) w.rest) (ap (λ (x : Ending). x.doomed) w.rest) (ap (λ (x : Ending). x.saved) w.rest) (ap (λ (x : Ending). x.destroyed) w.rest)
         (let n : f.turns ≡ e.turns + length w.paying = ap (λ (x : Ending). x.turns) w.rest in omega (arith, n))
-    turn_counted (inr (inr (inr (inr (inr w))))) = plain (ap (λ (x : Ending). x.begun) w.rest) (ap (λ (x : Ending). x.doomed) w.rest) (ap (λ (x : Ending). x.saved) w.rest) (ap (λ (x : Ending). x.destroyed) w.rest)
+    turn_counted (inr (inr (inr (inr (inr (inl w)))))) = plain (ap (λ (x : Ending). x.begun) w.rest) (ap (λ (x : Ending). x.doomed) w.rest) (ap (λ (x : Ending). x.saved) w.rest) (ap (λ (x : Ending). x.destroyed) w.rest)
+        (let n : f.turns ≡ e.turns = ap (λ (x : Ending). x.turns) w.rest in omega (arith, n))
+    turn_counted (inr (inr (inr (inr (inr (inr w)))))) = plain (ap (λ (x : Ending). x.begun) w.rest) (ap (λ (x : Ending). x.doomed) w.rest) (ap (λ (x : Ending). x.saved) w.rest) (ap (λ (x : Ending). x.destroyed) w.rest)
         (let n : f.turns ≡ e.turns + length w.paying = ap (λ (x : Ending). x.turns) w.rest in omega (arith, n))
 
   begins_counted : (e : Ending) → Begins mid owed e → IsCounted mid e
@@ -543,8 +560,16 @@ module _ (old mid : State) (owed : Owed) where
         let c = taken_paid e f _ _ w.takes in
         let d = taken_lost e f _ _ w.takes in
         let n : f.turns ≡ e.turns + length w.paying = ap (λ (x : Ending). x.turns) w.rest in
-        record { most = omega (arith, b, c, d, n, before); live = more_live e f _ _ few w.takes (weaker (PaysAtBurial mid e w.port) LivesOn (λ x h. of_request h.request x h.kept) w.paying w.pays) }
-    turn_few e f r few (inr (inr (inr (inr (inr w))))) =
+        record { most = omega (arith, b, c, d, n, before); live = more_live e f _ _ few w.takes (weaker (PaysAtEnd e w.request) LivesOn (λ x h. of_request w.request x h.kept) w.paying w.pays) }
+    turn_few e f r few (inr (inr (inr (inr (inr (inl w)))))) =
+        let before = few.most in
+        let b : length f.doomed + length f.saved + length f.destroyed ≡ length e.doomed + length e.saved + length e.destroyed =
+        ap (λ (x : Ending). length x.doomed + length x.saved + length x.destroyed) w.rest in
+        let c = taken_paid e f _ _ w.takes in
+        let d = taken_lost e f _ _ w.takes in
+        let n : f.turns ≡ e.turns = ap (λ (x : Ending). x.turns) w.rest in
+        record { most = omega (arith, b, c, d, n, before); live = more_live e f _ _ few w.takes (none_all LivesOn) }
+    turn_few e f r few (inr (inr (inr (inr (inr (inr w)))))) =
         let before = few.most in
         let b : length f.doomed + length f.saved + length f.destroyed ≡ length e.doomed + length e.saved + length e.destroyed =
         ap (λ (x : Ending). length x.doomed + length x.saved + length x.destroyed) w.rest in

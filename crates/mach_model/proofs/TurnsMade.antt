@@ -1,22 +1,22 @@
 -- Each turn as a function, and what a chain that is done has left.
 use Rattle.std.proofs.Common.{◌≡◌, ℕ, suc, zero, ◌+◌, ◌<◌, ◌≤◌, List, [], ◌∷◌, Option, Some, None, refl, sym, ap, subst, ◌∙◌, arith, true, false, Bool, ◌⊎◌, inl, inr, length, get_or, ◌++◌}
 use Rattle.std.specs.Prelude.{◌≢◌, if◌then◌else◌, All, not, Contains, ◌==◌, ◌&&◌, map as list_map, filter}
-use Rattle.std.proofs.lemmas.List.Elements.{All-head, All-tail, All-cons, All-append, All-map}
+use Rattle.std.proofs.lemmas.List.Elements.{All-head, All-tail, All-cons, All-map}
 use Rattle.std.proofs.lemmas.Bool.{eq-eqb, and_from, false_from_ne_true, eqb-true}
 use Rattle.std.proofs.lemmas.List.{append-nil}
 use Rattle.mach_types.specs.Tokens.{receive, send, send_once, Request, no_senders, port_destroyed, dead_name, Place, in_task, in_message, in_request, Token, weigh, count, Kind, token, is_of, same_kind}
-use Rattle.mach_model.specs.State.{State, Target, lookup, senders}
+use Rattle.mach_model.specs.State.{State, Target, lookup, senders, same_request}
 use Rattle.mach_model.specs.Death.{same_place, IsSaved}
 use Rattle.mach_model.specs.Notices.{right_unused, Owed, Notice, port_sent, no_more_senders}
 use Rattle.mach_model.specs.Settles.{PlaceStays, StaysWith, Settles, tokens_of}
 use Rattle.mach_model.specs.Carried.{lying}
 use Rattle.mach_model.specs.Lawful.{is_once}
 use Rattle.mach_model.specs.Midway.{MidLawful}
-use Rattle.mach_model.specs.Turns.{Ending, listed, lives_after, became_dead, has_ended, outcome, IsNameOf, IsRequestOf, IsOnGone, IsOffPort, Takes, Begins, Dooms, Saves, Destroys, Loses, Buries, TellsSenderless, Turn, IsReached, begins, turns, IsDone, Begun, IsWaiting, is_judged, IsFound, AreJudged, IsAtDoomed, death_notice, PaysAtBurial, owed_in, went_in, PaidForName}
+use Rattle.mach_model.specs.Turns.{Ending, listed, lives_after, became_dead, has_ended, outcome, IsNameOf, IsRequestOf, IsOnGone, IsOffRequest, is_among, Takes, Begins, Dooms, Saves, Destroys, Loses, EndsRequest, Buries, TellsSenderless, Turn, IsReached, begins, turns, IsDone, Begun, IsWaiting, is_judged, IsFound, AreJudged, IsAtDoomed, death_notice, PaysAtEnd, owed_in, went_in, PaidForName}
 use Rattle.mach_model.proofs.Names.{left_of, count_some, lying_le_of, held_le_of, right_of, some_tally}
 use Rattle.mach_model.proofs.Settling.{is_at, own_test, place_refl, lives}
-use Rattle.mach_model.proofs.SettledReceives.{or_cases, of_kind, at_place, kind_is, place_is}
-use Rattle.mach_model.proofs.TurnsSettle.{IsSound, end_of, turns_settle, tokens_joined_settle as tokens_joined, weaker}
+use Rattle.mach_model.proofs.SettledReceives.{or_cases, or_right, of_kind, at_place, kind_is, place_is}
+use Rattle.mach_model.proofs.TurnsSettle.{IsSound, end_of, turns_settle, weaker}
 use Rattle.mach_model.proofs.TurnsCounted.{listed_later, one_more, takes_less, reached_sound}
 
 -- ---- When nothing is left to do, each right that is left stays: so a chain of turns that is done is an end as `Settles` says.
@@ -51,65 +51,119 @@ all_so P Q so xs all = λ k d below. so (get_or xs k d) (all k d below)
 abbrev at_request : Request → Token → Bool
 at_request r x = same_place (in_request r) x.place
 
--- a right of the request is for a doomed port
-abbrev IsOffRequest : Ending → Request → Token → Type 0
-IsOffRequest e r x = x.place ≡ in_request r → listed e.doomed x.port ≡ true
+-- ---- lists of requests
+
+pub same_request_is : (r q : Request) → same_request r q ≡ true → r ≡ q
+same_request_is (no_senders p) (no_senders q) e = ap no_senders (eqb-true p q e)
+same_request_is (port_destroyed p) (port_destroyed q) e = ap port_destroyed (eqb-true p q e)
+same_request_is (dead_name t n) (dead_name u m) e = grind (arith, eqb-true, left_of, right_of)
+same_request_is (no_senders p) (port_destroyed q) e = absurd (cc)
+same_request_is (no_senders p) (dead_name u m) e = absurd (cc)
+same_request_is (port_destroyed p) (no_senders q) e = absurd (cc)
+same_request_is (port_destroyed p) (dead_name u m) e = absurd (cc)
+same_request_is (dead_name t n) (no_senders q) e = absurd (cc)
+same_request_is (dead_name t n) (port_destroyed q) e = absurd (cc)
+
+pub among_later : (request : Request) (rs : List Request) (r : Request) → is_among rs r ≡ true → is_among (request ∷ rs) r ≡ true
+among_later request rs r h = or_right (same_request r request) (is_among rs r) h
+
+-- what is so of each request of a list with one more
+pub one_among : (P : Request → Type 0) (request : Request) (rs qs : List Request) → qs ≡ request ∷ rs → P request → ((r : Request) → is_among rs r ≡ true → P r) → (r : Request) → is_among qs r ≡ true → P r
+one_among P request rs qs is own others r h = elim (or_cases (same_request r request) (is_among rs r) (ap (λ (xs : List Request). is_among xs r) (sym is) ∙ h)) [
+  | inl same ↦ subst P (sym (same_request_is r request same)) own
+  | inr was ↦ others r was
+]
 
 module _ (old mid : State) (owed : Owed) where
+  abbrev EndedOf : Ending → ℕ → Type 0
+  EndedOf e p = (r : Request) → mid.stands r ≡ true → IsRequestOf mid p r → is_among e.ended r ≡ true
+
   record IsCleared (e : Ending) : Type 0 where
     names : All (λ x. ¬ (IsOnGone mid x.place)) e.left
-    buried : (p : ℕ) → listed e.buried p ≡ true → All (IsOffPort mid e p) e.left
+    ended : (r : Request) → is_among e.ended r ≡ true → All (IsOffRequest e r) e.left
+    buried : (p : ℕ) → listed e.buried p ≡ true → All (λ x. x.port ≢ p) e.left
+    ended_of : (p : ℕ) → listed e.buried p ≡ true → EndedOf e p
     told : (p : ℕ) → listed e.told p ≡ true → All (IsOffRequest e (no_senders p)) e.left
     saved : (p : ℕ) → listed e.saved p ≡ true → count (at_request (port_destroyed p)) e.left ≡ 0
 
-  -- more are doomed, and fewer rights are left
+  -- more are doomed and have ended, and fewer rights are left
   record IsFewer (e f : Ending) : Type 0 where
     doomed : (p : ℕ) → listed e.doomed p ≡ true → listed f.doomed p ≡ true
+    ended : (r : Request) → is_among e.ended r ≡ true → is_among f.ended r ≡ true
     left : (h : Token → ℕ) → weigh h f.left ≤ weigh h e.left
 
   module _ (e f : Ending) (n : IsFewer e f) where
-    off_port : (port : ℕ) (x : Token) → IsOffPort mid e port x → IsOffPort mid f port x
-    off_port port x h = (h.0, λ r at is. n.doomed x.port (h.1 r at is))
-
     off_request : (r : Request) (x : Token) → IsOffRequest e r x → IsOffRequest f r x
     off_request r x h at = n.doomed x.port (h at)
 
-    was_buried : IsCleared e → (p : ℕ) → listed e.buried p ≡ true → All (IsOffPort mid f p) f.left
-    was_buried c p h = all_so (IsOffPort mid e p) (IsOffPort mid f p) (off_port p) f.left (all_fewer (IsOffPort mid e p) f.left e.left n.left (c.buried p h))
+    all_off : (r : Request) → All (IsOffRequest e r) e.left → All (IsOffRequest f r) f.left
+    all_off r all = all_so (IsOffRequest e r) (IsOffRequest f r) (off_request r) f.left (all_fewer (IsOffRequest e r) f.left e.left n.left all)
 
-    was_told : IsCleared e → (p : ℕ) → listed e.told p ≡ true → All (IsOffRequest f (no_senders p)) f.left
-    was_told c p h = all_so (IsOffRequest e (no_senders p)) (IsOffRequest f (no_senders p)) (off_request (no_senders p)) f.left (all_fewer (IsOffRequest e (no_senders p)) f.left e.left n.left (c.told p h))
-
-    was_saved : IsCleared e → (p : ℕ) → listed e.saved p ≡ true → count (at_request (port_destroyed p)) f.left ≡ 0
-    was_saved c p h = let z = c.saved p h in let a = n.left (λ x. if at_request (port_destroyed p) x then 1 else 0) in omega (arith, z, a)
-
-    -- the ports of the lists are those of before, or their facts are shown
-    kept : IsCleared e → ((p : ℕ) → listed f.buried p ≡ true → All (IsOffPort mid f p) f.left) → ((p : ℕ) → listed f.told p ≡ true → All (IsOffRequest f (no_senders p)) f.left) →
-        ((p : ℕ) → listed f.saved p ≡ true → count (at_request (port_destroyed p)) f.left ≡ 0) → IsCleared f
-    kept c buried told saved = record { names = all_fewer (λ x. ¬ (IsOnGone mid x.place)) f.left e.left n.left c.names; buried = buried; told = told; saved = saved }
+    still_off : (r : Request) → All (IsOffRequest e r) f.left → All (IsOffRequest f r) f.left
+    still_off r all = all_so (IsOffRequest e r) (IsOffRequest f r) (off_request r) f.left all
 
     same_list : (P : ℕ → Type 0) (ps qs : List ℕ) → qs ≡ ps → ((p : ℕ) → listed ps p ≡ true → P p) → (p : ℕ) → listed qs p ≡ true → P p
     same_list P ps qs is all p h = all p (ap (λ (ps : List ℕ). listed ps p) (sym is) ∙ h)
 
-    calm_kept : IsCleared e → f.buried ≡ e.buried → f.told ≡ e.told → f.saved ≡ e.saved → IsCleared f
-    calm_kept c b t s = grind (arith, kept, same_list, was_buried, was_told, was_saved)
+    module _ (c : IsCleared e) where
+      was_ended : (r : Request) → is_among e.ended r ≡ true → All (IsOffRequest f r) f.left
+      was_ended r h = all_off r (c.ended r h)
+
+      was_buried : (p : ℕ) → listed e.buried p ≡ true → All (λ x. x.port ≢ p) f.left
+      was_buried p h = all_fewer (λ x. x.port ≢ p) f.left e.left n.left (c.buried p h)
+
+      was_ended_of : (p : ℕ) → listed e.buried p ≡ true → EndedOf f p
+      was_ended_of p h r stands of = n.ended r (c.ended_of p h r stands of)
+
+      was_told : (p : ℕ) → listed e.told p ≡ true → All (IsOffRequest f (no_senders p)) f.left
+      was_told p h = all_off (no_senders p) (c.told p h)
+
+      was_saved : (p : ℕ) → listed e.saved p ≡ true → count (at_request (port_destroyed p)) f.left ≡ 0
+      was_saved p h = let z = c.saved p h in let a = n.left (λ x. if at_request (port_destroyed p) x then 1 else 0) in omega (arith, z, a)
+
+      same_ended : f.ended ≡ e.ended → (r : Request) → is_among f.ended r ≡ true → All (IsOffRequest f r) f.left
+      same_ended is r h = was_ended r (ap (λ (rs : List Request). is_among rs r) (sym is) ∙ h)
+
+      -- where no port was buried
+      unburied_kept : f.buried ≡ e.buried → ((r : Request) → is_among f.ended r ≡ true → All (IsOffRequest f r) f.left) → ((p : ℕ) → listed f.told p ≡ true → All (IsOffRequest f (no_senders p)) f.left) →
+          ((p : ℕ) → listed f.saved p ≡ true → count (at_request (port_destroyed p)) f.left ≡ 0) → IsCleared f
+      unburied_kept b ended told saved = record {
+        names = all_fewer (λ x. ¬ (IsOnGone mid x.place)) f.left e.left n.left c.names;
+        ended = ended;
+        buried = same_list (λ p. All (λ x. x.port ≢ p) f.left) e.buried f.buried b was_buried;
+        ended_of = same_list (EndedOf f) e.buried f.buried b was_ended_of;
+        told = told;
+        saved = saved;
+      }
+
+      now_told : f.told ≡ e.told → (p : ℕ) → listed f.told p ≡ true → All (IsOffRequest f (no_senders p)) f.left
+      now_told t = same_list (λ p. All (IsOffRequest f (no_senders p)) f.left) e.told f.told t was_told
+
+      now_saved : f.saved ≡ e.saved → (p : ℕ) → listed f.saved p ≡ true → count (at_request (port_destroyed p)) f.left ≡ 0
+      now_saved s = same_list (λ p. count (at_request (port_destroyed p)) f.left ≡ 0) e.saved f.saved s was_saved
+
+      calm_kept : f.ended ≡ e.ended → f.buried ≡ e.buried → f.told ≡ e.told → f.saved ≡ e.saved → IsCleared f
+      calm_kept d b t s = unburied_kept b (same_ended d) (now_told t) (now_saved s)
 
   same_doomed : (e f : Ending) → f.doomed ≡ e.doomed → (p : ℕ) → listed e.doomed p ≡ true → listed f.doomed p ≡ true
   same_doomed e f is p h = ap (λ (ps : List ℕ). listed ps p) is ∙ h
+
+  still_ended : (e f : Ending) → f.ended ≡ e.ended → (r : Request) → is_among e.ended r ≡ true → is_among f.ended r ≡ true
+  still_ended e f is r h = ap (λ (rs : List Request). is_among rs r) is ∙ h
 
   module _ (l : MidLawful mid owed) (e f : Ending) (s : IsSound old mid owed e) (c : IsCleared e) where
     no_less : f.left ≡ e.left → (h : Token → ℕ) → weigh h f.left ≤ weigh h e.left
     no_less is h = let a : weigh h f.left ≡ weigh h e.left = ap (weigh h) is in omega (arith, a)
 
     dooms_cleared : Dooms mid e f → IsCleared f
-    dooms_cleared t = grind (arith, calm_kept, listed_later, no_less)
+    dooms_cleared t = grind (arith, calm_kept, listed_later, still_ended, no_less)
 
     destroys_cleared : Destroys mid e f → IsCleared f
-    destroys_cleared t = grind (arith, calm_kept, same_doomed, no_less)
+    destroys_cleared t = grind (arith, calm_kept, same_doomed, still_ended, no_less)
 
     loses_cleared : Loses mid e f → IsCleared f
-    loses_cleared t = calm_kept e f (record { doomed = same_doomed e f (ap (λ (x : Ending). x.doomed) t.rest); left = less t.takes })
-        c (ap (λ (x : Ending). x.buried) t.rest) (ap (λ (x : Ending). x.told) t.rest) (ap (λ (x : Ending). x.saved) t.rest)
+    loses_cleared t = calm_kept e f (record { doomed = same_doomed e f (ap (λ (x : Ending). x.doomed) t.rest); ended = still_ended e f (ap (λ (x : Ending). x.ended) t.rest); left = less t.takes })
+        c (ap (λ (x : Ending). x.ended) t.rest) (ap (λ (x : Ending). x.buried) t.rest) (ap (λ (x : Ending). x.told) t.rest) (ap (λ (x : Ending). x.saved) t.rest)
       where
         less : (t.right.kind ≡ send_once) × Takes e f ((t.right, right_unused) ∷ []) [] ⊎ (t.right.kind ≢ send_once) × Takes e f [] (t.right ∷ []) → (h : Token → ℕ) → weigh h f.left ≤ weigh h e.left
         less (inl a) = takes_less e f _ _ a.1
@@ -117,10 +171,8 @@ module _ (old mid : State) (owed : Owed) where
 
     saves_cleared : Saves mid e f → IsCleared f
     saves_cleared t =
-        let n : IsFewer e f = record { doomed = same_doomed e f (ap (λ (x : Ending). x.doomed) t.rest); left = takes_less e f _ _ t.takes } in
-        kept e f n c
-        (same_list e f n (λ p. All (IsOffPort mid f p) f.left) e.buried f.buried (ap (λ (x : Ending). x.buried) t.rest) (was_buried e f n c))
-        (same_list e f n (λ p. All (IsOffRequest f (no_senders p)) f.left) e.told f.told (ap (λ (x : Ending). x.told) t.rest) (was_told e f n c))
+        let n : IsFewer e f = record { doomed = same_doomed e f (ap (λ (x : Ending). x.doomed) t.rest); ended = still_ended e f (ap (λ (x : Ending). x.ended) t.rest); left = takes_less e f _ _ t.takes } in
+        unburied_kept e f n c (ap (λ (x : Ending). x.buried) t.rest) (same_ended e f n c (ap (λ (x : Ending). x.ended) t.rest)) (now_told e f n c (ap (λ (x : Ending). x.told) t.rest))
         (one_more (λ p. count (at_request (port_destroyed p)) f.left ≡ 0) t.port e.saved f.saved (ap (λ (x : Ending). x.saved) t.rest) taken (was_saved e f n c))
       where
         own : same_place (in_request (port_destroyed t.port)) (in_request (port_destroyed t.port)) ≡ true
@@ -135,36 +187,52 @@ module _ (old mid : State) (owed : Owed) where
             let o : (if same_place (in_request (port_destroyed t.port)) (in_request (port_destroyed t.port)) then suc zero else zero) ≡ suc zero = rw own refl in
             omega (arith, a, b, one, o)
 
+    ends_cleared : EndsRequest mid e f → IsCleared f
+    ends_cleared t =
+        let now : f.ended ≡ t.request ∷ e.ended = ap (λ (x : Ending). x.ended) t.rest in
+        let n : IsFewer e f = record {
+          doomed = same_doomed e f (ap (λ (x : Ending). x.doomed) t.rest);
+          ended = λ r h. ap (λ (rs : List Request). is_among rs r) now ∙ among_later t.request e.ended r h;
+          left = takes_less e f _ _ t.takes;
+        } in
+        unburied_kept e f n c (ap (λ (x : Ending). x.buried) t.rest)
+        (one_among (λ r. All (IsOffRequest f r) f.left) t.request e.ended f.ended now (still_off e f n t.request t.all_left) (was_ended e f n c))
+        (now_told e f n c (ap (λ (x : Ending). x.told) t.rest)) (now_saved e f n c (ap (λ (x : Ending). x.saved) t.rest))
+
     buries_cleared : Buries mid e f → IsCleared f
     buries_cleared t =
-        let n : IsFewer e f = record { doomed = same_doomed e f (ap (λ (x : Ending). x.doomed) t.rest); left = takes_less e f _ _ t.takes } in
-        kept e f n c
-        (one_more (λ p. All (IsOffPort mid f p) f.left) t.port e.buried f.buried (ap (λ (x : Ending). x.buried) t.rest)
-        (all_so (IsOffPort mid e t.port) (IsOffPort mid f t.port) (off_port e f n t.port) f.left t.all_left) (was_buried e f n c))
-        (same_list e f n (λ p. All (IsOffRequest f (no_senders p)) f.left) e.told f.told (ap (λ (x : Ending). x.told) t.rest) (was_told e f n c))
-        (same_list e f n (λ p. count (at_request (port_destroyed p)) f.left ≡ 0) e.saved f.saved (ap (λ (x : Ending). x.saved) t.rest) (was_saved e f n c))
+        let n : IsFewer e f = record { doomed = same_doomed e f (ap (λ (x : Ending). x.doomed) t.rest); ended = still_ended e f (ap (λ (x : Ending). x.ended) t.rest); left = takes_less e f _ _ t.takes } in
+        record {
+          names = all_fewer (λ x. ¬ (IsOnGone mid x.place)) f.left e.left n.left c.names;
+          ended = same_ended e f n c (ap (λ (x : Ending). x.ended) t.rest);
+          buried = one_more (λ p. All (λ x. x.port ≢ p) f.left) t.port e.buried f.buried (ap (λ (x : Ending). x.buried) t.rest) t.all_left (was_buried e f n c);
+          ended_of = one_more (EndedOf f) t.port e.buried f.buried (ap (λ (x : Ending). x.buried) t.rest) (λ r stands of. n.ended r (t.ended r stands of)) (was_ended_of e f n c);
+          told = now_told e f n c (ap (λ (x : Ending). x.told) t.rest);
+          saved = now_saved e f n c (ap (λ (x : Ending). x.saved) t.rest);
+        }
 
     tells_cleared : TellsSenderless old mid e f → IsCleared f
     tells_cleared t =
-        let n : IsFewer e f = record { doomed = same_doomed e f (ap (λ (x : Ending). x.doomed) t.rest); left = takes_less e f _ _ t.takes } in
-        kept e f n c
-        (same_list e f n (λ p. All (IsOffPort mid f p) f.left) e.buried f.buried (ap (λ (x : Ending). x.buried) t.rest) (was_buried e f n c))
-        (one_more (λ p. All (IsOffRequest f (no_senders p)) f.left) t.port e.told f.told (ap (λ (x : Ending). x.told) t.rest)
-        (all_so (IsOffRequest e (no_senders t.port)) (IsOffRequest f (no_senders t.port)) (off_request e f n (no_senders t.port)) f.left t.all_left) (was_told e f n c))
-        (same_list e f n (λ p. count (at_request (port_destroyed p)) f.left ≡ 0) e.saved f.saved (ap (λ (x : Ending). x.saved) t.rest) (was_saved e f n c))
+        let n : IsFewer e f = record { doomed = same_doomed e f (ap (λ (x : Ending). x.doomed) t.rest); ended = still_ended e f (ap (λ (x : Ending). x.ended) t.rest); left = takes_less e f _ _ t.takes } in
+        unburied_kept e f n c (ap (λ (x : Ending). x.buried) t.rest) (same_ended e f n c (ap (λ (x : Ending). x.ended) t.rest))
+        (one_more (λ p. All (IsOffRequest f (no_senders p)) f.left) t.port e.told f.told (ap (λ (x : Ending). x.told) t.rest) (still_off e f n (no_senders t.port) t.all_left) (was_told e f n c))
+        (now_saved e f n c (ap (λ (x : Ending). x.saved) t.rest))
 
     turn_cleared : Turn old mid e f → IsCleared f
     turn_cleared (inl t) = dooms_cleared t
     turn_cleared (inr (inl t)) = saves_cleared t
     turn_cleared (inr (inr (inl t))) = destroys_cleared t
     turn_cleared (inr (inr (inr (inl t)))) = loses_cleared t
-    turn_cleared (inr (inr (inr (inr (inl t))))) = buries_cleared t
-    turn_cleared (inr (inr (inr (inr (inr t))))) = tells_cleared t
+    turn_cleared (inr (inr (inr (inr (inl t))))) = ends_cleared t
+    turn_cleared (inr (inr (inr (inr (inr (inl t)))))) = buries_cleared t
+    turn_cleared (inr (inr (inr (inr (inr (inr t)))))) = tells_cleared t
 
   begins_cleared : (e : Ending) → Begins mid owed e → IsCleared e
   begins_cleared e b = record {
     names = b.all_went;
+    ended = λ r h. absurd (let z : is_among e.ended r ≡ false = ap (λ (x : Ending). is_among x.ended r) b.rest in cc);
     buried = λ p h. absurd (let z : listed e.buried p ≡ false = ap (λ (x : Ending). listed x.buried p) b.rest in cc);
+    ended_of = λ p h. absurd (let z : listed e.buried p ≡ false = ap (λ (x : Ending). listed x.buried p) b.rest in cc);
     told = λ p h. absurd (let z : listed e.told p ≡ false = ap (λ (x : Ending). listed x.told p) b.rest in cc);
     saved = λ p h. absurd (let z : listed e.saved p ≡ false = ap (λ (x : Ending). listed x.saved p) b.rest in cc);
   }
@@ -195,10 +263,6 @@ module _ (old mid : State) (owed : Owed) where
       stood : (r : Request) → x.place ≡ in_request r → mid.stands r ≡ true
       stood r at = grind (arith, lies_at (in_request r) at)
 
-    -- a request that keeps it stood
-    stood_all : All (λ x. (r : Request) → x.place ≡ in_request r → mid.stands r ≡ true) e.left
-    stood_all k o below r at = stood k o below r at
-
   -- ---- what is left stays
 
   module _ (l : MidLawful mid owed) (e : Ending) (s : IsSound old mid owed e) (c : IsCleared e) (d : IsDone old mid e) where
@@ -220,11 +284,11 @@ module _ (old mid : State) (owed : Owed) where
       right = get_or e.left k o
 
       undoomed : listed e.doomed right.port ≡ true → ⊥
-      undoomed h = (c.buried right.port (d.buried right.port h) k o below).0 refl
+      undoomed h = c.buried right.port (d.buried right.port h) k o below refl
 
       -- its request is none of a doomed port
       off_doomed : (p : ℕ) (r : Request) → right.place ≡ in_request r → IsRequestOf mid p r → mid.live_port p ≡ true → not (lives_after mid e p) ≡ true → ⊥
-      off_doomed p r at is live gone = undoomed ((c.buried p (d.buried p (gone_doomed p live gone)) k o below).1 r at is)
+      off_doomed p r at is live gone = undoomed (c.ended r (c.ended_of p (d.buried p (gone_doomed p live gone)) r (stood l e s c k o below r at) is) k o below at)
 
       unended : (r : Request) → right.place ≡ in_request r → mid.stands r ≡ true → has_ended mid e r ≡ true → ⊥
       unended (no_senders p) at stands h = elim (or_cases (not (lives_after mid e p)) (listed e.told p) h) [
@@ -257,9 +321,35 @@ module _ (old mid : State) (owed : Owed) where
     left_stays : All (StaysWith (outcome mid e)) e.left
     left_stays k o below = one_stays k o below
 
--- A request that keeps a right that is left stood.
-pub left_stood : (old mid : State) (owed : Owed) (e : Ending) → MidLawful mid owed → IsReached old mid owed e → All (λ x. (r : Request) → x.place ≡ in_request r → mid.stands r ≡ true) e.left
-left_stood old mid owed e l r = stood_all old mid owed l e (reached_sound old mid owed e r) (reached_cleared old mid owed l e r)
+-- ---- requests that ended are of doomed ports
+
+pub record EndedWell (mid : State) (e : Ending) (r : Request) : Type 0 where
+  pub port : ℕ
+  pub doomed : listed e.doomed port ≡ true
+  pub stands : mid.stands r ≡ true
+  pub is_of : IsRequestOf mid port r
+
+module _ (old mid : State) (owed : Owed) where
+  more_doomed : (e f : Ending) → ((p : ℕ) → listed e.doomed p ≡ true → listed f.doomed p ≡ true) → (r : Request) → EndedWell mid e r → EndedWell mid f r
+  more_doomed e f more r h = record { port = h.port; doomed = more h.port h.doomed; stands = h.stands; is_of = h.is_of }
+
+  same_well : (e f : Ending) → f.doomed ≡ e.doomed → f.ended ≡ e.ended → ((r : Request) → is_among e.ended r ≡ true → EndedWell mid e r) → (r : Request) → is_among f.ended r ≡ true → EndedWell mid f r
+  same_well e f doomed ended well r h = more_doomed e f (same_doomed old mid owed e f doomed) r (well r (ap (λ (rs : List Request). is_among rs r) (sym ended) ∙ h))
+
+  turn_well : (e f : Ending) → Turn old mid e f → ((r : Request) → is_among e.ended r ≡ true → EndedWell mid e r) → (r : Request) → is_among f.ended r ≡ true → EndedWell mid f r
+  turn_well e f (inl t) well r h = more_doomed e f (λ p was. ap (λ (x : Ending). listed x.doomed p) t.rest ∙ listed_later t.port e.doomed p was) r (well r (ap (λ (x : Ending). is_among x.ended r) (sym t.rest) ∙ h))
+  turn_well e f (inr (inl t)) well r h = same_well e f (ap (λ (x : Ending). x.doomed) t.rest) (ap (λ (x : Ending). x.ended) t.rest) well r h
+  turn_well e f (inr (inr (inl t))) well r h = same_well e f (ap (λ (x : Ending). x.doomed) t.rest) (ap (λ (x : Ending). x.ended) t.rest) well r h
+  turn_well e f (inr (inr (inr (inl t)))) well r h = same_well e f (ap (λ (x : Ending). x.doomed) t.rest) (ap (λ (x : Ending). x.ended) t.rest) well r h
+  turn_well e f (inr (inr (inr (inr (inl t))))) well r h =
+      let same = same_doomed old mid owed e f (ap (λ (x : Ending). x.doomed) t.rest) in
+      one_among (EndedWell mid f) t.request e.ended f.ended (ap (λ (x : Ending). x.ended) t.rest) (record { port = t.port; doomed = same t.port t.doomed; stands = t.stands; is_of = t.is_of }) (λ r h. more_doomed e f same r (well r h)) r h
+  turn_well e f (inr (inr (inr (inr (inr (inl t)))))) well r h = same_well e f (ap (λ (x : Ending). x.doomed) t.rest) (ap (λ (x : Ending). x.ended) t.rest) well r h
+  turn_well e f (inr (inr (inr (inr (inr (inr t)))))) well r h = same_well e f (ap (λ (x : Ending). x.doomed) t.rest) (ap (λ (x : Ending). x.ended) t.rest) well r h
+
+  pub reached_ended : (e : Ending) → IsReached old mid owed e → (r : Request) → is_among e.ended r ≡ true → EndedWell mid e r
+  reached_ended e' (begins e b) r h = absurd (let z : is_among e.ended r ≡ false = ap (λ (x : Ending). is_among x.ended r) b.rest in cc)
+  reached_ended f' (turns e f before t) r h = turn_well e f t (reached_ended e before) r h
 
 -- A chain of turns that is done leads to an end of the step.
 pub reached_settles : (now : ℕ) (old mid : State) (owed : Owed) (e : Ending) → MidLawful mid owed → IsReached old mid owed e → IsDone old mid e → Settles now old mid owed (end_of now mid e)
@@ -402,23 +492,17 @@ lose_is mid e x judged lives at there = record { right = x; judged = judged; liv
 abbrev pub is_paying : Ending → Request → Token → Bool
 is_paying e r x = same_place (in_request r) x.place && not (listed e.doomed x.port)
 
--- these requests in turn, each with its notice
-abbrev pub paying_of : Ending → (Request → Notice) → List Request → List Token → Owed
-paying_of e n [] xs = []
-paying_of e n (r ∷ rs) xs = notes (λ x. n r) (filter (is_paying e r) xs) ++ paying_of e n rs (filter (λ x. not (is_paying e r x)) xs)
+abbrev pub paying_of : Ending → Notice → Request → List Token → Owed
+paying_of e n r xs = notes (λ x. n) (filter (is_paying e r) xs)
 
-abbrev pub left_of_all : Ending → List Request → List Token → List Token
-left_of_all e [] xs = xs
-left_of_all e (r ∷ rs) xs = left_of_all e rs (filter (λ x. not (is_paying e r x)) xs)
+abbrev pub left_after : Ending → Request → List Token → List Token
+left_after e r xs = filter (λ x. not (is_paying e r x)) xs
 
-paying_weigh : (e : Ending) (n : Request → Notice) (rs : List Request) (xs : List Token) (h : Token → ℕ) → weigh h xs ≡ weigh h (left_of_all e rs xs) + weigh h (tokens_of (paying_of e n rs xs))
-paying_weigh e n [] xs h = omega arith
-paying_weigh e n (r ∷ rs) xs h =
+paying_weigh : (e : Ending) (n : Notice) (r : Request) (xs : List Token) (h : Token → ℕ) → weigh h xs ≡ weigh h (left_after e r xs) + weigh h (tokens_of (paying_of e n r xs))
+paying_weigh e n r xs h =
     let a = parted h (is_paying e r) xs in
-    let b = paying_weigh e n rs (filter (λ x. not (is_paying e r x)) xs) h in
-    let c = tokens_joined h (notes (λ x. n r) (filter (is_paying e r) xs)) (paying_of e n rs (filter (λ x. not (is_paying e r x)) xs)) in
-    let d : weigh h (tokens_of (notes (λ x. n r) (filter (is_paying e r) xs))) ≡ weigh h (filter (is_paying e r) xs) = ap (weigh h) (notes_tokens (λ x. n r) (filter (is_paying e r) xs)) in
-    omega (arith, a, b, c, d)
+    let d : weigh h (tokens_of (notes (λ x. n) (filter (is_paying e r) xs))) ≡ weigh h (filter (is_paying e r) xs) = ap (weigh h) (notes_tokens (λ x. n) (filter (is_paying e r) xs)) in
+    omega (arith, a, d)
 
 -- a right that a request keeps is a send-once right
 abbrev pub IsOnceKept : Token → Type 0
@@ -441,113 +525,91 @@ all_once_kept old mid owed e l s k d below r at = go (get_or e.left k d).kind re
     go send is = absurd (none send is (λ f. cc))
     go send_once is = is
 
--- what paid is the right of one of the requests
-pub record IsPaying (e : Ending) (n : Request → Notice) (rs : List Request) (x : Token × Notice) : Type 0 where
-  pub request : Request
-  pub one : Contains rs request
+-- what paid is the right of the request
+pub record IsPaying (e : Ending) (n : Notice) (request : Request) (x : Token × Notice) : Type 0 where
   pub once : x.0.kind ≡ send_once
   pub lives : listed e.doomed x.0.port ≡ false
   pub kept : x.0.place ≡ in_request request
-  pub tells : x.1 ≡ n request
+  pub tells : x.1 ≡ n
 
-later : (r : Request) (rs : List Request) (q : Request) → Contains rs q → Contains (r ∷ rs) q
-later r rs q (i, below, is) = (suc i, omega (arith, below), is)
-
-all_paying : (e : Ending) (n : Request → Notice) (rs : List Request) (xs : List Token) → All IsOnceKept xs → All (IsPaying e n rs) (paying_of e n rs xs)
-all_paying e n [] xs all = λ k d below. absurd (omega arith)
-all_paying e n (r ∷ rs) xs all = All-append (IsPaying e n (r ∷ rs)) (notes (λ x. n r) (filter (is_paying e r) xs)) (paying_of e n rs (filter (λ x. not (is_paying e r x)) xs))
-    (All-map (IsPaying e n (r ∷ rs)) (λ x. (x, n r)) (filter (is_paying e r) xs)
-    (weaker (λ x. IsOnceKept x × (is_paying e r x ≡ true)) (λ x. IsPaying e n (r ∷ rs) (x, n r)) first (filter (is_paying e r) xs) (passing IsOnceKept (is_paying e r) xs all)))
-    (weaker (IsPaying e n rs) (IsPaying e n (r ∷ rs)) (λ x h. record { request = h.request; one = later r rs h.request h.one; once = h.once; lives = h.lives; kept = h.kept; tells = h.tells })
-    (paying_of e n rs (filter (λ x. not (is_paying e r x)) xs))
-    (all_paying e n rs (filter (λ x. not (is_paying e r x)) xs) (weaker (λ x. IsOnceKept x × (not (is_paying e r x) ≡ true)) IsOnceKept (λ x h. h.0) (filter (λ x. not (is_paying e r x)) xs)
-    (passing IsOnceKept (λ x. not (is_paying e r x)) xs all))))
+all_paying : (e : Ending) (n : Notice) (r : Request) (xs : List Token) → All IsOnceKept xs → All (IsPaying e n r) (paying_of e n r xs)
+all_paying e n r xs all = All-map (IsPaying e n r) (λ x. (x, n)) (filter (is_paying e r) xs)
+    (weaker (λ x. IsOnceKept x × (is_paying e r x ≡ true)) (λ x. IsPaying e n r (x, n)) first (filter (is_paying e r) xs) (passing IsOnceKept (is_paying e r) xs all))
   where
-    first : (x : Token) → IsOnceKept x × (is_paying e r x ≡ true) → IsPaying e n (r ∷ rs) (x, n r)
+    first : (x : Token) → IsOnceKept x × (is_paying e r x ≡ true) → IsPaying e n r (x, n)
     first x h =
         let at = place_is (in_request r) x.place (left_of (same_place (in_request r) x.place) (not (listed e.doomed x.port)) h.1) in
-        record {
-          request = r;
-          one = (zero, omega arith, refl);
-          once = h.0 r at;
-          lives = not_true (listed e.doomed x.port) (right_of (same_place (in_request r) x.place) (not (listed e.doomed x.port)) h.1);
-          kept = at;
-          tells = refl;
-        }
+        record { once = h.0 r at; lives = not_true (listed e.doomed x.port) (right_of (same_place (in_request r) x.place) (not (listed e.doomed x.port)) h.1); kept = at; tells = refl }
 
--- no right that is left is one of them
-abbrev pub IsOffRequests : Ending → List Request → Token → Type 0
-IsOffRequests e rs x = (r : Request) → Contains rs r → x.place ≡ in_request r → listed e.doomed x.port ≡ true
-
-off_requests : (e : Ending) (P : Token → Type 0) (rs : List Request) (xs : List Token) → All P xs → All (λ x. P x × IsOffRequests e rs x) (left_of_all e rs xs)
-off_requests e P [] xs all = grind (arith, weaker)
-off_requests e P (r ∷ rs) xs all =
-    weaker (λ x. (P x × (not (is_paying e r x) ≡ true)) × IsOffRequests e rs x) (λ x. P x × IsOffRequests e (r ∷ rs) x) (λ x h. (h.0.0, off x h.0.1 h.1))
-    (left_of_all e rs (filter (λ x. not (is_paying e r x)) xs))
-    (off_requests e (λ x. P x × (not (is_paying e r x) ≡ true)) rs (filter (λ x. not (is_paying e r x)) xs) (passing P (λ x. not (is_paying e r x)) xs all))
+-- no right that is left is its
+off_request_left : (e : Ending) (r : Request) (xs : List Token) → All (IsOffRequest e r) (left_after e r xs)
+off_request_left e r xs = weaker (λ x. Unit {0} × (not (is_paying e r x) ≡ true)) (IsOffRequest e r) off (left_after e r xs) (passing (λ x. Unit {0}) (λ x. not (is_paying e r x)) xs (any_all xs))
   where
-    off : (x : Token) → not (is_paying e r x) ≡ true → IsOffRequests e rs x → IsOffRequests e (r ∷ rs) x
-    off x h rest q (zero, below, is) at =
-        not_both (same_place (in_request r) x.place) (listed e.doomed x.port) h (subst (λ (y : Place). same_place (in_request r) y ≡ true) (sym (at ∙ ap in_request (sym is))) (place_refl (in_request r)))
-    off x h rest q (suc i, below, is) at = rest q (i, omega (arith, below), is) at
+    off : (x : Token) → Unit {0} × (not (is_paying e r x) ≡ true) → IsOffRequest e r x
+    off x h at = not_both (same_place (in_request r) x.place) (listed e.doomed x.port) h.1 (subst (λ (y : Place). same_place (in_request r) y ≡ true) (sym at) (place_refl (in_request r)))
+
+-- ---- a request ends with its dead port
+
+abbrev pub end_request : Request → Ending → Ending
+end_request r e = record e {
+  ended = r ∷ e.ended;
+  left = left_after e r e.left;
+  paid = e.paid ++ paying_of e (death_notice r) r e.left;
+  turns = e.turns + length (paying_of e (death_notice r) r e.left);
+}
+
+pub end_is : (old mid : State) (owed : Owed) (e : Ending) (p : ℕ) (r : Request) → MidLawful mid owed → IsReached old mid owed e → AreJudged mid e → listed e.doomed p ≡ true → listed e.buried p ≡ false →
+    mid.stands r ≡ true → IsRequestOf mid p r → is_among e.ended r ≡ false → EndsRequest mid e (end_request r e)
+end_is old mid owed e p r l reached judged doomed unburied stands of unended = record {
+  port = p;
+  request = r;
+  judged = judged;
+  doomed = doomed;
+  unburied = unburied;
+  stands = stands;
+  is_of = of;
+  unended = unended;
+  paying = paying_of e (death_notice r) r e.left;
+  pays = weaker (IsPaying e (death_notice r) r) (PaysAtEnd e r) (λ x h. record { once = h.once; lives = h.lives; kept = h.kept; tells = h.tells }) (paying_of e (death_notice r) r e.left)
+      (all_paying e (death_notice r) r e.left (all_once_kept old mid owed e l (reached_sound old mid owed e reached)));
+  takes = record { left = λ h. let a = paying_weigh e (death_notice r) r e.left h in omega (arith, a); paid = refl; gone = sym (append-nil e.gone) };
+  all_left = off_request_left e r e.left;
+  rest = refl;
+}
 
 -- ---- a port is buried
 
-abbrev pub burial_left : ℕ → List Request → Ending → List Token
-burial_left p rs e = left_of_all e rs e.left
+abbrev pub bury : ℕ → Ending → Ending
+bury p e = record e { buried = p ∷ e.buried; left = filter (λ x. not (x.port == p)) e.left; gone = e.gone ++ filter (λ x. x.port == p) e.left }
 
-abbrev pub bury : ℕ → List Request → Ending → Ending
-bury p rs e = record e {
-  buried = p ∷ e.buried;
-  left = filter (λ x. not (x.port == p)) (burial_left p rs e);
-  paid = e.paid ++ paying_of e death_notice rs e.left;
-  gone = e.gone ++ filter (λ x. x.port == p) (burial_left p rs e);
-  turns = e.turns + length (paying_of e death_notice rs e.left);
-}
-
-pub bury_is : (old mid : State) (owed : Owed) (e : Ending) (p : ℕ) (rs : List Request) → MidLawful mid owed → IsReached old mid owed e → AreJudged mid e → listed e.doomed p ≡ true → listed e.buried p ≡ false →
-    All (λ r. (mid.stands r ≡ true) × IsRequestOf mid p r) rs → ((r : Request) → mid.stands r ≡ true → IsRequestOf mid p r → Contains rs r) → Buries mid e (bury p rs e)
-bury_is old mid owed e p rs l reached judged doomed unburied ends every = record {
+pub bury_is : (mid : State) (e : Ending) (p : ℕ) → AreJudged mid e → listed e.doomed p ≡ true → listed e.buried p ≡ false →
+    ((r : Request) → mid.stands r ≡ true → IsRequestOf mid p r → is_among e.ended r ≡ true) → Buries mid e (bury p e)
+bury_is mid e p judged doomed unburied ended = record {
   port = p;
   judged = judged;
   doomed = doomed;
   unburied = unburied;
-  paying = paying_of e death_notice rs e.left;
-  pays = weaker (IsPaying e death_notice rs) (PaysAtBurial mid e p) pays (paying_of e death_notice rs e.left)
-      (all_paying e death_notice rs e.left (all_once_kept old mid owed e l (reached_sound old mid owed e reached)));
-  going = filter (λ x. x.port == p) (burial_left p rs e);
-  goes = weaker (λ x. Unit {0} × ((x.port == p) ≡ true)) (λ x. x.port ≡ p) (λ x h. eqb-true x.port p h.1) (filter (λ x. x.port == p) (burial_left p rs e))
-      (passing (λ x. Unit {0}) (λ x. x.port == p) (burial_left p rs e) (any_all (burial_left p rs e)));
-  takes = record {
-    left = λ h. let a = paying_weigh e death_notice rs e.left h in let b = parted h (λ x. x.port == p) (burial_left p rs e) in omega (arith, a, b);
-    paid = refl;
-    gone = refl;
-  };
-  all_left = weaker (λ x. (Stood x × IsOffRequests e rs x) × (not (x.port == p) ≡ true)) (IsOffPort mid e p) off (filter (λ x. not (x.port == p)) (burial_left p rs e))
-      (passing (λ x. Stood x × IsOffRequests e rs x) (λ x. not (x.port == p)) (burial_left p rs e) (off_requests e Stood rs e.left (left_stood old mid owed e l reached)));
+  ended = ended;
+  going = filter (λ x. x.port == p) e.left;
+  goes = weaker (λ x. Unit {0} × ((x.port == p) ≡ true)) (λ x. x.port ≡ p) (λ x h. eqb-true x.port p h.1) (filter (λ x. x.port == p) e.left)
+      (passing (λ x. Unit {0}) (λ x. x.port == p) e.left (any_all e.left));
+  takes = record { left = λ h. let a = parted h (λ x. x.port == p) e.left in omega (arith, a); paid = sym (append-nil e.paid); gone = refl };
+  all_left = weaker (λ x. Unit {0} × (not (x.port == p) ≡ true)) (λ x. x.port ≢ p) off (filter (λ x. not (x.port == p)) e.left)
+      (passing (λ x. Unit {0}) (λ x. not (x.port == p)) e.left (any_all e.left));
   rest = refl;
 }
   where
-    Stood : Token → Type 0
-    Stood x = (r : Request) → x.place ≡ in_request r → mid.stands r ≡ true
-
-    of_one : (r : Request) → Contains rs r → (mid.stands r ≡ true) × IsRequestOf mid p r
-    of_one r (i, below, is) = subst (λ (q : Request). (mid.stands q ≡ true) × IsRequestOf mid p q) is (ends i r below)
-
-    pays : (x : Token × Notice) → IsPaying e death_notice rs x → PaysAtBurial mid e p x
-    pays x h = let r = of_one h.request h.one in record { request = h.request; once = h.once; lives = h.lives; stands = r.0; is_of = r.1; kept = h.kept; tells = h.tells }
-
-    off : (x : Token) → (Stood x × IsOffRequests e rs x) × (not (x.port == p) ≡ true) → IsOffPort mid e p x
-    off x h = grind (arith, eq-eqb, not_true)
+    off : (x : Token) → Unit {0} × (not (x.port == p) ≡ true) → x.port ≢ p
+    off x h is = let a = eq-eqb x.port p is in let b = not_true (x.port == p) h.1 in cc
 
 -- ---- a port is told that it has no senders
 
 abbrev pub tell : (count p : ℕ) → Ending → Ending
 tell made p e = record e {
   told = p ∷ e.told;
-  left = left_of_all e (no_senders p ∷ []) e.left;
-  paid = e.paid ++ paying_of e (λ r. no_more_senders made) (no_senders p ∷ []) e.left;
-  turns = e.turns + length (paying_of e (λ r. no_more_senders made) (no_senders p ∷ []) e.left);
+  left = left_after e (no_senders p) e.left;
+  paid = e.paid ++ paying_of e (no_more_senders made) (no_senders p) e.left;
+  turns = e.turns + length (paying_of e (no_more_senders made) (no_senders p) e.left);
 }
 
 pub tell_is : (old mid : State) (owed : Owed) (e : Ending) (p : ℕ) → MidLawful mid owed → IsReached old mid owed e → AreJudged mid e → lives_after mid e p ≡ true → mid.stands (no_senders p) ≡ true →
@@ -560,29 +622,24 @@ tell_is old mid owed e p l reached judged lives stands had none untold = record 
   had = had;
   has_none = none;
   untold = untold;
-  paying = paying_of e tells (no_senders p ∷ []) e.left;
-  pays = weaker (IsPaying e tells (no_senders p ∷ [])) Pays (λ x h. (h.once, h.kept ∙ ap in_request (sym (own h.request h.one)), h.tells)) (paying_of e tells (no_senders p ∷ []) e.left)
-      (all_paying e tells (no_senders p ∷ []) e.left (all_once_kept old mid owed e l (reached_sound old mid owed e reached)));
-  takes = record { left = λ h. let a = paying_weigh e tells (no_senders p ∷ []) e.left h in omega (arith, a); paid = refl; gone = sym (append-nil e.gone) };
-  all_left = weaker (λ x. Unit {0} × IsOffRequests e (no_senders p ∷ []) x) (λ x. x.place ≡ in_request (no_senders p) → listed e.doomed x.port ≡ true) (λ x h at. h.1 (no_senders p) (zero, omega arith, refl) at)
-      (left_of_all e (no_senders p ∷ []) e.left) (off_requests e (λ x. Unit {0}) (no_senders p ∷ []) e.left (any_all e.left));
+  paying = paying_of e tells (no_senders p) e.left;
+  pays = weaker (IsPaying e tells (no_senders p)) Pays (λ x h. (h.once, h.kept, h.tells)) (paying_of e tells (no_senders p) e.left)
+      (all_paying e tells (no_senders p) e.left (all_once_kept old mid owed e l (reached_sound old mid owed e reached)));
+  takes = record { left = λ h. let a = paying_weigh e tells (no_senders p) e.left h in omega (arith, a); paid = refl; gone = sym (append-nil e.gone) };
+  all_left = off_request_left e (no_senders p) e.left;
   rest = refl;
 }
   where
-    tells : Request → Notice
-    tells r = no_more_senders ((outcome mid e).make_send p)
+    tells : Notice
+    tells = no_more_senders ((outcome mid e).make_send p)
 
     Pays : Token × Notice → Type 0
     Pays x = (x.0.kind ≡ send_once) × (x.0.place ≡ in_request (no_senders p)) × (x.1 ≡ no_more_senders ((outcome mid e).make_send p))
 
-    own : (r : Request) → Contains (no_senders p ∷ []) r → no_senders p ≡ r
-    own r (zero, below, is) = is
-    own r (suc i, below, is) = absurd (omega (arith, below))
-
 -- ---- the beginning, and a message
 
 abbrev pub start : Begun → List Token → Ending
-start begun left = record { doomed = []; saved = []; buried = []; told = []; destroyed = []; begun = begun; left = left; paid = []; gone = []; turns = 0 }
+start begun left = record { doomed = []; saved = []; ended = []; buried = []; told = []; destroyed = []; begun = begun; left = left; paid = []; gone = []; turns = 0 }
 
 abbrev pub is_on_gone : State → Place → Bool
 is_on_gone mid (in_task task) = false

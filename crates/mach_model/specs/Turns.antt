@@ -2,7 +2,7 @@
 -- buried, and ports are told that they have no senders. `Settles` says what a chain of turns comes to that has nothing left to do.
 use Rattle.std.specs.Prelude.{◌≡◌, ◌≢◌, ℕ, ◌+◌, ◌<◌, ◌≤◌, ◌⊎◌, Bool, true, false, List, [], ◌∷◌, ◌++◌, length, Option, Some, if◌then◌else◌, ◌==◌, ◌&&◌, ◌||◌, not, All, Contains}
 use Rattle.mach_types.specs.Tokens.{receive, send, send_once, Request, no_senders, port_destroyed, dead_name, Place, in_message, in_request, Token, token, weigh, count, is_of}
-use Rattle.mach_model.specs.State.{State, Target, lookup, senders}
+use Rattle.mach_model.specs.State.{State, Target, lookup, senders, same_request}
 use Rattle.mach_model.specs.Death.{CarriedAt, IsOrphan, IsSaved}
 use Rattle.mach_model.specs.Notices.{Notice, port_deleted, port_sent, no_more_senders, right_unused, name_died, Owed}
 use Rattle.mach_model.specs.Settles.{tokens_of}
@@ -25,9 +25,11 @@ went_in (y ∷ ys) = if y.0 then went_in ys else y.1 ∷ went_in ys
 
 -- Notices stand in the order in which they were posted: first those that the step's own part posted, then those that were paid for.
 pub record Ending : Type 0 where
-  -- ports that die, ports that are sent away, dead ports that left, and ports that were told that they have no senders
+  -- ports that die, ports that are sent away, dead ports that left, and ports that were told that they have no senders; and the requests that
+  -- ended with their dead ports
   pub doomed : List ℕ
   pub saved : List ℕ
+  pub ended : List Request
   pub buried : List ℕ
   pub told : List ℕ
   -- the port and entry of each message that was destroyed
@@ -42,6 +44,10 @@ pub record Ending : Type 0 where
 abbrev pub listed : List ℕ → ℕ → Bool
 listed [] p = false
 listed (q ∷ qs) p = p == q || listed qs p
+
+abbrev pub is_among : List Request → Request → Bool
+is_among [] r = false
+is_among (q ∷ qs) r = same_request r q || is_among qs r
 
 -- ---- what that leaves, but for names, logs and rights
 
@@ -131,6 +137,7 @@ pub record Begins (mid : State) (owed : Owed) (e : Ending) : Type 0 where
   pub rest : e ≡ record {
     doomed = [];
     saved = [];
+    ended = [];
     buried = [];
     told = [];
     destroyed = [];
@@ -181,33 +188,45 @@ pub record Loses (mid : State) (e f : Ending) : Type 0 where
   pub takes : (right.kind ≡ send_once) × Takes e f ((right, right_unused) ∷ []) [] ⊎ (right.kind ≢ send_once) × Takes e f [] (right ∷ [])
   pub rest : f ≡ record e { left = f.left; paid = f.paid; gone = f.gone; turns = e.turns + 1 }
 
--- The right of a request of the port pays, since its own port lives.
-pub record PaysAtBurial (mid : State) (e : Ending) (port : ℕ) (x : Token × Notice) : Type 0 where
-  pub request : Request
+-- The right of the request pays, since its own port lives.
+pub record PaysAtEnd (e : Ending) (request : Request) (x : Token × Notice) : Type 0 where
   pub once : x.0.kind ≡ send_once
   pub lives : listed e.doomed x.0.port ≡ false
-  pub stands : mid.stands request ≡ true
-  pub is_of : IsRequestOf mid port request
   pub kept : x.0.place ≡ in_request request
   pub tells : x.1 ≡ death_notice request
 
--- no right for the port, and none of its requests that could pay
-abbrev pub IsOffPort : State → Ending → ℕ → Token → Type 0
-IsOffPort mid e port x = (x.port ≢ port) × ((request : Request) → x.place ≡ in_request request → IsRequestOf mid port request → listed e.doomed x.port ≡ true)
+-- The request keeps no right that could pay.
+abbrev pub IsOffRequest : Ending → Request → Token → Type 0
+IsOffRequest e request x = x.place ≡ in_request request → listed e.doomed x.port ≡ true
 
--- A doomed port leaves with all rights for it. Its requests end, and those on its names: a turn for each right that pays.
+-- A request of a doomed port ends, or one on a name of it: in a turn, where its right pays.
+pub record EndsRequest (mid : State) (e f : Ending) : Type 0 where
+  pub port : ℕ
+  pub request : Request
+  pub judged : AreJudged mid e
+  pub doomed : listed e.doomed port ≡ true
+  pub unburied : listed e.buried port ≡ false
+  pub stands : mid.stands request ≡ true
+  pub is_of : IsRequestOf mid port request
+  pub unended : is_among e.ended request ≡ false
+  pub paying : Owed
+  pub pays : All (PaysAtEnd e request) paying
+  pub takes : Takes e f paying []
+  pub all_left : All (IsOffRequest e request) f.left
+  pub rest : f ≡ record e { ended = request ∷ e.ended; left = f.left; paid = f.paid; turns = e.turns + length paying }
+
+-- A doomed port leaves with all rights for it, once its requests have ended, and those on its names.
 pub record Buries (mid : State) (e f : Ending) : Type 0 where
   pub port : ℕ
   pub judged : AreJudged mid e
   pub doomed : listed e.doomed port ≡ true
   pub unburied : listed e.buried port ≡ false
-  pub paying : Owed
-  pub pays : All (PaysAtBurial mid e port) paying
+  pub ended : (request : Request) → mid.stands request ≡ true → IsRequestOf mid port request → is_among e.ended request ≡ true
   pub going : List Token
   pub goes : All (λ x. x.port ≡ port) going
-  pub takes : Takes e f paying going
-  pub all_left : All (IsOffPort mid e port) f.left
-  pub rest : f ≡ record e { buried = port ∷ e.buried; left = f.left; paid = f.paid; gone = f.gone; turns = e.turns + length paying }
+  pub takes : Takes e f [] going
+  pub all_left : All (λ x. x.port ≢ port) f.left
+  pub rest : f ≡ record e { buried = port ∷ e.buried; left = f.left; gone = f.gone }
 
 -- A port that lives, and had senders, is told that it has none: in a turn, where the right of its request pays.
 pub record TellsSenderless (old mid : State) (e f : Ending) : Type 0 where
@@ -221,11 +240,11 @@ pub record TellsSenderless (old mid : State) (e f : Ending) : Type 0 where
   pub paying : Owed
   pub pays : All (λ x. (x.0.kind ≡ send_once) × (x.0.place ≡ in_request (no_senders port)) × (x.1 ≡ no_more_senders ((outcome mid e).make_send port))) paying
   pub takes : Takes e f paying []
-  pub all_left : All (λ x. x.place ≡ in_request (no_senders port) → listed e.doomed x.port ≡ true) f.left
+  pub all_left : All (IsOffRequest e (no_senders port)) f.left
   pub rest : f ≡ record e { told = port ∷ e.told; left = f.left; paid = f.paid; gone = f.gone; turns = e.turns + length paying }
 
 abbrev pub Turn : (old mid : State) → Ending → Ending → Type 0
-Turn old mid e f = Dooms mid e f ⊎ Saves mid e f ⊎ Destroys mid e f ⊎ Loses mid e f ⊎ Buries mid e f ⊎ TellsSenderless old mid e f
+Turn old mid e f = Dooms mid e f ⊎ Saves mid e f ⊎ Destroys mid e f ⊎ Loses mid e f ⊎ EndsRequest mid e f ⊎ Buries mid e f ⊎ TellsSenderless old mid e f
 
 -- A chain of turns leads to it.
 pub data IsReached (old mid : State) (owed : Owed) : Ending → Type 0 where

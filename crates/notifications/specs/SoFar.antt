@@ -1,15 +1,15 @@
 -- The tables while a step ends, between two turns of `Turns` (this project's own). They show a state in which the ports that were buried
 -- have died, what was destroyed has left the queues, and what was posted stands in the logs.
-use Rattle.std.specs.Prelude.{◌≡◌, ℕ, ◌+◌, ◌<◌, ◌≤◌, ◌⊎◌, ◌↔◌, Bool, true, false, List, [], ◌∷◌, ◌++◌, map, filter, length, reverse, slice_get, Some, is_some, if◌then◌else◌, ◌==◌, All, Contains}
-use Rattle.mach_types.specs.Tokens.{receive, Request, in_task, in_message, Token, weigh, count, is_of}
+use Rattle.std.specs.Prelude.{◌≡◌, ℕ, ◌+◌, ◌<◌, ◌≤◌, ◌⊎◌, ◌↔◌, Bool, true, false, List, [], ◌∷◌, ◌++◌, map, filter, length, reverse, slice_get, option_map, Some, is_some, if◌then◌else◌, ◌==◌, All, Contains}
+use Rattle.mach_types.specs.Tokens.{receive, Request, dead_name, in_task, in_message, Token, weigh, count, is_of}
 use Rattle.mach_types.specs.Messages.{Entry}
-use Rattle.mach_model.specs.State.{State, at}
+use Rattle.mach_model.specs.State.{State, lookup, at}
 use Rattle.mach_model.specs.Death.{LiesAt}
 use Rattle.mach_model.specs.Notices.{Notice, notice_message, Posted, all_posted_tokens}
-use Rattle.mach_model.specs.Settles.{due_notices, NamesSettle}
+use Rattle.mach_model.specs.Settles.{due_notices, settled_target}
 use Rattle.mach_model.specs.Lawful.{tally}
 use Rattle.mach_model.specs.Unused.{onces_queued}
-use Rattle.mach_model.specs.Turns.{Ending, listed, lives_after, outcome, is_judged}
+use Rattle.mach_model.specs.Turns.{Ending, listed, is_among, lives_after, outcome, is_judged}
 use Rattle.port.specs.declared.Holder.{Holder}
 use Rattle.port.specs.declared.Holder.TheVariants as holder
 use Rattle.port.specs.Ports.{PortView}
@@ -43,14 +43,19 @@ posted_so_far mid e = posted_from (λ p. length (mid.log p)) (due_so_far e)
 abbrev pub buried_alone : Ending → Ending
 buried_alone e = record e { doomed = e.buried }
 
--- Ports, requests and names are those of an end where no more ports died than were buried: names of another doomed port are as they were.
+-- for a name on which a request ended no port lives
+abbrev pub seen_for : State → (ended : List Request) → (live : ℕ → Bool) → (task name : ℕ) → State
+seen_for mid ended live task name = record mid { live_port = λ p. if is_among ended (dead_name task name) then false else live p }
+
+-- Ports, requests and names are those of an end where no more ports died than were buried: names of another doomed port are as they were, and so
+-- are requests on it, but for those that ended.
 pub record IsSoFar (now : ℕ) (mid : State) (e : Ending) (s : State) : Type 0 where
   pub live_port : (p : ℕ) → s.live_port p ≡ lives_after mid (buried_alone e) p
-  pub stands : (r : Request) → s.stands r ≡ (outcome mid (buried_alone e)).stands r
+  pub stands : (r : Request) → s.stands r ≡ (if is_among e.ended r then false else (outcome mid (buried_alone e)).stands r)
   pub sets_of : (p : ℕ) → s.sets_of p ≡ (outcome mid (buried_alone e)).sets_of p
   pub make_send : (p : ℕ) → s.make_send p ≡ (outcome mid e).make_send p
   pub sequence : (p : ℕ) → s.sequence p ≡ (outcome mid e).sequence p
-  pub names : NamesSettle mid s
+  pub names : (task name : ℕ) → lookup s task name ≡ option_map (settled_target mid (seen_for mid e.ended s.live_port task name) task name) (lookup mid task name)
   -- notices were appended, and what was destroyed was taken from the front
   pub log : (p : ℕ) → s.log p ≡ mid.log p ++ entries_at now p (due_so_far e)
   pub taken : (p : ℕ) → s.taken p ≡ mid.taken p + tally (λ m. m.0 == p) e.destroyed

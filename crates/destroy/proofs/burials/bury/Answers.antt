@@ -7,11 +7,8 @@ use Rattle.copyin_base.specs.Kept.{Kept}
 use Rattle.copyin_base.specs.Worlds.{WorldView}
 use Rattle.copyin_base.proofs.Written.{tables}
 use Rattle.destroy.specs.Burying.{IsAny}
-use Rattle.destroy.proofs.BuryNames.{is_burying, still_burying, none_queued, is_entered, left_ports, left_given, port_left, bury_continues, bury_rooms, bury_fewer}
+use Rattle.destroy.proofs.BuryNames.{still_next, none_queued, is_entered, left_ports, left_given, port_left, bury_continues, bury_rooms, bury_fewer}
 use Rattle.destroy.proofs.burials.bury.Goals as goal
-
-pub end_requests-turns-requires : goal.end_requests-turns-requires
-end_requests-turns-requires c = is_burying c.args.port c.args.world.now c.requires
 
 pub remove-requires : goal.remove-requires
 remove-requires c =
@@ -19,20 +16,21 @@ remove-requires c =
     let view : tables i.spaces.items i.ports i.ledger i.sets i.requests ≡ c.end_requests-turns.new.world = c.world.view_is in
     subst (λ (w : WorldView). (p : PortView Kept) → map.get w.ports.ports c.args.port ≡ Some p → length p.queue ≡ 0) (sym view)
     (none_queued c.args.port c.end_requests-turns.new.world
-    (still_burying c.args.port IsAny c.args.world.now c.end_requests-turns.result c.end_requests-turns.new.world (is_burying c.args.port c.args.world.now c.requires) c.end_requests-turns.ensures))
+    (still_next c.args.port IsAny c.args.world.now c.end_requests-turns.result c.end_requests-turns.new.world c.requires c.end_requests-turns.ensures))
 
 pub leave-requires : goal.leave-requires
 leave-requires c =
     let i = c.world.inside in
     let view : tables i.spaces.items i.ports i.ledger i.sets i.requests ≡ c.end_requests-turns.new.world = c.world.view_is in
     subst (λ (w : WorldView). IsEntered w.ledger c.args.port) (sym view)
-    (is_entered c.args.port c.args.world.now c.end_requests-turns.new.world c.end_requests-turns.result c.requires c.end_requests-turns.ensures)
+    (is_entered c.args.port c.end_requests-turns.new.world
+    (still_next c.args.port IsAny c.args.world.now c.end_requests-turns.result c.end_requests-turns.new.world c.requires c.end_requests-turns.ensures))
 
 pub invariant_of-world : goal.invariant_of-world
 invariant_of-world c =
     let i = c.world.inside in
     let view : tables i.spaces.items i.ports i.ledger i.sets i.requests ≡ c.end_requests-turns.new.world = c.world.view_is in
-    let b = still_burying c.args.port IsAny c.args.world.now c.end_requests-turns.result c.end_requests-turns.new.world (is_burying c.args.port c.args.world.now c.requires) c.end_requests-turns.ensures in
+    let b = still_next c.args.port IsAny c.args.world.now c.end_requests-turns.result c.end_requests-turns.new.world c.requires c.end_requests-turns.ensures in
     left_given c.end_requests-turns.new.world i.spaces.items i.ports i.ledger i.sets i.requests view c.args.port c.remove.new.self (without c.args.port i.ports.doomed)
     (left_ports c.end_requests-turns.new.world i.spaces.items i.ports i.ledger i.sets i.requests view c.args.port b c.remove.new.self c.remove.ensures) c.world.invariant
 
@@ -40,8 +38,8 @@ pub returns-clause-turns : goal.returns-clause-turns
 returns-clause-turns c =
     let i = c.world.inside in
     let view : tables i.spaces.items i.ports i.ledger i.sets i.requests ≡ c.end_requests-turns.new.world = c.world.view_is in
-    let b = still_burying c.args.port IsAny c.args.world.now c.end_requests-turns.result c.end_requests-turns.new.world (is_burying c.args.port c.args.world.now c.requires) c.end_requests-turns.ensures in
-    bury_continues c.args.port c.args.world.now c.requires c.end_requests-turns.new.world c.end_requests-turns.result c.end_requests-turns.ensures _ (without c.args.port i.ports.doomed)
+    let b = still_next c.args.port IsAny c.args.world.now c.end_requests-turns.result c.end_requests-turns.new.world c.requires c.end_requests-turns.ensures in
+    bury_continues c.args.port c.args.world.now c.end_requests-turns.new.world c.end_requests-turns.result c.end_requests-turns.ensures _ (without c.args.port i.ports.doomed)
     (port_left c.end_requests-turns.new.world i.spaces.items i.ports i.ledger i.sets i.requests view c.args.port c.remove.new.self (without c.args.port i.ports.doomed)
     (left_ports c.end_requests-turns.new.world i.spaces.items i.ports i.ledger i.sets i.requests view c.args.port b c.remove.new.self c.remove.ensures) c.leave.new.self c.leave.ensures.after)
 
@@ -49,8 +47,8 @@ pub returns-clause-fewer : goal.returns-clause-fewer
 returns-clause-fewer c =
     let i = c.world.inside in
     let view : tables i.spaces.items i.ports i.ledger i.sets i.requests ≡ c.end_requests-turns.new.world = c.world.view_is in
-    let b = still_burying c.args.port IsAny c.args.world.now c.end_requests-turns.result c.end_requests-turns.new.world (is_burying c.args.port c.args.world.now c.requires) c.end_requests-turns.ensures in
-    bury_fewer c.args.port c.args.world.now c.requires c.end_requests-turns.new.world c.end_requests-turns.result c.end_requests-turns.ensures _ (without c.args.port i.ports.doomed)
+    let b = still_next c.args.port IsAny c.args.world.now c.end_requests-turns.result c.end_requests-turns.new.world c.requires c.end_requests-turns.ensures in
+    bury_fewer c.args.port c.args.world.now c.end_requests-turns.new.world c.end_requests-turns.result c.end_requests-turns.ensures _ (without c.args.port i.ports.doomed)
     (port_left c.end_requests-turns.new.world i.spaces.items i.ports i.ledger i.sets i.requests view c.args.port c.remove.new.self (without c.args.port i.ports.doomed)
     (left_ports c.end_requests-turns.new.world i.spaces.items i.ports i.ledger i.sets i.requests view c.args.port b c.remove.new.self c.remove.ensures) c.leave.new.self c.leave.ensures.after)
 
@@ -58,7 +56,7 @@ pub returns-clause-rooms : goal.returns-clause-rooms
 returns-clause-rooms c =
     let i = c.world.inside in
     let view : tables i.spaces.items i.ports i.ledger i.sets i.requests ≡ c.end_requests-turns.new.world = c.world.view_is in
-    let b = still_burying c.args.port IsAny c.args.world.now c.end_requests-turns.result c.end_requests-turns.new.world (is_burying c.args.port c.args.world.now c.requires) c.end_requests-turns.ensures in
-    bury_rooms c.args.port c.args.world.now c.requires c.end_requests-turns.new.world c.end_requests-turns.result c.end_requests-turns.ensures _ (without c.args.port i.ports.doomed)
+    let b = still_next c.args.port IsAny c.args.world.now c.end_requests-turns.result c.end_requests-turns.new.world c.requires c.end_requests-turns.ensures in
+    bury_rooms c.args.port c.args.world.now c.end_requests-turns.new.world c.end_requests-turns.result c.end_requests-turns.ensures _ (without c.args.port i.ports.doomed)
     (port_left c.end_requests-turns.new.world i.spaces.items i.ports i.ledger i.sets i.requests view c.args.port c.remove.new.self (without c.args.port i.ports.doomed)
     (left_ports c.end_requests-turns.new.world i.spaces.items i.ports i.ledger i.sets i.requests view c.args.port b c.remove.new.self c.remove.ensures) c.leave.new.self c.leave.ensures.after)

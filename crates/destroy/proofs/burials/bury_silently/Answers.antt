@@ -6,8 +6,7 @@ use Rattle.rights.specs.Ledger.{IsEntered}
 use Rattle.copyin_base.specs.Kept.{Kept}
 use Rattle.copyin_base.specs.Worlds.{WorldView}
 use Rattle.copyin_base.proofs.Written.{tables}
-use Rattle.destroy.specs.Burying.{IsAny}
-use Rattle.destroy.proofs.BuryNames.{is_burying, still_burying, none_queued, is_entered, left_ports, left_given, port_left, bury_continues, bury_rooms, bury_fewer}
+use Rattle.destroy.proofs.BuryNames.{none_queued, is_entered, left_ports, left_given, port_left, bury_continues, bury_rooms, bury_fewer}
 use Rattle.destroy.proofs.BurySteps.{unasked_ended}
 use Rattle.destroy.proofs.burials.bury_silently.Goals as goal
 
@@ -16,47 +15,42 @@ remove-requires c =
     let i = c.world.inside in
     let view : tables i.spaces.items i.ports i.ledger i.sets i.requests ≡ c.args.world.now = c.world.view_is in
     subst (λ (w : WorldView). (p : PortView Kept) → map.get w.ports.ports c.args.port ≡ Some p → length p.queue ≡ 0) (sym view)
-    (none_queued c.args.port c.args.world.now
-    (still_burying c.args.port IsAny c.args.world.now 0 c.args.world.now (is_burying c.args.port c.args.world.now c.requires.next) (unasked_ended c.args.port c.args.world.now c.requires.unasked)))
+    (none_queued c.args.port c.args.world.now c.requires.next)
 
 pub leave-requires : goal.leave-requires
 leave-requires c =
     let i = c.world.inside in
     let view : tables i.spaces.items i.ports i.ledger i.sets i.requests ≡ c.args.world.now = c.world.view_is in
     subst (λ (w : WorldView). IsEntered w.ledger c.args.port) (sym view)
-    (is_entered c.args.port c.args.world.now c.args.world.now 0 c.requires.next (unasked_ended c.args.port c.args.world.now c.requires.unasked))
+    (is_entered c.args.port c.args.world.now c.requires.next)
 
 pub invariant_of-world : goal.invariant_of-world
 invariant_of-world c =
     let i = c.world.inside in
     let view : tables i.spaces.items i.ports i.ledger i.sets i.requests ≡ c.args.world.now = c.world.view_is in
-    let b = still_burying c.args.port IsAny c.args.world.now 0 c.args.world.now (is_burying c.args.port c.args.world.now c.requires.next) (unasked_ended c.args.port c.args.world.now c.requires.unasked) in
     left_given c.args.world.now i.spaces.items i.ports i.ledger i.sets i.requests view c.args.port c.remove.new.self (without c.args.port i.ports.doomed)
-    (left_ports c.args.world.now i.spaces.items i.ports i.ledger i.sets i.requests view c.args.port b c.remove.new.self c.remove.ensures) c.world.invariant
+    (left_ports c.args.world.now i.spaces.items i.ports i.ledger i.sets i.requests view c.args.port c.requires.next c.remove.new.self c.remove.ensures) c.world.invariant
 
 pub returns-clause-turns : goal.returns-clause-turns
 returns-clause-turns c =
     let i = c.world.inside in
     let view : tables i.spaces.items i.ports i.ledger i.sets i.requests ≡ c.args.world.now = c.world.view_is in
-    let b = still_burying c.args.port IsAny c.args.world.now 0 c.args.world.now (is_burying c.args.port c.args.world.now c.requires.next) (unasked_ended c.args.port c.args.world.now c.requires.unasked) in
-    bury_continues c.args.port c.args.world.now c.requires.next c.args.world.now 0 (unasked_ended c.args.port c.args.world.now c.requires.unasked) _ (without c.args.port i.ports.doomed)
+    bury_continues c.args.port c.args.world.now c.args.world.now 0 (unasked_ended c.args.port c.args.world.now c.requires.next c.requires.unasked) _ (without c.args.port i.ports.doomed)
     (port_left c.args.world.now i.spaces.items i.ports i.ledger i.sets i.requests view c.args.port c.remove.new.self (without c.args.port i.ports.doomed)
-    (left_ports c.args.world.now i.spaces.items i.ports i.ledger i.sets i.requests view c.args.port b c.remove.new.self c.remove.ensures) c.leave.new.self c.leave.ensures.after)
+    (left_ports c.args.world.now i.spaces.items i.ports i.ledger i.sets i.requests view c.args.port c.requires.next c.remove.new.self c.remove.ensures) c.leave.new.self c.leave.ensures.after)
 
 pub returns-clause-fewer : goal.returns-clause-fewer
 returns-clause-fewer c =
     let i = c.world.inside in
     let view : tables i.spaces.items i.ports i.ledger i.sets i.requests ≡ c.args.world.now = c.world.view_is in
-    let b = still_burying c.args.port IsAny c.args.world.now 0 c.args.world.now (is_burying c.args.port c.args.world.now c.requires.next) (unasked_ended c.args.port c.args.world.now c.requires.unasked) in
-    bury_fewer c.args.port c.args.world.now c.requires.next c.args.world.now 0 (unasked_ended c.args.port c.args.world.now c.requires.unasked) _ (without c.args.port i.ports.doomed)
+    bury_fewer c.args.port c.args.world.now c.args.world.now 0 (unasked_ended c.args.port c.args.world.now c.requires.next c.requires.unasked) _ (without c.args.port i.ports.doomed)
     (port_left c.args.world.now i.spaces.items i.ports i.ledger i.sets i.requests view c.args.port c.remove.new.self (without c.args.port i.ports.doomed)
-    (left_ports c.args.world.now i.spaces.items i.ports i.ledger i.sets i.requests view c.args.port b c.remove.new.self c.remove.ensures) c.leave.new.self c.leave.ensures.after)
+    (left_ports c.args.world.now i.spaces.items i.ports i.ledger i.sets i.requests view c.args.port c.requires.next c.remove.new.self c.remove.ensures) c.leave.new.self c.leave.ensures.after)
 
 pub returns-clause-rooms : goal.returns-clause-rooms
 returns-clause-rooms c =
     let i = c.world.inside in
     let view : tables i.spaces.items i.ports i.ledger i.sets i.requests ≡ c.args.world.now = c.world.view_is in
-    let b = still_burying c.args.port IsAny c.args.world.now 0 c.args.world.now (is_burying c.args.port c.args.world.now c.requires.next) (unasked_ended c.args.port c.args.world.now c.requires.unasked) in
-    bury_rooms c.args.port c.args.world.now c.requires.next c.args.world.now 0 (unasked_ended c.args.port c.args.world.now c.requires.unasked) _ (without c.args.port i.ports.doomed)
+    bury_rooms c.args.port c.args.world.now c.args.world.now 0 (unasked_ended c.args.port c.args.world.now c.requires.next c.requires.unasked) _ (without c.args.port i.ports.doomed)
     (port_left c.args.world.now i.spaces.items i.ports i.ledger i.sets i.requests view c.args.port c.remove.new.self (without c.args.port i.ports.doomed)
-    (left_ports c.args.world.now i.spaces.items i.ports i.ledger i.sets i.requests view c.args.port b c.remove.new.self c.remove.ensures) c.leave.new.self c.leave.ensures.after)
+    (left_ports c.args.world.now i.spaces.items i.ports i.ledger i.sets i.requests view c.args.port c.requires.next c.remove.new.self c.remove.ensures) c.leave.new.self c.leave.ensures.after)

@@ -3,7 +3,7 @@ use Rattle.request_table.specs.Requests.{IsOn, NoneOn}
 use Rattle.copyin_base.specs.Worlds.{WorldView}
 use Rattle.copyin_base.proofs.Written.{tables}
 use Rattle.destroy.specs.Burying.{IsNone}
-use Rattle.destroy.proofs.BuryNames.{still_burying, one_longer, names_gone}
+use Rattle.destroy.proofs.BuryNames.{still_next, one_longer, names_gone}
 use Rattle.destroy.proofs.burials.end_names.Goals as goal
 
 pub end_name-requires : goal.end_name-requires
@@ -13,7 +13,7 @@ end_name-requires c =
     let view : tables k.0.items k.1.0 k.1.1.0 k.1.1.1.0 (record { names = r.names; no_senders = r.no_senders; port_destroyed = r.port_destroyed }) ≡ c.loop-request.world =
     ap (λ x. tables x.spaces.items x.ports x.ledger x.sets x.requests) c.world-inside.view_is ∙ c.world.view_is in
     record {
-      burying = still_burying c.args.port IsNone c.args.world.now c.loop-request.turns c.loop-request.world c.requires c.loop-request.invariant;
+      next = still_next c.args.port IsNone c.args.world.now c.loop-request.turns c.loop-request.world c.requires c.loop-request.invariant;
       is_on = subst (λ (w : WorldView). IsOn w.requests.names c.args.port c.in-Some.request) view c.in-Some.ensures.some;
     }
 

@@ -19,7 +19,7 @@ returns-in_default c =
     ap (λ x. tables x.spaces.items x.ports x.ledger x.sets x.requests) c.world-inside.view_is ∙ c.world.view_is in
     let found = senders_found c.args.world.now k.0.items k.1.0 k.1.1.0 k.1.1.1.0 r.names r.no_senders r.port_destroyed view c.number.result c.args.port c.number.ensures c.remove.new.self c.remove.result c.remove.ensures.value in
     let none : map.get c.args.world.now.requests.no_senders.map c.args.port ≡ None = sym found ∙ is_none c.remove.result c.in_default.not-Some in
-    none_ended c.args.port _ c.args.world.now _
+    none_ended c.args.port _ c.args.world.now _ c.requires
     (senders_taken c.args.world.now k.0.items k.1.0 k.1.1.0 k.1.1.1.0 r.names r.no_senders r.port_destroyed view c.number.result c.args.port c.number.ensures c.remove.new.self c.remove.ensures.after ∙ senders_absent c.args.world.now c.args.port none)
     (λ r is. ap (notify_of c.args.world.now.requests) is ∙ none)
 
@@ -30,10 +30,9 @@ pay-requires c =
     let view : tables k.0.items k.1.0 k.1.1.0 k.1.1.1.0 (record { names = r.names; no_senders = r.no_senders; port_destroyed = r.port_destroyed }) ≡ c.args.world.now =
     ap (λ x. tables x.spaces.items x.ports x.ledger x.sets x.requests) c.world-inside.view_is ∙ c.world.view_is in
     let found = senders_found c.args.world.now k.0.items k.1.0 k.1.1.0 k.1.1.1.0 r.names r.no_senders r.port_destroyed view c.number.result c.args.port c.number.ensures c.remove.new.self c.remove.result c.remove.ensures.value in
-    let q = c.requires in
     subst (λ (w : WorldView). LivesIn w c.in-Some.notify → CanPost w c.in-Some.notify)
     (sym (senders_taken c.args.world.now k.0.items k.1.0 k.1.1.0 k.1.1.1.0 r.names r.no_senders r.port_destroyed view c.number.result c.args.port c.number.ensures c.remove.new.self c.remove.ensures.after))
-    (senders_post q.now q.tables q.old q.mid q.owed q.ending c.args.port q.requests c.args.world.now q.burying c.in-Some.notify (sym found ∙ c.in-Some.is))
+    (senders_post c.args.port c.args.world.now c.requires c.in-Some.notify (sym found ∙ c.in-Some.is))
 
 pub returns : goal.returns
 returns c =
@@ -42,10 +41,10 @@ returns c =
     let view : tables k.0.items k.1.0 k.1.1.0 k.1.1.1.0 (record { names = r.names; no_senders = r.no_senders; port_destroyed = r.port_destroyed }) ≡ c.args.world.now =
     ap (λ x. tables x.spaces.items x.ports x.ledger x.sets x.requests) c.world-inside.view_is ∙ c.world.view_is in
     let found = senders_found c.args.world.now k.0.items k.1.0 k.1.1.0 k.1.1.1.0 r.names r.no_senders r.port_destroyed view c.number.result c.args.port c.number.ensures c.remove.new.self c.remove.result c.remove.ensures.value in
-    senders_ended c.args.port c.args.world.now (subst (λ (w : WorldView). IsUnusedOfAll w.ledger) view c.unused.ensures.all) c.in-Some.notify (sym found ∙ c.in-Some.is) c.pay.new.world
+    senders_ended c.args.port c.args.world.now c.requires c.in-Some.notify (subst (λ (w : WorldView). IsUnusedOfAll w.ledger) view c.unused.ensures.all) c.pay.new.world c.pay.result (sym found ∙ c.in-Some.is)
     (subst (λ (w : WorldView). Pays w c.in-Some.notify SendOnce c.pay.new.world)
     (senders_taken c.args.world.now k.0.items k.1.0 k.1.1.0 k.1.1.1.0 r.names r.no_senders r.port_destroyed view c.number.result c.args.port c.number.ensures c.remove.new.self c.remove.ensures.after)
     c.pay.ensures.pays)
-    c.pay.result (subst (λ (w : WorldView). PaysMany w c.in-Some.notify c.pay.result)
+    (subst (λ (w : WorldView). PaysMany w c.in-Some.notify c.pay.result)
     (senders_taken c.args.world.now k.0.items k.1.0 k.1.1.0 k.1.1.1.0 r.names r.no_senders r.port_destroyed view c.number.result c.args.port c.number.ensures c.remove.new.self c.remove.ensures.after)
     c.pay.ensures.many)
