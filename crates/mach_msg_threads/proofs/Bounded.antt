@@ -1,6 +1,5 @@
 -- A reply of a call that a pass made is no longer than its event lets it be.
 use Rattle.std.proofs.Common.{◌≡◌, ℕ, ◌+◌, ◌≤◌, List, [], ◌∷◌, ◌++◌, length, inl, inr, refl, sym, subst, arith}
-use Rattle.std.specs.Prelude.{map}
 use Rattle.mach_types.specs.declared.calls.Event.{Event}
 use Rattle.mach_types.specs.declared.calls.Reply.{Reply}
 use Rattle.mach_model.specs.State.{State, opening}

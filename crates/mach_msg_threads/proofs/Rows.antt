@@ -1,5 +1,5 @@
 -- Lists that grow at their end, place by place beside one another.
-use Rattle.std.proofs.Common.{◌≡◌, ℕ, List, [], ◌∷◌, ◌++◌, refl, sym, ◌∙◌, subst, IfOk, Ok, Err, All}
+use Rattle.std.proofs.Common.{◌≡◌, List, [], ◌∷◌, ◌++◌, refl, sym, ◌∙◌, subst, IfOk, Ok, Err, All}
 use Rattle.std.specs.List.{AllZip}
 use Rattle.std.proofs.lemmas.List.Elements.{All-nil, All-cons, All-head, All-tail}
 use Rattle.std.specs.declared.result.Result.{Result}
@@ -15,6 +15,13 @@ ran_more v m w [] [] c r ran call = (w, subst (λ (k : Known). Answered c k r w)
 ran_more v m w [] (y ∷ ys) c r ran call = absurd ran
 ran_more v m w (x ∷ xs) [] c r ran call = absurd ran
 ran_more v m w (x ∷ xs) (y ∷ ys) c r ran call = (ran.0, ran.1, ran_more ran.0 m w xs ys c r ran.2 call)
+
+-- calls behind others
+pub ran_append : (v m w : Known) (cs more : List Call) (rs answers : List Answer) → Ran v cs rs m → Ran m more answers w → Ran v (cs ++ more) (rs ++ answers) w
+ran_append v m w [] more [] answers ran next = subst (λ (k : Known). Ran k more answers w) ran next
+ran_append v m w [] more (y ∷ ys) answers ran next = absurd ran
+ran_append v m w (x ∷ xs) more [] answers ran next = absurd ran
+ran_append v m w (x ∷ xs) more (y ∷ ys) answers ran next = (ran.0, ran.1, ran_append ran.0 m w xs more ys answers ran.2 next)
 
 pub zip_push : {A C : Type 0} (f : A → C → Type 0) (xs : List A) (ys now : List C) (x : A) (y : C) → now ≡ ys ++ y ∷ [] → AllZip f xs ys → f x y → AllZip f (xs ++ x ∷ []) now
 zip_push f xs ys now x y is z one = subst (AllZip f (xs ++ x ∷ [])) (sym is) (AllZip-append f xs (x ∷ []) ys (y ∷ []) z (one, tt))

@@ -1,13 +1,18 @@
 -- What blocks print, from their numbers and the answers to their calls.
-use Rattle.std.proofs.Common.{◌≡◌, ℕ, zero, suc, ◌+◌, ◌<◌, List, [], ◌∷◌, ◌++◌, length, flat_map, map, take, get_or, refl, sym, ap, ◌∙◌, subst, arith, append_assoc, append-nil}
+use Rattle.std.proofs.Common.{◌≡◌, ℕ, zero, suc, ◌+◌, ◌<◌, List, [], ◌∷◌, ◌++◌, All, length, flat_map, map, take, get_or, refl, sym, ap, ◌∙◌, subst, arith, append_assoc, append-nil}
 use Rattle.std.specs.List.{AllZip}
 use Rattle.std.proofs.lemmas.List.{take_more, length-take-le}
-use Rattle.kernel_lock.specs.History.{Known}
+use Rattle.std.proofs.lemmas.List.Elements.{All-head, All-tail, All-push}
+use Rattle.kernel_lock.specs.declared.entry.Entry.{Entry}
+use Rattle.kernel_lock.specs.History.{Known, calls_by}
 use Rattle.mach_msg_threads.specs.declared.block.Answer.{Answer}
 use Rattle.mach_msg_threads.specs.declared.block.Call.{Call}
 use Rattle.mach_msg_threads.specs.Blocks.{Ran}
 use Rattle.tracer_base.specs.Blocks.{thread_line}
+use Rattle.tracer_base.proofs.WordLemmas.{texts_push as push_text}
 use Rattle.mach_run_base.specs.declared.script.ThreadCalls.{ThreadCalls}
+use Rattle.mach_run_base.specs.declared.running.Enrolled.{Enrolled}
+use Rattle.mach_run_base.specs.Callers.{IsRecorded, AreEnrolled, IsReady}
 use Rattle.mach_run_base.specs.Output.{AreBlocks, answer_line, block_texts}
 
 pub zip_map : {A C : Type 0} (f : A → C → Type 0) (g : A → C → Type 0) → ((a : A) (b : C) → f a b → g a b) → (xs : List A) (ys : List C) → AllZip f xs ys → AllZip g xs ys
@@ -43,35 +48,60 @@ texts_more answers ns xs i n x same low is at =
     let right = length-take-le i xs (omega (arith, low)) in
     (λ j. block_texts answers (numbers j) (ones j)) ∙ texts_push answers (take i ns) (take i xs) n x (left ∙ sym right)
 
-abbrev pub number_of : ThreadCalls → ℕ
-number_of block = block.number
+-- one more of a list, at a place
+pub all_more : {X : Type 0} (P : X → Type 0) (xs : List X) (i : ℕ) (x : X) → i < length xs → get_or xs i x ≡ x → All P (take i xs) → P x → All P (take (i + 1) xs)
+all_more P xs i x low at all one = subst (All P) (sym (take_more xs i x low ∙ ap (λ k. take i xs ++ k ∷ []) at)) (All-push P (take i xs) x all one)
+
+pub flat_more : {X : Type 0} (f : X → List ℕ) (xs : List X) (i : ℕ) (x : X) → i < length xs → get_or xs i x ≡ x → flat_map f (take (i + 1) xs) ≡ flat_map f (take i xs) ++ f x
+flat_more f xs i x low at = ap (flat_map f) (take_more xs i x low ∙ ap (λ k. take i xs ++ k ∷ []) at) ∙ push_text f (take i xs) x
+
+-- one more block that has a pass
+pub enrolled_push : (c : ℕ) (blocks : List ThreadCalls) (ones : List Enrolled) (block : ThreadCalls) (one : Enrolled) → AreEnrolled c blocks ones
+    → (one.number ≡ block.number) × (one.calls ≡ block.calls) × (one.pass.caller ≡ c + length blocks) × (one.pass.seen ≡ []) → AreEnrolled c (blocks ++ block ∷ []) (ones ++ one ∷ [])
+enrolled_push c [] [] block one so_far is = ((is.0, is.1, is.2 ∙ omega arith, is.3), tt)
+enrolled_push c [] (o ∷ os) block one so_far is = absurd so_far
+enrolled_push c (b ∷ bs) [] block one so_far is = absurd so_far
+enrolled_push c (b ∷ bs) (o ∷ os) block one so_far is = (so_far.0, enrolled_push (c + 1) bs os block one so_far.1 (is.0, is.1, is.2 ∙ omega arith, is.3))
+
+abbrev pub number_of : Enrolled → ℕ
+number_of one = one.number
 
 -- each block's calls were made by the pass that stood ready for it
-pub blocks_of : {X Y : Type 0} (pass : X → Known) (calls : X → List Call) (w : Y → Known) (answers : Y → List Answer) (blocks : List ThreadCalls) (xs : List X) (ys : List Y)
-    → AllZip (λ block x. ((pass x).seen ≡ []) × (calls x ≡ block.calls.items)) blocks xs → AllZip (λ x y. Ran (pass x) (calls x) (answers y) (w y)) xs ys
-    → AreBlocks blocks (block_texts answers (map number_of blocks) ys) (map w ys)
-blocks_of pass calls w answers [] [] [] ready ran = refl
-blocks_of pass calls w answers [] [] (y ∷ ys) ready ran = absurd ran
-blocks_of pass calls w answers [] (x ∷ xs) ys ready ran = absurd ready
-blocks_of pass calls w answers (b ∷ bs) [] ys ready ran = absurd ready
-blocks_of pass calls w answers (b ∷ bs) (x ∷ xs) [] ready ran = absurd ran
-blocks_of pass calls w answers (b ∷ bs) (x ∷ xs) (y ∷ ys) ready ran = (
-  one_text b.number (answers y),
-  block_texts answers (map number_of bs) ys,
+pub blocks_of : {X Y : Type 0} (pass : X → Known) (calls : X → List Call) (w : Y → Known) (answers : Y → List Answer) (start : List Entry) (c : ℕ)
+    (blocks : List ThreadCalls) (ones : List Enrolled) (xs : List X) (ys : List Y) → AreEnrolled c blocks ones
+    → AllZip (λ one x. IsReady start one (pass x) (calls x)) ones xs → AllZip (λ x y. Ran (pass x) (calls x) (answers y) (w y)) xs ys → All (λ y. All IsRecorded (answers y)) ys
+    → AreBlocks start c blocks (block_texts answers (map number_of ones) ys) (map w ys)
+blocks_of pass calls w answers start c [] [] [] [] enrolled ready ran all = refl
+blocks_of pass calls w answers start c [] [] [] (y ∷ ys) enrolled ready ran all = absurd ran
+blocks_of pass calls w answers start c [] [] (x ∷ xs) ys enrolled ready ran all = absurd ready
+blocks_of pass calls w answers start c [] (o ∷ os) xs ys enrolled ready ran all = absurd enrolled
+blocks_of pass calls w answers start c (b ∷ bs) [] xs ys enrolled ready ran all = absurd enrolled
+blocks_of pass calls w answers start c (b ∷ bs) (o ∷ os) [] ys enrolled ready ran all = absurd ready
+blocks_of pass calls w answers start c (b ∷ bs) (o ∷ os) (x ∷ xs) [] enrolled ready ran all = absurd ran
+blocks_of pass calls w answers start c (b ∷ bs) (o ∷ os) (x ∷ xs) (y ∷ ys) enrolled ready ran all = (
+  one_text o.number (answers y),
+  block_texts answers (map number_of os) ys,
   refl,
   record {
     pass = pass x;
-    new = ready.0.0;
+    number = ready.0.1 ∙ enrolled.0.2;
+    begins = ready.0.2;
+    none = subst (λ (k : ℕ). calls_by k start ≡ calls_by k o.pass.seen) enrolled.0.2 ready.0.3.own ∙ ap (calls_by c) enrolled.0.3;
     lines = flat_map answer_line (answers y);
-    answers = record { answers = answers y; ran = subst (λ (cs : List Call). Ran (pass x) cs (answers y) (w y)) ready.0.1 ran.0; lines = refl };
-    parts = refl;
+    answers = record {
+      answers = answers y;
+      ran = subst (λ (cs : List Call). Ran (pass x) cs (answers y) (w y)) (ready.0.0 ∙ ap (λ v. v.items) enrolled.0.1) ran.0;
+      recorded = All-head (λ y. All IsRecorded (answers y)) y ys all;
+      lines = refl;
+    };
+    parts = ap (λ (n : ℕ). one_text n (answers y)) (sym enrolled.0.0);
   },
-  blocks_of pass calls w answers bs xs ys ready.1 ran.1,
+  blocks_of pass calls w answers start (c + 1) bs os xs ys enrolled.1 ready.1 ran.1 (All-tail (λ y. All IsRecorded (answers y)) y ys all),
 )
 
-pub numbers_length : (blocks : List ThreadCalls) → length (map number_of blocks) ≡ length blocks
+pub numbers_length : (ones : List Enrolled) → length (map number_of ones) ≡ length ones
 numbers_length [] = refl
-numbers_length (b ∷ bs) = let rest = numbers_length bs in omega (arith, rest)
+numbers_length (o ∷ os) = let rest = numbers_length os in omega (arith, rest)
 
 -- nothing stands for a place that is there
 pub any_default : (xs : List ℕ) (i a b : ℕ) → i < length xs → get_or xs i a ≡ get_or xs i b

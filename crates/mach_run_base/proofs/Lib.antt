@@ -3,3 +3,4 @@ pub mod HistoryLemmas
 pub mod LineLemmas
 pub mod OutputLemmas
 pub mod ScriptLemmas
+pub mod OfScript

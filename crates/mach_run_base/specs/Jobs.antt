@@ -3,7 +3,7 @@ use Rattle.std.specs.Prelude.{◌≡◌, ℕ, Bool, true, false, List, [], ◌++
 use Rattle.log.specs.Level.{allows}
 use Rattle.log.specs.declared.level.LevelFilter.{LevelFilter}
 use Rattle.kernel_lock.specs.declared.entry.Entry.{Entry}
-use Rattle.kernel_lock.specs.History.{Legal}
+use Rattle.kernel_lock.specs.History.{Known, Legal}
 use Rattle.tracer.specs.Histories.{heading, entry_line}
 use Rattle.tracer.specs.Histories as of_history
 use Rattle.tracer.specs.Levels.{level_of}
@@ -12,6 +12,7 @@ use Rattle.mach_run_base.specs.declared.checking.Verdict.{Verdict}
 use Rattle.mach_run_base.specs.declared.job.Job.{Job}
 use Rattle.mach_run_base.specs.declared.job.Shown.{Shown}
 use Rattle.mach_run_base.specs.declared.script.Script.{Script}
+use Rattle.mach_run_base.specs.Callers.{IsOfScript}
 use Rattle.mach_run_base.specs.Output.{IsAnswered}
 use Rattle.mach_run_base.specs.Scripts.{IsScript, IsFirstBadLine, said_script}
 use Rattle.mach_run_base.specs.Verdicts.{IsLegalText, verdict_line}
@@ -32,16 +33,17 @@ entry_shown warn e = if allows (least_shown warn) (level_of e.reply) then entry_
 abbrev pub history_shown : (warn : Bool) → List Entry → List ℕ
 history_shown warn entries = head_shown warn ++ flat_map (entry_shown warn) entries
 
--- The text is a legal history, or the warnings of one.
-pub record IsHistory (warn : Bool) (text : List ℕ) : Type 0 where
+-- The text is the history of the script's calls, which is legal, or its warnings.
+pub record IsHistory (warn : Bool) (script : Script) (text : List ℕ) : Type 0 where
   pub entries : List Entry
   pub legal : Legal entries
+  pub made : IsOfScript entries script
   pub shown : history_shown warn entries ≡ text
 
 -- The text is what is shown of the script.
 abbrev pub IsMade : Shown → Script → (text : List ℕ) → Type 0
-IsMade Shown.Replies script text = IsAnswered false script text
-IsMade (Shown.History warn) script text = IsHistory warn text
+IsMade Shown.Replies script text = (main : Known) × (blocks : List Known) × IsAnswered script text main blocks
+IsMade (Shown.History warn) script text = IsHistory warn script text
 
 -- The text is what is shown of the script that these bytes spell, where they are known; of some script, where they aren't.
 pub record IsMadeOf (shown : Shown) (bytes : Option (List ℕ)) (text : List ℕ) : Type 0 where

@@ -2,3 +2,4 @@ pub mod Jobs
 pub mod Output
 pub mod Scripts
 pub mod Verdicts
+pub mod Callers

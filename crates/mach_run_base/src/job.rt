@@ -1,14 +1,16 @@
 //! The jobs of the program, over any reader and writers.
-ghost use Rattle.std.specs.Prelude.{◌≡◌, ◌≢◌, ◌≤◌, ℕ, false, List, Some, Ok, IfOk, IsErr, OnOk};
+ghost use Rattle.std.specs.Prelude.{◌≡◌, ◌≢◌, ◌≤◌, ℕ, true, List, map, All, Some, Ok, IfOk, IsErr, OnOk};
 ghost use Rattle.std.specs.Io.KnownBytes.{Appends, Keeps};
+ghost use Rattle.kernel_lock.specs.declared.entry.Entry.{Entry as AnyEntry};
+ghost use Rattle.kernel_lock.specs.History.{Legal};
+ghost use Rattle.mach_run_base.specs.Callers.{AreWhole, pass_of};
 ghost use Rattle.mach_run_base.specs.Jobs.{IsBad, IsDone, IsMade, IsMadeOf, IsHistory, history_shown, head_shown, entry_shown};
-ghost use Rattle.mach_run_base.specs.Output.{IsAnswered};
 ghost use Rattle.mach_run_base.specs.Scripts.{IsFirstBadLine};
 
 use crate::checking::check_file;
 use crate::fault::{Fault, report};
 use crate::reading::read_script;
-use crate::running::run_script;
+use crate::running::{Callers, run_script, show_all, with_passes};
 use crate::script::Script;
 use kernel_lock::{Entry, Shared};
 use log::LevelFilter;
@@ -54,7 +56,9 @@ pub(crate) enum Shown {
 /// `out` refuses what is written.
 ///
 /// A whole script is read before anything runs, and after a fault of the first two kinds nothing
-/// was written to `out`; so ends each script that has a bad line. A history is read entry by entry, and judged
+/// was written to `out`; so ends each script that has a bad line. A trace that another fault stops writes the history
+/// of the calls that were made by then. A call that can't be recorded is a fault of memory; of a message call whose try
+/// isn't recorded its code tells. A history is read entry by entry, and judged
 /// as [`tracer::read_history`] and then [`tracer::check`] would judge the whole: `out` gets the line `legal N`
 /// for one of N entries, or `bad line N`, or, where it has no bad line, `not confirmed at N`. Time grows with the
 /// length of the file and the cost of its calls. May wait, where the script has message calls that wait or blocks.
@@ -143,13 +147,15 @@ fn answer_script<S: Threads + Wait + Sync, W: Write>(
     script: Script,
     out: &mut W,
 ) -> Result<(), Fault<'static>>
-    ensures { OnOk result ((text : List ℕ) × IsAnswered false script text × Appends (W.contents out.old) (W.contents out.new) text) }
+    ensures { OnOk result ((text : List ℕ) × IsMade Shown.Replies script text × Appends (W.contents out.old) (W.contents out.new) text) }
 {
     let shared = Shared::without_entries(alloc)?;
-    run_script(rt, alloc, &shared, script, out)
+    run_script(rt, alloc, &shared, script, out)?;
+    Ok(())
 }
 
-/// Runs the script without a word, and then writes the history.
+/// Runs the script without a word, and then writes the history; also where a fault has stopped the script, which
+/// stays the fault.
 fn trace_script<S: Threads + Wait + Sync, W: Write>(
     rt: &S,
     alloc: Global,
@@ -157,11 +163,35 @@ fn trace_script<S: Threads + Wait + Sync, W: Write>(
     warn: bool,
     out: &mut W,
 ) -> Result<(), Fault<'static>>
-    ensures { OnOk result ((text : List ℕ) × IsHistory warn text × Appends (W.contents out.old) (W.contents out.new) text) }
+    ensures { OnOk result ((text : List ℕ) × IsHistory warn script text × Appends (W.contents out.old) (W.contents out.new) text) }
 {
     let shared = Shared::new(alloc)?;
-    run_script(rt, alloc, &shared, script, &mut io::sink())?;
-    write_history(shared.lock(rt).entries(), warn, out)?;
+    match run_script(rt, alloc, &shared, script, &mut io::sink()) {
+        Ok(callers) => write_whole(rt, &shared, callers, warn, out),
+        Err(fault) => {
+            write_history(shared.lock(rt).entries(), warn, out)?;
+            Err(fault)
+        }
+    }
+}
+
+/// Writes the history when all of these callers' calls were made, and nobody else makes any.
+fn write_whole<S: Wait, W: Write>(
+    rt: &S,
+    shared: &Shared,
+    callers: Callers,
+    warn: bool,
+    out: &mut W,
+) -> Result<(), Fault<'static>>
+    requires { (callers.main.table ≡ shared.now.table) × All (λ one. one.0.table ≡ shared.now.table) callers.blocks.items }
+    ensures { shared.now.keeps ≡ true → OnOk result ((log : List AnyEntry) × Legal log × AreWhole log callers.main (map pass_of callers.blocks.items)
+        × Appends (W.contents out.old) (W.contents out.new) (history_shown warn log)) }
+{
+    let Callers { mut main, blocks } = callers;
+    let mut held = with_passes(rt, shared, blocks.len() as u64 + 1);
+    held.show(shared.board(), &mut main);
+    show_all(shared, &mut held, blocks);
+    write_history(held.entries(), warn, out)?;
     Ok(())
 }
 

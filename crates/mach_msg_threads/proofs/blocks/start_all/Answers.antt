@@ -1,4 +1,4 @@
-use Rattle.std.proofs.Common.{rules, ◌≡◌, List, [], ◌∷◌, ◌++◌}
+use Rattle.std.proofs.Common.{rules, ◌≡◌, [], ◌∷◌, ◌++◌}
 use Rattle.mach_msg_threads.proofs.Rows.{zip_push}
 use Rattle.mach_msg_threads.proofs.blocks.start_all.Goals as goal
 

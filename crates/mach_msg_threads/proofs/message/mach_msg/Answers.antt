@@ -1,4 +1,4 @@
-use Rattle.std.proofs.Common.{rules, ◌≡◌, true, false, Bool, refl, sym, ◌∙◌, subst, ap}
+use Rattle.std.proofs.Common.{rules, refl}
 use Rattle.mach_msg_threads.proofs.message.mach_msg.Goals as goal
 
 pub returns-in_default-clause-call : goal.returns-in_default-clause-call

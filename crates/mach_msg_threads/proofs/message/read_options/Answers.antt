@@ -1,8 +1,8 @@
-use Rattle.std.proofs.Common.{rules, ◌≡◌, ℕ, List, ◌∷◌, [], refl, sym, ap, ◌∙◌, subst, codes, bit_and}
+use Rattle.std.proofs.Common.{rules, ◌≡◌, ℕ, ◌∷◌, [], refl, sym, ap, ◌∙◌, codes, bit_and}
 use Rattle.bitflags.specs.Sets.{known_bits}
 use Rattle.bitflags.proofs.OnLiterals.{bitflags_on_literals}
 use Rattle.mach_types.specs.Bits.{send_msg_option, rcv_msg_option, send_timeout_option, rcv_timeout_option, rcv_large_option}
-use Rattle.mach_msg_threads.specs.Tries.{AreOptions, AsksFor, has}
+use Rattle.mach_msg_threads.specs.Tries.{AreOptions, has}
 use Rattle.mach_msg_threads.proofs.message.read_options.Goals as goal
 
 -- the bits of the five together

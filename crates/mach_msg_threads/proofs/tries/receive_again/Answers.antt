@@ -1,8 +1,7 @@
-use Rattle.std.proofs.Common.{rules, ◌≡◌, refl, sym, ◌∙◌, subst, ap}
+use Rattle.std.proofs.Common.{rules, subst}
 use Rattle.mach_types.specs.declared.calls.Event.{Event}
-use Rattle.mach_types.specs.declared.calls.Reply.{Reply}
-use Rattle.kernel_lock.specs.History.{Known, Called}
-use Rattle.mach_msg_threads.specs.Tries.{Retries, IsEmpty, none, more, TriesAgain}
+use Rattle.kernel_lock.specs.History.{Called}
+use Rattle.mach_msg_threads.specs.Tries.{IsEmpty, none, more}
 use Rattle.mach_msg_threads.proofs.tries.receive_again.Goals as goal
 
 pub loop-init : goal.loop-init

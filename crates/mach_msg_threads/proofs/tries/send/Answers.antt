@@ -1,8 +1,7 @@
-use Rattle.std.proofs.Common.{rules, ◌≡◌, true, false, Bool, refl, sym, ◌∙◌, subst, inr, ap, ℕ, List}
+use Rattle.std.proofs.Common.{rules, ◌≡◌, true, false, Bool, refl, subst, inr, ℕ, List}
 use Rattle.mach_types.specs.declared.calls.Event.{Event}
-use Rattle.mach_types.specs.declared.calls.Reply.{Reply}
 use Rattle.kernel_lock.specs.History.{Known, Called}
-use Rattle.mach_msg_threads.specs.Tries.{Retries, IsFull, none, more, Sends, SendPart}
+use Rattle.mach_msg_threads.specs.Tries.{IsFull, none, more, Sends, SendPart}
 use Rattle.mach_msg_threads.proofs.tries.send.Goals as goal
 
 wanting : (task : ℕ) (wanted once : Bool) (bytes : List ℕ) (v : Known) (code : ℕ) (w : Known) → wanted ≡ true → Sends task bytes once v code w → SendPart task wanted once bytes v code w

@@ -1,10 +1,8 @@
-use Rattle.std.proofs.Common.{Bool, subst}
-use Rattle.mach_run_base.specs.Output.{IsAnswered}
-use Rattle.mach_run_base.proofs.OutputLemmas.{on-ok}
+use Rattle.std.proofs.Common.{map}
+use Rattle.mach_run_base.specs.Callers.{pass_of}
 use Rattle.mach_run_base.proofs.job.answer_script.Goals as goal
 
 pub returns : goal.returns
 returns g c =
-    on-ok c.run_script.result
-    (λ made. (made.0, subst (λ (keeps : Bool). IsAnswered keeps c.args.script made.0) c.in_ok-shared.ensures made.1, made.2))
-    c.run_script.ensures
+    let ran = c.in_ok-run_script.ensures.answered in
+    (ran.0, (c.in_ok-run_script.field-0.main, map pass_of c.in_ok-run_script.field-0.blocks.items, ran.1), ran.2)

@@ -7,5 +7,4 @@ use Rattle.mach_run_base.proofs.running.run_opening.Given as goal
 abbrev pub invariant-loop-event : goal.invariant-loop-event
 invariant-loop-event g l =
     (l.held.kernel.table ≡ l.fn.shared.table) × (l.pass.table ≡ l.fn.shared.table) × (l.pass.seen ≡ l.held.kernel.log)
-    × (l.held.kernel.keeps ≡ l.fn.held.kernel.keeps)
-    × ((text : List ℕ) × AreReplies l.fn.held.kernel.keeps l.yielded text l.pass × Appends (g.W.Write.contents l.fn.out) (g.W.Write.contents l.out) text)
+    × ((text : List ℕ) × AreReplies l.fn.pass l.yielded text l.pass × Appends (g.W.Write.contents l.fn.out) (g.W.Write.contents l.out) text)

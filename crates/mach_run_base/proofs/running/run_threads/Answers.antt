@@ -4,27 +4,19 @@ use Rattle.std.proofs.lemmas.Iterator.Adapters.{YieldsList-from_vec}
 use Rattle.std.proofs.lemmas.Iterator.Consumers.{YieldsList-end}
 use Rattle.std.proofs.lemmas.List.Elements.{All-push}
 use Rattle.std.specs.Io.KnownBytes.{Appends}
+use Rattle.kernel_lock.specs.declared.entry.Entry.{Entry}
 use Rattle.kernel_lock.specs.declared.lock.Pass.{Pass}
 use Rattle.mach_msg_threads.specs.declared.block.Answer.{Answer}
 use Rattle.mach_msg_threads.specs.declared.block.Block.{Block}
 use Rattle.mach_msg_threads.proofs.Rows.{zip_push}
-use Rattle.tracer_base.proofs.ReplyLemmas.{appends-none}
 use Rattle.mach_run_base.specs.declared.gate.BlockGate.{BlockGate}
-use Rattle.mach_run_base.specs.declared.script.ThreadCalls.{ThreadCalls}
+use Rattle.mach_run_base.specs.Callers.{IsReady, IsRecorded, AreEnrolled, pass_of}
 use Rattle.mach_run_base.specs.Output.{AreBlocks, block_texts}
-use Rattle.mach_run_base.proofs.BlockTexts.{zip_map, zip_length, number_of, numbers_length, blocks_of, no_items}
+use Rattle.mach_run_base.proofs.BlockTexts.{zip_length, number_of, numbers_length, blocks_of}
 use Rattle.mach_run_base.proofs.running.run_threads.Goals as goal
-
-abbrev pass_of : Pass × Vec Answer Global → Pass
-pass_of one = one.0
 
 abbrev answers_of : Pass × Vec Answer Global → List Answer
 answers_of one = one.1.items
-
-pub returns-then-is_empty : goal.returns-then-is_empty
-returns-then-is_empty g c =
-    let few : length c.args.blocks.items ≡ 0 = search rules in
-    ([], [], subst (λ (bs : List ThreadCalls). AreBlocks bs [] []) (sym (no_items c.args.blocks.items few)) refl, appends-none _)
 
 pub loop-block-preserved : goal.loop-block-preserved
 loop-block-preserved g c =
@@ -34,33 +26,36 @@ loop-block-preserved g c =
     let made = c.in_ok-prepare.ensures in
     let pushed = c.in_ok-push-2.ensures.items in
     let numbers : c.push.new.self.items ≡ map number_of (l.yielded ++ block ∷ []) =
-    c.in_ok-push.ensures.items ∙ ap (λ (ns : List ℕ). ns ++ block.number ∷ []) l.invariant.0 ∙ sym (map-append number_of l.yielded (block ∷ [])) in (
+    c.in_ok-push.ensures.items ∙ ap (λ (ns : List ℕ). ns ++ block.number ∷ []) l.invariant.2 ∙ sym (map-append number_of l.yielded (block ∷ [])) in (
+      ap (λ k. k.table) made.same ∙ l.invariant.0,
+      ap (λ k. k.log) made.same ∙ l.invariant.1,
       numbers,
-      zip_push _ l.yielded l.ready.items c.push-in-loop-block.new.self.items block one pushed l.invariant.1 (made.1, made.2),
+      zip_push _ l.yielded l.ready.items c.push-in-loop-block.new.self.items block one pushed l.invariant.3
+          (subst (λ (log : List Entry). IsReady log block one.pass one.calls.items) l.invariant.1 made.ready),
       subst (All (λ (x : Block (BlockGate g.row.R.Denot)). x.pass.table ≡ c.args.shared.now.table)) (sym pushed)
-          (All-push (λ (x : Block (BlockGate g.row.R.Denot)). x.pass.table ≡ c.args.shared.now.table) l.ready.items one l.invariant.2 made.0),
+          (All-push (λ (x : Block (BlockGate g.row.R.Denot)). x.pass.table ≡ c.args.shared.now.table) l.ready.items one l.invariant.4 made.tied),
     )
 
 pub write_blocks-requires : goal.write_blocks-requires
 write_blocks-requires g c =
     let l = c.loop-block in
-    let ready = zip_length _ l.yielded l.ready.items l.invariant.1 in
+    let ready = zip_length _ l.yielded l.ready.items l.invariant.3 in
     let ran = zip_length _ l.ready.items c.in_ok-ran.ran.items c.in_ok-ran.ensures.ran in
-    ap length (c.as_slice.ensures.value ∙ l.invariant.0) ∙ numbers_length l.yielded ∙ ready ∙ ran ∙ sym (ap length c.as_slice-2.ensures.value)
+    ap length (c.as_slice.ensures.value ∙ l.invariant.2) ∙ numbers_length l.yielded ∙ ready ∙ ran ∙ sym (ap length c.as_slice-2.ensures.value)
 
-pub returns : goal.returns
-returns g c =
+pub returns-clause-ran : goal.returns-clause-ran
+returns-clause-ran g c caller given enrolled =
     let l = c.loop-block in
     let ran = c.in_ok-ran.ran.items in
     let end = YieldsList-end (YieldsList-from_vec {s = c.into_iter-block-iterator.result} c.args.blocks.items (search rules) (search rules))
     l.yielded l.block-iterator l.yielded_by c.next.result c.next.new.self c.in-None.is c.next.ensures.steps in
     let all : l.yielded ≡ c.args.blocks.items = rw (← end.0, map-id) refl in
-    let ready = zip_map _ (λ (block : ThreadCalls) (one : Block (BlockGate g.row.R.Denot)). (one.pass.seen ≡ []) × (one.calls.items ≡ block.calls.items)) (λ block one r. (r.0, ap (λ v. v.items) r.1)) l.yielded l.ready.items l.invariant.1 in
-    let made = blocks_of (λ (one : Block (BlockGate g.row.R.Denot)). one.pass) (λ one. one.calls.items) pass_of answers_of l.yielded l.ready.items ran ready c.in_ok-ran.ensures.ran in
-    let numbers : c.as_slice.result.now ≡ map number_of l.yielded = c.as_slice.ensures.value ∙ l.invariant.0 in
+    let recorded : All (λ y. All IsRecorded (answers_of y)) ran = subst (All (λ y. All IsRecorded (answers_of y))) c.as_slice-2.ensures.value c.in_ok-write_blocks.ensures.recorded in
+    let made : AreBlocks c.show.new.pass.seen caller given (block_texts answers_of (map number_of l.yielded) ran) (map pass_of ran) =
+    blocks_of (λ (one : Block (BlockGate g.row.R.Denot)). one.pass) (λ one. one.calls.items) pass_of answers_of c.show.new.pass.seen caller given l.yielded l.ready.items ran
+    (subst (AreEnrolled caller given) (sym all) enrolled) l.invariant.3 c.in_ok-ran.ensures.ran recorded in
+    let numbers : c.as_slice.result.now ≡ map number_of l.yielded = c.as_slice.ensures.value ∙ l.invariant.2 in
     let texts : block_texts answers_of c.as_slice.result.now c.as_slice-2.result.now ≡ block_texts answers_of (map number_of l.yielded) ran =
     λ i. block_texts answers_of (numbers i) (c.as_slice-2.ensures.value i) in
-    let blocks : AreBlocks c.args.blocks.items (block_texts answers_of (map number_of l.yielded) ran) (map pass_of ran) =
-    subst (λ (bs : List ThreadCalls). AreBlocks bs (block_texts answers_of (map number_of l.yielded) ran) (map pass_of ran)) all made in
-    let written = subst (Appends (g.W.Write.contents c.args.out.now) (g.W.Write.contents c.write_blocks.new.out)) texts c.in_ok-write_blocks.ensures in
-    (block_texts answers_of (map number_of l.yielded) ran, map pass_of ran, blocks, written)
+    let written = subst (Appends (g.W.Write.contents c.args.out.now) (g.W.Write.contents c.write_blocks.new.out)) texts c.in_ok-write_blocks.ensures.written in
+    (block_texts answers_of (map number_of l.yielded) ran, made, written)

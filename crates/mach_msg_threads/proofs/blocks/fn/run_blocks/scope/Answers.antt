@@ -1,4 +1,4 @@
-use Rattle.std.proofs.Common.{◌≡◌, List, subst, ap}
+use Rattle.std.proofs.Common.{List, subst, ap}
 use Rattle.kernel_lock.specs.History.{Known}
 use Rattle.mach_msg_threads.specs.declared.block.Call.{Call}
 use Rattle.mach_msg_threads.specs.Blocks.{Ran}
